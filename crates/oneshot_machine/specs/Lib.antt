@@ -1,0 +1,4 @@
+pub mod States
+pub mod Rows
+pub mod Sender
+pub mod Receiver

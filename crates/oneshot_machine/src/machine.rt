@@ -1,0 +1,59 @@
+//! The words in which both machines speak: ends, steps, what a step saw, calls and replies.
+
+mod receiver;
+mod sender;
+
+pub use receiver::{ReceiverPos, ReceiverStart};
+pub use sender::{SenderCall, SenderPos};
+
+use crate::states::Op;
+
+/// An end of the channel.
+#[derive(Clone, Copy, Debug, Eq, Hash, PartialEq)]
+pub enum End {
+    /// The end that sends, and the error of its refused `send`.
+    Sender,
+    /// The end that receives.
+    Receiver,
+}
+
+/// What one machine step does.
+#[derive(Clone, Copy, Debug, Eq, Hash, PartialEq)]
+pub enum Step {
+    /// One operation on the shared word.
+    Word(Op),
+    /// The message goes into its cell.
+    WriteMessage,
+    /// The message is taken from its cell.
+    TakeMessage,
+    /// The message is dropped in its cell.
+    DropMessage,
+    /// The block is freed.
+    Free,
+}
+
+/// What a step saw.
+#[derive(Clone, Copy, Debug, Eq, Hash, PartialEq)]
+pub enum Seen {
+    /// Nothing that the table asks about.
+    Done,
+    /// The word before the operation. A `Store` tells none, and sees `Done`.
+    Word(u8),
+}
+
+/// What a call answers.
+#[derive(Clone, Copy, Debug, Eq, Hash, PartialEq)]
+pub enum Reply {
+    /// `send` gave Ok.
+    Sent,
+    /// `send` gave Err, with the message.
+    Refused,
+    /// The call carries the message.
+    Message,
+    /// `try_recv` found nothing yet.
+    Empty,
+    /// The call's disconnected error.
+    Disconnected,
+    /// The drop is done.
+    Done,
+}

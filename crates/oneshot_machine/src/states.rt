@@ -1,0 +1,81 @@
+//! The codes of the shared word, and the operations on it.
+
+ghost use Rattle.std.specs.Prelude.{◌≡◌, ◌≤◌};
+ghost use Rattle.oneshot_machine.specs.States.{word_after};
+
+/// A waker is in its cell, and the receiver waits.
+pub const RECEIVING: u8 = 0;
+
+/// The sender owns the waker's cell and is about to finish.
+pub const UNPARKING: u8 = 1;
+
+/// An end is gone, or the message was received.
+pub const DISCONNECTED: u8 = 2;
+
+/// Both ends are alive, nothing was sent and nobody waits. A channel opens with this word.
+pub const EMPTY: u8 = 3;
+
+/// The message is in its cell, ready to be taken.
+pub const MESSAGE: u8 = 4;
+
+/// One atomic operation on the word: these are the six kinds of atomic step.
+#[derive(Clone, Copy, Debug, Eq, Hash, PartialEq)]
+pub enum Op {
+    /// Reads the word.
+    Load,
+    /// Puts this word in its place.
+    Store(u8),
+    /// Puts this word in its place, and sees the word before.
+    Swap(u8),
+    /// Puts the second word in place of the first, and leaves every other word.
+    Exchange(u8, u8),
+    /// Adds one.
+    Add,
+    /// Flips the lowest bit.
+    Xor,
+}
+
+impl Op {
+    /// The word after this operation on `word`, which is one of the codes, 0 to 4.
+    /// An `Add` or a `Xor` of 4 gives 5, which is no code and which no end ever makes.
+    pub fn after(&self, word: u8) -> u8
+        requires { word ≤ 4 }
+        ensures { result ≡ word_after self.now word }
+    {
+        match self {
+            Op::Load => word,
+            Op::Store(new) | Op::Swap(new) => *new,
+            Op::Exchange(expected, new) => {
+                if word == *expected {
+                    *new
+                } else {
+                    word
+                }
+            }
+            Op::Add => word + 1,
+            Op::Xor => word ^ 1,
+        }
+    }
+}
+
+#[cfg(test)]
+mod tests {
+    use super::*;
+
+    #[test]
+    fn each_operation_leaves_its_word(rt: HostRuntime) {
+        let rows = [
+            (Op::Load, [0, 1, 2, 3, 4]),
+            (Op::Store(2), [2, 2, 2, 2, 2]),
+            (Op::Swap(0), [0, 0, 0, 0, 0]),
+            (Op::Exchange(3, 0), [0, 1, 2, 0, 4]),
+            (Op::Add, [1, 2, 3, 4, 5]),
+            (Op::Xor, [1, 0, 3, 2, 5]),
+        ];
+        for (op, left) in rows {
+            for word in 0..5u8 {
+                assert_eq!(rt; op.after(word), left[word as usize], "{op:?} of {word}");
+            }
+        }
+    }
+}

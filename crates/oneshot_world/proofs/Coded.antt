@@ -1,0 +1,114 @@
+-- Values that are compared by their codes are the same where their codes are.
+use Rattle.std.proofs.Common.{◌≡◌, ℕ, Bool, true, false, List, [], ◌∷◌, Option, Some, None, refl, sym, ◌∙◌, ap, ◌==◌, get_or}
+use Rattle.std.proofs.lemmas.Bool.{eqb-true}
+use Rattle.oneshot_machine.specs.declared.machine.receiver.ReceiverPos.TheVariants as R
+use Rattle.oneshot_machine.specs.declared.machine.sender.SenderPos.TheVariants as S
+use Rattle.oneshot_world.specs.Calls.{Call, Send, Drop_sender, Try_recv, Drop_receiver, Stray}
+use Rattle.oneshot_world.specs.Control.{Control, sender_code, receiver_code, call_code, place_code, bool_code, is_same_state, is_same_control}
+use Rattle.oneshot_world.specs.declared.state.ReceiverState.{ReceiverState}
+use Rattle.oneshot_world.specs.declared.state.ReceiverState.TheVariants as RS
+use Rattle.oneshot_world.specs.declared.state.SenderState.{SenderState}
+use Rattle.oneshot_world.specs.declared.state.SenderState.TheVariants as SS
+use Rattle.oneshot_world.specs.declared.state.State.{State}
+use Rattle.oneshot_world.specs.declared.trace.Place.{Place}
+use Rattle.oneshot_world.specs.declared.trace.Place.TheVariants.{NotSent, InCell, InError, Delivered, Dropped}
+use Rattle.oneshot_world.proofs.Bools.{and_left, and_right}
+
+-- a code under which each value stands in a list
+pub same_by : {X : Type 0} (code : X → ℕ) (values : List X) (d : X) → ((x : X) → get_or values (code x) d ≡ x) → (x y : X) → (code x == code y) ≡ true → x ≡ y
+same_by code values d back x y h = sym (back x) ∙ ap (λ k. get_or values k d) (eqb-true (code x) (code y) h) ∙ back y
+
+abbrev senders : List SenderState
+senders =
+    SS.Ready ∷ SS.At S.SendWrite ∷ SS.At S.SendAdd ∷ SS.At S.DropXor ∷ SS.At S.DropFree ∷ SS.Failed ∷ SS.Ended ∷ []
+
+sender_back : (s : SenderState) → get_or senders (sender_code s) SS.Ended ≡ s
+sender_back SS.Ready = refl
+sender_back (SS.At S.SendWrite) = refl
+sender_back (SS.At S.SendAdd) = refl
+sender_back (SS.At S.DropXor) = refl
+sender_back (SS.At S.DropFree) = refl
+sender_back SS.Failed = refl
+sender_back SS.Ended = refl
+
+abbrev receivers : List ReceiverState
+receivers =
+    RS.Ready ∷ RS.At R.TryLoad ∷ RS.At R.Close ∷ RS.At R.Take ∷ RS.At R.DropSwap ∷ RS.At R.DropMessage ∷ RS.At R.DropFree ∷ RS.Ended ∷ []
+
+receiver_back : (s : ReceiverState) → get_or receivers (receiver_code s) RS.Ended ≡ s
+receiver_back RS.Ready = refl
+receiver_back (RS.At R.TryLoad) = refl
+receiver_back (RS.At R.Close) = refl
+receiver_back (RS.At R.Take) = refl
+receiver_back (RS.At R.DropSwap) = refl
+receiver_back (RS.At R.DropMessage) = refl
+receiver_back (RS.At R.DropFree) = refl
+receiver_back RS.Ended = refl
+
+abbrev calls : List (Option Call)
+calls = None ∷ Some Send ∷ Some Drop_sender ∷ Some Try_recv ∷ Some Drop_receiver ∷ Some Stray ∷ []
+
+call_back : (c : Option Call) → get_or calls (call_code c) None ≡ c
+call_back None = refl
+call_back (Some Send) = refl
+call_back (Some Drop_sender) = refl
+call_back (Some Try_recv) = refl
+call_back (Some Drop_receiver) = refl
+call_back (Some Stray) = refl
+
+abbrev places : List (Option Place)
+places = None ∷ Some NotSent ∷ Some InCell ∷ Some InError ∷ Some Delivered ∷ Some Dropped ∷ []
+
+place_back : (p : Option Place) → get_or places (place_code p) None ≡ p
+place_back None = refl
+place_back (Some NotSent) = refl
+place_back (Some InCell) = refl
+place_back (Some InError) = refl
+place_back (Some Delivered) = refl
+place_back (Some Dropped) = refl
+
+abbrev bools : List Bool
+bools = false ∷ true ∷ []
+
+bool_back : (b : Bool) → get_or bools (bool_code b) false ≡ b
+bool_back true = refl
+bool_back false = refl
+
+pub bool_is : (a b : Bool) → (bool_code a == bool_code b) ≡ true → a ≡ b
+bool_is = same_by bool_code bools false bool_back
+
+-- records with the same fields are the same
+state_of : ℕ → Bool → SenderState → ReceiverState → Option Place → State
+state_of word freed sender receiver message =
+    record { word = word; freed = freed; sender = sender; receiver = receiver; message = message }
+
+its_fields : (s : State) → state_of s.word s.freed s.sender s.receiver s.message ≡ s
+unfolding state_of
+its_fields s = refl
+
+pub state_is : (s t : State) → is_same_state s t ≡ true → s ≡ t
+state_is s t h =
+    let h1 = and_right _ _ h in
+    let h2 = and_right _ _ h1 in
+    let h3 = and_right _ _ h2 in
+    let sender : s.sender ≡ t.sender = same_by sender_code senders SS.Ended sender_back s.sender t.sender (and_left _ _ h) in
+    let receiver : s.receiver ≡ t.receiver = same_by receiver_code receivers RS.Ended receiver_back s.receiver t.receiver (and_left _ _ h1) in
+    let word : s.word ≡ t.word = eqb-true s.word t.word (and_left _ _ h2) in
+    let freed : s.freed ≡ t.freed = bool_is s.freed t.freed (and_left _ _ h3) in
+    let message : s.message ≡ t.message = same_by place_code places None place_back s.message t.message (and_right _ _ h3) in
+    cc (its_fields s, its_fields t)
+
+control_with : State → Option Call → Option Call → Control
+control_with state sender receiver = record { state = state; sender = sender; receiver = receiver }
+
+its_parts : (c : Control) → control_with c.state c.sender c.receiver ≡ c
+unfolding control_with
+its_parts c = refl
+
+pub control_is : (c d : Control) → is_same_control c d ≡ true → c ≡ d
+control_is c d h =
+    let h1 = and_right (is_same_state c.state d.state) _ h in
+    let state : c.state ≡ d.state = state_is c.state d.state (and_left _ _ h) in
+    let sender : c.sender ≡ d.sender = same_by call_code calls None call_back c.sender d.sender (and_left _ _ h1) in
+    let receiver : c.receiver ≡ d.receiver = same_by call_code calls None call_back c.receiver d.receiver (and_right _ _ h1) in
+    cc (its_parts c, its_parts d)

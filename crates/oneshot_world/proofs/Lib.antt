@@ -1,0 +1,5 @@
+pub mod Bools
+pub mod Explored
+pub mod Coded
+pub mod Reached
+pub mod Scripted

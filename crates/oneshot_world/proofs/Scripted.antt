@@ -1,0 +1,15 @@
+-- A receiver's script that is answered call by call.
+use Rattle.std.proofs.Common.{◌≡◌, ℕ, ◌+◌, ◌<◌, List, ◌∷◌, Some, refl, ap, sym, ◌∙◌, length, drop, get_or, add-one, drop-cons}
+use Rattle.oneshot_machine.specs.declared.machine.receiver.ReceiverStart.TheVariants as RS
+use Rattle.oneshot_world.specs.Calls.{Call, as_receiver_call, receiver_call, receiver_calls}
+use Rattle.oneshot_world.specs.declared.script.ReceiverCall.{ReceiverCall}
+use Rattle.oneshot_world.specs.declared.script.ReceiverCall.TheVariants as RC
+use Rattle.oneshot_world.specs.declared.script.ReceiverLast.{ReceiverLast}
+
+-- the calls from the n-th on are that call and those after it
+pub from_here : (calls : List ReceiverCall) (n : ℕ) (last : ReceiverLast) → n < length calls → receiver_calls (drop n calls) last ≡ receiver_call (get_or calls n RC.TryRecv) ∷ receiver_calls (drop (n + 1) calls) last
+from_here calls n last h = rw (add-one, drop-cons calls n RC.TryRecv) refl
+
+-- how it begins
+pub starts_as : (call : ReceiverCall) → as_receiver_call (receiver_call call) ≡ Some RS.TryRecv
+starts_as RC.TryRecv = refl

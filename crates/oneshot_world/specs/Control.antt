@@ -1,0 +1,199 @@
+-- What of a world is finite, all but the calls that the scripts have left, and which of it a run can reach: the checker computes that.
+use Rattle.std.specs.Prelude.{◌≡◌, ℕ, ◌+◌, ◌*◌, Bool, true, false, ◌&&◌, ◌||◌, ◌==◌, is_some, List, [], ◌∷◌, ◌++◌, map, Option, Some, None}
+use Rattle.std.specs.Option.{option_to_list, option_map}
+use Rattle.std.specs.List.{filter_map}
+use Rattle.oneshot_machine.specs.declared.machine.End.{End}
+use Rattle.oneshot_machine.specs.declared.machine.End.TheVariants.{Sender, Receiver}
+use Rattle.oneshot_machine.specs.declared.machine.receiver.ReceiverPos.TheVariants as R
+use Rattle.oneshot_machine.specs.declared.machine.sender.SenderPos.TheVariants as S
+use Rattle.oneshot_world.specs.Calls.{Call, Send, Drop_sender, Try_recv, Drop_receiver, Stray, first}
+use Rattle.oneshot_world.specs.Explore.{Tree, reach, is_in}
+use Rattle.oneshot_world.specs.State.{opening_state, turns}
+use Rattle.oneshot_world.specs.World.{World}
+use Rattle.oneshot_world.specs.declared.state.ReceiverState.{ReceiverState}
+use Rattle.oneshot_world.specs.declared.state.ReceiverState.TheVariants as RS
+use Rattle.oneshot_world.specs.declared.state.SenderState.{SenderState}
+use Rattle.oneshot_world.specs.declared.state.SenderState.TheVariants as SS
+use Rattle.oneshot_world.specs.declared.state.State.{State}
+use Rattle.oneshot_world.specs.declared.trace.Entry.{Entry}
+use Rattle.oneshot_world.specs.declared.trace.Place.{Place}
+use Rattle.oneshot_world.specs.declared.trace.Place.TheVariants.{NotSent, InCell, InError, Delivered, Dropped}
+
+-- the state, and each end's call under way
+pub record Control : Type 0 where
+  pub state : State
+  pub sender : Option Call
+  pub receiver : Option Call
+
+-- the call under way, of an end whose first call left is this one
+abbrev pub sender_under_way : SenderState → Option Call → Option Call
+sender_under_way SS.Ready call = None
+sender_under_way (SS.At position) call = call
+sender_under_way SS.Failed call = None
+sender_under_way SS.Ended call = None
+
+abbrev pub receiver_under_way : ReceiverState → Option Call → Option Call
+receiver_under_way RS.Ready call = None
+receiver_under_way (RS.At position) call = call
+receiver_under_way RS.Ended call = None
+
+abbrev pub control_of : World → Control
+control_of w =
+    record {
+      state = w.state;
+      sender = sender_under_way w.state.sender (first w.sender.calls);
+      receiver = receiver_under_way w.state.receiver (first w.receiver.calls);
+    }
+
+-- a move: the end that makes it, with the call that it has under way or begins
+pub record Begin : Type 0 where
+  pub side : End
+  pub call : Option Call
+
+-- a send is there where there is a message
+abbrev pub sends_begins : Option Place → List Begin
+sends_begins None = []
+sends_begins (Some place) = record { side = Sender; call = Some Send } ∷ []
+
+-- the moves of an end: it goes on with the call under way, or begins any call
+abbrev pub sender_begins : Option Place → SenderState → Option Call → List Begin
+sender_begins message SS.Ready call = record { side = Sender; call = Some Drop_sender } ∷ sends_begins message
+sender_begins message (SS.At position) call = record { side = Sender; call = call } ∷ []
+sender_begins message SS.Failed call = []
+sender_begins message SS.Ended call = []
+
+abbrev pub receiver_begins : ReceiverState → Option Call → List Begin
+receiver_begins RS.Ready call =
+    record { side = Receiver; call = Some Try_recv } ∷ record { side = Receiver; call = Some Drop_receiver } ∷ []
+receiver_begins (RS.At position) call = record { side = Receiver; call = call } ∷ []
+receiver_begins RS.Ended call = []
+
+abbrev pub begins : Control → List Begin
+begins c = sender_begins c.state.message c.state.sender c.sender ++ receiver_begins c.state.receiver c.receiver
+
+-- where a move leads, with the state that it leaves
+abbrev pub control_then : End → Option Call → Control → State → Control
+control_then Sender call c s =
+    record { state = s; sender = sender_under_way s.sender call; receiver = c.receiver }
+control_then Receiver call c s =
+    record { state = s; sender = c.sender; receiver = receiver_under_way s.receiver call }
+
+abbrev pub control_turn : Control → Begin → Option (Entry × Control)
+control_turn c b = option_map (λ turned. (turned.0, control_then b.side b.call c turned.1)) (turns b.side c.state b.call)
+
+abbrev pub successors : Control → List Control
+successors c = filter_map (λ b. option_map (λ turned. turned.1) (control_turn c b)) (begins c)
+
+-- codes, by which values are told apart
+abbrev pub sender_code : SenderState → ℕ
+sender_code SS.Ready = 0
+sender_code (SS.At S.SendWrite) = 1
+sender_code (SS.At S.SendAdd) = 2
+sender_code (SS.At S.DropXor) = 3
+sender_code (SS.At S.DropFree) = 4
+sender_code SS.Failed = 5
+sender_code SS.Ended = 6
+
+abbrev pub receiver_code : ReceiverState → ℕ
+receiver_code RS.Ready = 0
+receiver_code (RS.At R.TryLoad) = 1
+receiver_code (RS.At R.Close) = 2
+receiver_code (RS.At R.Take) = 3
+receiver_code (RS.At R.DropSwap) = 4
+receiver_code (RS.At R.DropMessage) = 5
+receiver_code (RS.At R.DropFree) = 6
+receiver_code RS.Ended = 7
+
+abbrev pub call_code : Option Call → ℕ
+call_code None = 0
+call_code (Some Send) = 1
+call_code (Some Drop_sender) = 2
+call_code (Some Try_recv) = 3
+call_code (Some Drop_receiver) = 4
+call_code (Some Stray) = 5
+
+abbrev pub place_code : Option Place → ℕ
+place_code None = 0
+place_code (Some NotSent) = 1
+place_code (Some InCell) = 2
+place_code (Some InError) = 3
+place_code (Some Delivered) = 4
+place_code (Some Dropped) = 5
+
+abbrev pub bool_code : Bool → ℕ
+bool_code true = 1
+bool_code false = 0
+
+abbrev pub is_same_state : State → State → Bool
+is_same_state s t =
+    sender_code s.sender == sender_code t.sender
+    && (receiver_code s.receiver == receiver_code t.receiver
+    && (s.word == t.word
+    && (bool_code s.freed == bool_code t.freed && place_code s.message == place_code t.message)))
+
+abbrev pub is_same_control : Control → Control → Bool
+is_same_control c d =
+    is_same_state c.state d.state
+    && (call_code c.sender == call_code d.sender && call_code c.receiver == call_code d.receiver)
+
+-- the order in which the search keeps them; two values never have one code, or the search would not end
+abbrev pub state_code : State → ℕ
+state_code s =
+    (((sender_code s.sender * 8 + receiver_code s.receiver) * 8 + s.word) * 8 + place_code s.message) * 2
+    + bool_code s.freed
+
+abbrev pub control_code : Control → ℕ
+control_code c = (state_code c.state * 8 + call_code c.sender) * 8 + call_code c.receiver
+
+abbrev pub opening_control : Option Place → Control
+opening_control message = record { state = opening_state message; sender = None; receiver = None }
+
+-- all that a run can reach
+unfoldable pub reached : Tree Control
+reached =
+    reach control_code is_same_control successors 1000
+    (opening_control None ∷ opening_control (Some NotSent) ∷ [])
+
+abbrev pub is_reached : Control → Bool
+is_reached c = is_in control_code is_same_control c reached
+
+-- What is left of a script is a script: calls that leave the end in place, and at the end perhaps one that ends it.
+abbrev pub is_none_left : List Call → Bool
+is_none_left [] = true
+is_none_left (call ∷ calls) = false
+
+abbrev pub is_script : (Call → Bool) → (Call → Bool) → List Call → Bool
+is_script stays ends [] = true
+is_script stays ends (call ∷ calls) = (stays call && is_script stays ends calls) || (ends call && is_none_left calls)
+
+-- a send is there where there is a message
+abbrev pub ends_sender : Option Place → Call → Bool
+ends_sender message Send = is_some message
+ends_sender message Drop_sender = true
+ends_sender message _ = false
+
+abbrev pub stays_receiver : Call → Bool
+stays_receiver Try_recv = true
+stays_receiver _ = false
+
+abbrev pub ends_receiver : Call → Bool
+ends_receiver Drop_receiver = true
+ends_receiver _ = false
+
+abbrev pub sender_has : Option Place → SenderState → List Call → Bool
+sender_has message SS.Ready calls = is_script (λ call. false) (ends_sender message) calls
+sender_has message (SS.At position) calls = is_script (λ call. false) (ends_sender message) calls
+sender_has message SS.Failed calls = is_none_left calls
+sender_has message SS.Ended calls = is_none_left calls
+
+abbrev pub receiver_has : ReceiverState → List Call → Bool
+receiver_has RS.Ready calls = is_script stays_receiver ends_receiver calls
+receiver_has (RS.At position) calls = is_script stays_receiver ends_receiver calls
+receiver_has RS.Ended calls = is_none_left calls
+
+-- what holds of the world before each move of each run
+pub record IsReached (w : World) : Type 0 where
+  pub control : is_reached (control_of w) ≡ true
+  pub sender : sender_has w.state.message w.state.sender w.sender.calls ≡ true
+  pub error : is_none_left w.sender.error ≡ true
+  pub receiver : receiver_has w.state.receiver w.receiver.calls ≡ true

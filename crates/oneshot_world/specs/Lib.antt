@@ -1,0 +1,5 @@
+pub mod Calls
+pub mod State
+pub mod World
+pub mod Explore
+pub mod Control

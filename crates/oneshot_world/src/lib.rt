@@ -1,0 +1,16 @@
+//! Scripts, schedules and traces, and the world in which two machines run a script each.
+#![tactic(auto)]
+
+mod calls;
+mod script;
+mod state;
+mod trace;
+mod world;
+
+pub use script::{
+    CallList, ErrorLast, ErrorScript, Move, ReceiverCall, ReceiverLast, ReceiverScript, SenderLast,
+    SenderScript,
+};
+pub use state::{ReceiverState, SenderState, State};
+pub use trace::{Entry, Made, Place, WakerName, WakerPlace};
+pub use world::World;

@@ -1,0 +1,111 @@
+//! What each end does, call by call, and the moves of a schedule.
+
+ghost use Rattle.std.specs.Prelude.{◌≡◌, length};
+
+use std::marker::Model;
+
+/// What the sender does.
+#[derive(Debug, Drop)]
+pub struct SenderScript<T> {
+    /// The call that ends the sender.
+    pub last: SenderLast<T>,
+}
+
+/// The sender's last call.
+#[derive(Debug, Drop)]
+pub enum SenderLast<T> {
+    /// `send` of this message, and what is done with the error if it is refused.
+    Send(T, ErrorScript),
+    /// The sender is dropped.
+    Drop,
+    /// No call: the sender stays where it is.
+    Stop,
+}
+
+/// What is done with the error of a refused `send`.
+#[derive(Debug, Drop)]
+pub struct ErrorScript {
+    /// The call that ends the error.
+    pub last: ErrorLast,
+}
+
+/// The error's last call.
+#[derive(Debug, Drop)]
+pub enum ErrorLast {
+    /// No call: the error stays where it is.
+    Stop,
+}
+
+/// What the receiver does: these calls in their order, and then its last one.
+#[derive(Debug, Drop)]
+pub struct ReceiverScript {
+    /// The calls that leave the receiver in place.
+    pub calls: CallList<ReceiverCall>,
+    /// The call that ends the receiver.
+    pub last: ReceiverLast,
+}
+
+/// A call that leaves the receiver in place.
+#[derive(Clone, Copy, Debug, Eq, Hash, PartialEq)]
+pub enum ReceiverCall {
+    /// `Receiver::try_recv`.
+    TryRecv,
+}
+
+/// The receiver's last call.
+#[derive(Debug, Drop)]
+pub enum ReceiverLast {
+    /// The receiver is dropped.
+    Drop,
+    /// No call: the receiver stays where it is.
+    Stop,
+}
+
+/// Calls in their order, which a contract sees as a list.
+#[derive(Debug, Drop)]
+pub struct CallList<C> {
+    calls: Vec<C>,
+}
+
+impl<C> Model for CallList<C> {
+    ghost use Rattle.std.specs.Prelude.{List};
+
+    ghost Value = { List C };
+
+    ghost view = { λ list. list.calls.items };
+}
+
+impl<C> From<Vec<C>> for CallList<C> {
+    ghost from_gives = { λ calls list. list ≡ calls.items };
+
+    fn from(calls: Vec<C>) -> CallList<C> {
+        CallList { calls }
+    }
+}
+
+impl<C> CallList<C> {
+    /// The calls, in the memory that they were given in.
+    pub fn into_vec(self) -> Vec<C>
+        ensures { result.items ≡ self }
+    {
+        let CallList { calls } = self;
+        calls
+    }
+
+    /// The calls.
+    pub fn as_slice(&self) -> &[C]
+        ensures { result.now ≡ self.now }
+    {
+        self.calls.as_slice()
+    }
+}
+
+/// One move of a schedule.
+#[derive(Clone, Copy, Debug, Eq, Hash, PartialEq)]
+pub enum Move {
+    /// The sender moves.
+    Sender,
+    /// The receiver moves. A clock that it reads then is past the deadline where `over`, and a copy of
+    /// a waker that it asks for then is refused where `refuse`; no other step looks at them.
+    Receiver { over: bool, refuse: bool },
+}

@@ -1,0 +1,219 @@
+//! The finite part of the world, and one step of one end.
+
+ghost use Rattle.std.specs.Prelude.{◌≡◌, ◌≤◌, Some, IsSome};
+ghost use Rattle.oneshot_world.specs.State.{opening_state, sender_position, receiver_position, made, moved, seen_by, word_left, shown, sender_puts, receiver_puts, place_left, move_of, sender_steps, receiver_steps};
+
+use crate::trace::{Made, Place};
+use oneshot_machine::machine::{
+    End, ReceiverPos, ReceiverStart, Reply, Seen, SenderCall, SenderPos, Step,
+};
+use oneshot_machine::states::{EMPTY, Op};
+
+/// Where the sender stands.
+#[derive(Clone, Copy, Debug, Eq, Hash, PartialEq)]
+pub enum SenderState {
+    /// No call is under way.
+    Ready,
+    /// A call is under way, and stands here.
+    At(SenderPos),
+    /// The `send` was refused, and left the error in the sender's place.
+    Failed,
+    /// The sender has ended.
+    Ended,
+}
+
+/// Where the receiver stands.
+#[derive(Clone, Copy, Debug, Eq, Hash, PartialEq)]
+pub enum ReceiverState {
+    /// No call is under way.
+    Ready,
+    /// A call is under way, and stands here.
+    At(ReceiverPos),
+    /// The receiver has ended.
+    Ended,
+}
+
+/// The finite part of the world.
+#[derive(Clone, Copy, Debug, Eq, Hash, PartialEq)]
+pub struct State {
+    /// The shared word.
+    pub word: u8,
+    /// Whether the block is freed.
+    pub freed: bool,
+    /// Where the sender stands.
+    pub sender: SenderState,
+    /// Where the receiver stands.
+    pub receiver: ReceiverState,
+    /// The message's place; `None` where the script sends none.
+    pub message: Option<Place>,
+}
+
+impl SenderState {
+    /// Where the next step is made: in the call under way, or at the start of `call`, the next one.
+    pub(crate) fn position(self, call: Option<SenderCall>) -> Option<SenderPos>
+        ensures { result ≡ sender_position self call }
+    {
+        match self {
+            SenderState::Ready => Some(SenderPos::start(call?)),
+            SenderState::At(position) => Some(position),
+            SenderState::Failed | SenderState::Ended => None,
+        }
+    }
+}
+
+impl ReceiverState {
+    /// Where the next step is made: in the call under way, or at the start of `call`, the next one.
+    pub(crate) fn position(self, call: Option<ReceiverStart>) -> Option<ReceiverPos>
+        ensures { result ≡ receiver_position self call }
+    {
+        match self {
+            ReceiverState::Ready => Some(ReceiverPos::start(call?)),
+            ReceiverState::At(position) => Some(position),
+            ReceiverState::Ended => None,
+        }
+    }
+}
+
+impl State {
+    /// The state before the first move, with the message in its script if there is one.
+    pub(crate) fn new(message: Option<Place>) -> State
+        ensures { result ≡ opening_state message }
+    {
+        State {
+            word: EMPTY,
+            freed: false,
+            sender: SenderState::Ready,
+            receiver: ReceiverState::Ready,
+            message,
+        }
+    }
+
+    /// Makes the sender's step at `position`, and tells it.
+    pub(crate) fn step_sender(&mut self, position: SenderPos) -> Made
+        requires row { IsSome (sender_steps self.old position) }
+        requires code { self.old.word ≤ 4 }
+        ensures { sender_steps self.old position ≡ Some (result, self.new) }
+    {
+        let step = position.step();
+        let (next, reply) = position.next(seen_by(self.word, step));
+        let made = self.make(End::Sender, step, reply, sender_puts(step, reply));
+        self.sender = match reply {
+            None => SenderState::At(next),
+            Some(Reply::Refused) => SenderState::Failed,
+            Some(_) => SenderState::Ended,
+        };
+        made
+    }
+
+    /// Makes the receiver's step at `position`, and tells it.
+    pub(crate) fn step_receiver(&mut self, position: ReceiverPos) -> Made
+        requires row { IsSome (receiver_steps self.old position) }
+        requires code { self.old.word ≤ 4 }
+        ensures { receiver_steps self.old position ≡ Some (result, self.new) }
+    {
+        let step = position.step();
+        let (next, reply) = position.next(seen_by(self.word, step));
+        let made = self.make(End::Receiver, step, reply, receiver_puts(step));
+        self.receiver = match reply {
+            None => ReceiverState::At(next),
+            Some(Reply::Done) => ReceiverState::Ended,
+            Some(_) => ReceiverState::Ready,
+        };
+        made
+    }
+
+    /// What both ends' steps do alike: the word, the block and the message's place.
+    fn make(&mut self, side: End, step: Step, reply: Option<Reply>, to: Option<Place>) -> Made
+        requires { self.old.word ≤ 4 }
+        ensures tells { result ≡ made side self.old step reply to }
+        ensures moves { self.new ≡ moved self.old step to }
+    {
+        let from = *self;
+        self.word = word_left(from.word, step);
+        self.freed = from.freed || step == Step::Free;
+        self.message = place_left(from.message, to);
+        Made {
+            side,
+            step,
+            seen: seen_by(from.word, step),
+            before: shown(from.freed, from.word),
+            after: shown(self.freed, self.word),
+            message: move_of(from.message, to),
+            waker: None,
+            token_set: false,
+            own: None,
+            reply,
+        }
+    }
+}
+
+/// What a step sees at `word`: an operation the word, unless it only stores.
+fn seen_by(word: u8, step: Step) -> Seen
+    ensures { result ≡ seen_by word step }
+{
+    match step {
+        Step::Word(Op::Store(_)) => Seen::Done,
+        Step::Word(_) => Seen::Word(word),
+        _ => Seen::Done,
+    }
+}
+
+/// The word after a step.
+fn word_left(word: u8, step: Step) -> u8
+    requires { word ≤ 4 }
+    ensures { result ≡ word_left word step }
+{
+    match step {
+        Step::Word(op) => op.after(word),
+        _ => word,
+    }
+}
+
+/// The word as an entry shows it.
+fn shown(freed: bool, word: u8) -> Option<u8>
+    ensures { result ≡ shown freed word }
+{
+    if freed { None } else { Some(word) }
+}
+
+/// Where a step of the sender puts the message.
+fn sender_puts(step: Step, reply: Option<Reply>) -> Option<Place>
+    ensures { result ≡ sender_puts step reply }
+{
+    match (step, reply) {
+        (Step::WriteMessage, _) => Some(Place::InCell),
+        (Step::Word(_), Some(Reply::Refused)) => Some(Place::InError),
+        _ => None,
+    }
+}
+
+/// Where a step of the receiver puts the message.
+fn receiver_puts(step: Step) -> Option<Place>
+    ensures { result ≡ receiver_puts step }
+{
+    match step {
+        Step::TakeMessage => Some(Place::Delivered),
+        Step::DropMessage => Some(Place::Dropped),
+        _ => None,
+    }
+}
+
+/// The message's place after a step.
+fn place_left(from: Option<Place>, to: Option<Place>) -> Option<Place>
+    ensures { result ≡ place_left from to }
+{
+    match (from, to) {
+        (Some(_), Some(to)) => Some(to),
+        _ => from,
+    }
+}
+
+/// The message's move.
+fn move_of(from: Option<Place>, to: Option<Place>) -> Option<(Place, Place)>
+    ensures { result ≡ move_of from to }
+{
+    match (from, to) {
+        (Some(from), Some(to)) => Some((from, to)),
+        _ => None,
+    }
+}

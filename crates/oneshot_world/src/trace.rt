@@ -1,0 +1,60 @@
+//! What a run tells, an entry a move.
+
+use oneshot_machine::machine::{End, Reply, Seen, Step};
+
+/// Where the message is.
+#[derive(Clone, Copy, Debug, Eq, Hash, PartialEq)]
+pub enum Place {
+    /// Still the script's.
+    NotSent,
+    /// In the channel's cell.
+    InCell,
+    /// In the error of a refused `send`.
+    InError,
+    /// In the answer of a receive.
+    Delivered,
+    /// Dropped by an end.
+    Dropped,
+}
+
+/// A waker that an entry moves. No call stores one so far, so there is none.
+#[derive(Clone, Copy, Debug, Eq, Hash, PartialEq)]
+pub enum WakerName {}
+
+/// Where a waker is. There is none so far.
+#[derive(Clone, Copy, Debug, Eq, Hash, PartialEq)]
+pub enum WakerPlace {}
+
+/// What one move did.
+#[derive(Clone, Copy, Debug, Eq, Hash, PartialEq)]
+pub enum Entry {
+    /// This end had no call under way and none left. Nothing changed.
+    Idle(End),
+    /// One step of one end.
+    Made(Made),
+}
+
+/// One step of one end.
+#[derive(Clone, Copy, Debug, Eq, Hash, PartialEq)]
+pub struct Made {
+    /// The end that moved.
+    pub side: End,
+    /// What it did.
+    pub step: Step,
+    /// What the step saw.
+    pub seen: Seen,
+    /// The word before the step; `None` once the block is freed.
+    pub before: Option<u8>,
+    /// The word after the step; `None` once the block is freed.
+    pub after: Option<u8>,
+    /// The message's move: the place that it left, and the place that it went to.
+    pub message: Option<(Place, Place)>,
+    /// A waker's move: the waker, the place that it left, and the place that it went to.
+    pub waker: Option<(WakerName, WakerPlace, WakerPlace)>,
+    /// Whether the step set the token on which the receiver parks.
+    pub token_set: bool,
+    /// The number of the poll's own waker, where the poll woke it.
+    pub own: Option<u64>,
+    /// The reply, where the step ended its call.
+    pub reply: Option<Reply>,
+}

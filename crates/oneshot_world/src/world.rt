@@ -1,0 +1,100 @@
+//! The world between two moves, and one move of it.
+
+ghost use Rattle.std.specs.Prelude.{◌≡◌, Some};
+ghost use Rattle.oneshot_machine.specs.declared.machine.End.TheVariants as Ends;
+ghost use Rattle.oneshot_world.specs.World.{opening, opening_place, turn, turn_of};
+
+use crate::calls::{ReceiverCalls, SenderCalls};
+use crate::script::{Move, ReceiverScript, SenderLast, SenderScript};
+use crate::state::State;
+use crate::trace::{Entry, Place};
+use oneshot_machine::machine::End;
+use std::marker::Model;
+
+/// Both machines between two moves, and what each script has left.
+#[derive(Drop)]
+pub struct World {
+    state: State,
+    sender: SenderCalls,
+    receiver: ReceiverCalls,
+}
+
+impl Model for World {
+    ghost use Rattle.oneshot_world.specs.World.{World};
+    ghost use Rattle.oneshot_world.specs.Control.{IsReached};
+
+    ghost Value = { World };
+
+    ghost view = { λ w. record { state = w.state; sender = w.sender; receiver = w.receiver } };
+
+    ghost invariant = { λ w. IsReached (record { state = w.state; sender = w.sender; receiver = w.receiver }) };
+}
+
+impl World {
+    /// The world before the first move of two scripts. The message stays with its script.
+    pub fn new<T>(sender: &SenderScript<T>, receiver: ReceiverScript) -> World
+        ensures { result ≡ opening sender.now receiver }
+    {
+        World {
+            state: State::new(opening_place(sender)),
+            sender: SenderCalls::new(sender),
+            receiver: ReceiverCalls::new(receiver),
+        }
+    }
+
+    /// Makes one move, and tells it.
+    pub fn step(&mut self, m: Move) -> Entry
+        ensures { turn self.old m ≡ Some (result, self.new) }
+    {
+        match m {
+            Move::Sender => self.step_sender(),
+            Move::Receiver { .. } => self.step_receiver(),
+        }
+    }
+
+    /// Whether the block is freed.
+    pub fn is_freed(&self) -> bool
+        ensures { result ≡ self.now.state.freed }
+    {
+        self.state.freed
+    }
+
+    /// The message's place; `None` where the script sends none.
+    pub fn place(&self) -> Option<Place>
+        ensures { result ≡ self.now.state.message }
+    {
+        self.state.message
+    }
+
+    fn step_sender(&mut self) -> Entry
+        ensures { turn_of Ends.Sender self.old ≡ Some (result, self.new) }
+    {
+        let Some(position) = self.state.sender.position(self.sender.first()) else {
+            return Entry::Idle(End::Sender);
+        };
+        let made = self.state.step_sender(position);
+        self.sender.advance(made.reply);
+        Entry::Made(made)
+    }
+
+    fn step_receiver(&mut self) -> Entry
+        ensures { turn_of Ends.Receiver self.old ≡ Some (result, self.new) }
+    {
+        let Some(position) = self.state.receiver.position(self.receiver.first()) else {
+            return Entry::Idle(End::Receiver);
+        };
+        let made = self.state.step_receiver(position);
+        self.receiver.advance(made.reply);
+        Entry::Made(made)
+    }
+}
+
+/// Where the message of a script is before the first move.
+fn opening_place<T>(sender: &SenderScript<T>) -> Option<Place>
+    ensures { result ≡ opening_place sender.now.last }
+{
+    match sender.last {
+        SenderLast::Send(_, _) => Some(Place::NotSent),
+        SenderLast::Drop | SenderLast::Stop => None,
+    }
+}
