@@ -1,0 +1,17 @@
+//! Two machines that run a script each under a schedule, move by move, and the trace of what they did.
+#![tactic(auto)]
+
+mod refused;
+mod replayer;
+mod rest;
+mod run;
+mod trace;
+
+pub use oneshot_world::{
+    CallList, Entry, ErrorLast, ErrorScript, Made, Move, Place, ReceiverCall, ReceiverLast,
+    ReceiverScript, SenderLast, SenderScript, WakerName, WakerPlace,
+};
+pub use refused::Refused;
+pub use rest::Rest;
+pub use run::replay;
+pub use trace::Trace;
