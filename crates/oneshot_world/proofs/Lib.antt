@@ -3,3 +3,4 @@ pub mod Explored
 pub mod Coded
 pub mod Reached
 pub mod Scripted
+pub mod Turned

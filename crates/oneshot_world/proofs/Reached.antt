@@ -101,25 +101,39 @@ sender_at w = sender_position w.state.sender (option_and_then as_sender_call (fi
 abbrev pub receiver_at : World → Option ReceiverPos
 receiver_at w = receiver_position w.state.receiver (option_and_then as_receiver_call (first w.receiver.calls))
 
-abbrev sender_begin : World → Begin
+abbrev pub sender_begin : World → Begin
 sender_begin w = record { side = Sender; call = first w.sender.calls }
 
-abbrev receiver_begin : World → Begin
+abbrev pub receiver_begin : World → Begin
 receiver_begin w = record { side = Receiver; call = first w.receiver.calls }
 
-sender_leads : (w : World) (position : SenderPos) → IsReached w → sender_at w ≡ Some position → leads_on (sender_begin w) (option_map (λ turned. (turned.0, control_then Sender (first w.sender.calls) (control_of w) turned.1)) (option_map made_entry (sender_steps w.state position))) ≡ true
-sender_leads w position h at =
-    rw (at, sender_turns_at) at
-      (at_sender (moves_on (control_of w)) w.state.message w.state.sender w.sender.calls position h.sender at
-        (all_left (moves_on (control_of w)) (sender_begins w.state.message w.state.sender (control_of w).sender) _
-          (and_right (nat_le w.state.word 4) _ (passes _ is_closed (control_of w) h.control))))
+-- a test of all moves that may begin, at the move that an end makes at its position
+abbrev pub after_sender : World → Entry × State → Entry × Control
+after_sender w turned = (turned.0, control_then Sender (first w.sender.calls) (control_of w) turned.1)
 
-receiver_leads : (w : World) (position : ReceiverPos) → IsReached w → receiver_at w ≡ Some position → leads_on (receiver_begin w) (option_map (λ turned. (turned.0, control_then Receiver (first w.receiver.calls) (control_of w) turned.1)) (option_map made_entry (receiver_steps w.state position))) ≡ true
-receiver_leads w position h at =
+abbrev pub after_receiver : World → Entry × State → Entry × Control
+after_receiver w turned = (turned.0, control_then Receiver (first w.receiver.calls) (control_of w) turned.1)
+
+pub sender_passes : (test : Begin → Option (Entry × Control) → Bool) (w : World) (position : SenderPos) → IsReached w → sender_at w ≡ Some position → list_all (λ b. test b (control_turn (control_of w) b)) (begins (control_of w)) ≡ true → test (sender_begin w) (option_map (after_sender w) (option_map made_entry (sender_steps w.state position))) ≡ true
+sender_passes test w position h at all =
+    rw (at, sender_turns_at) at
+      (at_sender (λ b. test b (control_turn (control_of w) b)) w.state.message w.state.sender w.sender.calls position h.sender at
+        (all_left (λ b. test b (control_turn (control_of w) b)) (sender_begins w.state.message w.state.sender (control_of w).sender) _ all))
+
+pub receiver_passes : (test : Begin → Option (Entry × Control) → Bool) (w : World) (position : ReceiverPos) → IsReached w → receiver_at w ≡ Some position → list_all (λ b. test b (control_turn (control_of w) b)) (begins (control_of w)) ≡ true → test (receiver_begin w) (option_map (after_receiver w) (option_map made_entry (receiver_steps w.state position))) ≡ true
+receiver_passes test w position h at all =
     rw (at, receiver_turns_at) at
-      (at_receiver (moves_on (control_of w)) w.state.receiver w.receiver.calls position at
-        (all_right (moves_on (control_of w)) (sender_begins w.state.message w.state.sender (control_of w).sender) _
-          (and_right (nat_le w.state.word 4) _ (passes _ is_closed (control_of w) h.control))))
+      (at_receiver (λ b. test b (control_turn (control_of w) b)) w.state.receiver w.receiver.calls position at
+        (all_right (λ b. test b (control_turn (control_of w) b)) (sender_begins w.state.message w.state.sender (control_of w).sender) _ all))
+
+moves_there : (w : World) → IsReached w → list_all (moves_on (control_of w)) (begins (control_of w)) ≡ true
+moves_there w h = and_right (nat_le w.state.word 4) _ (passes _ is_closed (control_of w) h.control)
+
+sender_leads : (w : World) (position : SenderPos) → IsReached w → sender_at w ≡ Some position → leads_on (sender_begin w) (option_map (after_sender w) (option_map made_entry (sender_steps w.state position))) ≡ true
+sender_leads w position h at = sender_passes leads_on w position h at (moves_there w h)
+
+receiver_leads : (w : World) (position : ReceiverPos) → IsReached w → receiver_at w ≡ Some position → leads_on (receiver_begin w) (option_map (after_receiver w) (option_map made_entry (receiver_steps w.state position))) ≡ true
+receiver_leads w position h at = receiver_passes leads_on w position h at (moves_there w h)
 
 -- a step that leads on is made
 made_if : (b : Begin) (f : Entry × State → Entry × Control) (steps : Option (Made × State)) → leads_on b (option_map f (option_map made_entry steps)) ≡ true → IsSome steps
@@ -200,7 +214,7 @@ receiver_goes_on (Drop_sender ∷ calls) h = cc
 receiver_goes_on (Stray ∷ calls) h = cc
 
 -- the world after a step by a row is reached
-abbrev sender_world : World → Step → Outcome SenderPos → World
+abbrev pub sender_world : World → Step → Outcome SenderPos → World
 sender_world w step row =
     record {
       state = (sender_stepped w.state step row).1;
@@ -208,12 +222,7 @@ sender_world w step row =
       receiver = w.receiver;
     }
 
-sender_stays_reached : (w : World) (step : Step) (row : Outcome SenderPos) → IsReached w → sender_script w.state.message w.sender.calls ≡ true → is_reached (control_then Sender (first w.sender.calls) (control_of w) (sender_stepped w.state step row).1) ≡ true → IsReached (sender_world w step row)
-sender_stays_reached w step (Goes next) h script on = record { control = on; sender = script_stays w.state.message (sender_puts step None) w.sender.calls script; error = h.error; receiver = h.receiver }
-sender_stays_reached w step (Answers Replies.Refused) h script on = record { control = on; sender = h.error; error = h.error; receiver = h.receiver }
-sender_stays_reached w step (Answers _) h script on = record { control = on; sender = sender_ends w.state.message w.sender.calls script; error = h.error; receiver = h.receiver }
-
-abbrev receiver_world : World → Step → Outcome ReceiverPos → World
+abbrev pub receiver_world : World → Step → Outcome ReceiverPos → World
 receiver_world w step row =
     record {
       state = (receiver_stepped w.state step row).1;
@@ -221,40 +230,70 @@ receiver_world w step row =
       receiver = left_by Receiver (reply_of row) w.receiver;
     }
 
+-- where a step by a row leads, as the finite part shows it
+pub sender_control_is : (w : World) (step : Step) (row : Outcome SenderPos) → control_then Sender (first w.sender.calls) (control_of w) (sender_stepped w.state step row).1 ≡ control_of (sender_world w step row)
+sender_control_is w step (Goes next) = refl
+sender_control_is w step (Answers Replies.Refused) = refl
+sender_control_is w step (Answers _) = refl
+
+pub receiver_control_is : (w : World) (step : Step) (row : Outcome ReceiverPos) → control_then Receiver (first w.receiver.calls) (control_of w) (receiver_stepped w.state step row).1 ≡ control_of (receiver_world w step row)
+receiver_control_is w step (Goes next) = refl
+receiver_control_is w step (Answers Replies.Done) = refl
+receiver_control_is w step (Answers _) = refl
+
+sender_stays_reached : (w : World) (step : Step) (row : Outcome SenderPos) → IsReached w → sender_script w.state.message w.sender.calls ≡ true → is_reached (control_then Sender (first w.sender.calls) (control_of w) (sender_stepped w.state step row).1) ≡ true → IsReached (sender_world w step row)
+sender_stays_reached w step (Goes next) h script on = record { control = on; sender = script_stays w.state.message (sender_puts step None) w.sender.calls script; error = h.error; receiver = h.receiver }
+sender_stays_reached w step (Answers Replies.Refused) h script on = record { control = on; sender = h.error; error = h.error; receiver = h.receiver }
+sender_stays_reached w step (Answers _) h script on = record { control = on; sender = sender_ends w.state.message w.sender.calls script; error = h.error; receiver = h.receiver }
+
 receiver_stays_reached : (w : World) (step : Step) (row : Outcome ReceiverPos) → IsReached w → is_script stays_receiver ends_receiver w.receiver.calls ≡ true → is_reached (control_then Receiver (first w.receiver.calls) (control_of w) (receiver_stepped w.state step row).1) ≡ true → ended_by_its_call (receiver_goes row) (first w.receiver.calls) ≡ true → IsReached (receiver_world w step row)
 receiver_stays_reached w step (Goes next) h script on ended = record { control = on; sender = sender_still_has w.state.message (receiver_puts step) w.state.sender w.sender.calls h.sender; error = h.error; receiver = script }
 receiver_stays_reached w step (Answers Replies.Done) h script on ended = record { control = on; sender = sender_still_has w.state.message (receiver_puts step) w.state.sender w.sender.calls h.sender; error = h.error; receiver = receiver_ends w.receiver.calls script ended }
 receiver_stays_reached w step (Answers _) h script on ended = record { control = on; sender = sender_still_has w.state.message (receiver_puts step) w.state.sender w.sender.calls h.sender; error = h.error; receiver = receiver_goes_on w.receiver.calls script }
 
--- A position that an end reaches has a step; the world after it is reached.
+-- a position that an end of a reached world has, has a step, and the world after it is reached
 pub sender_makes : (w : World) (position : SenderPos) → IsReached w → sender_at w ≡ Some position → IsSome (sender_steps w.state position)
-sender_makes w position h at = made_if (sender_begin w) _ (sender_steps w.state position) (sender_leads w position h at)
+sender_makes w position h at = made_if (sender_begin w) (after_sender w) (sender_steps w.state position) (sender_leads w position h at)
 
 pub receiver_makes : (w : World) (position : ReceiverPos) → IsReached w → receiver_at w ≡ Some position → IsSome (receiver_steps w.state position)
-receiver_makes w position h at = made_if (receiver_begin w) _ (receiver_steps w.state position) (receiver_leads w position h at)
+receiver_makes w position h at = made_if (receiver_begin w) (after_receiver w) (receiver_steps w.state position) (receiver_leads w position h at)
+
+pub sender_row_reaches : (w : World) (position : SenderPos) (row : Outcome SenderPos) → IsReached w → sender_at w ≡ Some position → sender_steps w.state position ≡ Some (sender_stepped w.state (sender_step position) row) → IsReached (sender_world w (sender_step position) row)
+unfolding leads_on
+sender_row_reaches w position row h at steps =
+    sender_stays_reached w (sender_step position) row h
+      (sender_has_script w.state.message w.state.sender _ position w.sender.calls at h.sender)
+      (and_left _ true (rw steps at (sender_leads w position h at)))
+
+pub receiver_row_reaches : (w : World) (position : ReceiverPos) (row : Outcome ReceiverPos) → IsReached w → receiver_at w ≡ Some position → receiver_steps w.state position ≡ Some (receiver_stepped w.state (receiver_step position) row) → IsReached (receiver_world w (receiver_step position) row)
+unfolding leads_on
+receiver_row_reaches w position row h at steps =
+    let leads = rw steps at (receiver_leads w position h at) in
+    receiver_stays_reached w (receiver_step position) row h
+      (receiver_has_script w.state.receiver _ position w.receiver.calls at h.receiver)
+      (and_left _ (ended_by_its_call (receiver_goes row) (first w.receiver.calls)) leads)
+      (and_right (is_reached (control_then Receiver (first w.receiver.calls) (control_of w) (receiver_stepped w.state (receiver_step position) row).1)) _ leads)
+
+-- a step that is made, is made by a row
+pub sender_made_by : (s : State) (position : SenderPos) (t : Made × State) → sender_steps s position ≡ Some t → (row : Outcome SenderPos) × (sender_stepped s (sender_step position) row ≡ t)
+sender_made_by s position t h = from_row (fits_cell s.message (sender_step position)) (sender_stepped s (sender_step position)) (sender_row position (seen_by s.word (sender_step position))) t h
+
+pub receiver_made_by : (s : State) (position : ReceiverPos) (t : Made × State) → receiver_steps s position ≡ Some t → (row : Outcome ReceiverPos) × (receiver_stepped s (receiver_step position) row ≡ t)
+receiver_made_by s position t h = from_row (fits_cell s.message (receiver_step position)) (receiver_stepped s (receiver_step position)) (receiver_row position (seen_by s.word (receiver_step position))) t h
 
 pub sender_reaches : (w : World) (position : SenderPos) (e : Made) (s : State) → IsReached w → sender_at w ≡ Some position → sender_steps w.state position ≡ Some (e, s) → IsReached (record { state = s; sender = left_by Sender e.reply w.sender; receiver = w.receiver })
-unfolding leads_on
 sender_reaches w position e s h at steps =
-    let made = from_row (fits_cell w.state.message (sender_step position)) (sender_stepped w.state (sender_step position)) (sender_row position (seen_by w.state.word (sender_step position))) (e, s) steps in
-    let on : is_reached (control_then Sender (first w.sender.calls) (control_of w) s) ≡ true = and_left _ true (rw steps at (sender_leads w position h at)) in
+    let made = sender_made_by w.state position (e, s) steps in
     let same : sender_stepped w.state (sender_step position) made.0 ≡ (e, s) = made.1 in
     subst (λ (t : Made × State). IsReached (record { state = t.1; sender = left_by Sender t.0.reply w.sender; receiver = w.receiver })) same
-      (sender_stays_reached w (sender_step position) made.0 h
-        (sender_has_script w.state.message w.state.sender _ position w.sender.calls at h.sender)
-        (subst (λ (t : Made × State). is_reached (control_then Sender (first w.sender.calls) (control_of w) t.1) ≡ true) (sym same) on))
+      (sender_row_reaches w position made.0 h at (steps ∙ ap (λ (t : Made × State). Some t) (sym same)))
 
 pub receiver_reaches : (w : World) (position : ReceiverPos) (e : Made) (s : State) → IsReached w → receiver_at w ≡ Some position → receiver_steps w.state position ≡ Some (e, s) → IsReached (record { state = s; sender = w.sender; receiver = left_by Receiver e.reply w.receiver })
-unfolding leads_on
 receiver_reaches w position e s h at steps =
-    let made = from_row (fits_cell w.state.message (receiver_step position)) (receiver_stepped w.state (receiver_step position)) (receiver_row position (seen_by w.state.word (receiver_step position))) (e, s) steps in
-    let leads = rw steps at (receiver_leads w position h at) in
+    let made = receiver_made_by w.state position (e, s) steps in
     let same : receiver_stepped w.state (receiver_step position) made.0 ≡ (e, s) = made.1 in
     subst (λ (t : Made × State). IsReached (record { state = t.1; sender = w.sender; receiver = left_by Receiver t.0.reply w.receiver })) same
-      (receiver_stays_reached w (receiver_step position) made.0 h
-        (receiver_has_script w.state.receiver _ position w.receiver.calls at h.receiver)
-        (subst (λ (t : Made × State). is_reached (control_then Receiver (first w.receiver.calls) (control_of w) t.1) ≡ true) (sym same) (and_left _ (ended_by_its_call s.receiver (first w.receiver.calls)) leads))
-        (subst (λ (t : Made × State). ended_by_its_call t.1.receiver (first w.receiver.calls) ≡ true) (sym same) (and_right (is_reached (control_then Receiver (first w.receiver.calls) (control_of w) s)) _ leads)))
+      (receiver_row_reaches w position made.0 h at (steps ∙ ap (λ (t : Made × State). Some t) (sym same)))
 
 -- the world before the first move is reached
 nothing_sent : is_reached (opening_control None) ≡ true

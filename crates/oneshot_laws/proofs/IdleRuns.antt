@@ -1,0 +1,77 @@
+-- In each run an end is idle only where its script has nothing left.
+use Rattle.std.proofs.Common.{◌≡◌, Bool, true, List, [], ◌∷◌, Option, Some, None, refl, sym, ◌∙◌, ap, ◌&&◌}
+use Rattle.std.specs.Option.{option_and_then}
+use Rattle.oneshot_machine.specs.Receiver.{receiver_step}
+use Rattle.oneshot_machine.specs.Sender.{sender_step}
+use Rattle.oneshot_machine.specs.declared.machine.End.{End}
+use Rattle.oneshot_machine.specs.declared.machine.End.TheVariants.{Sender, Receiver}
+use Rattle.oneshot_world.specs.Calls.{Call, Send, Drop_sender, Try_recv, Drop_receiver, Stray, calls_of, first, left_by, as_sender_call, as_receiver_call}
+use Rattle.oneshot_world.specs.Control.{sender_has, receiver_has, is_none_left, IsReached}
+use Rattle.oneshot_world.specs.State.{sender_position, receiver_position, reply_of}
+use Rattle.oneshot_world.specs.World.{World, Tells, opening, side_of}
+use Rattle.oneshot_world.specs.declared.script.Move.{Move}
+use Rattle.oneshot_world.specs.declared.script.ReceiverScript.{ReceiverScript}
+use Rattle.oneshot_world.specs.declared.script.SenderScript.{SenderScript}
+use Rattle.oneshot_world.specs.declared.state.ReceiverState.{ReceiverState}
+use Rattle.oneshot_world.specs.declared.state.ReceiverState.TheVariants as RS
+use Rattle.oneshot_world.specs.declared.state.SenderState.{SenderState}
+use Rattle.oneshot_world.specs.declared.state.SenderState.TheVariants as SS
+use Rattle.oneshot_world.specs.declared.trace.Entry.{Entry}
+use Rattle.oneshot_world.specs.declared.trace.Place.{Place}
+use Rattle.oneshot_world.proofs.Bools.{both}
+use Rattle.oneshot_world.proofs.Reached.{sender_world, receiver_world, opening_reached}
+use Rattle.oneshot_world.proofs.Turned.{Turned, sender_idle, sender_made, receiver_idle, receiver_made, turned, turned_reaches}
+use Rattle.oneshot_laws.specs.Idle.{has_none_left, is_idle_right_from, is_idle_right}
+use Rattle.oneshot_laws.specs.Marks.{Reading, read, sender_reading, receiver_reading}
+
+-- an end without a position has no call left
+sender_none : (message : Option Place) (s : SenderState) (calls : List Call) → sender_has message s calls ≡ true → sender_position s (option_and_then as_sender_call (first calls)) ≡ None → is_none_left calls ≡ true
+sender_none message SS.Ready [] h at = refl
+sender_none message SS.Ready (Send ∷ calls) h at = cc
+sender_none message SS.Ready (Drop_sender ∷ calls) h at = cc
+sender_none message SS.Ready (Try_recv ∷ calls) h at = cc
+sender_none message SS.Ready (Drop_receiver ∷ calls) h at = cc
+sender_none message SS.Ready (Stray ∷ calls) h at = cc
+sender_none message (SS.At position) calls h at = cc
+sender_none message SS.Failed calls h at = h
+sender_none message SS.Ended calls h at = h
+
+receiver_none : (s : ReceiverState) (calls : List Call) → receiver_has s calls ≡ true → receiver_position s (option_and_then as_receiver_call (first calls)) ≡ None → is_none_left calls ≡ true
+receiver_none RS.Ready [] h at = refl
+receiver_none RS.Ready (Send ∷ calls) h at = cc
+receiver_none RS.Ready (Drop_sender ∷ calls) h at = cc
+receiver_none RS.Ready (Try_recv ∷ calls) h at = cc
+receiver_none RS.Ready (Drop_receiver ∷ calls) h at = cc
+receiver_none RS.Ready (Stray ∷ calls) h at = cc
+receiver_none (RS.At position) calls h at = cc
+receiver_none RS.Ended calls h at = h
+
+reads_none : (at : Reading) → is_none_left at.left.calls ≡ true → has_none_left at ≡ true
+reads_none at h = elim at.left.calls as (λ calls. is_none_left calls ≡ true → (elim calls as (λ _. Bool) [ [] ↦ true | call ∷ calls ↦ Rattle.std.proofs.Common.false ]) ≡ true) [ [] ↦ λ h. refl | call ∷ calls ↦ λ h. h ] h
+
+-- a reading of what a run from this world tells
+abbrev Claim : List Entry → Type 0
+Claim entries = (w : World) (s r : Reading) (worlds : List World) (moves : List Move) → s.left ≡ w.sender → r.left ≡ w.receiver → IsReached w → Tells w worlds moves entries → is_idle_right_from s r entries ≡ true
+
+idle_turn : (entries : List Entry) → Claim entries → (side : End) (w : World) (entry : Entry) (next : World) (s r : Reading) (worlds : List World) (moves : List Move) → Turned w side entry next → s.left ≡ w.sender → r.left ≡ w.receiver → IsReached w → IsReached next → Tells next worlds moves entries → is_idle_right_from s r (entry ∷ entries) ≡ true
+idle_turn entries later _ w _ _ s r worlds moves (sender_idle at) se re h k told =
+    both _ _ (reads_none s (rw se (sender_none w.state.message w.state.sender w.sender.calls h.sender at))) (later w s r worlds moves se re h told)
+idle_turn entries later _ w _ _ s r worlds moves (receiver_idle at) se re h k told =
+    both _ _ (reads_none r (rw re (receiver_none w.state.receiver w.receiver.calls h.receiver at))) (later w s r worlds moves se re h told)
+idle_turn entries later _ w _ _ s r worlds moves (sender_made position row at steps) se re h k told =
+    later (sender_world w (sender_step position) row) _ r worlds moves (ap (λ left. left_by Sender (reply_of row) left) se) re k told
+idle_turn entries later _ w _ _ s r worlds moves (receiver_made position row at steps) se re h k told =
+    later (receiver_world w (receiver_step position) row) s _ worlds moves se (ap (λ left. left_by Receiver (reply_of row) left) re) k told
+
+idles : (entries : List Entry) → Claim entries
+idles [] w s r worlds moves se re h told = refl
+idles (entry ∷ entries) w s r (next ∷ worlds) (move ∷ moves) se re h told =
+    let by : Turned w (side_of move) entry next = turned (side_of move) w (entry, next) told.0 in
+    idle_turn entries (idles entries) (side_of move) w entry next s r worlds moves by se re h (turned_reaches (side_of move) w entry next h by) told.1
+idles (entry ∷ entries) w s r [] [] se re h told = elim told [ ]
+idles (entry ∷ entries) w s r [] (move ∷ moves) se re h told = elim told [ ]
+idles (entry ∷ entries) w s r (next ∷ worlds) [] se re h told = elim told [ ]
+
+pub idle_run : {T : Type 0} (s : SenderScript T) (r : ReceiverScript) (worlds : List World) (moves : List Move) (entries : List Entry) → Tells (opening s r) worlds moves entries → is_idle_right (calls_of s r) entries ≡ true
+idle_run s r worlds moves entries told =
+    idles entries (opening s r) (sender_reading (calls_of s r)) (receiver_reading (calls_of s r)) worlds moves refl refl (opening_reached s.last r) told

@@ -1,0 +1,9 @@
+pub mod Words
+pub mod Object
+pub mod Steps
+pub mod Marks
+pub mod History
+pub mod Idle
+pub mod Notation
+pub mod Traces
+pub mod Examples

@@ -1,0 +1,162 @@
+-- The trace as it is read: each step with the call that it belongs to, that call's answer, whether it begins the call, whether the call acts there, and the object that it meets.
+use Rattle.std.specs.Prelude.{ℕ, ◌+◌, Bool, true, false, not, ◌&&◌, ◌||◌, List, [], ◌∷◌, ◌++◌, Option, Some, None, is_some}
+use Rattle.std.specs.List.{list_any}
+use Rattle.oneshot_machine.specs.declared.machine.End.{End}
+use Rattle.oneshot_machine.specs.declared.machine.Reply.{Reply}
+use Rattle.oneshot_world.specs.Calls.{Call, Send, Drop_sender, Try_recv, Drop_receiver, Stray, Calls, Unanswered, first, left_by}
+use Rattle.oneshot_world.specs.World.{by_end}
+use Rattle.oneshot_world.specs.declared.trace.Entry.{Entry}
+use Rattle.oneshot_world.specs.declared.trace.Entry.TheVariants.{Idle, Made as Made_entry}
+use Rattle.oneshot_world.specs.declared.trace.Made.{Made}
+use Rattle.oneshot_laws.specs.Words.{is_same_end, is_nothing_yet, is_word, is_add_or_xor, is_swap, is_swap_of, found}
+use Rattle.oneshot_laws.specs.Object.{Object, new_object}
+use Rattle.oneshot_laws.specs.Steps.{action_of, stepped}
+
+-- The acting entry of a call is the first, or the last, of its entries that pass a test; what belongs to no call never acts.
+pub data Rule : Type 0 where
+  First : (test : Made → Bool) → Rule
+  Last : (test : Made → Bool) → Rule
+  Never : Rule
+
+-- an add or a flip that found 3 or 2, or else the final swap: the call's only one
+abbrev pub finishes : Made → Bool
+finishes e = is_add_or_xor e.step && (found 3 e.before || found 2 e.before) || is_swap e.step
+
+abbrev pub works_on_word : Made → Bool
+works_on_word e = is_word e.step
+
+abbrev pub finds_full_or_closed : Made → Bool
+finds_full_or_closed e = is_word e.step && (found 4 e.before || found 2 e.before)
+
+abbrev pub swaps_closed_in : Made → Bool
+swaps_closed_in e = is_swap_of 2 e.step
+
+-- A receive that answers "nothing yet" acts at its last word operation. Any other, also one that has not answered, acts where it first finds 4 or 2.
+abbrev pub receive_rule : Option Reply → Rule
+receive_rule answer = elim (is_nothing_yet answer) [ true ↦ Last works_on_word | false ↦ First finds_full_or_closed ]
+
+-- by the call, and its answer if the trace has it
+abbrev pub rule : Call → Option Reply → Rule
+rule Send answer = First finishes
+rule Drop_sender answer = First finishes
+rule Try_recv answer = receive_rule answer
+rule Drop_receiver answer = First swaps_closed_in
+rule Stray answer = Never
+
+-- whether an entry is the acting one of a call with these entries before it and these after it
+abbrev pub acts : Rule → List Made → Made → List Made → Bool
+acts (First test) earlier e later = test e && not (list_any test earlier)
+acts (Last test) earlier e later = test e && not (list_any test later)
+acts Never earlier e later = false
+
+-- whether a call has acted, with these entries so far and these still to come
+abbrev pub has_acted : Rule → List Made → List Made → Bool
+has_acted (First test) so_far later = list_any test so_far
+has_acted (Last test) so_far later = list_any test so_far && not (list_any test later)
+has_acted Never so_far later = false
+
+-- one thing while there is no reply, another once there is one
+abbrev pub until_reply : {X : Type 0} → Option Reply → X → X → X
+until_reply None before after = before
+until_reply (Some reply) before after = after
+
+-- an end's entries up to its next reply
+abbrev pub to_reply : End → List Entry → List Made
+to_reply end [] = []
+to_reply end (Idle side ∷ entries) = to_reply end entries
+to_reply end (Made_entry e ∷ entries) =
+    elim (is_same_end e.side end) [
+      | true ↦ e ∷ until_reply e.reply (to_reply end entries) []
+      | false ↦ to_reply end entries
+    ]
+
+-- what they reply
+abbrev pub reply_among : List Made → Option Reply
+reply_among [] = None
+reply_among (e ∷ entries) = until_reply e.reply (reply_among entries) e.reply
+
+-- the entries of an entry's call after it
+abbrev pub later_than : Made → List Entry → List Made
+later_than e entries = until_reply e.reply (to_reply e.side entries) []
+
+-- where a reading of the trace stands at one end: what its script has left, and the entries so far of the call under way
+pub record Reading : Type 0 where
+  pub left : Unanswered
+  pub earlier : List Made
+
+abbrev pub read_by : End → Reading → Made → Reading
+read_by side at e =
+    record {
+      left = left_by side e.reply at.left;
+      earlier = until_reply e.reply (at.earlier ++ e ∷ []) [];
+    }
+
+abbrev pub read : Reading → Made → Reading
+read at e = read_by e.side at e
+
+-- `number` is the entry's own, counted from 1; `object` is what the acting entries before it have left; `acted` is whether the call has acted, here or before.
+pub record Mark : Type 0 where
+  pub number : ℕ
+  pub entry : Made
+  pub call : Call
+  pub answer : Option Reply
+  pub begins : Bool
+  pub acting : Bool
+  pub acted : Bool
+  pub object : Object
+
+abbrev pub is_empty : List Made → Bool
+is_empty [] = true
+is_empty (e ∷ entries) = false
+
+abbrev pub mark_of : ℕ → Object → Call → Option Reply → List Made → Made → List Made → Mark
+mark_of number o call answer earlier e later =
+    record {
+      number = number;
+      entry = e;
+      call = call;
+      answer = answer;
+      begins = is_empty earlier;
+      acting = acts (rule call answer) earlier e later;
+      acted = has_acted (rule call answer) (earlier ++ e ∷ []) later;
+      object = o;
+    }
+
+-- the call that an entry belongs to: the first that its end has left
+abbrev pub or_stray : Option Call → Call
+or_stray None = Stray
+or_stray (Some call) = call
+
+abbrev pub call_under_way : Unanswered → Call
+call_under_way left = or_stray (first left.calls)
+
+abbrev pub mark_at : ℕ → Object → Reading → Made → List Made → Mark
+mark_at number o at e later =
+    mark_of number o (call_under_way at.left) (reply_among (e ∷ later)) at.earlier e later
+
+-- the object after a mark
+abbrev pub object_then : Mark → Object
+object_then m = elim m.acting [ true ↦ stepped (action_of m.call) m.object | false ↦ m.object ]
+
+-- the marks of the entries from here on
+abbrev pub marks_from : Reading → Reading → ℕ → Object → List Entry → List Mark
+marks_from s r number o [] = []
+marks_from s r number o (Idle side ∷ entries) = marks_from s r (number + 1) o entries
+marks_from s r number o (Made_entry e ∷ entries) =
+    let mark : Mark = mark_at number o (by_end e.side s r) e (later_than e entries)
+    in mark
+    ∷ marks_from (by_end e.side (read s e) s) (by_end e.side r (read r e)) (number + 1) (object_then mark) entries
+
+-- before the first entry
+abbrev pub sender_reading : Calls → Reading
+sender_reading c = record { left = record { calls = c.sender; error = c.error }; earlier = [] }
+
+abbrev pub receiver_reading : Calls → Reading
+receiver_reading c = record { left = record { calls = c.receiver; error = [] }; earlier = [] }
+
+abbrev pub marks : Calls → List Entry → List Mark
+marks c entries = marks_from (sender_reading c) (receiver_reading c) 1 new_object entries
+
+-- whether an entry answers its call
+abbrev pub ends : Mark → Bool
+ends m = is_some m.entry.reply

@@ -1,0 +1,84 @@
+-- How a trace is written down in the examples, and how it is damaged there.
+use Rattle.std.specs.Prelude.{ℕ, ◌+◌, ◌-◌, take, drop, map, false, List, [], ◌∷◌, ◌++◌, Option, Some, None}
+use Rattle.oneshot_machine.specs.declared.machine.End.{End}
+use Rattle.oneshot_machine.specs.declared.machine.End.TheVariants.{Sender, Receiver}
+use Rattle.oneshot_machine.specs.declared.machine.Reply.{Reply}
+use Rattle.oneshot_machine.specs.declared.machine.Seen.{Seen}
+use Rattle.oneshot_machine.specs.declared.machine.Seen.TheVariants as S
+use Rattle.oneshot_machine.specs.declared.machine.Step.{Step}
+use Rattle.oneshot_machine.specs.declared.machine.Step.TheVariants as T
+use Rattle.oneshot_machine.specs.declared.states.Op.TheVariants as O
+use Rattle.oneshot_world.specs.Calls.{Calls}
+use Rattle.oneshot_world.specs.declared.trace.Entry.{Entry}
+use Rattle.oneshot_world.specs.declared.trace.Entry.TheVariants as E
+use Rattle.oneshot_world.specs.declared.trace.Made.{Made}
+use Rattle.oneshot_world.specs.declared.trace.Place.{Place}
+
+-- a trace with its scripts
+pub record Example : Type 0 where
+  pub calls : Calls
+  pub entries : List Entry
+
+abbrev pub seen_at : Step → Option ℕ → Seen
+seen_at (T.Word (O.Store new)) before = S.Done
+seen_at (T.Word op) (Some word) = S.Word word
+seen_at _ before = S.Done
+
+-- an end's step, with the word before and after it; none once the block is freed
+abbrev pub step_of : End → Step → Option ℕ → Option ℕ → Made
+step_of end step before after =
+    record {
+      side = end;
+      step = step;
+      seen = seen_at step before;
+      before = before;
+      after = after;
+      message = None;
+      waker = None;
+      token_set = false;
+      own = None;
+      reply = None;
+    }
+
+abbrev pub sender : Step → ℕ → ℕ → Made
+sender step before after = step_of Sender step (Some before) (Some after)
+
+abbrev pub receiver : Step → ℕ → ℕ → Made
+receiver step before after = step_of Receiver step (Some before) (Some after)
+
+abbrev pub frees : End → ℕ → Made
+frees end before = step_of end T.Free (Some before) None
+
+-- the message's move, and the reply
+abbrev pub moving : Place → Place → Made → Made
+moving from to e = record e { message = Some (from, to) }
+
+abbrev pub replying : Reply → Made → Made
+replying reply e = record e { reply = Some reply }
+
+-- entry k, counted from 1, is taken out, exchanged with the next one, or changed in its reply
+abbrev pub without : ℕ → Example → Example
+without k x = record x { entries = take (k - 1) x.entries ++ drop k x.entries }
+
+abbrev pub exchanged : ℕ → Example → Example
+exchanged k x =
+    record x {
+      entries =
+          take (k - 1) x.entries
+          ++ take 1 (drop k x.entries)
+          ++ take 1 (drop (k - 1) x.entries)
+          ++ drop (k + 1) x.entries;
+    }
+
+abbrev pub answering : Reply → Entry → Entry
+answering reply (E.Idle side) = E.Idle side
+answering reply (E.Made e) = E.Made (replying reply e)
+
+abbrev pub answered_by : ℕ → Reply → Example → Example
+answered_by k reply x =
+    record x {
+      entries =
+          take (k - 1) x.entries
+          ++ map (answering reply) (take 1 (drop (k - 1) x.entries))
+          ++ drop k x.entries;
+    }

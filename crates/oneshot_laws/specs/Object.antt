@@ -1,0 +1,84 @@
+-- A channel as an object with one message: what it is, what its steps do, and what they answer. It knows no code, no position and no word.
+use Rattle.std.specs.Prelude.{Bool, true, false, if◌then◌else◌}
+
+-- Nothing sent yet, the message, or closed for good. There is one message, that of the sender's script, so `Full` need not name it.
+pub data Content : Type 0 where
+  Open : Content
+  Full : Content
+  Closed : Content
+
+pub record Object : Type 0 where
+  pub content : Content
+  pub sender_here : Bool
+  pub receiver_here : Bool
+
+abbrev pub new_object : Object
+new_object = record { content = Open; sender_here = true; receiver_here = true }
+
+abbrev pub is_open : Content → Bool
+is_open Open = true
+is_open Full = false
+is_open Closed = false
+
+-- the object's steps
+pub data Action : Type 0 where
+  Send : Action
+  Sender_gone : Action
+  Take : Action
+  Receiver_gone : Action
+
+-- the content once its message is taken or dropped, and once the sender is gone
+abbrev pub without_message : Content → Content
+without_message Open = Open
+without_message Full = Closed
+without_message Closed = Closed
+
+abbrev pub without_sender : Content → Content
+without_sender Open = Closed
+without_sender Full = Full
+without_sender Closed = Closed
+
+abbrev pub content_after : Action → Object → Content
+content_after Send o = if o.receiver_here then Full else o.content
+content_after Sender_gone o = without_sender o.content
+content_after Take o = without_message o.content
+content_after Receiver_gone o = without_message o.content
+
+abbrev pub sender_stays : Action → Bool
+sender_stays Send = false
+sender_stays Sender_gone = false
+sender_stays Take = true
+sender_stays Receiver_gone = true
+
+abbrev pub receiver_stays : Action → Bool
+receiver_stays Send = true
+receiver_stays Sender_gone = true
+receiver_stays Take = true
+receiver_stays Receiver_gone = false
+
+abbrev pub object_after : Action → Object → Object
+object_after action o =
+    record {
+      content = content_after action o;
+      sender_here = if sender_stays action then o.sender_here else false;
+      receiver_here = if receiver_stays action then o.receiver_here else false;
+    }
+
+pub data Answer : Type 0 where
+  Accepted : Answer
+  Returned : Answer
+  Message : Answer
+  Gone : Answer
+  Nothing_yet : Answer
+  Finished : Answer
+
+abbrev pub taken_from : Content → Answer
+taken_from Open = Nothing_yet
+taken_from Full = Message
+taken_from Closed = Gone
+
+abbrev pub answer_of : Action → Object → Answer
+answer_of Send o = if o.receiver_here then Accepted else Returned
+answer_of Sender_gone o = Finished
+answer_of Take o = taken_from o.content
+answer_of Receiver_gone o = Finished
