@@ -1,6 +1,10 @@
 //! A whole schedule at once.
 
-ghost use Rattle.std.specs.Prelude.{◌≡◌, IfOk, IfErr, length};
+ghost use Rattle.std.specs.Prelude.{◌≡◌, IfOk, IfErr, IsTrue, length};
+ghost use Rattle.oneshot_world.specs.Calls.{calls_of};
+ghost use Rattle.oneshot_laws.specs.Marks.{marks};
+ghost use Rattle.oneshot_laws.specs.History.{has_legal_history};
+ghost use Rattle.oneshot_laws.specs.Idle.{is_idle_right};
 ghost use Rattle.oneshot_replay.specs.Told.{IsReplayed};
 
 use crate::refused::Refused;
@@ -20,6 +24,8 @@ pub fn replay<T: Drop>(
 ) -> Result<Trace<T>, Refused<T>>
     ensures run { IfOk result (IsReplayed s r moves.now) }
     ensures an_entry_a_move { IfOk result (λ t. length t.entries ≡ length moves.now) }
+    ensures idle { IfOk result (λ t. IsTrue (is_idle_right (calls_of s r) t.entries)) }
+    ensures legal { IfOk result (λ t. IsTrue (has_legal_history (marks (calls_of s r) t.entries))) }
     ensures sender_back { IfErr result (λ e. e.sender ≡ s) }
     ensures receiver_back { IfErr result (λ e. e.receiver ≡ r) }
 {
