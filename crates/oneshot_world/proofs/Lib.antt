@@ -4,3 +4,4 @@ pub mod Coded
 pub mod Reached
 pub mod Scripted
 pub mod Turned
+pub mod Determined
