@@ -1,5 +1,5 @@
 -- A run is determined by its first world and its moves.
-use Rattle.std.proofs.Common.{◌≡◌, List, [], ◌∷◌, Option, Some, None, refl, sym, ◌∙◌, ap}
+use Rattle.std.proofs.Common.{◌≡◌, List, [], ◌∷◌, Option, Some, refl}
 use Rattle.std.specs.Option.{option_map, option_and_then}
 use Rattle.oneshot_world.specs.World.{World, turn, Tells}
 use Rattle.oneshot_world.specs.declared.script.Move.{Move}

@@ -1,25 +1,23 @@
 -- Each move from a world that a run reaches has its row, and leads to a world that a run reaches.
-use Rattle.std.proofs.Common.{◌≡◌, ℕ, ◌≤◌, Bool, true, false, List, [], ◌∷◌, ◌++◌, Option, Some, None, refl, sym, ◌∙◌, ap, subst, ◌&&◌, ◌||◌, nat_le, is_some, if◌then◌else◌}
+use Rattle.std.proofs.Common.{◌≡◌, ◌≤◌, Bool, true, false, List, [], ◌∷◌, Option, Some, None, refl, sym, ◌∙◌, ap, subst, ◌&&◌, ◌||◌, nat_le, is_some, if◌then◌else◌}
 use Rattle.std.proofs.lemmas.Bool.{leb-true}
 use Rattle.std.specs.List.{list_all}
 use Rattle.std.specs.Option.{option_map, option_and_then, IsSome}
 use Rattle.oneshot_machine.specs.Receiver.{receiver_step, receiver_row}
 use Rattle.oneshot_machine.specs.Rows.{Outcome, Goes, Answers}
 use Rattle.oneshot_machine.specs.Sender.{sender_step, sender_row}
-use Rattle.oneshot_machine.specs.declared.machine.End.{End}
 use Rattle.oneshot_machine.specs.declared.machine.End.TheVariants.{Sender, Receiver}
-use Rattle.oneshot_machine.specs.declared.machine.Reply.{Reply}
 use Rattle.oneshot_machine.specs.declared.machine.Reply.TheVariants as Replies
 use Rattle.oneshot_machine.specs.declared.machine.Step.{Step}
 use Rattle.oneshot_machine.specs.declared.machine.receiver.ReceiverPos.{ReceiverPos}
 use Rattle.oneshot_machine.specs.declared.machine.receiver.ReceiverStart.{ReceiverStart}
 use Rattle.oneshot_machine.specs.declared.machine.sender.SenderCall.{SenderCall}
 use Rattle.oneshot_machine.specs.declared.machine.sender.SenderPos.{SenderPos}
-use Rattle.oneshot_world.specs.Calls.{Call, Send, Drop_sender, Try_recv, Drop_receiver, Stray, Unanswered, first, rest, left_by, sender_last, error_last, error_calls, receiver_calls, as_sender_call, as_receiver_call}
+use Rattle.oneshot_world.specs.Calls.{Call, Send, Drop_sender, Try_recv, Drop_receiver, Stray, first, rest, left_by, sender_last, error_last, error_calls, receiver_calls, as_sender_call, as_receiver_call}
 use Rattle.oneshot_world.specs.Control.{Control, control_of, Begin, begins, sender_begins, receiver_begins, sender_under_way, receiver_under_way, control_then, control_turn, is_none_left, is_script, ends_sender, stays_receiver, ends_receiver, sender_has, receiver_has, control_code, is_same_control, reached, is_reached, IsReached, opening_control}
 use Rattle.oneshot_world.specs.Explore.{all_in}
-use Rattle.oneshot_world.specs.State.{turns, sender_turns, receiver_turns, sender_turns_at, receiver_turns_at, sender_position, receiver_position, sender_steps, receiver_steps, sender_stepped, receiver_stepped, made_entry, place_left, reply_of, receiver_goes, fits_cell, seen_by, sender_puts, receiver_puts}
-use Rattle.oneshot_world.specs.World.{World, turn_of, world_then, by_end, opening_with, opening_place}
+use Rattle.oneshot_world.specs.State.{sender_turns_at, receiver_turns_at, sender_position, receiver_position, sender_steps, receiver_steps, sender_stepped, receiver_stepped, made_entry, place_left, reply_of, receiver_goes, fits_cell, seen_by, sender_puts, receiver_puts}
+use Rattle.oneshot_world.specs.World.{World, by_end, opening_with, opening_place}
 use Rattle.oneshot_world.specs.declared.script.ErrorLast.{ErrorLast}
 use Rattle.oneshot_world.specs.declared.script.ErrorLast.TheVariants as EL
 use Rattle.oneshot_world.specs.declared.script.ReceiverCall.{ReceiverCall}
@@ -117,14 +115,14 @@ after_receiver w turned = (turned.0, control_then Receiver (first w.receiver.cal
 pub sender_passes : (test : Begin → Option (Entry × Control) → Bool) (w : World) (position : SenderPos) → IsReached w → sender_at w ≡ Some position → list_all (λ b. test b (control_turn (control_of w) b)) (begins (control_of w)) ≡ true → test (sender_begin w) (option_map (after_sender w) (option_map made_entry (sender_steps w.state position))) ≡ true
 sender_passes test w position h at all =
     rw (at, sender_turns_at) at
-      (at_sender (λ b. test b (control_turn (control_of w) b)) w.state.message w.state.sender w.sender.calls position h.sender at
-        (all_left (λ b. test b (control_turn (control_of w) b)) (sender_begins w.state.message w.state.sender (control_of w).sender) _ all))
+    (at_sender (λ b. test b (control_turn (control_of w) b)) w.state.message w.state.sender w.sender.calls position h.sender at
+    (all_left (λ b. test b (control_turn (control_of w) b)) (sender_begins w.state.message w.state.sender (control_of w).sender) _ all))
 
 pub receiver_passes : (test : Begin → Option (Entry × Control) → Bool) (w : World) (position : ReceiverPos) → IsReached w → receiver_at w ≡ Some position → list_all (λ b. test b (control_turn (control_of w) b)) (begins (control_of w)) ≡ true → test (receiver_begin w) (option_map (after_receiver w) (option_map made_entry (receiver_steps w.state position))) ≡ true
 receiver_passes test w position h at all =
     rw (at, receiver_turns_at) at
-      (at_receiver (λ b. test b (control_turn (control_of w) b)) w.state.receiver w.receiver.calls position at
-        (all_right (λ b. test b (control_turn (control_of w) b)) (sender_begins w.state.message w.state.sender (control_of w).sender) _ all))
+    (at_receiver (λ b. test b (control_turn (control_of w) b)) w.state.receiver w.receiver.calls position at
+    (all_right (λ b. test b (control_turn (control_of w) b)) (sender_begins w.state.message w.state.sender (control_of w).sender) _ all))
 
 moves_there : (w : World) → IsReached w → list_all (moves_on (control_of w)) (begins (control_of w)) ≡ true
 moves_there w h = and_right (nat_le w.state.word 4) _ (passes _ is_closed (control_of w) h.control)
@@ -262,17 +260,17 @@ pub sender_row_reaches : (w : World) (position : SenderPos) (row : Outcome Sende
 unfolding leads_on
 sender_row_reaches w position row h at steps =
     sender_stays_reached w (sender_step position) row h
-      (sender_has_script w.state.message w.state.sender _ position w.sender.calls at h.sender)
-      (and_left _ true (rw steps at (sender_leads w position h at)))
+    (sender_has_script w.state.message w.state.sender _ position w.sender.calls at h.sender)
+    (and_left _ true (rw steps at (sender_leads w position h at)))
 
 pub receiver_row_reaches : (w : World) (position : ReceiverPos) (row : Outcome ReceiverPos) → IsReached w → receiver_at w ≡ Some position → receiver_steps w.state position ≡ Some (receiver_stepped w.state (receiver_step position) row) → IsReached (receiver_world w (receiver_step position) row)
 unfolding leads_on
 receiver_row_reaches w position row h at steps =
     let leads = rw steps at (receiver_leads w position h at) in
     receiver_stays_reached w (receiver_step position) row h
-      (receiver_has_script w.state.receiver _ position w.receiver.calls at h.receiver)
-      (and_left _ (ended_by_its_call (receiver_goes row) (first w.receiver.calls)) leads)
-      (and_right (is_reached (control_then Receiver (first w.receiver.calls) (control_of w) (receiver_stepped w.state (receiver_step position) row).1)) _ leads)
+    (receiver_has_script w.state.receiver _ position w.receiver.calls at h.receiver)
+    (and_left _ (ended_by_its_call (receiver_goes row) (first w.receiver.calls)) leads)
+    (and_right (is_reached (control_then Receiver (first w.receiver.calls) (control_of w) (receiver_stepped w.state (receiver_step position) row).1)) _ leads)
 
 -- a step that is made, is made by a row
 pub sender_made_by : (s : State) (position : SenderPos) (t : Made × State) → sender_steps s position ≡ Some t → (row : Outcome SenderPos) × (sender_stepped s (sender_step position) row ≡ t)
@@ -286,14 +284,14 @@ sender_reaches w position e s h at steps =
     let made = sender_made_by w.state position (e, s) steps in
     let same : sender_stepped w.state (sender_step position) made.0 ≡ (e, s) = made.1 in
     subst (λ (t : Made × State). IsReached (record { state = t.1; sender = left_by Sender t.0.reply w.sender; receiver = w.receiver })) same
-      (sender_row_reaches w position made.0 h at (steps ∙ ap (λ (t : Made × State). Some t) (sym same)))
+    (sender_row_reaches w position made.0 h at (steps ∙ ap (λ (t : Made × State). Some t) (sym same)))
 
 pub receiver_reaches : (w : World) (position : ReceiverPos) (e : Made) (s : State) → IsReached w → receiver_at w ≡ Some position → receiver_steps w.state position ≡ Some (e, s) → IsReached (record { state = s; sender = w.sender; receiver = left_by Receiver e.reply w.receiver })
 receiver_reaches w position e s h at steps =
     let made = receiver_made_by w.state position (e, s) steps in
     let same : receiver_stepped w.state (receiver_step position) made.0 ≡ (e, s) = made.1 in
     subst (λ (t : Made × State). IsReached (record { state = t.1; sender = w.sender; receiver = left_by Receiver t.0.reply w.receiver })) same
-      (receiver_row_reaches w position made.0 h at (steps ∙ ap (λ (t : Made × State). Some t) (sym same)))
+    (receiver_row_reaches w position made.0 h at (steps ∙ ap (λ (t : Made × State). Some t) (sym same)))
 
 -- the world before the first move is reached
 nothing_sent : is_reached (opening_control None) ≡ true

@@ -1,7 +1,7 @@
 -- A receiver's script that is answered call by call.
-use Rattle.std.proofs.Common.{◌≡◌, ℕ, ◌+◌, ◌<◌, List, ◌∷◌, Some, refl, ap, sym, ◌∙◌, length, drop, get_or, add-one, drop-cons}
+use Rattle.std.proofs.Common.{◌≡◌, ℕ, ◌+◌, ◌<◌, List, ◌∷◌, Some, refl, length, drop, get_or, add-one, drop-cons}
 use Rattle.oneshot_machine.specs.declared.machine.receiver.ReceiverStart.TheVariants as RS
-use Rattle.oneshot_world.specs.Calls.{Call, as_receiver_call, receiver_call, receiver_calls}
+use Rattle.oneshot_world.specs.Calls.{as_receiver_call, receiver_call, receiver_calls}
 use Rattle.oneshot_world.specs.declared.script.ReceiverCall.{ReceiverCall}
 use Rattle.oneshot_world.specs.declared.script.ReceiverCall.TheVariants as RC
 use Rattle.oneshot_world.specs.declared.script.ReceiverLast.{ReceiverLast}

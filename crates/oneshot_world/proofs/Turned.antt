@@ -35,8 +35,8 @@ sender_by_steps w position (Some made) t at e h =
     let by = sender_made_by w.state position made e in
     let same : sender_stepped w.state (sender_step position) by.0 ≡ made = by.1 in
     subst (λ t. IsTurned w Sender t)
-      (ap (λ made. world_then Sender w (made_entry made)) same ∙ some_is (world_then Sender w (made_entry made)) t h)
-      (sender_made position by.0 at (e ∙ ap (λ (t : Made × State). Some t) (sym same)))
+    (ap (λ made. world_then Sender w (made_entry made)) same ∙ some_is (world_then Sender w (made_entry made)) t h)
+    (sender_made position by.0 at (e ∙ ap (λ (t : Made × State). Some t) (sym same)))
 
 receiver_by_steps : (w : World) (position : ReceiverPos) (steps : Option (Made × State)) (t : Entry × World) → receiver_at w ≡ Some position → receiver_steps w.state position ≡ steps → option_map (world_then Receiver w) (option_map made_entry steps) ≡ Some t → IsTurned w Receiver t
 receiver_by_steps w position None t at e h = absurd (cc h)
@@ -44,8 +44,8 @@ receiver_by_steps w position (Some made) t at e h =
     let by = receiver_made_by w.state position made e in
     let same : receiver_stepped w.state (receiver_step position) by.0 ≡ made = by.1 in
     subst (λ t. IsTurned w Receiver t)
-      (ap (λ made. world_then Receiver w (made_entry made)) same ∙ some_is (world_then Receiver w (made_entry made)) t h)
-      (receiver_made position by.0 at (e ∙ ap (λ (t : Made × State). Some t) (sym same)))
+    (ap (λ made. world_then Receiver w (made_entry made)) same ∙ some_is (world_then Receiver w (made_entry made)) t h)
+    (receiver_made position by.0 at (e ∙ ap (λ (t : Made × State). Some t) (sym same)))
 
 sender_turned : (w : World) (position : Option SenderPos) (t : Entry × World) → sender_at w ≡ position → option_map (world_then Sender w) (sender_turns_at w.state position) ≡ Some t → IsTurned w Sender t
 sender_turned w None t at h = subst (λ t. IsTurned w Sender t) (some_is (Idle Sender, w) t h) (sender_idle at)

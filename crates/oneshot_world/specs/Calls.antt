@@ -1,5 +1,5 @@
 -- The calls of a pair of scripts, as lists, and what is left of them as they are answered.
-use Rattle.std.specs.Prelude.{ℕ, Bool, List, [], ◌∷◌, ◌++◌, map, Option, Some, None}
+use Rattle.std.specs.Prelude.{List, [], ◌∷◌, ◌++◌, map, Option, Some, None}
 use Rattle.oneshot_machine.specs.declared.machine.End.{End}
 use Rattle.oneshot_machine.specs.declared.machine.End.TheVariants.{Sender, Receiver}
 use Rattle.oneshot_machine.specs.declared.machine.Reply.{Reply}
@@ -10,7 +10,6 @@ use Rattle.oneshot_machine.specs.declared.machine.sender.SenderCall.{SenderCall}
 use Rattle.oneshot_machine.specs.declared.machine.sender.SenderCall.TheVariants as SC
 use Rattle.oneshot_world.specs.declared.script.ErrorLast.{ErrorLast}
 use Rattle.oneshot_world.specs.declared.script.ErrorLast.TheVariants as EL
-use Rattle.oneshot_world.specs.declared.script.ErrorScript.{ErrorScript}
 use Rattle.oneshot_world.specs.declared.script.ReceiverCall.{ReceiverCall}
 use Rattle.oneshot_world.specs.declared.script.ReceiverCall.TheVariants as RC
 use Rattle.oneshot_world.specs.declared.script.ReceiverLast.{ReceiverLast}

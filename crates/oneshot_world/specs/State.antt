@@ -19,8 +19,6 @@ use Rattle.oneshot_machine.specs.declared.machine.sender.SenderCall.{SenderCall}
 use Rattle.oneshot_machine.specs.declared.machine.sender.SenderPos.{SenderPos}
 use Rattle.oneshot_machine.specs.declared.states.Op.TheVariants.{Load, Store, Swap, Exchange, Add, Xor}
 use Rattle.oneshot_world.specs.Calls.{Call, as_sender_call, as_receiver_call}
-use Rattle.oneshot_world.specs.declared.script.Move.{Move}
-use Rattle.oneshot_world.specs.declared.script.Move.TheVariants as M
 use Rattle.oneshot_world.specs.declared.state.ReceiverState.{ReceiverState}
 use Rattle.oneshot_world.specs.declared.state.ReceiverState.TheVariants as RS
 use Rattle.oneshot_world.specs.declared.state.SenderState.{SenderState}
@@ -156,32 +154,32 @@ moved s step to =
 
 -- a step by a row of its table
 abbrev pub sender_stepped : State → Step → Outcome SenderPos → Made × State
-sender_stepped s step row =
-    ( made Sender s step (reply_of row) (sender_puts step (reply_of row))
-    , record (moved s step (sender_puts step (reply_of row))) { sender = sender_goes row }
-    )
+sender_stepped s step row = (
+  made Sender s step (reply_of row) (sender_puts step (reply_of row)),
+  record (moved s step (sender_puts step (reply_of row))) { sender = sender_goes row },
+)
 
 abbrev pub receiver_stepped : State → Step → Outcome ReceiverPos → Made × State
-receiver_stepped s step row =
-    ( made Receiver s step (reply_of row) (receiver_puts step)
-    , record (moved s step (receiver_puts step)) { receiver = receiver_goes row }
-    )
+receiver_stepped s step row = (
+  made Receiver s step (reply_of row) (receiver_puts step),
+  record (moved s step (receiver_puts step)) { receiver = receiver_goes row },
+)
 
 -- the step that is made at a position; none where the table has no row for what is seen, or the cell is not as the step needs it
 abbrev pub sender_steps : State → SenderPos → Option (Made × State)
 sender_steps s position =
     if fits_cell s.message (sender_step position)
     then option_map
-      (sender_stepped s (sender_step position))
-      (sender_row position (seen_by s.word (sender_step position)))
+    (sender_stepped s (sender_step position))
+    (sender_row position (seen_by s.word (sender_step position)))
     else None
 
 abbrev pub receiver_steps : State → ReceiverPos → Option (Made × State)
 receiver_steps s position =
     if fits_cell s.message (receiver_step position)
     then option_map
-      (receiver_stepped s (receiver_step position))
-      (receiver_row position (seen_by s.word (receiver_step position)))
+    (receiver_stepped s (receiver_step position))
+    (receiver_row position (seen_by s.word (receiver_step position)))
     else None
 
 -- where an end makes its next step: in the call under way, or at the start of the next call

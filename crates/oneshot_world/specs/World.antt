@@ -1,5 +1,5 @@
 -- The world between two moves, and a run as a list of worlds.
-use Rattle.std.specs.Prelude.{◌≡◌, ℕ, false, List, [], ◌∷◌, Option, Some, None}
+use Rattle.std.specs.Prelude.{◌≡◌, List, [], ◌∷◌, Option, Some, None}
 use Rattle.std.specs.Option.{option_map}
 use Rattle.oneshot_machine.specs.declared.machine.End.{End}
 use Rattle.oneshot_machine.specs.declared.machine.End.TheVariants.{Sender, Receiver}
@@ -61,14 +61,14 @@ left_then Sender Receiver entry left = left
 left_then Receiver Sender entry left = left
 
 abbrev pub world_then : End → World → Entry × State → Entry × World
-world_then side w turned =
-    ( turned.0
-    , record {
-        state = turned.1;
-        sender = left_then side Sender turned.0 w.sender;
-        receiver = left_then side Receiver turned.0 w.receiver;
-      }
-    )
+world_then side w turned = (
+  turned.0,
+  record {
+    state = turned.1;
+    sender = left_then side Sender turned.0 w.sender;
+    receiver = left_then side Receiver turned.0 w.receiver;
+  },
+)
 
 -- A move: what it tells, and the world that it leads to. None where the moving end finds what its table has no row for.
 abbrev pub turn_of : End → World → Option (Entry × World)

@@ -5,7 +5,9 @@ ghost use Rattle.std.specs.Option.{option_and_then};
 ghost use Rattle.oneshot_machine.specs.declared.machine.End.TheVariants as Ends;
 ghost use Rattle.oneshot_world.specs.Calls.{first, left_by, as_sender_call, as_receiver_call, sender_last, error_calls, receiver_calls};
 
-use crate::script::{CallList, ReceiverCall, ReceiverLast, ReceiverScript, SenderLast, SenderScript};
+use crate::script::{
+    CallList, ReceiverCall, ReceiverLast, ReceiverScript, SenderLast, SenderScript,
+};
 use oneshot_machine::machine::{ReceiverStart, Reply, SenderCall};
 use std::marker::Model;
 

@@ -1,7 +1,6 @@
 -- One more move, and the end of the run.
-use Rattle.std.proofs.Common.{rules, ◌≡◌, ◌++◌, ◌∷◌, [], length, take}
+use Rattle.std.proofs.Common.{rules, ◌≡◌, take}
 use Rattle.std.proofs.lemmas.List.{take_more, take_all}
-use Rattle.oneshot_world.specs.World.{opening}
 use Rattle.oneshot_world.specs.declared.script.Move.TheVariants.{Sender}
 use Rattle.oneshot_laws.proofs.IdleRuns.{idle_run}
 use Rattle.oneshot_laws.proofs.LegalRuns.{legal_run}

@@ -1,5 +1,5 @@
 -- Once a call is answered, those after it are left.
-use Rattle.std.proofs.Common.{◌<◌, ◌≡◌, length, Option, Some, None, refl, is_some, true, false}
+use Rattle.std.proofs.Common.{◌<◌, ◌≡◌, length, Option, Some, None, refl, is_some, true}
 use Rattle.oneshot_machine.specs.declared.machine.End.TheVariants.{Receiver}
 use Rattle.oneshot_machine.specs.declared.machine.Reply.{Reply}
 use Rattle.oneshot_world.specs.Calls.{Unanswered, left_by, answered}

@@ -1,7 +1,5 @@
 -- The next call is the first of those that are left.
-use Rattle.std.proofs.Common.{◌<◌, length, ap, sym, ◌∙◌}
-use Rattle.std.specs.Option.{option_and_then}
-use Rattle.oneshot_world.specs.Calls.{as_receiver_call, first}
+use Rattle.std.proofs.Common.{◌<◌, length, sym}
 use Rattle.oneshot_world.proofs.Scripted.{from_here, starts_as}
 use Rattle.oneshot_world.proofs.calls.ReceiverCalls.first.Goals as goal
 
