@@ -1,18 +1,16 @@
 -- What a replay tells of a send to a receiver that was dropped: the run is computed.
-use Rattle.std.proofs.Common.{◌≡◌, List, [], ◌∷◌, Option, Some, false, refl, sym, ◌∙◌, ap}
+use Rattle.std.proofs.Common.{◌≡◌, List, [], ◌∷◌, Some, false, refl, sym, ◌∙◌}
 use Rattle.oneshot_world.specs.World.{World, opening}
 use Rattle.oneshot_world.specs.declared.script.ErrorScript.{ErrorScript}
 use Rattle.oneshot_world.specs.declared.script.Move.{Move}
 use Rattle.oneshot_world.specs.declared.script.Move.TheVariants as M
-use Rattle.oneshot_world.specs.declared.script.ReceiverCall.{ReceiverCall}
 use Rattle.oneshot_world.specs.declared.script.ReceiverLast.TheVariants as RL
 use Rattle.oneshot_world.specs.declared.script.ReceiverScript.{ReceiverScript}
 use Rattle.oneshot_world.specs.declared.script.SenderLast.TheVariants as SL
 use Rattle.oneshot_world.specs.declared.script.SenderScript.{SenderScript}
 use Rattle.oneshot_world.specs.declared.trace.Entry.{Entry}
-use Rattle.oneshot_world.proofs.Determined.{run, run_is}
-use Rattle.oneshot_replay.specs.Rest.{rest_at}
-use Rattle.oneshot_replay.specs.Told.{Told, IsReplayed, last_of}
+use Rattle.oneshot_world.proofs.Determined.{run_is}
+use Rattle.oneshot_replay.specs.Told.{Told, IsReplayed}
 use Rattle.oneshot_replay.specs.declared.rest.Rest.TheVariants as Rest
 
 abbrev sends : {T : Type 0} → T → ErrorScript → SenderScript T

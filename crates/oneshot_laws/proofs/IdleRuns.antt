@@ -1,12 +1,12 @@
 -- In each run an end is idle only where its script has nothing left.
-use Rattle.std.proofs.Common.{◌≡◌, Bool, true, List, [], ◌∷◌, Option, Some, None, refl, sym, ◌∙◌, ap, ◌&&◌}
+use Rattle.std.proofs.Common.{◌≡◌, true, List, [], ◌∷◌, Option, None, refl, ap}
 use Rattle.std.specs.Option.{option_and_then}
 use Rattle.oneshot_machine.specs.Receiver.{receiver_step}
 use Rattle.oneshot_machine.specs.Sender.{sender_step}
 use Rattle.oneshot_machine.specs.declared.machine.End.{End}
 use Rattle.oneshot_machine.specs.declared.machine.End.TheVariants.{Sender, Receiver}
-use Rattle.oneshot_world.specs.Calls.{Call, Send, Drop_sender, Try_recv, Drop_receiver, Stray, calls_of, first, left_by, as_sender_call, as_receiver_call}
-use Rattle.oneshot_world.specs.Control.{sender_has, receiver_has, is_none_left, IsReached}
+use Rattle.oneshot_world.specs.Calls.{Call, Send, Drop_sender, Try_recv, Drop_receiver, Stray, calls_of, first, is_none_left, left_by, as_sender_call, as_receiver_call}
+use Rattle.oneshot_world.specs.Control.{sender_has, receiver_has, IsReached}
 use Rattle.oneshot_world.specs.State.{sender_position, receiver_position, reply_of}
 use Rattle.oneshot_world.specs.World.{World, Tells, opening, side_of}
 use Rattle.oneshot_world.specs.declared.script.Move.{Move}
@@ -21,8 +21,8 @@ use Rattle.oneshot_world.specs.declared.trace.Place.{Place}
 use Rattle.oneshot_world.proofs.Bools.{both}
 use Rattle.oneshot_world.proofs.Reached.{sender_world, receiver_world, opening_reached}
 use Rattle.oneshot_world.proofs.Turned.{Turned, sender_idle, sender_made, receiver_idle, receiver_made, turned, turned_reaches}
-use Rattle.oneshot_laws.specs.Idle.{has_none_left, is_idle_right_from, is_idle_right}
-use Rattle.oneshot_laws.specs.Marks.{Reading, read, sender_reading, receiver_reading}
+use Rattle.oneshot_laws.specs.Idle.{is_idle_right_from, is_idle_right}
+use Rattle.oneshot_laws.specs.Marks.{Reading, sender_reading, receiver_reading}
 
 -- an end without a position has no call left
 sender_none : (message : Option Place) (s : SenderState) (calls : List Call) → sender_has message s calls ≡ true → sender_position s (option_and_then as_sender_call (first calls)) ≡ None → is_none_left calls ≡ true
@@ -46,18 +46,15 @@ receiver_none RS.Ready (Stray ∷ calls) h at = cc
 receiver_none (RS.At position) calls h at = cc
 receiver_none RS.Ended calls h at = h
 
-reads_none : (at : Reading) → is_none_left at.left.calls ≡ true → has_none_left at ≡ true
-reads_none at h = elim at.left.calls as (λ calls. is_none_left calls ≡ true → (elim calls as (λ _. Bool) [ [] ↦ true | call ∷ calls ↦ Rattle.std.proofs.Common.false ]) ≡ true) [ [] ↦ λ h. refl | call ∷ calls ↦ λ h. h ] h
-
 -- a reading of what a run from this world tells
 abbrev Claim : List Entry → Type 0
 Claim entries = (w : World) (s r : Reading) (worlds : List World) (moves : List Move) → s.left ≡ w.sender → r.left ≡ w.receiver → IsReached w → Tells w worlds moves entries → is_idle_right_from s r entries ≡ true
 
 idle_turn : (entries : List Entry) → Claim entries → (side : End) (w : World) (entry : Entry) (next : World) (s r : Reading) (worlds : List World) (moves : List Move) → Turned w side entry next → s.left ≡ w.sender → r.left ≡ w.receiver → IsReached w → IsReached next → Tells next worlds moves entries → is_idle_right_from s r (entry ∷ entries) ≡ true
 idle_turn entries later _ w _ _ s r worlds moves (sender_idle at) se re h k told =
-    both _ _ (reads_none s (rw se (sender_none w.state.message w.state.sender w.sender.calls h.sender at))) (later w s r worlds moves se re h told)
+    both _ _ (rw se (sender_none w.state.message w.state.sender w.sender.calls h.sender at)) (later w s r worlds moves se re h told)
 idle_turn entries later _ w _ _ s r worlds moves (receiver_idle at) se re h k told =
-    both _ _ (reads_none r (rw re (receiver_none w.state.receiver w.receiver.calls h.receiver at))) (later w s r worlds moves se re h told)
+    both _ _ (rw re (receiver_none w.state.receiver w.receiver.calls h.receiver at)) (later w s r worlds moves se re h told)
 idle_turn entries later _ w _ _ s r worlds moves (sender_made position row at steps) se re h k told =
     later (sender_world w (sender_step position) row) _ r worlds moves (ap (λ left. left_by Sender (reply_of row) left) se) re k told
 idle_turn entries later _ w _ _ s r worlds moves (receiver_made position row at steps) se re h k told =

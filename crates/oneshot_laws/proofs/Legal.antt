@@ -1,11 +1,9 @@
 -- What the reader accepts has a legal history, whatever machine made it. No table and no world is in this file.
 use Rattle.std.proofs.Common.{◌≡◌, ℕ, ◌+◌, Bool, true, false, not, ◌&&◌, ◌||◌, List, [], ◌∷◌, ◌++◌, Option, Some, None, is_some, refl, sym, ◌∙◌, ap, subst, if◌then◌else◌}
 use Rattle.std.specs.List.{list_any, list_all}
-use Rattle.std.specs.Prelude.{filter}
 use Rattle.oneshot_machine.specs.declared.machine.End.{End}
 use Rattle.oneshot_machine.specs.declared.machine.End.TheVariants.{Sender, Receiver}
 use Rattle.oneshot_machine.specs.declared.machine.Reply.{Reply}
-use Rattle.oneshot_machine.specs.declared.machine.Reply.TheVariants as R
 use Rattle.oneshot_world.specs.Calls.{Call, Send, Drop_sender, Try_recv, Drop_receiver, Stray, Unanswered, left_by}
 use Rattle.oneshot_world.specs.World.{by_end}
 use Rattle.oneshot_world.specs.declared.trace.Entry.{Entry}
@@ -13,11 +11,11 @@ use Rattle.oneshot_world.specs.declared.trace.Entry.TheVariants.{Idle, Made as M
 use Rattle.oneshot_world.specs.declared.trace.Made.{Made}
 use Rattle.oneshot_world.proofs.Bools.{and_left, and_right, both}
 use Rattle.oneshot_laws.specs.Words.{only_if, says_nothing_yet, is_nothing_yet}
-use Rattle.oneshot_laws.specs.Object.{Object, Content, Open, Full, Closed, Take, Action, is_open, object_after}
+use Rattle.oneshot_laws.specs.Object.{Object, Content, Open, Full, Closed, Take, is_open, object_after}
 use Rattle.oneshot_laws.specs.Steps.{action_of, nothing_yet_of, reply_on, stepped}
-use Rattle.oneshot_laws.specs.Marks.{Rule, First, Last, Never, rule, acts, has_acted, receive_rule, works_on_word, finds_full_or_closed, until_reply, to_reply, reply_among, later_than, Reading, read_by, Mark, finishes, swaps_closed_in, mark_at, marks_from, call_under_way, object_then, ends}
+use Rattle.oneshot_laws.specs.Marks.{Rule, First, Last, rule, acts, has_acted, receive_rule, works_on_word, finds_full_or_closed, until_reply, to_reply, reply_among, Reading, read_by, Mark, finishes, swaps_closed_in, mark_at, marks_from, call_under_way, object_then, ends}
 use Rattle.oneshot_laws.specs.History.{agrees, object_reply, is_object_step, is_stray, is_legal, is_complete, is_covered, history, has_legal_history}
-use Rattle.oneshot_laws.proofs.LegalReader.{Kind, Acts_first, Receives, Never_acts, kind, rule_of, rule_is, Watch, Reader, due, hit, hits, owed, owes_then, object_if, object_by, watch_at, watch_then, pays, may_say, pays_receive, may_owe, has_reply, accepts_as, accepts_call, accepts, reads}
+use Rattle.oneshot_laws.proofs.LegalReader.{Receives, kind, Watch, Reader, due, hit, hits, owed, owes_then, object_if, object_by, pays, may_say, pays_receive, may_owe, has_reply, accepts_call, reads}
 use Rattle.oneshot_laws.proofs.Owes.{Accepted, Goes_on, answer_from, answer_pays, pays_in, answer_says, says_in, fine_as, not_owed}
 
 -- one more entry of a call
@@ -96,7 +94,7 @@ first_right test call o owes answer reply earlier e later acted has paid answers
           elim (is_some reply) as (λ b. (b ≡ true → is_some (owed (test e) owes (due call o)) ≡ true) → only_if (b && is_object_step call) (list_any test (earlier ++ e ∷ [])) ≡ true) [
             | true ↦ λ answers.
                 let has_test : list_any test (earlier ++ e ∷ []) ≡ true =
-                    any_more test earlier e ∙ ap (λ b. b || test e) acted ∙ sym (owed_is (test e) owes (due call o) has) ∙ answers refl
+                any_more test earlier e ∙ ap (λ b. b || test e) acted ∙ sym (owed_is (test e) owes (due call o) has) ∙ answers refl
                 in rw has_test (elim (is_object_step call) as (λ b. only_if b true ≡ true) [ true ↦ refl | false ↦ refl ])
             | false ↦ λ answers. refl
           ] answers;
@@ -158,7 +156,7 @@ nothing_right call o answer reply worked earlier e later did nothing own paid ma
             | None ↦ λ paid ended. refl
             | Some r ↦ λ paid ended.
                 let has : list_any works_on_word (earlier ++ e ∷ []) ≡ true =
-                    any_more works_on_word earlier e ∙ ap (λ b. b || works_on_word e) did ∙ worked_if_free call (worked || works_on_word e) r paid
+                any_more works_on_word earlier e ∙ ap (λ b. b || works_on_word e) did ∙ worked_if_free call (worked || works_on_word e) r paid
                 in rw (ended refl, has) (implied (is_object_step call) true refl)
           ] paid ended;
     }
@@ -174,16 +172,16 @@ receive_right call o owes answer reply worked earlier e later acted did has paid
           elim (is_nothing_yet answer) as (λ b. is_nothing_yet answer ≡ b → EntryRight (receive_rule answer) call o (object_if (finds_full_or_closed e && not (is_some owes)) call o) answer reply earlier e later) [
             | true ↦ λ nothing.
                 rw (no_hit (finds_full_or_closed e) owes (due call o) has none)
-                  (same_rule (Last works_on_word) (receive_rule answer) call o o answer reply earlier e later (sym (is_nothing answer nothing))
-                    (nothing_right call o answer reply worked earlier e later did nothing (says nothing) ok may ended))
+                (same_rule (Last works_on_word) (receive_rule answer) call o o answer reply earlier e later (sym (is_nothing answer nothing))
+                (nothing_right call o answer reply worked earlier e later did nothing (says nothing) ok may ended))
             | false ↦ λ something.
                 same_rule (First finds_full_or_closed) (receive_rule answer) call o _ answer reply earlier e later (sym (not_nothing answer something))
-                  (first_right finds_full_or_closed call o owes answer reply earlier e later acted has paid (free_reply call (worked || works_on_word e) answer reply ok something replies))
+                (first_right finds_full_or_closed call o owes answer reply earlier e later acted has paid (free_reply call (worked || works_on_word e) answer reply ok something replies))
           ] refl
       | Some y ↦ λ some ok may.
           same_rule (First finds_full_or_closed) (receive_rule answer) call o _ answer reply earlier e later
-            (sym (not_nothing answer (not_owed y answer (fine_as (works_on_word e) o.content (Some y) may) (paid y some))))
-            (first_right finds_full_or_closed call o owes answer reply earlier e later acted has paid (λ h. rw some refl))
+          (sym (not_nothing answer (not_owed y answer (fine_as (works_on_word e) o.content (Some y) may) (paid y some))))
+          (first_right finds_full_or_closed call o owes answer reply earlier e later acted has paid (λ h. rw some refl))
     ] refl ok may
 
 -- what `pays` tells of a reply
@@ -203,7 +201,7 @@ none_after (Some r) later h = refl
 local_first : (test : Made → Bool) (call : Call) (o : Object) (x : Watch) (earlier : List Made) (e : Made) (later : List Made) → list_any test earlier ≡ is_some x.owes → (has_reply (test e && not (is_some x.owes)) (due call o) && pays (owed (test e) x.owes (due call o)) e.reply) ≡ true → ((y : Reply) → owed (test e) x.owes (due call o) ≡ Some y → agrees (answer_from e later) (Some y) ≡ true) → EntryRight (First test) call o (object_if (test e && not (is_some x.owes)) call o) (answer_from e later) e.reply earlier e (until_reply e.reply later [])
 local_first test call o x earlier e later acted ok paid =
     first_right test call o x.owes (answer_from e later) e.reply earlier e (until_reply e.reply later []) acted (and_left _ _ ok) paid
-      (owes_reply (owed (test e) x.owes (due call o)) e.reply (and_right (has_reply (test e && not (is_some x.owes)) (due call o)) _ ok))
+    (owes_reply (owed (test e) x.owes (due call o)) e.reply (and_right (has_reply (test e && not (is_some x.owes)) (due call o)) _ ok))
 
 local_receive : (call : Call) (o : Object) (x : Watch) (earlier : List Made) (e : Made) (later : List Made) → list_any finds_full_or_closed earlier ≡ is_some x.owes → list_any works_on_word earlier ≡ x.worked → (has_reply (finds_full_or_closed e && not (is_some x.owes)) (due call o) && (pays_receive call (x.worked || works_on_word e) (owed (finds_full_or_closed e) x.owes (due call o)) e.reply && may_owe (works_on_word e) o.content (owed (finds_full_or_closed e) x.owes (due call o)))) ≡ true → ((y : Reply) → owed (finds_full_or_closed e) x.owes (due call o) ≡ Some y → agrees (answer_from e later) (Some y) ≡ true) → (is_nothing_yet (answer_from e later) ≡ true → agrees (answer_from e later) (nothing_yet_of call) ≡ true) → EntryRight (receive_rule (answer_from e later)) call o (object_if (finds_full_or_closed e && not (is_some x.owes)) call o) (answer_from e later) e.reply earlier e (until_reply e.reply later [])
 local_receive call o x earlier e later acted did ok paid says =
@@ -211,10 +209,10 @@ local_receive call o x earlier e later acted did ok paid says =
     let pays_and_may = and_right (has_reply (finds_full_or_closed e && not (is_some x.owes)) (due call o)) _ ok in
     let owes : Option Reply = owed (finds_full_or_closed e) x.owes (due call o) in
     receive_right call o x.owes (answer_from e later) e.reply x.worked earlier e (until_reply e.reply later []) acted did has paid says
-      (and_left (pays_receive call (x.worked || works_on_word e) owes e.reply) _ pays_and_may)
-      (and_right (pays_receive call (x.worked || works_on_word e) owes e.reply) _ pays_and_may)
-      (answered e.reply later)
-      (none_after e.reply later)
+    (and_left (pays_receive call (x.worked || works_on_word e) owes e.reply) _ pays_and_may)
+    (and_right (pays_receive call (x.worked || works_on_word e) owes e.reply) _ pays_and_may)
+    (answered e.reply later)
+    (none_after e.reply later)
 
 local_right : (call : Call) (o : Object) (x : Watch) (earlier : List Made) (e : Made) (later : List Made) → FollowsAt call x earlier → accepts_call call e o x ≡ true → ((y : Reply) → owes_then call e o x ≡ Some y → agrees (answer_from e later) (Some y) ≡ true) → (kind call ≡ Receives → is_nothing_yet (answer_from e later) ≡ true → agrees (answer_from e later) (nothing_yet_of call) ≡ true) → EntryRight (rule call (answer_from e later)) call o (object_by call e o x) (answer_from e later) e.reply earlier e (until_reply e.reply later [])
 local_right Send o x earlier e later f ok paid says = local_first finishes Send o x earlier e later f.acted ok paid
@@ -234,10 +232,10 @@ not_stray Stray e o x h = cc
 follows_on : (call next : Call) (x : Watch) (earlier : List Made) (e : Made) (o : Object) (a : Option Reply) → FollowsAt call x earlier → has_reply (hits (kind call) e x) (due call o) ≡ true → (a ≡ None → next ≡ call) → FollowsAt next (record { owes = until_reply a (owes_then call e o x) None; worked = until_reply a (x.worked || works_on_word e) false }) (until_reply a (earlier ++ e ∷ []) [])
 follows_on call next x earlier e o None f has same =
     subst (λ c. FollowsAt c (record { owes = owes_then call e o x; worked = x.worked || works_on_word e }) (earlier ++ e ∷ [])) (sym (same refl))
-      (record {
-        acted = any_more (hit (kind call)) earlier e ∙ ap (λ b. b || hit (kind call) e) f.acted ∙ sym (owed_is (hit (kind call) e) x.owes (due call o) has);
-        worked = any_more works_on_word earlier e ∙ ap (λ b. b || works_on_word e) f.worked;
-      })
+    (record {
+      acted = any_more (hit (kind call)) earlier e ∙ ap (λ b. b || hit (kind call) e) f.acted ∙ sym (owed_is (hit (kind call) e) x.owes (due call o) has);
+      worked = any_more works_on_word earlier e ∙ ap (λ b. b || works_on_word e) f.worked;
+    })
 follows_on call next x earlier e o (Some r) f has same = record { acted = refl; worked = refl }
 
 pub record Follows (m : Reader) (s r : Reading) : Type 0 where
@@ -271,30 +269,30 @@ legal_at : (d : End) (e : Made) (es : List Entry) → Claim es → (m : Reader) 
 legal_at Sender e es later m s r n f go =
     let call : Call = call_under_way s.left in
     let right = local_right call m.object m.sender s.earlier e (to_reply Sender es) f.sender go.0
-      (λ y h. answer_pays Sender e es y (pays_in Sender es y) m s.left r.left h go)
-      (λ is h. answer_says Sender e es call is (says_in Sender es call is) m s.left r.left refl go h) in
-    ( mark_right n m.object s e (to_reply Sender es) (object_by call e m.object m.sender) right (not_stray call e m.object m.sender go.0)
-    , subst (λ o. AllRight (marks_from (read_by Sender s e) r (n + 1) o es)) (sym right.object)
-        (later (reads Sender call e m) (read_by Sender s e) r (n + 1)
+    (λ y h. answer_pays Sender e es y (pays_in Sender es y) m s.left r.left h go)
+    (λ is h. answer_says Sender e es call is (says_in Sender es call is) m s.left r.left refl go h) in (
+      mark_right n m.object s e (to_reply Sender es) (object_by call e m.object m.sender) right (not_stray call e m.object m.sender go.0),
+      subst (λ o. AllRight (marks_from (read_by Sender s e) r (n + 1) o es)) (sym right.object)
+          (later (reads Sender call e m) (read_by Sender s e) r (n + 1)
           (record {
             sender = follows_on call (call_under_way (left_by Sender e.reply s.left)) m.sender s.earlier e m.object e.reply f.sender (and_left _ _ go.0) (same_left s.left Sender e.reply);
             receiver = f.receiver;
           })
-          go.1)
+          go.1),
     )
 legal_at Receiver e es later m s r n f go =
     let call : Call = call_under_way r.left in
     let right = local_right call m.object m.receiver r.earlier e (to_reply Receiver es) f.receiver go.0
-      (λ y h. answer_pays Receiver e es y (pays_in Receiver es y) m s.left r.left h go)
-      (λ is h. answer_says Receiver e es call is (says_in Receiver es call is) m s.left r.left refl go h) in
-    ( mark_right n m.object r e (to_reply Receiver es) (object_by call e m.object m.receiver) right (not_stray call e m.object m.receiver go.0)
-    , subst (λ o. AllRight (marks_from s (read_by Receiver r e) (n + 1) o es)) (sym right.object)
-        (later (reads Receiver call e m) s (read_by Receiver r e) (n + 1)
+    (λ y h. answer_pays Receiver e es y (pays_in Receiver es y) m s.left r.left h go)
+    (λ is h. answer_says Receiver e es call is (says_in Receiver es call is) m s.left r.left refl go h) in (
+      mark_right n m.object r e (to_reply Receiver es) (object_by call e m.object m.receiver) right (not_stray call e m.object m.receiver go.0),
+      subst (λ o. AllRight (marks_from s (read_by Receiver r e) (n + 1) o es)) (sym right.object)
+          (later (reads Receiver call e m) s (read_by Receiver r e) (n + 1)
           (record {
             sender = f.sender;
             receiver = follows_on call (call_under_way (left_by Receiver e.reply r.left)) m.receiver r.earlier e m.object e.reply f.receiver (and_left _ _ go.0) (same_left r.left Receiver e.reply);
           })
-          go.1)
+          go.1),
     )
 
 all_right : (es : List Entry) → Claim es

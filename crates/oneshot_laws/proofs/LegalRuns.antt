@@ -1,7 +1,7 @@
 -- Each run of two scripts has a legal history: the reader accepts it, as the checker computes over machines and reader together.
-use Rattle.std.proofs.Common.{◌≡◌, Bool, true, List, [], Some, None, refl}
-use Rattle.oneshot_world.specs.Calls.{Calls, Unanswered, calls_of}
-use Rattle.oneshot_world.specs.Control.{opening_control, IsReached}
+use Rattle.std.proofs.Common.{◌≡◌, true, List, [], Some, None, refl}
+use Rattle.oneshot_world.specs.Calls.{Unanswered, calls_of}
+use Rattle.oneshot_world.specs.Control.{opening_control}
 use Rattle.oneshot_world.specs.Explore.{Tree}
 use Rattle.oneshot_world.specs.World.{World, Tells, opening, opening_place}
 use Rattle.oneshot_world.specs.declared.script.Move.{Move}
@@ -11,12 +11,11 @@ use Rattle.oneshot_world.specs.declared.script.SenderLast.TheVariants as SL
 use Rattle.oneshot_world.specs.declared.script.SenderScript.{SenderScript}
 use Rattle.oneshot_world.specs.declared.trace.Entry.{Entry}
 use Rattle.oneshot_world.specs.declared.trace.Place.TheVariants.{NotSent}
-use Rattle.oneshot_world.proofs.Bools.{and_left, and_right}
 use Rattle.oneshot_world.proofs.Reached.{opening_reached}
 use Rattle.oneshot_laws.specs.Marks.{marks, sender_reading, receiver_reading, call_under_way}
 use Rattle.oneshot_laws.specs.History.{has_legal_history}
 use Rattle.oneshot_laws.proofs.LegalReader.{Reader, new_reader, new_watch, accepts, reads, reader_code, is_same_reader, reader_is}
-use Rattle.oneshot_laws.proofs.Legal.{Follows, FollowsAt, legal}
+use Rattle.oneshot_laws.proofs.Legal.{FollowsAt, legal}
 use Rattle.oneshot_laws.proofs.Watched.{Watched, watched_from, is_watched_in, all_pass_on, accepted}
 
 found : Tree (Watched Reader)
@@ -45,5 +44,5 @@ new_follows left = record { acted = refl; worked = refl }
 pub legal_run : {T : Type 0} (s : SenderScript T) (r : ReceiverScript) (worlds : List World) (moves : List Move) (entries : List Entry) → Tells (opening s r) worlds moves entries → has_legal_history (marks (calls_of s r) entries) ≡ true
 legal_run s r worlds moves entries told =
     legal entries new_reader (sender_reading (calls_of s r)) (receiver_reading (calls_of s r)) 1
-      (record { sender = new_follows (opening s r).sender; receiver = new_follows (opening s r).receiver })
-      (accepted 4096 reader_code is_same_reader accepts reads reader_is found all_found entries (opening s r) new_reader worlds moves (opening_reached s.last r) (opening_found s.last) told)
+    (record { sender = new_follows (opening s r).sender; receiver = new_follows (opening s r).receiver })
+    (accepted 4096 reader_code is_same_reader accepts reads reader_is found all_found entries (opening s r) new_reader worlds moves (opening_reached s.last r) (opening_found s.last) told)

@@ -1,5 +1,5 @@
 -- What a call owes since it acted is what it answers, if it answers; and a receive that owes nothing says "nothing yet" in its own word.
-use Rattle.std.proofs.Common.{◌≡◌, Bool, true, false, not, ◌&&◌, ◌||◌, List, [], ◌∷◌, Option, Some, None, is_some, refl, sym, ◌∙◌, ap, subst}
+use Rattle.std.proofs.Common.{◌≡◌, Bool, true, false, not, ◌&&◌, ◌||◌, List, [], ◌∷◌, Option, Some, None, refl, ◌∙◌, ap, subst}
 use Rattle.oneshot_machine.specs.declared.machine.End.{End}
 use Rattle.oneshot_machine.specs.declared.machine.End.TheVariants.{Sender, Receiver}
 use Rattle.oneshot_machine.specs.declared.machine.Reply.{Reply}
@@ -9,13 +9,13 @@ use Rattle.oneshot_world.specs.declared.trace.Entry.{Entry}
 use Rattle.oneshot_world.specs.declared.trace.Entry.TheVariants.{Idle, Made as Made_entry}
 use Rattle.oneshot_world.specs.declared.trace.Made.{Made}
 use Rattle.oneshot_world.proofs.Bools.{and_left, and_right}
-use Rattle.oneshot_laws.specs.Words.{is_same_end, is_same_reply, says_nothing_yet, is_nothing_yet}
+use Rattle.oneshot_laws.specs.Words.{is_same_end, says_nothing_yet, is_nothing_yet}
 use Rattle.oneshot_laws.specs.Object.{Object, Content}
 use Rattle.oneshot_laws.specs.Steps.{nothing_yet_of}
 use Rattle.oneshot_laws.specs.Marks.{until_reply, to_reply, reply_among, call_under_way, works_on_word}
 use Rattle.oneshot_laws.specs.History.{agrees}
 use Rattle.oneshot_laws.proofs.Codes.{reply_is}
-use Rattle.oneshot_laws.proofs.LegalReader.{Kind, Acts_first, Receives, Never_acts, kind, Watch, Reader, due, hit, owed, owes_then, watch_at, watch_then, pays, may_say, pays_receive, may_owe, has_reply, accepts_as, accepts_call, accepts, reads, reader_code, is_same_reader, hits}
+use Rattle.oneshot_laws.proofs.LegalReader.{Kind, Acts_first, Receives, Never_acts, kind, Watch, Reader, due, owes_then, watch_at, pays, may_say, pays_receive, may_owe, has_reply, accepts_as, accepts_call, accepts, reads, reader_code, is_same_reader, hits}
 use Rattle.oneshot_laws.proofs.Watched.{Accepts, left_after}
 
 abbrev pub Accepted : Reader → Unanswered → Unanswered → List Entry → Type 0
@@ -65,10 +65,10 @@ Pays_in d es y = (m : Reader) (s r : Unanswered) → (watch_at d m).owes ≡ Som
 pub answer_pays : (d : End) (e : Made) (es : List Entry) (y : Reply) → Pays_in d es y → (m : Reader) (s r : Unanswered) → owes_then (call_under_way (by_end d s r)) e m.object (watch_at d m) ≡ Some y → Goes_on d e es m s r → agrees (answer_from e (to_reply d es)) (Some y) ≡ true
 answer_pays Sender e es y later m s r h go =
     paid e.reply (to_reply Sender es) y (pays_now (call_under_way s) e m.object m.sender y h go.0)
-      (λ none. later (reads Sender (call_under_way s) e m) _ _ (unanswered e.reply _ None none ∙ h) go.1)
+    (λ none. later (reads Sender (call_under_way s) e m) _ _ (unanswered e.reply _ None none ∙ h) go.1)
 answer_pays Receiver e es y later m s r h go =
     paid e.reply (to_reply Receiver es) y (pays_now (call_under_way r) e m.object m.receiver y h go.0)
-      (λ none. later (reads Receiver (call_under_way r) e m) _ _ (unanswered e.reply _ None none ∙ h) go.1)
+    (λ none. later (reads Receiver (call_under_way r) e m) _ _ (unanswered e.reply _ None none ∙ h) go.1)
 
 pays_at : (a d : End) (e : Made) (es : List Entry) (y : Reply) → Pays_in d es y → (m : Reader) (s r : Unanswered) → (watch_at d m).owes ≡ Some y → Goes_on a e es m s r → agrees (reply_among (elim (is_same_end a d) as (λ _. List Made) [ true ↦ e ∷ until_reply e.reply (to_reply d es) [] | false ↦ to_reply d es ])) (Some y) ≡ true
 pays_at Sender Sender e es y later m s r h go = answer_pays Sender e es y later m s r (still_owes (call_under_way s) e m.object m.sender y h) go
@@ -120,12 +120,12 @@ same_call Receiver a left none = rw none refl
 pub answer_says : (d : End) (e : Made) (es : List Entry) (call : Call) → kind call ≡ Receives → Says_in d es call → (m : Reader) (s r : Unanswered) → call_under_way (by_end d s r) ≡ call → Goes_on d e es m s r → is_nothing_yet (answer_from e (to_reply d es)) ≡ true → agrees (answer_from e (to_reply d es)) (nothing_yet_of call) ≡ true
 answer_says Sender e es call is later m s r under go =
     said call e.reply (to_reply Sender es)
-      (λ reply at says. says_now (kind call) call e m.object m.sender reply is at (rw under at (and_right (has_reply (hits (kind (call_under_way s)) e m.sender) (due (call_under_way s) m.object)) _ go.0)) says)
-      (λ none says. later (reads Sender (call_under_way s) e m) _ _ (same_call Sender e.reply s none ∙ under) go.1 says)
+    (λ reply at says. says_now (kind call) call e m.object m.sender reply is at (rw under at (and_right (has_reply (hits (kind (call_under_way s)) e m.sender) (due (call_under_way s) m.object)) _ go.0)) says)
+    (λ none says. later (reads Sender (call_under_way s) e m) _ _ (same_call Sender e.reply s none ∙ under) go.1 says)
 answer_says Receiver e es call is later m s r under go =
     said call e.reply (to_reply Receiver es)
-      (λ reply at says. says_now (kind call) call e m.object m.receiver reply is at (rw under at (and_right (has_reply (hits (kind (call_under_way r)) e m.receiver) (due (call_under_way r) m.object)) _ go.0)) says)
-      (λ none says. later (reads Receiver (call_under_way r) e m) _ _ (same_call Receiver e.reply r none ∙ under) go.1 says)
+    (λ reply at says. says_now (kind call) call e m.object m.receiver reply is at (rw under at (and_right (has_reply (hits (kind (call_under_way r)) e m.receiver) (due (call_under_way r) m.object)) _ go.0)) says)
+    (λ none says. later (reads Receiver (call_under_way r) e m) _ _ (same_call Receiver e.reply r none ∙ under) go.1 says)
 
 says_at : (a d : End) (e : Made) (es : List Entry) (call : Call) → kind call ≡ Receives → Says_in d es call → (m : Reader) (s r : Unanswered) → call_under_way (by_end d s r) ≡ call → Goes_on a e es m s r → is_nothing_yet (reply_among (elim (is_same_end a d) as (λ _. List Made) [ true ↦ e ∷ until_reply e.reply (to_reply d es) [] | false ↦ to_reply d es ])) ≡ true → agrees (reply_among (elim (is_same_end a d) as (λ _. List Made) [ true ↦ e ∷ until_reply e.reply (to_reply d es) [] | false ↦ to_reply d es ])) (nothing_yet_of call) ≡ true
 says_at Sender Sender e es call is later m s r under go h = answer_says Sender e es call is later m s r under go h

@@ -1,5 +1,5 @@
 -- A reader of traces beside the machines: the checker explores both together, and what each found pair passes, each run passes.
-use Rattle.std.proofs.Common.{◌≡◌, ℕ, ◌+◌, ◌*◌, Bool, true, false, ◌&&◌, List, [], ◌∷◌, Option, Some, None, refl, sym, ◌∙◌, ap, subst}
+use Rattle.std.proofs.Common.{◌≡◌, ℕ, ◌+◌, ◌*◌, Bool, true, false, ◌&&◌, List, [], ◌∷◌, Option, Some, None, refl, subst}
 use Rattle.std.specs.List.{list_all, filter_map}
 use Rattle.std.specs.Option.{option_map}
 use Rattle.oneshot_machine.specs.Receiver.{receiver_step}
@@ -7,11 +7,11 @@ use Rattle.oneshot_machine.specs.Sender.{sender_step}
 use Rattle.oneshot_machine.specs.declared.machine.End.{End}
 use Rattle.oneshot_machine.specs.declared.machine.End.TheVariants.{Sender, Receiver}
 use Rattle.oneshot_machine.specs.declared.machine.Reply.{Reply}
-use Rattle.oneshot_world.specs.Calls.{Call, Unanswered, first, left_by}
-use Rattle.oneshot_world.specs.Control.{Control, control_of, Begin, begins, control_turn, control_then, control_code, is_same_control, opening_control, IsReached}
+use Rattle.oneshot_world.specs.Calls.{Call, Unanswered, left_by}
+use Rattle.oneshot_world.specs.Control.{Control, control_of, Begin, begins, control_turn, control_code, is_same_control, opening_control, IsReached}
 use Rattle.oneshot_world.specs.Explore.{Tree, reach, is_in, all_in}
 use Rattle.oneshot_world.specs.State.{sender_stepped, receiver_stepped}
-use Rattle.oneshot_world.specs.World.{World, Tells, turn, side_of, by_end}
+use Rattle.oneshot_world.specs.World.{World, Tells, side_of, by_end}
 use Rattle.oneshot_world.specs.declared.script.Move.{Move}
 use Rattle.oneshot_world.specs.declared.trace.Entry.{Entry}
 use Rattle.oneshot_world.specs.declared.trace.Entry.TheVariants.{Idle, Made as Made_entry}
@@ -20,7 +20,7 @@ use Rattle.oneshot_world.specs.declared.trace.Place.TheVariants.{NotSent}
 use Rattle.oneshot_world.proofs.Bools.{and_left, and_right}
 use Rattle.oneshot_world.proofs.Coded.{control_is}
 use Rattle.oneshot_world.proofs.Explored.{passes_where_found}
-use Rattle.oneshot_world.proofs.Reached.{sender_begin, receiver_begin, sender_passes, receiver_passes, sender_world, receiver_world, sender_control_is, receiver_control_is, after_sender, after_receiver}
+use Rattle.oneshot_world.proofs.Reached.{sender_passes, receiver_passes, sender_world, receiver_world, sender_control_is, receiver_control_is}
 use Rattle.oneshot_world.proofs.Turned.{Turned, sender_idle, sender_made, receiver_idle, receiver_made, turned, turned_reaches}
 use Rattle.oneshot_laws.specs.Marks.{or_stray, call_under_way}
 
@@ -118,22 +118,22 @@ module _ {M : Type 0} (width : ℕ) (code : M → ℕ) (is_same : M → M → Bo
   accepted_turn entries later _ w _ _ m worlds moves (sender_idle at) h k f told = later w m worlds moves h f told
   accepted_turn entries later _ w _ _ m worlds moves (receiver_idle at) h k f told = later w m worlds moves h f told
   accepted_turn entries later _ w _ _ m worlds moves (sender_made position row at steps) h k f told =
-      let passed = rw steps at (sender_passes (passes_on width code is_same accepts reads found m) w position h at (passing w m f)) in
-      ( and_left _ _ passed
-      , later (sender_world w (sender_step position) row) _ worlds moves k
-        (subst (λ c. is_watched_in width code is_same accepts reads found (record { control = c; reader = reads Sender (call_under_way w.sender) (sender_stepped w.state (sender_step position) row).0 m }) ≡ true)
-          (sender_control_is w (sender_step position) row)
-          (and_right _ _ passed))
-        told
+      let passed = rw steps at (sender_passes (passes_on width code is_same accepts reads found m) w position h at (passing w m f)) in (
+        and_left _ _ passed,
+        later (sender_world w (sender_step position) row) _ worlds moves k
+            (subst (λ c. is_watched_in width code is_same accepts reads found (record { control = c; reader = reads Sender (call_under_way w.sender) (sender_stepped w.state (sender_step position) row).0 m }) ≡ true)
+            (sender_control_is w (sender_step position) row)
+            (and_right _ _ passed))
+            told,
       )
   accepted_turn entries later _ w _ _ m worlds moves (receiver_made position row at steps) h k f told =
-      let passed = rw steps at (receiver_passes (passes_on width code is_same accepts reads found m) w position h at (passing w m f)) in
-      ( and_left _ _ passed
-      , later (receiver_world w (receiver_step position) row) _ worlds moves k
-        (subst (λ c. is_watched_in width code is_same accepts reads found (record { control = c; reader = reads Receiver (call_under_way w.receiver) (receiver_stepped w.state (receiver_step position) row).0 m }) ≡ true)
-          (receiver_control_is w (receiver_step position) row)
-          (and_right _ _ passed))
-        told
+      let passed = rw steps at (receiver_passes (passes_on width code is_same accepts reads found m) w position h at (passing w m f)) in (
+        and_left _ _ passed,
+        later (receiver_world w (receiver_step position) row) _ worlds moves k
+            (subst (λ c. is_watched_in width code is_same accepts reads found (record { control = c; reader = reads Receiver (call_under_way w.receiver) (receiver_stepped w.state (receiver_step position) row).0 m }) ≡ true)
+            (receiver_control_is w (receiver_step position) row)
+            (and_right _ _ passed))
+            told,
       )
 
   pub accepted : (entries : List Entry) → Claim entries

@@ -1,16 +1,15 @@
 -- What each definition says of worked traces, and of the same traces damaged. The checker computes all of it.
-use Rattle.std.specs.Prelude.{◌≡◌, ℕ, Bool, true, false, not, ◌&&◌, List, [], ◌∷◌, ◌++◌, map, take, drop, IsTrue, Some}
+use Rattle.std.specs.Prelude.{◌≡◌, ℕ, Bool, not, List, [], ◌∷◌, ◌++◌, map, take, IsTrue}
 use Rattle.std.specs.List.{list_all}
 use Rattle.oneshot_machine.specs.declared.machine.End.TheVariants.{Sender, Receiver}
 use Rattle.oneshot_machine.specs.declared.machine.Reply.TheVariants as R
 use Rattle.oneshot_machine.specs.declared.machine.Step.TheVariants as T
-use Rattle.oneshot_machine.specs.declared.states.Op.TheVariants as O
 use Rattle.oneshot_world.specs.declared.trace.Entry.TheVariants as E
 use Rattle.oneshot_laws.specs.Object.{Action, Send, Sender_gone, Take, Receiver_gone, Answer, Accepted, Returned, Message, Gone, Nothing_yet, Finished, Object, new_object, object_after, answer_of}
-use Rattle.oneshot_laws.specs.Marks.{Mark, marks}
+use Rattle.oneshot_laws.specs.Marks.{marks}
 use Rattle.oneshot_laws.specs.History.{history, has_legal_history}
 use Rattle.oneshot_laws.specs.Idle.{is_idle_right}
-use Rattle.oneshot_laws.specs.Notation.{Example, sender, without, exchanged, answered_by, replying}
+use Rattle.oneshot_laws.specs.Notation.{Example, sender, without, exchanged, answered_by}
 use Rattle.oneshot_laws.specs.Traces.{sent_then_taken, nothing_moved, nothing_to_do, sent_to_nobody, both_dropped, dropped_then_tried}
 
 -- THE OBJECT: what these steps answer, one after the other
@@ -45,41 +44,41 @@ is_legal_trace x = has_legal_history (marks x.calls x.entries)
 abbrev pub LegalTraces : Type 0
 LegalTraces =
     IsTrue (list_all is_legal_trace
-      ( sent_then_taken
-      ∷ nothing_moved
-      ∷ nothing_to_do
-      ∷ sent_to_nobody
-      ∷ both_dropped
-      ∷ dropped_then_tried
-      ∷ []
-      ))
+    (sent_then_taken
+    ∷ nothing_moved
+    ∷ nothing_to_do
+    ∷ sent_to_nobody
+    ∷ both_dropped
+    ∷ dropped_then_tried
+    ∷ []
+    ))
 
 abbrev pub IllegalTraces : Type 0
 IllegalTraces =
     IsTrue (list_all (λ x. not (is_legal_trace x))
-      -- an entry is taken out: the add, the receiver's drop, the flip
-      ( without 2 sent_then_taken
-      ∷ without 1 sent_to_nobody
-      ∷ without 2 both_dropped
-      ∷ without 1 dropped_then_tried
-      -- two entries are exchanged
-      ∷ exchanged 2 sent_then_taken
-      ∷ exchanged 2 sent_to_nobody
-      ∷ exchanged 2 both_dropped
-      ∷ exchanged 1 dropped_then_tried
-      -- a reply is changed
-      ∷ answered_by 2 R.Refused sent_then_taken
-      ∷ answered_by 5 R.Disconnected sent_then_taken
-      ∷ answered_by 5 R.Empty sent_then_taken
-      ∷ answered_by 3 R.Sent sent_to_nobody
-      ∷ answered_by 1 R.Message both_dropped
-      ∷ answered_by 3 R.Refused both_dropped
-      ∷ answered_by 2 R.Empty dropped_then_tried
-      ∷ answered_by 2 R.Message dropped_then_tried
-      -- a step of no call
-      ∷ record nothing_to_do { entries = E.Made (sender T.WriteMessage 3 3) ∷ [] }
-      ∷ []
-      ))
+    -- an entry is taken out: the add, the receiver's drop, the flip
+    (without 2 sent_then_taken
+    ∷ without 1 sent_to_nobody
+    ∷ without 2 both_dropped
+    ∷ without 1 dropped_then_tried
+    -- two entries are exchanged
+    ∷ exchanged 2 sent_then_taken
+    ∷ exchanged 2 sent_to_nobody
+    ∷ exchanged 2 both_dropped
+    ∷ exchanged 1 dropped_then_tried
+    -- a reply is changed
+    ∷ answered_by 2 R.Refused sent_then_taken
+    ∷ answered_by 5 R.Disconnected sent_then_taken
+    ∷ answered_by 5 R.Empty sent_then_taken
+    ∷ answered_by 3 R.Sent sent_to_nobody
+    ∷ answered_by 1 R.Message both_dropped
+    ∷ answered_by 3 R.Refused both_dropped
+    ∷ answered_by 2 R.Empty dropped_then_tried
+    ∷ answered_by 2 R.Message dropped_then_tried
+    -- a step of no call
+    ∷ record nothing_to_do { entries = E.Made (sender T.WriteMessage 3 3) ∷ [] }
+    ∷ []
+    ))
 
 -- IDLE ENDS
 abbrev pub is_idle_trace : Example → Bool
@@ -89,17 +88,17 @@ is_idle_trace x = is_idle_right x.calls x.entries
 abbrev pub NotIdleTraces : Type 0
 NotIdleTraces =
     IsTrue (list_all (λ x. not (is_idle_trace x))
-      ( record nothing_moved { entries = E.Idle Sender ∷ [] }
-      ∷ record sent_then_taken { entries = take 1 sent_then_taken.entries ++ E.Idle Sender ∷ [] }
-      ∷ record sent_then_taken { entries = take 5 sent_then_taken.entries ++ E.Idle Receiver ∷ [] }
-      ∷ []
-      ))
+    (record nothing_moved { entries = E.Idle Sender ∷ [] }
+    ∷ record sent_then_taken { entries = take 1 sent_then_taken.entries ++ E.Idle Sender ∷ [] }
+    ∷ record sent_then_taken { entries = take 5 sent_then_taken.entries ++ E.Idle Receiver ∷ [] }
+    ∷ []
+    ))
 
 abbrev pub IdleTraces : Type 0
 IdleTraces =
     IsTrue (list_all is_idle_trace
-      ( sent_then_taken
-      ∷ nothing_to_do
-      ∷ record sent_to_nobody { entries = sent_to_nobody.entries ++ E.Idle Sender ∷ E.Idle Receiver ∷ [] }
-      ∷ []
-      ))
+    (sent_then_taken
+    ∷ nothing_to_do
+    ∷ record sent_to_nobody { entries = sent_to_nobody.entries ++ E.Idle Sender ∷ E.Idle Receiver ∷ [] }
+    ∷ []
+    ))

@@ -3,7 +3,7 @@ use Rattle.std.specs.Prelude.{ℕ, ◌+◌, Bool, true, false, not, ◌&&◌, �
 use Rattle.std.specs.List.{list_any}
 use Rattle.oneshot_machine.specs.declared.machine.End.{End}
 use Rattle.oneshot_machine.specs.declared.machine.Reply.{Reply}
-use Rattle.oneshot_world.specs.Calls.{Call, Send, Drop_sender, Try_recv, Drop_receiver, Stray, Calls, Unanswered, first, left_by}
+use Rattle.oneshot_world.specs.Calls.{Call, Send, Drop_sender, Try_recv, Drop_receiver, Stray, Calls, Unanswered, first, is_none_left, left_by}
 use Rattle.oneshot_world.specs.World.{by_end}
 use Rattle.oneshot_world.specs.declared.trace.Entry.{Entry}
 use Rattle.oneshot_world.specs.declared.trace.Entry.TheVariants.{Idle, Made as Made_entry}
@@ -105,10 +105,6 @@ pub record Mark : Type 0 where
   pub acted : Bool
   pub object : Object
 
-abbrev pub is_empty : List Made → Bool
-is_empty [] = true
-is_empty (e ∷ entries) = false
-
 abbrev pub mark_of : ℕ → Object → Call → Option Reply → List Made → Made → List Made → Mark
 mark_of number o call answer earlier e later =
     record {
@@ -116,7 +112,7 @@ mark_of number o call answer earlier e later =
       entry = e;
       call = call;
       answer = answer;
-      begins = is_empty earlier;
+      begins = is_none_left earlier;
       acting = acts (rule call answer) earlier e later;
       acted = has_acted (rule call answer) (earlier ++ e ∷ []) later;
       object = o;

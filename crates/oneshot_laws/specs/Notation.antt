@@ -1,5 +1,5 @@
 -- How a trace is written down in the examples, and how it is damaged there.
-use Rattle.std.specs.Prelude.{ℕ, ◌+◌, ◌-◌, take, drop, map, false, List, [], ◌∷◌, ◌++◌, Option, Some, None}
+use Rattle.std.specs.Prelude.{ℕ, ◌+◌, ◌-◌, take, drop, map, false, List, ◌++◌, Option, Some, None}
 use Rattle.oneshot_machine.specs.declared.machine.End.{End}
 use Rattle.oneshot_machine.specs.declared.machine.End.TheVariants.{Sender, Receiver}
 use Rattle.oneshot_machine.specs.declared.machine.Reply.{Reply}

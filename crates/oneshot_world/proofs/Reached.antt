@@ -13,8 +13,8 @@ use Rattle.oneshot_machine.specs.declared.machine.receiver.ReceiverPos.{Receiver
 use Rattle.oneshot_machine.specs.declared.machine.receiver.ReceiverStart.{ReceiverStart}
 use Rattle.oneshot_machine.specs.declared.machine.sender.SenderCall.{SenderCall}
 use Rattle.oneshot_machine.specs.declared.machine.sender.SenderPos.{SenderPos}
-use Rattle.oneshot_world.specs.Calls.{Call, Send, Drop_sender, Try_recv, Drop_receiver, Stray, first, rest, left_by, sender_last, error_last, error_calls, receiver_calls, as_sender_call, as_receiver_call}
-use Rattle.oneshot_world.specs.Control.{Control, control_of, Begin, begins, sender_begins, receiver_begins, sender_under_way, receiver_under_way, control_then, control_turn, is_none_left, is_script, ends_sender, stays_receiver, ends_receiver, sender_has, receiver_has, control_code, is_same_control, reached, is_reached, IsReached, opening_control}
+use Rattle.oneshot_world.specs.Calls.{Call, Send, Drop_sender, Try_recv, Drop_receiver, Stray, first, is_none_left, rest, left_by, sender_last, error_last, error_calls, receiver_calls, as_sender_call, as_receiver_call}
+use Rattle.oneshot_world.specs.Control.{Control, control_of, Begin, begins, sender_begins, receiver_begins, sender_under_way, receiver_under_way, control_then, control_turn, is_script, ends_sender, stays_receiver, ends_receiver, sender_has, receiver_has, control_code, is_same_control, reached, is_reached, IsReached, opening_control}
 use Rattle.oneshot_world.specs.Explore.{all_in}
 use Rattle.oneshot_world.specs.State.{sender_turns_at, receiver_turns_at, sender_position, receiver_position, sender_steps, receiver_steps, sender_stepped, receiver_stepped, made_entry, place_left, reply_of, receiver_goes, fits_cell, seen_by, sender_puts, receiver_puts}
 use Rattle.oneshot_world.specs.World.{World, by_end, opening_with, opening_place}

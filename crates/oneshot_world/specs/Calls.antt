@@ -1,5 +1,5 @@
 -- The calls of a pair of scripts, as lists, and what is left of them as they are answered.
-use Rattle.std.specs.Prelude.{List, [], ◌∷◌, ◌++◌, map, Option, Some, None}
+use Rattle.std.specs.Prelude.{Bool, true, false, List, [], ◌∷◌, ◌++◌, map, Option, Some, None}
 use Rattle.oneshot_machine.specs.declared.machine.End.{End}
 use Rattle.oneshot_machine.specs.declared.machine.End.TheVariants.{Sender, Receiver}
 use Rattle.oneshot_machine.specs.declared.machine.Reply.{Reply}
@@ -96,6 +96,10 @@ first (x ∷ xs) = Some x
 abbrev pub rest : {X : Type 0} → List X → List X
 rest [] = []
 rest (x ∷ xs) = xs
+
+abbrev pub is_none_left : {X : Type 0} → List X → Bool
+is_none_left [] = true
+is_none_left (x ∷ xs) = false
 
 -- once a call is answered the next one follows; a refused send is followed by the error's calls
 abbrev pub answered : End → Reply → Unanswered → Unanswered

@@ -6,7 +6,7 @@ use Rattle.oneshot_machine.specs.declared.machine.End.{End}
 use Rattle.oneshot_machine.specs.declared.machine.End.TheVariants.{Sender, Receiver}
 use Rattle.oneshot_machine.specs.declared.machine.receiver.ReceiverPos.TheVariants as R
 use Rattle.oneshot_machine.specs.declared.machine.sender.SenderPos.TheVariants as S
-use Rattle.oneshot_world.specs.Calls.{Call, Send, Drop_sender, Try_recv, Drop_receiver, Stray, first}
+use Rattle.oneshot_world.specs.Calls.{Call, Send, Drop_sender, Try_recv, Drop_receiver, Stray, first, is_none_left}
 use Rattle.oneshot_world.specs.Explore.{Tree, reach, is_in}
 use Rattle.oneshot_world.specs.State.{opening_state, turns}
 use Rattle.oneshot_world.specs.World.{World}
@@ -158,10 +158,6 @@ abbrev pub is_reached : Control → Bool
 is_reached c = is_in control_code is_same_control c reached
 
 -- What is left of a script is a script: calls that leave the end in place, and at the end perhaps one that ends it.
-abbrev pub is_none_left : List Call → Bool
-is_none_left [] = true
-is_none_left (call ∷ calls) = false
-
 abbrev pub is_script : (Call → Bool) → (Call → Bool) → List Call → Bool
 is_script stays ends [] = true
 is_script stays ends (call ∷ calls) = (stays call && is_script stays ends calls) || (ends call && is_none_left calls)
