@@ -29,6 +29,8 @@ pub enum Step {
     DropMessage,
     /// The block is freed.
     Free,
+    /// A call that does none of these.
+    Plain,
 }
 
 /// What a step saw.
@@ -47,7 +49,11 @@ pub enum Reply {
     Sent,
     /// `send` gave Err, with the message.
     Refused,
-    /// The call carries the message.
+    /// A look found it so.
+    Yes,
+    /// A look found it not so.
+    No,
+    /// The call carries or shows the message.
     Message,
     /// `try_recv` found nothing yet.
     Empty,

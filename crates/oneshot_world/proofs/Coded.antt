@@ -3,7 +3,7 @@ use Rattle.std.proofs.Common.{◌≡◌, ℕ, Bool, true, false, List, [], ◌�
 use Rattle.std.proofs.lemmas.Bool.{eqb-true}
 use Rattle.oneshot_machine.specs.declared.machine.receiver.ReceiverPos.TheVariants as R
 use Rattle.oneshot_machine.specs.declared.machine.sender.SenderPos.TheVariants as S
-use Rattle.oneshot_world.specs.Calls.{Call, Send, Drop_sender, Try_recv, Drop_receiver, Stray}
+use Rattle.oneshot_world.specs.Calls.{Call, Sender_is_closed, Send, Drop_sender, As_inner, Into_inner, Drop_error, Try_recv, Has_message, Is_closed, Drop_receiver, Stray}
 use Rattle.oneshot_world.specs.Control.{Control, sender_code, receiver_code, call_code, place_code, bool_code, is_same_state, is_same_control}
 use Rattle.oneshot_world.specs.declared.state.ReceiverState.{ReceiverState}
 use Rattle.oneshot_world.specs.declared.state.ReceiverState.TheVariants as RS
@@ -11,7 +11,7 @@ use Rattle.oneshot_world.specs.declared.state.SenderState.{SenderState}
 use Rattle.oneshot_world.specs.declared.state.SenderState.TheVariants as SS
 use Rattle.oneshot_world.specs.declared.state.State.{State}
 use Rattle.oneshot_world.specs.declared.trace.Place.{Place}
-use Rattle.oneshot_world.specs.declared.trace.Place.TheVariants.{NotSent, InCell, InError, Delivered, Dropped}
+use Rattle.oneshot_world.specs.declared.trace.Place.TheVariants.{NotSent, InCell, InError, Delivered, FromError, Dropped}
 use Rattle.oneshot_world.proofs.Bools.{and_left, and_right}
 
 -- a code under which each value stands in a list
@@ -20,23 +20,31 @@ same_by code values d back x y h = sym (back x) ∙ ap (λ k. get_or values k d)
 
 abbrev senders : List SenderState
 senders =
-    SS.Ready ∷ SS.At S.SendWrite ∷ SS.At S.SendAdd ∷ SS.At S.DropXor ∷ SS.At S.DropFree ∷ SS.Failed ∷ SS.Ended ∷ []
+    SS.Ready ∷ SS.At S.LookClosed ∷ SS.At S.SendWrite ∷ SS.At S.SendAdd ∷ SS.At S.DropXor ∷ SS.At S.DropFree ∷ SS.At S.ErrorLook ∷ SS.At S.IntoTake ∷ SS.At S.IntoFree ∷ SS.At S.ErrorDrop ∷ SS.At S.ErrorFree ∷ SS.Failed ∷ SS.Ended ∷ []
 
 sender_back : (s : SenderState) → get_or senders (sender_code s) SS.Ended ≡ s
 sender_back SS.Ready = refl
+sender_back (SS.At S.LookClosed) = refl
 sender_back (SS.At S.SendWrite) = refl
 sender_back (SS.At S.SendAdd) = refl
 sender_back (SS.At S.DropXor) = refl
 sender_back (SS.At S.DropFree) = refl
+sender_back (SS.At S.ErrorLook) = refl
+sender_back (SS.At S.IntoTake) = refl
+sender_back (SS.At S.IntoFree) = refl
+sender_back (SS.At S.ErrorDrop) = refl
+sender_back (SS.At S.ErrorFree) = refl
 sender_back SS.Failed = refl
 sender_back SS.Ended = refl
 
 abbrev receivers : List ReceiverState
 receivers =
-    RS.Ready ∷ RS.At R.TryLoad ∷ RS.At R.Close ∷ RS.At R.Take ∷ RS.At R.DropSwap ∷ RS.At R.DropMessage ∷ RS.At R.DropFree ∷ RS.Ended ∷ []
+    RS.Ready ∷ RS.At R.LookFull ∷ RS.At R.LookClosed ∷ RS.At R.TryLoad ∷ RS.At R.Close ∷ RS.At R.Take ∷ RS.At R.DropSwap ∷ RS.At R.DropMessage ∷ RS.At R.DropFree ∷ RS.Ended ∷ []
 
 receiver_back : (s : ReceiverState) → get_or receivers (receiver_code s) RS.Ended ≡ s
 receiver_back RS.Ready = refl
+receiver_back (RS.At R.LookFull) = refl
+receiver_back (RS.At R.LookClosed) = refl
 receiver_back (RS.At R.TryLoad) = refl
 receiver_back (RS.At R.Close) = refl
 receiver_back (RS.At R.Take) = refl
@@ -46,18 +54,26 @@ receiver_back (RS.At R.DropFree) = refl
 receiver_back RS.Ended = refl
 
 abbrev calls : List (Option Call)
-calls = None ∷ Some Send ∷ Some Drop_sender ∷ Some Try_recv ∷ Some Drop_receiver ∷ Some Stray ∷ []
+calls =
+    None ∷ Some Sender_is_closed ∷ Some Send ∷ Some Drop_sender ∷ Some As_inner ∷ Some Into_inner ∷ Some Drop_error ∷ Some Try_recv ∷ Some Has_message ∷ Some Is_closed ∷ Some Drop_receiver ∷ Some Stray ∷ []
 
 call_back : (c : Option Call) → get_or calls (call_code c) None ≡ c
 call_back None = refl
+call_back (Some Sender_is_closed) = refl
 call_back (Some Send) = refl
 call_back (Some Drop_sender) = refl
+call_back (Some As_inner) = refl
+call_back (Some Into_inner) = refl
+call_back (Some Drop_error) = refl
 call_back (Some Try_recv) = refl
+call_back (Some Has_message) = refl
+call_back (Some Is_closed) = refl
 call_back (Some Drop_receiver) = refl
 call_back (Some Stray) = refl
 
 abbrev places : List (Option Place)
-places = None ∷ Some NotSent ∷ Some InCell ∷ Some InError ∷ Some Delivered ∷ Some Dropped ∷ []
+places =
+    None ∷ Some NotSent ∷ Some InCell ∷ Some InError ∷ Some Delivered ∷ Some FromError ∷ Some Dropped ∷ []
 
 place_back : (p : Option Place) → get_or places (place_code p) None ≡ p
 place_back None = refl
@@ -65,6 +81,7 @@ place_back (Some NotSent) = refl
 place_back (Some InCell) = refl
 place_back (Some InError) = refl
 place_back (Some Delivered) = refl
+place_back (Some FromError) = refl
 place_back (Some Dropped) = refl
 
 abbrev bools : List Bool

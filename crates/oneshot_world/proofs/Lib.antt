@@ -1,6 +1,8 @@
 pub mod Bools
 pub mod Explored
 pub mod Coded
+pub mod Stepped
+pub mod Left
 pub mod Reached
 pub mod Scripted
 pub mod Turned

@@ -7,26 +7,22 @@ use Rattle.oneshot_machine.specs.Receiver.{receiver_step, receiver_row}
 use Rattle.oneshot_machine.specs.Rows.{Outcome, Goes, Answers}
 use Rattle.oneshot_machine.specs.Sender.{sender_step, sender_row}
 use Rattle.oneshot_machine.specs.declared.machine.End.TheVariants.{Sender, Receiver}
+use Rattle.oneshot_machine.specs.declared.machine.Reply.{Reply}
 use Rattle.oneshot_machine.specs.declared.machine.Reply.TheVariants as Replies
 use Rattle.oneshot_machine.specs.declared.machine.Step.{Step}
 use Rattle.oneshot_machine.specs.declared.machine.receiver.ReceiverPos.{ReceiverPos}
 use Rattle.oneshot_machine.specs.declared.machine.receiver.ReceiverStart.{ReceiverStart}
 use Rattle.oneshot_machine.specs.declared.machine.sender.SenderCall.{SenderCall}
 use Rattle.oneshot_machine.specs.declared.machine.sender.SenderPos.{SenderPos}
-use Rattle.oneshot_world.specs.Calls.{Call, Send, Drop_sender, Try_recv, Drop_receiver, Stray, first, is_none_left, rest, left_by, sender_last, error_last, error_calls, receiver_calls, as_sender_call, as_receiver_call}
-use Rattle.oneshot_world.specs.Control.{Control, control_of, Begin, begins, sender_begins, receiver_begins, sender_under_way, receiver_under_way, control_then, control_turn, is_script, ends_sender, stays_receiver, ends_receiver, sender_has, receiver_has, control_code, is_same_control, reached, is_reached, IsReached, opening_control}
+use Rattle.oneshot_world.specs.Calls.{Call, Sender_is_closed, Send, Drop_sender, As_inner, Into_inner, Drop_error, Try_recv, Has_message, Is_closed, Drop_receiver, Stray, Unanswered, first, rest, is_none_left, left_by, error_calls, as_sender_call, as_receiver_call}
+use Rattle.oneshot_world.specs.Control.{Control, control_of, Begin, begins, sender_begins, receiver_begins, sender_under_way, receiver_under_way, control_then, control_turn, control_code, is_same_control, reached, is_reached, IsReached, opening_control, is_script, is_sender_script, is_error_script, stays_sender, ends_sender, stays_error, ends_error, stays_receiver, ends_receiver, sender_has, receiver_has}
 use Rattle.oneshot_world.specs.Explore.{all_in}
-use Rattle.oneshot_world.specs.State.{sender_turns_at, receiver_turns_at, sender_position, receiver_position, sender_steps, receiver_steps, sender_stepped, receiver_stepped, made_entry, place_left, reply_of, receiver_goes, fits_cell, seen_by, sender_puts, receiver_puts}
-use Rattle.oneshot_world.specs.World.{World, by_end, opening_with, opening_place}
-use Rattle.oneshot_world.specs.declared.script.ErrorLast.{ErrorLast}
-use Rattle.oneshot_world.specs.declared.script.ErrorLast.TheVariants as EL
-use Rattle.oneshot_world.specs.declared.script.ReceiverCall.{ReceiverCall}
-use Rattle.oneshot_world.specs.declared.script.ReceiverCall.TheVariants as RC
-use Rattle.oneshot_world.specs.declared.script.ReceiverLast.{ReceiverLast}
-use Rattle.oneshot_world.specs.declared.script.ReceiverLast.TheVariants as RL
+use Rattle.oneshot_world.specs.State.{turns, sender_turns_at, receiver_turns_at, sender_position, receiver_position, sender_steps, receiver_steps, sender_stepped, receiver_stepped, made_entry, place_left, reply_of, sender_goes, receiver_goes, is_plain, sender_fits, receiver_fits, seen_by, sender_puts, receiver_puts}
+use Rattle.oneshot_world.specs.World.{World, turn_of, world_then, by_end, reply_in, opening, opening_place}
 use Rattle.oneshot_world.specs.declared.script.ReceiverScript.{ReceiverScript}
 use Rattle.oneshot_world.specs.declared.script.SenderLast.{SenderLast}
 use Rattle.oneshot_world.specs.declared.script.SenderLast.TheVariants as SL
+use Rattle.oneshot_world.specs.declared.script.SenderScript.{SenderScript}
 use Rattle.oneshot_world.specs.declared.state.ReceiverState.{ReceiverState}
 use Rattle.oneshot_world.specs.declared.state.ReceiverState.TheVariants as RS
 use Rattle.oneshot_world.specs.declared.state.SenderState.{SenderState}
@@ -38,31 +34,45 @@ use Rattle.oneshot_world.specs.declared.trace.Place.{Place}
 use Rattle.oneshot_world.specs.declared.trace.Place.TheVariants.{NotSent}
 use Rattle.oneshot_world.proofs.Bools.{and_left, and_right, all_left, all_right}
 use Rattle.oneshot_world.proofs.Coded.{control_is}
+use Rattle.oneshot_world.proofs.Left.{either_stays, script_stays, sender_still_has, sender_has_script, receiver_has_script, sender_goes_on, error_goes_on, sender_ends, receiver_goes_on, receiver_ends, error_scripted, sender_scripted, receiver_scripted}
 use Rattle.oneshot_world.proofs.Explored.{passes_where_found}
 
 -- a test that passes on all that is reached
 pub passes : (test : Control → Bool) → all_in test reached ≡ true → (c : Control) → is_reached c ≡ true → test c ≡ true
 passes test all c h = passes_where_found control_code is_same_control control_is test reached c all h
 
--- where a move leads is reached, and the receiver ends only by a call that ends it
-ended_by_its_call : ReceiverState → Option Call → Bool
-ended_by_its_call RS.Ready call = true
-ended_by_its_call (RS.At position) call = true
-ended_by_its_call RS.Ended None = false
-ended_by_its_call RS.Ended (Some call) = ends_receiver call
+-- where a move leads is reached, and an end stays or ends only by a call that stays or ends
+left_as : SenderState → Option Call → Bool
+left_as s None = false
+left_as SS.Ready (Some call) = stays_sender call
+left_as (SS.At position) (Some call) = false
+left_as SS.Failed (Some call) = stays_error call
+left_as SS.Ended (Some call) = ends_sender (Some NotSent) call || ends_error call
 
-abbrev ends_right : Begin → State → Bool
-ends_right b s = by_end b.side true (ended_by_its_call s.receiver b.call)
+sender_left_by_its_call : Option Reply → SenderState → Option Call → Bool
+sender_left_by_its_call None s call = true
+sender_left_by_its_call (Some Replies.Refused) s call = true
+sender_left_by_its_call (Some _) s call = left_as s call
+
+receiver_left_by_its_call : ReceiverState → Option Call → Bool
+receiver_left_by_its_call RS.Ready call = true
+receiver_left_by_its_call (RS.At position) call = true
+receiver_left_by_its_call RS.Ended None = false
+receiver_left_by_its_call RS.Ended (Some call) = ends_receiver call
+
+abbrev left_right : Begin → Entry → State → Bool
+left_right b entry s =
+    by_end b.side (sender_left_by_its_call (reply_in entry) s.sender b.call) (receiver_left_by_its_call s.receiver b.call)
 
 leads_on : Begin → Option (Entry × Control) → Bool
 leads_on b None = false
-leads_on b (Some turned) = is_reached turned.1 && ends_right b turned.1.state
+leads_on b (Some turned) = is_reached turned.1 && left_right b turned.0 turned.1.state
 
 abbrev moves_on : Control → Begin → Bool
 moves_on c b = leads_on b (control_turn c b)
 
 is_closed : all_in (λ c. nat_le c.state.word 4 && list_all (moves_on c) (begins c)) reached ≡ true
-unfolding reached leads_on ended_by_its_call
+unfolding reached leads_on left_as sender_left_by_its_call receiver_left_by_its_call
 is_closed = refl
 
 -- the word is one of the codes
@@ -72,23 +82,31 @@ word_is_code w h = leb-true w.state.word 4 (and_left _ _ (passes _ is_closed (co
 -- what passes at each move that may begin passes at the move that an end makes
 pub at_sender : (test : Begin → Bool) (message : Option Place) (s : SenderState) (calls : List Call) (position : SenderPos) → sender_has message s calls ≡ true → sender_position s (option_and_then as_sender_call (first calls)) ≡ Some position → list_all test (sender_begins message s (sender_under_way s (first calls))) ≡ true → test (record { side = Sender; call = first calls }) ≡ true
 at_sender test message SS.Ready [] position has at h = cc
+at_sender test message SS.Ready (Sender_is_closed ∷ calls) position has at h = and_left _ _ h
+at_sender test message SS.Ready (Drop_sender ∷ calls) position has at h = and_left _ _ (and_right _ _ h)
 at_sender test None SS.Ready (Send ∷ calls) position has at h = cc
-at_sender test (Some place) SS.Ready (Send ∷ calls) position has at h = and_left _ _ (and_right _ _ h)
-at_sender test message SS.Ready (Drop_sender ∷ calls) position has at h = and_left _ _ h
-at_sender test message SS.Ready (Try_recv ∷ calls) position has at h = cc
-at_sender test message SS.Ready (Drop_receiver ∷ calls) position has at h = cc
-at_sender test message SS.Ready (Stray ∷ calls) position has at h = cc
+at_sender test (Some place) SS.Ready (Send ∷ calls) position has at h = and_left _ _ (and_right _ _ (and_right _ _ h))
+at_sender test message SS.Ready (_ ∷ calls) position has at h = cc
 at_sender test message (SS.At here) calls position has at h = and_left _ _ h
-at_sender test message SS.Failed calls position has at h = cc
+at_sender test message SS.Failed [] position has at h = cc
+at_sender test message SS.Failed (As_inner ∷ calls) position has at h = and_left _ _ h
+at_sender test message SS.Failed (Into_inner ∷ calls) position has at h = and_left _ _ (and_right _ _ h)
+at_sender test message SS.Failed (Drop_error ∷ calls) position has at h = and_left _ _ (and_right _ _ (and_right _ _ h))
+at_sender test message SS.Failed (_ ∷ calls) position has at h = cc
 at_sender test message SS.Ended calls position has at h = cc
+
+abbrev receives : Call → Begin
+receives call = record { side = Receiver; call = Some call }
 
 pub at_receiver : (test : Begin → Bool) (s : ReceiverState) (calls : List Call) (position : ReceiverPos) → receiver_position s (option_and_then as_receiver_call (first calls)) ≡ Some position → list_all test (receiver_begins s (receiver_under_way s (first calls))) ≡ true → test (record { side = Receiver; call = first calls }) ≡ true
 at_receiver test RS.Ready [] position at h = cc
-at_receiver test RS.Ready (Send ∷ calls) position at h = cc
-at_receiver test RS.Ready (Drop_sender ∷ calls) position at h = cc
 at_receiver test RS.Ready (Try_recv ∷ calls) position at h = and_left _ _ h
-at_receiver test RS.Ready (Drop_receiver ∷ calls) position at h = and_left _ _ (and_right _ _ h)
-at_receiver test RS.Ready (Stray ∷ calls) position at h = cc
+at_receiver test RS.Ready (Has_message ∷ calls) position at h = and_left _ _ (and_right _ _ h)
+at_receiver test RS.Ready (Is_closed ∷ calls) position at h =
+    and_left _ _ (and_right (test (receives Has_message)) _ (and_right (test (receives Try_recv)) _ h))
+at_receiver test RS.Ready (Drop_receiver ∷ calls) position at h =
+    and_left _ true (and_right (test (receives Is_closed)) _ (and_right (test (receives Has_message)) _ (and_right (test (receives Try_recv)) _ h)))
+at_receiver test RS.Ready (_ ∷ calls) position at h = cc
 at_receiver test (RS.At here) calls position at h = and_left _ _ h
 at_receiver test RS.Ended calls position at h = cc
 
@@ -145,72 +163,6 @@ from_row true f None t h = absurd (cc h)
 from_row true f (Some r) t h = (r, cc)
 from_row false f row t h = absurd (cc h)
 
--- the message neither comes nor goes
-still_there : (from to : Option Place) → is_some (place_left from to) ≡ is_some from
-still_there None to = refl
-still_there (Some from) None = refl
-still_there (Some from) (Some to) = refl
-
-abbrev sender_script : Option Place → List Call → Bool
-sender_script message calls = is_script (λ call. false) (ends_sender message) calls
-
-script_stays : (from to : Option Place) (calls : List Call) → sender_script from calls ≡ true → sender_script (place_left from to) calls ≡ true
-script_stays from to [] h = refl
-script_stays from to (Send ∷ calls) h = rw (still_there from to) h
-script_stays from to (Drop_sender ∷ calls) h = h
-script_stays from to (Try_recv ∷ calls) h = cc
-script_stays from to (Drop_receiver ∷ calls) h = cc
-script_stays from to (Stray ∷ calls) h = cc
-
-sender_still_has : (from to : Option Place) (s : SenderState) (calls : List Call) → sender_has from s calls ≡ true → sender_has (place_left from to) s calls ≡ true
-sender_still_has from to SS.Ready calls h = script_stays from to calls h
-sender_still_has from to (SS.At position) calls h = script_stays from to calls h
-sender_still_has from to SS.Failed calls h = h
-sender_still_has from to SS.Ended calls h = h
-
--- an end that has a position has a script
-sender_has_script : (message : Option Place) (s : SenderState) (call : Option SenderCall) (position : SenderPos) (calls : List Call) → sender_position s call ≡ Some position → sender_has message s calls ≡ true → sender_script message calls ≡ true
-sender_has_script message SS.Ready call position calls at h = h
-sender_has_script message (SS.At here) call position calls at h = h
-sender_has_script message SS.Failed call position calls at h = cc
-sender_has_script message SS.Ended call position calls at h = cc
-
-receiver_has_script : (s : ReceiverState) (call : Option ReceiverStart) (position : ReceiverPos) (calls : List Call) → receiver_position s call ≡ Some position → receiver_has s calls ≡ true → is_script stays_receiver ends_receiver calls ≡ true
-receiver_has_script RS.Ready call position calls at h = h
-receiver_has_script (RS.At here) call position calls at h = h
-receiver_has_script RS.Ended call position calls at h = cc
-
--- the sender's one call is its last
-sender_ends : (message : Option Place) (calls : List Call) → sender_script message calls ≡ true → is_none_left (rest calls) ≡ true
-sender_ends message [] h = refl
-sender_ends message (Send ∷ calls) h = and_right (is_some message) _ h
-sender_ends message (Drop_sender ∷ calls) h = h
-sender_ends message (Try_recv ∷ calls) h = cc
-sender_ends message (Drop_receiver ∷ calls) h = cc
-sender_ends message (Stray ∷ calls) h = cc
-
-receiver_ends : (calls : List Call) → is_script stays_receiver ends_receiver calls ≡ true → ended_by_its_call RS.Ended (first calls) ≡ true → is_none_left (rest calls) ≡ true
-unfolding ended_by_its_call
-receiver_ends [] h e = refl
-receiver_ends (Drop_receiver ∷ calls) h e = h
-receiver_ends (Send ∷ calls) h e = cc
-receiver_ends (Drop_sender ∷ calls) h e = cc
-receiver_ends (Try_recv ∷ calls) h e = cc
-receiver_ends (Stray ∷ calls) h e = cc
-
-left_of_or : (a : Bool) → (a || false) ≡ true → a ≡ true
-left_of_or true h = refl
-left_of_or false h = h
-
-receiver_goes_on : (calls : List Call) → is_script stays_receiver ends_receiver calls ≡ true → is_script stays_receiver ends_receiver (rest calls) ≡ true
-receiver_goes_on [] h = refl
-receiver_goes_on (Try_recv ∷ calls) h = left_of_or _ h
-receiver_goes_on (Drop_receiver ∷ []) h = refl
-receiver_goes_on (Drop_receiver ∷ call ∷ calls) h = cc
-receiver_goes_on (Send ∷ calls) h = cc
-receiver_goes_on (Drop_sender ∷ calls) h = cc
-receiver_goes_on (Stray ∷ calls) h = cc
-
 -- the world after a step by a row is reached
 abbrev pub sender_world : World → Step → Outcome SenderPos → World
 sender_world w step row =
@@ -231,6 +183,11 @@ receiver_world w step row =
 -- where a step by a row leads, as the finite part shows it
 pub sender_control_is : (w : World) (step : Step) (row : Outcome SenderPos) → control_then Sender (first w.sender.calls) (control_of w) (sender_stepped w.state step row).1 ≡ control_of (sender_world w step row)
 sender_control_is w step (Goes next) = refl
+sender_control_is w step (Answers Replies.Message) =
+    elim (is_plain step) as (λ b. control_then Sender (first w.sender.calls) (control_of w) (record (sender_stepped w.state step (Answers Replies.Message)).1 { sender = if b then SS.Failed else SS.Ended }) ≡ control_of (record (sender_world w step (Answers Replies.Message)) { state = record (sender_stepped w.state step (Answers Replies.Message)).1 { sender = if b then SS.Failed else SS.Ended } })) [
+      | true ↦ refl
+      | false ↦ refl
+    ]
 sender_control_is w step (Answers Replies.Refused) = refl
 sender_control_is w step (Answers _) = refl
 
@@ -239,15 +196,64 @@ receiver_control_is w step (Goes next) = refl
 receiver_control_is w step (Answers Replies.Done) = refl
 receiver_control_is w step (Answers _) = refl
 
-sender_stays_reached : (w : World) (step : Step) (row : Outcome SenderPos) → IsReached w → sender_script w.state.message w.sender.calls ≡ true → is_reached (control_then Sender (first w.sender.calls) (control_of w) (sender_stepped w.state step row).1) ≡ true → IsReached (sender_world w step row)
-sender_stays_reached w step (Goes next) h script on = record { control = on; sender = script_stays w.state.message (sender_puts step None) w.sender.calls script; error = h.error; receiver = h.receiver }
-sender_stays_reached w step (Answers Replies.Refused) h script on = record { control = on; sender = h.error; error = h.error; receiver = h.receiver }
-sender_stays_reached w step (Answers _) h script on = record { control = on; sender = sender_ends w.state.message w.sender.calls script; error = h.error; receiver = h.receiver }
+-- what is left after a reply of the sender's side
+ready_left : (from to : Option Place) (calls : List Call) → (is_sender_script from calls || is_error_script calls) ≡ true → left_as SS.Ready (first calls) ≡ true → is_sender_script (place_left from to) (rest calls) ≡ true
+unfolding left_as
+ready_left from to [] h by = cc
+ready_left from to (call ∷ calls) h by = script_stays from to calls (sender_goes_on from calls call by h)
 
-receiver_stays_reached : (w : World) (step : Step) (row : Outcome ReceiverPos) → IsReached w → is_script stays_receiver ends_receiver w.receiver.calls ≡ true → is_reached (control_then Receiver (first w.receiver.calls) (control_of w) (receiver_stepped w.state step row).1) ≡ true → ended_by_its_call (receiver_goes row) (first w.receiver.calls) ≡ true → IsReached (receiver_world w step row)
-receiver_stays_reached w step (Goes next) h script on ended = record { control = on; sender = sender_still_has w.state.message (receiver_puts step) w.state.sender w.sender.calls h.sender; error = h.error; receiver = script }
-receiver_stays_reached w step (Answers Replies.Done) h script on ended = record { control = on; sender = sender_still_has w.state.message (receiver_puts step) w.state.sender w.sender.calls h.sender; error = h.error; receiver = receiver_ends w.receiver.calls script ended }
-receiver_stays_reached w step (Answers _) h script on ended = record { control = on; sender = sender_still_has w.state.message (receiver_puts step) w.state.sender w.sender.calls h.sender; error = h.error; receiver = receiver_goes_on w.receiver.calls script }
+failed_left : (message : Option Place) (calls : List Call) → (is_sender_script message calls || is_error_script calls) ≡ true → left_as SS.Failed (first calls) ≡ true → is_error_script (rest calls) ≡ true
+unfolding left_as
+failed_left message [] h by = cc
+failed_left message (call ∷ calls) h by = error_goes_on message calls call by h
+
+ended_left : (message : Option Place) (calls : List Call) → (is_sender_script message calls || is_error_script calls) ≡ true → left_as SS.Ended (first calls) ≡ true → is_none_left (rest calls) ≡ true
+unfolding left_as
+ended_left message [] h by = cc
+ended_left message (call ∷ calls) h by = sender_ends message calls call by h
+
+abbrev has_left : World → Step → Outcome SenderPos → Type 0
+has_left w step row = sender_has (place_left w.state.message (sender_puts step (reply_of row))) (sender_goes step row) (left_by Sender (reply_of row) w.sender).calls ≡ true
+
+shown_left : (w : World) (step : Step) → (is_sender_script w.state.message w.sender.calls || is_error_script w.sender.calls) ≡ true → left_as (sender_goes step (Answers Replies.Message)) (first w.sender.calls) ≡ true → has_left w step (Answers Replies.Message)
+shown_left w step script by =
+    elim (is_plain step) as (λ b. left_as (if b then SS.Failed else SS.Ended) (first w.sender.calls) ≡ true → sender_has (place_left w.state.message (sender_puts step (Some Replies.Message))) (if b then SS.Failed else SS.Ended) (rest w.sender.calls) ≡ true) [
+      | true ↦ λ by. failed_left w.state.message w.sender.calls script by
+      | false ↦ λ by. ended_left w.state.message w.sender.calls script by
+    ] by
+
+sender_left : (w : World) (step : Step) (row : Outcome SenderPos) → is_error_script w.sender.error ≡ true → (is_sender_script w.state.message w.sender.calls || is_error_script w.sender.calls) ≡ true → sender_left_by_its_call (reply_of row) (sender_goes step row) (first w.sender.calls) ≡ true → has_left w step row
+unfolding sender_left_by_its_call
+sender_left w step (Goes next) error script by = either_stays w.state.message (sender_puts step None) w.sender.calls script
+sender_left w step (Answers Replies.Refused) error script by = error
+sender_left w step (Answers Replies.Yes) error script by = ready_left w.state.message (sender_puts step (Some Replies.Yes)) w.sender.calls script by
+sender_left w step (Answers Replies.No) error script by = ready_left w.state.message (sender_puts step (Some Replies.No)) w.sender.calls script by
+sender_left w step (Answers Replies.Message) error script by = shown_left w step script by
+sender_left w step (Answers _) error script by = ended_left w.state.message w.sender.calls script by
+
+same_error : (reply : Option Reply) (left : Unanswered) → (left_by Sender reply left).error ≡ left.error
+same_error None left = refl
+same_error (Some Replies.Refused) left = refl
+same_error (Some _) left = refl
+
+sender_stays_reached : (w : World) (step : Step) (row : Outcome SenderPos) → IsReached w → (is_sender_script w.state.message w.sender.calls || is_error_script w.sender.calls) ≡ true → is_reached (control_then Sender (first w.sender.calls) (control_of w) (sender_stepped w.state step row).1) ≡ true → sender_left_by_its_call (reply_of row) (sender_goes step row) (first w.sender.calls) ≡ true → IsReached (sender_world w step row)
+sender_stays_reached w step row h script on by =
+    record {
+      control = rw (← sender_control_is w step row) on;
+      sender = sender_left w step row h.error script by;
+      error = rw (same_error (reply_of row) w.sender) h.error;
+      receiver = h.receiver;
+    }
+
+receiver_left_after : (calls : List Call) → is_script stays_receiver ends_receiver calls ≡ true → receiver_left_by_its_call RS.Ended (first calls) ≡ true → is_none_left (rest calls) ≡ true
+unfolding receiver_left_by_its_call
+receiver_left_after [] h by = cc
+receiver_left_after (call ∷ calls) h by = receiver_ends calls call by h
+
+receiver_stays_reached : (w : World) (step : Step) (row : Outcome ReceiverPos) → IsReached w → is_script stays_receiver ends_receiver w.receiver.calls ≡ true → is_reached (control_then Receiver (first w.receiver.calls) (control_of w) (receiver_stepped w.state step row).1) ≡ true → receiver_left_by_its_call (receiver_goes row) (first w.receiver.calls) ≡ true → IsReached (receiver_world w step row)
+receiver_stays_reached w step (Goes next) h script on by = record { control = on; sender = sender_still_has w.state.message (receiver_puts step) w.state.sender w.sender.calls h.sender; error = h.error; receiver = script }
+receiver_stays_reached w step (Answers Replies.Done) h script on by = record { control = on; sender = sender_still_has w.state.message (receiver_puts step) w.state.sender w.sender.calls h.sender; error = h.error; receiver = receiver_left_after w.receiver.calls script by }
+receiver_stays_reached w step (Answers _) h script on by = record { control = on; sender = sender_still_has w.state.message (receiver_puts step) w.state.sender w.sender.calls h.sender; error = h.error; receiver = receiver_goes_on w.receiver.calls script }
 
 -- a position that an end of a reached world has, has a step, and the world after it is reached
 pub sender_makes : (w : World) (position : SenderPos) → IsReached w → sender_at w ≡ Some position → IsSome (sender_steps w.state position)
@@ -259,9 +265,11 @@ receiver_makes w position h at = made_if (receiver_begin w) (after_receiver w) (
 pub sender_row_reaches : (w : World) (position : SenderPos) (row : Outcome SenderPos) → IsReached w → sender_at w ≡ Some position → sender_steps w.state position ≡ Some (sender_stepped w.state (sender_step position) row) → IsReached (sender_world w (sender_step position) row)
 unfolding leads_on
 sender_row_reaches w position row h at steps =
+    let leads = rw steps at (sender_leads w position h at) in
     sender_stays_reached w (sender_step position) row h
-    (sender_has_script w.state.message w.state.sender _ position w.sender.calls at h.sender)
-    (and_left _ true (rw steps at (sender_leads w position h at)))
+      (sender_has_script w.state.message w.state.sender _ position w.sender.calls at h.sender)
+      (and_left _ (sender_left_by_its_call (reply_of row) (sender_goes (sender_step position) row) (first w.sender.calls)) leads)
+      (and_right (is_reached (control_then Sender (first w.sender.calls) (control_of w) (sender_stepped w.state (sender_step position) row).1)) _ leads)
 
 pub receiver_row_reaches : (w : World) (position : ReceiverPos) (row : Outcome ReceiverPos) → IsReached w → receiver_at w ≡ Some position → receiver_steps w.state position ≡ Some (receiver_stepped w.state (receiver_step position) row) → IsReached (receiver_world w (receiver_step position) row)
 unfolding leads_on
@@ -269,15 +277,15 @@ receiver_row_reaches w position row h at steps =
     let leads = rw steps at (receiver_leads w position h at) in
     receiver_stays_reached w (receiver_step position) row h
     (receiver_has_script w.state.receiver _ position w.receiver.calls at h.receiver)
-    (and_left _ (ended_by_its_call (receiver_goes row) (first w.receiver.calls)) leads)
+    (and_left _ (receiver_left_by_its_call (receiver_goes row) (first w.receiver.calls)) leads)
     (and_right (is_reached (control_then Receiver (first w.receiver.calls) (control_of w) (receiver_stepped w.state (receiver_step position) row).1)) _ leads)
 
 -- a step that is made, is made by a row
 pub sender_made_by : (s : State) (position : SenderPos) (t : Made × State) → sender_steps s position ≡ Some t → (row : Outcome SenderPos) × (sender_stepped s (sender_step position) row ≡ t)
-sender_made_by s position t h = from_row (fits_cell s.message (sender_step position)) (sender_stepped s (sender_step position)) (sender_row position (seen_by s.word (sender_step position))) t h
+sender_made_by s position t h = from_row (sender_fits s.message (sender_step position)) (sender_stepped s (sender_step position)) (sender_row position (seen_by s.word (sender_step position))) t h
 
 pub receiver_made_by : (s : State) (position : ReceiverPos) (t : Made × State) → receiver_steps s position ≡ Some t → (row : Outcome ReceiverPos) × (receiver_stepped s (receiver_step position) row ≡ t)
-receiver_made_by s position t h = from_row (fits_cell s.message (receiver_step position)) (receiver_stepped s (receiver_step position)) (receiver_row position (seen_by s.word (receiver_step position))) t h
+receiver_made_by s position t h = from_row (receiver_fits s.message (receiver_step position)) (receiver_stepped s (receiver_step position)) (receiver_row position (seen_by s.word (receiver_step position))) t h
 
 pub sender_reaches : (w : World) (position : SenderPos) (e : Made) (s : State) → IsReached w → sender_at w ≡ Some position → sender_steps w.state position ≡ Some (e, s) → IsReached (record { state = s; sender = left_by Sender e.reply w.sender; receiver = w.receiver })
 sender_reaches w position e s h at steps =
@@ -302,15 +310,21 @@ message_there : is_reached (opening_control (Some NotSent)) ≡ true
 unfolding reached
 message_there = refl
 
-no_error : (last : ErrorLast) → is_none_left (error_last last) ≡ true
-no_error EL.Stop = refl
+opening_place_reached : {T : Type 0} (last : SenderLast T) → is_reached (opening_control (opening_place last)) ≡ true
+opening_place_reached (SL.Send message error) = message_there
+opening_place_reached SL.Drop = nothing_sent
+opening_place_reached SL.Stop = nothing_sent
 
-scripted : (calls : List ReceiverCall) (last : ReceiverLast) → is_script stays_receiver ends_receiver (receiver_calls calls last) ≡ true
-scripted [] RL.Drop = refl
-scripted [] RL.Stop = refl
-scripted (RC.TryRecv ∷ calls) last = rw (scripted calls last) refl
+error_opens : {T : Type 0} (last : SenderLast T) → is_error_script (error_calls last) ≡ true
+error_opens (SL.Send message error) = error_scripted error.looks error.last
+error_opens SL.Drop = refl
+error_opens SL.Stop = refl
 
-pub opening_reached : {T : Type 0} (s : SenderLast T) (r : ReceiverScript) → IsReached (opening_with (opening_place s) (record { sender = sender_last s; error = error_calls s; receiver = receiver_calls r.calls r.last }))
-opening_reached (SL.Send message error) r = record { control = message_there; sender = refl; error = no_error error.last; receiver = scripted r.calls r.last }
-opening_reached SL.Drop r = record { control = nothing_sent; sender = refl; error = refl; receiver = scripted r.calls r.last }
-opening_reached SL.Stop r = record { control = nothing_sent; sender = refl; error = refl; receiver = scripted r.calls r.last }
+pub opening_reached : {T : Type 0} (s : SenderScript T) (r : ReceiverScript) → IsReached (opening s r)
+opening_reached s r =
+    record {
+      control = opening_place_reached s.last;
+      sender = sender_scripted s.looks s.last;
+      error = error_opens s.last;
+      receiver = receiver_scripted r.calls r.last;
+    }

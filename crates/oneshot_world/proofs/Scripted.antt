@@ -12,10 +12,6 @@ use Rattle.oneshot_world.specs.declared.script.ReceiverLast.{ReceiverLast}
 pub from_here : (calls : List ReceiverCall) (n : ℕ) (last : ReceiverLast) → n < length calls → receiver_calls (drop n calls) last ≡ receiver_call (get_or calls n RC.TryRecv) ∷ receiver_calls (drop (n + 1) calls) last
 from_here calls n last h = rw (add-one, drop-cons calls n RC.TryRecv) refl
 
--- how it begins
-pub starts_as : (call : ReceiverCall) → as_receiver_call (receiver_call call) ≡ Some RS.TryRecv
-starts_as RC.TryRecv = refl
-
 -- a reply answers the first call that is left
 pub answers : (reply : Option Reply) (left : Unanswered) → is_some reply ≡ true → left_by Receiver reply left ≡ record { calls = rest left.calls; error = left.error }
 answers None left h = cc

@@ -1,12 +1,12 @@
 -- What of a world is finite, all but the calls that the scripts have left, and which of it a run can reach: the checker computes that.
-use Rattle.std.specs.Prelude.{◌≡◌, ℕ, ◌+◌, ◌*◌, Bool, true, false, ◌&&◌, ◌||◌, ◌==◌, is_some, List, [], ◌∷◌, ◌++◌, Option, Some, None}
+use Rattle.std.specs.Prelude.{◌≡◌, ℕ, ◌+◌, ◌*◌, Bool, true, false, ◌&&◌, ◌||◌, ◌==◌, is_some, List, [], ◌∷◌, ◌++◌, map, Option, Some, None}
 use Rattle.std.specs.Option.{option_map}
 use Rattle.std.specs.List.{filter_map}
 use Rattle.oneshot_machine.specs.declared.machine.End.{End}
 use Rattle.oneshot_machine.specs.declared.machine.End.TheVariants.{Sender, Receiver}
 use Rattle.oneshot_machine.specs.declared.machine.receiver.ReceiverPos.TheVariants as R
 use Rattle.oneshot_machine.specs.declared.machine.sender.SenderPos.TheVariants as S
-use Rattle.oneshot_world.specs.Calls.{Call, Send, Drop_sender, Try_recv, Drop_receiver, Stray, first, is_none_left}
+use Rattle.oneshot_world.specs.Calls.{Call, Sender_is_closed, Send, Drop_sender, As_inner, Into_inner, Drop_error, Try_recv, Has_message, Is_closed, Drop_receiver, Stray, first, is_none_left}
 use Rattle.oneshot_world.specs.Explore.{Tree, reach, is_in}
 use Rattle.oneshot_world.specs.State.{opening_state, turns}
 use Rattle.oneshot_world.specs.World.{World}
@@ -17,7 +17,7 @@ use Rattle.oneshot_world.specs.declared.state.SenderState.TheVariants as SS
 use Rattle.oneshot_world.specs.declared.state.State.{State}
 use Rattle.oneshot_world.specs.declared.trace.Entry.{Entry}
 use Rattle.oneshot_world.specs.declared.trace.Place.{Place}
-use Rattle.oneshot_world.specs.declared.trace.Place.TheVariants.{NotSent, InCell, InError, Delivered, Dropped}
+use Rattle.oneshot_world.specs.declared.trace.Place.TheVariants.{NotSent, InCell, InError, Delivered, FromError, Dropped}
 
 -- the state, and each end's call under way
 pub record Control : Type 0 where
@@ -50,6 +50,9 @@ pub record Begin : Type 0 where
   pub side : End
   pub call : Option Call
 
+abbrev pub begins_with : End → List Call → List Begin
+begins_with side calls = map (λ call. record { side = side; call = Some call }) calls
+
 -- a send is there where there is a message
 abbrev pub sends_begins : Option Place → List Begin
 sends_begins None = []
@@ -57,14 +60,13 @@ sends_begins (Some place) = record { side = Sender; call = Some Send } ∷ []
 
 -- the moves of an end: it goes on with the call under way, or begins any call
 abbrev pub sender_begins : Option Place → SenderState → Option Call → List Begin
-sender_begins message SS.Ready call = record { side = Sender; call = Some Drop_sender } ∷ sends_begins message
+sender_begins message SS.Ready call = begins_with Sender (Sender_is_closed ∷ Drop_sender ∷ []) ++ sends_begins message
 sender_begins message (SS.At position) call = record { side = Sender; call = call } ∷ []
-sender_begins message SS.Failed call = []
+sender_begins message SS.Failed call = begins_with Sender (As_inner ∷ Into_inner ∷ Drop_error ∷ [])
 sender_begins message SS.Ended call = []
 
 abbrev pub receiver_begins : ReceiverState → Option Call → List Begin
-receiver_begins RS.Ready call =
-    record { side = Receiver; call = Some Try_recv } ∷ record { side = Receiver; call = Some Drop_receiver } ∷ []
+receiver_begins RS.Ready call = begins_with Receiver (Try_recv ∷ Has_message ∷ Is_closed ∷ Drop_receiver ∷ [])
 receiver_begins (RS.At position) call = record { side = Receiver; call = call } ∷ []
 receiver_begins RS.Ended call = []
 
@@ -87,30 +89,44 @@ successors c = filter_map (λ b. option_map (λ turned. turned.1) (control_turn 
 -- codes, by which values are told apart
 abbrev pub sender_code : SenderState → ℕ
 sender_code SS.Ready = 0
-sender_code (SS.At S.SendWrite) = 1
-sender_code (SS.At S.SendAdd) = 2
-sender_code (SS.At S.DropXor) = 3
-sender_code (SS.At S.DropFree) = 4
-sender_code SS.Failed = 5
-sender_code SS.Ended = 6
+sender_code (SS.At S.LookClosed) = 1
+sender_code (SS.At S.SendWrite) = 2
+sender_code (SS.At S.SendAdd) = 3
+sender_code (SS.At S.DropXor) = 4
+sender_code (SS.At S.DropFree) = 5
+sender_code (SS.At S.ErrorLook) = 6
+sender_code (SS.At S.IntoTake) = 7
+sender_code (SS.At S.IntoFree) = 8
+sender_code (SS.At S.ErrorDrop) = 9
+sender_code (SS.At S.ErrorFree) = 10
+sender_code SS.Failed = 11
+sender_code SS.Ended = 12
 
 abbrev pub receiver_code : ReceiverState → ℕ
 receiver_code RS.Ready = 0
-receiver_code (RS.At R.TryLoad) = 1
-receiver_code (RS.At R.Close) = 2
-receiver_code (RS.At R.Take) = 3
-receiver_code (RS.At R.DropSwap) = 4
-receiver_code (RS.At R.DropMessage) = 5
-receiver_code (RS.At R.DropFree) = 6
-receiver_code RS.Ended = 7
+receiver_code (RS.At R.LookFull) = 1
+receiver_code (RS.At R.LookClosed) = 2
+receiver_code (RS.At R.TryLoad) = 3
+receiver_code (RS.At R.Close) = 4
+receiver_code (RS.At R.Take) = 5
+receiver_code (RS.At R.DropSwap) = 6
+receiver_code (RS.At R.DropMessage) = 7
+receiver_code (RS.At R.DropFree) = 8
+receiver_code RS.Ended = 9
 
 abbrev pub call_code : Option Call → ℕ
 call_code None = 0
-call_code (Some Send) = 1
-call_code (Some Drop_sender) = 2
-call_code (Some Try_recv) = 3
-call_code (Some Drop_receiver) = 4
-call_code (Some Stray) = 5
+call_code (Some Sender_is_closed) = 1
+call_code (Some Send) = 2
+call_code (Some Drop_sender) = 3
+call_code (Some As_inner) = 4
+call_code (Some Into_inner) = 5
+call_code (Some Drop_error) = 6
+call_code (Some Try_recv) = 7
+call_code (Some Has_message) = 8
+call_code (Some Is_closed) = 9
+call_code (Some Drop_receiver) = 10
+call_code (Some Stray) = 11
 
 abbrev pub place_code : Option Place → ℕ
 place_code None = 0
@@ -118,7 +134,8 @@ place_code (Some NotSent) = 1
 place_code (Some InCell) = 2
 place_code (Some InError) = 3
 place_code (Some Delivered) = 4
-place_code (Some Dropped) = 5
+place_code (Some FromError) = 5
+place_code (Some Dropped) = 6
 
 abbrev pub bool_code : Bool → ℕ
 bool_code true = 1
@@ -139,11 +156,11 @@ is_same_control c d =
 -- the order in which the search keeps them; two values never have one code, or the search would not end
 abbrev pub state_code : State → ℕ
 state_code s =
-    (((sender_code s.sender * 8 + receiver_code s.receiver) * 8 + s.word) * 8 + place_code s.message) * 2
+    (((sender_code s.sender * 16 + receiver_code s.receiver) * 8 + s.word) * 8 + place_code s.message) * 2
     + bool_code s.freed
 
 abbrev pub control_code : Control → ℕ
-control_code c = (state_code c.state * 8 + call_code c.sender) * 8 + call_code c.receiver
+control_code c = (state_code c.state * 16 + call_code c.sender) * 16 + call_code c.receiver
 
 abbrev pub opening_control : Option Place → Control
 opening_control message = record { state = opening_state message; sender = None; receiver = None }
@@ -162,24 +179,46 @@ abbrev pub is_script : (Call → Bool) → (Call → Bool) → List Call → Boo
 is_script stays ends [] = true
 is_script stays ends (call ∷ calls) = (stays call && is_script stays ends calls) || (ends call && is_none_left calls)
 
+abbrev pub stays_sender : Call → Bool
+stays_sender Sender_is_closed = true
+stays_sender _ = false
+
 -- a send is there where there is a message
 abbrev pub ends_sender : Option Place → Call → Bool
 ends_sender message Send = is_some message
 ends_sender message Drop_sender = true
 ends_sender message _ = false
 
+abbrev pub stays_error : Call → Bool
+stays_error As_inner = true
+stays_error _ = false
+
+abbrev pub ends_error : Call → Bool
+ends_error Into_inner = true
+ends_error Drop_error = true
+ends_error _ = false
+
 abbrev pub stays_receiver : Call → Bool
 stays_receiver Try_recv = true
+stays_receiver Has_message = true
+stays_receiver Is_closed = true
 stays_receiver _ = false
 
 abbrev pub ends_receiver : Call → Bool
 ends_receiver Drop_receiver = true
 ends_receiver _ = false
 
+abbrev pub is_sender_script : Option Place → List Call → Bool
+is_sender_script message calls = is_script stays_sender (ends_sender message) calls
+
+abbrev pub is_error_script : List Call → Bool
+is_error_script calls = is_script stays_error ends_error calls
+
+-- while a call is under way, what is left is a script of the sender or of the error
 abbrev pub sender_has : Option Place → SenderState → List Call → Bool
-sender_has message SS.Ready calls = is_script (λ call. false) (ends_sender message) calls
-sender_has message (SS.At position) calls = is_script (λ call. false) (ends_sender message) calls
-sender_has message SS.Failed calls = is_none_left calls
+sender_has message SS.Ready calls = is_sender_script message calls
+sender_has message (SS.At position) calls = is_sender_script message calls || is_error_script calls
+sender_has message SS.Failed calls = is_error_script calls
 sender_has message SS.Ended calls = is_none_left calls
 
 abbrev pub receiver_has : ReceiverState → List Call → Bool
@@ -191,5 +230,5 @@ receiver_has RS.Ended calls = is_none_left calls
 pub record IsReached (w : World) : Type 0 where
   pub control : is_reached (control_of w) ≡ true
   pub sender : sender_has w.state.message w.state.sender w.sender.calls ≡ true
-  pub error : is_none_left w.sender.error ≡ true
+  pub error : is_error_script w.sender.error ≡ true
   pub receiver : receiver_has w.state.receiver w.receiver.calls ≡ true

@@ -1,4 +1,5 @@
 pub mod Calls
+pub mod Looks
 pub mod State
 pub mod World
 pub mod Explore

@@ -12,7 +12,7 @@ use Rattle.oneshot_machine.specs.declared.machine.Reply.TheVariants as R
 use Rattle.oneshot_machine.specs.declared.machine.Seen.{Seen}
 use Rattle.oneshot_machine.specs.declared.machine.Seen.TheVariants as S
 use Rattle.oneshot_machine.specs.declared.machine.Step.{Step}
-use Rattle.oneshot_machine.specs.declared.machine.Step.TheVariants.{Word, WriteMessage, TakeMessage, DropMessage, Free}
+use Rattle.oneshot_machine.specs.declared.machine.Step.TheVariants.{Word, WriteMessage, TakeMessage, DropMessage, Free, Plain}
 use Rattle.oneshot_machine.specs.declared.machine.receiver.ReceiverPos.{ReceiverPos}
 use Rattle.oneshot_machine.specs.declared.machine.receiver.ReceiverStart.{ReceiverStart}
 use Rattle.oneshot_machine.specs.declared.machine.sender.SenderCall.{SenderCall}
@@ -28,7 +28,7 @@ use Rattle.oneshot_world.specs.declared.trace.Entry.{Entry}
 use Rattle.oneshot_world.specs.declared.trace.Entry.TheVariants.{Idle, Made as Made_entry}
 use Rattle.oneshot_world.specs.declared.trace.Made.{Made}
 use Rattle.oneshot_world.specs.declared.trace.Place.{Place}
-use Rattle.oneshot_world.specs.declared.trace.Place.TheVariants.{NotSent, InCell, InError, Delivered, Dropped}
+use Rattle.oneshot_world.specs.declared.trace.Place.TheVariants.{NotSent, InCell, InError, Delivered, FromError, Dropped}
 
 -- before the first move
 abbrev pub opening_state : Option Place → State
@@ -53,6 +53,7 @@ seen_by word WriteMessage = S.Done
 seen_by word TakeMessage = S.Done
 seen_by word DropMessage = S.Done
 seen_by word Free = S.Done
+seen_by word Plain = S.Done
 
 abbrev pub word_left : ℕ → Step → ℕ
 word_left word (Word op) = word_after op word
@@ -60,6 +61,7 @@ word_left word WriteMessage = word
 word_left word TakeMessage = word
 word_left word DropMessage = word
 word_left word Free = word
+word_left word Plain = word
 
 abbrev pub freed_by : Bool → Step → Bool
 freed_by freed (Word op) = freed
@@ -67,31 +69,51 @@ freed_by freed WriteMessage = freed
 freed_by freed TakeMessage = freed
 freed_by freed DropMessage = freed
 freed_by freed Free = true
+freed_by freed Plain = freed
 
 -- the word that an entry shows: none once the block is freed
 abbrev pub shown : Bool → ℕ → Option ℕ
 shown true word = None
 shown false word = Some word
 
--- the cell is written where it is empty, and read where it is full
-abbrev pub fits_cell : Option Place → Step → Bool
-fits_cell (Some NotSent) WriteMessage = true
-fits_cell _ WriteMessage = false
-fits_cell (Some InCell) TakeMessage = true
-fits_cell _ TakeMessage = false
-fits_cell (Some InCell) DropMessage = true
-fits_cell _ DropMessage = false
-fits_cell _ (Word op) = true
-fits_cell _ Free = true
+-- The cell is written where it is empty, and read where it is full: by the receiver in the cell, by the sender's side in its error.
+abbrev pub is_unsent : Option Place → Bool
+is_unsent (Some NotSent) = true
+is_unsent _ = false
+
+abbrev pub is_in_cell : Option Place → Bool
+is_in_cell (Some InCell) = true
+is_in_cell _ = false
+
+abbrev pub is_in_error : Option Place → Bool
+is_in_error (Some InError) = true
+is_in_error _ = false
+
+abbrev pub sender_fits : Option Place → Step → Bool
+sender_fits place WriteMessage = is_unsent place
+sender_fits place TakeMessage = is_in_error place
+sender_fits place DropMessage = is_in_error place
+sender_fits place (Word op) = true
+sender_fits place Free = true
+sender_fits place Plain = true
+
+abbrev pub receiver_fits : Option Place → Step → Bool
+receiver_fits place WriteMessage = false
+receiver_fits place TakeMessage = is_in_cell place
+receiver_fits place DropMessage = is_in_cell place
+receiver_fits place (Word op) = true
+receiver_fits place Free = true
+receiver_fits place Plain = true
 
 -- where a step puts the message, if it moves it; a send that is refused leaves the message with the error
 abbrev pub sender_puts : Step → Option Reply → Option Place
 sender_puts WriteMessage reply = Some InCell
 sender_puts (Word op) (Some R.Refused) = Some InError
 sender_puts (Word op) _ = None
-sender_puts TakeMessage reply = None
-sender_puts DropMessage reply = None
+sender_puts TakeMessage reply = Some FromError
+sender_puts DropMessage reply = Some Dropped
 sender_puts Free reply = None
+sender_puts Plain reply = None
 
 abbrev pub receiver_puts : Step → Option Place
 receiver_puts TakeMessage = Some Delivered
@@ -99,6 +121,7 @@ receiver_puts DropMessage = Some Dropped
 receiver_puts (Word op) = None
 receiver_puts WriteMessage = None
 receiver_puts Free = None
+receiver_puts Plain = None
 
 -- the message's place after that, where there is a message
 abbrev pub place_left : Option Place → Option Place → Option Place
@@ -116,11 +139,18 @@ abbrev pub reply_of : {P : Type 0} → Outcome P → Option Reply
 reply_of (Goes next) = None
 reply_of (Answers reply) = Some reply
 
--- where an end stands after a row: a refused send leaves the error, and a drop or any other send ends the end
-abbrev pub sender_goes : Outcome SenderPos → SenderState
-sender_goes (Goes next) = SS.At next
-sender_goes (Answers R.Refused) = SS.Failed
-sender_goes (Answers _) = SS.Ended
+-- where an end stands after a row: a look leaves it ready, a refused send leaves the error, a look at the error leaves the error, and any other answer of the sender's side ends it
+abbrev pub is_plain : Step → Bool
+is_plain Plain = true
+is_plain _ = false
+
+abbrev pub sender_goes : Step → Outcome SenderPos → SenderState
+sender_goes step (Goes next) = SS.At next
+sender_goes step (Answers R.Yes) = SS.Ready
+sender_goes step (Answers R.No) = SS.Ready
+sender_goes step (Answers R.Refused) = SS.Failed
+sender_goes step (Answers R.Message) = if is_plain step then SS.Failed else SS.Ended
+sender_goes step (Answers _) = SS.Ended
 
 abbrev pub receiver_goes : Outcome ReceiverPos → ReceiverState
 receiver_goes (Goes next) = RS.At next
@@ -156,7 +186,7 @@ moved s step to =
 abbrev pub sender_stepped : State → Step → Outcome SenderPos → Made × State
 sender_stepped s step row = (
   made Sender s step (reply_of row) (sender_puts step (reply_of row)),
-  record (moved s step (sender_puts step (reply_of row))) { sender = sender_goes row },
+  record (moved s step (sender_puts step (reply_of row))) { sender = sender_goes step row },
 )
 
 abbrev pub receiver_stepped : State → Step → Outcome ReceiverPos → Made × State
@@ -168,7 +198,7 @@ receiver_stepped s step row = (
 -- the step that is made at a position; none where the table has no row for what is seen, or the cell is not as the step needs it
 abbrev pub sender_steps : State → SenderPos → Option (Made × State)
 sender_steps s position =
-    if fits_cell s.message (sender_step position)
+    if sender_fits s.message (sender_step position)
     then option_map
     (sender_stepped s (sender_step position))
     (sender_row position (seen_by s.word (sender_step position)))
@@ -176,7 +206,7 @@ sender_steps s position =
 
 abbrev pub receiver_steps : State → ReceiverPos → Option (Made × State)
 receiver_steps s position =
-    if fits_cell s.message (receiver_step position)
+    if receiver_fits s.message (receiver_step position)
     then option_map
     (receiver_stepped s (receiver_step position))
     (receiver_row position (seen_by s.word (receiver_step position)))
@@ -186,7 +216,7 @@ receiver_steps s position =
 abbrev pub sender_position : SenderState → Option SenderCall → Option SenderPos
 sender_position SS.Ready call = option_map sender_start call
 sender_position (SS.At position) call = Some position
-sender_position SS.Failed call = None
+sender_position SS.Failed call = option_map sender_start call
 sender_position SS.Ended call = None
 
 abbrev pub receiver_position : ReceiverState → Option ReceiverStart → Option ReceiverPos

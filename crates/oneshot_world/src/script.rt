@@ -4,9 +4,11 @@ ghost use Rattle.std.specs.Prelude.{◌≡◌, length};
 
 use std::marker::Model;
 
-/// What the sender does.
+/// What the sender does: looks, and then its last call.
 #[derive(Debug, Drop)]
 pub struct SenderScript<T> {
+    /// How many times it calls `is_closed`.
+    pub looks: usize,
     /// The call that ends the sender.
     pub last: SenderLast<T>,
 }
@@ -22,9 +24,11 @@ pub enum SenderLast<T> {
     Stop,
 }
 
-/// What is done with the error of a refused `send`.
+/// What is done with the error of a refused `send`: looks, and then its last call.
 #[derive(Debug, Drop)]
 pub struct ErrorScript {
+    /// How many times `as_inner` is called.
+    pub looks: usize,
     /// The call that ends the error.
     pub last: ErrorLast,
 }
@@ -32,6 +36,10 @@ pub struct ErrorScript {
 /// The error's last call.
 #[derive(Debug, Drop)]
 pub enum ErrorLast {
+    /// `SendError::into_inner`.
+    IntoInner,
+    /// The error is dropped.
+    Drop,
     /// No call: the error stays where it is.
     Stop,
 }
@@ -50,6 +58,10 @@ pub struct ReceiverScript {
 pub enum ReceiverCall {
     /// `Receiver::try_recv`.
     TryRecv,
+    /// `Receiver::has_message`.
+    HasMessage,
+    /// `Receiver::is_closed`.
+    IsClosed,
 }
 
 /// The receiver's last call.

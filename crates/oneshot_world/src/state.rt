@@ -1,7 +1,8 @@
 //! The finite part of the world, and one step of one end.
 
 ghost use Rattle.std.specs.Prelude.{◌≡◌, ◌≤◌, Some, IsSome};
-ghost use Rattle.oneshot_world.specs.State.{opening_state, sender_position, receiver_position, made, moved, seen_by, word_left, shown, sender_puts, receiver_puts, place_left, move_of, sender_steps, receiver_steps};
+ghost use Rattle.oneshot_machine.specs.Rows.{outcome};
+ghost use Rattle.oneshot_world.specs.State.{opening_state, sender_position, receiver_position, made, moved, seen_by, word_left, shown, sender_goes, receiver_goes, sender_puts, receiver_puts, place_left, move_of, sender_steps, receiver_steps};
 
 use crate::trace::{Made, Place};
 use oneshot_machine::machine::{
@@ -16,7 +17,7 @@ pub enum SenderState {
     Ready,
     /// A call is under way, and stands here.
     At(SenderPos),
-    /// The `send` was refused, and left the error in the sender's place.
+    /// The `send` was refused, and left the error in the sender's place. No call of it is under way.
     Failed,
     /// The sender has ended.
     Ended,
@@ -54,9 +55,9 @@ impl SenderState {
         ensures { result ≡ sender_position self call }
     {
         match self {
-            SenderState::Ready => Some(SenderPos::start(call?)),
+            SenderState::Ready | SenderState::Failed => Some(SenderPos::start(call?)),
             SenderState::At(position) => Some(position),
-            SenderState::Failed | SenderState::Ended => None,
+            SenderState::Ended => None,
         }
     }
 }
@@ -97,11 +98,7 @@ impl State {
         let step = position.step();
         let (next, reply) = position.next(seen_by(self.word, step));
         let made = self.make(End::Sender, step, reply, sender_puts(step, reply));
-        self.sender = match reply {
-            None => SenderState::At(next),
-            Some(Reply::Refused) => SenderState::Failed,
-            Some(_) => SenderState::Ended,
-        };
+        self.sender = sender_goes(step, next, reply);
         made
     }
 
@@ -114,11 +111,7 @@ impl State {
         let step = position.step();
         let (next, reply) = position.next(seen_by(self.word, step));
         let made = self.make(End::Receiver, step, reply, receiver_puts(step));
-        self.receiver = match reply {
-            None => ReceiverState::At(next),
-            Some(Reply::Done) => ReceiverState::Ended,
-            Some(_) => ReceiverState::Ready,
-        };
+        self.receiver = receiver_goes(next, reply);
         made
     }
 
@@ -183,6 +176,8 @@ fn sender_puts(step: Step, reply: Option<Reply>) -> Option<Place>
     match (step, reply) {
         (Step::WriteMessage, _) => Some(Place::InCell),
         (Step::Word(_), Some(Reply::Refused)) => Some(Place::InError),
+        (Step::TakeMessage, _) => Some(Place::FromError),
+        (Step::DropMessage, _) => Some(Place::Dropped),
         _ => None,
     }
 }
@@ -215,5 +210,35 @@ fn move_of(from: Option<Place>, to: Option<Place>) -> Option<(Place, Place)>
     match (from, to) {
         (Some(from), Some(to)) => Some((from, to)),
         _ => None,
+    }
+}
+
+/// Where the sender stands after a step that leads to `next`, or ends its call with `reply`.
+fn sender_goes(step: Step, next: SenderPos, reply: Option<Reply>) -> SenderState
+    ensures { result ≡ sender_goes step (outcome (next, reply)) }
+{
+    match reply {
+        None => SenderState::At(next),
+        Some(Reply::Yes | Reply::No) => SenderState::Ready,
+        Some(Reply::Refused) => SenderState::Failed,
+        Some(Reply::Message) => {
+            if step == Step::Plain {
+                SenderState::Failed
+            } else {
+                SenderState::Ended
+            }
+        }
+        Some(_) => SenderState::Ended,
+    }
+}
+
+/// Where the receiver stands after a step that leads to `next`, or ends its call with `reply`.
+fn receiver_goes(next: ReceiverPos, reply: Option<Reply>) -> ReceiverState
+    ensures { result ≡ receiver_goes (outcome (next, reply)) }
+{
+    match reply {
+        None => ReceiverState::At(next),
+        Some(Reply::Done) => ReceiverState::Ended,
+        Some(_) => ReceiverState::Ready,
     }
 }

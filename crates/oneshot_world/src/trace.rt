@@ -13,6 +13,8 @@ pub enum Place {
     InError,
     /// In the answer of a receive.
     Delivered,
+    /// In the answer of the error's `into_inner`.
+    FromError,
     /// Dropped by an end.
     Dropped,
 }

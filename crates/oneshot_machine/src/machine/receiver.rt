@@ -12,6 +12,10 @@ use crate::states::{DISCONNECTED, EMPTY, MESSAGE, Op};
 pub enum ReceiverStart {
     /// `Receiver::try_recv`.
     TryRecv,
+    /// `Receiver::has_message`.
+    HasMessage,
+    /// `Receiver::is_closed`.
+    IsClosed,
     /// The receiver is dropped.
     Drop,
 }
@@ -19,6 +23,10 @@ pub enum ReceiverStart {
 /// Where a call of the receiver stands: a position of its table.
 #[derive(Clone, Copy, Debug, Eq, Hash, PartialEq)]
 pub enum ReceiverPos {
+    /// `has_message` is about to read the word.
+    LookFull,
+    /// `is_closed` is about to read the word.
+    LookClosed,
     /// `try_recv` is about to read the word.
     TryLoad,
     /// A receive that found the message is about to close the channel.
@@ -40,6 +48,8 @@ impl ReceiverPos {
     {
         match call {
             ReceiverStart::TryRecv => ReceiverPos::TryLoad,
+            ReceiverStart::HasMessage => ReceiverPos::LookFull,
+            ReceiverStart::IsClosed => ReceiverPos::LookClosed,
             ReceiverStart::Drop => ReceiverPos::DropSwap,
         }
     }
@@ -49,6 +59,8 @@ impl ReceiverPos {
         ensures { result ≡ receiver_step self.now }
     {
         match self {
+            ReceiverPos::LookFull => Step::Word(Op::Load),
+            ReceiverPos::LookClosed => Step::Word(Op::Load),
             ReceiverPos::TryLoad => Step::Word(Op::Load),
             ReceiverPos::Close => Step::Word(Op::Store(DISCONNECTED)),
             ReceiverPos::Take => Step::TakeMessage,
@@ -63,6 +75,12 @@ impl ReceiverPos {
         ensures { result ≡ is_some (receiver_row self.now seen) }
     {
         match (self, seen) {
+            (ReceiverPos::LookFull, Seen::Word(MESSAGE)) => true,
+            (ReceiverPos::LookFull, Seen::Word(DISCONNECTED)) => true,
+            (ReceiverPos::LookFull, Seen::Word(EMPTY)) => true,
+            (ReceiverPos::LookClosed, Seen::Word(DISCONNECTED)) => true,
+            (ReceiverPos::LookClosed, Seen::Word(EMPTY)) => true,
+            (ReceiverPos::LookClosed, Seen::Word(MESSAGE)) => true,
             (ReceiverPos::TryLoad, Seen::Word(MESSAGE)) => true,
             (ReceiverPos::TryLoad, Seen::Word(EMPTY)) => true,
             (ReceiverPos::TryLoad, Seen::Word(DISCONNECTED)) => true,
@@ -85,6 +103,12 @@ impl ReceiverPos {
         ensures stays { IfSome result.1 (λ _. result.0 ≡ self.now) }
     {
         match (self, seen) {
+            (ReceiverPos::LookFull, Seen::Word(MESSAGE)) => (*self, Some(Reply::Yes)),
+            (ReceiverPos::LookFull, Seen::Word(DISCONNECTED)) => (*self, Some(Reply::No)),
+            (ReceiverPos::LookFull, Seen::Word(EMPTY)) => (*self, Some(Reply::No)),
+            (ReceiverPos::LookClosed, Seen::Word(DISCONNECTED)) => (*self, Some(Reply::Yes)),
+            (ReceiverPos::LookClosed, Seen::Word(EMPTY)) => (*self, Some(Reply::No)),
+            (ReceiverPos::LookClosed, Seen::Word(MESSAGE)) => (*self, Some(Reply::No)),
             (ReceiverPos::TryLoad, Seen::Word(MESSAGE)) => (ReceiverPos::Close, None),
             (ReceiverPos::TryLoad, Seen::Word(EMPTY)) => (*self, Some(Reply::Empty)),
             (ReceiverPos::TryLoad, Seen::Word(DISCONNECTED)) => (*self, Some(Reply::Disconnected)),

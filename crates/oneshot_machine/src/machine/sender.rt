@@ -10,10 +10,14 @@ use crate::states::{DISCONNECTED, EMPTY, Op};
 /// A call of the sender, or of the error of its refused `send`.
 #[derive(Clone, Copy, Debug, Eq, Hash, PartialEq)]
 pub enum SenderCall {
+    /// `Sender::is_closed`.
+    IsClosed,
     /// `Sender::send`.
     Send,
     /// The sender is dropped.
     Drop,
+    /// `SendError::as_inner`.
+    AsInner,
     /// `SendError::into_inner`.
     IntoInner,
     /// The error is dropped.
@@ -23,6 +27,8 @@ pub enum SenderCall {
 /// Where a call of the sender or of its error stands: a position of the sender's table.
 #[derive(Clone, Copy, Debug, Eq, Hash, PartialEq)]
 pub enum SenderPos {
+    /// `is_closed` is about to read the word.
+    LookClosed,
     /// `send` is about to write its message.
     SendWrite,
     /// `send` is about to add one to the word.
@@ -31,6 +37,8 @@ pub enum SenderPos {
     DropXor,
     /// The drop is about to free the block.
     DropFree,
+    /// `as_inner` is about to show the refused message.
+    ErrorLook,
     /// `into_inner` is about to take the refused message.
     IntoTake,
     /// `into_inner` is about to free the block.
@@ -47,8 +55,10 @@ impl SenderPos {
         ensures { result ≡ sender_start call }
     {
         match call {
+            SenderCall::IsClosed => SenderPos::LookClosed,
             SenderCall::Send => SenderPos::SendWrite,
             SenderCall::Drop => SenderPos::DropXor,
+            SenderCall::AsInner => SenderPos::ErrorLook,
             SenderCall::IntoInner => SenderPos::IntoTake,
             SenderCall::DropError => SenderPos::ErrorDrop,
         }
@@ -59,10 +69,12 @@ impl SenderPos {
         ensures { result ≡ sender_step self.now }
     {
         match self {
+            SenderPos::LookClosed => Step::Word(Op::Load),
             SenderPos::SendWrite => Step::WriteMessage,
             SenderPos::SendAdd => Step::Word(Op::Add),
             SenderPos::DropXor => Step::Word(Op::Xor),
             SenderPos::DropFree => Step::Free,
+            SenderPos::ErrorLook => Step::Plain,
             SenderPos::IntoTake => Step::TakeMessage,
             SenderPos::IntoFree => Step::Free,
             SenderPos::ErrorDrop => Step::DropMessage,
@@ -75,12 +87,15 @@ impl SenderPos {
         ensures { result ≡ is_some (sender_row self.now seen) }
     {
         match (self, seen) {
+            (SenderPos::LookClosed, Seen::Word(DISCONNECTED)) => true,
+            (SenderPos::LookClosed, Seen::Word(EMPTY)) => true,
             (SenderPos::SendWrite, Seen::Done) => true,
             (SenderPos::SendAdd, Seen::Word(EMPTY)) => true,
             (SenderPos::SendAdd, Seen::Word(DISCONNECTED)) => true,
             (SenderPos::DropXor, Seen::Word(EMPTY)) => true,
             (SenderPos::DropXor, Seen::Word(DISCONNECTED)) => true,
             (SenderPos::DropFree, Seen::Done) => true,
+            (SenderPos::ErrorLook, Seen::Done) => true,
             (SenderPos::IntoTake, Seen::Done) => true,
             (SenderPos::IntoFree, Seen::Done) => true,
             (SenderPos::ErrorDrop, Seen::Done) => true,
@@ -97,12 +112,15 @@ impl SenderPos {
         ensures stays { IfSome result.1 (λ _. result.0 ≡ self.now) }
     {
         match (self, seen) {
+            (SenderPos::LookClosed, Seen::Word(DISCONNECTED)) => (*self, Some(Reply::Yes)),
+            (SenderPos::LookClosed, Seen::Word(EMPTY)) => (*self, Some(Reply::No)),
             (SenderPos::SendWrite, Seen::Done) => (SenderPos::SendAdd, None),
             (SenderPos::SendAdd, Seen::Word(EMPTY)) => (*self, Some(Reply::Sent)),
             (SenderPos::SendAdd, Seen::Word(DISCONNECTED)) => (*self, Some(Reply::Refused)),
             (SenderPos::DropXor, Seen::Word(EMPTY)) => (*self, Some(Reply::Done)),
             (SenderPos::DropXor, Seen::Word(DISCONNECTED)) => (SenderPos::DropFree, None),
             (SenderPos::DropFree, Seen::Done) => (*self, Some(Reply::Done)),
+            (SenderPos::ErrorLook, Seen::Done) => (*self, Some(Reply::Message)),
             (SenderPos::IntoTake, Seen::Done) => (SenderPos::IntoFree, None),
             (SenderPos::IntoFree, Seen::Done) => (*self, Some(Reply::Message)),
             (SenderPos::ErrorDrop, Seen::Done) => (SenderPos::ErrorFree, None),

@@ -1,0 +1,128 @@
+-- What is left of a script is a script, call by call.
+use Rattle.std.proofs.Common.{◌≡◌, ℕ, suc, zero, Bool, true, false, List, [], ◌∷◌, ◌++◌, replicate, Option, Some, None, refl, ◌&&◌, ◌||◌, is_some}
+use Rattle.oneshot_machine.specs.declared.machine.receiver.ReceiverPos.{ReceiverPos}
+use Rattle.oneshot_machine.specs.declared.machine.receiver.ReceiverStart.{ReceiverStart}
+use Rattle.oneshot_machine.specs.declared.machine.sender.SenderCall.{SenderCall}
+use Rattle.oneshot_machine.specs.declared.machine.sender.SenderPos.{SenderPos}
+use Rattle.oneshot_world.specs.Calls.{Call, Sender_is_closed, Send, Drop_sender, As_inner, Into_inner, Drop_error, Try_recv, Has_message, Is_closed, Drop_receiver, Stray, rest, is_none_left, sender_last, sender_calls, error_last, error_script, receiver_calls}
+use Rattle.oneshot_world.specs.Control.{is_script, stays_sender, ends_sender, stays_error, ends_error, stays_receiver, ends_receiver, is_sender_script, is_error_script, sender_has, receiver_has}
+use Rattle.oneshot_world.specs.State.{sender_position, receiver_position, place_left}
+use Rattle.oneshot_world.specs.World.{opening_place}
+use Rattle.oneshot_world.specs.declared.script.ErrorLast.{ErrorLast}
+use Rattle.oneshot_world.specs.declared.script.ErrorLast.TheVariants as EL
+use Rattle.oneshot_world.specs.declared.script.ReceiverCall.{ReceiverCall}
+use Rattle.oneshot_world.specs.declared.script.ReceiverCall.TheVariants as RC
+use Rattle.oneshot_world.specs.declared.script.ReceiverLast.{ReceiverLast}
+use Rattle.oneshot_world.specs.declared.script.ReceiverLast.TheVariants as RL
+use Rattle.oneshot_world.specs.declared.script.SenderLast.{SenderLast}
+use Rattle.oneshot_world.specs.declared.script.SenderLast.TheVariants as SL
+use Rattle.oneshot_world.specs.declared.state.ReceiverState.{ReceiverState}
+use Rattle.oneshot_world.specs.declared.state.ReceiverState.TheVariants as RS
+use Rattle.oneshot_world.specs.declared.state.SenderState.{SenderState}
+use Rattle.oneshot_world.specs.declared.state.SenderState.TheVariants as SS
+use Rattle.oneshot_world.specs.declared.trace.Place.{Place}
+use Rattle.oneshot_world.specs.declared.trace.Place.TheVariants.{NotSent}
+
+left_of_or : (a : Bool) → (a || false) ≡ true → a ≡ true
+left_of_or true h = refl
+left_of_or false h = h
+
+pub or_left : (a b : Bool) → a ≡ true → (a || b) ≡ true
+or_left true b h = refl
+or_left false b h = cc
+
+pub or_right : (a b : Bool) → b ≡ true → (a || b) ≡ true
+or_right true b h = refl
+or_right false b h = h
+
+-- the message neither comes nor goes
+still_there : (from to : Option Place) → is_some (place_left from to) ≡ is_some from
+still_there None to = refl
+still_there (Some from) None = refl
+still_there (Some from) (Some to) = refl
+
+pub script_stays : (from to : Option Place) (calls : List Call) → is_sender_script from calls ≡ true → is_sender_script (place_left from to) calls ≡ true
+script_stays from to [] h = refl
+script_stays from to (Sender_is_closed ∷ calls) h = or_left _ false (script_stays from to calls (left_of_or _ h))
+script_stays from to (Send ∷ calls) h = rw (still_there from to) h
+script_stays from to (_ ∷ calls) h = h
+
+pub either_stays : (from to : Option Place) (calls : List Call) → (is_sender_script from calls || is_error_script calls) ≡ true → (is_sender_script (place_left from to) calls || is_error_script calls) ≡ true
+either_stays from to calls h =
+    elim (is_sender_script from calls) as (λ b. is_sender_script from calls ≡ b → (b || is_error_script calls) ≡ true → (is_sender_script (place_left from to) calls || is_error_script calls) ≡ true) [
+      | true ↦ λ own h. or_left _ _ (script_stays from to calls own)
+      | false ↦ λ own h. or_right (is_sender_script (place_left from to) calls) _ h
+    ] refl h
+
+pub sender_still_has : (from to : Option Place) (s : SenderState) (calls : List Call) → sender_has from s calls ≡ true → sender_has (place_left from to) s calls ≡ true
+sender_still_has from to SS.Ready calls h = script_stays from to calls h
+sender_still_has from to (SS.At position) calls h = either_stays from to calls h
+sender_still_has from to SS.Failed calls h = h
+sender_still_has from to SS.Ended calls h = h
+
+-- an end that has a position has a script left
+pub sender_has_script : (message : Option Place) (s : SenderState) (call : Option SenderCall) (position : SenderPos) (calls : List Call) → sender_position s call ≡ Some position → sender_has message s calls ≡ true → (is_sender_script message calls || is_error_script calls) ≡ true
+sender_has_script message SS.Ready call position calls at h = or_left _ _ h
+sender_has_script message (SS.At here) call position calls at h = h
+sender_has_script message SS.Failed call position calls at h = or_right (is_sender_script message calls) _ h
+sender_has_script message SS.Ended call position calls at h = cc
+
+pub receiver_has_script : (s : ReceiverState) (call : Option ReceiverStart) (position : ReceiverPos) (calls : List Call) → receiver_position s call ≡ Some position → receiver_has s calls ≡ true → is_script stays_receiver ends_receiver calls ≡ true
+receiver_has_script RS.Ready call position calls at h = h
+receiver_has_script (RS.At here) call position calls at h = h
+receiver_has_script RS.Ended call position calls at h = cc
+
+-- after a call that stays a script is left, and after one that ends nothing
+pub sender_goes_on : (message : Option Place) (calls : List Call) (call : Call) → stays_sender call ≡ true → (is_sender_script message (call ∷ calls) || is_error_script (call ∷ calls)) ≡ true → is_sender_script message calls ≡ true
+sender_goes_on message calls Sender_is_closed stays h = left_of_or _ (left_of_or _ h)
+sender_goes_on message calls _ stays h = cc
+
+pub error_goes_on : (message : Option Place) (calls : List Call) (call : Call) → stays_error call ≡ true → (is_sender_script message (call ∷ calls) || is_error_script (call ∷ calls)) ≡ true → is_error_script calls ≡ true
+error_goes_on message calls As_inner stays h = left_of_or _ h
+error_goes_on message calls _ stays h = cc
+
+pub sender_ends : (message : Option Place) (calls : List Call) (call : Call) → (ends_sender (Some NotSent) call || ends_error call) ≡ true → (is_sender_script message (call ∷ calls) || is_error_script (call ∷ calls)) ≡ true → is_none_left calls ≡ true
+sender_ends None calls Send ends h = cc
+sender_ends (Some place) calls Send ends h = left_of_or _ h
+sender_ends message calls Drop_sender ends h = left_of_or _ h
+sender_ends message calls Into_inner ends h = h
+sender_ends message calls Drop_error ends h = h
+sender_ends message calls _ ends h = cc
+
+none_is_script : (calls : List Call) → is_none_left calls ≡ true → is_script stays_receiver ends_receiver calls ≡ true
+none_is_script [] h = refl
+none_is_script (call ∷ calls) h = cc
+
+pub receiver_goes_on : (calls : List Call) → is_script stays_receiver ends_receiver calls ≡ true → is_script stays_receiver ends_receiver (rest calls) ≡ true
+receiver_goes_on [] h = refl
+receiver_goes_on (Try_recv ∷ calls) h = left_of_or _ h
+receiver_goes_on (Has_message ∷ calls) h = left_of_or _ h
+receiver_goes_on (Is_closed ∷ calls) h = left_of_or _ h
+receiver_goes_on (Drop_receiver ∷ calls) h = none_is_script calls h
+receiver_goes_on (_ ∷ calls) h = cc
+
+pub receiver_ends : (calls : List Call) (call : Call) → ends_receiver call ≡ true → is_script stays_receiver ends_receiver (call ∷ calls) ≡ true → is_none_left calls ≡ true
+receiver_ends calls Drop_receiver ends h = h
+receiver_ends calls _ ends h = cc
+
+-- the calls of a script are a script
+looked : (stays ends : Call → Bool) (call : Call) (n : ℕ) (calls : List Call) → stays call ≡ true → is_script stays ends calls ≡ true → is_script stays ends (replicate n call ++ calls) ≡ true
+looked stays ends call zero calls s h = h
+looked stays ends call (suc n) calls s h = rw s (or_left _ _ (looked stays ends call n calls s h))
+
+pub error_scripted : (looks : ℕ) (last : ErrorLast) → is_error_script (replicate looks As_inner ++ error_last last) ≡ true
+error_scripted looks EL.IntoInner = looked stays_error ends_error As_inner looks (Into_inner ∷ []) refl refl
+error_scripted looks EL.Drop = looked stays_error ends_error As_inner looks (Drop_error ∷ []) refl refl
+error_scripted looks EL.Stop = looked stays_error ends_error As_inner looks [] refl refl
+
+pub sender_scripted : {T : Type 0} (looks : ℕ) (last : SenderLast T) → is_sender_script (opening_place last) (replicate looks Sender_is_closed ++ sender_last last) ≡ true
+sender_scripted looks (SL.Send message error) = looked stays_sender (ends_sender (Some NotSent)) Sender_is_closed looks (Send ∷ []) refl refl
+sender_scripted looks SL.Drop = looked stays_sender (ends_sender None) Sender_is_closed looks (Drop_sender ∷ []) refl refl
+sender_scripted looks SL.Stop = looked stays_sender (ends_sender None) Sender_is_closed looks [] refl refl
+
+pub receiver_scripted : (calls : List ReceiverCall) (last : ReceiverLast) → is_script stays_receiver ends_receiver (receiver_calls calls last) ≡ true
+receiver_scripted [] RL.Drop = refl
+receiver_scripted [] RL.Stop = refl
+receiver_scripted (RC.TryRecv ∷ calls) last = rw (receiver_scripted calls last) refl
+receiver_scripted (RC.HasMessage ∷ calls) last = rw (receiver_scripted calls last) refl
+receiver_scripted (RC.IsClosed ∷ calls) last = rw (receiver_scripted calls last) refl

@@ -1,0 +1,33 @@
+-- A step by a row, put together from its parts.
+use Rattle.std.proofs.Common.{◌≡◌, Bool, true, false, Option, Some, None, refl, sym, ap, is_some, if◌then◌else◌}
+use Rattle.std.specs.Option.{option_map, IsSome}
+use Rattle.oneshot_machine.specs.Receiver.{receiver_step, receiver_row}
+use Rattle.oneshot_machine.specs.Rows.{Outcome, outcome}
+use Rattle.oneshot_machine.specs.Sender.{sender_step, sender_row}
+use Rattle.oneshot_machine.specs.declared.machine.End.TheVariants.{Sender, Receiver}
+use Rattle.oneshot_machine.specs.declared.machine.Reply.{Reply}
+use Rattle.oneshot_machine.specs.declared.machine.Step.{Step}
+use Rattle.oneshot_machine.specs.declared.machine.receiver.ReceiverPos.{ReceiverPos}
+use Rattle.oneshot_machine.specs.declared.machine.sender.SenderPos.{SenderPos}
+use Rattle.oneshot_world.specs.State.{made, moved, seen_by, sender_fits, receiver_fits, sender_puts, receiver_puts, sender_goes, receiver_goes, sender_stepped, receiver_stepped, sender_steps, receiver_steps}
+use Rattle.oneshot_world.specs.declared.state.State.{State}
+use Rattle.oneshot_world.specs.declared.trace.Made.{Made}
+
+made_where_it_fits : {P : Type 0} (fits : Bool) (f : P → Made × State) (row : Option P) (r : P) → IsSome (if fits then option_map f row else None) → row ≡ Some r → (if fits then option_map f row else None) ≡ Some (f r)
+made_where_it_fits true f row r there at = rw at refl
+made_where_it_fits false f row r there at = cc
+
+-- the sender's step, by the row that `next` gives
+pub sender_made_of : (s : State) (position : SenderPos) (n : SenderPos × Option Reply) → IsSome (sender_steps s position) → sender_row position (seen_by s.word (sender_step position)) ≡ Some (outcome n) → sender_steps s position ≡ Some (made Sender s (sender_step position) n.1 (sender_puts (sender_step position) n.1), record (moved s (sender_step position) (sender_puts (sender_step position) n.1)) { sender = sender_goes (sender_step position) (outcome n) })
+sender_made_of s position (next, None) there at =
+    made_where_it_fits (sender_fits s.message (sender_step position)) (sender_stepped s (sender_step position)) (sender_row position (seen_by s.word (sender_step position))) (outcome (next, None)) there at
+sender_made_of s position (next, Some reply) there at =
+    made_where_it_fits (sender_fits s.message (sender_step position)) (sender_stepped s (sender_step position)) (sender_row position (seen_by s.word (sender_step position))) (outcome (next, Some reply)) there at
+
+
+-- the receiver's
+pub receiver_made_of : (s : State) (position : ReceiverPos) (n : ReceiverPos × Option Reply) → IsSome (receiver_steps s position) → receiver_row position (seen_by s.word (receiver_step position)) ≡ Some (outcome n) → receiver_steps s position ≡ Some (made Receiver s (receiver_step position) n.1 (receiver_puts (receiver_step position)), record (moved s (receiver_step position) (receiver_puts (receiver_step position))) { receiver = receiver_goes (outcome n) })
+receiver_made_of s position (next, None) there at =
+    made_where_it_fits (receiver_fits s.message (receiver_step position)) (receiver_stepped s (receiver_step position)) (receiver_row position (seen_by s.word (receiver_step position))) (outcome (next, None)) there at
+receiver_made_of s position (next, Some reply) there at =
+    made_where_it_fits (receiver_fits s.message (receiver_step position)) (receiver_stepped s (receiver_step position)) (receiver_row position (seen_by s.word (receiver_step position))) (outcome (next, Some reply)) there at

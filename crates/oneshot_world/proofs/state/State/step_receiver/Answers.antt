@@ -1,0 +1,13 @@
+-- The step is the one of the row that `next` gives.
+use Rattle.std.proofs.Common.{◌≡◌, Some}
+use Rattle.oneshot_machine.specs.Receiver.{receiver_step, receiver_row}
+use Rattle.oneshot_machine.specs.Rows.{outcome}
+use Rattle.oneshot_world.specs.State.{seen_by}
+use Rattle.oneshot_world.proofs.Stepped.{receiver_made_of}
+use Rattle.oneshot_world.proofs.state.State.step_receiver.Goals as goal
+
+pub returns : goal.returns
+returns c =
+    let row : receiver_row c.args.position (seen_by c.args.self.now.word (receiver_step c.args.position)) ≡ Some (outcome c.next-next.result) = cc in
+    rw (c.receiver_goes-self.ensures, c.make-made.ensures.tells, c.make-made.ensures.moves, c.receiver_puts.ensures, c.step-step.ensures)
+      (receiver_made_of c.args.self.now c.args.position c.next-next.result c.requires.row row)
