@@ -7,11 +7,13 @@ use Rattle.oneshot_laws.specs.Object.{Content, Open, Full, Closed}
 use Rattle.oneshot_laws.specs.Words.{reply_code, is_same_reply}
 
 abbrev replies : List Reply
-replies = R.Sent ∷ R.Refused ∷ R.Message ∷ R.Empty ∷ R.Disconnected ∷ R.Done ∷ []
+replies = R.Sent ∷ R.Refused ∷ R.Yes ∷ R.No ∷ R.Message ∷ R.Empty ∷ R.Disconnected ∷ R.Done ∷ []
 
 reply_back : (x : Reply) → get_or replies (reply_code x) R.Done ≡ x
 reply_back R.Sent = refl
 reply_back R.Refused = refl
+reply_back R.Yes = refl
+reply_back R.No = refl
 reply_back R.Message = refl
 reply_back R.Empty = refl
 reply_back R.Disconnected = refl
@@ -24,18 +26,22 @@ abbrev pub answer_code : Option Reply → ℕ
 answer_code None = 0
 answer_code (Some R.Sent) = 1
 answer_code (Some R.Refused) = 2
-answer_code (Some R.Message) = 3
-answer_code (Some R.Empty) = 4
-answer_code (Some R.Disconnected) = 5
-answer_code (Some R.Done) = 6
+answer_code (Some R.Yes) = 3
+answer_code (Some R.No) = 4
+answer_code (Some R.Message) = 5
+answer_code (Some R.Empty) = 6
+answer_code (Some R.Disconnected) = 7
+answer_code (Some R.Done) = 8
 
 abbrev answers : List (Option Reply)
-answers = None ∷ Some R.Sent ∷ Some R.Refused ∷ Some R.Message ∷ Some R.Empty ∷ Some R.Disconnected ∷ Some R.Done ∷ []
+answers = None ∷ Some R.Sent ∷ Some R.Refused ∷ Some R.Yes ∷ Some R.No ∷ Some R.Message ∷ Some R.Empty ∷ Some R.Disconnected ∷ Some R.Done ∷ []
 
 answer_back : (x : Option Reply) → get_or answers (answer_code x) None ≡ x
 answer_back None = refl
 answer_back (Some R.Sent) = refl
 answer_back (Some R.Refused) = refl
+answer_back (Some R.Yes) = refl
+answer_back (Some R.No) = refl
 answer_back (Some R.Message) = refl
 answer_back (Some R.Empty) = refl
 answer_back (Some R.Disconnected) = refl

@@ -5,7 +5,7 @@ use Rattle.oneshot_machine.specs.Receiver.{receiver_step}
 use Rattle.oneshot_machine.specs.Sender.{sender_step}
 use Rattle.oneshot_machine.specs.declared.machine.End.{End}
 use Rattle.oneshot_machine.specs.declared.machine.End.TheVariants.{Sender, Receiver}
-use Rattle.oneshot_world.specs.Calls.{Call, Send, Drop_sender, Try_recv, Drop_receiver, Stray, calls_of, first, is_none_left, left_by, as_sender_call, as_receiver_call}
+use Rattle.oneshot_world.specs.Calls.{Call, Sender_is_closed, Send, Drop_sender, As_inner, Into_inner, Drop_error, Try_recv, Has_message, Is_closed, Drop_receiver, Stray, calls_of, first, is_none_left, left_by, as_sender_call, as_receiver_call}
 use Rattle.oneshot_world.specs.Control.{sender_has, receiver_has, IsReached}
 use Rattle.oneshot_world.specs.State.{sender_position, receiver_position, reply_of}
 use Rattle.oneshot_world.specs.World.{World, Tells, opening, side_of}
@@ -27,22 +27,25 @@ use Rattle.oneshot_laws.specs.Marks.{Reading, sender_reading, receiver_reading}
 -- an end without a position has no call left
 sender_none : (message : Option Place) (s : SenderState) (calls : List Call) → sender_has message s calls ≡ true → sender_position s (option_and_then as_sender_call (first calls)) ≡ None → is_none_left calls ≡ true
 sender_none message SS.Ready [] h at = refl
+sender_none message SS.Ready (Sender_is_closed ∷ calls) h at = cc
 sender_none message SS.Ready (Send ∷ calls) h at = cc
 sender_none message SS.Ready (Drop_sender ∷ calls) h at = cc
-sender_none message SS.Ready (Try_recv ∷ calls) h at = cc
-sender_none message SS.Ready (Drop_receiver ∷ calls) h at = cc
-sender_none message SS.Ready (Stray ∷ calls) h at = cc
+sender_none message SS.Ready (_ ∷ calls) h at = cc
 sender_none message (SS.At position) calls h at = cc
-sender_none message SS.Failed calls h at = h
+sender_none message SS.Failed [] h at = refl
+sender_none message SS.Failed (As_inner ∷ calls) h at = cc
+sender_none message SS.Failed (Into_inner ∷ calls) h at = cc
+sender_none message SS.Failed (Drop_error ∷ calls) h at = cc
+sender_none message SS.Failed (_ ∷ calls) h at = cc
 sender_none message SS.Ended calls h at = h
 
 receiver_none : (s : ReceiverState) (calls : List Call) → receiver_has s calls ≡ true → receiver_position s (option_and_then as_receiver_call (first calls)) ≡ None → is_none_left calls ≡ true
 receiver_none RS.Ready [] h at = refl
-receiver_none RS.Ready (Send ∷ calls) h at = cc
-receiver_none RS.Ready (Drop_sender ∷ calls) h at = cc
 receiver_none RS.Ready (Try_recv ∷ calls) h at = cc
+receiver_none RS.Ready (Has_message ∷ calls) h at = cc
+receiver_none RS.Ready (Is_closed ∷ calls) h at = cc
 receiver_none RS.Ready (Drop_receiver ∷ calls) h at = cc
-receiver_none RS.Ready (Stray ∷ calls) h at = cc
+receiver_none RS.Ready (_ ∷ calls) h at = cc
 receiver_none (RS.At position) calls h at = cc
 receiver_none RS.Ended calls h at = h
 
@@ -71,4 +74,4 @@ idles (entry ∷ entries) w s r (next ∷ worlds) [] se re h told = elim told [ 
 
 pub idle_run : {T : Type 0} (s : SenderScript T) (r : ReceiverScript) (worlds : List World) (moves : List Move) (entries : List Entry) → Tells (opening s r) worlds moves entries → is_idle_right (calls_of s r) entries ≡ true
 idle_run s r worlds moves entries told =
-    idles entries (opening s r) (sender_reading (calls_of s r)) (receiver_reading (calls_of s r)) worlds moves refl refl (opening_reached s.last r) told
+    idles entries (opening s r) (sender_reading (calls_of s r)) (receiver_reading (calls_of s r)) worlds moves refl refl (opening_reached s r) told

@@ -3,50 +3,48 @@ use Rattle.std.proofs.Common.{◌≡◌, ℕ, ◌+◌, ◌*◌, Bool, true, fals
 use Rattle.oneshot_machine.specs.declared.machine.End.{End}
 use Rattle.oneshot_machine.specs.declared.machine.End.TheVariants.{Sender, Receiver}
 use Rattle.oneshot_machine.specs.declared.machine.Reply.{Reply}
-use Rattle.oneshot_world.specs.Calls.{Call, Send, Drop_sender, Try_recv, Drop_receiver, Stray}
+use Rattle.oneshot_world.specs.Calls.{Call, Sender_is_closed, Send, Drop_sender, As_inner, Into_inner, Drop_error, Try_recv, Has_message, Is_closed, Drop_receiver, Stray}
 use Rattle.oneshot_world.specs.Control.{bool_code}
 use Rattle.oneshot_world.specs.declared.trace.Made.{Made}
 use Rattle.oneshot_world.proofs.Bools.{and_left, and_right}
 use Rattle.oneshot_world.proofs.Coded.{bool_is}
 use Rattle.oneshot_laws.specs.Words.{is_same_reply, says_nothing_yet}
 use Rattle.oneshot_laws.specs.Object.{Object, Content, new_object, is_open}
-use Rattle.oneshot_laws.specs.Steps.{action_of, nothing_yet_of, reply_on, stepped}
-use Rattle.oneshot_laws.specs.Marks.{Rule, First, Never, rule, receive_rule, finishes, swaps_closed_in, works_on_word, finds_full_or_closed, until_reply}
+use Rattle.oneshot_laws.specs.Steps.{action_of, nothing_yet_of, reply_on, stepped, fixed_reply_of}
+use Rattle.oneshot_laws.specs.Marks.{loads, finishes, swaps_closed_in, works_on_word, finds_full_or_closed, until_reply}
+use Rattle.oneshot_laws.specs.History.{agrees}
 use Rattle.oneshot_laws.proofs.Codes.{content_code, content_is, answer_code, answer_is}
 
--- how a call acts: at its first entry that passes a test, as a receive does, or never
+-- how a call acts: at its first entry that passes a test, as a receive does, or never, with a reply that is always the same
 pub data Kind : Type 0 where
   Acts_first : (test : Made → Bool) → Kind
   Receives : Kind
-  Never_acts : Kind
+  Answers_always : Kind
+  Is_none : Kind
 
 abbrev pub kind : Call → Kind
+kind Sender_is_closed = Acts_first loads
 kind Send = Acts_first finishes
 kind Drop_sender = Acts_first finishes
+kind As_inner = Answers_always
+kind Into_inner = Answers_always
+kind Drop_error = Answers_always
 kind Try_recv = Receives
+kind Has_message = Acts_first loads
+kind Is_closed = Acts_first loads
 kind Drop_receiver = Acts_first swaps_closed_in
-kind Stray = Never_acts
-
-abbrev pub rule_of : Kind → Option Reply → Rule
-rule_of (Acts_first test) answer = First test
-rule_of Receives answer = receive_rule answer
-rule_of Never_acts answer = Never
-
-pub rule_is : (call : Call) (answer : Option Reply) → rule call answer ≡ rule_of (kind call) answer
-rule_is Send answer = refl
-rule_is Drop_sender answer = refl
-rule_is Try_recv answer = refl
-rule_is Drop_receiver answer = refl
-rule_is Stray answer = refl
+kind Stray = Is_none
 
 -- the entry at which a call acts that does not answer "nothing yet"
 abbrev pub hit : Kind → Made → Bool
 hit (Acts_first test) e = test e
 hit Receives e = finds_full_or_closed e
-hit Never_acts e = false
+hit Answers_always e = false
+hit Is_none e = false
 
--- an end's call under way: what it owes since it acted, and whether it has worked on the word
+-- an end's call under way: whether it has begun, what it owes since it acted, and whether it has worked on the word
 pub record Watch : Type 0 where
+  pub begun : Bool
   pub owes : Option Reply
   pub worked : Bool
 
@@ -81,6 +79,7 @@ object_by call e o x = object_if (hits (kind call) e x) call o
 abbrev pub watch_then : Call → Made → Object → Watch → Watch
 watch_then call e o x =
     record {
+      begun = until_reply e.reply true false;
       owes = until_reply e.reply (owes_then call e o x) None;
       worked = until_reply e.reply (x.worked || works_on_word e) false;
     }
@@ -112,11 +111,12 @@ has_reply true expected = is_some expected
 has_reply false expected = true
 
 abbrev pub accepts_as : Kind → Call → Made → Object → Watch → Bool
-accepts_as (Acts_first test) call e o x = pays (owes_then call e o x) e.reply
+accepts_as (Acts_first test) call e o x = pays (owed (test e) x.owes (due call o)) e.reply
 accepts_as Receives call e o x =
-    pays_receive call (x.worked || works_on_word e) (owes_then call e o x) e.reply
-    && may_owe (works_on_word e) o.content (owes_then call e o x)
-accepts_as Never_acts call e o x = false
+    pays_receive call (x.worked || works_on_word e) (owed (finds_full_or_closed e) x.owes (due call o)) e.reply
+    && may_owe (works_on_word e) o.content (owed (finds_full_or_closed e) x.owes (due call o))
+accepts_as Answers_always call e o x = not (is_some x.owes) && agrees e.reply (fixed_reply_of call)
+accepts_as Is_none call e o x = false
 
 abbrev pub accepts_call : Call → Made → Object → Watch → Bool
 accepts_call call e o x = has_reply (hits (kind call) e x) (due call o) && accepts_as (kind call) call e o x
@@ -143,20 +143,20 @@ reads Receiver call e m =
     }
 
 abbrev pub new_watch : Watch
-new_watch = record { owes = None; worked = false }
+new_watch = record { begun = false; owes = None; worked = false }
 
 abbrev pub new_reader : Reader
 new_reader = record { object = new_object; sender = new_watch; receiver = new_watch }
 
 -- two readers are told apart by codes
 abbrev pub watch_code : Watch → ℕ
-watch_code x = answer_code x.owes * 2 + bool_code x.worked
+watch_code x = (answer_code x.owes * 2 + bool_code x.worked) * 2 + bool_code x.begun
 
 abbrev pub object_code : Object → ℕ
 object_code o = (content_code o.content * 2 + bool_code o.sender_here) * 2 + bool_code o.receiver_here
 
 abbrev pub reader_code : Reader → ℕ
-reader_code m = (object_code m.object * 16 + watch_code m.sender) * 16 + watch_code m.receiver
+reader_code m = (object_code m.object * 64 + watch_code m.sender) * 64 + watch_code m.receiver
 
 abbrev pub is_same_object : Object → Object → Bool
 is_same_object o p =
@@ -164,7 +164,9 @@ is_same_object o p =
     && (bool_code o.sender_here == bool_code p.sender_here && bool_code o.receiver_here == bool_code p.receiver_here)
 
 abbrev pub is_same_watch : Watch → Watch → Bool
-is_same_watch x y = answer_code x.owes == answer_code y.owes && bool_code x.worked == bool_code y.worked
+is_same_watch x y =
+    bool_code x.begun == bool_code y.begun
+    && (answer_code x.owes == answer_code y.owes && bool_code x.worked == bool_code y.worked)
 
 abbrev pub is_same_reader : Reader → Reader → Bool
 is_same_reader m n =
@@ -177,10 +179,10 @@ object_parts : (o : Object) → object_with o.content o.sender_here o.receiver_h
 unfolding object_with
 object_parts o = refl
 
-watch_with : Option Reply → Bool → Watch
-watch_with o w = record { owes = o; worked = w }
+watch_with : Bool → Option Reply → Bool → Watch
+watch_with b o w = record { begun = b; owes = o; worked = w }
 
-watch_parts : (x : Watch) → watch_with x.owes x.worked ≡ x
+watch_parts : (x : Watch) → watch_with x.begun x.owes x.worked ≡ x
 unfolding watch_with
 watch_parts x = refl
 
@@ -201,8 +203,10 @@ object_is o p h =
 
 watch_is : (x y : Watch) → is_same_watch x y ≡ true → x ≡ y
 watch_is x y h =
-    let o : x.owes ≡ y.owes = answer_is x.owes y.owes (and_left _ _ h) in
-    let w : x.worked ≡ y.worked = bool_is x.worked y.worked (and_right _ _ h) in
+    let h1 = and_right _ _ h in
+    let b : x.begun ≡ y.begun = bool_is x.begun y.begun (and_left _ _ h) in
+    let o : x.owes ≡ y.owes = answer_is x.owes y.owes (and_left _ _ h1) in
+    let w : x.worked ≡ y.worked = bool_is x.worked y.worked (and_right _ _ h1) in
     cc (watch_parts x, watch_parts y)
 
 pub reader_is : (m n : Reader) → is_same_reader m n ≡ true → m ≡ n

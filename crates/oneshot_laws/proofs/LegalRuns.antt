@@ -15,34 +15,43 @@ use Rattle.oneshot_world.proofs.Reached.{opening_reached}
 use Rattle.oneshot_laws.specs.Marks.{marks, sender_reading, receiver_reading, call_under_way}
 use Rattle.oneshot_laws.specs.History.{has_legal_history}
 use Rattle.oneshot_laws.proofs.LegalReader.{Reader, new_reader, new_watch, accepts, reads, reader_code, is_same_reader, reader_is}
-use Rattle.oneshot_laws.proofs.Legal.{FollowsAt, legal}
+use Rattle.oneshot_laws.proofs.Legal.{FollowsAt, MarksRight, glances, all_right, legal}
+use Rattle.oneshot_laws.proofs.Owes.{Accepted}
 use Rattle.oneshot_laws.proofs.Watched.{Watched, watched_from, is_watched_in, all_pass_on, accepted}
 
 found : Tree (Watched Reader)
-found = watched_from 4096 reader_code is_same_reader accepts reads new_reader
+found = watched_from 65536 reader_code is_same_reader accepts reads new_reader
 
-all_found : all_pass_on 4096 reader_code is_same_reader accepts reads found ≡ true
+all_found : all_pass_on 65536 reader_code is_same_reader accepts reads found ≡ true
 unfolding found
 all_found = refl
 
-nothing_sent : is_watched_in 4096 reader_code is_same_reader accepts reads found (record { control = opening_control None; reader = new_reader }) ≡ true
+nothing_sent : is_watched_in 65536 reader_code is_same_reader accepts reads found (record { control = opening_control None; reader = new_reader }) ≡ true
 unfolding found
 nothing_sent = refl
 
-message_there : is_watched_in 4096 reader_code is_same_reader accepts reads found (record { control = opening_control (Some NotSent); reader = new_reader }) ≡ true
+message_there : is_watched_in 65536 reader_code is_same_reader accepts reads found (record { control = opening_control (Some NotSent); reader = new_reader }) ≡ true
 unfolding found
 message_there = refl
 
-opening_found : {T : Type 0} (last : SenderLast T) → is_watched_in 4096 reader_code is_same_reader accepts reads found (record { control = opening_control (opening_place last); reader = new_reader }) ≡ true
+opening_found : {T : Type 0} (last : SenderLast T) → is_watched_in 65536 reader_code is_same_reader accepts reads found (record { control = opening_control (opening_place last); reader = new_reader }) ≡ true
 opening_found (SL.Send message error) = message_there
 opening_found SL.Drop = nothing_sent
 opening_found SL.Stop = nothing_sent
 
 new_follows : (left : Unanswered) → FollowsAt (call_under_way left) new_watch []
-new_follows left = record { acted = refl; worked = refl }
+new_follows left = record { begun = refl; acted = refl; worked = refl }
+
+run_accepted : {T : Type 0} (s : SenderScript T) (r : ReceiverScript) (worlds : List World) (moves : List Move) (entries : List Entry) → Tells (opening s r) worlds moves entries → Accepted new_reader (opening s r).sender (opening s r).receiver entries
+run_accepted s r worlds moves entries told =
+    accepted 65536 reader_code is_same_reader accepts reads reader_is found all_found entries (opening s r) new_reader worlds moves (opening_reached s r) (opening_found s.last) told
+
+-- the marks of a run are right, and the other laws see what the reader sees
+pub marks_run : {T : Type 0} (s : SenderScript T) (r : ReceiverScript) (worlds : List World) (moves : List Move) (entries : List Entry) → Tells (opening s r) worlds moves entries → MarksRight (marks (calls_of s r) entries) (glances new_reader (opening s r).sender (opening s r).receiver entries)
+marks_run s r worlds moves entries told =
+    all_right entries new_reader (sender_reading (calls_of s r)) (receiver_reading (calls_of s r)) 1
+      (record { sender = new_follows (opening s r).sender; receiver = new_follows (opening s r).receiver })
+      (run_accepted s r worlds moves entries told)
 
 pub legal_run : {T : Type 0} (s : SenderScript T) (r : ReceiverScript) (worlds : List World) (moves : List Move) (entries : List Entry) → Tells (opening s r) worlds moves entries → has_legal_history (marks (calls_of s r) entries) ≡ true
-legal_run s r worlds moves entries told =
-    legal entries new_reader (sender_reading (calls_of s r)) (receiver_reading (calls_of s r)) 1
-    (record { sender = new_follows (opening s r).sender; receiver = new_follows (opening s r).receiver })
-    (accepted 4096 reader_code is_same_reader accepts reads reader_is found all_found entries (opening s r) new_reader worlds moves (opening_reached s.last r) (opening_found s.last) told)
+legal_run s r worlds moves entries told = legal (marks (calls_of s r) entries) (marks_run s r worlds moves entries told).0

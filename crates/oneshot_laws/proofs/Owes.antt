@@ -1,5 +1,5 @@
 -- What a call owes since it acted is what it answers, if it answers; and a receive that owes nothing says "nothing yet" in its own word.
-use Rattle.std.proofs.Common.{◌≡◌, Bool, true, false, not, ◌&&◌, ◌||◌, List, [], ◌∷◌, Option, Some, None, refl, ◌∙◌, ap, subst}
+use Rattle.std.proofs.Common.{◌≡◌, Bool, true, false, not, ◌&&◌, ◌||◌, List, [], ◌∷◌, Option, Some, None, is_some, refl, ◌∙◌, ap, subst}
 use Rattle.oneshot_machine.specs.declared.machine.End.{End}
 use Rattle.oneshot_machine.specs.declared.machine.End.TheVariants.{Sender, Receiver}
 use Rattle.oneshot_machine.specs.declared.machine.Reply.{Reply}
@@ -12,14 +12,14 @@ use Rattle.oneshot_world.proofs.Bools.{and_left, and_right}
 use Rattle.oneshot_laws.specs.Words.{is_same_end, says_nothing_yet, is_nothing_yet}
 use Rattle.oneshot_laws.specs.Object.{Object, Content}
 use Rattle.oneshot_laws.specs.Steps.{nothing_yet_of}
-use Rattle.oneshot_laws.specs.Marks.{until_reply, to_reply, reply_among, call_under_way, works_on_word}
+use Rattle.oneshot_laws.specs.Marks.{until_reply, to_reply, reply_among, call_under_way, works_on_word, finds_full_or_closed}
 use Rattle.oneshot_laws.specs.History.{agrees}
 use Rattle.oneshot_laws.proofs.Codes.{reply_is}
-use Rattle.oneshot_laws.proofs.LegalReader.{Kind, Acts_first, Receives, Never_acts, kind, Watch, Reader, due, owes_then, watch_at, pays, may_say, pays_receive, may_owe, has_reply, accepts_as, accepts_call, accepts, reads, reader_code, is_same_reader, hits}
+use Rattle.oneshot_laws.proofs.LegalReader.{Kind, Acts_first, Receives, Answers_always, Is_none, kind, Watch, Reader, due, hit, owed, owes_then, watch_at, watch_then, pays, may_say, pays_receive, may_owe, has_reply, accepts_as, accepts_call, accepts, reads, reader_code, is_same_reader, hits}
 use Rattle.oneshot_laws.proofs.Watched.{Accepts, left_after}
 
 abbrev pub Accepted : Reader → Unanswered → Unanswered → List Entry → Type 0
-Accepted m s r entries = Accepts 4096 reader_code is_same_reader accepts reads m s r entries
+Accepted m s r entries = Accepts 65536 reader_code is_same_reader accepts reads m s r entries
 
 -- an entry of this end is accepted, and so are those after it
 abbrev pub Goes_on : End → Made → List Entry → Reader → Unanswered → Unanswered → Type 0
@@ -39,10 +39,15 @@ pays_receive_agrees : (call : Call) (worked : Bool) (y : Reply) (a : Option Repl
 pays_receive_agrees call worked y None h = refl
 pays_receive_agrees call worked y (Some r) h = h
 
-pays_as : (k : Kind) (call : Call) (e : Made) (o : Object) (x : Watch) (y : Reply) → owes_then call e o x ≡ Some y → accepts_as k call e o x ≡ true → agrees e.reply (Some y) ≡ true
+nothing_owed : (owes expected : Option Reply) (y : Reply) (b : Bool) → owed false owes expected ≡ Some y → (not (is_some owes) && b) ≡ true → ⊥
+nothing_owed None expected y b h k = cc
+nothing_owed (Some z) expected y b h k = cc
+
+pays_as : (k : Kind) (call : Call) (e : Made) (o : Object) (x : Watch) (y : Reply) → owed (hit k e) x.owes (due call o) ≡ Some y → accepts_as k call e o x ≡ true → agrees e.reply (Some y) ≡ true
 pays_as (Acts_first test) call e o x y h k = pays_agrees y e.reply (rw h at k)
-pays_as Receives call e o x y h k = pays_receive_agrees call (x.worked || works_on_word e) y e.reply (rw h at (and_left (pays_receive call (x.worked || works_on_word e) (owes_then call e o x) e.reply) _ k))
-pays_as Never_acts call e o x y h k = cc
+pays_as Receives call e o x y h k = pays_receive_agrees call (x.worked || works_on_word e) y e.reply (rw h at (and_left (pays_receive call (x.worked || works_on_word e) (owed (finds_full_or_closed e) x.owes (due call o)) e.reply) _ k))
+pays_as Answers_always call e o x y h k = absurd (nothing_owed x.owes (due call o) y _ h k)
+pays_as Is_none call e o x y h k = cc
 
 pays_now : (call : Call) (e : Made) (o : Object) (x : Watch) (y : Reply) → owes_then call e o x ≡ Some y → accepts_call call e o x ≡ true → agrees e.reply (Some y) ≡ true
 pays_now call e o x y h k = pays_as (kind call) call e o x y h (and_right (has_reply (hits (kind call) e x) (due call o)) _ k)
@@ -104,7 +109,8 @@ says_own call worked (Some y) works c r h fine says =
 says_now : (k : Kind) (call : Call) (e : Made) (o : Object) (x : Watch) (r : Reply) → k ≡ Receives → e.reply ≡ Some r → accepts_as k call e o x ≡ true → says_nothing_yet r ≡ true → agrees (Some r) (nothing_yet_of call) ≡ true
 says_now k call e o x r is at h says =
     let both = rw is at h in
-    says_own call (x.worked || works_on_word e) (owes_then call e o x) (works_on_word e) o.content r (subst (λ a. pays_receive call (x.worked || works_on_word e) (owes_then call e o x) a ≡ true) at (and_left (pays_receive call (x.worked || works_on_word e) (owes_then call e o x) e.reply) _ both)) (and_right (pays_receive call (x.worked || works_on_word e) (owes_then call e o x) e.reply) _ both) says
+    let owes : Option Reply = owed (finds_full_or_closed e) x.owes (due call o) in
+    says_own call (x.worked || works_on_word e) owes (works_on_word e) o.content r (subst (λ a. pays_receive call (x.worked || works_on_word e) owes a ≡ true) at (and_left (pays_receive call (x.worked || works_on_word e) owes e.reply) _ both)) (and_right (pays_receive call (x.worked || works_on_word e) owes e.reply) _ both) says
 
 said : (call : Call) (a : Option Reply) (later : List Made) → ((r : Reply) → a ≡ Some r → says_nothing_yet r ≡ true → agrees (Some r) (nothing_yet_of call) ≡ true) → (a ≡ None → is_nothing_yet (reply_among later) ≡ true → agrees (reply_among later) (nothing_yet_of call) ≡ true) → is_nothing_yet (until_reply a (reply_among (until_reply a later [])) a) ≡ true → agrees (until_reply a (reply_among (until_reply a later [])) a) (nothing_yet_of call) ≡ true
 said call None later now after h = after refl h

@@ -2,9 +2,9 @@
 use Rattle.std.specs.Prelude.{Bool, true, false, not, ◌&&◌, List, Option, Some, None, is_some, filter}
 use Rattle.std.specs.List.{list_all}
 use Rattle.oneshot_machine.specs.declared.machine.Reply.{Reply}
-use Rattle.oneshot_world.specs.Calls.{Call, Send, Drop_sender, Try_recv, Drop_receiver, Stray}
+use Rattle.oneshot_world.specs.Calls.{Call}
 use Rattle.oneshot_laws.specs.Words.{only_if, is_same_reply}
-use Rattle.oneshot_laws.specs.Steps.{action_of, reply_on}
+use Rattle.oneshot_laws.specs.Steps.{action_of, reply_on, fixed_reply_of, is_stray}
 use Rattle.oneshot_laws.specs.Marks.{Mark, ends}
 
 -- the calls in the order of their acting entries, with those that have acted and not answered
@@ -24,13 +24,6 @@ object_reply m = reply_on m.call m.object (action_of m.call)
 abbrev pub is_object_step : Call → Bool
 is_object_step call = is_some (action_of call)
 
-abbrev pub is_stray : Call → Bool
-is_stray Send = false
-is_stray Drop_sender = false
-is_stray Try_recv = false
-is_stray Drop_receiver = false
-is_stray Stray = true
-
 -- every answered call of the history has the reply that the object gives at its place
 abbrev pub is_legal : List Mark → Bool
 is_legal ms = list_all (λ m. agrees m.answer (object_reply m)) (history ms)
@@ -39,9 +32,14 @@ is_legal ms = list_all (λ m. agrees m.answer (object_reply m)) (history ms)
 abbrev pub is_complete : List Mark → Bool
 is_complete ms = list_all (λ m. only_if (ends m && is_object_step m.call) m.acted) ms
 
+-- the other calls answer as they always do
+abbrev pub is_right_outside : List Mark → Bool
+is_right_outside ms =
+    list_all (λ m. only_if (not (is_object_step m.call) && not (is_stray m.call)) (agrees m.entry.reply (fixed_reply_of m.call))) ms
+
 -- every step belongs to a call of the scripts
 abbrev pub is_covered : List Mark → Bool
 is_covered ms = list_all (λ m. not (is_stray m.call)) ms
 
 abbrev pub has_legal_history : List Mark → Bool
-has_legal_history ms = is_legal ms && is_complete ms && is_covered ms
+has_legal_history ms = is_legal ms && is_complete ms && is_right_outside ms && is_covered ms

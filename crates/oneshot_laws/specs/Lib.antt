@@ -4,6 +4,11 @@ pub mod Steps
 pub mod Marks
 pub mod History
 pub mod Idle
+pub mod Ended
+pub mod Places
+pub mod Holders
+pub mod Laws
+pub mod Alone
 pub mod Notation
 pub mod Traces
 pub mod Examples

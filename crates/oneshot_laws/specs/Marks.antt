@@ -3,20 +3,23 @@ use Rattle.std.specs.Prelude.{ℕ, ◌+◌, Bool, true, false, not, ◌&&◌, �
 use Rattle.std.specs.List.{list_any}
 use Rattle.oneshot_machine.specs.declared.machine.End.{End}
 use Rattle.oneshot_machine.specs.declared.machine.Reply.{Reply}
-use Rattle.oneshot_world.specs.Calls.{Call, Send, Drop_sender, Try_recv, Drop_receiver, Stray, Calls, Unanswered, first, is_none_left, left_by}
+use Rattle.oneshot_world.specs.Calls.{Call, Sender_is_closed, Send, Drop_sender, As_inner, Into_inner, Drop_error, Try_recv, Has_message, Is_closed, Drop_receiver, Stray, Calls, Unanswered, first, is_none_left, left_by}
 use Rattle.oneshot_world.specs.World.{by_end}
 use Rattle.oneshot_world.specs.declared.trace.Entry.{Entry}
 use Rattle.oneshot_world.specs.declared.trace.Entry.TheVariants.{Idle, Made as Made_entry}
 use Rattle.oneshot_world.specs.declared.trace.Made.{Made}
-use Rattle.oneshot_laws.specs.Words.{is_same_end, is_nothing_yet, is_word, is_add_or_xor, is_swap, is_swap_of, found}
+use Rattle.oneshot_laws.specs.Words.{is_same_end, is_nothing_yet, is_word, is_load, is_add_or_xor, is_swap, is_swap_of, found}
 use Rattle.oneshot_laws.specs.Object.{Object, new_object}
 use Rattle.oneshot_laws.specs.Steps.{action_of, stepped}
 
--- The acting entry of a call is the first, or the last, of its entries that pass a test; what belongs to no call never acts.
+-- The acting entry of a call is the first, or the last, of its entries that pass a test; a call that is no step of the object has none.
 pub data Rule : Type 0 where
   First : (test : Made → Bool) → Rule
   Last : (test : Made → Bool) → Rule
   Never : Rule
+
+abbrev pub loads : Made → Bool
+loads e = is_load e.step
 
 -- an add or a flip that found 3 or 2, or else the final swap: the call's only one
 abbrev pub finishes : Made → Bool
@@ -37,9 +40,15 @@ receive_rule answer = elim (is_nothing_yet answer) [ true ↦ Last works_on_word
 
 -- by the call, and its answer if the trace has it
 abbrev pub rule : Call → Option Reply → Rule
+rule Sender_is_closed answer = First loads
 rule Send answer = First finishes
 rule Drop_sender answer = First finishes
+rule As_inner answer = Never
+rule Into_inner answer = Never
+rule Drop_error answer = Never
 rule Try_recv answer = receive_rule answer
+rule Has_message answer = First loads
+rule Is_closed answer = First loads
 rule Drop_receiver answer = First swaps_closed_in
 rule Stray answer = Never
 
@@ -156,3 +165,25 @@ marks c entries = marks_from (sender_reading c) (receiver_reading c) 1 new_objec
 -- whether an entry answers its call
 abbrev pub ends : Mark → Bool
 ends m = is_some m.entry.reply
+
+abbrev pub side : Mark → End
+side m = m.entry.side
+
+-- the marks of the call that an end has under way or begins next, up to its answer
+abbrev pub call_marks : End → List Mark → List Mark
+call_marks end [] = []
+call_marks end (m ∷ later) =
+    elim (is_same_end (side m) end) [
+      | true ↦ m ∷ until_reply m.entry.reply (call_marks end later) []
+      | false ↦ call_marks end later
+    ]
+
+-- a claim on the marks of each call
+abbrev pub each_call : (List Mark → Bool) → List Mark → Bool
+each_call claim [] = true
+each_call claim (m ∷ later) = (not m.begins || claim (call_marks (side m) (m ∷ later))) && each_call claim later
+
+-- a claim on what follows each mark that passes a test
+abbrev pub after_each : (Mark → Bool) → (List Mark → Bool) → List Mark → Bool
+after_each test claim [] = true
+after_each test claim (m ∷ later) = (not (test m) || claim later) && after_each test claim later

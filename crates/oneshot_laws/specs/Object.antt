@@ -1,5 +1,5 @@
 -- A channel as an object with one message: what it is, what its steps do, and what they answer. It knows no code, no position and no word.
-use Rattle.std.specs.Prelude.{Bool, true, false, if◌then◌else◌}
+use Rattle.std.specs.Prelude.{Bool, true, false, not, if◌then◌else◌}
 
 -- Nothing sent yet, the message, or closed for good. There is one message, that of the sender's script, so `Full` need not name it.
 pub data Content : Type 0 where
@@ -20,11 +20,24 @@ is_open Open = true
 is_open Full = false
 is_open Closed = false
 
+abbrev pub is_full : Content → Bool
+is_full Open = false
+is_full Full = true
+is_full Closed = false
+
+abbrev pub is_closed : Content → Bool
+is_closed Open = false
+is_closed Full = false
+is_closed Closed = true
+
 -- the object's steps
 pub data Action : Type 0 where
   Send : Action
   Sender_gone : Action
   Take : Action
+  Look_full : Action
+  Look_closed : Action
+  Look_receiver_gone : Action
   Receiver_gone : Action
 
 -- the content once its message is taken or dropped, and once the sender is gone
@@ -42,18 +55,27 @@ abbrev pub content_after : Action → Object → Content
 content_after Send o = if o.receiver_here then Full else o.content
 content_after Sender_gone o = without_sender o.content
 content_after Take o = without_message o.content
+content_after Look_full o = o.content
+content_after Look_closed o = o.content
+content_after Look_receiver_gone o = o.content
 content_after Receiver_gone o = without_message o.content
 
 abbrev pub sender_stays : Action → Bool
 sender_stays Send = false
 sender_stays Sender_gone = false
 sender_stays Take = true
+sender_stays Look_full = true
+sender_stays Look_closed = true
+sender_stays Look_receiver_gone = true
 sender_stays Receiver_gone = true
 
 abbrev pub receiver_stays : Action → Bool
 receiver_stays Send = true
 receiver_stays Sender_gone = true
 receiver_stays Take = true
+receiver_stays Look_full = true
+receiver_stays Look_closed = true
+receiver_stays Look_receiver_gone = true
 receiver_stays Receiver_gone = false
 
 abbrev pub object_after : Action → Object → Object
@@ -70,6 +92,8 @@ pub data Answer : Type 0 where
   Message : Answer
   Gone : Answer
   Nothing_yet : Answer
+  Yes : Answer
+  No : Answer
   Finished : Answer
 
 abbrev pub taken_from : Content → Answer
@@ -77,8 +101,15 @@ taken_from Open = Nothing_yet
 taken_from Full = Message
 taken_from Closed = Gone
 
+abbrev pub yes_if : Bool → Answer
+yes_if true = Yes
+yes_if false = No
+
 abbrev pub answer_of : Action → Object → Answer
 answer_of Send o = if o.receiver_here then Accepted else Returned
 answer_of Sender_gone o = Finished
 answer_of Take o = taken_from o.content
+answer_of Look_full o = yes_if (is_full o.content)
+answer_of Look_closed o = yes_if (is_closed o.content)
+answer_of Look_receiver_gone o = yes_if (not o.receiver_here)
 answer_of Receiver_gone o = Finished

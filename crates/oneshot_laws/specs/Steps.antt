@@ -1,25 +1,28 @@
 -- Each call as a step of the object, and how its reply reads the object's answer.
-use Rattle.std.specs.Prelude.{Option, Some, None}
+use Rattle.std.specs.Prelude.{Bool, true, false, Option, Some, None}
 use Rattle.oneshot_machine.specs.declared.machine.Reply.{Reply}
 use Rattle.oneshot_machine.specs.declared.machine.Reply.TheVariants as R
-use Rattle.oneshot_world.specs.Calls.{Call, Send, Drop_sender, Try_recv, Drop_receiver, Stray}
-use Rattle.oneshot_laws.specs.Object.{Action, Send as Send_step, Sender_gone, Take, Receiver_gone, Answer, Accepted, Returned, Message, Gone, Nothing_yet, Finished, Object, answer_of, object_after}
+use Rattle.oneshot_world.specs.Calls.{Call, Sender_is_closed, Send, Drop_sender, As_inner, Into_inner, Drop_error, Try_recv, Has_message, Is_closed, Drop_receiver, Stray}
+use Rattle.oneshot_laws.specs.Object.{Action, Send as Send_step, Sender_gone, Take, Look_full, Look_closed, Look_receiver_gone, Receiver_gone, Answer, Accepted, Returned, Message, Gone, Nothing_yet, Yes, No, Finished, Object, answer_of, object_after}
 
--- each call as a step of the object
+-- each call as a step of the object; the error's calls are none
 abbrev pub action_of : Call → Option Action
+action_of Sender_is_closed = Some Look_receiver_gone
 action_of Send = Some Send_step
 action_of Drop_sender = Some Sender_gone
+action_of As_inner = None
+action_of Into_inner = None
+action_of Drop_error = None
 action_of Try_recv = Some Take
+action_of Has_message = Some Look_full
+action_of Is_closed = Some Look_closed
 action_of Drop_receiver = Some Receiver_gone
 action_of Stray = None
 
 -- how a receive says "nothing yet"; the others have no reply for it
 abbrev pub nothing_yet_of : Call → Option Reply
 nothing_yet_of Try_recv = Some R.Empty
-nothing_yet_of Send = None
-nothing_yet_of Drop_sender = None
-nothing_yet_of Drop_receiver = None
-nothing_yet_of Stray = None
+nothing_yet_of _ = None
 
 -- the reply that reads an answer
 abbrev pub reading_of : Call → Answer → Option Reply
@@ -28,7 +31,16 @@ reading_of call Returned = Some R.Refused
 reading_of call Message = Some R.Message
 reading_of call Gone = Some R.Disconnected
 reading_of call Nothing_yet = nothing_yet_of call
+reading_of call Yes = Some R.Yes
+reading_of call No = Some R.No
 reading_of call Finished = Some R.Done
+
+-- what a call answers that is no step of the object: the refused message, or that it is dropped
+abbrev pub fixed_reply_of : Call → Option Reply
+fixed_reply_of As_inner = Some R.Message
+fixed_reply_of Into_inner = Some R.Message
+fixed_reply_of Drop_error = Some R.Done
+fixed_reply_of _ = None
 
 -- the reply of a call that makes this step on this object, and the object after it
 abbrev pub reply_on : Call → Object → Option Action → Option Reply
@@ -38,3 +50,47 @@ reply_on call o (Some action) = reading_of call (answer_of action o)
 abbrev pub stepped : Option Action → Object → Object
 stepped None o = o
 stepped (Some action) o = object_after action o
+
+-- kinds of calls
+abbrev pub is_receive : Call → Bool
+is_receive Try_recv = true
+is_receive _ = false
+
+abbrev pub is_send : Call → Bool
+is_send Send = true
+is_send _ = false
+
+abbrev pub is_sender_look : Call → Bool
+is_sender_look Sender_is_closed = true
+is_sender_look _ = false
+
+abbrev pub is_full_look : Call → Bool
+is_full_look Has_message = true
+is_full_look _ = false
+
+abbrev pub is_closed_look : Call → Bool
+is_closed_look Is_closed = true
+is_closed_look _ = false
+
+abbrev pub is_drop_of_receiver : Call → Bool
+is_drop_of_receiver Drop_receiver = true
+is_drop_of_receiver _ = false
+
+abbrev pub is_stray : Call → Bool
+is_stray Stray = true
+is_stray _ = false
+
+-- the call that ends the sender, the receiver or the error
+abbrev pub is_end_of_sender : Call → Bool
+is_end_of_sender Send = true
+is_end_of_sender Drop_sender = true
+is_end_of_sender _ = false
+
+abbrev pub is_end_of_receiver : Call → Bool
+is_end_of_receiver Drop_receiver = true
+is_end_of_receiver _ = false
+
+abbrev pub is_end_of_error : Call → Bool
+is_end_of_error Into_inner = true
+is_end_of_error Drop_error = true
+is_end_of_error _ = false
