@@ -1,50 +1,32 @@
 -- Each run of two scripts has a legal history: the reader accepts it, as the checker computes over machines and reader together.
-use Rattle.std.proofs.Common.{◌≡◌, true, List, [], Some, None, refl}
+use Rattle.std.proofs.Common.{◌≡◌, true, List, [], refl}
 use Rattle.oneshot_world.specs.Calls.{Unanswered, calls_of}
-use Rattle.oneshot_world.specs.Control.{opening_control}
 use Rattle.oneshot_world.specs.Explore.{Tree}
-use Rattle.oneshot_world.specs.World.{World, Tells, opening, opening_place}
+use Rattle.oneshot_world.specs.World.{World, Tells, opening}
 use Rattle.oneshot_world.specs.declared.script.Move.{Move}
 use Rattle.oneshot_world.specs.declared.script.ReceiverScript.{ReceiverScript}
-use Rattle.oneshot_world.specs.declared.script.SenderLast.{SenderLast}
-use Rattle.oneshot_world.specs.declared.script.SenderLast.TheVariants as SL
 use Rattle.oneshot_world.specs.declared.script.SenderScript.{SenderScript}
 use Rattle.oneshot_world.specs.declared.trace.Entry.{Entry}
-use Rattle.oneshot_world.specs.declared.trace.Place.TheVariants.{NotSent}
-use Rattle.oneshot_world.proofs.Reached.{opening_reached}
 use Rattle.oneshot_laws.specs.Marks.{marks, sender_reading, receiver_reading, call_under_way}
 use Rattle.oneshot_laws.specs.History.{has_legal_history}
 use Rattle.oneshot_laws.proofs.LegalReader.{Reader, new_reader, new_watch, accepts, reads, reader_code, is_same_reader, reader_is}
 use Rattle.oneshot_laws.proofs.Legal.{FollowsAt, MarksRight, glances, all_right, legal}
 use Rattle.oneshot_laws.proofs.Owes.{Accepted}
-use Rattle.oneshot_laws.proofs.Watched.{Watched, watched_from, is_watched_in, all_pass_on, accepted}
+use Rattle.oneshot_laws.proofs.Watched.{Watched, watched_from, all_pass, accepted_run}
 
 found : Tree (Watched Reader)
-found = watched_from 65536 reader_code is_same_reader accepts reads new_reader
+found = watched_from 65536 reader_code is_same_reader accepts reads (λ place. new_reader)
 
-all_found : all_pass_on 65536 reader_code is_same_reader accepts reads found ≡ true
+all_found : all_pass 65536 reader_code is_same_reader accepts reads (λ place. new_reader) found ≡ true
 unfolding found
 all_found = refl
-
-nothing_sent : is_watched_in 65536 reader_code is_same_reader accepts reads found (record { control = opening_control None; reader = new_reader }) ≡ true
-unfolding found
-nothing_sent = refl
-
-message_there : is_watched_in 65536 reader_code is_same_reader accepts reads found (record { control = opening_control (Some NotSent); reader = new_reader }) ≡ true
-unfolding found
-message_there = refl
-
-opening_found : {T : Type 0} (last : SenderLast T) → is_watched_in 65536 reader_code is_same_reader accepts reads found (record { control = opening_control (opening_place last); reader = new_reader }) ≡ true
-opening_found (SL.Send message error) = message_there
-opening_found SL.Drop = nothing_sent
-opening_found SL.Stop = nothing_sent
 
 new_follows : (left : Unanswered) → FollowsAt (call_under_way left) new_watch []
 new_follows left = record { begun = refl; acted = refl; worked = refl }
 
 run_accepted : {T : Type 0} (s : SenderScript T) (r : ReceiverScript) (worlds : List World) (moves : List Move) (entries : List Entry) → Tells (opening s r) worlds moves entries → Accepted new_reader (opening s r).sender (opening s r).receiver entries
 run_accepted s r worlds moves entries told =
-    accepted 65536 reader_code is_same_reader accepts reads reader_is found all_found entries (opening s r) new_reader worlds moves (opening_reached s r) (opening_found s.last) told
+    accepted_run 65536 reader_code is_same_reader accepts reads reader_is (λ place. new_reader) found all_found s r worlds moves entries told
 
 -- the marks of a run are right, and the other laws see what the reader sees
 pub marks_run : {T : Type 0} (s : SenderScript T) (r : ReceiverScript) (worlds : List World) (moves : List Move) (entries : List Entry) → Tells (opening s r) worlds moves entries → MarksRight (marks (calls_of s r) entries) (glances new_reader (opening s r).sender (opening s r).receiver entries)

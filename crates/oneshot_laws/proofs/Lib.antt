@@ -4,4 +4,6 @@ pub mod LegalReader
 pub mod Owes
 pub mod Legal
 pub mod LegalRuns
+pub mod Glanced
+pub mod Afterwards
 pub mod IdleRuns

@@ -11,16 +11,21 @@ use Rattle.oneshot_world.specs.Calls.{Call, Unanswered, left_by}
 use Rattle.oneshot_world.specs.Control.{Control, control_of, Begin, begins, control_turn, control_code, is_same_control, opening_control, IsReached}
 use Rattle.oneshot_world.specs.Explore.{Tree, reach, is_in, all_in}
 use Rattle.oneshot_world.specs.State.{sender_stepped, receiver_stepped}
-use Rattle.oneshot_world.specs.World.{World, Tells, side_of, by_end}
+use Rattle.oneshot_world.specs.World.{World, Tells, opening, opening_place, side_of, by_end}
 use Rattle.oneshot_world.specs.declared.script.Move.{Move}
+use Rattle.oneshot_world.specs.declared.script.ReceiverScript.{ReceiverScript}
+use Rattle.oneshot_world.specs.declared.script.SenderLast.{SenderLast}
+use Rattle.oneshot_world.specs.declared.script.SenderLast.TheVariants as SL
+use Rattle.oneshot_world.specs.declared.script.SenderScript.{SenderScript}
 use Rattle.oneshot_world.specs.declared.trace.Entry.{Entry}
 use Rattle.oneshot_world.specs.declared.trace.Entry.TheVariants.{Idle, Made as Made_entry}
 use Rattle.oneshot_world.specs.declared.trace.Made.{Made}
+use Rattle.oneshot_world.specs.declared.trace.Place.{Place}
 use Rattle.oneshot_world.specs.declared.trace.Place.TheVariants.{NotSent}
 use Rattle.oneshot_world.proofs.Bools.{and_left, and_right}
 use Rattle.oneshot_world.proofs.Coded.{control_is}
 use Rattle.oneshot_world.proofs.Explored.{passes_where_found}
-use Rattle.oneshot_world.proofs.Reached.{sender_passes, receiver_passes, sender_world, receiver_world, sender_control_is, receiver_control_is}
+use Rattle.oneshot_world.proofs.Reached.{sender_passes, receiver_passes, sender_world, receiver_world, sender_control_is, receiver_control_is, opening_reached}
 use Rattle.oneshot_world.proofs.Turned.{Turned, sender_idle, sender_made, receiver_idle, receiver_made, turned, turned_reaches}
 use Rattle.oneshot_laws.specs.Marks.{or_stray, call_under_way}
 
@@ -66,13 +71,15 @@ module _ {M : Type 0} (width : ℕ) (code : M → ℕ) (is_same : M → M → Bo
   watched_successors x =
       filter_map (λ b. option_map (watched_then b x.reader) (control_turn x.control b)) (begins x.control)
 
+  -- before the first move, with the message in this place or no message
+  abbrev pub opening_watched : (Option Place → M) → Option Place → Watched M
+  opening_watched first place = record { control = opening_control place; reader = first place }
+
   -- all pairs that a run can reach with a reader that starts so
-  abbrev pub watched_from : M → Tree (Watched M)
-  watched_from start =
+  abbrev pub watched_from : (Option Place → M) → Tree (Watched M)
+  watched_from first =
       reach watched_code is_same_watched watched_successors 5000
-      (record { control = opening_control None; reader = start }
-      ∷ record { control = opening_control (Some NotSent); reader = start }
-      ∷ [])
+      (opening_watched first None ∷ opening_watched first (Some NotSent) ∷ [])
 
   abbrev pub is_watched_in : Tree (Watched M) → Watched M → Bool
   is_watched_in found x = is_in watched_code is_same_watched x found
@@ -82,9 +89,15 @@ module _ {M : Type 0} (width : ℕ) (code : M → ℕ) (is_same : M → M → Bo
   passes_on found m b None = false
   passes_on found m b (Some t) = accepts_entry (or_stray b.call) t.0 m && is_watched_in found (watched_then b m t)
 
-  abbrev pub all_pass_on : Tree (Watched M) → Bool
-  all_pass_on found =
+  abbrev pub all_move_on : Tree (Watched M) → Bool
+  all_move_on found =
       all_in (λ x. list_all (λ b. passes_on found x.reader b (control_turn x.control b)) (begins x.control)) found
+
+  -- both openings are found, and each move from what is found passes
+  abbrev pub all_pass : (Option Place → M) → Tree (Watched M) → Bool
+  all_pass first found =
+      is_watched_in found (opening_watched first None)
+      && (is_watched_in found (opening_watched first (Some NotSent)) && all_move_on found)
 
   -- the reader accepts a trace of scripts that have this left
   abbrev pub Accepts : M → Unanswered → Unanswered → List Entry → Type 0
@@ -94,7 +107,7 @@ module _ {M : Type 0} (width : ℕ) (code : M → ℕ) (is_same : M → M → Bo
       (accepts e.side (call_under_way (by_end e.side s r)) e m ≡ true)
       × Accepts (reads e.side (call_under_way (by_end e.side s r)) e m) (left_after e.side Sender e.reply s) (left_after e.side Receiver e.reply r) entries
 
-module _ {M : Type 0} (width : ℕ) (code : M → ℕ) (is_same : M → M → Bool) (accepts : End → Call → Made → M → Bool) (reads : End → Call → Made → M → M) (sound : (m n : M) → is_same m n ≡ true → m ≡ n) (found : Tree (Watched M)) (all : all_pass_on width code is_same accepts reads found ≡ true) where
+module _ {M : Type 0} (width : ℕ) (code : M → ℕ) (is_same : M → M → Bool) (accepts : End → Call → Made → M → Bool) (reads : End → Call → Made → M → M) (sound : (m n : M) → is_same m n ≡ true → m ≡ n) (found : Tree (Watched M)) (all : all_move_on width code is_same accepts reads found ≡ true) where
   watched_is : (x y : Watched M) → is_same_watched width code is_same accepts reads x y ≡ true → x ≡ y
   watched_is x y h =
       let c : x.control ≡ y.control = control_is x.control y.control (and_left _ _ h) in
@@ -144,3 +157,14 @@ module _ {M : Type 0} (width : ℕ) (code : M → ℕ) (is_same : M → M → Bo
   accepted (entry ∷ entries) w m [] [] h f told = elim told [ ]
   accepted (entry ∷ entries) w m [] (move ∷ moves) h f told = elim told [ ]
   accepted (entry ∷ entries) w m (next ∷ worlds) [] h f told = elim told [ ]
+
+-- each run of two scripts is accepted
+module _ {M : Type 0} (width : ℕ) (code : M → ℕ) (is_same : M → M → Bool) (accepts : End → Call → Made → M → Bool) (reads : End → Call → Made → M → M) (sound : (m n : M) → is_same m n ≡ true → m ≡ n) (first : Option Place → M) (found : Tree (Watched M)) (all : all_pass width code is_same accepts reads first found ≡ true) where
+  opening_found : {T : Type 0} (last : SenderLast T) → is_watched_in width code is_same accepts reads found (opening_watched width code is_same accepts reads first (opening_place last)) ≡ true
+  opening_found (SL.Send message error) = and_left _ _ (and_right _ _ all)
+  opening_found SL.Drop = and_left _ _ all
+  opening_found SL.Stop = and_left _ _ all
+
+  pub accepted_run : {T : Type 0} (s : SenderScript T) (r : ReceiverScript) (worlds : List World) (moves : List Move) (entries : List Entry) → Tells (opening s r) worlds moves entries → Accepts width code is_same accepts reads (first (opening_place s.last)) (opening s r).sender (opening s r).receiver entries
+  accepted_run s r worlds moves entries told =
+      accepted width code is_same accepts reads sound found (and_right _ _ (and_right _ _ all)) entries (opening s r) (first (opening_place s.last)) worlds moves (opening_reached s r) (opening_found s.last) told
