@@ -6,4 +6,6 @@ pub mod Legal
 pub mod LegalRuns
 pub mod Glanced
 pub mod Afterwards
+pub mod NextReceive
+pub mod NothingYet
 pub mod IdleRuns
