@@ -193,7 +193,7 @@ reader_parts : (m : Reader) → reader_with m.object m.sender m.receiver ≡ m
 unfolding reader_with
 reader_parts m = refl
 
-object_is : (o p : Object) → is_same_object o p ≡ true → o ≡ p
+pub object_is : (o p : Object) → is_same_object o p ≡ true → o ≡ p
 object_is o p h =
     let h1 = and_right _ _ h in
     let c : o.content ≡ p.content = content_is o.content p.content (and_left _ _ h) in

@@ -8,4 +8,6 @@ pub mod Glanced
 pub mod Afterwards
 pub mod NextReceive
 pub mod NothingYet
+pub mod DroppedOnce
+pub mod LoneCalls
 pub mod IdleRuns
