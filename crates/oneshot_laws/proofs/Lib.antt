@@ -10,4 +10,5 @@ pub mod NextReceive
 pub mod NothingYet
 pub mod DroppedOnce
 pub mod LoneCalls
+pub mod AtTheEnd
 pub mod IdleRuns
