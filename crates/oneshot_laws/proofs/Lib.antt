@@ -11,4 +11,5 @@ pub mod NothingYet
 pub mod DroppedOnce
 pub mod LoneCalls
 pub mod AtTheEnd
+pub mod BlockHeld
 pub mod IdleRuns
