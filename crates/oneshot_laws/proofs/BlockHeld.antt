@@ -1,5 +1,5 @@
 -- Only holders use the block, its last holder frees it, nothing uses it afterwards, and once all have ended it is freed.
-use Rattle.std.proofs.Common.{◌≡◌, ℕ, ◌+◌, ◌*◌, Bool, true, false, not, ◌&&◌, ◌||◌, ◌==◌, List, [], ◌∷◌, map, refl, sym, subst}
+use Rattle.std.proofs.Common.{◌≡◌, ℕ, ◌+◌, ◌*◌, Bool, true, false, not, ◌&&◌, ◌||◌, ◌==◌, List, [], ◌∷◌, map, refl, subst}
 use Rattle.std.specs.List.{list_any}
 use Rattle.oneshot_world.specs.Calls.{calls_of}
 use Rattle.oneshot_world.specs.Control.{bool_code}
@@ -14,7 +14,7 @@ use Rattle.oneshot_world.proofs.Coded.{bool_is}
 use Rattle.oneshot_laws.specs.Words.{only_if, is_word, is_on_a_cell, is_free}
 use Rattle.oneshot_laws.specs.Marks.{Mark, marks}
 use Rattle.oneshot_laws.specs.Ended.{all_ended}
-use Rattle.oneshot_laws.specs.Holders.{Holders, both_hold, holds, other, is_here, uses_block, frees, holders_then, is_held, is_free_last, is_freed, is_freed_at_end, is_freed_right}
+use Rattle.oneshot_laws.specs.Holders.{Holders, both_hold, holds, other, is_here, uses_block, frees, is_held, is_free_last, is_freed, is_freed_at_end, is_freed_right}
 use Rattle.oneshot_laws.proofs.Afterwards.{is_same_flag}
 use Rattle.oneshot_laws.proofs.AtTheEnd.{Kept, own_after, kept_from, all_kept, at_the_end, or_more}
 use Rattle.oneshot_laws.proofs.Glanced.{Pair, Passes, glanced_from, all_glanced, passes_run}

@@ -1,8 +1,11 @@
 -- Values that are compared by their codes are the same where their codes are.
-use Rattle.std.proofs.Common.{◌≡◌, ℕ, true, List, [], ◌∷◌, Option, Some, None, refl, ◌==◌, get_or}
+use Rattle.std.proofs.Common.{◌≡◌, ℕ, Bool, true, List, [], ◌∷◌, Option, Some, None, refl, ◌==◌, get_or}
 use Rattle.oneshot_machine.specs.declared.machine.Reply.{Reply}
 use Rattle.oneshot_machine.specs.declared.machine.Reply.TheVariants as R
+use Rattle.oneshot_world.specs.declared.trace.Place.{Place}
+use Rattle.oneshot_world.specs.declared.trace.Place.TheVariants.{NotSent, InCell, InError, Delivered, FromError, Dropped}
 use Rattle.oneshot_world.proofs.Coded.{same_by}
+use Rattle.oneshot_laws.specs.Places.{place_code, is_same_place}
 use Rattle.oneshot_laws.specs.Object.{Content, Open, Full, Closed}
 use Rattle.oneshot_laws.specs.Words.{reply_code, is_same_reply}
 
@@ -65,3 +68,46 @@ content_back Closed = refl
 
 pub content_is : (a b : Content) → (content_code a == content_code b) ≡ true → a ≡ b
 content_is = same_by content_code contents Open content_back
+
+abbrev places : List Place
+places = NotSent ∷ InCell ∷ InError ∷ Delivered ∷ FromError ∷ Dropped ∷ []
+
+place_back : (x : Place) → get_or places (place_code x) NotSent ≡ x
+place_back NotSent = refl
+place_back InCell = refl
+place_back InError = refl
+place_back Delivered = refl
+place_back FromError = refl
+place_back Dropped = refl
+
+pub place_is : (a b : Place) → is_same_place a b ≡ true → a ≡ b
+place_is = same_by place_code places NotSent place_back
+
+-- a place, or none
+abbrev pub some_place_code : Option Place → ℕ
+some_place_code None = 0
+some_place_code (Some NotSent) = 1
+some_place_code (Some InCell) = 2
+some_place_code (Some InError) = 3
+some_place_code (Some Delivered) = 4
+some_place_code (Some FromError) = 5
+some_place_code (Some Dropped) = 6
+
+abbrev some_places : List (Option Place)
+some_places =
+    None ∷ Some NotSent ∷ Some InCell ∷ Some InError ∷ Some Delivered ∷ Some FromError ∷ Some Dropped ∷ []
+
+some_place_back : (x : Option Place) → get_or some_places (some_place_code x) None ≡ x
+some_place_back None = refl
+some_place_back (Some NotSent) = refl
+some_place_back (Some InCell) = refl
+some_place_back (Some InError) = refl
+some_place_back (Some Delivered) = refl
+some_place_back (Some FromError) = refl
+some_place_back (Some Dropped) = refl
+
+abbrev pub is_same_some_place : Option Place → Option Place → Bool
+is_same_some_place a b = some_place_code a == some_place_code b
+
+pub some_place_is : (a b : Option Place) → is_same_some_place a b ≡ true → a ≡ b
+some_place_is = same_by some_place_code some_places None some_place_back

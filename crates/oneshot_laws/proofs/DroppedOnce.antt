@@ -1,5 +1,5 @@
 -- A message that was sent and never taken is dropped once, by the receiver's drop.
-use Rattle.std.proofs.Common.{◌≡◌, ℕ, ◌+◌, ◌*◌, Bool, true, false, not, ◌&&◌, ◌||◌, ◌==◌, List, [], ◌∷◌, Option, Some, None, map, filter, get_or, is_some, refl, subst, if◌then◌else◌}
+use Rattle.std.proofs.Common.{◌≡◌, ℕ, ◌+◌, ◌*◌, Bool, true, false, not, ◌&&◌, ◌||◌, ◌==◌, List, [], ◌∷◌, Some, None, map, filter, get_or, is_some, refl, subst, if◌then◌else◌}
 use Rattle.std.specs.List.{list_any}
 use Rattle.oneshot_machine.specs.declared.machine.Reply.TheVariants as R
 use Rattle.oneshot_world.specs.Calls.{calls_of}
@@ -10,11 +10,11 @@ use Rattle.oneshot_world.specs.declared.script.Move.{Move}
 use Rattle.oneshot_world.specs.declared.script.ReceiverScript.{ReceiverScript}
 use Rattle.oneshot_world.specs.declared.script.SenderScript.{SenderScript}
 use Rattle.oneshot_world.specs.declared.trace.Entry.{Entry}
-use Rattle.oneshot_world.proofs.Bools.{and_left, and_right, both}
+use Rattle.oneshot_world.proofs.Bools.{and_left, and_right}
 use Rattle.oneshot_world.proofs.Coded.{bool_is, same_by}
 use Rattle.oneshot_laws.specs.Words.{only_if}
 use Rattle.oneshot_laws.specs.Steps.{is_receive, is_send, is_drop_of_receiver}
-use Rattle.oneshot_laws.specs.Marks.{Mark, marks, ends}
+use Rattle.oneshot_laws.specs.Marks.{Mark, marks}
 use Rattle.oneshot_laws.specs.Ended.{has_answered}
 use Rattle.oneshot_laws.specs.Laws.{answers, is_dropped, is_dropping, is_one_by_receiver, is_dropped_once}
 use Rattle.oneshot_laws.proofs.Afterwards.{told}
@@ -102,7 +102,7 @@ its_parts x = refl
 story_is : (a b : Story) → is_same_story a b ≡ true → a ≡ b
 story_is a b h =
     let h1 : (bool_code a.sent == bool_code b.sent && bool_code a.got == bool_code b.got) ≡ true = and_left _ _ h in
-    let h2 : (bool_code a.done == bool_code b.done && drops_code a.drops == drops_code b.drops) ≡ true = and_right _ _ h in
+    let h2 : (bool_code a.done == bool_code b.done && drops_code a.drops == drops_code b.drops) ≡ true = and_right (bool_code a.sent == bool_code b.sent && bool_code a.got == bool_code b.got) _ h in
     let sent : a.sent ≡ b.sent = bool_is a.sent b.sent (and_left _ _ h1) in
     let got : a.got ≡ b.got = bool_is a.got b.got (and_right (bool_code a.sent == bool_code b.sent) _ h1) in
     let done : a.done ≡ b.done = bool_is a.done b.done (and_left _ _ h2) in

@@ -5,7 +5,7 @@ use Rattle.oneshot_machine.specs.Receiver.{receiver_step}
 use Rattle.oneshot_machine.specs.Sender.{sender_step}
 use Rattle.oneshot_machine.specs.declared.machine.End.{End}
 use Rattle.oneshot_machine.specs.declared.machine.End.TheVariants.{Sender, Receiver}
-use Rattle.oneshot_world.specs.Calls.{Call, Sender_is_closed, Send, Drop_sender, As_inner, Into_inner, Drop_error, Try_recv, Has_message, Is_closed, Drop_receiver, Stray, calls_of, first, is_none_left, left_by, as_sender_call, as_receiver_call}
+use Rattle.oneshot_world.specs.Calls.{Call, Sender_is_closed, Send, Drop_sender, As_inner, Into_inner, Drop_error, Try_recv, Has_message, Is_closed, Drop_receiver, calls_of, first, is_none_left, left_by, as_sender_call, as_receiver_call}
 use Rattle.oneshot_world.specs.Control.{sender_has, receiver_has, IsReached}
 use Rattle.oneshot_world.specs.State.{sender_position, receiver_position, reply_of}
 use Rattle.oneshot_world.specs.World.{World, Tells, opening, side_of}

@@ -16,7 +16,7 @@ use Rattle.oneshot_laws.specs.Steps.{action_of, nothing_yet_of, reply_on, steppe
 use Rattle.oneshot_laws.specs.Marks.{Rule, First, Last, Never, rule, acts, has_acted, receive_rule, works_on_word, finds_full_or_closed, until_reply, to_reply, reply_among, Reading, read_by, Mark, loads, finishes, swaps_closed_in, mark_at, marks_from, call_under_way, object_then, ends}
 use Rattle.oneshot_laws.specs.History.{agrees, object_reply, is_object_step, is_legal, is_complete, is_right_outside, is_covered, history, has_legal_history}
 use Rattle.oneshot_laws.specs.Holders.{acts_last}
-use Rattle.oneshot_laws.proofs.LegalReader.{Kind, Acts_first, Receives, Answers_always, Is_none, kind, Watch, Reader, due, hit, hits, owed, owes_then, object_if, object_by, watch_at, watch_then, pays, may_say, pays_receive, may_owe, has_reply, accepts_as, accepts_call, accepts, reads}
+use Rattle.oneshot_laws.proofs.LegalReader.{Receives, kind, Watch, Reader, due, hit, hits, owed, owes_then, object_if, object_by, watch_at, pays, may_say, pays_receive, may_owe, has_reply, accepts_call, reads}
 use Rattle.oneshot_laws.proofs.Owes.{Accepted, Goes_on, answer_from, answer_pays, pays_in, answer_says, says_in, fine_as, not_owed}
 use Rattle.oneshot_laws.proofs.Watched.{left_after}
 

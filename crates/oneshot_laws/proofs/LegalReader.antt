@@ -195,18 +195,18 @@ reader_parts m = refl
 
 pub object_is : (o p : Object) → is_same_object o p ≡ true → o ≡ p
 object_is o p h =
-    let h1 = and_right _ _ h in
+    let h1 : (bool_code o.sender_here == bool_code p.sender_here && bool_code o.receiver_here == bool_code p.receiver_here) ≡ true = and_right (content_code o.content == content_code p.content) _ h in
     let c : o.content ≡ p.content = content_is o.content p.content (and_left _ _ h) in
     let s : o.sender_here ≡ p.sender_here = bool_is o.sender_here p.sender_here (and_left _ _ h1) in
-    let r : o.receiver_here ≡ p.receiver_here = bool_is o.receiver_here p.receiver_here (and_right _ _ h1) in
+    let r : o.receiver_here ≡ p.receiver_here = bool_is o.receiver_here p.receiver_here (and_right (bool_code o.sender_here == bool_code p.sender_here) _ h1) in
     cc (object_parts o, object_parts p)
 
 watch_is : (x y : Watch) → is_same_watch x y ≡ true → x ≡ y
 watch_is x y h =
-    let h1 = and_right _ _ h in
+    let h1 : (answer_code x.owes == answer_code y.owes && bool_code x.worked == bool_code y.worked) ≡ true = and_right (bool_code x.begun == bool_code y.begun) _ h in
     let b : x.begun ≡ y.begun = bool_is x.begun y.begun (and_left _ _ h) in
     let o : x.owes ≡ y.owes = answer_is x.owes y.owes (and_left _ _ h1) in
-    let w : x.worked ≡ y.worked = bool_is x.worked y.worked (and_right _ _ h1) in
+    let w : x.worked ≡ y.worked = bool_is x.worked y.worked (and_right (answer_code x.owes == answer_code y.owes) _ h1) in
     cc (watch_parts x, watch_parts y)
 
 pub reader_is : (m n : Reader) → is_same_reader m n ≡ true → m ≡ n

@@ -12,4 +12,5 @@ pub mod DroppedOnce
 pub mod LoneCalls
 pub mod AtTheEnd
 pub mod BlockHeld
+pub mod MessagePath
 pub mod IdleRuns

@@ -1,5 +1,5 @@
 -- "Nothing yet" is answered only where the object was open at one of that call's entries.
-use Rattle.std.proofs.Common.{◌≡◌, ℕ, ◌+◌, ◌*◌, Bool, true, false, not, ◌&&◌, ◌||◌, ◌==◌, List, [], ◌∷◌, Option, Some, None, map, refl}
+use Rattle.std.proofs.Common.{◌≡◌, ℕ, ◌+◌, ◌*◌, Bool, true, false, not, ◌&&◌, ◌||◌, ◌==◌, List, [], ◌∷◌, Some, None, map, refl}
 use Rattle.std.specs.List.{list_any}
 use Rattle.oneshot_machine.specs.declared.machine.End.{End}
 use Rattle.oneshot_machine.specs.declared.machine.End.TheVariants.{Sender, Receiver}
@@ -7,7 +7,7 @@ use Rattle.oneshot_machine.specs.declared.machine.Reply.{Reply}
 use Rattle.oneshot_world.specs.Calls.{calls_of}
 use Rattle.oneshot_world.specs.Control.{bool_code}
 use Rattle.oneshot_world.specs.Explore.{Tree}
-use Rattle.oneshot_world.specs.World.{World, Tells, opening, by_end}
+use Rattle.oneshot_world.specs.World.{World, Tells, opening}
 use Rattle.oneshot_world.specs.declared.script.Move.{Move}
 use Rattle.oneshot_world.specs.declared.script.ReceiverScript.{ReceiverScript}
 use Rattle.oneshot_world.specs.declared.script.SenderScript.{SenderScript}
@@ -16,7 +16,7 @@ use Rattle.oneshot_world.proofs.Bools.{and_left, and_right, both}
 use Rattle.oneshot_world.proofs.Coded.{bool_is}
 use Rattle.oneshot_laws.specs.Words.{only_if, is_nothing_yet, is_same_end}
 use Rattle.oneshot_laws.specs.Object.{is_open}
-use Rattle.oneshot_laws.specs.Marks.{Mark, marks, side, call_marks, each_call, until_reply}
+use Rattle.oneshot_laws.specs.Marks.{Mark, marks, side, call_marks, until_reply}
 use Rattle.oneshot_laws.specs.Laws.{is_nothing_only_if_open}
 use Rattle.oneshot_laws.proofs.Glanced.{Pair, Passes, glanced_from, all_glanced, passes_run}
 use Rattle.oneshot_laws.proofs.Legal.{Glance, glance_of}
@@ -64,7 +64,7 @@ its_parts met = refl
 met_is : (a b : Met) → is_same_met a b ≡ true → a ≡ b
 met_is a b h =
     let s : a.sender ≡ b.sender = bool_is a.sender b.sender (and_left _ _ h) in
-    let r : a.receiver ≡ b.receiver = bool_is a.receiver b.receiver (and_right _ _ h) in
+    let r : a.receiver ≡ b.receiver = bool_is a.receiver b.receiver (and_right (bool_code a.sender == bool_code b.sender) _ h) in
     cc (its_parts a, its_parts b)
 
 -- a call's marks from here on, where it has met so much

@@ -15,7 +15,7 @@ use Rattle.oneshot_laws.specs.Steps.{nothing_yet_of}
 use Rattle.oneshot_laws.specs.Marks.{until_reply, to_reply, reply_among, call_under_way, works_on_word, finds_full_or_closed}
 use Rattle.oneshot_laws.specs.History.{agrees}
 use Rattle.oneshot_laws.proofs.Codes.{reply_is}
-use Rattle.oneshot_laws.proofs.LegalReader.{Kind, Acts_first, Receives, Answers_always, Is_none, kind, Watch, Reader, due, hit, owed, owes_then, watch_at, watch_then, pays, may_say, pays_receive, may_owe, has_reply, accepts_as, accepts_call, accepts, reads, reader_code, is_same_reader, hits}
+use Rattle.oneshot_laws.proofs.LegalReader.{Kind, Acts_first, Receives, Answers_always, Is_none, kind, Watch, Reader, due, hit, owed, owes_then, watch_at, pays, may_say, pays_receive, may_owe, has_reply, accepts_as, accepts_call, accepts, reads, reader_code, is_same_reader, hits}
 use Rattle.oneshot_laws.proofs.Watched.{Accepts, left_after}
 
 abbrev pub Accepted : Reader → Unanswered → Unanswered → List Entry → Type 0

@@ -1,7 +1,7 @@
 -- The message is always in one place. This follows the moves that the trace shows.
-use Rattle.std.specs.Prelude.{ℕ, Bool, true, false, ◌&&◌, ◌==◌, List, [], ◌∷◌, Option, Some, None}
+use Rattle.std.specs.Prelude.{ℕ, Bool, true, false, ◌&&◌, ◌==◌, List, [], ◌∷◌}
 use Rattle.std.specs.List.{list_any, filter_map}
-use Rattle.oneshot_world.specs.Calls.{Call, Calls}
+use Rattle.oneshot_world.specs.Calls.{Calls}
 use Rattle.oneshot_world.specs.declared.trace.Entry.{Entry}
 use Rattle.oneshot_world.specs.declared.trace.Entry.TheVariants.{Idle, Made as Made_entry}
 use Rattle.oneshot_world.specs.declared.trace.Made.{Made}
