@@ -1,4 +1,49 @@
 //! Reads two scripts and a schedule, and prints the trace of their run.
 #![tactic(auto)]
 
-fn main() {}
+mod fault;
+mod input;
+mod line;
+mod number;
+mod request;
+mod schedule;
+mod show;
+#[cfg(test)]
+mod tests;
+mod words;
+
+pub use fault::Fault;
+use input::{read_input, text_of};
+pub use line::Line;
+use oneshot_replay::replay;
+use request::parse_request;
+use show::write_trace;
+use std::alloc::{AllocError, Global};
+use std::io::{BufWriter, Read, Write};
+use std::process::ExitCode;
+
+fn main(rt: HostRuntime) -> ExitCode {
+    match run(rt.alloc(), &mut rt.stdin(), &mut rt.stdout()) {
+        Ok(()) => ExitCode::SUCCESS,
+        Err(fault) => {
+            // Where standard error fails too, the status alone tells.
+            let _ = eprintln!(rt; "{fault}");
+            ExitCode::from(fault.status())
+        }
+    }
+}
+
+/// Reads all of `input`, runs what it asks for, and writes the trace to `output`.
+///
+/// After the first byte of output no memory is asked for, and after a failed write nothing is written.
+pub fn run<R: Read, W: Write>(alloc: Global, input: &mut R, output: &mut W) -> Result<(), Fault> {
+    let bytes = read_input(alloc, input)?;
+    let request = parse_request(alloc, text_of(&bytes)?)?;
+    let message = request.message();
+    let trace = replay(alloc, request.sender, request.receiver, &request.moves)?;
+    let mut buffered = BufWriter::new(alloc, output).map_err(|_| Fault::OutOfMemory(AllocError))?;
+    let written = write_trace(&mut buffered, trace, message);
+    // Taken apart, it does not try again to write what a failed write left, as its drop would.
+    let _unwritten = buffered.into_parts();
+    written.map_err(|_| Fault::WriteFailed)
+}

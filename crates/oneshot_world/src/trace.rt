@@ -19,13 +19,36 @@ pub enum Place {
     Dropped,
 }
 
-/// A waker that an entry moves. No call stores one so far, so there is none.
+/// A waker that an entry moves. No call stores one so far, so no entry names one.
 #[derive(Clone, Copy, Debug, Eq, Hash, PartialEq)]
-pub enum WakerName {}
+pub enum WakerName {
+    /// The waking half of the parker on which a blocking receive waits.
+    Parker,
+    /// The copy of a task's waker.
+    Copy {
+        /// The number of the task's waker.
+        number: u64,
+        /// The entry in which the copy was made, counted from 1.
+        entry: usize,
+    },
+}
 
-/// Where a waker is. There is none so far.
+/// Where a waker is. No call stores one so far, so no entry names a place.
 #[derive(Clone, Copy, Debug, Eq, Hash, PartialEq)]
-pub enum WakerPlace {}
+pub enum WakerPlace {
+    /// A task's, before its copy is made.
+    New,
+    /// The receiver's.
+    Hand,
+    /// In the channel's cell.
+    Cell,
+    /// The sender's, which took it from the cell.
+    SenderHand,
+    /// Woken.
+    Used,
+    /// Dropped without a wake.
+    Dropped,
+}
 
 /// What one move did.
 #[derive(Clone, Copy, Debug, Eq, Hash, PartialEq)]

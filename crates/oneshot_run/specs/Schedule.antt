@@ -1,0 +1,12 @@
+-- The letter of each move.
+use Rattle.std.specs.Prelude.{ℕ, true, false, Option, Some, None}
+use Rattle.oneshot_replay.specs.declared.Move.{Move}
+use Rattle.oneshot_replay.specs.declared.Move.TheVariants.{Sender, Receiver}
+
+-- s, r, o and n; no letter asks for a late clock and a refused copy at once
+abbrev pub letter_of : Move → Option ℕ
+letter_of Sender = Some 115
+letter_of (Receiver false false) = Some 114
+letter_of (Receiver true false) = Some 111
+letter_of (Receiver false true) = Some 110
+letter_of (Receiver true true) = None

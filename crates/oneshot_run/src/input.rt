@@ -1,0 +1,69 @@
+//! All of the input, as text.
+
+ghost use Rattle.std.specs.Prelude.{◌≡◌, ◌<◌, ◌↔◌, IfOk, IfSome, IsErrOf, IsOk, IsOkUnless, length, take};
+ghost use Rattle.std.specs.Io.{ReadsAtMost};
+ghost use Rattle.std.specs.Io.KnownBytes.{Consumes, IsAtEnd};
+ghost use Rattle.std.specs.Str.{IsAscii};
+
+use crate::fault::Fault;
+use std::alloc::Global;
+use std::io::{ErrorKind, Read};
+use std::str;
+
+/// The most bytes that an input may have.
+const MOST: usize = 1_048_576;
+
+/// How many bytes a read asks for.
+const BLOCK: usize = 4096;
+
+/// All bytes that `input` gives. Once they are too many, it is read no further.
+pub(crate) fn read_input<R: Read>(alloc: Global, input: &mut R) -> Result<Vec<u8>, Fault>
+    ensures whole { IfOk result (λ bytes.
+        IfSome (R.remaining input.old) (λ all. bytes.items ≡ all)) }
+    ensures long { IsErrOf result Fault.InputTooLong →
+        IfSome (R.remaining input.old) (λ all. MOST < length all) }
+{
+    let mut bytes = Vec::new(alloc);
+    let mut block = [0; BLOCK];
+    while bytes.len() <= MOST {
+        let count = read_block(input, &mut block)?;
+        if count == 0 {
+            return Ok(bytes);
+        }
+        bytes
+            .extend_from_slice(&block[..count])
+            .map_err(Fault::OutOfMemory)?;
+    }
+    Err(Fault::InputTooLong)
+}
+
+/// One read, made again where a signal interrupts it.
+fn read_block<R: Read>(input: &mut R, block: &mut [u8]) -> Result<usize, Fault>
+    ensures bound { ReadsAtMost result block.new }
+    ensures bytes { IfOk result (λ n.
+        Consumes (R.remaining input.old) (R.remaining input.new) (take n block.new)) }
+    ensures end { IfOk result (λ n.
+        n ≡ 0 → 0 < length block.old → IsAtEnd (R.remaining input.new)) }
+    ensures err { IsOkUnless result Fault.ReadFailed }
+{
+    for _ in 0..u64::MAX {
+        match input.read(block) {
+            Ok(count) => return Ok(count),
+            Err(error) if error.kind() == ErrorKind::Interrupted => {}
+            Err(_) => return Err(Fault::ReadFailed),
+        }
+    }
+    Err(Fault::ReadFailed)
+}
+
+/// The bytes as text.
+pub(crate) fn text_of(bytes: &[u8]) -> Result<&str, Fault>
+    ensures text { IfOk result (λ text. text.now ≡ bytes.now) }
+    ensures ascii { IsOk result ↔ IsAscii bytes.now }
+    ensures err { IsOkUnless result Fault.NotAscii }
+{
+    if !bytes.is_ascii() {
+        return Err(Fault::NotAscii);
+    }
+    Ok(str::from_utf8(bytes).unwrap())
+}

@@ -1,0 +1,51 @@
+//! What the program writes for an input, or the fault that it tells.
+
+mod faults;
+mod fronts;
+mod order;
+mod streams;
+mod traces;
+
+use crate::run;
+use std::alloc::{AllocError, Global};
+use std::process::Abort;
+
+/// The output for `input`; or the status and the line of the fault, before which nothing was written.
+fn told(rt: &(impl Abort + AllocGlobal), input: &[u8]) -> String {
+    let mut input = input;
+    let mut written = Vec::new(rt.alloc());
+    match run(rt.alloc(), &mut input, &mut written) {
+        Ok(()) => String::from_utf8(written).ok().expect(rt, "text"),
+        Err(fault) => {
+            assert!(rt; written.is_empty(), "output before {fault}");
+            format!(in rt.alloc(); "{} {fault}", fault.status()).expect(rt, "memory")
+        }
+    }
+}
+
+/// A message that is sent, received and let go.
+const SENT: &str = "S send 7\nR try drop\nX ssrrrrr\n";
+
+/// What the program writes for `SENT`, an entry a line and then the end.
+const SENT_TRACE: &str = "1 S write-message 3>3 m:NotSent>InCell
+2 S add 3>4 = Ok
+3 R load 4>4
+4 R store 4>2
+5 R take-message 2>2 m:InCell>Delivered = Ok(7)
+6 R swap 2>2
+7 R free 2>- = dropped
+rest Delivered(7)
+block freed
+";
+
+/// An input of this many moves of a sender that has no call, and what the program writes for it.
+fn idle(alloc: Global, moves: usize) -> Result<(String, String), AllocError> {
+    let mut input = String::from_str(alloc, "S\nR\nX ")?;
+    let mut output = String::new(alloc);
+    for number in 1..=moves {
+        input.push('s')?;
+        writeln!(output, "{number} S idle")?;
+    }
+    output.push_str("rest none\nblock here\n")?;
+    Ok((input, output))
+}

@@ -1,0 +1,87 @@
+//! Inputs that are run.
+
+use super::{SENT, SENT_TRACE, idle, told};
+use std::test::Fail;
+
+#[test]
+fn traces(rt: HostRuntime) {
+    let traces = [
+        (SENT, SENT_TRACE),
+        ("S send 7\nR\nX\n", "rest NotSent(7)\nblock here\n"),
+        (
+            "S\nR\nX sss\n",
+            "1 S idle\n2 S idle\n3 S idle\nrest none\nblock here\n",
+        ),
+        (
+            "S send 18446744073709551615\nR\nX\n",
+            "rest NotSent(18446744073709551615)\nblock here\n",
+        ),
+        ("S send 0\nR\nX\n", "rest NotSent(0)\nblock here\n"),
+        (
+            "S\nR try\nX r\n",
+            "1 R load 3>3 = Err(Empty)\nrest none\nblock here\n",
+        ),
+        (
+            "S send 7\nR drop\nX ssrrr\n",
+            "1 S write-message 3>3 m:NotSent>InCell
+2 S add 3>4 = Ok
+3 R swap 4>2
+4 R drop-message 2>2 m:InCell>Dropped
+5 R free 2>- = dropped
+rest Dropped(7)
+block freed
+",
+        ),
+        (
+            "S send 7\nR drop\nX rss\n",
+            "1 R swap 3>2 = dropped
+2 S write-message 2>2 m:NotSent>InCell
+3 S add 2>3 m:InCell>InError = Err
+rest InError(7)
+block here
+",
+        ),
+        (
+            "S drop\nR drop\nX rss\n",
+            "1 R swap 3>2 = dropped
+2 S xor 2>3
+3 S free 3>- = dropped
+rest none
+block freed
+",
+        ),
+        (
+            "S drop\nR try drop\nX srrr\n",
+            "1 S xor 3>2 = dropped
+2 R load 2>2 = Err(Disconnected)
+3 R swap 2>2
+4 R free 2>- = dropped
+rest none
+block freed
+",
+        ),
+        // No call of these scripts reads a clock or copies a waker.
+        (
+            "S drop\nR try drop\nX sonr\n",
+            "1 S xor 3>2 = dropped
+2 R load 2>2 = Err(Disconnected)
+3 R swap 2>2
+4 R free 2>- = dropped
+rest none
+block freed
+",
+        ),
+    ];
+    for (input, output) in traces {
+        assert_eq!(rt; told(&rt, input.as_bytes()).as_str(), output, "{input}");
+    }
+}
+
+#[test]
+fn as_many_bytes_as_an_input_may_have(rt: HostRuntime) -> Result<(), Fail> {
+    let (mut input, output) = idle(rt.alloc(), 1_048_569)?;
+    input.push('\n')?;
+    assert_eq!(rt; input.len(), 1_048_576);
+    assert!(rt; told(&rt, input.as_bytes()) == output);
+    Ok(())
+}
