@@ -6,7 +6,7 @@ use Rattle.oneshot_world.specs.declared.script.SenderLast.TheVariants.{Send, Dro
 use Rattle.oneshot_world.specs.declared.trace.Place.{Place}
 use Rattle.oneshot_world.specs.declared.trace.Place.TheVariants as P
 use Rattle.oneshot_replay.specs.declared.rest.Rest.{Rest}
-use Rattle.oneshot_replay.specs.declared.rest.Rest.TheVariants.{NotSent, InCell, InError, Delivered, Dropped}
+use Rattle.oneshot_replay.specs.declared.rest.Rest.TheVariants.{NotSent, InCell, InError, Delivered, FromError, Dropped}
 
 -- the world, and the message
 pub record Scene (T : Type 0) : Type 0 where
@@ -23,6 +23,7 @@ rest_of P.NotSent message = NotSent message
 rest_of P.InCell message = InCell message
 rest_of P.InError message = InError message
 rest_of P.Delivered message = Delivered message
+rest_of P.FromError message = FromError message
 rest_of P.Dropped message = Dropped message
 
 -- the message with its place, where there is one

@@ -16,6 +16,8 @@ pub enum Rest<T> {
     InError(T),
     /// The answer of a receive.
     Delivered(T),
+    /// Taken out of its error by `into_inner`.
+    FromError(T),
     /// An end would have dropped it; a replay itself drops no message.
     Dropped(T),
 }
@@ -30,6 +32,7 @@ pub(crate) fn rest_at<T: Drop>(place: Option<Place>, message: Option<T>) -> Opti
         Place::InCell => Rest::InCell(message),
         Place::InError => Rest::InError(message),
         Place::Delivered => Rest::Delivered(message),
+        Place::FromError => Rest::FromError(message),
         Place::Dropped => Rest::Dropped(message),
     })
 }

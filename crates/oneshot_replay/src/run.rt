@@ -5,6 +5,10 @@ ghost use Rattle.oneshot_world.specs.Calls.{calls_of};
 ghost use Rattle.oneshot_laws.specs.Marks.{marks};
 ghost use Rattle.oneshot_laws.specs.History.{has_legal_history};
 ghost use Rattle.oneshot_laws.specs.Idle.{is_idle_right};
+ghost use Rattle.oneshot_laws.specs.Places.{is_message_followed, is_message_ended};
+ghost use Rattle.oneshot_laws.specs.Holders.{is_freed_right};
+ghost use Rattle.oneshot_laws.specs.Laws.{is_gone_after_got, is_got_after_full, is_gone_after_closed, is_refused_after_closed, is_nothing_only_if_open, is_dropped_once};
+ghost use Rattle.oneshot_laws.specs.Alone.{are_lone_calls_right};
 ghost use Rattle.oneshot_replay.specs.Told.{IsReplayed};
 
 use crate::refused::Refused;
@@ -26,6 +30,16 @@ pub fn replay<T: Drop>(
     ensures an_entry_a_move { IfOk result (λ t. length t.entries ≡ length moves.now) }
     ensures idle { IfOk result (λ t. IsTrue (is_idle_right (calls_of s r) t.entries)) }
     ensures legal { IfOk result (λ t. IsTrue (has_legal_history (marks (calls_of s r) t.entries))) }
+    ensures message_followed { IfOk result (λ t. IsTrue (is_message_followed (calls_of s r) t.entries)) }
+    ensures message_ended { IfOk result (λ t. IsTrue (is_message_ended t.entries (marks (calls_of s r) t.entries))) }
+    ensures freed_right { IfOk result (λ t. IsTrue (is_freed_right (marks (calls_of s r) t.entries))) }
+    ensures gone_after_got { IfOk result (λ t. IsTrue (is_gone_after_got (marks (calls_of s r) t.entries))) }
+    ensures got_after_full { IfOk result (λ t. IsTrue (is_got_after_full (marks (calls_of s r) t.entries))) }
+    ensures gone_after_closed { IfOk result (λ t. IsTrue (is_gone_after_closed (marks (calls_of s r) t.entries))) }
+    ensures refused_after_closed { IfOk result (λ t. IsTrue (is_refused_after_closed (marks (calls_of s r) t.entries))) }
+    ensures nothing_only_if_open { IfOk result (λ t. IsTrue (is_nothing_only_if_open (marks (calls_of s r) t.entries))) }
+    ensures dropped_once { IfOk result (λ t. IsTrue (is_dropped_once (marks (calls_of s r) t.entries))) }
+    ensures lone_calls { IfOk result (λ t. IsTrue (are_lone_calls_right (marks (calls_of s r) t.entries))) }
     ensures sender_back { IfErr result (λ e. e.sender ≡ s) }
     ensures receiver_back { IfErr result (λ e. e.receiver ≡ r) }
 {

@@ -4,6 +4,13 @@ use Rattle.std.proofs.lemmas.List.{take_more, take_all}
 use Rattle.oneshot_world.specs.declared.script.Move.TheVariants.{Sender}
 use Rattle.oneshot_laws.proofs.IdleRuns.{idle_run}
 use Rattle.oneshot_laws.proofs.LegalRuns.{legal_run}
+use Rattle.oneshot_laws.proofs.MessagePath.{message_followed, message_ended}
+use Rattle.oneshot_laws.proofs.BlockHeld.{freed_right}
+use Rattle.oneshot_laws.proofs.Afterwards.{gone_after_got, gone_after_closed, refused_after_closed}
+use Rattle.oneshot_laws.proofs.NextReceive.{got_after_full}
+use Rattle.oneshot_laws.proofs.NothingYet.{nothing_only_if_open}
+use Rattle.oneshot_laws.proofs.DroppedOnce.{dropped_once}
+use Rattle.oneshot_laws.proofs.LoneCalls.{lone_calls_right}
 use Rattle.oneshot_replay.proofs.Runs.{grows, length-tells}
 use Rattle.oneshot_replay.proofs.run.replay.Goals as goal
 
@@ -30,3 +37,53 @@ pub returns-clause-legal : goal.returns-clause-legal
 returns-clause-legal g c =
     let run = c.loop-m.invariant.run in
     legal_run c.args.s c.args.r run.worlds _ c.loop-m.entries.items run.tells
+
+pub returns-clause-message_followed : goal.returns-clause-message_followed
+returns-clause-message_followed g c =
+    let run = c.loop-m.invariant.run in
+    message_followed c.args.s c.args.r run.worlds _ c.loop-m.entries.items run.tells
+
+pub returns-clause-message_ended : goal.returns-clause-message_ended
+returns-clause-message_ended g c =
+    let run = c.loop-m.invariant.run in
+    message_ended c.args.s c.args.r run.worlds _ c.loop-m.entries.items run.tells
+
+pub returns-clause-freed_right : goal.returns-clause-freed_right
+returns-clause-freed_right g c =
+    let run = c.loop-m.invariant.run in
+    freed_right c.args.s c.args.r run.worlds _ c.loop-m.entries.items run.tells
+
+pub returns-clause-gone_after_got : goal.returns-clause-gone_after_got
+returns-clause-gone_after_got g c =
+    let run = c.loop-m.invariant.run in
+    gone_after_got c.args.s c.args.r run.worlds _ c.loop-m.entries.items run.tells
+
+pub returns-clause-got_after_full : goal.returns-clause-got_after_full
+returns-clause-got_after_full g c =
+    let run = c.loop-m.invariant.run in
+    got_after_full c.args.s c.args.r run.worlds _ c.loop-m.entries.items run.tells
+
+pub returns-clause-gone_after_closed : goal.returns-clause-gone_after_closed
+returns-clause-gone_after_closed g c =
+    let run = c.loop-m.invariant.run in
+    gone_after_closed c.args.s c.args.r run.worlds _ c.loop-m.entries.items run.tells
+
+pub returns-clause-refused_after_closed : goal.returns-clause-refused_after_closed
+returns-clause-refused_after_closed g c =
+    let run = c.loop-m.invariant.run in
+    refused_after_closed c.args.s c.args.r run.worlds _ c.loop-m.entries.items run.tells
+
+pub returns-clause-nothing_only_if_open : goal.returns-clause-nothing_only_if_open
+returns-clause-nothing_only_if_open g c =
+    let run = c.loop-m.invariant.run in
+    nothing_only_if_open c.args.s c.args.r run.worlds _ c.loop-m.entries.items run.tells
+
+pub returns-clause-dropped_once : goal.returns-clause-dropped_once
+returns-clause-dropped_once g c =
+    let run = c.loop-m.invariant.run in
+    dropped_once c.args.s c.args.r run.worlds _ c.loop-m.entries.items run.tells
+
+pub returns-clause-lone_calls : goal.returns-clause-lone_calls
+returns-clause-lone_calls g c =
+    let run = c.loop-m.invariant.run in
+    lone_calls_right c.args.s c.args.r run.worlds _ c.loop-m.entries.items run.tells
