@@ -14,9 +14,11 @@ fn refused(alloc: Global, message: u64) -> Option<Rest<u64>>
     ensures { IfSome result (λ rest. rest ≡ Rest.InError message) }
 {
     let error = ErrorScript {
+        looks: 0,
         last: ErrorLast::Stop,
     };
     let sender = SenderScript {
+        looks: 0,
         last: SenderLast::Send(message, error),
     };
     let receiver = ReceiverScript {

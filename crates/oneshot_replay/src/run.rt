@@ -1,14 +1,16 @@
 //! A whole schedule at once.
 
 ghost use Rattle.std.specs.Prelude.{◌≡◌, IfOk, IfErr, IsTrue, length};
+ghost use Rattle.std.specs.Option.{option_map};
 ghost use Rattle.oneshot_world.specs.Calls.{calls_of};
 ghost use Rattle.oneshot_laws.specs.Marks.{marks};
 ghost use Rattle.oneshot_laws.specs.History.{has_legal_history};
 ghost use Rattle.oneshot_laws.specs.Idle.{is_idle_right};
-ghost use Rattle.oneshot_laws.specs.Places.{is_message_followed, is_message_ended};
-ghost use Rattle.oneshot_laws.specs.Holders.{is_freed_right};
+ghost use Rattle.oneshot_laws.specs.Places.{is_message_followed, is_message_ended, last_message_place};
+ghost use Rattle.oneshot_laws.specs.Holders.{is_freed, is_freed_right};
 ghost use Rattle.oneshot_laws.specs.Laws.{is_gone_after_got, is_got_after_full, is_gone_after_closed, is_refused_after_closed, is_nothing_only_if_open, is_dropped_once};
 ghost use Rattle.oneshot_laws.specs.Alone.{are_lone_calls_right};
+ghost use Rattle.oneshot_replay.specs.Rest.{message_of, rest_of};
 ghost use Rattle.oneshot_replay.specs.Told.{IsReplayed};
 
 use crate::refused::Refused;
@@ -33,6 +35,8 @@ pub fn replay<T: Drop>(
     ensures message_followed { IfOk result (λ t. IsTrue (is_message_followed (calls_of s r) t.entries)) }
     ensures message_ended { IfOk result (λ t. IsTrue (is_message_ended t.entries (marks (calls_of s r) t.entries))) }
     ensures freed_right { IfOk result (λ t. IsTrue (is_freed_right (marks (calls_of s r) t.entries))) }
+    ensures freed_as_shown { IfOk result (λ t. t.block_freed ≡ is_freed (marks (calls_of s r) t.entries)) }
+    ensures rest_as_shown { IfOk result (λ t. t.rest ≡ option_map (rest_of (last_message_place t.entries)) (message_of s.last)) }
     ensures gone_after_got { IfOk result (λ t. IsTrue (is_gone_after_got (marks (calls_of s r) t.entries))) }
     ensures got_after_full { IfOk result (λ t. IsTrue (is_got_after_full (marks (calls_of s r) t.entries))) }
     ensures gone_after_closed { IfOk result (λ t. IsTrue (is_gone_after_closed (marks (calls_of s r) t.entries))) }

@@ -1,6 +1,7 @@
 -- One more move, and the end of the run.
-use Rattle.std.proofs.Common.{rules, ◌≡◌, take}
+use Rattle.std.proofs.Common.{rules, ◌≡◌, take, sym, ap, ◌∙◌}
 use Rattle.std.proofs.lemmas.List.{take_more, take_all}
+use Rattle.oneshot_world.specs.World.{World}
 use Rattle.oneshot_world.specs.declared.script.Move.TheVariants.{Sender}
 use Rattle.oneshot_laws.proofs.IdleRuns.{idle_run}
 use Rattle.oneshot_laws.proofs.LegalRuns.{legal_run}
@@ -11,7 +12,9 @@ use Rattle.oneshot_laws.proofs.NextReceive.{got_after_full}
 use Rattle.oneshot_laws.proofs.NothingYet.{nothing_only_if_open}
 use Rattle.oneshot_laws.proofs.DroppedOnce.{dropped_once}
 use Rattle.oneshot_laws.proofs.LoneCalls.{lone_calls_right}
+use Rattle.oneshot_replay.specs.Rest.{message_of, rest_at}
 use Rattle.oneshot_replay.proofs.Runs.{grows, length-tells}
+use Rattle.oneshot_replay.proofs.Tied.{freed_shown, rest_shown}
 use Rattle.oneshot_replay.proofs.run.replay.Goals as goal
 
 pub loop-m-preserved : goal.loop-m-preserved
@@ -87,3 +90,16 @@ pub returns-clause-lone_calls : goal.returns-clause-lone_calls
 returns-clause-lone_calls g c =
     let run = c.loop-m.invariant.run in
     lone_calls_right c.args.s c.args.r run.worlds _ c.loop-m.entries.items run.tells
+
+pub returns-clause-freed_as_shown : goal.returns-clause-freed_as_shown
+returns-clause-freed_as_shown g c =
+    let run = c.loop-m.invariant.run in
+    ap (λ (w : World). w.state.freed) (sym run.ends)
+    ∙ freed_shown c.args.s c.args.r run.worlds _ c.loop-m.entries.items run.tells
+
+pub returns-clause-rest_as_shown : goal.returns-clause-rest_as_shown
+returns-clause-rest_as_shown g c =
+    let run = c.loop-m.invariant.run in
+    ap (rest_at c.loop-m.end.world.state.message) c.loop-m.invariant.message
+    ∙ ap (λ (w : World). rest_at w.state.message (message_of c.args.s.last)) (sym run.ends)
+    ∙ rest_shown c.args.s c.args.r run.worlds _ c.loop-m.entries.items run.tells

@@ -1,0 +1,138 @@
+-- What a trace answers besides its entries is what the entries show: whether the block is freed, and the message's last place.
+use Rattle.std.proofs.Common.{◌≡◌, ℕ, ◌+◌, Bool, true, false, ◌||◌, List, [], ◌∷◌, Option, Some, None, refl, ◌∙◌, ap}
+use Rattle.std.specs.List.{list_any, cons_option}
+use Rattle.std.specs.Option.{option_map}
+use Rattle.oneshot_machine.specs.Receiver.{receiver_step}
+use Rattle.oneshot_machine.specs.Sender.{sender_step}
+use Rattle.oneshot_machine.specs.declared.machine.End.{End}
+use Rattle.oneshot_machine.specs.declared.machine.Step.{Step}
+use Rattle.oneshot_machine.specs.declared.machine.Step.TheVariants as T
+use Rattle.oneshot_world.specs.Calls.{calls_of}
+use Rattle.oneshot_world.specs.State.{freed_by, place_left, move_of, sender_puts, receiver_puts, reply_of}
+use Rattle.oneshot_world.specs.World.{World, Tells, opening, opening_place, side_of}
+use Rattle.oneshot_world.specs.declared.script.Move.{Move}
+use Rattle.oneshot_world.specs.declared.script.ReceiverScript.{ReceiverScript}
+use Rattle.oneshot_world.specs.declared.script.SenderLast.{SenderLast}
+use Rattle.oneshot_world.specs.declared.script.SenderLast.TheVariants as SL
+use Rattle.oneshot_world.specs.declared.script.SenderScript.{SenderScript}
+use Rattle.oneshot_world.specs.declared.trace.Entry.{Entry}
+use Rattle.oneshot_world.specs.declared.trace.Entry.TheVariants.{Idle, Made as Made_entry}
+use Rattle.oneshot_world.specs.declared.trace.Place.{Place}
+use Rattle.oneshot_world.specs.declared.trace.Place.TheVariants.{NotSent}
+use Rattle.oneshot_world.proofs.Reached.{sender_world, receiver_world}
+use Rattle.oneshot_world.proofs.Turned.{Turned, sender_idle, sender_made, receiver_idle, receiver_made, turned}
+use Rattle.oneshot_laws.specs.Words.{is_free}
+use Rattle.oneshot_laws.specs.Object.{Object}
+use Rattle.oneshot_laws.specs.Marks.{Reading, marks, marks_from}
+use Rattle.oneshot_laws.specs.Holders.{frees, is_freed}
+use Rattle.oneshot_laws.specs.Places.{steps, last_place, message_moves, last_message_place}
+use Rattle.oneshot_replay.specs.Rest.{message_of, rest_of, rest_at}
+use Rattle.oneshot_replay.specs.Told.{last_of}
+
+or_more : (a b c : Bool) → ((a || b) || c) ≡ (a || (b || c))
+or_more true b c = refl
+or_more false b c = refl
+
+or_false : (b : Bool) → b ≡ (b || false)
+or_false true = refl
+or_false false = refl
+
+or_true : (b : Bool) → true ≡ (b || true)
+or_true true = refl
+or_true false = refl
+
+freed_at : (freed : Bool) (step : Step) → freed_by freed step ≡ (freed || is_free step)
+freed_at freed (T.Word op) = or_false freed
+freed_at freed T.WriteMessage = or_false freed
+freed_at freed T.TakeMessage = or_false freed
+freed_at freed T.DropMessage = or_false freed
+freed_at freed T.Free = or_true freed
+freed_at freed T.Plain = or_false freed
+
+-- the block is freed where an entry freed it
+abbrev FreedClaim : List Entry → Type 0
+FreedClaim entries = (w : World) (worlds : List World) (moves : List Move) → Tells w worlds moves entries → (last_of w worlds).state.freed ≡ (w.state.freed || list_any (λ e. is_free e.step) (steps entries))
+
+freed_on : (freed : Bool) (step : Step) (later : Bool) (last : Bool) → last ≡ (freed_by freed step || later) → last ≡ (freed || (is_free step || later))
+freed_on freed step later last h = h ∙ ap (λ now. now || later) (freed_at freed step) ∙ or_more freed (is_free step) later
+
+freed_turn : (entries : List Entry) → FreedClaim entries → (side : End) (w : World) (entry : Entry) (next : World) (worlds : List World) (moves : List Move) → Turned w side entry next → Tells next worlds moves entries → (last_of next worlds).state.freed ≡ (w.state.freed || list_any (λ e. is_free e.step) (steps (entry ∷ entries)))
+freed_turn entries later _ w _ _ worlds moves (sender_idle at) told = later w worlds moves told
+freed_turn entries later _ w _ _ worlds moves (receiver_idle at) told = later w worlds moves told
+freed_turn entries later _ w _ _ worlds moves (sender_made position row at by) told =
+    freed_on w.state.freed (sender_step position) _ _ (later (sender_world w (sender_step position) row) worlds moves told)
+freed_turn entries later _ w _ _ worlds moves (receiver_made position row at by) told =
+    freed_on w.state.freed (receiver_step position) _ _ (later (receiver_world w (receiver_step position) row) worlds moves told)
+
+freed_steps : (entries : List Entry) → FreedClaim entries
+freed_steps [] w [] [] told = or_false w.state.freed
+freed_steps [] w (next ∷ worlds) [] told = elim told [ ]
+freed_steps [] w (next ∷ worlds) (move ∷ moves) told = elim told [ ]
+freed_steps [] w [] (move ∷ moves) told = elim told [ ]
+freed_steps (entry ∷ entries) w (next ∷ worlds) (move ∷ moves) told =
+    freed_turn entries (freed_steps entries) (side_of move) w entry next worlds moves (turned (side_of move) w (entry, next) told.0) told.1
+freed_steps (entry ∷ entries) w [] [] told = elim told [ ]
+freed_steps (entry ∷ entries) w [] (move ∷ moves) told = elim told [ ]
+freed_steps (entry ∷ entries) w (next ∷ worlds) [] told = elim told [ ]
+
+freed_marks : (es : List Entry) (s r : Reading) (n : ℕ) (o : Object) → list_any (λ e. is_free e.step) (steps es) ≡ list_any frees (marks_from s r n o es)
+freed_marks [] s r n o = refl
+freed_marks (Idle side ∷ es) s r n o = freed_marks es s r (n + 1) o
+freed_marks (Made_entry e ∷ es) s r n o = ap (λ later. is_free e.step || later) (freed_marks es _ _ _ _)
+
+pub freed_shown : {T : Type 0} (s : SenderScript T) (r : ReceiverScript) (worlds : List World) (moves : List Move) (entries : List Entry) → Tells (opening s r) worlds moves entries → (last_of (opening s r) worlds).state.freed ≡ is_freed (marks (calls_of s r) entries)
+freed_shown s r worlds moves entries told =
+    freed_steps entries (opening s r) worlds moves told ∙ freed_marks entries _ _ 1 _
+
+-- the message's place, by the move that a step shows
+abbrev moved_to : Place → Option Place → Place
+moved_to from None = from
+moved_to from (Some to) = to
+
+moved_on : (place : Option Place) (from : Place) (to : Option Place) → place ≡ Some from → place_left place to ≡ Some (moved_to from to)
+moved_on place from None is = rw is refl
+moved_on place from (Some to) is = rw is refl
+
+last_on : (place : Option Place) (from : Place) (to : Option Place) (later : List (Place × Place)) → place ≡ Some from → last_place (moved_to from to) later ≡ last_place from (cons_option (move_of place to) later)
+last_on place from None later is = rw is refl
+last_on place from (Some to) later is = rw is refl
+
+abbrev PlaceClaim : List Entry → Type 0
+PlaceClaim entries = (w : World) (from : Place) (worlds : List World) (moves : List Move) → w.state.message ≡ Some from → Tells w worlds moves entries → (last_of w worlds).state.message ≡ Some (last_place from (message_moves entries))
+
+place_turn : (entries : List Entry) → PlaceClaim entries → (side : End) (w : World) (entry : Entry) (next : World) (from : Place) (worlds : List World) (moves : List Move) → Turned w side entry next → w.state.message ≡ Some from → Tells next worlds moves entries → (last_of next worlds).state.message ≡ Some (last_place from (message_moves (entry ∷ entries)))
+place_turn entries later _ w _ _ from worlds moves (sender_idle at) is told = later w from worlds moves is told
+place_turn entries later _ w _ _ from worlds moves (receiver_idle at) is told = later w from worlds moves is told
+place_turn entries later _ w _ _ from worlds moves (sender_made position row at by) is told =
+    let to : Option Place = sender_puts (sender_step position) (reply_of row) in
+    later (sender_world w (sender_step position) row) (moved_to from to) worlds moves (moved_on w.state.message from to is) told
+    ∙ ap (λ (place : Place). Some place) (last_on w.state.message from to (message_moves entries) is)
+place_turn entries later _ w _ _ from worlds moves (receiver_made position row at by) is told =
+    let to : Option Place = receiver_puts (receiver_step position) in
+    later (receiver_world w (receiver_step position) row) (moved_to from to) worlds moves (moved_on w.state.message from to is) told
+    ∙ ap (λ (place : Place). Some place) (last_on w.state.message from to (message_moves entries) is)
+
+place_steps : (entries : List Entry) → PlaceClaim entries
+place_steps [] w from [] [] is told = is
+place_steps [] w from (next ∷ worlds) [] is told = elim told [ ]
+place_steps [] w from (next ∷ worlds) (move ∷ moves) is told = elim told [ ]
+place_steps [] w from [] (move ∷ moves) is told = elim told [ ]
+place_steps (entry ∷ entries) w from (next ∷ worlds) (move ∷ moves) is told =
+    place_turn entries (place_steps entries) (side_of move) w entry next from worlds moves (turned (side_of move) w (entry, next) told.0) is told.1
+place_steps (entry ∷ entries) w from [] [] is told = elim told [ ]
+place_steps (entry ∷ entries) w from [] (move ∷ moves) is told = elim told [ ]
+place_steps (entry ∷ entries) w from (next ∷ worlds) [] is told = elim told [ ]
+
+no_rest : {T : Type 0} (place : Option Place) → rest_at {T = T} place None ≡ None
+no_rest None = refl
+no_rest (Some place) = refl
+
+rest_shown_by : {T : Type 0} (last : SenderLast T) (place : Option Place) (shown : Place) → (opening_place last ≡ Some NotSent → place ≡ Some shown) → rest_at place (message_of last) ≡ option_map (rest_of shown) (message_of last)
+rest_shown_by (SL.Send message error) place shown is = rw (is refl) refl
+rest_shown_by SL.Drop place shown is = no_rest place
+rest_shown_by SL.Stop place shown is = no_rest place
+
+pub rest_shown : {T : Type 0} (s : SenderScript T) (r : ReceiverScript) (worlds : List World) (moves : List Move) (entries : List Entry) → Tells (opening s r) worlds moves entries → rest_at (last_of (opening s r) worlds).state.message (message_of s.last) ≡ option_map (rest_of (last_message_place entries)) (message_of s.last)
+rest_shown s r worlds moves entries told =
+    rest_shown_by s.last (last_of (opening s r) worlds).state.message (last_message_place entries)
+    (λ is. place_steps entries (opening s r) NotSent worlds moves is told)
