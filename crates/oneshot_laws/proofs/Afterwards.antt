@@ -67,7 +67,7 @@ module _ (test good : Glance → Bool) (found : Tree (Watched (Pair Bool))) (all
   ever_after : {T : Type 0} (s : SenderScript T) (r : ReceiverScript) (worlds : List World) (moves : List Move) (entries : List Entry) → Tells (opening s r) worlds moves entries → after_each (λ m. test (glance_of m)) (list_all (λ m. good (glance_of m))) (marks (calls_of s r) entries) ≡ true
   ever_after s r worlds moves entries tells =
       good_after test good (marks (calls_of s r) entries) false
-        (passes_run 2 bool_code is_same_flag (good_then test good) (flag_then test good) bool_is (λ place. false) found all s r worlds moves entries tells)
+      (passes_run 2 bool_code is_same_flag (good_then test good) (flag_then test good) bool_is (λ place. false) found all s r worlds moves entries tells)
 
 -- gone once the message was got
 abbrev got : Glance → Bool

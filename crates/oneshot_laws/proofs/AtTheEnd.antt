@@ -78,7 +78,7 @@ module _ {X : Type 0} (own_then : X → Glance → X) (good : X → Bool) where
   fine_at_end [] k fine p = over_now k.sender k.receiver k.refused k.error _ fine
   fine_at_end (m ∷ ms) k fine p =
       over_later k.sender _ (has_answered is_end_of_sender ms) k.receiver _ (has_answered is_end_of_receiver ms) k.refused _ (is_refused ms) k.error _ (has_answered is_end_of_error ms) _
-        (fine_at_end ms (kept_then k (glance_of m)) p.0 p.1)
+      (fine_at_end ms (kept_then k (glance_of m)) p.0 p.1)
 
 module _ {X : Type 0} (width : ℕ) (code : X → ℕ) (is_same : X → X → Bool) where
   abbrev pub kept_code : Kept X → ℕ
@@ -123,4 +123,4 @@ module _ {X : Type 0} (width : ℕ) (code : X → ℕ) (is_same : X → X → Bo
   pub at_the_end : {T : Type 0} (s : SenderScript T) (r : ReceiverScript) (worlds : List World) (moves : List Move) (entries : List Entry) → Tells (opening s r) worlds moves entries → only_if (all_ended (marks (calls_of s r) entries)) (good (own_after own_then good (first (opening_place s.last)) (map glance_of (marks (calls_of s r) entries)))) ≡ true
   at_the_end s r worlds moves entries tells =
       fine_at_end own_then good (marks (calls_of s r) entries) (nothing_ended (first (opening_place s.last))) refl
-        (passes_run (16 * width) (kept_code width code is_same) (is_same_kept width code is_same) (stays_fine own_then good) (kept_then own_then good) kept_is (λ place. nothing_ended (first place)) found all s r worlds moves entries tells)
+      (passes_run (16 * width) (kept_code width code is_same) (is_same_kept width code is_same) (stays_fine own_then good) (kept_then own_then good) kept_is (λ place. nothing_ended (first place)) found all s r worlds moves entries tells)

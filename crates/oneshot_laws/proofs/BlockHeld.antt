@@ -75,7 +75,7 @@ all_held = refl
 held_run : {T : Type 0} (s : SenderScript T) (r : ReceiverScript) (worlds : List World) (moves : List Move) (entries : List Entry) → Tells (opening s r) worlds moves entries → is_held both_hold (marks (calls_of s r) entries) ≡ true
 held_run s r worlds moves entries tells =
     held (marks (calls_of s r) entries) both_hold
-      (passes_run 4 holders_code is_same_holders is_used_by_holder then_held holders_are (λ place. both_hold) held_found all_held s r worlds moves entries tells)
+    (passes_run 4 holders_code is_same_holders is_used_by_holder then_held holders_are (λ place. both_hold) held_found all_held s r worlds moves entries tells)
 
 -- nothing uses the block after a free; the flag is whether it was freed
 abbrev is_unused : Bool → Glance → Bool
@@ -122,7 +122,7 @@ all_unused = refl
 free_last_run : {T : Type 0} (s : SenderScript T) (r : ReceiverScript) (worlds : List World) (moves : List Move) (entries : List Entry) → Tells (opening s r) worlds moves entries → is_free_last (marks (calls_of s r) entries) ≡ true
 free_last_run s r worlds moves entries tells =
     free_last (marks (calls_of s r) entries) false
-      (passes_run 2 bool_code is_same_flag is_unused freed_then bool_is (λ place. false) unused_found all_unused s r worlds moves entries tells)
+    (passes_run 2 bool_code is_same_flag is_unused freed_then bool_is (λ place. false) unused_found all_unused s r worlds moves entries tells)
 
 -- once all have ended the block is freed
 abbrev is_true : Bool → Bool
@@ -143,10 +143,10 @@ all_freed = refl
 freed_at_end : {T : Type 0} (s : SenderScript T) (r : ReceiverScript) (worlds : List World) (moves : List Move) (entries : List Entry) → Tells (opening s r) worlds moves entries → is_freed_at_end (marks (calls_of s r) entries) ≡ true
 freed_at_end s r worlds moves entries tells =
     subst (λ freed. only_if (all_ended (marks (calls_of s r) entries)) freed ≡ true) (freed_after (marks (calls_of s r) entries) false)
-      (at_the_end 2 bool_code is_same_flag freed_then is_true (λ place. false) bool_is freed_found all_freed s r worlds moves entries tells)
+    (at_the_end 2 bool_code is_same_flag freed_then is_true (λ place. false) bool_is freed_found all_freed s r worlds moves entries tells)
 
 pub freed_right : {T : Type 0} (s : SenderScript T) (r : ReceiverScript) (worlds : List World) (moves : List Move) (entries : List Entry) → Tells (opening s r) worlds moves entries → is_freed_right (marks (calls_of s r) entries) ≡ true
 freed_right s r worlds moves entries tells =
     both _ _
-      (both _ _ (held_run s r worlds moves entries tells) (free_last_run s r worlds moves entries tells))
-      (freed_at_end s r worlds moves entries tells)
+    (both _ _ (held_run s r worlds moves entries tells) (free_last_run s r worlds moves entries tells))
+    (freed_at_end s r worlds moves entries tells)

@@ -124,7 +124,7 @@ one_by_receiver (m ∷ []) h =
     elim (is_drop_of_receiver m.call) as (λ b. is_by_receiver (one_more b Never) ≡ true → b ≡ true) [ true ↦ λ h. refl | false ↦ λ h. h ] h
 one_by_receiver (m ∷ n ∷ ms) h =
     let wrong : (one_more (is_drop_of_receiver n.call) (one_more (is_drop_of_receiver m.call) Never)) ≡ Wrongly =
-      elim (is_drop_of_receiver m.call) as (λ b. one_more (is_drop_of_receiver n.call) (one_more b Never) ≡ Wrongly) [ true ↦ refl | false ↦ refl ]
+    elim (is_drop_of_receiver m.call) as (λ b. one_more (is_drop_of_receiver n.call) (one_more b Never) ≡ Wrongly) [ true ↦ refl | false ↦ refl ]
     in absurd (cc (h, wrong, stays_wrong ms))
 
 -- the claim on what is told, with what was told before
@@ -180,5 +180,5 @@ with_drops false ms h = refl
 pub dropped_once : {T : Type 0} (s : SenderScript T) (r : ReceiverScript) (worlds : List World) (moves : List Move) (entries : List Entry) → Tells (opening s r) worlds moves entries → is_dropped_once (marks (calls_of s r) entries) ≡ true
 dropped_once s r worlds moves entries tells =
     with_drops _ (filter is_dropping (marks (calls_of s r) entries))
-      (ends_well (marks (calls_of s r) entries) nothing_told refl
-        (passes_run 24 story_code is_same_story goes_well story_then story_is (λ place. nothing_told) found all_found s r worlds moves entries tells))
+    (ends_well (marks (calls_of s r) entries) nothing_told refl
+    (passes_run 24 story_code is_same_story goes_well story_then story_is (λ place. nothing_told) found all_found s r worlds moves entries tells))

@@ -82,5 +82,5 @@ module _ {N : Type 0} (width : ℕ) (code : N → ℕ) (is_same : N → N → Bo
   pub passes_run : {T : Type 0} (s : SenderScript T) (r : ReceiverScript) (worlds : List World) (moves : List Move) (entries : List Entry) → Tells (opening s r) worlds moves entries → Passes passes sees (first (opening_place s.last)) (map glance_of (marks (calls_of s r) entries))
   passes_run s r worlds moves entries told =
       subst (λ gs. Passes passes sees (first (opening_place s.last)) gs) (sym (marks_run s r worlds moves entries told).1)
-        (glanced width code is_same passes sees entries (first_pair width code is_same passes sees first (opening_place s.last)) (opening s r).sender (opening s r).receiver
-          (accepted_run (65536 * width) (pair_code width code is_same passes sees) (is_same_pair width code is_same passes sees) (pair_accepts width code is_same passes sees) (pair_reads width code is_same passes sees) pair_is (first_pair width code is_same passes sees first) found all s r worlds moves entries told))
+      (glanced width code is_same passes sees entries (first_pair width code is_same passes sees first (opening_place s.last)) (opening s r).sender (opening s r).receiver
+      (accepted_run (65536 * width) (pair_code width code is_same passes sees) (is_same_pair width code is_same passes sees) (pair_accepts width code is_same passes sees) (pair_reads width code is_same passes sees) pair_is (first_pair width code is_same passes sees first) found all s r worlds moves entries told))

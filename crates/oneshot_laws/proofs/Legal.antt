@@ -260,11 +260,11 @@ more_than_none (y ∷ xs) x = refl
 follows_on : (call next : Call) (x : Watch) (earlier : List Made) (e : Made) (o : Object) (a : Option Reply) → FollowsAt call x earlier → has_reply (hits (kind call) e x) (due call o) ≡ true → (a ≡ None → next ≡ call) → FollowsAt next (record { begun = until_reply a true false; owes = until_reply a (owes_then call e o x) None; worked = until_reply a (x.worked || works_on_word e) false }) (until_reply a (earlier ++ e ∷ []) [])
 follows_on call next x earlier e o None f has same =
     subst (λ c. FollowsAt c (record { begun = true; owes = owes_then call e o x; worked = x.worked || works_on_word e }) (earlier ++ e ∷ [])) (sym (same refl))
-      (record {
-        begun = more_than_none earlier e;
-        acted = any_more (hit (kind call)) earlier e ∙ ap (λ b. b || hit (kind call) e) f.acted ∙ sym (owed_is (hit (kind call) e) x.owes (due call o) has);
-        worked = any_more works_on_word earlier e ∙ ap (λ b. b || works_on_word e) f.worked;
-      })
+    (record {
+      begun = more_than_none earlier e;
+      acted = any_more (hit (kind call)) earlier e ∙ ap (λ b. b || hit (kind call) e) f.acted ∙ sym (owed_is (hit (kind call) e) x.owes (due call o) has);
+      worked = any_more works_on_word earlier e ∙ ap (λ b. b || works_on_word e) f.worked;
+    })
 follows_on call next x earlier e o (Some r) f has same = record { begun = refl; acted = refl; worked = refl }
 
 pub record Follows (m : Reader) (s r : Reading) : Type 0 where
@@ -352,11 +352,11 @@ mark_right : (n : ℕ) (o : Object) (at : Reading) (x : Watch) (e : Made) (later
 unfolding glance_with
 mark_right n o at x e later f right ok =
     let call : Call = call_under_way at.left in
-    let last = same_last call _ (hits (kind call) e x) right.acts in
-    ( record { legal = right.legal; complete = right.complete; outside = answers_as_ever call e o x ok; covered = not_stray call e o x ok }
-    , ap (λ begins. glance_with e call begins (acts_last (mark_at n o at e (until_reply e.reply later []))) o (object_then (mark_at n o at e (until_reply e.reply later [])))) f.begun
-      ∙ ap (λ last. glance_with e call (not x.begun) last o (object_then (mark_at n o at e (until_reply e.reply later [])))) last
-      ∙ ap (λ next. glance_with e call (not x.begun) (hits (kind call) e x && (is_end_of_sender call || is_end_of_receiver call)) o next) right.object
+    let last = same_last call _ (hits (kind call) e x) right.acts in (
+      record { legal = right.legal; complete = right.complete; outside = answers_as_ever call e o x ok; covered = not_stray call e o x ok },
+      ap (λ begins. glance_with e call begins (acts_last (mark_at n o at e (until_reply e.reply later []))) o (object_then (mark_at n o at e (until_reply e.reply later [])))) f.begun
+          ∙ ap (λ last. glance_with e call (not x.begun) last o (object_then (mark_at n o at e (until_reply e.reply later [])))) last
+          ∙ ap (λ next. glance_with e call (not x.begun) (hits (kind call) e x && (is_end_of_sender call || is_end_of_receiver call)) o next) right.object,
     )
 
 same_left : (left : Unanswered) (d : End) (a : Option Reply) → a ≡ None → call_under_way (left_by d a left) ≡ call_under_way left
@@ -370,31 +370,31 @@ legal_at : (d : End) (e : Made) (es : List Entry) → Claim es → (m : Reader) 
 legal_at Sender e es later m s r n f go =
     let call : Call = call_under_way s.left in
     let right = local_right call m.object m.sender s.earlier e (to_reply Sender es) f.sender go.0
-      (λ y h. answer_pays Sender e es y (pays_in Sender es y) m s.left r.left h go)
-      (λ is h. answer_says Sender e es call is (says_in Sender es call is) m s.left r.left refl go h) in
+    (λ y h. answer_pays Sender e es y (pays_in Sender es y) m s.left r.left h go)
+    (λ is h. answer_says Sender e es call is (says_in Sender es call is) m s.left r.left refl go h) in
     with_later _ _ _ _
-      (mark_right n m.object s m.sender e (to_reply Sender es) f.sender right go.0)
-      (subst (λ o. MarksRight (marks_from (read_by Sender s e) r (n + 1) o es) (glances (reads Sender call e m) (left_by Sender e.reply s.left) r.left es)) (sym right.object)
-        (later (reads Sender call e m) (read_by Sender s e) r (n + 1)
-          (record {
-            sender = follows_on call (call_under_way (left_by Sender e.reply s.left)) m.sender s.earlier e m.object e.reply f.sender (and_left _ _ go.0) (same_left s.left Sender e.reply);
-            receiver = f.receiver;
-          })
-          go.1))
+    (mark_right n m.object s m.sender e (to_reply Sender es) f.sender right go.0)
+    (subst (λ o. MarksRight (marks_from (read_by Sender s e) r (n + 1) o es) (glances (reads Sender call e m) (left_by Sender e.reply s.left) r.left es)) (sym right.object)
+    (later (reads Sender call e m) (read_by Sender s e) r (n + 1)
+    (record {
+      sender = follows_on call (call_under_way (left_by Sender e.reply s.left)) m.sender s.earlier e m.object e.reply f.sender (and_left _ _ go.0) (same_left s.left Sender e.reply);
+      receiver = f.receiver;
+    })
+    go.1))
 legal_at Receiver e es later m s r n f go =
     let call : Call = call_under_way r.left in
     let right = local_right call m.object m.receiver r.earlier e (to_reply Receiver es) f.receiver go.0
-      (λ y h. answer_pays Receiver e es y (pays_in Receiver es y) m s.left r.left h go)
-      (λ is h. answer_says Receiver e es call is (says_in Receiver es call is) m s.left r.left refl go h) in
+    (λ y h. answer_pays Receiver e es y (pays_in Receiver es y) m s.left r.left h go)
+    (λ is h. answer_says Receiver e es call is (says_in Receiver es call is) m s.left r.left refl go h) in
     with_later _ _ _ _
-      (mark_right n m.object r m.receiver e (to_reply Receiver es) f.receiver right go.0)
-      (subst (λ o. MarksRight (marks_from s (read_by Receiver r e) (n + 1) o es) (glances (reads Receiver call e m) s.left (left_by Receiver e.reply r.left) es)) (sym right.object)
-        (later (reads Receiver call e m) s (read_by Receiver r e) (n + 1)
-          (record {
-            sender = f.sender;
-            receiver = follows_on call (call_under_way (left_by Receiver e.reply r.left)) m.receiver r.earlier e m.object e.reply f.receiver (and_left _ _ go.0) (same_left r.left Receiver e.reply);
-          })
-          go.1))
+    (mark_right n m.object r m.receiver e (to_reply Receiver es) f.receiver right go.0)
+    (subst (λ o. MarksRight (marks_from s (read_by Receiver r e) (n + 1) o es) (glances (reads Receiver call e m) s.left (left_by Receiver e.reply r.left) es)) (sym right.object)
+    (later (reads Receiver call e m) s (read_by Receiver r e) (n + 1)
+    (record {
+      sender = f.sender;
+      receiver = follows_on call (call_under_way (left_by Receiver e.reply r.left)) m.receiver r.earlier e m.object e.reply f.receiver (and_left _ _ go.0) (same_left r.left Receiver e.reply);
+    })
+    go.1))
 
 pub all_right : (es : List Entry) → Claim es
 all_right [] m s r n f a = (tt, refl)

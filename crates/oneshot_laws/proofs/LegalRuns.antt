@@ -32,8 +32,8 @@ run_accepted s r worlds moves entries told =
 pub marks_run : {T : Type 0} (s : SenderScript T) (r : ReceiverScript) (worlds : List World) (moves : List Move) (entries : List Entry) → Tells (opening s r) worlds moves entries → MarksRight (marks (calls_of s r) entries) (glances new_reader (opening s r).sender (opening s r).receiver entries)
 marks_run s r worlds moves entries told =
     all_right entries new_reader (sender_reading (calls_of s r)) (receiver_reading (calls_of s r)) 1
-      (record { sender = new_follows (opening s r).sender; receiver = new_follows (opening s r).receiver })
-      (run_accepted s r worlds moves entries told)
+    (record { sender = new_follows (opening s r).sender; receiver = new_follows (opening s r).receiver })
+    (run_accepted s r worlds moves entries told)
 
 pub legal_run : {T : Type 0} (s : SenderScript T) (r : ReceiverScript) (worlds : List World) (moves : List Move) (entries : List Entry) → Tells (opening s r) worlds moves entries → has_legal_history (marks (calls_of s r) entries) ≡ true
 legal_run s r worlds moves entries told = legal (marks (calls_of s r) entries) (marks_run s r worlds moves entries told).0

@@ -102,15 +102,15 @@ lone_claim ms Nobody p = refl
 lone_claim [] (Of end o) p = refl
 lone_claim (m ∷ ms) (Of end o) p =
     going_on (is_same_end (side m) end) m.begins (ends m) (Of end o) (Of (side m) m.object) (answers_as (glance_of m)) (claim ms) p.0
-      (lone_claim ms (lone_then (Of end o) (glance_of m)) p.1)
+    (lone_claim ms (lone_then (Of end o) (glance_of m)) p.1)
 
 lone_calls : (ms : List Mark) (lone : Lone) → Passes answers_alone lone_then lone (map glance_of ms) → are_lone_calls_right ms ≡ true
 lone_calls [] lone p = refl
 lone_calls (m ∷ ms) lone p =
     both _ _
-      (beginning m.begins (m.begins && is_of (side m) lone) (ends m) (not (is_same_end (side m) (side m))) (still (side m) lone) (Of (side m) m.object) (answers_as (glance_of m)) (claim ms) p.0
-        (lone_claim ms (lone_then lone (glance_of m)) p.1))
-      (lone_calls ms _ p.1)
+    (beginning m.begins (m.begins && is_of (side m) lone) (ends m) (not (is_same_end (side m) (side m))) (still (side m) lone) (Of (side m) m.object) (answers_as (glance_of m)) (claim ms) p.0
+    (lone_claim ms (lone_then lone (glance_of m)) p.1))
+    (lone_calls ms _ p.1)
 
 found : Tree (Watched (Pair Lone))
 found = glanced_from 64 lone_code is_same_lone answers_alone lone_then (λ place. Nobody)
@@ -122,4 +122,4 @@ all_found = refl
 pub lone_calls_right : {T : Type 0} (s : SenderScript T) (r : ReceiverScript) (worlds : List World) (moves : List Move) (entries : List Entry) → Tells (opening s r) worlds moves entries → are_lone_calls_right (marks (calls_of s r) entries) ≡ true
 lone_calls_right s r worlds moves entries tells =
     lone_calls (marks (calls_of s r) entries) Nobody
-      (passes_run 64 lone_code is_same_lone answers_alone lone_then lone_is (λ place. Nobody) found all_found s r worlds moves entries tells)
+    (passes_run 64 lone_code is_same_lone answers_alone lone_then lone_is (λ place. Nobody) found all_found s r worlds moves entries tells)

@@ -99,11 +99,11 @@ all_on_path = refl
 pub message_followed : {T : Type 0} (s : SenderScript T) (r : ReceiverScript) (worlds : List World) (moves : List Move) (entries : List Entry) → Tells (opening s r) worlds moves entries → is_message_followed (calls_of s r) entries ≡ true
 message_followed s r worlds moves entries tells =
     let at_marks = path (marks (calls_of s r) entries) (opening_place s.last)
-      (passes_run 8 some_place_code is_same_some_place moves_rightly place_then some_place_is (λ place. place) path_found all_on_path s r worlds moves entries tells) in
+    (passes_run 8 some_place_code is_same_some_place moves_rightly place_then some_place_is (λ place. place) path_found all_on_path s r worlds moves entries tells) in
     let at_entries : IsPath (is_some (opening_place s.last)) (or_not_sent (opening_place s.last)) (message_moves entries) =
-      subst (IsPath _ _) (sym (shown entries _ _ 1 _)) at_marks in
+    subst (IsPath _ _) (sym (shown entries _ _ 1 _)) at_marks in
     let from_start : IsPath (is_some (opening_place s.last)) NotSent (message_moves entries) =
-      subst (λ place. IsPath (is_some (opening_place s.last)) place (message_moves entries)) (begins_there s.last) at_entries in
+    subst (λ place. IsPath (is_some (opening_place s.last)) place (message_moves entries)) (begins_there s.last) at_entries in
     subst (λ has. IsPath has NotSent (message_moves entries)) (has_it s.last ∙ sym (sends_after_looks s.looks (sender_last s.last))) from_start
 
 -- whether a send was made, and where the message is
@@ -168,6 +168,6 @@ pub message_ended : {T : Type 0} (s : SenderScript T) (r : ReceiverScript) (worl
 message_ended s r worlds moves entries tells =
     let last = place_after (marks (calls_of s r) entries) not_sent_yet ∙ sym (ap (last_place NotSent) (shown entries _ _ 1 _)) in
     if_both (all_ended (marks (calls_of s r) entries)) (list_any (λ m. is_send m.call) (marks (calls_of s r) entries)) (is_message_end (last_message_place entries))
-      (subst (λ begun. only_if (all_ended (marks (calls_of s r) entries)) (only_if begun (is_message_end (last_message_place entries))) ≡ true) (begun_after (marks (calls_of s r) entries) not_sent_yet)
-      (subst (λ place. only_if (all_ended (marks (calls_of s r) entries)) (only_if (own_after sending_then is_with_somebody not_sent_yet (map glance_of (marks (calls_of s r) entries))).begun (is_message_end place)) ≡ true) last
-      (at_the_end 16 sending_code is_same_sending sending_then is_with_somebody (λ place. not_sent_yet) sending_is end_found all_at_end s r worlds moves entries tells)))
+    (subst (λ begun. only_if (all_ended (marks (calls_of s r) entries)) (only_if begun (is_message_end (last_message_place entries))) ≡ true) (begun_after (marks (calls_of s r) entries) not_sent_yet)
+    (subst (λ place. only_if (all_ended (marks (calls_of s r) entries)) (only_if (own_after sending_then is_with_somebody not_sent_yet (map glance_of (marks (calls_of s r) entries))).begun (is_message_end place)) ≡ true) last
+    (at_the_end 16 sending_code is_same_sending sending_then is_with_somebody (λ place. not_sent_yet) sending_is end_found all_at_end s r worlds moves entries tells)))

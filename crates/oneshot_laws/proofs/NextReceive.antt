@@ -69,4 +69,4 @@ all_found = refl
 pub got_after_full : {T : Type 0} (s : SenderScript T) (r : ReceiverScript) (worlds : List World) (moves : List Move) (entries : List Entry) → Tells (opening s r) worlds moves entries → is_got_after_full (marks (calls_of s r) entries) ≡ true
 got_after_full s r worlds moves entries tells =
     got (marks (calls_of s r) entries) false
-      (passes_run 2 bool_code is_same_flag gets seen_then bool_is (λ place. false) found all_found s r worlds moves entries tells)
+    (passes_run 2 bool_code is_same_flag gets seen_then bool_is (λ place. false) found all_found s r worlds moves entries tells)

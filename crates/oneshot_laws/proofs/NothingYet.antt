@@ -120,8 +120,8 @@ each : (ms : List Mark) (met : Met) → Passes says_nothing_rightly met_then met
 each [] met p = refl
 each (m ∷ ms) met p =
     both _ _
-      (begins_with m.begins (met_by (side m) met) (call_marks (side m) (m ∷ ms)) (here (side m) m ms met p.0 (claims ms (met_then met (glance_of m)) (side m) p.1)))
-      (each ms _ p.1)
+    (begins_with m.begins (met_by (side m) met) (call_marks (side m) (m ∷ ms)) (here (side m) m ms met p.0 (claims ms (met_then met (glance_of m)) (side m) p.1)))
+    (each ms _ p.1)
 
 abbrev nothing_met : Met
 nothing_met = record { sender = false; receiver = false }
@@ -136,4 +136,4 @@ all_found = refl
 pub nothing_only_if_open : {T : Type 0} (s : SenderScript T) (r : ReceiverScript) (worlds : List World) (moves : List Move) (entries : List Entry) → Tells (opening s r) worlds moves entries → is_nothing_only_if_open (marks (calls_of s r) entries) ≡ true
 nothing_only_if_open s r worlds moves entries tells =
     each (marks (calls_of s r) entries) nothing_met
-      (passes_run 4 met_code is_same_met says_nothing_rightly met_then met_is (λ place. nothing_met) found all_found s r worlds moves entries tells)
+    (passes_run 4 met_code is_same_met says_nothing_rightly met_then met_is (λ place. nothing_met) found all_found s r worlds moves entries tells)

@@ -12,3 +12,4 @@ pub mod Alone
 pub mod Notation
 pub mod Traces
 pub mod Examples
+pub mod LawExamples

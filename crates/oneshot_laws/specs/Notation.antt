@@ -56,7 +56,7 @@ moving from to e = record e { message = Some (from, to) }
 abbrev pub replying : Reply → Made → Made
 replying reply e = record e { reply = Some reply }
 
--- entry k, counted from 1, is taken out, exchanged with the next one, or changed in its reply
+-- entry k, counted from 1, is taken out, exchanged with the next one, changed in its reply or in the message's move, or put in once more
 abbrev pub without : ℕ → Example → Example
 without k x = record x { entries = take (k - 1) x.entries ++ drop k x.entries }
 
@@ -70,15 +70,30 @@ exchanged k x =
           ++ drop (k + 1) x.entries;
     }
 
-abbrev pub answering : Reply → Entry → Entry
-answering reply (E.Idle side) = E.Idle side
-answering reply (E.Made e) = E.Made (replying reply e)
+abbrev pub twice : ℕ → Example → Example
+twice k x = record x { entries = take k x.entries ++ drop (k - 1) x.entries }
 
-abbrev pub answered_by : ℕ → Reply → Example → Example
-answered_by k reply x =
+abbrev pub changed : (Made → Made) → Entry → Entry
+changed change (E.Idle side) = E.Idle side
+changed change (E.Made e) = E.Made (change e)
+
+abbrev pub changed_at : ℕ → (Made → Made) → Example → Example
+changed_at k change x =
     record x {
       entries =
           take (k - 1) x.entries
-          ++ map (answering reply) (take 1 (drop (k - 1) x.entries))
+          ++ map (changed change) (take 1 (drop (k - 1) x.entries))
           ++ drop k x.entries;
     }
+
+abbrev pub answered_by : ℕ → Reply → Example → Example
+answered_by k reply x = changed_at k (replying reply) x
+
+abbrev pub unmoving : Made → Made
+unmoving e = record e { message = None }
+
+abbrev pub unmoved_by : ℕ → Example → Example
+unmoved_by k x = changed_at k unmoving x
+
+abbrev pub moved_by : ℕ → Place → Place → Example → Example
+moved_by k from to x = changed_at k (moving from to) x

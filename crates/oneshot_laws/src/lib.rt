@@ -2,6 +2,7 @@
 #![tactic(auto)]
 
 ghost use Rattle.oneshot_laws.specs.Examples.{ObjectAnswers, ActingEntries, LegalTraces, IllegalTraces, IdleTraces, NotIdleTraces};
+ghost use Rattle.oneshot_laws.specs.LawExamples.{RightTraces, MisplacedMessages, MisfreedBlocks, WrongReplies, WrongAlone};
 
 /// Says nothing at run time. Its contract is what the definitions say of worked traces, and of the same
 /// traces damaged, so that a definition that is changed by mistake is refused here.
@@ -12,4 +13,9 @@ pub fn examples()
     ensures illegal { IllegalTraces }
     ensures idle { IdleTraces }
     ensures not_idle { NotIdleTraces }
+    ensures right { RightTraces }
+    ensures misplaced { MisplacedMessages }
+    ensures misfreed { MisfreedBlocks }
+    ensures wrong_replies { WrongReplies }
+    ensures wrong_alone { WrongAlone }
 {}
