@@ -3,10 +3,9 @@
 mod receiver;
 mod sender;
 
+use crate::states::Op;
 pub use receiver::{ReceiverPos, ReceiverStart};
 pub use sender::{SenderCall, SenderPos};
-
-use crate::states::Op;
 
 /// An end of the channel.
 #[derive(Clone, Copy, Debug, Eq, Hash, PartialEq)]

@@ -45,13 +45,7 @@ impl Op {
         match self {
             Op::Load => word,
             Op::Store(new) | Op::Swap(new) => *new,
-            Op::Exchange(expected, new) => {
-                if word == *expected {
-                    *new
-                } else {
-                    word
-                }
-            }
+            Op::Exchange(expected, new) => { if word == *expected { *new } else { word } }
             Op::Add => word + 1,
             Op::Xor => word ^ 1,
         }

@@ -7,16 +7,20 @@ ghost use Rattle.oneshot_machine.specs.Sender.{sender_start, sender_step, sender
 use crate::machine::{Reply, Seen, Step};
 use crate::states::{DISCONNECTED, EMPTY, Op};
 
-/// A call of the sender.
+/// A call of the sender, or of the error of its refused `send`.
 #[derive(Clone, Copy, Debug, Eq, Hash, PartialEq)]
 pub enum SenderCall {
     /// `Sender::send`.
     Send,
     /// The sender is dropped.
     Drop,
+    /// `SendError::into_inner`.
+    IntoInner,
+    /// The error is dropped.
+    DropError,
 }
 
-/// Where a call of the sender stands: a position of its table.
+/// Where a call of the sender or of its error stands: a position of the sender's table.
 #[derive(Clone, Copy, Debug, Eq, Hash, PartialEq)]
 pub enum SenderPos {
     /// `send` is about to write its message.
@@ -27,6 +31,14 @@ pub enum SenderPos {
     DropXor,
     /// The drop is about to free the block.
     DropFree,
+    /// `into_inner` is about to take the refused message.
+    IntoTake,
+    /// `into_inner` is about to free the block.
+    IntoFree,
+    /// The error's drop is about to drop the refused message.
+    ErrorDrop,
+    /// The error's drop is about to free the block.
+    ErrorFree,
 }
 
 impl SenderPos {
@@ -37,6 +49,8 @@ impl SenderPos {
         match call {
             SenderCall::Send => SenderPos::SendWrite,
             SenderCall::Drop => SenderPos::DropXor,
+            SenderCall::IntoInner => SenderPos::IntoTake,
+            SenderCall::DropError => SenderPos::ErrorDrop,
         }
     }
 
@@ -49,6 +63,10 @@ impl SenderPos {
             SenderPos::SendAdd => Step::Word(Op::Add),
             SenderPos::DropXor => Step::Word(Op::Xor),
             SenderPos::DropFree => Step::Free,
+            SenderPos::IntoTake => Step::TakeMessage,
+            SenderPos::IntoFree => Step::Free,
+            SenderPos::ErrorDrop => Step::DropMessage,
+            SenderPos::ErrorFree => Step::Free,
         }
     }
 
@@ -63,6 +81,10 @@ impl SenderPos {
             (SenderPos::DropXor, Seen::Word(EMPTY)) => true,
             (SenderPos::DropXor, Seen::Word(DISCONNECTED)) => true,
             (SenderPos::DropFree, Seen::Done) => true,
+            (SenderPos::IntoTake, Seen::Done) => true,
+            (SenderPos::IntoFree, Seen::Done) => true,
+            (SenderPos::ErrorDrop, Seen::Done) => true,
+            (SenderPos::ErrorFree, Seen::Done) => true,
             _ => false,
         }
     }
@@ -81,6 +103,10 @@ impl SenderPos {
             (SenderPos::DropXor, Seen::Word(EMPTY)) => (*self, Some(Reply::Done)),
             (SenderPos::DropXor, Seen::Word(DISCONNECTED)) => (SenderPos::DropFree, None),
             (SenderPos::DropFree, Seen::Done) => (*self, Some(Reply::Done)),
+            (SenderPos::IntoTake, Seen::Done) => (SenderPos::IntoFree, None),
+            (SenderPos::IntoFree, Seen::Done) => (*self, Some(Reply::Message)),
+            (SenderPos::ErrorDrop, Seen::Done) => (SenderPos::ErrorFree, None),
+            (SenderPos::ErrorFree, Seen::Done) => (*self, Some(Reply::Done)),
             _ => unreachable!(),
         }
     }
