@@ -40,7 +40,7 @@ data SenderStands : SenderAt → List SenderPos → Type 0 where
 data ReceiverStands : ReceiverAt → List ReceiverPos → Type 0 where
   stands_first : ReceiverStands first (TryLoad ∷ DropSwap ∷ [])
   stands_looked : ReceiverStands (here looked) (TryLoad ∷ DropSwap ∷ [])
-  stands_full : (g : Got) (w : ℕ) → ReceiverStands (full g w) (Close ∷ [])
+  stands_full : (g : Got) → ReceiverStands (full g 4) (Close ∷ [])
   stands_over : (c : Closing) → ReceiverStands (over c) (TryLoad ∷ DropSwap ∷ [])
   stands_gone : ReceiverStands gone []
   stands_ended : ReceiverStands ended []
@@ -55,13 +55,13 @@ module _ {T W : Type 0} where
 
   receiver_moves : {q : ReceiverAt} {ps : List ReceiverPos} {op : Op} {m m' : Held T} {w w' : Held W} (word : ℕ) → ReceiverFinds q op word m w m' w' → ReceiverStands q ps → ReceiverStands (receiver_next q op (saw op word)) (moved receiver_table ps (op, saw op word))
   receiver_moves _ first_empty stands_first = stands_looked
-  receiver_moves _ (first_message x) stands_first = stands_full _ 4
+  receiver_moves _ (first_message x) stands_first = stands_full _
   receiver_moves _ first_closed stands_first = stands_over found_closed
   receiver_moves _ load_empty stands_looked = stands_looked
-  receiver_moves _ (load_message x) stands_looked = stands_full _ 4
+  receiver_moves _ (load_message x) stands_looked = stands_full _
   receiver_moves _ load_closed stands_looked = stands_over found_closed
   receiver_moves _ (load_over c) (stands_over _) = stands_over c
-  receiver_moves _ (close g w x) (stands_full _ _) = stands_over closed_itself
+  receiver_moves _ (close g x) (stands_full _) = stands_over closed_itself
   receiver_moves _ drop_first_empty stands_first = stands_gone
   receiver_moves _ (drop_first_message x) stands_first = stands_ended
   receiver_moves _ drop_first_closed stands_first = stands_ended
@@ -90,7 +90,7 @@ module _ {T W : Type 0} where
   receiver_less : T → {q : ReceiverAt} {ps : List ReceiverPos} → ReceiverStands q ps → All (IsAllowed (ReceiverMay {T = T} {W = W}) q) (made_at receiver_table ps)
   receiver_less x stands_first = both (IsAllowed ReceiverMay first) (away, away, may_load_first) (away, away, may_drop_first)
   receiver_less x stands_looked = both (IsAllowed ReceiverMay (here looked)) (away, vacant, may_load) (away, vacant, may_drop)
-  receiver_less x (stands_full g w) = one (IsAllowed ReceiverMay (full g w)) (held x, vacant, may_close g w x)
+  receiver_less x (stands_full g) = one (IsAllowed ReceiverMay (full g 4)) (held x, vacant, may_close g x)
   receiver_less x (stands_over c) = both (IsAllowed ReceiverMay (over c)) (vacant, vacant, may_load_closed c) (vacant, vacant, may_drop_closed c)
   receiver_less x stands_gone = none_of (IsAllowed ReceiverMay gone)
   receiver_less x stands_ended = none_of (IsAllowed ReceiverMay ended)
@@ -104,7 +104,7 @@ module _ {T W : Type 0} where
   receiver_more may_load_first stands_first = (0, lit< tt, refl)
   receiver_more may_load stands_looked = (0, lit< tt, refl)
   receiver_more (may_load_closed c) (stands_over _) = (0, lit< tt, refl)
-  receiver_more (may_close g w x) (stands_full _ _) = (0, lit< tt, refl)
+  receiver_more (may_close g x) (stands_full _) = (0, lit< tt, refl)
   receiver_more may_drop_first stands_first = (1, lit< tt, refl)
   receiver_more may_drop stands_looked = (1, lit< tt, refl)
   receiver_more (may_drop_closed c) (stands_over _) = (1, lit< tt, refl)
@@ -118,7 +118,7 @@ module _ {T W : Type 0} where
   receiver_word may_load_first = (3, away, vacant, first_empty)
   receiver_word may_load = (3, away, vacant, load_empty)
   receiver_word (may_load_closed c) = (2, vacant, vacant, load_over c)
-  receiver_word (may_close g w x) = (w, held x, vacant, close g w x)
+  receiver_word (may_close g x) = (4, held x, vacant, close g x)
   receiver_word may_drop_first = (3, away, away, drop_first_empty)
   receiver_word may_drop = (3, away, away, drop_empty)
   receiver_word (may_drop_closed c) = (2, vacant, vacant, drop_over c)
@@ -138,7 +138,7 @@ module _ {T W : Type 0} where
   receiver_accepts _ (load_message x) stands_looked = both (Accepts receiver_table Load 4) (λ e. refl) (λ e. absurd (cc))
   receiver_accepts _ load_closed stands_looked = both (Accepts receiver_table Load 2) (λ e. refl) (λ e. absurd (cc))
   receiver_accepts _ (load_over c) (stands_over _) = both (Accepts receiver_table Load 2) (λ e. refl) (λ e. absurd (cc))
-  receiver_accepts _ (close g w x) (stands_full _ _) = one (Accepts receiver_table (Store 2) w) (λ e. refl)
+  receiver_accepts _ (close g x) (stands_full _) = one (Accepts receiver_table (Store 2) 4) (λ e. refl)
   receiver_accepts _ drop_first_empty stands_first = both (Accepts receiver_table (Swap 2) 3) (λ e. absurd (cc)) (λ e. refl)
   receiver_accepts _ (drop_first_message x) stands_first = both (Accepts receiver_table (Swap 2) 4) (λ e. absurd (cc)) (λ e. refl)
   receiver_accepts _ drop_first_closed stands_first = both (Accepts receiver_table (Swap 2) 2) (λ e. absurd (cc)) (λ e. refl)

@@ -30,7 +30,7 @@ pub data ReceiverMay {T W : Type 0} : ReceiverAt → Op → Held T → Held W �
   may_load : ReceiverMay (here looked) Load away vacant
   may_load_closed : (c : Closing) → ReceiverMay (over c) Load vacant vacant
   -- it closes
-  may_close : (g : Got) (w : ℕ) (x : T) → ReceiverMay (full g w) (Store 2) (held x) vacant
+  may_close : (g : Got) (x : T) → ReceiverMay (full g 4) (Store 2) (held x) vacant
   -- a drop swaps
   may_drop_first : ReceiverMay first (Swap 2) away away
   may_drop : ReceiverMay (here looked) (Swap 2) away vacant
@@ -45,8 +45,8 @@ pub data ReceiverFinds {T W : Type 0} : ReceiverAt → Op → ℕ → Held T →
   load_message : (x : T) → ReceiverFinds (here looked) Load 4 away vacant (held x) vacant
   load_closed : ReceiverFinds (here looked) Load 2 away vacant vacant vacant
   load_over : (c : Closing) → ReceiverFinds (over c) Load 2 vacant vacant vacant vacant
-  -- it closes, over the word that it left
-  close : (g : Got) (w : ℕ) (x : T) → ReceiverFinds (full g w) (Store 2) w (held x) vacant (held x) vacant
+  -- it closes
+  close : (g : Got) (x : T) → ReceiverFinds (full g 4) (Store 2) 4 (held x) vacant (held x) vacant
   -- a drop swaps
   drop_first_empty : ReceiverFinds first (Swap 2) 3 away away away away
   drop_first_message : (x : T) → ReceiverFinds first (Swap 2) 4 away away (held x) vacant

@@ -1,0 +1,5 @@
+pub mod Says
+pub mod Turns
+pub mod Found
+pub mod Steps
+pub mod Opens

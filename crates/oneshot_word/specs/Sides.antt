@@ -1,0 +1,41 @@
+-- What a contract sees of an end's side.
+use Rattle.std.specs.Prelude.{◌≡◌, ℕ, List, [], ◌∷◌, ◌++◌}
+use Rattle.atomic_table.specs.Seated.{TableId}
+use Rattle.oneshot_machine.specs.declared.states.Op.{Op}
+use Rattle.oneshot_machine.specs.Words.{Noted, saw}
+use Rattle.oneshot_machine.specs.Phases.{sender_at, receiver_at}
+use Rattle.oneshot_machine.specs.Slots.{Held, away, vacant, SenderMay, SenderFinds, ReceiverMay, ReceiverFinds}
+
+-- the table, the list of the end's operations on the word, and the two slots as the end sees them
+pub record Side (T W : Type 0) : Type 0 where
+  pub table : TableId
+  pub steps : List Noted
+  pub message : Held T
+  pub waker : Held W
+
+-- both ends of a new table: neither has made an operation, and the sender has the message's slot, empty
+pub record AreEnds {T W : Type 0} (sender receiver : Side T W) : Type 0 where
+  pub table : sender.table ≡ receiver.table
+  pub sender_steps : sender.steps ≡ []
+  pub sender_slots : (sender.message ≡ vacant) × (sender.waker ≡ away)
+  pub receiver_steps : receiver.steps ≡ []
+  pub receiver_slots : (receiver.message ≡ away) × (receiver.waker ≡ away)
+
+module _ {T W : Type 0} where
+  -- the end's table allows the operation after its list
+  abbrev pub SenderCan : Side T W → Op → Type 0
+  SenderCan s op = SenderMay (sender_at s.steps) op s.message s.waker
+
+  abbrev pub ReceiverCan : Side T W → Op → Type 0
+  ReceiverCan s op = ReceiverMay (receiver_at s.steps) op s.message s.waker
+
+  -- the end made the operation, which found this word: its list is longer by it, and its slots are as the table says
+  pub record SenderDid (before : Side T W) (op : Op) (word : ℕ) (after : Side T W) : Type 0 where
+    pub table : after.table ≡ before.table
+    pub list : after.steps ≡ before.steps ++ (op, saw op word) ∷ []
+    pub finds : SenderFinds (sender_at before.steps) op word before.message before.waker after.message after.waker
+
+  pub record ReceiverDid (before : Side T W) (op : Op) (word : ℕ) (after : Side T W) : Type 0 where
+    pub table : after.table ≡ before.table
+    pub list : after.steps ≡ before.steps ++ (op, saw op word) ∷ []
+    pub finds : ReceiverFinds (receiver_at before.steps) op word before.message before.waker after.message after.waker

@@ -1,0 +1,14 @@
+//! The word that both ends share, with the message's slot and the waker's: its rule, and each step on it.
+#![tactic(auto)]
+
+mod opening;
+mod plays;
+mod receiver;
+mod rule;
+mod sender;
+mod table;
+
+pub use opening::open;
+pub use receiver::ReceiverSide;
+pub use rule::{Role, Slot, View, WordRule};
+pub use sender::SenderSide;
