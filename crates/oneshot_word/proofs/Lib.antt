@@ -3,3 +3,4 @@ pub mod Turns
 pub mod Found
 pub mod Steps
 pub mod Opens
+pub mod Trades

@@ -1,10 +1,14 @@
 -- What a contract sees of an end's side.
 use Rattle.std.specs.Prelude.{◌≡◌, ℕ, List, [], ◌∷◌, ◌++◌}
 use Rattle.atomic_table.specs.Seated.{TableId}
+use Rattle.atomic_table.specs.Table.{Me}
 use Rattle.oneshot_machine.specs.declared.states.Op.{Op}
 use Rattle.oneshot_machine.specs.Words.{Noted, saw}
 use Rattle.oneshot_machine.specs.Phases.{sender_at, receiver_at}
 use Rattle.oneshot_machine.specs.Slots.{Held, away, vacant, SenderMay, SenderFinds, ReceiverMay, ReceiverFinds}
+use Rattle.oneshot_word.specs.declared.rule.Slot.{Slot}
+use Rattle.oneshot_word.specs.declared.rule.View.{View}
+use Rattle.oneshot_word.specs.Seats.{message_in, waker_in}
 
 -- the table, the list of the end's operations on the word, and the two slots as the end sees them
 pub record Side (T W : Type 0) : Type 0 where
@@ -12,6 +16,10 @@ pub record Side (T W : Type 0) : Type 0 where
   pub steps : List Noted
   pub message : Held T
   pub waker : Held W
+
+-- what a seat of such a table shows
+abbrev pub side_of : {T W : Type 0} → TableId → Me (Slot T W) View → Side T W
+side_of table me = record { table = table; steps = me.0.steps; message = message_in me.1; waker = waker_in me.1 }
 
 -- both ends of a new table: neither has made an operation, and the sender has the message's slot, empty
 pub record AreEnds {T W : Type 0} (sender receiver : Side T W) : Type 0 where

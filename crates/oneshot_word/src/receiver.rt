@@ -1,7 +1,14 @@
 //! The receiver's side of the shared word.
 
+ghost use Rattle.std.specs.Prelude.{◌≡◌, ◌≢◌};
+ghost use Rattle.oneshot_machine.specs.declared.states.Op.TheVariants.{Load, Store, Swap};
+ghost use Rattle.oneshot_machine.specs.Slots.{away, vacant, held};
+ghost use Rattle.oneshot_word.specs.Seats.{MessageSlot, message_of, waker_of};
+ghost use Rattle.oneshot_word.specs.Sides.{ReceiverCan, ReceiverDid};
+
+use crate::plays::{Loads, Stores, Swaps};
 use crate::rule::Slot;
-use crate::table::{Board, Chair, trade};
+use crate::table::{Board, Chair};
 use std::alloc::Global;
 use std::marker::Model;
 use std::sync::Arc;
@@ -15,12 +22,64 @@ pub struct ReceiverSide<T, W> {
 
 impl<T, W> Model for ReceiverSide<T, W> {
     ghost use Rattle.std.specs.Arc.{arc_value};
-    ghost use Rattle.oneshot_word.specs.Seats.{message_in, waker_in, IsAt, ReceiverSeat};
-    ghost use Rattle.oneshot_word.specs.Sides.{Side};
+    ghost use Rattle.oneshot_word.specs.Seats.{IsAt, ReceiverSeat};
+    ghost use Rattle.oneshot_word.specs.Sides.{Side, side_of};
 
     ghost Value = { Side T W };
 
-    ghost view = { λ s. record { table = s.chair.table_id; steps = s.chair.me.0.steps; message = message_in s.chair.me.1; waker = waker_in s.chair.me.1 } };
+    ghost view = { λ s. side_of s.chair.table_id s.chair.me };
 
     ghost invariant = { λ s. ReceiverSeat s.chair.me × IsAt (arc_value s.board).shared.table_id s.chair.table_id };
+}
+
+impl<T, W> ReceiverSide<T, W> {
+    /// Reads the word.
+    pub fn load(&mut self) -> u8
+        requires { ReceiverCan self.old Load }
+        ensures { ReceiverDid self.old Load result self.new }
+    {
+        self.board.shared.load::<Loads>(&mut self.chair, 0) as u8
+    }
+
+    /// Puts `new` into the word, and gives the word before, for which it swaps.
+    pub fn store(&mut self, new: u8) -> u8
+        requires { ReceiverCan self.old (Store new) }
+        ensures { ReceiverDid self.old (Store new) result self.new }
+    {
+        self.board.shared.swap::<Stores>(&mut self.chair, 0, new as u64) as u8
+    }
+
+    /// Puts `new` into the word, and gives the word before.
+    pub fn swap(&mut self, new: u8) -> u8
+        requires { ReceiverCan self.old (Swap new) }
+        ensures { ReceiverDid self.old (Swap new) result self.new }
+    {
+        self.board.shared.swap::<Swaps>(&mut self.chair, 0, new as u64) as u8
+    }
+}
+
+impl<T: Drop, W: Drop> ReceiverSide<T, W> {
+    /// Takes the message out of its slot, which is the receiver's and full.
+    pub fn take_message(&mut self) -> T
+        requires { (message : T) × (self.old.message ≡ held message) }
+        ensures message { self.old.message ≡ held result }
+        ensures rest { self.new ≡ record self.old { message = vacant } }
+    {
+        match self.trade_message(Slot::Empty) {
+            Slot::Message(message) => message,
+            _ => unreachable!(),
+        }
+    }
+}
+
+impl<T, W> ReceiverSide<T, W> {
+    // The message's slot is the one in front.
+    fn trade_message(&mut self, new: Slot<T, W>) -> Slot<T, W>
+        requires its_own { self.old.message ≢ away }
+        requires no_waker { waker_of new ≡ vacant }
+        ensures was { MessageSlot result self.old.message }
+        ensures has { self.new ≡ record self.old { message = message_of new } }
+    {
+        self.board.shared.exchange(&mut self.chair, 0, new)
+    }
 }

@@ -1,9 +1,13 @@
 //! The sender's side of the shared word.
 
+ghost use Rattle.std.specs.Prelude.{◌≡◌, ◌≢◌};
 ghost use Rattle.oneshot_machine.specs.declared.states.Op.TheVariants.{Add, Xor};
+ghost use Rattle.oneshot_machine.specs.Slots.{away, vacant, held};
+ghost use Rattle.oneshot_word.specs.Seats.{MessageSlot, message_of, waker_of};
 ghost use Rattle.oneshot_word.specs.Sides.{SenderCan, SenderDid};
 
 use crate::plays::{Adds, Flips};
+use crate::rule::Slot;
 use crate::table::{Board, Chair};
 use std::alloc::Global;
 use std::marker::Model;
@@ -18,12 +22,13 @@ pub struct SenderSide<T, W> {
 
 impl<T, W> Model for SenderSide<T, W> {
     ghost use Rattle.std.specs.Arc.{arc_value};
-    ghost use Rattle.oneshot_word.specs.Seats.{message_in, waker_in, IsAt, SenderSeat};
-    ghost use Rattle.oneshot_word.specs.Sides.{Side};
+    ghost use Rattle.oneshot_word.specs.Seats.{IsAt, SenderSeat};
+    ghost use Rattle.oneshot_word.specs.Seats.{MessageSlot, message_of, waker_of};
+ghost use Rattle.oneshot_word.specs.Sides.{Side, side_of};
 
     ghost Value = { Side T W };
 
-    ghost view = { λ s. record { table = s.chair.table_id; steps = s.chair.me.0.steps; message = message_in s.chair.me.1; waker = waker_in s.chair.me.1 } };
+    ghost view = { λ s. side_of s.chair.table_id s.chair.me };
 
     ghost invariant = { λ s. SenderSeat s.chair.me × IsAt (arc_value s.board).shared.table_id s.chair.table_id };
 }
@@ -43,5 +48,42 @@ impl<T, W> SenderSide<T, W> {
         ensures { SenderDid self.old Xor result self.new }
     {
         self.board.shared.fetch_xor::<Flips>(&mut self.chair, 0, 1) as u8
+    }
+}
+
+impl<T: Drop, W: Drop> SenderSide<T, W> {
+    /// Puts the message into its slot, which is the sender's and empty.
+    pub fn write_message(&mut self, message: T)
+        requires { self.old.message ≡ vacant }
+        ensures { self.new ≡ record self.old { message = held message } }
+    {
+        self.trade_message(Slot::Message(message));
+    }
+
+    /// Takes the message out of its slot, which is the sender's and full.
+    pub fn take_message(&mut self) -> T
+        requires { (message : T) × (self.old.message ≡ held message) }
+        ensures message { self.old.message ≡ held result }
+        ensures rest { self.new ≡ record self.old { message = vacant } }
+    {
+        match self.trade_message(Slot::Empty) {
+            Slot::Message(message) => message,
+            _ => unreachable!(),
+        }
+    }
+}
+
+impl<T, W> SenderSide<T, W> {
+    // Only the slot in front can be read, so the message's is turned there, and then back.
+    fn trade_message(&mut self, new: Slot<T, W>) -> Slot<T, W>
+        requires its_own { self.old.message ≢ away }
+        requires no_waker { waker_of new ≡ vacant }
+        ensures was { MessageSlot result self.old.message }
+        ensures has { self.new ≡ record self.old { message = message_of new } }
+    {
+        self.chair.turn();
+        let old = self.board.shared.exchange(&mut self.chair, 0, new);
+        self.chair.turn();
+        old
     }
 }
