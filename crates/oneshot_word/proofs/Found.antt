@@ -1,12 +1,12 @@
 -- What an end's view says of the table: the seats are the ends', and the row is one of this end's phase.
-use Rattle.std.proofs.Common.{◌≡◌, ℕ, zero, suc, List, [], ◌∷◌, refl, sym, ap, ◌∙◌, subst}
+use Rattle.std.proofs.Common.{◌≡◌, ℕ, zero, suc, List, [], ◌∷◌, sym, ap, subst}
 use mathlib.Core.Option as maybe
 use mathlib.Core.Option.{some-injective, some-ne-none}
 use lib.ListN.{get_elem?}
 use Rattle.oneshot_machine.specs.Words.{Noted}
-use Rattle.oneshot_machine.specs.Phases.{SenderAt, sender_at, ReceiverAt, receiver_at}
+use Rattle.oneshot_machine.specs.Phases.{sender_at, receiver_at}
 use Rattle.oneshot_word.specs.declared.rule.Role.{Role}
-use Rattle.oneshot_word.specs.declared.rule.Role.TheVariants.{Maker, Dealer, Sender, Receiver}
+use Rattle.oneshot_word.specs.declared.rule.Role.TheVariants.{Sender, Receiver}
 use Rattle.oneshot_word.specs.declared.rule.View.{View}
 use Rattle.oneshot_word.specs.Rule.{Home, Row, SenderSays, ReceiverSays, Tied, opened, dealt, runs}
 use Rattle.oneshot_word.specs.Seats.{view}

@@ -4,3 +4,4 @@ pub mod Found
 pub mod Steps
 pub mod Opens
 pub mod Trades
+pub mod RowReads

@@ -5,7 +5,7 @@ use Rattle.oneshot_machine.specs.declared.states.Op.{Op}
 use Rattle.oneshot_machine.specs.Words.{Noted, saw}
 use Rattle.oneshot_machine.specs.Phases.{sending, dropping, SenderAt, sender_next, found_closed, closed_itself, ReceiverAt, receiver_next}
 use Rattle.oneshot_machine.specs.Slots.{Held, SenderFinds, add_empty, add_gone, flip_empty, flip_gone, ReceiverFinds, first_empty, first_message, first_closed, load_empty, load_message, load_closed, load_over, close, drop_first_empty, drop_first_message, drop_first_closed, drop_empty, drop_message, drop_closed, drop_over}
-use Rattle.oneshot_word.specs.Lists.{sent, dropped, sent_late, dropped_late, along, gone_next, is_gone, wrote_next, wrote_since}
+use Rattle.oneshot_word.specs.Lists.{sent, dropped, sent_late, dropped_late, along, gone_next, wrote_next}
 use Rattle.oneshot_word.specs.Rule.{gone_of, wrote_of, SenderSays, says_none, says_last, says_late, ReceiverSays}
 
 along-snoc : {A : Type 0} (next : A → Op → Seen → A) (a : A) (xs : List Noted) (x : Noted) → along next a (xs ++ x ∷ []) ≡ next (along next a xs) x.0 x.1

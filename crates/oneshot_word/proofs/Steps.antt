@@ -1,5 +1,5 @@
 -- Each step of an end keeps the rule, and tells the end what it found.
-use Rattle.std.proofs.Common.{◌≡◌, ℕ, ◌+◌, ◌%◌, ◌^◌, bit_xor, List, [], ◌∷◌, ◌++◌, get_or, set, refl, sym, ap, ◌∙◌, subst}
+use Rattle.std.proofs.Common.{ℕ, ◌+◌, ◌%◌, ◌^◌, bit_xor, List, [], ◌∷◌, ◌++◌, get_or, set, refl, sym, ap, ◌∙◌, subst}
 use mathlib.Core.Option as maybe
 use Rattle.atomic_table.specs.Table.{State, Me, Act, Valid, Allows, homes_after, carried_after}
 use Rattle.oneshot_machine.specs.declared.states.Op.{Op}
@@ -39,8 +39,7 @@ module _ {T W : Type 0} where
           | sender_acts {h'} {k'} act valid homes row' finds has ↦
               let x : Noted = (op, saw op w) in
               let after = sender_from-snoc fresh me.0.steps x in
-              let xs : List Noted = me.0.steps ++ x ∷ [] in
-              (
+              let xs : List Noted = me.0.steps ++ x ∷ [] in (
                 view Sender xs,
                 act,
                 valid,
@@ -59,8 +58,7 @@ module _ {T W : Type 0} where
           | receiver_acts {h'} {k'} act valid homes row' finds has ↦
               let x : Noted = (op, saw op w) in
               let after = receiver_from-snoc first me.0.steps x in
-              let ys : List Noted = me.0.steps ++ x ∷ [] in
-              (
+              let ys : List Noted = me.0.steps ++ x ∷ [] in (
                 view Receiver ys,
                 act,
                 valid,

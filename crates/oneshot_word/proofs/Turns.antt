@@ -1,5 +1,5 @@
 -- Each operation as a table: for each row of the rule, what the end does with the slots, and the row after it.
-use Rattle.std.proofs.Common.{◌≡◌, ℕ, ◌+◌, ◌%◌, ◌^◌, bit_xor, List, [], ◌∷◌, refl}
+use Rattle.std.proofs.Common.{◌≡◌, ℕ, ◌+◌, ◌%◌, ◌^◌, bit_xor, [], ◌∷◌, refl}
 use Rattle.atomic_table.specs.Table.{Act, keeps, takes, gives, chain, Valid, homes_after, carried_after}
 use Rattle.oneshot_machine.specs.declared.states.Op.{Op}
 use Rattle.oneshot_machine.specs.declared.states.Op.TheVariants.{Load, Store, Swap, Add, Xor}
@@ -9,7 +9,7 @@ use Rattle.oneshot_machine.specs.Slots.{Held, SenderMay, may_add, may_flip, Send
 use Rattle.oneshot_word.specs.declared.rule.Slot.{Slot}
 use Rattle.oneshot_word.specs.declared.rule.Slot.TheVariants.{Empty, Message}
 use Rattle.oneshot_word.specs.Seats.{Carried, message_in, waker_in, no_message, the_message, no_waker, SenderHas, has_fresh, has_finished, has_late, ReceiverHas, has_first, has_here, has_full, has_over, has_gone, has_ended}
-use Rattle.oneshot_word.specs.Rule.{Home, out, bare, has_message, Row, both_new, both_here, receiver_went, sender_late, message_new, message_left, nothing_new, nothing_left, message_found, nothing_found, message_taken, both_went}
+use Rattle.oneshot_word.specs.Rule.{Home, Row, both_new, both_here, receiver_went, sender_late, message_new, message_left, nothing_new, nothing_left, message_found, nothing_found, message_taken, both_went}
 
 module _ {T W : Type 0} where
   -- the sender's turn where the rule has this row: its act on the slots, with the row after it

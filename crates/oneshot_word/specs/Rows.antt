@@ -2,7 +2,6 @@
 use Rattle.std.specs.Prelude.{◌≡◌, ℕ, true, false, List, [], ◌∷◌, Some, None}
 use Rattle.oneshot_machine.specs.Words.{Noted}
 use Rattle.oneshot_machine.specs.Phases.{By, sending, dropping}
-use Rattle.oneshot_machine.specs.Slots.{Held, away, vacant, held}
 use Rattle.oneshot_word.specs.declared.rule.Role.TheVariants.{Maker, Dealer, Sender, Receiver}
 use Rattle.oneshot_word.specs.declared.rule.View.{View}
 use Rattle.oneshot_word.specs.Lists.{MadeLast, MadeLate, is_gone, wrote_since}
@@ -47,6 +46,6 @@ pub data Ruled {T W : Type 0} : List ℕ → List (Home T W) → List View → T
   -- and then always
   two_ends : {w : ℕ} {h k : Home T W} (xs ys : List Noted) → Owned xs ys w h k → Ruled (w ∷ []) (h ∷ k ∷ []) (view Sender xs ∷ view Receiver ys ∷ [])
 
--- whatever the table is, it is as the rows say
+-- Whatever the table is under its rule, it is as the rows say.
 abbrev pub RuleReads : (T W : Type 0) → Type 0
 RuleReads T W = (words : List ℕ) (homes : List (Home T W)) (views : List View) → Tied words homes views → Ruled words homes views

@@ -10,7 +10,6 @@ use Rattle.oneshot_word.specs.declared.rule.View.{View}
 use Rattle.oneshot_word.specs.Lists.{MadeLast, MadeLate, is_gone, wrote_since}
 use Rattle.oneshot_word.specs.Seats.{view}
 
-
 -- what of a slot is at home: nothing, where a seat carries it, or its value
 abbrev pub Home : Type 0 → Type 0 → Type 0
 Home T W = maybe.Option (Slot T W)

@@ -4,8 +4,8 @@ use Rattle.atomic_table.specs.Seated.{TableId}
 use Rattle.atomic_table.specs.Table.{Me}
 use Rattle.oneshot_machine.specs.declared.states.Op.{Op}
 use Rattle.oneshot_machine.specs.Words.{Noted, saw}
-use Rattle.oneshot_machine.specs.Phases.{sender_at, receiver_at}
-use Rattle.oneshot_machine.specs.Slots.{Held, away, vacant, SenderMay, SenderFinds, ReceiverMay, ReceiverFinds}
+use Rattle.oneshot_machine.specs.Phases.{By, SenderAt, fresh, finished, late, sender_at, Open, Got, Closing, ReceiverAt, first, here, full, over, gone, ended, receiver_at}
+use Rattle.oneshot_machine.specs.Slots.{Held, away, vacant, held, SenderMay, SenderFinds, ReceiverMay, ReceiverFinds}
 use Rattle.oneshot_word.specs.declared.rule.Slot.{Slot}
 use Rattle.oneshot_word.specs.declared.rule.View.{View}
 use Rattle.oneshot_word.specs.Seats.{message_in, waker_in}
@@ -28,6 +28,26 @@ pub record AreEnds {T W : Type 0} (sender receiver : Side T W) : Type 0 where
   pub sender_slots : (sender.message ≡ vacant) × (sender.waker ≡ away)
   pub receiver_steps : receiver.steps ≡ []
   pub receiver_slots : (receiver.message ≡ away) × (receiver.waker ≡ away)
+
+-- a slot that is the end's
+pub data IsOwn {X : Type 0} : Held X → Type 0 where
+  own_vacant : IsOwn vacant
+  own_held : (x : X) → IsOwn (held x)
+
+-- which slots are the sender's, by how far it is: no other is
+pub data SenderOwns {T W : Type 0} : SenderAt → Held T → Held W → Type 0 where
+  owns_message : {m : Held T} → IsOwn m → SenderOwns fresh m away
+  owns_none : (by : By) → SenderOwns (finished by) away away
+  owns_both : (by : By) (word : ℕ) {m : Held T} {w : Held W} → IsOwn m → IsOwn w → SenderOwns (late by word) m w
+
+-- which are the receiver's
+pub data ReceiverOwns {T W : Type 0} : ReceiverAt → Held T → Held W → Type 0 where
+  none_yet : ReceiverOwns first away away
+  owns_waker : (f : Open) {w : Held W} → IsOwn w → ReceiverOwns (here f) away w
+  owns_full : (g : Got) (word : ℕ) {m : Held T} {w : Held W} → IsOwn m → IsOwn w → ReceiverOwns (full g word) m w
+  owns_closed : (c : Closing) {m : Held T} {w : Held W} → IsOwn m → IsOwn w → ReceiverOwns (over c) m w
+  gave_all : ReceiverOwns gone away away
+  owns_all : {m : Held T} {w : Held W} → IsOwn m → IsOwn w → ReceiverOwns ended m w
 
 module _ {T W : Type 0} where
   -- the end's table allows the operation after its list

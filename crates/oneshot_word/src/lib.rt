@@ -7,6 +7,8 @@ mod receiver;
 mod rule;
 mod sender;
 mod table;
+#[cfg(test)]
+mod tests;
 
 pub use opening::open;
 pub use receiver::ReceiverSide;

@@ -2,13 +2,15 @@
 
 ghost use Rattle.std.specs.Prelude.{◌≡◌, ◌≢◌};
 ghost use Rattle.oneshot_machine.specs.declared.states.Op.TheVariants.{Load, Store, Swap};
+ghost use Rattle.oneshot_machine.specs.Phases.{receiver_at};
 ghost use Rattle.oneshot_machine.specs.Slots.{away, vacant, held};
+ghost use Rattle.oneshot_word.specs.Rows.{RuleReads};
 ghost use Rattle.oneshot_word.specs.Seats.{MessageSlot, message_of, waker_of};
-ghost use Rattle.oneshot_word.specs.Sides.{ReceiverCan, ReceiverDid};
+ghost use Rattle.oneshot_word.specs.Sides.{ReceiverCan, ReceiverDid, ReceiverOwns};
 
 use crate::plays::{Loads, Stores, Swaps};
 use crate::rule::Slot;
-use crate::table::{Board, Chair};
+use crate::table::{Board, Chair, look};
 use std::alloc::Global;
 use std::marker::Model;
 use std::sync::Arc;
@@ -46,7 +48,9 @@ impl<T, W> ReceiverSide<T, W> {
         requires { ReceiverCan self.old (Store new) }
         ensures { ReceiverDid self.old (Store new) result self.new }
     {
-        self.board.shared.swap::<Stores>(&mut self.chair, 0, new as u64) as u8
+        self.board
+            .shared
+            .swap::<Stores>(&mut self.chair, 0, new as u64) as u8
     }
 
     /// Puts `new` into the word, and gives the word before.
@@ -54,7 +58,17 @@ impl<T, W> ReceiverSide<T, W> {
         requires { ReceiverCan self.old (Swap new) }
         ensures { ReceiverDid self.old (Swap new) result self.new }
     {
-        self.board.shared.swap::<Swaps>(&mut self.chair, 0, new as u64) as u8
+        self.board
+            .shared
+            .swap::<Swaps>(&mut self.chair, 0, new as u64) as u8
+    }
+
+    /// Reads the word as a look does, which lengthens no list and tells nothing of what it found.
+    pub fn peek(&self) -> u8
+        ensures rule { RuleReads T W }
+        ensures slots { ReceiverOwns (receiver_at self.now.steps) self.now.message self.now.waker }
+    {
+        look(&self.board)
     }
 }
 

@@ -2,13 +2,15 @@
 
 ghost use Rattle.std.specs.Prelude.{◌≡◌, ◌≢◌};
 ghost use Rattle.oneshot_machine.specs.declared.states.Op.TheVariants.{Add, Xor};
+ghost use Rattle.oneshot_machine.specs.Phases.{sender_at};
 ghost use Rattle.oneshot_machine.specs.Slots.{away, vacant, held};
+ghost use Rattle.oneshot_word.specs.Rows.{RuleReads};
 ghost use Rattle.oneshot_word.specs.Seats.{MessageSlot, message_of, waker_of};
-ghost use Rattle.oneshot_word.specs.Sides.{SenderCan, SenderDid};
+ghost use Rattle.oneshot_word.specs.Sides.{SenderCan, SenderDid, SenderOwns};
 
 use crate::plays::{Adds, Flips};
 use crate::rule::Slot;
-use crate::table::{Board, Chair};
+use crate::table::{Board, Chair, look};
 use std::alloc::Global;
 use std::marker::Model;
 use std::sync::Arc;
@@ -22,9 +24,11 @@ pub struct SenderSide<T, W> {
 
 impl<T, W> Model for SenderSide<T, W> {
     ghost use Rattle.std.specs.Arc.{arc_value};
+    ghost use Rattle.oneshot_word.specs.Rows.{RuleReads};
     ghost use Rattle.oneshot_word.specs.Seats.{IsAt, SenderSeat};
+    ghost use Rattle.oneshot_word.specs.Rows.{RuleReads};
     ghost use Rattle.oneshot_word.specs.Seats.{MessageSlot, message_of, waker_of};
-ghost use Rattle.oneshot_word.specs.Sides.{Side, side_of};
+    ghost use Rattle.oneshot_word.specs.Sides.{Side, side_of};
 
     ghost Value = { Side T W };
 
@@ -48,6 +52,14 @@ impl<T, W> SenderSide<T, W> {
         ensures { SenderDid self.old Xor result self.new }
     {
         self.board.shared.fetch_xor::<Flips>(&mut self.chair, 0, 1) as u8
+    }
+
+    /// Reads the word as a look does, which lengthens no list and tells nothing of what it found.
+    pub fn peek(&self) -> u8
+        ensures rule { RuleReads T W }
+        ensures slots { SenderOwns (sender_at self.now.steps) self.now.message self.now.waker }
+    {
+        look(&self.board)
     }
 }
 

@@ -1,6 +1,6 @@
 use Rattle.std.proofs.Common.{rules, sym, subst}
 use Rattle.oneshot_machine.specs.declared.states.Op.TheVariants.{Add}
-use Rattle.oneshot_word.specs.Sides.{Side, SenderCan}
+use Rattle.oneshot_word.specs.Sides.{SenderCan}
 use Rattle.oneshot_word.proofs.Steps.{add_allowed}
 use Rattle.oneshot_word.proofs.sender.SenderSide.add.Goals as goal
 

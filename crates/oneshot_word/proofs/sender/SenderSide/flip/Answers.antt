@@ -1,6 +1,6 @@
 use Rattle.std.proofs.Common.{rules, sym, subst}
 use Rattle.oneshot_machine.specs.declared.states.Op.TheVariants.{Xor}
-use Rattle.oneshot_word.specs.Sides.{Side, SenderCan}
+use Rattle.oneshot_word.specs.Sides.{SenderCan}
 use Rattle.oneshot_word.proofs.Steps.{flip_allowed}
 use Rattle.oneshot_word.proofs.sender.SenderSide.flip.Goals as goal
 

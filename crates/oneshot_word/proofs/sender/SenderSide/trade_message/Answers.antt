@@ -1,4 +1,4 @@
-use Rattle.std.proofs.Common.{◌≡◌, ◌≢◌, rules, sym, ap, ◌∙◌, subst}
+use Rattle.std.proofs.Common.{◌≢◌, rules, sym, ap, subst}
 use Rattle.oneshot_machine.specs.Slots.{away}
 use Rattle.oneshot_word.specs.Seats.{message_of, SenderSeat}
 use Rattle.oneshot_word.proofs.Trades.{fits_message, sender_front, Traded, sender_traded, traded_side}
