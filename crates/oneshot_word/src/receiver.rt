@@ -31,7 +31,8 @@ impl<T, W> Model for ReceiverSide<T, W> {
 
     ghost view = { λ s. side_of s.chair.table_id s.chair.me };
 
-    ghost invariant = { λ s. ReceiverSeat s.chair.me × IsAt (arc_value s.board).shared.table_id s.chair.table_id };
+    ghost invariant = { λ s.
+        ReceiverSeat s.chair.me × IsAt (arc_value s.board).shared.table_id s.chair.table_id };
 }
 
 impl<T, W> ReceiverSide<T, W> {

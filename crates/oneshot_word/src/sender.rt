@@ -24,17 +24,15 @@ pub struct SenderSide<T, W> {
 
 impl<T, W> Model for SenderSide<T, W> {
     ghost use Rattle.std.specs.Arc.{arc_value};
-    ghost use Rattle.oneshot_word.specs.Rows.{RuleReads};
     ghost use Rattle.oneshot_word.specs.Seats.{IsAt, SenderSeat};
-    ghost use Rattle.oneshot_word.specs.Rows.{RuleReads};
-    ghost use Rattle.oneshot_word.specs.Seats.{MessageSlot, message_of, waker_of};
     ghost use Rattle.oneshot_word.specs.Sides.{Side, side_of};
 
     ghost Value = { Side T W };
 
     ghost view = { λ s. side_of s.chair.table_id s.chair.me };
 
-    ghost invariant = { λ s. SenderSeat s.chair.me × IsAt (arc_value s.board).shared.table_id s.chair.table_id };
+    ghost invariant = { λ s.
+        SenderSeat s.chair.me × IsAt (arc_value s.board).shared.table_id s.chair.table_id };
 }
 
 impl<T, W> SenderSide<T, W> {
