@@ -1,5 +1,5 @@
 -- Lists and runs that an end makes, and some that none makes.
-use Rattle.std.specs.Prelude.{◌≡◌, ℕ, true, false, List, [], ◌∷◌, Some, None}
+use Rattle.std.specs.Prelude.{◌≡◌, ℕ, true, false, List, [], ◌∷◌}
 use Rattle.oneshot_machine.specs.declared.machine.Reply.{Reply}
 use Rattle.oneshot_machine.specs.declared.machine.Reply.TheVariants.{Sent, Refused, Message, Empty, Disconnected}
 use Rattle.oneshot_machine.specs.declared.machine.Reply.TheVariants as R
@@ -13,7 +13,7 @@ use Rattle.oneshot_machine.specs.declared.states.Op.TheVariants.{Load, Store, Sw
 use Rattle.oneshot_machine.specs.Sender.{sender_step, sender_row}
 use Rattle.oneshot_machine.specs.Receiver.{receiver_step, receiver_row}
 use Rattle.oneshot_machine.specs.Phases.{sending, dropping, fresh, finished, late, no_sender, sender_at, first, here, looked, full, at_once, over, found_closed, closed_itself, gone, ended, no_receiver, receiver_at}
-use Rattle.oneshot_machine.specs.Logs.{Event, did, wrote, took, worded, words, kept, message_taken, message_handed}
+use Rattle.oneshot_machine.specs.Logs.{Event, did, wrote, took, worded, words, kept, messages_given, messages_got}
 use Rattle.oneshot_machine.specs.Runs.{Run}
 
 -- how far a sender's list takes it
@@ -75,9 +75,9 @@ pub record RunsThatAre : Type 0 where
   pub finds_no_sender : ReceiverRun TryLoad (worded Load 2 ∷ []) Disconnected
   pub drops_the_message : ReceiverRun DropSwap (worded (Swap 2) 4 ∷ did DropMessage ∷ did Free ∷ []) R.Done
   -- what they hand in and out, and what of them a real ground keeps
-  pub handed_in : message_handed sending_7 ≡ Some 7
-  pub handed_out : message_taken receiving_7 ≡ Some 7
-  pub hands_nothing_out : message_taken sending_7 ≡ None
+  pub handed_in : messages_given sending_7 ≡ 7 ∷ []
+  pub handed_out : messages_got receiving_7 ≡ 7 ∷ []
+  pub hands_nothing_out : messages_got sending_7 ≡ []
   pub keeps_all : kept true sending_7 ≡ sending_7
   pub keeps_the_word : kept false sending_7 ≡ worded Add 3 ∷ []
   pub as_words : words receiving_7 ≡ (Load, Word 4) ∷ (Store 2, Done) ∷ []

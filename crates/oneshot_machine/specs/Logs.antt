@@ -1,11 +1,13 @@
 -- What a ground has done: its steps, and what of them it keeps.
-use Rattle.std.specs.Prelude.{◌≡◌, ℕ, Bool, true, false, List, [], ◌∷◌, ◌++◌, Option, Some, None}
+use Rattle.std.specs.Prelude.{◌≡◌, ℕ, Bool, true, false, List, [], ◌∷◌, ◌++◌, filter, Option, Some, None, is_some}
+use Rattle.std.specs.List.{filter_map}
+use Rattle.std.specs.Option.{option_map}
 use Rattle.oneshot_machine.specs.declared.machine.Seen.{Seen}
-use Rattle.oneshot_machine.specs.declared.machine.Seen.TheVariants as saw_it
+use Rattle.oneshot_machine.specs.declared.machine.Seen.TheVariants.{Done}
 use Rattle.oneshot_machine.specs.declared.machine.Step.{Step}
 use Rattle.oneshot_machine.specs.declared.machine.Step.TheVariants.{Word, WriteMessage, TakeMessage}
 use Rattle.oneshot_machine.specs.declared.states.Op.{Op}
-use Rattle.oneshot_machine.specs.Words.{Noted, saw}
+use Rattle.oneshot_machine.specs.Words.{Noted, saw, op_of}
 use Rattle.oneshot_machine.specs.Phases.{SenderAt, sender_at, ReceiverAt, receiver_at}
 
 -- a step, what it saw, and the message or the waker that it handed in or out
@@ -15,60 +17,49 @@ pub record Event (T W : Type 0) : Type 0 where
   pub message : Option T
   pub waker : Option W
 
-abbrev pub words_by : Step → Seen → List Noted → List Noted
-words_by (Word op) seen later = (op, seen) ∷ later
-words_by _ seen later = later
+abbrev pub when_written : {T : Type 0} → Step → Option T → Option T
+when_written WriteMessage message = message
+when_written _ message = None
 
-abbrev pub taken_by : {T : Type 0} → Step → Option T → Option T → Option T
-taken_by TakeMessage message later = message
-taken_by _ message later = later
-
-abbrev pub handed_by : {T : Type 0} → Step → Option T → Option T → Option T
-handed_by WriteMessage message later = message
-handed_by _ message later = later
+abbrev pub when_taken : {T : Type 0} → Step → Option T → Option T
+when_taken TakeMessage message = message
+when_taken _ message = None
 
 module _ {T W : Type 0} where
   -- a step that hands nothing in or out and sees nothing
   abbrev pub did : Step → Event T W
-  did s = record { step = s; seen = saw_it.Done; message = None; waker = None }
+  did s = record { step = s; seen = Done; message = None; waker = None }
 
   abbrev pub wrote : T → Event T W
-  wrote m = record { step = WriteMessage; seen = saw_it.Done; message = Some m; waker = None }
+  wrote m = record { step = WriteMessage; seen = Done; message = Some m; waker = None }
 
   abbrev pub took : T → Event T W
-  took m = record { step = TakeMessage; seen = saw_it.Done; message = Some m; waker = None }
+  took m = record { step = TakeMessage; seen = Done; message = Some m; waker = None }
 
   -- an operation that found this word
   abbrev pub worded : Op → ℕ → Event T W
   worded op word = record { step = Word op; seen = saw op word; message = None; waker = None }
 
-  -- their operations on the word
+  -- the operation on the word, if it is one, with what it saw
+  abbrev pub noted : Event T W → Option Noted
+  noted x = option_map (λ op. (op, x.seen)) (op_of x.step)
+
+  -- the operations on the word
   abbrev pub words : List (Event T W) → List Noted
-  words [] = []
-  words (x ∷ xs) = words_by x.step x.seen (words xs)
-
-  abbrev pub words_only_by : Event T W → Step → List (Event T W) → List (Event T W)
-  words_only_by x (Word op) later = x ∷ later
-  words_only_by x _ later = later
-
-  abbrev pub words_only : List (Event T W) → List (Event T W)
-  words_only [] = []
-  words_only (x ∷ xs) = words_only_by x x.step (words_only xs)
+  words = filter_map noted
 
   -- what of these steps the list of a ground has: of a whole ground all, of any other those on the word
   abbrev pub kept : Bool → List (Event T W) → List (Event T W)
   kept true xs = xs
-  kept false xs = words_only xs
+  kept false xs = filter (λ x. is_some (op_of x.step)) xs
 
-  -- the message that these steps took out of its slot
-  abbrev pub message_taken : List (Event T W) → Option T
-  message_taken [] = None
-  message_taken (x ∷ xs) = taken_by x.step x.message (message_taken xs)
+  -- the messages that were handed in
+  abbrev pub messages_given : List (Event T W) → List T
+  messages_given = filter_map (λ x. when_written x.step x.message)
 
-  -- the message that they handed in
-  abbrev pub message_handed : List (Event T W) → Option T
-  message_handed [] = None
-  message_handed (x ∷ xs) = handed_by x.step x.message (message_handed xs)
+  -- those that were taken out of their slot
+  abbrev pub messages_got : List (Event T W) → List T
+  messages_got = filter_map (λ x. when_taken x.step x.message)
 
 -- whether a ground is whole, the place that it stands on, and its list
 pub record Log (T W : Type 0) : Type 0 where

@@ -7,7 +7,6 @@ use Rattle.oneshot_machine.specs.declared.machine.Reply.TheVariants as R
 use Rattle.oneshot_machine.specs.declared.machine.Seen.{Seen}
 use Rattle.oneshot_machine.specs.declared.machine.Seen.TheVariants.{Done}
 use Rattle.oneshot_machine.specs.declared.machine.Step.{Step}
-use Rattle.oneshot_machine.specs.declared.machine.Step.TheVariants.{Word}
 use Rattle.oneshot_machine.specs.declared.machine.receiver.ReceiverPos.{ReceiverPos}
 use Rattle.oneshot_machine.specs.declared.machine.receiver.ReceiverPos.TheVariants as RP
 use Rattle.oneshot_machine.specs.declared.machine.receiver.ReceiverStart.TheVariants as RC
@@ -19,7 +18,7 @@ use Rattle.oneshot_machine.specs.declared.states.Op.TheVariants as O
 use Rattle.oneshot_machine.specs.Rows.{Outcome, Goes, Answers}
 use Rattle.oneshot_machine.specs.Sender.{sender_start, sender_step, sender_row}
 use Rattle.oneshot_machine.specs.Receiver.{receiver_start, receiver_step, receiver_row}
-use Rattle.oneshot_machine.specs.Words.{Noted}
+use Rattle.oneshot_machine.specs.Words.{Noted, op_of}
 
 -- An end's table, with all its positions and a number for each, those at which a new end's calls begin, and those at which the calls begin that may follow where a call answered.
 pub record Table (P : Type 0) : Type 0 where
@@ -38,10 +37,6 @@ is_same_op (O.Exchange a b) (O.Exchange c d) = a == c && b == d
 is_same_op O.Add O.Add = true
 is_same_op O.Xor O.Xor = true
 is_same_op _ _ = false
-
-abbrev pub op_of : Step → Option Op
-op_of (Word op) = Some op
-op_of _ = None
 
 abbrev pub is_op : Op → Option Op → Bool
 is_op op None = false

@@ -1,0 +1,2 @@
+pub mod SenderRuns
+pub mod ReceiverRuns
