@@ -1,2 +1,3 @@
 pub mod SenderRuns
 pub mod ReceiverRuns
+pub mod MemoryStands

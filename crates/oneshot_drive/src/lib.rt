@@ -2,6 +2,7 @@
 #![tactic(auto)]
 
 mod ground;
+pub mod memory;
 mod receiver;
 mod sender;
 

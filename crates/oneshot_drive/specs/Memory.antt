@@ -1,0 +1,39 @@
+-- What a contract sees of a ground in memory, and how its word and its slots stand with its list.
+use Rattle.std.specs.Prelude.{◌≡◌, ℕ, Bool, true, false, List, [], map, Option, Some, None}
+use Rattle.std.specs.Option.{option_map}
+use Rattle.oneshot_drive.specs.declared.memory.Event.{Event}
+use Rattle.oneshot_machine.specs.Logs as logs
+use Rattle.oneshot_machine.specs.Phases.{By, SenderAt, fresh, finished, late}
+use Rattle.oneshot_machine.specs.Slots.{Held, away, vacant, held}
+
+-- what it has done, and both slots as its end sees them
+pub record Memory (T W : Type 0) : Type 0 where
+  pub log : logs.Log T W
+  pub message : Held T
+  pub waker : Held W
+
+-- a slot with this in it, if it is the end's
+abbrev pub slot_of : {X : Type 0} → Bool → Option X → Held X
+slot_of false content = away
+slot_of true None = vacant
+slot_of true (Some x) = held x
+
+module _ {T W : Type 0} where
+  abbrev pub event_of : Event T W → logs.Event T W
+  event_of e = record { step = e.step; seen = e.seen; message = option_map (λ s. s.value) e.message; waker = option_map (λ s. s.value) e.waker }
+
+  -- a ground in memory is whole, and stands at no place
+  abbrev pub logged : List (Event T W) → logs.Log T W
+  logged events = record { whole = true; place = []; list = map event_of events }
+
+  abbrev pub memory_of : List (Event T W) → Option T → Bool → Bool → Memory T W
+  memory_of events message owns_message owns_waker =
+      record { log = logged events; message = slot_of owns_message message; waker = slot_of owns_waker None }
+
+-- how far a sender is, its word, and which slots are its own
+pub data SenderStands : SenderAt → ℕ → Bool → Bool → Type 0 where
+  receiver_here : SenderStands fresh 3 true false
+  receiver_gone : SenderStands fresh 2 true false
+  gave_all : (by : By) (word : ℕ) → SenderStands (finished by) word false false
+  has_all : (by : By) → SenderStands (late by 3) 3 true true
+  freed : (by : By) → SenderStands (late by 3) 3 false false

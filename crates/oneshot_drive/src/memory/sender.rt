@@ -1,0 +1,110 @@
+//! A sender's ground in memory.
+
+ghost use Rattle.oneshot_drive.specs.Calls.{IsFresh};
+
+use crate::ground::SenderGround;
+use crate::memory::{Event, record, sight};
+use oneshot_machine::machine::{Seen, Step};
+use oneshot_machine::states::{DISCONNECTED, EMPTY, Op};
+use std::alloc::Global;
+use std::marker::Model;
+use std::snapshot::Snapshot;
+use std::sync::Wait;
+
+/// A sender's ground whose receiver is here or is gone, and does nothing.
+#[derive(Drop)]
+pub struct MemorySender<'a, T, W, R: Wait> {
+    events: Vec<Event<T, W>>,
+    word: u8,
+    message: Option<T>,
+    owns_message: bool,
+    owns_waker: bool,
+    rt: &'a R,
+}
+
+impl<'a, T, W, R: Wait> Model for MemorySender<'a, T, W, R> {
+    ghost use Rattle.oneshot_machine.specs.Logs.{sender_of};
+    ghost use Rattle.oneshot_drive.specs.Memory.{Memory, memory_of, logged, SenderStands};
+
+    ghost Value = { Memory T W };
+
+    ghost view = { λ s. memory_of s.events.items s.message s.owns_message s.owns_waker };
+
+    ghost invariant = { λ s.
+        SenderStands (sender_of (logged s.events.items)) s.word s.owns_message s.owns_waker };
+}
+
+impl<'a, T, W, R: Wait> MemorySender<'a, T, W, R> {
+    /// The ground of a new sender.
+    pub fn new(rt: &'a R, alloc: Global, receiver_is_here: bool) -> MemorySender<'a, T, W, R>
+        ensures { IsFresh result.log result.message result.waker }
+    {
+        MemorySender {
+            events: Vec::new(alloc),
+            word: if receiver_is_here { EMPTY } else { DISCONNECTED },
+            message: None,
+            owns_message: true,
+            owns_waker: false,
+            rt,
+        }
+    }
+
+    /// The steps so far.
+    pub fn events(&self) -> &[Event<T, W>] {
+        &self.events
+    }
+}
+
+impl<'a, T: Drop, W, R: Wait> SenderGround<T, W> for MemorySender<'a, T, W, R> {
+    ghost log = { λ s. s.log };
+
+    ghost message_slot = { λ s. s.message };
+
+    ghost waker_slot = { λ s. s.waker };
+
+    fn word(&mut self, op: Op) -> u8 {
+        let before = self.word;
+        self.word = op.after(before);
+        self.owns_message = before == DISCONNECTED;
+        self.owns_waker = before == DISCONNECTED;
+        let event = Event::of(Step::Word(op), sight(op, before));
+        record(self.rt, &mut self.events, event);
+        before
+    }
+
+    fn write_message(&mut self, message: T) {
+        let event = Event {
+            step: Step::WriteMessage,
+            seen: Seen::Done,
+            message: Some(Snapshot::of(&message)),
+            waker: None,
+        };
+        self.message = Some(message);
+        record(self.rt, &mut self.events, event);
+    }
+
+    fn take_message(&mut self) -> T {
+        let Some(message) = self.message.take() else {
+            unreachable!()
+        };
+        let event = Event {
+            step: Step::TakeMessage,
+            seen: Seen::Done,
+            message: Some(Snapshot::of(&message)),
+            waker: None,
+        };
+        record(self.rt, &mut self.events, event);
+        message
+    }
+
+    fn drop_message(&mut self) {
+        self.message = None;
+        record(self.rt, &mut self.events, Event::of(Step::DropMessage, Seen::Done));
+    }
+
+    fn free(&mut self) {
+        self.owns_message = false;
+        self.owns_waker = false;
+        record(self.rt, &mut self.events, Event::of(Step::Free, Seen::Done));
+    }
+}
