@@ -1,9 +1,11 @@
 -- What a contract sees of a ground in memory, and how its word and its slots stand with its list.
-use Rattle.std.specs.Prelude.{◌≡◌, ℕ, Bool, true, false, List, [], map, Option, Some, None}
+use Rattle.std.specs.Prelude.{◌≡◌, ℕ, Bool, true, false, not, ◌==◌, List, [], map, Option, Some, None}
 use Rattle.std.specs.Option.{option_map}
 use Rattle.oneshot_drive.specs.declared.memory.Event.{Event}
 use Rattle.oneshot_machine.specs.Logs as logs
-use Rattle.oneshot_machine.specs.Phases.{By, SenderAt, fresh, finished, late}
+use Rattle.oneshot_machine.specs.declared.states.Op.{Op}
+use Rattle.oneshot_machine.specs.declared.states.Op.TheVariants.{Swap}
+use Rattle.oneshot_machine.specs.Phases.{By, SenderAt, fresh, finished, late, looked, at_once, Closing, ReceiverAt, first, here, full, over, gone, ended}
 use Rattle.oneshot_machine.specs.Slots.{Held, away, vacant, held}
 
 -- what it has done, and both slots as its end sees them
@@ -37,3 +39,28 @@ pub data SenderStands : SenderAt → ℕ → Bool → Bool → Type 0 where
   gave_all : (by : By) (word : ℕ) → SenderStands (finished by) word false false
   has_all : (by : By) → SenderStands (late by 3) 3 true true
   freed : (by : By) → SenderStands (late by 3) 3 false false
+
+-- how far a receiver is, its word, which slots are its own, and the message that lies in its slot
+pub data ReceiverStands {T : Type 0} : ReceiverAt → ℕ → Bool → Bool → Option T → Type 0 where
+  -- it has made no operation; the sender has not acted, sent or was dropped
+  new_open : ReceiverStands first 3 false false None
+  new_sent : (x : T) → ReceiverStands first 4 false false (Some x)
+  new_dropped : ReceiverStands first 2 false false None
+  -- its last operation found nothing
+  looked_open : ReceiverStands (here looked) 3 false true None
+  looked_sent : (x : T) → ReceiverStands (here looked) 4 false true (Some x)
+  looked_dropped : ReceiverStands (here looked) 2 false true None
+  -- it found the message, is closed, or was dropped
+  found_it : (cell : Option T) → ReceiverStands (full at_once 4) 4 true true cell
+  closed : (c : Closing) (cell : Option T) → ReceiverStands (over c) 2 true true cell
+  went : ReceiverStands gone 2 false false None
+  dropped : (cell : Option T) → ReceiverStands ended 2 true true cell
+  -- and then it freed
+  found_freed : ReceiverStands (full at_once 4) 4 false false None
+  closed_freed : (c : Closing) → ReceiverStands (over c) 2 false false None
+  dropped_freed : ReceiverStands ended 2 false false None
+
+-- whether the waker's slot is the receiver's after an operation that found this word
+abbrev pub keeps_waker : Op → ℕ → Bool
+keeps_waker (Swap new) word = not (word == 3)
+keeps_waker _ word = true

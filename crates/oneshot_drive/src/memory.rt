@@ -1,7 +1,9 @@
 //! Grounds in memory: whole, so they keep each step that they make. They are for tests.
 
+mod receiver;
 mod sender;
 
+pub use receiver::MemoryReceiver;
 pub use sender::MemorySender;
 
 ghost use Rattle.std.specs.Prelude.{◌≡◌, ◌++◌, ◌∷◌, [], None};

@@ -99,12 +99,14 @@ impl<'a, T: Drop, W, R: Wait> SenderGround<T, W> for MemorySender<'a, T, W, R> {
 
     fn drop_message(&mut self) {
         self.message = None;
-        record(self.rt, &mut self.events, Event::of(Step::DropMessage, Seen::Done));
+        let event = Event::of(Step::DropMessage, Seen::Done);
+        record(self.rt, &mut self.events, event);
     }
 
     fn free(&mut self) {
         self.owns_message = false;
         self.owns_waker = false;
-        record(self.rt, &mut self.events, Event::of(Step::Free, Seen::Done));
+        let event = Event::of(Step::Free, Seen::Done);
+        record(self.rt, &mut self.events, event);
     }
 }

@@ -2,7 +2,8 @@ use Rattle.std.proofs.Common.{nat_eq, ◌∷◌, [], None, sym, ap, subst}
 use Rattle.oneshot_machine.specs.Logs.{Grows, sender_of, worded}
 use Rattle.oneshot_machine.specs.Slots.{SenderMay, SenderFinds}
 use Rattle.oneshot_drive.specs.Memory.{slot_of, logged}
-use Rattle.oneshot_drive.proofs.MemoryStands.{SenderWord, sender_word, word_grows, sender_worded}
+use Rattle.oneshot_drive.proofs.MemoryLogs.{word_grows}
+use Rattle.oneshot_drive.proofs.MemorySenders.{SenderWord, sender_word, sender_worded}
 use Rattle.oneshot_drive.proofs.memory.sender.MemorySenderSenderGround.word.Given as given
 use Rattle.oneshot_drive.proofs.memory.sender.MemorySenderSenderGround.word.Goals as goal
 
