@@ -1,5 +1,5 @@
 -- What a contract sees of a ground in memory, and how its word and its slots stand with its list.
-use Rattle.std.specs.Prelude.{◌≡◌, ℕ, Bool, true, false, not, ◌==◌, List, [], map, Option, Some, None}
+use Rattle.std.specs.Prelude.{◌≡◌, ℕ, Bool, true, false, not, ◌==◌, if◌then◌else◌, List, [], map, Option, Some, None}
 use Rattle.std.specs.Option.{option_map}
 use Rattle.oneshot_drive.specs.declared.memory.Event.{Event}
 use Rattle.oneshot_machine.specs.Logs as logs
@@ -8,9 +8,10 @@ use Rattle.oneshot_machine.specs.declared.states.Op.TheVariants.{Swap}
 use Rattle.oneshot_machine.specs.Phases.{By, SenderAt, fresh, finished, late, looked, at_once, Closing, ReceiverAt, first, here, full, over, gone, ended}
 use Rattle.oneshot_machine.specs.Slots.{Held, away, vacant, held}
 
--- what it has done, and both slots as its end sees them
+-- what it has done, its word, and both slots as its end sees them
 pub record Memory (T W : Type 0) : Type 0 where
   pub log : logs.Log T W
+  pub word : ℕ
   pub message : Held T
   pub waker : Held W
 
@@ -28,9 +29,9 @@ module _ {T W : Type 0} where
   abbrev pub logged : List (Event T W) → logs.Log T W
   logged events = record { whole = true; place = []; list = map event_of events }
 
-  abbrev pub memory_of : List (Event T W) → Option T → Bool → Bool → Memory T W
-  memory_of events message owns_message owns_waker =
-      record { log = logged events; message = slot_of owns_message message; waker = slot_of owns_waker None }
+  abbrev pub memory_of : List (Event T W) → ℕ → Option T → Bool → Bool → Memory T W
+  memory_of events word message owns_message owns_waker =
+      record { log = logged events; word = word; message = slot_of owns_message message; waker = slot_of owns_waker None }
 
 -- how far a sender is, its word, and which slots are its own
 pub data SenderStands : SenderAt → ℕ → Bool → Bool → Type 0 where
@@ -64,3 +65,7 @@ pub data ReceiverStands {T : Type 0} : ReceiverAt → ℕ → Bool → Bool → 
 abbrev pub keeps_waker : Op → ℕ → Bool
 keeps_waker (Swap new) word = not (word == 3)
 keeps_waker _ word = true
+
+-- the word after the other end's act, which it makes only where the word is 3
+abbrev pub word_by : ℕ → ℕ → ℕ
+word_by new word = if word == 3 then new else word

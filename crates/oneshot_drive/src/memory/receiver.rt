@@ -1,9 +1,9 @@
 //! A receiver's ground in memory.
 
-ghost use Rattle.std.specs.Prelude.{◌≡◌};
+ghost use Rattle.std.specs.Prelude.{◌≡◌, map};
 ghost use Rattle.oneshot_machine.specs.Logs.{receiver_of};
 ghost use Rattle.oneshot_drive.specs.Calls.{AtRest};
-ghost use Rattle.oneshot_drive.specs.Memory.{keeps_waker};
+ghost use Rattle.oneshot_drive.specs.Memory.{event_of, keeps_waker, word_by};
 
 use crate::ground::ReceiverGround;
 use crate::memory::{Event, record, sight};
@@ -31,7 +31,7 @@ impl<'a, T, W, R: Wait> Model for MemoryReceiver<'a, T, W, R> {
 
     ghost Value = { Memory T W };
 
-    ghost view = { λ s. memory_of s.events.items s.message s.owns_message s.owns_waker };
+    ghost view = { λ s. memory_of s.events.items s.word s.message s.owns_message s.owns_waker };
 
     ghost invariant = { λ s.
         ReceiverStands (receiver_of (logged s.events.items)) s.word
@@ -41,7 +41,8 @@ impl<'a, T, W, R: Wait> Model for MemoryReceiver<'a, T, W, R> {
 impl<'a, T, W, R: Wait> MemoryReceiver<'a, T, W, R> {
     /// The ground of a new receiver, whose sender is here.
     pub fn new(rt: &'a R, alloc: Global) -> MemoryReceiver<'a, T, W, R>
-        ensures { AtRest (receiver_of result.log) result.message result.waker }
+        ensures rests { AtRest (receiver_of result.log) result.message result.waker }
+        ensures word { result.word ≡ 3 }
     {
         MemoryReceiver {
             events: Vec::new(alloc),
@@ -54,7 +55,9 @@ impl<'a, T, W, R: Wait> MemoryReceiver<'a, T, W, R> {
     }
 
     /// The steps so far.
-    pub fn events(&self) -> &[Event<T, W>] {
+    pub fn events(&self) -> &[Event<T, W>]
+        ensures { map event_of result.now ≡ self.now.log.list }
+    {
         &self.events
     }
 }
@@ -62,7 +65,7 @@ impl<'a, T, W, R: Wait> MemoryReceiver<'a, T, W, R> {
 impl<'a, T: Drop, W, R: Wait> MemoryReceiver<'a, T, W, R> {
     /// The sender sends, if both ends are still here.
     pub fn sender_sends(&mut self, message: T)
-        ensures { self.new ≡ self.old }
+        ensures { self.new ≡ record self.old { word = word_by 4 self.old.word } }
     {
         if self.word == EMPTY {
             self.word = MESSAGE;
@@ -72,7 +75,7 @@ impl<'a, T: Drop, W, R: Wait> MemoryReceiver<'a, T, W, R> {
 
     /// The sender is dropped, if both ends are still here.
     pub fn sender_drops(&mut self)
-        ensures { self.new ≡ self.old }
+        ensures { self.new ≡ record self.old { word = word_by 2 self.old.word } }
     {
         if self.word == EMPTY {
             self.word = DISCONNECTED;

@@ -1,6 +1,8 @@
 //! A sender's ground in memory.
 
+ghost use Rattle.std.specs.Prelude.{◌≡◌, map, if◌then◌else◌};
 ghost use Rattle.oneshot_drive.specs.Calls.{IsFresh};
+ghost use Rattle.oneshot_drive.specs.Memory.{event_of};
 
 use crate::ground::SenderGround;
 use crate::memory::{Event, record, sight};
@@ -28,7 +30,7 @@ impl<'a, T, W, R: Wait> Model for MemorySender<'a, T, W, R> {
 
     ghost Value = { Memory T W };
 
-    ghost view = { λ s. memory_of s.events.items s.message s.owns_message s.owns_waker };
+    ghost view = { λ s. memory_of s.events.items s.word s.message s.owns_message s.owns_waker };
 
     ghost invariant = { λ s.
         SenderStands (sender_of (logged s.events.items)) s.word s.owns_message s.owns_waker };
@@ -37,7 +39,8 @@ impl<'a, T, W, R: Wait> Model for MemorySender<'a, T, W, R> {
 impl<'a, T, W, R: Wait> MemorySender<'a, T, W, R> {
     /// The ground of a new sender.
     pub fn new(rt: &'a R, alloc: Global, receiver_is_here: bool) -> MemorySender<'a, T, W, R>
-        ensures { IsFresh result.log result.message result.waker }
+        ensures fresh { IsFresh result.log result.message result.waker }
+        ensures word { result.word ≡ (if receiver_is_here then 3 else 2) }
     {
         MemorySender {
             events: Vec::new(alloc),
@@ -50,7 +53,9 @@ impl<'a, T, W, R: Wait> MemorySender<'a, T, W, R> {
     }
 
     /// The steps so far.
-    pub fn events(&self) -> &[Event<T, W>] {
+    pub fn events(&self) -> &[Event<T, W>]
+        ensures { map event_of result.now ≡ self.now.log.list }
+    {
         &self.events
     }
 }

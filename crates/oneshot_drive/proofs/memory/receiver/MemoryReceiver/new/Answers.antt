@@ -6,5 +6,5 @@ use Rattle.oneshot_drive.proofs.memory.receiver.MemoryReceiver.new.Goals as goal
 pub invariant_of-result : goal.invariant_of-result
 invariant_of-result g c = let none : c.new.result.items ≡ [] = search rules in rw none new_open
 
-pub returns : goal.returns
-returns g c = let none : c.new.result.items ≡ [] = search rules in rw none rests_new
+pub returns-clause-rests : goal.returns-clause-rests
+returns-clause-rests g c = let none : c.new.result.items ≡ [] = search rules in rw none rests_new
