@@ -1,5 +1,5 @@
 -- How a sender's ground in memory stands after each of its steps.
-use Rattle.std.proofs.Common.{◌≡◌, ℕ, ◌≤◌, lit≤, Bool, true, false, nat_eq, List, [], ◌∷◌, ◌++◌, Option, Some, None, refl, sym, ap, subst}
+use Rattle.std.proofs.Common.{◌≡◌, ℕ, ◌≤◌, lit≤, Bool, false, nat_eq, List, [], ◌∷◌, ◌++◌, Option, Some, None, sym, ap, subst}
 use Rattle.oneshot_machine.specs.declared.states.Op.{Op}
 use Rattle.oneshot_machine.specs.Logs.{Grows, words, sender_of, worded}
 use Rattle.oneshot_machine.specs.Phases.{sending, dropping, SenderAt, sender_next, sender_at}

@@ -1,6 +1,5 @@
 -- What each call of the receiver owes its ground, and that what it makes is a run.
-use Rattle.std.proofs.Common.{◌≡◌, ℕ, List, [], ◌∷◌, Result, Ok, Err, refl, sym, ap, ◌∙◌, subst}
-use Rattle.oneshot_errors.specs.declared.try_recv.TryRecvError.{TryRecvError}
+use Rattle.std.proofs.Common.{◌≡◌, ℕ, [], ◌∷◌, Ok, Err, refl, sym, ap, ◌∙◌, subst}
 use Rattle.oneshot_errors.specs.declared.try_recv.TryRecvError.TheVariants as E
 use Rattle.oneshot_machine.specs.declared.machine.Reply.TheVariants as R
 use Rattle.oneshot_machine.specs.declared.machine.Seen.TheVariants as S

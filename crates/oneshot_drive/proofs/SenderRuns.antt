@@ -1,5 +1,5 @@
 -- What each call of the sender owes its ground, and that what it makes is a run.
-use Rattle.std.proofs.Common.{◌≡◌, ℕ, true, false, nat_eq, List, [], ◌∷◌, refl, sym, ap, ◌∙◌, subst}
+use Rattle.std.proofs.Common.{◌≡◌, ℕ, nat_eq, [], ◌∷◌, refl, sym, ap, ◌∙◌, subst}
 use Rattle.oneshot_machine.specs.declared.machine.Reply.TheVariants as R
 use Rattle.oneshot_machine.specs.declared.machine.Step.TheVariants.{DropMessage, Free}
 use Rattle.oneshot_machine.specs.declared.machine.sender.SenderCall.TheVariants.{Send, Drop, IntoInner, DropError}
@@ -11,7 +11,7 @@ use Rattle.oneshot_machine.specs.Phases.{SenderAt, fresh, sender_at}
 use Rattle.oneshot_machine.specs.Runs.{last, more, SenderRan}
 use Rattle.oneshot_machine.specs.Slots.{Held, away, vacant, held, SenderMay, may_add, may_flip, SenderFinds, add_empty, add_gone, flip_empty, flip_gone}
 use Rattle.oneshot_machine.proofs.GrownLists.{words_stay, and_then}
-use Rattle.oneshot_drive.specs.Calls.{IsFresh, IsError, send_reply}
+use Rattle.oneshot_drive.specs.Calls.{IsFresh, send_reply}
 
 module _ {T W : Type 0} where
   -- a sender that has made no operation, with its slots so

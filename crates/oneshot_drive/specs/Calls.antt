@@ -6,7 +6,7 @@ use Rattle.oneshot_machine.specs.declared.machine.Reply.{Reply}
 use Rattle.oneshot_machine.specs.declared.machine.Reply.TheVariants.{Sent, Refused, Message, Empty, Disconnected}
 use Rattle.oneshot_machine.specs.Logs.{Log, sender_of}
 use Rattle.oneshot_machine.specs.Phases.{fresh, Closing, closed_itself, ReceiverAt, first, here, looked, over}
-use Rattle.oneshot_machine.specs.Slots.{Held, away, vacant, held}
+use Rattle.oneshot_machine.specs.Slots.{Held, away, vacant}
 
 -- a sender that has made no call: the message's slot is its own and empty
 pub record IsFresh {T W : Type 0} (log : Log T W) (message : Held T) (waker : Held W) : Type 0 where

@@ -1,5 +1,5 @@
 -- What a contract sees of a ground in memory, and how its word and its slots stand with its list.
-use Rattle.std.specs.Prelude.{◌≡◌, ℕ, Bool, true, false, not, ◌==◌, if◌then◌else◌, List, [], map, Option, Some, None}
+use Rattle.std.specs.Prelude.{ℕ, Bool, true, false, not, ◌==◌, if◌then◌else◌, List, [], map, Option, Some, None}
 use Rattle.std.specs.Option.{option_map}
 use Rattle.oneshot_drive.specs.declared.memory.Event.{Event}
 use Rattle.oneshot_machine.specs.Logs as logs

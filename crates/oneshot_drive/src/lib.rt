@@ -9,3 +9,6 @@ mod sender;
 pub use ground::{ReceiverGround, SenderGround};
 pub use receiver::{drop_receiver, try_recv};
 pub use sender::{drop_error, drop_sender, into_inner, send};
+
+#[cfg(test)]
+mod tests;

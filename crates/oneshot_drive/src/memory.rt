@@ -3,14 +3,13 @@
 mod receiver;
 mod sender;
 
-pub use receiver::MemoryReceiver;
-pub use sender::MemorySender;
-
 ghost use Rattle.std.specs.Prelude.{◌≡◌, ◌++◌, ◌∷◌, [], None};
 ghost use Rattle.oneshot_machine.specs.Words.{saw};
 
 use oneshot_machine::machine::{Seen, Step};
 use oneshot_machine::states::Op;
+pub use receiver::MemoryReceiver;
+pub use sender::MemorySender;
 use std::snapshot::Snapshot;
 use std::sync::Wait;
 

@@ -35,7 +35,7 @@ impl<'a, T, W, R: Wait> Model for MemoryReceiver<'a, T, W, R> {
 
     ghost invariant = { λ s.
         ReceiverStands (receiver_of (logged s.events.items)) s.word
-            s.owns_message s.owns_waker s.message };
+        s.owns_message s.owns_waker s.message };
 }
 
 impl<'a, T, W, R: Wait> MemoryReceiver<'a, T, W, R> {

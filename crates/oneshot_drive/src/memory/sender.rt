@@ -44,7 +44,11 @@ impl<'a, T, W, R: Wait> MemorySender<'a, T, W, R> {
     {
         MemorySender {
             events: Vec::new(alloc),
-            word: if receiver_is_here { EMPTY } else { DISCONNECTED },
+            word: if receiver_is_here {
+                EMPTY
+            } else {
+                DISCONNECTED
+            },
             message: None,
             owns_message: true,
             owns_waker: false,

@@ -1,5 +1,3 @@
-use Rattle.std.proofs.Common.{subst}
-use Rattle.oneshot_drive.specs.Memory.{ReceiverStands}
 use Rattle.oneshot_drive.proofs.MemoryReceivers.{dropped_on}
 use Rattle.oneshot_drive.proofs.memory.receiver.MemoryReceiver.sender_drops.Goals as goal
 
