@@ -19,10 +19,12 @@ pub trait SenderGround<T, W> {
 
     /// Makes an operation on the word, and gives the word before.
     fn word(&mut self, op: Op) -> u8
-        requires { SenderMay (sender_of (log self.old)) op (message_slot self.old) (waker_slot self.old) }
+        requires { SenderMay (sender_of (log self.old)) op
+            (message_slot self.old) (waker_slot self.old) }
         ensures list { Grows (log self.old) (log self.new) (worded op result ∷ []) }
         ensures finds { SenderFinds (sender_of (log self.old)) op result
-            (message_slot self.old) (waker_slot self.old) (message_slot self.new) (waker_slot self.new) };
+            (message_slot self.old) (waker_slot self.old)
+            (message_slot self.new) (waker_slot self.new) };
 
     /// Puts the message into its slot, which is the end's and empty.
     fn write_message(&mut self, message: T)
@@ -46,7 +48,7 @@ pub trait SenderGround<T, W> {
         ensures message { message_slot self.new ≡ vacant }
         ensures waker { waker_slot self.new ≡ waker_slot self.old };
 
-    /// Frees the block, whose slots are the end's and empty. Then no slot is the end's, so nothing follows.
+    /// Frees the block, whose slots are the end's and empty. Then neither is, so nothing follows.
     fn free(&mut self)
         requires message { message_slot self.old ≡ vacant }
         requires waker { waker_slot self.old ≡ vacant }
@@ -67,10 +69,12 @@ pub trait ReceiverGround<T, W> {
 
     /// Makes an operation on the word, and gives the word before.
     fn word(&mut self, op: Op) -> u8
-        requires { ReceiverMay (receiver_of (log self.old)) op (message_slot self.old) (waker_slot self.old) }
+        requires { ReceiverMay (receiver_of (log self.old)) op
+            (message_slot self.old) (waker_slot self.old) }
         ensures list { Grows (log self.old) (log self.new) (worded op result ∷ []) }
         ensures finds { ReceiverFinds (receiver_of (log self.old)) op result
-            (message_slot self.old) (waker_slot self.old) (message_slot self.new) (waker_slot self.new) };
+            (message_slot self.old) (waker_slot self.old)
+            (message_slot self.new) (waker_slot self.new) };
 
     /// Takes the message out of its slot.
     fn take_message(&mut self) -> T
@@ -87,7 +91,7 @@ pub trait ReceiverGround<T, W> {
         ensures message { message_slot self.new ≡ vacant }
         ensures waker { waker_slot self.new ≡ waker_slot self.old };
 
-    /// Frees the block, whose slots are the end's and empty. Then no slot is the end's, so nothing follows.
+    /// Frees the block, whose slots are the end's and empty. Then neither is, so nothing follows.
     fn free(&mut self)
         requires message { message_slot self.old ≡ vacant }
         requires waker { waker_slot self.old ≡ vacant }

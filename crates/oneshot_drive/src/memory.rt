@@ -50,7 +50,7 @@ fn sight(op: Op, word: u8) -> Seen
     }
 }
 
-// Waits for ever where there is no memory for one more event, since a ground's calls have no answer for that.
+// Waits for ever where there is no memory for one more event, for which a ground has no answer.
 fn record<T, W, R: Wait>(rt: &R, events: &mut Vec<Event<T, W>>, event: Event<T, W>)
     ensures { events.new.items ≡ events.old.items ++ event ∷ [] }
 {

@@ -15,7 +15,8 @@ use oneshot_machine::states::{DISCONNECTED, EMPTY, MESSAGE, Op};
 /// Receives the message, if it is there.
 pub fn try_recv<T, W, G: ReceiverGround<T, W>>(g: &mut G) -> Result<T, TryRecvError>
     requires { AtRest (receiver_of (G.log g.old)) (G.message_slot g.old) (G.waker_slot g.old) }
-    ensures run { ReceiverRan TryRecv (G.log g.old) (G.log g.new) (try_recv_reply result) [] (received result) }
+    ensures run { ReceiverRan TryRecv (G.log g.old) (G.log g.new)
+        (try_recv_reply result) [] (received result) }
     ensures rests { AtRest (receiver_of (G.log g.new)) (G.message_slot g.new) (G.waker_slot g.new) }
     ensures leaves { Leaves result (receiver_of (G.log g.new)) }
     ensures stays { IsClosed (receiver_of (G.log g.old)) → result ≡ Err Disconnected }

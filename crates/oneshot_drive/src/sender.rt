@@ -10,11 +10,13 @@ ghost use Rattle.oneshot_drive.specs.Calls.{IsFresh, IsError, send_reply};
 use crate::ground::SenderGround;
 use oneshot_machine::states::{DISCONNECTED, EMPTY, Op};
 
-/// Sends the message, and tells whether the receiver was there. Where it was not, the message stays in its slot.
+/// Sends the message, and tells whether the receiver was there. Where it was not, the message stays
+/// in its slot.
 pub fn send<T, W, G: SenderGround<T, W>>(g: &mut G, message: T) -> bool
     requires { IsFresh (G.log g.old) (G.message_slot g.old) (G.waker_slot g.old) }
     ensures run { SenderRan Send (G.log g.old) (G.log g.new) (send_reply result) (message ∷ []) [] }
-    ensures refused { result ≡ false → IsError (held message) (G.message_slot g.new) (G.waker_slot g.new) }
+    ensures refused { result ≡ false →
+        IsError (held message) (G.message_slot g.new) (G.waker_slot g.new) }
 {
     g.write_message(message);
     g.word(Op::Add) == EMPTY

@@ -48,7 +48,8 @@ module _ {T W : Type 0} where
   abbrev pub words : List (Event T W) → List Noted
   words = filter_map noted
 
-  -- what of these steps the list of a ground has: of a whole ground all, of any other those on the word
+  -- What of these steps the list of a ground has: of a whole ground all, of any other those on the
+  -- word.
   abbrev pub kept : Bool → List (Event T W) → List (Event T W)
   kept true xs = xs
   kept false xs = filter (λ x. is_some (op_of x.step)) xs

@@ -1,4 +1,4 @@
--- What an end's table allows after its list, what may be found then, and the end's slots before and after.
+-- What an end's table allows after its list, what may be found then, and its slots before and after.
 use Rattle.std.specs.Prelude.{ℕ}
 use Rattle.oneshot_machine.specs.declared.states.Op.{Op}
 use Rattle.oneshot_machine.specs.declared.states.Op.TheVariants.{Load, Store, Swap, Add, Xor}
@@ -18,7 +18,8 @@ pub data SenderMay {T W : Type 0} : SenderAt → Op → Held T → Held W → Ty
   may_flip : SenderMay fresh Xor vacant away
 
 -- it may find this word, with the slots so before, and so after
-pub data SenderFinds {T W : Type 0} : SenderAt → Op → ℕ → Held T → Held W → Held T → Held W → Type 0 where
+pub data SenderFinds {T W : Type 0}
+    : SenderAt → Op → ℕ → Held T → Held W → Held T → Held W → Type 0 where
   add_empty : (x : T) → SenderFinds fresh Add 3 (held x) away away away
   add_gone : (x : T) → SenderFinds fresh Add 2 (held x) away (held x) vacant
   flip_empty : SenderFinds fresh Xor 3 vacant away away away
@@ -36,7 +37,8 @@ pub data ReceiverMay {T W : Type 0} : ReceiverAt → Op → Held T → Held W �
   may_drop : ReceiverMay (here looked) (Swap 2) away vacant
   may_drop_closed : (c : Closing) → ReceiverMay (over c) (Swap 2) vacant vacant
 
-pub data ReceiverFinds {T W : Type 0} : ReceiverAt → Op → ℕ → Held T → Held W → Held T → Held W → Type 0 where
+pub data ReceiverFinds {T W : Type 0}
+    : ReceiverAt → Op → ℕ → Held T → Held W → Held T → Held W → Type 0 where
   -- a receive loads
   first_empty : ReceiverFinds first Load 3 away away away vacant
   first_message : (x : T) → ReceiverFinds first Load 4 away away (held x) vacant

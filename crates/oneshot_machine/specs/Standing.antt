@@ -20,7 +20,8 @@ use Rattle.oneshot_machine.specs.Sender.{sender_start, sender_step, sender_row}
 use Rattle.oneshot_machine.specs.Receiver.{receiver_start, receiver_step, receiver_row}
 use Rattle.oneshot_machine.specs.Words.{Noted, op_of}
 
--- An end's table, with all its positions and a number for each, those at which a new end's calls begin, and those at which the calls begin that may follow where a call answered.
+-- An end's table, with all its positions and a number for each. `opens` are those at which a new
+-- end's calls begin, and `follows` those at which a call may begin where another has answered.
 pub record Table (P : Type 0) : Type 0 where
   pub step : P → Step
   pub row : P → Seen → Option (Outcome P)
@@ -47,11 +48,13 @@ abbrev pub sights : List Seen
 sights = Done ∷ []
 
 module _ {P : Type 0} (t : Table P) where
-  -- the positions that come next at which an operation on the word is made. Where more steps than `fuel` lie between, it gives every position, so that too little of it refuses the laws and never proves them.
+  -- The positions that come next at which an operation on the word is made. Where more steps than
+  -- `fuel` lie between, it gives every position, so that too little of it can only refuse the law.
   abbrev pub onward : (fuel : ℕ) (from : P) → Option (Outcome P) → List P
   onward fuel from None = []
   onward zero from (Some outcome) = t.positions
-  onward (suc fuel) from (Some (Answers reply)) = flat_map (λ p. onward fuel p (Some (Goes p))) (t.follows from reply)
+  onward (suc fuel) from (Some (Answers reply)) =
+      flat_map (λ p. onward fuel p (Some (Goes p))) (t.follows from reply)
   onward (suc fuel) from (Some (Goes p)) =
       if is_some (op_of (t.step p)) then p ∷ [] else flat_map (λ seen. onward fuel p (t.row p seen)) sights
 

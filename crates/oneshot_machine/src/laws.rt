@@ -1,9 +1,9 @@
-//! Laws of the definitions that contracts cite. Each function's contract is the law, and its body does nothing.
+//! Laws of the definitions that contracts cite: each function's contract is the law, its body nothing.
 
 ghost use Rattle.oneshot_machine.specs.Exact.{SenderIsExact, ReceiverIsExact};
 ghost use Rattle.oneshot_machine.specs.Examples.{SenderLists, ReceiverLists, RunsThatAre, RunsThatAreNot};
 
-/// What the definitions allow an end after its operations on the word is what its table makes there.
+/// What the definitions allow an end after its operations on the word is what its table makes.
 pub fn tables_are_exact<T, W>()
     ensures sender { SenderIsExact T W }
     ensures receiver { ReceiverIsExact T W }

@@ -35,6 +35,7 @@ wrote_next before (Store new) seen = Some new
 wrote_next before (Swap new) (Word word) = if word == 4 || word == 2 then Some new else before
 wrote_next before _ seen = before
 
--- What the receiver has written since the sender's last operation: by a store, or by a swap that found 4 or 2.
+-- What the receiver has written since the sender's last operation: by a store, or by a swap that
+-- found 4 or 2.
 abbrev pub wrote_since : List Noted → Option ℕ
 wrote_since = along wrote_next None

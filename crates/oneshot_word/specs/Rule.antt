@@ -1,4 +1,4 @@
--- The rule of the table as its steps keep it: a row for each pair of phases that the two ends can be in together.
+-- The rule of the table as its steps keep it: a row for each pair of phases in which the ends can be.
 use Rattle.std.specs.Prelude.{◌≡◌, ℕ, Bool, true, false, List, [], ◌∷◌, Option, Some, None}
 use mathlib.Core.Option as maybe
 use Rattle.oneshot_machine.specs.Words.{Noted}
@@ -71,5 +71,7 @@ pub data Tied {T W : Type 0} : List ℕ → List (Home T W) → List View → Ty
   -- its maker has the message's slot
   dealt : Tied (3 ∷ []) (out ∷ bare ∷ []) (view Dealer [] ∷ [])
   -- both ends are there, and then as the rows say
-  runs : {w : ℕ} {h k : Home T W} (xs ys : List Noted) → SenderSays xs (sender_at xs) → ReceiverSays ys (receiver_at ys) → Row T W (sender_at xs) (receiver_at ys) w h k
+  runs : {w : ℕ} {h k : Home T W} (xs ys : List Noted)
+      → SenderSays xs (sender_at xs) → ReceiverSays ys (receiver_at ys)
+      → Row T W (sender_at xs) (receiver_at ys) w h k
       → Tied (w ∷ []) (h ∷ k ∷ []) (view Sender xs ∷ view Receiver ys ∷ [])

@@ -55,15 +55,20 @@ pub data WakerSlot {T W : Type 0} : Slot T W → Held W → Type 0 where
 pub data SenderHas {T W : Type 0} : SenderAt → Carried T W → Held T → Held W → Type 0 where
   has_fresh : {s : Slot T W} {m : Held T} → MessageSlot s m → SenderHas fresh ((0, s) ∷ []) m away
   has_finished : (by : By) → SenderHas (finished by) [] away away
-  has_late : (by : By) (n : ℕ) {s t : Slot T W} {m : Held T} {w : Held W} → MessageSlot s m → WakerSlot t w → SenderHas (late by n) ((1, t) ∷ (0, s) ∷ []) m w
+  has_late : (by : By) (n : ℕ) {s t : Slot T W} {m : Held T} {w : Held W}
+      → MessageSlot s m → WakerSlot t w → SenderHas (late by n) ((1, t) ∷ (0, s) ∷ []) m w
 
 pub data ReceiverHas {T W : Type 0} : ReceiverAt → Carried T W → Held T → Held W → Type 0 where
   has_first : ReceiverHas first [] away away
-  has_here : (f : Open) {t : Slot T W} {w : Held W} → WakerSlot t w → ReceiverHas (here f) ((1, t) ∷ []) away w
-  has_full : (g : Got) (n : ℕ) {s t : Slot T W} {m : Held T} {w : Held W} → MessageSlot s m → WakerSlot t w → ReceiverHas (full g n) ((0, s) ∷ (1, t) ∷ []) m w
-  has_over : (c : Closing) {s t : Slot T W} {m : Held T} {w : Held W} → MessageSlot s m → WakerSlot t w → ReceiverHas (over c) ((0, s) ∷ (1, t) ∷ []) m w
+  has_here : (f : Open) {t : Slot T W} {w : Held W}
+      → WakerSlot t w → ReceiverHas (here f) ((1, t) ∷ []) away w
+  has_full : (g : Got) (n : ℕ) {s t : Slot T W} {m : Held T} {w : Held W}
+      → MessageSlot s m → WakerSlot t w → ReceiverHas (full g n) ((0, s) ∷ (1, t) ∷ []) m w
+  has_over : (c : Closing) {s t : Slot T W} {m : Held T} {w : Held W}
+      → MessageSlot s m → WakerSlot t w → ReceiverHas (over c) ((0, s) ∷ (1, t) ∷ []) m w
   has_gone : ReceiverHas gone [] away away
-  has_ended : {s t : Slot T W} {m : Held T} {w : Held W} → MessageSlot s m → WakerSlot t w → ReceiverHas ended ((0, s) ∷ (1, t) ∷ []) m w
+  has_ended : {s t : Slot T W} {m : Held T} {w : Held W}
+      → MessageSlot s m → WakerSlot t w → ReceiverHas ended ((0, s) ∷ (1, t) ∷ []) m w
 
 -- a seat at a table of one word and two slots
 pub record IsAt (board seat : TableId) : Type 0 where
@@ -82,12 +87,16 @@ module _ {T W : Type 0} where
     pub has : ReceiverHas (receiver_at me.0.steps) me.1 (message_in me.1) (waker_in me.1)
 
   -- a seat before and after an operation that found this word
-  pub record SenderStepped (before : Me (Slot T W) View) (op : Op) (word : ℕ) (after : Me (Slot T W) View) : Type 0 where
+  pub record SenderStepped
+      (before : Me (Slot T W) View) (op : Op) (word : ℕ) (after : Me (Slot T W) View) : Type 0 where
     pub list : after.0.steps ≡ before.0.steps ++ (op, saw op word) ∷ []
     pub seat : SenderSeat after
-    pub finds : SenderFinds (sender_at before.0.steps) op word (message_in before.1) (waker_in before.1) (message_in after.1) (waker_in after.1)
+    pub finds : SenderFinds (sender_at before.0.steps) op word
+        (message_in before.1) (waker_in before.1) (message_in after.1) (waker_in after.1)
 
-  pub record ReceiverStepped (before : Me (Slot T W) View) (op : Op) (word : ℕ) (after : Me (Slot T W) View) : Type 0 where
+  pub record ReceiverStepped
+      (before : Me (Slot T W) View) (op : Op) (word : ℕ) (after : Me (Slot T W) View) : Type 0 where
     pub list : after.0.steps ≡ before.0.steps ++ (op, saw op word) ∷ []
     pub seat : ReceiverSeat after
-    pub finds : ReceiverFinds (receiver_at before.0.steps) op word (message_in before.1) (waker_in before.1) (message_in after.1) (waker_in after.1)
+    pub finds : ReceiverFinds (receiver_at before.0.steps) op word
+        (message_in before.1) (waker_in before.1) (message_in after.1) (waker_in after.1)

@@ -19,9 +19,11 @@ pub record Side (T W : Type 0) : Type 0 where
 
 -- what a seat of such a table shows
 abbrev pub side_of : {T W : Type 0} → TableId → Me (Slot T W) View → Side T W
-side_of table me = record { table = table; steps = me.0.steps; message = message_in me.1; waker = waker_in me.1 }
+side_of table me =
+    record { table = table; steps = me.0.steps; message = message_in me.1; waker = waker_in me.1 }
 
--- both ends of a new table: neither has made an operation, and the sender has the message's slot, empty
+-- Both ends of a new table: neither has made an operation, and the sender has the message's slot,
+-- which is empty.
 pub record AreEnds {T W : Type 0} (sender receiver : Side T W) : Type 0 where
   pub table : sender.table ≡ receiver.table
   pub sender_steps : sender.steps ≡ []
@@ -38,16 +40,20 @@ pub data IsOwn {X : Type 0} : Held X → Type 0 where
 pub data SenderOwns {T W : Type 0} : SenderAt → Held T → Held W → Type 0 where
   owns_message : {m : Held T} → IsOwn m → SenderOwns fresh m away
   owns_none : (by : By) → SenderOwns (finished by) away away
-  owns_both : (by : By) (word : ℕ) {m : Held T} {w : Held W} → IsOwn m → IsOwn w → SenderOwns (late by word) m w
+  owns_both : (by : By) (word : ℕ) {m : Held T} {w : Held W}
+      → IsOwn m → IsOwn w → SenderOwns (late by word) m w
 
 -- which are the receiver's
 pub data ReceiverOwns {T W : Type 0} : ReceiverAt → Held T → Held W → Type 0 where
   none_yet : ReceiverOwns first away away
   owns_waker : (f : Open) {w : Held W} → IsOwn w → ReceiverOwns (here f) away w
-  owns_full : (g : Got) (word : ℕ) {m : Held T} {w : Held W} → IsOwn m → IsOwn w → ReceiverOwns (full g word) m w
-  owns_closed : (c : Closing) {m : Held T} {w : Held W} → IsOwn m → IsOwn w → ReceiverOwns (over c) m w
+  owns_full : (g : Got) (word : ℕ) {m : Held T} {w : Held W}
+      → IsOwn m → IsOwn w → ReceiverOwns (full g word) m w
+  owns_closed : (c : Closing) {m : Held T} {w : Held W}
+      → IsOwn m → IsOwn w → ReceiverOwns (over c) m w
   gave_all : ReceiverOwns gone away away
-  owns_all : {m : Held T} {w : Held W} → IsOwn m → IsOwn w → ReceiverOwns ended m w
+  owns_all : {m : Held T} {w : Held W}
+      → IsOwn m → IsOwn w → ReceiverOwns ended m w
 
 module _ {T W : Type 0} where
   -- the end's table allows the operation after its list
@@ -57,13 +63,16 @@ module _ {T W : Type 0} where
   abbrev pub ReceiverCan : Side T W → Op → Type 0
   ReceiverCan s op = ReceiverMay (receiver_at s.steps) op s.message s.waker
 
-  -- the end made the operation, which found this word: its list is longer by it, and its slots are as the table says
+  -- The end made the operation, which found this word: its list is longer by it, and its slots are
+  -- as what it found says.
   pub record SenderDid (before : Side T W) (op : Op) (word : ℕ) (after : Side T W) : Type 0 where
     pub table : after.table ≡ before.table
     pub list : after.steps ≡ before.steps ++ (op, saw op word) ∷ []
-    pub finds : SenderFinds (sender_at before.steps) op word before.message before.waker after.message after.waker
+    pub finds : SenderFinds (sender_at before.steps) op word
+        before.message before.waker after.message after.waker
 
   pub record ReceiverDid (before : Side T W) (op : Op) (word : ℕ) (after : Side T W) : Type 0 where
     pub table : after.table ≡ before.table
     pub list : after.steps ≡ before.steps ++ (op, saw op word) ∷ []
-    pub finds : ReceiverFinds (receiver_at before.steps) op word before.message before.waker after.message after.waker
+    pub finds : ReceiverFinds (receiver_at before.steps) op word
+        before.message before.waker after.message after.waker

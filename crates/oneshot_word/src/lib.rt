@@ -1,4 +1,4 @@
-//! The word that both ends share, with the message's slot and the waker's: its rule, and each step on it.
+//! The word that both ends share, with the message's slot and the waker's: its rule and its steps.
 #![tactic(auto)]
 
 mod opening;

@@ -29,8 +29,8 @@ pub enum Role {
     Receiver,
 }
 
-/// What a seat knows: whose it is, and the list of its operations on the word, looks apart, each with
-/// what it saw. It is for the proofs alone: no value of it is made.
+/// What a seat knows: whose it is, and the list of its operations on the word, looks apart, each
+/// with what it saw. It is for the proofs alone: no value of it is made.
 pub struct View {
     /// Whose seat it is.
     pub role: Role,

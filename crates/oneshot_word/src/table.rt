@@ -14,7 +14,8 @@ pub(crate) type Board<T, W> = Table<Slot<T, W>, View, (), WordRule, Global>;
 /// A seat of it.
 pub(crate) type Chair<T, W> = Seat<Slot<T, W>, View>;
 
-// No proof knows what a load without a seat finds. By the rule it is below 5, so the low byte is all of it.
+// No proof knows what a load without a seat finds. By the rule it is below 5, so the low byte is
+// all of it.
 pub(crate) fn look<T, W>(board: &Arc<Board<T, W>, Global>) -> u8
     requires { 0 < (arc_value board.now).shared.table_id.words }
 {
