@@ -1,5 +1,5 @@
 -- What a ground has done: its steps, and what of them it keeps.
-use Rattle.std.specs.Prelude.{◌≡◌, ℕ, Bool, true, false, List, [], ◌∷◌, ◌++◌, filter, Option, Some, None, is_some}
+use Rattle.std.specs.Prelude.{◌≡◌, ℕ, Bool, true, false, List, ◌++◌, filter, Option, Some, None, is_some}
 use Rattle.std.specs.List.{filter_map}
 use Rattle.std.specs.Option.{option_map}
 use Rattle.oneshot_machine.specs.declared.machine.Seen.{Seen}

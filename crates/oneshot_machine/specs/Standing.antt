@@ -21,7 +21,8 @@ use Rattle.oneshot_machine.specs.Receiver.{receiver_start, receiver_step, receiv
 use Rattle.oneshot_machine.specs.Words.{Noted, op_of}
 
 -- An end's table, with all its positions and a number for each. `opens` are those at which a new
--- end's calls begin, and `follows` those at which a call may begin where another has answered.
+-- end's calls begin, and `follows` those at which a call may begin where another has answered; looks
+-- stand in neither, since no list has them.
 pub record Table (P : Type 0) : Type 0 where
   pub step : P → Step
   pub row : P → Seen → Option (Outcome P)
