@@ -64,6 +64,13 @@ impl<T, W> ReceiverSide<T, W> {
             .swap::<Swaps>(&mut self.chair, 0, new as u64) as u8
     }
 
+    /// Does nothing. Its contract tells which slots are the receiver's by what it did.
+    pub fn slots(&self)
+        ensures { ReceiverOwns (receiver_at self.now.steps) self.now.message self.now.waker }
+    {
+        let _seat = &self.chair;
+    }
+
     /// Reads the word as a look does, which lengthens no list and tells nothing of what it found.
     pub fn peek(&self) -> u8
         ensures rule { RuleReads T W }
