@@ -1,6 +1,7 @@
 //! The errors of the receives.
 #![tactic(auto)]
 
+pub mod laws;
 mod recv;
 mod recv_timeout;
 mod try_recv;
