@@ -12,7 +12,7 @@ pub enum RecvTimeoutError {
     /// The time was over while nothing was sent and the sender was still there. The receiver stays open,
     /// so that a later receive may find the message.
     ///
-    /// In this port a clock that cannot be read counts as over.
+    /// In this port the time counts as over where the clock cannot be read.
     Timeout,
     /// The sender is gone without a message, or the message was received before. None will ever come.
     Disconnected,
