@@ -5,11 +5,14 @@ use std::fmt;
 use std::fmt::{Display, Formatter};
 
 /// Why `try_recv` has no message.
+///
+/// The two reasons are those of the Rust crate.
 #[derive(Clone, Copy, Debug, Eq, Hash, PartialEq)]
 pub enum TryRecvError {
-    /// Nothing was sent yet, and the sender is still there.
+    /// Nothing was sent yet, and the sender is still there. The receiver stays open, so that a later receive may
+    /// find the message.
     Empty,
-    /// The sender is gone without a message, or the message was received before.
+    /// The sender is gone without a message, or the message was received before. None will ever come.
     Disconnected,
 }
 
