@@ -1,0 +1,5 @@
+pub mod SenderRuns
+pub mod ReceiverRuns
+pub mod MemoryLogs
+pub mod MemorySenders
+pub mod MemoryReceivers

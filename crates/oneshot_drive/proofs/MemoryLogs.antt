@@ -1,0 +1,20 @@
+-- What the log of a ground in memory has after one event more.
+use Rattle.std.proofs.Common.{◌≡◌, ℕ, List, [], ◌∷◌, ◌++◌, map, refl, ap, ◌∙◌, subst}
+use Rattle.std.proofs.lemmas.List.{map-append}
+use Rattle.oneshot_machine.specs.declared.states.Op.{Op}
+use Rattle.oneshot_machine.specs.Logs.{Grows, words, worded}
+use Rattle.oneshot_machine.proofs.GrownLists.{words_stay}
+use Rattle.oneshot_drive.specs.declared.memory.Event.{Event}
+use Rattle.oneshot_drive.specs.Memory.{event_of, logged}
+
+module _ {T W : Type 0} where
+  logged_grows : (xs ys : List (Event T W)) (e : Event T W) → ys ≡ xs ++ e ∷ [] → Grows (logged xs) (logged ys) (event_of e ∷ [])
+  logged_grows xs ys e is = record { whole = refl; place = refl; list = ap (map event_of) is ∙ map-append event_of xs (e ∷ []) }
+
+  -- that is no operation on the word
+  pub words_same : (xs ys : List (Event T W)) (e : Event T W) → ys ≡ xs ++ e ∷ [] → words (event_of e ∷ []) ≡ [] → words (logged ys).list ≡ words (logged xs).list
+  words_same xs ys e is none = words_stay (event_of e ∷ []) none (logged_grows xs ys e is)
+
+  -- that is one
+  pub word_grows : (xs ys : List (Event T W)) (e : Event T W) (op : Op) (word : ℕ) → ys ≡ xs ++ e ∷ [] → event_of e ≡ worded op word → Grows (logged xs) (logged ys) (worded op word ∷ [])
+  word_grows xs ys e op word is that = subst (λ x. Grows (logged xs) (logged ys) (x ∷ [])) that (logged_grows xs ys e is)

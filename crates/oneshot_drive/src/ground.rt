@@ -1,0 +1,101 @@
+//! What an end does to the world.
+
+ghost use Rattle.std.specs.Prelude.{◌≡◌, ◌∷◌, []};
+ghost use Rattle.oneshot_machine.specs.declared.machine.Step.TheVariants.{DropMessage, Free};
+ghost use Rattle.oneshot_machine.specs.Logs.{Log, Grows, sender_of, receiver_of, did, wrote, took, worded};
+ghost use Rattle.oneshot_machine.specs.Slots.{Held, away, vacant, held, SenderMay, SenderFinds, ReceiverMay, ReceiverFinds};
+
+use oneshot_machine::states::Op;
+
+/// What the sender, or the error of its refused `send`, does to the world.
+pub trait SenderGround<T, W> {
+    // What the ground has done.
+    ghost log: { Self → Log T W };
+
+    // The message's slot and the waker's, as the end sees them.
+    ghost message_slot: { Self → Held T };
+
+    ghost waker_slot: { Self → Held W };
+
+    /// Makes an operation on the word, and gives the word before.
+    fn word(&mut self, op: Op) -> u8
+        requires { SenderMay (sender_of (log self.old)) op
+            (message_slot self.old) (waker_slot self.old) }
+        ensures list { Grows (log self.old) (log self.new) (worded op result ∷ []) }
+        ensures finds { SenderFinds (sender_of (log self.old)) op result
+            (message_slot self.old) (waker_slot self.old)
+            (message_slot self.new) (waker_slot self.new) };
+
+    /// Puts the message into its slot, which is the end's and empty.
+    fn write_message(&mut self, message: T)
+        requires { message_slot self.old ≡ vacant }
+        ensures list { Grows (log self.old) (log self.new) (wrote message ∷ []) }
+        ensures message { message_slot self.new ≡ held message }
+        ensures waker { waker_slot self.new ≡ waker_slot self.old };
+
+    /// Takes the message out of its slot.
+    fn take_message(&mut self) -> T
+        requires { (x : T) × (message_slot self.old ≡ held x) }
+        ensures list { Grows (log self.old) (log self.new) (took result ∷ []) }
+        ensures was { message_slot self.old ≡ held result }
+        ensures message { message_slot self.new ≡ vacant }
+        ensures waker { waker_slot self.new ≡ waker_slot self.old };
+
+    /// Drops the message in its slot.
+    fn drop_message(&mut self)
+        requires { (x : T) × (message_slot self.old ≡ held x) }
+        ensures list { Grows (log self.old) (log self.new) (did DropMessage ∷ []) }
+        ensures message { message_slot self.new ≡ vacant }
+        ensures waker { waker_slot self.new ≡ waker_slot self.old };
+
+    /// Frees the block, whose slots are the end's and empty. Then neither is, so nothing follows.
+    fn free(&mut self)
+        requires message { message_slot self.old ≡ vacant }
+        requires waker { waker_slot self.old ≡ vacant }
+        ensures list { Grows (log self.old) (log self.new) (did Free ∷ []) }
+        ensures message { message_slot self.new ≡ away }
+        ensures waker { waker_slot self.new ≡ away };
+}
+
+/// What the receiver does to the world.
+pub trait ReceiverGround<T, W> {
+    // What the ground has done.
+    ghost log: { Self → Log T W };
+
+    // The message's slot and the waker's, as the end sees them.
+    ghost message_slot: { Self → Held T };
+
+    ghost waker_slot: { Self → Held W };
+
+    /// Makes an operation on the word, and gives the word before.
+    fn word(&mut self, op: Op) -> u8
+        requires { ReceiverMay (receiver_of (log self.old)) op
+            (message_slot self.old) (waker_slot self.old) }
+        ensures list { Grows (log self.old) (log self.new) (worded op result ∷ []) }
+        ensures finds { ReceiverFinds (receiver_of (log self.old)) op result
+            (message_slot self.old) (waker_slot self.old)
+            (message_slot self.new) (waker_slot self.new) };
+
+    /// Takes the message out of its slot.
+    fn take_message(&mut self) -> T
+        requires { (x : T) × (message_slot self.old ≡ held x) }
+        ensures list { Grows (log self.old) (log self.new) (took result ∷ []) }
+        ensures was { message_slot self.old ≡ held result }
+        ensures message { message_slot self.new ≡ vacant }
+        ensures waker { waker_slot self.new ≡ waker_slot self.old };
+
+    /// Drops the message in its slot.
+    fn drop_message(&mut self)
+        requires { (x : T) × (message_slot self.old ≡ held x) }
+        ensures list { Grows (log self.old) (log self.new) (did DropMessage ∷ []) }
+        ensures message { message_slot self.new ≡ vacant }
+        ensures waker { waker_slot self.new ≡ waker_slot self.old };
+
+    /// Frees the block, whose slots are the end's and empty. Then neither is, so nothing follows.
+    fn free(&mut self)
+        requires message { message_slot self.old ≡ vacant }
+        requires waker { waker_slot self.old ≡ vacant }
+        ensures list { Grows (log self.old) (log self.new) (did Free ∷ []) }
+        ensures message { message_slot self.new ≡ away }
+        ensures waker { waker_slot self.new ≡ away };
+}

@@ -1,0 +1,61 @@
+//! Grounds in memory: whole, so they keep each step that they make. They are for tests.
+
+mod receiver;
+mod sender;
+
+ghost use Rattle.std.specs.Prelude.{◌≡◌, ◌++◌, ◌∷◌, [], None};
+ghost use Rattle.oneshot_machine.specs.Words.{saw};
+
+use oneshot_machine::machine::{Seen, Step};
+use oneshot_machine::states::Op;
+pub use receiver::MemoryReceiver;
+pub use sender::MemorySender;
+use std::snapshot::Snapshot;
+use std::sync::Wait;
+
+/// A step that a ground made.
+#[derive(Drop)]
+pub struct Event<T, W> {
+    /// What it did.
+    pub step: Step,
+    /// What it saw.
+    pub seen: Seen,
+    /// The message that it handed in or out. It takes no room, and is for contracts alone.
+    pub message: Option<Snapshot<T>>,
+    /// The waker that it handed in or out, as the message.
+    pub waker: Option<Snapshot<W>>,
+}
+
+impl<T, W> Event<T, W> {
+    // A step that hands nothing in or out.
+    fn of(step: Step, seen: Seen) -> Event<T, W>
+        ensures { result ≡ record { step = step; seen = seen; message = None; waker = None } }
+    {
+        Event {
+            step,
+            seen,
+            message: None,
+            waker: None,
+        }
+    }
+}
+
+// What an operation sees of the word that it finds.
+fn sight(op: Op, word: u8) -> Seen
+    ensures { result ≡ saw op word }
+{
+    match op {
+        Op::Store(_) => Seen::Done,
+        _ => Seen::Word(word),
+    }
+}
+
+// Waits for ever where there is no memory for one more event, for which a ground has no answer.
+fn record<T, W, R: Wait>(rt: &R, events: &mut Vec<Event<T, W>>, event: Event<T, W>)
+    ensures { events.new.items ≡ events.old.items ++ event ∷ [] }
+{
+    if events.push(event).is_err() {
+        for _ in rt.forever() {}
+        unreachable!()
+    }
+}

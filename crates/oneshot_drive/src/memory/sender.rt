@@ -1,0 +1,121 @@
+//! A sender's ground in memory.
+
+ghost use Rattle.std.specs.Prelude.{◌≡◌, map, if◌then◌else◌};
+ghost use Rattle.oneshot_drive.specs.Calls.{IsFresh};
+ghost use Rattle.oneshot_drive.specs.Memory.{event_of};
+
+use crate::ground::SenderGround;
+use crate::memory::{Event, record, sight};
+use oneshot_machine::machine::{Seen, Step};
+use oneshot_machine::states::{DISCONNECTED, EMPTY, Op};
+use std::alloc::Global;
+use std::marker::Model;
+use std::snapshot::Snapshot;
+use std::sync::Wait;
+
+/// A sender's ground whose receiver is here or is gone, and does nothing.
+#[derive(Drop)]
+pub struct MemorySender<'a, T, W, R: Wait> {
+    events: Vec<Event<T, W>>,
+    word: u8,
+    message: Option<T>,
+    owns_message: bool,
+    owns_waker: bool,
+    rt: &'a R,
+}
+
+impl<'a, T, W, R: Wait> Model for MemorySender<'a, T, W, R> {
+    ghost use Rattle.oneshot_machine.specs.Logs.{sender_of};
+    ghost use Rattle.oneshot_drive.specs.Memory.{Memory, memory_of, logged, SenderStands};
+
+    ghost Value = { Memory T W };
+
+    ghost view = { λ s. memory_of s.events.items s.word s.message s.owns_message s.owns_waker };
+
+    ghost invariant = { λ s.
+        SenderStands (sender_of (logged s.events.items)) s.word s.owns_message s.owns_waker };
+}
+
+impl<'a, T, W, R: Wait> MemorySender<'a, T, W, R> {
+    /// The ground of a new sender.
+    pub fn new(rt: &'a R, alloc: Global, receiver_is_here: bool) -> MemorySender<'a, T, W, R>
+        ensures fresh { IsFresh result.log result.message result.waker }
+        ensures word { result.word ≡ (if receiver_is_here then 3 else 2) }
+    {
+        MemorySender {
+            events: Vec::new(alloc),
+            word: if receiver_is_here {
+                EMPTY
+            } else {
+                DISCONNECTED
+            },
+            message: None,
+            owns_message: true,
+            owns_waker: false,
+            rt,
+        }
+    }
+
+    /// The steps so far.
+    pub fn events(&self) -> &[Event<T, W>]
+        ensures { map event_of result.now ≡ self.now.log.list }
+    {
+        &self.events
+    }
+}
+
+impl<'a, T: Drop, W, R: Wait> SenderGround<T, W> for MemorySender<'a, T, W, R> {
+    ghost log = { λ s. s.log };
+
+    ghost message_slot = { λ s. s.message };
+
+    ghost waker_slot = { λ s. s.waker };
+
+    fn word(&mut self, op: Op) -> u8 {
+        let before = self.word;
+        self.word = op.after(before);
+        self.owns_message = before == DISCONNECTED;
+        self.owns_waker = before == DISCONNECTED;
+        let event = Event::of(Step::Word(op), sight(op, before));
+        record(self.rt, &mut self.events, event);
+        before
+    }
+
+    fn write_message(&mut self, message: T) {
+        let event = Event {
+            step: Step::WriteMessage,
+            seen: Seen::Done,
+            message: Some(Snapshot::of(&message)),
+            waker: None,
+        };
+        self.message = Some(message);
+        record(self.rt, &mut self.events, event);
+    }
+
+    fn take_message(&mut self) -> T {
+        let Some(message) = self.message.take() else {
+            unreachable!()
+        };
+        let event = Event {
+            step: Step::TakeMessage,
+            seen: Seen::Done,
+            message: Some(Snapshot::of(&message)),
+            waker: None,
+        };
+        record(self.rt, &mut self.events, event);
+        message
+    }
+
+    fn drop_message(&mut self) {
+        self.message = None;
+        let event = Event::of(Step::DropMessage, Seen::Done);
+        record(self.rt, &mut self.events, event);
+    }
+
+    fn free(&mut self) {
+        self.owns_message = false;
+        self.owns_waker = false;
+        let event = Event::of(Step::Free, Seen::Done);
+        record(self.rt, &mut self.events, event);
+    }
+}

@@ -1,0 +1,47 @@
+//! The calls of the receiver that never wait.
+
+ghost use Rattle.std.specs.Prelude.{◌≡◌, Err, []};
+ghost use Rattle.oneshot_errors.specs.declared.try_recv.TryRecvError.TheVariants.{Disconnected};
+ghost use Rattle.oneshot_machine.specs.declared.machine.Reply.TheVariants as R;
+ghost use Rattle.oneshot_machine.specs.declared.machine.receiver.ReceiverStart.TheVariants.{TryRecv, Drop};
+ghost use Rattle.oneshot_machine.specs.Logs.{receiver_of};
+ghost use Rattle.oneshot_machine.specs.Runs.{ReceiverRan};
+ghost use Rattle.oneshot_drive.specs.Calls.{AtRest, IsClosed, Leaves, try_recv_reply, received};
+
+use crate::ground::ReceiverGround;
+use oneshot_errors::TryRecvError;
+use oneshot_machine::states::{DISCONNECTED, EMPTY, MESSAGE, Op};
+
+/// Receives the message, if it is there.
+pub fn try_recv<T, W, G: ReceiverGround<T, W>>(g: &mut G) -> Result<T, TryRecvError>
+    requires { AtRest (receiver_of (G.log g.old)) (G.message_slot g.old) (G.waker_slot g.old) }
+    ensures run { ReceiverRan TryRecv (G.log g.old) (G.log g.new)
+        (try_recv_reply result) [] (received result) }
+    ensures rests { AtRest (receiver_of (G.log g.new)) (G.message_slot g.new) (G.waker_slot g.new) }
+    ensures leaves { Leaves result (receiver_of (G.log g.new)) }
+    ensures stays { IsClosed (receiver_of (G.log g.old)) → result ≡ Err Disconnected }
+{
+    match g.word(Op::Load) {
+        MESSAGE => {
+            g.word(Op::Store(DISCONNECTED));
+            Ok(g.take_message())
+        }
+        EMPTY => Err(TryRecvError::Empty),
+        _ => Err(TryRecvError::Disconnected),
+    }
+}
+
+/// Drops the receiver, and the message that it finds.
+pub fn drop_receiver<T, W, G: ReceiverGround<T, W>>(g: &mut G)
+    requires { AtRest (receiver_of (G.log g.old)) (G.message_slot g.old) (G.waker_slot g.old) }
+    ensures { ReceiverRan Drop (G.log g.old) (G.log g.new) R.Done [] [] }
+{
+    match g.word(Op::Swap(DISCONNECTED)) {
+        MESSAGE => {
+            g.drop_message();
+            g.free();
+        }
+        EMPTY => {}
+        _ => g.free(),
+    }
+}

@@ -1,0 +1,53 @@
+//! The calls of the sender, and of the error of its refused `send`.
+
+ghost use Rattle.std.specs.Prelude.{◌≡◌, false, [], ◌∷◌};
+ghost use Rattle.oneshot_machine.specs.declared.machine.Reply.TheVariants.{Message, Done};
+ghost use Rattle.oneshot_machine.specs.declared.machine.sender.SenderCall.TheVariants.{Send, Drop, IntoInner, DropError};
+ghost use Rattle.oneshot_machine.specs.Runs.{SenderRan};
+ghost use Rattle.oneshot_machine.specs.Slots.{held};
+ghost use Rattle.oneshot_drive.specs.Calls.{IsFresh, IsError, send_reply};
+
+use crate::ground::SenderGround;
+use oneshot_machine::states::{DISCONNECTED, EMPTY, Op};
+
+/// Sends the message, and tells whether the receiver was there. Where it was not, the message stays
+/// in its slot.
+pub fn send<T, W, G: SenderGround<T, W>>(g: &mut G, message: T) -> bool
+    requires { IsFresh (G.log g.old) (G.message_slot g.old) (G.waker_slot g.old) }
+    ensures run { SenderRan Send (G.log g.old) (G.log g.new) (send_reply result) (message ∷ []) [] }
+    ensures refused { result ≡ false →
+        IsError (held message) (G.message_slot g.new) (G.waker_slot g.new) }
+{
+    g.write_message(message);
+    g.word(Op::Add) == EMPTY
+}
+
+/// Drops the sender.
+pub fn drop_sender<T, W, G: SenderGround<T, W>>(g: &mut G)
+    requires { IsFresh (G.log g.old) (G.message_slot g.old) (G.waker_slot g.old) }
+    ensures { SenderRan Drop (G.log g.old) (G.log g.new) Done [] [] }
+{
+    if g.word(Op::Xor) == DISCONNECTED {
+        g.free();
+    }
+}
+
+/// Gives the refused message, and frees.
+pub fn into_inner<T, W, G: SenderGround<T, W>>(g: &mut G) -> T
+    requires { (x : T) × IsError (held x) (G.message_slot g.old) (G.waker_slot g.old) }
+    ensures run { SenderRan IntoInner (G.log g.old) (G.log g.new) Message [] (result ∷ []) }
+    ensures message { G.message_slot g.old ≡ held result }
+{
+    let message = g.take_message();
+    g.free();
+    message
+}
+
+/// Drops the refused message, and frees.
+pub fn drop_error<T, W, G: SenderGround<T, W>>(g: &mut G)
+    requires { (x : T) × IsError (held x) (G.message_slot g.old) (G.waker_slot g.old) }
+    ensures { SenderRan DropError (G.log g.old) (G.log g.new) Done [] [] }
+{
+    g.drop_message();
+    g.free();
+}

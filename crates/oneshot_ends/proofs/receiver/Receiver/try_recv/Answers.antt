@@ -1,0 +1,25 @@
+use Rattle.std.proofs.Common.{◌++◌, sym, ap, ◌∙◌, subst}
+use Rattle.oneshot_machine.specs.Logs.{words}
+use Rattle.oneshot_machine.specs.Phases.{receiver_at}
+use Rattle.oneshot_drive.specs.Calls.{IsClosed, Leaves}
+use Rattle.oneshot_ends.specs.Ends.{End}
+use Rattle.oneshot_ends.proofs.Standing.{words_of, grown}
+use Rattle.oneshot_ends.proofs.receiver.Receiver.try_recv.Goals as goal
+
+pub returns-clause-run : goal.returns-clause-run
+returns-clause-run g c =
+    let ran = c.try_recv.ensures.run in
+    record {
+      run = ran.run;
+      is_run = ran.is_run;
+      list = grown c.self.inside.seat c.try_recv.new.g ran.run ran.grows ∙ ap (λ (e : End). e.steps ++ words ran.run) c.self.view_is;
+    }
+
+pub returns-clause-leaves : goal.returns-clause-leaves
+returns-clause-leaves g c =
+    subst (λ xs. Leaves c.try_recv.result (receiver_at xs)) (words_of _ _ c.try_recv.new.g.steps) c.try_recv.ensures.leaves
+
+pub returns-clause-stays_closed : goal.returns-clause-stays_closed
+returns-clause-stays_closed g c = λ closed.
+    c.try_recv.ensures.stays
+    (subst (λ xs. IsClosed (receiver_at xs)) (ap (λ (e : End). e.steps) (sym c.self.view_is) ∙ sym (words_of _ _ c.self.inside.seat.steps)) closed)

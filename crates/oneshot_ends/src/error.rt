@@ -1,0 +1,77 @@
+//! The error of a refused message, which owns the block in the sender's place.
+
+ghost use Rattle.std.specs.Prelude.{◌≡◌};
+
+use crate::ground::ErrorSeat;
+use oneshot_drive::{drop_error, into_inner};
+use oneshot_word::SenderSide;
+use std::error::Error;
+use std::fmt;
+use std::fmt::{Debug, Display, Formatter};
+use std::marker::Model;
+
+/// The message that a `send` could not deliver, since the receiver was gone.
+///
+/// A contract sees the message, the table, and the sender's list of operations on the word.
+pub struct SendError<T> {
+    message: T,
+    side: SenderSide<T, ()>,
+}
+
+impl<T> Model for SendError<T> {
+    ghost use Rattle.oneshot_ends.specs.Ends.{Failed};
+
+    ghost Value = { Failed T };
+
+    ghost view = { λ e. record { message = e.message; table = e.side.table; steps = e.side.steps } };
+}
+
+impl<T> SendError<T> {
+    pub(crate) fn new(message: T, side: SenderSide<T, ()>) -> SendError<T>
+        ensures { result ≡ record { message = message; table = side.table; steps = side.steps } }
+    {
+        SendError { message, side }
+    }
+
+    /// The message.
+    pub fn as_inner(&self) -> &T
+        ensures { result.now ≡ self.now.message }
+    {
+        &self.message
+    }
+}
+
+impl<T: Drop> SendError<T> {
+    /// Gives the message back, and frees the block.
+    pub fn into_inner(self) -> T
+        ensures { result ≡ self.message }
+    {
+        let SendError { message, side } = self;
+        into_inner(&mut ErrorSeat::new(message, side))
+    }
+}
+
+impl<T: Drop> Drop for SendError<T> {
+    fn drop(self) {
+        let SendError { message, side } = self;
+        drop_error(&mut ErrorSeat::new(message, side));
+    }
+}
+
+impl<T> Display for SendError<T> {
+    ghost use Rattle.std.specs.Prelude.{Some, codes};
+
+    ghost output = { λ _. Some (codes "sending on a closed channel") };
+
+    fn fmt<W: fmt::Write>(&self, f: &mut Formatter<W>) -> fmt::Result {
+        f.pad("sending on a closed channel")
+    }
+}
+
+impl<T> Debug for SendError<T> {
+    fn fmt<W: fmt::Write>(&self, f: &mut Formatter<W>) -> fmt::Result {
+        f.write_str("SendError(_)")
+    }
+}
+
+impl<T: Drop> Error for SendError<T> {}

@@ -1,0 +1,220 @@
+//! What a real end does to the world: its ground over the shared word.
+
+ghost use Rattle.std.specs.Prelude.{◌≡◌, false, true};
+ghost use Rattle.oneshot_machine.specs.Slots.{held};
+ghost use Rattle.oneshot_drive.specs.Calls.{IsError};
+ghost use Rattle.oneshot_word.specs.Sides.{Side};
+ghost use Rattle.oneshot_ends.specs.Sides.{left_of};
+
+use oneshot_drive::{ReceiverGround, SenderGround};
+use oneshot_machine::states::Op;
+use oneshot_word::{ReceiverSide, SenderSide};
+use std::marker::Model;
+use std::snapshot::Snapshot;
+
+/// The sender's ground.
+#[derive(Drop)]
+pub(crate) struct SenderSeat<T, W> {
+    side: SenderSide<T, W>,
+    // The block goes with the last of both shares, so that nothing is left to do; only proofs read this.
+    freed: Snapshot<bool>,
+}
+
+impl<T, W> Model for SenderSeat<T, W> {
+    ghost use Rattle.oneshot_word.specs.Sides.{Side};
+    ghost use Rattle.oneshot_ends.specs.Sides.{left_of};
+
+    ghost Value = { Side T W };
+
+    ghost view = { λ s. left_of s.freed.value s.side };
+}
+
+impl<T, W> SenderSeat<T, W> {
+    /// The ground of a sender that has freed nothing.
+    pub(crate) fn new(side: SenderSide<T, W>) -> SenderSeat<T, W>
+        ensures { result ≡ side }
+    {
+        let freed = Snapshot::of(&false);
+        SenderSeat { side, freed }
+    }
+}
+
+impl<T: Drop, W: Drop> SenderSeat<T, W> {
+    /// Takes the message out of its slot, with the side that it lay in.
+    pub(crate) fn into_refused(self) -> (T, SenderSide<T, W>)
+        requires { (x : T) × (self.message ≡ held x) }
+        ensures message { self.message ≡ held result.0 }
+        ensures table { result.1.table ≡ self.table }
+        ensures steps { result.1.steps ≡ self.steps }
+    {
+        let SenderSeat { mut side, freed: _ } = self;
+        let message = side.take_message();
+        (message, side)
+    }
+}
+
+impl<T: Drop, W: Drop> SenderGround<T, W> for SenderSeat<T, W> {
+    ghost use Rattle.oneshot_ends.specs.Sides.{logged};
+
+    ghost log = { logged };
+
+    ghost message_slot = { λ s. s.message };
+
+    ghost waker_slot = { λ s. s.waker };
+
+    fn word(&mut self, op: Op) -> u8 {
+        match op {
+            Op::Add => self.side.add(),
+            Op::Xor => self.side.flip(),
+            _ => unreachable!(),
+        }
+    }
+
+    fn write_message(&mut self, message: T) {
+        self.side.write_message(message);
+    }
+
+    fn take_message(&mut self) -> T {
+        self.side.take_message()
+    }
+
+    fn drop_message(&mut self) {
+        self.side.take_message();
+    }
+
+    fn free(&mut self) {
+        self.freed = Snapshot::of(&true);
+    }
+}
+
+/// The ground of an error, which has the refused message in its own hands.
+#[derive(Drop)]
+pub(crate) struct ErrorSeat<T, W> {
+    message: Option<T>,
+    side: SenderSide<T, W>,
+    freed: Snapshot<bool>,
+}
+
+impl<T, W> Model for ErrorSeat<T, W> {
+    ghost use Rattle.oneshot_machine.specs.Slots.{vacant};
+    ghost use Rattle.oneshot_word.specs.Sides.{Side};
+    ghost use Rattle.oneshot_ends.specs.Sides.{unless_freed, slot_of};
+
+    ghost Value = { Side T W };
+
+    ghost view = { λ e. record e.side { message = unless_freed e.freed.value (slot_of e.message); waker = unless_freed e.freed.value vacant } };
+}
+
+impl<T, W> ErrorSeat<T, W> {
+    /// The ground of an error that has freed nothing.
+    pub(crate) fn new(message: T, side: SenderSide<T, W>) -> ErrorSeat<T, W>
+        ensures { IsError (held message) result.message result.waker }
+    {
+        let freed = Snapshot::of(&false);
+        ErrorSeat {
+            message: Some(message),
+            side,
+            freed,
+        }
+    }
+}
+
+impl<T: Drop, W: Drop> SenderGround<T, W> for ErrorSeat<T, W> {
+    ghost use Rattle.oneshot_ends.specs.Sides.{logged};
+
+    ghost log = { logged };
+
+    ghost message_slot = { λ e. e.message };
+
+    ghost waker_slot = { λ e. e.waker };
+
+    // No operation on the word follows a refused `send`.
+    fn word(&mut self, _: Op) -> u8 {
+        let _side = &self.side;
+        unreachable!()
+    }
+
+    fn write_message(&mut self, message: T) {
+        self.message = Some(message);
+    }
+
+    fn take_message(&mut self) -> T {
+        self.message.take().unwrap()
+    }
+
+    fn drop_message(&mut self) {
+        self.message = None;
+    }
+
+    fn free(&mut self) {
+        self.freed = Snapshot::of(&true);
+    }
+}
+
+/// The receiver's ground.
+#[derive(Drop)]
+pub(crate) struct ReceiverSeat<T, W> {
+    side: ReceiverSide<T, W>,
+    freed: Snapshot<bool>,
+}
+
+impl<T, W> Model for ReceiverSeat<T, W> {
+    ghost use Rattle.oneshot_word.specs.Sides.{Side};
+    ghost use Rattle.oneshot_ends.specs.Sides.{left_of, MayBeFreed};
+    ghost use Rattle.oneshot_machine.specs.Phases.{receiver_at};
+
+    ghost Value = { Side T W };
+
+    ghost view = { λ s. left_of s.freed.value s.side };
+
+    ghost invariant = { λ s. MayBeFreed s.freed.value (receiver_at s.side.steps) };
+}
+
+impl<T, W> ReceiverSeat<T, W> {
+    /// The ground of a receiver that has freed nothing.
+    pub(crate) fn new(side: ReceiverSide<T, W>) -> ReceiverSeat<T, W>
+        ensures { result ≡ side }
+    {
+        let freed = Snapshot::of(&false);
+        ReceiverSeat { side, freed }
+    }
+}
+
+impl<T, W> ReceiverSeat<T, W> {
+    /// Reads the word as a look does.
+    pub(crate) fn peek(&self) -> u8 {
+        self.side.peek()
+    }
+}
+
+impl<T: Drop, W: Drop> ReceiverGround<T, W> for ReceiverSeat<T, W> {
+    ghost use Rattle.oneshot_ends.specs.Sides.{logged};
+
+    ghost log = { logged };
+
+    ghost message_slot = { λ s. s.message };
+
+    ghost waker_slot = { λ s. s.waker };
+
+    fn word(&mut self, op: Op) -> u8 {
+        match op {
+            Op::Load => self.side.load(),
+            Op::Store(new) => self.side.store(new),
+            Op::Swap(new) => self.side.swap(new),
+            _ => unreachable!(),
+        }
+    }
+
+    fn take_message(&mut self) -> T {
+        self.side.take_message()
+    }
+
+    fn drop_message(&mut self) {
+        self.side.take_message();
+    }
+
+    fn free(&mut self) {
+        self.side.slots();
+        self.freed = Snapshot::of(&true);
+    }
+}

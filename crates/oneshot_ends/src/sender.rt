@@ -1,0 +1,79 @@
+//! The sender.
+
+ghost use Rattle.std.specs.Prelude.{◌≡◌, IfErr};
+ghost use Rattle.oneshot_machine.specs.declared.machine.Reply.TheVariants.{Refused};
+ghost use Rattle.oneshot_machine.specs.declared.machine.sender.SenderCall.TheVariants.{Send};
+ghost use Rattle.oneshot_machine.specs.Phases.{fresh, sender_at};
+ghost use Rattle.oneshot_machine.specs.Slots.{away, vacant};
+ghost use Rattle.oneshot_ends.specs.Ends.{SenderGrew};
+ghost use Rattle.oneshot_ends.specs.Sides.{IsNewSender};
+
+use crate::error::SendError;
+use crate::ground::SenderSeat;
+use oneshot_drive::{drop_sender, send};
+use oneshot_machine::states::DISCONNECTED;
+use oneshot_word::SenderSide;
+use std::marker::Model;
+
+/// Sends one message to its receiver.
+///
+/// A contract sees the table that it shares with the receiver, and the list of its operations on the
+/// word, which is empty until its one call.
+pub struct Sender<T> {
+    side: SenderSide<T, ()>,
+}
+
+impl<T> Model for Sender<T> {
+    ghost use Rattle.oneshot_ends.specs.Ends.{End};
+    ghost use Rattle.oneshot_ends.specs.Sides.{IsNewSender};
+
+    ghost Value = { End };
+
+    ghost view = { λ s. record { table = s.side.table; steps = s.side.steps } };
+
+    ghost invariant = { λ s. IsNewSender s.side };
+}
+
+impl<T> Sender<T> {
+    pub(crate) fn new(side: SenderSide<T, ()>) -> Sender<T>
+        requires { IsNewSender side }
+        ensures table { result.table ≡ side.table }
+        ensures steps { result.steps ≡ side.steps }
+    {
+        Sender { side }
+    }
+}
+
+impl<T> Sender<T> {
+    /// Whether the receiver is gone, by one load; `send` is refused then.
+    pub fn is_closed(&self) -> bool {
+        self.side.peek() == DISCONNECTED
+    }
+}
+
+impl<T: Drop> Sender<T> {
+    /// Sends `message`. It waits for nobody and asks for no memory.
+    ///
+    /// `Ok` where the receiver was there; that it is received later is not said. `Err` where the
+    /// receiver was gone: the error gives the message back.
+    pub fn send(self, message: T) -> Result<(), SendError<T>>
+        ensures message { IfErr result (λ error. error.message ≡ message) }
+        ensures table { IfErr result (λ error. error.table ≡ self.table) }
+        ensures run { IfErr result (λ error. SenderGrew T Send self.steps error.steps Refused) }
+    {
+        let Sender { side } = self;
+        let mut seat = SenderSeat::new(side);
+        if send(&mut seat, message) {
+            return Ok(());
+        }
+        let (message, side) = seat.into_refused();
+        Err(SendError::new(message, side))
+    }
+}
+
+impl<T: Drop> Drop for Sender<T> {
+    fn drop(self) {
+        let Sender { side } = self;
+        drop_sender(&mut SenderSeat::new(side));
+    }
+}

@@ -1,0 +1,16 @@
+//! Laws of the errors. Each function's contract is the law, and its body does nothing.
+
+ghost use Rattle.oneshot_errors.specs.Equality.{AgreesWithHashing};
+
+use crate::{RecvError, RecvTimeoutError, TryRecvError};
+use std::hash::Hash;
+
+/// Two errors of one type are equal exactly where they are the same, and exactly then they write the same
+/// into every hasher.
+pub fn equality_agrees_with_hashing()
+    ensures recv { AgreesWithHashing ⟦<RecvError as PartialEq>⟧.eq ⟦<RecvError as Hash>⟧.hash_input }
+    ensures recv_timeout { AgreesWithHashing ⟦<RecvTimeoutError as PartialEq>⟧.eq
+        ⟦<RecvTimeoutError as Hash>⟧.hash_input }
+    ensures try_recv { AgreesWithHashing ⟦<TryRecvError as PartialEq>⟧.eq
+        ⟦<TryRecvError as Hash>⟧.hash_input }
+{}

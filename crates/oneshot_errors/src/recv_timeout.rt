@@ -1,0 +1,37 @@
+//! Why `recv_deadline` or `recv_timeout` has no message.
+
+use std::error::Error;
+use std::fmt;
+use std::fmt::{Display, Formatter};
+
+/// Why `recv_deadline` or `recv_timeout` has no message.
+///
+/// The two reasons are those of the Rust crate.
+#[derive(Clone, Copy, Debug, Eq, Hash, PartialEq)]
+pub enum RecvTimeoutError {
+    /// The time was over while nothing was sent and the sender was still there. The receiver stays open,
+    /// so that a later receive may find the message.
+    ///
+    /// In this port the time counts as over where the clock cannot be read.
+    Timeout,
+    /// The sender is gone without a message, or the message was received before. None will ever come.
+    Disconnected,
+}
+
+impl Display for RecvTimeoutError {
+    ghost use Rattle.std.specs.Prelude.{Some};
+    ghost use Rattle.oneshot_errors.specs.Texts.{recv_timeout_text};
+
+    ghost output = { λ error. Some (recv_timeout_text error) };
+
+    fn fmt<W: fmt::Write>(&self, f: &mut Formatter<W>) -> fmt::Result {
+        match self {
+            RecvTimeoutError::Timeout => f.pad("timed out waiting on channel"),
+            RecvTimeoutError::Disconnected => {
+                f.pad("channel is empty and sending half is closed")
+            }
+        }
+    }
+}
+
+impl Error for RecvTimeoutError {}

@@ -1,0 +1,106 @@
+-- The examples, computed.
+use Rattle.std.proofs.Common.{◌≡◌, ℕ, List, [], ◌∷◌, Option, Some, refl, subst}
+use Rattle.oneshot_machine.specs.declared.machine.Reply.{Reply}
+use Rattle.oneshot_machine.specs.declared.machine.Seen.{Seen}
+use Rattle.oneshot_machine.specs.declared.machine.Step.{Step}
+use Rattle.oneshot_machine.specs.declared.machine.receiver.ReceiverPos.TheVariants.{Close, Take, DropMessage, DropFree}
+use Rattle.oneshot_machine.specs.declared.machine.sender.SenderPos.TheVariants.{SendAdd, IntoFree, ErrorFree}
+use Rattle.oneshot_machine.specs.declared.machine.sender.SenderPos.TheVariants as SP
+use Rattle.oneshot_machine.specs.Logs.{Event}
+use Rattle.oneshot_machine.specs.Rows.{Outcome, Goes, Answers}
+use Rattle.oneshot_machine.specs.Runs.{Run, last, more}
+use Rattle.oneshot_machine.specs.Examples.{SenderLists, ReceiverLists, RunsThatAre, RunsThatAreNot}
+
+pub sender_lists : SenderLists
+sender_lists =
+    record {
+      nothing_yet = refl;
+      sent = refl;
+      sent_too_late = refl;
+      dropped = refl;
+      dropped_too_late = refl;
+      sends_over_a_message = refl;
+      sends_twice = refl;
+      drops_after_it_sent = refl;
+      tries_again = refl;
+      swaps = refl;
+      does_not_look = refl;
+    }
+
+pub receiver_lists : ReceiverLists
+receiver_lists =
+    record {
+      nothing_yet = refl;
+      looked_in_vain = refl;
+      found_it = refl;
+      received = refl;
+      tried_again = refl;
+      found_no_sender = refl;
+      dropped_early = refl;
+      dropped_over_a_message = refl;
+      dropped_after_all = refl;
+      leaves_the_message = refl;
+      drops_in_its_call = refl;
+      stores_another_word = refl;
+      closes_unasked = refl;
+      opens_again = refl;
+      goes_on_after_its_drop = refl;
+      adds = refl;
+    }
+
+pub runs_that_are : RunsThatAre
+runs_that_are =
+    record {
+      sends = more SendAdd _ _ refl refl (last _ refl refl);
+      is_refused = more SendAdd _ _ refl refl (last _ refl refl);
+      gives_it_back = more IntoFree _ _ refl refl (last _ refl refl);
+      drops_the_error = more ErrorFree _ _ refl refl (last _ refl refl);
+      drops_the_sender = more SP.DropFree _ _ refl refl (last _ refl refl);
+      receives = more Close _ _ refl refl (more Take _ _ refl refl (last _ refl refl));
+      finds_nothing = last _ refl refl;
+      finds_no_sender = last _ refl refl;
+      drops_the_message = more DropMessage _ _ refl refl (more DropFree _ _ refl refl (last _ refl refl));
+      handed_in = refl;
+      handed_out = refl;
+      hands_nothing_out = refl;
+      keeps_all = refl;
+      keeps_the_word = refl;
+      as_words = refl;
+    }
+
+module _ {P : Type 0} {step : P → Step} {row : P → Seen → Option (Outcome P)} where
+  -- a run's first step is its position's
+  begins : {p : P} {x : Event ℕ ℕ} {xs : List (Event ℕ ℕ)} {r : Reply} → Run step row p (x ∷ xs) r → x.step ≡ step p
+  begins (last x is leads) = is
+  begins (more next x xs is leads rest) = is
+
+  no_run : {p : P} {r : Reply} → Run {T = ℕ} {W = ℕ} step row p [] r → ⊥
+  no_run run = elim run [ ]
+
+  -- one of one step answers
+  answers : {p : P} {x : Event ℕ ℕ} {r : Reply} → Run step row p (x ∷ []) r → row p x.seen ≡ Some (Answers r)
+  answers (last x is leads) = leads
+  answers (more next x xs is leads rest) = absurd (no_run rest)
+
+  -- a longer one goes on, where its first row leads
+  does_go_on : {p : P} {x y : Event ℕ ℕ} {ys : List (Event ℕ ℕ)} {r : Reply} → Run step row p (x ∷ y ∷ ys) r → (q : P) × (row p x.seen ≡ Some (Goes q)) × Run step row q (y ∷ ys) r
+  does_go_on (more next x xs is leads rest) = (next, leads, rest)
+
+  goes_on : {p : P} {x y : Event ℕ ℕ} {ys : List (Event ℕ ℕ)} {r : Reply} (q : P) → row p x.seen ≡ Some (Goes q) → Run step row p (x ∷ y ∷ ys) r → Run step row q (y ∷ ys) r
+  goes_on {y} {ys} {r} q to run =
+      let on = does_go_on run in
+      let same : on.0 ≡ q = cc in
+      subst (λ p. Run step row p (y ∷ ys) r) same on.2
+
+pub runs_that_are_not : RunsThatAreNot
+runs_that_are_not =
+    record {
+      writes_nothing = λ run. let e = begins run in cc;
+      says_that_it_sent = λ run. let e = answers (goes_on SendAdd refl run) in cc;
+      stops_halfway = λ r run. let e = answers run in cc;
+      does_not_free = λ r run. let e = answers run in cc;
+      frees_unasked = λ r run. let e = (does_go_on run).1 in cc;
+      takes_and_leaves_4 = λ r run. let e = begins (goes_on Close refl run) in cc;
+      says_that_all_are_gone = λ run. let e = answers run in cc;
+      loses_the_message = λ r run. let e = begins (goes_on DropMessage refl run) in cc;
+    }

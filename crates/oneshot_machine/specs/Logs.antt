@@ -1,0 +1,83 @@
+-- What a ground has done: its steps, and what of them it keeps.
+use Rattle.std.specs.Prelude.{◌≡◌, ℕ, Bool, true, false, List, ◌++◌, filter, Option, Some, None, is_some}
+use Rattle.std.specs.List.{filter_map}
+use Rattle.std.specs.Option.{option_map}
+use Rattle.oneshot_machine.specs.declared.machine.Seen.{Seen}
+use Rattle.oneshot_machine.specs.declared.machine.Seen.TheVariants.{Done}
+use Rattle.oneshot_machine.specs.declared.machine.Step.{Step}
+use Rattle.oneshot_machine.specs.declared.machine.Step.TheVariants.{Word, WriteMessage, TakeMessage}
+use Rattle.oneshot_machine.specs.declared.states.Op.{Op}
+use Rattle.oneshot_machine.specs.Words.{Noted, saw, op_of}
+use Rattle.oneshot_machine.specs.Phases.{SenderAt, sender_at, ReceiverAt, receiver_at}
+
+-- a step, what it saw, and the message or the waker that it handed in or out
+pub record Event (T W : Type 0) : Type 0 where
+  pub step : Step
+  pub seen : Seen
+  pub message : Option T
+  pub waker : Option W
+
+abbrev pub when_written : {T : Type 0} → Step → Option T → Option T
+when_written WriteMessage message = message
+when_written _ message = None
+
+abbrev pub when_taken : {T : Type 0} → Step → Option T → Option T
+when_taken TakeMessage message = message
+when_taken _ message = None
+
+module _ {T W : Type 0} where
+  -- a step that hands nothing in or out and sees nothing
+  abbrev pub did : Step → Event T W
+  did s = record { step = s; seen = Done; message = None; waker = None }
+
+  abbrev pub wrote : T → Event T W
+  wrote m = record { step = WriteMessage; seen = Done; message = Some m; waker = None }
+
+  abbrev pub took : T → Event T W
+  took m = record { step = TakeMessage; seen = Done; message = Some m; waker = None }
+
+  -- an operation that found this word
+  abbrev pub worded : Op → ℕ → Event T W
+  worded op word = record { step = Word op; seen = saw op word; message = None; waker = None }
+
+  -- the operation on the word, if it is one, with what it saw
+  abbrev pub noted : Event T W → Option Noted
+  noted x = option_map (λ op. (op, x.seen)) (op_of x.step)
+
+  -- the operations on the word
+  abbrev pub words : List (Event T W) → List Noted
+  words = filter_map noted
+
+  -- What of these steps the list of a ground has: of a whole ground all, of any other those on the
+  -- word.
+  abbrev pub kept : Bool → List (Event T W) → List (Event T W)
+  kept true xs = xs
+  kept false xs = filter (λ x. is_some (op_of x.step)) xs
+
+  -- the messages that were handed in
+  abbrev pub messages_given : List (Event T W) → List T
+  messages_given = filter_map (λ x. when_written x.step x.message)
+
+  -- those that were taken out of their slot
+  abbrev pub messages_got : List (Event T W) → List T
+  messages_got = filter_map (λ x. when_taken x.step x.message)
+
+-- whether a ground is whole, the place that it stands on, and its list
+pub record Log (T W : Type 0) : Type 0 where
+  pub whole : Bool
+  pub place : List ℕ
+  pub list : List (Event T W)
+
+-- between the two a ground made these steps
+pub record Grows {T W : Type 0} (before after : Log T W) (steps : List (Event T W)) : Type 0 where
+  pub whole : after.whole ≡ before.whole
+  pub place : after.place ≡ before.place
+  pub list : after.list ≡ before.list ++ kept before.whole steps
+
+module _ {T W : Type 0} where
+  -- how far a ground's list takes its end
+  abbrev pub sender_of : Log T W → SenderAt
+  sender_of l = sender_at (words l.list)
+
+  abbrev pub receiver_of : Log T W → ReceiverAt
+  receiver_of l = receiver_at (words l.list)

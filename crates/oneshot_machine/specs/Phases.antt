@@ -1,0 +1,100 @@
+-- How far an end is, read off the list of its operations on the word.
+use Rattle.std.specs.Prelude.{ℕ, List, [], ◌∷◌, ◌==◌, if◌then◌else◌}
+use Rattle.oneshot_machine.specs.declared.machine.Seen.{Seen}
+use Rattle.oneshot_machine.specs.declared.machine.Seen.TheVariants.{Done, Word}
+use Rattle.oneshot_machine.specs.declared.states.Op.{Op}
+use Rattle.oneshot_machine.specs.declared.states.Op.TheVariants.{Load, Store, Swap, Add, Xor}
+use Rattle.oneshot_machine.specs.Words.{Noted}
+
+-- a sender's end, by its `send` or by its drop
+pub data By : Type 0 where
+  sending : By
+  dropping : By
+
+pub data SenderAt : Type 0 where
+  -- it has made no operation
+  fresh : SenderAt
+  -- its last operation is made, and the receiver was here
+  finished : By → SenderAt
+  -- its last operation is made and found 2: the receiver was gone, and the word is now this
+  late : By → ℕ → SenderAt
+  -- no sender makes such a list
+  no_sender : SenderAt
+
+-- a receiver that is open
+pub data Open : Type 0 where
+  -- its last operation is a load that found 3
+  looked : Open
+
+-- how a receiver came to the message, which tells what it may do then
+pub data Got : Type 0 where
+  -- by the first load of a call
+  at_once : Got
+
+-- how the 2 came into the word of a closed receiver
+pub data Closing : Type 0 where
+  found_closed : Closing
+  closed_itself : Closing
+
+pub data ReceiverAt : Type 0 where
+  -- it has made no operation
+  first : ReceiverAt
+  here : Open → ReceiverAt
+  -- it has the message, and the word is now this
+  full : Got → ℕ → ReceiverAt
+  -- it is closed, and the word is 2
+  over : Closing → ReceiverAt
+  -- it was dropped before the sender's last operation
+  gone : ReceiverAt
+  -- it was dropped after the sender's last operation
+  ended : ReceiverAt
+  -- no receiver makes such a list
+  no_receiver : ReceiverAt
+
+-- where the word found leads, by a list of words, each with the phase after it
+abbrev pub leads : {At : Type 0} → At → ℕ → List (ℕ × At) → At
+leads nowhere word [] = nowhere
+leads nowhere word (row ∷ rows) = if row.0 == word then row.1 else leads nowhere word rows
+
+abbrev pub sender_next : SenderAt → Op → Seen → SenderAt
+sender_next fresh Add (Word word) =
+    leads no_sender word ((3, finished sending) ∷ (2, late sending 3) ∷ [])
+sender_next fresh Xor (Word word) =
+    leads no_sender word ((3, finished dropping) ∷ (2, late dropping 3) ∷ [])
+sender_next _ _ _ = no_sender
+
+-- the load of a receiver that is open
+abbrev pub loaded : ℕ → ReceiverAt
+loaded word =
+    leads no_receiver word ((3, here looked) ∷ (4, full at_once 4) ∷ (2, over found_closed) ∷ [])
+
+-- the swap of a drop
+abbrev pub dropped : ℕ → ReceiverAt
+dropped word = leads no_receiver word ((3, gone) ∷ (4, ended) ∷ (2, ended) ∷ [])
+
+abbrev pub receiver_next : ReceiverAt → Op → Seen → ReceiverAt
+receiver_next first Load (Word word) = loaded word
+receiver_next first (Swap new) (Word word) = if new == 2 then dropped word else no_receiver
+receiver_next (here looked) Load (Word word) = loaded word
+receiver_next (here looked) (Swap new) (Word word) = if new == 2 then dropped word else no_receiver
+receiver_next (full got left) (Store new) Done =
+    if new == 2 then over closed_itself else no_receiver
+receiver_next (over closing) Load (Word word) = leads no_receiver word ((2, over closing) ∷ [])
+receiver_next (over closing) (Swap new) (Word word) =
+    if new == 2 then leads no_receiver word ((2, ended) ∷ []) else no_receiver
+receiver_next _ _ _ = no_receiver
+
+abbrev pub sender_from : SenderAt → List Noted → SenderAt
+sender_from at [] = at
+sender_from at (x ∷ xs) = sender_from (sender_next at x.0 x.1) xs
+
+abbrev pub receiver_from : ReceiverAt → List Noted → ReceiverAt
+receiver_from at [] = at
+receiver_from at (x ∷ xs) = receiver_from (receiver_next at x.0 x.1) xs
+
+-- how far such a list takes an end
+abbrev pub sender_at : List Noted → SenderAt
+sender_at = sender_from fresh
+
+abbrev pub receiver_at : List Noted → ReceiverAt
+receiver_at = receiver_from first

@@ -1,0 +1,164 @@
+-- Where an end may stand after its operations on the word, computed from its table.
+use Rattle.std.specs.Prelude.{ℕ, Bool, true, false, ◌&&◌, ◌==◌, if◌then◌else◌, List, [], ◌∷◌, filter, Option, Some, None, is_some}
+use Rattle.std.specs.List.{list_any, filter_map, flat_map}
+use Rattle.std.proofs.Common.{zero, suc}
+use Rattle.oneshot_machine.specs.declared.machine.Reply.{Reply}
+use Rattle.oneshot_machine.specs.declared.machine.Reply.TheVariants as R
+use Rattle.oneshot_machine.specs.declared.machine.Seen.{Seen}
+use Rattle.oneshot_machine.specs.declared.machine.Seen.TheVariants.{Done}
+use Rattle.oneshot_machine.specs.declared.machine.Step.{Step}
+use Rattle.oneshot_machine.specs.declared.machine.receiver.ReceiverPos.{ReceiverPos}
+use Rattle.oneshot_machine.specs.declared.machine.receiver.ReceiverPos.TheVariants as RP
+use Rattle.oneshot_machine.specs.declared.machine.receiver.ReceiverStart.TheVariants as RC
+use Rattle.oneshot_machine.specs.declared.machine.sender.SenderPos.{SenderPos}
+use Rattle.oneshot_machine.specs.declared.machine.sender.SenderPos.TheVariants as SP
+use Rattle.oneshot_machine.specs.declared.machine.sender.SenderCall.TheVariants as SC
+use Rattle.oneshot_machine.specs.declared.states.Op.{Op}
+use Rattle.oneshot_machine.specs.declared.states.Op.TheVariants as O
+use Rattle.oneshot_machine.specs.Rows.{Outcome, Goes, Answers}
+use Rattle.oneshot_machine.specs.Sender.{sender_start, sender_step, sender_row}
+use Rattle.oneshot_machine.specs.Receiver.{receiver_start, receiver_step, receiver_row}
+use Rattle.oneshot_machine.specs.Words.{Noted, op_of}
+
+-- An end's table, with all its positions and a number for each. `opens` are those at which a new
+-- end's calls begin, and `follows` those at which a call may begin where another has answered; looks
+-- stand in neither, since no list has them.
+pub record Table (P : Type 0) : Type 0 where
+  pub step : P → Step
+  pub row : P → Seen → Option (Outcome P)
+  pub positions : List P
+  pub number : P → ℕ
+  pub opens : List P
+  pub follows : P → Reply → List P
+
+abbrev pub is_same_op : Op → Op → Bool
+is_same_op O.Load O.Load = true
+is_same_op (O.Store a) (O.Store b) = a == b
+is_same_op (O.Swap a) (O.Swap b) = a == b
+is_same_op (O.Exchange a b) (O.Exchange c d) = a == c && b == d
+is_same_op O.Add O.Add = true
+is_same_op O.Xor O.Xor = true
+is_same_op _ _ = false
+
+abbrev pub is_op : Op → Option Op → Bool
+is_op op None = false
+is_op op (Some other) = is_same_op op other
+
+-- what a step that is no operation on the word may see
+abbrev pub sights : List Seen
+sights = Done ∷ []
+
+module _ {P : Type 0} (t : Table P) where
+  -- The positions that come next at which an operation on the word is made. Where more steps than
+  -- `fuel` lie between, it gives every position, so that too little of it can only refuse the law.
+  abbrev pub onward : (fuel : ℕ) (from : P) → Option (Outcome P) → List P
+  onward fuel from None = []
+  onward zero from (Some outcome) = t.positions
+  onward (suc fuel) from (Some (Answers reply)) =
+      flat_map (λ p. onward fuel p (Some (Goes p))) (t.follows from reply)
+  onward (suc fuel) from (Some (Goes p)) =
+      if is_some (op_of (t.step p)) then p ∷ [] else flat_map (λ seen. onward fuel p (t.row p seen)) sights
+
+  abbrev pub onward_all : List P → List P
+  onward_all ps = flat_map (λ p. onward 6 p (Some (Goes p))) ps
+
+  -- each once, in the table's order
+  abbrev pub in_order : List P → List P
+  in_order ps = filter (λ p. list_any (λ q. t.number q == t.number p) ps) t.positions
+
+  -- from these positions, after an operation that saw this
+  abbrev pub moved : List P → Noted → List P
+  moved ps x =
+      in_order (flat_map (λ p. onward 6 p (if is_op x.0 (op_of (t.step p)) then t.row p x.1 else None)) ps)
+
+  abbrev pub standing_from : List P → List Noted → List P
+  standing_from ps [] = ps
+  standing_from ps (x ∷ xs) = standing_from (moved ps x) xs
+
+  -- where an end may stand that has made these operations
+  abbrev pub standing : List Noted → List P
+  standing = standing_from (in_order (onward_all t.opens))
+
+  -- the operations on the word that are made at these positions
+  abbrev pub made_at : List P → List Op
+  made_at ps = filter_map (λ p. op_of (t.step p)) ps
+
+  -- those that it may make there
+  abbrev pub operations : List Noted → List Op
+  operations xs = made_at (standing xs)
+
+abbrev pub sender_positions : List SenderPos
+sender_positions =
+    SP.LookClosed
+    ∷ SP.SendWrite
+    ∷ SP.SendAdd
+    ∷ SP.DropXor
+    ∷ SP.DropFree
+    ∷ SP.ErrorLook
+    ∷ SP.IntoTake
+    ∷ SP.IntoFree
+    ∷ SP.ErrorDrop
+    ∷ SP.ErrorFree
+    ∷ []
+
+abbrev pub sender_number : SenderPos → ℕ
+sender_number SP.LookClosed = 0
+sender_number SP.SendWrite = 1
+sender_number SP.SendAdd = 2
+sender_number SP.DropXor = 3
+sender_number SP.DropFree = 4
+sender_number SP.ErrorLook = 5
+sender_number SP.IntoTake = 6
+sender_number SP.IntoFree = 7
+sender_number SP.ErrorDrop = 8
+sender_number SP.ErrorFree = 9
+
+-- a refused `send` leaves an error, and its calls
+abbrev pub sender_follows : SenderPos → Reply → List SenderPos
+sender_follows p R.Refused = sender_start SC.IntoInner ∷ sender_start SC.DropError ∷ []
+sender_follows p _ = []
+
+abbrev pub sender_table : Table SenderPos
+sender_table =
+    record {
+      step = sender_step;
+      row = sender_row;
+      positions = sender_positions;
+      number = sender_number;
+      opens = sender_start SC.Send ∷ sender_start SC.Drop ∷ [];
+      follows = sender_follows;
+    }
+
+abbrev pub receiver_positions : List ReceiverPos
+receiver_positions =
+    RP.LookFull ∷ RP.LookClosed ∷ RP.TryLoad ∷ RP.Close ∷ RP.Take ∷ RP.DropSwap ∷ RP.DropMessage ∷ RP.DropFree ∷ []
+
+abbrev pub receiver_number : ReceiverPos → ℕ
+receiver_number RP.LookFull = 0
+receiver_number RP.LookClosed = 1
+receiver_number RP.TryLoad = 2
+receiver_number RP.Close = 3
+receiver_number RP.Take = 4
+receiver_number RP.DropSwap = 5
+receiver_number RP.DropMessage = 6
+receiver_number RP.DropFree = 7
+
+abbrev pub receiver_opens : List ReceiverPos
+receiver_opens = receiver_start RC.TryRecv ∷ receiver_start RC.Drop ∷ []
+
+-- after a receive any call, after a drop none
+abbrev pub receiver_follows : ReceiverPos → Reply → List ReceiverPos
+receiver_follows RP.TryLoad reply = receiver_opens
+receiver_follows RP.Take reply = receiver_opens
+receiver_follows _ reply = []
+
+abbrev pub receiver_table : Table ReceiverPos
+receiver_table =
+    record {
+      step = receiver_step;
+      row = receiver_row;
+      positions = receiver_positions;
+      number = receiver_number;
+      opens = receiver_opens;
+      follows = receiver_follows;
+    }

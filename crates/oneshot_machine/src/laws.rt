@@ -1,0 +1,18 @@
+//! Laws of the definitions that contracts cite: each function's contract is the law, its body nothing.
+
+ghost use Rattle.oneshot_machine.specs.Exact.{SenderIsExact, ReceiverIsExact};
+ghost use Rattle.oneshot_machine.specs.Examples.{SenderLists, ReceiverLists, RunsThatAre, RunsThatAreNot};
+
+/// What the definitions allow an end after its operations on the word is what its table makes.
+pub fn tables_are_exact<T, W>()
+    ensures sender { SenderIsExact T W }
+    ensures receiver { ReceiverIsExact T W }
+{}
+
+/// Which lists and runs the definitions take for an end's, by examples.
+pub fn examples_are_so()
+    ensures senders { SenderLists }
+    ensures receivers { ReceiverLists }
+    ensures runs { RunsThatAre }
+    ensures no_runs { RunsThatAreNot }
+{}

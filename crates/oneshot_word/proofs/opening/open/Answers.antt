@@ -1,0 +1,22 @@
+use Rattle.std.proofs.Common.{rules, sym, subst}
+use Rattle.oneshot_word.specs.Rule.{opened}
+use Rattle.oneshot_word.specs.Seats.{SenderSeat, ReceiverSeat}
+use Rattle.oneshot_word.proofs.Opens.{deal_allowed, split_allowed, sender_seated, receiver_seated}
+use Rattle.oneshot_word.proofs.opening.open.Goals as goal
+
+pub new-requires : goal.new-requires
+new-requires g c = rw c.in_ok-empty_slots.ensures opened
+
+pub load-requires : goal.load-requires
+load-requires g c = (search rules, search rules, deal_allowed _ _ _ (search rules))
+
+pub split_seat-other-requires : goal.split_seat-other-requires
+split_seat-other-requires g c = (search rules, search rules, split_allowed _ _ (search rules))
+
+pub invariant_of-sender : goal.invariant_of-sender
+invariant_of-sender g c =
+    (subst SenderSeat (sym c.split_seat-other.ensures.2) (rw c.load.ensures.2 sender_seated), record { table = search rules; words = search rules; slots = search rules })
+
+pub invariant_of-receiver : goal.invariant_of-receiver
+invariant_of-receiver g c =
+    (subst ReceiverSeat (sym c.split_seat-other.ensures.4) receiver_seated, record { table = search rules; words = search rules; slots = search rules })

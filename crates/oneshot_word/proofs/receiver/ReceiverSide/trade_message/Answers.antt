@@ -1,0 +1,24 @@
+use Rattle.std.proofs.Common.{◌≢◌, rules, sym, ap, subst}
+use Rattle.oneshot_machine.specs.Slots.{away}
+use Rattle.oneshot_word.specs.Seats.{message_of, ReceiverSeat}
+use Rattle.oneshot_word.proofs.Trades.{fits_message, receiver_front, Traded, receiver_traded, traded_side}
+use Rattle.oneshot_word.proofs.receiver.ReceiverSide.trade_message.Given as given
+use Rattle.oneshot_word.proofs.receiver.ReceiverSide.trade_message.Goals as goal
+
+pub exchange-requires : goal.exchange-requires
+exchange-requires g c =
+    (search rules, receiver_front c.self.inside.chair.me c.self.invariant.0 (subst (λ s. s.message ≢ away) (sym c.self.view_is) c.requires.its_own))
+
+traded : (g : given.Over) (c : goal.After-exchange g) → Traded ReceiverSeat c.self.inside.chair.me c.exchange.new.seat.me c.exchange.result (message_of c.args.new)
+traded g c =
+    receiver_traded c.self.inside.chair.me c.exchange.new.seat.me c.self.invariant.0 (subst (λ s. s.message ≢ away) (sym c.self.view_is) c.requires.its_own) (fits_message c.args.new c.requires.no_waker) c.exchange.ensures.2 c.exchange.ensures.3
+
+pub invariant_of-self : goal.invariant_of-self
+invariant_of-self g c = ((traded g c).seat, search rules)
+
+pub returns-clause-was : goal.returns-clause-was
+returns-clause-was g c = rw (ap (λ s. s.message) (sym c.self.view_is)) (traded g c).was
+
+pub returns-clause-has : goal.returns-clause-has
+returns-clause-has g c =
+    traded_side c.self.inside.chair.table_id c.exchange.new.seat.table_id c.self.inside.chair.me c.exchange.new.seat.me c.args.self.now c.self.view_is (search rules) (traded g c)

@@ -1,0 +1,24 @@
+use Rattle.std.proofs.Common.{◌≢◌, rules, sym, ap, subst}
+use Rattle.oneshot_machine.specs.Slots.{away}
+use Rattle.oneshot_word.specs.Seats.{message_of, SenderSeat}
+use Rattle.oneshot_word.proofs.Trades.{fits_message, sender_front, Traded, sender_traded, traded_side}
+use Rattle.oneshot_word.proofs.sender.SenderSide.trade_message.Given as given
+use Rattle.oneshot_word.proofs.sender.SenderSide.trade_message.Goals as goal
+
+pub exchange-old-requires : goal.exchange-old-requires
+exchange-old-requires g c =
+    (search rules, sender_front c.self.inside.chair.me c.turn.new.self.me c.self.invariant.0 (subst (λ s. s.message ≢ away) (sym c.self.view_is) c.requires.its_own) c.turn.ensures.2)
+
+traded : (g : given.Over) (c : goal.After-turn-2 g) → Traded SenderSeat c.self.inside.chair.me c.turn-2.new.self.me c.exchange-old.result (message_of c.args.new)
+traded g c =
+    sender_traded c.self.inside.chair.me c.turn.new.self.me c.exchange-old.new.seat.me c.turn-2.new.self.me c.self.invariant.0 (subst (λ s. s.message ≢ away) (sym c.self.view_is) c.requires.its_own) (fits_message c.args.new c.requires.no_waker) c.turn.ensures.2 c.exchange-old.ensures.2 c.exchange-old.ensures.3 c.turn-2.ensures.2
+
+pub invariant_of-self : goal.invariant_of-self
+invariant_of-self g c = ((traded g c).seat, search rules)
+
+pub returns-clause-was : goal.returns-clause-was
+returns-clause-was g c = rw (ap (λ s. s.message) (sym c.self.view_is)) (traded g c).was
+
+pub returns-clause-has : goal.returns-clause-has
+returns-clause-has g c =
+    traded_side c.self.inside.chair.table_id c.turn-2.new.self.table_id c.self.inside.chair.me c.turn-2.new.self.me c.args.self.now c.self.view_is (search rules) (traded g c)

@@ -1,0 +1,5 @@
+pub mod Lists
+pub mod Seats
+pub mod Rule
+pub mod Rows
+pub mod Sides

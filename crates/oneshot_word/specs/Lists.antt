@@ -1,0 +1,41 @@
+-- What each end's list of operations says, read off it alone.
+use Rattle.std.specs.Prelude.{ℕ, Bool, false, ◌||◌, ◌==◌, if◌then◌else◌, List, [], ◌∷◌, Option, Some, None}
+use Rattle.oneshot_machine.specs.declared.machine.Seen.{Seen}
+use Rattle.oneshot_machine.specs.declared.machine.Seen.TheVariants.{Word}
+use Rattle.oneshot_machine.specs.declared.states.Op.{Op}
+use Rattle.oneshot_machine.specs.declared.states.Op.TheVariants.{Store, Swap, Add, Xor}
+use Rattle.oneshot_machine.specs.Words.{Noted}
+use Rattle.oneshot_machine.specs.Phases.{By, sending, dropping}
+
+-- The sender's last operation is made, and the receiver was here.
+pub data MadeLast : By → List Noted → Type 0 where
+  sent : MadeLast sending ((Add, Word 3) ∷ [])
+  dropped : MadeLast dropping ((Xor, Word 3) ∷ [])
+
+-- The sender's last operation is made, found the receiver gone, and left this word.
+pub data MadeLate : By → ℕ → List Noted → Type 0 where
+  sent_late : MadeLate sending 3 ((Add, Word 2) ∷ [])
+  dropped_late : MadeLate dropping 3 ((Xor, Word 2) ∷ [])
+
+-- a value carried along a list, from its first operation on
+abbrev pub along : {A : Type 0} → (A → Op → Seen → A) → A → List Noted → A
+along next a [] = a
+along next a (x ∷ xs) = along next (next a x.0 x.1) xs
+
+abbrev pub gone_next : Bool → Op → Seen → Bool
+gone_next before (Swap new) seen = before || new == 2
+gone_next before _ seen = before
+
+-- The receiver is gone: it swapped in a 2.
+abbrev pub is_gone : List Noted → Bool
+is_gone = along gone_next false
+
+abbrev pub wrote_next : Option ℕ → Op → Seen → Option ℕ
+wrote_next before (Store new) seen = Some new
+wrote_next before (Swap new) (Word word) = if word == 4 || word == 2 then Some new else before
+wrote_next before _ seen = before
+
+-- What the receiver has written since the sender's last operation: by a store, or by a swap that
+-- found 4 or 2.
+abbrev pub wrote_since : List Noted → Option ℕ
+wrote_since = along wrote_next None

@@ -1,0 +1,61 @@
+-- The rule of the table as its reader wants it: both lists, the word, and each slot with its owner.
+use Rattle.std.specs.Prelude.{◌≡◌, ℕ, true, false, List, [], ◌∷◌, Some, None}
+use Rattle.oneshot_machine.specs.Words.{Noted}
+use Rattle.oneshot_machine.specs.Phases.{By, sending, dropping}
+use Rattle.oneshot_word.specs.declared.rule.Role.TheVariants.{Maker, Dealer, Sender, Receiver}
+use Rattle.oneshot_word.specs.declared.rule.View.{View}
+use Rattle.oneshot_word.specs.Lists.{MadeLast, MadeLate, is_gone, wrote_since}
+use Rattle.oneshot_word.specs.Rule.{Home, out, bare, has_message, Tied}
+use Rattle.oneshot_word.specs.Seats.{view}
+
+-- A slot of the sender's: out with it, or empty at home, where the receiver left it for the
+-- sender's next operation.
+pub data IsSenders {T W : Type 0} : Home T W → Type 0 where
+  sender_has_it : IsSenders out
+  left_for_sender : IsSenders bare
+
+-- A slot of the receiver's: out with it, or empty at home, where it is left for the receiver's next
+-- operation.
+pub data IsReceivers {T W : Type 0} : Home T W → Type 0 where
+  receiver_has_it : IsReceivers out
+  left_for_receiver : IsReceivers bare
+
+-- the same, and while at home it holds the message
+pub data IsReceiversFull {T W : Type 0} : Home T W → Type 0 where
+  receiver_found_it : IsReceiversFull out
+  waits_for_receiver : (m : T) → IsReceiversFull (has_message m)
+
+-- the sender's list, the receiver's list, the word, the message's slot and the waker's
+pub data Owned {T W : Type 0} (xs ys : List Noted) : ℕ → Home T W → Home T W → Type 0 where
+  -- the sender has made no operation, and the receiver is here
+  both_open : {h k : Home T W} → xs ≡ [] → is_gone ys ≡ false
+      → IsSenders h → IsReceivers k → Owned xs ys 3 h k
+  -- the sender has made no operation, and the receiver is gone
+  receiver_gone : {h k : Home T W} → xs ≡ [] → is_gone ys ≡ true
+      → IsSenders h → IsSenders k → Owned xs ys 2 h k
+  -- the sender made its last operation after that
+  sender_after : {h k : Home T W} (by : By) {w : ℕ} → MadeLate by w xs → is_gone ys ≡ true
+      → IsSenders h → IsSenders k → Owned xs ys w h k
+  -- it sent, and the receiver has written nothing since
+  sent : {h k : Home T W} → MadeLast sending xs → wrote_since ys ≡ None
+      → IsReceiversFull h → IsReceivers k → Owned xs ys 4 h k
+  -- it dropped, and the receiver has written nothing since
+  dropped : {h k : Home T W} → MadeLast dropping xs → wrote_since ys ≡ None
+      → IsReceivers h → IsReceivers k → Owned xs ys 2 h k
+  -- the receiver was here till then, and has written since
+  written : {h k : Home T W} (by : By) {w : ℕ} → MadeLast by xs → wrote_since ys ≡ Some w
+      → IsReceivers h → IsReceivers k → Owned xs ys w h k
+
+-- the words, the slots at home and the views of all seats
+pub data Ruled {T W : Type 0} : List ℕ → List (Home T W) → List View → Type 0 where
+  -- before there are ends
+  maker_alone : Ruled (3 ∷ []) (bare ∷ bare ∷ []) (view Maker [] ∷ [])
+  dealer_alone : Ruled (3 ∷ []) (out ∷ bare ∷ []) (view Dealer [] ∷ [])
+  -- and then always
+  two_ends : {w : ℕ} {h k : Home T W} (xs ys : List Noted) → Owned xs ys w h k
+      → Ruled (w ∷ []) (h ∷ k ∷ []) (view Sender xs ∷ view Receiver ys ∷ [])
+
+-- Whatever the table is under its rule, it is as the rows say.
+abbrev pub RuleReads : (T W : Type 0) → Type 0
+RuleReads T W =
+    (words : List ℕ) (homes : List (Home T W)) (views : List View) → Tied words homes views → Ruled words homes views

@@ -1,0 +1,16 @@
+//! The word that both ends share, with the message's slot and the waker's: its rule and its steps.
+#![tactic(auto)]
+
+mod opening;
+mod plays;
+mod receiver;
+mod rule;
+mod sender;
+mod table;
+#[cfg(test)]
+mod tests;
+
+pub use opening::open;
+pub use receiver::ReceiverSide;
+pub use rule::{Role, Slot, View, WordRule};
+pub use sender::SenderSide;

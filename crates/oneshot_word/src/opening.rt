@@ -1,0 +1,44 @@
+//! How a channel's table is made.
+
+ghost use Rattle.std.specs.Prelude.{◌≡◌, [], ◌∷◌, IfOk};
+ghost use Rattle.oneshot_word.specs.Sides.{AreEnds};
+ghost use Rattle.oneshot_word.specs.declared.rule.Slot.TheVariants.{Empty};
+
+use crate::plays::{Deals, Halves};
+use crate::receiver::ReceiverSide;
+use crate::rule::Slot;
+use crate::sender::SenderSide;
+use atomic_table::Table;
+use oneshot_machine::states::EMPTY;
+use std::alloc::{AllocError, Global};
+use std::sync::Arc;
+
+/// Both sides of a new table. Where memory is refused nothing is made.
+pub fn open<T: Send + Drop, W: Send + Drop>(
+    alloc: Global,
+) -> Result<(SenderSide<T, W>, ReceiverSide<T, W>), AllocError>
+    ensures { IfOk result (λ sides. AreEnds sides.0 sides.1) }
+{
+    let Ok((table, mut chair)) = Table::new(alloc, &[EMPTY as u64], empty_slots(alloc)?, &()) else {
+        return Err(AllocError);
+    };
+    table.shared.load::<Deals>(&mut chair, 0);
+    let other = table.shared.split_seat::<Halves>(&mut chair);
+    let board = Arc::new(alloc, table)?;
+    let shared = Arc::try_clone(&board)?;
+    let sender = SenderSide { board, chair };
+    let receiver = ReceiverSide {
+        board: shared,
+        chair: other,
+    };
+    Ok((sender, receiver))
+}
+
+fn empty_slots<T: Drop, W: Drop>(alloc: Global) -> Result<Vec<Slot<T, W>>, AllocError>
+    ensures { IfOk result (λ slots. slots.items ≡ Empty ∷ Empty ∷ []) }
+{
+    let mut slots = Vec::with_capacity(alloc, 2)?;
+    slots.push(Slot::Empty)?;
+    slots.push(Slot::Empty)?;
+    Ok(slots)
+}

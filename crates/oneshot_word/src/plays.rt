@@ -1,0 +1,55 @@
+// What each step tells of the seat that makes it. These types are for the proofs alone.
+ghost use Rattle.std.specs.Prelude.{◌≡◌, ◌∷◌, []};
+ghost use Rattle.oneshot_machine.specs.declared.states.Op.TheVariants.{Load, Store, Swap, Add, Xor};
+ghost use Rattle.oneshot_word.specs.declared.rule.Role.TheVariants.{Dealer, Sender, Receiver};
+ghost use Rattle.oneshot_word.specs.declared.rule.Slot.TheVariants.{Empty};
+ghost use Rattle.oneshot_word.specs.Seats.{view, SenderStepped, ReceiverStepped};
+
+use crate::rule::{Slot, View};
+use atomic_table::{Play, Split};
+
+pub(crate) struct Adds;
+
+impl<T, W> Play<Slot<T, W>, View> for Adds {
+    ghost then = { λ _ before found after. SenderStepped before Add found after };
+}
+
+pub(crate) struct Flips;
+
+impl<T, W> Play<Slot<T, W>, View> for Flips {
+    ghost then = { λ _ before found after. SenderStepped before Xor found after };
+}
+
+pub(crate) struct Loads;
+
+impl<T, W> Play<Slot<T, W>, View> for Loads {
+    ghost then = { λ _ before found after. ReceiverStepped before Load found after };
+}
+
+pub(crate) struct Stores;
+
+impl<T, W> Play<Slot<T, W>, View> for Stores {
+    ghost then = { λ s before found after. ReceiverStepped before (Store s.first) found after };
+}
+
+pub(crate) struct Swaps;
+
+impl<T, W> Play<Slot<T, W>, View> for Swaps {
+    ghost then = { λ s before found after. ReceiverStepped before (Swap s.first) found after };
+}
+
+// The maker takes the message's slot.
+pub(crate) struct Deals;
+
+impl<T, W> Play<Slot<T, W>, View> for Deals {
+    ghost then = { λ _ before found after. after ≡ (view Dealer [], (0, Empty) ∷ []) };
+}
+
+// The sender's seat keeps the slot, and the receiver has a new seat.
+pub(crate) struct Halves;
+
+impl Split<View> for Halves {
+    ghost left = { λ _. view Sender [] };
+
+    ghost right = { λ _. view Receiver [] };
+}

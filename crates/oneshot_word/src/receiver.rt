@@ -1,0 +1,107 @@
+//! The receiver's side of the shared word.
+
+ghost use Rattle.std.specs.Prelude.{◌≡◌, ◌≢◌};
+ghost use Rattle.oneshot_machine.specs.declared.states.Op.TheVariants.{Load, Store, Swap};
+ghost use Rattle.oneshot_machine.specs.Phases.{receiver_at};
+ghost use Rattle.oneshot_machine.specs.Slots.{away, vacant, held};
+ghost use Rattle.oneshot_word.specs.Rows.{RuleReads};
+ghost use Rattle.oneshot_word.specs.Seats.{MessageSlot, message_of, waker_of};
+ghost use Rattle.oneshot_word.specs.Sides.{ReceiverCan, ReceiverDid, ReceiverOwns};
+
+use crate::plays::{Loads, Stores, Swaps};
+use crate::rule::Slot;
+use crate::table::{Board, Chair, look};
+use std::alloc::Global;
+use std::marker::Model;
+use std::sync::Arc;
+
+/// The receiver's share of the table, with its seat.
+#[derive(Drop)]
+pub struct ReceiverSide<T, W> {
+    pub(crate) board: Arc<Board<T, W>, Global>,
+    pub(crate) chair: Chair<T, W>,
+}
+
+impl<T, W> Model for ReceiverSide<T, W> {
+    ghost use Rattle.std.specs.Arc.{arc_value};
+    ghost use Rattle.oneshot_word.specs.Seats.{IsAt, ReceiverSeat};
+    ghost use Rattle.oneshot_word.specs.Sides.{Side, side_of};
+
+    ghost Value = { Side T W };
+
+    ghost view = { λ s. side_of s.chair.table_id s.chair.me };
+
+    ghost invariant = { λ s.
+        ReceiverSeat s.chair.me × IsAt (arc_value s.board).shared.table_id s.chair.table_id };
+}
+
+impl<T, W> ReceiverSide<T, W> {
+    /// Reads the word.
+    pub fn load(&mut self) -> u8
+        requires { ReceiverCan self.old Load }
+        ensures { ReceiverDid self.old Load result self.new }
+    {
+        self.board.shared.load::<Loads>(&mut self.chair, 0) as u8
+    }
+
+    /// Puts `new` into the word, and gives the word before, for which it swaps.
+    pub fn store(&mut self, new: u8) -> u8
+        requires { ReceiverCan self.old (Store new) }
+        ensures { ReceiverDid self.old (Store new) result self.new }
+    {
+        self.board
+            .shared
+            .swap::<Stores>(&mut self.chair, 0, new as u64) as u8
+    }
+
+    /// Puts `new` into the word, and gives the word before.
+    pub fn swap(&mut self, new: u8) -> u8
+        requires { ReceiverCan self.old (Swap new) }
+        ensures { ReceiverDid self.old (Swap new) result self.new }
+    {
+        self.board
+            .shared
+            .swap::<Swaps>(&mut self.chair, 0, new as u64) as u8
+    }
+
+    /// Does nothing. Its contract tells which slots are the receiver's by what it did.
+    pub fn slots(&self)
+        ensures { ReceiverOwns (receiver_at self.now.steps) self.now.message self.now.waker }
+    {
+        let _seat = &self.chair;
+    }
+
+    /// Reads the word as a look does, which lengthens no list and tells nothing of what it found.
+    pub fn peek(&self) -> u8
+        ensures rule { RuleReads T W }
+        ensures slots { ReceiverOwns (receiver_at self.now.steps) self.now.message self.now.waker }
+    {
+        look(&self.board)
+    }
+}
+
+impl<T: Drop, W: Drop> ReceiverSide<T, W> {
+    /// Takes the message out of its slot, which is the receiver's and full.
+    pub fn take_message(&mut self) -> T
+        requires { (message : T) × (self.old.message ≡ held message) }
+        ensures message { self.old.message ≡ held result }
+        ensures rest { self.new ≡ record self.old { message = vacant } }
+    {
+        match self.trade_message(Slot::Empty) {
+            Slot::Message(message) => message,
+            _ => unreachable!(),
+        }
+    }
+}
+
+impl<T, W> ReceiverSide<T, W> {
+    // The message's slot is the one in front.
+    fn trade_message(&mut self, new: Slot<T, W>) -> Slot<T, W>
+        requires its_own { self.old.message ≢ away }
+        requires no_waker { waker_of new ≡ vacant }
+        ensures was { MessageSlot result self.old.message }
+        ensures has { self.new ≡ record self.old { message = message_of new } }
+    {
+        self.board.shared.exchange(&mut self.chair, 0, new)
+    }
+}

@@ -1,0 +1,99 @@
+//! The sender's side of the shared word.
+
+ghost use Rattle.std.specs.Prelude.{◌≡◌, ◌≢◌};
+ghost use Rattle.oneshot_machine.specs.declared.states.Op.TheVariants.{Add, Xor};
+ghost use Rattle.oneshot_machine.specs.Phases.{sender_at};
+ghost use Rattle.oneshot_machine.specs.Slots.{away, vacant, held};
+ghost use Rattle.oneshot_word.specs.Rows.{RuleReads};
+ghost use Rattle.oneshot_word.specs.Seats.{MessageSlot, message_of, waker_of};
+ghost use Rattle.oneshot_word.specs.Sides.{SenderCan, SenderDid, SenderOwns};
+
+use crate::plays::{Adds, Flips};
+use crate::rule::Slot;
+use crate::table::{Board, Chair, look};
+use std::alloc::Global;
+use std::marker::Model;
+use std::sync::Arc;
+
+/// The sender's share of the table, with its seat.
+#[derive(Drop)]
+pub struct SenderSide<T, W> {
+    pub(crate) board: Arc<Board<T, W>, Global>,
+    pub(crate) chair: Chair<T, W>,
+}
+
+impl<T, W> Model for SenderSide<T, W> {
+    ghost use Rattle.std.specs.Arc.{arc_value};
+    ghost use Rattle.oneshot_word.specs.Seats.{IsAt, SenderSeat};
+    ghost use Rattle.oneshot_word.specs.Sides.{Side, side_of};
+
+    ghost Value = { Side T W };
+
+    ghost view = { λ s. side_of s.chair.table_id s.chair.me };
+
+    ghost invariant = { λ s.
+        SenderSeat s.chair.me × IsAt (arc_value s.board).shared.table_id s.chair.table_id };
+}
+
+impl<T, W> SenderSide<T, W> {
+    /// Adds one to the word, and gives the word before.
+    pub fn add(&mut self) -> u8
+        requires { SenderCan self.old Add }
+        ensures { SenderDid self.old Add result self.new }
+    {
+        self.board.shared.fetch_add::<Adds>(&mut self.chair, 0, 1) as u8
+    }
+
+    /// Flips the word's lowest bit, and gives the word before.
+    pub fn flip(&mut self) -> u8
+        requires { SenderCan self.old Xor }
+        ensures { SenderDid self.old Xor result self.new }
+    {
+        self.board.shared.fetch_xor::<Flips>(&mut self.chair, 0, 1) as u8
+    }
+
+    /// Reads the word as a look does, which lengthens no list and tells nothing of what it found.
+    pub fn peek(&self) -> u8
+        ensures rule { RuleReads T W }
+        ensures slots { SenderOwns (sender_at self.now.steps) self.now.message self.now.waker }
+    {
+        look(&self.board)
+    }
+}
+
+impl<T: Drop, W: Drop> SenderSide<T, W> {
+    /// Puts the message into its slot, which is the sender's and empty.
+    pub fn write_message(&mut self, message: T)
+        requires { self.old.message ≡ vacant }
+        ensures { self.new ≡ record self.old { message = held message } }
+    {
+        self.trade_message(Slot::Message(message));
+    }
+
+    /// Takes the message out of its slot, which is the sender's and full.
+    pub fn take_message(&mut self) -> T
+        requires { (message : T) × (self.old.message ≡ held message) }
+        ensures message { self.old.message ≡ held result }
+        ensures rest { self.new ≡ record self.old { message = vacant } }
+    {
+        match self.trade_message(Slot::Empty) {
+            Slot::Message(message) => message,
+            _ => unreachable!(),
+        }
+    }
+}
+
+impl<T, W> SenderSide<T, W> {
+    // Only the slot in front can be read, so the message's is turned there, and then back.
+    fn trade_message(&mut self, new: Slot<T, W>) -> Slot<T, W>
+        requires its_own { self.old.message ≢ away }
+        requires no_waker { waker_of new ≡ vacant }
+        ensures was { MessageSlot result self.old.message }
+        ensures has { self.new ≡ record self.old { message = message_of new } }
+    {
+        self.chair.turn();
+        let old = self.board.shared.exchange(&mut self.chair, 0, new);
+        self.chair.turn();
+        old
+    }
+}
