@@ -14,7 +14,7 @@ use Rattle.oneshot_replay.specs.Told.{Told, IsReplayed}
 use Rattle.oneshot_replay.specs.declared.rest.Rest.TheVariants as Rest
 
 abbrev sends : {T : Type 0} → T → ErrorScript → SenderScript T
-sends message error = record { last = SL.Send message error }
+sends message error = record { looks = 0; last = SL.Send message error }
 
 abbrev drops : ReceiverScript
 drops = record { calls = []; last = RL.Drop }

@@ -1,41 +1,30 @@
-//! A caller of `replay` that is proved and run; the README shows it.
+//! A channel between two threads, proved and run; the README shows it.
 
-ghost use Rattle.std.specs.Prelude.{◌≡◌, IfSome};
-ghost use Rattle.oneshot_replay.specs.declared.rest.Rest.TheVariants as Rest;
+use crate::{Receiver, TryRecvError, channel};
+use std::test::Fail;
+use std::thread::join;
 
-use crate::replay::{
-    CallList, ErrorLast, ErrorScript, Move, ReceiverLast, ReceiverScript, Rest, SenderLast,
-    SenderScript, replay,
-};
-use std::alloc::Global;
-
-/// The receiver is dropped, and only then the message is sent: it comes back with the error.
-fn refused(alloc: Global, message: u64) -> Option<Rest<u64>>
-    ensures { IfSome result (λ rest. rest ≡ Rest.InError message) }
-{
-    let error = ErrorScript {
-        looks: 0,
-        last: ErrorLast::Stop,
-    };
-    let sender = SenderScript {
-        looks: 0,
-        last: SenderLast::Send(message, error),
-    };
-    let receiver = ReceiverScript {
-        calls: CallList::from(Vec::new(alloc)),
-        last: ReceiverLast::Drop,
-    };
-    let drop = Move::Receiver {
-        over: false,
-        refuse: false,
-    };
-    match replay(alloc, sender, receiver, &[drop, Move::Sender, Move::Sender]) {
-        Ok(trace) => trace.into_rest(),
-        Err(_) => None,
+/// Asks for the message until it is there, or its sender is gone.
+fn receive(receiver: &mut Receiver<u64, ()>) -> Option<u64> {
+    for _ in 0..u64::MAX {
+        match receiver.try_recv() {
+            Ok(message) => return Some(message),
+            Err(TryRecvError::Empty) => {}
+            Err(TryRecvError::Disconnected) => return None,
+        }
     }
+    None
 }
 
 #[test]
-fn a_message_comes_back_from_a_dropped_receiver(rt: HostRuntime) {
-    assert!(rt; matches!(refused(rt.alloc(), 7), Some(Rest::InError(7))));
+fn a_message_between_two_threads(rt: HostRuntime) -> Result<(), Fail> {
+    let (sender, mut receiver) = channel((), rt.alloc())?;
+    let (sent, received) = join(
+        &rt,
+        move || sender.send(7).is_ok(),
+        move || receive(&mut receiver),
+    );
+    assert!(rt; sent);
+    assert_eq!(rt; received, Some(7));
+    Ok(())
 }

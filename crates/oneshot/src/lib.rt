@@ -1,9 +1,13 @@
-//! A channel that carries one message from one sender to one receiver. So far: the machines of both ends,
-//! and the replay of a schedule.
+//! A channel that carries one message from one sender to one receiver.
 #![tactic(auto)]
 
 #[cfg(test)]
 mod example;
+#[cfg(test)]
+mod rehearsal;
 
+pub use oneshot_drive as drive;
+pub use oneshot_ends::{Receiver, SendError, Sender, channel};
+pub use oneshot_errors::{RecvError, RecvTimeoutError, TryRecvError};
 pub use oneshot_machine::{machine, states};
 pub use oneshot_replay as replay;

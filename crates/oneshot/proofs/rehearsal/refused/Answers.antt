@@ -1,7 +1,7 @@
 -- The trace's rest is the one that the run gives.
 use Rattle.std.proofs.Common.{◌≡◌, [], ◌∙◌, refl}
 use Rattle.oneshot.proofs.Refused.{comes_back}
-use Rattle.oneshot.proofs.example.refused.Goals as goal
+use Rattle.oneshot.proofs.rehearsal.refused.Goals as goal
 
 pub returns-in-Ok : goal.returns-in-Ok
 returns-in-Ok c =
