@@ -11,3 +11,6 @@ pub use error::SendError;
 pub use pair::channel;
 pub use receiver::Receiver;
 pub use sender::Sender;
+
+#[cfg(test)]
+mod tests;

@@ -1,0 +1,6 @@
+//! What no clause says of the ends: their texts, their drops, and how they do on two threads.
+
+mod crossing;
+mod drops;
+mod refused;
+mod threads;

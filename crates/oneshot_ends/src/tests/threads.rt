@@ -1,0 +1,47 @@
+//! Each end on a thread of its own.
+
+use crate::{Receiver, channel};
+use oneshot_errors::TryRecvError;
+use std::sync::Arc;
+use std::test::Fail;
+use std::thread::join;
+
+const ROUNDS: u64 = 1_000;
+const TRIES: u64 = 1_000_000_000;
+
+// Asks until the message is there, or until the sender is gone without one.
+fn poll<T: Drop>(receiver: &mut Receiver<T, ()>) -> Result<T, TryRecvError> {
+    for _ in 0..TRIES {
+        match receiver.try_recv() {
+            Err(TryRecvError::Empty) => {}
+            answer => return answer,
+        }
+    }
+    Err(TryRecvError::Empty)
+}
+
+#[test]
+fn each_round_gets_its_message_once(rt: HostRuntime) -> Result<(), Fail> {
+    for round in 0..ROUNDS {
+        let (sender, mut receiver) = channel((), rt.alloc())?;
+        let shared = Arc::new(rt.alloc(), round)?;
+        let message = Arc::try_clone(&shared)?;
+        let (sent, received) = join(
+            &rt,
+            move || sender.send(message).is_ok(),
+            move || {
+                let first = poll(&mut receiver);
+                (first, receiver.try_recv().is_err())
+            },
+        );
+        assert!(rt; sent);
+        let (Ok(message), true) = received else {
+            panic!(rt; "the message comes once")
+        };
+        assert_eq!(rt; *message, round);
+        assert_eq!(rt; Arc::strong_count(&shared), 2);
+        drop(message);
+        assert_eq!(rt; Arc::strong_count(&shared), 1);
+    }
+    Ok(())
+}
