@@ -1,11 +1,12 @@
 //! Why the program gives no trace.
 
-ghost use Rattle.std.specs.Prelude.{◌≡◌};
+ghost use Rattle.std.specs.Prelude.{◌≡◌, alloc_error};
+ghost use Rattle.oneshot_run.specs.declared.fault.Fault.TheVariants.{OutOfMemory};
 ghost use Rattle.oneshot_run.specs.Fault.{status_of};
 
 use crate::line::Line;
 use oneshot_replay::Refused;
-use std::alloc::AllocError;
+use std::alloc::{AllocError, AllocFailed};
 use thiserror::Error;
 
 /// Why there is no trace. Words are counted from 1 after their line's first one.
@@ -43,10 +44,28 @@ pub enum Fault {
     InputAfterLines,
     /// A request for memory was refused.
     #[error("out of memory")]
-    OutOfMemory(#[from(alloc)] AllocError),
+    OutOfMemory(AllocError),
+}
+
+impl From<AllocError> for Fault {
+    ghost from_gives = { λ refused fault. fault ≡ OutOfMemory refused };
+
+    fn from(refused: AllocError) -> Fault {
+        Fault::OutOfMemory(refused)
+    }
+}
+
+impl<T: Drop> From<AllocFailed<T>> for Fault {
+    ghost from_gives = { λ _ fault. fault ≡ OutOfMemory alloc_error };
+
+    fn from(_: AllocFailed<T>) -> Fault {
+        Fault::OutOfMemory(AllocError)
+    }
 }
 
 impl From<Refused<u64>> for Fault {
+    ghost from_gives = { λ _ fault. fault ≡ OutOfMemory alloc_error };
+
     fn from(_: Refused<u64>) -> Fault {
         Fault::OutOfMemory(AllocError)
     }

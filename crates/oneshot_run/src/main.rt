@@ -5,8 +5,10 @@ mod fault;
 mod input;
 mod line;
 mod number;
+mod receiver;
 mod request;
 mod schedule;
+mod sender;
 mod show;
 #[cfg(test)]
 mod tests;

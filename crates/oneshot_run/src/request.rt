@@ -2,12 +2,11 @@
 
 use crate::fault::Fault;
 use crate::line::Line;
+use crate::receiver::parse_receiver;
 use crate::schedule::parse_schedule;
-use crate::words::{Lines, Words};
-use oneshot_replay::{
-    ErrorLast, ErrorScript, Move, ReceiverCall, ReceiverLast, ReceiverScript, SenderLast,
-    SenderScript,
-};
+use crate::sender::parse_sender;
+use crate::words::Lines;
+use oneshot_replay::{Move, ReceiverScript, SenderLast, SenderScript};
 use std::alloc::Global;
 
 /// What an input asks for.
@@ -39,44 +38,5 @@ pub(crate) fn parse_request(alloc: Global, text: &str) -> Result<Request, Fault>
         sender,
         receiver,
         moves,
-    })
-}
-
-fn parse_sender(mut words: Words<'_>) -> Result<SenderScript<u64>, Fault> {
-    let last = match words.next() {
-        None => SenderLast::Stop,
-        Some(word) => match word.text.as_bytes() {
-            b"drop" => SenderLast::Drop,
-            b"send" => {
-                let message = words.number()?;
-                let error = ErrorScript {
-                    last: ErrorLast::Stop,
-                };
-                SenderLast::Send(message, error)
-            }
-            _ => return Err(word.unknown()),
-        },
-    };
-    words.end()?;
-    Ok(SenderScript { last })
-}
-
-fn parse_receiver(alloc: Global, mut words: Words<'_>) -> Result<ReceiverScript, Fault> {
-    let mut calls = Vec::new(alloc);
-    let mut last = ReceiverLast::Stop;
-    for word in words.by_ref() {
-        match word.text.as_bytes() {
-            b"try" => calls.push(ReceiverCall::TryRecv)?,
-            b"drop" => {
-                last = ReceiverLast::Drop;
-                break;
-            }
-            _ => return Err(word.unknown()),
-        }
-    }
-    words.end()?;
-    Ok(ReceiverScript {
-        calls: calls.into(),
-        last,
     })
 }

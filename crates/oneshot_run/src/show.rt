@@ -64,7 +64,8 @@ impl fmt::Display for MadeText {
             write!(f, " m:{}>{}", place_name(from), place_name(to))?;
         }
         if let Some(reply) = made.reply {
-            write!(f, " = {}", ReplyText { reply, message })?;
+            let end = made.side;
+            write!(f, " = {}", ReplyText { end, reply, message })?;
         }
         Ok(())
     }
@@ -83,9 +84,11 @@ impl fmt::Display for WordText {
     }
 }
 
-/// What a call answered, with the message where it carries it.
+/// What a call answered, with the message where it carries or shows it: the sender's calls that do are
+/// its error's, which answer the message itself.
 #[derive(Clone, Copy)]
 struct ReplyText {
+    end: End,
     reply: Reply,
     message: u64,
 }
@@ -96,7 +99,12 @@ impl fmt::Display for ReplyText {
         match self.reply {
             Reply::Sent => write!(f, "Ok"),
             Reply::Refused => write!(f, "Err"),
-            Reply::Message => write!(f, "Ok({message})"),
+            Reply::Yes => write!(f, "true"),
+            Reply::No => write!(f, "false"),
+            Reply::Message => match self.end {
+                End::Sender => write!(f, "{message}"),
+                End::Receiver => write!(f, "Ok({message})"),
+            },
             Reply::Empty => write!(f, "Err(Empty)"),
             Reply::Disconnected => write!(f, "Err(Disconnected)"),
             Reply::Done => write!(f, "dropped"),
@@ -124,6 +132,7 @@ fn place_of(rest: &Rest<u64>) -> (Place, u64) {
         Rest::InCell(message) => (Place::InCell, *message),
         Rest::InError(message) => (Place::InError, *message),
         Rest::Delivered(message) => (Place::Delivered, *message),
+        Rest::FromError(message) => (Place::FromError, *message),
         Rest::Dropped(message) => (Place::Dropped, *message),
     }
 }
@@ -134,6 +143,7 @@ fn place_name(place: Place) -> &'static str {
         Place::InCell => "InCell",
         Place::InError => "InError",
         Place::Delivered => "Delivered",
+        Place::FromError => "FromError",
         Place::Dropped => "Dropped",
     }
 }
@@ -157,5 +167,6 @@ fn step_name(step: Step) -> &'static str {
         Step::TakeMessage => "take-message",
         Step::DropMessage => "drop-message",
         Step::Free => "free",
+        Step::Plain => "plain",
     }
 }

@@ -1,13 +1,13 @@
 //! The lines of a text and the words of a line.
 
-ghost use Rattle.std.specs.Prelude.{◌+◌, ◌^◌, ◌<◌};
-ghost use Rattle.std.specs.Iterator.{at_most};
-ghost use Rattle.std.specs.Str.Iter.{split_parts_left};
+ghost use Rattle.std.specs.Prelude.{◌≡◌, ◌≢◌, ◌↔◌, ℕ, ◌+◌, ◌^◌, ◌<◌, [], ◌∷◌, ◌++◌, Some, Ok, IfOk, IsTrue, IsOk, length, slice_get, replicate, decimal};
+ghost use Rattle.std.specs.Option.{option_copied};
+ghost use Rattle.std.specs.Iterator.{YieldsFirstBy};
+ghost use Rattle.oneshot_run.specs.Cut.{words_of, words_in};
 
 use crate::fault::Fault;
 use crate::line::Line;
 use crate::number::parse_number;
-use std::str::Split;
 
 /// What is left of a text whose lines are taken one by one.
 #[derive(Drop)]
@@ -74,22 +74,58 @@ impl Word<'_> {
 #[derive(Drop)]
 pub(crate) struct Words<'a> {
     line: Line,
-    words: Split<'a, char>,
     taken: usize,
-    ghost countable: { taken + split_parts_left words < 2 ^ 64 },
+    rest: Option<&'a str>,
+    ghost countable: { taken + length (words_in rest) < 2 ^ 64 },
 }
 
 impl<'a> Words<'a> {
-    fn new(line: Line, text: &'a str) -> Words<'a> {
+    ghost use Rattle.oneshot_run.specs.Words.{words_left};
+
+    fn new(line: Line, text: &'a str) -> Words<'a>
+        ensures { words_left result ≡ words_of text.now }
+    {
         Words {
             line,
-            words: text.split(' '),
             taken: 0,
+            rest: Some(text),
         }
     }
 
+    /// The next word's text.
+    pub(crate) fn peek(&self) -> Option<&'a str>
+        ensures { option_copied result ≡ slice_get (words_left self.now) 0 }
+    {
+        let (first, _) = cut(self.rest?);
+        Some(first)
+    }
+
+    /// Whether a next word is there, and is `text`.
+    fn next_is(&self, text: &str) -> bool
+        ensures { IsTrue result ↔ (slice_get (words_left self.now) 0 ≡ Some text.now) }
+    {
+        self.peek() == Some(text)
+    }
+
+    /// Takes the words that are `text`, as far as they come next, and tells how many they were.
+    pub(crate) fn take_run(&mut self, text: &str) -> usize
+        ensures run { words_left self.old ≡ replicate result text.now ++ words_left self.new }
+        ensures whole { slice_get (words_left self.new) 0 ≢ Some text.now }
+    {
+        let mut count = 0;
+        while self.next_is(text) {
+            self.next();
+            count += 1;
+        }
+        count
+    }
+
     /// Takes the number that has to stand here.
-    pub(crate) fn number(&mut self) -> Result<u64, Fault> {
+    pub(crate) fn number(&mut self) -> Result<u64, Fault>
+        ensures written { IfOk result (λ n. words_left self.old ≡ decimal n ∷ words_left self.new) }
+        ensures each { (n : ℕ) → n < 2 ^ 64 →
+            slice_get (words_left self.old) 0 ≡ Some (decimal n) → result ≡ Ok n }
+    {
         let (line, word) = (self.line, self.taken);
         self.next()
             .and_then(|word| parse_number(word.text))
@@ -97,7 +133,9 @@ impl<'a> Words<'a> {
     }
 
     /// Ends the line, of which no word may be left.
-    pub(crate) fn end(mut self) -> Result<(), Fault> {
+    pub(crate) fn end(mut self) -> Result<(), Fault>
+        ensures { IsOk result ↔ (words_left self.entry ≡ []) }
+    {
         match self.next() {
             None => Ok(()),
             Some(word) => Err(word.follows_last_call()),
@@ -106,18 +144,31 @@ impl<'a> Words<'a> {
 }
 
 impl<'a> Iterator for Words<'a> {
+    ghost use Rattle.oneshot_run.specs.Words.{words_left};
+
     type Item = Word<'a>;
 
-    ghost remaining = { λ s. at_most (split_parts_left s.words) };
+    ghost next_gives = { YieldsFirstBy (λ word. word.text.now) words_left };
 
     fn next(&mut self) -> Option<Word<'a>> {
-        let text = self.words.next()?;
+        let (text, rest) = cut(self.rest?);
         let number = self.taken;
         self.taken += 1;
+        self.rest = rest;
         Some(Word {
             line: self.line,
             number,
             text,
         })
+    }
+}
+
+/// The first word of a text, and what follows the space behind it.
+fn cut(text: &str) -> (&str, Option<&str>)
+    ensures { words_of text.now ≡ result.0.now ∷ words_in result.1 }
+{
+    match text.split_once(' ') {
+        Some((first, rest)) => (first, Some(rest)),
+        None => (text, None),
     }
 }

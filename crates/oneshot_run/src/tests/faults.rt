@@ -57,6 +57,74 @@ fn faults_of_a_text(rt: HostRuntime) {
 }
 
 #[test]
+fn faults_of_looks(rt: HostRuntime) {
+    let faults = [
+        ("S closed\n", "2 line 2 is missing"),
+        ("S closed closed", "2 line 2 is missing"),
+        ("S closed \n", "2 line 1: unknown word 2"),
+        ("S closed  closed\n", "2 line 1: unknown word 2"),
+        ("S closed closed Closed\n", "2 line 1: unknown word 3"),
+        ("S closed 7\n", "2 line 1: unknown word 2"),
+        ("S closed send\n", "2 line 1: bad number at word 3"),
+        ("S closed send closed\n", "2 line 1: bad number at word 3"),
+        (
+            "S closed drop closed\n",
+            "2 line 1: word 3 follows the last call",
+        ),
+        ("S full\n", "2 line 1: unknown word 1"),
+        ("S inner\n", "2 line 1: unknown word 1"),
+        ("S into\n", "2 line 1: unknown word 1"),
+        ("S\nR closed full try\n", "2 line 3 is missing"),
+        ("S\nR full full \n", "2 line 2: unknown word 3"),
+        ("S\nR closed fullclosed\n", "2 line 2: unknown word 2"),
+        ("S\nR inner\n", "2 line 2: unknown word 1"),
+        (
+            "S\nR full drop full\n",
+            "2 line 2: word 3 follows the last call",
+        ),
+    ];
+    for (input, fault) in faults {
+        assert_eq!(rt; told(&rt, input.as_bytes()).as_str(), fault, "{input:?}");
+    }
+}
+
+#[test]
+fn faults_after_a_send(rt: HostRuntime) {
+    let faults = [
+        ("S send 7 inner inner\n", "2 line 2 is missing"),
+        ("S send 7 x\n", "2 line 1: unknown word 3"),
+        ("S send 7 \n", "2 line 1: unknown word 3"),
+        ("S send 7 7\n", "2 line 1: unknown word 3"),
+        ("S send 7 closed\n", "2 line 1: unknown word 3"),
+        ("S send 7 send 7\n", "2 line 1: unknown word 3"),
+        ("S send 7  into\n", "2 line 1: unknown word 3"),
+        ("S send inner\n", "2 line 1: bad number at word 2"),
+        ("S send 7 inner x\n", "2 line 1: unknown word 4"),
+        ("S send 7 inner \n", "2 line 1: unknown word 4"),
+        ("S send 7 inner closed\n", "2 line 1: unknown word 4"),
+        (
+            "S send 7 into drop\n",
+            "2 line 1: word 4 follows the last call",
+        ),
+        (
+            "S send 7 drop \n",
+            "2 line 1: word 4 follows the last call",
+        ),
+        (
+            "S send 7 inner into inner\n",
+            "2 line 1: word 5 follows the last call",
+        ),
+        (
+            "S closed send 7 inner drop drop\n",
+            "2 line 1: word 6 follows the last call",
+        ),
+    ];
+    for (input, fault) in faults {
+        assert_eq!(rt; told(&rt, input.as_bytes()).as_str(), fault, "{input:?}");
+    }
+}
+
+#[test]
 fn bytes_above_127_are_not_ascii(rt: HostRuntime) {
     assert_eq!(rt;
         told(&rt, b"S\nR\nX\n\x80").as_str(),

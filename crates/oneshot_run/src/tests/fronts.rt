@@ -35,6 +35,62 @@ fn fronts_without_a_schedule(rt: HostRuntime) {
 }
 
 #[test]
+fn fronts_of_looks_and_of_an_errors_script(rt: HostRuntime) {
+    let whole = "S closed send 5 inner into\nR full closed drop\nX";
+    let fronts = [
+        ("S c", "2 line 1: unknown word 1"),
+        ("S close", "2 line 1: unknown word 1"),
+        ("S closed", "2 line 2 is missing"),
+        ("S closed ", "2 line 1: unknown word 2"),
+        ("S closed s", "2 line 1: unknown word 2"),
+        ("S closed send", "2 line 1: bad number at word 3"),
+        ("S closed send ", "2 line 1: bad number at word 3"),
+        ("S closed send 5", "2 line 2 is missing"),
+        ("S closed send 5 ", "2 line 1: unknown word 4"),
+        ("S closed send 5 i", "2 line 1: unknown word 4"),
+        ("S closed send 5 in", "2 line 1: unknown word 4"),
+        ("S closed send 5 inne", "2 line 1: unknown word 4"),
+        ("S closed send 5 inner", "2 line 2 is missing"),
+        ("S closed send 5 inner ", "2 line 1: unknown word 5"),
+        ("S closed send 5 inner in", "2 line 1: unknown word 5"),
+        ("S closed send 5 inner into", "2 line 2 is missing"),
+        ("S closed send 5 inner into\n", "2 line 2 is missing"),
+        (
+            "S closed send 5 inner into\nR ful",
+            "2 line 2: unknown word 1",
+        ),
+        (
+            "S closed send 5 inner into\nR full",
+            "2 line 3 is missing",
+        ),
+        (
+            "S closed send 5 inner into\nR full c",
+            "2 line 2: unknown word 2",
+        ),
+        (
+            "S closed send 5 inner into\nR full closed",
+            "2 line 3 is missing",
+        ),
+        (
+            "S closed send 5 inner into\nR full closed ",
+            "2 line 2: unknown word 3",
+        ),
+        (
+            "S closed send 5 inner into\nR full closed drop\n",
+            "2 line 3 is missing",
+        ),
+        (
+            "S closed send 5 inner into\nR full closed drop\nX",
+            "rest NotSent(5)\nblock here\n",
+        ),
+    ];
+    for (input, fault) in fronts {
+        assert!(rt; whole.starts_with(input));
+        assert_eq!(rt; told(&rt, input.as_bytes()).as_str(), fault, "{input:?}");
+    }
+}
+
+#[test]
 fn fronts_of_the_schedule(rt: HostRuntime) -> Result<(), Fail> {
     let scripts = "S send 7\nR try drop\nX";
     let here = |moves, rest| (moves, rest, "block here");

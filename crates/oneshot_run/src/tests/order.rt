@@ -17,6 +17,13 @@ fn lines_go_in_order_and_words_from_left_to_right(rt: HostRuntime) {
         ("S\nR wait\nX q\n", "2 line 2: unknown word 1"),
         ("S wait drop drop\n", "2 line 1: unknown word 1"),
         ("S send x x\n", "2 line 1: bad number at word 2"),
+        ("S send x into into\n", "2 line 1: bad number at word 2"),
+        ("S closed wait send x\n", "2 line 1: unknown word 2"),
+        ("S send 7 wait into into\n", "2 line 1: unknown word 3"),
+        (
+            "S send 7 into wait\nR wait\n",
+            "2 line 1: word 4 follows the last call",
+        ),
         ("S\nR wait drop drop\n", "2 line 2: unknown word 1"),
         ("S\nR drop wait\n", "2 line 2: word 2 follows the last call"),
         ("S\nR\nX q s\n", "2 line 3: unknown word 1"),

@@ -1,0 +1,20 @@
+-- The words that ask for a receiver's script, behind the line's letter.
+use Rattle.std.specs.Prelude.{ℕ, List, [], ◌∷◌, ◌++◌, map, codes}
+use Rattle.oneshot_replay.specs.declared.ReceiverScript.{ReceiverScript}
+use Rattle.oneshot_replay.specs.declared.ReceiverCall.{ReceiverCall}
+use Rattle.oneshot_replay.specs.declared.ReceiverCall.TheVariants.{TryRecv, HasMessage, IsClosed}
+use Rattle.oneshot_replay.specs.declared.ReceiverLast.{ReceiverLast}
+use Rattle.oneshot_replay.specs.declared.ReceiverLast.TheVariants.{Drop, Stop}
+
+abbrev pub word_of_call : ReceiverCall → List ℕ
+word_of_call TryRecv = codes "try"
+word_of_call HasMessage = codes "full"
+word_of_call IsClosed = codes "closed"
+
+-- a `Stop` is the line's end
+abbrev pub words_of_receiver_last : ReceiverLast → List (List ℕ)
+words_of_receiver_last Drop = codes "drop" ∷ []
+words_of_receiver_last Stop = []
+
+abbrev pub words_of_receiver : ReceiverScript → List (List ℕ)
+words_of_receiver receiver = map word_of_call receiver.calls ++ words_of_receiver_last receiver.last
