@@ -5,8 +5,8 @@ use oneshot_machine::machine::Seen;
 use oneshot_machine::states::Op;
 use std::collections::LinkedList;
 
-/// What lies in a slot.
 // A variant for the empty slot, since an `Option` round an enum has a tag of its own.
+/// What lies in a slot.
 #[derive(Drop)]
 pub enum Slot<T, W> {
     /// Nothing.

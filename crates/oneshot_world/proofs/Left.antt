@@ -1,10 +1,10 @@
 -- What is left of a script is a script, call by call.
-use Rattle.std.proofs.Common.{◌≡◌, ℕ, suc, zero, Bool, true, false, List, [], ◌∷◌, ◌++◌, replicate, Option, Some, None, refl, ◌&&◌, ◌||◌, is_some}
+use Rattle.std.proofs.Common.{◌≡◌, ℕ, suc, zero, Bool, true, false, List, [], ◌∷◌, ◌++◌, replicate, Option, Some, None, refl, ◌||◌, is_some}
 use Rattle.oneshot_machine.specs.declared.machine.receiver.ReceiverPos.{ReceiverPos}
 use Rattle.oneshot_machine.specs.declared.machine.receiver.ReceiverStart.{ReceiverStart}
 use Rattle.oneshot_machine.specs.declared.machine.sender.SenderCall.{SenderCall}
 use Rattle.oneshot_machine.specs.declared.machine.sender.SenderPos.{SenderPos}
-use Rattle.oneshot_world.specs.Calls.{Call, Sender_is_closed, Send, Drop_sender, As_inner, Into_inner, Drop_error, Try_recv, Has_message, Is_closed, Drop_receiver, Stray, rest, is_none_left, sender_last, sender_calls, error_last, error_script, receiver_calls}
+use Rattle.oneshot_world.specs.Calls.{Call, Sender_is_closed, Send, Drop_sender, As_inner, Into_inner, Drop_error, Try_recv, Has_message, Is_closed, Drop_receiver, rest, is_none_left, sender_last, error_last, receiver_calls}
 use Rattle.oneshot_world.specs.Control.{is_script, stays_sender, ends_sender, stays_error, ends_error, stays_receiver, ends_receiver, is_sender_script, is_error_script, sender_has, receiver_has}
 use Rattle.oneshot_world.specs.State.{sender_position, receiver_position, place_left}
 use Rattle.oneshot_world.specs.World.{opening_place}

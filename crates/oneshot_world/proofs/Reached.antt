@@ -1,5 +1,5 @@
 -- Each move from a world that a run reaches has its row, and leads to a world that a run reaches.
-use Rattle.std.proofs.Common.{◌≡◌, ◌≤◌, Bool, true, false, List, [], ◌∷◌, Option, Some, None, refl, sym, ◌∙◌, ap, subst, ◌&&◌, ◌||◌, nat_le, is_some, if◌then◌else◌}
+use Rattle.std.proofs.Common.{◌≡◌, ◌≤◌, Bool, true, false, List, [], ◌∷◌, Option, Some, None, refl, sym, ◌∙◌, ap, subst, ◌&&◌, ◌||◌, nat_le, if◌then◌else◌}
 use Rattle.std.proofs.lemmas.Bool.{leb-true}
 use Rattle.std.specs.List.{list_all}
 use Rattle.std.specs.Option.{option_map, option_and_then, IsSome}
@@ -11,14 +11,12 @@ use Rattle.oneshot_machine.specs.declared.machine.Reply.{Reply}
 use Rattle.oneshot_machine.specs.declared.machine.Reply.TheVariants as Replies
 use Rattle.oneshot_machine.specs.declared.machine.Step.{Step}
 use Rattle.oneshot_machine.specs.declared.machine.receiver.ReceiverPos.{ReceiverPos}
-use Rattle.oneshot_machine.specs.declared.machine.receiver.ReceiverStart.{ReceiverStart}
-use Rattle.oneshot_machine.specs.declared.machine.sender.SenderCall.{SenderCall}
 use Rattle.oneshot_machine.specs.declared.machine.sender.SenderPos.{SenderPos}
-use Rattle.oneshot_world.specs.Calls.{Call, Sender_is_closed, Send, Drop_sender, As_inner, Into_inner, Drop_error, Try_recv, Has_message, Is_closed, Drop_receiver, Stray, Unanswered, first, rest, is_none_left, left_by, error_calls, as_sender_call, as_receiver_call}
-use Rattle.oneshot_world.specs.Control.{Control, control_of, Begin, begins, sender_begins, receiver_begins, sender_under_way, receiver_under_way, control_then, control_turn, control_code, is_same_control, reached, is_reached, IsReached, opening_control, is_script, is_sender_script, is_error_script, stays_sender, ends_sender, stays_error, ends_error, stays_receiver, ends_receiver, sender_has, receiver_has}
+use Rattle.oneshot_world.specs.Calls.{Call, Sender_is_closed, Send, Drop_sender, As_inner, Into_inner, Drop_error, Try_recv, Has_message, Is_closed, Drop_receiver, Unanswered, first, rest, is_none_left, left_by, error_calls, as_sender_call, as_receiver_call}
+use Rattle.oneshot_world.specs.Control.{Control, control_of, Begin, begins, sender_begins, receiver_begins, sender_under_way, receiver_under_way, control_then, control_turn, control_code, is_same_control, reached, is_reached, IsReached, opening_control, is_script, is_sender_script, is_error_script, stays_sender, ends_sender, stays_error, ends_error, stays_receiver, ends_receiver, sender_has}
 use Rattle.oneshot_world.specs.Explore.{all_in}
-use Rattle.oneshot_world.specs.State.{turns, sender_turns_at, receiver_turns_at, sender_position, receiver_position, sender_steps, receiver_steps, sender_stepped, receiver_stepped, made_entry, place_left, reply_of, sender_goes, receiver_goes, is_plain, sender_fits, receiver_fits, seen_by, sender_puts, receiver_puts}
-use Rattle.oneshot_world.specs.World.{World, turn_of, world_then, by_end, reply_in, opening, opening_place}
+use Rattle.oneshot_world.specs.State.{sender_turns_at, receiver_turns_at, sender_position, receiver_position, sender_steps, receiver_steps, sender_stepped, receiver_stepped, made_entry, place_left, reply_of, sender_goes, receiver_goes, is_plain, sender_fits, receiver_fits, seen_by, sender_puts, receiver_puts}
+use Rattle.oneshot_world.specs.World.{World, by_end, reply_in, opening, opening_place}
 use Rattle.oneshot_world.specs.declared.script.ReceiverScript.{ReceiverScript}
 use Rattle.oneshot_world.specs.declared.script.SenderLast.{SenderLast}
 use Rattle.oneshot_world.specs.declared.script.SenderLast.TheVariants as SL
@@ -267,9 +265,9 @@ unfolding leads_on
 sender_row_reaches w position row h at steps =
     let leads = rw steps at (sender_leads w position h at) in
     sender_stays_reached w (sender_step position) row h
-      (sender_has_script w.state.message w.state.sender _ position w.sender.calls at h.sender)
-      (and_left _ (sender_left_by_its_call (reply_of row) (sender_goes (sender_step position) row) (first w.sender.calls)) leads)
-      (and_right (is_reached (control_then Sender (first w.sender.calls) (control_of w) (sender_stepped w.state (sender_step position) row).1)) _ leads)
+    (sender_has_script w.state.message w.state.sender _ position w.sender.calls at h.sender)
+    (and_left _ (sender_left_by_its_call (reply_of row) (sender_goes (sender_step position) row) (first w.sender.calls)) leads)
+    (and_right (is_reached (control_then Sender (first w.sender.calls) (control_of w) (sender_stepped w.state (sender_step position) row).1)) _ leads)
 
 pub receiver_row_reaches : (w : World) (position : ReceiverPos) (row : Outcome ReceiverPos) → IsReached w → receiver_at w ≡ Some position → receiver_steps w.state position ≡ Some (receiver_stepped w.state (receiver_step position) row) → IsReached (receiver_world w (receiver_step position) row)
 unfolding leads_on

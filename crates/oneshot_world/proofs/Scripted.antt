@@ -2,8 +2,7 @@
 use Rattle.std.proofs.Common.{◌≡◌, ℕ, ◌+◌, ◌<◌, List, ◌∷◌, Option, Some, None, true, is_some, refl, length, drop, get_or, add-one, drop-cons}
 use Rattle.oneshot_machine.specs.declared.machine.End.TheVariants.{Receiver}
 use Rattle.oneshot_machine.specs.declared.machine.Reply.{Reply}
-use Rattle.oneshot_machine.specs.declared.machine.receiver.ReceiverStart.TheVariants as RS
-use Rattle.oneshot_world.specs.Calls.{Unanswered, rest, left_by, as_receiver_call, receiver_call, receiver_calls}
+use Rattle.oneshot_world.specs.Calls.{Unanswered, rest, left_by, receiver_call, receiver_calls}
 use Rattle.oneshot_world.specs.declared.script.ReceiverCall.{ReceiverCall}
 use Rattle.oneshot_world.specs.declared.script.ReceiverCall.TheVariants as RC
 use Rattle.oneshot_world.specs.declared.script.ReceiverLast.{ReceiverLast}

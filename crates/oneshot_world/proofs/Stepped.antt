@@ -1,12 +1,11 @@
 -- A step by a row, put together from its parts.
-use Rattle.std.proofs.Common.{◌≡◌, Bool, true, false, Option, Some, None, refl, sym, ap, is_some, if◌then◌else◌}
+use Rattle.std.proofs.Common.{◌≡◌, Bool, true, false, Option, Some, None, refl, if◌then◌else◌}
 use Rattle.std.specs.Option.{option_map, IsSome}
 use Rattle.oneshot_machine.specs.Receiver.{receiver_step, receiver_row}
-use Rattle.oneshot_machine.specs.Rows.{Outcome, outcome}
+use Rattle.oneshot_machine.specs.Rows.{outcome}
 use Rattle.oneshot_machine.specs.Sender.{sender_step, sender_row}
 use Rattle.oneshot_machine.specs.declared.machine.End.TheVariants.{Sender, Receiver}
 use Rattle.oneshot_machine.specs.declared.machine.Reply.{Reply}
-use Rattle.oneshot_machine.specs.declared.machine.Step.{Step}
 use Rattle.oneshot_machine.specs.declared.machine.receiver.ReceiverPos.{ReceiverPos}
 use Rattle.oneshot_machine.specs.declared.machine.sender.SenderPos.{SenderPos}
 use Rattle.oneshot_world.specs.State.{made, moved, seen_by, sender_fits, receiver_fits, sender_puts, receiver_puts, sender_goes, receiver_goes, sender_stepped, receiver_stepped, sender_steps, receiver_steps}
@@ -23,7 +22,6 @@ sender_made_of s position (next, None) there at =
     made_where_it_fits (sender_fits s.message (sender_step position)) (sender_stepped s (sender_step position)) (sender_row position (seen_by s.word (sender_step position))) (outcome (next, None)) there at
 sender_made_of s position (next, Some reply) there at =
     made_where_it_fits (sender_fits s.message (sender_step position)) (sender_stepped s (sender_step position)) (sender_row position (seen_by s.word (sender_step position))) (outcome (next, Some reply)) there at
-
 
 -- the receiver's
 pub receiver_made_of : (s : State) (position : ReceiverPos) (n : ReceiverPos × Option Reply) → IsSome (receiver_steps s position) → receiver_row position (seen_by s.word (receiver_step position)) ≡ Some (outcome n) → receiver_steps s position ≡ Some (made Receiver s (receiver_step position) n.1 (receiver_puts (receiver_step position)), record (moved s (receiver_step position) (receiver_puts (receiver_step position))) { receiver = receiver_goes (outcome n) })
