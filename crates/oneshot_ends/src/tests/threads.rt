@@ -7,6 +7,7 @@ use std::test::Fail;
 use std::thread::join;
 
 const ROUNDS: u64 = 1_000;
+
 const TRIES: u64 = 1_000_000_000;
 
 // Asks until the message is there, or until the sender is gone without one.
