@@ -8,7 +8,7 @@ module _ {A : Type 0} (x : A) where
   replicate-same zero (suc m) xs ys other_x other_y is = absurd (other_x (ap (λ zs. slice_get zs 0) is))
   replicate-same (suc n) zero xs ys other_x other_y is = absurd (other_y (ap (λ zs. slice_get zs 0) (sym is)))
   replicate-same (suc n) (suc m) xs ys other_x other_y is =
-    let rest = replicate-same n m xs ys other_x other_y cc in (ap suc rest.0, rest.1)
+      let rest = replicate-same n m xs ys other_x other_y cc in (ap suc rest.0, rest.1)
 
 module _ {A B : Type 0} (f : A → B) (same : (a b : A) → f a ≡ f b → a ≡ b) where
   -- the same of a run of words that each tell one value
@@ -17,6 +17,6 @@ module _ {A B : Type 0} (f : A → B) (same : (a b : A) → f a ≡ f b → a �
   map-same [] (v ∷ vs) xs ys other_x other_y is = absurd (other_x v (ap (λ zs. slice_get zs 0) is))
   map-same (u ∷ us) [] xs ys other_x other_y is = absurd (other_y u (ap (λ zs. slice_get zs 0) (sym is)))
   map-same (u ∷ us) (v ∷ vs) xs ys other_x other_y is =
-    let rest = map-same us vs xs ys other_x other_y cc in
-    let first : f u ≡ f v = cc in
-    (cc (same u v first, rest.0), rest.1)
+      let rest = map-same us vs xs ys other_x other_y cc in
+      let first : f u ≡ f v = cc in
+      (cc (same u v first, rest.0), rest.1)

@@ -13,10 +13,7 @@ use oneshot_replay::{ReceiverCall, ReceiverLast, ReceiverScript};
 use std::alloc::{AllocError, Global};
 
 /// The script that the receiver's line asks for.
-pub(crate) fn parse_receiver(
-    alloc: Global,
-    mut words: Words<'_>,
-) -> Result<ReceiverScript, Fault>
+pub(crate) fn parse_receiver(alloc: Global, mut words: Words<'_>) -> Result<ReceiverScript, Fault>
     ensures written { IfOk result (λ receiver. words_left words.entry ≡ words_of_receiver receiver) }
     ensures each { (receiver : ReceiverScript) → words_left words.entry ≡ words_of_receiver receiver →
         MatchResult result (λ read. read ≡ receiver) (λ fault. fault ≡ Fault.OutOfMemory alloc_error) }

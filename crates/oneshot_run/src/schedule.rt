@@ -1,8 +1,9 @@
 //! The schedule: a letter for each move.
 
-ghost use Rattle.std.specs.Prelude.{◌≡◌, ◌↔◌, IfOk, Some, map};
+ghost use Rattle.std.specs.Prelude.{◌≡◌, ◌↔◌, ◌<◌, List, Some, IfOk, MatchResult, length, map, vec_len, alloc_error};
 ghost use Rattle.oneshot_replay.specs.declared.Move.{Move};
-ghost use Rattle.oneshot_run.specs.Schedule.{letter_of};
+ghost use Rattle.oneshot_run.specs.Schedule.{letter_of, words_of_schedule};
+ghost use Rattle.oneshot_run.specs.Words.{words_left};
 
 use crate::fault::Fault;
 use crate::words::{Word, Words};
@@ -10,18 +11,28 @@ use oneshot_replay::Move;
 use std::alloc::Global;
 
 /// The moves that the schedule's line asks for.
-pub(crate) fn parse_schedule(alloc: Global, mut words: Words<'_>) -> Result<Vec<Move>, Fault> {
-    let moves = match words.next() {
-        None => Vec::new(alloc),
-        Some(letters) => parse_moves(alloc, letters)?,
+pub(crate) fn parse_schedule(alloc: Global, mut words: Words<'_>) -> Result<Vec<Move>, Fault>
+    ensures written { IfOk result (λ moves.
+        map (map Some) (words_left words.entry) ≡ words_of_schedule moves.items) }
+    ensures each { (moves : List Move) →
+        map (map Some) (words_left words.entry) ≡ words_of_schedule moves →
+        MatchResult result (λ read. read.items ≡ moves) (λ fault. fault ≡ Fault.OutOfMemory alloc_error) }
+{
+    let Some(letters) = words.next() else {
+        return Ok(Vec::new(alloc));
     };
+    let moves = parse_moves(alloc, letters)?;
     words.end()?;
     Ok(moves)
 }
 
 /// The moves that the letters ask for, in their order.
 fn parse_moves(alloc: Global, letters: Word<'_>) -> Result<Vec<Move>, Fault>
-    ensures { IfOk result (λ moves. map letter_of moves.items ≡ map Some letters.entry.text.now) }
+    ensures some { IfOk result (λ moves. 0 < vec_len moves) }
+    ensures written { IfOk result (λ moves. map letter_of moves.items ≡ map Some letters.entry.text.now) }
+    ensures each { (moves : List Move) → 0 < length moves →
+        map letter_of moves ≡ map Some letters.entry.text.now →
+        MatchResult result (λ read. read.items ≡ moves) (λ fault. fault ≡ Fault.OutOfMemory alloc_error) }
 {
     if letters.text.is_empty() {
         return Err(letters.unknown());

@@ -65,7 +65,15 @@ impl fmt::Display for MadeText {
         }
         if let Some(reply) = made.reply {
             let end = made.side;
-            write!(f, " = {}", ReplyText { end, reply, message })?;
+            write!(
+                f,
+                " = {}",
+                ReplyText {
+                    end,
+                    reply,
+                    message
+                }
+            )?;
         }
         Ok(())
     }

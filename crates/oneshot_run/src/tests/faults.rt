@@ -106,10 +106,7 @@ fn faults_after_a_send(rt: HostRuntime) {
             "S send 7 into drop\n",
             "2 line 1: word 4 follows the last call",
         ),
-        (
-            "S send 7 drop \n",
-            "2 line 1: word 4 follows the last call",
-        ),
+        ("S send 7 drop \n", "2 line 1: word 4 follows the last call"),
         (
             "S send 7 inner into inner\n",
             "2 line 1: word 5 follows the last call",

@@ -59,10 +59,7 @@ fn fronts_of_looks_and_of_an_errors_script(rt: HostRuntime) {
             "S closed send 5 inner into\nR ful",
             "2 line 2: unknown word 1",
         ),
-        (
-            "S closed send 5 inner into\nR full",
-            "2 line 3 is missing",
-        ),
+        ("S closed send 5 inner into\nR full", "2 line 3 is missing"),
         (
             "S closed send 5 inner into\nR full c",
             "2 line 2: unknown word 2",
