@@ -1,5 +1,5 @@
 -- A word has the letters of no two lists of moves.
-use Rattle.std.proofs.Common.{◌≡◌, ℕ, zero, suc, ◌<◌, ◌==◌, true, false, List, [], ◌∷◌, Option, Some, None, if◌then◌else◌, length, get_or, map, refl, sym, ap, ◌∙◌, subst, arith}
+use Rattle.std.proofs.Common.{◌≡◌, ℕ, zero, suc, ◌<◌, ◌==◌, true, false, List, [], ◌∷◌, Option, Some, None, if◌then◌else◌, length, get_or, map, refl, sym, ◌∙◌, arith}
 use Rattle.oneshot_replay.specs.declared.Move.{Move}
 use Rattle.oneshot_replay.specs.declared.Move.TheVariants.{Sender, Receiver}
 use Rattle.oneshot_run.specs.Schedule.{letter_of, words_of_schedule}

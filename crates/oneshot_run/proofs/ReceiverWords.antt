@@ -1,5 +1,5 @@
 -- The words of a receiver's script tell which calls they begin with, and what the last one is.
-use Rattle.std.proofs.Common.{◌≡◌, ◌≢◌, ℕ, Bool, List, ◌++◌, Option, Some, None, Result, Ok, if◌then◌else◌, map, slice_get, codes, refl, sym, ap, ◌∙◌, arith}
+use Rattle.std.proofs.Common.{◌≡◌, ◌≢◌, ℕ, List, ◌++◌, Option, Some, None, Result, Ok, if◌then◌else◌, map, slice_get, codes, refl, sym, ap, ◌∙◌, arith}
 use Rattle.std.specs.Str.{bytes_eq}
 use Rattle.std.proofs.lemmas.Grind.{common_steps}
 use Rattle.oneshot_replay.specs.declared.ReceiverCall.{ReceiverCall}

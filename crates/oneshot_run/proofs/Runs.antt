@@ -1,5 +1,5 @@
 -- A run of one word, and what comes behind it.
-use Rattle.std.proofs.Common.{◌≡◌, ◌≢◌, ℕ, zero, suc, ◌+◌, List, [], ◌∷◌, ◌++◌, Some, slice_get, map, replicate, refl, ap, sym}
+use Rattle.std.proofs.Common.{◌≡◌, ◌≢◌, ℕ, zero, suc, List, [], ◌∷◌, ◌++◌, Some, slice_get, map, replicate, refl, ap, sym}
 
 module _ {A : Type 0} (x : A) where
   -- a run that is followed by another word, or by none, has one length and one rest

@@ -1,6 +1,9 @@
 pub mod Cut
 pub mod Fault
+pub mod Line
+pub mod Lines
 pub mod Receiver
+pub mod Request
 pub mod Schedule
 pub mod Sender
 pub mod Words

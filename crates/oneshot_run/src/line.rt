@@ -1,5 +1,8 @@
 //! The three lines of the input, by name.
 
+ghost use Rattle.std.specs.Prelude.{◌≡◌};
+ghost use Rattle.oneshot_run.specs.Line.{letter_of_line};
+
 use std::fmt;
 
 /// A line of the input, which shows as `line` and its number.
@@ -15,7 +18,9 @@ pub enum Line {
 
 impl Line {
     /// The letter that is the line's first word.
-    pub fn letter(self) -> &'static str {
+    pub fn letter(self) -> &'static str
+        ensures { result.now ≡ letter_of_line self }
+    {
         match self {
             Line::Sender => "S",
             Line::Receiver => "R",

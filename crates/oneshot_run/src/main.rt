@@ -4,6 +4,7 @@
 mod fault;
 mod input;
 mod line;
+mod lines;
 mod number;
 mod receiver;
 mod request;

@@ -1,4 +1,4 @@
-//! The lines of a text and the words of a line.
+//! The words of a line.
 
 ghost use Rattle.std.specs.Prelude.{◌≡◌, ◌≢◌, ◌↔◌, ℕ, ◌+◌, ◌^◌, ◌<◌, [], ◌∷◌, ◌++◌, Some, Ok, IfOk, IsTrue, IsOk, length, slice_get, replicate, decimal};
 ghost use Rattle.std.specs.Option.{option_copied};
@@ -8,42 +8,6 @@ ghost use Rattle.oneshot_run.specs.Cut.{words_of, words_in};
 use crate::fault::Fault;
 use crate::line::Line;
 use crate::number::parse_number;
-
-/// What is left of a text whose lines are taken one by one.
-#[derive(Drop)]
-pub(crate) struct Lines<'a> {
-    rest: &'a str,
-}
-
-impl<'a> Lines<'a> {
-    /// All of `text`.
-    pub(crate) fn new(text: &'a str) -> Lines<'a> {
-        Lines { rest: text }
-    }
-
-    /// Takes the next line, which has to be `line`: its words after the letter.
-    pub(crate) fn take(&mut self, line: Line) -> Result<Words<'a>, Fault> {
-        if self.rest.is_empty() {
-            return Err(Fault::MissingLine(line));
-        }
-        let (text, rest) = self.rest.split_once('\n').unwrap_or((self.rest, ""));
-        self.rest = rest;
-        let mut words = Words::new(line, text);
-        match words.next() {
-            Some(first) if first.text == line.letter() => Ok(words),
-            _ => Err(Fault::MustBegin(line)),
-        }
-    }
-
-    /// Ends the text, of which nothing may be left.
-    pub(crate) fn end(self) -> Result<(), Fault> {
-        if self.rest.is_empty() {
-            Ok(())
-        } else {
-            Err(Fault::InputAfterLines)
-        }
-    }
-}
 
 /// A word of a line, with its number; the line's first word has the number 0.
 #[derive(Clone, Copy)]
@@ -82,7 +46,8 @@ pub(crate) struct Words<'a> {
 impl<'a> Words<'a> {
     ghost use Rattle.oneshot_run.specs.Words.{words_left};
 
-    fn new(line: Line, text: &'a str) -> Words<'a>
+    /// All words of the line `text`.
+    pub(crate) fn new(line: Line, text: &'a str) -> Words<'a>
         ensures { words_left result ≡ words_of text.now }
     {
         Words {
@@ -96,12 +61,12 @@ impl<'a> Words<'a> {
     pub(crate) fn peek(&self) -> Option<&'a str>
         ensures { option_copied result ≡ slice_get (words_left self.now) 0 }
     {
-        let (first, _) = cut(self.rest?);
+        let (first, _) = cut_word(self.rest?);
         Some(first)
     }
 
     /// Whether a next word is there, and is `text`.
-    fn next_is(&self, text: &str) -> bool
+    pub(crate) fn next_is(&self, text: &str) -> bool
         ensures { IsTrue result ↔ (slice_get (words_left self.now) 0 ≡ Some text.now) }
     {
         self.peek() == Some(text)
@@ -151,7 +116,7 @@ impl<'a> Iterator for Words<'a> {
     ghost next_gives = { YieldsFirstBy (λ word. word.text.now) words_left };
 
     fn next(&mut self) -> Option<Word<'a>> {
-        let (text, rest) = cut(self.rest?);
+        let (text, rest) = cut_word(self.rest?);
         let number = self.taken;
         self.taken += 1;
         self.rest = rest;
@@ -164,7 +129,7 @@ impl<'a> Iterator for Words<'a> {
 }
 
 /// The first word of a text, and what follows the space behind it.
-fn cut(text: &str) -> (&str, Option<&str>)
+fn cut_word(text: &str) -> (&str, Option<&str>)
     ensures { words_of text.now ≡ result.0.now ∷ words_in result.1 }
 {
     match text.split_once(' ') {

@@ -2,7 +2,7 @@
 use Rattle.std.proofs.Common.{lit<}
 use Rattle.std.proofs.lemmas.Str.Pattern.{split_parts}
 use Rattle.oneshot_run.proofs.Cut.{slice_split-whole, slice_split-first}
-use Rattle.oneshot_run.proofs.words.cut.Goals as goal
+use Rattle.oneshot_run.proofs.words.cut_word.Goals as goal
 
 pub returns-in-Some : goal.returns-in-Some
 returns-in-Some c =
