@@ -21,6 +21,7 @@ fn a_message_crosses_once(rt: HostRuntime) -> Result<(), Fail> {
     let (sender, mut receiver) = channel::<u8, ()>((), rt.alloc())?;
     assert_finds(&rt, &receiver, false, false);
     assert_eq!(rt; receiver.try_recv(), Err(TryRecvError::Empty));
+    assert_eq!(rt; receiver.try_recv(), Err(TryRecvError::Empty));
     assert!(rt; sender.send(19).is_ok());
     assert_finds(&rt, &receiver, true, false);
     assert_eq!(rt; receiver.try_recv(), Ok(19));
