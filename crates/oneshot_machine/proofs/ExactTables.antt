@@ -1,16 +1,20 @@
 -- What the definitions allow is what the tables make: computed for each phase, and carried along each list.
 use Rattle.std.proofs.Common.{◌≡◌, ℕ, List, [], ◌∷◌, ◌++◌, refl, sym, subst, arith, lit<, All, Contains}
+use Rattle.std.proofs.Common.{Bool, true, false, ap, ◌∙◌, ◌&&◌}
+use Rattle.std.specs.Prelude.{◌==◌, if◌then◌else◌, is_some}
+use Rattle.std.specs.List.{list_all}
+use Rattle.std.proofs.lemmas.Bool.{eq-eqb}
 use Rattle.std.proofs.lemmas.List.Elements.{All-cons}
 use Rattle.oneshot_machine.specs.declared.machine.receiver.ReceiverPos.{ReceiverPos}
-use Rattle.oneshot_machine.specs.declared.machine.receiver.ReceiverPos.TheVariants.{TryLoad, Close, DropSwap}
+use Rattle.oneshot_machine.specs.declared.machine.receiver.ReceiverPos.TheVariants.{TryLoad, Close, CloseOnly, StartLoad, StartSwap, ParkLoad, RecvLoad, RecvSwap, RecvParkLoad, DropSwap}
 use Rattle.oneshot_machine.specs.declared.machine.sender.SenderPos.{SenderPos}
-use Rattle.oneshot_machine.specs.declared.machine.sender.SenderPos.TheVariants.{SendAdd, DropXor}
+use Rattle.oneshot_machine.specs.declared.machine.sender.SenderPos.TheVariants.{SendAdd, SendFinal, DropXor, DropFinal}
 use Rattle.oneshot_machine.specs.declared.states.Op.{Op}
-use Rattle.oneshot_machine.specs.declared.states.Op.TheVariants.{Load, Store, Swap, Add, Xor}
-use Rattle.oneshot_machine.specs.Words.{Noted, saw}
-use Rattle.oneshot_machine.specs.Phases.{By, sending, dropping, SenderAt, fresh, finished, late, sender_next, sender_at, ReceiverAt, first, here, looked, Got, full, Closing, found_closed, closed_itself, over, gone, ended, receiver_next, receiver_at}
-use Rattle.oneshot_machine.specs.Slots.{Held, away, vacant, held, SenderMay, may_add, may_flip, SenderFinds, add_empty, add_gone, flip_empty, flip_gone, ReceiverMay, may_load_first, may_load, may_load_closed, may_close, may_drop_first, may_drop, may_drop_closed, ReceiverFinds, first_empty, first_message, first_closed, load_empty, load_message, load_closed, load_over, close, drop_first_empty, drop_first_message, drop_first_closed, drop_empty, drop_message, drop_closed, drop_over}
-use Rattle.oneshot_machine.specs.Standing.{Table, moved, standing_from, standing, made_at, sender_table, receiver_table}
+use Rattle.oneshot_machine.specs.declared.states.Op.TheVariants.{Load, Store, Swap, Exchange, Add, Xor}
+use Rattle.oneshot_machine.specs.Words.{Noted, saw, op_of}
+use Rattle.oneshot_machine.specs.Phases.{By, sending, dropping, SenderAt, fresh, owes, finished, late, sender_next, sender_at, ReceiverAt, first, here, looked, Waiting, blocked, waits, Got, at_once, waited, full, unclosed, Closing, found_closed, closed_itself, over, gone, ended, receiver_next, receiver_at}
+use Rattle.oneshot_machine.specs.Slots.{Held, away, vacant, held, SenderMay, may_add, may_flip, may_finish_send, may_finish_drop, SenderFinds, add_empty, add_waker, add_gone, flip_empty, flip_waker, flip_gone, finish_send, finish_drop, ReceiverMay, may_load_first, may_load, may_load_closed, may_store, may_wait, may_close, may_close_only, may_drop_first, may_drop, may_drop_closed, ReceiverFinds, first_empty, first_message, first_closed, load_empty, load_message, load_closed, load_over, store_empty, store_message, store_closed, wait_longer, wait_claimed, wait_message, wait_closed, close, close_only, drop_first_empty, drop_first_message, drop_first_closed, drop_empty, drop_message, drop_closed, drop_over}
+use Rattle.oneshot_machine.specs.Standing.{Table, is_same_op, is_op, moved, standing_from, standing, made_at, operations, sender_table, receiver_table}
 use Rattle.oneshot_machine.specs.Exact.{IsFound, none_yet, one_more, IsAllowed, Accepts, SenderIsExact, ReceiverIsExact}
 use Rattle.oneshot_machine.proofs.GrownLists.{sender_from-snoc, receiver_from-snoc}
 
@@ -21,27 +25,70 @@ standing_from-snoc t ps (y ∷ xs) x = standing_from-snoc t (moved t ps y) xs x
 standing-snoc : {P : Type 0} (t : Table P) (xs : List Noted) (x : Noted) → standing t (xs ++ x ∷ []) ≡ moved t (standing t xs) x
 standing-snoc t xs x = standing_from-snoc t (standing t []) xs x
 
--- a fact for each of a list of none, one or two
-none_of : {X : Type 0} (P : X → Type 0) → All P []
-none_of P k d below = absurd (omega arith)
+-- a fact for each of a list
+data Each {X : Type 0} (P : X → Type 0) : List X → Type 0 where
+  no_other : Each P []
+  one_of : {x : X} {xs : List X} → P x → Each P xs → Each P (x ∷ xs)
 
-one : {X : Type 0} (P : X → Type 0) {x : X} → P x → All P (x ∷ [])
-one P {x} a = All-cons P x [] a (none_of P)
+all_of : {X : Type 0} {P : X → Type 0} (xs : List X) → Each P xs → All P xs
+all_of _ no_other = λ k d below. absurd (omega arith)
+all_of {P} _ (one_of {x} {xs} a rest) = All-cons P x xs a (all_of xs rest)
 
-both : {X : Type 0} (P : X → Type 0) {x y : X} → P x → P y → All P (x ∷ y ∷ [])
-both P {x} {y} a b = All-cons P x (y ∷ []) a (one P b)
+-- what a conjunction of tests tells of its parts
+and_left : (a b : Bool) → (a && b) ≡ true → a ≡ true
+and_left true b h = refl
+and_left false b h = h
+
+and_right : (a b : Bool) → (a && b) ≡ true → b ≡ true
+and_right true b h = h
+and_right false b h = cc
+
+-- where a list of positions is ready for an operation, by computing, each has its row
+same_number : (n : ℕ) → (n == n) ≡ true
+same_number n = eq-eqb n n refl
+
+same_op : (op : Op) → is_same_op op op ≡ true
+same_op Load = refl
+same_op (Store new) = same_number new
+same_op (Swap new) = same_number new
+same_op (Exchange expected new) = rw (same_number expected, same_number new) refl
+same_op Add = refl
+same_op Xor = refl
+
+module _ {P : Type 0} (t : Table P) (op : Op) (word : ℕ) where
+  abbrev is_ready : P → Bool
+  is_ready p = if is_op op (op_of (t.step p)) then is_some (t.row p (saw op word)) else true
+
+  accepts_there : (p : P) → is_ready p ≡ true → Accepts t op word p
+  accepts_there p ready step = sym (ap (λ b. if b then is_some (t.row p (saw op word)) else true) (ap (λ s. is_op op (op_of s)) step ∙ same_op op)) ∙ ready
+
+  accept : (ps : List P) → list_all is_ready ps ≡ true → All (Accepts t op word) ps
+  accept [] ready = λ k d below. absurd (omega arith)
+  accept (p ∷ ps) ready = All-cons (Accepts t op word) p ps (accepts_there p (and_left (is_ready p) _ ready)) (accept ps (and_right (is_ready p) _ ready))
 
 -- where a sender stands, by how far it is
 data SenderStands : SenderAt → List SenderPos → Type 0 where
   stands_fresh : SenderStands fresh (SendAdd ∷ DropXor ∷ [])
+  owes_send : SenderStands (owes sending) (SendFinal ∷ [])
+  owes_drop : SenderStands (owes dropping) (DropFinal ∷ [])
   stands_finished : (by : By) → SenderStands (finished by) []
   stands_late : (by : By) (w : ℕ) → SenderStands (late by w) []
 
+-- where a receiver stands between its calls
+abbrev between : List ReceiverPos
+between = TryLoad ∷ StartLoad ∷ RecvLoad ∷ DropSwap ∷ []
+
+-- and where it may after a load that found 3, which may also be the first of a call that blocks
+abbrev after_a_look : List ReceiverPos
+after_a_look = TryLoad ∷ StartLoad ∷ StartSwap ∷ RecvLoad ∷ RecvSwap ∷ DropSwap ∷ []
+
 data ReceiverStands : ReceiverAt → List ReceiverPos → Type 0 where
-  stands_first : ReceiverStands first (TryLoad ∷ DropSwap ∷ [])
-  stands_looked : ReceiverStands (here looked) (TryLoad ∷ DropSwap ∷ [])
-  stands_full : (g : Got) → ReceiverStands (full g 4) (Close ∷ [])
-  stands_over : (c : Closing) → ReceiverStands (over c) (TryLoad ∷ DropSwap ∷ [])
+  stands_first : ReceiverStands first between
+  stands_looked : ReceiverStands (here looked) after_a_look
+  stands_waiting : (w : Waiting) → ReceiverStands (waits w) (ParkLoad ∷ RecvParkLoad ∷ [])
+  stands_full : (g : Got) (left : ℕ) → ReceiverStands (full g left) (Close ∷ [])
+  stands_unclosed : (left : ℕ) → ReceiverStands (unclosed left) (CloseOnly ∷ [])
+  stands_over : (c : Closing) → ReceiverStands (over c) between
   stands_gone : ReceiverStands gone []
   stands_ended : ReceiverStands ended []
 
@@ -49,19 +96,31 @@ module _ {T W : Type 0} where
   -- one operation more
   sender_moves : {p : SenderAt} {ps : List SenderPos} {op : Op} {m m' : Held T} {w w' : Held W} (word : ℕ) → SenderFinds p op word m w m' w' → SenderStands p ps → SenderStands (sender_next p op (saw op word)) (moved sender_table ps (op, saw op word))
   sender_moves _ (add_empty x) stands_fresh = stands_finished sending
+  sender_moves _ (add_waker x k) stands_fresh = owes_send
   sender_moves _ (add_gone x) stands_fresh = stands_late sending 3
   sender_moves _ flip_empty stands_fresh = stands_finished dropping
+  sender_moves _ (flip_waker k) stands_fresh = owes_drop
   sender_moves _ flip_gone stands_fresh = stands_late dropping 3
+  sender_moves _ (finish_send x) owes_send = stands_finished sending
+  sender_moves _ finish_drop owes_drop = stands_finished dropping
 
   receiver_moves : {q : ReceiverAt} {ps : List ReceiverPos} {op : Op} {m m' : Held T} {w w' : Held W} (word : ℕ) → ReceiverFinds q op word m w m' w' → ReceiverStands q ps → ReceiverStands (receiver_next q op (saw op word)) (moved receiver_table ps (op, saw op word))
   receiver_moves _ first_empty stands_first = stands_looked
-  receiver_moves _ (first_message x) stands_first = stands_full _
+  receiver_moves _ (first_message x) stands_first = stands_full at_once 4
   receiver_moves _ first_closed stands_first = stands_over found_closed
   receiver_moves _ load_empty stands_looked = stands_looked
-  receiver_moves _ (load_message x) stands_looked = stands_full _
+  receiver_moves _ (load_message x) stands_looked = stands_full at_once 4
   receiver_moves _ load_closed stands_looked = stands_over found_closed
   receiver_moves _ (load_over c) (stands_over _) = stands_over c
-  receiver_moves _ (close g x) (stands_full _) = stands_over closed_itself
+  receiver_moves _ (store_empty k) stands_looked = stands_waiting blocked
+  receiver_moves _ (store_message x k) stands_looked = stands_full waited 0
+  receiver_moves _ (store_closed k) stands_looked = stands_unclosed 0
+  receiver_moves _ (wait_longer w) (stands_waiting _) = stands_waiting w
+  receiver_moves _ (wait_claimed w) (stands_waiting _) = stands_waiting w
+  receiver_moves _ (wait_message w x) (stands_waiting _) = stands_full waited 4
+  receiver_moves _ (wait_closed w) (stands_waiting _) = stands_over found_closed
+  receiver_moves _ (close g left x) (stands_full _ _) = stands_over closed_itself
+  receiver_moves _ (close_only left) (stands_unclosed _) = stands_over closed_itself
   receiver_moves _ drop_first_empty stands_first = stands_gone
   receiver_moves _ (drop_first_message x) stands_first = stands_ended
   receiver_moves _ drop_first_closed stands_first = stands_ended
@@ -82,85 +141,119 @@ module _ {T W : Type 0} where
       subst (λ (z : ReceiverAt × List ReceiverPos). ReceiverStands z.0 z.1) (λ i. (sym (receiver_from-snoc first xs (op, saw op word)) i, sym (standing-snoc receiver_table xs (op, saw op word)) i)) (receiver_moves word found (receiver_stands before))
 
   -- the operations made there are allowed
-  sender_less : T → {p : SenderAt} {ps : List SenderPos} → SenderStands p ps → All (IsAllowed (SenderMay {T = T} {W = W}) p) (made_at sender_table ps)
-  sender_less x stands_fresh = both (IsAllowed SenderMay fresh) (held x, away, may_add x) (vacant, away, may_flip)
-  sender_less x (stands_finished by) = none_of (IsAllowed SenderMay (finished by))
-  sender_less x (stands_late by w) = none_of (IsAllowed SenderMay (late by w))
+  sender_less : T → {p : SenderAt} {ps : List SenderPos} → SenderStands p ps → Each (IsAllowed (SenderMay {T = T} {W = W}) p) (made_at sender_table ps)
+  sender_less x stands_fresh = one_of (held x, away, may_add x) (one_of (vacant, away, may_flip) no_other)
+  sender_less x owes_send = one_of (held x, vacant, may_finish_send x) no_other
+  sender_less x owes_drop = one_of (vacant, vacant, may_finish_drop) no_other
+  sender_less x (stands_finished by) = no_other
+  sender_less x (stands_late by w) = no_other
 
-  receiver_less : T → {q : ReceiverAt} {ps : List ReceiverPos} → ReceiverStands q ps → All (IsAllowed (ReceiverMay {T = T} {W = W}) q) (made_at receiver_table ps)
-  receiver_less x stands_first = both (IsAllowed ReceiverMay first) (away, away, may_load_first) (away, away, may_drop_first)
-  receiver_less x stands_looked = both (IsAllowed ReceiverMay (here looked)) (away, vacant, may_load) (away, vacant, may_drop)
-  receiver_less x (stands_full g) = one (IsAllowed ReceiverMay (full g 4)) (held x, vacant, may_close g x)
-  receiver_less x (stands_over c) = both (IsAllowed ReceiverMay (over c)) (vacant, vacant, may_load_closed c) (vacant, vacant, may_drop_closed c)
-  receiver_less x stands_gone = none_of (IsAllowed ReceiverMay gone)
-  receiver_less x stands_ended = none_of (IsAllowed ReceiverMay ended)
+  -- where there is a waker too, since one that is about to wait swaps with its own in the slot
+  receiver_less : T → W → {q : ReceiverAt} {ps : List ReceiverPos} → ReceiverStands q ps → Each (IsAllowed (ReceiverMay {T = T} {W = W}) q) (made_at receiver_table ps)
+  receiver_less x k stands_first =
+      let load : IsAllowed (ReceiverMay {T = T} {W = W}) first Load = (away, away, may_load_first) in
+      one_of load (one_of load (one_of load (one_of (away, away, may_drop_first) no_other)))
+  receiver_less x k stands_looked =
+      let load : IsAllowed (ReceiverMay {T = T} {W = W}) (here looked) Load = (away, vacant, may_load) in
+      let store : IsAllowed (ReceiverMay {T = T} {W = W}) (here looked) (Swap 0) = (away, held k, may_store k) in
+      one_of load (one_of load (one_of store (one_of load (one_of store (one_of (away, vacant, may_drop) no_other)))))
+  receiver_less x k (stands_waiting w) = one_of (away, away, may_wait w) (one_of (away, away, may_wait w) no_other)
+  receiver_less x k (stands_full g left) = one_of (held x, vacant, may_close g left x) no_other
+  receiver_less x k (stands_unclosed left) = one_of (vacant, vacant, may_close_only left) no_other
+  receiver_less x k (stands_over c) =
+      let load : IsAllowed (ReceiverMay {T = T} {W = W}) (over c) Load = (vacant, vacant, may_load_closed c) in
+      one_of load (one_of load (one_of load (one_of (vacant, vacant, may_drop_closed c) no_other)))
+  receiver_less x k stands_gone = no_other
+  receiver_less x k stands_ended = no_other
 
   -- what is allowed is made there
   sender_more : {p : SenderAt} {op : Op} {m : Held T} {w : Held W} {ps : List SenderPos} → SenderMay p op m w → SenderStands p ps → Contains (made_at sender_table ps) op
   sender_more (may_add x) stands_fresh = (0, lit< tt, refl)
   sender_more may_flip stands_fresh = (1, lit< tt, refl)
+  sender_more (may_finish_send x) owes_send = (0, lit< tt, refl)
+  sender_more may_finish_drop owes_drop = (0, lit< tt, refl)
 
   receiver_more : {q : ReceiverAt} {op : Op} {m : Held T} {w : Held W} {ps : List ReceiverPos} → ReceiverMay q op m w → ReceiverStands q ps → Contains (made_at receiver_table ps) op
   receiver_more may_load_first stands_first = (0, lit< tt, refl)
   receiver_more may_load stands_looked = (0, lit< tt, refl)
   receiver_more (may_load_closed c) (stands_over _) = (0, lit< tt, refl)
-  receiver_more (may_close g x) (stands_full _) = (0, lit< tt, refl)
-  receiver_more may_drop_first stands_first = (1, lit< tt, refl)
-  receiver_more may_drop stands_looked = (1, lit< tt, refl)
-  receiver_more (may_drop_closed c) (stands_over _) = (1, lit< tt, refl)
+  receiver_more (may_store k) stands_looked = (2, lit< tt, refl)
+  receiver_more (may_wait w) (stands_waiting _) = (0, lit< tt, refl)
+  receiver_more (may_close g left x) (stands_full _ _) = (0, lit< tt, refl)
+  receiver_more (may_close_only left) (stands_unclosed _) = (0, lit< tt, refl)
+  receiver_more may_drop_first stands_first = (3, lit< tt, refl)
+  receiver_more may_drop stands_looked = (5, lit< tt, refl)
+  receiver_more (may_drop_closed c) (stands_over _) = (3, lit< tt, refl)
 
   -- what is allowed may find some word
   sender_word : {p : SenderAt} {op : Op} {m : Held T} {w : Held W} → SenderMay p op m w → (word : ℕ) × (m' : Held T) × (w' : Held W) × SenderFinds p op word m w m' w'
   sender_word (may_add x) = (3, away, away, add_empty x)
   sender_word may_flip = (3, away, away, flip_empty)
+  sender_word (may_finish_send x) = (1, away, away, finish_send x)
+  sender_word may_finish_drop = (1, away, away, finish_drop)
 
   receiver_word : {q : ReceiverAt} {op : Op} {m : Held T} {w : Held W} → ReceiverMay q op m w → (word : ℕ) × (m' : Held T) × (w' : Held W) × ReceiverFinds q op word m w m' w'
   receiver_word may_load_first = (3, away, vacant, first_empty)
   receiver_word may_load = (3, away, vacant, load_empty)
   receiver_word (may_load_closed c) = (2, vacant, vacant, load_over c)
-  receiver_word (may_close g x) = (4, held x, vacant, close g x)
+  receiver_word (may_store k) = (3, away, away, store_empty k)
+  receiver_word (may_wait w) = (0, away, away, wait_longer w)
+  receiver_word (may_close g left x) = (left, held x, vacant, close g left x)
+  receiver_word (may_close_only left) = (left, vacant, vacant, close_only left)
   receiver_word may_drop_first = (3, away, away, drop_first_empty)
   receiver_word may_drop = (3, away, away, drop_empty)
   receiver_word (may_drop_closed c) = (2, vacant, vacant, drop_over c)
 
   -- and only words that are accepted
-  sender_accepts : {p : SenderAt} {op : Op} {m m' : Held T} {w w' : Held W} {ps : List SenderPos} (word : ℕ) → SenderFinds p op word m w m' w' → SenderStands p ps → All (Accepts sender_table op word) ps
-  sender_accepts _ (add_empty x) stands_fresh = both (Accepts sender_table Add 3) (λ e. refl) (λ e. absurd (cc))
-  sender_accepts _ (add_gone x) stands_fresh = both (Accepts sender_table Add 2) (λ e. refl) (λ e. absurd (cc))
-  sender_accepts _ flip_empty stands_fresh = both (Accepts sender_table Xor 3) (λ e. absurd (cc)) (λ e. refl)
-  sender_accepts _ flip_gone stands_fresh = both (Accepts sender_table Xor 2) (λ e. absurd (cc)) (λ e. refl)
+  sender_ready : {p : SenderAt} {op : Op} {m m' : Held T} {w w' : Held W} {ps : List SenderPos} (word : ℕ) → SenderFinds p op word m w m' w' → SenderStands p ps → list_all (is_ready sender_table op word) ps ≡ true
+  sender_ready _ (add_empty x) stands_fresh = refl
+  sender_ready _ (add_waker x k) stands_fresh = refl
+  sender_ready _ (add_gone x) stands_fresh = refl
+  sender_ready _ flip_empty stands_fresh = refl
+  sender_ready _ (flip_waker k) stands_fresh = refl
+  sender_ready _ flip_gone stands_fresh = refl
+  sender_ready _ (finish_send x) owes_send = refl
+  sender_ready _ finish_drop owes_drop = refl
 
-  receiver_accepts : {q : ReceiverAt} {op : Op} {m m' : Held T} {w w' : Held W} {ps : List ReceiverPos} (word : ℕ) → ReceiverFinds q op word m w m' w' → ReceiverStands q ps → All (Accepts receiver_table op word) ps
-  receiver_accepts _ first_empty stands_first = both (Accepts receiver_table Load 3) (λ e. refl) (λ e. absurd (cc))
-  receiver_accepts _ (first_message x) stands_first = both (Accepts receiver_table Load 4) (λ e. refl) (λ e. absurd (cc))
-  receiver_accepts _ first_closed stands_first = both (Accepts receiver_table Load 2) (λ e. refl) (λ e. absurd (cc))
-  receiver_accepts _ load_empty stands_looked = both (Accepts receiver_table Load 3) (λ e. refl) (λ e. absurd (cc))
-  receiver_accepts _ (load_message x) stands_looked = both (Accepts receiver_table Load 4) (λ e. refl) (λ e. absurd (cc))
-  receiver_accepts _ load_closed stands_looked = both (Accepts receiver_table Load 2) (λ e. refl) (λ e. absurd (cc))
-  receiver_accepts _ (load_over c) (stands_over _) = both (Accepts receiver_table Load 2) (λ e. refl) (λ e. absurd (cc))
-  receiver_accepts _ (close g x) (stands_full _) = one (Accepts receiver_table (Store 2) 4) (λ e. refl)
-  receiver_accepts _ drop_first_empty stands_first = both (Accepts receiver_table (Swap 2) 3) (λ e. absurd (cc)) (λ e. refl)
-  receiver_accepts _ (drop_first_message x) stands_first = both (Accepts receiver_table (Swap 2) 4) (λ e. absurd (cc)) (λ e. refl)
-  receiver_accepts _ drop_first_closed stands_first = both (Accepts receiver_table (Swap 2) 2) (λ e. absurd (cc)) (λ e. refl)
-  receiver_accepts _ drop_empty stands_looked = both (Accepts receiver_table (Swap 2) 3) (λ e. absurd (cc)) (λ e. refl)
-  receiver_accepts _ (drop_message x) stands_looked = both (Accepts receiver_table (Swap 2) 4) (λ e. absurd (cc)) (λ e. refl)
-  receiver_accepts _ drop_closed stands_looked = both (Accepts receiver_table (Swap 2) 2) (λ e. absurd (cc)) (λ e. refl)
-  receiver_accepts _ (drop_over c) (stands_over _) = both (Accepts receiver_table (Swap 2) 2) (λ e. absurd (cc)) (λ e. refl)
+  receiver_ready : {q : ReceiverAt} {op : Op} {m m' : Held T} {w w' : Held W} {ps : List ReceiverPos} (word : ℕ) → ReceiverFinds q op word m w m' w' → ReceiverStands q ps → list_all (is_ready receiver_table op word) ps ≡ true
+  receiver_ready _ first_empty stands_first = refl
+  receiver_ready _ (first_message x) stands_first = refl
+  receiver_ready _ first_closed stands_first = refl
+  receiver_ready _ load_empty stands_looked = refl
+  receiver_ready _ (load_message x) stands_looked = refl
+  receiver_ready _ load_closed stands_looked = refl
+  receiver_ready _ (load_over c) (stands_over _) = refl
+  receiver_ready _ (store_empty k) stands_looked = refl
+  receiver_ready _ (store_message x k) stands_looked = refl
+  receiver_ready _ (store_closed k) stands_looked = refl
+  receiver_ready _ (wait_longer w) (stands_waiting _) = refl
+  receiver_ready _ (wait_claimed w) (stands_waiting _) = refl
+  receiver_ready _ (wait_message w x) (stands_waiting _) = refl
+  receiver_ready _ (wait_closed w) (stands_waiting _) = refl
+  receiver_ready _ (close g left x) (stands_full _ _) = refl
+  receiver_ready _ (close_only left) (stands_unclosed _) = refl
+  receiver_ready _ drop_first_empty stands_first = refl
+  receiver_ready _ (drop_first_message x) stands_first = refl
+  receiver_ready _ drop_first_closed stands_first = refl
+  receiver_ready _ drop_empty stands_looked = refl
+  receiver_ready _ (drop_message x) stands_looked = refl
+  receiver_ready _ drop_closed stands_looked = refl
+  receiver_ready _ (drop_over c) (stands_over _) = refl
 
 pub sender_exact : (T W : Type 0) → SenderIsExact T W
 sender_exact T W =
     record {
-      no_less = λ x found. sender_less x (sender_stands found);
+      no_less = λ x k {xs} found. all_of (operations sender_table xs) (sender_less x (sender_stands found));
       no_more = λ found may. sender_more may (sender_stands found);
       finds = sender_word;
-      accepted = λ word found finds. sender_accepts word finds (sender_stands found);
+      accepted = λ {xs} {op} word found finds. accept sender_table op word (standing sender_table xs) (sender_ready word finds (sender_stands found));
     }
 
 pub receiver_exact : (T W : Type 0) → ReceiverIsExact T W
 receiver_exact T W =
     record {
-      no_less = λ x found. receiver_less x (receiver_stands found);
+      no_less = λ x k {xs} found. all_of (operations receiver_table xs) (receiver_less x k (receiver_stands found));
       no_more = λ found may. receiver_more may (receiver_stands found);
       finds = receiver_word;
-      accepted = λ word found finds. receiver_accepts word finds (receiver_stands found);
+      accepted = λ {xs} {op} word found finds. accept receiver_table op word (standing receiver_table xs) (receiver_ready word finds (receiver_stands found));
     }

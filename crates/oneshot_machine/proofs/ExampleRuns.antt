@@ -3,8 +3,8 @@ use Rattle.std.proofs.Common.{◌≡◌, ℕ, List, [], ◌∷◌, Option, Some,
 use Rattle.oneshot_machine.specs.declared.machine.Reply.{Reply}
 use Rattle.oneshot_machine.specs.declared.machine.Seen.{Seen}
 use Rattle.oneshot_machine.specs.declared.machine.Step.{Step}
-use Rattle.oneshot_machine.specs.declared.machine.receiver.ReceiverPos.TheVariants.{Close, Take, DropMessage, DropFree}
-use Rattle.oneshot_machine.specs.declared.machine.sender.SenderPos.TheVariants.{SendAdd, IntoFree, ErrorFree}
+use Rattle.oneshot_machine.specs.declared.machine.receiver.ReceiverPos.TheVariants.{Close, Take, CloseOnly, StartWrite, StartSwap, BackFull, BackClosed, Park, ParkLoad, RecvWrite, RecvSwap, RecvBackClosed, RecvPark, RecvParkLoad, RecvTake, RecvFreeGot, RecvFreeGone, DropMessage, DropFree}
+use Rattle.oneshot_machine.specs.declared.machine.sender.SenderPos.TheVariants.{SendAdd, SendTakeWaker, SendFinal, SendWake, DropTakeWaker, DropFinal, DropWake, IntoFree, ErrorFree}
 use Rattle.oneshot_machine.specs.declared.machine.sender.SenderPos.TheVariants as SP
 use Rattle.oneshot_machine.specs.Logs.{Event}
 use Rattle.oneshot_machine.specs.Rows.{Outcome, Goes, Answers}
@@ -17,12 +17,17 @@ sender_lists =
       nothing_yet = refl;
       sent = refl;
       sent_too_late = refl;
+      found_a_waker = refl;
+      sent_to_it = refl;
       dropped = refl;
+      dropped_before_it = refl;
       dropped_too_late = refl;
       sends_over_a_message = refl;
       sends_twice = refl;
       drops_after_it_sent = refl;
       tries_again = refl;
+      ends_its_send_as_a_drop = refl;
+      finds_its_waker_again = refl;
       swaps = refl;
       does_not_look = refl;
     }
@@ -36,6 +41,12 @@ receiver_lists =
       received = refl;
       tried_again = refl;
       found_no_sender = refl;
+      began_to_wait = refl;
+      woke_too_early = refl;
+      waited_for_it = refl;
+      found_it_by_its_swap = refl;
+      found_nobody_by_its_swap = refl;
+      put_it_back = refl;
       dropped_early = refl;
       dropped_over_a_message = refl;
       dropped_after_all = refl;
@@ -45,6 +56,9 @@ receiver_lists =
       closes_unasked = refl;
       opens_again = refl;
       goes_on_after_its_drop = refl;
+      waits_without_a_look = refl;
+      drops_while_it_waits = refl;
+      waits_on_a_word_that_it_left = refl;
       adds = refl;
     }
 
@@ -53,17 +67,59 @@ runs_that_are =
     record {
       sends = more SendAdd _ _ refl refl (last _ refl refl);
       is_refused = more SendAdd _ _ refl refl (last _ refl refl);
+      wakes = more SendAdd _ _ refl refl (more SendTakeWaker _ _ refl refl (more SendFinal _ _ refl refl (more SendWake _ _ refl refl (last _ refl refl))));
+      wakes_by_its_drop = more DropTakeWaker _ _ refl refl (more DropFinal _ _ refl refl (more DropWake _ _ refl refl (last _ refl refl)));
       gives_it_back = more IntoFree _ _ refl refl (last _ refl refl);
       drops_the_error = more ErrorFree _ _ refl refl (last _ refl refl);
       drops_the_sender = more SP.DropFree _ _ refl refl (last _ refl refl);
       receives = more Close _ _ refl refl (more Take _ _ refl refl (last _ refl refl));
       finds_nothing = last _ refl refl;
       finds_no_sender = last _ refl refl;
+      waits_for_it =
+          more StartWrite _ _ refl refl
+          (more StartSwap _ _ refl refl
+          (more Park _ _ refl refl
+          (more ParkLoad _ _ refl refl
+          (more Park _ _ refl refl
+          (more ParkLoad _ _ refl refl
+          (more Close _ _ refl refl
+          (more Take _ _ refl refl
+          (last _ refl refl))))))));
+      need_not_wait =
+          more StartWrite _ _ refl refl
+          (more StartSwap _ _ refl refl
+          (more BackFull _ _ refl refl
+          (more Close _ _ refl refl
+          (more Take _ _ refl refl
+          (last _ refl refl)))));
+      waits_for_nobody =
+          more StartWrite _ _ refl refl
+          (more StartSwap _ _ refl refl
+          (more BackClosed _ _ refl refl
+          (more CloseOnly _ _ refl refl
+          (last _ refl refl))));
+      waits_and_frees =
+          more RecvWrite _ _ refl refl
+          (more RecvSwap _ _ refl refl
+          (more RecvPark _ _ refl refl
+          (more RecvParkLoad _ _ refl refl
+          (more RecvPark _ _ refl refl
+          (more RecvParkLoad _ _ refl refl
+          (more RecvTake _ _ refl refl
+          (more RecvFreeGot _ _ refl refl
+          (last _ refl refl))))))));
+      waits_for_nobody_and_frees =
+          more RecvWrite _ _ refl refl
+          (more RecvSwap _ _ refl refl
+          (more RecvBackClosed _ _ refl refl
+          (more RecvFreeGone _ _ refl refl
+          (last _ refl refl))));
       drops_the_message = more DropMessage _ _ refl refl (more DropFree _ _ refl refl (last _ refl refl));
       handed_in = refl;
       handed_out = refl;
       hands_nothing_out = refl;
       keeps_all = refl;
+      keeps_no_waker = refl;
       keeps_the_word = refl;
       as_words = refl;
     }
@@ -102,5 +158,11 @@ runs_that_are_not =
       frees_unasked = λ r run. let e = (does_go_on run).1 in cc;
       takes_and_leaves_4 = λ r run. let e = begins (goes_on Close refl run) in cc;
       says_that_all_are_gone = λ run. let e = answers run in cc;
+      wakes_before_its_swap = λ r run. let e = begins (goes_on SendFinal refl (goes_on SendTakeWaker refl (goes_on SendAdd refl run))) in cc;
+      answers_unwoken =
+          λ r run. let e =
+          answers (goes_on ParkLoad refl (goes_on Park refl (goes_on ParkLoad refl (goes_on Park refl (goes_on StartSwap refl (goes_on StartWrite refl run))))))
+          in cc;
+      parks_before_it_swaps = λ r run. let e = begins (goes_on StartSwap refl (goes_on StartWrite refl run)) in cc;
       loses_the_message = λ r run. let e = begins (goes_on DropMessage refl run) in cc;
     }

@@ -28,7 +28,8 @@ pub record IsExact {P At T W : Type 0} (t : Table P) (at : List Noted → At)
     (May : At → Op → Held T → Held W → Type 0)
     (Finds : At → Op → ℕ → Held T → Held W → Held T → Held W → Type 0) : Type 0 where
   -- each operation that the table makes after such a list is allowed, where there is some message
-  pub no_less : T → {xs : List Noted} → IsFound at Finds xs
+  -- and some waker
+  pub no_less : T → W → {xs : List Noted} → IsFound at Finds xs
       → All (IsAllowed May (at xs)) (operations t xs)
   -- each that is allowed is one that the table makes
   pub no_more : {xs : List Noted} {op : Op} {m : Held T} {w : Held W}

@@ -1,19 +1,19 @@
 -- Lists and runs that an end makes, and some that none makes.
-use Rattle.std.specs.Prelude.{◌≡◌, ℕ, true, false, List, [], ◌∷◌}
+use Rattle.std.specs.Prelude.{◌≡◌, ℕ, true, false, List, [], ◌∷◌, ◌++◌}
 use Rattle.oneshot_machine.specs.declared.machine.Reply.{Reply}
 use Rattle.oneshot_machine.specs.declared.machine.Reply.TheVariants.{Sent, Refused, Message, Empty, Disconnected}
 use Rattle.oneshot_machine.specs.declared.machine.Reply.TheVariants as R
 use Rattle.oneshot_machine.specs.declared.machine.Seen.TheVariants.{Done, Word}
-use Rattle.oneshot_machine.specs.declared.machine.Step.TheVariants.{DropMessage, Free}
+use Rattle.oneshot_machine.specs.declared.machine.Step.TheVariants.{DropMessage, WriteWaker, TakeWaker, Withdraw, Wake, Free}
 use Rattle.oneshot_machine.specs.declared.machine.receiver.ReceiverPos.{ReceiverPos}
-use Rattle.oneshot_machine.specs.declared.machine.receiver.ReceiverPos.TheVariants.{TryLoad, DropSwap}
+use Rattle.oneshot_machine.specs.declared.machine.receiver.ReceiverPos.TheVariants.{TryLoad, StartLoad, RecvLoad, DropSwap}
 use Rattle.oneshot_machine.specs.declared.machine.sender.SenderPos.{SenderPos}
 use Rattle.oneshot_machine.specs.declared.machine.sender.SenderPos.TheVariants.{SendWrite, DropXor, IntoTake, ErrorDrop}
 use Rattle.oneshot_machine.specs.declared.states.Op.TheVariants.{Load, Store, Swap, Add, Xor}
 use Rattle.oneshot_machine.specs.Sender.{sender_step, sender_row}
 use Rattle.oneshot_machine.specs.Receiver.{receiver_step, receiver_row}
-use Rattle.oneshot_machine.specs.Phases.{sending, dropping, fresh, finished, late, no_sender, sender_at, first, here, looked, full, at_once, over, found_closed, closed_itself, gone, ended, no_receiver, receiver_at}
-use Rattle.oneshot_machine.specs.Logs.{Event, did, wrote, took, worded, words, kept, messages_given, messages_got}
+use Rattle.oneshot_machine.specs.Phases.{sending, dropping, fresh, owes, finished, late, no_sender, sender_at, first, here, looked, waits, blocked, full, at_once, waited, unclosed, over, found_closed, closed_itself, gone, ended, no_receiver, receiver_at}
+use Rattle.oneshot_machine.specs.Logs.{Event, did, wrote, took, handed, parked, worded, words, kept, messages_given, messages_got}
 use Rattle.oneshot_machine.specs.Runs.{Run}
 
 -- how far a sender's list takes it
@@ -21,13 +21,18 @@ pub record SenderLists : Type 0 where
   pub nothing_yet : sender_at [] ≡ fresh
   pub sent : sender_at ((Add, Word 3) ∷ []) ≡ finished sending
   pub sent_too_late : sender_at ((Add, Word 2) ∷ []) ≡ late sending 3
+  pub found_a_waker : sender_at ((Add, Word 0) ∷ []) ≡ owes sending
+  pub sent_to_it : sender_at ((Add, Word 0) ∷ (Swap 4, Word 1) ∷ []) ≡ finished sending
   pub dropped : sender_at ((Xor, Word 3) ∷ []) ≡ finished dropping
+  pub dropped_before_it : sender_at ((Xor, Word 0) ∷ (Swap 2, Word 1) ∷ []) ≡ finished dropping
   pub dropped_too_late : sender_at ((Xor, Word 2) ∷ []) ≡ late dropping 3
   -- and lists that no sender makes
   pub sends_over_a_message : sender_at ((Add, Word 4) ∷ []) ≡ no_sender
   pub sends_twice : sender_at ((Add, Word 3) ∷ (Add, Word 3) ∷ []) ≡ no_sender
   pub drops_after_it_sent : sender_at ((Add, Word 3) ∷ (Xor, Word 3) ∷ []) ≡ no_sender
   pub tries_again : sender_at ((Add, Word 2) ∷ (Add, Word 3) ∷ []) ≡ no_sender
+  pub ends_its_send_as_a_drop : sender_at ((Add, Word 0) ∷ (Swap 2, Word 1) ∷ []) ≡ no_sender
+  pub finds_its_waker_again : sender_at ((Add, Word 0) ∷ (Swap 4, Word 0) ∷ []) ≡ no_sender
   pub swaps : sender_at ((Swap 4, Word 3) ∷ []) ≡ no_sender
   pub does_not_look : sender_at ((Add, Done) ∷ []) ≡ no_sender
 
@@ -39,6 +44,15 @@ pub record ReceiverLists : Type 0 where
   pub received : receiver_at ((Load, Word 4) ∷ (Store 2, Done) ∷ []) ≡ over closed_itself
   pub tried_again : receiver_at ((Load, Word 4) ∷ (Store 2, Done) ∷ (Load, Word 2) ∷ []) ≡ over closed_itself
   pub found_no_sender : receiver_at ((Load, Word 2) ∷ (Load, Word 2) ∷ []) ≡ over found_closed
+  pub began_to_wait : receiver_at ((Load, Word 3) ∷ (Swap 0, Word 3) ∷ []) ≡ waits blocked
+  pub woke_too_early :
+      receiver_at ((Load, Word 3) ∷ (Swap 0, Word 3) ∷ (Load, Word 0) ∷ (Load, Word 1) ∷ []) ≡ waits blocked
+  pub waited_for_it :
+      receiver_at ((Load, Word 3) ∷ (Swap 0, Word 3) ∷ (Load, Word 4) ∷ []) ≡ full waited 4
+  pub found_it_by_its_swap : receiver_at ((Load, Word 3) ∷ (Swap 0, Word 4) ∷ []) ≡ full waited 0
+  pub found_nobody_by_its_swap : receiver_at ((Load, Word 3) ∷ (Swap 0, Word 2) ∷ []) ≡ unclosed 0
+  pub put_it_back :
+      receiver_at ((Load, Word 3) ∷ (Swap 0, Word 2) ∷ (Store 2, Done) ∷ []) ≡ over closed_itself
   pub dropped_early : receiver_at ((Load, Word 3) ∷ (Swap 2, Word 3) ∷ []) ≡ gone
   pub dropped_over_a_message : receiver_at ((Swap 2, Word 4) ∷ []) ≡ ended
   pub dropped_after_all : receiver_at ((Load, Word 2) ∷ (Swap 2, Word 2) ∷ []) ≡ ended
@@ -49,6 +63,11 @@ pub record ReceiverLists : Type 0 where
   pub closes_unasked : receiver_at ((Load, Word 3) ∷ (Store 2, Done) ∷ []) ≡ no_receiver
   pub opens_again : receiver_at ((Load, Word 2) ∷ (Load, Word 3) ∷ []) ≡ no_receiver
   pub goes_on_after_its_drop : receiver_at ((Swap 2, Word 3) ∷ (Load, Word 2) ∷ []) ≡ no_receiver
+  pub waits_without_a_look : receiver_at ((Swap 0, Word 3) ∷ []) ≡ no_receiver
+  pub drops_while_it_waits :
+      receiver_at ((Load, Word 3) ∷ (Swap 0, Word 3) ∷ (Swap 2, Word 0) ∷ []) ≡ no_receiver
+  pub waits_on_a_word_that_it_left :
+      receiver_at ((Load, Word 3) ∷ (Swap 0, Word 3) ∷ (Load, Word 3) ∷ []) ≡ no_receiver
   pub adds : receiver_at ((Add, Word 3) ∷ []) ≡ no_receiver
 
 abbrev pub SenderRun : SenderPos → List (Event ℕ ℕ) → Reply → Type 0
@@ -63,22 +82,54 @@ sending_7 = wrote 7 ∷ worded Add 3 ∷ []
 abbrev pub receiving_7 : List (Event ℕ ℕ)
 receiving_7 = worded Load 4 ∷ worded (Store 2) 4 ∷ took 7 ∷ []
 
+-- a send to a receiver that waits, with the waker 1
+abbrev pub waking : List (Event ℕ ℕ)
+waking = wrote 7 ∷ worded Add 0 ∷ handed TakeWaker 1 ∷ worded (Swap 4) 1 ∷ handed Wake 1 ∷ []
+
+-- a receive that stores the waker 1, and parks twice
+abbrev pub waiting : List (Event ℕ ℕ)
+waiting =
+    worded Load 3
+    ∷ handed WriteWaker 1
+    ∷ worded (Swap 0) 3
+    ∷ parked false
+    ∷ worded Load 1
+    ∷ parked true
+    ∷ worded Load 4
+    ∷ []
+
+-- one that finds by its swap that it need not
+abbrev pub withdrawing : ℕ → List (Event ℕ ℕ)
+withdrawing word = worded Load 3 ∷ handed WriteWaker 1 ∷ worded (Swap 0) word ∷ handed Withdraw 1 ∷ []
+
 -- steps that are a run of the call, with this reply
 pub record RunsThatAre : Type 0 where
   pub sends : SenderRun SendWrite sending_7 Sent
   pub is_refused : SenderRun SendWrite (wrote 7 ∷ worded Add 2 ∷ []) Refused
+  pub wakes : SenderRun SendWrite waking Sent
+  pub wakes_by_its_drop :
+      SenderRun DropXor (worded Xor 0 ∷ handed TakeWaker 1 ∷ worded (Swap 2) 1 ∷ handed Wake 1 ∷ []) R.Done
   pub gives_it_back : SenderRun IntoTake (took 7 ∷ did Free ∷ []) Message
   pub drops_the_error : SenderRun ErrorDrop (did DropMessage ∷ did Free ∷ []) R.Done
   pub drops_the_sender : SenderRun DropXor (worded Xor 2 ∷ did Free ∷ []) R.Done
   pub receives : ReceiverRun TryLoad receiving_7 Message
   pub finds_nothing : ReceiverRun TryLoad (worded Load 3 ∷ []) Empty
   pub finds_no_sender : ReceiverRun TryLoad (worded Load 2 ∷ []) Disconnected
+  pub waits_for_it :
+      ReceiverRun StartLoad (waiting ++ worded (Store 2) 4 ∷ took 7 ∷ []) Message
+  pub need_not_wait :
+      ReceiverRun StartLoad (withdrawing 4 ++ worded (Store 2) 0 ∷ took 7 ∷ []) Message
+  pub waits_for_nobody :
+      ReceiverRun StartLoad (withdrawing 2 ++ worded (Store 2) 0 ∷ []) Disconnected
+  pub waits_and_frees : ReceiverRun RecvLoad (waiting ++ took 7 ∷ did Free ∷ []) Message
+  pub waits_for_nobody_and_frees : ReceiverRun RecvLoad (withdrawing 2 ++ did Free ∷ []) Disconnected
   pub drops_the_message : ReceiverRun DropSwap (worded (Swap 2) 4 ∷ did DropMessage ∷ did Free ∷ []) R.Done
   -- what they hand in and out, and what of them a real ground keeps
   pub handed_in : messages_given sending_7 ≡ 7 ∷ []
   pub handed_out : messages_got receiving_7 ≡ 7 ∷ []
   pub hands_nothing_out : messages_got sending_7 ≡ []
   pub keeps_all : kept true sending_7 ≡ sending_7
+  pub keeps_no_waker : kept false waking ≡ worded Add 0 ∷ worded (Swap 4) 1 ∷ []
   pub keeps_the_word : kept false sending_7 ≡ worded Add 3 ∷ []
   pub as_words : words receiving_7 ≡ (Load, Word 4) ∷ (Store 2, Done) ∷ []
 
@@ -91,4 +142,9 @@ pub record RunsThatAreNot : Type 0 where
   pub frees_unasked : (r : Reply) → SenderRun DropXor (worded Xor 3 ∷ did Free ∷ []) r → ⊥
   pub takes_and_leaves_4 : (r : Reply) → ReceiverRun TryLoad (worded Load 4 ∷ took 7 ∷ []) r → ⊥
   pub says_that_all_are_gone : ReceiverRun TryLoad (worded Load 3 ∷ []) Disconnected → ⊥
+  pub wakes_before_its_swap :
+      (r : Reply) → SenderRun SendWrite (wrote 7 ∷ worded Add 0 ∷ handed TakeWaker 1 ∷ handed Wake 1 ∷ []) r → ⊥
+  pub answers_unwoken : (r : Reply) → ReceiverRun StartLoad waiting r → ⊥
+  pub parks_before_it_swaps :
+      (r : Reply) → ReceiverRun StartLoad (worded Load 3 ∷ handed WriteWaker 1 ∷ parked true ∷ []) r → ⊥
   pub loses_the_message : (r : Reply) → ReceiverRun DropSwap (worded (Swap 2) 4 ∷ did Free ∷ []) r → ⊥

@@ -14,6 +14,8 @@ pub data By : Type 0 where
 pub data SenderAt : Type 0 where
   -- it has made no operation
   fresh : SenderAt
+  -- it found 0: the receiver waits, and the final swap is to come
+  owes : By → SenderAt
   -- its last operation is made, and the receiver was here
   finished : By → SenderAt
   -- its last operation is made and found 2: the receiver was gone, and the word is now this
@@ -26,10 +28,17 @@ pub data Open : Type 0 where
   -- its last operation is a load that found 3
   looked : Open
 
+-- a receiver whose waker is stored
+pub data Waiting : Type 0 where
+  -- in a call that blocks
+  blocked : Waiting
+
 -- how a receiver came to the message, which tells what it may do then
 pub data Got : Type 0 where
   -- by the first load of a call
   at_once : Got
+  -- in a call that blocks, by the swap that was to store its waker or by a load after it
+  waited : Got
 
 -- how the 2 came into the word of a closed receiver
 pub data Closing : Type 0 where
@@ -40,8 +49,12 @@ pub data ReceiverAt : Type 0 where
   -- it has made no operation
   first : ReceiverAt
   here : Open → ReceiverAt
+  -- its waker is stored, unless the sender took it since
+  waits : Waiting → ReceiverAt
   -- it has the message, and the word is now this
   full : Got → ℕ → ReceiverAt
+  -- it found 2 by a swap that left this word
+  unclosed : ℕ → ReceiverAt
   -- it is closed, and the word is 2
   over : Closing → ReceiverAt
   -- it was dropped before the sender's last operation
@@ -56,17 +69,34 @@ abbrev pub leads : {At : Type 0} → At → ℕ → List (ℕ × At) → At
 leads nowhere word [] = nowhere
 leads nowhere word (row ∷ rows) = if row.0 == word then row.1 else leads nowhere word rows
 
+-- the word that a final swap leaves
+abbrev pub final_word : By → ℕ
+final_word sending = 4
+final_word dropping = 2
+
 abbrev pub sender_next : SenderAt → Op → Seen → SenderAt
 sender_next fresh Add (Word word) =
-    leads no_sender word ((3, finished sending) ∷ (2, late sending 3) ∷ [])
+    leads no_sender word ((3, finished sending) ∷ (0, owes sending) ∷ (2, late sending 3) ∷ [])
 sender_next fresh Xor (Word word) =
-    leads no_sender word ((3, finished dropping) ∷ (2, late dropping 3) ∷ [])
+    leads no_sender word ((3, finished dropping) ∷ (0, owes dropping) ∷ (2, late dropping 3) ∷ [])
+sender_next (owes by) (Swap new) (Word word) =
+    if new == final_word by then leads no_sender word ((1, finished by) ∷ []) else no_sender
 sender_next _ _ _ = no_sender
 
 -- the load of a receiver that is open
 abbrev pub loaded : ℕ → ReceiverAt
 loaded word =
     leads no_receiver word ((3, here looked) ∷ (4, full at_once 4) ∷ (2, over found_closed) ∷ [])
+
+-- the swap of a receiver that is about to wait
+abbrev pub stored : ℕ → ReceiverAt
+stored word =
+    leads no_receiver word ((3, waits blocked) ∷ (4, full waited 0) ∷ (2, unclosed 0) ∷ [])
+
+-- the load of one that waits
+abbrev pub still : Waiting → ℕ → ReceiverAt
+still w word =
+    leads no_receiver word ((0, waits w) ∷ (1, waits w) ∷ (4, full waited 4) ∷ (2, over found_closed) ∷ [])
 
 -- the swap of a drop
 abbrev pub dropped : ℕ → ReceiverAt
@@ -76,8 +106,12 @@ abbrev pub receiver_next : ReceiverAt → Op → Seen → ReceiverAt
 receiver_next first Load (Word word) = loaded word
 receiver_next first (Swap new) (Word word) = if new == 2 then dropped word else no_receiver
 receiver_next (here looked) Load (Word word) = loaded word
-receiver_next (here looked) (Swap new) (Word word) = if new == 2 then dropped word else no_receiver
+receiver_next (here looked) (Swap new) (Word word) =
+    if new == 2 then dropped word else (if new == 0 then stored word else no_receiver)
+receiver_next (waits w) Load (Word word) = still w word
 receiver_next (full got left) (Store new) Done =
+    if new == 2 then over closed_itself else no_receiver
+receiver_next (unclosed left) (Store new) Done =
     if new == 2 then over closed_itself else no_receiver
 receiver_next (over closing) Load (Word word) = leads no_receiver word ((2, over closing) ∷ [])
 receiver_next (over closing) (Swap new) (Word word) =

@@ -1,12 +1,12 @@
 -- The receiver's table.
-use Rattle.std.specs.Prelude.{Option, [], ◌∷◌}
+use Rattle.std.specs.Prelude.{true, false, Option, [], ◌∷◌}
 use Rattle.oneshot_machine.specs.declared.machine.receiver.ReceiverStart.{ReceiverStart}
-use Rattle.oneshot_machine.specs.declared.machine.receiver.ReceiverStart.TheVariants.{TryRecv, HasMessage, IsClosed, Drop}
+use Rattle.oneshot_machine.specs.declared.machine.receiver.ReceiverStart.TheVariants.{TryRecv, Recv, RecvRef, HasMessage, IsClosed, Drop}
 use Rattle.oneshot_machine.specs.declared.machine.receiver.ReceiverPos.{ReceiverPos}
-use Rattle.oneshot_machine.specs.declared.machine.receiver.ReceiverPos.TheVariants.{LookFull, LookClosed, TryLoad, Close, Take, DropSwap, DropMessage, DropFree}
+use Rattle.oneshot_machine.specs.declared.machine.receiver.ReceiverPos.TheVariants.{LookFull, LookClosed, TryLoad, Close, Take, CloseOnly, StartLoad, StartWrite, StartSwap, BackFull, BackClosed, Park, ParkLoad, RecvLoad, RecvWrite, RecvSwap, RecvBackFull, RecvBackClosed, RecvPark, RecvParkLoad, RecvTake, RecvFreeGot, RecvFreeGone, DropSwap, DropMessage, DropFree}
 use Rattle.oneshot_machine.specs.declared.machine.Reply.TheVariants as R
 use Rattle.oneshot_machine.specs.declared.machine.Seen.{Seen}
-use Rattle.oneshot_machine.specs.declared.machine.Seen.TheVariants.{Done, Word}
+use Rattle.oneshot_machine.specs.declared.machine.Seen.TheVariants.{Done, Word, Token}
 use Rattle.oneshot_machine.specs.declared.machine.Step.{Step}
 use Rattle.oneshot_machine.specs.declared.machine.Step.TheVariants as T
 use Rattle.oneshot_machine.specs.declared.states.Op.TheVariants as O
@@ -14,6 +14,8 @@ use Rattle.oneshot_machine.specs.Rows.{Outcome, Goes, Answers, Rows, row_for}
 
 abbrev pub receiver_start : ReceiverStart → ReceiverPos
 receiver_start TryRecv = TryLoad
+receiver_start Recv = RecvLoad
+receiver_start RecvRef = StartLoad
 receiver_start HasMessage = LookFull
 receiver_start IsClosed = LookClosed
 receiver_start Drop = DropSwap
@@ -24,19 +26,61 @@ receiver_step LookClosed = T.Word O.Load
 receiver_step TryLoad = T.Word O.Load
 receiver_step Close = T.Word (O.Store 2)
 receiver_step Take = T.TakeMessage
+receiver_step CloseOnly = T.Word (O.Store 2)
+receiver_step StartLoad = T.Word O.Load
+receiver_step StartWrite = T.WriteWaker
+receiver_step StartSwap = T.Word (O.Swap 0)
+receiver_step BackFull = T.Withdraw
+receiver_step BackClosed = T.Withdraw
+receiver_step Park = T.Park
+receiver_step ParkLoad = T.Word O.Load
+receiver_step RecvLoad = T.Word O.Load
+receiver_step RecvWrite = T.WriteWaker
+receiver_step RecvSwap = T.Word (O.Swap 0)
+receiver_step RecvBackFull = T.Withdraw
+receiver_step RecvBackClosed = T.Withdraw
+receiver_step RecvPark = T.Park
+receiver_step RecvParkLoad = T.Word O.Load
+receiver_step RecvTake = T.TakeMessage
+receiver_step RecvFreeGot = T.Free
+receiver_step RecvFreeGone = T.Free
 receiver_step DropSwap = T.Word (O.Swap 2)
 receiver_step DropMessage = T.DropMessage
 receiver_step DropFree = T.Free
 
 abbrev pub receiver_rows : ReceiverPos → Rows ReceiverPos
 receiver_rows LookFull =
-    (Word 4, Answers R.Yes) ∷ (Word 2, Answers R.No) ∷ (Word 3, Answers R.No) ∷ []
+    (Word 4, Answers R.Yes) ∷ (Word 0, Answers R.No) ∷ (Word 1, Answers R.No) ∷ (Word 2, Answers R.No) ∷ (Word 3, Answers R.No) ∷ []
 receiver_rows LookClosed =
-    (Word 2, Answers R.Yes) ∷ (Word 3, Answers R.No) ∷ (Word 4, Answers R.No) ∷ []
+    (Word 2, Answers R.Yes) ∷ (Word 0, Answers R.No) ∷ (Word 1, Answers R.No) ∷ (Word 3, Answers R.No) ∷ (Word 4, Answers R.No) ∷ []
 receiver_rows TryLoad =
     (Word 4, Goes Close) ∷ (Word 3, Answers R.Empty) ∷ (Word 2, Answers R.Disconnected) ∷ []
 receiver_rows Close = (Done, Goes Take) ∷ []
 receiver_rows Take = (Done, Answers R.Message) ∷ []
+receiver_rows CloseOnly = (Done, Answers R.Disconnected) ∷ []
+receiver_rows StartLoad =
+    (Word 4, Goes Close) ∷ (Word 2, Answers R.Disconnected) ∷ (Word 3, Goes StartWrite) ∷ []
+receiver_rows StartWrite = (Done, Goes StartSwap) ∷ []
+receiver_rows StartSwap =
+    (Word 3, Goes Park) ∷ (Word 4, Goes BackFull) ∷ (Word 2, Goes BackClosed) ∷ []
+receiver_rows BackFull = (Done, Goes Close) ∷ []
+receiver_rows BackClosed = (Done, Goes CloseOnly) ∷ []
+receiver_rows Park = (Token true, Goes ParkLoad) ∷ (Token false, Goes ParkLoad) ∷ []
+receiver_rows ParkLoad =
+    (Word 4, Goes Close) ∷ (Word 2, Answers R.Disconnected) ∷ (Word 0, Goes Park) ∷ (Word 1, Goes Park) ∷ []
+receiver_rows RecvLoad =
+    (Word 4, Goes RecvTake) ∷ (Word 2, Goes RecvFreeGone) ∷ (Word 3, Goes RecvWrite) ∷ []
+receiver_rows RecvWrite = (Done, Goes RecvSwap) ∷ []
+receiver_rows RecvSwap =
+    (Word 3, Goes RecvPark) ∷ (Word 4, Goes RecvBackFull) ∷ (Word 2, Goes RecvBackClosed) ∷ []
+receiver_rows RecvBackFull = (Done, Goes RecvTake) ∷ []
+receiver_rows RecvBackClosed = (Done, Goes RecvFreeGone) ∷ []
+receiver_rows RecvPark = (Token true, Goes RecvParkLoad) ∷ (Token false, Goes RecvParkLoad) ∷ []
+receiver_rows RecvParkLoad =
+    (Word 4, Goes RecvTake) ∷ (Word 2, Goes RecvFreeGone) ∷ (Word 0, Goes RecvPark) ∷ (Word 1, Goes RecvPark) ∷ []
+receiver_rows RecvTake = (Done, Goes RecvFreeGot) ∷ []
+receiver_rows RecvFreeGot = (Done, Answers R.Message) ∷ []
+receiver_rows RecvFreeGone = (Done, Answers R.Disconnected) ∷ []
 receiver_rows DropSwap =
     (Word 3, Answers R.Done) ∷ (Word 4, Goes DropMessage) ∷ (Word 2, Goes DropFree) ∷ []
 receiver_rows DropMessage = (Done, Goes DropFree) ∷ []

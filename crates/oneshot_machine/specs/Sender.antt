@@ -3,7 +3,7 @@ use Rattle.std.specs.Prelude.{Option, [], ◌∷◌}
 use Rattle.oneshot_machine.specs.declared.machine.sender.SenderCall.{SenderCall}
 use Rattle.oneshot_machine.specs.declared.machine.sender.SenderCall.TheVariants.{IsClosed, Send, Drop, AsInner, IntoInner, DropError}
 use Rattle.oneshot_machine.specs.declared.machine.sender.SenderPos.{SenderPos}
-use Rattle.oneshot_machine.specs.declared.machine.sender.SenderPos.TheVariants.{LookClosed, SendWrite, SendAdd, DropXor, DropFree, ErrorLook, IntoTake, IntoFree, ErrorDrop, ErrorFree}
+use Rattle.oneshot_machine.specs.declared.machine.sender.SenderPos.TheVariants.{LookClosed, SendWrite, SendAdd, SendTakeWaker, SendFinal, SendWake, DropXor, DropTakeWaker, DropFinal, DropWake, DropFree, ErrorLook, IntoTake, IntoFree, ErrorDrop, ErrorFree}
 use Rattle.oneshot_machine.specs.declared.machine.Reply.TheVariants as R
 use Rattle.oneshot_machine.specs.declared.machine.Seen.{Seen}
 use Rattle.oneshot_machine.specs.declared.machine.Seen.TheVariants.{Done, Word}
@@ -24,7 +24,13 @@ abbrev pub sender_step : SenderPos → Step
 sender_step LookClosed = T.Word O.Load
 sender_step SendWrite = T.WriteMessage
 sender_step SendAdd = T.Word O.Add
+sender_step SendTakeWaker = T.TakeWaker
+sender_step SendFinal = T.Word (O.Swap 4)
+sender_step SendWake = T.Wake
 sender_step DropXor = T.Word O.Xor
+sender_step DropTakeWaker = T.TakeWaker
+sender_step DropFinal = T.Word (O.Swap 2)
+sender_step DropWake = T.Wake
 sender_step DropFree = T.Free
 sender_step ErrorLook = T.Plain
 sender_step IntoTake = T.TakeMessage
@@ -33,10 +39,18 @@ sender_step ErrorDrop = T.DropMessage
 sender_step ErrorFree = T.Free
 
 abbrev pub sender_rows : SenderPos → Rows SenderPos
-sender_rows LookClosed = (Word 2, Answers R.Yes) ∷ (Word 3, Answers R.No) ∷ []
+sender_rows LookClosed = (Word 2, Answers R.Yes) ∷ (Word 0, Answers R.No) ∷ (Word 3, Answers R.No) ∷ []
 sender_rows SendWrite = (Done, Goes SendAdd) ∷ []
-sender_rows SendAdd = (Word 3, Answers R.Sent) ∷ (Word 2, Answers R.Refused) ∷ []
-sender_rows DropXor = (Word 3, Answers R.Done) ∷ (Word 2, Goes DropFree) ∷ []
+sender_rows SendAdd =
+    (Word 3, Answers R.Sent) ∷ (Word 0, Goes SendTakeWaker) ∷ (Word 2, Answers R.Refused) ∷ []
+sender_rows SendTakeWaker = (Done, Goes SendFinal) ∷ []
+sender_rows SendFinal = (Word 1, Goes SendWake) ∷ []
+sender_rows SendWake = (Done, Answers R.Sent) ∷ []
+sender_rows DropXor =
+    (Word 3, Answers R.Done) ∷ (Word 0, Goes DropTakeWaker) ∷ (Word 2, Goes DropFree) ∷ []
+sender_rows DropTakeWaker = (Done, Goes DropFinal) ∷ []
+sender_rows DropFinal = (Word 1, Goes DropWake) ∷ []
+sender_rows DropWake = (Done, Answers R.Done) ∷ []
 sender_rows DropFree = (Done, Answers R.Done) ∷ []
 sender_rows ErrorLook = (Done, Answers R.Message) ∷ []
 sender_rows IntoTake = (Done, Goes IntoFree) ∷ []

@@ -2,7 +2,7 @@
 use Rattle.std.specs.Prelude.{ℕ}
 use Rattle.oneshot_machine.specs.declared.states.Op.{Op}
 use Rattle.oneshot_machine.specs.declared.states.Op.TheVariants.{Load, Store, Swap, Add, Xor}
-use Rattle.oneshot_machine.specs.Phases.{SenderAt, fresh, ReceiverAt, first, here, full, over, looked, Got, Closing}
+use Rattle.oneshot_machine.specs.Phases.{sending, dropping, SenderAt, fresh, owes, ReceiverAt, first, here, waits, full, unclosed, over, looked, Waiting, Got, Closing}
 
 -- a slot, to an end: not the end's, empty, or with this in it
 pub data Held (X : Type 0) : Type 0 where
@@ -16,22 +16,32 @@ pub data Held (X : Type 0) : Type 0 where
 pub data SenderMay {T W : Type 0} : SenderAt → Op → Held T → Held W → Type 0 where
   may_add : (x : T) → SenderMay fresh Add (held x) away
   may_flip : SenderMay fresh Xor vacant away
+  may_finish_send : (x : T) → SenderMay (owes sending) (Swap 4) (held x) vacant
+  may_finish_drop : SenderMay (owes dropping) (Swap 2) vacant vacant
 
 -- it may find this word, with the slots so before, and so after
 pub data SenderFinds {T W : Type 0}
     : SenderAt → Op → ℕ → Held T → Held W → Held T → Held W → Type 0 where
   add_empty : (x : T) → SenderFinds fresh Add 3 (held x) away away away
+  add_waker : (x : T) (k : W) → SenderFinds fresh Add 0 (held x) away (held x) (held k)
   add_gone : (x : T) → SenderFinds fresh Add 2 (held x) away (held x) vacant
   flip_empty : SenderFinds fresh Xor 3 vacant away away away
+  flip_waker : (k : W) → SenderFinds fresh Xor 0 vacant away vacant (held k)
   flip_gone : SenderFinds fresh Xor 2 vacant away vacant vacant
+  finish_send : (x : T) → SenderFinds (owes sending) (Swap 4) 1 (held x) vacant away away
+  finish_drop : SenderFinds (owes dropping) (Swap 2) 1 vacant vacant away away
 
 pub data ReceiverMay {T W : Type 0} : ReceiverAt → Op → Held T → Held W → Type 0 where
   -- a receive loads
   may_load_first : ReceiverMay first Load away away
   may_load : ReceiverMay (here looked) Load away vacant
   may_load_closed : (c : Closing) → ReceiverMay (over c) Load vacant vacant
+  -- one that blocks swaps, and loads once it has waited
+  may_store : (k : W) → ReceiverMay (here looked) (Swap 0) away (held k)
+  may_wait : (w : Waiting) → ReceiverMay (waits w) Load away away
   -- it closes
-  may_close : (g : Got) (x : T) → ReceiverMay (full g 4) (Store 2) (held x) vacant
+  may_close : (g : Got) (left : ℕ) (x : T) → ReceiverMay (full g left) (Store 2) (held x) vacant
+  may_close_only : (left : ℕ) → ReceiverMay (unclosed left) (Store 2) vacant vacant
   -- a drop swaps
   may_drop_first : ReceiverMay first (Swap 2) away away
   may_drop : ReceiverMay (here looked) (Swap 2) away vacant
@@ -47,8 +57,21 @@ pub data ReceiverFinds {T W : Type 0}
   load_message : (x : T) → ReceiverFinds (here looked) Load 4 away vacant (held x) vacant
   load_closed : ReceiverFinds (here looked) Load 2 away vacant vacant vacant
   load_over : (c : Closing) → ReceiverFinds (over c) Load 2 vacant vacant vacant vacant
+  -- one that blocks swaps
+  store_empty : (k : W) → ReceiverFinds (here looked) (Swap 0) 3 away (held k) away away
+  store_message : (x : T) (k : W)
+      → ReceiverFinds (here looked) (Swap 0) 4 away (held k) (held x) (held k)
+  store_closed : (k : W) → ReceiverFinds (here looked) (Swap 0) 2 away (held k) vacant (held k)
+  -- and loads once it has waited
+  wait_longer : (w : Waiting) → ReceiverFinds (waits w) Load 0 away away away away
+  wait_claimed : (w : Waiting) → ReceiverFinds (waits w) Load 1 away away away away
+  wait_message : (w : Waiting) (x : T) → ReceiverFinds (waits w) Load 4 away away (held x) vacant
+  wait_closed : (w : Waiting) → ReceiverFinds (waits w) Load 2 away away vacant vacant
   -- it closes
-  close : (g : Got) (x : T) → ReceiverFinds (full g 4) (Store 2) 4 (held x) vacant (held x) vacant
+  close : (g : Got) (left : ℕ) (x : T)
+      → ReceiverFinds (full g left) (Store 2) left (held x) vacant (held x) vacant
+  close_only : (left : ℕ)
+      → ReceiverFinds (unclosed left) (Store 2) left vacant vacant vacant vacant
   -- a drop swaps
   drop_first_empty : ReceiverFinds first (Swap 2) 3 away away away away
   drop_first_message : (x : T) → ReceiverFinds first (Swap 2) 4 away away (held x) vacant

@@ -5,7 +5,7 @@ use Rattle.std.proofs.Common.{zero, suc}
 use Rattle.oneshot_machine.specs.declared.machine.Reply.{Reply}
 use Rattle.oneshot_machine.specs.declared.machine.Reply.TheVariants as R
 use Rattle.oneshot_machine.specs.declared.machine.Seen.{Seen}
-use Rattle.oneshot_machine.specs.declared.machine.Seen.TheVariants.{Done}
+use Rattle.oneshot_machine.specs.declared.machine.Seen.TheVariants.{Done, Token}
 use Rattle.oneshot_machine.specs.declared.machine.Step.{Step}
 use Rattle.oneshot_machine.specs.declared.machine.receiver.ReceiverPos.{ReceiverPos}
 use Rattle.oneshot_machine.specs.declared.machine.receiver.ReceiverPos.TheVariants as RP
@@ -46,7 +46,7 @@ is_op op (Some other) = is_same_op op other
 
 -- what a step that is no operation on the word may see
 abbrev pub sights : List Seen
-sights = Done ∷ []
+sights = Done ∷ Token true ∷ Token false ∷ []
 
 module _ {P : Type 0} (t : Table P) where
   -- The positions that come next at which an operation on the word is made. Where more steps than
@@ -92,7 +92,13 @@ sender_positions =
     SP.LookClosed
     ∷ SP.SendWrite
     ∷ SP.SendAdd
+    ∷ SP.SendTakeWaker
+    ∷ SP.SendFinal
+    ∷ SP.SendWake
     ∷ SP.DropXor
+    ∷ SP.DropTakeWaker
+    ∷ SP.DropFinal
+    ∷ SP.DropWake
     ∷ SP.DropFree
     ∷ SP.ErrorLook
     ∷ SP.IntoTake
@@ -105,13 +111,19 @@ abbrev pub sender_number : SenderPos → ℕ
 sender_number SP.LookClosed = 0
 sender_number SP.SendWrite = 1
 sender_number SP.SendAdd = 2
-sender_number SP.DropXor = 3
-sender_number SP.DropFree = 4
-sender_number SP.ErrorLook = 5
-sender_number SP.IntoTake = 6
-sender_number SP.IntoFree = 7
-sender_number SP.ErrorDrop = 8
-sender_number SP.ErrorFree = 9
+sender_number SP.SendTakeWaker = 3
+sender_number SP.SendFinal = 4
+sender_number SP.SendWake = 5
+sender_number SP.DropXor = 6
+sender_number SP.DropTakeWaker = 7
+sender_number SP.DropFinal = 8
+sender_number SP.DropWake = 9
+sender_number SP.DropFree = 10
+sender_number SP.ErrorLook = 11
+sender_number SP.IntoTake = 12
+sender_number SP.IntoFree = 13
+sender_number SP.ErrorDrop = 14
+sender_number SP.ErrorFree = 15
 
 -- a refused `send` leaves an error, and its calls
 abbrev pub sender_follows : SenderPos → Reply → List SenderPos
@@ -131,7 +143,33 @@ sender_table =
 
 abbrev pub receiver_positions : List ReceiverPos
 receiver_positions =
-    RP.LookFull ∷ RP.LookClosed ∷ RP.TryLoad ∷ RP.Close ∷ RP.Take ∷ RP.DropSwap ∷ RP.DropMessage ∷ RP.DropFree ∷ []
+    RP.LookFull
+    ∷ RP.LookClosed
+    ∷ RP.TryLoad
+    ∷ RP.Close
+    ∷ RP.Take
+    ∷ RP.CloseOnly
+    ∷ RP.StartLoad
+    ∷ RP.StartWrite
+    ∷ RP.StartSwap
+    ∷ RP.BackFull
+    ∷ RP.BackClosed
+    ∷ RP.Park
+    ∷ RP.ParkLoad
+    ∷ RP.RecvLoad
+    ∷ RP.RecvWrite
+    ∷ RP.RecvSwap
+    ∷ RP.RecvBackFull
+    ∷ RP.RecvBackClosed
+    ∷ RP.RecvPark
+    ∷ RP.RecvParkLoad
+    ∷ RP.RecvTake
+    ∷ RP.RecvFreeGot
+    ∷ RP.RecvFreeGone
+    ∷ RP.DropSwap
+    ∷ RP.DropMessage
+    ∷ RP.DropFree
+    ∷ []
 
 abbrev pub receiver_number : ReceiverPos → ℕ
 receiver_number RP.LookFull = 0
@@ -139,17 +177,39 @@ receiver_number RP.LookClosed = 1
 receiver_number RP.TryLoad = 2
 receiver_number RP.Close = 3
 receiver_number RP.Take = 4
-receiver_number RP.DropSwap = 5
-receiver_number RP.DropMessage = 6
-receiver_number RP.DropFree = 7
+receiver_number RP.CloseOnly = 5
+receiver_number RP.StartLoad = 6
+receiver_number RP.StartWrite = 7
+receiver_number RP.StartSwap = 8
+receiver_number RP.BackFull = 9
+receiver_number RP.BackClosed = 10
+receiver_number RP.Park = 11
+receiver_number RP.ParkLoad = 12
+receiver_number RP.RecvLoad = 13
+receiver_number RP.RecvWrite = 14
+receiver_number RP.RecvSwap = 15
+receiver_number RP.RecvBackFull = 16
+receiver_number RP.RecvBackClosed = 17
+receiver_number RP.RecvPark = 18
+receiver_number RP.RecvParkLoad = 19
+receiver_number RP.RecvTake = 20
+receiver_number RP.RecvFreeGot = 21
+receiver_number RP.RecvFreeGone = 22
+receiver_number RP.DropSwap = 23
+receiver_number RP.DropMessage = 24
+receiver_number RP.DropFree = 25
 
 abbrev pub receiver_opens : List ReceiverPos
-receiver_opens = receiver_start RC.TryRecv ∷ receiver_start RC.Drop ∷ []
+receiver_opens =
+    receiver_start RC.TryRecv ∷ receiver_start RC.RecvRef ∷ receiver_start RC.Recv ∷ receiver_start RC.Drop ∷ []
 
--- after a receive any call, after a drop none
+-- after `try_recv` and `recv_ref` any call, after `recv` and a drop none
 abbrev pub receiver_follows : ReceiverPos → Reply → List ReceiverPos
 receiver_follows RP.TryLoad reply = receiver_opens
 receiver_follows RP.Take reply = receiver_opens
+receiver_follows RP.CloseOnly reply = receiver_opens
+receiver_follows RP.StartLoad reply = receiver_opens
+receiver_follows RP.ParkLoad reply = receiver_opens
 receiver_follows _ reply = []
 
 abbrev pub receiver_table : Table ReceiverPos

@@ -27,6 +27,16 @@ pub enum Step {
     TakeMessage,
     /// The message is dropped in its cell.
     DropMessage,
+    /// The receiver's waker goes from its hand into the waker's cell.
+    WriteWaker,
+    /// The sender takes the waker from its cell.
+    TakeWaker,
+    /// The receiver takes its waker back from the cell into its hand.
+    Withdraw,
+    /// The receiver waits until it is woken. It may also go on unwoken.
+    Park,
+    /// The sender uses the waker that it took: it wakes the receiver.
+    Wake,
     /// The block is freed.
     Free,
     /// A call that does none of these.
@@ -40,6 +50,8 @@ pub enum Seen {
     Done,
     /// The word before the operation. A `Store` tells none, and sees `Done`.
     Word(u8),
+    /// Whether a park ended by its token, which it used, or without one.
+    Token(bool),
 }
 
 /// What a call answers.

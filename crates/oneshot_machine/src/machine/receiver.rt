@@ -1,17 +1,22 @@
 //! The receiver's machine: where a call stands, the step that it makes there, and where what it sees leads.
 
 ghost use Rattle.std.specs.Prelude.{◌≡◌, Some, IsTrue, IfSome, is_some};
+ghost use Rattle.std.specs.Option.{option_map};
 ghost use Rattle.oneshot_machine.specs.Rows.{outcome};
 ghost use Rattle.oneshot_machine.specs.Receiver.{receiver_start, receiver_step, receiver_row};
 
 use crate::machine::{Reply, Seen, Step};
-use crate::states::{DISCONNECTED, EMPTY, MESSAGE, Op};
+use crate::states::{DISCONNECTED, EMPTY, MESSAGE, Op, RECEIVING, UNPARKING};
 
 /// A call of the receiver.
 #[derive(Clone, Copy, Debug, Eq, Hash, PartialEq)]
 pub enum ReceiverStart {
     /// `Receiver::try_recv`.
     TryRecv,
+    /// `Receiver::recv`.
+    Recv,
+    /// `Receiver::recv_ref`.
+    RecvRef,
     /// `Receiver::has_message`.
     HasMessage,
     /// `Receiver::is_closed`.
@@ -33,6 +38,42 @@ pub enum ReceiverPos {
     Close,
     /// A receive is about to take its message.
     Take,
+    /// A receive that found no sender is about to put the word of a closed channel back.
+    CloseOnly,
+    /// `recv_ref` is about to read the word.
+    StartLoad,
+    /// `recv_ref` is about to put its waker into the cell.
+    StartWrite,
+    /// `recv_ref` is about to put the word of a receiver that waits.
+    StartSwap,
+    /// `recv_ref` found the message by its swap, and is about to take its waker back.
+    BackFull,
+    /// `recv_ref` found no sender by its swap, and is about to take its waker back.
+    BackClosed,
+    /// `recv_ref` is about to wait.
+    Park,
+    /// `recv_ref` waited, and is about to read the word.
+    ParkLoad,
+    /// `recv` is about to read the word.
+    RecvLoad,
+    /// `recv` is about to put its waker into the cell.
+    RecvWrite,
+    /// `recv` is about to put the word of a receiver that waits.
+    RecvSwap,
+    /// `recv` found the message by its swap, and is about to take its waker back.
+    RecvBackFull,
+    /// `recv` found no sender by its swap, and is about to take its waker back.
+    RecvBackClosed,
+    /// `recv` is about to wait.
+    RecvPark,
+    /// `recv` waited, and is about to read the word.
+    RecvParkLoad,
+    /// `recv` is about to take its message.
+    RecvTake,
+    /// `recv` has its message, and is about to free the block.
+    RecvFreeGot,
+    /// `recv` found no sender, and is about to free the block.
+    RecvFreeGone,
     /// The drop is about to close the channel.
     DropSwap,
     /// The drop is about to drop the message that it found.
@@ -48,6 +89,8 @@ impl ReceiverPos {
     {
         match call {
             ReceiverStart::TryRecv => ReceiverPos::TryLoad,
+            ReceiverStart::Recv => ReceiverPos::RecvLoad,
+            ReceiverStart::RecvRef => ReceiverPos::StartLoad,
             ReceiverStart::HasMessage => ReceiverPos::LookFull,
             ReceiverStart::IsClosed => ReceiverPos::LookClosed,
             ReceiverStart::Drop => ReceiverPos::DropSwap,
@@ -64,6 +107,24 @@ impl ReceiverPos {
             ReceiverPos::TryLoad => Step::Word(Op::Load),
             ReceiverPos::Close => Step::Word(Op::Store(DISCONNECTED)),
             ReceiverPos::Take => Step::TakeMessage,
+            ReceiverPos::CloseOnly => Step::Word(Op::Store(DISCONNECTED)),
+            ReceiverPos::StartLoad => Step::Word(Op::Load),
+            ReceiverPos::StartWrite => Step::WriteWaker,
+            ReceiverPos::StartSwap => Step::Word(Op::Swap(RECEIVING)),
+            ReceiverPos::BackFull => Step::Withdraw,
+            ReceiverPos::BackClosed => Step::Withdraw,
+            ReceiverPos::Park => Step::Park,
+            ReceiverPos::ParkLoad => Step::Word(Op::Load),
+            ReceiverPos::RecvLoad => Step::Word(Op::Load),
+            ReceiverPos::RecvWrite => Step::WriteWaker,
+            ReceiverPos::RecvSwap => Step::Word(Op::Swap(RECEIVING)),
+            ReceiverPos::RecvBackFull => Step::Withdraw,
+            ReceiverPos::RecvBackClosed => Step::Withdraw,
+            ReceiverPos::RecvPark => Step::Park,
+            ReceiverPos::RecvParkLoad => Step::Word(Op::Load),
+            ReceiverPos::RecvTake => Step::TakeMessage,
+            ReceiverPos::RecvFreeGot => Step::Free,
+            ReceiverPos::RecvFreeGone => Step::Free,
             ReceiverPos::DropSwap => Step::Word(Op::Swap(DISCONNECTED)),
             ReceiverPos::DropMessage => Step::DropMessage,
             ReceiverPos::DropFree => Step::Free,
@@ -74,25 +135,7 @@ impl ReceiverPos {
     pub fn accepts(&self, seen: Seen) -> bool
         ensures { result ≡ is_some (receiver_row self.now seen) }
     {
-        match (self, seen) {
-            (ReceiverPos::LookFull, Seen::Word(MESSAGE)) => true,
-            (ReceiverPos::LookFull, Seen::Word(DISCONNECTED)) => true,
-            (ReceiverPos::LookFull, Seen::Word(EMPTY)) => true,
-            (ReceiverPos::LookClosed, Seen::Word(DISCONNECTED)) => true,
-            (ReceiverPos::LookClosed, Seen::Word(EMPTY)) => true,
-            (ReceiverPos::LookClosed, Seen::Word(MESSAGE)) => true,
-            (ReceiverPos::TryLoad, Seen::Word(MESSAGE)) => true,
-            (ReceiverPos::TryLoad, Seen::Word(EMPTY)) => true,
-            (ReceiverPos::TryLoad, Seen::Word(DISCONNECTED)) => true,
-            (ReceiverPos::Close, Seen::Done) => true,
-            (ReceiverPos::Take, Seen::Done) => true,
-            (ReceiverPos::DropSwap, Seen::Word(EMPTY)) => true,
-            (ReceiverPos::DropSwap, Seen::Word(MESSAGE)) => true,
-            (ReceiverPos::DropSwap, Seen::Word(DISCONNECTED)) => true,
-            (ReceiverPos::DropMessage, Seen::Done) => true,
-            (ReceiverPos::DropFree, Seen::Done) => true,
-            _ => false,
-        }
+        self.row(seen).is_some()
     }
 
     /// The row for `seen`, which the position accepts: the next position, or the reply that ends the
@@ -102,11 +145,26 @@ impl ReceiverPos {
         ensures row { receiver_row self.now seen ≡ Some (outcome result) }
         ensures stays { IfSome result.1 (λ _. result.0 ≡ self.now) }
     {
-        match (self, seen) {
+        let Some(found) = self.row(seen) else {
+            unreachable!()
+        };
+        found
+    }
+
+    // The table: an arm a row, in the order in which it is written.
+    fn row(&self, seen: Seen) -> Option<(ReceiverPos, Option<Reply>)>
+        ensures row { option_map outcome result ≡ receiver_row self.now seen }
+        ensures stays { IfSome result (λ r. IfSome r.1 (λ _. r.0 ≡ self.now)) }
+    {
+        let found = match (self, seen) {
             (ReceiverPos::LookFull, Seen::Word(MESSAGE)) => (*self, Some(Reply::Yes)),
+            (ReceiverPos::LookFull, Seen::Word(RECEIVING)) => (*self, Some(Reply::No)),
+            (ReceiverPos::LookFull, Seen::Word(UNPARKING)) => (*self, Some(Reply::No)),
             (ReceiverPos::LookFull, Seen::Word(DISCONNECTED)) => (*self, Some(Reply::No)),
             (ReceiverPos::LookFull, Seen::Word(EMPTY)) => (*self, Some(Reply::No)),
             (ReceiverPos::LookClosed, Seen::Word(DISCONNECTED)) => (*self, Some(Reply::Yes)),
+            (ReceiverPos::LookClosed, Seen::Word(RECEIVING)) => (*self, Some(Reply::No)),
+            (ReceiverPos::LookClosed, Seen::Word(UNPARKING)) => (*self, Some(Reply::No)),
             (ReceiverPos::LookClosed, Seen::Word(EMPTY)) => (*self, Some(Reply::No)),
             (ReceiverPos::LookClosed, Seen::Word(MESSAGE)) => (*self, Some(Reply::No)),
             (ReceiverPos::TryLoad, Seen::Word(MESSAGE)) => (ReceiverPos::Close, None),
@@ -114,12 +172,56 @@ impl ReceiverPos {
             (ReceiverPos::TryLoad, Seen::Word(DISCONNECTED)) => (*self, Some(Reply::Disconnected)),
             (ReceiverPos::Close, Seen::Done) => (ReceiverPos::Take, None),
             (ReceiverPos::Take, Seen::Done) => (*self, Some(Reply::Message)),
+            (ReceiverPos::CloseOnly, Seen::Done) => (*self, Some(Reply::Disconnected)),
+            (ReceiverPos::StartLoad, Seen::Word(MESSAGE)) => (ReceiverPos::Close, None),
+            (ReceiverPos::StartLoad, Seen::Word(DISCONNECTED)) => (
+                *self,
+                Some(Reply::Disconnected),
+            ),
+            (ReceiverPos::StartLoad, Seen::Word(EMPTY)) => (ReceiverPos::StartWrite, None),
+            (ReceiverPos::StartWrite, Seen::Done) => (ReceiverPos::StartSwap, None),
+            (ReceiverPos::StartSwap, Seen::Word(EMPTY)) => (ReceiverPos::Park, None),
+            (ReceiverPos::StartSwap, Seen::Word(MESSAGE)) => (ReceiverPos::BackFull, None),
+            (ReceiverPos::StartSwap, Seen::Word(DISCONNECTED)) => (ReceiverPos::BackClosed, None),
+            (ReceiverPos::BackFull, Seen::Done) => (ReceiverPos::Close, None),
+            (ReceiverPos::BackClosed, Seen::Done) => (ReceiverPos::CloseOnly, None),
+            (ReceiverPos::Park, Seen::Token(true)) => (ReceiverPos::ParkLoad, None),
+            (ReceiverPos::Park, Seen::Token(false)) => (ReceiverPos::ParkLoad, None),
+            (ReceiverPos::ParkLoad, Seen::Word(MESSAGE)) => (ReceiverPos::Close, None),
+            (ReceiverPos::ParkLoad, Seen::Word(DISCONNECTED)) => (*self, Some(Reply::Disconnected)),
+            (ReceiverPos::ParkLoad, Seen::Word(RECEIVING)) => (ReceiverPos::Park, None),
+            (ReceiverPos::ParkLoad, Seen::Word(UNPARKING)) => (ReceiverPos::Park, None),
+            (ReceiverPos::RecvLoad, Seen::Word(MESSAGE)) => (ReceiverPos::RecvTake, None),
+            (ReceiverPos::RecvLoad, Seen::Word(DISCONNECTED)) => (ReceiverPos::RecvFreeGone, None),
+            (ReceiverPos::RecvLoad, Seen::Word(EMPTY)) => (ReceiverPos::RecvWrite, None),
+            (ReceiverPos::RecvWrite, Seen::Done) => (ReceiverPos::RecvSwap, None),
+            (ReceiverPos::RecvSwap, Seen::Word(EMPTY)) => (ReceiverPos::RecvPark, None),
+            (ReceiverPos::RecvSwap, Seen::Word(MESSAGE)) => (ReceiverPos::RecvBackFull, None),
+            (ReceiverPos::RecvSwap, Seen::Word(DISCONNECTED)) => (
+                ReceiverPos::RecvBackClosed,
+                None,
+            ),
+            (ReceiverPos::RecvBackFull, Seen::Done) => (ReceiverPos::RecvTake, None),
+            (ReceiverPos::RecvBackClosed, Seen::Done) => (ReceiverPos::RecvFreeGone, None),
+            (ReceiverPos::RecvPark, Seen::Token(true)) => (ReceiverPos::RecvParkLoad, None),
+            (ReceiverPos::RecvPark, Seen::Token(false)) => (ReceiverPos::RecvParkLoad, None),
+            (ReceiverPos::RecvParkLoad, Seen::Word(MESSAGE)) => (ReceiverPos::RecvTake, None),
+            (ReceiverPos::RecvParkLoad, Seen::Word(DISCONNECTED)) => (
+                ReceiverPos::RecvFreeGone,
+                None,
+            ),
+            (ReceiverPos::RecvParkLoad, Seen::Word(RECEIVING)) => (ReceiverPos::RecvPark, None),
+            (ReceiverPos::RecvParkLoad, Seen::Word(UNPARKING)) => (ReceiverPos::RecvPark, None),
+            (ReceiverPos::RecvTake, Seen::Done) => (ReceiverPos::RecvFreeGot, None),
+            (ReceiverPos::RecvFreeGot, Seen::Done) => (*self, Some(Reply::Message)),
+            (ReceiverPos::RecvFreeGone, Seen::Done) => (*self, Some(Reply::Disconnected)),
             (ReceiverPos::DropSwap, Seen::Word(EMPTY)) => (*self, Some(Reply::Done)),
             (ReceiverPos::DropSwap, Seen::Word(MESSAGE)) => (ReceiverPos::DropMessage, None),
             (ReceiverPos::DropSwap, Seen::Word(DISCONNECTED)) => (ReceiverPos::DropFree, None),
             (ReceiverPos::DropMessage, Seen::Done) => (ReceiverPos::DropFree, None),
             (ReceiverPos::DropFree, Seen::Done) => (*self, Some(Reply::Done)),
-            _ => unreachable!(),
-        }
+            _ => return None,
+        };
+        Some(found)
     }
 }
