@@ -1,10 +1,12 @@
 -- Values that are compared by their codes are the same where their codes are.
-use Rattle.std.proofs.Common.{◌≡◌, ℕ, Bool, true, false, List, [], ◌∷◌, Option, Some, None, refl, sym, ◌∙◌, ap, ◌==◌, get_or}
+use Rattle.std.proofs.Common.{◌≡◌, ℕ, Bool, true, false, List, [], ◌∷◌, Option, Some, None, refl, sym, ◌∙◌, ap, ◌==◌, get_or, map}
 use Rattle.std.proofs.lemmas.Bool.{eqb-true}
+use Rattle.oneshot_machine.specs.Standing.{sender_positions, receiver_positions}
 use Rattle.oneshot_machine.specs.declared.machine.receiver.ReceiverPos.TheVariants as R
 use Rattle.oneshot_machine.specs.declared.machine.sender.SenderPos.TheVariants as S
-use Rattle.oneshot_world.specs.Calls.{Call, Sender_is_closed, Send, Drop_sender, As_inner, Into_inner, Drop_error, Try_recv, Has_message, Is_closed, Drop_receiver, Stray}
-use Rattle.oneshot_world.specs.Control.{Control, sender_code, receiver_code, call_code, place_code, bool_code, is_same_state, is_same_control}
+use Rattle.oneshot_world.specs.Calls.{Call, Sender_is_closed, Send, Drop_sender, As_inner, Into_inner, Drop_error, Try_recv, Recv_ref, Recv, Has_message, Is_closed, Drop_receiver, Stray}
+use Rattle.oneshot_world.specs.Control.{Control, sender_code, receiver_code, call_code, place_code, bool_code, is_same_wakers, is_same_state, is_same_control}
+use Rattle.oneshot_world.specs.Wakers.{is_same_name}
 use Rattle.oneshot_world.specs.declared.state.ReceiverState.{ReceiverState}
 use Rattle.oneshot_world.specs.declared.state.ReceiverState.TheVariants as RS
 use Rattle.oneshot_world.specs.declared.state.SenderState.{SenderState}
@@ -12,6 +14,9 @@ use Rattle.oneshot_world.specs.declared.state.SenderState.TheVariants as SS
 use Rattle.oneshot_world.specs.declared.state.State.{State}
 use Rattle.oneshot_world.specs.declared.trace.Place.{Place}
 use Rattle.oneshot_world.specs.declared.trace.Place.TheVariants.{NotSent, InCell, InError, Delivered, FromError, Dropped}
+use Rattle.oneshot_world.specs.declared.trace.WakerName.{WakerName}
+use Rattle.oneshot_world.specs.declared.trace.WakerName.TheVariants.{Parker, Copy}
+use Rattle.oneshot_world.specs.declared.wakers.Wakers.{Wakers}
 use Rattle.oneshot_world.proofs.Bools.{and_left, and_right}
 
 -- a code under which each value stands in a list
@@ -19,43 +24,65 @@ pub same_by : {X : Type 0} (code : X → ℕ) (values : List X) (d : X) → ((x 
 same_by code values d back x y h = sym (back x) ∙ ap (λ k. get_or values k d) (eqb-true (code x) (code y) h) ∙ back y
 
 abbrev senders : List SenderState
-senders =
-    SS.Ready ∷ SS.At S.LookClosed ∷ SS.At S.SendWrite ∷ SS.At S.SendAdd ∷ SS.At S.DropXor ∷ SS.At S.DropFree ∷ SS.At S.ErrorLook ∷ SS.At S.IntoTake ∷ SS.At S.IntoFree ∷ SS.At S.ErrorDrop ∷ SS.At S.ErrorFree ∷ SS.Failed ∷ SS.Ended ∷ []
+senders = SS.Ready ∷ SS.Failed ∷ SS.Ended ∷ map SS.At sender_positions
 
 sender_back : (s : SenderState) → get_or senders (sender_code s) SS.Ended ≡ s
 sender_back SS.Ready = refl
+sender_back SS.Failed = refl
+sender_back SS.Ended = refl
 sender_back (SS.At S.LookClosed) = refl
 sender_back (SS.At S.SendWrite) = refl
 sender_back (SS.At S.SendAdd) = refl
+sender_back (SS.At S.SendTakeWaker) = refl
+sender_back (SS.At S.SendFinal) = refl
+sender_back (SS.At S.SendWake) = refl
 sender_back (SS.At S.DropXor) = refl
+sender_back (SS.At S.DropTakeWaker) = refl
+sender_back (SS.At S.DropFinal) = refl
+sender_back (SS.At S.DropWake) = refl
 sender_back (SS.At S.DropFree) = refl
 sender_back (SS.At S.ErrorLook) = refl
 sender_back (SS.At S.IntoTake) = refl
 sender_back (SS.At S.IntoFree) = refl
 sender_back (SS.At S.ErrorDrop) = refl
 sender_back (SS.At S.ErrorFree) = refl
-sender_back SS.Failed = refl
-sender_back SS.Ended = refl
 
 abbrev receivers : List ReceiverState
-receivers =
-    RS.Ready ∷ RS.At R.LookFull ∷ RS.At R.LookClosed ∷ RS.At R.TryLoad ∷ RS.At R.Close ∷ RS.At R.Take ∷ RS.At R.DropSwap ∷ RS.At R.DropMessage ∷ RS.At R.DropFree ∷ RS.Ended ∷ []
+receivers = RS.Ready ∷ RS.Ended ∷ map RS.At receiver_positions
 
 receiver_back : (s : ReceiverState) → get_or receivers (receiver_code s) RS.Ended ≡ s
 receiver_back RS.Ready = refl
+receiver_back RS.Ended = refl
 receiver_back (RS.At R.LookFull) = refl
 receiver_back (RS.At R.LookClosed) = refl
 receiver_back (RS.At R.TryLoad) = refl
 receiver_back (RS.At R.Close) = refl
 receiver_back (RS.At R.Take) = refl
+receiver_back (RS.At R.CloseOnly) = refl
+receiver_back (RS.At R.StartLoad) = refl
+receiver_back (RS.At R.StartWrite) = refl
+receiver_back (RS.At R.StartSwap) = refl
+receiver_back (RS.At R.BackFull) = refl
+receiver_back (RS.At R.BackClosed) = refl
+receiver_back (RS.At R.Park) = refl
+receiver_back (RS.At R.ParkLoad) = refl
+receiver_back (RS.At R.RecvLoad) = refl
+receiver_back (RS.At R.RecvWrite) = refl
+receiver_back (RS.At R.RecvSwap) = refl
+receiver_back (RS.At R.RecvBackFull) = refl
+receiver_back (RS.At R.RecvBackClosed) = refl
+receiver_back (RS.At R.RecvPark) = refl
+receiver_back (RS.At R.RecvParkLoad) = refl
+receiver_back (RS.At R.RecvTake) = refl
+receiver_back (RS.At R.RecvFreeGot) = refl
+receiver_back (RS.At R.RecvFreeGone) = refl
 receiver_back (RS.At R.DropSwap) = refl
 receiver_back (RS.At R.DropMessage) = refl
 receiver_back (RS.At R.DropFree) = refl
-receiver_back RS.Ended = refl
 
 abbrev calls : List (Option Call)
 calls =
-    None ∷ Some Sender_is_closed ∷ Some Send ∷ Some Drop_sender ∷ Some As_inner ∷ Some Into_inner ∷ Some Drop_error ∷ Some Try_recv ∷ Some Has_message ∷ Some Is_closed ∷ Some Drop_receiver ∷ Some Stray ∷ []
+    None ∷ Some Sender_is_closed ∷ Some Send ∷ Some Drop_sender ∷ Some As_inner ∷ Some Into_inner ∷ Some Drop_error ∷ Some Try_recv ∷ Some Recv_ref ∷ Some Recv ∷ Some Has_message ∷ Some Is_closed ∷ Some Drop_receiver ∷ Some Stray ∷ []
 
 call_back : (c : Option Call) → get_or calls (call_code c) None ≡ c
 call_back None = refl
@@ -66,6 +93,8 @@ call_back (Some As_inner) = refl
 call_back (Some Into_inner) = refl
 call_back (Some Drop_error) = refl
 call_back (Some Try_recv) = refl
+call_back (Some Recv_ref) = refl
+call_back (Some Recv) = refl
 call_back (Some Has_message) = refl
 call_back (Some Is_closed) = refl
 call_back (Some Drop_receiver) = refl
@@ -94,12 +123,42 @@ bool_back false = refl
 pub bool_is : (a b : Bool) → (bool_code a == bool_code b) ≡ true → a ≡ b
 bool_is = same_by bool_code bools false bool_back
 
--- records with the same fields are the same
-state_of : ℕ → Bool → SenderState → ReceiverState → Option Place → State
-state_of word freed sender receiver message =
-    record { word = word; freed = freed; sender = sender; receiver = receiver; message = message }
+pub name_is : (a b : Option WakerName) → is_same_name a b ≡ true → a ≡ b
+name_is None None h = refl
+name_is (Some Parker) (Some Parker) h = refl
+name_is (Some (Copy a i)) (Some (Copy b j)) h =
+    let numbers : a ≡ b = eqb-true a b (and_left _ _ h) in
+    let entries : i ≡ j = eqb-true i j (and_right (a == b) _ h) in
+    rw (numbers, entries) refl
+name_is None (Some b) h = cc
+name_is (Some Parker) None h = cc
+name_is (Some (Copy a i)) None h = cc
+name_is (Some Parker) (Some (Copy b j)) h = cc
+name_is (Some (Copy a i)) (Some Parker) h = cc
 
-its_fields : (s : State) → state_of s.word s.freed s.sender s.receiver s.message ≡ s
+-- records with the same fields are the same
+wakers_of : Option WakerName → Option WakerName → Option WakerName → Bool → Wakers
+wakers_of cell hand taken token = record { cell = cell; hand = hand; taken = taken; token = token }
+
+its_wakers : (w : Wakers) → wakers_of w.cell w.hand w.taken w.token ≡ w
+unfolding wakers_of
+its_wakers w = refl
+
+pub wakers_are : (v w : Wakers) → is_same_wakers v w ≡ true → v ≡ w
+wakers_are v w h =
+    let h1 = and_right _ _ h in
+    let h2 = and_right _ _ h1 in
+    let cell : v.cell ≡ w.cell = name_is v.cell w.cell (and_left _ _ h) in
+    let hand : v.hand ≡ w.hand = name_is v.hand w.hand (and_left _ _ h1) in
+    let taken : v.taken ≡ w.taken = name_is v.taken w.taken (and_left _ _ h2) in
+    let token : v.token ≡ w.token = bool_is v.token w.token (and_right _ _ h2) in
+    cc (its_wakers v, its_wakers w)
+
+state_of : ℕ → Bool → SenderState → ReceiverState → Option Place → Wakers → State
+state_of word freed sender receiver message wakers =
+    record { word = word; freed = freed; sender = sender; receiver = receiver; message = message; wakers = wakers }
+
+its_fields : (s : State) → state_of s.word s.freed s.sender s.receiver s.message s.wakers ≡ s
 unfolding state_of
 its_fields s = refl
 
@@ -112,7 +171,9 @@ state_is s t h =
     let receiver : s.receiver ≡ t.receiver = same_by receiver_code receivers RS.Ended receiver_back s.receiver t.receiver (and_left _ _ h1) in
     let word : s.word ≡ t.word = eqb-true s.word t.word (and_left _ _ h2) in
     let freed : s.freed ≡ t.freed = bool_is s.freed t.freed (and_left _ _ h3) in
-    let message : s.message ≡ t.message = same_by place_code places None place_back s.message t.message (and_right _ _ h3) in
+    let h4 = and_right _ _ h3 in
+    let message : s.message ≡ t.message = same_by place_code places None place_back s.message t.message (and_left _ _ h4) in
+    let wakers : s.wakers ≡ t.wakers = wakers_are s.wakers t.wakers (and_right _ _ h4) in
     cc (its_fields s, its_fields t)
 
 control_with : State → Option Call → Option Call → Control

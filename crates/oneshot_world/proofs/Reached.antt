@@ -12,7 +12,7 @@ use Rattle.oneshot_machine.specs.declared.machine.Reply.TheVariants as Replies
 use Rattle.oneshot_machine.specs.declared.machine.Step.{Step}
 use Rattle.oneshot_machine.specs.declared.machine.receiver.ReceiverPos.{ReceiverPos}
 use Rattle.oneshot_machine.specs.declared.machine.sender.SenderPos.{SenderPos}
-use Rattle.oneshot_world.specs.Calls.{Call, Sender_is_closed, Send, Drop_sender, As_inner, Into_inner, Drop_error, Try_recv, Has_message, Is_closed, Drop_receiver, Unanswered, first, rest, is_none_left, left_by, error_calls, as_sender_call, as_receiver_call}
+use Rattle.oneshot_world.specs.Calls.{Call, Sender_is_closed, Send, Drop_sender, As_inner, Into_inner, Drop_error, Try_recv, Recv_ref, Recv, Has_message, Is_closed, Drop_receiver, Unanswered, first, rest, is_none_left, left_by, error_calls, as_sender_call, as_receiver_call}
 use Rattle.oneshot_world.specs.Control.{Control, control_of, Begin, begins, sender_begins, receiver_begins, sender_under_way, receiver_under_way, control_then, control_turn, control_code, is_same_control, reached, is_reached, IsReached, opening_control, is_script, is_sender_script, is_error_script, stays_sender, ends_sender, stays_error, ends_error, stays_receiver, ends_receiver, sender_has}
 use Rattle.oneshot_world.specs.Explore.{all_in}
 use Rattle.oneshot_world.specs.State.{sender_turns_at, receiver_turns_at, sender_position, receiver_position, sender_steps, receiver_steps, sender_stepped, receiver_stepped, made_entry, place_left, reply_of, sender_goes, receiver_goes, is_plain, sender_fits, receiver_fits, seen_by, sender_puts, receiver_puts}
@@ -96,14 +96,19 @@ at_sender test message SS.Ended calls position has at h = cc
 abbrev receives : Call → Begin
 receives call = record { side = Receiver; call = Some call }
 
+past : (test : Begin → Bool) (call : Call) {more : Bool} → (test (receives call) && more) ≡ true → more ≡ true
+past test call {more} h = and_right (test (receives call)) more h
+
 pub at_receiver : (test : Begin → Bool) (s : ReceiverState) (calls : List Call) (position : ReceiverPos) → receiver_position s (option_and_then as_receiver_call (first calls)) ≡ Some position → list_all test (receiver_begins s (receiver_under_way s (first calls))) ≡ true → test (record { side = Receiver; call = first calls }) ≡ true
 at_receiver test RS.Ready [] position at h = cc
 at_receiver test RS.Ready (Try_recv ∷ calls) position at h = and_left _ _ h
-at_receiver test RS.Ready (Has_message ∷ calls) position at h = and_left _ _ (and_right _ _ h)
+at_receiver test RS.Ready (Recv_ref ∷ calls) position at h = and_left _ _ (past test Try_recv h)
+at_receiver test RS.Ready (Recv ∷ calls) position at h = and_left _ _ (past test Recv_ref (past test Try_recv h))
+at_receiver test RS.Ready (Has_message ∷ calls) position at h = and_left _ _ (past test Recv (past test Recv_ref (past test Try_recv h)))
 at_receiver test RS.Ready (Is_closed ∷ calls) position at h =
-    and_left _ _ (and_right (test (receives Has_message)) _ (and_right (test (receives Try_recv)) _ h))
+    and_left _ _ (past test Has_message (past test Recv (past test Recv_ref (past test Try_recv h))))
 at_receiver test RS.Ready (Drop_receiver ∷ calls) position at h =
-    and_left _ true (and_right (test (receives Is_closed)) _ (and_right (test (receives Has_message)) _ (and_right (test (receives Try_recv)) _ h)))
+    and_left _ true (past test Is_closed (past test Has_message (past test Recv (past test Recv_ref (past test Try_recv h)))))
 at_receiver test RS.Ready (_ ∷ calls) position at h = cc
 at_receiver test (RS.At here) calls position at h = and_left _ _ h
 at_receiver test RS.Ended calls position at h = cc
@@ -192,7 +197,7 @@ sender_control_is w step (Answers _) = refl
 pub receiver_control_is : (w : World) (step : Step) (row : Outcome ReceiverPos) → control_then Receiver (first w.receiver.calls) (control_of w) (receiver_stepped w.state step row).1 ≡ control_of (receiver_world w step row)
 receiver_control_is w step (Goes next) = refl
 receiver_control_is w step (Answers Replies.Done) = refl
-receiver_control_is w step (Answers _) = refl
+receiver_control_is w step (Answers _) = ends_or_stays (is_free step) (first w.receiver.calls) (λ r. record (control_of w) { receiver = r })
 
 -- what is left after a reply of the sender's side
 ready_left : (from to : Option Place) (calls : List Call) → (is_sender_script from calls || is_error_script calls) ≡ true → left_as SS.Ready (first calls) ≡ true → is_sender_script (place_left from to) (rest calls) ≡ true
@@ -280,10 +285,10 @@ receiver_row_reaches w position row h at steps =
 
 -- a step that is made, is made by a row
 pub sender_made_by : (s : State) (position : SenderPos) (t : Made × State) → sender_steps s position ≡ Some t → (row : Outcome SenderPos) × (sender_stepped s (sender_step position) row ≡ t)
-sender_made_by s position t h = from_row (sender_fits s.message (sender_step position)) (sender_stepped s (sender_step position)) (sender_row position (seen_by s.word (sender_step position))) t h
+sender_made_by s position t h = from_row (sender_fits s (sender_step position)) (sender_stepped s (sender_step position)) (sender_row position (seen_by s (sender_step position))) t h
 
 pub receiver_made_by : (s : State) (position : ReceiverPos) (t : Made × State) → receiver_steps s position ≡ Some t → (row : Outcome ReceiverPos) × (receiver_stepped s (receiver_step position) row ≡ t)
-receiver_made_by s position t h = from_row (receiver_fits s.message (receiver_step position)) (receiver_stepped s (receiver_step position)) (receiver_row position (seen_by s.word (receiver_step position))) t h
+receiver_made_by s position t h = from_row (receiver_fits s (receiver_step position)) (receiver_stepped s (receiver_step position)) (receiver_row position (seen_by s (receiver_step position))) t h
 
 pub sender_reaches : (w : World) (position : SenderPos) (e : Made) (s : State) → IsReached w → sender_at w ≡ Some position → sender_steps w.state position ≡ Some (e, s) → IsReached (record { state = s; sender = left_by Sender e.reply w.sender; receiver = w.receiver })
 sender_reaches w position e s h at steps =

@@ -29,6 +29,8 @@ pub data Call : Type 0 where
   Into_inner : Call
   Drop_error : Call
   Try_recv : Call
+  Recv_ref : Call
+  Recv : Call
   Has_message : Call
   Is_closed : Call
   Drop_receiver : Call
@@ -43,6 +45,8 @@ as_sender_call As_inner = Some SC.AsInner
 as_sender_call Into_inner = Some SC.IntoInner
 as_sender_call Drop_error = Some SC.DropError
 as_sender_call Try_recv = None
+as_sender_call Recv_ref = None
+as_sender_call Recv = None
 as_sender_call Has_message = None
 as_sender_call Is_closed = None
 as_sender_call Drop_receiver = None
@@ -56,6 +60,8 @@ as_receiver_call As_inner = None
 as_receiver_call Into_inner = None
 as_receiver_call Drop_error = None
 as_receiver_call Try_recv = Some RS.TryRecv
+as_receiver_call Recv_ref = Some RS.RecvRef
+as_receiver_call Recv = Some RS.Recv
 as_receiver_call Has_message = Some RS.HasMessage
 as_receiver_call Is_closed = Some RS.IsClosed
 as_receiver_call Drop_receiver = Some RS.Drop
@@ -96,10 +102,12 @@ error_calls SL.Stop = []
 
 abbrev pub receiver_call : ReceiverCall → Call
 receiver_call RC.TryRecv = Try_recv
+receiver_call RC.RecvRef = Recv_ref
 receiver_call RC.HasMessage = Has_message
 receiver_call RC.IsClosed = Is_closed
 
 abbrev pub receiver_last : ReceiverLast → List Call
+receiver_last RL.Recv = Recv ∷ []
 receiver_last RL.Drop = Drop_receiver ∷ []
 receiver_last RL.Stop = []
 

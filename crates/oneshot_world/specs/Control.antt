@@ -4,11 +4,11 @@ use Rattle.std.specs.Option.{option_map}
 use Rattle.std.specs.List.{filter_map}
 use Rattle.oneshot_machine.specs.declared.machine.End.{End}
 use Rattle.oneshot_machine.specs.declared.machine.End.TheVariants.{Sender, Receiver}
-use Rattle.oneshot_machine.specs.declared.machine.receiver.ReceiverPos.TheVariants as R
-use Rattle.oneshot_machine.specs.declared.machine.sender.SenderPos.TheVariants as S
-use Rattle.oneshot_world.specs.Calls.{Call, Sender_is_closed, Send, Drop_sender, As_inner, Into_inner, Drop_error, Try_recv, Has_message, Is_closed, Drop_receiver, Stray, first, is_none_left}
+use Rattle.oneshot_machine.specs.Standing.{sender_number, receiver_number}
+use Rattle.oneshot_world.specs.Calls.{Call, Sender_is_closed, Send, Drop_sender, As_inner, Into_inner, Drop_error, Try_recv, Recv_ref, Recv, Has_message, Is_closed, Drop_receiver, Stray, first, is_none_left}
 use Rattle.oneshot_world.specs.Explore.{Tree, reach, is_in}
 use Rattle.oneshot_world.specs.State.{opening_state, turns}
+use Rattle.oneshot_world.specs.Wakers.{name_code, is_same_name}
 use Rattle.oneshot_world.specs.World.{World}
 use Rattle.oneshot_world.specs.declared.state.ReceiverState.{ReceiverState}
 use Rattle.oneshot_world.specs.declared.state.ReceiverState.TheVariants as RS
@@ -18,6 +18,7 @@ use Rattle.oneshot_world.specs.declared.state.State.{State}
 use Rattle.oneshot_world.specs.declared.trace.Entry.{Entry}
 use Rattle.oneshot_world.specs.declared.trace.Place.{Place}
 use Rattle.oneshot_world.specs.declared.trace.Place.TheVariants.{NotSent, InCell, InError, Delivered, FromError, Dropped}
+use Rattle.oneshot_world.specs.declared.wakers.Wakers.{Wakers}
 
 -- the state, and each end's call under way
 pub record Control : Type 0 where
@@ -66,7 +67,7 @@ sender_begins message SS.Failed call = begins_with Sender (As_inner ∷ Into_inn
 sender_begins message SS.Ended call = []
 
 abbrev pub receiver_begins : ReceiverState → Option Call → List Begin
-receiver_begins RS.Ready call = begins_with Receiver (Try_recv ∷ Has_message ∷ Is_closed ∷ Drop_receiver ∷ [])
+receiver_begins RS.Ready call = begins_with Receiver (Try_recv ∷ Recv_ref ∷ Recv ∷ Has_message ∷ Is_closed ∷ Drop_receiver ∷ [])
 receiver_begins (RS.At position) call = record { side = Receiver; call = call } ∷ []
 receiver_begins RS.Ended call = []
 
@@ -89,30 +90,14 @@ successors c = filter_map (λ b. option_map (λ turned. turned.1) (control_turn 
 -- codes, by which values are told apart
 abbrev pub sender_code : SenderState → ℕ
 sender_code SS.Ready = 0
-sender_code (SS.At S.LookClosed) = 1
-sender_code (SS.At S.SendWrite) = 2
-sender_code (SS.At S.SendAdd) = 3
-sender_code (SS.At S.DropXor) = 4
-sender_code (SS.At S.DropFree) = 5
-sender_code (SS.At S.ErrorLook) = 6
-sender_code (SS.At S.IntoTake) = 7
-sender_code (SS.At S.IntoFree) = 8
-sender_code (SS.At S.ErrorDrop) = 9
-sender_code (SS.At S.ErrorFree) = 10
-sender_code SS.Failed = 11
-sender_code SS.Ended = 12
+sender_code SS.Failed = 1
+sender_code SS.Ended = 2
+sender_code (SS.At position) = 3 + sender_number position
 
 abbrev pub receiver_code : ReceiverState → ℕ
 receiver_code RS.Ready = 0
-receiver_code (RS.At R.LookFull) = 1
-receiver_code (RS.At R.LookClosed) = 2
-receiver_code (RS.At R.TryLoad) = 3
-receiver_code (RS.At R.Close) = 4
-receiver_code (RS.At R.Take) = 5
-receiver_code (RS.At R.DropSwap) = 6
-receiver_code (RS.At R.DropMessage) = 7
-receiver_code (RS.At R.DropFree) = 8
-receiver_code RS.Ended = 9
+receiver_code RS.Ended = 1
+receiver_code (RS.At position) = 2 + receiver_number position
 
 abbrev pub call_code : Option Call → ℕ
 call_code None = 0
@@ -123,10 +108,12 @@ call_code (Some As_inner) = 4
 call_code (Some Into_inner) = 5
 call_code (Some Drop_error) = 6
 call_code (Some Try_recv) = 7
-call_code (Some Has_message) = 8
-call_code (Some Is_closed) = 9
-call_code (Some Drop_receiver) = 10
-call_code (Some Stray) = 11
+call_code (Some Recv_ref) = 8
+call_code (Some Recv) = 9
+call_code (Some Has_message) = 10
+call_code (Some Is_closed) = 11
+call_code (Some Drop_receiver) = 12
+call_code (Some Stray) = 13
 
 abbrev pub place_code : Option Place → ℕ
 place_code None = 0
@@ -141,12 +128,18 @@ abbrev pub bool_code : Bool → ℕ
 bool_code true = 1
 bool_code false = 0
 
+abbrev pub is_same_wakers : Wakers → Wakers → Bool
+is_same_wakers v w =
+    is_same_name v.cell w.cell
+    && (is_same_name v.hand w.hand && (is_same_name v.taken w.taken && bool_code v.token == bool_code w.token))
+
 abbrev pub is_same_state : State → State → Bool
 is_same_state s t =
     sender_code s.sender == sender_code t.sender
     && (receiver_code s.receiver == receiver_code t.receiver
     && (s.word == t.word
-    && (bool_code s.freed == bool_code t.freed && place_code s.message == place_code t.message)))
+    && (bool_code s.freed == bool_code t.freed
+    && (place_code s.message == place_code t.message && is_same_wakers s.wakers t.wakers))))
 
 abbrev pub is_same_control : Control → Control → Bool
 is_same_control c d =
@@ -154,9 +147,13 @@ is_same_control c d =
     && (call_code c.sender == call_code d.sender && call_code c.receiver == call_code d.receiver)
 
 -- the order in which the search keeps them; two values never have one code, or the search would not end
+abbrev pub wakers_code : Wakers → ℕ
+wakers_code w = ((name_code w.cell * 3 + name_code w.hand) * 3 + name_code w.taken) * 2 + bool_code w.token
+
 abbrev pub state_code : State → ℕ
 state_code s =
-    (((sender_code s.sender * 16 + receiver_code s.receiver) * 8 + s.word) * 8 + place_code s.message) * 2
+    ((((sender_code s.sender * 32 + receiver_code s.receiver) * 8 + s.word) * 8 + place_code s.message) * 54
+    + wakers_code s.wakers) * 2
     + bool_code s.freed
 
 abbrev pub control_code : Control → ℕ
@@ -200,11 +197,13 @@ ends_error _ = false
 
 abbrev pub stays_receiver : Call → Bool
 stays_receiver Try_recv = true
+stays_receiver Recv_ref = true
 stays_receiver Has_message = true
 stays_receiver Is_closed = true
 stays_receiver _ = false
 
 abbrev pub ends_receiver : Call → Bool
+ends_receiver Recv = true
 ends_receiver Drop_receiver = true
 ends_receiver _ = false
 

@@ -1,5 +1,6 @@
 pub mod Calls
 pub mod Looks
+pub mod Wakers
 pub mod State
 pub mod World
 pub mod Explore

@@ -1,5 +1,5 @@
 -- One step of one end: what it tells, and the state that it leaves.
-use Rattle.std.specs.Prelude.{ℕ, Bool, true, false, Option, Some, None, if◌then◌else◌}
+use Rattle.std.specs.Prelude.{ℕ, Bool, true, false, ◌&&◌, is_some, is_none, Option, Some, None, if◌then◌else◌}
 use Rattle.std.specs.Option.{option_map, option_and_then}
 use Rattle.oneshot_machine.specs.States.{word_after}
 use Rattle.oneshot_machine.specs.Rows.{Outcome, Goes, Answers}
@@ -12,13 +12,14 @@ use Rattle.oneshot_machine.specs.declared.machine.Reply.TheVariants as R
 use Rattle.oneshot_machine.specs.declared.machine.Seen.{Seen}
 use Rattle.oneshot_machine.specs.declared.machine.Seen.TheVariants as S
 use Rattle.oneshot_machine.specs.declared.machine.Step.{Step}
-use Rattle.oneshot_machine.specs.declared.machine.Step.TheVariants.{Word, WriteMessage, TakeMessage, DropMessage, Free, Plain}
+use Rattle.oneshot_machine.specs.declared.machine.Step.TheVariants.{Word, WriteMessage, TakeMessage, DropMessage, WriteWaker, TakeWaker, Withdraw, Park, Wake, Free, Plain}
 use Rattle.oneshot_machine.specs.declared.machine.receiver.ReceiverPos.{ReceiverPos}
 use Rattle.oneshot_machine.specs.declared.machine.receiver.ReceiverStart.{ReceiverStart}
 use Rattle.oneshot_machine.specs.declared.machine.sender.SenderCall.{SenderCall}
 use Rattle.oneshot_machine.specs.declared.machine.sender.SenderPos.{SenderPos}
-use Rattle.oneshot_machine.specs.declared.states.Op.TheVariants.{Load, Store, Swap, Exchange, Add, Xor}
+use Rattle.oneshot_machine.specs.declared.states.Op.TheVariants.{Store}
 use Rattle.oneshot_world.specs.Calls.{Call, as_sender_call, as_receiver_call}
+use Rattle.oneshot_world.specs.Wakers.{opening_wakers, wakers_left, waker_move, sets_token}
 use Rattle.oneshot_world.specs.declared.state.ReceiverState.{ReceiverState}
 use Rattle.oneshot_world.specs.declared.state.ReceiverState.TheVariants as RS
 use Rattle.oneshot_world.specs.declared.state.SenderState.{SenderState}
@@ -39,44 +40,31 @@ opening_state message =
       sender = SS.Ready;
       receiver = RS.Ready;
       message = message;
+      wakers = opening_wakers;
     }
 
--- what a step sees: an operation on the word sees the word before it, but a store sees nothing
-abbrev pub seen_by : ℕ → Step → Seen
-seen_by word (Word Load) = S.Word word
-seen_by word (Word (Store new)) = S.Done
-seen_by word (Word (Swap new)) = S.Word word
-seen_by word (Word (Exchange expected new)) = S.Word word
-seen_by word (Word Add) = S.Word word
-seen_by word (Word Xor) = S.Word word
-seen_by word WriteMessage = S.Done
-seen_by word TakeMessage = S.Done
-seen_by word DropMessage = S.Done
-seen_by word Free = S.Done
-seen_by word Plain = S.Done
+-- what a step sees: an operation on the word sees the word before it, but a store sees nothing; a park sees its token
+abbrev pub seen_by : State → Step → Seen
+seen_by s (Word (Store new)) = S.Done
+seen_by s (Word op) = S.Word s.word
+seen_by s Park = S.Token s.wakers.token
+seen_by s _ = S.Done
 
 abbrev pub word_left : ℕ → Step → ℕ
 word_left word (Word op) = word_after op word
-word_left word WriteMessage = word
-word_left word TakeMessage = word
-word_left word DropMessage = word
-word_left word Free = word
-word_left word Plain = word
+word_left word _ = word
 
 abbrev pub freed_by : Bool → Step → Bool
-freed_by freed (Word op) = freed
-freed_by freed WriteMessage = freed
-freed_by freed TakeMessage = freed
-freed_by freed DropMessage = freed
 freed_by freed Free = true
-freed_by freed Plain = freed
+freed_by freed _ = freed
 
 -- the word that an entry shows: none once the block is freed
 abbrev pub shown : Bool → ℕ → Option ℕ
 shown true word = None
 shown false word = Some word
 
--- The cell is written where it is empty, and read where it is full: by the receiver in the cell, by the sender's side in its error.
+-- A cell is written where it is empty and read where it is full, and so is a hand.
+-- The message is read by the receiver in its cell, and by the sender's side in its error.
 abbrev pub is_unsent : Option Place → Bool
 is_unsent (Some NotSent) = true
 is_unsent _ = false
@@ -89,21 +77,26 @@ abbrev pub is_in_error : Option Place → Bool
 is_in_error (Some InError) = true
 is_in_error _ = false
 
-abbrev pub sender_fits : Option Place → Step → Bool
-sender_fits place WriteMessage = is_unsent place
-sender_fits place TakeMessage = is_in_error place
-sender_fits place DropMessage = is_in_error place
-sender_fits place (Word op) = true
-sender_fits place Free = true
-sender_fits place Plain = true
+abbrev pub sender_fits : State → Step → Bool
+sender_fits s WriteMessage = is_unsent s.message
+sender_fits s TakeMessage = is_in_error s.message
+sender_fits s DropMessage = is_in_error s.message
+sender_fits s TakeWaker = is_some s.wakers.cell && is_none s.wakers.taken
+sender_fits s Wake = is_some s.wakers.taken
+sender_fits s WriteWaker = false
+sender_fits s Withdraw = false
+sender_fits s Park = false
+sender_fits s _ = true
 
-abbrev pub receiver_fits : Option Place → Step → Bool
-receiver_fits place WriteMessage = false
-receiver_fits place TakeMessage = is_in_cell place
-receiver_fits place DropMessage = is_in_cell place
-receiver_fits place (Word op) = true
-receiver_fits place Free = true
-receiver_fits place Plain = true
+abbrev pub receiver_fits : State → Step → Bool
+receiver_fits s TakeMessage = is_in_cell s.message
+receiver_fits s DropMessage = is_in_cell s.message
+receiver_fits s WriteWaker = is_some s.wakers.hand && is_none s.wakers.cell
+receiver_fits s Withdraw = is_some s.wakers.cell && is_none s.wakers.hand
+receiver_fits s WriteMessage = false
+receiver_fits s TakeWaker = false
+receiver_fits s Wake = false
+receiver_fits s _ = true
 
 -- where a step puts the message, if it moves it; a send that is refused leaves the message with the error
 abbrev pub sender_puts : Step → Option Reply → Option Place
@@ -112,16 +105,12 @@ sender_puts (Word op) (Some R.Refused) = Some InError
 sender_puts (Word op) _ = None
 sender_puts TakeMessage reply = Some FromError
 sender_puts DropMessage reply = Some Dropped
-sender_puts Free reply = None
-sender_puts Plain reply = None
+sender_puts _ reply = None
 
 abbrev pub receiver_puts : Step → Option Place
 receiver_puts TakeMessage = Some Delivered
 receiver_puts DropMessage = Some Dropped
-receiver_puts (Word op) = None
-receiver_puts WriteMessage = None
-receiver_puts Free = None
-receiver_puts Plain = None
+receiver_puts _ = None
 
 -- the message's place after that, where there is a message
 abbrev pub place_left : Option Place → Option Place → Option Place
@@ -139,7 +128,8 @@ abbrev pub reply_of : {P : Type 0} → Outcome P → Option Reply
 reply_of (Goes next) = None
 reply_of (Answers reply) = Some reply
 
--- where an end stands after a row: a look leaves it ready, a refused send leaves the error, a look at the error leaves the error, and any other answer of the sender's side ends it
+-- Where an end stands after a row. A look leaves it ready, a refused send leaves the error, a look at the error leaves the error, and any other answer of the sender's side ends it.
+-- A drop and a call that frees end the receiver, and any other answer leaves it ready.
 abbrev pub is_plain : Step → Bool
 is_plain Plain = true
 is_plain _ = false
@@ -152,10 +142,14 @@ sender_goes step (Answers R.Refused) = SS.Failed
 sender_goes step (Answers R.Message) = if is_plain step then SS.Failed else SS.Ended
 sender_goes step (Answers _) = SS.Ended
 
-abbrev pub receiver_goes : Outcome ReceiverPos → ReceiverState
-receiver_goes (Goes next) = RS.At next
-receiver_goes (Answers R.Done) = RS.Ended
-receiver_goes (Answers _) = RS.Ready
+abbrev pub is_free : Step → Bool
+is_free Free = true
+is_free _ = false
+
+abbrev pub receiver_goes : Step → Outcome ReceiverPos → ReceiverState
+receiver_goes step (Goes next) = RS.At next
+receiver_goes step (Answers R.Done) = RS.Ended
+receiver_goes step (Answers _) = if is_free step then RS.Ended else RS.Ready
 
 -- what an end's step tells, with its reply if it ends the call, and the place where it puts the message
 abbrev pub made : End → State → Step → Option Reply → Option Place → Made
@@ -163,12 +157,12 @@ made side s step reply to =
     record {
       side = side;
       step = step;
-      seen = seen_by s.word step;
+      seen = seen_by s step;
       before = shown s.freed s.word;
       after = shown (freed_by s.freed step) (word_left s.word step);
       message = move_of s.message to;
-      waker = None;
-      token_set = false;
+      waker = waker_move s.wakers step;
+      token_set = sets_token s.wakers step;
       own = None;
       reply = reply;
     }
@@ -180,6 +174,7 @@ moved s step to =
       word = word_left s.word step;
       freed = freed_by s.freed step;
       message = place_left s.message to;
+      wakers = wakers_left s.wakers step;
     }
 
 -- a step by a row of its table
@@ -192,24 +187,24 @@ sender_stepped s step row = (
 abbrev pub receiver_stepped : State → Step → Outcome ReceiverPos → Made × State
 receiver_stepped s step row = (
   made Receiver s step (reply_of row) (receiver_puts step),
-  record (moved s step (receiver_puts step)) { receiver = receiver_goes row },
+  record (moved s step (receiver_puts step)) { receiver = receiver_goes step row },
 )
 
 -- the step that is made at a position; none where the table has no row for what is seen, or the cell is not as the step needs it
 abbrev pub sender_steps : State → SenderPos → Option (Made × State)
 sender_steps s position =
-    if sender_fits s.message (sender_step position)
+    if sender_fits s (sender_step position)
     then option_map
     (sender_stepped s (sender_step position))
-    (sender_row position (seen_by s.word (sender_step position)))
+    (sender_row position (seen_by s (sender_step position)))
     else None
 
 abbrev pub receiver_steps : State → ReceiverPos → Option (Made × State)
 receiver_steps s position =
-    if receiver_fits s.message (receiver_step position)
+    if receiver_fits s (receiver_step position)
     then option_map
     (receiver_stepped s (receiver_step position))
-    (receiver_row position (seen_by s.word (receiver_step position)))
+    (receiver_row position (seen_by s (receiver_step position)))
     else None
 
 -- where an end makes its next step: in the call under way, or at the start of the next call

@@ -172,11 +172,13 @@ impl ReceiverCalls {
         if self.answered < calls.len() {
             match calls[self.answered] {
                 ReceiverCall::TryRecv => Some(ReceiverStart::TryRecv),
+                ReceiverCall::RecvRef => Some(ReceiverStart::RecvRef),
                 ReceiverCall::HasMessage => Some(ReceiverStart::HasMessage),
                 ReceiverCall::IsClosed => Some(ReceiverStart::IsClosed),
             }
         } else {
             match self.last {
+                ReceiverLast::Recv => Some(ReceiverStart::Recv),
                 ReceiverLast::Drop => Some(ReceiverStart::Drop),
                 ReceiverLast::Stop => None,
             }

@@ -5,6 +5,7 @@ mod calls;
 mod script;
 mod state;
 mod trace;
+mod wakers;
 mod world;
 
 pub use script::{
@@ -13,4 +14,5 @@ pub use script::{
 };
 pub use state::{ReceiverState, SenderState, State};
 pub use trace::{Entry, Made, Place, WakerName, WakerPlace};
+pub use wakers::Wakers;
 pub use world::World;

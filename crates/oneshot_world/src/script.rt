@@ -58,6 +58,8 @@ pub struct ReceiverScript {
 pub enum ReceiverCall {
     /// `Receiver::try_recv`.
     TryRecv,
+    /// `Receiver::recv_ref`.
+    RecvRef,
     /// `Receiver::has_message`.
     HasMessage,
     /// `Receiver::is_closed`.
@@ -67,6 +69,8 @@ pub enum ReceiverCall {
 /// The receiver's last call.
 #[derive(Debug, Drop)]
 pub enum ReceiverLast {
+    /// `Receiver::recv`.
+    Recv,
     /// The receiver is dropped.
     Drop,
     /// No call: the receiver stays where it is.

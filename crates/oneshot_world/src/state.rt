@@ -5,6 +5,7 @@ ghost use Rattle.oneshot_machine.specs.Rows.{outcome};
 ghost use Rattle.oneshot_world.specs.State.{opening_state, sender_position, receiver_position, made, moved, seen_by, word_left, shown, sender_goes, receiver_goes, sender_puts, receiver_puts, place_left, move_of, sender_steps, receiver_steps};
 
 use crate::trace::{Made, Place};
+use crate::wakers::Wakers;
 use oneshot_machine::machine::{
     End, ReceiverPos, ReceiverStart, Reply, Seen, SenderCall, SenderPos, Step,
 };
@@ -47,6 +48,8 @@ pub struct State {
     pub receiver: ReceiverState,
     /// The message's place; `None` where the script sends none.
     pub message: Option<Place>,
+    /// The wakers, and the token on which the receiver parks.
+    pub wakers: Wakers,
 }
 
 impl SenderState {
@@ -86,6 +89,7 @@ impl State {
             sender: SenderState::Ready,
             receiver: ReceiverState::Ready,
             message,
+            wakers: Wakers::new(),
         }
     }
 
@@ -96,7 +100,7 @@ impl State {
         ensures { sender_steps self.old position ≡ Some (result, self.new) }
     {
         let step = position.step();
-        let (next, reply) = position.next(seen_by(self.word, step));
+        let (next, reply) = position.next(seen_by(*self, step));
         let made = self.make(End::Sender, step, reply, sender_puts(step, reply));
         self.sender = sender_goes(step, next, reply);
         made
@@ -109,13 +113,13 @@ impl State {
         ensures { receiver_steps self.old position ≡ Some (result, self.new) }
     {
         let step = position.step();
-        let (next, reply) = position.next(seen_by(self.word, step));
+        let (next, reply) = position.next(seen_by(*self, step));
         let made = self.make(End::Receiver, step, reply, receiver_puts(step));
-        self.receiver = receiver_goes(next, reply);
+        self.receiver = receiver_goes(step, next, reply);
         made
     }
 
-    /// What both ends' steps do alike: the word, the block and the message's place.
+    /// What both ends' steps do alike: the word, the block, the message's place and the wakers.
     fn make(&mut self, side: End, step: Step, reply: Option<Reply>, to: Option<Place>) -> Made
         requires { self.old.word ≤ 4 }
         ensures tells { result ≡ made side self.old step reply to }
@@ -125,28 +129,30 @@ impl State {
         self.word = word_left(from.word, step);
         self.freed = from.freed || step == Step::Free;
         self.message = place_left(from.message, to);
+        self.wakers = from.wakers.after(step);
         Made {
             side,
             step,
-            seen: seen_by(from.word, step),
+            seen: seen_by(from, step),
             before: shown(from.freed, from.word),
             after: shown(self.freed, self.word),
             message: move_of(from.message, to),
-            waker: None,
-            token_set: false,
+            waker: from.wakers.moved_by(step),
+            token_set: from.wakers.sets_token(step),
             own: None,
             reply,
         }
     }
 }
 
-/// What a step sees at `word`: an operation the word, unless it only stores.
-fn seen_by(word: u8, step: Step) -> Seen
-    ensures { result ≡ seen_by word step }
+/// What a step sees: an operation the word, unless it only stores, and a park its token.
+fn seen_by(state: State, step: Step) -> Seen
+    ensures { result ≡ seen_by state step }
 {
     match step {
         Step::Word(Op::Store(_)) => Seen::Done,
-        Step::Word(_) => Seen::Word(word),
+        Step::Word(_) => Seen::Word(state.word),
+        Step::Park => Seen::Token(state.wakers.token),
         _ => Seen::Done,
     }
 }
@@ -233,12 +239,18 @@ fn sender_goes(step: Step, next: SenderPos, reply: Option<Reply>) -> SenderState
 }
 
 /// Where the receiver stands after a step that leads to `next`, or ends its call with `reply`.
-fn receiver_goes(next: ReceiverPos, reply: Option<Reply>) -> ReceiverState
-    ensures { result ≡ receiver_goes (outcome (next, reply)) }
+fn receiver_goes(step: Step, next: ReceiverPos, reply: Option<Reply>) -> ReceiverState
+    ensures { result ≡ receiver_goes step (outcome (next, reply)) }
 {
     match reply {
         None => ReceiverState::At(next),
         Some(Reply::Done) => ReceiverState::Ended,
-        Some(_) => ReceiverState::Ready,
+        Some(_) => {
+            if step == Step::Free {
+                ReceiverState::Ended
+            } else {
+                ReceiverState::Ready
+            }
+        }
     }
 }

@@ -19,7 +19,7 @@ pub enum Place {
     Dropped,
 }
 
-/// A waker that an entry moves. No call stores one so far, so no entry names one.
+/// A waker that an entry moves. No call asks for a copy so far, so no entry names one.
 #[derive(Clone, Copy, Debug, Eq, Hash, PartialEq)]
 pub enum WakerName {
     /// The waking half of the parker on which a blocking receive waits.
@@ -33,7 +33,7 @@ pub enum WakerName {
     },
 }
 
-/// Where a waker is. No call stores one so far, so no entry names a place.
+/// Where a waker is.
 #[derive(Clone, Copy, Debug, Eq, Hash, PartialEq)]
 pub enum WakerPlace {
     /// A task's, before its copy is made.
