@@ -1,5 +1,5 @@
 -- Values that are compared by their codes are the same where their codes are.
-use Rattle.std.proofs.Common.{◌≡◌, ℕ, Bool, true, false, List, [], ◌∷◌, Option, Some, None, refl, sym, ◌∙◌, ap, ◌==◌, get_or, map}
+use Rattle.std.proofs.Common.{◌≡◌, ℕ, Bool, true, false, List, [], ◌∷◌, Option, Some, None, refl, sym, ◌∙◌, ap, ◌==◌, ◌&&◌, get_or, map}
 use Rattle.std.proofs.lemmas.Bool.{eqb-true}
 use Rattle.oneshot_machine.specs.Standing.{sender_positions, receiver_positions}
 use Rattle.oneshot_machine.specs.declared.machine.receiver.ReceiverPos.TheVariants as R
@@ -146,12 +146,12 @@ its_wakers w = refl
 
 pub wakers_are : (v w : Wakers) → is_same_wakers v w ≡ true → v ≡ w
 wakers_are v w h =
-    let h1 = and_right _ _ h in
-    let h2 = and_right _ _ h1 in
-    let cell : v.cell ≡ w.cell = name_is v.cell w.cell (and_left _ _ h) in
+    let h1 = and_right (is_same_name v.cell w.cell) _ h in
+    let h2 = and_right (is_same_name v.hand w.hand) _ h1 in
+    let cell : v.cell ≡ w.cell = name_is v.cell w.cell (and_left _ (is_same_name v.hand w.hand && (is_same_name v.taken w.taken && bool_code v.token == bool_code w.token)) h) in
     let hand : v.hand ≡ w.hand = name_is v.hand w.hand (and_left _ _ h1) in
     let taken : v.taken ≡ w.taken = name_is v.taken w.taken (and_left _ _ h2) in
-    let token : v.token ≡ w.token = bool_is v.token w.token (and_right _ _ h2) in
+    let token : v.token ≡ w.token = bool_is v.token w.token (and_right (is_same_name v.taken w.taken) _ h2) in
     cc (its_wakers v, its_wakers w)
 
 state_of : ℕ → Bool → SenderState → ReceiverState → Option Place → Wakers → State

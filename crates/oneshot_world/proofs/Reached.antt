@@ -13,9 +13,9 @@ use Rattle.oneshot_machine.specs.declared.machine.Step.{Step}
 use Rattle.oneshot_machine.specs.declared.machine.receiver.ReceiverPos.{ReceiverPos}
 use Rattle.oneshot_machine.specs.declared.machine.sender.SenderPos.{SenderPos}
 use Rattle.oneshot_world.specs.Calls.{Call, Sender_is_closed, Send, Drop_sender, As_inner, Into_inner, Drop_error, Try_recv, Recv_ref, Recv, Has_message, Is_closed, Drop_receiver, Unanswered, first, rest, is_none_left, left_by, error_calls, as_sender_call, as_receiver_call}
-use Rattle.oneshot_world.specs.Control.{Control, control_of, Begin, begins, sender_begins, receiver_begins, sender_under_way, receiver_under_way, control_then, control_turn, control_code, is_same_control, reached, is_reached, IsReached, opening_control, is_script, is_sender_script, is_error_script, stays_sender, ends_sender, stays_error, ends_error, stays_receiver, ends_receiver, sender_has}
+use Rattle.oneshot_world.specs.Control.{Control, control_of, Begin, begins, sender_begins, receiver_begins, sender_under_way, receiver_under_way, control_then, control_turn, control_code, is_same_control, reached, is_reached, IsReached, opening_control, is_script, is_sender_script, is_error_script, stays_sender, ends_sender, stays_error, ends_error, stays_receiver, ends_receiver, sender_has, receiver_has}
 use Rattle.oneshot_world.specs.Explore.{all_in}
-use Rattle.oneshot_world.specs.State.{sender_turns_at, receiver_turns_at, sender_position, receiver_position, sender_steps, receiver_steps, sender_stepped, receiver_stepped, made_entry, place_left, reply_of, sender_goes, receiver_goes, is_plain, sender_fits, receiver_fits, seen_by, sender_puts, receiver_puts}
+use Rattle.oneshot_world.specs.State.{sender_turns_at, receiver_turns_at, sender_position, receiver_position, sender_steps, receiver_steps, sender_stepped, receiver_stepped, made_entry, place_left, reply_of, sender_goes, receiver_goes, is_plain, is_free, sender_fits, receiver_fits, seen_by, sender_puts, receiver_puts}
 use Rattle.oneshot_world.specs.World.{World, by_end, reply_in, opening, opening_place}
 use Rattle.oneshot_world.specs.declared.script.ReceiverScript.{ReceiverScript}
 use Rattle.oneshot_world.specs.declared.script.SenderLast.{SenderLast}
@@ -197,7 +197,11 @@ sender_control_is w step (Answers _) = refl
 pub receiver_control_is : (w : World) (step : Step) (row : Outcome ReceiverPos) → control_then Receiver (first w.receiver.calls) (control_of w) (receiver_stepped w.state step row).1 ≡ control_of (receiver_world w step row)
 receiver_control_is w step (Goes next) = refl
 receiver_control_is w step (Answers Replies.Done) = refl
-receiver_control_is w step (Answers _) = ends_or_stays (is_free step) (first w.receiver.calls) (λ r. record (control_of w) { receiver = r })
+receiver_control_is w step (Answers reply) =
+    elim (is_free step) as (λ b. control_then Receiver (first w.receiver.calls) (control_of w) (record (receiver_stepped w.state step (Answers reply)).1 { receiver = if b then RS.Ended else RS.Ready }) ≡ control_of (record (receiver_world w step (Answers reply)) { state = record (receiver_stepped w.state step (Answers reply)).1 { receiver = if b then RS.Ended else RS.Ready } })) [
+      | true ↦ refl
+      | false ↦ refl
+    ]
 
 -- what is left after a reply of the sender's side
 ready_left : (from to : Option Place) (calls : List Call) → (is_sender_script from calls || is_error_script calls) ≡ true → left_as SS.Ready (first calls) ≡ true → is_sender_script (place_left from to) (rest calls) ≡ true
@@ -253,10 +257,15 @@ unfolding receiver_left_by_its_call
 receiver_left_after [] h by = cc
 receiver_left_after (call ∷ calls) h by = receiver_ends calls call by h
 
-receiver_stays_reached : (w : World) (step : Step) (row : Outcome ReceiverPos) → IsReached w → is_script stays_receiver ends_receiver w.receiver.calls ≡ true → is_reached (control_then Receiver (first w.receiver.calls) (control_of w) (receiver_stepped w.state step row).1) ≡ true → receiver_left_by_its_call (receiver_goes row) (first w.receiver.calls) ≡ true → IsReached (receiver_world w step row)
+-- a call that frees ends the receiver, and any other leaves it ready
+receiver_left : (ends : Bool) (calls : List Call) → is_script stays_receiver ends_receiver calls ≡ true → receiver_left_by_its_call (if ends then RS.Ended else RS.Ready) (first calls) ≡ true → receiver_has (if ends then RS.Ended else RS.Ready) (rest calls) ≡ true
+receiver_left true calls h by = receiver_left_after calls h by
+receiver_left false calls h by = receiver_goes_on calls h
+
+receiver_stays_reached : (w : World) (step : Step) (row : Outcome ReceiverPos) → IsReached w → is_script stays_receiver ends_receiver w.receiver.calls ≡ true → is_reached (control_then Receiver (first w.receiver.calls) (control_of w) (receiver_stepped w.state step row).1) ≡ true → receiver_left_by_its_call (receiver_goes step row) (first w.receiver.calls) ≡ true → IsReached (receiver_world w step row)
 receiver_stays_reached w step (Goes next) h script on by = record { control = on; sender = sender_still_has w.state.message (receiver_puts step) w.state.sender w.sender.calls h.sender; error = h.error; receiver = script }
 receiver_stays_reached w step (Answers Replies.Done) h script on by = record { control = on; sender = sender_still_has w.state.message (receiver_puts step) w.state.sender w.sender.calls h.sender; error = h.error; receiver = receiver_left_after w.receiver.calls script by }
-receiver_stays_reached w step (Answers _) h script on by = record { control = on; sender = sender_still_has w.state.message (receiver_puts step) w.state.sender w.sender.calls h.sender; error = h.error; receiver = receiver_goes_on w.receiver.calls script }
+receiver_stays_reached w step (Answers reply) h script on by = record { control = rw (← receiver_control_is w step (Answers reply)) on; sender = sender_still_has w.state.message (receiver_puts step) w.state.sender w.sender.calls h.sender; error = h.error; receiver = receiver_left (is_free step) w.receiver.calls script by }
 
 -- a position that an end of a reached world has, has a step, and the world after it is reached
 pub sender_makes : (w : World) (position : SenderPos) → IsReached w → sender_at w ≡ Some position → IsSome (sender_steps w.state position)
@@ -280,7 +289,7 @@ receiver_row_reaches w position row h at steps =
     let leads = rw steps at (receiver_leads w position h at) in
     receiver_stays_reached w (receiver_step position) row h
     (receiver_has_script w.state.receiver _ position w.receiver.calls at h.receiver)
-    (and_left _ (receiver_left_by_its_call (receiver_goes row) (first w.receiver.calls)) leads)
+    (and_left _ (receiver_left_by_its_call (receiver_goes (receiver_step position) row) (first w.receiver.calls)) leads)
     (and_right (is_reached (control_then Receiver (first w.receiver.calls) (control_of w) (receiver_stepped w.state (receiver_step position) row).1)) _ leads)
 
 -- a step that is made, is made by a row
