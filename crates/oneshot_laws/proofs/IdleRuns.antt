@@ -5,7 +5,7 @@ use Rattle.oneshot_machine.specs.Receiver.{receiver_step}
 use Rattle.oneshot_machine.specs.Sender.{sender_step}
 use Rattle.oneshot_machine.specs.declared.machine.End.{End}
 use Rattle.oneshot_machine.specs.declared.machine.End.TheVariants.{Sender, Receiver}
-use Rattle.oneshot_world.specs.Calls.{Call, Sender_is_closed, Send, Drop_sender, As_inner, Into_inner, Drop_error, Try_recv, Has_message, Is_closed, Drop_receiver, calls_of, first, is_none_left, left_by, as_sender_call, as_receiver_call}
+use Rattle.oneshot_world.specs.Calls.{Call, Sender_is_closed, Send, Drop_sender, As_inner, Into_inner, Drop_error, Try_recv, Recv_ref, Recv, Has_message, Is_closed, Drop_receiver, calls_of, first, is_none_left, left_by, as_sender_call, as_receiver_call}
 use Rattle.oneshot_world.specs.Control.{sender_has, receiver_has, IsReached}
 use Rattle.oneshot_world.specs.State.{sender_position, receiver_position, reply_of}
 use Rattle.oneshot_world.specs.World.{World, Tells, opening, side_of}
@@ -42,6 +42,8 @@ sender_none message SS.Ended calls h at = h
 receiver_none : (s : ReceiverState) (calls : List Call) → receiver_has s calls ≡ true → receiver_position s (option_and_then as_receiver_call (first calls)) ≡ None → is_none_left calls ≡ true
 receiver_none RS.Ready [] h at = refl
 receiver_none RS.Ready (Try_recv ∷ calls) h at = cc
+receiver_none RS.Ready (Recv_ref ∷ calls) h at = cc
+receiver_none RS.Ready (Recv ∷ calls) h at = cc
 receiver_none RS.Ready (Has_message ∷ calls) h at = cc
 receiver_none RS.Ready (Is_closed ∷ calls) h at = cc
 receiver_none RS.Ready (Drop_receiver ∷ calls) h at = cc

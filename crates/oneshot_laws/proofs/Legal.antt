@@ -4,7 +4,7 @@ use Rattle.std.specs.List.{list_any, list_all}
 use Rattle.oneshot_machine.specs.declared.machine.End.{End}
 use Rattle.oneshot_machine.specs.declared.machine.End.TheVariants.{Sender, Receiver}
 use Rattle.oneshot_machine.specs.declared.machine.Reply.{Reply}
-use Rattle.oneshot_world.specs.Calls.{Call, Sender_is_closed, Send, Drop_sender, As_inner, Into_inner, Drop_error, Try_recv, Has_message, Is_closed, Drop_receiver, Stray, Unanswered, is_none_left, left_by}
+use Rattle.oneshot_world.specs.Calls.{Call, Sender_is_closed, Send, Drop_sender, As_inner, Into_inner, Drop_error, Try_recv, Recv_ref, Recv, Has_message, Is_closed, Drop_receiver, Stray, Unanswered, is_none_left, left_by}
 use Rattle.oneshot_world.specs.World.{by_end}
 use Rattle.oneshot_world.specs.declared.trace.Entry.{Entry}
 use Rattle.oneshot_world.specs.declared.trace.Entry.TheVariants.{Idle, Made as Made_entry}
@@ -236,6 +236,8 @@ local_right As_inner o x earlier e later f ok paid says = local_fixed As_inner o
 local_right Into_inner o x earlier e later f ok paid says = local_fixed Into_inner o x earlier e later refl
 local_right Drop_error o x earlier e later f ok paid says = local_fixed Drop_error o x earlier e later refl
 local_right Try_recv o x earlier e later f ok paid says = local_receive Try_recv o x earlier e later f.acted f.worked ok paid (says refl)
+local_right Recv_ref o x earlier e later f ok paid says = local_receive Recv_ref o x earlier e later f.acted f.worked ok paid (says refl)
+local_right Recv o x earlier e later f ok paid says = local_receive Recv o x earlier e later f.acted f.worked ok paid (says refl)
 local_right Has_message o x earlier e later f ok paid says = local_first loads Has_message o x earlier e later f.acted ok paid
 local_right Is_closed o x earlier e later f ok paid says = local_first loads Is_closed o x earlier e later f.acted ok paid
 local_right Drop_receiver o x earlier e later f ok paid says = local_first swaps_closed_in Drop_receiver o x earlier e later f.acted ok paid

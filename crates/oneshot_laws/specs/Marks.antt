@@ -3,7 +3,7 @@ use Rattle.std.specs.Prelude.{ℕ, ◌+◌, Bool, true, false, not, ◌&&◌, �
 use Rattle.std.specs.List.{list_any}
 use Rattle.oneshot_machine.specs.declared.machine.End.{End}
 use Rattle.oneshot_machine.specs.declared.machine.Reply.{Reply}
-use Rattle.oneshot_world.specs.Calls.{Call, Sender_is_closed, Send, Drop_sender, As_inner, Into_inner, Drop_error, Try_recv, Has_message, Is_closed, Drop_receiver, Stray, Calls, Unanswered, first, is_none_left, left_by}
+use Rattle.oneshot_world.specs.Calls.{Call, Sender_is_closed, Send, Drop_sender, As_inner, Into_inner, Drop_error, Try_recv, Recv_ref, Recv, Has_message, Is_closed, Drop_receiver, Stray, Calls, Unanswered, first, is_none_left, left_by}
 use Rattle.oneshot_world.specs.World.{by_end}
 use Rattle.oneshot_world.specs.declared.trace.Entry.{Entry}
 use Rattle.oneshot_world.specs.declared.trace.Entry.TheVariants.{Idle, Made as Made_entry}
@@ -47,6 +47,8 @@ rule As_inner answer = Never
 rule Into_inner answer = Never
 rule Drop_error answer = Never
 rule Try_recv answer = receive_rule answer
+rule Recv_ref answer = receive_rule answer
+rule Recv answer = receive_rule answer
 rule Has_message answer = First loads
 rule Is_closed answer = First loads
 rule Drop_receiver answer = First swaps_closed_in

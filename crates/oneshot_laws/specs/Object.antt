@@ -35,6 +35,8 @@ pub data Action : Type 0 where
   Send : Action
   Sender_gone : Action
   Take : Action
+  -- the receiver's last: it takes, and is gone
+  Take_and_go : Action
   Look_full : Action
   Look_closed : Action
   Look_receiver_gone : Action
@@ -55,6 +57,7 @@ abbrev pub content_after : Action → Object → Content
 content_after Send o = if o.receiver_here then Full else o.content
 content_after Sender_gone o = without_sender o.content
 content_after Take o = without_message o.content
+content_after Take_and_go o = without_message o.content
 content_after Look_full o = o.content
 content_after Look_closed o = o.content
 content_after Look_receiver_gone o = o.content
@@ -64,6 +67,7 @@ abbrev pub sender_stays : Action → Bool
 sender_stays Send = false
 sender_stays Sender_gone = false
 sender_stays Take = true
+sender_stays Take_and_go = true
 sender_stays Look_full = true
 sender_stays Look_closed = true
 sender_stays Look_receiver_gone = true
@@ -73,6 +77,7 @@ abbrev pub receiver_stays : Action → Bool
 receiver_stays Send = true
 receiver_stays Sender_gone = true
 receiver_stays Take = true
+receiver_stays Take_and_go = false
 receiver_stays Look_full = true
 receiver_stays Look_closed = true
 receiver_stays Look_receiver_gone = true
@@ -109,6 +114,7 @@ abbrev pub answer_of : Action → Object → Answer
 answer_of Send o = if o.receiver_here then Accepted else Returned
 answer_of Sender_gone o = Finished
 answer_of Take o = taken_from o.content
+answer_of Take_and_go o = taken_from o.content
 answer_of Look_full o = yes_if (is_full o.content)
 answer_of Look_closed o = yes_if (is_closed o.content)
 answer_of Look_receiver_gone o = yes_if (not o.receiver_here)

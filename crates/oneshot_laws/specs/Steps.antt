@@ -2,8 +2,8 @@
 use Rattle.std.specs.Prelude.{Bool, true, false, Option, Some, None}
 use Rattle.oneshot_machine.specs.declared.machine.Reply.{Reply}
 use Rattle.oneshot_machine.specs.declared.machine.Reply.TheVariants as R
-use Rattle.oneshot_world.specs.Calls.{Call, Sender_is_closed, Send, Drop_sender, As_inner, Into_inner, Drop_error, Try_recv, Has_message, Is_closed, Drop_receiver, Stray}
-use Rattle.oneshot_laws.specs.Object.{Action, Send as Send_step, Sender_gone, Take, Look_full, Look_closed, Look_receiver_gone, Receiver_gone, Answer, Accepted, Returned, Message, Gone, Nothing_yet, Yes, No, Finished, Object, answer_of, object_after}
+use Rattle.oneshot_world.specs.Calls.{Call, Sender_is_closed, Send, Drop_sender, As_inner, Into_inner, Drop_error, Try_recv, Recv_ref, Recv, Has_message, Is_closed, Drop_receiver, Stray}
+use Rattle.oneshot_laws.specs.Object.{Action, Send as Send_step, Sender_gone, Take, Take_and_go, Look_full, Look_closed, Look_receiver_gone, Receiver_gone, Answer, Accepted, Returned, Message, Gone, Nothing_yet, Yes, No, Finished, Object, answer_of, object_after}
 
 -- each call as a step of the object; the error's calls are none
 abbrev pub action_of : Call → Option Action
@@ -14,6 +14,8 @@ action_of As_inner = None
 action_of Into_inner = None
 action_of Drop_error = None
 action_of Try_recv = Some Take
+action_of Recv_ref = Some Take
+action_of Recv = Some Take_and_go
 action_of Has_message = Some Look_full
 action_of Is_closed = Some Look_closed
 action_of Drop_receiver = Some Receiver_gone
@@ -54,6 +56,8 @@ stepped (Some action) o = object_after action o
 -- kinds of calls
 abbrev pub is_receive : Call → Bool
 is_receive Try_recv = true
+is_receive Recv_ref = true
+is_receive Recv = true
 is_receive _ = false
 
 abbrev pub is_send : Call → Bool
@@ -87,6 +91,7 @@ is_end_of_sender Drop_sender = true
 is_end_of_sender _ = false
 
 abbrev pub is_end_of_receiver : Call → Bool
+is_end_of_receiver Recv = true
 is_end_of_receiver Drop_receiver = true
 is_end_of_receiver _ = false
 

@@ -69,12 +69,19 @@ abbrev pub is_free : Step → Bool
 is_free T.Free = true
 is_free _ = false
 
--- a step on the message's cell
+-- a step on the message's cell, or on the waker's
 abbrev pub is_on_a_cell : Step → Bool
 is_on_a_cell T.WriteMessage = true
 is_on_a_cell T.TakeMessage = true
 is_on_a_cell T.DropMessage = true
+is_on_a_cell T.WriteWaker = true
+is_on_a_cell T.TakeWaker = true
+is_on_a_cell T.Withdraw = true
 is_on_a_cell _ = false
+
+abbrev pub is_park : Step → Bool
+is_park T.Park = true
+is_park _ = false
 
 -- whether the word before a step was this one
 abbrev pub found : ℕ → Option ℕ → Bool
