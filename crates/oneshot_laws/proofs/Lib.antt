@@ -13,4 +13,6 @@ pub mod LoneCalls
 pub mod AtTheEnd
 pub mod BlockHeld
 pub mod MessagePath
+pub mod WakerPath
+pub mod Woken
 pub mod IdleRuns

@@ -108,20 +108,35 @@ module _ {M : Type 0} (width : ℕ) (code : M → ℕ) (is_same : M → M → Bo
       × Accepts (reads e.side (call_under_way (by_end e.side s r)) e m) (left_after e.side Sender e.reply s) (left_after e.side Receiver e.reply r) entries
 
 module _ {M : Type 0} (width : ℕ) (code : M → ℕ) (is_same : M → M → Bool) (accepts : End → Call → Made → M → Bool) (reads : End → Call → Made → M → M) (sound : (m n : M) → is_same m n ≡ true → m ≡ n) (found : Tree (Watched M)) (all : all_move_on width code is_same accepts reads found ≡ true) where
-  watched_is : (x y : Watched M) → is_same_watched width code is_same accepts reads x y ≡ true → x ≡ y
+  pub watched_is : (x y : Watched M) → is_same_watched width code is_same accepts reads x y ≡ true → x ≡ y
   watched_is x y h =
       let c : x.control ≡ y.control = control_is x.control y.control (and_left _ _ h) in
       let m : x.reader ≡ y.reader = sound x.reader y.reader (and_right (is_same_control x.control y.control) _ h) in
       cc (its_parts x, its_parts y)
 
-  abbrev beside : World → M → Watched M
+  abbrev pub beside : World → M → Watched M
   beside w m = record { control = control_of w; reader = m }
 
-  abbrev IsFound : World → M → Type 0
+  abbrev pub IsFound : World → M → Type 0
   IsFound w m = is_watched_in width code is_same accepts reads found (beside w m) ≡ true
 
   passing : (w : World) (m : M) → IsFound w m → list_all (λ b. passes_on width code is_same accepts reads found m b (control_turn (control_of w) b)) (begins (control_of w)) ≡ true
   passing w m h = passes_where_found (watched_code width code is_same accepts reads) (is_same_watched width code is_same accepts reads) watched_is (λ x. list_all (λ b. passes_on width code is_same accepts reads found x.reader b (control_turn x.control b)) (begins x.control)) found (beside w m) all h
+
+  -- a pair that was found leads to one that was found
+  pub found_next : (side : End) (w : World) (entry : Entry) (next : World) (m : M) → Turned w side entry next → IsReached w → IsFound w m → IsFound next (reads_entry width code is_same accepts reads (call_under_way (by_end side w.sender w.receiver)) entry m)
+  found_next _ w _ _ m (sender_idle at) h f = f
+  found_next _ w _ _ m (receiver_idle at) h f = f
+  found_next _ w _ _ m (sender_made position row at steps) h f =
+      let passed = rw steps at (sender_passes (passes_on width code is_same accepts reads found m) w position h at (passing w m f)) in
+      subst (λ c. is_watched_in width code is_same accepts reads found (record { control = c; reader = reads Sender (call_under_way w.sender) (sender_stepped w.state (sender_step position) row).0 m }) ≡ true)
+      (sender_control_is w (sender_step position) row)
+      (and_right _ _ passed)
+  found_next _ w _ _ m (receiver_made position row at steps) h f =
+      let passed = rw steps at (receiver_passes (passes_on width code is_same accepts reads found m) w position h at (passing w m f)) in
+      subst (λ c. is_watched_in width code is_same accepts reads found (record { control = c; reader = reads Receiver (call_under_way w.receiver) (receiver_stepped w.state (receiver_step position) row).0 m }) ≡ true)
+      (receiver_control_is w (receiver_step position) row)
+      (and_right _ _ passed)
 
   -- every run from here on that tells these entries is accepted
   abbrev Claim : List Entry → Type 0
@@ -134,18 +149,14 @@ module _ {M : Type 0} (width : ℕ) (code : M → ℕ) (is_same : M → M → Bo
       let passed = rw steps at (sender_passes (passes_on width code is_same accepts reads found m) w position h at (passing w m f)) in (
         and_left _ _ passed,
         later (sender_world w (sender_step position) row) _ worlds moves k
-            (subst (λ c. is_watched_in width code is_same accepts reads found (record { control = c; reader = reads Sender (call_under_way w.sender) (sender_stepped w.state (sender_step position) row).0 m }) ≡ true)
-            (sender_control_is w (sender_step position) row)
-            (and_right _ _ passed))
+            (found_next Sender w _ _ m (sender_made position row at steps) h f)
             told,
       )
   accepted_turn entries later _ w _ _ m worlds moves (receiver_made position row at steps) h k f told =
       let passed = rw steps at (receiver_passes (passes_on width code is_same accepts reads found m) w position h at (passing w m f)) in (
         and_left _ _ passed,
         later (receiver_world w (receiver_step position) row) _ worlds moves k
-            (subst (λ c. is_watched_in width code is_same accepts reads found (record { control = c; reader = reads Receiver (call_under_way w.receiver) (receiver_stepped w.state (receiver_step position) row).0 m }) ≡ true)
-            (receiver_control_is w (receiver_step position) row)
-            (and_right _ _ passed))
+            (found_next Receiver w _ _ m (receiver_made position row at steps) h f)
             told,
       )
 
@@ -160,7 +171,7 @@ module _ {M : Type 0} (width : ℕ) (code : M → ℕ) (is_same : M → M → Bo
 
 -- each run of two scripts is accepted
 module _ {M : Type 0} (width : ℕ) (code : M → ℕ) (is_same : M → M → Bool) (accepts : End → Call → Made → M → Bool) (reads : End → Call → Made → M → M) (sound : (m n : M) → is_same m n ≡ true → m ≡ n) (first : Option Place → M) (found : Tree (Watched M)) (all : all_pass width code is_same accepts reads first found ≡ true) where
-  opening_found : {T : Type 0} (last : SenderLast T) → is_watched_in width code is_same accepts reads found (opening_watched width code is_same accepts reads first (opening_place last)) ≡ true
+  pub opening_found : {T : Type 0} (last : SenderLast T) → is_watched_in width code is_same accepts reads found (opening_watched width code is_same accepts reads first (opening_place last)) ≡ true
   opening_found (SL.Send message error) = and_left _ _ (and_right _ _ all)
   opening_found SL.Drop = and_left _ _ all
   opening_found SL.Stop = and_left _ _ all

@@ -6,6 +6,8 @@ pub mod History
 pub mod Idle
 pub mod Ended
 pub mod Places
+pub mod Wakers
+pub mod Unwoken
 pub mod Holders
 pub mod Laws
 pub mod Alone

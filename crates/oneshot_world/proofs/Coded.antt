@@ -6,7 +6,7 @@ use Rattle.oneshot_machine.specs.declared.machine.receiver.ReceiverPos.TheVarian
 use Rattle.oneshot_machine.specs.declared.machine.sender.SenderPos.TheVariants as S
 use Rattle.oneshot_world.specs.Calls.{Call, Sender_is_closed, Send, Drop_sender, As_inner, Into_inner, Drop_error, Try_recv, Recv_ref, Recv, Has_message, Is_closed, Drop_receiver, Stray}
 use Rattle.oneshot_world.specs.Control.{Control, sender_code, receiver_code, call_code, place_code, bool_code, is_same_wakers, is_same_state, is_same_control}
-use Rattle.oneshot_world.specs.Wakers.{is_same_name}
+use Rattle.oneshot_world.specs.Wakers.{is_same_waker, is_same_name}
 use Rattle.oneshot_world.specs.declared.state.ReceiverState.{ReceiverState}
 use Rattle.oneshot_world.specs.declared.state.ReceiverState.TheVariants as RS
 use Rattle.oneshot_world.specs.declared.state.SenderState.{SenderState}
@@ -123,18 +123,20 @@ bool_back false = refl
 pub bool_is : (a b : Bool) → (bool_code a == bool_code b) ≡ true → a ≡ b
 bool_is = same_by bool_code bools false bool_back
 
-pub name_is : (a b : Option WakerName) → is_same_name a b ≡ true → a ≡ b
-name_is None None h = refl
-name_is (Some Parker) (Some Parker) h = refl
-name_is (Some (Copy a i)) (Some (Copy b j)) h =
-    let numbers : a ≡ b = eqb-true a b (and_left _ _ h) in
+pub waker_is : (a b : WakerName) → is_same_waker a b ≡ true → a ≡ b
+waker_is Parker Parker h = refl
+waker_is (Copy a i) (Copy b j) h =
+    let numbers : a ≡ b = eqb-true a b (and_left _ (i == j) h) in
     let entries : i ≡ j = eqb-true i j (and_right (a == b) _ h) in
     rw (numbers, entries) refl
+waker_is Parker (Copy b j) h = cc
+waker_is (Copy a i) Parker h = cc
+
+name_is : (a b : Option WakerName) → is_same_name a b ≡ true → a ≡ b
+name_is None None h = refl
+name_is (Some a) (Some b) h = let same : a ≡ b = waker_is a b h in rw same refl
 name_is None (Some b) h = cc
-name_is (Some Parker) None h = cc
-name_is (Some (Copy a i)) None h = cc
-name_is (Some Parker) (Some (Copy b j)) h = cc
-name_is (Some (Copy a i)) (Some Parker) h = cc
+name_is (Some a) None h = cc
 
 -- records with the same fields are the same
 wakers_of : Option WakerName → Option WakerName → Option WakerName → Bool → Wakers

@@ -48,8 +48,12 @@ name_code None = 0
 name_code (Some Parker) = 1
 name_code (Some (Copy number entry)) = 2
 
+abbrev pub is_same_waker : WakerName → WakerName → Bool
+is_same_waker Parker Parker = true
+is_same_waker (Copy a i) (Copy b j) = a == b && i == j
+is_same_waker _ _ = false
+
 abbrev pub is_same_name : Option WakerName → Option WakerName → Bool
 is_same_name None None = true
-is_same_name (Some Parker) (Some Parker) = true
-is_same_name (Some (Copy a i)) (Some (Copy b j)) = a == b && i == j
+is_same_name (Some a) (Some b) = is_same_waker a b
 is_same_name _ _ = false
