@@ -43,11 +43,8 @@ or_true false = refl
 
 freed_at : (freed : Bool) (step : Step) → freed_by freed step ≡ (freed || is_free step)
 freed_at freed (T.Word op) = or_false freed
-freed_at freed T.WriteMessage = or_false freed
-freed_at freed T.TakeMessage = or_false freed
-freed_at freed T.DropMessage = or_false freed
 freed_at freed T.Free = or_true freed
-freed_at freed T.Plain = or_false freed
+freed_at freed _ = or_false freed
 
 -- the block is freed where an entry freed it
 abbrev FreedClaim : List Entry → Type 0

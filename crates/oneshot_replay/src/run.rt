@@ -7,6 +7,8 @@ ghost use Rattle.oneshot_laws.specs.Marks.{marks};
 ghost use Rattle.oneshot_laws.specs.History.{has_legal_history};
 ghost use Rattle.oneshot_laws.specs.Idle.{is_idle_right};
 ghost use Rattle.oneshot_laws.specs.Places.{is_message_followed, is_message_ended, last_message_place};
+ghost use Rattle.oneshot_laws.specs.Wakers.{AreWakersRight, is_cell_kept};
+ghost use Rattle.oneshot_laws.specs.Unwoken.{NeverUnwoken};
 ghost use Rattle.oneshot_laws.specs.Holders.{is_freed, is_freed_right};
 ghost use Rattle.oneshot_laws.specs.Laws.{is_gone_after_got, is_got_after_full, is_gone_after_closed, is_refused_after_closed, is_nothing_only_if_open, is_dropped_once};
 ghost use Rattle.oneshot_laws.specs.Alone.{are_lone_calls_right};
@@ -34,6 +36,9 @@ pub fn replay<T: Drop>(
     ensures legal { IfOk result (λ t. IsTrue (has_legal_history (marks (calls_of s r) t.entries))) }
     ensures message_followed { IfOk result (λ t. IsTrue (is_message_followed (calls_of s r) t.entries)) }
     ensures message_ended { IfOk result (λ t. IsTrue (is_message_ended t.entries (marks (calls_of s r) t.entries))) }
+    ensures wakers { IfOk result (λ t. AreWakersRight t.entries (marks (calls_of s r) t.entries)) }
+    ensures cell_kept { IfOk result (λ t. IsTrue (is_cell_kept t.entries)) }
+    ensures never_unwoken { IfOk result (λ t. NeverUnwoken s r moves.now t.entries) }
     ensures freed_right { IfOk result (λ t. IsTrue (is_freed_right (marks (calls_of s r) t.entries))) }
     ensures freed_as_shown { IfOk result (λ t. t.block_freed ≡ is_freed (marks (calls_of s r) t.entries)) }
     ensures rest_as_shown { IfOk result (λ t. t.rest ≡ option_map (rest_of (last_message_place t.entries)) (message_of s.last)) }

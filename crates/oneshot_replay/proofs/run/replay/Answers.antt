@@ -6,6 +6,8 @@ use Rattle.oneshot_world.specs.declared.script.Move.TheVariants.{Sender}
 use Rattle.oneshot_laws.proofs.IdleRuns.{idle_run}
 use Rattle.oneshot_laws.proofs.LegalRuns.{legal_run}
 use Rattle.oneshot_laws.proofs.MessagePath.{message_followed, message_ended}
+use Rattle.oneshot_laws.proofs.WakerPath.{wakers_right, cell_kept}
+use Rattle.oneshot_laws.proofs.Woken.{never_unwoken}
 use Rattle.oneshot_laws.proofs.BlockHeld.{freed_right}
 use Rattle.oneshot_laws.proofs.Afterwards.{gone_after_got, gone_after_closed, refused_after_closed}
 use Rattle.oneshot_laws.proofs.NextReceive.{got_after_full}
@@ -50,6 +52,22 @@ pub returns-clause-message_ended : goal.returns-clause-message_ended
 returns-clause-message_ended g c =
     let run = c.loop-m.invariant.run in
     message_ended c.args.s c.args.r run.worlds _ c.loop-m.entries.items run.tells
+
+pub returns-clause-wakers : goal.returns-clause-wakers
+returns-clause-wakers g c =
+    let run = c.loop-m.invariant.run in
+    wakers_right c.args.s c.args.r run.worlds _ c.loop-m.entries.items run.tells
+
+pub returns-clause-cell_kept : goal.returns-clause-cell_kept
+returns-clause-cell_kept g c =
+    let run = c.loop-m.invariant.run in
+    cell_kept c.args.s c.args.r run.worlds _ c.loop-m.entries.items run.tells
+
+pub returns-clause-never_unwoken : goal.returns-clause-never_unwoken
+returns-clause-never_unwoken g c =
+    let run = c.loop-m.invariant.run in
+    let all : take c.loop-m.m-index c.args.moves.now ≡ c.args.moves.now = take_all _ _ (search rules) in
+    rw all at (never_unwoken c.args.s c.args.r run.worlds _ c.loop-m.entries.items run.tells)
 
 pub returns-clause-freed_right : goal.returns-clause-freed_right
 returns-clause-freed_right g c =
