@@ -19,6 +19,9 @@ use std::marker::Model;
 ///
 /// A contract sees the table that it shares with the receiver, and the list of its operations on the
 /// word, which is empty until its one call.
+///
+/// Where `T` is `Send` and `Sync` several threads may share a `&` to it, and ask `is_closed`. A
+/// caller's proof finds this by itself.
 pub struct Sender<T> {
     side: SenderSide<T, ()>,
 }

@@ -26,7 +26,7 @@ pub fn open<T: Send + Drop, W: Send + Drop>(
     let other = table.shared.split_seat::<Halves>(&mut chair);
     let board = Arc::new(alloc, table)?;
     let shared = Arc::try_clone(&board)?;
-    let sender = SenderSide { board, chair };
+    let sender = SenderSide::new(board, chair);
     let receiver = ReceiverSide {
         board: shared,
         chair: other,

@@ -1,12 +1,13 @@
 //! The sender's side of the shared word.
 
 ghost use Rattle.std.specs.Prelude.{◌≡◌, ◌≢◌};
+ghost use Rattle.std.specs.Arc.{arc_value};
 ghost use Rattle.oneshot_machine.specs.declared.states.Op.TheVariants.{Add, Xor};
 ghost use Rattle.oneshot_machine.specs.Phases.{sender_at};
 ghost use Rattle.oneshot_machine.specs.Slots.{away, vacant, held};
 ghost use Rattle.oneshot_word.specs.Rows.{RuleReads};
-ghost use Rattle.oneshot_word.specs.Seats.{MessageSlot, message_of, waker_of};
-ghost use Rattle.oneshot_word.specs.Sides.{SenderCan, SenderDid, SenderOwns};
+ghost use Rattle.oneshot_word.specs.Seats.{IsAt, MessageSlot, SenderSeat, message_of, waker_of};
+ghost use Rattle.oneshot_word.specs.Sides.{SenderCan, SenderDid, SenderOwns, side_of};
 
 use crate::plays::{Adds, Flips};
 use crate::rule::Slot;
@@ -23,6 +24,7 @@ pub struct SenderSide<T, W> {
 }
 
 impl<T, W> Model for SenderSide<T, W> {
+    ghost use base.Fml.{ftrue};
     ghost use Rattle.std.specs.Arc.{arc_value};
     ghost use Rattle.oneshot_word.specs.Seats.{IsAt, SenderSeat};
     ghost use Rattle.oneshot_word.specs.Sides.{Side, side_of};
@@ -33,9 +35,29 @@ impl<T, W> Model for SenderSide<T, W> {
 
     ghost invariant = { λ s.
         SenderSeat s.chair.me × IsAt (arc_value s.board).shared.table_id s.chair.table_id };
+
+    // Both say nothing. Only of a struct with `also_owns` can `Sync` be proved by hand, and `peek`
+    // reads such a struct where it has `also_shares`.
+    ghost also_owns = { λ _. ftrue };
+
+    ghost also_shares = { λ _ _ _. ftrue };
 }
 
+// Both are proved, in proofs/sender/SenderSide/TheSendSync. The kit has no proof that a seat is
+// `Sync`, so the checker finds none for this struct by itself.
+unsafe impl<T: Send, W: Send> Send for SenderSide<T, W> {}
+
+unsafe impl<T: Send + Sync, W: Send + Sync> Sync for SenderSide<T, W> {}
+
 impl<T, W> SenderSide<T, W> {
+    // A side is made here alone, since its `also_owns` wants a proof by hand of what makes one.
+    pub(crate) fn new(board: Arc<Board<T, W>, Global>, chair: Chair<T, W>) -> SenderSide<T, W>
+        requires { SenderSeat chair.me × IsAt (arc_value board).shared.table_id chair.table_id }
+        ensures { result ≡ side_of chair.table_id chair.me }
+    {
+        SenderSide { board, chair }
+    }
+
     /// Adds one to the word, and gives the word before.
     pub fn add(&mut self) -> u8
         requires { SenderCan self.old Add }

@@ -1,10 +1,10 @@
 //! Each end on a thread of its own.
 
-use crate::{Receiver, channel};
+use crate::{Receiver, Sender, channel};
 use oneshot_errors::TryRecvError;
 use std::sync::Arc;
 use std::test::Fail;
-use std::thread::join;
+use std::thread::{Threads, join};
 
 const ROUNDS: u64 = 1_000;
 
@@ -44,5 +44,19 @@ fn each_round_gets_its_message_once(rt: HostRuntime) -> Result<(), Fail> {
         drop(message);
         assert_eq!(rt; Arc::strong_count(&shared), 1);
     }
+    Ok(())
+}
+
+// What two threads find that look at one sender.
+fn two_looks<T: Send + Sync>(rt: &impl Threads, sender: &Sender<T>) -> (bool, bool) {
+    join(rt, || sender.is_closed(), || sender.is_closed())
+}
+
+#[test]
+fn two_threads_look_at_one_sender(rt: HostRuntime) -> Result<(), Fail> {
+    let (sender, receiver) = channel::<u8, ()>((), rt.alloc())?;
+    assert_eq!(rt; two_looks(&rt, &sender), (false, false));
+    drop(receiver);
+    assert_eq!(rt; two_looks(&rt, &sender), (true, true));
     Ok(())
 }

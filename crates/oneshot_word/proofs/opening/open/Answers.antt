@@ -13,8 +13,8 @@ load-requires g c = (search rules, search rules, deal_allowed _ _ _ (search rule
 pub split_seat-other-requires : goal.split_seat-other-requires
 split_seat-other-requires g c = (search rules, search rules, split_allowed _ _ (search rules))
 
-pub invariant_of-sender : goal.invariant_of-sender
-invariant_of-sender g c =
+pub new-sender-requires : goal.new-sender-requires
+new-sender-requires g c =
     (subst SenderSeat (sym c.split_seat-other.ensures.2) (rw c.load.ensures.2 sender_seated), record { table = search rules; words = search rules; slots = search rules })
 
 pub invariant_of-receiver : goal.invariant_of-receiver

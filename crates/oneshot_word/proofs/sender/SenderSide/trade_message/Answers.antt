@@ -1,4 +1,4 @@
-use Rattle.std.proofs.Common.{◌≢◌, rules, sym, ap, subst}
+use Rattle.std.proofs.Common.{◌≢◌, rules, refl, sym, ap, subst}
 use Rattle.oneshot_machine.specs.Slots.{away}
 use Rattle.oneshot_word.specs.Seats.{message_of, SenderSeat}
 use Rattle.oneshot_word.proofs.Trades.{fits_message, sender_front, Traded, sender_traded, traded_side}
@@ -14,7 +14,7 @@ traded g c =
     sender_traded c.self.inside.chair.me c.turn.new.self.me c.exchange-old.new.seat.me c.turn-2.new.self.me c.self.invariant.0 (subst (λ s. s.message ≢ away) (sym c.self.view_is) c.requires.its_own) (fits_message c.args.new c.requires.no_waker) c.turn.ensures.2 c.exchange-old.ensures.2 c.exchange-old.ensures.3 c.turn-2.ensures.2
 
 pub invariant_of-self : goal.invariant_of-self
-invariant_of-self g c = ((traded g c).seat, search rules)
+invariant_of-self g c = (refl, tt, ((traded g c).seat, search rules))
 
 pub returns-clause-was : goal.returns-clause-was
 returns-clause-was g c = rw (ap (λ s. s.message) (sym c.self.view_is)) (traded g c).was

@@ -1,0 +1,59 @@
+-- Which parts of the sender's side may cross threads: they may where the message and the waker may.
+use denote.RattleType.{RattleType}
+use denote.Builtin.{unit}
+use denote.Param.Send.{IsSend, IsSync, AllSend, AllSync, part_keyless}
+use denote.Struct.Owning.{fields}
+use Rattle.std.specs.contracts.alloc.Global as Global
+use Rattle.std.specs.contracts.impls.GlobalAllocator.TheImpl as heap
+use Rattle.std.specs.contracts.sync.Arc as Arc
+use Rattle.std.proofs.sync.Arc.TheSendSync as arc
+use Rattle.std.proofs.alloc.Global.TheSendSync as global
+use Rattle.std.proofs.Crossing.{frees}
+use Rattle.atomic_table.specs.contracts.owned.Table as Table
+use Rattle.atomic_table.specs.contracts.shared.Seat as Seat
+use Rattle.atomic_table.proofs.owned.Table.TheSendSync as table
+use Rattle.atomic_table.proofs.shared.Seat.TheSendSync as seat
+use Rattle.oneshot_word.specs.contracts.rule.Slot as Slot
+use Rattle.oneshot_word.specs.contracts.rule.View as View
+use Rattle.oneshot_word.specs.contracts.rule.WordRule as WordRule
+use Rattle.oneshot_word.specs.contracts.rule.WordRuleTableRuleSlotViewUnit.TheImpl as rule
+use Rattle.oneshot_word.proofs.rule.Slot.TheSendSync as slot
+use Rattle.oneshot_word.specs.contracts.sender.SenderSide.TheInside.{the_type}
+
+-- A `&` to a seat holds shares of the seat, and these name no thread.
+seat_sync : (S V : RattleType) → IsSend S → IsSync (Seat.the_row S V)
+seat_sync S V s = record { shared = λ d b o κ q. part_keyless (Seat.the_row S V) (seat.the_send S V s) q d b o }
+
+module _ (T W : RattleType) where
+  abbrev Board : RattleType
+  Board = Table.the_row (Slot.the_row T W) View.the_row unit WordRule.the_row Global.the_row (rule.ghosts T W) heap.ghosts
+
+  abbrev pub Shared : RattleType
+  Shared = Arc.the_row Board Global.the_row heap.ghosts
+
+  abbrev pub Chair : RattleType
+  Chair = Seat.the_row (Slot.the_row T W) View.the_row
+
+module _ (T W : RattleType) (s : IsSend T) (u : IsSend W) where
+  slot_send : IsSend (Slot.the_row T W)
+  slot_send = slot.the_send T W s u
+
+  board_send : IsSend (Board T W)
+  board_send =
+      table.the_send (Slot.the_row T W) View.the_row unit WordRule.the_row Global.the_row (rule.ghosts T W) heap.ghosts slot_send global.the_send frees
+
+  board_sync : IsSync (Board T W)
+  board_sync =
+      table.the_sync (Slot.the_row T W) View.the_row unit WordRule.the_row Global.the_row (rule.ghosts T W) heap.ghosts slot_send global.the_send global.the_sync frees
+
+  shared_send : IsSend (Shared T W)
+  shared_send = arc.the_send (Board T W) Global.the_row heap.ghosts board_send global.the_send board_sync global.the_sync frees
+
+  shared_sync : IsSync (Shared T W)
+  shared_sync = arc.the_sync (Board T W) Global.the_row heap.ghosts board_send global.the_send board_sync global.the_sync frees
+
+  pub parts_send : AllSend (fields (the_type T W))
+  parts_send = (shared_send, (seat.the_send (Slot.the_row T W) View.the_row slot_send, tt))
+
+  pub parts_sync : AllSync (fields (the_type T W))
+  parts_sync = (shared_sync, (seat_sync (Slot.the_row T W) View.the_row slot_send, tt))
