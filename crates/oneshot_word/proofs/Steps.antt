@@ -15,7 +15,7 @@ use Rattle.oneshot_word.specs.Rule.{Home, Row, SenderSays, ReceiverSays, Tied, r
 use Rattle.oneshot_word.specs.Seats.{view, message_in, waker_in, SenderHas, ReceiverHas, SenderSeat, ReceiverSeat, SenderStepped, ReceiverStepped}
 use Rattle.oneshot_word.proofs.Found.{SenderFound, found_sender, sender_found, ReceiverFound, found_receiver, receiver_found}
 use Rattle.oneshot_word.proofs.Says.{sender_says, receiver_says}
-use Rattle.oneshot_word.proofs.Turns.{SenderTurn, sender_acts, ReceiverTurn, receiver_acts, adds, flips, loads, stores, swaps}
+use Rattle.oneshot_word.proofs.Turns.{SenderTurn, sender_acts, row_code, ReceiverTurn, receiver_acts, adds, flips, finishes, loads, stores, swaps}
 
 module _ {T W : Type 0} where
   abbrev pub Holds : State (Slot T W) View → Type 0
@@ -66,6 +66,7 @@ module _ {T W : Type 0} where
                 record {
                   list = refl;
                   seat = record { role = refl; has = subst (λ q. ReceiverHas q (carried_after me.1 act) (message_in (carried_after me.1 act)) (waker_in (carried_after me.1 act))) (sym after) has };
+                  code = row_code row;
                   finds = finds;
                 },
               )
@@ -92,6 +93,9 @@ module _ {T W : Type 0} where
 
     pub flip_allowed : SenderSeat me → SenderAsks me Xor → Allows Holds slots id me 0 (λ n. bit_xor n 1) (SenderStepped me Xor)
     flip_allowed seat may = sender_allows me _ Xor slots id seat (λ q w h k row. flips w may seat.has row)
+
+    pub finish_allowed : (new : ℕ) → SenderSeat me → SenderAsks me (Swap new) → Allows Holds slots id me 0 (λ _. new) (SenderStepped me (Swap new))
+    finish_allowed new seat may = sender_allows me _ (Swap new) slots id seat (λ q w h k row. finishes new w may seat.has row)
 
     pub load_allowed : ReceiverSeat me → ReceiverAsks me Load → Allows Holds slots id me 0 (λ n. n) (ReceiverStepped me Load)
     load_allowed seat may = receiver_allows me _ Load slots id seat (λ p w h k row. loads w may seat.has row)

@@ -1,16 +1,23 @@
 -- What each end's list of operations says, read off it alone.
-use Rattle.std.specs.Prelude.{ℕ, Bool, false, ◌||◌, ◌==◌, if◌then◌else◌, List, [], ◌∷◌, Option, Some, None}
+use Rattle.std.specs.Prelude.{ℕ, Bool, false, ◌&&◌, ◌||◌, ◌==◌, if◌then◌else◌, List, [], ◌∷◌, Option, Some, None}
 use Rattle.oneshot_machine.specs.declared.machine.Seen.{Seen}
 use Rattle.oneshot_machine.specs.declared.machine.Seen.TheVariants.{Word}
 use Rattle.oneshot_machine.specs.declared.states.Op.{Op}
-use Rattle.oneshot_machine.specs.declared.states.Op.TheVariants.{Store, Swap, Add, Xor}
+use Rattle.oneshot_machine.specs.declared.states.Op.TheVariants.{Load, Store, Swap, Add, Xor}
 use Rattle.oneshot_machine.specs.Words.{Noted}
 use Rattle.oneshot_machine.specs.Phases.{By, sending, dropping}
+
+-- The sender found 0, and its final swap is to come.
+pub data FoundZero : By → List Noted → Type 0 where
+  send_found : FoundZero sending ((Add, Word 0) ∷ [])
+  drop_found : FoundZero dropping ((Xor, Word 0) ∷ [])
 
 -- The sender's last operation is made, and the receiver was here.
 pub data MadeLast : By → List Noted → Type 0 where
   sent : MadeLast sending ((Add, Word 3) ∷ [])
+  sent_to_it : MadeLast sending ((Add, Word 0) ∷ (Swap 4, Word 1) ∷ [])
   dropped : MadeLast dropping ((Xor, Word 3) ∷ [])
+  dropped_before_it : MadeLast dropping ((Xor, Word 0) ∷ (Swap 2, Word 1) ∷ [])
 
 -- The sender's last operation is made, found the receiver gone, and left this word.
 pub data MadeLate : By → ℕ → List Noted → Type 0 where
@@ -21,6 +28,16 @@ pub data MadeLate : By → ℕ → List Noted → Type 0 where
 abbrev pub along : {A : Type 0} → (A → Op → Seen → A) → A → List Noted → A
 along next a [] = a
 along next a (x ∷ xs) = along next (next a x.0 x.1) xs
+
+abbrev pub stores_next : Bool → Op → Seen → Bool
+stores_next before Load (Word word) = before && (word == 0 || word == 1)
+stores_next before (Swap new) (Word word) = new == 0 && word == 3
+stores_next before _ seen = false
+
+-- The receiver stores a waker: after a swap of 0 that found 3 it has made nothing but loads that
+-- found 0 or 1.
+abbrev pub stores_waker : List Noted → Bool
+stores_waker = along stores_next false
 
 abbrev pub gone_next : Bool → Op → Seen → Bool
 gone_next before (Swap new) seen = before || new == 2

@@ -4,8 +4,8 @@ use Rattle.oneshot_machine.specs.Words.{Noted}
 use Rattle.oneshot_machine.specs.Phases.{By, sending, dropping}
 use Rattle.oneshot_word.specs.declared.rule.Role.TheVariants.{Maker, Dealer, Sender, Receiver}
 use Rattle.oneshot_word.specs.declared.rule.View.{View}
-use Rattle.oneshot_word.specs.Lists.{MadeLast, MadeLate, is_gone, wrote_since}
-use Rattle.oneshot_word.specs.Rule.{Home, out, bare, has_message, Tied}
+use Rattle.oneshot_word.specs.Lists.{FoundZero, MadeLast, MadeLate, stores_waker, is_gone, wrote_since}
+use Rattle.oneshot_word.specs.Rule.{Home, out, bare, has_message, has_waker, Tied}
 use Rattle.oneshot_word.specs.Seats.{view}
 
 -- A slot of the sender's: out with it, or empty at home, where the receiver left it for the
@@ -25,11 +25,21 @@ pub data IsReceiversFull {T W : Type 0} : Home T W → Type 0 where
   receiver_found_it : IsReceiversFull out
   waits_for_receiver : (m : T) → IsReceiversFull (has_message m)
 
+-- the word's own slot, with the receiver's waker in it
+pub data IsWords {T W : Type 0} : Home T W → Type 0 where
+  waker_at_home : (k : W) → IsWords (has_waker k)
+
 -- the sender's list, the receiver's list, the word, the message's slot and the waker's
 pub data Owned {T W : Type 0} (xs ys : List Noted) : ℕ → Home T W → Home T W → Type 0 where
-  -- the sender has made no operation, and the receiver is here
-  both_open : {h k : Home T W} → xs ≡ [] → is_gone ys ≡ false
+  -- the sender has made no operation, and the receiver is here and stores no waker
+  both_open : {h k : Home T W} → xs ≡ [] → stores_waker ys ≡ false → is_gone ys ≡ false
       → IsSenders h → IsReceivers k → Owned xs ys 3 h k
+  -- the sender has made no operation, and the receiver stores a waker
+  waker_stored : {h k : Home T W} → xs ≡ [] → stores_waker ys ≡ true → is_gone ys ≡ false
+      → IsSenders h → IsWords k → Owned xs ys 0 h k
+  -- the sender found 0, and its final swap is to come; the receiver still waits
+  waker_claimed : {h k : Home T W} (by : By) → FoundZero by xs → stores_waker ys ≡ true → is_gone ys ≡ false
+      → IsSenders h → IsSenders k → Owned xs ys 1 h k
   -- the sender has made no operation, and the receiver is gone
   receiver_gone : {h k : Home T W} → xs ≡ [] → is_gone ys ≡ true
       → IsSenders h → IsSenders k → Owned xs ys 2 h k

@@ -1,10 +1,10 @@
 -- What a seat of the table knows and carries, and what a step does to it.
-use Rattle.std.specs.Prelude.{◌≡◌, ℕ, zero, suc, List, [], ◌∷◌, ◌++◌}
+use Rattle.std.specs.Prelude.{◌≡◌, ◌≤◌, ℕ, zero, suc, List, [], ◌∷◌, ◌++◌}
 use Rattle.atomic_table.specs.Seated.{TableId}
 use Rattle.atomic_table.specs.Table.{Me}
 use Rattle.oneshot_machine.specs.declared.states.Op.{Op}
 use Rattle.oneshot_machine.specs.Words.{Noted, saw}
-use Rattle.oneshot_machine.specs.Phases.{By, SenderAt, fresh, finished, late, sender_at, Open, Got, Closing, ReceiverAt, first, here, full, over, gone, ended, receiver_at}
+use Rattle.oneshot_machine.specs.Phases.{By, SenderAt, fresh, owes, finished, late, sender_at, Open, Waiting, Got, Closing, ReceiverAt, first, here, waits, full, unclosed, over, gone, ended, receiver_at}
 use Rattle.oneshot_machine.specs.Slots.{Held, away, vacant, held, SenderFinds, ReceiverFinds}
 use Rattle.oneshot_word.specs.declared.rule.Role.{Role}
 use Rattle.oneshot_word.specs.declared.rule.Role.TheVariants.{Sender, Receiver}
@@ -54,6 +54,8 @@ pub data WakerSlot {T W : Type 0} : Slot T W → Held W → Type 0 where
 -- what an end carries by how far it is, the slot in front first
 pub data SenderHas {T W : Type 0} : SenderAt → Carried T W → Held T → Held W → Type 0 where
   has_fresh : {s : Slot T W} {m : Held T} → MessageSlot s m → SenderHas fresh ((0, s) ∷ []) m away
+  has_owes : (by : By) {s t : Slot T W} {m : Held T} {w : Held W}
+      → MessageSlot s m → WakerSlot t w → SenderHas (owes by) ((1, t) ∷ (0, s) ∷ []) m w
   has_finished : (by : By) → SenderHas (finished by) [] away away
   has_late : (by : By) (n : ℕ) {s t : Slot T W} {m : Held T} {w : Held W}
       → MessageSlot s m → WakerSlot t w → SenderHas (late by n) ((1, t) ∷ (0, s) ∷ []) m w
@@ -62,8 +64,11 @@ pub data ReceiverHas {T W : Type 0} : ReceiverAt → Carried T W → Held T → 
   has_first : ReceiverHas first [] away away
   has_here : (f : Open) {t : Slot T W} {w : Held W}
       → WakerSlot t w → ReceiverHas (here f) ((1, t) ∷ []) away w
+  has_waits : (a : Waiting) → ReceiverHas (waits a) [] away away
   has_full : (g : Got) (n : ℕ) {s t : Slot T W} {m : Held T} {w : Held W}
       → MessageSlot s m → WakerSlot t w → ReceiverHas (full g n) ((0, s) ∷ (1, t) ∷ []) m w
+  has_unclosed : (n : ℕ) {s t : Slot T W} {m : Held T} {w : Held W}
+      → MessageSlot s m → WakerSlot t w → ReceiverHas (unclosed n) ((0, s) ∷ (1, t) ∷ []) m w
   has_over : (c : Closing) {s t : Slot T W} {m : Held T} {w : Held W}
       → MessageSlot s m → WakerSlot t w → ReceiverHas (over c) ((0, s) ∷ (1, t) ∷ []) m w
   has_gone : ReceiverHas gone [] away away
@@ -98,5 +103,7 @@ module _ {T W : Type 0} where
       (before : Me (Slot T W) View) (op : Op) (word : ℕ) (after : Me (Slot T W) View) : Type 0 where
     pub list : after.0.steps ≡ before.0.steps ++ (op, saw op word) ∷ []
     pub seat : ReceiverSeat after
+    -- a store's list does not tell the word
+    pub code : word ≤ 4
     pub finds : ReceiverFinds (receiver_at before.0.steps) op word
         (message_in before.1) (waker_in before.1) (message_in after.1) (waker_in after.1)

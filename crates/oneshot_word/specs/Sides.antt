@@ -4,7 +4,7 @@ use Rattle.atomic_table.specs.Seated.{TableId}
 use Rattle.atomic_table.specs.Table.{Me}
 use Rattle.oneshot_machine.specs.declared.states.Op.{Op}
 use Rattle.oneshot_machine.specs.Words.{Noted, saw}
-use Rattle.oneshot_machine.specs.Phases.{By, SenderAt, fresh, finished, late, sender_at, Open, Got, Closing, ReceiverAt, first, here, full, over, gone, ended, receiver_at}
+use Rattle.oneshot_machine.specs.Phases.{By, SenderAt, fresh, owes, finished, late, sender_at, Open, Waiting, Got, Closing, ReceiverAt, first, here, waits, full, unclosed, over, gone, ended, receiver_at}
 use Rattle.oneshot_machine.specs.Slots.{Held, away, vacant, held, SenderMay, SenderFinds, ReceiverMay, ReceiverFinds}
 use Rattle.oneshot_word.specs.declared.rule.Slot.{Slot}
 use Rattle.oneshot_word.specs.declared.rule.View.{View}
@@ -39,6 +39,8 @@ pub data IsOwn {X : Type 0} : Held X → Type 0 where
 -- which slots are the sender's, by how far it is: no other is
 pub data SenderOwns {T W : Type 0} : SenderAt → Held T → Held W → Type 0 where
   owns_message : {m : Held T} → IsOwn m → SenderOwns fresh m away
+  owns_stored : (by : By) {m : Held T} {w : Held W}
+      → IsOwn m → IsOwn w → SenderOwns (owes by) m w
   owns_none : (by : By) → SenderOwns (finished by) away away
   owns_both : (by : By) (word : ℕ) {m : Held T} {w : Held W}
       → IsOwn m → IsOwn w → SenderOwns (late by word) m w
@@ -47,8 +49,11 @@ pub data SenderOwns {T W : Type 0} : SenderAt → Held T → Held W → Type 0 w
 pub data ReceiverOwns {T W : Type 0} : ReceiverAt → Held T → Held W → Type 0 where
   none_yet : ReceiverOwns first away away
   owns_waker : (f : Open) {w : Held W} → IsOwn w → ReceiverOwns (here f) away w
+  gave_waker : (a : Waiting) → ReceiverOwns (waits a) away away
   owns_full : (g : Got) (word : ℕ) {m : Held T} {w : Held W}
       → IsOwn m → IsOwn w → ReceiverOwns (full g word) m w
+  owns_unclosed : (word : ℕ) {m : Held T} {w : Held W}
+      → IsOwn m → IsOwn w → ReceiverOwns (unclosed word) m w
   owns_closed : (c : Closing) {m : Held T} {w : Held W}
       → IsOwn m → IsOwn w → ReceiverOwns (over c) m w
   gave_all : ReceiverOwns gone away away

@@ -20,6 +20,12 @@ impl<T, W> Play<Slot<T, W>, View> for Flips {
     ghost then = { λ _ before found after. SenderStepped before Xor found after };
 }
 
+pub(crate) struct Finishes;
+
+impl<T, W> Play<Slot<T, W>, View> for Finishes {
+    ghost then = { λ s before found after. SenderStepped before (Swap s.first) found after };
+}
+
 pub(crate) struct Loads;
 
 impl<T, W> Play<Slot<T, W>, View> for Loads {

@@ -5,7 +5,7 @@ ghost use Rattle.oneshot_machine.specs.declared.states.Op.TheVariants.{Load, Sto
 ghost use Rattle.oneshot_machine.specs.Phases.{receiver_at};
 ghost use Rattle.oneshot_machine.specs.Slots.{away, vacant, held};
 ghost use Rattle.oneshot_word.specs.Rows.{RuleReads};
-ghost use Rattle.oneshot_word.specs.Seats.{MessageSlot, message_of, waker_of};
+ghost use Rattle.oneshot_word.specs.Seats.{MessageSlot, WakerSlot, message_of, waker_of};
 ghost use Rattle.oneshot_word.specs.Sides.{ReceiverCan, ReceiverDid, ReceiverOwns};
 
 use crate::plays::{Loads, Stores, Swaps};
@@ -92,10 +92,30 @@ impl<T: Drop, W: Drop> ReceiverSide<T, W> {
             _ => unreachable!(),
         }
     }
+
+    /// Puts the waker into its slot, which is the receiver's and empty.
+    pub fn write_waker(&mut self, waker: W)
+        requires { self.old.waker ≡ vacant }
+        ensures { self.new ≡ record self.old { waker = held waker } }
+    {
+        self.trade_waker(Slot::Waker(waker));
+    }
+
+    /// Takes the waker back out of its slot, which is the receiver's and full.
+    pub fn take_waker(&mut self) -> W
+        requires { (waker : W) × (self.old.waker ≡ held waker) }
+        ensures waker { self.old.waker ≡ held result }
+        ensures rest { self.new ≡ record self.old { waker = vacant } }
+    {
+        match self.trade_waker(Slot::Empty) {
+            Slot::Waker(waker) => waker,
+            _ => unreachable!(),
+        }
+    }
 }
 
 impl<T, W> ReceiverSide<T, W> {
-    // The message's slot is the one in front.
+    // Where the message's slot is the receiver's, it is the one in front.
     fn trade_message(&mut self, new: Slot<T, W>) -> Slot<T, W>
         requires its_own { self.old.message ≢ away }
         requires no_waker { waker_of new ≡ vacant }
@@ -103,5 +123,18 @@ impl<T, W> ReceiverSide<T, W> {
         ensures has { self.new ≡ record self.old { message = message_of new } }
     {
         self.board.shared.exchange(&mut self.chair, 0, new)
+    }
+
+    // Only the slot in front can be read, so the waker's is turned there, and then back.
+    fn trade_waker(&mut self, new: Slot<T, W>) -> Slot<T, W>
+        requires its_own { self.old.waker ≢ away }
+        requires no_message { message_of new ≡ vacant }
+        ensures was { WakerSlot result self.old.waker }
+        ensures has { self.new ≡ record self.old { waker = waker_of new } }
+    {
+        self.chair.turn();
+        let old = self.board.shared.exchange(&mut self.chair, 1, new);
+        self.chair.turn();
+        old
     }
 }

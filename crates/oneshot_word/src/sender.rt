@@ -2,14 +2,14 @@
 
 ghost use Rattle.std.specs.Prelude.{◌≡◌, ◌≢◌};
 ghost use Rattle.std.specs.Arc.{arc_value};
-ghost use Rattle.oneshot_machine.specs.declared.states.Op.TheVariants.{Add, Xor};
+ghost use Rattle.oneshot_machine.specs.declared.states.Op.TheVariants.{Swap, Add, Xor};
 ghost use Rattle.oneshot_machine.specs.Phases.{sender_at};
 ghost use Rattle.oneshot_machine.specs.Slots.{away, vacant, held};
 ghost use Rattle.oneshot_word.specs.Rows.{RuleReads};
-ghost use Rattle.oneshot_word.specs.Seats.{IsAt, MessageSlot, SenderSeat, message_of, waker_of};
+ghost use Rattle.oneshot_word.specs.Seats.{IsAt, MessageSlot, SenderSeat, WakerSlot, message_of, waker_of};
 ghost use Rattle.oneshot_word.specs.Sides.{SenderCan, SenderDid, SenderOwns, side_of};
 
-use crate::plays::{Adds, Flips};
+use crate::plays::{Adds, Finishes, Flips};
 use crate::rule::Slot;
 use crate::table::{Board, Chair, look};
 use std::alloc::Global;
@@ -74,6 +74,16 @@ impl<T, W> SenderSide<T, W> {
         self.board.shared.fetch_xor::<Flips>(&mut self.chair, 0, 1) as u8
     }
 
+    /// Puts `new` into the word, the last that it does with it, and gives the word before.
+    pub fn swap(&mut self, new: u8) -> u8
+        requires { SenderCan self.old (Swap new) }
+        ensures { SenderDid self.old (Swap new) result self.new }
+    {
+        self.board
+            .shared
+            .swap::<Finishes>(&mut self.chair, 0, new as u64) as u8
+    }
+
     /// Reads the word as a look does, which lengthens no list and tells nothing of what it found.
     pub fn peek(&self) -> u8
         ensures rule { RuleReads T W }
@@ -103,6 +113,18 @@ impl<T: Drop, W: Drop> SenderSide<T, W> {
             _ => unreachable!(),
         }
     }
+
+    /// Takes the receiver's waker out of its slot, which is the sender's and full.
+    pub fn take_waker(&mut self) -> W
+        requires { (waker : W) × (self.old.waker ≡ held waker) }
+        ensures waker { self.old.waker ≡ held result }
+        ensures rest { self.new ≡ record self.old { waker = vacant } }
+    {
+        match self.trade_waker(Slot::Empty) {
+            Slot::Waker(waker) => waker,
+            _ => unreachable!(),
+        }
+    }
 }
 
 impl<T, W> SenderSide<T, W> {
@@ -117,5 +139,15 @@ impl<T, W> SenderSide<T, W> {
         let old = self.board.shared.exchange(&mut self.chair, 0, new);
         self.chair.turn();
         old
+    }
+
+    // Where the waker's slot is the sender's, it is the one in front.
+    fn trade_waker(&mut self, new: Slot<T, W>) -> Slot<T, W>
+        requires its_own { self.old.waker ≢ away }
+        requires no_message { message_of new ≡ vacant }
+        ensures was { WakerSlot result self.old.waker }
+        ensures has { self.new ≡ record self.old { waker = waker_of new } }
+    {
+        self.board.shared.exchange(&mut self.chair, 1, new)
     }
 }
