@@ -8,7 +8,7 @@ use Rattle.oneshot_machine.specs.States.{word_after}
 use Rattle.oneshot_machine.specs.Words.{saw}
 use Rattle.oneshot_machine.proofs.GrownLists.{sender_moved}
 use Rattle.oneshot_drive.specs.declared.memory.Event.{Event}
-use Rattle.oneshot_drive.specs.Memory.{slot_of, event_of, logged, keeps_both, SenderStands, receiver_here, receiver_waits, receiver_gone, found_waker, gave_all, has_all, freed_all}
+use Rattle.oneshot_drive.specs.Memory.{slot_of, event_of, logged, keeps_both, SenderStands, receiver_here, receiver_waits, receiver_gone, found_waker, has_all, has_both, gave_all, freed_both}
 use Rattle.oneshot_drive.proofs.MemoryLogs.{words_same}
 
 module _ {T W : Type 0} where
@@ -26,18 +26,20 @@ module _ {T W : Type 0} where
   pub sender_word : {p : SenderAt} {op : Op} (word : ℕ) {own_message own_waker : Bool} {waker : Option W} → SenderStands p word own_message own_waker waker → (cell : Option T) → SenderMay p op (slot_of own_message cell) (slot_of own_waker waker) → SenderWord p op word cell waker (slot_of own_message cell) (slot_of own_waker waker)
   sender_word _ receiver_here None may_flip = record { code = lit≤ tt; finds = flip_empty; stands = gave_all dropping 2 None }
   sender_word _ receiver_here (Some x) (may_add _) = record { code = lit≤ tt; finds = add_empty x; stands = gave_all sending 4 None }
-  sender_word _ (receiver_waits k) None may_flip = record { code = lit≤ tt; finds = flip_waker k; stands = found_waker dropping (Some k) }
-  sender_word _ (receiver_waits k) (Some x) (may_add _) = record { code = lit≤ tt; finds = add_waker x k; stands = found_waker sending (Some k) }
-  sender_word _ receiver_gone None may_flip = record { code = lit≤ tt; finds = flip_gone; stands = has_all dropping None }
-  sender_word _ receiver_gone (Some x) (may_add _) = record { code = lit≤ tt; finds = add_gone x; stands = has_all sending None }
-  sender_word _ (found_waker sending None) (Some x) (may_finish_send _) = record { code = lit≤ tt; finds = finish_send x; stands = gave_all sending 4 None }
-  sender_word _ (found_waker dropping None) None may_finish_drop = record { code = lit≤ tt; finds = finish_drop; stands = gave_all dropping 2 None }
-  sender_word _ (found_waker sending None) None may = elim may [ ]
-  sender_word _ (found_waker dropping None) (Some x) may = elim may [ ]
-  sender_word _ (found_waker by (Some k)) cell may = elim may [ ]
+  sender_word _ (receiver_waits k) None may_flip = record { code = lit≤ tt; finds = flip_waker k; stands = has_both (Some k) (found_waker dropping) }
+  sender_word _ (receiver_waits k) (Some x) (may_add _) = record { code = lit≤ tt; finds = add_waker x k; stands = has_both (Some k) (found_waker sending) }
+  sender_word _ receiver_gone None may_flip = record { code = lit≤ tt; finds = flip_gone; stands = has_both None (has_all dropping) }
+  sender_word _ receiver_gone (Some x) (may_add _) = record { code = lit≤ tt; finds = add_gone x; stands = has_both None (has_all sending) }
+  sender_word _ (has_both None (found_waker sending)) (Some x) (may_finish_send _) = record { code = lit≤ tt; finds = finish_send x; stands = gave_all sending 4 None }
+  sender_word _ (has_both None (found_waker dropping)) None may_finish_drop = record { code = lit≤ tt; finds = finish_drop; stands = gave_all dropping 2 None }
+  sender_word _ (has_both None (found_waker sending)) None may = elim may [ ]
+  sender_word _ (has_both None (found_waker dropping)) (Some x) may = elim may [ ]
+  sender_word _ (has_both (Some k) (found_waker by)) None may = elim may [ ]
+  sender_word _ (has_both (Some k) (found_waker by)) (Some x) may = elim may [ ]
+  sender_word _ (has_both _ (has_all by)) cell may = elim may [ ]
   sender_word _ (gave_all by word _) cell may = elim may [ ]
-  sender_word _ (has_all by _) cell may = elim may [ ]
-  sender_word _ (freed_all by _) cell may = elim may [ ]
+  sender_word _ (freed_both _ (found_waker by)) cell may = elim may [ ]
+  sender_word _ (freed_both _ (has_all by)) cell may = elim may [ ]
 
   pub sender_worded : (xs ys : List (Event T W)) (op : Op) (word left : ℕ) (own_message own_waker : Bool) {cell : Option T} {waker : Option W} {m : Held T} {w : Held W} → Grows (logged xs) (logged ys) (worded op word ∷ []) → SenderWord (sender_of (logged xs)) op word cell waker m w → left ≡ word_after op word → own_message ≡ keeps_both word → own_waker ≡ keeps_both word
       → SenderStands (sender_of (logged ys)) left own_message own_waker waker
@@ -48,17 +50,15 @@ pub sender_emptied : {W : Type 0} {p : SenderAt} {word : ℕ} {own_message own_w
 sender_emptied k receiver_here e = absurd (cc)
 sender_emptied k (receiver_waits _) e = absurd (cc)
 sender_emptied k receiver_gone e = absurd (cc)
-sender_emptied k (found_waker by _) e = found_waker by None
+sender_emptied k (has_both _ owns) e = has_both None owns
 sender_emptied k (gave_all by word _) e = absurd (cc)
-sender_emptied k (has_all by _) e = has_all by None
-sender_emptied k (freed_all by _) e = absurd (cc)
+sender_emptied k (freed_both _ owns) e = absurd (cc)
 
 -- a free gives up both slots
-pub sender_freed : {W : Type 0} {T : Type 0} {p : SenderAt} {word : ℕ} {own_message own_waker : Bool} {waker : Option W} → SenderStands p word own_message own_waker waker → slot_of own_waker waker ≡ vacant → SenderStands p word false false waker
+pub sender_freed : {W : Type 0} {p : SenderAt} {word : ℕ} {own_message own_waker : Bool} {waker : Option W} → SenderStands p word own_message own_waker waker → slot_of own_waker waker ≡ vacant → SenderStands p word false false waker
 sender_freed receiver_here e = absurd (cc)
 sender_freed (receiver_waits _) e = absurd (cc)
 sender_freed receiver_gone e = absurd (cc)
-sender_freed (found_waker by cell) e = ?
+sender_freed (has_both cell owns) e = freed_both cell owns
 sender_freed (gave_all by word cell) e = gave_all by word cell
-sender_freed (has_all by cell) e = freed_all by cell
-sender_freed (freed_all by cell) e = freed_all by cell
+sender_freed (freed_both cell owns) e = freed_both cell owns

@@ -123,28 +123,28 @@ module _ {T W : Type 0} where
   drop_freed n e s t = record { run = worded Xor n ∷ did Free ∷ []; is_run = more DropFree _ _ refl (rw e) (last _ refl refl); grows = and_then _ _ s t; gives = refl; gets = refl }
 
   -- the last word to a receiver that waits
-  pub owes_waker : {p : SenderAt} {last : ℕ} {m : Held T} {w : Held W} → Owes p last m w → (k : W) × (w ≡ held k)
+  pub owes_waker : {p : SenderAt} {word : ℕ} {m : Held T} {w : Held W} → Owes p word m w → (k : W) × (w ≡ held k)
   owes_waker (owes_message x k) = (k, refl)
   owes_waker (owes_end k) = (k, refl)
 
-  owes_asks : {p : SenderAt} {last : ℕ} {m : Held T} {w : Held W} → Owes p last m w → SenderMay {W = W} p (Swap last) m vacant
+  owes_asks : {p : SenderAt} {word : ℕ} {m : Held T} {w : Held W} → Owes p word m w → SenderMay {W = W} p (Swap word) m vacant
   owes_asks (owes_message x k) = may_finish_send x
   owes_asks (owes_end k) = may_finish_drop
 
   took_waker : {l k : Log T W} (y : W) → Grows l k (handed TakeWaker y ∷ []) → sender_of k ≡ sender_of l
   took_waker y s = ap sender_at (words_stay (handed TakeWaker y ∷ []) refl s)
 
-  pub finish_asks : {l k : Log T W} {last : ℕ} {m m' : Held T} {w w' : Held W} (y : W) → Owes (sender_of l) last m w → Grows l k (handed TakeWaker y ∷ []) → m' ≡ m → w' ≡ vacant → SenderMay (sender_of k) (Swap last) m' w'
-  finish_asks {last} y owes s message waker = subst (λ (z : SenderAt × Held T × Held W). SenderMay z.0 (Swap last) z.1 z.2) (λ i. (sym (took_waker y s) i, sym message i, sym waker i)) (owes_asks owes)
+  pub finish_asks : {l k : Log T W} {word : ℕ} {m m' : Held T} {w w' : Held W} (y : W) → Owes (sender_of l) word m w → Grows l k (handed TakeWaker y ∷ []) → m' ≡ m → w' ≡ vacant → SenderMay (sender_of k) (Swap word) m' w'
+  finish_asks {word} y owes s message waker = subst (λ (z : SenderAt × Held T × Held W). SenderMay z.0 (Swap word) z.1 z.2) (λ i. (sym (took_waker y s) i, sym message i, sym waker i)) (owes_asks owes)
 
-  finds_1 : {p : SenderAt} {last : ℕ} {m m' : Held T} {w v w' : Held W} (n : ℕ) → Owes p last m w → SenderFinds p (Swap last) n m v m' w' → n ≡ 1
+  finds_1 : {p : SenderAt} {word : ℕ} {m m' : Held T} {w v w' : Held W} (n : ℕ) → Owes p word m w → SenderFinds p (Swap word) n m v m' w' → n ≡ 1
   finds_1 _ (owes_message x k) (finish_send _) = refl
   finds_1 _ (owes_end k) finish_drop = refl
 
-  pub finished_as : {l k j z : Log T W} (last n : ℕ) {m m' m'' : Held T} {w w' w'' : Held W} (y : W) → Owes (sender_of l) last m w → Grows l k (handed TakeWaker y ∷ []) → m' ≡ m → SenderFinds (sender_of k) (Swap last) n m' w' m'' w'' → Grows k j (worded (Swap last) n ∷ []) → Grows j z (handed Wake y ∷ []) → Grows l z (finishing last y)
-  finished_as last n {m''} {w'} {w''} y owes s message finds t u =
-      let is = finds_1 n owes (subst (λ (z : SenderAt × Held T). SenderFinds z.0 (Swap last) n z.1 w' m'' w'') (λ i. (took_waker y s i, message i)) finds) in
-      and_then (handed TakeWaker y ∷ []) _ s (and_then (worded (Swap last) 1 ∷ []) _ (rw is at t) u)
+  pub finished_as : {l k j z : Log T W} (word n : ℕ) {m m' m'' : Held T} {w w' w'' : Held W} (y : W) → Owes (sender_of l) word m w → Grows l k (handed TakeWaker y ∷ []) → m' ≡ m → SenderFinds (sender_of k) (Swap word) n m' w' m'' w'' → Grows k j (worded (Swap word) n ∷ []) → Grows j z (handed Wake y ∷ []) → Grows l z (finishing word y)
+  finished_as word n {m''} {w'} {w''} y owes s message finds t u =
+      let is = finds_1 n owes (subst (λ (z : SenderAt × Held T). SenderFinds z.0 (Swap word) n z.1 w' m'' w'') (λ i. (took_waker y s i, message i)) finds) in
+      and_then (handed TakeWaker y ∷ []) _ s (and_then (worded (Swap word) 1 ∷ []) _ (rw is at t) u)
 
   -- the error's calls
   pub into_ran : {l k j : Log T W} (x : T) → Grows l k (took x ∷ []) → Grows k j (did Free ∷ []) → SenderRan IntoInner l j R.Message [] (x ∷ [])

@@ -34,27 +34,32 @@ module _ {T W : Type 0} where
   memory_of events word message waker owns_message owns_waker =
       record { log = logged events; word = word; message = slot_of owns_message message; waker = slot_of owns_waker waker }
 
+-- a sender to which both slots belong, with its word
+pub data SenderOwns : SenderAt → ℕ → Type 0 where
+  found_waker : (by : By) → SenderOwns (owes by) 1
+  has_all : (by : By) → SenderOwns (late by 3) 3
+
 -- how far a sender is, its word, which slots are its own, and the waker in its cell
 pub data SenderStands {W : Type 0} : SenderAt → ℕ → Bool → Bool → Option W → Type 0 where
   receiver_here : SenderStands fresh 3 true false None
   receiver_waits : (k : W) → SenderStands fresh 0 true false (Some k)
   receiver_gone : SenderStands fresh 2 true false None
-  found_waker : (by : By) (cell : Option W) → SenderStands (owes by) 1 true true cell
+  -- it has both slots, gave them up, or freed them
+  has_both : {p : SenderAt} {word : ℕ} (cell : Option W) → SenderOwns p word → SenderStands p word true true cell
   gave_all : (by : By) (word : ℕ) (cell : Option W) → SenderStands (finished by) word false false cell
-  has_all : (by : By) (cell : Option W) → SenderStands (late by 3) 3 true true cell
-  freed_all : (by : By) (cell : Option W) → SenderStands (late by 3) 3 false false cell
+  freed_both : {p : SenderAt} {word : ℕ} (cell : Option W) → SenderOwns p word → SenderStands p word false false cell
 
 -- whether both slots are the sender's after an operation that found this word
 abbrev pub keeps_both : ℕ → Bool
 keeps_both word = (word == 2) || (word == 0)
 
 -- a receiver to which both slots belong, with its word
-pub data Owns : ReceiverAt → ℕ → Type 0 where
-  found_it : (g : Got) → Owns (full g 4) 4
-  swapped_it : Owns (full waited 0) 0
-  swapped_end : Owns (unclosed 0) 0
-  closed : (c : Closing) → Owns (over c) 2
-  dropped : Owns ended 2
+pub data ReceiverOwns : ReceiverAt → ℕ → Type 0 where
+  found_it : (g : Got) → ReceiverOwns (full g 4) 4
+  swapped_it : ReceiverOwns (full waited 0) 0
+  swapped_end : ReceiverOwns (unclosed 0) 0
+  closed : (c : Closing) → ReceiverOwns (over c) 2
+  dropped : ReceiverOwns ended 2
 
 -- How far a receiver is, its word, which slots are its own, the message in its slot and the waker in
 -- its cell.
@@ -73,8 +78,8 @@ pub data ReceiverStands {T W : Type 0} : ReceiverAt → ℕ → Bool → Bool �
   waiting_dropped : ReceiverStands (waits blocked) 2 false false None None
   -- it has both slots, and freed them
   owns : {q : ReceiverAt} {word : ℕ} (message : Option T) (cell : Option W)
-      → Owns q word → ReceiverStands q word true true message cell
-  freed : {q : ReceiverAt} {word : ℕ} → Owns q word → ReceiverStands q word false false None None
+      → ReceiverOwns q word → ReceiverStands q word true true message cell
+  freed : {q : ReceiverAt} {word : ℕ} → ReceiverOwns q word → ReceiverStands q word false false None None
   -- it was dropped first
   went : ReceiverStands gone 2 false false None None
 
@@ -97,3 +102,7 @@ word_by new word = if word == 3 then new else word
 pub data Left {T : Type 0} : ℕ → Option T → Type 0 where
   left_message : (x : T) → Left 4 (Some x)
   left_nothing : Left 2 None
+
+-- the word, the waker's slot and its cell of a receiver that waits
+pub data Waits {W : Type 0} : ℕ → Bool → Option W → Type 0 where
+  waits_with : (k : W) → Waits 0 false (Some k)

@@ -14,10 +14,13 @@ use oneshot_errors::RecvError;
 use oneshot_machine::states::{DISCONNECTED, EMPTY, MESSAGE, Op, RECEIVING};
 use std::sync::Wait;
 
-/// Receives the message, and waits until it is there. The receiver is closed then.
+/// Receives the message, and waits until it is there or never will be. Then the receiver is closed.
 ///
 /// `hand` has the waker by which the sender wakes the receiver; that of a closed receiver may be
-/// empty. After the call it has the waker again, unless the sender took it.
+/// empty. After the call it has the same waker again, unless the sender took it.
+///
+/// - `Ok`: the message.
+/// - `Err`: the sender was dropped with nothing sent, or the receiver was closed before.
 pub fn recv_ref<T, W: Drop, G: BlockGround<T, W>>(
     g: &mut G,
     rt: &impl Wait,
@@ -45,7 +48,13 @@ pub fn recv_ref<T, W: Drop, G: BlockGround<T, W>>(
     }
 }
 
-/// Receives the message as `recv_ref` does, and frees the block. Then the receiver is no more.
+/// Receives the message, and waits until it is there or never will be; then frees the block. The receiver
+/// is no more.
+///
+/// `hand` is as for `recv_ref`, before and after.
+///
+/// - `Ok`: the message.
+/// - `Err`: the sender was dropped with nothing sent, or the receiver was closed before.
 pub fn recv<T, W: Drop, G: BlockGround<T, W>>(
     g: &mut G,
     rt: &impl Wait,
@@ -57,20 +66,17 @@ pub fn recv<T, W: Drop, G: BlockGround<T, W>>(
         (recv_reply result) [] (received result) }
     ensures stays { IsClosed (receiver_of (G.log g.old)) → IsErr result }
 {
-    match find(g, rt, hand) {
-        Found::Message => {
-            let message = g.take_message();
-            g.free();
-            Ok(message)
-        }
-        Found::Closed | Found::Unclosed => {
-            g.free();
-            Err(RecvError)
-        }
-    }
+    let Found::Message = find(g, rt, hand) else {
+        g.free();
+        return Err(RecvError);
+    };
+    let message = g.take_message();
+    g.free();
+    Ok(message)
 }
 
 // The word that decides a receive.
+#[derive(Drop)]
 enum Found {
     // The message is there.
     Message,
@@ -112,13 +118,16 @@ fn store_and_wait<T, W: Drop, G: BlockGround<T, W>>(
         unreachable!()
     };
     g.write_waker(waker);
-    let found = match g.word(Op::Swap(RECEIVING)) {
-        EMPTY => return wait(g, rt),
-        MESSAGE => Found::Message,
-        _ => Found::Unclosed,
-    };
+    let word = g.word(Op::Swap(RECEIVING));
+    if word == EMPTY {
+        return wait(g, rt);
+    }
     *hand = Some(g.withdraw());
-    found
+    if word == MESSAGE {
+        Found::Message
+    } else {
+        Found::Unclosed
+    }
 }
 
 // Parks until the sender has acted.

@@ -11,8 +11,8 @@ ghost use Rattle.oneshot_drive.specs.Calls.{IsFresh, IsError, Owes, finishing, s
 use crate::ground::SenderGround;
 use oneshot_machine::states::{DISCONNECTED, EMPTY, MESSAGE, Op, RECEIVING};
 
-/// Sends the message, and tells whether the receiver was there. Where it was not, the message stays
-/// in its slot. A receiver that waits is woken.
+/// Sends the message, and wakes a receiver that waits. Answers whether the receiver was there: where it
+/// was not, the message stays in its slot.
 pub fn send<T, W, G: SenderGround<T, W>>(g: &mut G, message: T) -> bool
     requires { IsFresh (G.log g.old) (G.message_slot g.old) (G.waker_slot g.old) }
     ensures run { SenderRan Send (G.log g.old) (G.log g.new) (send_reply result) (message ∷ []) [] }
@@ -30,7 +30,7 @@ pub fn send<T, W, G: SenderGround<T, W>>(g: &mut G, message: T) -> bool
     }
 }
 
-/// Drops the sender. A receiver that waits is woken.
+/// Drops the sender, and wakes a receiver that waits.
 pub fn drop_sender<T, W, G: SenderGround<T, W>>(g: &mut G)
     requires { IsFresh (G.log g.old) (G.message_slot g.old) (G.waker_slot g.old) }
     ensures { SenderRan Drop (G.log g.old) (G.log g.new) Done [] [] }

@@ -1,9 +1,9 @@
 //! A receiver's ground in memory.
 
-ghost use Rattle.std.specs.Prelude.{◌≡◌, map};
+ghost use Rattle.std.specs.Prelude.{◌≡◌, true, map};
 ghost use Rattle.oneshot_machine.specs.Logs.{receiver_of};
 ghost use Rattle.oneshot_drive.specs.Calls.{AtRest};
-ghost use Rattle.oneshot_drive.specs.Memory.{event_of, keeps_message, keeps_waker, word_by, Left};
+ghost use Rattle.oneshot_drive.specs.Memory.{event_of, keeps_message, keeps_waker, word_by, Left, Waits};
 
 use crate::ground::{BlockGround, ReceiverGround};
 use crate::memory::{Event, record, sight};
@@ -34,8 +34,10 @@ impl<T> Act<T> {
 }
 
 /// A receiver's ground, whose sender acts where it is told to: at once, or in a pause of the receiver.
-/// The receiver makes a pause after it wrote its waker, and in each park. A park has the token if the
-/// sender woke the receiver in it.
+///
+/// The receiver makes a pause when it has written its waker, and in each park. A park ends by its token
+/// if the sender woke the receiver in it, and without one if not; where the sender never acts, a call
+/// that blocks waits for ever.
 #[derive(Drop)]
 pub struct MemoryReceiver<'a, T, W, R: Wait> {
     events: Vec<Event<T, W>>,
@@ -109,7 +111,8 @@ impl<'a, T: Drop, W: Drop, R: Wait> MemoryReceiver<'a, T, W, R> {
         }
     }
 
-    /// The sender is to send in a pause of the receiver, after it let so many pauses go by.
+    /// The sender is to send this message in a pause of the receiver, once so many pauses are over: with
+    /// 0 before the receiver waits, with 1 in its first park.
     pub fn sender_will_send(&mut self, pauses: u64, message: T)
         ensures { self.new ≡ self.old }
     {
@@ -117,7 +120,7 @@ impl<'a, T: Drop, W: Drop, R: Wait> MemoryReceiver<'a, T, W, R> {
         self.pauses = pauses;
     }
 
-    /// The sender is to be dropped in a pause of the receiver, after so many pauses.
+    /// The sender is to be dropped in a pause of the receiver, once so many pauses are over.
     pub fn sender_will_drop(&mut self, pauses: u64)
         ensures { self.new ≡ self.old }
     {
@@ -149,13 +152,13 @@ impl<'a, T: Drop, W: Drop, R: Wait> MemoryReceiver<'a, T, W, R> {
             self.message = message;
             return false;
         }
-        let waits = self.word == RECEIVING && !self.owns_waker && self.waker.is_some();
-        if waits {
-            self.word = word;
-            self.message = message;
-            self.waker = None;
+        if !is_waiting(self.word, self.owns_waker, &self.waker) {
+            return false;
         }
-        waits
+        self.word = word;
+        self.message = message;
+        self.waker = None;
+        true
     }
 }
 
@@ -226,6 +229,19 @@ impl<'a, T: Drop, W: Drop, R: Wait> BlockGround<T, W> for MemoryReceiver<'a, T, 
         let event = Event::of(Step::Park, Seen::Token(woken));
         record(self.rt, &mut self.events, event);
     }
+}
+
+// Whether a receiver waits that has this word, and this in its waker's cell.
+fn is_waiting<W>(word: u8, owns_waker: bool, waker: &Option<W>) -> bool
+    ensures { result ≡ true → Waits word owns_waker waker.now }
+{
+    if word != RECEIVING {
+        return false;
+    }
+    if owns_waker {
+        return false;
+    }
+    waker.is_some()
 }
 
 // Whether the message's slot is the receiver's after an operation that found this word.

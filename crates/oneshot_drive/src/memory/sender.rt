@@ -93,8 +93,9 @@ impl<'a, T: Drop, W: Drop, R: Wait> SenderGround<T, W> for MemorySender<'a, T, W
     fn word(&mut self, op: Op) -> u8 {
         let before = self.word;
         self.word = op.after(before);
-        self.owns_message = keeps_slots(before);
-        self.owns_waker = keeps_slots(before);
+        let keeps = keeps_slots(before);
+        self.owns_message = keeps;
+        self.owns_waker = keeps;
         let event = Event::of(Step::Word(op), sight(op, before));
         record(self.rt, &mut self.events, event);
         before
