@@ -3,3 +3,4 @@ pub mod ReceiverRuns
 pub mod MemoryLogs
 pub mod MemorySenders
 pub mod MemoryReceivers
+pub mod BlockingRuns

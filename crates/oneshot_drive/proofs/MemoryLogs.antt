@@ -1,8 +1,10 @@
 -- What the log of a ground in memory has after one event more.
-use Rattle.std.proofs.Common.{◌≡◌, ℕ, List, [], ◌∷◌, ◌++◌, map, refl, ap, ◌∙◌, subst}
+use Rattle.std.proofs.Common.{◌≡◌, ℕ, Bool, List, [], ◌∷◌, ◌++◌, map, refl, ap, ◌∙◌, subst}
 use Rattle.std.proofs.lemmas.List.{map-append}
+use Rattle.oneshot_machine.specs.declared.machine.Step.{Step}
 use Rattle.oneshot_machine.specs.declared.states.Op.{Op}
-use Rattle.oneshot_machine.specs.Logs.{Grows, words, worded}
+use Rattle.oneshot_machine.specs.Logs as logs
+use Rattle.oneshot_machine.specs.Logs.{Grows, words, handed, parked, worded}
 use Rattle.oneshot_machine.proofs.GrownLists.{words_stay}
 use Rattle.oneshot_drive.specs.declared.memory.Event.{Event}
 use Rattle.oneshot_drive.specs.Memory.{event_of, logged}
@@ -14,6 +16,14 @@ module _ {T W : Type 0} where
   -- that is no operation on the word
   pub words_same : (xs ys : List (Event T W)) (e : Event T W) → ys ≡ xs ++ e ∷ [] → words (event_of e ∷ []) ≡ [] → words (logged ys).list ≡ words (logged xs).list
   words_same xs ys e is none = words_stay (event_of e ∷ []) none (logged_grows xs ys e is)
+
+  -- that hands a waker in or out
+  pub no_word : (e : Event T W) (s : Step) (k : W) → event_of e ≡ handed s k → words (handed {T = T} s k ∷ []) ≡ [] → words (event_of e ∷ []) ≡ []
+  no_word e s k is none = ap (λ x. words (x ∷ [])) is ∙ none
+
+  -- that is a park
+  pub park_grows : (xs ys : List (Event T W)) (e : Event T W) (woken : Bool) {before : logs.Log T W} → ys ≡ xs ++ e ∷ [] → event_of e ≡ parked woken → logged xs ≡ before → Grows before (logged ys) (parked woken ∷ [])
+  park_grows xs ys e woken is that was = subst (λ l. Grows l (logged ys) (parked woken ∷ [])) was (subst (λ x. Grows (logged xs) (logged ys) (x ∷ [])) that (logged_grows xs ys e is))
 
   -- that is one
   pub word_grows : (xs ys : List (Event T W)) (e : Event T W) (op : Op) (word : ℕ) → ys ≡ xs ++ e ∷ [] → event_of e ≡ worded op word → Grows (logged xs) (logged ys) (worded op word ∷ [])

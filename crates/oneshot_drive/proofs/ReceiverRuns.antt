@@ -40,7 +40,7 @@ module _ {T W : Type 0} where
   loaded {m'} {w'} n rests finds grows = subst (λ q. Loaded n q m' w') (sym (receiver_moved Load n grows)) (loads n rests finds)
 
   pub close_asks : {n : ℕ} {q : ReceiverAt} {m : Held T} {w : Held W} → Loaded n q m w → n ≡ 4 → ReceiverMay q (Store 2) m w
-  close_asks (loaded_message x) e = may_close at_once x
+  close_asks (loaded_message x) e = may_close at_once 4 x
   close_asks loaded_empty e = absurd (cc)
   close_asks (loaded_closed c) e = absurd (cc)
 
@@ -51,7 +51,7 @@ module _ {T W : Type 0} where
     pub waker : w ≡ vacant
 
   closes : {n r : ℕ} {q : ReceiverAt} {m m' : Held T} {w w' : Held W} → Loaded n q m w → n ≡ 4 → ReceiverFinds q (Store 2) r m w m' w' → HasClosed (receiver_next q (Store 2) S.Done) m' w'
-  closes (loaded_message x) e (close _ _) = record { at = refl; message = (x, refl); waker = refl }
+  closes (loaded_message x) e (close _ _ _) = record { at = refl; message = (x, refl); waker = refl }
   closes loaded_empty e finds = absurd (cc)
   closes (loaded_closed c) e finds = absurd (cc)
 
@@ -82,7 +82,7 @@ module _ {T W : Type 0} where
   pub empty_ran : {l k : Log T W} (n : ℕ) → n ≡ 3 → Grows l k (worded Load n ∷ []) → ReceiverRan TryRecv l k R.Empty [] []
   empty_ran n e s = record { run = worded Load n ∷ []; is_run = last _ refl (rw e); grows = s; gives = refl; gets = refl }
 
-  gone_answers : {n : ℕ} {q : ReceiverAt} {m : Held T} {w : Held W} → Loaded n q m w → ¬ (n ≡ 4) → ¬ (n ≡ 3) → n ≡ 2
+  pub gone_answers : {n : ℕ} {q : ReceiverAt} {m : Held T} {w : Held W} → Loaded n q m w → ¬ (n ≡ 4) → ¬ (n ≡ 3) → n ≡ 2
   gone_answers (loaded_message x) a b = absurd (a refl)
   gone_answers loaded_empty a b = absurd (b refl)
   gone_answers (loaded_closed c) a b = refl

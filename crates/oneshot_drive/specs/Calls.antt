@@ -1,12 +1,15 @@
 -- How an end stands between its calls, and what a call answers.
-use Rattle.std.specs.Prelude.{◌≡◌, Bool, true, false, List, [], ◌∷◌, Result, Ok, Err}
+use Rattle.std.specs.Prelude.{◌≡◌, ℕ, Bool, true, false, List, [], ◌∷◌, Option, Some, None, Result, Ok, Err}
+use Rattle.oneshot_errors.specs.declared.recv.RecvError.{RecvError}
 use Rattle.oneshot_errors.specs.declared.try_recv.TryRecvError.{TryRecvError}
 use Rattle.oneshot_errors.specs.declared.try_recv.TryRecvError.TheVariants as E
 use Rattle.oneshot_machine.specs.declared.machine.Reply.{Reply}
 use Rattle.oneshot_machine.specs.declared.machine.Reply.TheVariants.{Sent, Refused, Message, Empty, Disconnected}
-use Rattle.oneshot_machine.specs.Logs.{Log, sender_of}
-use Rattle.oneshot_machine.specs.Phases.{fresh, Closing, closed_itself, ReceiverAt, first, here, looked, over}
-use Rattle.oneshot_machine.specs.Slots.{Held, away, vacant}
+use Rattle.oneshot_machine.specs.declared.machine.Step.TheVariants.{TakeWaker, Wake}
+use Rattle.oneshot_machine.specs.declared.states.Op.TheVariants.{Swap}
+use Rattle.oneshot_machine.specs.Logs.{Event, Log, sender_of, handed, worded}
+use Rattle.oneshot_machine.specs.Phases.{sending, dropping, SenderAt, fresh, owes, Closing, closed_itself, ReceiverAt, first, here, looked, over}
+use Rattle.oneshot_machine.specs.Slots.{Held, away, vacant, held}
 
 -- a sender that has made no call: the message's slot is its own and empty
 pub record IsFresh {T W : Type 0} (log : Log T W) (message : Held T) (waker : Held W) : Type 0 where
@@ -18,6 +21,15 @@ pub record IsFresh {T W : Type 0} (log : Log T W) (message : Held T) (waker : He
 pub record IsError {T W : Type 0} (refused message : Held T) (waker : Held W) : Type 0 where
   pub keeps : message ≡ refused
   pub no_waker : waker ≡ vacant
+
+-- A sender that found a receiver that waits: it owes it this last word, and has its waker.
+pub data Owes {T W : Type 0} : SenderAt → ℕ → Held T → Held W → Type 0 where
+  owes_message : (x : T) (k : W) → Owes (owes sending) 4 (held x) (held k)
+  owes_end : (k : W) → Owes (owes dropping) 2 vacant (held k)
+
+-- what it does then
+abbrev pub finishing : {T W : Type 0} → ℕ → W → List (Event T W)
+finishing last k = handed TakeWaker k ∷ worded (Swap last) 1 ∷ handed Wake k ∷ []
 
 -- a receiver between two calls
 pub data AtRest {T W : Type 0} : ReceiverAt → Held T → Held W → Type 0 where
@@ -34,6 +46,22 @@ pub data Leaves {T : Type 0} : Result T TryRecvError → ReceiverAt → Type 0 w
   leaves_open : Leaves (Err E.Empty) (here looked)
   leaves_closed : (c : Closing) → Leaves (Err E.Disconnected) (over c)
 
+-- So does a receive that blocks, but for `Empty`.
+pub data LeavesClosed {T : Type 0} : Result T RecvError → ReceiverAt → Type 0 where
+  left_received : (x : T) → LeavesClosed (Ok x) (over closed_itself)
+  left_closed : (e : RecvError) (c : Closing) → LeavesClosed (Err e) (over c)
+
+-- The hand of a receiver that may block: its waker is in it, unless the receiver is closed.
+pub data IsReady {W : Type 0} : Option W → ReceiverAt → Type 0 where
+  has_waker : (k : W) (q : ReceiverAt) → IsReady (Some k) q
+  needs_none : (c : Closing) → IsReady None (over c)
+
+-- The hand before and after a call that blocks: as it was, or the sender took the waker out of its
+-- cell, and then the receiver is closed.
+pub data Hands {W : Type 0} : Option W → Option W → ReceiverAt → Type 0 where
+  as_it_was : (hand : Option W) (q : ReceiverAt) → Hands hand hand q
+  sender_took : (k : W) (c : Closing) → Hands (Some k) None (over c)
+
 abbrev pub send_reply : Bool → Reply
 send_reply true = Sent
 send_reply false = Refused
@@ -42,6 +70,10 @@ abbrev pub try_recv_reply : {T : Type 0} → Result T TryRecvError → Reply
 try_recv_reply (Ok x) = Message
 try_recv_reply (Err E.Empty) = Empty
 try_recv_reply (Err E.Disconnected) = Disconnected
+
+abbrev pub recv_reply : {T : Type 0} → Result T RecvError → Reply
+recv_reply (Ok x) = Message
+recv_reply (Err e) = Disconnected
 
 -- the message that was answered, if one was
 abbrev pub received : {T E : Type 0} → Result T E → List T

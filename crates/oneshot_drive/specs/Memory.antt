@@ -1,11 +1,11 @@
 -- What a contract sees of a ground in memory, and how its word and its slots stand with its list.
-use Rattle.std.specs.Prelude.{ℕ, Bool, true, false, not, ◌==◌, if◌then◌else◌, List, [], map, Option, Some, None}
+use Rattle.std.specs.Prelude.{ℕ, Bool, true, false, not, ◌||◌, ◌==◌, if◌then◌else◌, List, [], map, Option, Some, None}
 use Rattle.std.specs.Option.{option_map}
 use Rattle.oneshot_drive.specs.declared.memory.Event.{Event}
 use Rattle.oneshot_machine.specs.Logs as logs
 use Rattle.oneshot_machine.specs.declared.states.Op.{Op}
-use Rattle.oneshot_machine.specs.declared.states.Op.TheVariants.{Swap}
-use Rattle.oneshot_machine.specs.Phases.{By, SenderAt, fresh, finished, late, looked, at_once, Closing, ReceiverAt, first, here, full, over, gone, ended}
+use Rattle.oneshot_machine.specs.declared.states.Op.TheVariants.{Load, Store, Swap}
+use Rattle.oneshot_machine.specs.Phases.{By, SenderAt, fresh, owes, finished, late, looked, blocked, Got, waited, Closing, ReceiverAt, first, here, waits, full, unclosed, over, gone, ended}
 use Rattle.oneshot_machine.specs.Slots.{Held, away, vacant, held}
 
 -- what it has done, its word, and both slots as its end sees them
@@ -30,43 +30,79 @@ module _ {T W : Type 0} where
   abbrev pub logged : List (Event T W) → logs.Log T W
   logged events = record { whole = true; place = []; list = map event_of events }
 
-  abbrev pub memory_of : List (Event T W) → ℕ → Option T → Bool → Bool → Memory T W
-  memory_of events word message owns_message owns_waker =
-      record { log = logged events; word = word; message = slot_of owns_message message; waker = slot_of owns_waker None }
+  abbrev pub memory_of : List (Event T W) → ℕ → Option T → Option W → Bool → Bool → Memory T W
+  memory_of events word message waker owns_message owns_waker =
+      record { log = logged events; word = word; message = slot_of owns_message message; waker = slot_of owns_waker waker }
 
--- how far a sender is, its word, and which slots are its own
-pub data SenderStands : SenderAt → ℕ → Bool → Bool → Type 0 where
-  receiver_here : SenderStands fresh 3 true false
-  receiver_gone : SenderStands fresh 2 true false
-  gave_all : (by : By) (word : ℕ) → SenderStands (finished by) word false false
-  has_all : (by : By) → SenderStands (late by 3) 3 true true
-  freed : (by : By) → SenderStands (late by 3) 3 false false
+-- a sender to which both slots belong, with its word
+pub data SenderOwns : SenderAt → ℕ → Type 0 where
+  found_waker : (by : By) → SenderOwns (owes by) 1
+  has_all : (by : By) → SenderOwns (late by 3) 3
 
--- how far a receiver is, its word, which slots are its own, and the message that lies in its slot
-pub data ReceiverStands {T : Type 0} : ReceiverAt → ℕ → Bool → Bool → Option T → Type 0 where
+-- how far a sender is, its word, which slots are its own, and the waker in its cell
+pub data SenderStands {W : Type 0} : SenderAt → ℕ → Bool → Bool → Option W → Type 0 where
+  receiver_here : SenderStands fresh 3 true false None
+  receiver_waits : (k : W) → SenderStands fresh 0 true false (Some k)
+  receiver_gone : SenderStands fresh 2 true false None
+  -- it has both slots, gave them up, or freed them
+  has_both : {p : SenderAt} {word : ℕ} (cell : Option W) → SenderOwns p word → SenderStands p word true true cell
+  gave_all : (by : By) (word : ℕ) (cell : Option W) → SenderStands (finished by) word false false cell
+  freed_both : {p : SenderAt} {word : ℕ} (cell : Option W) → SenderOwns p word → SenderStands p word false false cell
+
+-- whether both slots are the sender's after an operation that found this word
+abbrev pub keeps_both : ℕ → Bool
+keeps_both word = (word == 2) || (word == 0)
+
+-- a receiver to which both slots belong, with its word
+pub data ReceiverOwns : ReceiverAt → ℕ → Type 0 where
+  found_it : (g : Got) → ReceiverOwns (full g 4) 4
+  swapped_it : ReceiverOwns (full waited 0) 0
+  swapped_end : ReceiverOwns (unclosed 0) 0
+  closed : (c : Closing) → ReceiverOwns (over c) 2
+  dropped : ReceiverOwns ended 2
+
+-- How far a receiver is, its word, which slots are its own, the message in its slot and the waker in
+-- its cell.
+pub data ReceiverStands {T W : Type 0} : ReceiverAt → ℕ → Bool → Bool → Option T → Option W → Type 0 where
   -- it has made no operation; the sender has not acted, sent or was dropped
-  new_open : ReceiverStands first 3 false false None
-  new_sent : (x : T) → ReceiverStands first 4 false false (Some x)
-  new_dropped : ReceiverStands first 2 false false None
+  new_open : ReceiverStands first 3 false false None None
+  new_sent : (x : T) → ReceiverStands first 4 false false (Some x) None
+  new_dropped : ReceiverStands first 2 false false None None
   -- its last operation found nothing
-  looked_open : ReceiverStands (here looked) 3 false true None
-  looked_sent : (x : T) → ReceiverStands (here looked) 4 false true (Some x)
-  looked_dropped : ReceiverStands (here looked) 2 false true None
-  -- it found the message, is closed, or was dropped
-  found_it : (cell : Option T) → ReceiverStands (full at_once 4) 4 true true cell
-  closed : (c : Closing) (cell : Option T) → ReceiverStands (over c) 2 true true cell
-  went : ReceiverStands gone 2 false false None
-  dropped : (cell : Option T) → ReceiverStands ended 2 true true cell
-  -- and then it freed
-  found_freed : ReceiverStands (full at_once 4) 4 false false None
-  closed_freed : (c : Closing) → ReceiverStands (over c) 2 false false None
-  dropped_freed : ReceiverStands ended 2 false false None
+  looked_open : (cell : Option W) → ReceiverStands (here looked) 3 false true None cell
+  looked_sent : (x : T) (cell : Option W) → ReceiverStands (here looked) 4 false true (Some x) cell
+  looked_dropped : (cell : Option W) → ReceiverStands (here looked) 2 false true None cell
+  -- it waits
+  waiting : (k : W) → ReceiverStands (waits blocked) 0 false false None (Some k)
+  waiting_sent : (x : T) → ReceiverStands (waits blocked) 4 false false (Some x) None
+  waiting_dropped : ReceiverStands (waits blocked) 2 false false None None
+  -- it has both slots, and freed them
+  owns : {q : ReceiverAt} {word : ℕ} (message : Option T) (cell : Option W)
+      → ReceiverOwns q word → ReceiverStands q word true true message cell
+  freed : {q : ReceiverAt} {word : ℕ} → ReceiverOwns q word → ReceiverStands q word false false None None
+  -- it was dropped first
+  went : ReceiverStands gone 2 false false None None
 
--- whether the waker's slot is the receiver's after an operation that found this word
+-- whether the message's slot is the receiver's after an operation that found this word
+abbrev pub keeps_message : Op → ℕ → Bool
+keeps_message (Store new) word = true
+keeps_message _ word = (word == 4) || (word == 2)
+
+-- whether the waker's is
 abbrev pub keeps_waker : Op → ℕ → Bool
 keeps_waker (Swap new) word = not (word == 3)
+keeps_waker Load word = not (word == 0)
 keeps_waker _ word = true
 
 -- the word after the other end's act, which it makes only where the word is 3
 abbrev pub word_by : ℕ → ℕ → ℕ
 word_by new word = if word == 3 then new else word
+
+-- the word and the message that a sender leaves
+pub data Left {T : Type 0} : ℕ → Option T → Type 0 where
+  left_message : (x : T) → Left 4 (Some x)
+  left_nothing : Left 2 None
+
+-- the word, the waker's slot and its cell of a receiver that waits
+pub data Waits {W : Type 0} : ℕ → Bool → Option W → Type 0 where
+  waits_with : (k : W) → Waits 0 false (Some k)

@@ -1,8 +1,8 @@
 //! What an end does to the world.
 
-ghost use Rattle.std.specs.Prelude.{◌≡◌, ◌∷◌, []};
-ghost use Rattle.oneshot_machine.specs.declared.machine.Step.TheVariants.{DropMessage, Free};
-ghost use Rattle.oneshot_machine.specs.Logs.{Log, Grows, sender_of, receiver_of, did, wrote, took, worded};
+ghost use Rattle.std.specs.Prelude.{◌≡◌, Bool, ◌∷◌, []};
+ghost use Rattle.oneshot_machine.specs.declared.machine.Step.TheVariants.{DropMessage, WriteWaker, TakeWaker, Withdraw, Wake, Free};
+ghost use Rattle.oneshot_machine.specs.Logs.{Log, Grows, sender_of, receiver_of, did, wrote, took, handed, parked, worded};
 ghost use Rattle.oneshot_machine.specs.Slots.{Held, away, vacant, held, SenderMay, SenderFinds, ReceiverMay, ReceiverFinds};
 
 use oneshot_machine::states::Op;
@@ -48,6 +48,20 @@ pub trait SenderGround<T, W> {
         ensures message { message_slot self.new ≡ vacant }
         ensures waker { waker_slot self.new ≡ waker_slot self.old };
 
+    /// Takes the waker of the receiver that waits out of its slot, and gives it.
+    fn take_waker(&mut self) -> W
+        requires { (k : W) × (waker_slot self.old ≡ held k) }
+        ensures list { Grows (log self.old) (log self.new) (handed TakeWaker result ∷ []) }
+        ensures was { waker_slot self.old ≡ held result }
+        ensures message { message_slot self.new ≡ message_slot self.old }
+        ensures waker { waker_slot self.new ≡ vacant };
+
+    /// Wakes the receiver by its waker, which is used up.
+    fn wake(&mut self, waker: W)
+        ensures list { Grows (log self.old) (log self.new) (handed Wake waker ∷ []) }
+        ensures message { message_slot self.new ≡ message_slot self.old }
+        ensures waker { waker_slot self.new ≡ waker_slot self.old };
+
     /// Frees the block, whose slots are the end's and empty. Then neither is, so nothing follows.
     fn free(&mut self)
         requires message { message_slot self.old ≡ vacant }
@@ -91,6 +105,21 @@ pub trait ReceiverGround<T, W> {
         ensures message { message_slot self.new ≡ vacant }
         ensures waker { waker_slot self.new ≡ waker_slot self.old };
 
+    /// Puts the waker into its slot, which is the end's and empty.
+    fn write_waker(&mut self, waker: W)
+        requires { waker_slot self.old ≡ vacant }
+        ensures list { Grows (log self.old) (log self.new) (handed WriteWaker waker ∷ []) }
+        ensures message { message_slot self.new ≡ message_slot self.old }
+        ensures waker { waker_slot self.new ≡ held waker };
+
+    /// Takes the waker back out of its slot, and gives it.
+    fn withdraw(&mut self) -> W
+        requires { (k : W) × (waker_slot self.old ≡ held k) }
+        ensures list { Grows (log self.old) (log self.new) (handed Withdraw result ∷ []) }
+        ensures was { waker_slot self.old ≡ held result }
+        ensures message { message_slot self.new ≡ message_slot self.old }
+        ensures waker { waker_slot self.new ≡ vacant };
+
     /// Frees the block, whose slots are the end's and empty. Then neither is, so nothing follows.
     fn free(&mut self)
         requires message { message_slot self.old ≡ vacant }
@@ -98,4 +127,13 @@ pub trait ReceiverGround<T, W> {
         ensures list { Grows (log self.old) (log self.new) (did Free ∷ []) }
         ensures message { message_slot self.new ≡ away }
         ensures waker { waker_slot self.new ≡ away };
+}
+
+/// What the receiver does to the world in a call that blocks.
+pub trait BlockGround<T, W>: ReceiverGround<T, W> {
+    /// Waits until the receiver is woken, or goes on unwoken. Which of the two is in the list alone.
+    fn park(&mut self)
+        ensures list { (woken : Bool) × Grows (Self.log self.old) (Self.log self.new) (parked woken ∷ []) }
+        ensures message { Self.message_slot self.new ≡ Self.message_slot self.old }
+        ensures waker { Self.waker_slot self.new ≡ Self.waker_slot self.old };
 }

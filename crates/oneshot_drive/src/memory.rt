@@ -4,7 +4,9 @@ mod receiver;
 mod sender;
 
 ghost use Rattle.std.specs.Prelude.{◌≡◌, ◌++◌, ◌∷◌, [], None};
+ghost use Rattle.oneshot_machine.specs.Logs.{handed};
 ghost use Rattle.oneshot_machine.specs.Words.{saw};
+ghost use Rattle.oneshot_drive.specs.Memory.{event_of};
 
 use oneshot_machine::machine::{Seen, Step};
 use oneshot_machine::states::Op;
@@ -36,6 +38,18 @@ impl<T, W> Event<T, W> {
             seen,
             message: None,
             waker: None,
+        }
+    }
+
+    // A step that hands this waker in or out.
+    fn handing(step: Step, waker: &W) -> Event<T, W>
+        ensures { event_of result ≡ handed step waker.now }
+    {
+        Event {
+            step,
+            seen: Seen::Done,
+            message: None,
+            waker: Some(Snapshot::of(waker)),
         }
     }
 }

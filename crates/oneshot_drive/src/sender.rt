@@ -3,15 +3,16 @@
 ghost use Rattle.std.specs.Prelude.{◌≡◌, false, [], ◌∷◌};
 ghost use Rattle.oneshot_machine.specs.declared.machine.Reply.TheVariants.{Message, Done};
 ghost use Rattle.oneshot_machine.specs.declared.machine.sender.SenderCall.TheVariants.{Send, Drop, IntoInner, DropError};
+ghost use Rattle.oneshot_machine.specs.Logs.{sender_of, Grows};
 ghost use Rattle.oneshot_machine.specs.Runs.{SenderRan};
 ghost use Rattle.oneshot_machine.specs.Slots.{held};
-ghost use Rattle.oneshot_drive.specs.Calls.{IsFresh, IsError, send_reply};
+ghost use Rattle.oneshot_drive.specs.Calls.{IsFresh, IsError, Owes, finishing, send_reply};
 
 use crate::ground::SenderGround;
-use oneshot_machine::states::{DISCONNECTED, EMPTY, Op};
+use oneshot_machine::states::{DISCONNECTED, EMPTY, MESSAGE, Op, RECEIVING};
 
-/// Sends the message, and tells whether the receiver was there. Where it was not, the message stays
-/// in its slot.
+/// Sends the message, and wakes a receiver that waits. Answers whether the receiver was there: where it
+/// was not, the message stays in its slot.
 pub fn send<T, W, G: SenderGround<T, W>>(g: &mut G, message: T) -> bool
     requires { IsFresh (G.log g.old) (G.message_slot g.old) (G.waker_slot g.old) }
     ensures run { SenderRan Send (G.log g.old) (G.log g.new) (send_reply result) (message ∷ []) [] }
@@ -19,17 +20,36 @@ pub fn send<T, W, G: SenderGround<T, W>>(g: &mut G, message: T) -> bool
         IsError (held message) (G.message_slot g.new) (G.waker_slot g.new) }
 {
     g.write_message(message);
-    g.word(Op::Add) == EMPTY
+    match g.word(Op::Add) {
+        EMPTY => true,
+        RECEIVING => {
+            finish(g, MESSAGE);
+            true
+        }
+        _ => false,
+    }
 }
 
-/// Drops the sender.
+/// Drops the sender, and wakes a receiver that waits.
 pub fn drop_sender<T, W, G: SenderGround<T, W>>(g: &mut G)
     requires { IsFresh (G.log g.old) (G.message_slot g.old) (G.waker_slot g.old) }
     ensures { SenderRan Drop (G.log g.old) (G.log g.new) Done [] [] }
 {
-    if g.word(Op::Xor) == DISCONNECTED {
-        g.free();
+    match g.word(Op::Xor) {
+        EMPTY => {}
+        RECEIVING => finish(g, DISCONNECTED),
+        _ => g.free(),
     }
+}
+
+// Leaves this last word to a receiver that waits, and wakes it.
+fn finish<T, W, G: SenderGround<T, W>>(g: &mut G, last: u8)
+    requires { Owes (sender_of (G.log g.old)) last (G.message_slot g.old) (G.waker_slot g.old) }
+    ensures { (k : W) × Grows (G.log g.old) (G.log g.new) (finishing last k) }
+{
+    let waker = g.take_waker();
+    g.word(Op::Swap(last));
+    g.wake(waker);
 }
 
 /// Gives the refused message, and frees.

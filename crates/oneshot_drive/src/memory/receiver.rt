@@ -1,27 +1,53 @@
 //! A receiver's ground in memory.
 
-ghost use Rattle.std.specs.Prelude.{◌≡◌, map};
+ghost use Rattle.std.specs.Prelude.{◌≡◌, true, map};
 ghost use Rattle.oneshot_machine.specs.Logs.{receiver_of};
 ghost use Rattle.oneshot_drive.specs.Calls.{AtRest};
-ghost use Rattle.oneshot_drive.specs.Memory.{event_of, keeps_waker, word_by};
+ghost use Rattle.oneshot_drive.specs.Memory.{event_of, keeps_message, keeps_waker, word_by, Left, Waits};
 
-use crate::ground::ReceiverGround;
+use crate::ground::{BlockGround, ReceiverGround};
 use crate::memory::{Event, record, sight};
 use oneshot_machine::machine::{Seen, Step};
-use oneshot_machine::states::{DISCONNECTED, EMPTY, MESSAGE, Op};
+use oneshot_machine::states::{DISCONNECTED, EMPTY, MESSAGE, Op, RECEIVING};
 use std::alloc::Global;
 use std::marker::Model;
 use std::snapshot::Snapshot;
 use std::sync::Wait;
 
-/// A receiver's ground, whose sender acts where it is told to.
+// What the sender is to do.
+#[derive(Drop)]
+enum Act<T> {
+    Send(T),
+    Drop,
+}
+
+impl<T> Act<T> {
+    // The word that it leaves, and the message.
+    fn left(self) -> (u8, Option<T>)
+        ensures { Left result.0 result.1 }
+    {
+        match self {
+            Act::Send(message) => (MESSAGE, Some(message)),
+            Act::Drop => (DISCONNECTED, None),
+        }
+    }
+}
+
+/// A receiver's ground, whose sender acts where it is told to: at once, or in a pause of the receiver.
+///
+/// The receiver makes a pause when it has written its waker, and in each park. A park ends by its token
+/// if the sender woke the receiver in it, and without one if not; where the sender never acts, a call
+/// that blocks waits for ever.
 #[derive(Drop)]
 pub struct MemoryReceiver<'a, T, W, R: Wait> {
     events: Vec<Event<T, W>>,
     word: u8,
     message: Option<T>,
+    waker: Option<W>,
     owns_message: bool,
     owns_waker: bool,
+    plan: Option<Act<T>>,
+    pauses: u64,
     rt: &'a R,
 }
 
@@ -31,11 +57,11 @@ impl<'a, T, W, R: Wait> Model for MemoryReceiver<'a, T, W, R> {
 
     ghost Value = { Memory T W };
 
-    ghost view = { λ s. memory_of s.events.items s.word s.message s.owns_message s.owns_waker };
+    ghost view = { λ s. memory_of s.events.items s.word s.message s.waker s.owns_message s.owns_waker };
 
     ghost invariant = { λ s.
         ReceiverStands (receiver_of (logged s.events.items)) s.word
-        s.owns_message s.owns_waker s.message };
+        s.owns_message s.owns_waker s.message s.waker };
 }
 
 impl<'a, T, W, R: Wait> MemoryReceiver<'a, T, W, R> {
@@ -48,8 +74,11 @@ impl<'a, T, W, R: Wait> MemoryReceiver<'a, T, W, R> {
             events: Vec::new(alloc),
             word: EMPTY,
             message: None,
+            waker: None,
             owns_message: false,
             owns_waker: false,
+            plan: None,
+            pauses: 0,
             rt,
         }
     }
@@ -62,7 +91,7 @@ impl<'a, T, W, R: Wait> MemoryReceiver<'a, T, W, R> {
     }
 }
 
-impl<'a, T: Drop, W, R: Wait> MemoryReceiver<'a, T, W, R> {
+impl<'a, T: Drop, W: Drop, R: Wait> MemoryReceiver<'a, T, W, R> {
     /// The sender sends, if both ends are still here.
     pub fn sender_sends(&mut self, message: T)
         ensures { self.new ≡ record self.old { word = word_by 4 self.old.word } }
@@ -81,9 +110,59 @@ impl<'a, T: Drop, W, R: Wait> MemoryReceiver<'a, T, W, R> {
             self.word = DISCONNECTED;
         }
     }
+
+    /// The sender is to send this message in a pause of the receiver, once so many pauses are over: with
+    /// 0 before the receiver waits, with 1 in its first park.
+    pub fn sender_will_send(&mut self, pauses: u64, message: T)
+        ensures { self.new ≡ self.old }
+    {
+        self.plan = Some(Act::Send(message));
+        self.pauses = pauses;
+    }
+
+    /// The sender is to be dropped in a pause of the receiver, once so many pauses are over.
+    pub fn sender_will_drop(&mut self, pauses: u64)
+        ensures { self.new ≡ self.old }
+    {
+        self.plan = Some(Act::Drop);
+        self.pauses = pauses;
+    }
+
+    // A pause: whether the sender woke the receiver in it.
+    fn pause(&mut self) -> bool
+        ensures { self.new ≡ record self.old { word = self.new.word } }
+    {
+        if self.pauses > 0 {
+            self.pauses -= 1;
+            return false;
+        }
+        match self.plan.take() {
+            Some(act) => self.act(act),
+            None => false,
+        }
+    }
+
+    // The sender acts, if both ends are still here: whether it woke the receiver.
+    fn act(&mut self, act: Act<T>) -> bool
+        ensures { self.new ≡ record self.old { word = self.new.word } }
+    {
+        let (word, message) = act.left();
+        if self.word == EMPTY {
+            self.word = word;
+            self.message = message;
+            return false;
+        }
+        if !is_waiting(self.word, self.owns_waker, &self.waker) {
+            return false;
+        }
+        self.word = word;
+        self.message = message;
+        self.waker = None;
+        true
+    }
 }
 
-impl<'a, T: Drop, W, R: Wait> ReceiverGround<T, W> for MemoryReceiver<'a, T, W, R> {
+impl<'a, T: Drop, W: Drop, R: Wait> ReceiverGround<T, W> for MemoryReceiver<'a, T, W, R> {
     ghost log = { λ s. s.log };
 
     ghost message_slot = { λ s. s.message };
@@ -93,7 +172,7 @@ impl<'a, T: Drop, W, R: Wait> ReceiverGround<T, W> for MemoryReceiver<'a, T, W, 
     fn word(&mut self, op: Op) -> u8 {
         let before = self.word;
         self.word = op.after(before);
-        self.owns_message = before != EMPTY;
+        self.owns_message = has_message(op, before);
         self.owns_waker = has_waker(op, before);
         let event = Event::of(Step::Word(op), sight(op, before));
         record(self.rt, &mut self.events, event);
@@ -120,11 +199,58 @@ impl<'a, T: Drop, W, R: Wait> ReceiverGround<T, W> for MemoryReceiver<'a, T, W, 
         record(self.rt, &mut self.events, event);
     }
 
+    fn write_waker(&mut self, waker: W) {
+        let event = Event::handing(Step::WriteWaker, &waker);
+        self.waker = Some(waker);
+        record(self.rt, &mut self.events, event);
+        self.pause();
+    }
+
+    fn withdraw(&mut self) -> W {
+        let Some(waker) = self.waker.take() else {
+            unreachable!()
+        };
+        let event = Event::handing(Step::Withdraw, &waker);
+        record(self.rt, &mut self.events, event);
+        waker
+    }
+
     fn free(&mut self) {
         self.owns_message = false;
         self.owns_waker = false;
         let event = Event::of(Step::Free, Seen::Done);
         record(self.rt, &mut self.events, event);
+    }
+}
+
+impl<'a, T: Drop, W: Drop, R: Wait> BlockGround<T, W> for MemoryReceiver<'a, T, W, R> {
+    fn park(&mut self) {
+        let woken = self.pause();
+        let event = Event::of(Step::Park, Seen::Token(woken));
+        record(self.rt, &mut self.events, event);
+    }
+}
+
+// Whether a receiver waits that has this word, and this in its waker's cell.
+fn is_waiting<W>(word: u8, owns_waker: bool, waker: &Option<W>) -> bool
+    ensures { result ≡ true → Waits word owns_waker waker.now }
+{
+    if word != RECEIVING {
+        return false;
+    }
+    if owns_waker {
+        return false;
+    }
+    waker.is_some()
+}
+
+// Whether the message's slot is the receiver's after an operation that found this word.
+fn has_message(op: Op, found: u8) -> bool
+    ensures { result ≡ keeps_message op found }
+{
+    match op {
+        Op::Store(_) => true,
+        _ => found == MESSAGE || found == DISCONNECTED,
     }
 }
 
@@ -134,6 +260,7 @@ fn has_waker(op: Op, found: u8) -> bool
 {
     match op {
         Op::Swap(_) => found != EMPTY,
+        Op::Load => found != RECEIVING,
         _ => true,
     }
 }

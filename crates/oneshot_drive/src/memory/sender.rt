@@ -2,23 +2,24 @@
 
 ghost use Rattle.std.specs.Prelude.{◌≡◌, map, if◌then◌else◌};
 ghost use Rattle.oneshot_drive.specs.Calls.{IsFresh};
-ghost use Rattle.oneshot_drive.specs.Memory.{event_of};
+ghost use Rattle.oneshot_drive.specs.Memory.{event_of, keeps_both};
 
 use crate::ground::SenderGround;
 use crate::memory::{Event, record, sight};
 use oneshot_machine::machine::{Seen, Step};
-use oneshot_machine::states::{DISCONNECTED, EMPTY, Op};
+use oneshot_machine::states::{DISCONNECTED, EMPTY, Op, RECEIVING};
 use std::alloc::Global;
 use std::marker::Model;
 use std::snapshot::Snapshot;
 use std::sync::Wait;
 
-/// A sender's ground whose receiver is here or is gone, and does nothing.
+/// A sender's ground whose receiver is here, waits or is gone, and does nothing.
 #[derive(Drop)]
 pub struct MemorySender<'a, T, W, R: Wait> {
     events: Vec<Event<T, W>>,
     word: u8,
     message: Option<T>,
+    waker: Option<W>,
     owns_message: bool,
     owns_waker: bool,
     rt: &'a R,
@@ -30,10 +31,11 @@ impl<'a, T, W, R: Wait> Model for MemorySender<'a, T, W, R> {
 
     ghost Value = { Memory T W };
 
-    ghost view = { λ s. memory_of s.events.items s.word s.message s.owns_message s.owns_waker };
+    ghost view = { λ s. memory_of s.events.items s.word s.message s.waker s.owns_message s.owns_waker };
 
     ghost invariant = { λ s.
-        SenderStands (sender_of (logged s.events.items)) s.word s.owns_message s.owns_waker };
+        SenderStands (sender_of (logged s.events.items)) s.word
+        s.owns_message s.owns_waker s.waker };
 }
 
 impl<'a, T, W, R: Wait> MemorySender<'a, T, W, R> {
@@ -50,6 +52,23 @@ impl<'a, T, W, R: Wait> MemorySender<'a, T, W, R> {
                 DISCONNECTED
             },
             message: None,
+            waker: None,
+            owns_message: true,
+            owns_waker: false,
+            rt,
+        }
+    }
+
+    /// The ground of a new sender, whose receiver waits with this waker.
+    pub fn with_waiting_receiver(rt: &'a R, alloc: Global, waker: W) -> MemorySender<'a, T, W, R>
+        ensures fresh { IsFresh result.log result.message result.waker }
+        ensures word { result.word ≡ 0 }
+    {
+        MemorySender {
+            events: Vec::new(alloc),
+            word: RECEIVING,
+            message: None,
+            waker: Some(waker),
             owns_message: true,
             owns_waker: false,
             rt,
@@ -64,7 +83,7 @@ impl<'a, T, W, R: Wait> MemorySender<'a, T, W, R> {
     }
 }
 
-impl<'a, T: Drop, W, R: Wait> SenderGround<T, W> for MemorySender<'a, T, W, R> {
+impl<'a, T: Drop, W: Drop, R: Wait> SenderGround<T, W> for MemorySender<'a, T, W, R> {
     ghost log = { λ s. s.log };
 
     ghost message_slot = { λ s. s.message };
@@ -74,8 +93,9 @@ impl<'a, T: Drop, W, R: Wait> SenderGround<T, W> for MemorySender<'a, T, W, R> {
     fn word(&mut self, op: Op) -> u8 {
         let before = self.word;
         self.word = op.after(before);
-        self.owns_message = before == DISCONNECTED;
-        self.owns_waker = before == DISCONNECTED;
+        let keeps = keeps_slots(before);
+        self.owns_message = keeps;
+        self.owns_waker = keeps;
         let event = Event::of(Step::Word(op), sight(op, before));
         record(self.rt, &mut self.events, event);
         before
@@ -112,10 +132,31 @@ impl<'a, T: Drop, W, R: Wait> SenderGround<T, W> for MemorySender<'a, T, W, R> {
         record(self.rt, &mut self.events, event);
     }
 
+    fn take_waker(&mut self) -> W {
+        let Some(waker) = self.waker.take() else {
+            unreachable!()
+        };
+        let event = Event::handing(Step::TakeWaker, &waker);
+        record(self.rt, &mut self.events, event);
+        waker
+    }
+
+    fn wake(&mut self, waker: W) {
+        let event = Event::handing(Step::Wake, &waker);
+        record(self.rt, &mut self.events, event);
+    }
+
     fn free(&mut self) {
         self.owns_message = false;
         self.owns_waker = false;
         let event = Event::of(Step::Free, Seen::Done);
         record(self.rt, &mut self.events, event);
     }
+}
+
+// Whether both slots are the sender's after an operation that found this word.
+fn keeps_slots(found: u8) -> bool
+    ensures { result ≡ keeps_both found }
+{
+    found == DISCONNECTED || found == RECEIVING
 }

@@ -5,4 +5,4 @@ use Rattle.oneshot_drive.proofs.memory.receiver.MemoryReceiverReceiverGround.fre
 pub invariant_of-self : goal.invariant_of-self
 invariant_of-self g c =
     receiver_stays c.self.inside.events.items c.record.new.events.items _ (c.record.ensures ∙ ap (λ e. c.self.inside.events.items ++ e ∷ []) c.of-event.ensures) refl
-    (receiver_freed c.self.invariant (ap (λ s. s.message) c.self.view_is ∙ c.requires.message))
+    (receiver_freed c.self.invariant (ap (λ s. s.message) c.self.view_is ∙ c.requires.message) (ap (λ s. s.waker) c.self.view_is ∙ c.requires.waker))

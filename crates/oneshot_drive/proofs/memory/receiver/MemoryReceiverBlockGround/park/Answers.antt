@@ -1,0 +1,13 @@
+use Rattle.std.proofs.Common.{[], ◌∷◌, ◌++◌, refl, sym, ap, ◌∙◌}
+use Rattle.oneshot_drive.specs.Memory.{event_of}
+use Rattle.oneshot_drive.proofs.MemoryLogs.{park_grows}
+use Rattle.oneshot_drive.proofs.MemoryReceivers.{receiver_stays}
+use Rattle.oneshot_drive.proofs.memory.receiver.MemoryReceiverBlockGround.park.Goals as goal
+
+pub invariant_of-self : goal.invariant_of-self
+invariant_of-self g c =
+    receiver_stays c.self.inside.events.items c.record.new.events.items _ (c.record.ensures ∙ ap (λ e. c.self.inside.events.items ++ e ∷ []) c.of-event.ensures) refl c.self.invariant
+
+pub returns-clause-list : goal.returns-clause-list
+returns-clause-list g c =
+    (c.pause-woken.result, park_grows c.self.inside.events.items c.record.new.events.items c.of-event.result c.pause-woken.result c.record.ensures (ap event_of c.of-event.ensures) (ap (λ s. s.log) (c.self.view_is ∙ c.pause-woken.ensures)))
