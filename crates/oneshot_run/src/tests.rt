@@ -5,6 +5,7 @@ mod fronts;
 mod order;
 mod streams;
 mod traces;
+mod waits;
 
 use crate::run;
 use std::alloc::{AllocError, Global};
