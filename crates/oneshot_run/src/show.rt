@@ -1,6 +1,6 @@
 //! The lines that the program prints.
 
-mod names;
+pub(crate) mod names;
 mod reply;
 
 use names::{WakerText, end_letter, message_place, step_name, waker_place};

@@ -2,6 +2,7 @@
 
 mod faults;
 mod fronts;
+mod names;
 mod order;
 mod streams;
 mod traces;
