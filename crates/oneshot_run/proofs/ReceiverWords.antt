@@ -3,9 +3,9 @@ use Rattle.std.proofs.Common.{◌≡◌, ◌≢◌, ℕ, List, ◌++◌, Option,
 use Rattle.std.specs.Str.{bytes_eq}
 use Rattle.std.proofs.lemmas.Grind.{common_steps}
 use Rattle.oneshot_replay.specs.declared.ReceiverCall.{ReceiverCall}
-use Rattle.oneshot_replay.specs.declared.ReceiverCall.TheVariants.{TryRecv, HasMessage, IsClosed}
+use Rattle.oneshot_replay.specs.declared.ReceiverCall.TheVariants.{TryRecv, RecvRef, HasMessage, IsClosed}
 use Rattle.oneshot_replay.specs.declared.ReceiverLast.{ReceiverLast}
-use Rattle.oneshot_replay.specs.declared.ReceiverLast.TheVariants.{Drop, Stop}
+use Rattle.oneshot_replay.specs.declared.ReceiverLast.TheVariants.{Recv, Drop, Stop}
 use Rattle.oneshot_replay.specs.declared.ReceiverScript.{ReceiverScript}
 use Rattle.oneshot_run.specs.Receiver.{word_of_call, words_of_receiver_last, words_of_receiver}
 use Rattle.oneshot_run.proofs.Runs.{map-same}
@@ -16,11 +16,13 @@ ok F x = Ok x
 abbrev call_named : List ℕ → Option ReceiverCall
 call_named word =
     if bytes_eq word (codes "try") then Some TryRecv
+    else (if bytes_eq word (codes "ref") then Some RecvRef
     else (if bytes_eq word (codes "full") then Some HasMessage
-    else (if bytes_eq word (codes "closed") then Some IsClosed else None))
+    else (if bytes_eq word (codes "closed") then Some IsClosed else None)))
 
 call_named-word : (call : ReceiverCall) → call_named (word_of_call call) ≡ Some call
 call_named-word TryRecv = refl
+call_named-word RecvRef = refl
 call_named-word HasMessage = refl
 call_named-word IsClosed = refl
 
@@ -30,7 +32,12 @@ word_of_call-same a b is = cc (sym (call_named-word a) ∙ ap call_named is ∙ 
 
 -- no last call begins with a call
 receiver_last-no_call : (last : ReceiverLast) (call : ReceiverCall) → slice_get (words_of_receiver_last last) 0 ≢ Some (word_of_call call)
+receiver_last-no_call Recv TryRecv = λ is. grind (arith, common_steps)
+receiver_last-no_call Recv RecvRef = λ is. grind (arith, common_steps)
+receiver_last-no_call Recv HasMessage = λ is. grind (arith, common_steps)
+receiver_last-no_call Recv IsClosed = λ is. grind (arith, common_steps)
 receiver_last-no_call Drop TryRecv = λ is. grind (arith, common_steps)
+receiver_last-no_call Drop RecvRef = λ is. grind (arith, common_steps)
 receiver_last-no_call Drop HasMessage = λ is. grind (arith, common_steps)
 receiver_last-no_call Drop IsClosed = λ is. grind (arith, common_steps)
 receiver_last-no_call Stop call = λ is. grind (arith, common_steps)

@@ -2,17 +2,19 @@
 use Rattle.std.specs.Prelude.{ℕ, List, [], ◌∷◌, ◌++◌, map, codes}
 use Rattle.oneshot_replay.specs.declared.ReceiverScript.{ReceiverScript}
 use Rattle.oneshot_replay.specs.declared.ReceiverCall.{ReceiverCall}
-use Rattle.oneshot_replay.specs.declared.ReceiverCall.TheVariants.{TryRecv, HasMessage, IsClosed}
+use Rattle.oneshot_replay.specs.declared.ReceiverCall.TheVariants.{TryRecv, RecvRef, HasMessage, IsClosed}
 use Rattle.oneshot_replay.specs.declared.ReceiverLast.{ReceiverLast}
-use Rattle.oneshot_replay.specs.declared.ReceiverLast.TheVariants.{Drop, Stop}
+use Rattle.oneshot_replay.specs.declared.ReceiverLast.TheVariants.{Recv, Drop, Stop}
 
 abbrev pub word_of_call : ReceiverCall → List ℕ
 word_of_call TryRecv = codes "try"
+word_of_call RecvRef = codes "ref"
 word_of_call HasMessage = codes "full"
 word_of_call IsClosed = codes "closed"
 
 -- a `Stop` is the line's end
 abbrev pub words_of_receiver_last : ReceiverLast → List (List ℕ)
+words_of_receiver_last Recv = codes "recv" ∷ []
 words_of_receiver_last Drop = codes "drop" ∷ []
 words_of_receiver_last Stop = []
 

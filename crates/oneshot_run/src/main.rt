@@ -42,10 +42,11 @@ fn main(rt: HostRuntime) -> ExitCode {
 pub fn run<R: Read, W: Write>(alloc: Global, input: &mut R, output: &mut W) -> Result<(), Fault> {
     let bytes = read_input(alloc, input)?;
     let request = parse_request(alloc, text_of(&bytes)?)?;
+    let calls = request.calls(alloc)?;
     let message = request.message();
     let trace = replay(alloc, request.sender, request.receiver, &request.moves)?;
     let mut buffered = BufWriter::new(alloc, output).map_err(|_| Fault::OutOfMemory(AllocError))?;
-    let written = write_trace(&mut buffered, trace, message);
+    let written = write_trace(&mut buffered, trace, &calls, message);
     // Taken apart, it does not try again to write what a failed write left, as its drop would.
     let _unwritten = buffered.into_parts();
     written.map_err(|_| Fault::WriteFailed)

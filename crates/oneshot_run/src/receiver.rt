@@ -61,6 +61,7 @@ fn call_of(word: &str) -> Option<ReceiverCall>
 {
     match word.as_bytes() {
         b"try" => Some(ReceiverCall::TryRecv),
+        b"ref" => Some(ReceiverCall::RecvRef),
         b"full" => Some(ReceiverCall::HasMessage),
         b"closed" => Some(ReceiverCall::IsClosed),
         _ => None,
@@ -73,6 +74,7 @@ fn last_of(word: &str) -> Option<ReceiverLast>
         (result ≡ Some last) ↔ (words_of_receiver_last last ≡ word.now ∷ []) }
 {
     match word.as_bytes() {
+        b"recv" => Some(ReceiverLast::Recv),
         b"drop" => Some(ReceiverLast::Drop),
         _ => None,
     }

@@ -14,8 +14,8 @@ use crate::lines::Lines;
 use crate::receiver::parse_receiver;
 use crate::schedule::parse_schedule;
 use crate::sender::parse_sender;
-use oneshot_replay::{Move, ReceiverScript, SenderLast, SenderScript};
-use std::alloc::Global;
+use oneshot_replay::{Move, ReceiverCall, ReceiverScript, SenderLast, SenderScript};
+use std::alloc::{AllocError, Global};
 
 /// What an input asks for.
 #[derive(Drop)]
@@ -34,6 +34,13 @@ impl Request {
             SenderLast::Send(message, _) => message,
             SenderLast::Drop | SenderLast::Stop => 0,
         }
+    }
+
+    /// The calls of the receiver's script but its last one, in memory of their own.
+    pub(crate) fn calls(&self, alloc: Global) -> Result<Vec<ReceiverCall>, AllocError>
+        ensures { IfOk result (λ calls. calls.items ≡ self.now.receiver.calls) }
+    {
+        Vec::from_slice(alloc, self.receiver.calls.as_slice())
     }
 }
 

@@ -1,24 +1,31 @@
 //! The lines that the program prints.
 
-use oneshot_machine::machine::{End, Reply, Step};
-use oneshot_machine::states::Op;
-use oneshot_replay::{Entry, Made, Place, Rest, Trace};
+pub(crate) mod names;
+mod reply;
+
+use names::{WakerText, end_letter, message_place, step_name, waker_place};
+use oneshot_machine::machine::Seen;
+use oneshot_replay::{Entry, Made, Place, ReceiverCall, Rest, Trace};
+use reply::{ReplyText, reply_of};
 use std::io::Write;
 use std::{fmt, io};
 
 /// Writes a line for each entry, then where the message is left, and then whether the block is.
 ///
-/// `message` is the script's, which replies show.
+/// `calls` are the receiver's but its last one, and `message` is the script's: an entry tells neither,
+/// and replies show them.
 pub(crate) fn write_trace<W: Write>(
     output: &mut W,
     trace: Trace<u64>,
+    calls: &[ReceiverCall],
     message: u64,
 ) -> io::Result<()> {
+    let mut calls = calls.iter();
     for (before, entry) in trace.entries().iter().enumerate() {
         let line = EntryText {
             number: before + 1,
             entry: *entry,
-            message,
+            reply: reply_of(*entry, &mut calls, message),
         };
         writeln!(output, "{line}")?;
     }
@@ -34,15 +41,15 @@ pub(crate) fn write_trace<W: Write>(
 struct EntryText {
     number: usize,
     entry: Entry,
-    message: u64,
+    reply: Option<ReplyText>,
 }
 
 impl fmt::Display for EntryText {
     fn fmt<W: fmt::Write>(&self, f: &mut fmt::Formatter<W>) -> fmt::Result {
-        let (number, message) = (self.number, self.message);
+        let (number, reply) = (self.number, self.reply);
         match self.entry {
             Entry::Idle(end) => write!(f, "{number} {} idle", end_letter(end)),
-            Entry::Made(made) => write!(f, "{number} {}", MadeText { made, message }),
+            Entry::Made(made) => write!(f, "{number} {}", MadeText { made, reply }),
         }
     }
 }
@@ -51,31 +58,39 @@ impl fmt::Display for EntryText {
 #[derive(Clone, Copy)]
 struct MadeText {
     made: Made,
-    message: u64,
+    reply: Option<ReplyText>,
 }
 
 impl fmt::Display for MadeText {
     fn fmt<W: fmt::Write>(&self, f: &mut fmt::Formatter<W>) -> fmt::Result {
-        let (made, message) = (self.made, self.message);
+        let made = self.made;
         let (end, step) = (end_letter(made.side), step_name(made.step));
         let (before, after) = (WordText(made.before), WordText(made.after));
         write!(f, "{end} {step} {before}>{after}")?;
         if let Some((from, to)) = made.message {
-            write!(f, " m:{}>{}", place_name(from), place_name(to))?;
+            write!(f, " m:{}>{}", message_place(from), message_place(to))?;
         }
-        if let Some(reply) = made.reply {
-            let end = made.side;
-            write!(
-                f,
-                " = {}",
-                ReplyText {
-                    end,
-                    reply,
-                    message
-                }
-            )?;
+        if let Some((name, from, to)) = made.waker {
+            let (name, from, to) = (WakerText(name), waker_place(from), waker_place(to));
+            write!(f, " {name}:{from}>{to}")?;
         }
-        Ok(())
+        if let Some(token) = token_use(made) {
+            write!(f, " {token}")?;
+        }
+        match self.reply {
+            Some(reply) => write!(f, " = {reply}"),
+            None => Ok(()),
+        }
+    }
+}
+
+/// What a step did to the token on which the receiver parks, or that a park ended without it.
+fn token_use(made: Made) -> Option<&'static str> {
+    match made.seen {
+        Seen::Token(true) => Some("token-"),
+        Seen::Token(false) => Some("spurious"),
+        _ if made.token_set => Some("token+"),
+        _ => None,
     }
 }
 
@@ -92,34 +107,6 @@ impl fmt::Display for WordText {
     }
 }
 
-/// What a call answered, with the message where it carries or shows it: the sender's calls that do are
-/// its error's, which answer the message itself.
-#[derive(Clone, Copy)]
-struct ReplyText {
-    end: End,
-    reply: Reply,
-    message: u64,
-}
-
-impl fmt::Display for ReplyText {
-    fn fmt<W: fmt::Write>(&self, f: &mut fmt::Formatter<W>) -> fmt::Result {
-        let message = self.message;
-        match self.reply {
-            Reply::Sent => write!(f, "Ok"),
-            Reply::Refused => write!(f, "Err"),
-            Reply::Yes => write!(f, "true"),
-            Reply::No => write!(f, "false"),
-            Reply::Message => match self.end {
-                End::Sender => write!(f, "{message}"),
-                End::Receiver => write!(f, "Ok({message})"),
-            },
-            Reply::Empty => write!(f, "Err(Empty)"),
-            Reply::Disconnected => write!(f, "Err(Disconnected)"),
-            Reply::Done => write!(f, "dropped"),
-        }
-    }
-}
-
 /// The message's last place, with the message.
 #[derive(Drop)]
 struct RestText(Option<Rest<u64>>);
@@ -130,7 +117,7 @@ impl fmt::Display for RestText {
             return write!(f, "none");
         };
         let (place, message) = place_of(rest);
-        write!(f, "{}({message})", place_name(place))
+        write!(f, "{}({message})", message_place(place))
     }
 }
 
@@ -142,39 +129,5 @@ fn place_of(rest: &Rest<u64>) -> (Place, u64) {
         Rest::Delivered(message) => (Place::Delivered, *message),
         Rest::FromError(message) => (Place::FromError, *message),
         Rest::Dropped(message) => (Place::Dropped, *message),
-    }
-}
-
-fn place_name(place: Place) -> &'static str {
-    match place {
-        Place::NotSent => "NotSent",
-        Place::InCell => "InCell",
-        Place::InError => "InError",
-        Place::Delivered => "Delivered",
-        Place::FromError => "FromError",
-        Place::Dropped => "Dropped",
-    }
-}
-
-fn end_letter(end: End) -> &'static str {
-    match end {
-        End::Sender => "S",
-        End::Receiver => "R",
-    }
-}
-
-fn step_name(step: Step) -> &'static str {
-    match step {
-        Step::Word(Op::Load) => "load",
-        Step::Word(Op::Store(_)) => "store",
-        Step::Word(Op::Swap(_)) => "swap",
-        Step::Word(Op::Exchange(_, _)) => "exchange",
-        Step::Word(Op::Add) => "add",
-        Step::Word(Op::Xor) => "xor",
-        Step::WriteMessage => "write-message",
-        Step::TakeMessage => "take-message",
-        Step::DropMessage => "drop-message",
-        Step::Free => "free",
-        Step::Plain => "plain",
     }
 }

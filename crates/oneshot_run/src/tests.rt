@@ -2,9 +2,11 @@
 
 mod faults;
 mod fronts;
+mod names;
 mod order;
 mod streams;
 mod traces;
+mod waits;
 
 use crate::run;
 use std::alloc::{AllocError, Global};

@@ -89,6 +89,38 @@ fn faults_of_looks(rt: HostRuntime) {
 }
 
 #[test]
+fn faults_of_receives(rt: HostRuntime) {
+    let faults = [
+        ("S ref\n", "2 line 1: unknown word 1"),
+        ("S recv\n", "2 line 1: unknown word 1"),
+        ("S closed recv\n", "2 line 1: unknown word 2"),
+        ("S send recv\n", "2 line 1: bad number at word 2"),
+        ("S send 7 recv\n", "2 line 1: unknown word 3"),
+        ("S send 7 inner ref\n", "2 line 1: unknown word 4"),
+        ("S drop recv\n", "2 line 1: word 2 follows the last call"),
+        ("S\nR recv", "2 line 3 is missing"),
+        ("S\nR ref ref try recv\n", "2 line 3 is missing"),
+        ("S\nR Recv\n", "2 line 2: unknown word 1"),
+        ("S\nR recv_ref\n", "2 line 2: unknown word 1"),
+        ("S\nR ref \n", "2 line 2: unknown word 2"),
+        ("S\nR ref  recv\n", "2 line 2: unknown word 2"),
+        ("S\nR recv \n", "2 line 2: word 2 follows the last call"),
+        ("S\nR recv ref\n", "2 line 2: word 2 follows the last call"),
+        ("S\nR recv recv\n", "2 line 2: word 2 follows the last call"),
+        ("S\nR recv drop\n", "2 line 2: word 2 follows the last call"),
+        ("S\nR drop recv\n", "2 line 2: word 2 follows the last call"),
+        (
+            "S\nR ref recv 7 7\n",
+            "2 line 2: word 3 follows the last call",
+        ),
+        ("S\nR\nX recv\n", "2 line 3: unknown word 1"),
+    ];
+    for (input, fault) in faults {
+        assert_eq!(rt; told(&rt, input.as_bytes()).as_str(), fault, "{input:?}");
+    }
+}
+
+#[test]
 fn faults_after_a_send(rt: HostRuntime) {
     let faults = [
         ("S send 7 inner inner\n", "2 line 2 is missing"),

@@ -88,6 +88,26 @@ fn fronts_of_looks_and_of_an_errors_script(rt: HostRuntime) {
 }
 
 #[test]
+fn fronts_of_receives(rt: HostRuntime) {
+    let whole = "S\nR ref recv\nX";
+    let fronts = [
+        ("S\nR r", "2 line 2: unknown word 1"),
+        ("S\nR re", "2 line 2: unknown word 1"),
+        ("S\nR ref", "2 line 3 is missing"),
+        ("S\nR ref ", "2 line 2: unknown word 2"),
+        ("S\nR ref re", "2 line 2: unknown word 2"),
+        ("S\nR ref rec", "2 line 2: unknown word 2"),
+        ("S\nR ref recv", "2 line 3 is missing"),
+        ("S\nR ref recv\n", "2 line 3 is missing"),
+        ("S\nR ref recv\nX", "rest none\nblock here\n"),
+    ];
+    for (input, told_for) in fronts {
+        assert!(rt; whole.starts_with(input));
+        assert_eq!(rt; told(&rt, input.as_bytes()).as_str(), told_for, "{input:?}");
+    }
+}
+
+#[test]
 fn fronts_of_the_schedule(rt: HostRuntime) -> Result<(), Fail> {
     let scripts = "S send 7\nR try drop\nX";
     let here = |moves, rest| (moves, rest, "block here");

@@ -26,6 +26,8 @@ fn lines_go_in_order_and_words_from_left_to_right(rt: HostRuntime) {
         ),
         ("S\nR wait drop drop\n", "2 line 2: unknown word 1"),
         ("S\nR drop wait\n", "2 line 2: word 2 follows the last call"),
+        ("S\nR recv wait", "2 line 2: word 2 follows the last call"),
+        ("S\nR ref wait recv ref\n", "2 line 2: unknown word 2"),
         ("S\nR\nX q s\n", "2 line 3: unknown word 1"),
         ("S wait\nR\nX\ns", "2 line 1: unknown word 1"),
         ("S\nR\nX q\ns", "2 line 3: unknown word 1"),

@@ -1,0 +1,79 @@
+//! The names of ends, steps, places and wakers.
+
+use oneshot_machine::machine::{End, Step};
+use oneshot_machine::states::Op;
+use oneshot_replay::{Place, WakerName, WakerPlace};
+use std::fmt;
+
+/// An end's letter.
+pub(crate) fn end_letter(end: End) -> &'static str {
+    match end {
+        End::Sender => "S",
+        End::Receiver => "R",
+    }
+}
+
+/// A step's name.
+pub(crate) fn step_name(step: Step) -> &'static str {
+    match step {
+        Step::Word(operation) => operation_name(operation),
+        Step::WriteMessage => "write-message",
+        Step::TakeMessage => "take-message",
+        Step::DropMessage => "drop-message",
+        Step::WriteWaker => "write-waker",
+        Step::TakeWaker => "take-waker",
+        Step::Withdraw => "withdraw",
+        Step::Park => "park",
+        Step::Wake => "wake",
+        Step::Free => "free",
+        Step::Plain => "plain",
+    }
+}
+
+fn operation_name(operation: Op) -> &'static str {
+    match operation {
+        Op::Load => "load",
+        Op::Store(_) => "store",
+        Op::Swap(_) => "swap",
+        Op::Exchange(_, _) => "exchange",
+        Op::Add => "add",
+        Op::Xor => "xor",
+    }
+}
+
+/// The name of a place of the message.
+pub(crate) fn message_place(place: Place) -> &'static str {
+    match place {
+        Place::NotSent => "NotSent",
+        Place::InCell => "InCell",
+        Place::InError => "InError",
+        Place::Delivered => "Delivered",
+        Place::FromError => "FromError",
+        Place::Dropped => "Dropped",
+    }
+}
+
+/// The name of a place of a waker.
+pub(crate) fn waker_place(place: WakerPlace) -> &'static str {
+    match place {
+        WakerPlace::New => "New",
+        WakerPlace::Hand => "Hand",
+        WakerPlace::Cell => "Cell",
+        WakerPlace::SenderHand => "SenderHand",
+        WakerPlace::Used => "Used",
+        WakerPlace::Dropped => "Dropped",
+    }
+}
+
+/// A waker: `p` for the parker's, and a copy with its number and the entry that made it.
+#[derive(Clone, Copy)]
+pub(crate) struct WakerText(pub(crate) WakerName);
+
+impl fmt::Display for WakerText {
+    fn fmt<W: fmt::Write>(&self, f: &mut fmt::Formatter<W>) -> fmt::Result {
+        match self.0 {
+            WakerName::Parker => write!(f, "p"),
+            WakerName::Copy { number, entry } => write!(f, "w{number}@{entry}"),
+        }
+    }
+}
