@@ -10,7 +10,7 @@ use Rattle.oneshot_machine.specs.Runs.{Run}
 use Rattle.oneshot_machine.specs.Sender.{sender_start, sender_step, sender_row}
 use Rattle.oneshot_machine.specs.Words.{Noted}
 
--- what a receiver that waits leaves in the waker's slot: none waits so far
+-- a waker of a run: which one it is, no contract says
 abbrev pub Waking : Type 0
 Waking = Unit {0}
 

@@ -3,7 +3,7 @@ use Rattle.std.specs.Prelude.{◌≡◌, ℕ, Bool, true, false, List, [], ◌�
 use Rattle.atomic_table.specs.Seated.{TableId}
 use Rattle.oneshot_machine.specs.declared.machine.Step.TheVariants.{Word}
 use Rattle.oneshot_machine.specs.Logs.{Event, Log}
-use Rattle.oneshot_machine.specs.Phases.{ReceiverAt, Got, Closing, full, over, ended}
+use Rattle.oneshot_machine.specs.Phases.{ReceiverAt, Got, Closing, full, unclosed, over, ended}
 use Rattle.oneshot_machine.specs.Slots.{Held, away, vacant, held}
 use Rattle.oneshot_machine.specs.Words.{Noted}
 use Rattle.oneshot_word.specs.Sides.{Side}
@@ -39,15 +39,20 @@ module _ {T W : Type 0} where
   abbrev pub logged : Side T W → Log T W
   logged s = record { whole = false; place = place_of s.table; list = events_of s.steps }
 
+  -- the same of a seat that was lent under this name
+  abbrev pub lent : ℕ → Side T W → Log T W
+  lent name s = record { whole = false; place = name ∷ place_of s.table; list = events_of s.steps }
+
   -- an end's side, with the slots that it has left
   abbrev pub left_of : Bool → Side T W → Side T W
   left_of freed s =
       record s { message = unless_freed freed s.message; waker = unless_freed freed s.waker }
 
--- only a receiver that has the message's slot frees the block
+-- only a receiver that has both slots frees the block
 pub data MayBeFreed : Bool → ReceiverAt → Type 0 where
   not_freed : (at : ReceiverAt) → MayBeFreed false at
   freed_full : (got : Got) (word : ℕ) → MayBeFreed true (full got word)
+  freed_unclosed : (word : ℕ) → MayBeFreed true (unclosed word)
   freed_closed : (closing : Closing) → MayBeFreed true (over closing)
   freed_ended : MayBeFreed true ended
 

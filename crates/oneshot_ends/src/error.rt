@@ -3,6 +3,7 @@
 ghost use Rattle.std.specs.Prelude.{◌≡◌};
 
 use crate::ground::ErrorSeat;
+use crossbeam_utils::sync::Unparker;
 use oneshot_drive::{drop_error, into_inner};
 use oneshot_word::SenderSide;
 use std::error::Error;
@@ -15,7 +16,7 @@ use std::marker::Model;
 /// A contract sees the message, the table, and the sender's list of operations on the word.
 pub struct SendError<T> {
     message: T,
-    side: SenderSide<T, ()>,
+    side: SenderSide<T, Unparker>,
 }
 
 impl<T> Model for SendError<T> {
@@ -27,7 +28,7 @@ impl<T> Model for SendError<T> {
 }
 
 impl<T> SendError<T> {
-    pub(crate) fn new(message: T, side: SenderSide<T, ()>) -> SendError<T>
+    pub(crate) fn new(message: T, side: SenderSide<T, Unparker>) -> SendError<T>
         ensures { result ≡ record { message = message; table = side.table; steps = side.steps } }
     {
         SendError { message, side }

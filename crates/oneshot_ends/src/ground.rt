@@ -6,6 +6,7 @@ ghost use Rattle.oneshot_drive.specs.Calls.{IsError};
 ghost use Rattle.oneshot_word.specs.Sides.{Side};
 ghost use Rattle.oneshot_ends.specs.Sides.{left_of};
 
+use crossbeam_utils::sync::Unparker;
 use oneshot_drive::{ReceiverGround, SenderGround};
 use oneshot_machine::states::Op;
 use oneshot_word::{ReceiverSide, SenderSide};
@@ -53,7 +54,7 @@ impl<T: Drop, W: Drop> SenderSeat<T, W> {
     }
 }
 
-impl<T: Drop, W: Drop> SenderGround<T, W> for SenderSeat<T, W> {
+impl<T: Drop> SenderGround<T, Unparker> for SenderSeat<T, Unparker> {
     ghost use Rattle.oneshot_ends.specs.Sides.{logged};
 
     ghost log = { logged };
@@ -66,6 +67,7 @@ impl<T: Drop, W: Drop> SenderGround<T, W> for SenderSeat<T, W> {
         match op {
             Op::Add => self.side.add(),
             Op::Xor => self.side.flip(),
+            Op::Swap(new) => self.side.swap(new),
             _ => unreachable!(),
         }
     }
@@ -80,6 +82,15 @@ impl<T: Drop, W: Drop> SenderGround<T, W> for SenderSeat<T, W> {
 
     fn drop_message(&mut self) {
         self.side.take_message();
+    }
+
+    fn take_waker(&mut self) -> Unparker {
+        self.side.take_waker()
+    }
+
+    fn wake(&mut self, waker: Unparker) {
+        let _side = &self.side;
+        waker.unpark();
     }
 
     fn free(&mut self) {
@@ -119,7 +130,7 @@ impl<T, W> ErrorSeat<T, W> {
     }
 }
 
-impl<T: Drop, W: Drop> SenderGround<T, W> for ErrorSeat<T, W> {
+impl<T: Drop> SenderGround<T, Unparker> for ErrorSeat<T, Unparker> {
     ghost use Rattle.oneshot_ends.specs.Sides.{logged};
 
     ghost log = { logged };
@@ -144,6 +155,17 @@ impl<T: Drop, W: Drop> SenderGround<T, W> for ErrorSeat<T, W> {
 
     fn drop_message(&mut self) {
         self.message = None;
+    }
+
+    // No receiver waits for a sender that found it gone.
+    fn take_waker(&mut self) -> Unparker {
+        let _side = &self.side;
+        unreachable!()
+    }
+
+    fn wake(&mut self, waker: Unparker) {
+        let _side = &self.side;
+        waker.unpark();
     }
 
     fn free(&mut self) {
@@ -211,6 +233,14 @@ impl<T: Drop, W: Drop> ReceiverGround<T, W> for ReceiverSeat<T, W> {
 
     fn drop_message(&mut self) {
         self.side.take_message();
+    }
+
+    fn write_waker(&mut self, waker: W) {
+        self.side.write_waker(waker);
+    }
+
+    fn withdraw(&mut self) -> W {
+        self.side.take_waker()
     }
 
     fn free(&mut self) {

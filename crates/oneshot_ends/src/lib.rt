@@ -1,6 +1,7 @@
 //! The ends of a channel: its sender, its receiver, and the error of a refused message.
 #![tactic(auto)]
 
+mod blocking;
 mod error;
 mod ground;
 mod pair;

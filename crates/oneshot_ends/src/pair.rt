@@ -4,6 +4,7 @@ ghost use Rattle.std.specs.Prelude.{◌≡◌, [], IfOk};
 
 use crate::receiver::Receiver;
 use crate::sender::Sender;
+use crossbeam_utils::sync::Parker;
 use oneshot_word::open;
 use std::alloc::{AllocError, Global};
 
@@ -20,5 +21,7 @@ pub fn channel<T: Send + Drop, Rt: Drop>(
     ensures new_receiver { IfOk result (λ ends. ends.1.steps ≡ []) }
 {
     let (near, far) = open(alloc)?;
-    Ok((Sender::new(near), Receiver::new(far, rt)))
+    let parker = Parker::new(alloc)?;
+    let half = parker.unparker().clone()?;
+    Ok((Sender::new(near), Receiver::new(far, parker, half, rt)))
 }

@@ -1,35 +1,40 @@
 //! The receiver.
 
-ghost use Rattle.std.specs.Prelude.{◌≡◌, Err};
+ghost use Rattle.std.specs.Prelude.{◌≡◌, Err, IsErr};
 ghost use Rattle.oneshot_errors.specs.declared.try_recv.TryRecvError.TheVariants.{Disconnected};
-ghost use Rattle.oneshot_machine.specs.declared.machine.receiver.ReceiverStart.TheVariants.{TryRecv};
+ghost use Rattle.oneshot_machine.specs.declared.machine.receiver.ReceiverStart.TheVariants.{TryRecv, RecvRef};
 ghost use Rattle.oneshot_machine.specs.Phases.{receiver_at};
-ghost use Rattle.oneshot_drive.specs.Calls.{AtRest, IsClosed, Leaves, try_recv_reply};
+ghost use Rattle.oneshot_drive.specs.Calls.{IsClosed, Leaves, LeavesClosed, try_recv_reply, recv_reply};
 ghost use Rattle.oneshot_ends.specs.Ends.{ReceiverGrew};
 ghost use Rattle.oneshot_ends.specs.Sides.{IsNewReceiver};
 
+use crate::blocking::BlockSeat;
 use crate::ground::ReceiverSeat;
-use oneshot_drive::{drop_receiver, try_recv};
-use oneshot_errors::TryRecvError;
+use crossbeam_utils::sync::{Parker, Unparker};
+use oneshot_drive::{drop_receiver, recv, recv_ref, try_recv};
+use oneshot_errors::{RecvError, TryRecvError};
 use oneshot_machine::states::{DISCONNECTED, MESSAGE};
 use oneshot_word::ReceiverSide;
-use std::cell::Cell;
-use std::marker::{Model, PhantomData};
+use std::marker::Model;
+use std::sync::Wait;
+use std::time::Clock;
 
 /// Receives one message from its sender.
 ///
 /// A contract sees the table that it shares with the sender, and the list of its operations on the
 /// word, from which it reads whether the receiver is closed.
 pub struct Receiver<T, Rt> {
-    seat: ReceiverSeat<T, ()>,
+    seat: ReceiverSeat<T, Unparker>,
+    // The parker's waking half, unless the sender took it to wake the receiver.
+    hand: Option<Unparker>,
+    // A parker may not be shared, so that one thread at a time has the receiver.
+    parker: Parker,
     rt: Rt,
-    // One thread at a time has it: a cell may not be shared.
-    unshared: PhantomData<Cell<()>>,
 }
 
 impl<T, Rt> Model for Receiver<T, Rt> {
     ghost use Rattle.oneshot_machine.specs.Logs.{receiver_of};
-    ghost use Rattle.oneshot_drive.specs.Calls.{AtRest};
+    ghost use Rattle.oneshot_drive.specs.Calls.{AtRest, IsReady};
     ghost use Rattle.oneshot_ends.specs.Ends.{End};
     ghost use Rattle.oneshot_ends.specs.Sides.{logged};
 
@@ -37,19 +42,27 @@ impl<T, Rt> Model for Receiver<T, Rt> {
 
     ghost view = { λ r. record { table = r.seat.table; steps = r.seat.steps } };
 
-    ghost invariant = { λ r. AtRest (receiver_of (logged r.seat)) r.seat.message r.seat.waker };
+    ghost invariant = { λ r.
+        AtRest (receiver_of (logged r.seat)) r.seat.message r.seat.waker
+        × IsReady r.hand (receiver_of (logged r.seat)) };
 }
 
 impl<T, Rt> Receiver<T, Rt> {
-    pub(crate) fn new(side: ReceiverSide<T, ()>, rt: Rt) -> Receiver<T, Rt>
+    pub(crate) fn new(
+        side: ReceiverSide<T, Unparker>,
+        parker: Parker,
+        half: Unparker,
+        rt: Rt,
+    ) -> Receiver<T, Rt>
         requires { IsNewReceiver side }
         ensures table { result.table ≡ side.table }
         ensures steps { result.steps ≡ side.steps }
     {
         Receiver {
             seat: ReceiverSeat::new(side),
+            hand: Some(half),
+            parker,
             rt,
-            unshared: PhantomData,
         }
     }
 }
@@ -82,12 +95,51 @@ impl<T: Drop, Rt: Drop> Receiver<T, Rt> {
     }
 }
 
+impl<T: Drop, Rt: Wait + Clock + Drop> Receiver<T, Rt> {
+    /// Receives the message, and waits until it is there. It asks for no memory.
+    ///
+    /// `Err` where the sender is gone without a message, or the message was received before. Then, as
+    /// after `Ok`, the receiver is closed, and every later receive answers an error.
+    pub fn recv_ref(&mut self) -> Result<T, RecvError>
+        ensures table { self.new.table ≡ self.old.table }
+        ensures run { ReceiverGrew T RecvRef self.old.steps self.new.steps (recv_reply result) }
+        ensures leaves { LeavesClosed result (receiver_at self.new.steps) }
+        ensures stays_closed { IsClosed (receiver_at self.old.steps) → IsErr result }
+    {
+        let mut lent = BlockSeat {
+            seat: &mut self.seat,
+            parker: &self.parker,
+            rt: &self.rt,
+        };
+        recv_ref(&mut lent, &self.rt, &mut self.hand)
+    }
+
+    /// Receives the message as `recv_ref` does, and ends the receiver.
+    pub fn recv(self) -> Result<T, RecvError>
+        ensures stays_closed { IsClosed (receiver_at self.steps) → IsErr result }
+    {
+        let Receiver {
+            mut seat,
+            mut hand,
+            parker,
+            rt,
+        } = self;
+        let mut lent = BlockSeat {
+            seat: &mut seat,
+            parker: &parker,
+            rt: &rt,
+        };
+        recv(&mut lent, &rt, &mut hand)
+    }
+}
+
 impl<T: Drop, Rt: Drop> Drop for Receiver<T, Rt> {
     fn drop(self) {
         let Receiver {
             mut seat,
+            hand: _,
+            parker: _,
             rt: _,
-            unshared: _,
         } = self;
         drop_receiver(&mut seat);
     }

@@ -10,6 +10,7 @@ ghost use Rattle.oneshot_ends.specs.Sides.{IsNewSender};
 
 use crate::error::SendError;
 use crate::ground::SenderSeat;
+use crossbeam_utils::sync::Unparker;
 use oneshot_drive::{drop_sender, send};
 use oneshot_machine::states::DISCONNECTED;
 use oneshot_word::SenderSide;
@@ -23,7 +24,7 @@ use std::marker::Model;
 /// Where `T` is `Send` and `Sync` several threads may share a `&` to it, and ask `is_closed`. A
 /// caller's proof finds this by itself.
 pub struct Sender<T> {
-    side: SenderSide<T, ()>,
+    side: SenderSide<T, Unparker>,
 }
 
 impl<T> Model for Sender<T> {
@@ -38,7 +39,7 @@ impl<T> Model for Sender<T> {
 }
 
 impl<T> Sender<T> {
-    pub(crate) fn new(side: SenderSide<T, ()>) -> Sender<T>
+    pub(crate) fn new(side: SenderSide<T, Unparker>) -> Sender<T>
         requires { IsNewSender side }
         ensures table { result.table ≡ side.table }
         ensures steps { result.steps ≡ side.steps }

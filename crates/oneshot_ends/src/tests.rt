@@ -4,3 +4,4 @@ mod crossing;
 mod drops;
 mod refused;
 mod threads;
+mod waiting;

@@ -1,0 +1,56 @@
+//! What a receiver does to the world in a call that blocks: its ground, with its parker beside it.
+
+use crate::ground::ReceiverSeat;
+use crossbeam_utils::sync::{Parker, Unparker};
+use oneshot_drive::{BlockGround, ReceiverGround};
+use oneshot_machine::states::Op;
+use std::sync::Wait;
+
+/// The ground of a receiver, lent for one call, with what it parks by.
+#[derive(Drop)]
+pub(crate) struct BlockSeat<'a, T, Rt> {
+    pub(crate) seat: &'a mut ReceiverSeat<T, Unparker>,
+    pub(crate) parker: &'a Parker,
+    pub(crate) rt: &'a Rt,
+}
+
+impl<'a, T: Drop, Rt> ReceiverGround<T, Unparker> for BlockSeat<'a, T, Rt> {
+    ghost use Rattle.oneshot_ends.specs.Sides.{lent};
+
+    // The place names the seat that was lent too, so that a caller knows it again.
+    ghost log = { λ b. lent b.seat.ghost_name b.seat.now };
+
+    ghost message_slot = { λ b. b.seat.now.message };
+
+    ghost waker_slot = { λ b. b.seat.now.waker };
+
+    fn word(&mut self, op: Op) -> u8 {
+        self.seat.word(op)
+    }
+
+    fn take_message(&mut self) -> T {
+        self.seat.take_message()
+    }
+
+    fn drop_message(&mut self) {
+        self.seat.drop_message();
+    }
+
+    fn write_waker(&mut self, waker: Unparker) {
+        self.seat.write_waker(waker);
+    }
+
+    fn withdraw(&mut self) -> Unparker {
+        self.seat.withdraw()
+    }
+
+    fn free(&mut self) {
+        self.seat.free();
+    }
+}
+
+impl<'a, T: Drop, Rt: Wait> BlockGround<T, Unparker> for BlockSeat<'a, T, Rt> {
+    fn park(&mut self) {
+        self.parker.park(self.rt);
+    }
+}
