@@ -1,8 +1,8 @@
 //! A worker that makes turns until it is told to stop, or until nobody is left to tell it.
 
 ghost use Rattle.std.specs.Prelude.{◌≡◌, ◌≢◌, ◌≤◌};
-ghost use Rattle.oneshot_machine.specs.Phases.{receiver_at};
-ghost use Rattle.oneshot_drive.specs.Calls.{IsClosed};
+ghost use Rattle.oneshot.specs.Phases.{receiver_at};
+ghost use Rattle.oneshot.specs.Calls.{IsClosed};
 ghost use Rattle.oneshot_uses.specs.declared.shutdown.Ending.TheVariants.{Done};
 
 use oneshot::{Receiver, Sender, TryRecvError, channel};
