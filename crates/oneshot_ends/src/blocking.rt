@@ -8,13 +8,13 @@ use std::sync::Wait;
 
 /// The ground of a receiver, lent for one call, with what it parks by.
 #[derive(Drop)]
-pub(crate) struct BlockSeat<'a, T, Rt> {
-    pub(crate) seat: &'a mut ReceiverSeat<T, Unparker>,
-    pub(crate) parker: &'a Parker,
-    pub(crate) rt: &'a Rt,
+pub(crate) struct BlockSeat<'s, 'p, 'r, T, Rt> {
+    pub(crate) seat: &'s mut ReceiverSeat<T, Unparker>,
+    pub(crate) parker: &'p Parker,
+    pub(crate) rt: &'r Rt,
 }
 
-impl<'a, T: Drop, Rt> ReceiverGround<T, Unparker> for BlockSeat<'a, T, Rt> {
+impl<'s, 'p, 'r, T: Drop, Rt> ReceiverGround<T, Unparker> for BlockSeat<'s, 'p, 'r, T, Rt> {
     ghost use Rattle.oneshot_ends.specs.Sides.{lent};
 
     // The place names the seat that was lent too, so that a caller knows it again.
@@ -49,7 +49,7 @@ impl<'a, T: Drop, Rt> ReceiverGround<T, Unparker> for BlockSeat<'a, T, Rt> {
     }
 }
 
-impl<'a, T: Drop, Rt: Wait> BlockGround<T, Unparker> for BlockSeat<'a, T, Rt> {
+impl<'s, 'p, 'r, T: Drop, Rt: Wait> BlockGround<T, Unparker> for BlockSeat<'s, 'p, 'r, T, Rt> {
     fn park(&mut self) {
         self.parker.park(self.rt);
     }

@@ -1,4 +1,4 @@
-use Rattle.std.proofs.Common.{◌≢◌, rules, sym, ap, subst}
+use Rattle.std.proofs.Common.{◌≢◌, rules, refl, sym, ap, subst}
 use Rattle.oneshot_machine.specs.Slots.{away}
 use Rattle.oneshot_word.specs.Seats.{waker_of, message_in, waker_in, WakerSlot, SenderSeat}
 use Rattle.oneshot_word.proofs.Trades.{fits_waker, sender_waker_front, Traded, sender_waker_traded, waker_side}
@@ -14,7 +14,7 @@ traded g c =
     sender_waker_traded c.self.inside.chair.me c.exchange.new.seat.me c.self.invariant.0 (subst (λ s. s.waker ≢ away) (sym c.self.view_is) c.requires.its_own) (fits_waker c.args.new c.requires.no_message) c.exchange.ensures.2 c.exchange.ensures.3
 
 pub invariant_of-self : goal.invariant_of-self
-invariant_of-self g c = ((traded g c).seat, search rules)
+invariant_of-self g c = (refl, tt, ((traded g c).seat, search rules))
 
 pub returns-clause-was : goal.returns-clause-was
 returns-clause-was g c = rw (ap (λ s. s.waker) (sym c.self.view_is)) (traded g c).was
