@@ -1,12 +1,21 @@
 //! A task on a thread of its own, whose result is sent to whoever waits for it.
 
-ghost use Rattle.std.specs.Prelude.{◌≡◌, IfOk, IfSome, tt};
+ghost use Rattle.std.specs.Prelude.{◌≡◌, IfOk, IfSome};
 
-use oneshot::{RecvError, SendError, Sender, channel};
+use oneshot::{RecvError, Sender, channel};
 use std::alloc::{AllocError, Global};
+use std::snapshot::Snapshot;
 use std::sync::Wait;
-use std::thread::{JoinHandle, Threads, spawn};
+use std::thread::{Promise, PromisedHandle, Threads, spawn_with};
 use std::time::Clock;
+
+/// Promises that a result that comes back is one of this work.
+#[derive(Drop)]
+pub struct MadeBy<F>(Snapshot<F>);
+
+impl<T, F: FnOnce() -> T> Promise<Option<T>> for MadeBy<F> {
+    ghost kept_by = { λ promise back. IfSome back (F.post promise.0.value) };
+}
 
 /// Does the work, and sends its result. The result comes back if nobody waits for it.
 pub fn perform<T: Drop, F: FnOnce() -> T>(work: F, waiter: Sender<T>) -> Option<T>
@@ -24,13 +33,15 @@ pub fn start<R: Threads, T: Send + Drop + 'static, F: FnOnce() -> T + Send + Dro
     rt: &R,
     work: F,
     waiter: Sender<T>,
-) -> Result<JoinHandle<Option<T>>, AllocError>
+) -> Result<PromisedHandle<Option<T>, MadeBy<F>>, AllocError>
     requires { F.pre work }
+    ensures { IfOk result (λ thread. thread.promise.0.value ≡ work) }
 {
-    Ok(spawn(rt, move || perform(work, waiter))?)
+    let promise = MadeBy(Snapshot::of(&work));
+    Ok(spawn_with(rt, promise, move || perform(work, waiter))?)
 }
 
-/// Starts `work`, and waits for its result.
+/// Starts `work`, and waits for its result. `Err` inside if the work never ran to its end.
 pub fn awaited<
     R: Threads + Wait + Clock,
     T: Send + Drop + 'static,
@@ -41,7 +52,7 @@ pub fn awaited<
     let (waiter, receiver) = channel(rt, alloc)?;
     let thread = start(rt, work, waiter)?;
     let received = receiver.recv();
-    thread.join(rt);
+    let _unclaimed = thread.join(rt);
     Ok(received)
 }
 
@@ -52,6 +63,7 @@ pub fn unclaimed<R: Threads, T: Send + Drop + 'static, F: FnOnce() -> T + Send +
     work: F,
 ) -> Result<Option<T>, AllocError>
     requires { F.pre work }
+    ensures { IfOk result (λ back. IfSome back (F.post work)) }
 {
     let (waiter, receiver) = channel::<T, ()>((), alloc)?;
     drop(receiver);
