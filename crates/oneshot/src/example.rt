@@ -57,8 +57,8 @@ fn ask<Rt: Wait + Clock + Drop>(
 #[test]
 fn a_request_and_its_reply(rt: HostRuntime) -> Result<(), Fail> {
     let (sender, requests) = channel(&rt, rt.alloc())?;
-    let (served, reply) = join(&rt, || serve(requests), || ask(&rt, rt.alloc(), sender, 12));
-    assert!(rt; served);
+    let (reply, served) = join(&rt, || ask(&rt, rt.alloc(), sender, 12), || serve(requests));
     assert_eq!(rt; reply?, Some(144));
+    assert!(rt; served);
     Ok(())
 }
