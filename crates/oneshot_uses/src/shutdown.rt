@@ -30,6 +30,7 @@ pub struct Report {
 }
 
 /// Makes turns until the signal comes or its sender is gone, and no more than `limit`.
+#[tactic(auto, using(crate::proofs::Closing::closed_by_message, crate::proofs::Closing::closed_by_end))]
 pub fn work_until<Rt: Drop, F: FnMut()>(
     stop: &mut Receiver<(), Rt>,
     limit: u64,

@@ -1,21 +1,12 @@
 //! A task on a thread of its own, whose result is sent to whoever waits for it.
 
-ghost use Rattle.std.specs.Prelude.{◌≡◌, IfOk, IfSome};
+ghost use Rattle.std.specs.Prelude.{IfOk, IfSome};
 
 use oneshot::{RecvError, Sender, channel};
 use std::alloc::{AllocError, Global};
-use std::snapshot::Snapshot;
 use std::sync::Wait;
-use std::thread::{Promise, PromisedHandle, Threads, spawn_with};
+use std::thread::{JoinHandle, Threads, join, spawn};
 use std::time::Clock;
-
-/// Promises that a result that comes back is one of this work.
-#[derive(Drop)]
-pub struct MadeBy<F>(Snapshot<F>);
-
-impl<T, F: FnOnce() -> T> Promise<Option<T>> for MadeBy<F> {
-    ghost kept_by = { λ promise back. IfSome back (F.post promise.0.value) };
-}
 
 /// Does the work, and sends its result. The result comes back if nobody waits for it.
 pub fn perform<T: Drop, F: FnOnce() -> T>(work: F, waiter: Sender<T>) -> Option<T>
@@ -33,12 +24,10 @@ pub fn start<R: Threads, T: Send + Drop + 'static, F: FnOnce() -> T + Send + Dro
     rt: &R,
     work: F,
     waiter: Sender<T>,
-) -> Result<PromisedHandle<Option<T>, MadeBy<F>>, AllocError>
+) -> Result<JoinHandle<Option<T>>, AllocError>
     requires { F.pre work }
-    ensures { IfOk result (λ thread. thread.promise.0.value ≡ work) }
 {
-    let promise = MadeBy(Snapshot::of(&work));
-    Ok(spawn_with(rt, promise, move || perform(work, waiter))?)
+    Ok(spawn(rt, move || perform(work, waiter))?)
 }
 
 /// Starts `work`, and waits for its result. `Err` inside if the work never ran to its end.
@@ -56,8 +45,8 @@ pub fn awaited<
     Ok(received)
 }
 
-/// Starts `work`, for whose result nobody waits, and gives the result that came back.
-pub fn unclaimed<R: Threads, T: Send + Drop + 'static, F: FnOnce() -> T + Send + Drop + 'static>(
+/// Has `work` done on another thread, though nobody waits for its result, and gives what came back.
+pub fn unclaimed<R: Threads, T: Send + Drop, F: FnOnce() -> T + Send>(
     rt: &R,
     alloc: Global,
     work: F,
@@ -67,6 +56,6 @@ pub fn unclaimed<R: Threads, T: Send + Drop + 'static, F: FnOnce() -> T + Send +
 {
     let (waiter, receiver) = channel::<T, ()>((), alloc)?;
     drop(receiver);
-    let thread = start(rt, work, waiter)?;
-    Ok(thread.join(rt))
+    let (back, ()) = join(rt, move || perform(work, waiter), || ());
+    Ok(back)
 }
