@@ -52,9 +52,8 @@ pub data LeavesClosed {T : Type 0} : Result T RecvError → ReceiverAt → Type 
   left_closed : (e : RecvError) (c : Closing) → LeavesClosed (Err e) (over c)
 
 -- The hand of a receiver that may block: its waker is in it, unless the receiver is closed.
-pub data IsReady {W : Type 0} : Option W → ReceiverAt → Type 0 where
-  has_waker : (k : W) (q : ReceiverAt) → IsReady (Some k) q
-  needs_none : (c : Closing) → IsReady None (over c)
+abbrev pub IsReady : {W : Type 0} → Option W → ReceiverAt → Type 0
+IsReady hand q = hand ≡ None → IsClosed q
 
 -- The hand before and after a call that blocks: as it was, or the sender took the waker out of its
 -- cell, and then the receiver is closed.
