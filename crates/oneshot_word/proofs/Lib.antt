@@ -5,3 +5,4 @@ pub mod Steps
 pub mod Opens
 pub mod Trades
 pub mod RowReads
+pub mod Told
