@@ -1,5 +1,5 @@
 -- What an operation tells of an end whose phase and slots are known.
-use Rattle.std.proofs.Common.{◌≡◌, ℕ, refl, sym, ap, ◌∙◌, subst}
+use Rattle.std.proofs.Common.{◌≡◌, ℕ, sym, ap, ◌∙◌, subst}
 use Rattle.oneshot_machine.specs.declared.states.Op.{Op}
 use Rattle.oneshot_machine.specs.Words.{saw}
 use Rattle.oneshot_machine.specs.Phases.{SenderAt, fresh, sender_next, sender_at, ReceiverAt, first, receiver_next, receiver_at}

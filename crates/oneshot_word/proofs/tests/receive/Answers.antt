@@ -1,4 +1,4 @@
-use Rattle.std.proofs.Common.{rules, ◌≡◌, ℕ, refl, ap, ◌∙◌, subst}
+use Rattle.std.proofs.Common.{rules, ◌≡◌, ℕ, refl, subst}
 use Rattle.oneshot_machine.specs.declared.states.Op.TheVariants.{Load, Store}
 use Rattle.oneshot_machine.specs.Phases.{blocked, waited, waits, full, receiver_at}
 use Rattle.oneshot_machine.specs.Slots.{Held, away, vacant, held, may_wait, may_close, ReceiverFinds, wait_message, close}
