@@ -1,0 +1,8 @@
+-- At most the requests that were served so far are counted.
+use Rattle.std.proofs.Common.{◌+◌, ◌≤◌}
+use Rattle.std_alloc.specs.Vec.Iter.{into_iter_len}
+use Rattle.oneshot_uses.proofs.request.serve_all.Given as goal
+
+abbrev pub invariant-loop-request : goal.invariant-loop-request
+invariant-loop-request l =
+    l.served + into_iter_len l.request-iterator ≤ into_iter_len l.initial.request-iterator

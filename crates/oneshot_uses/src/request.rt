@@ -1,0 +1,128 @@
+//! Requests, each with a channel of its own for the reply.
+
+ghost use Rattle.std.specs.Prelude.{◌≡◌, ◌*◌, ◌≤◌, IfOk, IfSome, vec_len, length};
+
+use oneshot::{Receiver, Sender, channel};
+use std::alloc::{AllocError, Global};
+use std::sync::Wait;
+use std::thread::{Threads, join};
+use std::time::Clock;
+
+/// A number and its square.
+#[derive(Drop)]
+pub struct Square {
+    root: u32,
+    value: u64,
+    ghost squared: { value ≡ root * root },
+}
+
+impl Square {
+    fn of(root: u32) -> Square
+        ensures { result.root ≡ root }
+    {
+        let value = u64::from(root) * u64::from(root);
+        Square { root, value }
+    }
+}
+
+/// Asks for the square of a number, and has the sender of the reply.
+#[derive(Drop)]
+pub struct Request {
+    pub root: u32,
+    pub reply: Sender<Square>,
+}
+
+/// The asker's part of a request: where the reply comes.
+#[derive(Drop)]
+pub struct Asked<Rt> {
+    pub root: u32,
+    pub reply: Receiver<Square, Rt>,
+}
+
+/// Makes a request for the square of `root`, and what waits for its reply.
+pub fn ask<Rt: Drop>(rt: Rt, alloc: Global, root: u32) -> Result<(Request, Asked<Rt>), AllocError>
+    ensures request { IfOk result (λ both. both.0.root ≡ root) }
+    ensures asked { IfOk result (λ both. both.1.root ≡ root) }
+{
+    let (sender, receiver) = channel(rt, alloc)?;
+    let request = Request {
+        root,
+        reply: sender,
+    };
+    let asked = Asked {
+        root,
+        reply: receiver,
+    };
+    Ok((request, asked))
+}
+
+impl Request {
+    /// Replies. `false` if nobody waits for the reply.
+    pub fn serve(self) -> bool {
+        let Request { root, reply } = self;
+        reply.send(Square::of(root)).is_ok()
+    }
+}
+
+impl<Rt: Wait + Clock + Drop> Asked<Rt> {
+    /// Waits for the reply. `None` if none comes, or one to another request.
+    pub fn wait(self) -> Option<u64>
+        ensures { IfSome result (λ value. value ≡ self.root * self.root) }
+    {
+        let Asked { root, reply } = self;
+        match reply.recv() {
+            Ok(square) if square.root == root => Some(square.value),
+            _ => None,
+        }
+    }
+}
+
+/// Serves each request in turn, and counts those whose reply was waited for.
+pub fn serve_all(requests: Vec<Request>) -> usize
+    ensures { result ≤ vec_len requests }
+{
+    let mut served = 0;
+    for request in requests {
+        if request.serve() {
+            served += 1;
+        }
+    }
+    served
+}
+
+/// Waits for each reply in turn.
+pub fn wait_all<Rt: Wait + Clock + Drop>(
+    alloc: Global,
+    all: Vec<Asked<Rt>>,
+) -> Result<Vec<Option<u64>>, AllocError>
+    ensures { IfOk result (λ replies. vec_len replies ≡ vec_len all) }
+{
+    let mut replies = Vec::new(alloc);
+    for asked in all {
+        replies.push(asked.wait())?;
+    }
+    Ok(replies)
+}
+
+/// Asks a worker on another thread for the square of each number, and waits for its replies.
+pub fn squares_of<R: Threads + Wait + Clock + Sync>(
+    rt: &R,
+    alloc: Global,
+    roots: &[u32],
+) -> Result<Vec<Option<u64>>, AllocError>
+    ensures { IfOk result (λ squares. vec_len squares ≡ length roots.now) }
+{
+    let mut requests = Vec::new(alloc);
+    let mut asked = Vec::new(alloc);
+    for root in roots {
+        let (request, waiting) = ask(rt, alloc, *root)?;
+        requests.push(request)?;
+        asked.push(waiting)?;
+    }
+    let (_, squares) = join(
+        rt,
+        move || serve_all(requests),
+        move || wait_all(alloc, asked),
+    );
+    squares
+}

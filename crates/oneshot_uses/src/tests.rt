@@ -1,0 +1,5 @@
+//! What no clause says: that each use comes to its answer.
+
+mod request;
+mod shutdown;
+mod task;
