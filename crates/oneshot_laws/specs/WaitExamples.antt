@@ -96,6 +96,9 @@ MisfreedWaits =
     -- the receiver frees before it takes, or before its drop
     (exchanged 12 waited_for_message
     ∷ exchanged 10 woken_by_drop
+    -- a waker is written, or withdrawn, after the free
+    ∷ put_behind 6 2 dropped_before_waiting
+    ∷ put_behind 6 5 dropped_before_waiting
     -- the sender uses the block after the receiver's free
     ∷ put_behind 13 4 waited_for_message
     ∷ put_behind 13 6 waited_for_message

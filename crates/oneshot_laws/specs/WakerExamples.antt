@@ -11,6 +11,17 @@ use Rattle.oneshot_laws.specs.Traces.{waited_for_message, sent_before_waiting, d
 use Rattle.oneshot_laws.specs.LawExamples.{marks_in, are_wakers_kept}
 
 -- THE PLACES
+-- a task's waker comes into the receiver's hand and from there into the cell
+abbrev pub with_a_copy : Example → Example
+with_a_copy x =
+    record x {
+      entries =
+          x.entries
+          ++ E.Made (carrying (Copy 1 1) W.New W.Hand (receiver T.Plain 0 0))
+          ∷ E.Made (carrying (Copy 1 1) W.Hand W.Cell (receiver T.WriteWaker 0 0))
+          ∷ [];
+    }
+
 abbrev pub MisplacedWakers : Type 0
 MisplacedWakers =
     IsTrue (list_all (λ x. not (are_wakers_right x.entries (marks_in x)))
@@ -39,21 +50,12 @@ MisplacedWakers =
     ∷ carried_by 6 Parker W.Cell W.Dropped sent_before_waiting
     -- another waker than the one that lies there
     ∷ carried_by 6 (Copy 1 2) W.Cell W.SenderHand waited_for_message
+    ∷ carried_by 5 (Copy 1 2) W.Hand W.Cell (with_a_copy still_waiting)
+    ∷ uncarried_by 4 (with_a_copy still_waiting)
     -- the wake comes before the sender has the waker
     ∷ put_behind 14 6 waited_for_message
     ∷ []
     ))
-
--- a task's waker comes into the receiver's hand and from there into the cell
-abbrev pub with_a_copy : Example → Example
-with_a_copy x =
-    record x {
-      entries =
-          x.entries
-          ++ E.Made (carrying (Copy 1 1) W.New W.Hand (receiver T.Plain 0 0))
-          ∷ E.Made (carrying (Copy 1 1) W.Hand W.Cell (receiver T.WriteWaker 0 0))
-          ∷ [];
-    }
 
 -- a waker is written over another: each of them follows its path, and only the cell tells
 abbrev pub FullCells : Type 0
