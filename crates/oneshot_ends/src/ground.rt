@@ -68,7 +68,7 @@ impl<T: Drop> SenderGround<T, Unparker> for SenderSeat<T, Unparker> {
         match op {
             Op::Add => self.side.add(),
             Op::Xor => self.side.flip(),
-            Op::Swap(new) => self.side.swap(new),
+            Op::Swap(last) => self.side.swap(last),
             _ => unreachable!(),
         }
     }
