@@ -14,17 +14,17 @@ use Rattle.oneshot_machine.specs.declared.machine.receiver.ReceiverPos.TheVarian
 use Rattle.oneshot_machine.specs.declared.machine.receiver.ReceiverStart.TheVariants.{Recv, RecvRef}
 use Rattle.oneshot_machine.specs.declared.states.Op.{Op}
 use Rattle.oneshot_machine.specs.declared.states.Op.TheVariants.{Load, Store, Swap}
-use Rattle.oneshot_machine.specs.Logs.{Event, Log, Grows, kept, receiver_of, did, took, handed, parked, worded, noted, words, when_written, when_taken, messages_given, messages_got}
+use Rattle.oneshot_machine.specs.Logs.{Event, Log, Grows, kept, receiver_of, did, took, handed, parked, worded, when_written, when_taken, messages_given, messages_got}
 use Rattle.oneshot_machine.specs.Phases.{ReceiverAt, here, looked, waits, blocked, full, at_once, waited, unclosed, Closing, found_closed, closed_itself, over, receiver_next, receiver_at}
 use Rattle.oneshot_machine.specs.Receiver.{receiver_step, receiver_row}
 use Rattle.oneshot_machine.specs.Rows.{Outcome, Goes, Answers}
 use Rattle.oneshot_machine.specs.Runs.{Run, last, more, Ran, ReceiverRan}
-use Rattle.oneshot_machine.specs.Slots.{Held, away, vacant, held, ReceiverMay, may_store, may_wait, may_close, may_close_only, ReceiverFinds, store_empty, store_message, store_closed, load_over, wait_longer, wait_claimed, wait_message, wait_closed, close, close_only}
+use Rattle.oneshot_machine.specs.Slots.{Held, away, vacant, held, ReceiverMay, may_store, may_wait, may_close, may_close_only, ReceiverFinds, store_empty, store_message, store_closed, wait_longer, wait_claimed, wait_message, wait_closed, close, close_only}
 use Rattle.oneshot_machine.specs.Words.{saw}
 use Rattle.oneshot_machine.proofs.GrownLists.{words_stay, receiver_moved, and_then}
 use Rattle.oneshot_drive.specs.Blocking.{Stretch, nothing, answers, onward, Went, ref_end, value_end, EndsAt, ends_message, ends_closed, ends_unclosed, IsOpen, is_open, IsWaiting, is_waiting, Returns, returned, taken}
-use Rattle.oneshot_drive.specs.Calls.{AtRest, rests_closed, IsClosed, is_over, LeavesClosed, left_received, left_closed, IsReady, has_waker, needs_none, Hands, as_it_was, sender_took}
-use Rattle.oneshot_drive.proofs.ReceiverRuns.{Loaded, loaded_message, loaded_empty, loaded_closed, HasClosed}
+use Rattle.oneshot_drive.specs.Calls.{AtRest, rests_closed, IsClosed, is_over, LeavesClosed, left_received, left_closed, IsReady, Hands, as_it_was, sender_took}
+use Rattle.oneshot_drive.proofs.ReceiverRuns.{Loaded, loaded_message, loaded_empty, loaded_closed, HasClosed, closed_finds}
 
 module _ {T W : Type 0} where
   -- stretches, one after the other, and before a run
@@ -251,9 +251,9 @@ module _ {T W : Type 0} where
   pub over_at_once : {l k : Log T W} (n : ℕ) → n ≡ 2 → Grows l k (worded Load n ∷ []) → Went StartLoad RecvLoad (ref_end F.Closed) (value_end F.Closed) l k
   over_at_once n e s = by_word _ _ Load n s refl refl (rw e) (rw e)
 
-  pub ready_waker : {hand : Option W} {q : ReceiverAt} {m m' : Held T} {w w' : Held W} (n : ℕ) → IsReady hand q → ReceiverFinds q Load n m w m' w' → n ≡ 3 → (k : W) × (hand ≡ Some k)
-  ready_waker n (has_waker k q) finds e = (k, refl)
-  ready_waker _ (needs_none c) (load_over _) e = absurd (cc)
+  pub ready_waker : (hand : Option W) {q : ReceiverAt} {m m' : Held T} {w w' : Held W} (n : ℕ) → IsReady hand q → ReceiverFinds q Load n m w m' w' → n ≡ 3 → (k : W) × (hand ≡ Some k)
+  ready_waker (Some k) n ready finds e = (k, refl)
+  ready_waker None n ready finds e = let bad = sym e ∙ closed_finds n (ready refl) finds in absurd (cc)
 
   -- what a call makes of the word that decides it
   ran : {p q r : ReceiverPos} {o' : Outcome ReceiverPos} {reply : Reply} {got : List T} {a b c : Log T W} → Went p q (Goes r) o' a b → (ys : List (Event T W)) → Run receiver_step receiver_row r ys reply → Grows b c ys → messages_given ys ≡ [] → messages_got ys ≡ got → Ran receiver_step receiver_row p a c reply [] got
@@ -357,3 +357,7 @@ gone y is none = rw (is, none) (taken y)
 
 pub full_leaves : {T : Type 0} {q : ReceiverAt} (x : T) → q ≡ over closed_itself → LeavesClosed (Ok x) q
 full_leaves x at = subst (λ q. LeavesClosed (Ok x) q) (sym at) (left_received x)
+
+pub left_is_closed : {T : Type 0} {r : Result T RecvError} {q : ReceiverAt} → LeavesClosed r q → IsClosed q
+left_is_closed (left_received x) = is_over closed_itself
+left_is_closed (left_closed e c) = is_over c

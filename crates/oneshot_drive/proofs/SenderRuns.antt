@@ -8,11 +8,11 @@ use Rattle.oneshot_machine.specs.declared.machine.sender.SenderPos.TheVariants.{
 use Rattle.oneshot_machine.specs.declared.states.Op.{Op}
 use Rattle.oneshot_machine.specs.declared.states.Op.TheVariants.{Swap, Add, Xor}
 use Rattle.oneshot_machine.specs.Logs.{Log, Grows, sender_of, did, wrote, took, handed, worded}
-use Rattle.oneshot_machine.specs.Phases.{SenderAt, fresh, sender_next, sender_at}
+use Rattle.oneshot_machine.specs.Phases.{sending, SenderAt, fresh, sender_next, sender_at}
 use Rattle.oneshot_machine.specs.Runs.{last, more, SenderRan}
 use Rattle.oneshot_machine.specs.Slots.{Held, away, vacant, held, SenderMay, may_add, may_flip, may_finish_send, may_finish_drop, SenderFinds, add_empty, add_waker, add_gone, flip_empty, flip_waker, flip_gone, finish_send, finish_drop}
 use Rattle.oneshot_machine.proofs.GrownLists.{words_stay, sender_moved, and_then}
-use Rattle.oneshot_drive.specs.Calls.{IsFresh, IsError, Owes, owes_message, owes_end, finishing}
+use Rattle.oneshot_drive.specs.Calls.{IsFresh, IsError, IsLate, is_late, Owes, owes_message, owes_end, finishing}
 
 module _ {T W : Type 0} where
   -- a sender that has made no operation, with its slots so
@@ -79,6 +79,9 @@ module _ {T W : Type 0} where
 
   pub send_refuses : {k : Log T W} {x : T} {m m' : Held T} {w w' : Held W} (n : ℕ) → Stands k (held x) m w → SenderFinds (sender_of k) Add n m w m' w' → n ≡ 2 → IsError (held x) m' w'
   send_refuses n is finds e = adds_refuses n (found Add is finds) e
+
+  pub send_late : {k j : Log T W} {s m : Held T} {w : Held W} (n : ℕ) → Stands k s m w → n ≡ 2 → Grows k j (worded Add n ∷ []) → IsLate (sender_of j)
+  send_late n is e s = rw (sender_moved Add n s, is.at, e) (is_late sending 3)
 
   -- the drop
   pub drop_asks : {k : Log T W} {m : Held T} {w : Held W} → IsFresh k m w → SenderMay (sender_of k) Xor m w

@@ -4,8 +4,6 @@ use Rattle.oneshot_drive.specs.declared.blocking.Found.{Found}
 use Rattle.oneshot_drive.specs.declared.blocking.Found.TheVariants as F
 use Rattle.oneshot_machine.specs.declared.machine.Reply.{Reply}
 use Rattle.oneshot_machine.specs.declared.machine.Reply.TheVariants as R
-use Rattle.oneshot_machine.specs.declared.machine.Seen.{Seen}
-use Rattle.oneshot_machine.specs.declared.machine.Step.{Step}
 use Rattle.oneshot_machine.specs.declared.machine.receiver.ReceiverPos.{ReceiverPos}
 use Rattle.oneshot_machine.specs.declared.machine.receiver.ReceiverPos.TheVariants.{Close, CloseOnly, RecvTake, RecvFreeGone}
 use Rattle.oneshot_machine.specs.Logs.{Event, Log, Grows, messages_given, messages_got}

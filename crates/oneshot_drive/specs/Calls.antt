@@ -8,7 +8,7 @@ use Rattle.oneshot_machine.specs.declared.machine.Reply.TheVariants.{Sent, Refus
 use Rattle.oneshot_machine.specs.declared.machine.Step.TheVariants.{TakeWaker, Wake}
 use Rattle.oneshot_machine.specs.declared.states.Op.TheVariants.{Swap}
 use Rattle.oneshot_machine.specs.Logs.{Event, Log, sender_of, handed, worded}
-use Rattle.oneshot_machine.specs.Phases.{sending, dropping, SenderAt, fresh, owes, Closing, closed_itself, ReceiverAt, first, here, looked, over}
+use Rattle.oneshot_machine.specs.Phases.{By, sending, dropping, SenderAt, fresh, owes, late, Closing, closed_itself, ReceiverAt, first, here, looked, over}
 use Rattle.oneshot_machine.specs.Slots.{Held, away, vacant, held}
 
 -- a sender that has made no call: the message's slot is its own and empty
@@ -21,6 +21,10 @@ pub record IsFresh {T W : Type 0} (log : Log T W) (message : Held T) (waker : He
 pub record IsError {T W : Type 0} (refused message : Held T) (waker : Held W) : Type 0 where
   pub keeps : message ≡ refused
   pub no_waker : waker ≡ vacant
+
+-- a sender whose last operation found the receiver gone
+pub data IsLate : SenderAt → Type 0 where
+  is_late : (by : By) (word : ℕ) → IsLate (late by word)
 
 -- A sender that found a receiver that waits: it owes it this last word, and has its waker.
 pub data Owes {T W : Type 0} : SenderAt → ℕ → Held T → Held W → Type 0 where
@@ -52,9 +56,8 @@ pub data LeavesClosed {T : Type 0} : Result T RecvError → ReceiverAt → Type 
   left_closed : (e : RecvError) (c : Closing) → LeavesClosed (Err e) (over c)
 
 -- The hand of a receiver that may block: its waker is in it, unless the receiver is closed.
-pub data IsReady {W : Type 0} : Option W → ReceiverAt → Type 0 where
-  has_waker : (k : W) (q : ReceiverAt) → IsReady (Some k) q
-  needs_none : (c : Closing) → IsReady None (over c)
+abbrev pub IsReady : {W : Type 0} → Option W → ReceiverAt → Type 0
+IsReady hand q = hand ≡ None → IsClosed q
 
 -- The hand before and after a call that blocks: as it was, or the sender took the waker out of its
 -- cell, and then the receiver is closed.

@@ -65,6 +65,7 @@ pub fn recv<T, W: Drop, G: BlockGround<T, W>>(
     ensures run { ReceiverRan Recv (G.log g.old) (G.log g.new)
         (recv_reply result) [] (received result) }
     ensures stays { IsClosed (receiver_of (G.log g.old)) → IsErr result }
+    ensures hand { Returns hand.old hand.new }
 {
     let Found::Message = find(g, rt, hand) else {
         g.free();

@@ -6,7 +6,7 @@ ghost use Rattle.oneshot_machine.specs.declared.machine.sender.SenderCall.TheVar
 ghost use Rattle.oneshot_machine.specs.Logs.{sender_of, Grows};
 ghost use Rattle.oneshot_machine.specs.Runs.{SenderRan};
 ghost use Rattle.oneshot_machine.specs.Slots.{held};
-ghost use Rattle.oneshot_drive.specs.Calls.{IsFresh, IsError, Owes, finishing, send_reply};
+ghost use Rattle.oneshot_drive.specs.Calls.{IsFresh, IsError, IsLate, Owes, finishing, send_reply};
 
 use crate::ground::SenderGround;
 use oneshot_machine::states::{DISCONNECTED, EMPTY, MESSAGE, Op, RECEIVING};
@@ -18,6 +18,7 @@ pub fn send<T, W, G: SenderGround<T, W>>(g: &mut G, message: T) -> bool
     ensures run { SenderRan Send (G.log g.old) (G.log g.new) (send_reply result) (message ∷ []) [] }
     ensures refused { result ≡ false →
         IsError (held message) (G.message_slot g.new) (G.waker_slot g.new) }
+    ensures late { result ≡ false → IsLate (sender_of (G.log g.new)) }
 {
     g.write_message(message);
     match g.word(Op::Add) {

@@ -156,8 +156,11 @@ fn the_receivers_drop_leaves_the_block_to_the_sender(rt: HostRuntime) {
 #[test]
 fn send_wakes_a_receiver_that_waits(rt: HostRuntime) {
     let drops = Cell::new(0);
-    let mut g =
-        MemorySender::<u64, Counted, _>::with_waiting_receiver(&rt, rt.alloc(), Counted(&drops));
+    let mut g = MemorySender::<u64, Counted, _>::with_waiting_receiver(
+        &rt,
+        rt.alloc(),
+        Counted(&drops),
+    );
     assert!(rt; send(&mut g, 7));
     assert_eq!(rt; drops.get(), 1);
     assert_made(
@@ -217,11 +220,7 @@ fn recv_ref_finds_that_the_sender_is_gone(rt: HostRuntime) {
     g.sender_drops();
     assert_eq!(rt; recv_ref(&mut g, &rt, &mut hand), Err(RecvError));
     assert_eq!(rt; hand, Some(9));
-    assert_made(
-        &rt,
-        g.events(),
-        &[(Step::Word(Op::Load), Seen::Word(2))],
-    );
+    assert_made(&rt, g.events(), &[(Step::Word(Op::Load), Seen::Word(2))]);
 }
 
 #[test]

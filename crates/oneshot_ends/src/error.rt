@@ -1,6 +1,8 @@
 //! The error of a refused message, which owns the block in the sender's place.
 
 ghost use Rattle.std.specs.Prelude.{◌≡◌};
+ghost use Rattle.oneshot_machine.specs.Phases.{sender_at};
+ghost use Rattle.oneshot_drive.specs.Calls.{IsLate};
 
 use crate::ground::ErrorSeat;
 use crossbeam_utils::sync::Unparker;
@@ -20,15 +22,20 @@ pub struct SendError<T> {
 }
 
 impl<T> Model for SendError<T> {
+    ghost use Rattle.oneshot_machine.specs.Phases.{sender_at};
+    ghost use Rattle.oneshot_drive.specs.Calls.{IsLate};
     ghost use Rattle.oneshot_ends.specs.Ends.{Failed};
 
     ghost Value = { Failed T };
 
     ghost view = { λ e. record { message = e.message; table = e.side.table; steps = e.side.steps } };
+
+    ghost invariant = { λ e. IsLate (sender_at e.side.steps) };
 }
 
 impl<T> SendError<T> {
     pub(crate) fn new(message: T, side: SenderSide<T, Unparker>) -> SendError<T>
+        requires { IsLate (sender_at side.steps) }
         ensures { result ≡ record { message = message; table = side.table; steps = side.steps } }
     {
         SendError { message, side }

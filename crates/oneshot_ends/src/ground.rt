@@ -2,7 +2,8 @@
 
 ghost use Rattle.std.specs.Prelude.{◌≡◌, false, true};
 ghost use Rattle.oneshot_machine.specs.Slots.{held};
-ghost use Rattle.oneshot_drive.specs.Calls.{IsError};
+ghost use Rattle.oneshot_machine.specs.Phases.{sender_at};
+ghost use Rattle.oneshot_drive.specs.Calls.{IsError, IsLate};
 ghost use Rattle.oneshot_word.specs.Sides.{Side};
 ghost use Rattle.oneshot_ends.specs.Sides.{left_of};
 
@@ -67,7 +68,7 @@ impl<T: Drop> SenderGround<T, Unparker> for SenderSeat<T, Unparker> {
         match op {
             Op::Add => self.side.add(),
             Op::Xor => self.side.flip(),
-            Op::Swap(new) => self.side.swap(new),
+            Op::Swap(last) => self.side.swap(last),
             _ => unreachable!(),
         }
     }
@@ -107,18 +108,23 @@ pub(crate) struct ErrorSeat<T, W> {
 }
 
 impl<T, W> Model for ErrorSeat<T, W> {
+    ghost use Rattle.oneshot_machine.specs.Phases.{sender_at};
     ghost use Rattle.oneshot_machine.specs.Slots.{vacant};
+    ghost use Rattle.oneshot_drive.specs.Calls.{IsLate};
     ghost use Rattle.oneshot_word.specs.Sides.{Side};
     ghost use Rattle.oneshot_ends.specs.Sides.{unless_freed, slot_of};
 
     ghost Value = { Side T W };
 
     ghost view = { λ e. record e.side { message = unless_freed e.freed.value (slot_of e.message); waker = unless_freed e.freed.value vacant } };
+
+    ghost invariant = { λ e. IsLate (sender_at e.side.steps) };
 }
 
 impl<T, W> ErrorSeat<T, W> {
     /// The ground of an error that has freed nothing.
     pub(crate) fn new(message: T, side: SenderSide<T, W>) -> ErrorSeat<T, W>
+        requires { IsLate (sender_at side.steps) }
         ensures { IsError (held message) result.message result.waker }
     {
         let freed = Snapshot::of(&false);

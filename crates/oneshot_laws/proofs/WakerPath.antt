@@ -1,5 +1,5 @@
 -- Each waker is always in one place: the parker's half follows its path, no other waker moves, and the cell holds one at a time.
-use Rattle.std.proofs.Common.{◌≡◌, ℕ, ◌+◌, ◌*◌, Bool, true, false, not, ◌&&◌, ◌||◌, ◌==◌, List, [], ◌∷◌, Option, Some, None, map, get_or, refl, sym, ◌∙◌, ap, subst, if◌then◌else◌}
+use Rattle.std.proofs.Common.{◌≡◌, ℕ, ◌+◌, Bool, true, false, not, ◌&&◌, List, [], ◌∷◌, Option, Some, None, map, get_or, refl, sym, ◌∙◌, ap, subst}
 use Rattle.std.specs.List.{filter_map, cons_option}
 use Rattle.oneshot_world.specs.Calls.{calls_of}
 use Rattle.oneshot_world.specs.Control.{bool_code}
@@ -11,18 +11,17 @@ use Rattle.oneshot_world.specs.declared.script.ReceiverScript.{ReceiverScript}
 use Rattle.oneshot_world.specs.declared.script.SenderScript.{SenderScript}
 use Rattle.oneshot_world.specs.declared.trace.Entry.{Entry}
 use Rattle.oneshot_world.specs.declared.trace.Entry.TheVariants.{Idle, Made as Made_entry}
-use Rattle.oneshot_world.specs.declared.trace.WakerName.{WakerName}
 use Rattle.oneshot_world.specs.declared.trace.WakerName.TheVariants.{Parker, Copy}
 use Rattle.oneshot_world.specs.declared.trace.WakerPlace.{WakerPlace}
 use Rattle.oneshot_world.specs.declared.trace.WakerPlace.TheVariants.{New, Hand, Cell, SenderHand, Used, Dropped}
-use Rattle.oneshot_world.proofs.Bools.{and_left, and_right, both}
+use Rattle.oneshot_world.proofs.Bools.{both}
 use Rattle.oneshot_world.proofs.Coded.{bool_is, same_by}
 use Rattle.oneshot_laws.specs.Words.{only_if}
 use Rattle.oneshot_laws.specs.Object.{Object}
 use Rattle.oneshot_laws.specs.Marks.{Reading, Mark, marks, marks_from}
 use Rattle.oneshot_laws.specs.Ended.{all_ended}
 use Rattle.oneshot_laws.specs.Places.{is_path, last_place}
-use Rattle.oneshot_laws.specs.Wakers.{waker_place_code, is_same_waker_place, is_waker_move, first_waker_place, waker_moves, move_of, moves_of, is_waker_followed, is_waker_end, is_waker_ended, AreWakersRight, is_cell, cell_then, is_cell_right, is_cell_kept}
+use Rattle.oneshot_laws.specs.Wakers.{waker_place_code, is_same_waker_place, is_waker_move, waker_moves, moves_of, is_waker_followed, is_waker_end, is_waker_ended, AreWakersRight, is_cell, cell_then, is_cell_right, is_cell_kept}
 use Rattle.oneshot_laws.proofs.Afterwards.{is_same_flag}
 use Rattle.oneshot_laws.proofs.AtTheEnd.{Kept, own_after, kept_from, all_kept, at_the_end}
 use Rattle.oneshot_laws.proofs.Glanced.{Pair, Passes, glanced_from, all_glanced, passes_run}

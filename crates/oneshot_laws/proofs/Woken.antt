@@ -1,18 +1,17 @@
 -- No receiver waits unwoken: in each run, once the sender's send or drop has answered, a receiver about to park has its token.
 use Rattle.std.proofs.Common.{◌≡◌, ℕ, ◌+◌, Bool, true, false, not, ◌&&◌, ◌||◌, List, [], ◌∷◌, map, Option, Some, None, is_some, refl, sym, ◌∙◌, ap, subst}
-use Rattle.std.specs.List.{list_any}
 use Rattle.std.specs.Option.{option_map, option_and_then}
 use Rattle.oneshot_machine.specs.Receiver.{receiver_step}
 use Rattle.oneshot_machine.specs.declared.machine.End.{End}
 use Rattle.oneshot_machine.specs.declared.machine.End.TheVariants.{Sender, Receiver}
 use Rattle.oneshot_machine.specs.declared.machine.receiver.ReceiverStart.{ReceiverStart}
 use Rattle.oneshot_machine.specs.declared.machine.receiver.ReceiverStart.TheVariants as RC
-use Rattle.oneshot_world.specs.Calls.{Call, Unanswered, calls_of, first, as_receiver_call, left_by}
+use Rattle.oneshot_world.specs.Calls.{Call, calls_of, first, as_receiver_call, left_by}
 use Rattle.oneshot_world.specs.Control.{Control, control_of, bool_code, IsReached}
 use Rattle.oneshot_world.specs.Explore.{Tree, all_in}
 use Rattle.oneshot_machine.specs.Sender.{sender_step}
 use Rattle.oneshot_world.specs.State.{receiver_position, reply_of, sender_stepped, receiver_stepped}
-use Rattle.oneshot_world.specs.World.{World, Tells, opening, opening_place, side_of, by_end}
+use Rattle.oneshot_world.specs.World.{World, Tells, opening, side_of, by_end}
 use Rattle.oneshot_world.specs.declared.script.Move.{Move}
 use Rattle.oneshot_world.specs.declared.script.ReceiverScript.{ReceiverScript}
 use Rattle.oneshot_world.specs.declared.script.SenderScript.{SenderScript}
@@ -21,7 +20,7 @@ use Rattle.oneshot_world.specs.declared.state.ReceiverState.TheVariants as RS
 use Rattle.oneshot_world.specs.declared.trace.Entry.{Entry}
 use Rattle.oneshot_world.specs.declared.trace.Entry.TheVariants.{Idle, Made as Made_entry}
 use Rattle.oneshot_world.specs.declared.trace.Made.{Made}
-use Rattle.oneshot_world.proofs.Bools.{and_left, and_right, both}
+use Rattle.oneshot_world.proofs.Bools.{and_right, both}
 use Rattle.oneshot_world.proofs.Coded.{bool_is}
 use Rattle.oneshot_world.proofs.Explored.{passes_where_found}
 use Rattle.oneshot_world.proofs.Reached.{sender_world, receiver_world, opening_reached}

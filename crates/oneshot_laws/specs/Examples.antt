@@ -5,7 +5,7 @@ use Rattle.oneshot_machine.specs.declared.machine.End.TheVariants.{Sender, Recei
 use Rattle.oneshot_machine.specs.declared.machine.Reply.TheVariants as R
 use Rattle.oneshot_machine.specs.declared.machine.Step.TheVariants as T
 use Rattle.oneshot_world.specs.declared.trace.Entry.TheVariants as E
-use Rattle.oneshot_laws.specs.Object.{Action, Send, Sender_gone, Take, Receiver_gone, Answer, Accepted, Returned, Message, Gone, Nothing_yet, Finished, Object, new_object, object_after, answer_of}
+use Rattle.oneshot_laws.specs.Object.{Action, Send, Sender_gone, Take, Take_and_go, Look_receiver_gone, Receiver_gone, Answer, Accepted, Returned, Message, Gone, Nothing_yet, Yes, Finished, Object, new_object, object_after, answer_of}
 use Rattle.oneshot_laws.specs.Marks.{marks}
 use Rattle.oneshot_laws.specs.History.{history, has_legal_history}
 use Rattle.oneshot_laws.specs.Idle.{is_idle_right}
@@ -23,6 +23,8 @@ ObjectAnswers =
     × (answers_from new_object (Receiver_gone ∷ Send ∷ []) ≡ Finished ∷ Returned ∷ [])
     × (answers_from new_object (Sender_gone ∷ Take ∷ Receiver_gone ∷ []) ≡ Finished ∷ Gone ∷ Finished ∷ [])
     × (answers_from new_object (Send ∷ Receiver_gone ∷ Take ∷ []) ≡ Accepted ∷ Finished ∷ Gone ∷ [])
+    × (answers_from new_object (Send ∷ Take_and_go ∷ Look_receiver_gone ∷ []) ≡ Accepted ∷ Message ∷ Yes ∷ [])
+    × (answers_from new_object (Sender_gone ∷ Take_and_go ∷ []) ≡ Finished ∷ Gone ∷ [])
 
 -- THE HISTORY: the numbers of the acting entries, in their order
 abbrev pub acting_in : Example → List ℕ

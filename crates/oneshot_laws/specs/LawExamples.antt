@@ -8,11 +8,12 @@ use Rattle.oneshot_world.specs.declared.trace.Place.TheVariants as P
 use Rattle.oneshot_laws.specs.Marks.{Mark, marks}
 use Rattle.oneshot_laws.specs.History.{has_legal_history}
 use Rattle.oneshot_laws.specs.Places.{is_message_followed, is_message_ended}
+use Rattle.oneshot_laws.specs.Wakers.{are_wakers_right, is_cell_kept}
 use Rattle.oneshot_laws.specs.Holders.{is_freed_right}
 use Rattle.oneshot_laws.specs.Laws.{is_gone_after_got, is_got_after_full, is_gone_after_closed, is_refused_after_closed, is_nothing_only_if_open, is_dropped_once}
 use Rattle.oneshot_laws.specs.Alone.{are_lone_calls_right}
 use Rattle.oneshot_laws.specs.Notation.{Example, without, exchanged, twice, answered_by, unmoved_by, moved_by, frees}
-use Rattle.oneshot_laws.specs.Traces.{sent_then_taken, nothing_moved, nothing_to_do, sent_to_nobody, both_dropped, dropped_then_tried, looked_at_both_ends, taken_from_the_error, dropped_with_the_error, dropped_unread, tried_again, closed_then_tried, sent_though_closed}
+use Rattle.oneshot_laws.specs.Traces.{sent_then_taken, nothing_moved, nothing_to_do, sent_to_nobody, both_dropped, dropped_then_tried, looked_at_both_ends, taken_from_the_error, dropped_with_the_error, dropped_unread, tried_again, closed_then_tried, sent_though_closed, received_at_once, waited_for_message, sent_before_waiting, dropped_before_waiting, woken_by_drop, still_waiting}
 
 abbrev pub marks_in : Example → List Mark
 marks_in x = marks x.calls x.entries
@@ -108,10 +109,14 @@ WrongAlone =
     ))
 
 -- WORKED TRACES
+abbrev pub are_wakers_kept : Example → Bool
+are_wakers_kept x = are_wakers_right x.entries (marks_in x) && is_cell_kept x.entries
+
 abbrev pub is_right : Example → Bool
 is_right x =
     has_legal_history (marks_in x)
     && is_message_right x
+    && are_wakers_kept x
     && is_block_right x
     && are_replies_right x
     && are_lone_replies_right x
@@ -132,5 +137,11 @@ RightTraces =
     ∷ tried_again
     ∷ closed_then_tried
     ∷ sent_though_closed
+    ∷ received_at_once
+    ∷ waited_for_message
+    ∷ sent_before_waiting
+    ∷ dropped_before_waiting
+    ∷ woken_by_drop
+    ∷ still_waiting
     ∷ []
     ))

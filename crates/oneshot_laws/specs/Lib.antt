@@ -15,3 +15,6 @@ pub mod Notation
 pub mod Traces
 pub mod Examples
 pub mod LawExamples
+pub mod WaitExamples
+pub mod WakerExamples
+pub mod UnwokenExamples

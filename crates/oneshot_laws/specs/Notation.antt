@@ -1,5 +1,5 @@
 -- How a trace is written down in the examples, and how it is damaged there.
-use Rattle.std.specs.Prelude.{ℕ, ◌+◌, ◌-◌, take, drop, map, false, List, ◌++◌, Option, Some, None}
+use Rattle.std.specs.Prelude.{ℕ, ◌+◌, ◌-◌, Bool, true, false, take, drop, map, List, ◌++◌, Option, Some, None}
 use Rattle.oneshot_machine.specs.declared.machine.End.{End}
 use Rattle.oneshot_machine.specs.declared.machine.End.TheVariants.{Sender, Receiver}
 use Rattle.oneshot_machine.specs.declared.machine.Reply.{Reply}
@@ -13,6 +13,8 @@ use Rattle.oneshot_world.specs.declared.trace.Entry.{Entry}
 use Rattle.oneshot_world.specs.declared.trace.Entry.TheVariants as E
 use Rattle.oneshot_world.specs.declared.trace.Made.{Made}
 use Rattle.oneshot_world.specs.declared.trace.Place.{Place}
+use Rattle.oneshot_world.specs.declared.trace.WakerName.{WakerName}
+use Rattle.oneshot_world.specs.declared.trace.WakerPlace.{WakerPlace}
 
 -- a trace with its scripts
 pub record Example : Type 0 where
@@ -49,14 +51,33 @@ receiver step before after = step_of Receiver step (Some before) (Some after)
 abbrev pub frees : End → ℕ → Made
 frees end before = step_of end T.Free (Some before) None
 
--- the message's move, and the reply
+-- a step that needs no block, once the block is freed
+abbrev pub without_block : End → Step → Made
+without_block end step = step_of end step None None
+
+-- a park, which its token ended or which ended without one
+abbrev pub parked : Bool → ℕ → Made
+parked by_token before = record (receiver T.Park before before) { seen = S.Token by_token }
+
+-- the message's move, a waker's move, a token that is set, and the reply
 abbrev pub moving : Place → Place → Made → Made
 moving from to e = record e { message = Some (from, to) }
+
+abbrev pub carrying : WakerName → WakerPlace → WakerPlace → Made → Made
+carrying name from to e = record e { waker = Some (name, from, to) }
+
+abbrev pub setting_token : Made → Made
+setting_token e = record e { token_set = true }
 
 abbrev pub replying : Reply → Made → Made
 replying reply e = record e { reply = Some reply }
 
--- entry k, counted from 1, is taken out, exchanged with the next one, changed in its reply or in the message's move, or put in once more
+-- the first k entries alone
+abbrev pub up_to : ℕ → Example → Example
+up_to k x = record x { entries = take k x.entries }
+
+-- entry k, counted from 1, is taken out, exchanged with the next one, put behind a later one,
+-- changed in its reply, in the message's move or in a waker's, or put in once more
 abbrev pub without : ℕ → Example → Example
 without k x = record x { entries = take (k - 1) x.entries ++ drop k x.entries }
 
@@ -68,6 +89,16 @@ exchanged k x =
           ++ take 1 (drop k x.entries)
           ++ take 1 (drop (k - 1) x.entries)
           ++ drop (k + 1) x.entries;
+    }
+
+abbrev pub put_behind : ℕ → ℕ → Example → Example
+put_behind later k x =
+    record x {
+      entries =
+          take (k - 1) x.entries
+          ++ take (later - k) (drop k x.entries)
+          ++ take 1 (drop (k - 1) x.entries)
+          ++ drop later x.entries;
     }
 
 abbrev pub twice : ℕ → Example → Example
@@ -97,3 +128,12 @@ unmoved_by k x = changed_at k unmoving x
 
 abbrev pub moved_by : ℕ → Place → Place → Example → Example
 moved_by k from to x = changed_at k (moving from to) x
+
+abbrev pub uncarrying : Made → Made
+uncarrying e = record e { waker = None }
+
+abbrev pub uncarried_by : ℕ → Example → Example
+uncarried_by k x = changed_at k uncarrying x
+
+abbrev pub carried_by : ℕ → WakerName → WakerPlace → WakerPlace → Example → Example
+carried_by k name from to x = changed_at k (carrying name from to) x

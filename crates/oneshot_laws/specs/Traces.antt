@@ -1,5 +1,5 @@
 -- Worked traces, each with its two scripts and its schedule.
-use Rattle.std.specs.Prelude.{[], ◌∷◌}
+use Rattle.std.specs.Prelude.{true, false, [], ◌∷◌}
 use Rattle.oneshot_machine.specs.declared.machine.End.TheVariants.{Sender, Receiver}
 use Rattle.oneshot_machine.specs.declared.machine.Reply.TheVariants as R
 use Rattle.oneshot_machine.specs.declared.machine.Step.TheVariants as T
@@ -7,7 +7,9 @@ use Rattle.oneshot_machine.specs.declared.states.Op.TheVariants as O
 use Rattle.oneshot_world.specs.Calls as C
 use Rattle.oneshot_world.specs.declared.trace.Entry.TheVariants as E
 use Rattle.oneshot_world.specs.declared.trace.Place.TheVariants as P
-use Rattle.oneshot_laws.specs.Notation.{Example, sender, receiver, frees, moving, replying}
+use Rattle.oneshot_world.specs.declared.trace.WakerName.TheVariants.{Parker}
+use Rattle.oneshot_world.specs.declared.trace.WakerPlace.TheVariants as W
+use Rattle.oneshot_laws.specs.Notation.{Example, sender, receiver, frees, without_block, parked, moving, carrying, setting_token, replying}
 
 -- S send 7
 -- R try drop
@@ -212,5 +214,119 @@ sent_though_closed =
           ∷ E.Made (replying R.Yes (sender (T.Word O.Load) 2 2))
           ∷ E.Made (moving P.NotSent P.InCell (sender T.WriteMessage 2 2))
           ∷ E.Made (replying R.Refused (moving P.InCell P.InError (sender (T.Word O.Add) 2 3)))
+          ∷ [];
+    }
+
+-- S send 7
+-- R recv
+-- X ssrrr
+abbrev pub received_at_once : Example
+received_at_once =
+    record {
+      calls = record { sender = C.Send ∷ []; error = []; receiver = C.Recv ∷ [] };
+      entries =
+          E.Made (moving P.NotSent P.InCell (sender T.WriteMessage 3 3))
+          ∷ E.Made (replying R.Sent (sender (T.Word O.Add) 3 4))
+          ∷ E.Made (receiver (T.Word O.Load) 4 4)
+          ∷ E.Made (moving P.InCell P.Delivered (receiver T.TakeMessage 4 4))
+          ∷ E.Made (replying R.Message (frees Receiver 4))
+          ∷ [];
+    }
+
+-- S send 7
+-- R recv
+-- X rrrsssrrsrrrrs
+-- the receiver is up twice without a wake, and frees the block before the sender wakes it
+abbrev pub waited_for_message : Example
+waited_for_message =
+    record {
+      calls = record { sender = C.Send ∷ []; error = []; receiver = C.Recv ∷ [] };
+      entries =
+          E.Made (receiver (T.Word O.Load) 3 3)
+          ∷ E.Made (carrying Parker W.Hand W.Cell (receiver T.WriteWaker 3 3))
+          ∷ E.Made (receiver (T.Word (O.Swap 0)) 3 0)
+          ∷ E.Made (moving P.NotSent P.InCell (sender T.WriteMessage 0 0))
+          ∷ E.Made (sender (T.Word O.Add) 0 1)
+          ∷ E.Made (carrying Parker W.Cell W.SenderHand (sender T.TakeWaker 1 1))
+          ∷ E.Made (parked false 1)
+          ∷ E.Made (receiver (T.Word O.Load) 1 1)
+          ∷ E.Made (sender (T.Word (O.Swap 4)) 1 4)
+          ∷ E.Made (parked false 4)
+          ∷ E.Made (receiver (T.Word O.Load) 4 4)
+          ∷ E.Made (moving P.InCell P.Delivered (receiver T.TakeMessage 4 4))
+          ∷ E.Made (replying R.Message (frees Receiver 4))
+          ∷ E.Made (replying R.Sent (setting_token (carrying Parker W.SenderHand W.Used (without_block Sender T.Wake))))
+          ∷ [];
+    }
+
+-- S send 7
+-- R ref
+-- X rrssrrrr
+abbrev pub sent_before_waiting : Example
+sent_before_waiting =
+    record {
+      calls = record { sender = C.Send ∷ []; error = []; receiver = C.Recv_ref ∷ [] };
+      entries =
+          E.Made (receiver (T.Word O.Load) 3 3)
+          ∷ E.Made (carrying Parker W.Hand W.Cell (receiver T.WriteWaker 3 3))
+          ∷ E.Made (moving P.NotSent P.InCell (sender T.WriteMessage 3 3))
+          ∷ E.Made (replying R.Sent (sender (T.Word O.Add) 3 4))
+          ∷ E.Made (receiver (T.Word (O.Swap 0)) 4 0)
+          ∷ E.Made (carrying Parker W.Cell W.Hand (receiver T.Withdraw 0 0))
+          ∷ E.Made (receiver (T.Word (O.Store 2)) 0 2)
+          ∷ E.Made (replying R.Message (moving P.InCell P.Delivered (receiver T.TakeMessage 2 2)))
+          ∷ [];
+    }
+
+-- S drop
+-- R recv
+-- X rrsrrr
+abbrev pub dropped_before_waiting : Example
+dropped_before_waiting =
+    record {
+      calls = record { sender = C.Drop_sender ∷ []; error = []; receiver = C.Recv ∷ [] };
+      entries =
+          E.Made (receiver (T.Word O.Load) 3 3)
+          ∷ E.Made (carrying Parker W.Hand W.Cell (receiver T.WriteWaker 3 3))
+          ∷ E.Made (replying R.Done (sender (T.Word O.Xor) 3 2))
+          ∷ E.Made (receiver (T.Word (O.Swap 0)) 2 0)
+          ∷ E.Made (carrying Parker W.Cell W.Hand (receiver T.Withdraw 0 0))
+          ∷ E.Made (replying R.Disconnected (frees Receiver 0))
+          ∷ [];
+    }
+
+-- S drop
+-- R ref drop
+-- X rrrssssrrrr
+abbrev pub woken_by_drop : Example
+woken_by_drop =
+    record {
+      calls = record { sender = C.Drop_sender ∷ []; error = []; receiver = C.Recv_ref ∷ C.Drop_receiver ∷ [] };
+      entries =
+          E.Made (receiver (T.Word O.Load) 3 3)
+          ∷ E.Made (carrying Parker W.Hand W.Cell (receiver T.WriteWaker 3 3))
+          ∷ E.Made (receiver (T.Word (O.Swap 0)) 3 0)
+          ∷ E.Made (sender (T.Word O.Xor) 0 1)
+          ∷ E.Made (carrying Parker W.Cell W.SenderHand (sender T.TakeWaker 1 1))
+          ∷ E.Made (sender (T.Word (O.Swap 2)) 1 2)
+          ∷ E.Made (replying R.Done (setting_token (carrying Parker W.SenderHand W.Used (sender T.Wake 2 2))))
+          ∷ E.Made (parked true 2)
+          ∷ E.Made (replying R.Disconnected (receiver (T.Word O.Load) 2 2))
+          ∷ E.Made (receiver (T.Word (O.Swap 2)) 2 2)
+          ∷ E.Made (replying R.Done (frees Receiver 2))
+          ∷ [];
+    }
+
+-- S send 7
+-- R ref
+-- X rrr
+abbrev pub still_waiting : Example
+still_waiting =
+    record {
+      calls = record { sender = C.Send ∷ []; error = []; receiver = C.Recv_ref ∷ [] };
+      entries =
+          E.Made (receiver (T.Word O.Load) 3 3)
+          ∷ E.Made (carrying Parker W.Hand W.Cell (receiver T.WriteWaker 3 3))
+          ∷ E.Made (receiver (T.Word (O.Swap 0)) 3 0)
           ∷ [];
     }

@@ -1,5 +1,5 @@
 -- A receiver that waits unwoken: what must never be, once the sender's send or drop has answered.
-use Rattle.std.specs.Prelude.{◌≡◌, Bool, true, false, not, ◌&&◌, List, [], ◌∷◌, map, Option, Some, None, IsTrue}
+use Rattle.std.specs.Prelude.{Bool, false, not, ◌&&◌, List, [], ◌∷◌, map, Option, Some, None, IsTrue}
 use Rattle.std.specs.Option.{option_map, option_and_then}
 use Rattle.oneshot_machine.specs.Receiver.{receiver_step}
 use Rattle.oneshot_machine.specs.declared.machine.Step.{Step}

@@ -3,6 +3,9 @@
 
 ghost use Rattle.oneshot_laws.specs.Examples.{ObjectAnswers, ActingEntries, LegalTraces, IllegalTraces, IdleTraces, NotIdleTraces};
 ghost use Rattle.oneshot_laws.specs.LawExamples.{RightTraces, MisplacedMessages, MisfreedBlocks, WrongReplies, WrongAlone};
+ghost use Rattle.oneshot_laws.specs.WaitExamples.{WaitsAreTold, WaitsAct, IllegalWaits, MisfreedWaits, WrongReceives};
+ghost use Rattle.oneshot_laws.specs.WakerExamples.{MisplacedWakers, FullCells};
+ghost use Rattle.oneshot_laws.specs.UnwokenExamples.{AheadsOfRuns, UnwokenWaits};
 
 /// Says nothing at run time. Its contract is what the definitions say of worked traces, and of the same
 /// traces damaged, so that a definition that is changed by mistake is refused here.
@@ -18,4 +21,13 @@ pub fn examples()
     ensures misfreed { MisfreedBlocks }
     ensures wrong_replies { WrongReplies }
     ensures wrong_alone { WrongAlone }
+    ensures waits_told { WaitsAreTold }
+    ensures waits_act { WaitsAct }
+    ensures illegal_waits { IllegalWaits }
+    ensures misfreed_waits { MisfreedWaits }
+    ensures wrong_receives { WrongReceives }
+    ensures misplaced_wakers { MisplacedWakers }
+    ensures full_cells { FullCells }
+    ensures aheads { AheadsOfRuns }
+    ensures unwoken { UnwokenWaits }
 {}

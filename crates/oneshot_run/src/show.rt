@@ -12,8 +12,8 @@ use std::{fmt, io};
 
 /// Writes a line for each entry, then where the message is left, and then whether the block is.
 ///
-/// `calls` are the receiver's but its last one, and `message` is the script's: an entry tells neither,
-/// and replies show them.
+/// `calls` are the receiver's but its last one, and `message` is the script's. An entry tells neither,
+/// and what a reply shows depends on both.
 pub(crate) fn write_trace<W: Write>(
     output: &mut W,
     trace: Trace<u64>,

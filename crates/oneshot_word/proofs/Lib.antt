@@ -6,3 +6,4 @@ pub mod Opens
 pub mod Trades
 pub mod RowReads
 mod Crosses
+pub mod Told

@@ -23,7 +23,7 @@ pub store_and_wait-requires-clause-open : goal.store_and_wait-requires-clause-op
 store_and_wait-requires-clause-open g c = found_open (loaded c.word.result c.requires.rests c.word.ensures.finds c.word.ensures.list) c.in-3.is
 
 pub store_and_wait-requires-clause-ready : goal.store_and_wait-requires-clause-ready
-store_and_wait-requires-clause-ready g c = ready_waker c.word.result c.requires.ready c.word.ensures.finds c.in-3.is
+store_and_wait-requires-clause-ready g c = ready_waker c.args.hand.now c.word.result c.requires.ready c.word.ensures.finds c.in-3.is
 
 pub returns-in-3-clause-went : goal.returns-in-3-clause-went
 returns-in-3-clause-went g c = found_none c.word.result c.in-3.is c.word.ensures.list c.store_and_wait.ensures.went

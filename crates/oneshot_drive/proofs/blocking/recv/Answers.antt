@@ -3,7 +3,7 @@ use Rattle.oneshot_drive.proofs.BlockingRuns.{full_message, full_waker, full_fre
 use Rattle.oneshot_drive.proofs.blocking.recv.Goals as goal
 
 pub returns-in_default : goal.returns-in_default
-returns-in_default g c = record { run = gone_freed c.find.result c.in_default.not-Message c.find.ensures.went c.free.ensures.list; stays = λ _. refl }
+returns-in_default g c = record { run = gone_freed c.find.result c.in_default.not-Message c.find.ensures.went c.free.ensures.list; stays = λ _. refl; hand = c.find.ensures.hand }
 
 pub take_message-message-requires : goal.take_message-message-requires
 take_message-message-requires g c = full_message (rw c.in-Message.is at c.find.ensures.ends)

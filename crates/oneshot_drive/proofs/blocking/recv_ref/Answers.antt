@@ -1,5 +1,4 @@
 use Rattle.std.proofs.Common.{sym, ◌∙◌}
-use Rattle.oneshot_errors.specs.declared.recv.RecvError.{RecvError}
 use Rattle.oneshot_machine.specs.Phases.{closed_itself}
 use Rattle.oneshot_drive.proofs.BlockingRuns.{ends_asks, end_asks, ended_full, shut, is_shut, over_rests, over_leaves, full_leaves, full_ran, over_ran, shut_ran, hands}
 use Rattle.oneshot_drive.proofs.ReceiverRuns.{took_at, took_rests}

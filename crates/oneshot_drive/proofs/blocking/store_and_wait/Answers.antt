@@ -1,4 +1,4 @@
-use Rattle.std.proofs.Common.{◌≡◌, Some, None, rules}
+use Rattle.std.proofs.Common.{◌≡◌, Some, rules}
 use Rattle.oneshot_drive.proofs.BlockingRuns.{open_waker, written, store_asks, stored, stored_waits, stored_waker, stored_went, full_went, over_went, withdrew_full, withdrew_over, back, gone}
 use Rattle.oneshot_drive.proofs.blocking.store_and_wait.Goals as goal
 

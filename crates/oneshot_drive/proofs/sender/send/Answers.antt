@@ -1,5 +1,5 @@
 use Rattle.std.proofs.Common.{rules}
-use Rattle.oneshot_drive.proofs.SenderRuns.{stands_written, send_asks, send_owes, send_last, send_ran, send_refused, send_refuses, send_woke}
+use Rattle.oneshot_drive.proofs.SenderRuns.{stands_written, send_asks, send_owes, send_last, send_ran, send_refused, send_refuses, send_late, send_woke}
 use Rattle.oneshot_drive.proofs.sender.send.Goals as goal
 
 pub word-requires : goal.word-requires
@@ -25,3 +25,8 @@ pub returns-in_default-clause-refused : goal.returns-in_default-clause-refused
 returns-in_default-clause-refused g c _ =
     let stands = (stands_written c.args.message c.requires c.write_message.ensures.list c.write_message.ensures.message c.write_message.ensures.waker) in
     send_refuses c.word.result stands c.word.ensures.finds (send_last c.word.result stands c.word.ensures.finds (search rules) (search rules))
+
+pub returns-in_default-clause-late : goal.returns-in_default-clause-late
+returns-in_default-clause-late g c _ =
+    let stands = (stands_written c.args.message c.requires c.write_message.ensures.list c.write_message.ensures.message c.write_message.ensures.waker) in
+    send_late c.word.result stands (send_last c.word.result stands c.word.ensures.finds (search rules) (search rules)) c.word.ensures.list

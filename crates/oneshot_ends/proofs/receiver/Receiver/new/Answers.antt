@@ -2,4 +2,4 @@ use Rattle.oneshot_ends.proofs.Standing.{rests_at_new}
 use Rattle.oneshot_ends.proofs.receiver.Receiver.new.Goals as goal
 
 pub invariant_of-result : goal.invariant_of-result
-invariant_of-result g c = rests_at_new c.args.side c.new.result c.new.ensures c.requires
+invariant_of-result g c = (rests_at_new c.args.side c.new.result c.new.ensures c.requires, λ none. absurd (cc none))

@@ -1,4 +1,4 @@
-use Rattle.std.proofs.Common.{[], ◌∷◌, ◌++◌, refl, sym, ap, ◌∙◌}
+use Rattle.std.proofs.Common.{[], ◌∷◌, ◌++◌, refl, ap, ◌∙◌}
 use Rattle.oneshot_drive.specs.Memory.{event_of}
 use Rattle.oneshot_drive.proofs.MemoryLogs.{park_grows}
 use Rattle.oneshot_drive.proofs.MemoryReceivers.{receiver_stays}

@@ -1,0 +1,44 @@
+-- What an operation tells of an end whose phase and slots are known.
+use Rattle.std.proofs.Common.{◌≡◌, ℕ, sym, ap, ◌∙◌, subst}
+use Rattle.oneshot_machine.specs.declared.states.Op.{Op}
+use Rattle.oneshot_machine.specs.Words.{saw}
+use Rattle.oneshot_machine.specs.Phases.{SenderAt, fresh, sender_next, sender_at, ReceiverAt, first, receiver_next, receiver_at}
+use Rattle.oneshot_machine.specs.Slots.{Held, SenderMay, SenderFinds, ReceiverMay, ReceiverFinds}
+use Rattle.oneshot_machine.proofs.GrownLists.{sender_from-snoc, receiver_from-snoc}
+use Rattle.oneshot_word.specs.Sides.{Side, SenderCan, SenderDid, ReceiverCan, ReceiverDid}
+
+module _ {T W : Type 0} where
+  -- how far the end is, and its slots
+  pub record SenderIs (s : Side T W) (p : SenderAt) (m : Held T) (w : Held W) : Type 0 where
+    pub at : sender_at s.steps ≡ p
+    pub message : s.message ≡ m
+    pub waker : s.waker ≡ w
+
+  pub record ReceiverIs (s : Side T W) (q : ReceiverAt) (m : Held T) (w : Held W) : Type 0 where
+    pub at : receiver_at s.steps ≡ q
+    pub message : s.message ≡ m
+    pub waker : s.waker ≡ w
+
+  pub sender_can : {s : Side T W} {p : SenderAt} {m : Held T} {w : Held W} (op : Op) → SenderIs s p m w → SenderMay p op m w → SenderCan s op
+  sender_can op is may = subst (λ (z : SenderAt × Held T × Held W). SenderMay z.0 op z.1 z.2) (λ i. (sym is.at i, sym is.message i, sym is.waker i)) may
+
+  pub receiver_can : {s : Side T W} {q : ReceiverAt} {m : Held T} {w : Held W} (op : Op) → ReceiverIs s q m w → ReceiverMay q op m w → ReceiverCan s op
+  receiver_can op is may = subst (λ (z : ReceiverAt × Held T × Held W). ReceiverMay z.0 op z.1 z.2) (λ i. (sym is.at i, sym is.message i, sym is.waker i)) may
+
+  -- what it found
+  pub sender_told : {s t : Side T W} {p : SenderAt} {m : Held T} {w : Held W} (op : Op) (word : ℕ) {found : ℕ} → SenderIs s p m w → SenderDid s op found t → found ≡ word → SenderFinds p op word m w t.message t.waker
+  sender_told {t} op word is did same =
+      subst (λ (z : SenderAt × Held T × Held W × ℕ). SenderFinds z.0 op z.3 z.1 z.2 t.message t.waker) (λ i. (is.at i, is.message i, is.waker i, same i)) did.finds
+
+  pub receiver_told : {s t : Side T W} {q : ReceiverAt} {m : Held T} {w : Held W} (op : Op) (word : ℕ) {found : ℕ} → ReceiverIs s q m w → ReceiverDid s op found t → found ≡ word → ReceiverFinds q op word m w t.message t.waker
+  receiver_told {t} op word is did same =
+      subst (λ (z : ReceiverAt × Held T × Held W × ℕ). ReceiverFinds z.0 op z.3 z.1 z.2 t.message t.waker) (λ i. (is.at i, is.message i, is.waker i, same i)) did.finds
+
+  -- and how far it is then
+  pub sender_went : {s t : Side T W} {p : SenderAt} {m : Held T} {w : Held W} (op : Op) (word : ℕ) {found : ℕ} → SenderIs s p m w → SenderDid s op found t → found ≡ word → sender_at t.steps ≡ sender_next p op (saw op word)
+  sender_went {s} op word {found} is did same =
+      ap sender_at did.list ∙ sender_from-snoc fresh s.steps (op, saw op found) ∙ (λ i. sender_next (is.at i) op (saw op (same i)))
+
+  pub receiver_went : {s t : Side T W} {q : ReceiverAt} {m : Held T} {w : Held W} (op : Op) (word : ℕ) {found : ℕ} → ReceiverIs s q m w → ReceiverDid s op found t → found ≡ word → receiver_at t.steps ≡ receiver_next q op (saw op word)
+  receiver_went {s} op word {found} is did same =
+      ap receiver_at did.list ∙ receiver_from-snoc first s.steps (op, saw op found) ∙ (λ i. receiver_next (is.at i) op (saw op (same i)))
