@@ -4,6 +4,7 @@ use Rattle.std.specs.List.{list_all}
 use Rattle.oneshot_machine.specs.declared.machine.Step.TheVariants as T
 use Rattle.oneshot_world.specs.declared.trace.Entry.TheVariants as E
 use Rattle.oneshot_world.specs.declared.trace.WakerName.TheVariants.{Parker, Copy}
+use Rattle.oneshot_world.specs.declared.trace.WakerPlace.{WakerPlace}
 use Rattle.oneshot_world.specs.declared.trace.WakerPlace.TheVariants as W
 use Rattle.oneshot_laws.specs.Wakers.{are_wakers_right, is_cell_kept}
 use Rattle.oneshot_laws.specs.Notation.{Example, receiver, carrying, up_to, put_behind, twice, uncarried_by, carried_by}
@@ -19,6 +20,16 @@ with_a_copy x =
           x.entries
           ++ E.Made (carrying (Copy 1 1) W.New W.Hand (receiver T.Plain 0 0))
           ∷ E.Made (carrying (Copy 1 1) W.Hand W.Cell (receiver T.WriteWaker 0 0))
+          ∷ [];
+    }
+
+-- and from there to another place
+abbrev pub copy_goes_to : WakerPlace → Example
+copy_goes_to place =
+    record sent_before_waiting {
+      entries =
+          (with_a_copy (up_to 6 sent_before_waiting)).entries
+          ++ E.Made (carrying (Copy 1 1) W.Cell place (receiver T.Plain 0 0))
           ∷ [];
     }
 
@@ -48,6 +59,8 @@ MisplacedWakers =
     ∷ carried_by 14 Parker W.SenderHand W.Dropped waited_for_message
     ∷ carried_by 14 Parker W.SenderHand W.Hand waited_for_message
     ∷ carried_by 6 Parker W.Cell W.Dropped sent_before_waiting
+    -- only the parker's half comes back from the cell
+    ∷ copy_goes_to W.Hand
     -- another waker than the one that lies there
     ∷ carried_by 6 (Copy 1 2) W.Cell W.SenderHand waited_for_message
     ∷ carried_by 5 (Copy 1 2) W.Hand W.Cell (with_a_copy still_waiting)
@@ -64,5 +77,10 @@ FullCells =
     × IsTrue (list_all (λ x. are_wakers_right x.entries (marks_in x) && not (is_cell_kept x.entries))
     (with_a_copy still_waiting ∷ with_a_copy (up_to 2 sent_before_waiting) ∷ []))
     -- once the other is back in the hand, or the sender's, the cell is free
-    × IsTrue (list_all (λ x. are_wakers_kept x)
-    (with_a_copy (up_to 6 sent_before_waiting) ∷ with_a_copy (up_to 6 waited_for_message) ∷ []))
+    × IsTrue (list_all are_wakers_kept
+    (with_a_copy (up_to 6 sent_before_waiting)
+    ∷ with_a_copy (up_to 6 waited_for_message)
+    ∷ copy_goes_to W.SenderHand
+    ∷ copy_goes_to W.Dropped
+    ∷ []
+    ))
