@@ -1,4 +1,4 @@
-//! What every trace of two scripts keeps, as definitions that know no table, no position and no world.
+//! What every trace of two scripts keeps, as definitions that know no table and no position.
 #![tactic(auto)]
 
 ghost use Rattle.oneshot_laws.specs.Examples.{ObjectAnswers, ActingEntries, LegalTraces, IllegalTraces, IdleTraces, NotIdleTraces};
