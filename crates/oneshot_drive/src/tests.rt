@@ -1,3 +1,5 @@
+//! Each driver over the grounds in memory: its answer, and the steps that it makes.
+
 use crate::memory::{Event, MemoryReceiver, MemorySender};
 use crate::{drop_error, drop_receiver, drop_sender, into_inner, recv, recv_ref, send, try_recv};
 use oneshot_errors::{RecvError, TryRecvError};

@@ -90,6 +90,7 @@ impl<T: Drop> SenderGround<T, Unparker> for SenderSeat<T, Unparker> {
     }
 
     fn wake(&mut self, waker: Unparker) {
+        // A body that reads nothing of itself tells its proof nothing of itself.
         let _side = &self.side;
         waker.unpark();
     }
@@ -147,6 +148,7 @@ impl<T: Drop> SenderGround<T, Unparker> for ErrorSeat<T, Unparker> {
 
     // No operation on the word follows a refused `send`.
     fn word(&mut self, _: Op) -> u8 {
+        // A body that reads nothing of itself tells its proof nothing of itself.
         let _side = &self.side;
         unreachable!()
     }
@@ -165,11 +167,13 @@ impl<T: Drop> SenderGround<T, Unparker> for ErrorSeat<T, Unparker> {
 
     // No receiver waits for a sender that found it gone.
     fn take_waker(&mut self) -> Unparker {
+        // A body that reads nothing of itself tells its proof nothing of itself.
         let _side = &self.side;
         unreachable!()
     }
 
     fn wake(&mut self, waker: Unparker) {
+        // A body that reads nothing of itself tells its proof nothing of itself.
         let _side = &self.side;
         waker.unpark();
     }

@@ -10,7 +10,9 @@ use std::alloc::{AllocError, Global};
 
 /// Makes a channel for one message: its sender and its receiver.
 ///
-/// The receiver keeps `rt`, the runtime of its waiting calls. `Err` comes only where a request for
+/// The receiver keeps `rt`, the runtime of its waiting calls, which want it to be `Wait` and `Clock`
+/// (the clock is for receives with a deadline, which share their bounds); `()` does for a receiver
+/// that never waits. `Err` comes only where a request for
 /// memory was refused; then nothing was made.
 pub fn channel<T: Send + Drop, Rt: Drop>(
     rt: Rt,

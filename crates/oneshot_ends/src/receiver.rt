@@ -96,9 +96,10 @@ impl<T: Drop, Rt: Drop> Receiver<T, Rt> {
 }
 
 impl<T: Drop, Rt: Wait + Clock + Drop> Receiver<T, Rt> {
-    /// Receives the message, and waits until it is there. It asks for no memory.
+    /// Receives the message, and waits until it is there or never will be: for ever, where the sender
+    /// is kept and neither sends nor is dropped, also by the caller itself. It asks for no memory.
     ///
-    /// `Err` where the sender is gone without a message, or the message was received before. Then, as
+    /// `Ok`: the message. `Err` where the sender is gone without a message, or the message was received before. Then, as
     /// after `Ok`, the receiver is closed, and every later receive answers an error.
     pub fn recv_ref(&mut self) -> Result<T, RecvError>
         ensures table { self.new.table ≡ self.old.table }
@@ -114,7 +115,10 @@ impl<T: Drop, Rt: Wait + Clock + Drop> Receiver<T, Rt> {
         recv_ref(&mut lent, &self.rt, &mut self.hand)
     }
 
-    /// Receives the message as `recv_ref` does, and ends the receiver.
+    /// Receives the message, waits for it as `recv_ref` does, and ends the receiver.
+    ///
+    /// `Ok`: the message. `Err` where the sender is gone without a message, or the message was received
+    /// before.
     pub fn recv(self) -> Result<T, RecvError>
         ensures stays_closed { IsClosed (receiver_at self.steps) → IsErr result }
     {

@@ -18,6 +18,8 @@ use std::marker::Model;
 
 /// Sends one message to its receiver.
 ///
+/// Dropping it unsent wakes a receiver that waits, which then answers an error.
+///
 /// A contract sees the table that it shares with the receiver, and the list of its operations on the
 /// word, which is empty until its one call.
 ///
@@ -56,7 +58,7 @@ impl<T> Sender<T> {
 }
 
 impl<T: Drop> Sender<T> {
-    /// Sends `message`. It waits for nobody and asks for no memory.
+    /// Sends `message`, and wakes a receiver that waits. It waits for nobody and asks for no memory.
     ///
     /// `Ok` where the receiver was there; that it is received later is not said. `Err` where the
     /// receiver was gone: the error gives the message back.

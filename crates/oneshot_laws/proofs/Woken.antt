@@ -29,7 +29,8 @@ use Rattle.oneshot_laws.specs.Object.{Object}
 use Rattle.oneshot_laws.specs.Steps.{is_end_of_sender}
 use Rattle.oneshot_laws.specs.Marks.{Reading, read, Mark, marks, marks_from, sender_reading, receiver_reading, call_under_way}
 use Rattle.oneshot_laws.specs.Ended.{has_answered}
-use Rattle.oneshot_laws.specs.Unwoken.{Ahead, is_some_park, ahead_of, waits_in_park, is_unwoken, is_never_unwoken, NeverUnwoken}
+use Rattle.oneshot_world.specs.Ahead.{Ahead, is_some_park, ahead_of}
+use Rattle.oneshot_laws.specs.Unwoken.{waits_in_park, is_unwoken, is_never_unwoken, NeverUnwoken}
 use Rattle.oneshot_laws.proofs.Afterwards.{is_same_flag}
 use Rattle.oneshot_laws.proofs.AtTheEnd.{or_more, or_false}
 use Rattle.oneshot_laws.proofs.Watched.{Watched, watched_from, watched_code, is_same_watched, all_pass, IsFound, watched_is, found_next, opening_found}

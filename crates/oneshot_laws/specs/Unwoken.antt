@@ -1,35 +1,15 @@
 -- A receiver that waits unwoken: what must never be, once the sender's send or drop has answered.
 use Rattle.std.specs.Prelude.{Bool, false, not, ◌&&◌, List, [], ◌∷◌, map, Option, Some, None, IsTrue}
-use Rattle.std.specs.Option.{option_map, option_and_then}
-use Rattle.oneshot_machine.specs.Receiver.{receiver_step}
-use Rattle.oneshot_machine.specs.declared.machine.Step.{Step}
-use Rattle.oneshot_world.specs.Calls.{calls_of, first, as_receiver_call}
-use Rattle.oneshot_world.specs.State.{receiver_position}
+use Rattle.oneshot_world.specs.Ahead.{Ahead, ahead_of}
+use Rattle.oneshot_world.specs.Calls.{calls_of}
 use Rattle.oneshot_world.specs.World.{World, opening, Tells}
 use Rattle.oneshot_world.specs.declared.script.Move.{Move}
 use Rattle.oneshot_world.specs.declared.script.ReceiverScript.{ReceiverScript}
 use Rattle.oneshot_world.specs.declared.script.SenderScript.{SenderScript}
 use Rattle.oneshot_world.specs.declared.trace.Entry.{Entry}
-use Rattle.oneshot_laws.specs.Words.{is_park}
 use Rattle.oneshot_laws.specs.Steps.{is_end_of_sender}
 use Rattle.oneshot_laws.specs.Marks.{Mark, marks}
 use Rattle.oneshot_laws.specs.Ended.{has_answered}
-
--- what is asked of a world: whether the receiver's next step is a park, and whether there is a token
-pub record Ahead : Type 0 where
-  pub parks : Bool
-  pub token : Bool
-
-abbrev pub is_some_park : Option Step → Bool
-is_some_park None = false
-is_some_park (Some step) = is_park step
-
-abbrev pub next_of_receiver : World → Option Step
-next_of_receiver w =
-    option_map receiver_step (receiver_position w.state.receiver (option_and_then as_receiver_call (first w.receiver.calls)))
-
-abbrev pub ahead_of : World → Ahead
-ahead_of w = record { parks = is_some_park (next_of_receiver w); token = w.state.wakers.token }
 
 -- the receiver is about to sleep, and nothing is there that would keep it from it
 abbrev pub waits_in_park : Ahead → Bool

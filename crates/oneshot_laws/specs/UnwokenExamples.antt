@@ -12,7 +12,8 @@ use Rattle.oneshot_world.specs.declared.trace.WakerName.TheVariants.{Parker}
 use Rattle.oneshot_world.specs.declared.trace.WakerPlace.TheVariants as W
 use Rattle.oneshot_laws.specs.Marks.{marks}
 use Rattle.oneshot_laws.specs.Places.{steps}
-use Rattle.oneshot_laws.specs.Unwoken.{Ahead, ahead_of, is_never_unwoken}
+use Rattle.oneshot_world.specs.Ahead.{Ahead, ahead_of}
+use Rattle.oneshot_laws.specs.Unwoken.{is_never_unwoken}
 use Rattle.oneshot_laws.specs.Notation.{Example, sender, receiver, parked, carrying, setting_token, replying, up_to, answered_by}
 use Rattle.oneshot_laws.specs.Traces.{waited_for_message, woken_by_drop, still_waiting}
 use Rattle.oneshot_laws.specs.LawExamples.{is_right}

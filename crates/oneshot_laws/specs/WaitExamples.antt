@@ -13,9 +13,11 @@ use Rattle.oneshot_world.specs.declared.trace.Entry.{Entry}
 use Rattle.oneshot_world.specs.declared.trace.Entry.TheVariants as E
 use Rattle.oneshot_world.specs.declared.trace.Place.{Place}
 use Rattle.oneshot_world.specs.declared.trace.Place.TheVariants as P
+use Rattle.oneshot_world.specs.declared.trace.WakerName.TheVariants.{Parker}
+use Rattle.oneshot_world.specs.declared.trace.WakerPlace.TheVariants as W
 use Rattle.oneshot_laws.specs.Places.{steps}
 use Rattle.oneshot_laws.specs.Laws.{is_gone_after_got, is_gone_after_closed}
-use Rattle.oneshot_laws.specs.Notation.{Example, sender, receiver, frees, without_block, replying, up_to, without, exchanged, put_behind, answered_by}
+use Rattle.oneshot_laws.specs.Notation.{Example, sender, receiver, frees, without_block, carrying, setting_token, replying, up_to, without, exchanged, put_behind, answered_by}
 use Rattle.oneshot_laws.specs.Traces.{received_at_once, waited_for_message, sent_before_waiting, dropped_before_waiting, woken_by_drop, still_waiting}
 use Rattle.oneshot_laws.specs.Examples.{acting_in, is_legal_trace}
 use Rattle.oneshot_laws.specs.LawExamples.{is_block_right, are_lone_replies_right, fails_at, is_right}
@@ -107,6 +109,8 @@ MisfreedWaits =
     -- the sender frees too, after its wake or in its place
     ∷ record waited_for_message { entries = waited_for_message.entries ++ E.Made (without_block Sender T.Free) ∷ [] }
     ∷ record waited_for_message { entries = take 13 waited_for_message.entries ++ E.Made (replying R.Sent (without_block Sender T.Free)) ∷ [] }
+    -- the sender frees after its wake, while the receiver holds
+    ∷ record woken_by_drop { entries = take 6 woken_by_drop.entries ++ E.Made (setting_token (carrying Parker W.SenderHand W.Used (sender T.Wake 2 2))) ∷ E.Made (replying R.Done (frees Sender 2)) ∷ [] }
     -- the receiver frees where the sender still holds
     ∷ record waited_for_message { entries = take 8 waited_for_message.entries ++ E.Made (replying R.Disconnected (frees Receiver 1)) ∷ [] }
     -- neither end frees

@@ -79,10 +79,6 @@ is_on_a_cell T.TakeWaker = true
 is_on_a_cell T.Withdraw = true
 is_on_a_cell _ = false
 
-abbrev pub is_park : Step → Bool
-is_park T.Park = true
-is_park _ = false
-
 -- whether the word before a step was this one
 abbrev pub found : ℕ → Option ℕ → Bool
 found word None = false

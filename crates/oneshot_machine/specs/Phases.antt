@@ -33,7 +33,7 @@ pub data Waiting : Type 0 where
   -- in a call that blocks
   blocked : Waiting
 
--- how a receiver came to the message, which tells what it may do then
+-- how a receiver came to the message
 pub data Got : Type 0 where
   -- by the first load of a call
   at_once : Got

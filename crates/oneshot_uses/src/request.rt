@@ -28,14 +28,18 @@ impl Square {
 /// Asks for the square of a number, and has the sender of the reply.
 #[derive(Drop)]
 pub struct Request {
+    /// The number.
     pub root: u32,
+    /// Where its square is sent.
     pub reply: Sender<Square>,
 }
 
 /// The asker's part of a request: where the reply comes.
 #[derive(Drop)]
 pub struct Asked<Rt> {
+    /// The number.
     pub root: u32,
+    /// Where its square comes.
     pub reply: Receiver<Square, Rt>,
 }
 

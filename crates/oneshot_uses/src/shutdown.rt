@@ -25,7 +25,9 @@ pub enum Ending {
 /// What a worker did.
 #[derive(Clone, Copy, Debug, PartialEq, Eq)]
 pub struct Report {
+    /// How many turns it made.
     pub turns: u64,
+    /// Why it made no more.
     pub ending: Ending,
 }
 
@@ -76,16 +78,22 @@ pub enum Order {
 /// A worker's ends: its signal to stop, and where it tells of its first turn and of its work.
 #[derive(Drop)]
 pub struct Worker {
+    /// Where its signal to stop comes.
     pub stop: Receiver<(), ()>,
+    /// Where it tells that it made its first turn.
     pub begun: Sender<()>,
+    /// Where it tells what it did.
     pub report: Sender<Report>,
 }
 
 /// The other ends.
 #[derive(Drop)]
 pub struct Owner<Rt> {
+    /// Where it tells its worker to stop.
     pub stop: Sender<()>,
+    /// Where it hears of the first turn.
     pub begun: Receiver<(), Rt>,
+    /// Where it hears what the worker did.
     pub report: Receiver<Report, Rt>,
 }
 

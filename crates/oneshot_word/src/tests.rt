@@ -1,3 +1,5 @@
+//! Both sides of one word in one thread.
+
 ghost use Rattle.std.specs.Prelude.{◌≡◌};
 ghost use Rattle.oneshot_machine.specs.Phases.{fresh, sender_at, blocked, first, waits, receiver_at};
 ghost use Rattle.oneshot_machine.specs.Slots.{vacant};

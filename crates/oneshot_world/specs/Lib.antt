@@ -3,5 +3,6 @@ pub mod Looks
 pub mod Wakers
 pub mod State
 pub mod World
+pub mod Ahead
 pub mod Explore
 pub mod Control

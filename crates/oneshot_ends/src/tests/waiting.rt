@@ -1,4 +1,4 @@
-//! Receives that wait, against a sender on another thread.
+//! Receives that wait, against a sender on another thread. Where a wake does nothing they do not end.
 
 use crate::{Receiver, channel};
 use oneshot_errors::{RecvError, TryRecvError};

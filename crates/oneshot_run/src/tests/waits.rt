@@ -92,6 +92,24 @@ fn a_sender_that_goes_before_the_wait(rt: HostRuntime) {
 }
 
 #[test]
+fn a_receiver_is_woken_by_the_senders_drop(rt: HostRuntime) {
+    let output = "1 R load 3>3
+2 R write-waker 3>3 p:Hand>Cell
+3 R swap 3>0
+4 S xor 0>1
+5 S take-waker 1>1 p:Cell>SenderHand
+6 S swap 1>2
+7 S wake 2>2 p:SenderHand>Used token+ = dropped
+8 R park 2>2 token-
+9 R load 2>2
+10 R free 2>- = Err(RecvError)
+rest none
+block freed
+";
+    assert_eq!(rt; told(&rt, b"S drop\nR recv\nX rrrssssrrr\n").as_str(), output);
+}
+
+#[test]
 fn a_sender_that_goes_during_the_wait(rt: HostRuntime) {
     let output = "1 R load 3>3
 2 R write-waker 3>3 p:Hand>Cell
