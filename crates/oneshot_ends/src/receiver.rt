@@ -47,6 +47,10 @@ impl<T, Rt> Model for Receiver<T, Rt> {
         × IsReady r.hand (receiver_of (logged r.seat)) };
 }
 
+// The checker finds this by itself, and writes it here once, so that a caller's proof need not look
+// through all that a receiver holds.
+unsafe impl<T: Send, Rt: Send> Send for Receiver<T, Rt> {}
+
 impl<T, Rt> Receiver<T, Rt> {
     pub(crate) fn new(
         side: ReceiverSide<T, Unparker>,

@@ -106,7 +106,10 @@ fn a_receiver_is_woken_by_the_senders_drop(rt: HostRuntime) {
 rest none
 block freed
 ";
-    assert_eq!(rt; told(&rt, b"S drop\nR recv\nX rrrssssrrr\n").as_str(), output);
+    assert_eq!(rt;
+        told(&rt, b"S drop\nR recv\nX rrrssssrrr\n").as_str(),
+        output
+    );
 }
 
 #[test]
