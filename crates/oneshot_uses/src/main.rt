@@ -31,14 +31,8 @@ fn main(rt: HostRuntime) -> io::Result<()> {
         None => println!(rt; "task: nothing came back")?,
     }
     for order in [Order::Stop, Order::Leave] {
-        match watched(&rt, rt.alloc(), order)? {
-            Some(report) => {
-                let worked = report.turns > 0;
-                let ending = report.ending;
-                println!(rt; "shutdown: {ending:?}, after turns: {worked}")?;
-            }
-            None => println!(rt; "shutdown: no report")?,
-        }
+        let ending = watched(&rt, rt.alloc(), order)?.ending;
+        println!(rt; "shutdown: {ending:?}")?;
     }
     Ok(())
 }

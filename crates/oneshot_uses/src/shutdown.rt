@@ -7,9 +7,7 @@ ghost use Rattle.oneshot_uses.specs.declared.shutdown.Ending.TheVariants.{Done};
 
 use oneshot::{Receiver, Sender, TryRecvError, channel};
 use std::alloc::{AllocError, Global};
-use std::sync::Wait;
 use std::thread::{Threads, join, yield_now};
-use std::time::Clock;
 
 /// Why a worker made no more turns.
 #[derive(Clone, Copy, Debug, PartialEq, Eq)]
@@ -75,98 +73,24 @@ pub enum Order {
     Leave,
 }
 
-/// A worker's ends: its signal to stop, and where it tells of its first turn and of its work.
-#[derive(Drop)]
-pub struct Worker {
-    /// Where its signal to stop comes.
-    pub stop: Receiver<(), ()>,
-    /// Where it tells that it made its first turn.
-    pub begun: Sender<()>,
-    /// Where it tells what it did.
-    pub report: Sender<Report>,
-}
-
-/// The other ends.
-#[derive(Drop)]
-pub struct Owner<Rt> {
-    /// Where it tells its worker to stop.
-    pub stop: Sender<()>,
-    /// Where it hears of the first turn.
-    pub begun: Receiver<(), Rt>,
-    /// Where it hears what the worker did.
-    pub report: Receiver<Report, Rt>,
-}
-
-/// Makes the ends of a worker and of its owner.
-pub fn hire<Rt: Copy + Drop>(rt: Rt, alloc: Global) -> Result<(Owner<Rt>, Worker), AllocError> {
-    let (stop, stopped) = channel((), alloc)?;
-    let (begin, begun) = channel(rt, alloc)?;
-    let (report, reported) = channel(rt, alloc)?;
-    let owner = Owner {
-        stop,
-        begun,
-        report: reported,
-    };
-    let worker = Worker {
-        stop: stopped,
-        begun: begin,
-        report,
-    };
-    Ok((owner, worker))
-}
-
-impl Worker {
-    /// Makes turns until it is to stop, and reports. The report comes back if nobody waits for it.
-    pub fn work(self) -> Option<Report> {
-        let Worker {
-            mut stop,
-            begun,
-            report,
-        } = self;
-        let mut begun = Some(begun);
-        let made = work_until(&mut stop, u64::MAX, || {
-            if let Some(sender) = begun.take() {
-                // Where nobody waits for the first turn, there is nothing to tell.
-                let _ = sender.send(());
-            }
-            yield_now();
-        });
-        match report.send(made) {
-            Ok(()) => None,
-            Err(refused) => Some(refused.into_inner()),
+/// Ends a worker that has this signal's receiver.
+pub fn end(stop: Sender<()>, order: Order) {
+    match order {
+        Order::Stop => {
+            // A worker that is gone needs not be told.
+            let _ = stop.send(());
         }
+        Order::Leave => drop(stop),
     }
 }
 
-impl<Rt: Wait + Clock + Drop> Owner<Rt> {
-    /// Waits until the worker has made a turn, ends it, and waits for its report.
-    pub fn end(self, order: Order) -> Option<Report> {
-        let Owner {
-            stop,
-            begun,
-            report,
-        } = self;
-        if begun.recv().is_err() {
-            return None;
-        }
-        match order {
-            Order::Stop => {
-                // A worker that is gone needs not be told.
-                let _ = stop.send(());
-            }
-            Order::Leave => drop(stop),
-        }
-        report.recv().ok()
-    }
-}
-
-/// Has a worker on another thread make turns until its owner ends it, and gives its report.
-pub fn watched<R: Threads + Wait + Clock + Sync>(
-    rt: &R,
-    alloc: Global,
-    order: Order,
-) -> Result<Option<Report>, AllocError> {
-    let (owner, worker) = hire(rt, alloc)?;
-    let (_, reported) = join(rt, move || worker.work(), move || owner.end(order));
-    Ok(reported)
+/// Makes turns until an owner on another thread ends them, and tells what was done.
+pub fn watched<R: Threads>(rt: &R, alloc: Global, order: Order) -> Result<Report, AllocError> {
+    let (stop, mut stopped) = channel::<(), ()>((), alloc)?;
+    let ((), report) = join(
+        rt,
+        move || end(stop, order),
+        move || work_until(&mut stopped, u64::MAX, yield_now),
+    );
+    Ok(report)
 }
