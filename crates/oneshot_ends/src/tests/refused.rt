@@ -27,6 +27,8 @@ fn the_errors_texts_are_printed(rt: HostRuntime) -> Result<(), Fail> {
     let error = refused(&rt, rt.alloc(), 5)?;
     let shown = format!(in rt.alloc(); "{error}")?;
     assert_eq!(rt; shown.as_str(), "sending on a closed channel");
+    let wide = format!(in rt.alloc(); "{error:>30}")?;
+    assert_eq!(rt; wide.as_str(), "   sending on a closed channel");
     let debugged = format!(in rt.alloc(); "{error:?}")?;
     assert_eq!(rt; debugged.as_str(), "SendError(_)");
     Ok(())

@@ -58,7 +58,7 @@ fn recv_gets_each_message_once(rt: HostRuntime) -> Result<(), Fail> {
             &rt,
             || {
                 linger(&rt, round);
-                sender.send(message).is_ok()
+                !sender.is_closed() && sender.send(message).is_ok()
             },
             || receiver.recv(),
         );
