@@ -6,14 +6,14 @@ use Rattle.std.specs.List.{list_all}
 use Rattle.std.proofs.lemmas.Bool.{eq-eqb}
 use Rattle.std.proofs.lemmas.List.Elements.{All-cons}
 use Rattle.oneshot_machine.specs.declared.machine.receiver.ReceiverPos.{ReceiverPos}
-use Rattle.oneshot_machine.specs.declared.machine.receiver.ReceiverPos.TheVariants.{TryLoad, Close, CloseOnly, StartLoad, StartSwap, ParkLoad, RecvLoad, RecvSwap, RecvParkLoad, DropSwap}
+use Rattle.oneshot_machine.specs.declared.machine.receiver.ReceiverPos.TheVariants.{TryLoad, Close, CloseOnly, StartLoad, StartSwap, ParkLoad, TimedLoad, EndSwap, LateLoad, RecvLoad, RecvSwap, RecvParkLoad, DropSwap}
 use Rattle.oneshot_machine.specs.declared.machine.sender.SenderPos.{SenderPos}
 use Rattle.oneshot_machine.specs.declared.machine.sender.SenderPos.TheVariants.{SendAdd, SendFinal, DropXor, DropFinal}
 use Rattle.oneshot_machine.specs.declared.states.Op.{Op}
 use Rattle.oneshot_machine.specs.declared.states.Op.TheVariants.{Load, Store, Swap, Exchange, Add, Xor}
 use Rattle.oneshot_machine.specs.Words.{Noted, saw, op_of}
-use Rattle.oneshot_machine.specs.Phases.{By, sending, dropping, SenderAt, fresh, owes, finished, late, sender_next, sender_at, ReceiverAt, first, here, looked, Waiting, blocked, waits, Got, at_once, waited, full, unclosed, Closing, found_closed, closed_itself, over, gone, ended, receiver_next, receiver_at}
-use Rattle.oneshot_machine.specs.Slots.{Held, away, vacant, held, SenderMay, may_add, may_flip, may_finish_send, may_finish_drop, SenderFinds, add_empty, add_waker, add_gone, flip_empty, flip_waker, flip_gone, finish_send, finish_drop, ReceiverMay, may_load_first, may_load, may_load_closed, may_store, may_wait, may_close, may_close_only, may_drop_first, may_drop, may_drop_closed, ReceiverFinds, first_empty, first_message, first_closed, load_empty, load_message, load_closed, load_over, store_empty, store_message, store_closed, wait_longer, wait_claimed, wait_message, wait_closed, close, close_only, drop_first_empty, drop_first_message, drop_first_closed, drop_empty, drop_message, drop_closed, drop_over}
+use Rattle.oneshot_machine.specs.Phases.{By, sending, dropping, SenderAt, fresh, owes, finished, late, sender_next, sender_at, ReceiverAt, first, here, Open, looked, between, Waiting, blocked, waits, overdue, Got, at_once, waited, full, unclosed, Closing, found_closed, closed_itself, over, gone, ended, receiver_next, receiver_at}
+use Rattle.oneshot_machine.specs.Slots.{Held, away, vacant, held, SenderMay, may_add, may_flip, may_finish_send, may_finish_drop, SenderFinds, add_empty, add_waker, add_gone, flip_empty, flip_waker, flip_gone, finish_send, finish_drop, finish_late_send, finish_late_drop, ReceiverMay, may_load_first, may_load, may_load_closed, may_store, may_wait, may_stop, may_wait_on, may_close, may_close_only, may_drop_first, may_drop, may_drop_closed, ReceiverFinds, first_empty, first_message, first_closed, load_empty, load_message, load_closed, load_over, store_empty, store_message, store_closed, wait_longer, wait_claimed, wait_message, wait_closed, stop_waiting, stop_claimed, stop_message, stop_closed, late_longer, late_message, late_closed, close, close_only, drop_first_empty, drop_first_message, drop_first_closed, drop_empty, drop_message, drop_closed, drop_over}
 use Rattle.oneshot_machine.specs.Standing.{Table, is_same_op, is_op, moved, standing_from, standing, made_at, operations, sender_table, receiver_table}
 use Rattle.oneshot_machine.specs.Exact.{IsFound, none_yet, one_more, IsAllowed, Accepts, SenderIsExact, ReceiverIsExact}
 use Rattle.oneshot_machine.proofs.GrownLists.{sender_from-snoc, receiver_from-snoc}
@@ -75,20 +75,22 @@ data SenderStands : SenderAt → List SenderPos → Type 0 where
   stands_late : (by : By) (w : ℕ) → SenderStands (late by w) []
 
 -- where a receiver stands between its calls
-abbrev between : List ReceiverPos
-between = TryLoad ∷ StartLoad ∷ RecvLoad ∷ DropSwap ∷ []
+abbrev between_calls : List ReceiverPos
+between_calls = TryLoad ∷ StartLoad false ∷ StartLoad true ∷ RecvLoad ∷ DropSwap ∷ []
 
 -- and where it may after a load that found 3, which may also be the first of a call that blocks
 abbrev after_a_look : List ReceiverPos
-after_a_look = TryLoad ∷ StartLoad ∷ StartSwap ∷ RecvLoad ∷ RecvSwap ∷ DropSwap ∷ []
+after_a_look = TryLoad ∷ StartLoad false ∷ StartLoad true ∷ StartSwap false ∷ StartSwap true ∷ RecvLoad ∷ RecvSwap ∷ DropSwap ∷ []
 
 data ReceiverStands : ReceiverAt → List ReceiverPos → Type 0 where
-  stands_first : ReceiverStands first between
+  stands_first : ReceiverStands first between_calls
   stands_looked : ReceiverStands (here looked) after_a_look
-  stands_waiting : (w : Waiting) → ReceiverStands (waits w) (ParkLoad ∷ RecvParkLoad ∷ [])
+  stands_between : ReceiverStands (here between) between_calls
+  stands_waiting : (w : Waiting) → ReceiverStands (waits w) (ParkLoad ∷ TimedLoad ∷ EndSwap ∷ RecvParkLoad ∷ [])
+  stands_overdue : ReceiverStands overdue (LateLoad ∷ [])
   stands_full : (g : Got) (left : ℕ) → ReceiverStands (full g left) (Close ∷ [])
   stands_unclosed : (left : ℕ) → ReceiverStands (unclosed left) (CloseOnly ∷ [])
-  stands_over : (c : Closing) → ReceiverStands (over c) between
+  stands_over : (c : Closing) → ReceiverStands (over c) between_calls
   stands_gone : ReceiverStands gone []
   stands_ended : ReceiverStands ended []
 
@@ -103,14 +105,19 @@ module _ {T W : Type 0} where
   sender_moves _ flip_gone stands_fresh = stands_late dropping 3
   sender_moves _ (finish_send x) owes_send = stands_finished sending
   sender_moves _ finish_drop owes_drop = stands_finished dropping
+  sender_moves _ (finish_late_send x) owes_send = stands_finished sending
+  sender_moves _ finish_late_drop owes_drop = stands_finished dropping
 
   receiver_moves : {q : ReceiverAt} {ps : List ReceiverPos} {op : Op} {m m' : Held T} {w w' : Held W} (word : ℕ) → ReceiverFinds q op word m w m' w' → ReceiverStands q ps → ReceiverStands (receiver_next q op (saw op word)) (moved receiver_table ps (op, saw op word))
   receiver_moves _ first_empty stands_first = stands_looked
   receiver_moves _ (first_message x) stands_first = stands_full at_once 4
   receiver_moves _ first_closed stands_first = stands_over found_closed
-  receiver_moves _ load_empty stands_looked = stands_looked
-  receiver_moves _ (load_message x) stands_looked = stands_full at_once 4
-  receiver_moves _ load_closed stands_looked = stands_over found_closed
+  receiver_moves _ (load_empty _) stands_looked = stands_looked
+  receiver_moves _ (load_message _ x) stands_looked = stands_full at_once 4
+  receiver_moves _ (load_closed _) stands_looked = stands_over found_closed
+  receiver_moves _ (load_empty _) stands_between = stands_looked
+  receiver_moves _ (load_message _ x) stands_between = stands_full at_once 4
+  receiver_moves _ (load_closed _) stands_between = stands_over found_closed
   receiver_moves _ (load_over c) (stands_over _) = stands_over c
   receiver_moves _ (store_empty k) stands_looked = stands_waiting blocked
   receiver_moves _ (store_message x k) stands_looked = stands_full waited 0
@@ -119,14 +126,24 @@ module _ {T W : Type 0} where
   receiver_moves _ (wait_claimed w) (stands_waiting _) = stands_waiting w
   receiver_moves _ (wait_message w x) (stands_waiting _) = stands_full waited 4
   receiver_moves _ (wait_closed w) (stands_waiting _) = stands_over found_closed
+  receiver_moves _ (stop_waiting w k) (stands_waiting _) = stands_between
+  receiver_moves _ (stop_claimed w) (stands_waiting _) = stands_overdue
+  receiver_moves _ (stop_message w x) (stands_waiting _) = stands_full waited 3
+  receiver_moves _ (stop_closed w) (stands_waiting _) = stands_unclosed 3
+  receiver_moves _ late_longer stands_overdue = stands_overdue
+  receiver_moves _ (late_message x) stands_overdue = stands_full waited 4
+  receiver_moves _ late_closed stands_overdue = stands_over found_closed
   receiver_moves _ (close g left x) (stands_full _ _) = stands_over closed_itself
   receiver_moves _ (close_only left) (stands_unclosed _) = stands_over closed_itself
   receiver_moves _ drop_first_empty stands_first = stands_gone
   receiver_moves _ (drop_first_message x) stands_first = stands_ended
   receiver_moves _ drop_first_closed stands_first = stands_ended
-  receiver_moves _ drop_empty stands_looked = stands_gone
-  receiver_moves _ (drop_message x) stands_looked = stands_ended
-  receiver_moves _ drop_closed stands_looked = stands_ended
+  receiver_moves _ (drop_empty _) stands_looked = stands_gone
+  receiver_moves _ (drop_message _ x) stands_looked = stands_ended
+  receiver_moves _ (drop_closed _) stands_looked = stands_ended
+  receiver_moves _ (drop_empty _) stands_between = stands_gone
+  receiver_moves _ (drop_message _ x) stands_between = stands_ended
+  receiver_moves _ (drop_closed _) stands_between = stands_ended
   receiver_moves _ (drop_over c) (stands_over _) = stands_ended
 
   -- and so along each list
@@ -152,17 +169,23 @@ module _ {T W : Type 0} where
   receiver_less : T → W → {q : ReceiverAt} {ps : List ReceiverPos} → ReceiverStands q ps → Each (IsAllowed (ReceiverMay {T = T} {W = W}) q) (made_at receiver_table ps)
   receiver_less x k stands_first =
       let load : IsAllowed (ReceiverMay {T = T} {W = W}) first Load = (away, away, may_load_first) in
-      one_of load (one_of load (one_of load (one_of (away, away, may_drop_first) no_other)))
+      one_of load (one_of load (one_of load (one_of load (one_of (away, away, may_drop_first) no_other))))
   receiver_less x k stands_looked =
-      let load : IsAllowed (ReceiverMay {T = T} {W = W}) (here looked) Load = (away, vacant, may_load) in
+      let load : IsAllowed (ReceiverMay {T = T} {W = W}) (here looked) Load = (away, vacant, may_load looked) in
       let store : IsAllowed (ReceiverMay {T = T} {W = W}) (here looked) (Swap 0) = (away, held k, may_store k) in
-      one_of load (one_of load (one_of store (one_of load (one_of store (one_of (away, vacant, may_drop) no_other)))))
-  receiver_less x k (stands_waiting w) = one_of (away, away, may_wait w) (one_of (away, away, may_wait w) no_other)
+      one_of load (one_of load (one_of load (one_of store (one_of store (one_of load (one_of store (one_of (away, vacant, may_drop looked) no_other)))))))
+  receiver_less x k stands_between =
+      let load : IsAllowed (ReceiverMay {T = T} {W = W}) (here between) Load = (away, vacant, may_load between) in
+      one_of load (one_of load (one_of load (one_of load (one_of (away, vacant, may_drop between) no_other))))
+  receiver_less x k (stands_waiting w) =
+      let load : IsAllowed (ReceiverMay {T = T} {W = W}) (waits w) Load = (away, away, may_wait w) in
+      one_of load (one_of load (one_of (away, away, may_stop w) (one_of load no_other)))
+  receiver_less x k stands_overdue = one_of (away, away, may_wait_on) no_other
   receiver_less x k (stands_full g left) = one_of (held x, vacant, may_close g left x) no_other
   receiver_less x k (stands_unclosed left) = one_of (vacant, vacant, may_close_only left) no_other
   receiver_less x k (stands_over c) =
       let load : IsAllowed (ReceiverMay {T = T} {W = W}) (over c) Load = (vacant, vacant, may_load_closed c) in
-      one_of load (one_of load (one_of load (one_of (vacant, vacant, may_drop_closed c) no_other)))
+      one_of load (one_of load (one_of load (one_of load (one_of (vacant, vacant, may_drop_closed c) no_other))))
   receiver_less x k stands_gone = no_other
   receiver_less x k stands_ended = no_other
 
@@ -175,15 +198,19 @@ module _ {T W : Type 0} where
 
   receiver_more : {q : ReceiverAt} {op : Op} {m : Held T} {w : Held W} {ps : List ReceiverPos} → ReceiverMay q op m w → ReceiverStands q ps → Contains (made_at receiver_table ps) op
   receiver_more may_load_first stands_first = (0, lit< tt, refl)
-  receiver_more may_load stands_looked = (0, lit< tt, refl)
+  receiver_more (may_load _) stands_looked = (0, lit< tt, refl)
+  receiver_more (may_load _) stands_between = (0, lit< tt, refl)
   receiver_more (may_load_closed c) (stands_over _) = (0, lit< tt, refl)
-  receiver_more (may_store k) stands_looked = (2, lit< tt, refl)
+  receiver_more (may_store k) stands_looked = (3, lit< tt, refl)
   receiver_more (may_wait w) (stands_waiting _) = (0, lit< tt, refl)
+  receiver_more (may_stop w) (stands_waiting _) = (2, lit< tt, refl)
+  receiver_more may_wait_on stands_overdue = (0, lit< tt, refl)
   receiver_more (may_close g left x) (stands_full _ _) = (0, lit< tt, refl)
   receiver_more (may_close_only left) (stands_unclosed _) = (0, lit< tt, refl)
-  receiver_more may_drop_first stands_first = (3, lit< tt, refl)
-  receiver_more may_drop stands_looked = (5, lit< tt, refl)
-  receiver_more (may_drop_closed c) (stands_over _) = (3, lit< tt, refl)
+  receiver_more may_drop_first stands_first = (4, lit< tt, refl)
+  receiver_more (may_drop _) stands_looked = (7, lit< tt, refl)
+  receiver_more (may_drop _) stands_between = (4, lit< tt, refl)
+  receiver_more (may_drop_closed c) (stands_over _) = (4, lit< tt, refl)
 
   -- what is allowed may find some word
   sender_word : {p : SenderAt} {op : Op} {m : Held T} {w : Held W} → SenderMay p op m w → (word : ℕ) × (m' : Held T) × (w' : Held W) × SenderFinds p op word m w m' w'
@@ -194,14 +221,16 @@ module _ {T W : Type 0} where
 
   receiver_word : {q : ReceiverAt} {op : Op} {m : Held T} {w : Held W} → ReceiverMay q op m w → (word : ℕ) × (m' : Held T) × (w' : Held W) × ReceiverFinds q op word m w m' w'
   receiver_word may_load_first = (3, away, vacant, first_empty)
-  receiver_word may_load = (3, away, vacant, load_empty)
+  receiver_word (may_load o) = (3, away, vacant, load_empty o)
   receiver_word (may_load_closed c) = (2, vacant, vacant, load_over c)
   receiver_word (may_store k) = (3, away, away, store_empty k)
   receiver_word (may_wait w) = (0, away, away, wait_longer w)
+  receiver_word (may_stop w) = (1, away, away, stop_claimed w)
+  receiver_word may_wait_on = (3, away, away, late_longer)
   receiver_word (may_close g left x) = (left, held x, vacant, close g left x)
   receiver_word (may_close_only left) = (left, vacant, vacant, close_only left)
   receiver_word may_drop_first = (3, away, away, drop_first_empty)
-  receiver_word may_drop = (3, away, away, drop_empty)
+  receiver_word (may_drop o) = (3, away, away, drop_empty o)
   receiver_word (may_drop_closed c) = (2, vacant, vacant, drop_over c)
 
   -- and only words that are accepted
@@ -214,14 +243,19 @@ module _ {T W : Type 0} where
   sender_ready _ flip_gone stands_fresh = refl
   sender_ready _ (finish_send x) owes_send = refl
   sender_ready _ finish_drop owes_drop = refl
+  sender_ready _ (finish_late_send x) owes_send = refl
+  sender_ready _ finish_late_drop owes_drop = refl
 
   receiver_ready : {q : ReceiverAt} {op : Op} {m m' : Held T} {w w' : Held W} {ps : List ReceiverPos} (word : ℕ) → ReceiverFinds q op word m w m' w' → ReceiverStands q ps → list_all (is_ready receiver_table op word) ps ≡ true
   receiver_ready _ first_empty stands_first = refl
   receiver_ready _ (first_message x) stands_first = refl
   receiver_ready _ first_closed stands_first = refl
-  receiver_ready _ load_empty stands_looked = refl
-  receiver_ready _ (load_message x) stands_looked = refl
-  receiver_ready _ load_closed stands_looked = refl
+  receiver_ready _ (load_empty _) stands_looked = refl
+  receiver_ready _ (load_message _ x) stands_looked = refl
+  receiver_ready _ (load_closed _) stands_looked = refl
+  receiver_ready _ (load_empty _) stands_between = refl
+  receiver_ready _ (load_message _ x) stands_between = refl
+  receiver_ready _ (load_closed _) stands_between = refl
   receiver_ready _ (load_over c) (stands_over _) = refl
   receiver_ready _ (store_empty k) stands_looked = refl
   receiver_ready _ (store_message x k) stands_looked = refl
@@ -230,14 +264,24 @@ module _ {T W : Type 0} where
   receiver_ready _ (wait_claimed w) (stands_waiting _) = refl
   receiver_ready _ (wait_message w x) (stands_waiting _) = refl
   receiver_ready _ (wait_closed w) (stands_waiting _) = refl
+  receiver_ready _ (stop_waiting w k) (stands_waiting _) = refl
+  receiver_ready _ (stop_claimed w) (stands_waiting _) = refl
+  receiver_ready _ (stop_message w x) (stands_waiting _) = refl
+  receiver_ready _ (stop_closed w) (stands_waiting _) = refl
+  receiver_ready _ late_longer stands_overdue = refl
+  receiver_ready _ (late_message x) stands_overdue = refl
+  receiver_ready _ late_closed stands_overdue = refl
   receiver_ready _ (close g left x) (stands_full _ _) = refl
   receiver_ready _ (close_only left) (stands_unclosed _) = refl
   receiver_ready _ drop_first_empty stands_first = refl
   receiver_ready _ (drop_first_message x) stands_first = refl
   receiver_ready _ drop_first_closed stands_first = refl
-  receiver_ready _ drop_empty stands_looked = refl
-  receiver_ready _ (drop_message x) stands_looked = refl
-  receiver_ready _ drop_closed stands_looked = refl
+  receiver_ready _ (drop_empty _) stands_looked = refl
+  receiver_ready _ (drop_message _ x) stands_looked = refl
+  receiver_ready _ (drop_closed _) stands_looked = refl
+  receiver_ready _ (drop_empty _) stands_between = refl
+  receiver_ready _ (drop_message _ x) stands_between = refl
+  receiver_ready _ (drop_closed _) stands_between = refl
   receiver_ready _ (drop_over c) (stands_over _) = refl
 
 pub sender_exact : (T W : Type 0) → SenderIsExact T W

@@ -1,15 +1,15 @@
 -- The examples, computed.
-use Rattle.std.proofs.Common.{◌≡◌, ℕ, List, [], ◌∷◌, Option, Some, refl, subst}
+use Rattle.std.proofs.Common.{◌≡◌, ℕ, List, [], ◌∷◌, Option, Some, true, false, refl, subst}
 use Rattle.oneshot_machine.specs.declared.machine.Reply.{Reply}
 use Rattle.oneshot_machine.specs.declared.machine.Seen.{Seen}
 use Rattle.oneshot_machine.specs.declared.machine.Step.{Step}
-use Rattle.oneshot_machine.specs.declared.machine.receiver.ReceiverPos.TheVariants.{Close, Take, CloseOnly, StartWrite, StartSwap, BackFull, BackClosed, Park, ParkLoad, RecvWrite, RecvSwap, RecvBackClosed, RecvPark, RecvParkLoad, RecvTake, RecvFreeGot, RecvFreeGone, DropMessage, DropFree}
+use Rattle.oneshot_machine.specs.declared.machine.receiver.ReceiverPos.TheVariants.{Close, Take, CloseOnly, StartLoad, StartWrite, StartSwap, BackFull, BackClosed, Park, ParkLoad, Clock, TimedPark, TimedLoad, EndSwap, EndBack, LatePark, LateLoad, RecvWrite, RecvSwap, RecvBackClosed, RecvPark, RecvParkLoad, RecvTake, RecvFreeGot, RecvFreeGone, DropMessage, DropFree}
 use Rattle.oneshot_machine.specs.declared.machine.sender.SenderPos.TheVariants.{SendAdd, SendTakeWaker, SendFinal, SendWake, DropTakeWaker, DropFinal, DropWake, IntoFree, ErrorFree}
 use Rattle.oneshot_machine.specs.declared.machine.sender.SenderPos.TheVariants as SP
-use Rattle.oneshot_machine.specs.Logs.{Event}
+use Rattle.oneshot_machine.specs.Logs.{Event, clocked}
 use Rattle.oneshot_machine.specs.Rows.{Outcome, Goes, Answers}
 use Rattle.oneshot_machine.specs.Runs.{Run, last, more}
-use Rattle.oneshot_machine.specs.Examples.{SenderLists, ReceiverLists, RunsThatAre, RunsThatAreNot}
+use Rattle.oneshot_machine.specs.Examples.{SenderLists, ReceiverLists, ReceiverRun, waited_once, running_out, RunsThatAre, RunsThatAreNot}
 
 pub sender_lists : SenderLists
 sender_lists =
@@ -19,6 +19,7 @@ sender_lists =
       sent_too_late = refl;
       found_a_waker = refl;
       sent_to_it = refl;
+      sent_to_one_that_stopped = refl;
       dropped = refl;
       dropped_before_it = refl;
       dropped_too_late = refl;
@@ -46,6 +47,12 @@ receiver_lists =
       waited_for_it = refl;
       found_it_by_its_swap = refl;
       found_nobody_by_its_swap = refl;
+      ran_out = refl;
+      ran_out_and_tried_again = refl;
+      ran_out_over_a_message = refl;
+      ran_out_over_a_drop = refl;
+      ran_out_too_late = refl;
+      waited_for_the_sender = refl;
       put_it_back = refl;
       dropped_early = refl;
       dropped_over_a_message = refl;
@@ -59,6 +66,9 @@ receiver_lists =
       waits_without_a_look = refl;
       drops_while_it_waits = refl;
       waits_on_a_word_that_it_left = refl;
+      leaves_its_late_word = refl;
+      waits_without_a_second_look = refl;
+      stops_before_it_waits = refl;
       adds = refl;
     }
 
@@ -76,8 +86,8 @@ runs_that_are =
       finds_nothing = last _ refl refl;
       finds_no_sender = last _ refl refl;
       waits_for_it =
-          more StartWrite _ _ refl refl
-          (more StartSwap _ _ refl refl
+          more (StartWrite false) _ _ refl refl
+          (more (StartSwap false) _ _ refl refl
           (more Park _ _ refl refl
           (more ParkLoad _ _ refl refl
           (more Park _ _ refl refl
@@ -86,18 +96,64 @@ runs_that_are =
           (more Take _ _ refl refl
           (last _ refl refl))))))));
       need_not_wait =
-          more StartWrite _ _ refl refl
-          (more StartSwap _ _ refl refl
+          more (StartWrite false) _ _ refl refl
+          (more (StartSwap false) _ _ refl refl
           (more BackFull _ _ refl refl
           (more Close _ _ refl refl
           (more Take _ _ refl refl
           (last _ refl refl)))));
       waits_for_nobody =
-          more StartWrite _ _ refl refl
-          (more StartSwap _ _ refl refl
+          more (StartWrite false) _ _ refl refl
+          (more (StartSwap false) _ _ refl refl
           (more BackClosed _ _ refl refl
           (more CloseOnly _ _ refl refl
           (last _ refl refl))));
+      runs_out =
+          more (StartWrite true) _ _ refl refl
+          (more (StartSwap true) _ _ refl refl
+          (more Clock _ _ refl refl
+          (more TimedPark _ _ refl refl
+          (more TimedLoad _ _ refl refl
+          (more Clock _ _ refl refl
+          (more EndSwap _ _ refl refl
+          (more EndBack _ _ refl refl
+          (last _ refl refl))))))));
+      runs_out_after_its_sum =
+          more (StartLoad true) _ _ refl refl
+          (more (StartWrite true) _ _ refl refl
+          (more (StartSwap true) _ _ refl refl
+          (more Clock _ _ refl refl
+          (more TimedPark _ _ refl refl
+          (more TimedLoad _ _ refl refl
+          (more Clock _ _ refl refl
+          (more EndSwap _ _ refl refl
+          (more EndBack _ _ refl refl
+          (last _ refl refl)))))))));
+      runs_out_over_a_message =
+          more (StartWrite true) _ _ refl refl
+          (more (StartSwap true) _ _ refl refl
+          (more Clock _ _ refl refl
+          (more TimedPark _ _ refl refl
+          (more TimedLoad _ _ refl refl
+          (more Clock _ _ refl refl
+          (more EndSwap _ _ refl refl
+          (more Close _ _ refl refl
+          (more Take _ _ refl refl
+          (last _ refl refl)))))))));
+      waits_for_the_sender =
+          more (StartWrite true) _ _ refl refl
+          (more (StartSwap true) _ _ refl refl
+          (more Clock _ _ refl refl
+          (more TimedPark _ _ refl refl
+          (more TimedLoad _ _ refl refl
+          (more Clock _ _ refl refl
+          (more EndSwap _ _ refl refl
+          (more LatePark _ _ refl refl
+          (more LateLoad _ _ refl refl
+          (more LatePark _ _ refl refl
+          (more LateLoad _ _ refl refl
+          (last _ refl refl)))))))))));
+      never_runs_out = more (StartLoad false) _ _ refl refl (last _ refl refl);
       waits_and_frees =
           more RecvWrite _ _ refl refl
           (more RecvSwap _ _ refl refl
@@ -148,6 +204,15 @@ module _ {P : Type 0} {step : P → Step} {row : P → Seen → Option (Outcome 
       let same : on.0 ≡ q = cc in
       subst (λ p. Run step row p (y ∷ ys) r) same on.2
 
+-- a receive with a deadline that waited once asks its clock again
+asks_again : {ys : List (Event ℕ ℕ)} {r : Reply} → ReceiverRun (StartLoad true) (waited_once ++ clocked true ∷ ys) r → ReceiverRun Clock (clocked true ∷ ys) r
+asks_again run =
+    goes_on Clock refl (goes_on TimedLoad refl (goes_on TimedPark refl (goes_on Clock refl (goes_on (StartSwap true) refl (goes_on (StartWrite true) refl run)))))
+
+-- and swaps where it is over
+ends_its_wait : {y : Event ℕ ℕ} {ys : List (Event ℕ ℕ)} {r : Reply} → ReceiverRun (StartLoad true) (running_out ++ y ∷ ys) r → ReceiverRun EndSwap (y ∷ ys) r
+ends_its_wait run = goes_on EndSwap refl (asks_again run)
+
 pub runs_that_are_not : RunsThatAreNot
 runs_that_are_not =
     record {
@@ -161,8 +226,11 @@ runs_that_are_not =
       wakes_before_its_swap = λ r run. let e = begins (goes_on SendFinal refl (goes_on SendTakeWaker refl (goes_on SendAdd refl run))) in cc;
       answers_unwoken =
           λ r run. let e =
-          answers (goes_on ParkLoad refl (goes_on Park refl (goes_on ParkLoad refl (goes_on Park refl (goes_on StartSwap refl (goes_on StartWrite refl run))))))
+          answers (goes_on ParkLoad refl (goes_on Park refl (goes_on ParkLoad refl (goes_on Park refl (goes_on (StartSwap false) refl (goes_on (StartWrite false) refl run))))))
           in cc;
-      parks_before_it_swaps = λ r run. let e = begins (goes_on StartSwap refl (goes_on StartWrite refl run)) in cc;
+      parks_before_it_swaps = λ r run. let e = begins (goes_on (StartSwap false) refl (goes_on (StartWrite false) refl run)) in cc;
+      runs_out_over_4 = λ run. let e = answers (ends_its_wait run) in cc;
+      runs_out_over_1 = λ run. let e = answers (ends_its_wait run) in cc;
+      runs_out_by_the_clock_alone = λ r run. let e = answers (asks_again run) in cc;
       loses_the_message = λ r run. let e = begins (goes_on DropMessage refl run) in cc;
     }

@@ -1,19 +1,19 @@
 -- Lists and runs that an end makes, and some that none makes.
 use Rattle.std.specs.Prelude.{◌≡◌, ℕ, true, false, List, [], ◌∷◌, ◌++◌}
 use Rattle.oneshot_machine.specs.declared.machine.Reply.{Reply}
-use Rattle.oneshot_machine.specs.declared.machine.Reply.TheVariants.{Sent, Refused, Message, Empty, Disconnected}
+use Rattle.oneshot_machine.specs.declared.machine.Reply.TheVariants.{Sent, Refused, Message, Empty, Timeout, Disconnected}
 use Rattle.oneshot_machine.specs.declared.machine.Reply.TheVariants as R
 use Rattle.oneshot_machine.specs.declared.machine.Seen.TheVariants.{Done, Word}
 use Rattle.oneshot_machine.specs.declared.machine.Step.TheVariants.{DropMessage, WriteWaker, TakeWaker, Withdraw, Wake, Free}
 use Rattle.oneshot_machine.specs.declared.machine.receiver.ReceiverPos.{ReceiverPos}
-use Rattle.oneshot_machine.specs.declared.machine.receiver.ReceiverPos.TheVariants.{TryLoad, StartLoad, RecvLoad, DropSwap}
+use Rattle.oneshot_machine.specs.declared.machine.receiver.ReceiverPos.TheVariants.{TryLoad, SumClock, StartLoad, RecvLoad, DropSwap}
 use Rattle.oneshot_machine.specs.declared.machine.sender.SenderPos.{SenderPos}
 use Rattle.oneshot_machine.specs.declared.machine.sender.SenderPos.TheVariants.{SendWrite, DropXor, IntoTake, ErrorDrop}
 use Rattle.oneshot_machine.specs.declared.states.Op.TheVariants.{Load, Store, Swap, Add, Xor}
 use Rattle.oneshot_machine.specs.Sender.{sender_step, sender_row}
 use Rattle.oneshot_machine.specs.Receiver.{receiver_step, receiver_row}
-use Rattle.oneshot_machine.specs.Phases.{sending, dropping, fresh, owes, finished, late, no_sender, sender_at, first, here, looked, waits, blocked, full, at_once, waited, unclosed, over, found_closed, closed_itself, gone, ended, no_receiver, receiver_at}
-use Rattle.oneshot_machine.specs.Logs.{Event, did, wrote, took, handed, parked, worded, words, kept, messages_given, messages_got}
+use Rattle.oneshot_machine.specs.Phases.{sending, dropping, fresh, owes, finished, late, no_sender, sender_at, first, here, looked, between, waits, blocked, overdue, full, at_once, waited, unclosed, over, found_closed, closed_itself, gone, ended, no_receiver, receiver_at}
+use Rattle.oneshot_machine.specs.Logs.{Event, did, wrote, took, handed, parked, clocked, worded, words, kept, messages_given, messages_got}
 use Rattle.oneshot_machine.specs.Runs.{Run}
 
 -- how far a sender's list takes it
@@ -23,6 +23,7 @@ pub record SenderLists : Type 0 where
   pub sent_too_late : sender_at ((Add, Word 2) ∷ []) ≡ late sending 3
   pub found_a_waker : sender_at ((Add, Word 0) ∷ []) ≡ owes sending
   pub sent_to_it : sender_at ((Add, Word 0) ∷ (Swap 4, Word 1) ∷ []) ≡ finished sending
+  pub sent_to_one_that_stopped : sender_at ((Add, Word 0) ∷ (Swap 4, Word 3) ∷ []) ≡ finished sending
   pub dropped : sender_at ((Xor, Word 3) ∷ []) ≡ finished dropping
   pub dropped_before_it : sender_at ((Xor, Word 0) ∷ (Swap 2, Word 1) ∷ []) ≡ finished dropping
   pub dropped_too_late : sender_at ((Xor, Word 2) ∷ []) ≡ late dropping 3
@@ -51,6 +52,17 @@ pub record ReceiverLists : Type 0 where
       receiver_at ((Load, Word 3) ∷ (Swap 0, Word 3) ∷ (Load, Word 4) ∷ []) ≡ full waited 4
   pub found_it_by_its_swap : receiver_at ((Load, Word 3) ∷ (Swap 0, Word 4) ∷ []) ≡ full waited 0
   pub found_nobody_by_its_swap : receiver_at ((Load, Word 3) ∷ (Swap 0, Word 2) ∷ []) ≡ unclosed 0
+  pub ran_out : receiver_at ((Load, Word 3) ∷ (Swap 0, Word 3) ∷ (Swap 3, Word 0) ∷ []) ≡ here between
+  pub ran_out_and_tried_again :
+      receiver_at ((Load, Word 3) ∷ (Swap 0, Word 3) ∷ (Swap 3, Word 0) ∷ (Load, Word 3) ∷ []) ≡ here looked
+  pub ran_out_over_a_message :
+      receiver_at ((Load, Word 3) ∷ (Swap 0, Word 3) ∷ (Swap 3, Word 4) ∷ []) ≡ full waited 3
+  pub ran_out_over_a_drop :
+      receiver_at ((Load, Word 3) ∷ (Swap 0, Word 3) ∷ (Swap 3, Word 2) ∷ []) ≡ unclosed 3
+  pub ran_out_too_late : receiver_at ((Load, Word 3) ∷ (Swap 0, Word 3) ∷ (Swap 3, Word 1) ∷ []) ≡ overdue
+  pub waited_for_the_sender :
+      receiver_at ((Load, Word 3) ∷ (Swap 0, Word 3) ∷ (Swap 3, Word 1) ∷ (Load, Word 3) ∷ (Load, Word 4) ∷ [])
+      ≡ full waited 4
   pub put_it_back :
       receiver_at ((Load, Word 3) ∷ (Swap 0, Word 2) ∷ (Store 2, Done) ∷ []) ≡ over closed_itself
   pub dropped_early : receiver_at ((Load, Word 3) ∷ (Swap 2, Word 3) ∷ []) ≡ gone
@@ -68,6 +80,11 @@ pub record ReceiverLists : Type 0 where
       receiver_at ((Load, Word 3) ∷ (Swap 0, Word 3) ∷ (Swap 2, Word 0) ∷ []) ≡ no_receiver
   pub waits_on_a_word_that_it_left :
       receiver_at ((Load, Word 3) ∷ (Swap 0, Word 3) ∷ (Load, Word 3) ∷ []) ≡ no_receiver
+  pub leaves_its_late_word :
+      receiver_at ((Load, Word 3) ∷ (Swap 0, Word 3) ∷ (Swap 3, Word 1) ∷ (Swap 2, Word 3) ∷ []) ≡ no_receiver
+  pub waits_without_a_second_look :
+      receiver_at ((Load, Word 3) ∷ (Swap 0, Word 3) ∷ (Swap 3, Word 0) ∷ (Swap 0, Word 3) ∷ []) ≡ no_receiver
+  pub stops_before_it_waits : receiver_at ((Load, Word 3) ∷ (Swap 3, Word 3) ∷ []) ≡ no_receiver
   pub adds : receiver_at ((Add, Word 3) ∷ []) ≡ no_receiver
 
 abbrev pub SenderRun : SenderPos → List (Event ℕ ℕ) → Reply → Type 0
@@ -102,6 +119,15 @@ waiting =
 abbrev pub withdrawing : ℕ → List (Event ℕ ℕ)
 withdrawing word = worded Load 3 ∷ handed WriteWaker 1 ∷ worded (Swap 0) word ∷ handed Withdraw 1 ∷ []
 
+-- one with a deadline that waits once
+abbrev pub waited_once : List (Event ℕ ℕ)
+waited_once =
+    worded Load 3 ∷ handed WriteWaker 1 ∷ worded (Swap 0) 3 ∷ clocked false ∷ parked false ∷ worded Load 0 ∷ []
+
+-- and then finds it over
+abbrev pub running_out : List (Event ℕ ℕ)
+running_out = waited_once ++ clocked true ∷ []
+
 -- steps that are a run of the call, with this reply
 pub record RunsThatAre : Type 0 where
   pub sends : SenderRun SendWrite sending_7 Sent
@@ -116,11 +142,23 @@ pub record RunsThatAre : Type 0 where
   pub finds_nothing : ReceiverRun TryLoad (worded Load 3 ∷ []) Empty
   pub finds_no_sender : ReceiverRun TryLoad (worded Load 2 ∷ []) Disconnected
   pub waits_for_it :
-      ReceiverRun StartLoad (waiting ++ worded (Store 2) 4 ∷ took 7 ∷ []) Message
+      ReceiverRun (StartLoad false) (waiting ++ worded (Store 2) 4 ∷ took 7 ∷ []) Message
   pub need_not_wait :
-      ReceiverRun StartLoad (withdrawing 4 ++ worded (Store 2) 0 ∷ took 7 ∷ []) Message
+      ReceiverRun (StartLoad false) (withdrawing 4 ++ worded (Store 2) 0 ∷ took 7 ∷ []) Message
   pub waits_for_nobody :
-      ReceiverRun StartLoad (withdrawing 2 ++ worded (Store 2) 0 ∷ []) Disconnected
+      ReceiverRun (StartLoad false) (withdrawing 2 ++ worded (Store 2) 0 ∷ []) Disconnected
+  pub runs_out :
+      ReceiverRun (StartLoad true) (running_out ++ worded (Swap 3) 0 ∷ handed Withdraw 1 ∷ []) Timeout
+  pub runs_out_after_its_sum :
+      ReceiverRun (SumClock true) (clocked true ∷ running_out ++ worded (Swap 3) 0 ∷ handed Withdraw 1 ∷ []) Timeout
+  pub runs_out_over_a_message :
+      ReceiverRun (StartLoad true) (running_out ++ worded (Swap 3) 4 ∷ worded (Store 2) 3 ∷ took 7 ∷ []) Message
+  pub waits_for_the_sender :
+      ReceiverRun
+      (StartLoad true)
+      (running_out ++ worded (Swap 3) 1 ∷ parked false ∷ worded Load 3 ∷ parked true ∷ worded Load 2 ∷ [])
+      Disconnected
+  pub never_runs_out : ReceiverRun (SumClock false) (clocked false ∷ worded Load 2 ∷ []) Disconnected
   pub waits_and_frees : ReceiverRun RecvLoad (waiting ++ took 7 ∷ did Free ∷ []) Message
   pub waits_for_nobody_and_frees : ReceiverRun RecvLoad (withdrawing 2 ++ did Free ∷ []) Disconnected
   pub drops_the_message : ReceiverRun DropSwap (worded (Swap 2) 4 ∷ did DropMessage ∷ did Free ∷ []) R.Done
@@ -144,7 +182,12 @@ pub record RunsThatAreNot : Type 0 where
   pub says_that_all_are_gone : ReceiverRun TryLoad (worded Load 3 ∷ []) Disconnected → ⊥
   pub wakes_before_its_swap :
       (r : Reply) → SenderRun SendWrite (wrote 7 ∷ worded Add 0 ∷ handed TakeWaker 1 ∷ handed Wake 1 ∷ []) r → ⊥
-  pub answers_unwoken : (r : Reply) → ReceiverRun StartLoad waiting r → ⊥
+  pub answers_unwoken : (r : Reply) → ReceiverRun (StartLoad false) waiting r → ⊥
   pub parks_before_it_swaps :
-      (r : Reply) → ReceiverRun StartLoad (worded Load 3 ∷ handed WriteWaker 1 ∷ parked true ∷ []) r → ⊥
+      (r : Reply) → ReceiverRun (StartLoad false) (worded Load 3 ∷ handed WriteWaker 1 ∷ parked true ∷ []) r → ⊥
+  pub runs_out_over_4 :
+      ReceiverRun (StartLoad true) (running_out ++ worded (Swap 3) 4 ∷ []) Timeout → ⊥
+  pub runs_out_over_1 :
+      ReceiverRun (StartLoad true) (running_out ++ worded (Swap 3) 1 ∷ []) Timeout → ⊥
+  pub runs_out_by_the_clock_alone : (r : Reply) → ReceiverRun (StartLoad true) running_out r → ⊥
   pub loses_the_message : (r : Reply) → ReceiverRun DropSwap (worded (Swap 2) 4 ∷ did Free ∷ []) r → ⊥

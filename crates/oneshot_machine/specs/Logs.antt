@@ -3,9 +3,9 @@ use Rattle.std.specs.Prelude.{◌≡◌, ℕ, Bool, true, false, List, ◌++◌,
 use Rattle.std.specs.List.{filter_map}
 use Rattle.std.specs.Option.{option_map}
 use Rattle.oneshot_machine.specs.declared.machine.Seen.{Seen}
-use Rattle.oneshot_machine.specs.declared.machine.Seen.TheVariants.{Done, Token}
+use Rattle.oneshot_machine.specs.declared.machine.Seen.TheVariants.{Done, Over, Token}
 use Rattle.oneshot_machine.specs.declared.machine.Step.{Step}
-use Rattle.oneshot_machine.specs.declared.machine.Step.TheVariants.{Word, WriteMessage, TakeMessage, Park}
+use Rattle.oneshot_machine.specs.declared.machine.Step.TheVariants.{Word, WriteMessage, TakeMessage, Park, Clock}
 use Rattle.oneshot_machine.specs.declared.states.Op.{Op}
 use Rattle.oneshot_machine.specs.Words.{Noted, saw, op_of}
 use Rattle.oneshot_machine.specs.Phases.{SenderAt, sender_at, ReceiverAt, receiver_at}
@@ -43,6 +43,10 @@ module _ {T W : Type 0} where
   -- a park that ended by its token, or without one
   abbrev pub parked : Bool → Event T W
   parked woken = record { step = Park; seen = Token woken; message = None; waker = None }
+
+  -- a clock's answer
+  abbrev pub clocked : Bool → Event T W
+  clocked over = record { step = Clock; seen = Over over; message = None; waker = None }
 
   -- an operation that found this word
   abbrev pub worded : Op → ℕ → Event T W

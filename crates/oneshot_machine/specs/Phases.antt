@@ -27,6 +27,8 @@ pub data SenderAt : Type 0 where
 pub data Open : Type 0 where
   -- its last operation is a load that found 3
   looked : Open
+  -- its last operation is the swap that ended its wait: its deadline was over, and it found 0
+  between : Open
 
 -- a receiver whose waker is stored
 pub data Waiting : Type 0 where
@@ -51,6 +53,8 @@ pub data ReceiverAt : Type 0 where
   here : Open → ReceiverAt
   -- its waker is stored, unless the sender took it since
   waits : Waiting → ReceiverAt
+  -- its deadline was over, but the sender had its waker: it waits for the sender's final swap
+  overdue : ReceiverAt
   -- it has the message, and the word is now this
   full : Got → ℕ → ReceiverAt
   -- it found 2 by a swap that left this word
@@ -80,7 +84,7 @@ sender_next fresh Add (Word word) =
 sender_next fresh Xor (Word word) =
     leads no_sender word ((3, finished dropping) ∷ (0, owes dropping) ∷ (2, late dropping 3) ∷ [])
 sender_next (owes by) (Swap new) (Word word) =
-    if new == final_word by then leads no_sender word ((1, finished by) ∷ []) else no_sender
+    if new == final_word by then leads no_sender word ((1, finished by) ∷ (3, finished by) ∷ []) else no_sender
 sender_next _ _ _ = no_sender
 
 -- the load of a receiver that is open
@@ -98,6 +102,16 @@ abbrev pub still : Waiting → ℕ → ReceiverAt
 still w word =
     leads no_receiver word ((0, waits w) ∷ (1, waits w) ∷ (4, full waited 4) ∷ (2, over found_closed) ∷ [])
 
+-- the swap of one whose deadline is over
+abbrev pub stopped : ℕ → ReceiverAt
+stopped word =
+    leads no_receiver word ((0, here between) ∷ (1, overdue) ∷ (4, full waited 3) ∷ (2, unclosed 3) ∷ [])
+
+-- the load of one that is overdue
+abbrev pub still_overdue : ℕ → ReceiverAt
+still_overdue word =
+    leads no_receiver word ((3, overdue) ∷ (4, full waited 4) ∷ (2, over found_closed) ∷ [])
+
 -- the swap of a drop
 abbrev pub dropped : ℕ → ReceiverAt
 dropped word = leads no_receiver word ((3, gone) ∷ (4, ended) ∷ (2, ended) ∷ [])
@@ -105,10 +119,13 @@ dropped word = leads no_receiver word ((3, gone) ∷ (4, ended) ∷ (2, ended) �
 abbrev pub receiver_next : ReceiverAt → Op → Seen → ReceiverAt
 receiver_next first Load (Word word) = loaded word
 receiver_next first (Swap new) (Word word) = if new == 2 then dropped word else no_receiver
-receiver_next (here looked) Load (Word word) = loaded word
+receiver_next (here o) Load (Word word) = loaded word
 receiver_next (here looked) (Swap new) (Word word) =
     if new == 2 then dropped word else (if new == 0 then stored word else no_receiver)
+receiver_next (here between) (Swap new) (Word word) = if new == 2 then dropped word else no_receiver
 receiver_next (waits w) Load (Word word) = still w word
+receiver_next (waits w) (Swap new) (Word word) = if new == 3 then stopped word else no_receiver
+receiver_next overdue Load (Word word) = still_overdue word
 receiver_next (full got left) (Store new) Done =
     if new == 2 then over closed_itself else no_receiver
 receiver_next (unclosed left) (Store new) Done =

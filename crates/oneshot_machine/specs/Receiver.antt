@@ -1,12 +1,12 @@
 -- The receiver's table.
 use Rattle.std.specs.Prelude.{true, false, Option, [], ◌∷◌}
 use Rattle.oneshot_machine.specs.declared.machine.receiver.ReceiverStart.{ReceiverStart}
-use Rattle.oneshot_machine.specs.declared.machine.receiver.ReceiverStart.TheVariants.{TryRecv, Recv, RecvRef, HasMessage, IsClosed, Drop}
+use Rattle.oneshot_machine.specs.declared.machine.receiver.ReceiverStart.TheVariants.{TryRecv, Recv, RecvRef, RecvDeadline, RecvTimeout, HasMessage, IsClosed, Drop}
 use Rattle.oneshot_machine.specs.declared.machine.receiver.ReceiverPos.{ReceiverPos}
-use Rattle.oneshot_machine.specs.declared.machine.receiver.ReceiverPos.TheVariants.{LookFull, LookClosed, TryLoad, Close, Take, CloseOnly, StartLoad, StartWrite, StartSwap, BackFull, BackClosed, Park, ParkLoad, RecvLoad, RecvWrite, RecvSwap, RecvBackFull, RecvBackClosed, RecvPark, RecvParkLoad, RecvTake, RecvFreeGot, RecvFreeGone, DropSwap, DropMessage, DropFree}
+use Rattle.oneshot_machine.specs.declared.machine.receiver.ReceiverPos.TheVariants.{LookFull, LookClosed, TryLoad, Close, Take, CloseOnly, SumClock, StartLoad, StartWrite, StartSwap, BackFull, BackClosed, Park, ParkLoad, Clock, TimedPark, TimedLoad, EndSwap, EndBack, LatePark, LateLoad, RecvLoad, RecvWrite, RecvSwap, RecvBackFull, RecvBackClosed, RecvPark, RecvParkLoad, RecvTake, RecvFreeGot, RecvFreeGone, DropSwap, DropMessage, DropFree}
 use Rattle.oneshot_machine.specs.declared.machine.Reply.TheVariants as R
 use Rattle.oneshot_machine.specs.declared.machine.Seen.{Seen}
-use Rattle.oneshot_machine.specs.declared.machine.Seen.TheVariants.{Done, Word, Token}
+use Rattle.oneshot_machine.specs.declared.machine.Seen.TheVariants.{Done, Word, Over, Token}
 use Rattle.oneshot_machine.specs.declared.machine.Step.{Step}
 use Rattle.oneshot_machine.specs.declared.machine.Step.TheVariants as T
 use Rattle.oneshot_machine.specs.declared.states.Op.TheVariants as O
@@ -15,7 +15,9 @@ use Rattle.oneshot_machine.specs.Rows.{Outcome, Goes, Answers, Rows, row_for}
 abbrev pub receiver_start : ReceiverStart → ReceiverPos
 receiver_start TryRecv = TryLoad
 receiver_start Recv = RecvLoad
-receiver_start RecvRef = StartLoad
+receiver_start RecvRef = StartLoad false
+receiver_start RecvDeadline = StartLoad true
+receiver_start (RecvTimeout representable) = SumClock representable
 receiver_start HasMessage = LookFull
 receiver_start IsClosed = LookClosed
 receiver_start Drop = DropSwap
@@ -27,13 +29,21 @@ receiver_step TryLoad = T.Word O.Load
 receiver_step Close = T.Word (O.Store 2)
 receiver_step Take = T.TakeMessage
 receiver_step CloseOnly = T.Word (O.Store 2)
-receiver_step StartLoad = T.Word O.Load
-receiver_step StartWrite = T.WriteWaker
-receiver_step StartSwap = T.Word (O.Swap 0)
+receiver_step (SumClock representable) = T.Clock
+receiver_step (StartLoad timed) = T.Word O.Load
+receiver_step (StartWrite timed) = T.WriteWaker
+receiver_step (StartSwap timed) = T.Word (O.Swap 0)
 receiver_step BackFull = T.Withdraw
 receiver_step BackClosed = T.Withdraw
 receiver_step Park = T.Park
 receiver_step ParkLoad = T.Word O.Load
+receiver_step Clock = T.Clock
+receiver_step TimedPark = T.Park
+receiver_step TimedLoad = T.Word O.Load
+receiver_step EndSwap = T.Word (O.Swap 3)
+receiver_step EndBack = T.Withdraw
+receiver_step LatePark = T.Park
+receiver_step LateLoad = T.Word O.Load
 receiver_step RecvLoad = T.Word O.Load
 receiver_step RecvWrite = T.WriteWaker
 receiver_step RecvSwap = T.Word (O.Swap 0)
@@ -58,16 +68,30 @@ receiver_rows TryLoad =
 receiver_rows Close = (Done, Goes Take) ∷ []
 receiver_rows Take = (Done, Answers R.Message) ∷ []
 receiver_rows CloseOnly = (Done, Answers R.Disconnected) ∷ []
-receiver_rows StartLoad =
-    (Word 4, Goes Close) ∷ (Word 2, Answers R.Disconnected) ∷ (Word 3, Goes StartWrite) ∷ []
-receiver_rows StartWrite = (Done, Goes StartSwap) ∷ []
-receiver_rows StartSwap =
+receiver_rows (SumClock representable) =
+    (Over true, Goes (StartLoad representable)) ∷ (Over false, Goes (StartLoad representable)) ∷ []
+receiver_rows (StartLoad timed) =
+    (Word 4, Goes Close) ∷ (Word 2, Answers R.Disconnected) ∷ (Word 3, Goes (StartWrite timed)) ∷ []
+receiver_rows (StartWrite timed) = (Done, Goes (StartSwap timed)) ∷ []
+receiver_rows (StartSwap false) =
     (Word 3, Goes Park) ∷ (Word 4, Goes BackFull) ∷ (Word 2, Goes BackClosed) ∷ []
+receiver_rows (StartSwap true) =
+    (Word 3, Goes Clock) ∷ (Word 4, Goes BackFull) ∷ (Word 2, Goes BackClosed) ∷ []
 receiver_rows BackFull = (Done, Goes Close) ∷ []
 receiver_rows BackClosed = (Done, Goes CloseOnly) ∷ []
 receiver_rows Park = (Token true, Goes ParkLoad) ∷ (Token false, Goes ParkLoad) ∷ []
 receiver_rows ParkLoad =
     (Word 4, Goes Close) ∷ (Word 2, Answers R.Disconnected) ∷ (Word 0, Goes Park) ∷ (Word 1, Goes Park) ∷ []
+receiver_rows Clock = (Over false, Goes TimedPark) ∷ (Over true, Goes EndSwap) ∷ []
+receiver_rows TimedPark = (Token true, Goes TimedLoad) ∷ (Token false, Goes TimedLoad) ∷ []
+receiver_rows TimedLoad =
+    (Word 4, Goes Close) ∷ (Word 2, Answers R.Disconnected) ∷ (Word 0, Goes Clock) ∷ (Word 1, Goes Clock) ∷ []
+receiver_rows EndSwap =
+    (Word 0, Goes EndBack) ∷ (Word 4, Goes Close) ∷ (Word 2, Goes CloseOnly) ∷ (Word 1, Goes LatePark) ∷ []
+receiver_rows EndBack = (Done, Answers R.Timeout) ∷ []
+receiver_rows LatePark = (Token true, Goes LateLoad) ∷ (Token false, Goes LateLoad) ∷ []
+receiver_rows LateLoad =
+    (Word 4, Goes Close) ∷ (Word 2, Answers R.Disconnected) ∷ (Word 3, Goes LatePark) ∷ []
 receiver_rows RecvLoad =
     (Word 4, Goes RecvTake) ∷ (Word 2, Goes RecvFreeGone) ∷ (Word 3, Goes RecvWrite) ∷ []
 receiver_rows RecvWrite = (Done, Goes RecvSwap) ∷ []

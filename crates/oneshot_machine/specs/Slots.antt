@@ -2,7 +2,7 @@
 use Rattle.std.specs.Prelude.{ℕ}
 use Rattle.oneshot_machine.specs.declared.states.Op.{Op}
 use Rattle.oneshot_machine.specs.declared.states.Op.TheVariants.{Load, Store, Swap, Add, Xor}
-use Rattle.oneshot_machine.specs.Phases.{sending, dropping, SenderAt, fresh, owes, ReceiverAt, first, here, waits, full, unclosed, over, looked, Waiting, Got, Closing}
+use Rattle.oneshot_machine.specs.Phases.{sending, dropping, SenderAt, fresh, owes, ReceiverAt, first, here, waits, overdue, full, unclosed, over, Open, looked, Waiting, Got, Closing}
 
 -- a slot, to an end: not the end's, empty, or with this in it
 pub data Held (X : Type 0) : Type 0 where
@@ -30,21 +30,26 @@ pub data SenderFinds {T W : Type 0}
   flip_gone : SenderFinds fresh Xor 2 vacant away vacant vacant
   finish_send : (x : T) → SenderFinds (owes sending) (Swap 4) 1 (held x) vacant away away
   finish_drop : SenderFinds (owes dropping) (Swap 2) 1 vacant vacant away away
+  finish_late_send : (x : T) → SenderFinds (owes sending) (Swap 4) 3 (held x) vacant away away
+  finish_late_drop : SenderFinds (owes dropping) (Swap 2) 3 vacant vacant away away
 
 pub data ReceiverMay {T W : Type 0} : ReceiverAt → Op → Held T → Held W → Type 0 where
   -- a receive loads
   may_load_first : ReceiverMay first Load away away
-  may_load : ReceiverMay (here looked) Load away vacant
+  may_load : (o : Open) → ReceiverMay (here o) Load away vacant
   may_load_closed : (c : Closing) → ReceiverMay (over c) Load vacant vacant
   -- one that blocks swaps, and loads once it has waited
   may_store : (k : W) → ReceiverMay (here looked) (Swap 0) away (held k)
   may_wait : (w : Waiting) → ReceiverMay (waits w) Load away away
+  -- one whose deadline is over swaps, and loads where the sender is about to finish
+  may_stop : (w : Waiting) → ReceiverMay (waits w) (Swap 3) away away
+  may_wait_on : ReceiverMay overdue Load away away
   -- it closes
   may_close : (g : Got) (left : ℕ) (x : T) → ReceiverMay (full g left) (Store 2) (held x) vacant
   may_close_only : (left : ℕ) → ReceiverMay (unclosed left) (Store 2) vacant vacant
   -- a drop swaps
   may_drop_first : ReceiverMay first (Swap 2) away away
-  may_drop : ReceiverMay (here looked) (Swap 2) away vacant
+  may_drop : (o : Open) → ReceiverMay (here o) (Swap 2) away vacant
   may_drop_closed : (c : Closing) → ReceiverMay (over c) (Swap 2) vacant vacant
 
 pub data ReceiverFinds {T W : Type 0}
@@ -53,9 +58,9 @@ pub data ReceiverFinds {T W : Type 0}
   first_empty : ReceiverFinds first Load 3 away away away vacant
   first_message : (x : T) → ReceiverFinds first Load 4 away away (held x) vacant
   first_closed : ReceiverFinds first Load 2 away away vacant vacant
-  load_empty : ReceiverFinds (here looked) Load 3 away vacant away vacant
-  load_message : (x : T) → ReceiverFinds (here looked) Load 4 away vacant (held x) vacant
-  load_closed : ReceiverFinds (here looked) Load 2 away vacant vacant vacant
+  load_empty : (o : Open) → ReceiverFinds (here o) Load 3 away vacant away vacant
+  load_message : (o : Open) (x : T) → ReceiverFinds (here o) Load 4 away vacant (held x) vacant
+  load_closed : (o : Open) → ReceiverFinds (here o) Load 2 away vacant vacant vacant
   load_over : (c : Closing) → ReceiverFinds (over c) Load 2 vacant vacant vacant vacant
   -- one that blocks swaps
   store_empty : (k : W) → ReceiverFinds (here looked) (Swap 0) 3 away (held k) away away
@@ -67,6 +72,15 @@ pub data ReceiverFinds {T W : Type 0}
   wait_claimed : (w : Waiting) → ReceiverFinds (waits w) Load 1 away away away away
   wait_message : (w : Waiting) (x : T) → ReceiverFinds (waits w) Load 4 away away (held x) vacant
   wait_closed : (w : Waiting) → ReceiverFinds (waits w) Load 2 away away vacant vacant
+  -- one whose deadline is over swaps
+  stop_waiting : (w : Waiting) (k : W) → ReceiverFinds (waits w) (Swap 3) 0 away away away (held k)
+  stop_claimed : (w : Waiting) → ReceiverFinds (waits w) (Swap 3) 1 away away away away
+  stop_message : (w : Waiting) (x : T) → ReceiverFinds (waits w) (Swap 3) 4 away away (held x) vacant
+  stop_closed : (w : Waiting) → ReceiverFinds (waits w) (Swap 3) 2 away away vacant vacant
+  -- and loads where the sender is about to finish
+  late_longer : ReceiverFinds overdue Load 3 away away away away
+  late_message : (x : T) → ReceiverFinds overdue Load 4 away away (held x) vacant
+  late_closed : ReceiverFinds overdue Load 2 away away vacant vacant
   -- it closes
   close : (g : Got) (left : ℕ) (x : T)
       → ReceiverFinds (full g left) (Store 2) left (held x) vacant (held x) vacant
@@ -76,7 +90,7 @@ pub data ReceiverFinds {T W : Type 0}
   drop_first_empty : ReceiverFinds first (Swap 2) 3 away away away away
   drop_first_message : (x : T) → ReceiverFinds first (Swap 2) 4 away away (held x) vacant
   drop_first_closed : ReceiverFinds first (Swap 2) 2 away away vacant vacant
-  drop_empty : ReceiverFinds (here looked) (Swap 2) 3 away vacant away away
-  drop_message : (x : T) → ReceiverFinds (here looked) (Swap 2) 4 away vacant (held x) vacant
-  drop_closed : ReceiverFinds (here looked) (Swap 2) 2 away vacant vacant vacant
+  drop_empty : (o : Open) → ReceiverFinds (here o) (Swap 2) 3 away vacant away away
+  drop_message : (o : Open) (x : T) → ReceiverFinds (here o) (Swap 2) 4 away vacant (held x) vacant
+  drop_closed : (o : Open) → ReceiverFinds (here o) (Swap 2) 2 away vacant vacant vacant
   drop_over : (c : Closing) → ReceiverFinds (over c) (Swap 2) 2 vacant vacant vacant vacant

@@ -5,7 +5,7 @@ use Rattle.std.proofs.Common.{zero, suc}
 use Rattle.oneshot_machine.specs.declared.machine.Reply.{Reply}
 use Rattle.oneshot_machine.specs.declared.machine.Reply.TheVariants as R
 use Rattle.oneshot_machine.specs.declared.machine.Seen.{Seen}
-use Rattle.oneshot_machine.specs.declared.machine.Seen.TheVariants.{Done, Token}
+use Rattle.oneshot_machine.specs.declared.machine.Seen.TheVariants.{Done, Over, Token}
 use Rattle.oneshot_machine.specs.declared.machine.Step.{Step}
 use Rattle.oneshot_machine.specs.declared.machine.receiver.ReceiverPos.{ReceiverPos}
 use Rattle.oneshot_machine.specs.declared.machine.receiver.ReceiverPos.TheVariants as RP
@@ -46,7 +46,7 @@ is_op op (Some other) = is_same_op op other
 
 -- what a step that is no operation on the word may see
 abbrev pub sights : List Seen
-sights = Done ∷ Token true ∷ Token false ∷ []
+sights = Done ∷ Over true ∷ Over false ∷ Token true ∷ Token false ∷ []
 
 module _ {P : Type 0} (t : Table P) where
   -- The positions that come next at which an operation on the word is made. Where more steps than
@@ -149,13 +149,25 @@ receiver_positions =
     ∷ RP.Close
     ∷ RP.Take
     ∷ RP.CloseOnly
-    ∷ RP.StartLoad
-    ∷ RP.StartWrite
-    ∷ RP.StartSwap
+    ∷ RP.SumClock false
+    ∷ RP.SumClock true
+    ∷ RP.StartLoad false
+    ∷ RP.StartLoad true
+    ∷ RP.StartWrite false
+    ∷ RP.StartWrite true
+    ∷ RP.StartSwap false
+    ∷ RP.StartSwap true
     ∷ RP.BackFull
     ∷ RP.BackClosed
     ∷ RP.Park
     ∷ RP.ParkLoad
+    ∷ RP.Clock
+    ∷ RP.TimedPark
+    ∷ RP.TimedLoad
+    ∷ RP.EndSwap
+    ∷ RP.EndBack
+    ∷ RP.LatePark
+    ∷ RP.LateLoad
     ∷ RP.RecvLoad
     ∷ RP.RecvWrite
     ∷ RP.RecvSwap
@@ -178,38 +190,60 @@ receiver_number RP.TryLoad = 2
 receiver_number RP.Close = 3
 receiver_number RP.Take = 4
 receiver_number RP.CloseOnly = 5
-receiver_number RP.StartLoad = 6
-receiver_number RP.StartWrite = 7
-receiver_number RP.StartSwap = 8
-receiver_number RP.BackFull = 9
-receiver_number RP.BackClosed = 10
-receiver_number RP.Park = 11
-receiver_number RP.ParkLoad = 12
-receiver_number RP.RecvLoad = 13
-receiver_number RP.RecvWrite = 14
-receiver_number RP.RecvSwap = 15
-receiver_number RP.RecvBackFull = 16
-receiver_number RP.RecvBackClosed = 17
-receiver_number RP.RecvPark = 18
-receiver_number RP.RecvParkLoad = 19
-receiver_number RP.RecvTake = 20
-receiver_number RP.RecvFreeGot = 21
-receiver_number RP.RecvFreeGone = 22
-receiver_number RP.DropSwap = 23
-receiver_number RP.DropMessage = 24
-receiver_number RP.DropFree = 25
+receiver_number (RP.SumClock false) = 6
+receiver_number (RP.SumClock true) = 7
+receiver_number (RP.StartLoad false) = 8
+receiver_number (RP.StartLoad true) = 9
+receiver_number (RP.StartWrite false) = 10
+receiver_number (RP.StartWrite true) = 11
+receiver_number (RP.StartSwap false) = 12
+receiver_number (RP.StartSwap true) = 13
+receiver_number RP.BackFull = 14
+receiver_number RP.BackClosed = 15
+receiver_number RP.Park = 16
+receiver_number RP.ParkLoad = 17
+receiver_number RP.Clock = 18
+receiver_number RP.TimedPark = 19
+receiver_number RP.TimedLoad = 20
+receiver_number RP.EndSwap = 21
+receiver_number RP.EndBack = 22
+receiver_number RP.LatePark = 23
+receiver_number RP.LateLoad = 24
+receiver_number RP.RecvLoad = 25
+receiver_number RP.RecvWrite = 26
+receiver_number RP.RecvSwap = 27
+receiver_number RP.RecvBackFull = 28
+receiver_number RP.RecvBackClosed = 29
+receiver_number RP.RecvPark = 30
+receiver_number RP.RecvParkLoad = 31
+receiver_number RP.RecvTake = 32
+receiver_number RP.RecvFreeGot = 33
+receiver_number RP.RecvFreeGone = 34
+receiver_number RP.DropSwap = 35
+receiver_number RP.DropMessage = 36
+receiver_number RP.DropFree = 37
 
 abbrev pub receiver_opens : List ReceiverPos
 receiver_opens =
-    receiver_start RC.TryRecv ∷ receiver_start RC.RecvRef ∷ receiver_start RC.Recv ∷ receiver_start RC.Drop ∷ []
+    receiver_start RC.TryRecv
+    ∷ receiver_start RC.RecvRef
+    ∷ receiver_start RC.RecvDeadline
+    ∷ receiver_start (RC.RecvTimeout true)
+    ∷ receiver_start (RC.RecvTimeout false)
+    ∷ receiver_start RC.Recv
+    ∷ receiver_start RC.Drop
+    ∷ []
 
--- after `try_recv` and `recv_ref` any call, after `recv` and a drop none
+-- after `recv` and a drop no call, after any other receive each
 abbrev pub receiver_follows : ReceiverPos → Reply → List ReceiverPos
 receiver_follows RP.TryLoad reply = receiver_opens
 receiver_follows RP.Take reply = receiver_opens
 receiver_follows RP.CloseOnly reply = receiver_opens
-receiver_follows RP.StartLoad reply = receiver_opens
+receiver_follows (RP.StartLoad timed) reply = receiver_opens
 receiver_follows RP.ParkLoad reply = receiver_opens
+receiver_follows RP.TimedLoad reply = receiver_opens
+receiver_follows RP.EndBack reply = receiver_opens
+receiver_follows RP.LateLoad reply = receiver_opens
 receiver_follows _ reply = []
 
 abbrev pub receiver_table : Table ReceiverPos

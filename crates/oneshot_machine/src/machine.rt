@@ -35,6 +35,8 @@ pub enum Step {
     Withdraw,
     /// The receiver waits until it is woken. It may also go on unwoken.
     Park,
+    /// The receiver asks its clock whether its deadline is over.
+    Clock,
     /// The sender uses the waker that it took: it wakes the receiver.
     Wake,
     /// The block is freed.
@@ -50,6 +52,8 @@ pub enum Seen {
     Done,
     /// The word before the operation. A `Store` tells none, and sees `Done`.
     Word(u8),
+    /// What a clock answered: whether the deadline is over.
+    Over(bool),
     /// Whether a park ended by its token, which it used, or without one.
     Token(bool),
 }
@@ -69,6 +73,8 @@ pub enum Reply {
     Message,
     /// `try_recv` found nothing yet.
     Empty,
+    /// The deadline of a receive is over, and nothing was there.
+    Timeout,
     /// The call's disconnected error.
     Disconnected,
     /// The drop is done.

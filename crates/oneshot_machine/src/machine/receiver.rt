@@ -17,6 +17,14 @@ pub enum ReceiverStart {
     Recv,
     /// `Receiver::recv_ref`.
     RecvRef,
+    /// `Receiver::recv_deadline`.
+    RecvDeadline,
+    /// `Receiver::recv_timeout`.
+    RecvTimeout {
+        /// Whether an instant can hold the sum of now and the timeout. Where none can, the call waits
+        /// without a deadline.
+        representable: bool,
+    },
     /// `Receiver::has_message`.
     HasMessage,
     /// `Receiver::is_closed`.
@@ -40,20 +48,48 @@ pub enum ReceiverPos {
     Take,
     /// A receive that found no sender is about to put the word of a closed channel back.
     CloseOnly,
-    /// `recv_ref` is about to read the word.
-    StartLoad,
-    /// `recv_ref` is about to put its waker into the cell.
-    StartWrite,
-    /// `recv_ref` is about to put the word of a receiver that waits.
-    StartSwap,
-    /// `recv_ref` found the message by its swap, and is about to take its waker back.
+    /// `recv_timeout` is about to read the clock for its sum.
+    SumClock {
+        /// Whether an instant can hold that sum.
+        representable: bool,
+    },
+    /// `recv_ref`, or a receive with a deadline, is about to read the word.
+    StartLoad {
+        /// Whether it has a deadline.
+        timed: bool,
+    },
+    /// It is about to put its waker into the cell.
+    StartWrite {
+        /// Whether it has a deadline.
+        timed: bool,
+    },
+    /// It is about to put the word of a receiver that waits.
+    StartSwap {
+        /// Whether it has a deadline.
+        timed: bool,
+    },
+    /// It found the message by its swap, and is about to take its waker back.
     BackFull,
-    /// `recv_ref` found no sender by its swap, and is about to take its waker back.
+    /// It found no sender by its swap, and is about to take its waker back.
     BackClosed,
     /// `recv_ref` is about to wait.
     Park,
     /// `recv_ref` waited, and is about to read the word.
     ParkLoad,
+    /// A receive that waits until its deadline is about to ask whether it is over.
+    Clock,
+    /// It is about to wait until its deadline.
+    TimedPark,
+    /// It waited until its deadline or less, and is about to read the word.
+    TimedLoad,
+    /// Its deadline is over, and it is about to put the word of a channel on which nobody waits.
+    EndSwap,
+    /// It found its waker in the cell, and is about to take it back.
+    EndBack,
+    /// It found a sender that is about to finish, and is about to wait for it.
+    LatePark,
+    /// It waited for that sender, and is about to read the word.
+    LateLoad,
     /// `recv` is about to read the word.
     RecvLoad,
     /// `recv` is about to put its waker into the cell.
@@ -90,7 +126,9 @@ impl ReceiverPos {
         match call {
             ReceiverStart::TryRecv => ReceiverPos::TryLoad,
             ReceiverStart::Recv => ReceiverPos::RecvLoad,
-            ReceiverStart::RecvRef => ReceiverPos::StartLoad,
+            ReceiverStart::RecvRef => ReceiverPos::StartLoad { timed: false },
+            ReceiverStart::RecvDeadline => ReceiverPos::StartLoad { timed: true },
+            ReceiverStart::RecvTimeout { representable } => ReceiverPos::SumClock { representable },
             ReceiverStart::HasMessage => ReceiverPos::LookFull,
             ReceiverStart::IsClosed => ReceiverPos::LookClosed,
             ReceiverStart::Drop => ReceiverPos::DropSwap,
@@ -108,13 +146,21 @@ impl ReceiverPos {
             ReceiverPos::Close => Step::Word(Op::Store(DISCONNECTED)),
             ReceiverPos::Take => Step::TakeMessage,
             ReceiverPos::CloseOnly => Step::Word(Op::Store(DISCONNECTED)),
-            ReceiverPos::StartLoad => Step::Word(Op::Load),
-            ReceiverPos::StartWrite => Step::WriteWaker,
-            ReceiverPos::StartSwap => Step::Word(Op::Swap(RECEIVING)),
+            ReceiverPos::SumClock { .. } => Step::Clock,
+            ReceiverPos::StartLoad { .. } => Step::Word(Op::Load),
+            ReceiverPos::StartWrite { .. } => Step::WriteWaker,
+            ReceiverPos::StartSwap { .. } => Step::Word(Op::Swap(RECEIVING)),
             ReceiverPos::BackFull => Step::Withdraw,
             ReceiverPos::BackClosed => Step::Withdraw,
             ReceiverPos::Park => Step::Park,
             ReceiverPos::ParkLoad => Step::Word(Op::Load),
+            ReceiverPos::Clock => Step::Clock,
+            ReceiverPos::TimedPark => Step::Park,
+            ReceiverPos::TimedLoad => Step::Word(Op::Load),
+            ReceiverPos::EndSwap => Step::Word(Op::Swap(EMPTY)),
+            ReceiverPos::EndBack => Step::Withdraw,
+            ReceiverPos::LatePark => Step::Park,
+            ReceiverPos::LateLoad => Step::Word(Op::Load),
             ReceiverPos::RecvLoad => Step::Word(Op::Load),
             ReceiverPos::RecvWrite => Step::WriteWaker,
             ReceiverPos::RecvSwap => Step::Word(Op::Swap(RECEIVING)),
@@ -173,16 +219,44 @@ impl ReceiverPos {
             (ReceiverPos::Close, Seen::Done) => (ReceiverPos::Take, None),
             (ReceiverPos::Take, Seen::Done) => (*self, Some(Reply::Message)),
             (ReceiverPos::CloseOnly, Seen::Done) => (*self, Some(Reply::Disconnected)),
-            (ReceiverPos::StartLoad, Seen::Word(MESSAGE)) => (ReceiverPos::Close, None),
-            (ReceiverPos::StartLoad, Seen::Word(DISCONNECTED)) => (
+            (ReceiverPos::SumClock { representable }, Seen::Over(true)) => (
+                ReceiverPos::StartLoad {
+                    timed: *representable,
+                },
+                None,
+            ),
+            (ReceiverPos::SumClock { representable }, Seen::Over(false)) => (
+                ReceiverPos::StartLoad {
+                    timed: *representable,
+                },
+                None,
+            ),
+            (ReceiverPos::StartLoad { .. }, Seen::Word(MESSAGE)) => (ReceiverPos::Close, None),
+            (ReceiverPos::StartLoad { .. }, Seen::Word(DISCONNECTED)) => (
                 *self,
                 Some(Reply::Disconnected),
             ),
-            (ReceiverPos::StartLoad, Seen::Word(EMPTY)) => (ReceiverPos::StartWrite, None),
-            (ReceiverPos::StartWrite, Seen::Done) => (ReceiverPos::StartSwap, None),
-            (ReceiverPos::StartSwap, Seen::Word(EMPTY)) => (ReceiverPos::Park, None),
-            (ReceiverPos::StartSwap, Seen::Word(MESSAGE)) => (ReceiverPos::BackFull, None),
-            (ReceiverPos::StartSwap, Seen::Word(DISCONNECTED)) => (ReceiverPos::BackClosed, None),
+            (ReceiverPos::StartLoad { timed }, Seen::Word(EMPTY)) => (
+                ReceiverPos::StartWrite { timed: *timed },
+                None,
+            ),
+            (ReceiverPos::StartWrite { timed }, Seen::Done) => (
+                ReceiverPos::StartSwap { timed: *timed },
+                None,
+            ),
+            (ReceiverPos::StartSwap { timed: false }, Seen::Word(EMPTY)) => (
+                ReceiverPos::Park,
+                None,
+            ),
+            (ReceiverPos::StartSwap { timed: true }, Seen::Word(EMPTY)) => (
+                ReceiverPos::Clock,
+                None,
+            ),
+            (ReceiverPos::StartSwap { .. }, Seen::Word(MESSAGE)) => (ReceiverPos::BackFull, None),
+            (ReceiverPos::StartSwap { .. }, Seen::Word(DISCONNECTED)) => (
+                ReceiverPos::BackClosed,
+                None,
+            ),
             (ReceiverPos::BackFull, Seen::Done) => (ReceiverPos::Close, None),
             (ReceiverPos::BackClosed, Seen::Done) => (ReceiverPos::CloseOnly, None),
             (ReceiverPos::Park, Seen::Token(true)) => (ReceiverPos::ParkLoad, None),
@@ -191,6 +265,27 @@ impl ReceiverPos {
             (ReceiverPos::ParkLoad, Seen::Word(DISCONNECTED)) => (*self, Some(Reply::Disconnected)),
             (ReceiverPos::ParkLoad, Seen::Word(RECEIVING)) => (ReceiverPos::Park, None),
             (ReceiverPos::ParkLoad, Seen::Word(UNPARKING)) => (ReceiverPos::Park, None),
+            (ReceiverPos::Clock, Seen::Over(false)) => (ReceiverPos::TimedPark, None),
+            (ReceiverPos::Clock, Seen::Over(true)) => (ReceiverPos::EndSwap, None),
+            (ReceiverPos::TimedPark, Seen::Token(true)) => (ReceiverPos::TimedLoad, None),
+            (ReceiverPos::TimedPark, Seen::Token(false)) => (ReceiverPos::TimedLoad, None),
+            (ReceiverPos::TimedLoad, Seen::Word(MESSAGE)) => (ReceiverPos::Close, None),
+            (ReceiverPos::TimedLoad, Seen::Word(DISCONNECTED)) => (
+                *self,
+                Some(Reply::Disconnected),
+            ),
+            (ReceiverPos::TimedLoad, Seen::Word(RECEIVING)) => (ReceiverPos::Clock, None),
+            (ReceiverPos::TimedLoad, Seen::Word(UNPARKING)) => (ReceiverPos::Clock, None),
+            (ReceiverPos::EndSwap, Seen::Word(RECEIVING)) => (ReceiverPos::EndBack, None),
+            (ReceiverPos::EndSwap, Seen::Word(MESSAGE)) => (ReceiverPos::Close, None),
+            (ReceiverPos::EndSwap, Seen::Word(DISCONNECTED)) => (ReceiverPos::CloseOnly, None),
+            (ReceiverPos::EndSwap, Seen::Word(UNPARKING)) => (ReceiverPos::LatePark, None),
+            (ReceiverPos::EndBack, Seen::Done) => (*self, Some(Reply::Timeout)),
+            (ReceiverPos::LatePark, Seen::Token(true)) => (ReceiverPos::LateLoad, None),
+            (ReceiverPos::LatePark, Seen::Token(false)) => (ReceiverPos::LateLoad, None),
+            (ReceiverPos::LateLoad, Seen::Word(MESSAGE)) => (ReceiverPos::Close, None),
+            (ReceiverPos::LateLoad, Seen::Word(DISCONNECTED)) => (*self, Some(Reply::Disconnected)),
+            (ReceiverPos::LateLoad, Seen::Word(EMPTY)) => (ReceiverPos::LatePark, None),
             (ReceiverPos::RecvLoad, Seen::Word(MESSAGE)) => (ReceiverPos::RecvTake, None),
             (ReceiverPos::RecvLoad, Seen::Word(DISCONNECTED)) => (ReceiverPos::RecvFreeGone, None),
             (ReceiverPos::RecvLoad, Seen::Word(EMPTY)) => (ReceiverPos::RecvWrite, None),
