@@ -10,7 +10,7 @@ use Rattle.oneshot_laws.specs.Object.{Content, Open, Full, Closed}
 use Rattle.oneshot_laws.specs.Words.{reply_code, is_same_reply}
 
 abbrev replies : List Reply
-replies = R.Sent ∷ R.Refused ∷ R.Yes ∷ R.No ∷ R.Message ∷ R.Empty ∷ R.Disconnected ∷ R.Done ∷ []
+replies = R.Sent ∷ R.Refused ∷ R.Yes ∷ R.No ∷ R.Message ∷ R.Empty ∷ R.Timeout ∷ R.Disconnected ∷ R.Done ∷ []
 
 reply_back : (x : Reply) → get_or replies (reply_code x) R.Done ≡ x
 reply_back R.Sent = refl
@@ -19,6 +19,7 @@ reply_back R.Yes = refl
 reply_back R.No = refl
 reply_back R.Message = refl
 reply_back R.Empty = refl
+reply_back R.Timeout = refl
 reply_back R.Disconnected = refl
 reply_back R.Done = refl
 
@@ -33,11 +34,12 @@ answer_code (Some R.Yes) = 3
 answer_code (Some R.No) = 4
 answer_code (Some R.Message) = 5
 answer_code (Some R.Empty) = 6
-answer_code (Some R.Disconnected) = 7
-answer_code (Some R.Done) = 8
+answer_code (Some R.Timeout) = 7
+answer_code (Some R.Disconnected) = 8
+answer_code (Some R.Done) = 9
 
 abbrev answers : List (Option Reply)
-answers = None ∷ Some R.Sent ∷ Some R.Refused ∷ Some R.Yes ∷ Some R.No ∷ Some R.Message ∷ Some R.Empty ∷ Some R.Disconnected ∷ Some R.Done ∷ []
+answers = None ∷ Some R.Sent ∷ Some R.Refused ∷ Some R.Yes ∷ Some R.No ∷ Some R.Message ∷ Some R.Empty ∷ Some R.Timeout ∷ Some R.Disconnected ∷ Some R.Done ∷ []
 
 answer_back : (x : Option Reply) → get_or answers (answer_code x) None ≡ x
 answer_back None = refl
@@ -47,6 +49,7 @@ answer_back (Some R.Yes) = refl
 answer_back (Some R.No) = refl
 answer_back (Some R.Message) = refl
 answer_back (Some R.Empty) = refl
+answer_back (Some R.Timeout) = refl
 answer_back (Some R.Disconnected) = refl
 answer_back (Some R.Done) = refl
 

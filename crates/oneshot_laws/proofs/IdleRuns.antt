@@ -5,10 +5,10 @@ use Rattle.oneshot_machine.specs.Receiver.{receiver_step}
 use Rattle.oneshot_machine.specs.Sender.{sender_step}
 use Rattle.oneshot_machine.specs.declared.machine.End.{End}
 use Rattle.oneshot_machine.specs.declared.machine.End.TheVariants.{Sender, Receiver}
-use Rattle.oneshot_world.specs.Calls.{Call, Sender_is_closed, Send, Drop_sender, As_inner, Into_inner, Drop_error, Try_recv, Recv_ref, Recv, Has_message, Is_closed, Drop_receiver, calls_of, first, is_none_left, left_by, as_sender_call, as_receiver_call}
+use Rattle.oneshot_world.specs.Calls.{Call, Sender_is_closed, Send, Drop_sender, As_inner, Into_inner, Drop_error, Try_recv, Recv_ref, Recv_deadline, Recv_timeout, Recv, Has_message, Is_closed, Drop_receiver, calls_of, first, is_none_left, left_by, as_sender_call, as_receiver_call}
 use Rattle.oneshot_world.specs.Control.{sender_has, receiver_has, IsReached}
 use Rattle.oneshot_world.specs.State.{sender_position, receiver_position, reply_of}
-use Rattle.oneshot_world.specs.World.{World, Tells, opening, side_of}
+use Rattle.oneshot_world.specs.World.{World, Tells, opening, side_of, over_of}
 use Rattle.oneshot_world.specs.declared.script.Move.{Move}
 use Rattle.oneshot_world.specs.declared.script.ReceiverScript.{ReceiverScript}
 use Rattle.oneshot_world.specs.declared.script.SenderScript.{SenderScript}
@@ -43,6 +43,8 @@ receiver_none : (s : ReceiverState) (calls : List Call) → receiver_has s calls
 receiver_none RS.Ready [] h at = refl
 receiver_none RS.Ready (Try_recv ∷ calls) h at = cc
 receiver_none RS.Ready (Recv_ref ∷ calls) h at = cc
+receiver_none RS.Ready (Recv_deadline ∷ calls) h at = cc
+receiver_none RS.Ready (Recv_timeout representable ∷ calls) h at = cc
 receiver_none RS.Ready (Recv ∷ calls) h at = cc
 receiver_none RS.Ready (Has_message ∷ calls) h at = cc
 receiver_none RS.Ready (Is_closed ∷ calls) h at = cc
@@ -62,13 +64,13 @@ idle_turn entries later _ w _ _ s r worlds moves (receiver_idle at) se re h k to
     both _ _ (rw re (receiver_none w.state.receiver w.receiver.calls h.receiver at)) (later w s r worlds moves se re h told)
 idle_turn entries later _ w _ _ s r worlds moves (sender_made position row at steps) se re h k told =
     later (sender_world w (sender_step position) row) _ r worlds moves (ap (λ left. left_by Sender (reply_of row) left) se) re k told
-idle_turn entries later _ w _ _ s r worlds moves (receiver_made position row at steps) se re h k told =
+idle_turn entries later _ w _ _ s r worlds moves (receiver_made over position row at steps) se re h k told =
     later (receiver_world w (receiver_step position) row) s _ worlds moves se (ap (λ left. left_by Receiver (reply_of row) left) re) k told
 
 idles : (entries : List Entry) → Claim entries
 idles [] w s r worlds moves se re h told = refl
 idles (entry ∷ entries) w s r (next ∷ worlds) (move ∷ moves) se re h told =
-    let by : Turned w (side_of move) entry next = turned (side_of move) w (entry, next) told.0 in
+    let by : Turned w (side_of move) entry next = turned (side_of move) (over_of move) w (entry, next) told.0 in
     idle_turn entries (idles entries) (side_of move) w entry next s r worlds moves by se re h (turned_reaches (side_of move) w entry next h by) told.1
 idles (entry ∷ entries) w s r [] [] se re h told = elim told [ ]
 idles (entry ∷ entries) w s r [] (move ∷ moves) se re h told = elim told [ ]

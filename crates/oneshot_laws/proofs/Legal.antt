@@ -4,7 +4,7 @@ use Rattle.std.specs.List.{list_any, list_all}
 use Rattle.oneshot_machine.specs.declared.machine.End.{End}
 use Rattle.oneshot_machine.specs.declared.machine.End.TheVariants.{Sender, Receiver}
 use Rattle.oneshot_machine.specs.declared.machine.Reply.{Reply}
-use Rattle.oneshot_world.specs.Calls.{Call, Sender_is_closed, Send, Drop_sender, As_inner, Into_inner, Drop_error, Try_recv, Recv_ref, Recv, Has_message, Is_closed, Drop_receiver, Stray, Unanswered, is_none_left, left_by}
+use Rattle.oneshot_world.specs.Calls.{Call, Sender_is_closed, Send, Drop_sender, As_inner, Into_inner, Drop_error, Try_recv, Recv_ref, Recv_deadline, Recv_timeout, Recv, Has_message, Is_closed, Drop_receiver, Stray, Unanswered, is_none_left, left_by}
 use Rattle.oneshot_world.specs.World.{by_end}
 use Rattle.oneshot_world.specs.declared.trace.Entry.{Entry}
 use Rattle.oneshot_world.specs.declared.trace.Entry.TheVariants.{Idle, Made as Made_entry}
@@ -60,6 +60,8 @@ stepped_if false call o = refl
 -- a receive that has a word for "nothing yet" is a take, and a take of nothing changes nothing
 takes : (call : Call) (n : Reply) → nothing_yet_of call ≡ Some n → action_of call ≡ Some Take
 takes Try_recv n h = refl
+takes Recv_deadline n h = refl
+takes (Recv_timeout true) n h = refl
 takes _ n h = cc
 
 open_stays_at : (c : Content) (s r : Bool) → is_open c ≡ true → object_after Take (record { content = c; sender_here = s; receiver_here = r }) ≡ record { content = c; sender_here = s; receiver_here = r }
@@ -237,6 +239,8 @@ local_right Into_inner o x earlier e later f ok paid says = local_fixed Into_inn
 local_right Drop_error o x earlier e later f ok paid says = local_fixed Drop_error o x earlier e later refl
 local_right Try_recv o x earlier e later f ok paid says = local_receive Try_recv o x earlier e later f.acted f.worked ok paid (says refl)
 local_right Recv_ref o x earlier e later f ok paid says = local_receive Recv_ref o x earlier e later f.acted f.worked ok paid (says refl)
+local_right Recv_deadline o x earlier e later f ok paid says = local_receive Recv_deadline o x earlier e later f.acted f.worked ok paid (says refl)
+local_right (Recv_timeout representable) o x earlier e later f ok paid says = local_receive (Recv_timeout representable) o x earlier e later f.acted f.worked ok paid (says refl)
 local_right Recv o x earlier e later f ok paid says = local_receive Recv o x earlier e later f.acted f.worked ok paid (says refl)
 local_right Has_message o x earlier e later f ok paid says = local_first loads Has_message o x earlier e later f.acted ok paid
 local_right Is_closed o x earlier e later f ok paid says = local_first loads Is_closed o x earlier e later f.acted ok paid
@@ -326,6 +330,8 @@ glances m s r (Made_entry e ∷ es) =
 -- a call that ends its end has no word for "nothing yet"
 no_word : (call : Call) → (is_end_of_sender call || is_end_of_receiver call) ≡ true → nothing_yet_of call ≡ None
 no_word Try_recv h = cc
+no_word Recv_deadline h = cc
+no_word (Recv_timeout true) h = cc
 no_word _ h = refl
 
 both_false : (a b : Bool) → (a && false) ≡ (b && false)

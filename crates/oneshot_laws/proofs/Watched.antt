@@ -11,7 +11,7 @@ use Rattle.oneshot_world.specs.Calls.{Call, Unanswered, left_by}
 use Rattle.oneshot_world.specs.Control.{Control, control_of, Begin, begins, control_turn, control_code, is_same_control, opening_control, IsReached}
 use Rattle.oneshot_world.specs.Explore.{Tree, reach, is_in, all_in}
 use Rattle.oneshot_world.specs.State.{sender_stepped, receiver_stepped}
-use Rattle.oneshot_world.specs.World.{World, Tells, opening, opening_place, side_of, by_end}
+use Rattle.oneshot_world.specs.World.{World, Tells, opening, opening_place, side_of, over_of, by_end}
 use Rattle.oneshot_world.specs.declared.script.Move.{Move}
 use Rattle.oneshot_world.specs.declared.script.ReceiverScript.{ReceiverScript}
 use Rattle.oneshot_world.specs.declared.script.SenderLast.{SenderLast}
@@ -78,7 +78,7 @@ module _ {M : Type 0} (width : ℕ) (code : M → ℕ) (is_same : M → M → Bo
   -- all pairs that a run can reach with a reader that starts so
   abbrev pub watched_from : (Option Place → M) → Tree (Watched M)
   watched_from first =
-      reach watched_code is_same_watched watched_successors 5000
+      reach watched_code is_same_watched watched_successors 20000
       (opening_watched first None ∷ opening_watched first (Some NotSent) ∷ [])
 
   abbrev pub is_watched_in : Tree (Watched M) → Watched M → Bool
@@ -132,9 +132,9 @@ module _ {M : Type 0} (width : ℕ) (code : M → ℕ) (is_same : M → M → Bo
       subst (λ c. is_watched_in width code is_same accepts reads found (record { control = c; reader = reads Sender (call_under_way w.sender) (sender_stepped w.state (sender_step position) row).0 m }) ≡ true)
       (sender_control_is w (sender_step position) row)
       (and_right _ _ passed)
-  found_next _ w _ _ m (receiver_made position row at steps) h f =
-      let passed = rw steps at (receiver_passes (passes_on width code is_same accepts reads found m) w position h at (passing w m f)) in
-      subst (λ c. is_watched_in width code is_same accepts reads found (record { control = c; reader = reads Receiver (call_under_way w.receiver) (receiver_stepped w.state (receiver_step position) row).0 m }) ≡ true)
+  found_next _ w _ _ m (receiver_made over position row at steps) h f =
+      let passed = rw steps at (receiver_passes (passes_on width code is_same accepts reads found m) over w position h at (passing w m f)) in
+      subst (λ c. is_watched_in width code is_same accepts reads found (record { control = c; reader = reads Receiver (call_under_way w.receiver) (receiver_stepped over w.state (receiver_step position) row).0 m }) ≡ true)
       (receiver_control_is w (receiver_step position) row)
       (and_right _ _ passed)
 
@@ -152,18 +152,18 @@ module _ {M : Type 0} (width : ℕ) (code : M → ℕ) (is_same : M → M → Bo
             (found_next Sender w _ _ m (sender_made position row at steps) h f)
             told,
       )
-  accepted_turn entries later _ w _ _ m worlds moves (receiver_made position row at steps) h k f told =
-      let passed = rw steps at (receiver_passes (passes_on width code is_same accepts reads found m) w position h at (passing w m f)) in (
+  accepted_turn entries later _ w _ _ m worlds moves (receiver_made over position row at steps) h k f told =
+      let passed = rw steps at (receiver_passes (passes_on width code is_same accepts reads found m) over w position h at (passing w m f)) in (
         and_left _ _ passed,
         later (receiver_world w (receiver_step position) row) _ worlds moves k
-            (found_next Receiver w _ _ m (receiver_made position row at steps) h f)
+            (found_next Receiver w _ _ m (receiver_made over position row at steps) h f)
             told,
       )
 
   pub accepted : (entries : List Entry) → Claim entries
   accepted [] w m worlds moves h f told = tt
   accepted (entry ∷ entries) w m (next ∷ worlds) (move ∷ moves) h f told =
-      let by : Turned w (side_of move) entry next = turned (side_of move) w (entry, next) told.0 in
+      let by : Turned w (side_of move) entry next = turned (side_of move) (over_of move) w (entry, next) told.0 in
       accepted_turn entries (accepted entries) (side_of move) w entry next m worlds moves by h (turned_reaches (side_of move) w entry next h by) f told.1
   accepted (entry ∷ entries) w m [] [] h f told = elim told [ ]
   accepted (entry ∷ entries) w m [] (move ∷ moves) h f told = elim told [ ]

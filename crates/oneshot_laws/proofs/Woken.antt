@@ -11,7 +11,7 @@ use Rattle.oneshot_world.specs.Control.{Control, control_of, bool_code, IsReache
 use Rattle.oneshot_world.specs.Explore.{Tree, all_in}
 use Rattle.oneshot_machine.specs.Sender.{sender_step}
 use Rattle.oneshot_world.specs.State.{receiver_position, reply_of, sender_stepped, receiver_stepped}
-use Rattle.oneshot_world.specs.World.{World, Tells, opening, side_of, by_end}
+use Rattle.oneshot_world.specs.World.{World, Tells, opening, side_of, over_of, by_end}
 use Rattle.oneshot_world.specs.declared.script.Move.{Move}
 use Rattle.oneshot_world.specs.declared.script.ReceiverScript.{ReceiverScript}
 use Rattle.oneshot_world.specs.declared.script.SenderScript.{SenderScript}
@@ -58,6 +58,8 @@ begins_unparked None = refl
 begins_unparked (Some RC.TryRecv) = refl
 begins_unparked (Some RC.Recv) = refl
 begins_unparked (Some RC.RecvRef) = refl
+begins_unparked (Some RC.RecvDeadline) = refl
+begins_unparked (Some (RC.RecvTimeout representable)) = refl
 begins_unparked (Some RC.HasMessage) = refl
 begins_unparked (Some RC.IsClosed) = refl
 begins_unparked (Some RC.Drop) = refl
@@ -131,16 +133,16 @@ woken_turn entries later so_far _ w entry next s r ended worlds moves (sender_ma
     (subst (λ left. Found (sender_world w (sender_step position) row) (ended || ends_sender_at (call_under_way left) (sender_stepped w.state (sender_step position) row).0)) (sym se)
     (found_next 2 bool_code is_same_flag all_are_fine ended_then bool_is found (and_right _ _ (and_right _ _ all_found)) Sender w _ _ ended (sender_made position row at steps) h f))
     (λ front. so (entry ∷ front) ∙ or_more ended (ends_sender_at (call_under_way s.left) (sender_stepped w.state (sender_step position) row).0) (ended_in (read s (sender_stepped w.state (sender_step position) row).0) r front)) told
-woken_turn entries later so_far _ w entry next s r ended worlds moves (receiver_made position row at steps) se re h k f so told =
-    later (λ front. so_far (entry ∷ front)) next s (read r (receiver_stepped w.state (receiver_step position) row).0) (ended || ends_sender_at (call_under_way r.left) (receiver_stepped w.state (receiver_step position) row).0) worlds moves se (ap (λ left. left_by Receiver (reply_of row) left) re) k
-    (subst (λ left. Found (receiver_world w (receiver_step position) row) (ended || ends_sender_at (call_under_way left) (receiver_stepped w.state (receiver_step position) row).0)) (sym re)
-    (found_next 2 bool_code is_same_flag all_are_fine ended_then bool_is found (and_right _ _ (and_right _ _ all_found)) Receiver w _ _ ended (receiver_made position row at steps) h f))
-    (λ front. so (entry ∷ front) ∙ or_more ended (ends_sender_at (call_under_way r.left) (receiver_stepped w.state (receiver_step position) row).0) (ended_in s (read r (receiver_stepped w.state (receiver_step position) row).0) front)) told
+woken_turn entries later so_far _ w entry next s r ended worlds moves (receiver_made over position row at steps) se re h k f so told =
+    later (λ front. so_far (entry ∷ front)) next s (read r (receiver_stepped over w.state (receiver_step position) row).0) (ended || ends_sender_at (call_under_way r.left) (receiver_stepped over w.state (receiver_step position) row).0) worlds moves se (ap (λ left. left_by Receiver (reply_of row) left) re) k
+    (subst (λ left. Found (receiver_world w (receiver_step position) row) (ended || ends_sender_at (call_under_way left) (receiver_stepped over w.state (receiver_step position) row).0)) (sym re)
+    (found_next 2 bool_code is_same_flag all_are_fine ended_then bool_is found (and_right _ _ (and_right _ _ all_found)) Receiver w _ _ ended (receiver_made over position row at steps) h f))
+    (λ front. so (entry ∷ front) ∙ or_more ended (ends_sender_at (call_under_way r.left) (receiver_stepped over w.state (receiver_step position) row).0) (ended_in s (read r (receiver_stepped over w.state (receiver_step position) row).0) front)) told
 
 woken : (entries : List Entry) → Claim entries
 woken [] so_far w s r ended [] [] se re h f so told = now so_far w ended f (so [])
 woken (entry ∷ entries) so_far w s r ended (next ∷ worlds) (move ∷ moves) se re h f so told =
-    let by : Turned w (side_of move) entry next = turned (side_of move) w (entry, next) told.0 in
+    let by : Turned w (side_of move) entry next = turned (side_of move) (over_of move) w (entry, next) told.0 in
     both _ _ (now so_far w ended f (so []))
     (woken_turn entries (woken entries) so_far (side_of move) w entry next s r ended worlds moves by se re h (turned_reaches (side_of move) w entry next h by) f so told.1)
 woken [] so_far w s r ended [] (move ∷ moves) se re h f so told = elim told [ ]

@@ -16,5 +16,6 @@ pub mod Traces
 pub mod Examples
 pub mod LawExamples
 pub mod WaitExamples
+pub mod TimedExamples
 pub mod WakerExamples
 pub mod UnwokenExamples

@@ -26,6 +26,11 @@ seen_at (T.Word (O.Store new)) before = S.Done
 seen_at (T.Word op) (Some word) = S.Word word
 seen_at _ before = S.Done
 
+-- what a clock answers that is read in an entry
+abbrev pub over_in : Seen → Bool
+over_in (S.Over over) = over
+over_in _ = false
+
 -- an end's step, with the word before and after it; none once the block is freed
 abbrev pub step_of : End → Step → Option ℕ → Option ℕ → Made
 step_of end step before after =
@@ -58,6 +63,10 @@ without_block end step = step_of end step None None
 -- a park, which its token ended or which ended without one
 abbrev pub parked : Bool → ℕ → Made
 parked by_token before = record (receiver T.Park before before) { seen = S.Token by_token }
+
+-- a read of the clock
+abbrev pub clocked : Bool → ℕ → Made
+clocked over before = record (receiver T.Clock before before) { seen = S.Over over }
 
 -- the message's move, a waker's move, a token that is set, and the reply
 abbrev pub moving : Place → Place → Made → Made

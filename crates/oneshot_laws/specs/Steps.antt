@@ -2,7 +2,7 @@
 use Rattle.std.specs.Prelude.{Bool, true, false, Option, Some, None}
 use Rattle.oneshot_machine.specs.declared.machine.Reply.{Reply}
 use Rattle.oneshot_machine.specs.declared.machine.Reply.TheVariants as R
-use Rattle.oneshot_world.specs.Calls.{Call, Sender_is_closed, Send, Drop_sender, As_inner, Into_inner, Drop_error, Try_recv, Recv_ref, Recv, Has_message, Is_closed, Drop_receiver, Stray}
+use Rattle.oneshot_world.specs.Calls.{Call, Sender_is_closed, Send, Drop_sender, As_inner, Into_inner, Drop_error, Try_recv, Recv_ref, Recv_deadline, Recv_timeout, Recv, Has_message, Is_closed, Drop_receiver, Stray}
 use Rattle.oneshot_laws.specs.Object.{Action, Send as Send_step, Sender_gone, Take, Take_and_go, Look_full, Look_closed, Look_receiver_gone, Receiver_gone, Answer, Accepted, Returned, Message, Gone, Nothing_yet, Yes, No, Finished, Object, answer_of, object_after}
 
 -- each call as a step of the object; the error's calls are none
@@ -15,15 +15,20 @@ action_of Into_inner = None
 action_of Drop_error = None
 action_of Try_recv = Some Take
 action_of Recv_ref = Some Take
+action_of Recv_deadline = Some Take
+action_of (Recv_timeout representable) = Some Take
 action_of Recv = Some Take_and_go
 action_of Has_message = Some Look_full
 action_of Is_closed = Some Look_closed
 action_of Drop_receiver = Some Receiver_gone
 action_of Stray = None
 
--- how a receive says "nothing yet"; the others have no reply for it
+-- How a receive says "nothing yet". One that waits without end has no reply for it; the object
+-- gives none to a timeout that no instant can hold, and it never says so.
 abbrev pub nothing_yet_of : Call → Option Reply
 nothing_yet_of Try_recv = Some R.Empty
+nothing_yet_of Recv_deadline = Some R.Timeout
+nothing_yet_of (Recv_timeout true) = Some R.Timeout
 nothing_yet_of _ = None
 
 -- the reply that reads an answer
@@ -57,6 +62,8 @@ stepped (Some action) o = object_after action o
 abbrev pub is_receive : Call → Bool
 is_receive Try_recv = true
 is_receive Recv_ref = true
+is_receive Recv_deadline = true
+is_receive (Recv_timeout representable) = true
 is_receive Recv = true
 is_receive _ = false
 

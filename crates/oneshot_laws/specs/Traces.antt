@@ -9,7 +9,7 @@ use Rattle.oneshot_world.specs.declared.trace.Entry.TheVariants as E
 use Rattle.oneshot_world.specs.declared.trace.Place.TheVariants as P
 use Rattle.oneshot_world.specs.declared.trace.WakerName.TheVariants.{Parker}
 use Rattle.oneshot_world.specs.declared.trace.WakerPlace.TheVariants as W
-use Rattle.oneshot_laws.specs.Notation.{Example, sender, receiver, frees, without_block, parked, moving, carrying, setting_token, replying}
+use Rattle.oneshot_laws.specs.Notation.{Example, sender, receiver, frees, without_block, parked, clocked, moving, carrying, setting_token, replying}
 
 -- S send 7
 -- R try drop
@@ -328,5 +328,142 @@ still_waiting =
           E.Made (receiver (T.Word O.Load) 3 3)
           ∷ E.Made (carrying Parker W.Hand W.Cell (receiver T.WriteWaker 3 3))
           ∷ E.Made (receiver (T.Word (O.Swap 0)) 3 0)
+          ∷ [];
+    }
+
+-- S send 7
+-- R deadline
+-- X rrrossrrrsssrrrr
+-- the deadline is over while the sender is about to finish, and the receiver waits for it
+abbrev pub waited_past_its_deadline : Example
+waited_past_its_deadline =
+    record {
+      calls = record { sender = C.Send ∷ []; error = []; receiver = C.Recv_deadline ∷ [] };
+      entries =
+          E.Made (receiver (T.Word O.Load) 3 3)
+          ∷ E.Made (carrying Parker W.Hand W.Cell (receiver T.WriteWaker 3 3))
+          ∷ E.Made (receiver (T.Word (O.Swap 0)) 3 0)
+          ∷ E.Made (clocked true 0)
+          ∷ E.Made (moving P.NotSent P.InCell (sender T.WriteMessage 0 0))
+          ∷ E.Made (sender (T.Word O.Add) 0 1)
+          ∷ E.Made (receiver (T.Word (O.Swap 3)) 1 3)
+          ∷ E.Made (parked false 3)
+          ∷ E.Made (receiver (T.Word O.Load) 3 3)
+          ∷ E.Made (carrying Parker W.Cell W.SenderHand (sender T.TakeWaker 3 3))
+          ∷ E.Made (sender (T.Word (O.Swap 4)) 3 4)
+          ∷ E.Made (replying R.Sent (setting_token (carrying Parker W.SenderHand W.Used (sender T.Wake 4 4))))
+          ∷ E.Made (parked true 4)
+          ∷ E.Made (receiver (T.Word O.Load) 4 4)
+          ∷ E.Made (receiver (T.Word (O.Store 2)) 4 2)
+          ∷ E.Made (replying R.Message (moving P.InCell P.Delivered (receiver T.TakeMessage 2 2)))
+          ∷ [];
+    }
+
+-- S send 7
+-- R deadline
+-- X rrrosssssrrr
+abbrev pub sent_at_its_deadline : Example
+sent_at_its_deadline =
+    record {
+      calls = record { sender = C.Send ∷ []; error = []; receiver = C.Recv_deadline ∷ [] };
+      entries =
+          E.Made (receiver (T.Word O.Load) 3 3)
+          ∷ E.Made (carrying Parker W.Hand W.Cell (receiver T.WriteWaker 3 3))
+          ∷ E.Made (receiver (T.Word (O.Swap 0)) 3 0)
+          ∷ E.Made (clocked true 0)
+          ∷ E.Made (moving P.NotSent P.InCell (sender T.WriteMessage 0 0))
+          ∷ E.Made (sender (T.Word O.Add) 0 1)
+          ∷ E.Made (carrying Parker W.Cell W.SenderHand (sender T.TakeWaker 1 1))
+          ∷ E.Made (sender (T.Word (O.Swap 4)) 1 4)
+          ∷ E.Made (replying R.Sent (setting_token (carrying Parker W.SenderHand W.Used (sender T.Wake 4 4))))
+          ∷ E.Made (receiver (T.Word (O.Swap 3)) 4 3)
+          ∷ E.Made (receiver (T.Word (O.Store 2)) 3 2)
+          ∷ E.Made (replying R.Message (moving P.InCell P.Delivered (receiver T.TakeMessage 2 2)))
+          ∷ [];
+    }
+
+-- S send 7
+-- R timeout try
+-- X rrrrrrrorrssrrr
+-- the timeout is over, the message comes afterwards, and the next receive gets it
+abbrev pub ran_out_then_taken : Example
+ran_out_then_taken =
+    record {
+      calls = record { sender = C.Send ∷ []; error = []; receiver = C.Recv_timeout true ∷ C.Try_recv ∷ [] };
+      entries =
+          E.Made (clocked false 3)
+          ∷ E.Made (receiver (T.Word O.Load) 3 3)
+          ∷ E.Made (carrying Parker W.Hand W.Cell (receiver T.WriteWaker 3 3))
+          ∷ E.Made (receiver (T.Word (O.Swap 0)) 3 0)
+          ∷ E.Made (clocked false 0)
+          ∷ E.Made (parked false 0)
+          ∷ E.Made (receiver (T.Word O.Load) 0 0)
+          ∷ E.Made (clocked true 0)
+          ∷ E.Made (receiver (T.Word (O.Swap 3)) 0 3)
+          ∷ E.Made (replying R.Timeout (carrying Parker W.Cell W.Hand (receiver T.Withdraw 3 3)))
+          ∷ E.Made (moving P.NotSent P.InCell (sender T.WriteMessage 3 3))
+          ∷ E.Made (replying R.Sent (sender (T.Word O.Add) 3 4))
+          ∷ E.Made (receiver (T.Word O.Load) 4 4)
+          ∷ E.Made (receiver (T.Word (O.Store 2)) 4 2)
+          ∷ E.Made (replying R.Message (moving P.InCell P.Delivered (receiver T.TakeMessage 2 2)))
+          ∷ [];
+    }
+
+-- S drop
+-- R forever
+-- X orrrrrsssrr
+-- no instant can hold the timeout: its clock is not looked at, and it waits without end
+abbrev pub never_ran_out : Example
+never_ran_out =
+    record {
+      calls = record { sender = C.Drop_sender ∷ []; error = []; receiver = C.Recv_timeout false ∷ [] };
+      entries =
+          E.Made (clocked true 3)
+          ∷ E.Made (receiver (T.Word O.Load) 3 3)
+          ∷ E.Made (carrying Parker W.Hand W.Cell (receiver T.WriteWaker 3 3))
+          ∷ E.Made (receiver (T.Word (O.Swap 0)) 3 0)
+          ∷ E.Made (parked false 0)
+          ∷ E.Made (receiver (T.Word O.Load) 0 0)
+          ∷ E.Made (sender (T.Word O.Xor) 0 1)
+          ∷ E.Made (carrying Parker W.Cell W.SenderHand (sender T.TakeWaker 1 1))
+          ∷ E.Made (sender (T.Word (O.Swap 2)) 1 2)
+          ∷ E.Made (parked false 2)
+          ∷ E.Made (replying R.Disconnected (receiver (T.Word O.Load) 2 2))
+          ∷ [];
+    }
+
+-- S drop
+-- R deadline drop
+-- X rrrorrrss
+abbrev pub ran_out_then_dropped : Example
+ran_out_then_dropped =
+    record {
+      calls = record { sender = C.Drop_sender ∷ []; error = []; receiver = C.Recv_deadline ∷ C.Drop_receiver ∷ [] };
+      entries =
+          E.Made (receiver (T.Word O.Load) 3 3)
+          ∷ E.Made (carrying Parker W.Hand W.Cell (receiver T.WriteWaker 3 3))
+          ∷ E.Made (receiver (T.Word (O.Swap 0)) 3 0)
+          ∷ E.Made (clocked true 0)
+          ∷ E.Made (receiver (T.Word (O.Swap 3)) 0 3)
+          ∷ E.Made (replying R.Timeout (carrying Parker W.Cell W.Hand (receiver T.Withdraw 3 3)))
+          ∷ E.Made (replying R.Done (receiver (T.Word (O.Swap 2)) 3 2))
+          ∷ E.Made (sender (T.Word O.Xor) 2 3)
+          ∷ E.Made (replying R.Done (frees Sender 3))
+          ∷ [];
+    }
+
+-- S send 7
+-- R deadline
+-- X ssrrr
+abbrev pub sent_before_its_deadline : Example
+sent_before_its_deadline =
+    record {
+      calls = record { sender = C.Send ∷ []; error = []; receiver = C.Recv_deadline ∷ [] };
+      entries =
+          E.Made (moving P.NotSent P.InCell (sender T.WriteMessage 3 3))
+          ∷ E.Made (replying R.Sent (sender (T.Word O.Add) 3 4))
+          ∷ E.Made (receiver (T.Word O.Load) 4 4)
+          ∷ E.Made (receiver (T.Word (O.Store 2)) 4 2)
+          ∷ E.Made (replying R.Message (moving P.InCell P.Delivered (receiver T.TakeMessage 2 2)))
           ∷ [];
     }

@@ -1,11 +1,11 @@
 -- What the definition of an unwoken receiver says of worked traces, and of a sender that wakes too soon or never. The checker computes all of it.
 use Rattle.std.specs.Prelude.{◌≡◌, ℕ, ◌+◌, Bool, true, false, not, ◌&&◌, List, [], ◌∷◌, ◌++◌, map, take, drop, replicate, Option, Some, None, IsTrue}
-use Rattle.oneshot_machine.specs.declared.machine.End.{End}
 use Rattle.oneshot_machine.specs.declared.machine.Reply.TheVariants as R
 use Rattle.oneshot_machine.specs.declared.machine.Step.TheVariants as T
 use Rattle.oneshot_machine.specs.declared.states.Op.TheVariants as O
 use Rattle.oneshot_world.specs.World.{World, opening_with, turn_of}
 use Rattle.oneshot_world.specs.declared.trace.Entry.TheVariants as E
+use Rattle.oneshot_world.specs.declared.trace.Made.{Made}
 use Rattle.oneshot_world.specs.declared.trace.Place.{Place}
 use Rattle.oneshot_world.specs.declared.trace.Place.TheVariants as P
 use Rattle.oneshot_world.specs.declared.trace.WakerName.TheVariants.{Parker}
@@ -14,7 +14,7 @@ use Rattle.oneshot_laws.specs.Marks.{marks}
 use Rattle.oneshot_laws.specs.Places.{steps}
 use Rattle.oneshot_world.specs.Ahead.{Ahead, ahead_of}
 use Rattle.oneshot_laws.specs.Unwoken.{is_never_unwoken}
-use Rattle.oneshot_laws.specs.Notation.{Example, sender, receiver, parked, carrying, setting_token, replying, up_to, answered_by}
+use Rattle.oneshot_laws.specs.Notation.{Example, over_in, sender, receiver, parked, carrying, setting_token, replying, up_to, answered_by}
 use Rattle.oneshot_laws.specs.Traces.{waited_for_message, woken_by_drop, still_waiting}
 use Rattle.oneshot_laws.specs.LawExamples.{is_right}
 
@@ -41,13 +41,13 @@ around_a_drop = replicate 3 up ++ replicate 4 parks ++ parks_with_token ∷ repl
 abbrev pub around_no_sender : List Ahead
 around_no_sender = replicate 3 up ++ parks ∷ []
 
-abbrev pub aheads_from : World → List End → List Ahead
+abbrev pub aheads_from : World → List Made → List Ahead
 aheads_from w [] = ahead_of w ∷ []
-aheads_from w (side ∷ sides) =
-    ahead_of w ∷ elim (turn_of side w) [ None ↦ [] | Some told ↦ aheads_from told.1 sides ]
+aheads_from w (e ∷ es) =
+    ahead_of w ∷ elim (turn_of e.side (over_in e.seen) w) [ None ↦ [] | Some told ↦ aheads_from told.1 es ]
 
 abbrev pub aheads_by : Option Place → Example → List Ahead
-aheads_by message x = aheads_from (opening_with message x.calls) (map (λ e. e.side) (steps x.entries))
+aheads_by message x = aheads_from (opening_with message x.calls) (steps x.entries)
 
 abbrev pub AheadsOfRuns : Type 0
 AheadsOfRuns =

@@ -1,7 +1,6 @@
 -- What the history, the freeing and the replies are in worked traces of calls that wait, and in the same traces damaged. The checker computes all of it.
-use Rattle.std.specs.Prelude.{◌≡◌, not, List, [], ◌∷◌, ◌++◌, map, take, Option, Some, None, IsTrue}
+use Rattle.std.specs.Prelude.{◌≡◌, not, List, [], ◌∷◌, ◌++◌, take, Option, Some, None, IsTrue}
 use Rattle.std.specs.List.{list_all}
-use Rattle.oneshot_machine.specs.declared.machine.End.{End}
 use Rattle.oneshot_machine.specs.declared.machine.End.TheVariants.{Sender, Receiver}
 use Rattle.oneshot_machine.specs.declared.machine.Reply.{Reply}
 use Rattle.oneshot_machine.specs.declared.machine.Reply.TheVariants as R
@@ -11,25 +10,26 @@ use Rattle.oneshot_world.specs.Calls as C
 use Rattle.oneshot_world.specs.World.{World, opening_with, turn_of}
 use Rattle.oneshot_world.specs.declared.trace.Entry.{Entry}
 use Rattle.oneshot_world.specs.declared.trace.Entry.TheVariants as E
+use Rattle.oneshot_world.specs.declared.trace.Made.{Made}
 use Rattle.oneshot_world.specs.declared.trace.Place.{Place}
 use Rattle.oneshot_world.specs.declared.trace.Place.TheVariants as P
 use Rattle.oneshot_world.specs.declared.trace.WakerName.TheVariants.{Parker}
 use Rattle.oneshot_world.specs.declared.trace.WakerPlace.TheVariants as W
 use Rattle.oneshot_laws.specs.Places.{steps}
 use Rattle.oneshot_laws.specs.Laws.{is_gone_after_got, is_gone_after_closed}
-use Rattle.oneshot_laws.specs.Notation.{Example, sender, receiver, frees, without_block, carrying, setting_token, replying, up_to, without, exchanged, put_behind, answered_by}
+use Rattle.oneshot_laws.specs.Notation.{Example, over_in, sender, receiver, frees, without_block, carrying, setting_token, replying, up_to, without, exchanged, put_behind, answered_by}
 use Rattle.oneshot_laws.specs.Traces.{received_at_once, waited_for_message, sent_before_waiting, dropped_before_waiting, woken_by_drop, still_waiting}
 use Rattle.oneshot_laws.specs.Examples.{acting_in, is_legal_trace}
 use Rattle.oneshot_laws.specs.LawExamples.{is_block_right, are_lone_replies_right, fails_at, is_right}
 
 -- THE RUNS: each trace is what its scripts tell under its moves
-abbrev pub told_from : World → List End → List Entry
+abbrev pub told_from : World → List Made → List Entry
 told_from w [] = []
-told_from w (side ∷ sides) =
-    elim (turn_of side w) [ None ↦ [] | Some told ↦ told.0 ∷ told_from told.1 sides ]
+told_from w (e ∷ es) =
+    elim (turn_of e.side (over_in e.seen) w) [ None ↦ [] | Some told ↦ told.0 ∷ told_from told.1 es ]
 
 abbrev pub told_by : Option Place → Example → List Entry
-told_by message x = told_from (opening_with message x.calls) (map (λ e. e.side) (steps x.entries))
+told_by message x = told_from (opening_with message x.calls) (steps x.entries)
 
 abbrev pub WaitsAreTold : Type 0
 WaitsAreTold =

@@ -4,6 +4,7 @@
 ghost use Rattle.oneshot_laws.specs.Examples.{ObjectAnswers, ActingEntries, LegalTraces, IllegalTraces, IdleTraces, NotIdleTraces};
 ghost use Rattle.oneshot_laws.specs.LawExamples.{RightTraces, MisplacedMessages, MisfreedBlocks, WrongReplies, WrongAlone};
 ghost use Rattle.oneshot_laws.specs.WaitExamples.{WaitsAreTold, WaitsAct, IllegalWaits, MisfreedWaits, WrongReceives};
+ghost use Rattle.oneshot_laws.specs.TimedExamples.{TimedAreTold, TimedAreRight, TimedAct, IllegalTimeouts, WrongTimeouts};
 ghost use Rattle.oneshot_laws.specs.WakerExamples.{MisplacedWakers, FullCells};
 ghost use Rattle.oneshot_laws.specs.UnwokenExamples.{AheadsOfRuns, UnwokenWaits};
 
@@ -26,6 +27,11 @@ pub fn examples()
     ensures illegal_waits { IllegalWaits }
     ensures misfreed_waits { MisfreedWaits }
     ensures wrong_receives { WrongReceives }
+    ensures timed_told { TimedAreTold }
+    ensures timed_right { TimedAreRight }
+    ensures timed_act { TimedAct }
+    ensures illegal_timeouts { IllegalTimeouts }
+    ensures wrong_timeouts { WrongTimeouts }
     ensures misplaced_wakers { MisplacedWakers }
     ensures full_cells { FullCells }
     ensures aheads { AheadsOfRuns }

@@ -4,7 +4,7 @@ use Rattle.std.proofs.lemmas.Bool.{eqb-true}
 use Rattle.oneshot_machine.specs.Standing.{sender_positions, receiver_positions}
 use Rattle.oneshot_machine.specs.declared.machine.receiver.ReceiverPos.TheVariants as R
 use Rattle.oneshot_machine.specs.declared.machine.sender.SenderPos.TheVariants as S
-use Rattle.oneshot_world.specs.Calls.{Call, Sender_is_closed, Send, Drop_sender, As_inner, Into_inner, Drop_error, Try_recv, Recv_ref, Recv, Has_message, Is_closed, Drop_receiver, Stray}
+use Rattle.oneshot_world.specs.Calls.{Call, Sender_is_closed, Send, Drop_sender, As_inner, Into_inner, Drop_error, Try_recv, Recv_ref, Recv_deadline, Recv_timeout, Recv, Has_message, Is_closed, Drop_receiver, Stray}
 use Rattle.oneshot_world.specs.Control.{Control, sender_code, receiver_code, call_code, place_code, bool_code, is_same_wakers, is_same_state, is_same_control}
 use Rattle.oneshot_world.specs.Wakers.{is_same_waker, is_same_name}
 use Rattle.oneshot_world.specs.declared.state.ReceiverState.{ReceiverState}
@@ -59,13 +59,25 @@ receiver_back (RS.At R.TryLoad) = refl
 receiver_back (RS.At R.Close) = refl
 receiver_back (RS.At R.Take) = refl
 receiver_back (RS.At R.CloseOnly) = refl
-receiver_back (RS.At R.StartLoad) = refl
-receiver_back (RS.At R.StartWrite) = refl
-receiver_back (RS.At R.StartSwap) = refl
+receiver_back (RS.At (R.SumClock false)) = refl
+receiver_back (RS.At (R.SumClock true)) = refl
+receiver_back (RS.At (R.StartLoad false)) = refl
+receiver_back (RS.At (R.StartLoad true)) = refl
+receiver_back (RS.At (R.StartWrite false)) = refl
+receiver_back (RS.At (R.StartWrite true)) = refl
+receiver_back (RS.At (R.StartSwap false)) = refl
+receiver_back (RS.At (R.StartSwap true)) = refl
 receiver_back (RS.At R.BackFull) = refl
 receiver_back (RS.At R.BackClosed) = refl
 receiver_back (RS.At R.Park) = refl
 receiver_back (RS.At R.ParkLoad) = refl
+receiver_back (RS.At R.Clock) = refl
+receiver_back (RS.At R.TimedPark) = refl
+receiver_back (RS.At R.TimedLoad) = refl
+receiver_back (RS.At R.EndSwap) = refl
+receiver_back (RS.At R.EndBack) = refl
+receiver_back (RS.At R.LatePark) = refl
+receiver_back (RS.At R.LateLoad) = refl
 receiver_back (RS.At R.RecvLoad) = refl
 receiver_back (RS.At R.RecvWrite) = refl
 receiver_back (RS.At R.RecvSwap) = refl
@@ -82,7 +94,7 @@ receiver_back (RS.At R.DropFree) = refl
 
 abbrev calls : List (Option Call)
 calls =
-    None ∷ Some Sender_is_closed ∷ Some Send ∷ Some Drop_sender ∷ Some As_inner ∷ Some Into_inner ∷ Some Drop_error ∷ Some Try_recv ∷ Some Recv_ref ∷ Some Recv ∷ Some Has_message ∷ Some Is_closed ∷ Some Drop_receiver ∷ Some Stray ∷ []
+    None ∷ Some Sender_is_closed ∷ Some Send ∷ Some Drop_sender ∷ Some As_inner ∷ Some Into_inner ∷ Some Drop_error ∷ Some Try_recv ∷ Some Recv_ref ∷ Some Recv_deadline ∷ Some (Recv_timeout false) ∷ Some (Recv_timeout true) ∷ Some Recv ∷ Some Has_message ∷ Some Is_closed ∷ Some Drop_receiver ∷ Some Stray ∷ []
 
 call_back : (c : Option Call) → get_or calls (call_code c) None ≡ c
 call_back None = refl
@@ -94,6 +106,9 @@ call_back (Some Into_inner) = refl
 call_back (Some Drop_error) = refl
 call_back (Some Try_recv) = refl
 call_back (Some Recv_ref) = refl
+call_back (Some Recv_deadline) = refl
+call_back (Some (Recv_timeout false)) = refl
+call_back (Some (Recv_timeout true)) = refl
 call_back (Some Recv) = refl
 call_back (Some Has_message) = refl
 call_back (Some Is_closed) = refl

@@ -4,7 +4,7 @@ use Rattle.oneshot_machine.specs.declared.machine.receiver.ReceiverPos.{Receiver
 use Rattle.oneshot_machine.specs.declared.machine.receiver.ReceiverStart.{ReceiverStart}
 use Rattle.oneshot_machine.specs.declared.machine.sender.SenderCall.{SenderCall}
 use Rattle.oneshot_machine.specs.declared.machine.sender.SenderPos.{SenderPos}
-use Rattle.oneshot_world.specs.Calls.{Call, Sender_is_closed, Send, Drop_sender, As_inner, Into_inner, Drop_error, Try_recv, Recv_ref, Recv, Has_message, Is_closed, Drop_receiver, rest, is_none_left, sender_last, error_last, receiver_calls}
+use Rattle.oneshot_world.specs.Calls.{Call, Sender_is_closed, Send, Drop_sender, As_inner, Into_inner, Drop_error, Try_recv, Recv_ref, Recv_deadline, Recv_timeout, Recv, Has_message, Is_closed, Drop_receiver, rest, is_none_left, sender_last, error_last, receiver_calls}
 use Rattle.oneshot_world.specs.Control.{is_script, stays_sender, ends_sender, stays_error, ends_error, stays_receiver, ends_receiver, is_sender_script, is_error_script, sender_has, receiver_has}
 use Rattle.oneshot_world.specs.State.{sender_position, receiver_position, place_left}
 use Rattle.oneshot_world.specs.World.{opening_place}
@@ -97,6 +97,8 @@ pub receiver_goes_on : (calls : List Call) → is_script stays_receiver ends_rec
 receiver_goes_on [] h = refl
 receiver_goes_on (Try_recv ∷ calls) h = left_of_or _ h
 receiver_goes_on (Recv_ref ∷ calls) h = left_of_or _ h
+receiver_goes_on (Recv_deadline ∷ calls) h = left_of_or _ h
+receiver_goes_on (Recv_timeout representable ∷ calls) h = left_of_or _ h
 receiver_goes_on (Recv ∷ calls) h = none_is_script calls h
 receiver_goes_on (Has_message ∷ calls) h = left_of_or _ h
 receiver_goes_on (Is_closed ∷ calls) h = left_of_or _ h
@@ -129,5 +131,7 @@ receiver_scripted [] RL.Drop = refl
 receiver_scripted [] RL.Stop = refl
 receiver_scripted (RC.TryRecv ∷ calls) last = rw (receiver_scripted calls last) refl
 receiver_scripted (RC.RecvRef ∷ calls) last = rw (receiver_scripted calls last) refl
+receiver_scripted (RC.RecvDeadline ∷ calls) last = rw (receiver_scripted calls last) refl
+receiver_scripted (RC.RecvTimeout representable ∷ calls) last = rw (receiver_scripted calls last) refl
 receiver_scripted (RC.HasMessage ∷ calls) last = rw (receiver_scripted calls last) refl
 receiver_scripted (RC.IsClosed ∷ calls) last = rw (receiver_scripted calls last) refl

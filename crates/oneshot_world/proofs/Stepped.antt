@@ -17,15 +17,15 @@ made_where_it_fits true f row r there at = rw at refl
 made_where_it_fits false f row r there at = cc
 
 -- the sender's step, by the row that `next` gives
-pub sender_made_of : (s : State) (position : SenderPos) (n : SenderPos × Option Reply) → IsSome (sender_steps s position) → sender_row position (seen_by s (sender_step position)) ≡ Some (outcome n) → sender_steps s position ≡ Some (made Sender s (sender_step position) n.1 (sender_puts (sender_step position) n.1), record (moved s (sender_step position) (sender_puts (sender_step position) n.1)) { sender = sender_goes (sender_step position) (outcome n) })
+pub sender_made_of : (s : State) (position : SenderPos) (n : SenderPos × Option Reply) → IsSome (sender_steps s position) → sender_row position (seen_by false s (sender_step position)) ≡ Some (outcome n) → sender_steps s position ≡ Some (made Sender false s (sender_step position) n.1 (sender_puts (sender_step position) n.1), record (moved s (sender_step position) (sender_puts (sender_step position) n.1)) { sender = sender_goes (sender_step position) (outcome n) })
 sender_made_of s position (next, None) there at =
-    made_where_it_fits (sender_fits s (sender_step position)) (sender_stepped s (sender_step position)) (sender_row position (seen_by s (sender_step position))) (outcome (next, None)) there at
+    made_where_it_fits (sender_fits s (sender_step position)) (sender_stepped s (sender_step position)) (sender_row position (seen_by false s (sender_step position))) (outcome (next, None)) there at
 sender_made_of s position (next, Some reply) there at =
-    made_where_it_fits (sender_fits s (sender_step position)) (sender_stepped s (sender_step position)) (sender_row position (seen_by s (sender_step position))) (outcome (next, Some reply)) there at
+    made_where_it_fits (sender_fits s (sender_step position)) (sender_stepped s (sender_step position)) (sender_row position (seen_by false s (sender_step position))) (outcome (next, Some reply)) there at
 
 -- the receiver's
-pub receiver_made_of : (s : State) (position : ReceiverPos) (n : ReceiverPos × Option Reply) → IsSome (receiver_steps s position) → receiver_row position (seen_by s (receiver_step position)) ≡ Some (outcome n) → receiver_steps s position ≡ Some (made Receiver s (receiver_step position) n.1 (receiver_puts (receiver_step position)), record (moved s (receiver_step position) (receiver_puts (receiver_step position))) { receiver = receiver_goes (receiver_step position) (outcome n) })
-receiver_made_of s position (next, None) there at =
-    made_where_it_fits (receiver_fits s (receiver_step position)) (receiver_stepped s (receiver_step position)) (receiver_row position (seen_by s (receiver_step position))) (outcome (next, None)) there at
-receiver_made_of s position (next, Some reply) there at =
-    made_where_it_fits (receiver_fits s (receiver_step position)) (receiver_stepped s (receiver_step position)) (receiver_row position (seen_by s (receiver_step position))) (outcome (next, Some reply)) there at
+pub receiver_made_of : (over : Bool) (s : State) (position : ReceiverPos) (n : ReceiverPos × Option Reply) → IsSome (receiver_steps over s position) → receiver_row position (seen_by over s (receiver_step position)) ≡ Some (outcome n) → receiver_steps over s position ≡ Some (made Receiver over s (receiver_step position) n.1 (receiver_puts (receiver_step position)), record (moved s (receiver_step position) (receiver_puts (receiver_step position))) { receiver = receiver_goes (receiver_step position) (outcome n) })
+receiver_made_of over s position (next, None) there at =
+    made_where_it_fits (receiver_fits s (receiver_step position)) (receiver_stepped over s (receiver_step position)) (receiver_row position (seen_by over s (receiver_step position))) (outcome (next, None)) there at
+receiver_made_of over s position (next, Some reply) there at =
+    made_where_it_fits (receiver_fits s (receiver_step position)) (receiver_stepped over s (receiver_step position)) (receiver_row position (seen_by over s (receiver_step position))) (outcome (next, Some reply)) there at

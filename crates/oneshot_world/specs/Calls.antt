@@ -30,6 +30,8 @@ pub data Call : Type 0 where
   Drop_error : Call
   Try_recv : Call
   Recv_ref : Call
+  Recv_deadline : Call
+  Recv_timeout : (representable : Bool) → Call
   Recv : Call
   Has_message : Call
   Is_closed : Call
@@ -46,6 +48,8 @@ as_sender_call Into_inner = Some SC.IntoInner
 as_sender_call Drop_error = Some SC.DropError
 as_sender_call Try_recv = None
 as_sender_call Recv_ref = None
+as_sender_call Recv_deadline = None
+as_sender_call (Recv_timeout representable) = None
 as_sender_call Recv = None
 as_sender_call Has_message = None
 as_sender_call Is_closed = None
@@ -61,6 +65,8 @@ as_receiver_call Into_inner = None
 as_receiver_call Drop_error = None
 as_receiver_call Try_recv = Some RS.TryRecv
 as_receiver_call Recv_ref = Some RS.RecvRef
+as_receiver_call Recv_deadline = Some RS.RecvDeadline
+as_receiver_call (Recv_timeout representable) = Some (RS.RecvTimeout representable)
 as_receiver_call Recv = Some RS.Recv
 as_receiver_call Has_message = Some RS.HasMessage
 as_receiver_call Is_closed = Some RS.IsClosed
@@ -103,6 +109,8 @@ error_calls SL.Stop = []
 abbrev pub receiver_call : ReceiverCall → Call
 receiver_call RC.TryRecv = Try_recv
 receiver_call RC.RecvRef = Recv_ref
+receiver_call RC.RecvDeadline = Recv_deadline
+receiver_call (RC.RecvTimeout representable) = Recv_timeout representable
 receiver_call RC.HasMessage = Has_message
 receiver_call RC.IsClosed = Is_closed
 

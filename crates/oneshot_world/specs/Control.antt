@@ -5,7 +5,7 @@ use Rattle.std.specs.List.{filter_map}
 use Rattle.oneshot_machine.specs.declared.machine.End.{End}
 use Rattle.oneshot_machine.specs.declared.machine.End.TheVariants.{Sender, Receiver}
 use Rattle.oneshot_machine.specs.Standing.{sender_number, receiver_number}
-use Rattle.oneshot_world.specs.Calls.{Call, Sender_is_closed, Send, Drop_sender, As_inner, Into_inner, Drop_error, Try_recv, Recv_ref, Recv, Has_message, Is_closed, Drop_receiver, Stray, first, is_none_left}
+use Rattle.oneshot_world.specs.Calls.{Call, Sender_is_closed, Send, Drop_sender, As_inner, Into_inner, Drop_error, Try_recv, Recv_ref, Recv_deadline, Recv_timeout, Recv, Has_message, Is_closed, Drop_receiver, Stray, first, is_none_left}
 use Rattle.oneshot_world.specs.Explore.{Tree, reach, is_in}
 use Rattle.oneshot_world.specs.State.{opening_state, turns}
 use Rattle.oneshot_world.specs.Wakers.{name_code, is_same_name}
@@ -46,30 +46,47 @@ control_of w =
       receiver = receiver_under_way w.state.receiver (first w.receiver.calls);
     }
 
--- a move: the end that makes it, with the call that it has under way or begins
+-- a move: the end that makes it, what a clock answers then, and the call that the end has under way or begins
 pub record Begin : Type 0 where
   pub side : End
+  pub over : Bool
   pub call : Option Call
 
-abbrev pub begins_with : End → List Call → List Begin
-begins_with side calls = map (λ call. record { side = side; call = Some call }) calls
+abbrev pub begins_with : End → Bool → List Call → List Begin
+begins_with side over calls = map (λ call. record { side = side; over = over; call = Some call }) calls
 
 -- a send is there where there is a message
 abbrev pub sends_begins : Option Place → List Begin
 sends_begins None = []
-sends_begins (Some place) = record { side = Sender; call = Some Send } ∷ []
+sends_begins (Some place) = record { side = Sender; over = false; call = Some Send } ∷ []
 
 -- the moves of an end: it goes on with the call under way, or begins any call
 abbrev pub sender_begins : Option Place → SenderState → Option Call → List Begin
-sender_begins message SS.Ready call = begins_with Sender (Sender_is_closed ∷ Drop_sender ∷ []) ++ sends_begins message
-sender_begins message (SS.At position) call = record { side = Sender; call = call } ∷ []
-sender_begins message SS.Failed call = begins_with Sender (As_inner ∷ Into_inner ∷ Drop_error ∷ [])
+sender_begins message SS.Ready call = begins_with Sender false (Sender_is_closed ∷ Drop_sender ∷ []) ++ sends_begins message
+sender_begins message (SS.At position) call = record { side = Sender; over = false; call = call } ∷ []
+sender_begins message SS.Failed call = begins_with Sender false (As_inner ∷ Into_inner ∷ Drop_error ∷ [])
 sender_begins message SS.Ended call = []
 
+abbrev pub of_receiver : List Call
+of_receiver =
+    Try_recv
+    ∷ Recv_ref
+    ∷ Recv_deadline
+    ∷ Recv_timeout false
+    ∷ Recv_timeout true
+    ∷ Recv
+    ∷ Has_message
+    ∷ Is_closed
+    ∷ Drop_receiver
+    ∷ []
+
+abbrev pub receiver_begins_at : Bool → ReceiverState → Option Call → List Begin
+receiver_begins_at over RS.Ready call = begins_with Receiver over of_receiver
+receiver_begins_at over (RS.At position) call = record { side = Receiver; over = over; call = call } ∷ []
+receiver_begins_at over RS.Ended call = []
+
 abbrev pub receiver_begins : ReceiverState → Option Call → List Begin
-receiver_begins RS.Ready call = begins_with Receiver (Try_recv ∷ Recv_ref ∷ Recv ∷ Has_message ∷ Is_closed ∷ Drop_receiver ∷ [])
-receiver_begins (RS.At position) call = record { side = Receiver; call = call } ∷ []
-receiver_begins RS.Ended call = []
+receiver_begins s call = receiver_begins_at false s call ++ receiver_begins_at true s call
 
 abbrev pub begins : Control → List Begin
 begins c = sender_begins c.state.message c.state.sender c.sender ++ receiver_begins c.state.receiver c.receiver
@@ -82,7 +99,7 @@ control_then Receiver call c s =
     record { state = s; sender = c.sender; receiver = receiver_under_way s.receiver call }
 
 abbrev pub control_turn : Control → Begin → Option (Entry × Control)
-control_turn c b = option_map (λ turned. (turned.0, control_then b.side b.call c turned.1)) (turns b.side c.state b.call)
+control_turn c b = option_map (λ turned. (turned.0, control_then b.side b.call c turned.1)) (turns b.side b.over c.state b.call)
 
 abbrev pub successors : Control → List Control
 successors c = filter_map (λ b. option_map (λ turned. turned.1) (control_turn c b)) (begins c)
@@ -109,11 +126,14 @@ call_code (Some Into_inner) = 5
 call_code (Some Drop_error) = 6
 call_code (Some Try_recv) = 7
 call_code (Some Recv_ref) = 8
-call_code (Some Recv) = 9
-call_code (Some Has_message) = 10
-call_code (Some Is_closed) = 11
-call_code (Some Drop_receiver) = 12
-call_code (Some Stray) = 13
+call_code (Some Recv_deadline) = 9
+call_code (Some (Recv_timeout false)) = 10
+call_code (Some (Recv_timeout true)) = 11
+call_code (Some Recv) = 12
+call_code (Some Has_message) = 13
+call_code (Some Is_closed) = 14
+call_code (Some Drop_receiver) = 15
+call_code (Some Stray) = 16
 
 abbrev pub place_code : Option Place → ℕ
 place_code None = 0
@@ -152,12 +172,12 @@ wakers_code w = ((name_code w.cell * 3 + name_code w.hand) * 3 + name_code w.tak
 
 abbrev pub state_code : State → ℕ
 state_code s =
-    ((((sender_code s.sender * 32 + receiver_code s.receiver) * 8 + s.word) * 8 + place_code s.message) * 54
+    ((((sender_code s.sender * 64 + receiver_code s.receiver) * 8 + s.word) * 8 + place_code s.message) * 54
     + wakers_code s.wakers) * 2
     + bool_code s.freed
 
 abbrev pub control_code : Control → ℕ
-control_code c = (state_code c.state * 16 + call_code c.sender) * 16 + call_code c.receiver
+control_code c = (state_code c.state * 32 + call_code c.sender) * 32 + call_code c.receiver
 
 abbrev pub opening_control : Option Place → Control
 opening_control message = record { state = opening_state message; sender = None; receiver = None }
@@ -165,7 +185,7 @@ opening_control message = record { state = opening_state message; sender = None;
 -- all that a run can reach
 unfoldable pub reached : Tree Control
 reached =
-    reach control_code is_same_control successors 1000
+    reach control_code is_same_control successors 4000
     (opening_control None ∷ opening_control (Some NotSent) ∷ [])
 
 abbrev pub is_reached : Control → Bool
@@ -198,6 +218,8 @@ ends_error _ = false
 abbrev pub stays_receiver : Call → Bool
 stays_receiver Try_recv = true
 stays_receiver Recv_ref = true
+stays_receiver Recv_deadline = true
+stays_receiver (Recv_timeout representable) = true
 stays_receiver Has_message = true
 stays_receiver Is_closed = true
 stays_receiver _ = false

@@ -12,7 +12,7 @@ use Rattle.oneshot_machine.specs.declared.machine.Reply.TheVariants as R
 use Rattle.oneshot_machine.specs.declared.machine.Seen.{Seen}
 use Rattle.oneshot_machine.specs.declared.machine.Seen.TheVariants as S
 use Rattle.oneshot_machine.specs.declared.machine.Step.{Step}
-use Rattle.oneshot_machine.specs.declared.machine.Step.TheVariants.{Word, WriteMessage, TakeMessage, DropMessage, WriteWaker, TakeWaker, Withdraw, Park, Wake, Free, Plain}
+use Rattle.oneshot_machine.specs.declared.machine.Step.TheVariants.{Word, WriteMessage, TakeMessage, DropMessage, WriteWaker, TakeWaker, Withdraw, Park, Clock, Wake, Free, Plain}
 use Rattle.oneshot_machine.specs.declared.machine.receiver.ReceiverPos.{ReceiverPos}
 use Rattle.oneshot_machine.specs.declared.machine.receiver.ReceiverStart.{ReceiverStart}
 use Rattle.oneshot_machine.specs.declared.machine.sender.SenderCall.{SenderCall}
@@ -43,12 +43,13 @@ opening_state message =
       wakers = opening_wakers;
     }
 
--- what a step sees: an operation on the word sees the word before it, but a store sees nothing; a park sees its token
-abbrev pub seen_by : State → Step → Seen
-seen_by s (Word (Store new)) = S.Done
-seen_by s (Word op) = S.Word s.word
-seen_by s Park = S.Token s.wakers.token
-seen_by s _ = S.Done
+-- what a step sees: an operation on the word sees the word before it, but a store sees nothing; a park sees its token, and a clock what the move gives
+abbrev pub seen_by : Bool → State → Step → Seen
+seen_by over s (Word (Store new)) = S.Done
+seen_by over s (Word op) = S.Word s.word
+seen_by over s Park = S.Token s.wakers.token
+seen_by over s Clock = S.Over over
+seen_by over s _ = S.Done
 
 abbrev pub word_left : ℕ → Step → ℕ
 word_left word (Word op) = word_after op word
@@ -86,6 +87,7 @@ sender_fits s Wake = is_some s.wakers.taken
 sender_fits s WriteWaker = false
 sender_fits s Withdraw = false
 sender_fits s Park = false
+sender_fits s Clock = false
 sender_fits s _ = true
 
 abbrev pub receiver_fits : State → Step → Bool
@@ -152,12 +154,12 @@ receiver_goes step (Answers R.Done) = RS.Ended
 receiver_goes step (Answers _) = if is_free step then RS.Ended else RS.Ready
 
 -- what an end's step tells, with its reply if it ends the call, and the place where it puts the message
-abbrev pub made : End → State → Step → Option Reply → Option Place → Made
-made side s step reply to =
+abbrev pub made : End → Bool → State → Step → Option Reply → Option Place → Made
+made side over s step reply to =
     record {
       side = side;
       step = step;
-      seen = seen_by s step;
+      seen = seen_by over s step;
       before = shown s.freed s.word;
       after = shown (freed_by s.freed step) (word_left s.word step);
       message = move_of s.message to;
@@ -180,14 +182,18 @@ moved s step to =
 -- a step by a row of its table
 abbrev pub sender_stepped : State → Step → Outcome SenderPos → Made × State
 sender_stepped s step row = (
-  made Sender s step (reply_of row) (sender_puts step (reply_of row)),
+  made Sender false s step (reply_of row) (sender_puts step (reply_of row)),
   record (moved s step (sender_puts step (reply_of row))) { sender = sender_goes step row },
 )
 
-abbrev pub receiver_stepped : State → Step → Outcome ReceiverPos → Made × State
-receiver_stepped s step row = (
-  made Receiver s step (reply_of row) (receiver_puts step),
-  record (moved s step (receiver_puts step)) { receiver = receiver_goes step row },
+-- the state that the receiver's step leaves, which is the same whatever a clock answers
+abbrev pub receiver_moved : State → Step → Outcome ReceiverPos → State
+receiver_moved s step row = record (moved s step (receiver_puts step)) { receiver = receiver_goes step row }
+
+abbrev pub receiver_stepped : Bool → State → Step → Outcome ReceiverPos → Made × State
+receiver_stepped over s step row = (
+  made Receiver over s step (reply_of row) (receiver_puts step),
+  receiver_moved s step row,
 )
 
 -- the step that is made at a position; none where the table has no row for what is seen, or the cell is not as the step needs it
@@ -196,15 +202,15 @@ sender_steps s position =
     if sender_fits s (sender_step position)
     then option_map
     (sender_stepped s (sender_step position))
-    (sender_row position (seen_by s (sender_step position)))
+    (sender_row position (seen_by false s (sender_step position)))
     else None
 
-abbrev pub receiver_steps : State → ReceiverPos → Option (Made × State)
-receiver_steps s position =
+abbrev pub receiver_steps : Bool → State → ReceiverPos → Option (Made × State)
+receiver_steps over s position =
     if receiver_fits s (receiver_step position)
     then option_map
-    (receiver_stepped s (receiver_step position))
-    (receiver_row position (seen_by s (receiver_step position)))
+    (receiver_stepped over s (receiver_step position))
+    (receiver_row position (seen_by over s (receiver_step position)))
     else None
 
 -- where an end makes its next step: in the call under way, or at the start of the next call
@@ -227,17 +233,17 @@ abbrev pub sender_turns_at : State → Option SenderPos → Option (Entry × Sta
 sender_turns_at s None = Some (Idle Sender, s)
 sender_turns_at s (Some position) = option_map made_entry (sender_steps s position)
 
-abbrev pub receiver_turns_at : State → Option ReceiverPos → Option (Entry × State)
-receiver_turns_at s None = Some (Idle Receiver, s)
-receiver_turns_at s (Some position) = option_map made_entry (receiver_steps s position)
+abbrev pub receiver_turns_at : Bool → State → Option ReceiverPos → Option (Entry × State)
+receiver_turns_at over s None = Some (Idle Receiver, s)
+receiver_turns_at over s (Some position) = option_map made_entry (receiver_steps over s position)
 
 -- what an end does whose call under way, or next, is this one
 abbrev pub sender_turns : State → Option Call → Option (Entry × State)
 sender_turns s call = sender_turns_at s (sender_position s.sender (option_and_then as_sender_call call))
 
-abbrev pub receiver_turns : State → Option Call → Option (Entry × State)
-receiver_turns s call = receiver_turns_at s (receiver_position s.receiver (option_and_then as_receiver_call call))
+abbrev pub receiver_turns : Bool → State → Option Call → Option (Entry × State)
+receiver_turns over s call = receiver_turns_at over s (receiver_position s.receiver (option_and_then as_receiver_call call))
 
-abbrev pub turns : End → State → Option Call → Option (Entry × State)
-turns Sender s call = sender_turns s call
-turns Receiver s call = receiver_turns s call
+abbrev pub turns : End → Bool → State → Option Call → Option (Entry × State)
+turns Sender over s call = sender_turns s call
+turns Receiver over s call = receiver_turns over s call

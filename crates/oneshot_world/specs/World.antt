@@ -1,5 +1,5 @@
 -- The world between two moves, and a run as a list of worlds.
-use Rattle.std.specs.Prelude.{◌≡◌, List, [], ◌∷◌, Option, Some, None}
+use Rattle.std.specs.Prelude.{◌≡◌, Bool, false, List, [], ◌∷◌, Option, Some, None}
 use Rattle.std.specs.Option.{option_map}
 use Rattle.oneshot_machine.specs.declared.machine.End.{End}
 use Rattle.oneshot_machine.specs.declared.machine.End.TheVariants.{Sender, Receiver}
@@ -45,6 +45,11 @@ abbrev pub side_of : Move → End
 side_of M.Sender = Sender
 side_of (M.Receiver over refuse) = Receiver
 
+-- what a clock answers that is read by the move: only the receiver reads one
+abbrev pub over_of : Move → Bool
+over_of M.Sender = false
+over_of (M.Receiver over refuse) = over
+
 abbrev pub by_end : {X : Type 0} → End → X → X → X
 by_end Sender sender receiver = sender
 by_end Receiver sender receiver = receiver
@@ -70,12 +75,12 @@ world_then side w turned = (
   },
 )
 
--- A move: what it tells, and the world that it leads to. None where the moving end finds what its table has no row for.
-abbrev pub turn_of : End → World → Option (Entry × World)
-turn_of side w = option_map (world_then side w) (turns side w.state (first (by_end side w.sender w.receiver).calls))
+-- A move, with what a clock answers then: what it tells, and the world that it leads to. None where the moving end finds what its table has no row for.
+abbrev pub turn_of : End → Bool → World → Option (Entry × World)
+turn_of side over w = option_map (world_then side w) (turns side over w.state (first (by_end side w.sender w.receiver).calls))
 
 abbrev pub turn : World → Move → Option (Entry × World)
-turn w move = turn_of (side_of move) w
+turn w move = turn_of (side_of move) (over_of move) w
 
 -- A run: entry k tells the step from world k to world k + 1 by move k. The worlds are one more than the moves, `w` and then these.
 abbrev pub Tells : World → List World → List Move → List Entry → Type 0

@@ -173,6 +173,10 @@ impl ReceiverCalls {
             match calls[self.answered] {
                 ReceiverCall::TryRecv => Some(ReceiverStart::TryRecv),
                 ReceiverCall::RecvRef => Some(ReceiverStart::RecvRef),
+                ReceiverCall::RecvDeadline => Some(ReceiverStart::RecvDeadline),
+                ReceiverCall::RecvTimeout { representable } => {
+                    Some(ReceiverStart::RecvTimeout { representable })
+                }
                 ReceiverCall::HasMessage => Some(ReceiverStart::HasMessage),
                 ReceiverCall::IsClosed => Some(ReceiverStart::IsClosed),
             }

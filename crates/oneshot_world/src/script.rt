@@ -60,6 +60,14 @@ pub enum ReceiverCall {
     TryRecv,
     /// `Receiver::recv_ref`.
     RecvRef,
+    /// `Receiver::recv_deadline`.
+    RecvDeadline,
+    /// `Receiver::recv_timeout`.
+    RecvTimeout {
+        /// Whether an instant can hold the sum of now and the timeout. Where none can, the call waits
+        /// without a deadline.
+        representable: bool,
+    },
     /// `Receiver::has_message`.
     HasMessage,
     /// `Receiver::is_closed`.

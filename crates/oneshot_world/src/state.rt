@@ -100,29 +100,36 @@ impl State {
         ensures { sender_steps self.old position ≡ Some (result, self.new) }
     {
         let step = position.step();
-        let (next, reply) = position.next(seen_by(*self, step));
-        let made = self.make(End::Sender, step, reply, sender_puts(step, reply));
+        let (next, reply) = position.next(seen_by(false, *self, step));
+        let made = self.make(End::Sender, false, step, reply, sender_puts(step, reply));
         self.sender = sender_goes(step, next, reply);
         made
     }
 
-    /// Makes the receiver's step at `position`, and tells it.
-    pub(crate) fn step_receiver(&mut self, position: ReceiverPos) -> Made
-        requires row { IsSome (receiver_steps self.old position) }
+    /// Makes the receiver's step at `position`, and tells it. A clock that is read there answers `over`.
+    pub(crate) fn step_receiver(&mut self, position: ReceiverPos, over: bool) -> Made
+        requires row { IsSome (receiver_steps over self.old position) }
         requires code { self.old.word ≤ 4 }
-        ensures { receiver_steps self.old position ≡ Some (result, self.new) }
+        ensures { receiver_steps over self.old position ≡ Some (result, self.new) }
     {
         let step = position.step();
-        let (next, reply) = position.next(seen_by(*self, step));
-        let made = self.make(End::Receiver, step, reply, receiver_puts(step));
+        let (next, reply) = position.next(seen_by(over, *self, step));
+        let made = self.make(End::Receiver, over, step, reply, receiver_puts(step));
         self.receiver = receiver_goes(step, next, reply);
         made
     }
 
     /// What both ends' steps do alike: the word, the block, the message's place and the wakers.
-    fn make(&mut self, side: End, step: Step, reply: Option<Reply>, to: Option<Place>) -> Made
+    fn make(
+        &mut self,
+        side: End,
+        over: bool,
+        step: Step,
+        reply: Option<Reply>,
+        to: Option<Place>,
+    ) -> Made
         requires { self.old.word ≤ 4 }
-        ensures tells { result ≡ made side self.old step reply to }
+        ensures tells { result ≡ made side over self.old step reply to }
         ensures moves { self.new ≡ moved self.old step to }
     {
         let from = *self;
@@ -133,7 +140,7 @@ impl State {
         Made {
             side,
             step,
-            seen: seen_by(from, step),
+            seen: seen_by(over, from, step),
             before: shown(from.freed, from.word),
             after: shown(self.freed, self.word),
             message: move_of(from.message, to),
@@ -145,14 +152,16 @@ impl State {
     }
 }
 
-/// What a step sees: an operation the word, unless it only stores, and a park its token.
-fn seen_by(state: State, step: Step) -> Seen
-    ensures { result ≡ seen_by state step }
+/// What a step sees: an operation the word, unless it only stores, a park its token, and a clock what
+/// the move gives.
+fn seen_by(over: bool, state: State, step: Step) -> Seen
+    ensures { result ≡ seen_by over state step }
 {
     match step {
         Step::Word(Op::Store(_)) => Seen::Done,
         Step::Word(_) => Seen::Word(state.word),
         Step::Park => Seen::Token(state.wakers.token),
+        Step::Clock => Seen::Over(over),
         _ => Seen::Done,
     }
 }

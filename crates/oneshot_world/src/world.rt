@@ -1,6 +1,6 @@
 //! The world between two moves, and one move of it.
 
-ghost use Rattle.std.specs.Prelude.{◌≡◌, Some};
+ghost use Rattle.std.specs.Prelude.{◌≡◌, Some, false};
 ghost use Rattle.oneshot_machine.specs.declared.machine.End.TheVariants as Ends;
 ghost use Rattle.oneshot_world.specs.World.{opening, opening_place, turn, turn_of};
 
@@ -48,7 +48,7 @@ impl World {
     {
         match m {
             Move::Sender => self.step_sender(),
-            Move::Receiver { .. } => self.step_receiver(),
+            Move::Receiver { over, .. } => self.step_receiver(over),
         }
     }
 
@@ -67,7 +67,7 @@ impl World {
     }
 
     fn step_sender(&mut self) -> Entry
-        ensures { turn_of Ends.Sender self.old ≡ Some (result, self.new) }
+        ensures { turn_of Ends.Sender false self.old ≡ Some (result, self.new) }
     {
         let Some(position) = self.state.sender.position(self.sender.first()) else {
             return Entry::Idle(End::Sender);
@@ -77,13 +77,13 @@ impl World {
         Entry::Made(made)
     }
 
-    fn step_receiver(&mut self) -> Entry
-        ensures { turn_of Ends.Receiver self.old ≡ Some (result, self.new) }
+    fn step_receiver(&mut self, over: bool) -> Entry
+        ensures { turn_of Ends.Receiver over self.old ≡ Some (result, self.new) }
     {
         let Some(position) = self.state.receiver.position(self.receiver.first()) else {
             return Entry::Idle(End::Receiver);
         };
-        let made = self.state.step_receiver(position);
+        let made = self.state.step_receiver(position, over);
         self.receiver.advance(made.reply);
         Entry::Made(made)
     }

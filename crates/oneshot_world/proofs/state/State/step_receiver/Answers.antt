@@ -8,6 +8,6 @@ use Rattle.oneshot_world.proofs.state.State.step_receiver.Goals as goal
 
 pub returns : goal.returns
 returns c =
-    let row : receiver_row c.args.position (seen_by c.args.self.now (receiver_step c.args.position)) ≡ Some (outcome c.next-next.result) = cc in
+    let row : receiver_row c.args.position (seen_by c.args.over c.args.self.now (receiver_step c.args.position)) ≡ Some (outcome c.next-next.result) = cc in
     rw (c.receiver_goes-self.ensures, c.make-made.ensures.tells, c.make-made.ensures.moves, c.receiver_puts.ensures, c.step-step.ensures)
-    (receiver_made_of c.args.self.now c.args.position c.next-next.result c.requires.row row)
+    (receiver_made_of c.args.over c.args.self.now c.args.position c.next-next.result c.requires.row row)

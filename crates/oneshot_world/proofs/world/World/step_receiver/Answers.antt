@@ -8,7 +8,7 @@ pub step_receiver-made-requires-clause-row : goal.step_receiver-made-requires-cl
 step_receiver-made-requires-clause-row c =
     let w : World = record { state = c.self.inside.state; sender = c.self.inside.sender; receiver = c.self.inside.receiver } in
     let at : receiver_at w ≡ Some c.in-Some.position = cc in
-    receiver_makes w c.in-Some.position c.self.invariant at
+    receiver_makes c.args.over w c.in-Some.position c.self.invariant at
 
 pub step_receiver-made-requires-clause-code : goal.step_receiver-made-requires-clause-code
 step_receiver-made-requires-clause-code c = word_is_code _ c.self.invariant
@@ -17,4 +17,4 @@ pub invariant_of-self : goal.invariant_of-self
 invariant_of-self c =
     let w : World = record { state = c.self.inside.state; sender = c.self.inside.sender; receiver = c.self.inside.receiver } in
     let at : receiver_at w ≡ Some c.in-Some.position = cc in
-    rw c.advance.ensures (receiver_reaches w c.in-Some.position c.step_receiver-made.result c.step_receiver-made.new.self c.self.invariant at c.step_receiver-made.ensures)
+    rw c.advance.ensures (receiver_reaches c.args.over w c.in-Some.position c.step_receiver-made.result c.step_receiver-made.new.self c.self.invariant at c.step_receiver-made.ensures)
