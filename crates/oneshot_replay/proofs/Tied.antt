@@ -9,7 +9,7 @@ use Rattle.oneshot_machine.specs.declared.machine.Step.{Step}
 use Rattle.oneshot_machine.specs.declared.machine.Step.TheVariants as T
 use Rattle.oneshot_world.specs.Calls.{calls_of}
 use Rattle.oneshot_world.specs.State.{freed_by, place_left, move_of, sender_puts, receiver_puts, reply_of}
-use Rattle.oneshot_world.specs.World.{World, Tells, opening, opening_place, side_of}
+use Rattle.oneshot_world.specs.World.{World, Tells, opening, opening_place, side_of, over_of}
 use Rattle.oneshot_world.specs.declared.script.Move.{Move}
 use Rattle.oneshot_world.specs.declared.script.ReceiverScript.{ReceiverScript}
 use Rattle.oneshot_world.specs.declared.script.SenderLast.{SenderLast}
@@ -58,7 +58,7 @@ freed_turn entries later _ w _ _ worlds moves (sender_idle at) told = later w wo
 freed_turn entries later _ w _ _ worlds moves (receiver_idle at) told = later w worlds moves told
 freed_turn entries later _ w _ _ worlds moves (sender_made position row at by) told =
     freed_on w.state.freed (sender_step position) _ _ (later (sender_world w (sender_step position) row) worlds moves told)
-freed_turn entries later _ w _ _ worlds moves (receiver_made position row at by) told =
+freed_turn entries later _ w _ _ worlds moves (receiver_made over position row at by) told =
     freed_on w.state.freed (receiver_step position) _ _ (later (receiver_world w (receiver_step position) row) worlds moves told)
 
 freed_steps : (entries : List Entry) → FreedClaim entries
@@ -67,7 +67,7 @@ freed_steps [] w (next ∷ worlds) [] told = elim told [ ]
 freed_steps [] w (next ∷ worlds) (move ∷ moves) told = elim told [ ]
 freed_steps [] w [] (move ∷ moves) told = elim told [ ]
 freed_steps (entry ∷ entries) w (next ∷ worlds) (move ∷ moves) told =
-    freed_turn entries (freed_steps entries) (side_of move) w entry next worlds moves (turned (side_of move) w (entry, next) told.0) told.1
+    freed_turn entries (freed_steps entries) (side_of move) w entry next worlds moves (turned (side_of move) (over_of move) w (entry, next) told.0) told.1
 freed_steps (entry ∷ entries) w [] [] told = elim told [ ]
 freed_steps (entry ∷ entries) w [] (move ∷ moves) told = elim told [ ]
 freed_steps (entry ∷ entries) w (next ∷ worlds) [] told = elim told [ ]
@@ -104,7 +104,7 @@ place_turn entries later _ w _ _ from worlds moves (sender_made position row at 
     let to : Option Place = sender_puts (sender_step position) (reply_of row) in
     later (sender_world w (sender_step position) row) (moved_to from to) worlds moves (moved_on w.state.message from to is) told
     ∙ ap (λ (place : Place). Some place) (last_on w.state.message from to (message_moves entries) is)
-place_turn entries later _ w _ _ from worlds moves (receiver_made position row at by) is told =
+place_turn entries later _ w _ _ from worlds moves (receiver_made over position row at by) is told =
     let to : Option Place = receiver_puts (receiver_step position) in
     later (receiver_world w (receiver_step position) row) (moved_to from to) worlds moves (moved_on w.state.message from to is) told
     ∙ ap (λ (place : Place). Some place) (last_on w.state.message from to (message_moves entries) is)
@@ -115,7 +115,7 @@ place_steps [] w from (next ∷ worlds) [] is told = elim told [ ]
 place_steps [] w from (next ∷ worlds) (move ∷ moves) is told = elim told [ ]
 place_steps [] w from [] (move ∷ moves) is told = elim told [ ]
 place_steps (entry ∷ entries) w from (next ∷ worlds) (move ∷ moves) is told =
-    place_turn entries (place_steps entries) (side_of move) w entry next from worlds moves (turned (side_of move) w (entry, next) told.0) is told.1
+    place_turn entries (place_steps entries) (side_of move) w entry next from worlds moves (turned (side_of move) (over_of move) w (entry, next) told.0) is told.1
 place_steps (entry ∷ entries) w from [] [] is told = elim told [ ]
 place_steps (entry ∷ entries) w from [] (move ∷ moves) is told = elim told [ ]
 place_steps (entry ∷ entries) w from (next ∷ worlds) [] is told = elim told [ ]

@@ -1,14 +1,17 @@
 -- The words that ask for a receiver's script, behind the line's letter.
-use Rattle.std.specs.Prelude.{ℕ, List, [], ◌∷◌, ◌++◌, map, codes}
+use Rattle.std.specs.Prelude.{ℕ, true, false, List, [], ◌∷◌, ◌++◌, map, codes}
 use Rattle.oneshot_replay.specs.declared.ReceiverScript.{ReceiverScript}
 use Rattle.oneshot_replay.specs.declared.ReceiverCall.{ReceiverCall}
-use Rattle.oneshot_replay.specs.declared.ReceiverCall.TheVariants.{TryRecv, RecvRef, HasMessage, IsClosed}
+use Rattle.oneshot_replay.specs.declared.ReceiverCall.TheVariants.{TryRecv, RecvRef, RecvDeadline, RecvTimeout, HasMessage, IsClosed}
 use Rattle.oneshot_replay.specs.declared.ReceiverLast.{ReceiverLast}
 use Rattle.oneshot_replay.specs.declared.ReceiverLast.TheVariants.{Recv, Drop, Stop}
 
 abbrev pub word_of_call : ReceiverCall → List ℕ
 word_of_call TryRecv = codes "try"
 word_of_call RecvRef = codes "ref"
+word_of_call RecvDeadline = codes "deadline"
+word_of_call (RecvTimeout true) = codes "timeout"
+word_of_call (RecvTimeout false) = codes "forever"
 word_of_call HasMessage = codes "full"
 word_of_call IsClosed = codes "closed"
 

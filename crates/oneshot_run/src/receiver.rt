@@ -62,6 +62,13 @@ fn call_of(word: &str) -> Option<ReceiverCall>
     match word.as_bytes() {
         b"try" => Some(ReceiverCall::TryRecv),
         b"ref" => Some(ReceiverCall::RecvRef),
+        b"deadline" => Some(ReceiverCall::RecvDeadline),
+        b"timeout" => Some(ReceiverCall::RecvTimeout {
+            representable: true,
+        }),
+        b"forever" => Some(ReceiverCall::RecvTimeout {
+            representable: false,
+        }),
         b"full" => Some(ReceiverCall::HasMessage),
         b"closed" => Some(ReceiverCall::IsClosed),
         _ => None,

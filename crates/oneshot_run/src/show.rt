@@ -74,8 +74,8 @@ impl fmt::Display for MadeText {
             let (name, from, to) = (WakerText(name), waker_place(from), waker_place(to));
             write!(f, " {name}:{from}>{to}")?;
         }
-        if let Some(token) = token_use(made) {
-            write!(f, " {token}")?;
+        if let Some(found) = found_text(made) {
+            write!(f, " {found}")?;
         }
         match self.reply {
             Some(reply) => write!(f, " = {reply}"),
@@ -84,9 +84,12 @@ impl fmt::Display for MadeText {
     }
 }
 
-/// What a step did to the token on which the receiver parks, or that a park ended without it.
-fn token_use(made: Made) -> Option<&'static str> {
+/// What a step found or did beside the word: a clock past the deadline or before it, the token on which
+/// the receiver parks, or a park that ended without it.
+fn found_text(made: Made) -> Option<&'static str> {
     match made.seen {
+        Seen::Over(true) => Some("over"),
+        Seen::Over(false) => Some("left"),
         Seen::Token(true) => Some("token-"),
         Seen::Token(false) => Some("spurious"),
         _ if made.token_set => Some("token+"),

@@ -1,5 +1,6 @@
 //! What the program writes for an input, or the fault that it tells.
 
+mod deadlines;
 mod faults;
 mod fronts;
 mod names;

@@ -24,6 +24,7 @@ pub(crate) fn step_name(step: Step) -> &'static str {
         Step::TakeWaker => "take-waker",
         Step::Withdraw => "withdraw",
         Step::Park => "park",
+        Step::Clock => "clock",
         Step::Wake => "wake",
         Step::Free => "free",
         Step::Plain => "plain",

@@ -61,6 +61,7 @@ impl fmt::Display for ReplyText {
                 Caller::Receiver(_) | Caller::ReceiverLast => write!(f, "Ok({message})"),
             },
             Reply::Empty => write!(f, "Err(Empty)"),
+            Reply::Timeout => write!(f, "Err(Timeout)"),
             Reply::Disconnected => write!(f, "Err({})", error_of(self.caller)),
             Reply::Done => write!(f, "dropped"),
         }
@@ -70,7 +71,9 @@ impl fmt::Display for ReplyText {
 /// The error of a call that finds no sender.
 fn error_of(caller: Caller) -> &'static str {
     match caller {
-        Caller::Receiver(ReceiverCall::TryRecv) => "Disconnected",
+        Caller::Receiver(
+            ReceiverCall::TryRecv | ReceiverCall::RecvDeadline | ReceiverCall::RecvTimeout { .. },
+        ) => "Disconnected",
         _ => "RecvError",
     }
 }
