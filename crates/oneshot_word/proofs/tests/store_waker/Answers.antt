@@ -17,10 +17,11 @@ module _ {T W : Type 0} where
   begins s at waker owns =
       record { at = at; message = owns_no_message (subst (λ q. ReceiverOwns q s.message s.waker) at owns); waker = waker }
 
-  stores : {s t : Side T W} {k : W} {found : ℕ} → ReceiverIs s (here looked) away (held k) → ReceiverDid s (Swap 0) found t → found ≡ 3 → ReceiverIs t (waits blocked) away away
-  stores is did same =
-      let none = gave_both (receiver_told (Swap 0) 3 is did same) in
-      record { at = receiver_went (Swap 0) 3 is did same; message = none.0; waker = none.1 }
+  stores : {s t u : Side T W} {k : W} {found : ℕ} → ReceiverIs s (here looked) away vacant → t ≡ record s { waker = held k } → ReceiverDid t (Swap 0) found u → found ≡ 3 → ReceiverIs u (waits blocked) away away
+  stores {s} {t} {k} is e did same =
+      let written = receiver_changed s t (held k) is e in
+      let none = gave_both (receiver_told (Swap 0) 3 written did same) in
+      record { at = receiver_went (Swap 0) 3 written did same; message = none.0; waker = none.1 }
 
 pub swap-found-requires : goal.swap-found-requires
 swap-found-requires g c =
@@ -30,11 +31,9 @@ swap-found-requires g c =
 pub returns-clause-loads : goal.returns-clause-loads
 returns-clause-loads g c =
     let is = begins c.args.receiver.now c.requires.at c.requires.waker c.slots.ensures in
-    let written = receiver_changed _ c.write_waker.new.self (held c.args.waker) is c.write_waker.ensures in
-    receiver_can Load (stores written c.swap-found.ensures (search rules)) (may_wait blocked)
+    receiver_can Load (stores is c.write_waker.ensures c.swap-found.ensures (search rules)) (may_wait blocked)
 
 pub returns-clause-stops : goal.returns-clause-stops
 returns-clause-stops g c =
     let is = begins c.args.receiver.now c.requires.at c.requires.waker c.slots.ensures in
-    let written = receiver_changed _ c.write_waker.new.self (held c.args.waker) is c.write_waker.ensures in
-    receiver_can (Swap 3) (stores written c.swap-found.ensures (search rules)) (may_stop blocked)
+    receiver_can (Swap 3) (stores is c.write_waker.ensures c.swap-found.ensures (search rules)) (may_stop blocked)
