@@ -1,13 +1,13 @@
--- How a receive that blocks comes to its end, in both calls that do.
-use Rattle.std.specs.Prelude.{◌≡◌, ℕ, List, [], ◌∷◌, Option, Some, None}
-use Rattle.oneshot_drive.specs.declared.blocking.Found.{Found}
-use Rattle.oneshot_drive.specs.declared.blocking.Found.TheVariants as F
+-- How a receive that blocks comes to its end, in each call that does.
+use Rattle.std.specs.Prelude.{◌≡◌, ℕ, Bool, true, false, List, [], ◌∷◌, Option, Some, None}
+use Rattle.oneshot_drive.specs.declared.waiting.Found.{Found}
+use Rattle.oneshot_drive.specs.declared.waiting.Found.TheVariants as F
 use Rattle.oneshot_machine.specs.declared.machine.Reply.{Reply}
 use Rattle.oneshot_machine.specs.declared.machine.Reply.TheVariants as R
 use Rattle.oneshot_machine.specs.declared.machine.receiver.ReceiverPos.{ReceiverPos}
-use Rattle.oneshot_machine.specs.declared.machine.receiver.ReceiverPos.TheVariants.{Close, CloseOnly, RecvTake, RecvFreeGone}
+use Rattle.oneshot_machine.specs.declared.machine.receiver.ReceiverPos.TheVariants.{Close, CloseOnly, StartLoad, StartWrite, Park, Clock, TimedPark, EndSwap, RecvLoad, RecvWrite, RecvPark, RecvTake, RecvFreeGone}
 use Rattle.oneshot_machine.specs.Logs.{Event, Log, Grows, messages_given, messages_got}
-use Rattle.oneshot_machine.specs.Phases.{Closing, Got, looked, blocked, ReceiverAt, here, waits, full, unclosed, over}
+use Rattle.oneshot_machine.specs.Phases.{Closing, Got, looked, between, blocked, ReceiverAt, here, waits, overdue, full, unclosed, over}
 use Rattle.oneshot_machine.specs.Receiver.{receiver_step, receiver_row}
 use Rattle.oneshot_machine.specs.Rows.{Outcome, Goes, Answers}
 use Rattle.oneshot_machine.specs.Slots.{Held, away, vacant, held}
@@ -20,33 +20,63 @@ pub data Stretch {T W : Type 0} : ReceiverPos → List (Event T W) → Outcome R
   onward : {p : ReceiverPos} {o : Outcome ReceiverPos} (next : ReceiverPos) (x : Event T W) (xs : List (Event T W))
       → x.step ≡ receiver_step p → receiver_row p x.seen ≡ Some (Goes next) → Stretch next xs o → Stretch p (x ∷ xs) o
 
--- Between the two logs a ground made steps that hand no message in or out, and that lead `recv_ref`
--- and `recv` on from these positions, each by its own rows.
-pub record Went {T W : Type 0} (by_ref by_value : ReceiverPos) (ref_to value_to : Outcome ReceiverPos)
-    (before after : Log T W) : Type 0 where
+-- Between the two logs a ground made steps that hand no message in or out, and that lead from this
+-- position to there.
+pub record Went {T W : Type 0} (from : ReceiverPos) (to : Outcome ReceiverPos) (before after : Log T W) : Type 0 where
   pub steps : List (Event T W)
   pub grows : Grows before after steps
   pub gives : messages_given steps ≡ []
   pub gets : messages_got steps ≡ []
-  pub ref : Stretch by_ref steps ref_to
-  pub value : Stretch by_value steps value_to
+  pub leads : Stretch from steps to
 
--- where the word that decides a receive leads `recv_ref`, and `recv`
+-- whose rows a receive runs: those of the calls by reference, with a deadline or without, or those of
+-- `recv`, which has none
+pub data Way : Bool → Type 0 where
+  by_ref : (timed : Bool) → Way timed
+  by_value : Way false
+
+-- where it loads, where it stores its waker, and where it begins to wait
+abbrev pub load_of : {timed : Bool} → Way timed → ReceiverPos
+load_of (by_ref timed) = StartLoad timed
+load_of by_value = RecvLoad
+
+abbrev pub write_of : {timed : Bool} → Way timed → ReceiverPos
+write_of (by_ref timed) = StartWrite timed
+write_of by_value = RecvWrite
+
+abbrev pub wait_of : {timed : Bool} → Way timed → ReceiverPos
+wait_of (by_ref false) = Park
+wait_of (by_ref true) = Clock
+wait_of by_value = RecvPark
+
+-- where it is once it knows whether its deadline is over
+abbrev pub asked_of : {timed : Bool} → Way timed → Bool → ReceiverPos
+asked_of (by_ref false) is_over = Park
+asked_of (by_ref true) false = TimedPark
+asked_of (by_ref true) true = EndSwap
+asked_of by_value is_over = RecvPark
+
+-- where the word that decides it leads it
 abbrev pub ref_end : Found → Outcome ReceiverPos
 ref_end F.Message = Goes Close
 ref_end F.Closed = Answers R.Disconnected
 ref_end F.Unclosed = Goes CloseOnly
+ref_end F.Nothing = Answers R.Timeout
 
 abbrev pub value_end : Found → Outcome ReceiverPos
 value_end F.Message = Goes RecvTake
-value_end F.Closed = Goes RecvFreeGone
-value_end F.Unclosed = Goes RecvFreeGone
+value_end _ = Goes RecvFreeGone
 
--- how far the receiver is then, with its slots
-pub data EndsAt {T W : Type 0} : Found → ReceiverAt → Held T → Held W → Type 0 where
-  ends_message : (g : Got) (left : ℕ) (x : T) → EndsAt F.Message (full g left) (held x) vacant
-  ends_closed : (c : Closing) → EndsAt F.Closed (over c) vacant vacant
-  ends_unclosed : (left : ℕ) → EndsAt F.Unclosed (unclosed left) vacant vacant
+abbrev pub end_of : {timed : Bool} → Way timed → Found → Outcome ReceiverPos
+end_of (by_ref timed) = ref_end
+end_of by_value = value_end
+
+-- how far the receiver is then, with its slots: only a deadline ends a receive with nothing found
+pub data EndsAt {T W : Type 0} : Bool → Found → ReceiverAt → Held T → Held W → Type 0 where
+  ends_message : (timed : Bool) (g : Got) (left : ℕ) (x : T) → EndsAt timed F.Message (full g left) (held x) vacant
+  ends_closed : (timed : Bool) (c : Closing) → EndsAt timed F.Closed (over c) vacant vacant
+  ends_unclosed : (timed : Bool) (left : ℕ) → EndsAt timed F.Unclosed (unclosed left) vacant vacant
+  ends_nothing : EndsAt true F.Nothing (here between) away vacant
 
 -- a receiver whose last load found 3, and that may store its waker
 pub data IsOpen {T W : Type 0} : ReceiverAt → Held T → Held W → Type 0 where
@@ -56,7 +86,25 @@ pub data IsOpen {T W : Type 0} : ReceiverAt → Held T → Held W → Type 0 whe
 pub data IsWaiting {T W : Type 0} : ReceiverAt → Held T → Held W → Type 0 where
   is_waiting : IsWaiting (waits blocked) away away
 
+-- one whose deadline is over while the sender is about to finish
+pub data IsOverdue {T W : Type 0} : ReceiverAt → Held T → Held W → Type 0 where
+  is_overdue : IsOverdue overdue away away
+
 -- the waker is in the hand again, or the sender took it
 pub data Returns {W : Type 0} : Option W → Option W → Type 0 where
   returned : (hand : Option W) → Returns hand hand
   taken : (k : W) → Returns (Some k) None
+
+-- the waker that was in the cell is in the hand
+pub data Refills {W : Type 0} : Option W → Option W → Type 0 where
+  refilled : (k back : W) → Refills (Some k) (Some back)
+
+-- the hand before and after a receive that came to this end
+abbrev pub HandAt : {W : Type 0} → Found → Option W → Option W → Type 0
+HandAt F.Nothing before after = Refills before after
+HandAt _ before after = Returns before after
+
+-- the hand of a receiver that waited, whose waker was in the cell
+abbrev pub WaitedHand : {W : Type 0} → Found → Option W → Option W → Type 0
+WaitedHand {W} F.Nothing before after = (back : W) × (after ≡ Some back)
+WaitedHand _ before after = after ≡ before

@@ -1,14 +1,16 @@
 -- How an end stands between its calls, and what a call answers.
 use Rattle.std.specs.Prelude.{◌≡◌, ℕ, Bool, true, false, List, [], ◌∷◌, Option, Some, None, Result, Ok, Err}
 use Rattle.oneshot_errors.specs.declared.recv.RecvError.{RecvError}
+use Rattle.oneshot_errors.specs.declared.recv_timeout.RecvTimeoutError.{RecvTimeoutError}
+use Rattle.oneshot_errors.specs.declared.recv_timeout.RecvTimeoutError.TheVariants as Timed
 use Rattle.oneshot_errors.specs.declared.try_recv.TryRecvError.{TryRecvError}
 use Rattle.oneshot_errors.specs.declared.try_recv.TryRecvError.TheVariants as E
 use Rattle.oneshot_machine.specs.declared.machine.Reply.{Reply}
-use Rattle.oneshot_machine.specs.declared.machine.Reply.TheVariants.{Sent, Refused, Message, Empty, Disconnected}
+use Rattle.oneshot_machine.specs.declared.machine.Reply.TheVariants.{Sent, Refused, Message, Empty, Timeout, Disconnected}
 use Rattle.oneshot_machine.specs.declared.machine.Step.TheVariants.{TakeWaker, Wake}
 use Rattle.oneshot_machine.specs.declared.states.Op.TheVariants.{Swap}
 use Rattle.oneshot_machine.specs.Logs.{Event, Log, sender_of, handed, worded}
-use Rattle.oneshot_machine.specs.Phases.{By, sending, dropping, SenderAt, fresh, owes, late, Closing, closed_itself, ReceiverAt, first, here, looked, over}
+use Rattle.oneshot_machine.specs.Phases.{By, sending, dropping, SenderAt, fresh, owes, late, Closing, closed_itself, Open, looked, between, ReceiverAt, first, here, over}
 use Rattle.oneshot_machine.specs.Slots.{Held, away, vacant, held}
 
 -- a sender that has made no call: the message's slot is its own and empty
@@ -38,7 +40,7 @@ finishing last k = handed TakeWaker k ∷ worded (Swap last) 1 ∷ handed Wake k
 -- a receiver between two calls
 pub data AtRest {T W : Type 0} : ReceiverAt → Held T → Held W → Type 0 where
   rests_new : AtRest first away away
-  rests_open : AtRest (here looked) away vacant
+  rests_open : (o : Open) → AtRest (here o) away vacant
   rests_closed : (c : Closing) → AtRest (over c) vacant vacant
 
 pub data IsClosed : ReceiverAt → Type 0 where
@@ -55,15 +57,22 @@ pub data LeavesClosed {T : Type 0} : Result T RecvError → ReceiverAt → Type 
   left_received : (x : T) → LeavesClosed (Ok x) (over closed_itself)
   left_closed : (e : RecvError) (c : Closing) → LeavesClosed (Err e) (over c)
 
+-- One with a deadline leaves it open where the deadline was over first.
+pub data LeavesTimed {T : Type 0} : Result T RecvTimeoutError → ReceiverAt → Type 0 where
+  timed_received : (x : T) → LeavesTimed (Ok x) (over closed_itself)
+  timed_out : LeavesTimed (Err Timed.Timeout) (here between)
+  timed_closed : (c : Closing) → LeavesTimed (Err Timed.Disconnected) (over c)
+
 -- The hand of a receiver that may block: its waker is in it, unless the receiver is closed.
 abbrev pub IsReady : {W : Type 0} → Option W → ReceiverAt → Type 0
 IsReady hand q = hand ≡ None → IsClosed q
 
--- The hand before and after a call that blocks: as it was, or the sender took the waker out of its
--- cell, and then the receiver is closed.
+-- The hand before and after a call that blocks: as it was; or the sender took the waker out of its
+-- cell, and then the receiver is closed; or the deadline was over, and the waker came back out of it.
 pub data Hands {W : Type 0} : Option W → Option W → ReceiverAt → Type 0 where
   as_it_was : (hand : Option W) (q : ReceiverAt) → Hands hand hand q
   sender_took : (k : W) (c : Closing) → Hands (Some k) None (over c)
+  came_back : (k back : W) → Hands (Some k) (Some back) (here between)
 
 abbrev pub send_reply : Bool → Reply
 send_reply true = Sent
@@ -77,6 +86,11 @@ try_recv_reply (Err E.Disconnected) = Disconnected
 abbrev pub recv_reply : {T : Type 0} → Result T RecvError → Reply
 recv_reply (Ok x) = Message
 recv_reply (Err e) = Disconnected
+
+abbrev pub timed_reply : {T : Type 0} → Result T RecvTimeoutError → Reply
+timed_reply (Ok x) = Message
+timed_reply (Err Timed.Timeout) = Timeout
+timed_reply (Err Timed.Disconnected) = Disconnected
 
 -- the message that was answered, if one was
 abbrev pub received : {T E : Type 0} → Result T E → List T

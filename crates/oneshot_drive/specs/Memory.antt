@@ -1,11 +1,13 @@
 -- What a contract sees of a ground in memory, and how its word and its slots stand with its list.
-use Rattle.std.specs.Prelude.{ℕ, Bool, true, false, not, ◌||◌, ◌==◌, if◌then◌else◌, List, [], map, Option, Some, None}
+use Rattle.std.specs.Prelude.{◌≡◌, ℕ, Bool, true, false, not, ◌||◌, ◌==◌, if◌then◌else◌, List, [], map, Option, Some, None}
 use Rattle.std.specs.Option.{option_map}
 use Rattle.oneshot_drive.specs.declared.memory.Event.{Event}
+use Rattle.oneshot_drive.specs.declared.memory.receiver.Act.{Act}
+use Rattle.oneshot_drive.specs.declared.memory.receiver.Act.TheVariants as A
 use Rattle.oneshot_machine.specs.Logs as logs
 use Rattle.oneshot_machine.specs.declared.states.Op.{Op}
 use Rattle.oneshot_machine.specs.declared.states.Op.TheVariants.{Load, Store, Swap}
-use Rattle.oneshot_machine.specs.Phases.{By, SenderAt, fresh, owes, finished, late, looked, blocked, Got, waited, Closing, ReceiverAt, first, here, waits, full, unclosed, over, gone, ended}
+use Rattle.oneshot_machine.specs.Phases.{By, SenderAt, fresh, owes, finished, late, Open, looked, blocked, Got, waited, Closing, ReceiverAt, first, here, waits, overdue, full, unclosed, over, gone, ended}
 use Rattle.oneshot_machine.specs.Slots.{Held, away, vacant, held}
 
 -- what it has done, its word, and both slots as its end sees them
@@ -14,6 +16,23 @@ pub record Memory (T W : Type 0) : Type 0 where
   pub word : ℕ
   pub message : Held T
   pub waker : Held W
+
+-- What a test told a receiver's ground. The sender acts once the receiver made so many pauses; where
+-- it finds then that the receiver waits, it lingers for so many more. The deadline is over once the
+-- clock was read so often.
+pub record Plan (T : Type 0) : Type 0 where
+  pub act : Option (Act T)
+  pub pauses : ℕ
+  pub lingers : ℕ
+  pub reads : ℕ
+
+-- the same of a receiver's ground, with its plan
+pub record Receiving (T W : Type 0) : Type 0 where
+  pub log : logs.Log T W
+  pub word : ℕ
+  pub message : Held T
+  pub waker : Held W
+  pub plan : Plan T
 
 -- a slot with this in it, if it is the end's
 abbrev pub slot_of : {X : Type 0} → Bool → Option X → Held X
@@ -33,6 +52,16 @@ module _ {T W : Type 0} where
   abbrev pub memory_of : List (Event T W) → ℕ → Option T → Option W → Bool → Bool → Memory T W
   memory_of events word message waker owns_message owns_waker =
       record { log = logged events; word = word; message = slot_of owns_message message; waker = slot_of owns_waker waker }
+
+  abbrev pub receiving_of : List (Event T W) → ℕ → Option T → Option W → Bool → Bool → Plan T → Receiving T W
+  receiving_of events word message waker owns_message owns_waker plan =
+      record {
+        log = logged events;
+        word = word;
+        message = slot_of owns_message message;
+        waker = slot_of owns_waker waker;
+        plan = plan;
+      }
 
 -- a sender to which both slots belong, with its word
 pub data SenderOwns : SenderAt → ℕ → Type 0 where
@@ -58,6 +87,8 @@ pub data ReceiverOwns : ReceiverAt → ℕ → Type 0 where
   found_it : (g : Got) → ReceiverOwns (full g 4) 4
   swapped_it : ReceiverOwns (full waited 0) 0
   swapped_end : ReceiverOwns (unclosed 0) 0
+  stopped_it : ReceiverOwns (full waited 3) 3
+  stopped_end : ReceiverOwns (unclosed 3) 3
   closed : (c : Closing) → ReceiverOwns (over c) 2
   dropped : ReceiverOwns ended 2
 
@@ -69,13 +100,18 @@ pub data ReceiverStands {T W : Type 0} : ReceiverAt → ℕ → Bool → Bool �
   new_sent : (x : T) → ReceiverStands first 4 false false (Some x) None
   new_dropped : ReceiverStands first 2 false false None None
   -- its last operation found nothing
-  looked_open : (cell : Option W) → ReceiverStands (here looked) 3 false true None cell
-  looked_sent : (x : T) (cell : Option W) → ReceiverStands (here looked) 4 false true (Some x) cell
-  looked_dropped : (cell : Option W) → ReceiverStands (here looked) 2 false true None cell
-  -- it waits
+  looked_open : (o : Open) (cell : Option W) → ReceiverStands (here o) 3 false true None cell
+  looked_sent : (o : Open) (x : T) (cell : Option W) → ReceiverStands (here o) 4 false true (Some x) cell
+  looked_dropped : (o : Open) (cell : Option W) → ReceiverStands (here o) 2 false true None cell
+  -- it waits; the sender may be about to finish
   waiting : (k : W) → ReceiverStands (waits blocked) 0 false false None (Some k)
+  waiting_claimed : (k : W) → ReceiverStands (waits blocked) 1 false false None (Some k)
   waiting_sent : (x : T) → ReceiverStands (waits blocked) 4 false false (Some x) None
   waiting_dropped : ReceiverStands (waits blocked) 2 false false None None
+  -- its deadline was over while the sender was about to finish
+  late_claimed : (k : W) → ReceiverStands overdue 3 false false None (Some k)
+  late_sent : (x : T) → ReceiverStands overdue 4 false false (Some x) None
+  late_dropped : ReceiverStands overdue 2 false false None None
   -- it has both slots, and freed them
   owns : {q : ReceiverAt} {word : ℕ} (message : Option T) (cell : Option W)
       → ReceiverOwns q word → ReceiverStands q word true true message cell
@@ -98,11 +134,16 @@ keeps_waker _ word = true
 abbrev pub word_by : ℕ → ℕ → ℕ
 word_by new word = if word == 3 then new else word
 
--- the word and the message that a sender leaves
-pub data Left {T : Type 0} : ℕ → Option T → Type 0 where
-  left_message : (x : T) → Left 4 (Some x)
-  left_nothing : Left 2 None
+-- the word and the message that a sender's act leaves
+abbrev pub word_left : {T : Type 0} → Act T → ℕ
+word_left (A.Send x) = 4
+word_left A.Drop = 2
 
--- the word, the waker's slot and its cell of a receiver that waits
-pub data Waits {W : Type 0} : ℕ → Bool → Option W → Type 0 where
-  waits_with : (k : W) → Waits 0 false (Some k)
+abbrev pub message_left : {T : Type 0} → Act T → Option T
+message_left (A.Send x) = Some x
+message_left A.Drop = None
+
+-- the waker of a receiver that waits lies in its cell, and the cell is not the receiver's
+abbrev pub lies : {W : Type 0} → Bool → Option W → Bool
+lies false (Some k) = true
+lies _ _ = false

@@ -1,17 +1,19 @@
 //! The calls of the receiver that wait for the message.
 
-ghost use Rattle.std.specs.Prelude.{◌≡◌, Some, IsErr, []};
-ghost use Rattle.oneshot_machine.specs.declared.machine.receiver.ReceiverPos.TheVariants.{StartLoad, StartWrite, Park, RecvLoad, RecvWrite, RecvPark};
-ghost use Rattle.oneshot_machine.specs.declared.machine.receiver.ReceiverStart.TheVariants.{Recv, RecvRef};
+ghost use Rattle.std.specs.Prelude.{◌≡◌, Err, IsErr, false, []};
+ghost use Rattle.oneshot_errors.specs.declared.recv_timeout.RecvTimeoutError.TheVariants.{Timeout, Disconnected};
+ghost use Rattle.oneshot_machine.specs.declared.machine.receiver.ReceiverPos.TheVariants.{StartLoad};
+ghost use Rattle.oneshot_machine.specs.declared.machine.receiver.ReceiverStart.TheVariants.{Recv, RecvRef, RecvDeadline, RecvTimeout};
 ghost use Rattle.oneshot_machine.specs.Logs.{receiver_of};
-ghost use Rattle.oneshot_machine.specs.Runs.{ReceiverRan};
-ghost use Rattle.oneshot_drive.specs.declared.blocking.Found.TheVariants as F;
-ghost use Rattle.oneshot_drive.specs.Blocking.{Went, ref_end, value_end, EndsAt, IsOpen, IsWaiting, Returns};
-ghost use Rattle.oneshot_drive.specs.Calls.{AtRest, IsClosed, LeavesClosed, IsReady, Hands, recv_reply, received};
+ghost use Rattle.oneshot_machine.specs.Receiver.{receiver_step, receiver_row};
+ghost use Rattle.oneshot_machine.specs.Runs.{Ran, ReceiverRan};
+ghost use Rattle.oneshot_drive.specs.Blocking.{Returns};
+ghost use Rattle.oneshot_drive.specs.Calls.{AtRest, IsClosed, LeavesClosed, LeavesTimed, IsReady, Hands, recv_reply, timed_reply, received};
 
 use crate::ground::BlockGround;
-use oneshot_errors::RecvError;
-use oneshot_machine::states::{DISCONNECTED, EMPTY, MESSAGE, Op, RECEIVING};
+use crate::waiting::{Found, find};
+use oneshot_errors::{RecvError, RecvTimeoutError};
+use oneshot_machine::states::{DISCONNECTED, Op};
 use std::sync::Wait;
 
 /// Receives the message, and waits until it is there or never will be. Then the receiver is closed.
@@ -35,16 +37,94 @@ pub fn recv_ref<T, W: Drop, G: BlockGround<T, W>>(
     ensures stays { IsClosed (receiver_of (G.log g.old)) → IsErr result }
     ensures hand { Hands hand.old hand.new (receiver_of (G.log g.new)) }
 {
-    match find(g, rt, hand) {
+    match receive(g, rt, hand, false) {
+        Ok(message) => Ok(message),
+        Err(_) => Err(RecvError),
+    }
+}
+
+/// Receives the message, and waits until it is there or never will be, or until a deadline is over,
+/// which the ground's clock tells.
+///
+/// `hand` is as for `recv_ref` before the call. After it, it has a waker again, unless the sender took
+/// it; and then the receiver is closed.
+///
+/// - `Ok`: the message. The receiver is closed.
+/// - `Err(Timeout)`: the deadline is over, with nothing sent. The receiver stays open.
+/// - `Err(Disconnected)`: the sender was dropped with nothing sent, or the receiver was closed before.
+///   It is closed.
+pub fn recv_deadline<T, W: Drop, G: BlockGround<T, W>>(
+    g: &mut G,
+    rt: &impl Wait,
+    hand: &mut Option<W>,
+) -> Result<T, RecvTimeoutError>
+    requires rests { AtRest (receiver_of (G.log g.old)) (G.message_slot g.old) (G.waker_slot g.old) }
+    requires ready { IsReady hand.old (receiver_of (G.log g.old)) }
+    ensures run { ReceiverRan RecvDeadline (G.log g.old) (G.log g.new)
+        (timed_reply result) [] (received result) }
+    ensures rests { AtRest (receiver_of (G.log g.new)) (G.message_slot g.new) (G.waker_slot g.new) }
+    ensures leaves { LeavesTimed result (receiver_of (G.log g.new)) }
+    ensures stays { IsClosed (receiver_of (G.log g.old)) → result ≡ Err Disconnected }
+    ensures hand { Hands hand.old hand.new (receiver_of (G.log g.new)) }
+{
+    receive(g, rt, hand, true)
+}
+
+/// Receives the message as `recv_deadline`, after one look at the clock for the sum of now and a
+/// timeout.
+///
+/// `representable` says whether an instant can hold that sum. Where none can, the call waits without a
+/// deadline.
+///
+/// `hand`, the message and the errors are as for `recv_deadline`.
+pub fn recv_timeout<T, W: Drop, G: BlockGround<T, W>>(
+    g: &mut G,
+    rt: &impl Wait,
+    hand: &mut Option<W>,
+    representable: bool,
+) -> Result<T, RecvTimeoutError>
+    requires rests { AtRest (receiver_of (G.log g.old)) (G.message_slot g.old) (G.waker_slot g.old) }
+    requires ready { IsReady hand.old (receiver_of (G.log g.old)) }
+    ensures run { ReceiverRan (RecvTimeout representable) (G.log g.old) (G.log g.new)
+        (timed_reply result) [] (received result) }
+    ensures rests { AtRest (receiver_of (G.log g.new)) (G.message_slot g.new) (G.waker_slot g.new) }
+    ensures leaves { LeavesTimed result (receiver_of (G.log g.new)) }
+    ensures stays { IsClosed (receiver_of (G.log g.old)) → result ≡ Err Disconnected }
+    ensures hand { Hands hand.old hand.new (receiver_of (G.log g.new)) }
+    ensures endless { representable ≡ false → ¬ (result ≡ Err Timeout) }
+{
+    g.over();
+    receive(g, rt, hand, representable)
+}
+
+// Receives by reference, where `timed` until a deadline.
+fn receive<T, W: Drop, G: BlockGround<T, W>>(
+    g: &mut G,
+    rt: &impl Wait,
+    hand: &mut Option<W>,
+    timed: bool,
+) -> Result<T, RecvTimeoutError>
+    requires rests { AtRest (receiver_of (G.log g.old)) (G.message_slot g.old) (G.waker_slot g.old) }
+    requires ready { IsReady hand.old (receiver_of (G.log g.old)) }
+    ensures run { Ran receiver_step receiver_row (StartLoad timed) (G.log g.old) (G.log g.new)
+        (timed_reply result) [] (received result) }
+    ensures rests { AtRest (receiver_of (G.log g.new)) (G.message_slot g.new) (G.waker_slot g.new) }
+    ensures leaves { LeavesTimed result (receiver_of (G.log g.new)) }
+    ensures stays { IsClosed (receiver_of (G.log g.old)) → result ≡ Err Disconnected }
+    ensures hand { Hands hand.old hand.new (receiver_of (G.log g.new)) }
+    ensures endless { timed ≡ false → ¬ (result ≡ Err Timeout) }
+{
+    match find(g, rt, hand, timed) {
         Found::Message => {
             g.word(Op::Store(DISCONNECTED));
             Ok(g.take_message())
         }
-        Found::Closed => Err(RecvError),
+        Found::Closed => Err(RecvTimeoutError::Disconnected),
         Found::Unclosed => {
             g.word(Op::Store(DISCONNECTED));
-            Err(RecvError)
+            Err(RecvTimeoutError::Disconnected)
         }
+        Found::Nothing => Err(RecvTimeoutError::Timeout),
     }
 }
 
@@ -67,83 +147,11 @@ pub fn recv<T, W: Drop, G: BlockGround<T, W>>(
     ensures stays { IsClosed (receiver_of (G.log g.old)) → IsErr result }
     ensures hand { Returns hand.old hand.new }
 {
-    let Found::Message = find(g, rt, hand) else {
+    let Found::Message = find(g, rt, hand, false) else {
         g.free();
         return Err(RecvError);
     };
     let message = g.take_message();
     g.free();
     Ok(message)
-}
-
-// The word that decides a receive.
-#[derive(Drop)]
-enum Found {
-    // The message is there.
-    Message,
-    // The channel is closed.
-    Closed,
-    // The sender is gone, and the word is no longer that of a closed channel.
-    Unclosed,
-}
-
-// Looks, and waits where there is nothing yet.
-fn find<T, W: Drop, G: BlockGround<T, W>>(g: &mut G, rt: &impl Wait, hand: &mut Option<W>) -> Found
-    requires rests { AtRest (receiver_of (G.log g.old)) (G.message_slot g.old) (G.waker_slot g.old) }
-    requires ready { IsReady hand.old (receiver_of (G.log g.old)) }
-    ensures went { Went StartLoad RecvLoad (ref_end result) (value_end result) (G.log g.old) (G.log g.new) }
-    ensures ends { EndsAt result (receiver_of (G.log g.new)) (G.message_slot g.new) (G.waker_slot g.new) }
-    ensures stays { IsClosed (receiver_of (G.log g.old)) → result ≡ F.Closed }
-    ensures hand { Returns hand.old hand.new }
-{
-    match g.word(Op::Load) {
-        MESSAGE => Found::Message,
-        EMPTY => store_and_wait(g, rt, hand),
-        _ => Found::Closed,
-    }
-}
-
-// Stores the waker and waits, unless the sender has acted before.
-fn store_and_wait<T, W: Drop, G: BlockGround<T, W>>(
-    g: &mut G,
-    rt: &impl Wait,
-    hand: &mut Option<W>,
-) -> Found
-    requires open { IsOpen (receiver_of (G.log g.old)) (G.message_slot g.old) (G.waker_slot g.old) }
-    requires ready { (k : W) × (hand.old ≡ Some k) }
-    ensures went { Went StartWrite RecvWrite (ref_end result) (value_end result) (G.log g.old) (G.log g.new) }
-    ensures ends { EndsAt result (receiver_of (G.log g.new)) (G.message_slot g.new) (G.waker_slot g.new) }
-    ensures hand { Returns hand.old hand.new }
-{
-    let Some(waker) = hand.take() else {
-        unreachable!()
-    };
-    g.write_waker(waker);
-    let word = g.word(Op::Swap(RECEIVING));
-    if word == EMPTY {
-        return wait(g, rt);
-    }
-    *hand = Some(g.withdraw());
-    if word == MESSAGE {
-        Found::Message
-    } else {
-        Found::Unclosed
-    }
-}
-
-// Parks until the sender has acted.
-fn wait<T, W, G: BlockGround<T, W>>(g: &mut G, rt: &impl Wait) -> Found
-    requires { IsWaiting (receiver_of (G.log g.old)) (G.message_slot g.old) (G.waker_slot g.old) }
-    ensures went { Went Park RecvPark (ref_end result) (value_end result) (G.log g.old) (G.log g.new) }
-    ensures ends { EndsAt result (receiver_of (G.log g.new)) (G.message_slot g.new) (G.waker_slot g.new) }
-{
-    for _ in rt.forever() {
-        g.park();
-        match g.word(Op::Load) {
-            MESSAGE => return Found::Message,
-            DISCONNECTED => return Found::Closed,
-            _ => {}
-        }
-    }
-    unreachable!()
 }

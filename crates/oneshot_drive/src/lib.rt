@@ -6,8 +6,9 @@ mod ground;
 pub mod memory;
 mod receiver;
 mod sender;
+mod waiting;
 
-pub use blocking::{recv, recv_ref};
+pub use blocking::{recv, recv_deadline, recv_ref, recv_timeout};
 pub use ground::{BlockGround, ReceiverGround, SenderGround};
 pub use receiver::{drop_receiver, try_recv};
 pub use sender::{drop_error, drop_sender, into_inner, send};

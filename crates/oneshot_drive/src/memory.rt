@@ -10,7 +10,7 @@ ghost use Rattle.oneshot_drive.specs.Memory.{event_of};
 
 use oneshot_machine::machine::{Seen, Step};
 use oneshot_machine::states::Op;
-pub use receiver::MemoryReceiver;
+pub use receiver::{Act, MemoryReceiver};
 pub use sender::MemorySender;
 use std::snapshot::Snapshot;
 use std::sync::Wait;

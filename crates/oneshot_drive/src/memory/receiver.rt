@@ -1,30 +1,34 @@
 //! A receiver's ground in memory.
 
-ghost use Rattle.std.specs.Prelude.{◌≡◌, true, map};
+ghost use Rattle.std.specs.Prelude.{◌≡◌, map, Some, None};
 ghost use Rattle.oneshot_machine.specs.Logs.{receiver_of};
 ghost use Rattle.oneshot_drive.specs.Calls.{AtRest};
-ghost use Rattle.oneshot_drive.specs.Memory.{event_of, keeps_message, keeps_waker, word_by, Left, Waits};
+ghost use Rattle.oneshot_drive.specs.declared.memory.receiver.Act.TheVariants.{Send, Drop};
+ghost use Rattle.oneshot_drive.specs.Memory.{event_of, keeps_message, keeps_waker, word_by, word_left, message_left, lies};
 
 use crate::ground::{BlockGround, ReceiverGround};
 use crate::memory::{Event, record, sight};
 use oneshot_machine::machine::{Seen, Step};
-use oneshot_machine::states::{DISCONNECTED, EMPTY, MESSAGE, Op, RECEIVING};
+use oneshot_machine::states::{DISCONNECTED, EMPTY, MESSAGE, Op, RECEIVING, UNPARKING};
 use std::alloc::Global;
 use std::marker::Model;
 use std::snapshot::Snapshot;
 use std::sync::Wait;
 
-// What the sender is to do.
+/// What the sender is to do.
 #[derive(Drop)]
-enum Act<T> {
+pub enum Act<T> {
+    /// It sends this message.
     Send(T),
+    /// It is dropped.
     Drop,
 }
 
 impl<T> Act<T> {
     // The word that it leaves, and the message.
     fn left(self) -> (u8, Option<T>)
-        ensures { Left result.0 result.1 }
+        ensures word { result.0 ≡ word_left self }
+        ensures message { result.1 ≡ message_left self }
     {
         match self {
             Act::Send(message) => (MESSAGE, Some(message)),
@@ -37,7 +41,7 @@ impl<T> Act<T> {
 ///
 /// The receiver makes a pause when it has written its waker, and in each park. A park ends by its token
 /// if the sender woke the receiver in it, and without one if not; where the sender never acts, a call
-/// that blocks waits for ever.
+/// that blocks waits for ever. The deadline is over at once, unless a test puts it off.
 #[derive(Drop)]
 pub struct MemoryReceiver<'a, T, W, R: Wait> {
     events: Vec<Event<T, W>>,
@@ -46,18 +50,22 @@ pub struct MemoryReceiver<'a, T, W, R: Wait> {
     waker: Option<W>,
     owns_message: bool,
     owns_waker: bool,
-    plan: Option<Act<T>>,
+    act: Option<Act<T>>,
     pauses: u64,
+    lingers: u64,
+    reads: u64,
     rt: &'a R,
 }
 
 impl<'a, T, W, R: Wait> Model for MemoryReceiver<'a, T, W, R> {
     ghost use Rattle.oneshot_machine.specs.Logs.{receiver_of};
-    ghost use Rattle.oneshot_drive.specs.Memory.{Memory, memory_of, logged, ReceiverStands};
+    ghost use Rattle.oneshot_drive.specs.Memory.{Receiving, receiving_of, logged, ReceiverStands};
 
-    ghost Value = { Memory T W };
+    ghost Value = { Receiving T W };
 
-    ghost view = { λ s. memory_of s.events.items s.word s.message s.waker s.owns_message s.owns_waker };
+    ghost view = { λ s.
+        receiving_of s.events.items s.word s.message s.waker s.owns_message s.owns_waker
+        (record { act = s.act; pauses = s.pauses; lingers = s.lingers; reads = s.reads }) };
 
     ghost invariant = { λ s.
         ReceiverStands (receiver_of (logged s.events.items)) s.word
@@ -69,6 +77,7 @@ impl<'a, T, W, R: Wait> MemoryReceiver<'a, T, W, R> {
     pub fn new(rt: &'a R, alloc: Global) -> MemoryReceiver<'a, T, W, R>
         ensures rests { AtRest (receiver_of result.log) result.message result.waker }
         ensures word { result.word ≡ 3 }
+        ensures plan { result.plan ≡ record { act = None; pauses = 0; lingers = 0; reads = 0 } }
     {
         MemoryReceiver {
             events: Vec::new(alloc),
@@ -77,8 +86,10 @@ impl<'a, T, W, R: Wait> MemoryReceiver<'a, T, W, R> {
             waker: None,
             owns_message: false,
             owns_waker: false,
-            plan: None,
+            act: None,
             pauses: 0,
+            lingers: 0,
+            reads: 0,
             rt,
         }
     }
@@ -97,8 +108,7 @@ impl<'a, T: Drop, W: Drop, R: Wait> MemoryReceiver<'a, T, W, R> {
         ensures { self.new ≡ record self.old { word = word_by 4 self.old.word } }
     {
         if self.word == EMPTY {
-            self.word = MESSAGE;
-            self.message = Some(message);
+            self.act(Act::Send(message));
         }
     }
 
@@ -107,58 +117,89 @@ impl<'a, T: Drop, W: Drop, R: Wait> MemoryReceiver<'a, T, W, R> {
         ensures { self.new ≡ record self.old { word = word_by 2 self.old.word } }
     {
         if self.word == EMPTY {
-            self.word = DISCONNECTED;
+            self.act(Act::Drop);
         }
     }
 
     /// The sender is to send this message in a pause of the receiver, once so many pauses are over: with
     /// 0 before the receiver waits, with 1 in its first park.
     pub fn sender_will_send(&mut self, pauses: u64, message: T)
-        ensures { self.new ≡ self.old }
+        ensures { self.new ≡ record self.old {
+            plan = record self.old.plan { act = Some (Send message); pauses = pauses } } }
     {
-        self.plan = Some(Act::Send(message));
+        self.act = Some(Act::Send(message));
         self.pauses = pauses;
     }
 
     /// The sender is to be dropped in a pause of the receiver, once so many pauses are over.
     pub fn sender_will_drop(&mut self, pauses: u64)
-        ensures { self.new ≡ self.old }
+        ensures { self.new ≡ record self.old {
+            plan = record self.old.plan { act = Some Drop; pauses = pauses } } }
     {
-        self.plan = Some(Act::Drop);
+        self.act = Some(Act::Drop);
         self.pauses = pauses;
+    }
+
+    /// The sender is to linger for so many pauses, where it finds that the receiver waits: with 0 it
+    /// finishes in the pause in which it began, with 1 in the next.
+    pub fn sender_will_linger(&mut self, pauses: u64)
+        ensures { self.new ≡ record self.old { plan = record self.old.plan { lingers = pauses } } }
+    {
+        self.lingers = pauses;
+    }
+
+    /// The deadline is to be over once the clock was read so many times: with 0 at its first read.
+    pub fn deadline_will_be_over(&mut self, reads: u64)
+        ensures { self.new ≡ record self.old { plan = record self.old.plan { reads = reads } } }
+    {
+        self.reads = reads;
     }
 
     // A pause: whether the sender woke the receiver in it.
     fn pause(&mut self) -> bool
-        ensures { self.new ≡ record self.old { word = self.new.word } }
+        ensures { self.new ≡ record self.old { word = self.new.word; plan = self.new.plan } }
     {
         if self.pauses > 0 {
             self.pauses -= 1;
             return false;
         }
-        match self.plan.take() {
-            Some(act) => self.act(act),
+        match self.act.take() {
+            Some(act) => self.begin(act),
             None => false,
         }
     }
 
+    // The sender acts, or begins to and lingers: whether it woke the receiver.
+    fn begin(&mut self, act: Act<T>) -> bool
+        ensures { self.new ≡ record self.old { word = self.new.word; plan = self.new.plan } }
+    {
+        if self.lingers == 0 || self.word != RECEIVING {
+            return self.act(act);
+        }
+        self.word = UNPARKING;
+        self.act = Some(act);
+        self.pauses = self.lingers - 1;
+        self.lingers = 0;
+        false
+    }
+
     // The sender acts, if both ends are still here: whether it woke the receiver.
     fn act(&mut self, act: Act<T>) -> bool
-        ensures { self.new ≡ record self.old { word = self.new.word } }
+        ensures keeps { self.new ≡ record self.old { word = self.new.word } }
+        ensures leaves { self.old.word ≡ 3 → self.new.word ≡ word_left act }
     {
         let (word, message) = act.left();
+        if is_waiting(self.owns_waker, &self.waker) {
+            self.word = word;
+            self.message = message;
+            self.waker = None;
+            return true;
+        }
         if self.word == EMPTY {
             self.word = word;
             self.message = message;
-            return false;
         }
-        if !is_waiting(self.word, self.owns_waker, &self.waker) {
-            return false;
-        }
-        self.word = word;
-        self.message = message;
-        self.waker = None;
-        true
+        false
     }
 }
 
@@ -224,24 +265,28 @@ impl<'a, T: Drop, W: Drop, R: Wait> ReceiverGround<T, W> for MemoryReceiver<'a, 
 }
 
 impl<'a, T: Drop, W: Drop, R: Wait> BlockGround<T, W> for MemoryReceiver<'a, T, W, R> {
-    fn park(&mut self) {
+    fn park(&mut self, _timed: bool) {
         let woken = self.pause();
         let event = Event::of(Step::Park, Seen::Token(woken));
         record(self.rt, &mut self.events, event);
     }
+
+    fn over(&mut self) -> bool {
+        let over = self.reads == 0;
+        if !over {
+            self.reads -= 1;
+        }
+        let event = Event::of(Step::Clock, Seen::Over(over));
+        record(self.rt, &mut self.events, event);
+        over
+    }
 }
 
-// Whether a receiver waits that has this word, and this in its waker's cell.
-fn is_waiting<W>(word: u8, owns_waker: bool, waker: &Option<W>) -> bool
-    ensures { result ≡ true → Waits word owns_waker waker.now }
+// Whether the waker of a receiver that waits lies in this cell.
+fn is_waiting<W>(owns_waker: bool, waker: &Option<W>) -> bool
+    ensures { result ≡ lies owns_waker waker.now }
 {
-    if word != RECEIVING {
-        return false;
-    }
-    if owns_waker {
-        return false;
-    }
-    waker.is_some()
+    !owns_waker && waker.is_some()
 }
 
 // Whether the message's slot is the receiver's after an operation that found this word.

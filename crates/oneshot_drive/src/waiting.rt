@@ -1,0 +1,148 @@
+//! How a receive that blocks comes to the word that decides it.
+
+ghost use Rattle.std.specs.Prelude.{◌≡◌, Some};
+ghost use Rattle.oneshot_machine.specs.declared.machine.receiver.ReceiverPos.TheVariants.{EndSwap, LatePark};
+ghost use Rattle.oneshot_machine.specs.Logs.{receiver_of};
+ghost use Rattle.oneshot_machine.specs.Rows.{Goes};
+ghost use Rattle.oneshot_drive.specs.declared.waiting.Found.TheVariants as F;
+ghost use Rattle.oneshot_drive.specs.Blocking.{Went, Way, load_of, write_of, wait_of, asked_of, ref_end, end_of, EndsAt, IsOpen, IsWaiting, IsOverdue, HandAt, WaitedHand};
+ghost use Rattle.oneshot_drive.specs.Calls.{AtRest, IsClosed, IsReady};
+
+use crate::ground::BlockGround;
+use oneshot_machine::states::{DISCONNECTED, EMPTY, MESSAGE, Op, RECEIVING};
+use std::sync::Wait;
+
+// The word that decides a receive.
+#[derive(Drop)]
+pub(crate) enum Found {
+    // The message is there.
+    Message,
+    // The channel is closed.
+    Closed,
+    // The sender is gone, and the word is no longer that of a closed channel.
+    Unclosed,
+    // The deadline is over, and nothing is there.
+    Nothing,
+}
+
+// Looks, and waits where there is nothing yet: where `timed` until the deadline.
+pub(crate) fn find<T, W: Drop, G: BlockGround<T, W>>(
+    g: &mut G,
+    rt: &impl Wait,
+    hand: &mut Option<W>,
+    timed: bool,
+) -> Found
+    requires rests { AtRest (receiver_of (G.log g.old)) (G.message_slot g.old) (G.waker_slot g.old) }
+    requires ready { IsReady hand.old (receiver_of (G.log g.old)) }
+    ensures went { (way : Way timed) → Went (load_of way) (end_of way result) (G.log g.old) (G.log g.new) }
+    ensures ends { EndsAt timed result (receiver_of (G.log g.new)) (G.message_slot g.new) (G.waker_slot g.new) }
+    ensures stays { IsClosed (receiver_of (G.log g.old)) → result ≡ F.Closed }
+    ensures hand { HandAt result hand.old hand.new }
+{
+    match g.word(Op::Load) {
+        MESSAGE => Found::Message,
+        EMPTY => store_and_wait(g, rt, hand, timed),
+        _ => Found::Closed,
+    }
+}
+
+// Stores the waker and waits, unless the sender has acted before.
+fn store_and_wait<T, W: Drop, G: BlockGround<T, W>>(
+    g: &mut G,
+    rt: &impl Wait,
+    hand: &mut Option<W>,
+    timed: bool,
+) -> Found
+    requires open { IsOpen (receiver_of (G.log g.old)) (G.message_slot g.old) (G.waker_slot g.old) }
+    requires ready { (k : W) × (hand.old ≡ Some k) }
+    ensures went { (way : Way timed) → Went (write_of way) (end_of way result) (G.log g.old) (G.log g.new) }
+    ensures ends { EndsAt timed result (receiver_of (G.log g.new)) (G.message_slot g.new) (G.waker_slot g.new) }
+    ensures hand { HandAt result hand.old hand.new }
+{
+    let Some(waker) = hand.take() else {
+        unreachable!()
+    };
+    g.write_waker(waker);
+    let word = g.word(Op::Swap(RECEIVING));
+    if word == EMPTY {
+        return wait(g, rt, hand, timed);
+    }
+    *hand = Some(g.withdraw());
+    if word == MESSAGE {
+        Found::Message
+    } else {
+        Found::Unclosed
+    }
+}
+
+// Parks until the sender has acted or the deadline is over.
+fn wait<T, W: Drop, G: BlockGround<T, W>>(
+    g: &mut G,
+    rt: &impl Wait,
+    hand: &mut Option<W>,
+    timed: bool,
+) -> Found
+    requires { IsWaiting (receiver_of (G.log g.old)) (G.message_slot g.old) (G.waker_slot g.old) }
+    ensures went { (way : Way timed) → Went (wait_of way) (end_of way result) (G.log g.old) (G.log g.new) }
+    ensures ends { EndsAt timed result (receiver_of (G.log g.new)) (G.message_slot g.new) (G.waker_slot g.new) }
+    ensures hand { WaitedHand result hand.old hand.new }
+{
+    for _ in rt.forever() {
+        if is_over(g, timed) {
+            return stop(g, rt, hand);
+        }
+        g.park(timed);
+        match g.word(Op::Load) {
+            MESSAGE => return Found::Message,
+            DISCONNECTED => return Found::Closed,
+            _ => {}
+        }
+    }
+    unreachable!()
+}
+
+// Whether there is a deadline that is over. Only where there is one, the clock is read.
+fn is_over<T, W, G: BlockGround<T, W>>(g: &mut G, timed: bool) -> bool
+    requires { IsWaiting (receiver_of (G.log g.old)) (G.message_slot g.old) (G.waker_slot g.old) }
+    ensures went { (way : Way timed) → Went (wait_of way) (Goes (asked_of way result)) (G.log g.old) (G.log g.new) }
+    ensures waits { IsWaiting (receiver_of (G.log g.new)) (G.message_slot g.new) (G.waker_slot g.new) }
+    ensures deadline { result ≡ true → timed ≡ true }
+{
+    if timed { g.over() } else { false }
+}
+
+// Ends the wait of a receiver whose deadline is over, unless the sender has acted before.
+fn stop<T, W: Drop, G: BlockGround<T, W>>(g: &mut G, rt: &impl Wait, hand: &mut Option<W>) -> Found
+    requires { IsWaiting (receiver_of (G.log g.old)) (G.message_slot g.old) (G.waker_slot g.old) }
+    ensures went { Went EndSwap (ref_end result) (G.log g.old) (G.log g.new) }
+    ensures ends { EndsAt true result (receiver_of (G.log g.new)) (G.message_slot g.new) (G.waker_slot g.new) }
+    ensures hand { WaitedHand result hand.old hand.new }
+{
+    match g.word(Op::Swap(EMPTY)) {
+        RECEIVING => {
+            *hand = Some(g.withdraw());
+            Found::Nothing
+        }
+        MESSAGE => Found::Message,
+        DISCONNECTED => Found::Unclosed,
+        _ => wait_late(g, rt),
+    }
+}
+
+// Parks, past the deadline, until the sender has finished.
+fn wait_late<T, W, G: BlockGround<T, W>>(g: &mut G, rt: &impl Wait) -> Found
+    requires { IsOverdue (receiver_of (G.log g.old)) (G.message_slot g.old) (G.waker_slot g.old) }
+    ensures went { Went LatePark (ref_end result) (G.log g.old) (G.log g.new) }
+    ensures ends { EndsAt true result (receiver_of (G.log g.new)) (G.message_slot g.new) (G.waker_slot g.new) }
+    ensures sent { ¬ (result ≡ F.Nothing) }
+{
+    for _ in rt.forever() {
+        g.park(false);
+        match g.word(Op::Load) {
+            MESSAGE => return Found::Message,
+            DISCONNECTED => return Found::Closed,
+            _ => {}
+        }
+    }
+    unreachable!()
+}
