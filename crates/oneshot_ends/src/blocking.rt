@@ -1,10 +1,12 @@
 //! What a receiver does to the world in a call that blocks: its ground, with its parker beside it.
 
+use crate::deadline::Deadline;
 use crate::ground::ReceiverSeat;
 use crossbeam_utils::sync::{Parker, Unparker};
 use oneshot_drive::{BlockGround, ReceiverGround};
 use oneshot_machine::states::Op;
 use std::sync::Wait;
+use std::time::{Clock, Instant};
 
 /// The ground of a receiver, lent for one call, with what it parks by.
 #[derive(Drop)]
@@ -12,6 +14,9 @@ pub(crate) struct BlockSeat<'s, 'p, 'r, T, Rt> {
     pub(crate) seat: &'s mut ReceiverSeat<T, Unparker>,
     pub(crate) parker: &'p Parker,
     pub(crate) rt: &'r Rt,
+    pub(crate) deadline: Deadline,
+    /// What the first read of the clock tells, where the call made it before it lent its seat.
+    pub(crate) told: Option<bool>,
 }
 
 impl<'s, 'p, 'r, T: Drop, Rt> ReceiverGround<T, Unparker> for BlockSeat<'s, 'p, 'r, T, Rt> {
@@ -49,8 +54,23 @@ impl<'s, 'p, 'r, T: Drop, Rt> ReceiverGround<T, Unparker> for BlockSeat<'s, 'p, 
     }
 }
 
-impl<'s, 'p, 'r, T: Drop, Rt: Wait> BlockGround<T, Unparker> for BlockSeat<'s, 'p, 'r, T, Rt> {
-    fn park(&mut self) {
-        self.parker.park(self.rt);
+impl<'s, 'p, 'r, T: Drop, Rt: Wait + Clock> BlockGround<T, Unparker>
+    for BlockSeat<'s, 'p, 'r, T, Rt> {
+    fn park(&mut self, timed: bool) {
+        if !timed {
+            return self.parker.park(self.rt);
+        }
+        match self.deadline {
+            Deadline::At(end) => self.parker.park_deadline(self.rt, end),
+            Deadline::Passed => {}
+            Deadline::Never => self.parker.park(self.rt),
+        }
+    }
+
+    fn over(&mut self) -> bool {
+        match self.told.take() {
+            Some(over) => over,
+            None => self.deadline.is_over(Instant::now(self.rt).ok()),
+        }
     }
 }

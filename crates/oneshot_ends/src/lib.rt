@@ -2,6 +2,7 @@
 #![tactic(auto)]
 
 mod blocking;
+mod deadline;
 mod error;
 mod freed;
 mod ground;

@@ -1,23 +1,25 @@
 //! The receiver.
 
-ghost use Rattle.std.specs.Prelude.{◌≡◌, Err, IsErr};
+ghost use Rattle.std.specs.Prelude.{◌≡◌, Bool, Err, IsErr};
+ghost use Rattle.oneshot_errors.specs.declared.recv_timeout.RecvTimeoutError.TheVariants as Timed;
 ghost use Rattle.oneshot_errors.specs.declared.try_recv.TryRecvError.TheVariants.{Disconnected};
-ghost use Rattle.oneshot_machine.specs.declared.machine.receiver.ReceiverStart.TheVariants.{TryRecv, RecvRef};
+ghost use Rattle.oneshot_machine.specs.declared.machine.receiver.ReceiverStart.TheVariants.{TryRecv, RecvRef, RecvDeadline, RecvTimeout};
 ghost use Rattle.oneshot_machine.specs.Phases.{receiver_at};
-ghost use Rattle.oneshot_drive.specs.Calls.{IsClosed, Leaves, LeavesClosed, try_recv_reply, recv_reply};
+ghost use Rattle.oneshot_drive.specs.Calls.{IsClosed, Leaves, LeavesClosed, LeavesTimed, try_recv_reply, recv_reply, timed_reply};
 ghost use Rattle.oneshot_ends.specs.Ends.{ReceiverGrew};
 ghost use Rattle.oneshot_ends.specs.Sides.{IsNewReceiver};
 
 use crate::blocking::BlockSeat;
+use crate::deadline::Deadline;
 use crate::ground::ReceiverSeat;
 use crossbeam_utils::sync::{Parker, Unparker};
-use oneshot_drive::{drop_receiver, recv, recv_ref, try_recv};
-use oneshot_errors::{RecvError, TryRecvError};
+use oneshot_drive::{drop_receiver, recv, recv_deadline, recv_ref, recv_timeout, try_recv};
+use oneshot_errors::{RecvError, RecvTimeoutError, TryRecvError};
 use oneshot_machine::states::{DISCONNECTED, MESSAGE};
 use oneshot_word::ReceiverSide;
 use std::marker::Model;
 use std::sync::Wait;
-use std::time::Clock;
+use std::time::{Clock, Duration, Instant};
 
 /// Receives one message from its sender.
 ///
@@ -114,8 +116,63 @@ impl<T: Drop, Rt: Wait + Clock + Drop> Receiver<T, Rt> {
             seat: &mut self.seat,
             parker: &self.parker,
             rt: &self.rt,
+            deadline: Deadline::Never,
+            told: None,
         };
         recv_ref(&mut lent, &self.rt, &mut self.hand)
+    }
+
+    /// Receives the message, and waits until it is there or never will be, or until `deadline` is over:
+    /// until the runtime's clock is past that instant. It asks for no memory.
+    ///
+    /// A message that is there is received however late it is. An instant is not over at itself, so
+    /// that the clock is then read again; a clock that cannot be read counts as past each (a rule of
+    /// this port). Where the deadline is over while the sender is in its `send` or its drop, and has
+    /// taken this receiver's waker, the call waits until the sender is done, as the Rust crate's does.
+    ///
+    /// `Ok`: the message. `Err(Timeout)` where the deadline is over and nothing was sent: the receiver stays open, and
+    /// a later receive may find the message. `Err(Disconnected)` where the sender is gone without a
+    /// message, or the message was received before; then, as after `Ok`, the receiver is closed, and
+    /// every later receive answers the disconnected error.
+    pub fn recv_deadline(&mut self, deadline: Instant) -> Result<T, RecvTimeoutError>
+        ensures table { self.new.table ≡ self.old.table }
+        ensures run { ReceiverGrew T RecvDeadline self.old.steps self.new.steps (timed_reply result) }
+        ensures leaves { LeavesTimed result (receiver_at self.new.steps) }
+        ensures stays_closed { IsClosed (receiver_at self.old.steps) → result ≡ Err Timed.Disconnected }
+    {
+        let mut lent = BlockSeat {
+            seat: &mut self.seat,
+            parker: &self.parker,
+            rt: &self.rt,
+            deadline: Deadline::At(deadline),
+            told: None,
+        };
+        recv_deadline(&mut lent, &self.rt, &mut self.hand)
+    }
+
+    /// Receives the message as `recv_deadline` does, until `timeout` from now. It asks for no memory.
+    ///
+    /// Where no instant can hold that sum, the call waits as `recv_ref` does, and never answers
+    /// `Timeout`. Where the clock cannot be read for it, the deadline is over at once.
+    ///
+    /// The answers are those of `recv_deadline`.
+    pub fn recv_timeout(&mut self, timeout: Duration) -> Result<T, RecvTimeoutError>
+        ensures table { self.new.table ≡ self.old.table }
+        ensures run { (representable : Bool)
+            × ReceiverGrew T (RecvTimeout representable) self.old.steps self.new.steps (timed_reply result) }
+        ensures leaves { LeavesTimed result (receiver_at self.new.steps) }
+        ensures stays_closed { IsClosed (receiver_at self.old.steps) → result ≡ Err Timed.Disconnected }
+    {
+        let reading = Instant::now(&self.rt).ok();
+        let deadline = Deadline::after(reading, timeout);
+        let mut lent = BlockSeat {
+            seat: &mut self.seat,
+            parker: &self.parker,
+            rt: &self.rt,
+            deadline,
+            told: Some(deadline.is_over(reading)),
+        };
+        recv_timeout(&mut lent, &self.rt, &mut self.hand, deadline.has_end())
     }
 
     /// Receives the message, waits for it as `recv_ref` does, and ends the receiver.
@@ -135,6 +192,8 @@ impl<T: Drop, Rt: Wait + Clock + Drop> Receiver<T, Rt> {
             seat: &mut seat,
             parker: &parker,
             rt: &rt,
+            deadline: Deadline::Never,
+            told: None,
         };
         recv(&mut lent, &rt, &mut hand)
     }

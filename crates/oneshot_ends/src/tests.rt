@@ -1,6 +1,8 @@
 //! What no clause says of the ends: their texts, their drops, and how they do on two threads.
 
+mod clocks;
 mod crossing;
+mod deadlines;
 mod drops;
 mod refused;
 mod threads;

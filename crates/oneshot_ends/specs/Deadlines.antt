@@ -1,0 +1,27 @@
+-- When the wait of a receive is over, by what its clock reads.
+use Rattle.std.specs.Prelude.{◌≡◌, ◌+◌, Bool, true, false, ◌<◌, Option, Some, None}
+use Rattle.std.specs.Duration.{as_nanos}
+use Rattle.std.specs.declared.time.Duration.{Duration}
+use Rattle.std.specs.Time.{instant_nanos, FitsClock}
+use Rattle.std.specs.declared.time.Instant.{Instant}
+use Rattle.oneshot_ends.specs.declared.deadline.Deadline.{Deadline}
+use Rattle.oneshot_ends.specs.declared.deadline.Deadline.TheVariants.{At, Passed, Never}
+
+-- once the clock is past the instant; where it cannot be read it counts as past each
+abbrev pub IsOver : Deadline → Option Instant → Type 0
+IsOver (At end) (Some now) = instant_nanos end < instant_nanos now
+IsOver (At end) None = Unit {0}
+IsOver Passed reading = Unit {0}
+IsOver Never reading = ⊥
+
+abbrev pub has_end : Deadline → Bool
+has_end (At end) = true
+has_end Passed = true
+has_end Never = false
+
+-- so long after a reading of the clock, which may have failed, and the sum may be one that no instant holds
+abbrev pub IsAfter : Duration → Option Instant → Deadline → Type 0
+IsAfter timeout None deadline = deadline ≡ Passed
+IsAfter timeout (Some now) (At end) = instant_nanos end ≡ instant_nanos now + as_nanos timeout
+IsAfter timeout (Some now) Passed = ⊥
+IsAfter timeout (Some now) Never = FitsClock (instant_nanos now + as_nanos timeout) → ⊥

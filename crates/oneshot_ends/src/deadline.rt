@@ -1,0 +1,60 @@
+//! When the wait of a receive is over, by what its clock reads.
+
+ghost use Rattle.std.specs.Prelude.{◌≡◌, ◌↔◌, IsTrue};
+ghost use Rattle.oneshot_ends.specs.Deadlines.{IsAfter, IsOver, has_end};
+
+use std::time::{Duration, Instant};
+
+/// When a receive stops waiting.
+#[derive(Clone, Copy, Debug, Eq, PartialEq)]
+pub(crate) enum Deadline {
+    /// Once the clock is past this instant.
+    At(Instant),
+    /// At once: the clock could not be read for the instant.
+    Passed,
+    /// Never.
+    Never,
+}
+
+impl Deadline {
+    /// The instant that is `timeout` after the clock's reading, which is `None` where it failed.
+    ///
+    /// `Passed` after a failed reading, and `Never` where no instant can hold the sum.
+    pub(crate) fn after(reading: Option<Instant>, timeout: Duration) -> Deadline
+        ensures { IsAfter timeout reading result }
+    {
+        let Some(now) = reading else {
+            return Deadline::Passed;
+        };
+        match now.checked_add(timeout) {
+            Some(end) => Deadline::At(end),
+            None => Deadline::Never,
+        }
+    }
+
+    /// Whether it is over for this reading of the clock, which is `None` where it failed. An instant is
+    /// not over at itself, and a failed reading counts as over.
+    pub(crate) fn is_over(self, reading: Option<Instant>) -> bool
+        ensures { IsTrue result ↔ IsOver self reading }
+    {
+        match self {
+            Deadline::At(end) => match reading {
+                Some(now) => end.checked_duration_since(now).is_none(),
+                None => true,
+            },
+            Deadline::Passed => true,
+            Deadline::Never => false,
+        }
+    }
+
+    /// Whether there is one.
+    pub(crate) fn has_end(self) -> bool
+        ensures { result ≡ has_end self }
+    {
+        match self {
+            Deadline::At(_) => true,
+            Deadline::Passed => true,
+            Deadline::Never => false,
+        }
+    }
+}

@@ -1,0 +1,126 @@
+//! Receives by a clock that answers what the test wrote down, and fails afterwards.
+
+use crate::{Receiver, Sender, channel};
+use oneshot_errors::RecvTimeoutError;
+use std::alloc::{AllocError, Global};
+use std::cell::Cell;
+use std::io;
+use std::sync::Wait;
+use std::test::Fail;
+use std::time::{Clock, Duration, Instant};
+
+/// A runtime whose clock reads so many milliseconds, one after the other, and then fails.
+#[derive(Drop)]
+struct Written<'a, R> {
+    rt: &'a R,
+    readings: Cell<&'a [u64]>,
+}
+
+impl<'a, R> Written<'a, R> {
+    fn new(rt: &'a R, readings: &'a [u64]) -> Written<'a, R> {
+        Written {
+            rt,
+            readings: Cell::new(readings),
+        }
+    }
+
+    // How many readings are left.
+    fn left(&self) -> usize {
+        self.readings.get().len()
+    }
+}
+
+impl<'a, R: Wait> Wait for Written<'a, R> {}
+
+impl<'a, R> Clock for Written<'a, R> {
+    fn monotonic(&self) -> io::Result<Duration> {
+        let Some((first, rest)) = self.readings.get().split_first() else {
+            return Err(io::ErrorKind::Unsupported.into());
+        };
+        self.readings.set(rest);
+        Ok(Duration::from_millis(*first))
+    }
+
+    fn since_1970(&self) -> io::Result<Duration> {
+        self.monotonic()
+    }
+}
+
+type Ends<'w, 'a, R> = (Sender<u8>, Receiver<u8, &'w Written<'a, R>>);
+
+// A channel whose receiver has the written clock.
+fn by_clock<'w, 'a, R>(
+    clock: &'w Written<'a, R>,
+    alloc: Global,
+) -> Result<Ends<'w, 'a, R>, AllocError> {
+    channel(clock, alloc)
+}
+
+// Five milliseconds after the clock's start.
+fn five(rt: &impl Wait) -> io::Result<Instant> {
+    Instant::now(&Written::new(rt, &[5]))
+}
+
+#[test]
+fn an_instant_is_not_over_at_itself(rt: HostRuntime) -> Result<(), Fail> {
+    // Read at the deadline, by the park at the deadline, and past it.
+    let clock = Written::new(&rt, &[5, 5, 6]);
+    let (_sender, mut receiver) = by_clock(&clock, rt.alloc())?;
+    let received = receiver.recv_deadline(five(&rt)?);
+    assert_eq!(rt; received, Err(RecvTimeoutError::Timeout));
+    assert_eq!(rt; clock.left(), 0);
+    Ok(())
+}
+
+#[test]
+fn a_later_instant_is_over_at_once(rt: HostRuntime) -> Result<(), Fail> {
+    let clock = Written::new(&rt, &[6, 7]);
+    let (_sender, mut receiver) = by_clock(&clock, rt.alloc())?;
+    let received = receiver.recv_deadline(five(&rt)?);
+    assert_eq!(rt; received, Err(RecvTimeoutError::Timeout));
+    assert_eq!(rt; clock.left(), 1);
+    Ok(())
+}
+
+#[test]
+fn a_clock_that_fails_counts_as_past_the_deadline(rt: HostRuntime) -> Result<(), Fail> {
+    // It fails at once, in the park, or after it.
+    let readings: [&[u64]; 3] = [&[], &[1], &[5, 5]];
+    for written in readings {
+        let clock = Written::new(&rt, written);
+        let (_sender, mut receiver) = by_clock(&clock, rt.alloc())?;
+        let received = receiver.recv_deadline(five(&rt)?);
+        assert_eq!(rt; received, Err(RecvTimeoutError::Timeout));
+        assert_eq!(rt; clock.left(), 0);
+    }
+    Ok(())
+}
+
+#[test]
+fn a_timeout_counts_from_one_reading(rt: HostRuntime) -> Result<(), Fail> {
+    // The sum is six: seven is past it. A failed reading for the sum, or after it, counts as past it.
+    let readings: [&[u64]; 3] = [&[1, 7], &[], &[1]];
+    for written in readings {
+        let clock = Written::new(&rt, written);
+        let (_sender, mut receiver) = by_clock(&clock, rt.alloc())?;
+        assert_eq!(rt;
+            receiver.recv_timeout(Duration::from_millis(5)),
+            Err(RecvTimeoutError::Timeout)
+        );
+        assert_eq!(rt; clock.left(), 0);
+    }
+    Ok(())
+}
+
+#[test]
+fn a_clock_that_fails_hides_no_message(rt: HostRuntime) -> Result<(), Fail> {
+    let clock = Written::new(&rt, &[]);
+    let (sender, mut receiver) = by_clock(&clock, rt.alloc())?;
+    assert!(rt; sender.send(19).is_ok());
+    assert_eq!(rt; receiver.recv_timeout(Duration::from_millis(5)), Ok(19));
+    assert_eq!(rt;
+        receiver.recv_timeout(Duration::from_millis(5)),
+        Err(RecvTimeoutError::Disconnected)
+    );
+    Ok(())
+}
