@@ -36,7 +36,7 @@ module _ {T W : Type 0} where
   splits : {ws : List ℕ} {hs : List (Home T W)} {vs : List View} (id : ℕ) → Tied ws hs vs → get_elem? vs id ≡ maybe.some (view Dealer []) → Tied ws hs (set vs id (view Sender []) ++ view Receiver [] ∷ [])
   splits zero opened at = let e = same_role at in absurd (cc)
   splits (suc id) opened at = absurd (some-ne-none _ (sym at))
-  splits zero dealt at = runs [] [] says_none (record { stores = refl; gone = refl; wrote = refl }) both_new
+  splits zero dealt at = runs [] [] says_none (record { stores = refl; overdue = refl; gone = refl; wrote = refl }) both_new
   splits (suc id) dealt at = absurd (some-ne-none _ (sym at))
   splits zero (runs xs ys s r row) at = let e = same_role at in absurd (cc)
   splits (suc zero) (runs xs ys s r row) at = let e = same_role at in absurd (cc)

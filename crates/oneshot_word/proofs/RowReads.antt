@@ -4,10 +4,10 @@ use Rattle.oneshot_machine.specs.Words.{Noted}
 use Rattle.oneshot_machine.specs.Phases.{sending, dropping, SenderAt, ReceiverAt}
 use Rattle.oneshot_machine.specs.Slots.{Held}
 use Rattle.oneshot_word.specs.declared.rule.View.{View}
-use Rattle.oneshot_word.specs.Rows.{sender_has_it, left_for_sender, receiver_has_it, left_for_receiver, receiver_found_it, waits_for_receiver, waker_at_home, Owned, both_open, waker_stored, waker_claimed, receiver_gone, sender_after, sent, dropped, written, Ruled, maker_alone, dealer_alone, two_ends}
-use Rattle.oneshot_word.specs.Rule.{Home, Row, both_new, both_here, receiver_waits, receiver_went, sender_owes, sender_late, message_new, message_left, message_waited, nothing_new, nothing_left, nothing_waited, message_found, message_swapped, nothing_found, nothing_swapped, receiver_closed, both_went, SenderSays, says_none, says_owes, says_last, says_late, ReceiverSays, Tied, opened, dealt, runs}
-use Rattle.oneshot_word.specs.Seats.{MessageSlot, no_message, the_message, WakerSlot, no_waker, the_waker, Carried, SenderHas, has_fresh, has_owes, has_finished, has_late, ReceiverHas, has_first, has_here, has_waits, has_full, has_unclosed, has_over, has_gone, has_ended}
-use Rattle.oneshot_word.specs.Sides.{IsOwn, own_vacant, own_held, SenderOwns, owns_message, owns_stored, owns_none, owns_both, ReceiverOwns, none_yet, owns_waker, gave_waker, owns_full, owns_unclosed, owns_closed, gave_all, owns_all}
+use Rattle.oneshot_word.specs.Rows.{sender_has_it, left_for_sender, receiver_has_it, left_for_receiver, receiver_found_it, waits_for_receiver, waker_at_home, Owned, both_open, waker_stored, waker_claimed, claimed_overdue, receiver_gone, sender_after, sent, dropped, written, Ruled, maker_alone, dealer_alone, two_ends}
+use Rattle.oneshot_word.specs.Rule.{Home, Row, both_new, both_here, receiver_waits, receiver_went, sender_owes, owes_overdue, sender_late, message_new, message_left, message_waited, message_overdue, nothing_new, nothing_left, nothing_waited, nothing_overdue, message_found, message_swapped, message_stopped, nothing_found, nothing_swapped, nothing_stopped, receiver_closed, both_went, SenderSays, says_none, says_owes, says_last, says_late, ReceiverSays, Tied, opened, dealt, runs}
+use Rattle.oneshot_word.specs.Seats.{MessageSlot, no_message, the_message, WakerSlot, no_waker, the_waker, Carried, SenderHas, has_fresh, has_owes, has_finished, has_late, ReceiverHas, has_first, has_here, has_waits, has_overdue, has_full, has_unclosed, has_over, has_gone, has_ended}
+use Rattle.oneshot_word.specs.Sides.{IsOwn, own_vacant, own_held, SenderOwns, owns_message, owns_stored, owns_none, owns_both, ReceiverOwns, none_yet, owns_waker, gave_waker, lost_waker, owns_full, owns_unclosed, owns_closed, gave_all, owns_all}
 
 module _ {T W : Type 0} where
   row_reads : {xs ys : List Noted} {p : SenderAt} {q : ReceiverAt} {w : ℕ} {h k : Home T W} → Row T W p q w h k → SenderSays xs p → ReceiverSays ys q → Owned xs ys w h k
@@ -16,17 +16,22 @@ module _ {T W : Type 0} where
   row_reads (receiver_waits k a) says_none r = waker_stored refl r.stores r.gone sender_has_it (waker_at_home k)
   row_reads receiver_went says_none r = receiver_gone refl r.gone sender_has_it left_for_sender
   row_reads (sender_owes by a) (says_owes _ found) r = waker_claimed by found r.stores r.gone sender_has_it sender_has_it
+  row_reads (owes_overdue by) (says_owes _ found) r = claimed_overdue by found r.overdue r.gone sender_has_it sender_has_it
   row_reads (sender_late by) (says_late _ _ made) r = sender_after by made r.gone sender_has_it sender_has_it
   row_reads (message_new m) (says_last _ made) r = sent made r.wrote (waits_for_receiver m) left_for_receiver
   row_reads (message_left m f) (says_last _ made) r = sent made r.wrote (waits_for_receiver m) receiver_has_it
   row_reads (message_waited m a) (says_last _ made) r = sent made r.wrote (waits_for_receiver m) left_for_receiver
+  row_reads (message_overdue m) (says_last _ made) r = sent made r.wrote (waits_for_receiver m) left_for_receiver
   row_reads nothing_new (says_last _ made) r = dropped made r.wrote left_for_receiver left_for_receiver
   row_reads (nothing_left f) (says_last _ made) r = dropped made r.wrote left_for_receiver receiver_has_it
   row_reads (nothing_waited a) (says_last _ made) r = dropped made r.wrote left_for_receiver left_for_receiver
+  row_reads nothing_overdue (says_last _ made) r = dropped made r.wrote left_for_receiver left_for_receiver
   row_reads (message_found g) (says_last _ made) r = sent made r.wrote receiver_found_it receiver_has_it
   row_reads message_swapped (says_last _ made) r = written sending made r.wrote receiver_has_it receiver_has_it
+  row_reads message_stopped (says_last _ made) r = written sending made r.wrote receiver_has_it receiver_has_it
   row_reads nothing_found (says_last _ made) r = dropped made r.wrote receiver_has_it receiver_has_it
   row_reads nothing_swapped (says_last _ made) r = written dropping made r.wrote receiver_has_it receiver_has_it
+  row_reads nothing_stopped (says_last _ made) r = written dropping made r.wrote receiver_has_it receiver_has_it
   row_reads (receiver_closed by) (says_last _ made) r = written by made r.wrote receiver_has_it receiver_has_it
   row_reads (both_went by) (says_last _ made) r = written by made r.wrote receiver_has_it receiver_has_it
 
@@ -53,6 +58,7 @@ module _ {T W : Type 0} where
   receiver_owns has_first = none_yet
   receiver_owns (has_here f other) = owns_waker f (waker_own other)
   receiver_owns (has_waits a) = gave_waker a
+  receiver_owns has_overdue = lost_waker
   receiver_owns (has_full g n slot other) = owns_full g n (message_own slot) (waker_own other)
   receiver_owns (has_unclosed n slot other) = owns_unclosed n (message_own slot) (waker_own other)
   receiver_owns (has_over c slot other) = owns_closed c (message_own slot) (waker_own other)

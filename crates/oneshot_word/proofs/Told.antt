@@ -1,11 +1,11 @@
 -- What an operation tells of an end whose phase and slots are known.
-use Rattle.std.proofs.Common.{◌≡◌, ℕ, sym, ap, ◌∙◌, subst}
+use Rattle.std.proofs.Common.{◌≡◌, ℕ, refl, sym, ap, ◌∙◌, subst}
 use Rattle.oneshot_machine.specs.declared.states.Op.{Op}
 use Rattle.oneshot_machine.specs.Words.{saw}
 use Rattle.oneshot_machine.specs.Phases.{SenderAt, fresh, sender_next, sender_at, ReceiverAt, first, receiver_next, receiver_at}
-use Rattle.oneshot_machine.specs.Slots.{Held, SenderMay, SenderFinds, ReceiverMay, ReceiverFinds}
+use Rattle.oneshot_machine.specs.Slots.{Held, away, held, SenderMay, SenderFinds, add_waker, flip_waker, ReceiverMay, ReceiverFinds}
 use Rattle.oneshot_machine.proofs.GrownLists.{sender_from-snoc, receiver_from-snoc}
-use Rattle.oneshot_word.specs.Sides.{Side, SenderCan, SenderDid, ReceiverCan, ReceiverDid}
+use Rattle.oneshot_word.specs.Sides.{Side, SenderOwns, owns_message, SenderCan, SenderDid, ReceiverCan, ReceiverDid}
 
 module _ {T W : Type 0} where
   -- how far the end is, and its slots
@@ -42,3 +42,42 @@ module _ {T W : Type 0} where
   pub receiver_went : {s t : Side T W} {q : ReceiverAt} {m : Held T} {w : Held W} (op : Op) (word : ℕ) {found : ℕ} → ReceiverIs s q m w → ReceiverDid s op found t → found ≡ word → receiver_at t.steps ≡ receiver_next q op (saw op word)
   receiver_went {s} op word {found} is did same =
       ap receiver_at did.list ∙ receiver_from-snoc first s.steps (op, saw op found) ∙ (λ i. receiver_next (is.at i) op (saw op (same i)))
+
+  -- where it is, as it stands
+  pub receiver_is : (s : Side T W) → ReceiverIs s (receiver_at s.steps) s.message s.waker
+  receiver_is s = record { at = refl; message = refl; waker = refl }
+
+  -- and with something else in the waker's slot
+  pub sender_changed : {p : SenderAt} {m : Held T} {w : Held W} (s t : Side T W) (w' : Held W) → SenderIs s p m w → t ≡ record s { waker = w' } → SenderIs t p m w'
+  sender_changed s t w' is e =
+      record {
+        at = ap (λ (s : Side T W). sender_at s.steps) e ∙ is.at;
+        message = ap (λ (s : Side T W). s.message) e ∙ is.message;
+        waker = ap (λ (s : Side T W). s.waker) e;
+      }
+
+  pub receiver_changed : {q : ReceiverAt} {m : Held T} {w : Held W} (s t : Side T W) (w' : Held W) → ReceiverIs s q m w → t ≡ record s { waker = w' } → ReceiverIs t q m w'
+  receiver_changed s t w' is e =
+      record {
+        at = ap (λ (s : Side T W). receiver_at s.steps) e ∙ is.at;
+        message = ap (λ (s : Side T W). s.message) e ∙ is.message;
+        waker = ap (λ (s : Side T W). s.waker) e;
+      }
+
+  -- a sender that has made no operation has no waker
+  no_waker_yet : {m : Held T} {w : Held W} → SenderOwns fresh m w → w ≡ away
+  no_waker_yet (owns_message own) = refl
+
+  pub begins_fresh : (s : Side T W) {m : Held T} → sender_at s.steps ≡ fresh → s.message ≡ m → SenderOwns (sender_at s.steps) s.message s.waker → SenderIs s fresh m away
+  begins_fresh s at message owns =
+      record { at = at; message = message; waker = no_waker_yet (subst (λ p. SenderOwns p s.message s.waker) at owns) }
+
+  -- where it finds 0 it has the receiver's
+  found_waker : {op : Op} {m m' : Held T} {w : Held W} → SenderFinds fresh op 0 m away m' w → (m' ≡ m) × (k : W) × (w ≡ held k)
+  found_waker (add_waker x k) = (refl, k, refl)
+  found_waker (flip_waker k) = (refl, k, refl)
+
+  pub finds_waker : {s t : Side T W} {m : Held T} {found : ℕ} (op : Op) → SenderIs s fresh m away → SenderDid s op found t → found ≡ 0 → (k : W) × SenderIs t (sender_next fresh op (saw op 0)) m (held k)
+  finds_waker op is did same =
+      let it = found_waker (sender_told op 0 is did same) in
+      (it.1, record { at = sender_went op 0 is did same; message = it.0; waker = it.2 })

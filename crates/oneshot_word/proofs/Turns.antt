@@ -4,12 +4,12 @@ use Rattle.atomic_table.specs.Table.{Act, keeps, takes, gives, chain, Valid, hom
 use Rattle.oneshot_machine.specs.declared.states.Op.{Op}
 use Rattle.oneshot_machine.specs.declared.states.Op.TheVariants.{Load, Store, Swap, Add, Xor}
 use Rattle.oneshot_machine.specs.Words.{saw}
-use Rattle.oneshot_machine.specs.Phases.{sending, dropping, SenderAt, sender_next, looked, blocked, at_once, waited, found_closed, closed_itself, ReceiverAt, receiver_next}
-use Rattle.oneshot_machine.specs.Slots.{Held, SenderMay, may_add, may_flip, may_finish_send, may_finish_drop, SenderFinds, add_empty, add_waker, add_gone, flip_empty, flip_waker, flip_gone, finish_send, finish_drop, ReceiverMay, may_load_first, may_load, may_load_closed, may_store, may_wait, may_close, may_close_only, may_drop_first, may_drop, may_drop_closed, ReceiverFinds, first_empty, first_message, first_closed, load_empty, load_message, load_closed, load_over, store_empty, store_message, store_closed, wait_longer, wait_claimed, wait_message, wait_closed, close, close_only, drop_first_empty, drop_first_message, drop_first_closed, drop_empty, drop_message, drop_closed, drop_over}
+use Rattle.oneshot_machine.specs.Phases.{sending, dropping, SenderAt, sender_next, looked, between, blocked, at_once, waited, found_closed, closed_itself, ReceiverAt, receiver_next}
+use Rattle.oneshot_machine.specs.Slots.{Held, SenderMay, may_add, may_flip, may_finish_send, may_finish_drop, SenderFinds, add_empty, add_waker, add_gone, flip_empty, flip_waker, flip_gone, finish_send, finish_drop, finish_late_send, finish_late_drop, ReceiverMay, may_load_first, may_load, may_load_closed, may_store, may_wait, may_stop, may_wait_on, may_close, may_close_only, may_drop_first, may_drop, may_drop_closed, ReceiverFinds, first_empty, first_message, first_closed, load_empty, load_message, load_closed, load_over, store_empty, store_message, store_closed, wait_longer, wait_claimed, wait_message, wait_closed, stop_waiting, stop_claimed, stop_message, stop_closed, late_longer, late_message, late_closed, close, close_only, drop_first_empty, drop_first_message, drop_first_closed, drop_empty, drop_message, drop_closed, drop_over}
 use Rattle.oneshot_word.specs.declared.rule.Slot.{Slot}
 use Rattle.oneshot_word.specs.declared.rule.Slot.TheVariants.{Empty, Message, Waker}
-use Rattle.oneshot_word.specs.Seats.{Carried, message_in, waker_in, no_message, the_message, no_waker, the_waker, SenderHas, has_fresh, has_owes, has_finished, has_late, ReceiverHas, has_first, has_here, has_waits, has_full, has_unclosed, has_over, has_gone, has_ended}
-use Rattle.oneshot_word.specs.Rule.{Home, Row, both_new, both_here, receiver_waits, receiver_went, sender_owes, sender_late, message_new, message_left, message_waited, nothing_new, nothing_left, nothing_waited, message_found, message_swapped, nothing_found, nothing_swapped, receiver_closed, both_went}
+use Rattle.oneshot_word.specs.Seats.{Carried, message_in, waker_in, no_message, the_message, no_waker, the_waker, SenderHas, has_fresh, has_owes, has_finished, has_late, ReceiverHas, has_first, has_here, has_waits, has_overdue, has_full, has_unclosed, has_over, has_gone, has_ended}
+use Rattle.oneshot_word.specs.Rule.{Home, Row, both_new, both_here, receiver_waits, receiver_went, sender_owes, owes_overdue, sender_late, message_new, message_left, message_waited, message_overdue, nothing_new, nothing_left, nothing_waited, nothing_overdue, message_found, message_swapped, message_stopped, nothing_found, nothing_swapped, nothing_stopped, receiver_closed, both_went}
 
 module _ {T W : Type 0} where
   -- each row's word is a code
@@ -19,17 +19,22 @@ module _ {T W : Type 0} where
   row_code (receiver_waits k a) = omega arith
   row_code receiver_went = omega arith
   row_code (sender_owes by a) = omega arith
+  row_code (owes_overdue by) = omega arith
   row_code (sender_late by) = omega arith
   row_code (message_new m) = omega arith
   row_code (message_left m f) = omega arith
   row_code (message_waited m a) = omega arith
+  row_code (message_overdue m) = omega arith
   row_code nothing_new = omega arith
   row_code (nothing_left f) = omega arith
   row_code (nothing_waited a) = omega arith
+  row_code nothing_overdue = omega arith
   row_code (message_found g) = omega arith
   row_code message_swapped = omega arith
+  row_code message_stopped = omega arith
   row_code nothing_found = omega arith
   row_code nothing_swapped = omega arith
+  row_code nothing_stopped = omega arith
   row_code (receiver_closed by) = omega arith
   row_code (both_went by) = omega arith
 
@@ -60,35 +65,49 @@ module _ {T W : Type 0} where
   pub finishes : (new : ℕ) {p : SenderAt} {q : ReceiverAt} (word : ℕ) {h k : Home T W} {c : Carried T W} {m : Held T} {w : Held W} → SenderMay p (Swap new) m w → SenderHas p c m w → Row T W p q word h k → SenderTurn p q (Swap new) word new h k c m w
   finishes _ _ (may_finish_send x) (has_owes _ (the_message _) no_waker) (sender_owes _ a) = sender_acts (chain gives gives) (tt, tt) refl (message_waited x a) (finish_send x) (has_finished sending)
   finishes _ _ may_finish_drop (has_owes _ no_message no_waker) (sender_owes _ a) = sender_acts (chain gives gives) (tt, tt) refl (nothing_waited a) finish_drop (has_finished dropping)
+  finishes _ _ (may_finish_send x) (has_owes _ (the_message _) no_waker) (owes_overdue _) = sender_acts (chain gives gives) (tt, tt) refl (message_overdue x) (finish_late_send x) (has_finished sending)
+  finishes _ _ may_finish_drop (has_owes _ no_message no_waker) (owes_overdue _) = sender_acts (chain gives gives) (tt, tt) refl nothing_overdue finish_late_drop (has_finished dropping)
 
   pub loads : {p : SenderAt} {q : ReceiverAt} (word : ℕ) {h k : Home T W} {c : Carried T W} {m : Held T} {w : Held W} → ReceiverMay q Load m w → ReceiverHas q c m w → Row T W p q word h k → ReceiverTurn p q Load word word h k c m w
   loads _ may_load_first has_first both_new = receiver_acts (takes 1 Empty) refl refl (both_here looked) first_empty (has_here looked no_waker)
   loads _ may_load_first has_first (message_new x) = receiver_acts (chain (takes 1 Empty) (takes 0 (Message x))) (refl, refl) refl (message_found at_once) (first_message x) (has_full at_once 4 (the_message x) no_waker)
   loads _ may_load_first has_first nothing_new = receiver_acts (chain (takes 1 Empty) (takes 0 Empty)) (refl, refl) refl nothing_found first_closed (has_over found_closed no_message no_waker)
-  loads _ may_load (has_here _ no_waker) (both_here _) = receiver_acts keeps tt refl (both_here looked) load_empty (has_here looked no_waker)
-  loads _ may_load (has_here _ no_waker) (message_left x _) = receiver_acts (takes 0 (Message x)) refl refl (message_found at_once) (load_message x) (has_full at_once 4 (the_message x) no_waker)
-  loads _ may_load (has_here _ no_waker) (nothing_left _) = receiver_acts (takes 0 Empty) refl refl nothing_found load_closed (has_over found_closed no_message no_waker)
+  loads _ (may_load o) (has_here _ no_waker) (both_here _) = receiver_acts keeps tt refl (both_here looked) (load_empty o) (has_here looked no_waker)
+  loads _ (may_load o) (has_here _ no_waker) (message_left x _) = receiver_acts (takes 0 (Message x)) refl refl (message_found at_once) (load_message o x) (has_full at_once 4 (the_message x) no_waker)
+  loads _ (may_load o) (has_here _ no_waker) (nothing_left _) = receiver_acts (takes 0 Empty) refl refl nothing_found (load_closed o) (has_over found_closed no_message no_waker)
   loads _ (may_load_closed found_closed) (has_over _ no_message no_waker) nothing_found = receiver_acts keeps tt refl nothing_found (load_over found_closed) (has_over found_closed no_message no_waker)
   loads _ (may_load_closed closed_itself) (has_over _ no_message no_waker) (receiver_closed by) = receiver_acts keeps tt refl (receiver_closed by) (load_over closed_itself) (has_over closed_itself no_message no_waker)
   loads _ (may_wait a) (has_waits _) (receiver_waits k _) = receiver_acts keeps tt refl (receiver_waits k a) (wait_longer a) (has_waits a)
   loads _ (may_wait a) (has_waits _) (sender_owes by _) = receiver_acts keeps tt refl (sender_owes by a) (wait_claimed a) (has_waits a)
   loads _ (may_wait a) (has_waits _) (message_waited x _) = receiver_acts (chain (takes 1 Empty) (takes 0 (Message x))) (refl, refl) refl (message_found waited) (wait_message a x) (has_full waited 4 (the_message x) no_waker)
   loads _ (may_wait a) (has_waits _) (nothing_waited _) = receiver_acts (chain (takes 1 Empty) (takes 0 Empty)) (refl, refl) refl nothing_found (wait_closed a) (has_over found_closed no_message no_waker)
+  loads _ may_wait_on has_overdue (owes_overdue by) = receiver_acts keeps tt refl (owes_overdue by) late_longer has_overdue
+  loads _ may_wait_on has_overdue (message_overdue x) = receiver_acts (chain (takes 1 Empty) (takes 0 (Message x))) (refl, refl) refl (message_found waited) (late_message x) (has_full waited 4 (the_message x) no_waker)
+  loads _ may_wait_on has_overdue nothing_overdue = receiver_acts (chain (takes 1 Empty) (takes 0 Empty)) (refl, refl) refl nothing_found late_closed (has_over found_closed no_message no_waker)
 
   pub stores : (new : ℕ) {p : SenderAt} {q : ReceiverAt} (word : ℕ) {h k : Home T W} {c : Carried T W} {m : Held T} {w : Held W} → ReceiverMay q (Store new) m w → ReceiverHas q c m w → Row T W p q word h k → ReceiverTurn p q (Store new) word new h k c m w
   stores _ _ (may_close g n x) (has_full _ _ (the_message _) no_waker) (message_found _) = receiver_acts keeps tt refl (receiver_closed sending) (close g n x) (has_over closed_itself (the_message x) no_waker)
   stores _ _ (may_close g n x) (has_full _ _ (the_message _) no_waker) message_swapped = receiver_acts keeps tt refl (receiver_closed sending) (close g n x) (has_over closed_itself (the_message x) no_waker)
+  stores _ _ (may_close g n x) (has_full _ _ (the_message _) no_waker) message_stopped = receiver_acts keeps tt refl (receiver_closed sending) (close g n x) (has_over closed_itself (the_message x) no_waker)
   stores _ _ (may_close_only n) (has_unclosed _ no_message no_waker) nothing_swapped = receiver_acts keeps tt refl (receiver_closed dropping) (close_only n) (has_over closed_itself no_message no_waker)
+  stores _ _ (may_close_only n) (has_unclosed _ no_message no_waker) nothing_stopped = receiver_acts keeps tt refl (receiver_closed dropping) (close_only n) (has_over closed_itself no_message no_waker)
 
   pub swaps : (new : ℕ) {p : SenderAt} {q : ReceiverAt} (word : ℕ) {h k : Home T W} {c : Carried T W} {m : Held T} {w : Held W} → ReceiverMay q (Swap new) m w → ReceiverHas q c m w → Row T W p q word h k → ReceiverTurn p q (Swap new) word new h k c m w
   swaps _ _ (may_store k) (has_here _ (the_waker _)) (both_here _) = receiver_acts gives tt refl (receiver_waits k blocked) (store_empty k) (has_waits blocked)
   swaps _ _ (may_store k) (has_here _ (the_waker _)) (message_left x _) = receiver_acts (takes 0 (Message x)) refl refl message_swapped (store_message x k) (has_full waited 0 (the_message x) (the_waker k))
   swaps _ _ (may_store k) (has_here _ (the_waker _)) (nothing_left _) = receiver_acts (takes 0 Empty) refl refl nothing_swapped (store_closed k) (has_unclosed 0 no_message (the_waker k))
+  swaps _ _ (may_stop a) (has_waits _) (receiver_waits k _) = receiver_acts (takes 1 (Waker k)) refl refl (both_here between) (stop_waiting a k) (has_here between (the_waker k))
+  swaps _ _ (may_stop a) (has_waits _) (sender_owes by _) = receiver_acts keeps tt refl (owes_overdue by) (stop_claimed a) has_overdue
+  swaps _ _ (may_stop a) (has_waits _) (message_waited x _) = receiver_acts (chain (takes 1 Empty) (takes 0 (Message x))) (refl, refl) refl message_stopped (stop_message a x) (has_full waited 3 (the_message x) no_waker)
+  swaps _ _ (may_stop a) (has_waits _) (nothing_waited _) = receiver_acts (chain (takes 1 Empty) (takes 0 Empty)) (refl, refl) refl nothing_stopped (stop_closed a) (has_unclosed 3 no_message no_waker)
   swaps _ _ may_drop_first has_first both_new = receiver_acts keeps tt refl receiver_went drop_first_empty has_gone
   swaps _ _ may_drop_first has_first (message_new x) = receiver_acts (chain (takes 1 Empty) (takes 0 (Message x))) (refl, refl) refl (both_went sending) (drop_first_message x) (has_ended (the_message x) no_waker)
   swaps _ _ may_drop_first has_first nothing_new = receiver_acts (chain (takes 1 Empty) (takes 0 Empty)) (refl, refl) refl (both_went dropping) drop_first_closed (has_ended no_message no_waker)
-  swaps _ _ may_drop (has_here _ no_waker) (both_here _) = receiver_acts gives tt refl receiver_went drop_empty has_gone
-  swaps _ _ may_drop (has_here _ no_waker) (message_left x _) = receiver_acts (takes 0 (Message x)) refl refl (both_went sending) (drop_message x) (has_ended (the_message x) no_waker)
-  swaps _ _ may_drop (has_here _ no_waker) (nothing_left _) = receiver_acts (takes 0 Empty) refl refl (both_went dropping) drop_closed (has_ended no_message no_waker)
+  swaps _ _ (may_drop looked) (has_here _ no_waker) (both_here _) = receiver_acts gives tt refl receiver_went (drop_empty looked) has_gone
+  swaps _ _ (may_drop between) (has_here _ no_waker) (both_here _) = receiver_acts gives tt refl receiver_went (drop_empty between) has_gone
+  swaps _ _ (may_drop looked) (has_here _ no_waker) (message_left x _) = receiver_acts (takes 0 (Message x)) refl refl (both_went sending) (drop_message looked x) (has_ended (the_message x) no_waker)
+  swaps _ _ (may_drop between) (has_here _ no_waker) (message_left x _) = receiver_acts (takes 0 (Message x)) refl refl (both_went sending) (drop_message between x) (has_ended (the_message x) no_waker)
+  swaps _ _ (may_drop looked) (has_here _ no_waker) (nothing_left _) = receiver_acts (takes 0 Empty) refl refl (both_went dropping) (drop_closed looked) (has_ended no_message no_waker)
+  swaps _ _ (may_drop between) (has_here _ no_waker) (nothing_left _) = receiver_acts (takes 0 Empty) refl refl (both_went dropping) (drop_closed between) (has_ended no_message no_waker)
   swaps _ _ (may_drop_closed found_closed) (has_over _ no_message no_waker) nothing_found = receiver_acts keeps tt refl (both_went dropping) (drop_over found_closed) (has_ended no_message no_waker)
   swaps _ _ (may_drop_closed closed_itself) (has_over _ no_message no_waker) (receiver_closed by) = receiver_acts keeps tt refl (both_went by) (drop_over closed_itself) (has_ended no_message no_waker)

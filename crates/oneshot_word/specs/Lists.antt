@@ -16,8 +16,10 @@ pub data FoundZero : By → List Noted → Type 0 where
 pub data MadeLast : By → List Noted → Type 0 where
   sent : MadeLast sending ((Add, Word 3) ∷ [])
   sent_to_it : MadeLast sending ((Add, Word 0) ∷ (Swap 4, Word 1) ∷ [])
+  sent_to_overdue : MadeLast sending ((Add, Word 0) ∷ (Swap 4, Word 3) ∷ [])
   dropped : MadeLast dropping ((Xor, Word 3) ∷ [])
   dropped_before_it : MadeLast dropping ((Xor, Word 0) ∷ (Swap 2, Word 1) ∷ [])
+  dropped_before_overdue : MadeLast dropping ((Xor, Word 0) ∷ (Swap 2, Word 3) ∷ [])
 
 -- The sender's last operation is made, found the receiver gone, and left this word.
 pub data MadeLate : By → ℕ → List Noted → Type 0 where
@@ -38,6 +40,15 @@ stores_next before _ seen = false
 -- found 0 or 1.
 abbrev pub stores_waker : List Noted → Bool
 stores_waker = along stores_next false
+
+abbrev pub overdue_next : Bool → Op → Seen → Bool
+overdue_next before Load (Word word) = before && word == 3
+overdue_next before (Swap new) (Word word) = new == 3 && word == 1
+overdue_next before _ seen = false
+
+-- The receiver is overdue: after a swap of 3 that found 1 it has made nothing but loads that found 3.
+abbrev pub is_overdue : List Noted → Bool
+is_overdue = along overdue_next false
 
 abbrev pub gone_next : Bool → Op → Seen → Bool
 gone_next before (Swap new) seen = before || new == 2

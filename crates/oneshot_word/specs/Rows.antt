@@ -4,7 +4,7 @@ use Rattle.oneshot_machine.specs.Words.{Noted}
 use Rattle.oneshot_machine.specs.Phases.{By, sending, dropping}
 use Rattle.oneshot_word.specs.declared.rule.Role.TheVariants.{Maker, Dealer, Sender, Receiver}
 use Rattle.oneshot_word.specs.declared.rule.View.{View}
-use Rattle.oneshot_word.specs.Lists.{FoundZero, MadeLast, MadeLate, stores_waker, is_gone, wrote_since}
+use Rattle.oneshot_word.specs.Lists.{FoundZero, MadeLast, MadeLate, stores_waker, is_overdue, is_gone, wrote_since}
 use Rattle.oneshot_word.specs.Rule.{Home, out, bare, has_message, has_waker, Tied}
 use Rattle.oneshot_word.specs.Seats.{view}
 
@@ -40,6 +40,9 @@ pub data Owned {T W : Type 0} (xs ys : List Noted) : ℕ → Home T W → Home T
   -- the sender found 0, and its final swap is to come; the receiver still waits
   waker_claimed : {h k : Home T W} (by : By) → FoundZero by xs → stores_waker ys ≡ true → is_gone ys ≡ false
       → IsSenders h → IsSenders k → Owned xs ys 1 h k
+  -- the sender found 0, and its final swap is to come; the receiver is overdue
+  claimed_overdue : {h k : Home T W} (by : By) → FoundZero by xs → is_overdue ys ≡ true → is_gone ys ≡ false
+      → IsSenders h → IsSenders k → Owned xs ys 3 h k
   -- the sender has made no operation, and the receiver is gone
   receiver_gone : {h k : Home T W} → xs ≡ [] → is_gone ys ≡ true
       → IsSenders h → IsSenders k → Owned xs ys 2 h k

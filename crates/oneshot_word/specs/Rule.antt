@@ -2,12 +2,12 @@
 use Rattle.std.specs.Prelude.{◌≡◌, ℕ, Bool, true, false, ◌==◌, if◌then◌else◌, List, [], ◌∷◌, Option, Some, None}
 use mathlib.Core.Option as maybe
 use Rattle.oneshot_machine.specs.Words.{Noted}
-use Rattle.oneshot_machine.specs.Phases.{By, sending, dropping, SenderAt, fresh, owes, finished, late, sender_at, Open, Waiting, Got, waited, found_closed, closed_itself, ReceiverAt, first, here, waits, full, unclosed, over, gone, ended, receiver_at}
+use Rattle.oneshot_machine.specs.Phases.{By, sending, dropping, SenderAt, fresh, owes, finished, late, sender_at, Open, Waiting, Got, waited, found_closed, closed_itself, ReceiverAt, first, here, waits, overdue, full, unclosed, over, gone, ended, receiver_at}
 use Rattle.oneshot_word.specs.declared.rule.Role.TheVariants.{Maker, Dealer, Sender, Receiver}
 use Rattle.oneshot_word.specs.declared.rule.Slot.{Slot}
 use Rattle.oneshot_word.specs.declared.rule.Slot.TheVariants.{Empty, Message, Waker}
 use Rattle.oneshot_word.specs.declared.rule.View.{View}
-use Rattle.oneshot_word.specs.Lists.{FoundZero, MadeLast, MadeLate, stores_waker, is_gone, wrote_since}
+use Rattle.oneshot_word.specs.Lists.{FoundZero, MadeLast, MadeLate, stores_waker, is_overdue, is_gone, wrote_since}
 use Rattle.oneshot_word.specs.Seats.{view}
 
 -- what of a slot is at home: nothing, where a seat carries it, or its value
@@ -36,21 +36,26 @@ pub data Row (T W : Type 0) : SenderAt → ReceiverAt → ℕ → Home T W → H
   receiver_went : Row T W fresh gone 2 out bare
   -- it found 0, and its final swap is to come
   sender_owes : (by : By) (a : Waiting) → Row T W (owes by) (waits a) 1 out out
+  owes_overdue : (by : By) → Row T W (owes by) overdue 3 out out
   -- its last operation found 2
   sender_late : (by : By) → Row T W (late by 3) gone 3 out out
   -- it sent, and the receiver has made no operation since
   message_new : (m : T) → Row T W (finished sending) first 4 (has_message m) bare
   message_left : (m : T) (f : Open) → Row T W (finished sending) (here f) 4 (has_message m) out
   message_waited : (m : T) (a : Waiting) → Row T W (finished sending) (waits a) 4 (has_message m) bare
+  message_overdue : (m : T) → Row T W (finished sending) overdue 4 (has_message m) bare
   -- it dropped, and the receiver has made no operation since
   nothing_new : Row T W (finished dropping) first 2 bare bare
   nothing_left : (f : Open) → Row T W (finished dropping) (here f) 2 bare out
   nothing_waited : (a : Waiting) → Row T W (finished dropping) (waits a) 2 bare bare
+  nothing_overdue : Row T W (finished dropping) overdue 2 bare bare
   -- the receiver has made one since
   message_found : (g : Got) → Row T W (finished sending) (full g 4) 4 out out
   message_swapped : Row T W (finished sending) (full waited 0) 0 out out
+  message_stopped : Row T W (finished sending) (full waited 3) 3 out out
   nothing_found : Row T W (finished dropping) (over found_closed) 2 out out
   nothing_swapped : Row T W (finished dropping) (unclosed 0) 0 out out
+  nothing_stopped : Row T W (finished dropping) (unclosed 3) 3 out out
   receiver_closed : (by : By) → Row T W (finished by) (over closed_itself) 2 out out
   both_went : (by : By) → Row T W (finished by) ended 2 out out
 
@@ -58,6 +63,10 @@ pub data Row (T W : Type 0) : SenderAt → ReceiverAt → ℕ → Home T W → H
 abbrev pub stores_of : ReceiverAt → Bool
 stores_of (waits a) = true
 stores_of _ = false
+
+abbrev pub overdue_of : ReceiverAt → Bool
+overdue_of overdue = true
+overdue_of _ = false
 
 abbrev pub gone_of : ReceiverAt → Bool
 gone_of gone = true
@@ -79,6 +88,7 @@ pub data SenderSays : List Noted → SenderAt → Type 0 where
 
 pub record ReceiverSays (ys : List Noted) (q : ReceiverAt) : Type 0 where
   pub stores : stores_waker ys ≡ stores_of q
+  pub overdue : is_overdue ys ≡ overdue_of q
   pub gone : is_gone ys ≡ gone_of q
   pub wrote : wrote_since ys ≡ wrote_of q
 

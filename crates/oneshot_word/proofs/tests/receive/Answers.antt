@@ -1,40 +1,43 @@
-use Rattle.std.proofs.Common.{rules, ◌≡◌, ℕ, refl, subst}
+use Rattle.std.proofs.Common.{rules, ◌≡◌, ℕ, refl, ◌∙◌}
+use Rattle.oneshot_machine.specs.declared.machine.Seen.TheVariants.{Word}
 use Rattle.oneshot_machine.specs.declared.states.Op.TheVariants.{Load, Store}
-use Rattle.oneshot_machine.specs.Phases.{blocked, waited, waits, full, receiver_at}
-use Rattle.oneshot_machine.specs.Slots.{Held, away, vacant, held, may_wait, may_close, ReceiverFinds, wait_message, close}
-use Rattle.oneshot_word.specs.Sides.{Side, ReceiverDid, ReceiverOwns, gave_waker}
-use Rattle.oneshot_word.proofs.Told.{ReceiverIs, receiver_can, receiver_told, receiver_went}
+use Rattle.oneshot_machine.specs.Phases.{Got, at_once, waited, full, ReceiverAt, receiver_next}
+use Rattle.oneshot_machine.specs.Slots.{Held, vacant, held, may_close, ReceiverFinds, first_message, load_message, wait_message, late_message, close}
+use Rattle.oneshot_word.specs.Sides.{Side, ReceiverDid}
+use Rattle.oneshot_word.proofs.Told.{ReceiverIs, receiver_can, receiver_told, receiver_went, receiver_is}
 use Rattle.oneshot_word.proofs.tests.receive.Goals as goal
 
 module _ {T W : Type 0} where
-  owns_none : {m : Held T} {w : Held W} → ReceiverOwns (waits blocked) m w → (m ≡ away) × (w ≡ away)
-  owns_none (gave_waker _) = (refl, refl)
+  record HasIt (q : ReceiverAt) (m : Held T) (w : Held W) : Type 0 where
+    got : Got
+    message : T
+    at : receiver_next q Load (Word 4) ≡ full got 4
+    holds : m ≡ held message
+    no_waker : w ≡ vacant
 
-  found_message : {m : Held T} {w : Held W} → ReceiverFinds (waits blocked) Load 4 away away m w → (x : T) × (m ≡ held x) × (w ≡ vacant)
-  found_message (wait_message _ x) = (x, refl, refl)
+  found_message : {q : ReceiverAt} {m m' : Held T} {w w' : Held W} → ReceiverFinds q Load 4 m w m' w' → HasIt q m' w'
+  found_message (first_message x) = record { got = at_once; message = x; at = refl; holds = refl; no_waker = refl }
+  found_message (load_message o x) = record { got = at_once; message = x; at = refl; holds = refl; no_waker = refl }
+  found_message (wait_message a x) = record { got = waited; message = x; at = refl; holds = refl; no_waker = refl }
+  found_message (late_message x) = record { got = waited; message = x; at = refl; holds = refl; no_waker = refl }
 
-  kept_message : {x : T} {m : Held T} {w : Held W} → ReceiverFinds (full waited 4) (Store 2) 4 (held x) vacant m w → m ≡ held x
+  kept_message : {g : Got} {x : T} {m : Held T} {w : Held W} → ReceiverFinds (full g 4) (Store 2) 4 (held x) vacant m w → m ≡ held x
   kept_message (close _ _ x) = refl
 
-  begins : (s : Side T W) → receiver_at s.steps ≡ waits blocked → ReceiverOwns (receiver_at s.steps) s.message s.waker → ReceiverIs s (waits blocked) away away
-  begins s at owns =
-      let none = owns_none (subst (λ q. ReceiverOwns q s.message s.waker) at owns) in
-      record { at = at; message = none.0; waker = none.1 }
-
-  finds : {s t : Side T W} {found : ℕ} → ReceiverIs s (waits blocked) away away → ReceiverDid s Load found t → found ≡ 4 → (x : T) × ReceiverIs t (full waited 4) (held x) vacant
-  finds is did same =
-      let it = found_message (receiver_told Load 4 is did same) in
-      (it.0, record { at = receiver_went Load 4 is did same; message = it.1; waker = it.2 })
+  finds : {s t : Side T W} {found : ℕ} → ReceiverDid s Load found t → found ≡ 4 → (g : Got) × (x : T) × ReceiverIs t (full g 4) (held x) vacant
+  finds {s} did same =
+      let it = found_message (receiver_told Load 4 (receiver_is s) did same) in
+      (it.got, it.message, record { at = receiver_went Load 4 (receiver_is s) did same ∙ it.at; message = it.holds; waker = it.no_waker })
 
 pub load-found-requires : goal.load-found-requires
-load-found-requires g c = receiver_can Load (begins c.args.receiver.now c.requires c.slots.ensures) (may_wait blocked)
+load-found-requires g c = c.requires
 
 pub store-found-requires : goal.store-found-requires
 store-found-requires g c =
-    let it = finds (begins c.args.receiver.now c.requires c.slots.ensures) c.load-found.ensures (search rules) in
-    receiver_can (Store 2) it.1 (may_close waited 4 it.0)
+    let it = finds c.load-found.ensures (search rules) in
+    receiver_can (Store 2) it.2 (may_close it.0 4 it.1)
 
 pub take_message-requires : goal.take_message-requires
 take_message-requires g c =
-    let it = finds (begins c.args.receiver.now c.requires c.slots.ensures) c.load-found.ensures (search rules) in
-    (it.0, kept_message (receiver_told (Store 2) 4 it.1 c.store-found.ensures (search rules)))
+    let it = finds c.load-found.ensures (search rules) in
+    (it.1, kept_message (receiver_told (Store 2) 4 it.2 c.store-found.ensures (search rules)))
