@@ -7,19 +7,19 @@ ghost use Rattle.oneshot_drive.specs.Calls.{IsError, IsLate};
 ghost use Rattle.oneshot_word.specs.Sides.{Side};
 ghost use Rattle.oneshot_ends.specs.Sides.{left_of};
 
+use crate::freed::Freed;
 use crossbeam_utils::sync::Unparker;
 use oneshot_drive::{ReceiverGround, SenderGround};
 use oneshot_machine::states::Op;
 use oneshot_word::{ReceiverSide, SenderSide};
 use std::marker::Model;
-use std::snapshot::Snapshot;
 
 /// The sender's ground.
 #[derive(Drop)]
 pub(crate) struct SenderSeat<T, W> {
     side: SenderSide<T, W>,
     // The block goes with the last of both shares, so that nothing is left to do; only proofs read this.
-    freed: Snapshot<bool>,
+    freed: Freed,
 }
 
 impl<T, W> Model for SenderSeat<T, W> {
@@ -36,7 +36,7 @@ impl<T, W> SenderSeat<T, W> {
     pub(crate) fn new(side: SenderSide<T, W>) -> SenderSeat<T, W>
         ensures { result ≡ side }
     {
-        let freed = Snapshot::of(&false);
+        let freed = Freed::of(false);
         SenderSeat { side, freed }
     }
 }
@@ -96,7 +96,7 @@ impl<T: Drop> SenderGround<T, Unparker> for SenderSeat<T, Unparker> {
     }
 
     fn free(&mut self) {
-        self.freed = Snapshot::of(&true);
+        self.freed = Freed::of(true);
     }
 }
 
@@ -105,7 +105,7 @@ impl<T: Drop> SenderGround<T, Unparker> for SenderSeat<T, Unparker> {
 pub(crate) struct ErrorSeat<T, W> {
     message: Option<T>,
     side: SenderSide<T, W>,
-    freed: Snapshot<bool>,
+    freed: Freed,
 }
 
 impl<T, W> Model for ErrorSeat<T, W> {
@@ -128,7 +128,7 @@ impl<T, W> ErrorSeat<T, W> {
         requires { IsLate (sender_at side.steps) }
         ensures { IsError (held message) result.message result.waker }
     {
-        let freed = Snapshot::of(&false);
+        let freed = Freed::of(false);
         ErrorSeat {
             message: Some(message),
             side,
@@ -179,7 +179,7 @@ impl<T: Drop> SenderGround<T, Unparker> for ErrorSeat<T, Unparker> {
     }
 
     fn free(&mut self) {
-        self.freed = Snapshot::of(&true);
+        self.freed = Freed::of(true);
     }
 }
 
@@ -187,7 +187,7 @@ impl<T: Drop> SenderGround<T, Unparker> for ErrorSeat<T, Unparker> {
 #[derive(Drop)]
 pub(crate) struct ReceiverSeat<T, W> {
     side: ReceiverSide<T, W>,
-    freed: Snapshot<bool>,
+    freed: Freed,
 }
 
 impl<T, W> Model for ReceiverSeat<T, W> {
@@ -207,7 +207,7 @@ impl<T, W> ReceiverSeat<T, W> {
     pub(crate) fn new(side: ReceiverSide<T, W>) -> ReceiverSeat<T, W>
         ensures { result ≡ side }
     {
-        let freed = Snapshot::of(&false);
+        let freed = Freed::of(false);
         ReceiverSeat { side, freed }
     }
 }
@@ -255,6 +255,6 @@ impl<T: Drop, W: Drop> ReceiverGround<T, W> for ReceiverSeat<T, W> {
 
     fn free(&mut self) {
         self.side.slots();
-        self.freed = Snapshot::of(&true);
+        self.freed = Freed::of(true);
     }
 }

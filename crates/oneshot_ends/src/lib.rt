@@ -3,6 +3,7 @@
 
 mod blocking;
 mod error;
+mod freed;
 mod ground;
 mod pair;
 mod receiver;

@@ -23,6 +23,9 @@ use std::time::Clock;
 ///
 /// A contract sees the table that it shares with the sender, and the list of its operations on the
 /// word, from which it reads whether the receiver is closed.
+///
+/// Where `T` and `Rt` are `Send` it may go to another thread, which a caller's proof finds by itself.
+/// No two threads may share it.
 pub struct Receiver<T, Rt> {
     seat: ReceiverSeat<T, Unparker>,
     // The parker's waking half, unless the sender took it to wake the receiver.
@@ -46,10 +49,6 @@ impl<T, Rt> Model for Receiver<T, Rt> {
         AtRest (receiver_of (logged r.seat)) r.seat.message r.seat.waker
         × IsReady r.hand (receiver_of (logged r.seat)) };
 }
-
-// The checker finds this by itself, and writes it here once, so that a caller's proof need not look
-// through all that a receiver holds.
-unsafe impl<T: Send, Rt: Send> Send for Receiver<T, Rt> {}
 
 impl<T, Rt> Receiver<T, Rt> {
     pub(crate) fn new(

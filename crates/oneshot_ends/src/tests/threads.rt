@@ -11,7 +11,7 @@ const ROUNDS: u64 = 1_000;
 const TRIES: u64 = 1_000_000_000;
 
 // Asks until the message is there, or until the sender is gone without one.
-fn poll<T: Drop>(receiver: &mut Receiver<T, ()>) -> Result<T, TryRecvError> {
+fn poll<T: Drop, Rt: Drop>(receiver: &mut Receiver<T, Rt>) -> Result<T, TryRecvError> {
     for _ in 0..TRIES {
         match receiver.try_recv() {
             Err(TryRecvError::Empty) => {}
@@ -58,5 +58,27 @@ fn two_threads_look_at_one_sender(rt: HostRuntime) -> Result<(), Fail> {
     assert_eq!(rt; two_looks(&rt, &sender), (false, false));
     drop(receiver);
     assert_eq!(rt; two_looks(&rt, &sender), (true, true));
+    Ok(())
+}
+
+// What a receiver gets on another thread, while this one sends `message`, and whether that was sent.
+fn received_there<T: Send + Drop, Rt: Send + Drop>(
+    rt: &impl Threads,
+    (sender, mut receiver): (Sender<T>, Receiver<T, Rt>),
+    message: T,
+) -> (Result<T, TryRecvError>, bool) {
+    join(
+        rt,
+        move || poll(&mut receiver),
+        move || sender.send(message).is_ok(),
+    )
+}
+
+#[test]
+fn a_receiver_may_go_to_another_thread(rt: HostRuntime) -> Result<(), Fail> {
+    for round in 0..ROUNDS {
+        let ends = channel(&rt, rt.alloc())?;
+        assert_eq!(rt; received_there(&rt, ends, round), (Ok(round), true));
+    }
     Ok(())
 }

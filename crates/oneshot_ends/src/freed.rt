@@ -1,0 +1,31 @@
+//! Whether an end freed the block, for the proofs alone.
+
+ghost use Rattle.std.specs.Prelude.{◌≡◌, Bool};
+
+use std::marker::Model;
+
+// In place of a `Snapshot<bool>`: a caller's proof finds no lemma that one may go to another thread.
+/// Whether an end freed the block. It has no bytes, and only proofs read it.
+#[derive(Drop)]
+pub(crate) struct Freed {
+    pub(crate) ghost value: { Bool },
+}
+
+impl Model for Freed {
+    ghost use base.Fml.{ftrue};
+
+    ghost also_owns = { λ _. ftrue };
+}
+
+// Proved, in proofs/freed/Freed/TheSendSync.
+unsafe impl Send for Freed {}
+
+impl Freed {
+    /// What says `freed`.
+    pub(crate) fn of(freed: bool) -> Freed
+        ensures { result.value ≡ freed }
+    {
+        let _ = freed;
+        Freed {}
+    }
+}
