@@ -1,4 +1,4 @@
-use Rattle.std.proofs.Common.{rules, ◌≡◌, ℕ, refl, subst}
+use Rattle.std.proofs.Common.{rules, ◌≡◌, refl, subst}
 use Rattle.oneshot_machine.specs.declared.states.Op.TheVariants.{Load}
 use Rattle.oneshot_machine.specs.Phases.{first, receiver_at}
 use Rattle.oneshot_machine.specs.Slots.{Held, away, vacant, may_load_first, ReceiverFinds, first_empty}
