@@ -1,5 +1,9 @@
 -- What a driver over a lent seat tells of the receiver that lent it.
-use Rattle.std.proofs.Common.{◌≡◌, ℕ, List, [], ◌++◌, Option, Some, None, Result, Err, map, sym, ap, ◌∙◌, subst}
+use Rattle.std.proofs.Common.{◌≡◌, ℕ, false, List, [], ◌++◌, Option, Some, None, Result, Err, map, sym, ap, ◌∙◌, subst}
+use Rattle.std.specs.Prelude.{IfSome}
+use Rattle.std.specs.Time.{instant_nanos, FitsClock}
+use Rattle.std.specs.declared.time.Duration.{Duration}
+use Rattle.std.specs.declared.time.Instant.{Instant}
 use Rattle.oneshot_drive.specs.Calls.{IsClosed, is_over, LeavesTimed, timed_received, timed_out, timed_closed, Hands, as_it_was, sender_took, came_back, IsReady}
 use Rattle.oneshot_errors.specs.declared.recv_timeout.RecvTimeoutError.{RecvTimeoutError}
 use Rattle.oneshot_errors.specs.declared.recv_timeout.RecvTimeoutError.TheVariants as Timed
@@ -11,7 +15,10 @@ use Rattle.oneshot_machine.specs.Receiver.{receiver_start, receiver_step, receiv
 use Rattle.oneshot_machine.specs.Runs.{ReceiverRan}
 use Rattle.oneshot_machine.specs.Words.{Noted}
 use Rattle.oneshot_word.specs.Sides.{Side}
-use Rattle.oneshot_ends.specs.Ends.{End, ReceiverGrew}
+use Rattle.oneshot_ends.specs.declared.deadline.Deadline.{Deadline}
+use Rattle.oneshot_ends.specs.declared.deadline.Deadline.TheVariants.{At, Passed, Never}
+use Rattle.oneshot_ends.specs.Deadlines.{IsAfter, has_end}
+use Rattle.oneshot_ends.specs.Ends.{End, ReceiverGrew, IsTooFar}
 use Rattle.oneshot_ends.specs.Sides.{events_of, lent}
 use Rattle.oneshot_ends.proofs.Standing.{words_of, grown_lent, unnamed, run_unnamed, words_unnamed}
 
@@ -39,3 +46,10 @@ pub ready_timed : {T W : Type 0} (result : Result T RecvTimeoutError) (before af
 ready_timed result _ _ at _ ready stays leaves (as_it_was hand q) = λ none. closed_still result q (stays (ready none)) leaves
 ready_timed result _ _ at _ ready stays leaves (sender_took k c) = λ none. is_over c
 ready_timed result _ _ at _ ready stays leaves (came_back k back) = λ none. absurd (cc none)
+
+-- a timeout without an end is one that no instant can hold
+pub too_far : (timeout : Duration) (reading : Option Instant) (deadline : Deadline) → IfSome reading (λ now. FitsClock (instant_nanos now)) → IsAfter timeout reading deadline → has_end deadline ≡ false → IsTooFar timeout
+too_far timeout reading (At end) fits after endless = absurd (cc endless)
+too_far timeout reading Passed fits after endless = absurd (cc endless)
+too_far timeout None Never fits after endless = absurd (cc after)
+too_far timeout (Some now) Never fits after endless = (instant_nanos now, fits, after)

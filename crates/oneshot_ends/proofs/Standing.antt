@@ -19,7 +19,7 @@ use Rattle.oneshot_machine.specs.Slots.{Held, vacant, held, SenderMay, SenderFin
 use Rattle.oneshot_machine.specs.Words.{Noted}
 use Rattle.oneshot_machine.proofs.GrownLists.{words_after}
 use Rattle.oneshot_drive.specs.Calls.{AtRest, rests_new, IsClosed, is_over, Leaves, leaves_received, leaves_open, leaves_closed, LeavesClosed, left_received, left_closed, IsReady, IsLate, is_late}
-use Rattle.oneshot_word.specs.Sides.{Side, SenderCan, ReceiverCan, ReceiverOwns, none_yet, owns_waker, gave_waker, owns_full, owns_unclosed, owns_closed, gave_all, owns_all}
+use Rattle.oneshot_word.specs.Sides.{Side, SenderCan, ReceiverCan, ReceiverOwns, none_yet, owns_waker, gave_waker, lost_waker, owns_full, owns_unclosed, owns_closed, gave_all, owns_all}
 use Rattle.oneshot_ends.specs.Sides.{MayBeFreed, not_freed, freed_full, freed_unclosed, freed_closed, freed_ended, unless_freed, slot_of, events_of, logged, lent, left_of, IsNewReceiver}
 
 pub words_of : (T W : Type 0) (xs : List Noted) → words (events_of {T = T} {W = W} xs) ≡ xs
@@ -107,6 +107,7 @@ module _ {T W : Type 0} where
   may_free false _ _ _ none_yet is = absurd (cc is)
   may_free false _ _ _ (owns_waker f own) is = absurd (cc is)
   may_free false _ _ _ (gave_waker a) is = absurd (cc is)
+  may_free false _ _ _ lost_waker is = absurd (cc is)
   may_free false _ _ _ (owns_full got word own also) is = freed_full got word
   may_free false _ _ _ (owns_unclosed word own also) is = freed_unclosed word
   may_free false _ _ _ (owns_closed closing own also) is = freed_closed closing

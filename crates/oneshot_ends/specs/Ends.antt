@@ -1,8 +1,12 @@
 -- What a contract sees of an end: the table that it shares, and the list of its operations on the word.
-use Rattle.std.specs.Prelude.{◌≡◌, List, ◌++◌}
+use Rattle.std.specs.Prelude.{◌≡◌, ℕ, ◌+◌, Bool, false, List, ◌++◌}
+use Rattle.std.specs.Duration.{as_nanos}
+use Rattle.std.specs.Time.{FitsClock}
+use Rattle.std.specs.declared.time.Duration.{Duration}
 use Rattle.atomic_table.specs.Seated.{TableId}
 use Rattle.oneshot_machine.specs.declared.machine.Reply.{Reply}
 use Rattle.oneshot_machine.specs.declared.machine.receiver.ReceiverStart.{ReceiverStart}
+use Rattle.oneshot_machine.specs.declared.machine.receiver.ReceiverStart.TheVariants.{RecvTimeout}
 use Rattle.oneshot_machine.specs.declared.machine.sender.SenderCall.{SenderCall}
 use Rattle.oneshot_machine.specs.Logs.{Event, words}
 use Rattle.oneshot_machine.specs.Receiver.{receiver_start, receiver_step, receiver_row}
@@ -34,3 +38,13 @@ pub record ReceiverGrew (T : Type 0) (call : ReceiverStart) (before after : List
   pub run : List (Event T Waking)
   pub is_run : Run receiver_step receiver_row (receiver_start call) run reply
   pub list : after ≡ before ++ words run
+
+-- a clock can read a time so late that no instant is this far behind it
+abbrev pub IsTooFar : Duration → Type 0
+IsTooFar timeout = (now : ℕ) × FitsClock now × (FitsClock (now + as_nanos timeout) → ⊥)
+
+-- the same of a receive with this timeout, which only one that is too far may leave without an end
+pub record TimeoutGrew (T : Type 0) (timeout : Duration) (before after : List Noted) (reply : Reply) : Type 0 where
+  pub has_end : Bool
+  pub grew : ReceiverGrew T (RecvTimeout has_end) before after reply
+  pub endless : has_end ≡ false → IsTooFar timeout

@@ -1,12 +1,12 @@
 //! What a receiver does to the world in a call that blocks: its ground, with its parker beside it.
 
-use crate::deadline::Deadline;
+use crate::deadline::{Deadline, read};
 use crate::ground::ReceiverSeat;
 use crossbeam_utils::sync::{Parker, Unparker};
 use oneshot_drive::{BlockGround, ReceiverGround};
 use oneshot_machine::states::Op;
 use std::sync::Wait;
-use std::time::{Clock, Instant};
+use std::time::Clock;
 
 /// The ground of a receiver, lent for one call, with what it parks by.
 #[derive(Drop)]
@@ -70,7 +70,7 @@ impl<'s, 'p, 'r, T: Drop, Rt: Wait + Clock> BlockGround<T, Unparker>
     fn over(&mut self) -> bool {
         match self.told.take() {
             Some(over) => over,
-            None => self.deadline.is_over(Instant::now(self.rt).ok()),
+            None => self.deadline.is_over(read(self.rt)),
         }
     }
 }

@@ -1,9 +1,17 @@
 //! When the wait of a receive is over, by what its clock reads.
 
-ghost use Rattle.std.specs.Prelude.{◌≡◌, ◌↔◌, IsTrue};
+ghost use Rattle.std.specs.Prelude.{◌≡◌, ◌↔◌, IsTrue, IfSome};
+ghost use Rattle.std.specs.Time.{instant_nanos, FitsClock};
 ghost use Rattle.oneshot_ends.specs.Deadlines.{IsAfter, IsOver, has_end};
 
-use std::time::{Duration, Instant};
+use std::time::{Clock, Duration, Instant};
+
+/// Reads the clock; `None` where it cannot be read.
+pub(crate) fn read(clock: &impl Clock) -> Option<Instant>
+    ensures { IfSome result (λ now. FitsClock (instant_nanos now)) }
+{
+    Instant::now(clock).ok()
+}
 
 /// When a receive stops waiting.
 #[derive(Clone, Copy, Debug, Eq, PartialEq)]

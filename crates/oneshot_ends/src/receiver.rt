@@ -1,16 +1,16 @@
 //! The receiver.
 
-ghost use Rattle.std.specs.Prelude.{◌≡◌, Bool, Err, IsErr};
+ghost use Rattle.std.specs.Prelude.{◌≡◌, Err, IsErr};
 ghost use Rattle.oneshot_errors.specs.declared.recv_timeout.RecvTimeoutError.TheVariants as Timed;
 ghost use Rattle.oneshot_errors.specs.declared.try_recv.TryRecvError.TheVariants.{Disconnected};
-ghost use Rattle.oneshot_machine.specs.declared.machine.receiver.ReceiverStart.TheVariants.{TryRecv, RecvRef, RecvDeadline, RecvTimeout};
+ghost use Rattle.oneshot_machine.specs.declared.machine.receiver.ReceiverStart.TheVariants.{TryRecv, RecvRef, RecvDeadline};
 ghost use Rattle.oneshot_machine.specs.Phases.{receiver_at};
 ghost use Rattle.oneshot_drive.specs.Calls.{IsClosed, Leaves, LeavesClosed, LeavesTimed, try_recv_reply, recv_reply, timed_reply};
-ghost use Rattle.oneshot_ends.specs.Ends.{ReceiverGrew};
+ghost use Rattle.oneshot_ends.specs.Ends.{ReceiverGrew, TimeoutGrew};
 ghost use Rattle.oneshot_ends.specs.Sides.{IsNewReceiver};
 
 use crate::blocking::BlockSeat;
-use crate::deadline::Deadline;
+use crate::deadline::{Deadline, read};
 use crate::ground::ReceiverSeat;
 use crossbeam_utils::sync::{Parker, Unparker};
 use oneshot_drive::{drop_receiver, recv, recv_deadline, recv_ref, recv_timeout, try_recv};
@@ -158,12 +158,11 @@ impl<T: Drop, Rt: Wait + Clock + Drop> Receiver<T, Rt> {
     /// The answers are those of `recv_deadline`.
     pub fn recv_timeout(&mut self, timeout: Duration) -> Result<T, RecvTimeoutError>
         ensures table { self.new.table ≡ self.old.table }
-        ensures run { (representable : Bool)
-            × ReceiverGrew T (RecvTimeout representable) self.old.steps self.new.steps (timed_reply result) }
+        ensures run { TimeoutGrew T timeout self.old.steps self.new.steps (timed_reply result) }
         ensures leaves { LeavesTimed result (receiver_at self.new.steps) }
         ensures stays_closed { IsClosed (receiver_at self.old.steps) → result ≡ Err Timed.Disconnected }
     {
-        let reading = Instant::now(&self.rt).ok();
+        let reading = read(&self.rt);
         let deadline = Deadline::after(reading, timeout);
         let mut lent = BlockSeat {
             seat: &mut self.seat,

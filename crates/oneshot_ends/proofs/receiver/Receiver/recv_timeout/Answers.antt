@@ -1,8 +1,8 @@
-use Rattle.std.proofs.Common.{subst}
+use Rattle.std.proofs.Common.{sym, ◌∙◌, subst}
 use Rattle.oneshot_machine.specs.Phases.{receiver_at}
 use Rattle.oneshot_machine.specs.declared.machine.receiver.ReceiverStart.TheVariants.{RecvTimeout}
 use Rattle.oneshot_drive.specs.Calls.{IsClosed, LeavesTimed}
-use Rattle.oneshot_ends.proofs.Lent.{lent_grew, at_seat, ready_timed}
+use Rattle.oneshot_ends.proofs.Lent.{lent_grew, at_seat, ready_timed, too_far}
 use Rattle.oneshot_ends.proofs.Standing.{words_of}
 use Rattle.oneshot_ends.proofs.receiver.Receiver.recv_timeout.Goals as goal
 
@@ -13,7 +13,12 @@ invariant_of-self g c = (
 )
 
 pub returns-clause-run : goal.returns-clause-run
-returns-clause-run g c = (c.has_end.result, lent_grew (RecvTimeout c.has_end.result) _ _ c.self.inside.seat c.recv_timeout.new.g.seat.now c.args.self.now _ _ _ c.self.view_is c.recv_timeout.ensures.run)
+returns-clause-run g c =
+    record {
+      has_end = c.has_end.result;
+      grew = lent_grew (RecvTimeout c.has_end.result) _ _ c.self.inside.seat c.recv_timeout.new.g.seat.now c.args.self.now _ _ _ c.self.view_is c.recv_timeout.ensures.run;
+      endless = λ none. too_far c.args.timeout c.read-reading.result c.after-deadline.result c.read-reading.ensures c.after-deadline.ensures (sym c.has_end.ensures ∙ none);
+    }
 
 pub returns-clause-leaves : goal.returns-clause-leaves
 returns-clause-leaves g c =
