@@ -98,16 +98,14 @@ fn a_clock_that_fails_counts_as_past_the_deadline(rt: HostRuntime) -> Result<(),
 
 #[test]
 fn a_timeout_counts_from_one_reading(rt: HostRuntime) -> Result<(), Fail> {
-    // The sum is six: seven is past it. A failed reading for the sum, or after it, counts as past it.
-    let readings: [&[u64]; 3] = [&[1, 7], &[], &[1]];
-    for written in readings {
+    // The sum is six: seven is past it, and eight is not read. A reading that fails counts as past it.
+    let readings: [(&[u64], usize); 3] = [(&[1, 7, 8], 1), (&[], 0), (&[1], 0)];
+    for (written, left) in readings {
         let clock = Written::new(&rt, written);
         let (_sender, mut receiver) = by_clock(&clock, rt.alloc())?;
-        assert_eq!(rt;
-            receiver.recv_timeout(Duration::from_millis(5)),
-            Err(RecvTimeoutError::Timeout)
-        );
-        assert_eq!(rt; clock.left(), 0);
+        let received = receiver.recv_timeout(Duration::from_millis(5));
+        assert_eq!(rt; received, Err(RecvTimeoutError::Timeout));
+        assert_eq!(rt; clock.left(), left);
     }
     Ok(())
 }
