@@ -1,10 +1,10 @@
 //! A receiver's ground in memory.
 
-ghost use Rattle.std.specs.Prelude.{◌≡◌, map, Some, None};
+ghost use Rattle.std.specs.Prelude.{◌≡◌, true, map, Some, None};
 ghost use Rattle.oneshot_machine.specs.Logs.{receiver_of};
 ghost use Rattle.oneshot_drive.specs.Calls.{AtRest};
 ghost use Rattle.oneshot_drive.specs.declared.memory.receiver.Act.TheVariants.{Send, Drop};
-ghost use Rattle.oneshot_drive.specs.Memory.{event_of, keeps_message, keeps_waker, word_by, word_left, message_left, lies};
+ghost use Rattle.oneshot_drive.specs.Memory.{event_of, keeps_message, keeps_waker, is_open, word_by, word_left, message_left, lies};
 
 use crate::ground::{BlockGround, ReceiverGround};
 use crate::memory::{Event, record, sight};
@@ -105,18 +105,18 @@ impl<'a, T, W, R: Wait> MemoryReceiver<'a, T, W, R> {
 impl<'a, T: Drop, W: Drop, R: Wait> MemoryReceiver<'a, T, W, R> {
     /// The sender sends, if both ends are still here.
     pub fn sender_sends(&mut self, message: T)
-        ensures { self.new ≡ record self.old { word = word_by 4 self.old.word } }
+        ensures { self.new ≡ record self.old { word = word_by 4 self.old.word self.old.message } }
     {
-        if self.word == EMPTY {
+        if self.is_open() {
             self.act(Act::Send(message));
         }
     }
 
     /// The sender is dropped, if both ends are still here.
     pub fn sender_drops(&mut self)
-        ensures { self.new ≡ record self.old { word = word_by 2 self.old.word } }
+        ensures { self.new ≡ record self.old { word = word_by 2 self.old.word self.old.message } }
     {
-        if self.word == EMPTY {
+        if self.is_open() {
             self.act(Act::Drop);
         }
     }
@@ -173,7 +173,8 @@ impl<'a, T: Drop, W: Drop, R: Wait> MemoryReceiver<'a, T, W, R> {
     fn begin(&mut self, act: Act<T>) -> bool
         ensures { self.new ≡ record self.old { word = self.new.word; plan = self.new.plan } }
     {
-        if self.lingers == 0 || self.word != RECEIVING {
+        let waits = self.word == RECEIVING && is_waiting(self.owns_waker, &self.waker);
+        if !waits || self.lingers == 0 {
             return self.act(act);
         }
         self.word = UNPARKING;
@@ -183,23 +184,29 @@ impl<'a, T: Drop, W: Drop, R: Wait> MemoryReceiver<'a, T, W, R> {
         false
     }
 
-    // The sender acts, if both ends are still here: whether it woke the receiver.
+    // The sender acts, if both ends are here or the receiver waits: whether it woke the receiver.
     fn act(&mut self, act: Act<T>) -> bool
         ensures keeps { self.new ≡ record self.old { word = self.new.word } }
-        ensures leaves { self.old.word ≡ 3 → self.new.word ≡ word_left act }
+        ensures leaves { is_open self.old.word self.old.message ≡ true → self.new.word ≡ word_left act }
     {
+        let woke = is_waiting(self.owns_waker, &self.waker);
+        if !woke && !self.is_open() {
+            return false;
+        }
         let (word, message) = act.left();
-        if is_waiting(self.owns_waker, &self.waker) {
-            self.word = word;
-            self.message = message;
+        self.word = word;
+        self.message = message;
+        if woke {
             self.waker = None;
-            return true;
         }
-        if self.word == EMPTY {
-            self.word = word;
-            self.message = message;
-        }
-        false
+        woke
+    }
+
+    // Whether both ends are here.
+    fn is_open(&self) -> bool
+        ensures { result ≡ is_open self.now.word self.now.message }
+    {
+        self.word == EMPTY && !self.owns_message
     }
 }
 
