@@ -1,6 +1,6 @@
 -- How a receiver's ground in memory stands after each of its steps, and after its sender's.
-use Rattle.std.proofs.Common.{◌≡◌, ℕ, ◌≤◌, lit≤, Bool, true, false, List, [], ◌∷◌, ◌++◌, Option, Some, None, refl, sym, ap, subst}
-use Rattle.std.specs.Prelude.{is_some}
+use Rattle.std.proofs.Common.{◌≡◌, ℕ, ◌≤◌, lit≤, Bool, true, false, rules, List, [], ◌∷◌, ◌++◌, Option, Some, None, refl, sym, ap, subst}
+use Rattle.std.specs.Prelude.{not, ◌&&◌, ◌==◌}
 use Rattle.oneshot_machine.specs.declared.states.Op.{Op}
 use Rattle.oneshot_machine.specs.Logs.{Grows, words, receiver_of, worded}
 use Rattle.oneshot_machine.specs.Phases.{Open, looked, between, blocked, overdue, at_once, waited, found_closed, closed_itself, ReceiverAt, receiver_next, receiver_at}
@@ -21,13 +21,13 @@ module _ {T W : Type 0} where
   receiver_stays xs ys e {word} {own_message} {own_waker} {cell} {waker} is none = subst (λ q. ReceiverStands q word own_message own_waker cell waker) (ap receiver_at (sym (words_same xs ys e is none)))
 
   -- an operation: its word is a code, it finds what it may, and the ground stands on
-  pub record ReceiverWord (q : ReceiverAt) (op : Op) (word : ℕ) (cell : Option T) (waker : Option W) (m : Held T) (w : Held W) : Type 0 where
+  pub record ReceiverWord (q : ReceiverAt) (op : Op) (word : ℕ) (own_waker : Bool) (cell : Option T) (waker : Option W) (m : Held T) (w : Held W) : Type 0 where
     pub code : word ≤ 4
-    pub finds : ReceiverFinds q op word m w (slot_of (keeps_message op word) cell) (slot_of (keeps_waker op word) waker)
-    pub stands : ReceiverStands (receiver_next q op (saw op word)) (word_after op word) (keeps_message op word) (keeps_waker op word) cell waker
+    pub finds : ReceiverFinds q op word m w (slot_of (keeps_message op word) cell) (slot_of (keeps_waker op word (lies own_waker waker)) waker)
+    pub stands : ReceiverStands (receiver_next q op (saw op word)) (word_after op word) (keeps_message op word) (keeps_waker op word (lies own_waker waker)) cell waker
 
   -- of a receiver that has both slots
-  owned_word : {q : ReceiverAt} {op : Op} (word : ℕ) (cell : Option T) (waker : Option W) → ReceiverOwns q word → ReceiverMay q op (slot_of true cell) (slot_of true waker) → ReceiverWord q op word cell waker (slot_of true cell) (slot_of true waker)
+  owned_word : {q : ReceiverAt} {op : Op} (word : ℕ) (cell : Option T) (waker : Option W) → ReceiverOwns q word → ReceiverMay q op (slot_of true cell) (slot_of true waker) → ReceiverWord q op word true cell waker (slot_of true cell) (slot_of true waker)
   owned_word _ (Some x) None (found_it g) (may_close _ _ _) = record { code = lit≤ tt; finds = close g 4 x; stands = owns (Some x) None (closed closed_itself) }
   owned_word _ (Some x) None swapped_it (may_close _ _ _) = record { code = lit≤ tt; finds = close waited 0 x; stands = owns (Some x) None (closed closed_itself) }
   owned_word _ None None swapped_end (may_close_only _) = record { code = lit≤ tt; finds = close_only 0; stands = owns None None (closed closed_itself) }
@@ -68,7 +68,7 @@ module _ {T W : Type 0} where
   freed_word (closed c) may = elim may [ ]
   freed_word dropped may = elim may [ ]
 
-  pub receiver_word : {q : ReceiverAt} {op : Op} (word : ℕ) {own_message own_waker : Bool} (cell : Option T) (waker : Option W) → ReceiverStands q word own_message own_waker cell waker → ReceiverMay q op (slot_of own_message cell) (slot_of own_waker waker) → ReceiverWord q op word cell waker (slot_of own_message cell) (slot_of own_waker waker)
+  pub receiver_word : {q : ReceiverAt} {op : Op} (word : ℕ) {own_message own_waker : Bool} (cell : Option T) (waker : Option W) → ReceiverStands q word own_message own_waker cell waker → ReceiverMay q op (slot_of own_message cell) (slot_of own_waker waker) → ReceiverWord q op word own_waker cell waker (slot_of own_message cell) (slot_of own_waker waker)
   receiver_word _ _ _ new_open may_load_first = record { code = lit≤ tt; finds = first_empty; stands = looked_open looked None }
   receiver_word _ _ _ new_open may_drop_first = record { code = lit≤ tt; finds = drop_first_empty; stands = went }
   receiver_word _ _ _ (new_sent x) may_load_first = record { code = lit≤ tt; finds = first_message x; stands = owns (Some x) None (found_it at_once) }
@@ -102,9 +102,9 @@ module _ {T W : Type 0} where
   receiver_word word _ _ (freed _ _ _ has) may = absurd (freed_word has may)
   receiver_word _ _ _ went may = elim may [ ]
 
-  pub receiver_worded : (xs ys : List (Event T W)) (op : Op) (word left : ℕ) (own_message own_waker : Bool) {cell : Option T} {waker : Option W} {m : Held T} {w : Held W} → Grows (logged xs) (logged ys) (worded op word ∷ []) → ReceiverWord (receiver_of (logged xs)) op word cell waker m w → left ≡ word_after op word → own_message ≡ keeps_message op word → own_waker ≡ keeps_waker op word
+  pub receiver_worded : (xs ys : List (Event T W)) (op : Op) (word left : ℕ) (was own_message own_waker : Bool) {cell : Option T} {waker : Option W} {m : Held T} {w : Held W} → Grows (logged xs) (logged ys) (worded op word ∷ []) → ReceiverWord (receiver_of (logged xs)) op word was cell waker m w → left ≡ word_after op word → own_message ≡ keeps_message op word → own_waker ≡ keeps_waker op word (lies was waker)
       → ReceiverStands (receiver_of (logged ys)) left own_message own_waker cell waker
-  receiver_worded xs ys op word left own_message own_waker grows found is keeps keeps_too = rw (receiver_moved op word grows, is, keeps, keeps_too) found.stands
+  receiver_worded xs ys op word left was own_message own_waker grows found is keeps keeps_too = rw (receiver_moved op word grows, is, keeps, keeps_too) found.stands
 
 -- what is taken out of the message's slot, or dropped there, leaves it empty
 pub receiver_emptied : {T W : Type 0} {q : ReceiverAt} {word : ℕ} {own_message own_waker : Bool} {cell : Option T} {waker : Option W} (x : T) → ReceiverStands q word own_message own_waker cell waker → slot_of own_message cell ≡ held x → ReceiverStands {T = T} q word own_message own_waker None waker
@@ -175,8 +175,19 @@ slot_held true cell x e = refl
 slot_held false cell x e = absurd (cc)
 
 -- whether both ends are here, by the ground's own fields
-pub open_by : {X : Type 0} (word : ℕ) (own : Bool) (cell : Option X) → (word == 3) && not own ≡ is_open word (slot_of own cell)
-open_by word own cell = ?
+pub open_by : {X : Type 0} (word : ℕ) (own : Bool) (cell : Option X) → ((word == 3) && not own) ≡ is_open word (slot_of own cell)
+open_by word false cell = search rules
+open_by word true None = search rules
+open_by word true (Some x) = search rules
+
+pub record IsOpen (word : ℕ) (own : Bool) : Type 0 where
+  pub word_3 : word ≡ 3
+  pub away : own ≡ false
+
+pub is_open_by : {X : Type 0} (word : ℕ) (own : Bool) (cell : Option X) → is_open word (slot_of own cell) ≡ true → IsOpen word own
+is_open_by word false cell e = record { word_3 = search rules; away = refl }
+is_open_by word true None e = absurd (cc)
+is_open_by word true (Some x) e = absurd (cc)
 
 -- the sender acts there, unless a waker lies in the cell
 pub left_open : {T W : Type 0} {q : ReceiverAt} {word : ℕ} {own_message own_waker : Bool} {cell : Option T} {waker : Option W} (act : Act T) → ReceiverStands q word own_message own_waker cell waker → word ≡ 3 → own_message ≡ false → lies own_waker waker ≡ false → ReceiverStands q (word_left act) own_message own_waker (message_left act) waker

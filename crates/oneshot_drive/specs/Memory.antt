@@ -125,11 +125,16 @@ abbrev pub keeps_message : Op → ℕ → Bool
 keeps_message (Store new) word = true
 keeps_message _ word = (word == 4) || (word == 2)
 
--- whether the waker's is
-abbrev pub keeps_waker : Op → ℕ → Bool
-keeps_waker (Swap new) word = not (word == 3)
-keeps_waker Load word = not (word == 0)
-keeps_waker _ word = true
+-- the waker of a receiver that waits lies in its cell, and the cell is not the receiver's
+abbrev pub lies : {W : Type 0} → Bool → Option W → Bool
+lies false (Some k) = true
+lies _ _ = false
+
+-- whether the waker's slot is the receiver's after it, where the waker of one that waits lies there, or not
+abbrev pub keeps_waker : Op → ℕ → Bool → Bool
+keeps_waker (Swap new) word lying = not ((word == 3) || (word == 1))
+keeps_waker Load word lying = not lying
+keeps_waker _ word lying = true
 
 -- whether both ends are here, by the word and the message's slot
 abbrev pub is_open : {T : Type 0} → ℕ → Held T → Bool
@@ -148,8 +153,3 @@ word_left A.Drop = 2
 abbrev pub message_left : {T : Type 0} → Act T → Option T
 message_left (A.Send x) = Some x
 message_left A.Drop = None
-
--- the waker of a receiver that waits lies in its cell, and the cell is not the receiver's
-abbrev pub lies : {W : Type 0} → Bool → Option W → Bool
-lies false (Some k) = true
-lies _ _ = false

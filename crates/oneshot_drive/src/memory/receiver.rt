@@ -189,17 +189,18 @@ impl<'a, T: Drop, W: Drop, R: Wait> MemoryReceiver<'a, T, W, R> {
         ensures keeps { self.new ≡ record self.old { word = self.new.word } }
         ensures leaves { is_open self.old.word self.old.message ≡ true → self.new.word ≡ word_left act }
     {
-        let woke = is_waiting(self.owns_waker, &self.waker);
-        if !woke && !self.is_open() {
-            return false;
-        }
         let (word, message) = act.left();
-        self.word = word;
-        self.message = message;
-        if woke {
+        if is_waiting(self.owns_waker, &self.waker) {
+            self.word = word;
+            self.message = message;
             self.waker = None;
+            return true;
         }
-        woke
+        if self.is_open() {
+            self.word = word;
+            self.message = message;
+        }
+        false
     }
 
     // Whether both ends are here.
@@ -221,7 +222,7 @@ impl<'a, T: Drop, W: Drop, R: Wait> ReceiverGround<T, W> for MemoryReceiver<'a, 
         let before = self.word;
         self.word = op.after(before);
         self.owns_message = has_message(op, before);
-        self.owns_waker = has_waker(op, before);
+        self.owns_waker = has_waker(op, before, is_waiting(self.owns_waker, &self.waker));
         let event = Event::of(Step::Word(op), sight(op, before));
         record(self.rt, &mut self.events, event);
         before
@@ -280,9 +281,7 @@ impl<'a, T: Drop, W: Drop, R: Wait> BlockGround<T, W> for MemoryReceiver<'a, T, 
 
     fn over(&mut self) -> bool {
         let over = self.reads == 0;
-        if !over {
-            self.reads -= 1;
-        }
+        self.reads = self.reads.saturating_sub(1);
         let event = Event::of(Step::Clock, Seen::Over(over));
         record(self.rt, &mut self.events, event);
         over
@@ -306,13 +305,14 @@ fn has_message(op: Op, found: u8) -> bool
     }
 }
 
-// Whether the waker's slot is the receiver's after an operation that found this word.
-fn has_waker(op: Op, found: u8) -> bool
-    ensures { result ≡ keeps_waker op found }
+// Whether the waker's slot is the receiver's after an operation that found this word, where the receiver
+// waits or not.
+fn has_waker(op: Op, found: u8, waits: bool) -> bool
+    ensures { result ≡ keeps_waker op found waits }
 {
     match op {
-        Op::Swap(_) => found != EMPTY,
-        Op::Load => found != RECEIVING,
+        Op::Swap(_) => found != EMPTY && found != UNPARKING,
+        Op::Load => !waits,
         _ => true,
     }
 }
