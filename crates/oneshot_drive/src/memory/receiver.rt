@@ -39,9 +39,10 @@ impl<T> Act<T> {
 
 /// A receiver's ground, whose sender acts where it is told to: at once, or in a pause of the receiver.
 ///
-/// The receiver makes a pause when it has written its waker, and in each park. A park ends by its token
-/// if the sender woke the receiver in it, and without one if not; where the sender never acts, a call
-/// that blocks waits for ever. The deadline is over at once, unless a test puts it off.
+/// The receiver makes a pause when it has written its waker, in each park, and at each look at its
+/// clock. A park ends by its token if the sender woke the receiver by then, and without one if not;
+/// where the sender never acts, a call that blocks waits for ever, or until its deadline. That is over
+/// at once, unless a test puts it off.
 #[derive(Drop)]
 pub struct MemoryReceiver<'a, T, W, R: Wait> {
     events: Vec<Event<T, W>>,
@@ -54,6 +55,7 @@ pub struct MemoryReceiver<'a, T, W, R: Wait> {
     pauses: u64,
     lingers: u64,
     reads: u64,
+    token: bool,
     rt: &'a R,
 }
 
@@ -90,6 +92,7 @@ impl<'a, T, W, R: Wait> MemoryReceiver<'a, T, W, R> {
             pauses: 0,
             lingers: 0,
             reads: 0,
+            token: false,
             rt,
         }
     }
@@ -122,10 +125,11 @@ impl<'a, T: Drop, W: Drop, R: Wait> MemoryReceiver<'a, T, W, R> {
     }
 
     /// The sender is to send this message in a pause of the receiver, once so many pauses are over: with
-    /// 0 before the receiver waits, with 1 in its first park.
+    /// 0 before the receiver waits, with 1 in its first park or at its first look at the clock after.
     pub fn sender_will_send(&mut self, pauses: u64, message: T)
         ensures { self.new ≡ record self.old {
-            plan = record self.old.plan { act = Some (Send message); pauses = pauses } } }
+          plan = record self.old.plan { act = Some (Send message); pauses = pauses };
+        } }
     {
         self.act = Some(Act::Send(message));
         self.pauses = pauses;
@@ -134,7 +138,8 @@ impl<'a, T: Drop, W: Drop, R: Wait> MemoryReceiver<'a, T, W, R> {
     /// The sender is to be dropped in a pause of the receiver, once so many pauses are over.
     pub fn sender_will_drop(&mut self, pauses: u64)
         ensures { self.new ≡ record self.old {
-            plan = record self.old.plan { act = Some Drop; pauses = pauses } } }
+          plan = record self.old.plan { act = Some Drop; pauses = pauses };
+        } }
     {
         self.act = Some(Act::Drop);
         self.pauses = pauses;
@@ -155,17 +160,16 @@ impl<'a, T: Drop, W: Drop, R: Wait> MemoryReceiver<'a, T, W, R> {
         self.reads = reads;
     }
 
-    // A pause: whether the sender woke the receiver in it.
-    fn pause(&mut self) -> bool
+    // A pause, in which the sender may act, and wake the receiver.
+    fn pause(&mut self)
         ensures { self.new ≡ record self.old { word = self.new.word; plan = self.new.plan } }
     {
         if self.pauses > 0 {
             self.pauses -= 1;
-            return false;
+            return;
         }
-        match self.act.take() {
-            Some(act) => self.begin(act),
-            None => false,
+        if let Some(act) = self.act.take() {
+            self.token = self.begin(act);
         }
     }
 
@@ -274,12 +278,15 @@ impl<'a, T: Drop, W: Drop, R: Wait> ReceiverGround<T, W> for MemoryReceiver<'a, 
 
 impl<'a, T: Drop, W: Drop, R: Wait> BlockGround<T, W> for MemoryReceiver<'a, T, W, R> {
     fn park(&mut self, _timed: bool) {
-        let woken = self.pause();
+        self.pause();
+        let woken = self.token;
+        self.token = false;
         let event = Event::of(Step::Park, Seen::Token(woken));
         record(self.rt, &mut self.events, event);
     }
 
     fn over(&mut self) -> bool {
+        self.pause();
         let over = self.reads == 0;
         self.reads = self.reads.saturating_sub(1);
         let event = Event::of(Step::Clock, Seen::Over(over));
