@@ -18,7 +18,7 @@ module _ {T W : Type 0} where
   -- `try_recv`
   pub load_asks : {q : ReceiverAt} {m : Held T} {w : Held W} → AtRest q m w → ReceiverMay q Load m w
   load_asks rests_new = may_load_first
-  load_asks rests_open = may_load
+  load_asks (rests_open o) = may_load o
   load_asks (rests_closed c) = may_load_closed c
 
   -- what its load found, with how far the receiver is then and its slots
@@ -31,9 +31,9 @@ module _ {T W : Type 0} where
   loads _ rests_new first_empty = loaded_empty
   loads _ rests_new (first_message x) = loaded_message x
   loads _ rests_new first_closed = loaded_closed found_closed
-  loads _ rests_open load_empty = loaded_empty
-  loads _ rests_open (load_message x) = loaded_message x
-  loads _ rests_open load_closed = loaded_closed found_closed
+  loads _ (rests_open _) (load_empty _) = loaded_empty
+  loads _ (rests_open _) (load_message _ x) = loaded_message x
+  loads _ (rests_open _) (load_closed _) = loaded_closed found_closed
   loads _ (rests_closed c) (load_over _) = loaded_closed c
 
   pub loaded : {l k : Log T W} {m m' : Held T} {w w' : Held W} (n : ℕ) → AtRest (receiver_of l) m w → ReceiverFinds (receiver_of l) Load n m w m' w' → Grows l k (worded Load n ∷ []) → Loaded n (receiver_of k) m' w'
@@ -92,7 +92,7 @@ module _ {T W : Type 0} where
 
   pub none_rests : {n : ℕ} {q : ReceiverAt} {m : Held T} {w : Held W} → Loaded n q m w → ¬ (n ≡ 4) → AtRest q m w
   none_rests (loaded_message x) a = absurd (a refl)
-  none_rests loaded_empty a = rests_open
+  none_rests loaded_empty a = rests_open looked
   none_rests (loaded_closed c) a = rests_closed c
 
   pub empty_leaves : {n : ℕ} {q : ReceiverAt} {m : Held T} {w : Held W} → Loaded n q m w → n ≡ 3 → Leaves {T = T} (Err E.Empty) q
@@ -112,7 +112,7 @@ module _ {T W : Type 0} where
   -- the drop
   pub swap_asks : {q : ReceiverAt} {m : Held T} {w : Held W} → AtRest q m w → ReceiverMay q (Swap 2) m w
   swap_asks rests_new = may_drop_first
-  swap_asks rests_open = may_drop
+  swap_asks (rests_open o) = may_drop o
   swap_asks (rests_closed c) = may_drop_closed c
 
   -- what its swap found, with the slots then
@@ -125,9 +125,9 @@ module _ {T W : Type 0} where
   swaps _ rests_new drop_first_empty = swapped_empty
   swaps _ rests_new (drop_first_message x) = swapped_message x
   swaps _ rests_new drop_first_closed = swapped_closed
-  swaps _ rests_open drop_empty = swapped_empty
-  swaps _ rests_open (drop_message x) = swapped_message x
-  swaps _ rests_open drop_closed = swapped_closed
+  swaps _ (rests_open _) (drop_empty _) = swapped_empty
+  swaps _ (rests_open _) (drop_message _ x) = swapped_message x
+  swaps _ (rests_open _) (drop_closed _) = swapped_closed
   swaps _ (rests_closed c) (drop_over _) = swapped_closed
 
   pub swap_holds : {n : ℕ} {m : Held T} {w : Held W} → Swapped n m w → n ≡ 4 → (x : T) × (m ≡ held x)

@@ -1,5 +1,5 @@
 -- What each call of the sender owes its ground, and that what it makes is a run.
-use Rattle.std.proofs.Common.{◌≡◌, ℕ, [], ◌∷◌, refl, sym, ap, ◌∙◌, subst}
+use Rattle.std.proofs.Common.{◌≡◌, ℕ, [], ◌∷◌, Some, refl, sym, ap, ◌∙◌, subst}
 use Rattle.oneshot_machine.specs.declared.machine.Reply.TheVariants as R
 use Rattle.oneshot_machine.specs.declared.machine.Seen.TheVariants as S
 use Rattle.oneshot_machine.specs.declared.machine.Step.TheVariants.{DropMessage, TakeWaker, Wake, Free}
@@ -9,10 +9,21 @@ use Rattle.oneshot_machine.specs.declared.states.Op.{Op}
 use Rattle.oneshot_machine.specs.declared.states.Op.TheVariants.{Swap, Add, Xor}
 use Rattle.oneshot_machine.specs.Logs.{Log, Grows, sender_of, did, wrote, took, handed, worded}
 use Rattle.oneshot_machine.specs.Phases.{sending, SenderAt, fresh, sender_next, sender_at}
+use Rattle.oneshot_machine.specs.Rows.{Goes}
 use Rattle.oneshot_machine.specs.Runs.{last, more, SenderRan}
-use Rattle.oneshot_machine.specs.Slots.{Held, away, vacant, held, SenderMay, may_add, may_flip, may_finish_send, may_finish_drop, SenderFinds, add_empty, add_waker, add_gone, flip_empty, flip_waker, flip_gone, finish_send, finish_drop}
+use Rattle.oneshot_machine.specs.Sender.{sender_row}
+use Rattle.oneshot_machine.specs.Slots.{Held, away, vacant, held, SenderMay, may_add, may_flip, may_finish_send, may_finish_drop, SenderFinds, add_empty, add_waker, add_gone, flip_empty, flip_waker, flip_gone, finish_send, finish_drop, finish_late_send, finish_late_drop}
 use Rattle.oneshot_machine.proofs.GrownLists.{words_stay, sender_moved, and_then}
-use Rattle.oneshot_drive.specs.Calls.{IsFresh, IsError, IsLate, is_late, Owes, owes_message, owes_end, finishing}
+use Rattle.oneshot_drive.specs.Calls.{IsFresh, IsError, IsLate, is_late, Owes, owes_message, owes_end, finishing, LastFinds, finds_waiting, finds_overdue, Finishes}
+
+-- after its last operation a sender wakes
+send_final : {n : ℕ} → LastFinds n → sender_row SendFinal (S.Word n) ≡ Some (Goes SendWake)
+send_final finds_waiting = refl
+send_final finds_overdue = refl
+
+drop_final : {n : ℕ} → LastFinds n → sender_row DropFinal (S.Word n) ≡ Some (Goes DropWake)
+drop_final finds_waiting = refl
+drop_final finds_overdue = refl
 
 module _ {T W : Type 0} where
   -- a sender that has made no operation, with its slots so
@@ -62,12 +73,12 @@ module _ {T W : Type 0} where
   pub send_refused : {l k j : Log T W} {x : T} (n : ℕ) → n ≡ 2 → Grows l k (wrote x ∷ []) → Grows k j (worded Add n ∷ []) → SenderRan Send l j R.Refused (x ∷ []) []
   send_refused {x} n e s t = record { run = wrote x ∷ worded Add n ∷ []; is_run = more SendAdd _ _ refl refl (last _ refl (rw e)); grows = and_then _ _ s t; gives = refl; gets = refl }
 
-  pub send_woke : {l k j z : Log T W} {x : T} (n : ℕ) (y : W) → n ≡ 0 → Grows l k (wrote x ∷ []) → Grows k j (worded Add n ∷ []) → Grows j z (finishing 4 y) → SenderRan Send l z R.Sent (x ∷ []) []
-  send_woke {x} n y e s t u =
+  pub send_woke : {l k j z : Log T W} {x : T} (n : ℕ) → n ≡ 0 → Grows l k (wrote x ∷ []) → Grows k j (worded Add n ∷ []) → Finishes 4 j z → SenderRan Send l z R.Sent (x ∷ []) []
+  send_woke {x} n e s t f =
       record {
-        run = wrote x ∷ worded Add n ∷ finishing 4 y;
-        is_run = more SendAdd _ _ refl refl (more SendTakeWaker _ _ refl (rw e) (more SendFinal _ _ refl refl (more SendWake _ _ refl refl (last _ refl refl))));
-        grows = and_then (wrote x ∷ []) _ s (and_then (worded Add n ∷ []) _ t u);
+        run = wrote x ∷ worded Add n ∷ finishing 4 f.found f.waker;
+        is_run = more SendAdd _ _ refl refl (more SendTakeWaker _ _ refl (rw e) (more SendFinal _ _ refl refl (more SendWake _ _ refl (send_final f.finds) (last _ refl refl))));
+        grows = and_then (wrote x ∷ []) _ s (and_then (worded Add n ∷ []) _ t f.grows);
         gives = refl;
         gets = refl;
       }
@@ -112,12 +123,12 @@ module _ {T W : Type 0} where
   pub drop_ran : {l k : Log T W} (n : ℕ) → n ≡ 3 → Grows l k (worded Xor n ∷ []) → SenderRan Drop l k R.Done [] []
   drop_ran n e s = record { run = worded Xor n ∷ []; is_run = last _ refl (rw e); grows = s; gives = refl; gets = refl }
 
-  pub drop_woke : {l k j : Log T W} (n : ℕ) (y : W) → n ≡ 0 → Grows l k (worded Xor n ∷ []) → Grows k j (finishing 2 y) → SenderRan Drop l j R.Done [] []
-  drop_woke n y e s t =
+  pub drop_woke : {l k j : Log T W} (n : ℕ) → n ≡ 0 → Grows l k (worded Xor n ∷ []) → Finishes 2 k j → SenderRan Drop l j R.Done [] []
+  drop_woke n e s f =
       record {
-        run = worded Xor n ∷ finishing 2 y;
-        is_run = more DropTakeWaker _ _ refl (rw e) (more DropFinal _ _ refl refl (more DropWake _ _ refl refl (last _ refl refl)));
-        grows = and_then _ _ s t;
+        run = worded Xor n ∷ finishing 2 f.found f.waker;
+        is_run = more DropTakeWaker _ _ refl (rw e) (more DropFinal _ _ refl refl (more DropWake _ _ refl (drop_final f.finds) (last _ refl refl)));
+        grows = and_then _ _ s f.grows;
         gives = refl;
         gets = refl;
       }
@@ -140,14 +151,20 @@ module _ {T W : Type 0} where
   pub finish_asks : {l k : Log T W} {word : ℕ} {m m' : Held T} {w w' : Held W} (y : W) → Owes (sender_of l) word m w → Grows l k (handed TakeWaker y ∷ []) → m' ≡ m → w' ≡ vacant → SenderMay (sender_of k) (Swap word) m' w'
   finish_asks {word} y owes s message waker = subst (λ (z : SenderAt × Held T × Held W). SenderMay z.0 (Swap word) z.1 z.2) (λ i. (sym (took_waker y s) i, sym message i, sym waker i)) (owes_asks owes)
 
-  finds_1 : {p : SenderAt} {word : ℕ} {m m' : Held T} {w v w' : Held W} (n : ℕ) → Owes p word m w → SenderFinds p (Swap word) n m v m' w' → n ≡ 1
-  finds_1 _ (owes_message x k) (finish_send _) = refl
-  finds_1 _ (owes_end k) finish_drop = refl
+  last_finds : {p : SenderAt} {word : ℕ} {m m' : Held T} {w v w' : Held W} (n : ℕ) → Owes p word m w → SenderFinds p (Swap word) n m v m' w' → LastFinds n
+  last_finds _ (owes_message x k) (finish_send _) = finds_waiting
+  last_finds _ (owes_message x k) (finish_late_send _) = finds_overdue
+  last_finds _ (owes_end k) finish_drop = finds_waiting
+  last_finds _ (owes_end k) finish_late_drop = finds_overdue
 
-  pub finished_as : {l k j z : Log T W} (word n : ℕ) {m m' m'' : Held T} {w w' w'' : Held W} (y : W) → Owes (sender_of l) word m w → Grows l k (handed TakeWaker y ∷ []) → m' ≡ m → SenderFinds (sender_of k) (Swap word) n m' w' m'' w'' → Grows k j (worded (Swap word) n ∷ []) → Grows j z (handed Wake y ∷ []) → Grows l z (finishing word y)
+  pub finished_as : {l k j z : Log T W} (word n : ℕ) {m m' m'' : Held T} {w w' w'' : Held W} (y : W) → Owes (sender_of l) word m w → Grows l k (handed TakeWaker y ∷ []) → m' ≡ m → SenderFinds (sender_of k) (Swap word) n m' w' m'' w'' → Grows k j (worded (Swap word) n ∷ []) → Grows j z (handed Wake y ∷ []) → Finishes word l z
   finished_as word n {m''} {w'} {w''} y owes s message finds t u =
-      let is = finds_1 n owes (subst (λ (z : SenderAt × Held T). SenderFinds z.0 (Swap word) n z.1 w' m'' w'') (λ i. (took_waker y s i, message i)) finds) in
-      and_then (handed TakeWaker y ∷ []) _ s (and_then (worded (Swap word) 1 ∷ []) _ (rw is at t) u)
+      record {
+        found = n;
+        finds = last_finds n owes (subst (λ (z : SenderAt × Held T). SenderFinds z.0 (Swap word) n z.1 w' m'' w'') (λ i. (took_waker y s i, message i)) finds);
+        waker = y;
+        grows = and_then (handed TakeWaker y ∷ []) _ s (and_then (worded (Swap word) n ∷ []) _ t u);
+      }
 
   -- the error's calls
   pub into_ran : {l k j : Log T W} (x : T) → Grows l k (took x ∷ []) → Grows k j (did Free ∷ []) → SenderRan IntoInner l j R.Message [] (x ∷ [])

@@ -9,7 +9,7 @@ use Rattle.oneshot_machine.specs.declared.machine.Reply.{Reply}
 use Rattle.oneshot_machine.specs.declared.machine.Reply.TheVariants.{Sent, Refused, Message, Empty, Timeout, Disconnected}
 use Rattle.oneshot_machine.specs.declared.machine.Step.TheVariants.{TakeWaker, Wake}
 use Rattle.oneshot_machine.specs.declared.states.Op.TheVariants.{Swap}
-use Rattle.oneshot_machine.specs.Logs.{Event, Log, sender_of, handed, worded}
+use Rattle.oneshot_machine.specs.Logs.{Event, Log, Grows, sender_of, handed, worded}
 use Rattle.oneshot_machine.specs.Phases.{By, sending, dropping, SenderAt, fresh, owes, late, Closing, closed_itself, Open, looked, between, ReceiverAt, first, here, over}
 use Rattle.oneshot_machine.specs.Slots.{Held, away, vacant, held}
 
@@ -34,8 +34,20 @@ pub data Owes {T W : Type 0} : SenderAt → ℕ → Held T → Held W → Type 0
   owes_end : (k : W) → Owes (owes dropping) 2 vacant (held k)
 
 -- what it does then
-abbrev pub finishing : {T W : Type 0} → ℕ → W → List (Event T W)
-finishing last k = handed TakeWaker k ∷ worded (Swap last) 1 ∷ handed Wake k ∷ []
+abbrev pub finishing : {T W : Type 0} → ℕ → ℕ → W → List (Event T W)
+finishing last found k = handed TakeWaker k ∷ worded (Swap last) found ∷ handed Wake k ∷ []
+
+-- its last operation finds that the receiver waits, or that its deadline is over since
+pub data LastFinds : ℕ → Type 0 where
+  finds_waiting : LastFinds 1
+  finds_overdue : LastFinds 3
+
+-- Between the two logs it did so, and left this last word.
+pub record Finishes {T W : Type 0} (last : ℕ) (before after : Log T W) : Type 0 where
+  pub found : ℕ
+  pub finds : LastFinds found
+  pub waker : W
+  pub grows : Grows before after (finishing last found waker)
 
 -- a receiver between two calls
 pub data AtRest {T W : Type 0} : ReceiverAt → Held T → Held W → Type 0 where

@@ -115,7 +115,8 @@ pub data ReceiverStands {T W : Type 0} : ReceiverAt → ℕ → Bool → Bool �
   -- it has both slots, and freed them
   owns : {q : ReceiverAt} {word : ℕ} (message : Option T) (cell : Option W)
       → ReceiverOwns q word → ReceiverStands q word true true message cell
-  freed : {q : ReceiverAt} {word : ℕ} → ReceiverOwns q word → ReceiverStands q word false false None None
+  freed : {q : ReceiverAt} {was : ℕ} (word : ℕ) (message : Option T) (cell : Option W)
+      → ReceiverOwns q was → ReceiverStands q word false false message cell
   -- it was dropped first
   went : ReceiverStands gone 2 false false None None
 
@@ -124,15 +125,25 @@ abbrev pub keeps_message : Op → ℕ → Bool
 keeps_message (Store new) word = true
 keeps_message _ word = (word == 4) || (word == 2)
 
--- whether the waker's is
-abbrev pub keeps_waker : Op → ℕ → Bool
-keeps_waker (Swap new) word = not (word == 3)
-keeps_waker Load word = not (word == 0)
-keeps_waker _ word = true
+-- the waker of a receiver that waits lies in its cell, and the cell is not the receiver's
+abbrev pub lies : {W : Type 0} → Bool → Option W → Bool
+lies false (Some k) = true
+lies _ _ = false
 
--- the word after the other end's act, which it makes only where the word is 3
-abbrev pub word_by : ℕ → ℕ → ℕ
-word_by new word = if word == 3 then new else word
+-- whether the waker's slot is the receiver's after it, where the waker of one that waits lies there, or not
+abbrev pub keeps_waker : Op → ℕ → Bool → Bool
+keeps_waker (Swap new) word lying = not ((word == 3) || (word == 1))
+keeps_waker Load word lying = not lying
+keeps_waker _ word lying = true
+
+-- whether both ends are here, by the word and the message's slot
+abbrev pub is_open : {T : Type 0} → ℕ → Held T → Bool
+is_open word away = word == 3
+is_open word _ = false
+
+-- the word after the sender's act, which it makes only there
+abbrev pub word_by : {T : Type 0} → ℕ → ℕ → Held T → ℕ
+word_by new word message = if is_open word message then new else word
 
 -- the word and the message that a sender's act leaves
 abbrev pub word_left : {T : Type 0} → Act T → ℕ
@@ -142,8 +153,3 @@ word_left A.Drop = 2
 abbrev pub message_left : {T : Type 0} → Act T → Option T
 message_left (A.Send x) = Some x
 message_left A.Drop = None
-
--- the waker of a receiver that waits lies in its cell, and the cell is not the receiver's
-abbrev pub lies : {W : Type 0} → Bool → Option W → Bool
-lies false (Some k) = true
-lies _ _ = false

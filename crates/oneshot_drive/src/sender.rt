@@ -6,7 +6,7 @@ ghost use Rattle.oneshot_machine.specs.declared.machine.sender.SenderCall.TheVar
 ghost use Rattle.oneshot_machine.specs.Logs.{sender_of, Grows};
 ghost use Rattle.oneshot_machine.specs.Runs.{SenderRan};
 ghost use Rattle.oneshot_machine.specs.Slots.{held};
-ghost use Rattle.oneshot_drive.specs.Calls.{IsFresh, IsError, IsLate, Owes, finishing, send_reply};
+ghost use Rattle.oneshot_drive.specs.Calls.{IsFresh, IsError, IsLate, Owes, Finishes, send_reply};
 
 use crate::ground::SenderGround;
 use oneshot_machine::states::{DISCONNECTED, EMPTY, MESSAGE, Op, RECEIVING};
@@ -46,7 +46,7 @@ pub fn drop_sender<T, W, G: SenderGround<T, W>>(g: &mut G)
 // Leaves this last word to a receiver that waits, and wakes it.
 fn finish<T, W, G: SenderGround<T, W>>(g: &mut G, last: u8)
     requires { Owes (sender_of (G.log g.old)) last (G.message_slot g.old) (G.waker_slot g.old) }
-    ensures { (k : W) × Grows (G.log g.old) (G.log g.new) (finishing last k) }
+    ensures { Finishes last (G.log g.old) (G.log g.new) }
 {
     let waker = g.take_waker();
     g.word(Op::Swap(last));

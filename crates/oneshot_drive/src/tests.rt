@@ -1,5 +1,7 @@
 //! Each driver over the grounds in memory: its answer, and the steps that it makes.
 
+mod deadlines;
+
 use crate::memory::{Event, MemoryReceiver, MemorySender};
 use crate::{drop_error, drop_receiver, drop_sender, into_inner, recv, recv_ref, send, try_recv};
 use oneshot_errors::{RecvError, TryRecvError};
@@ -251,6 +253,31 @@ fn recv_ref_waits_for_the_message(rt: HostRuntime) {
     );
     assert_eq!(rt; recv_ref(&mut g, &rt, &mut hand), Err(RecvError));
     assert_eq!(rt; hand, None);
+}
+
+#[test]
+fn recv_ref_waits_for_a_sender_that_is_about_to_finish(rt: HostRuntime) {
+    let mut g = MemoryReceiver::<u64, u8, _>::new(&rt, rt.alloc());
+    let mut hand = Some(9);
+    g.sender_will_send(1, 7);
+    g.sender_will_linger(1);
+    assert_eq!(rt; recv_ref(&mut g, &rt, &mut hand), Ok(7));
+    assert_eq!(rt; hand, None);
+    assert_made(
+        &rt,
+        g.events(),
+        &[
+            (Step::Word(Op::Load), Seen::Word(3)),
+            (Step::WriteWaker, Seen::Done),
+            (Step::Word(Op::Swap(0)), Seen::Word(3)),
+            (Step::Park, Seen::Token(false)),
+            (Step::Word(Op::Load), Seen::Word(1)),
+            (Step::Park, Seen::Token(true)),
+            (Step::Word(Op::Load), Seen::Word(4)),
+            (Step::Word(Op::Store(2)), Seen::Done),
+            (Step::TakeMessage, Seen::Done),
+        ],
+    );
 }
 
 #[test]

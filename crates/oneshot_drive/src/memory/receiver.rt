@@ -1,10 +1,10 @@
 //! A receiver's ground in memory.
 
-ghost use Rattle.std.specs.Prelude.{◌≡◌, map, Some, None};
+ghost use Rattle.std.specs.Prelude.{◌≡◌, true, map, Some, None};
 ghost use Rattle.oneshot_machine.specs.Logs.{receiver_of};
 ghost use Rattle.oneshot_drive.specs.Calls.{AtRest};
 ghost use Rattle.oneshot_drive.specs.declared.memory.receiver.Act.TheVariants.{Send, Drop};
-ghost use Rattle.oneshot_drive.specs.Memory.{event_of, keeps_message, keeps_waker, word_by, word_left, message_left, lies};
+ghost use Rattle.oneshot_drive.specs.Memory.{event_of, keeps_message, keeps_waker, is_open, word_by, word_left, message_left, lies};
 
 use crate::ground::{BlockGround, ReceiverGround};
 use crate::memory::{Event, record, sight};
@@ -39,9 +39,10 @@ impl<T> Act<T> {
 
 /// A receiver's ground, whose sender acts where it is told to: at once, or in a pause of the receiver.
 ///
-/// The receiver makes a pause when it has written its waker, and in each park. A park ends by its token
-/// if the sender woke the receiver in it, and without one if not; where the sender never acts, a call
-/// that blocks waits for ever. The deadline is over at once, unless a test puts it off.
+/// The receiver makes a pause when it has written its waker, in each park, and at each look at its
+/// clock. A park ends by its token if the sender woke the receiver by then, and without one if not;
+/// where the sender never acts, a call that blocks waits for ever, or until its deadline. That is over
+/// at once, unless a test puts it off.
 #[derive(Drop)]
 pub struct MemoryReceiver<'a, T, W, R: Wait> {
     events: Vec<Event<T, W>>,
@@ -54,6 +55,7 @@ pub struct MemoryReceiver<'a, T, W, R: Wait> {
     pauses: u64,
     lingers: u64,
     reads: u64,
+    token: bool,
     rt: &'a R,
 }
 
@@ -90,6 +92,7 @@ impl<'a, T, W, R: Wait> MemoryReceiver<'a, T, W, R> {
             pauses: 0,
             lingers: 0,
             reads: 0,
+            token: false,
             rt,
         }
     }
@@ -105,27 +108,28 @@ impl<'a, T, W, R: Wait> MemoryReceiver<'a, T, W, R> {
 impl<'a, T: Drop, W: Drop, R: Wait> MemoryReceiver<'a, T, W, R> {
     /// The sender sends, if both ends are still here.
     pub fn sender_sends(&mut self, message: T)
-        ensures { self.new ≡ record self.old { word = word_by 4 self.old.word } }
+        ensures { self.new ≡ record self.old { word = word_by 4 self.old.word self.old.message } }
     {
-        if self.word == EMPTY {
+        if self.is_open() {
             self.act(Act::Send(message));
         }
     }
 
     /// The sender is dropped, if both ends are still here.
     pub fn sender_drops(&mut self)
-        ensures { self.new ≡ record self.old { word = word_by 2 self.old.word } }
+        ensures { self.new ≡ record self.old { word = word_by 2 self.old.word self.old.message } }
     {
-        if self.word == EMPTY {
+        if self.is_open() {
             self.act(Act::Drop);
         }
     }
 
     /// The sender is to send this message in a pause of the receiver, once so many pauses are over: with
-    /// 0 before the receiver waits, with 1 in its first park.
+    /// 0 before the receiver waits, with 1 in its first park or at its first look at the clock after.
     pub fn sender_will_send(&mut self, pauses: u64, message: T)
         ensures { self.new ≡ record self.old {
-            plan = record self.old.plan { act = Some (Send message); pauses = pauses } } }
+          plan = record self.old.plan { act = Some (Send message); pauses = pauses };
+        } }
     {
         self.act = Some(Act::Send(message));
         self.pauses = pauses;
@@ -134,7 +138,8 @@ impl<'a, T: Drop, W: Drop, R: Wait> MemoryReceiver<'a, T, W, R> {
     /// The sender is to be dropped in a pause of the receiver, once so many pauses are over.
     pub fn sender_will_drop(&mut self, pauses: u64)
         ensures { self.new ≡ record self.old {
-            plan = record self.old.plan { act = Some Drop; pauses = pauses } } }
+          plan = record self.old.plan { act = Some Drop; pauses = pauses };
+        } }
     {
         self.act = Some(Act::Drop);
         self.pauses = pauses;
@@ -155,17 +160,16 @@ impl<'a, T: Drop, W: Drop, R: Wait> MemoryReceiver<'a, T, W, R> {
         self.reads = reads;
     }
 
-    // A pause: whether the sender woke the receiver in it.
-    fn pause(&mut self) -> bool
+    // A pause, in which the sender may act, and wake the receiver.
+    fn pause(&mut self)
         ensures { self.new ≡ record self.old { word = self.new.word; plan = self.new.plan } }
     {
         if self.pauses > 0 {
             self.pauses -= 1;
-            return false;
+            return;
         }
-        match self.act.take() {
-            Some(act) => self.begin(act),
-            None => false,
+        if let Some(act) = self.act.take() {
+            self.token = self.begin(act);
         }
     }
 
@@ -173,7 +177,8 @@ impl<'a, T: Drop, W: Drop, R: Wait> MemoryReceiver<'a, T, W, R> {
     fn begin(&mut self, act: Act<T>) -> bool
         ensures { self.new ≡ record self.old { word = self.new.word; plan = self.new.plan } }
     {
-        if self.lingers == 0 || self.word != RECEIVING {
+        let waits = self.word == RECEIVING && is_waiting(self.owns_waker, &self.waker);
+        if !waits || self.lingers == 0 {
             return self.act(act);
         }
         self.word = UNPARKING;
@@ -183,10 +188,10 @@ impl<'a, T: Drop, W: Drop, R: Wait> MemoryReceiver<'a, T, W, R> {
         false
     }
 
-    // The sender acts, if both ends are still here: whether it woke the receiver.
+    // The sender acts, if both ends are here or the receiver waits: whether it woke the receiver.
     fn act(&mut self, act: Act<T>) -> bool
         ensures keeps { self.new ≡ record self.old { word = self.new.word } }
-        ensures leaves { self.old.word ≡ 3 → self.new.word ≡ word_left act }
+        ensures leaves { is_open self.old.word self.old.message ≡ true → self.new.word ≡ word_left act }
     {
         let (word, message) = act.left();
         if is_waiting(self.owns_waker, &self.waker) {
@@ -195,11 +200,18 @@ impl<'a, T: Drop, W: Drop, R: Wait> MemoryReceiver<'a, T, W, R> {
             self.waker = None;
             return true;
         }
-        if self.word == EMPTY {
+        if self.is_open() {
             self.word = word;
             self.message = message;
         }
         false
+    }
+
+    // Whether both ends are here.
+    fn is_open(&self) -> bool
+        ensures { result ≡ is_open self.now.word self.now.message }
+    {
+        self.word == EMPTY && !self.owns_message
     }
 }
 
@@ -214,7 +226,7 @@ impl<'a, T: Drop, W: Drop, R: Wait> ReceiverGround<T, W> for MemoryReceiver<'a, 
         let before = self.word;
         self.word = op.after(before);
         self.owns_message = has_message(op, before);
-        self.owns_waker = has_waker(op, before);
+        self.owns_waker = has_waker(op, before, is_waiting(self.owns_waker, &self.waker));
         let event = Event::of(Step::Word(op), sight(op, before));
         record(self.rt, &mut self.events, event);
         before
@@ -266,16 +278,17 @@ impl<'a, T: Drop, W: Drop, R: Wait> ReceiverGround<T, W> for MemoryReceiver<'a, 
 
 impl<'a, T: Drop, W: Drop, R: Wait> BlockGround<T, W> for MemoryReceiver<'a, T, W, R> {
     fn park(&mut self, _timed: bool) {
-        let woken = self.pause();
+        self.pause();
+        let woken = self.token;
+        self.token = false;
         let event = Event::of(Step::Park, Seen::Token(woken));
         record(self.rt, &mut self.events, event);
     }
 
     fn over(&mut self) -> bool {
+        self.pause();
         let over = self.reads == 0;
-        if !over {
-            self.reads -= 1;
-        }
+        self.reads = self.reads.saturating_sub(1);
         let event = Event::of(Step::Clock, Seen::Over(over));
         record(self.rt, &mut self.events, event);
         over
@@ -299,13 +312,14 @@ fn has_message(op: Op, found: u8) -> bool
     }
 }
 
-// Whether the waker's slot is the receiver's after an operation that found this word.
-fn has_waker(op: Op, found: u8) -> bool
-    ensures { result ≡ keeps_waker op found }
+// Whether the waker's slot is the receiver's after an operation that found this word, where the receiver
+// waits or not.
+fn has_waker(op: Op, found: u8, waits: bool) -> bool
+    ensures { result ≡ keeps_waker op found waits }
 {
     match op {
-        Op::Swap(_) => found != EMPTY,
-        Op::Load => found != RECEIVING,
+        Op::Swap(_) => found != EMPTY && found != UNPARKING,
+        Op::Load => !waits,
         _ => true,
     }
 }

@@ -1,58 +1,9 @@
-use Rattle.std.proofs.Common.{sym, ◌∙◌}
-use Rattle.oneshot_machine.specs.Phases.{closed_itself}
-use Rattle.oneshot_drive.proofs.BlockingRuns.{ends_asks, end_asks, ended_full, shut, is_shut, over_rests, over_leaves, full_leaves, full_ran, over_ran, shut_ran, hands}
-use Rattle.oneshot_drive.proofs.ReceiverRuns.{took_at, took_rests}
+use Rattle.std.proofs.Common.{refl}
+use Rattle.oneshot_drive.proofs.BlockingRuns.{untimed_full, untimed_gone}
 use Rattle.oneshot_drive.proofs.blocking.recv_ref.Goals as goal
 
-pub word-requires : goal.word-requires
-word-requires g c = ends_asks (rw c.in-Message.is at c.find.ensures.ends)
+pub returns-in-Ok-clause-leaves : goal.returns-in-Ok-clause-leaves
+returns-in-Ok-clause-leaves g c = untimed_full c.in-Ok.message c.in-Ok.is c.receive.ensures.leaves
 
-pub take_message-requires : goal.take_message-requires
-take_message-requires g c = (ended_full c.word.result (rw c.in-Message.is at c.find.ensures.ends) c.word.ensures.finds c.word.ensures.list).message
-
-pub returns-in-Message-clause-run : goal.returns-in-Message-clause-run
-returns-in-Message-clause-run g c = full_ran c.word.result c.take_message.result (rw c.in-Message.is at c.find.ensures.went) c.word.ensures.list c.take_message.ensures.list
-
-pub returns-in-Message-clause-rests : goal.returns-in-Message-clause-rests
-returns-in-Message-clause-rests g c =
-    took_rests c.take_message.result (ended_full c.word.result (rw c.in-Message.is at c.find.ensures.ends) c.word.ensures.finds c.word.ensures.list) c.take_message.ensures.list c.take_message.ensures.message c.take_message.ensures.waker
-
-pub returns-in-Message-clause-leaves : goal.returns-in-Message-clause-leaves
-returns-in-Message-clause-leaves g c =
-    full_leaves c.take_message.result (took_at c.take_message.result (ended_full c.word.result (rw c.in-Message.is at c.find.ensures.ends) c.word.ensures.finds c.word.ensures.list) c.take_message.ensures.list)
-
-pub returns-in-Message-clause-stays : goal.returns-in-Message-clause-stays
-returns-in-Message-clause-stays g c is_closed = let e = sym c.in-Message.is ∙ c.find.ensures.stays is_closed in absurd (cc)
-
-pub returns-in-Message-clause-hand : goal.returns-in-Message-clause-hand
-returns-in-Message-clause-hand g c =
-    hands c.find.ensures.hand closed_itself (took_at c.take_message.result (ended_full c.word.result (rw c.in-Message.is at c.find.ensures.ends) c.word.ensures.finds c.word.ensures.list) c.take_message.ensures.list)
-
-pub returns-in-Closed-clause-run : goal.returns-in-Closed-clause-run
-returns-in-Closed-clause-run g c = over_ran (rw c.in-Closed.is at c.find.ensures.went)
-
-pub returns-in-Closed-clause-rests : goal.returns-in-Closed-clause-rests
-returns-in-Closed-clause-rests g c = over_rests (is_shut (rw c.in-Closed.is at c.find.ensures.ends))
-
-pub returns-in-Closed-clause-leaves : goal.returns-in-Closed-clause-leaves
-returns-in-Closed-clause-leaves g c = over_leaves _ (is_shut (rw c.in-Closed.is at c.find.ensures.ends))
-
-pub returns-in-Closed-clause-hand : goal.returns-in-Closed-clause-hand
-returns-in-Closed-clause-hand g c = let is = is_shut (rw c.in-Closed.is at c.find.ensures.ends) in hands c.find.ensures.hand is.closing is.at
-
-pub word-requires-in-Unclosed : goal.word-requires-in-Unclosed
-word-requires-in-Unclosed g c = end_asks (rw c.in-Unclosed.is at c.find.ensures.ends)
-
-pub returns-in-Unclosed-clause-run : goal.returns-in-Unclosed-clause-run
-returns-in-Unclosed-clause-run g c = shut_ran c.word-in-Unclosed.result (rw c.in-Unclosed.is at c.find.ensures.went) c.word-in-Unclosed.ensures.list
-
-pub returns-in-Unclosed-clause-rests : goal.returns-in-Unclosed-clause-rests
-returns-in-Unclosed-clause-rests g c = over_rests (shut c.word-in-Unclosed.result (rw c.in-Unclosed.is at c.find.ensures.ends) c.word-in-Unclosed.ensures.finds c.word-in-Unclosed.ensures.list)
-
-pub returns-in-Unclosed-clause-leaves : goal.returns-in-Unclosed-clause-leaves
-returns-in-Unclosed-clause-leaves g c = over_leaves _ (shut c.word-in-Unclosed.result (rw c.in-Unclosed.is at c.find.ensures.ends) c.word-in-Unclosed.ensures.finds c.word-in-Unclosed.ensures.list)
-
-pub returns-in-Unclosed-clause-hand : goal.returns-in-Unclosed-clause-hand
-returns-in-Unclosed-clause-hand g c =
-    let is = shut c.word-in-Unclosed.result (rw c.in-Unclosed.is at c.find.ensures.ends) c.word-in-Unclosed.ensures.finds c.word-in-Unclosed.ensures.list in
-    hands c.find.ensures.hand is.closing is.at
+pub returns-in-Err-clause-leaves : goal.returns-in-Err-clause-leaves
+returns-in-Err-clause-leaves g c = untimed_gone _ c.in-Err.field-0 c.in-Err.is (c.receive.ensures.endless refl) c.receive.ensures.leaves

@@ -12,7 +12,7 @@ pub returns-in-3 : goal.returns-in-3
 returns-in-3 g c = drop_ran c.word.result c.in-3.is c.word.ensures.list
 
 pub returns-in-0 : goal.returns-in-0
-returns-in-0 g c = drop_woke c.word.result c.finish.ensures.0 c.in-0.is c.word.ensures.list c.finish.ensures.1
+returns-in-0 g c = drop_woke c.word.result c.in-0.is c.word.ensures.list c.finish.ensures
 
 pub free-requires-clause-message : goal.free-requires-clause-message
 free-requires-clause-message g c = (drop_last c.word.result c.requires c.word.ensures.finds (search rules) (search rules)).message

@@ -14,7 +14,7 @@ pub returns-in-3-clause-run : goal.returns-in-3-clause-run
 returns-in-3-clause-run g c = send_ran c.word.result c.in-3.is c.write_message.ensures.list c.word.ensures.list
 
 pub returns-in-0-clause-run : goal.returns-in-0-clause-run
-returns-in-0-clause-run g c = send_woke c.word.result c.finish.ensures.0 c.in-0.is c.write_message.ensures.list c.word.ensures.list c.finish.ensures.1
+returns-in-0-clause-run g c = send_woke c.word.result c.in-0.is c.write_message.ensures.list c.word.ensures.list c.finish.ensures
 
 pub returns-in_default-clause-run : goal.returns-in_default-clause-run
 returns-in_default-clause-run g c =

@@ -1,18 +1,17 @@
-use Rattle.std.proofs.Common.{rules, refl}
-use Rattle.oneshot_drive.proofs.MemoryReceivers.{left_open, left_waiting, is_unsent, waiting_away, sees_left, sees_taken}
+use Rattle.std.proofs.Common.{◌≡◌, true, sym, ap, ◌∙◌}
+use Rattle.oneshot_drive.specs.Memory.{slot_of, is_open}
+use Rattle.oneshot_drive.proofs.MemoryReceivers.{IsOpen, is_open_by, left_open, left_waiting}
 use Rattle.oneshot_drive.proofs.memory.receiver.MemoryReceiver.act.Goals as goal
 
 pub invariant_of-self : goal.invariant_of-self
-invariant_of-self g c = left_open c.self.invariant c.if-self-eq-EMPTY.true c.left-word.ensures
+invariant_of-self g c = rw (c.left-word.ensures.word, c.left-word.ensures.message) (left_waiting c.args.act c.self.invariant (sym c.is_waiting.ensures ∙ c.if-is_waiting.true))
 
-pub returns-then-self-eq-EMPTY : goal.returns-then-self-eq-EMPTY
-returns-then-self-eq-EMPTY g c =
-    sees_left c.self.inside.events.items c.self.inside.word c.left-word.result.0 c.self.inside.message c.left-word.result.1 c.self.inside.waker c.self.inside.waker c.self.inside.owns_message c.self.inside.owns_waker (is_unsent c.self.invariant c.if-self-eq-EMPTY.true).none refl c.self.view_is
+pub invariant_of-self-then-is_open : goal.invariant_of-self-then-is_open
+invariant_of-self-then-is_open g c =
+    let here : IsOpen c.self.inside.word c.self.inside.owns_message = is_open_by c.self.inside.word c.self.inside.owns_message c.self.inside.message (ap (λ s. is_open s.word s.message) c.self.view_is ∙ sym c.is_open.ensures ∙ c.if-is_open.true) in
+    rw (c.left-word.ensures.word, c.left-word.ensures.message) (left_open c.args.act c.self.invariant here.word_3 here.away (sym c.is_waiting.ensures ∙ c.if-is_waiting.false))
 
-pub invariant_of-self-2 : goal.invariant_of-self-2
-invariant_of-self-2 g c = left_waiting (c.is_waiting.ensures (search rules)) c.self.invariant c.left-word.ensures
-
-pub returns : goal.returns
-returns g c =
-    let waits = c.is_waiting.ensures (search rules) in
-    sees_taken c.self.inside.events.items c.self.inside.word c.left-word.result.0 c.self.inside.message c.left-word.result.1 c.self.inside.waker c.self.inside.owns_message c.self.inside.owns_waker (waiting_away waits c.self.invariant) waits c.self.view_is
+pub invariant_of-self-then-is_open-2 : goal.invariant_of-self-then-is_open-2
+invariant_of-self-then-is_open-2 g c =
+    let here : IsOpen c.self.inside.word c.self.inside.owns_message = is_open_by c.self.inside.word c.self.inside.owns_message c.self.inside.message (ap (λ s. is_open s.word s.message) c.self.view_is ∙ sym c.is_open.ensures ∙ c.if-is_open.true) in
+    rw (c.left-word.ensures.word, c.left-word.ensures.message) (left_open c.args.act c.self.invariant here.word_3 here.away (sym c.is_waiting.ensures ∙ c.if-is_waiting.false))

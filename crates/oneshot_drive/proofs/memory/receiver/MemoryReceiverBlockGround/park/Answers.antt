@@ -1,6 +1,7 @@
 use Rattle.std.proofs.Common.{[], ◌∷◌, ◌++◌, refl, ap, ◌∙◌}
+use Rattle.oneshot_machine.specs.Logs.{parked}
 use Rattle.oneshot_drive.specs.Memory.{event_of}
-use Rattle.oneshot_drive.proofs.MemoryLogs.{park_grows}
+use Rattle.oneshot_drive.proofs.MemoryLogs.{step_grows}
 use Rattle.oneshot_drive.proofs.MemoryReceivers.{receiver_stays}
 use Rattle.oneshot_drive.proofs.memory.receiver.MemoryReceiverBlockGround.park.Goals as goal
 
@@ -10,4 +11,4 @@ invariant_of-self g c =
 
 pub returns-clause-list : goal.returns-clause-list
 returns-clause-list g c =
-    (c.pause-woken.result, park_grows c.self.inside.events.items c.record.new.events.items c.of-event.result c.pause-woken.result c.record.ensures (ap event_of c.of-event.ensures) (ap (λ s. s.log) (c.self.view_is ∙ c.pause-woken.ensures)))
+    (c.pause-woken.result, step_grows c.self.inside.events.items c.record.new.events.items c.of-event.result (parked c.pause-woken.result) c.record.ensures (ap event_of c.of-event.ensures) (ap (λ s. s.log) (c.self.view_is ∙ c.pause-woken.ensures)))

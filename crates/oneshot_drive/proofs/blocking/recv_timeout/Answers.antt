@@ -1,0 +1,14 @@
+use Rattle.oneshot_drive.proofs.BlockingRuns.{clock_rests, clock_ready, clock_closed, sum_ran}
+use Rattle.oneshot_drive.proofs.blocking.recv_timeout.Goals as goal
+
+pub receive-requires-clause-rests : goal.receive-requires-clause-rests
+receive-requires-clause-rests g c = clock_rests c.requires.rests c.over.result c.over.ensures.list c.over.ensures.message c.over.ensures.waker
+
+pub receive-requires-clause-ready : goal.receive-requires-clause-ready
+receive-requires-clause-ready g c = clock_ready c.requires.ready c.over.result c.over.ensures.list
+
+pub returns-clause-run : goal.returns-clause-run
+returns-clause-run g c = sum_ran c.over.result c.over.ensures.list c.receive.ensures.run
+
+pub returns-clause-stays : goal.returns-clause-stays
+returns-clause-stays g c is_closed = c.receive.ensures.stays (clock_closed c.over.result c.over.ensures.list is_closed)
