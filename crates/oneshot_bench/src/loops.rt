@@ -1,0 +1,64 @@
+//! The loops that can be measured, and their names.
+
+ghost use Rattle.std.specs.Prelude.{◌≡◌, ◌↔◌, Some};
+ghost use Rattle.oneshot_bench.specs.Loop.{name_of};
+
+use std::fmt;
+
+/// What each round of a loop does, each with a channel of its own.
+#[derive(Clone, Copy, Debug, PartialEq, Eq)]
+pub enum Loop {
+    /// It sends 8 bytes, receives them by `try_recv`, and drops the receiver.
+    MakeSendReceiveDrop,
+    /// It drops both ends.
+    MakeDrop,
+    /// It sends 8 bytes, and receives them by `recv`.
+    MakeSendRecv,
+    /// `MakeSendReceiveDrop` with 4,096 bytes.
+    MakeSendReceiveDropLarge,
+    /// `MakeDrop` with room for 4,096 bytes.
+    MakeDropLarge,
+    /// `MakeSendRecv` with 4,096 bytes.
+    MakeSendRecvLarge,
+    /// It asks another thread, and waits for the reply.
+    RoundTrip,
+}
+
+impl Loop {
+    /// The loop's name.
+    pub fn name(self) -> &'static str
+        ensures { result.now ≡ name_of self }
+    {
+        match self {
+            Loop::MakeSendReceiveDrop => "make_send_receive_drop",
+            Loop::MakeDrop => "make_drop",
+            Loop::MakeSendRecv => "make_send_recv",
+            Loop::MakeSendReceiveDropLarge => "make_send_receive_drop_4096",
+            Loop::MakeDropLarge => "make_drop_4096",
+            Loop::MakeSendRecvLarge => "make_send_recv_4096",
+            Loop::RoundTrip => "round_trip",
+        }
+    }
+
+    /// The loop of this name; `None` if none has it.
+    pub fn named(name: &str) -> Option<Loop>
+        ensures { (kind : Loop) → (result ≡ Some kind) ↔ (name_of kind ≡ name.now) }
+    {
+        match name.as_bytes() {
+            b"make_send_receive_drop" => Some(Loop::MakeSendReceiveDrop),
+            b"make_drop" => Some(Loop::MakeDrop),
+            b"make_send_recv" => Some(Loop::MakeSendRecv),
+            b"make_send_receive_drop_4096" => Some(Loop::MakeSendReceiveDropLarge),
+            b"make_drop_4096" => Some(Loop::MakeDropLarge),
+            b"make_send_recv_4096" => Some(Loop::MakeSendRecvLarge),
+            b"round_trip" => Some(Loop::RoundTrip),
+            _ => None,
+        }
+    }
+}
+
+impl fmt::Display for Loop {
+    fn fmt<W: fmt::Write>(&self, f: &mut fmt::Formatter<W>) -> fmt::Result {
+        f.pad(self.name())
+    }
+}
