@@ -1,6 +1,8 @@
 //! The loops that can be measured, and their names.
 
 ghost use Rattle.std.specs.Prelude.{◌≡◌, ◌↔◌, Some};
+ghost use Rattle.std.specs.List.{find};
+ghost use Rattle.std.specs.Str.{bytes_eq};
 ghost use Rattle.oneshot_bench.specs.Loop.{name_of};
 
 use std::fmt;
@@ -24,6 +26,17 @@ pub enum Loop {
     RoundTrip,
 }
 
+/// Every loop.
+const LOOPS: [Loop; 7] = [
+    Loop::MakeSendReceiveDrop,
+    Loop::MakeDrop,
+    Loop::MakeSendRecv,
+    Loop::MakeSendReceiveDropLarge,
+    Loop::MakeDropLarge,
+    Loop::MakeSendRecvLarge,
+    Loop::RoundTrip,
+];
+
 impl Loop {
     /// The loop's name.
     pub fn name(self) -> &'static str
@@ -42,18 +55,9 @@ impl Loop {
 
     /// The loop of this name; `None` if none has it.
     pub fn named(name: &str) -> Option<Loop>
-        ensures { (kind : Loop) → (result ≡ Some kind) ↔ (name_of kind ≡ name.now) }
+        ensures { result ≡ find (λ kind. bytes_eq (name_of kind) name.now) LOOPS }
     {
-        match name.as_bytes() {
-            b"make_send_receive_drop" => Some(Loop::MakeSendReceiveDrop),
-            b"make_drop" => Some(Loop::MakeDrop),
-            b"make_send_recv" => Some(Loop::MakeSendRecv),
-            b"make_send_receive_drop_4096" => Some(Loop::MakeSendReceiveDropLarge),
-            b"make_drop_4096" => Some(Loop::MakeDropLarge),
-            b"make_send_recv_4096" => Some(Loop::MakeSendRecvLarge),
-            b"round_trip" => Some(Loop::RoundTrip),
-            _ => None,
-        }
+        LOOPS.iter().copied().find(|kind| kind.name() == name)
     }
 }
 

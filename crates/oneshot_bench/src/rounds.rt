@@ -14,7 +14,7 @@ pub fn repeat<F: FnMut() -> Result<(), Fault>>(count: u64, mut round: F) -> Resu
     requires { F.IsAlwaysCallable round }
     ensures { OnOk result ((last : F) × Leads (λ before after. F.step before (Ok tt) after) count round last) }
 {
-    for _ in 0..count {
+    for _made in 0..count {
         round()?;
     }
     Ok(())
