@@ -7,7 +7,8 @@ ghost use Rattle.oneshot_bench.specs.Command.{Asks};
 use crate::loops::Loop;
 
 /// How the program is called.
-pub const USAGE: &str = "usage: oneshot_bench LOOP COUNT, where LOOP is make_send_receive_drop, make_drop, make_send_recv, these with _4096, or round_trip";
+pub const USAGE: &str =
+    "usage: oneshot_bench LOOP COUNT, where LOOP is make_send_receive_drop, make_drop, make_send_recv, these with _4096, or round_trip";
 
 /// What the program is to do.
 #[derive(Clone, Copy, Debug, PartialEq, Eq)]

@@ -42,6 +42,6 @@ fn run_loop<R: Threads + Wait + Clock + Sync>(
         Loop::MakeSendReceiveDropLarge => repeat(count, || make_send_receive_drop(alloc, LARGE)),
         Loop::MakeDropLarge => repeat(count, || make_drop::<[u8; 4096]>(alloc)),
         Loop::MakeSendRecvLarge => repeat(count, || make_send_recv(rt, alloc, LARGE)),
-        Loop::RoundTrip => round_trips(rt, alloc, count),
+        Loop::RoundTrip => round_trips(rt, alloc, count).map(|_| ()),
     }
 }

@@ -42,17 +42,19 @@ pub fn serve<Rt: Wait + Clock + Drop>(requests: Receiver<Request, Rt>) -> Result
     Ok(())
 }
 
-fn ask_all<R: Wait + Clock>(
-    rt: &R,
-    alloc: Global,
-    all: Vec<Sender<Request>>,
-) -> Result<(), Fault> {
+/// Sends a request over each channel in turn, and counts the replies.
+fn ask_all<R: Wait + Clock>(rt: &R, alloc: Global, all: Vec<Sender<Request>>) -> Result<u64, Fault>
+    ensures { IfOk result (λ replies. replies ≡ vec_len all) }
+{
+    let mut replies = 0;
     for requests in all {
         ask(rt, alloc, requests)?;
+        replies += 1;
     }
-    Ok(())
+    Ok(replies)
 }
 
+/// Serves a request from each channel in turn.
 fn serve_all<Rt: Wait + Clock + Drop>(all: Vec<Receiver<Request, Rt>>) -> Result<(), Fault> {
     for requests in all {
         serve(requests)?;
@@ -60,36 +62,38 @@ fn serve_all<Rt: Wait + Clock + Drop>(all: Vec<Receiver<Request, Rt>>) -> Result
     Ok(())
 }
 
-/// Makes this many rounds with a thread that is started for them.
-fn batch<R: Threads + Wait + Clock + Sync>(
-    rt: &R,
-    alloc: Global,
-    count: u64,
-) -> Result<(), Fault> {
+/// Makes this many round trips with a thread that is started for them, and counts them.
+fn batch<R: Threads + Wait + Clock + Sync>(rt: &R, alloc: Global, count: u64) -> Result<u64, Fault>
+    ensures { IfOk result (λ made. made ≡ count) }
+{
     let mut senders = Vec::new(alloc);
     let mut receivers = Vec::new(alloc);
-    for _ in 0..count {
+    for _opened in 0..count {
         let (sender, receiver) = channel(rt, alloc)?;
         senders.push(sender)?;
         receivers.push(receiver)?;
     }
-    let (asked, served) = join(
+    // The asker crosses to the new thread, so that only senders do.
+    let (replies, served) = join(
         rt,
         move || ask_all(rt, alloc, senders),
         move || serve_all(receivers),
     );
-    asked?;
-    served
+    served?;
+    replies
 }
 
-/// Makes this many round trips, a batch at a time.
+/// Makes this many round trips, a batch at a time, and counts them.
 pub fn round_trips<R: Threads + Wait + Clock + Sync>(
     rt: &R,
     alloc: Global,
     count: u64,
-) -> Result<(), Fault> {
-    for _ in 0..count / BATCH {
-        batch(rt, alloc, BATCH)?;
+) -> Result<u64, Fault>
+    ensures { IfOk result (λ made. made ≡ count) }
+{
+    let mut made = 0;
+    for _batches in 0..count / BATCH {
+        made += batch(rt, alloc, BATCH)?;
     }
-    batch(rt, alloc, count % BATCH)
+    Ok(made + batch(rt, alloc, count % BATCH)?)
 }
