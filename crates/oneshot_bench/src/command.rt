@@ -8,7 +8,7 @@ use crate::loops::Loop;
 
 /// How the program is called.
 pub const USAGE: &str =
-    "usage: oneshot_bench LOOP COUNT, where LOOP is make_send_receive_drop, make_drop, make_send_recv, these with _4096, or round_trip";
+    "usage: oneshot_bench LOOP COUNT, where LOOP is one of make_send_receive_drop, make_drop, make_send_recv, make_send_receive_drop_4096, make_drop_4096, make_send_recv_4096, round_trip";
 
 /// What the program is to do.
 #[derive(Clone, Copy, Debug, PartialEq, Eq)]

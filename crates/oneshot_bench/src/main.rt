@@ -41,7 +41,7 @@ fn run<R: Env + Print + AllocGlobal + Clock + Threads + Wait + Sync>(rt: &R) -> 
         Command::Usage => println!(rt; "{USAGE}"),
         Command::Measure { kind, count } => {
             let nanoseconds = measure(rt, rt.alloc(), kind, count)?.as_nanos();
-            println!(rt; "{kind} {count} rounds {nanoseconds} ns")
+            println!(rt; "{kind}: {count} rounds in {nanoseconds} ns")
         }
     };
     printed.map_err(|_| Fault::WriteFailed)
