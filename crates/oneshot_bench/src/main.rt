@@ -13,12 +13,12 @@ mod tests;
 use command::{Command, USAGE, parse_command};
 use fault::Fault;
 use measure::measure;
-use std::alloc::{AllocError, Global};
+use std::env;
+use std::io::ErrorKind;
 use std::process::ExitCode;
 use std::rt::{Clock, Env};
 use std::sync::Wait;
 use std::thread::Threads;
-use std::{env, io};
 
 fn main(rt: HostRuntime) -> ExitCode {
     match run(&rt) {
@@ -49,9 +49,10 @@ fn run<R: Env + Print + AllocGlobal + Clock + Threads + Wait + Sync>(rt: &R) -> 
 
 /// The program's arguments, without its own name.
 fn arguments<R: Env + AllocGlobal>(rt: &R) -> Result<Vec<String>, Fault> {
-    let Ok(mut words) = env::args(rt) else {
-        return Err(Fault::BadArguments);
-    };
+    let mut words = env::args(rt).map_err(|error| match error.kind() {
+        ErrorKind::OutOfMemory => Fault::OutOfMemory,
+        _ => Fault::BadArguments,
+    })?;
     let _name = words.next();
     Ok(words.collect(rt.alloc())?)
 }
