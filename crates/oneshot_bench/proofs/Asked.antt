@@ -1,5 +1,5 @@
 -- A loop's name and a count ask for just one command.
-use Rattle.std.proofs.Common.{◌≡◌, ◌↔◌, ℕ, List, [], ◌∷◌, Some, length, get_or, map, refl, sym, ap, subst, arith}
+use Rattle.std.proofs.Common.{◌≡◌, ◌↔◌, ℕ, List, [], ◌∷◌, Some, length, get_or, map, ap, subst, arith}
 use Rattle.oneshot_bench.specs.declared.command.Command.{Command}
 use Rattle.oneshot_bench.specs.declared.command.Command.TheVariants.{Usage, Measure}
 use Rattle.oneshot_bench.specs.declared.loops.Loop.{Loop}
