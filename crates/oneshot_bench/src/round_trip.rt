@@ -62,9 +62,13 @@ fn serve_all<Rt: Wait + Clock + Drop>(all: Vec<Receiver<Request, Rt>>) -> Result
     Ok(())
 }
 
-/// Makes this many round trips with a thread that is started for them, and counts them.
-fn batch<R: Threads + Wait + Clock + Sync>(rt: &R, alloc: Global, count: u64) -> Result<u64, Fault>
-    ensures { IfOk result (λ made. made ≡ count) }
+/// A channel for each request of a batch.
+fn channels<R>(
+    rt: &R,
+    alloc: Global,
+    count: u64,
+) -> Result<(Vec<Sender<Request>>, Vec<Receiver<Request, &R>>), Fault>
+    ensures { IfOk result (λ ends. vec_len ends.0 ≡ count) }
 {
     let mut senders = Vec::new(alloc);
     let mut receivers = Vec::new(alloc);
@@ -73,6 +77,14 @@ fn batch<R: Threads + Wait + Clock + Sync>(rt: &R, alloc: Global, count: u64) ->
         senders.push(sender)?;
         receivers.push(receiver)?;
     }
+    Ok((senders, receivers))
+}
+
+/// Makes this many round trips with a thread that is started for them, and counts them.
+fn batch<R: Threads + Wait + Clock + Sync>(rt: &R, alloc: Global, count: u64) -> Result<u64, Fault>
+    ensures { IfOk result (λ made. made ≡ count) }
+{
+    let (senders, receivers) = channels(rt, alloc, count)?;
     // The asker crosses to the new thread, so that only senders do.
     let (replies, served) = join(
         rt,
@@ -84,6 +96,8 @@ fn batch<R: Threads + Wait + Clock + Sync>(rt: &R, alloc: Global, count: u64) ->
 }
 
 /// Makes this many round trips, a batch at a time, and counts them.
+///
+/// Where no thread can be made it waits for ever.
 pub fn round_trips<R: Threads + Wait + Clock + Sync>(
     rt: &R,
     alloc: Global,
