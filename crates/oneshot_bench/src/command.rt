@@ -15,8 +15,13 @@ pub const USAGE: &str =
 pub enum Command {
     /// To tell how it is called.
     Usage,
-    /// To measure `count` rounds of a loop.
-    Measure { kind: Loop, count: u64 },
+    /// To measure so many rounds of a loop.
+    Measure {
+        /// The loop.
+        kind: Loop,
+        /// How many rounds of it.
+        count: u64,
+    },
 }
 
 /// What `words` ask for; `None` where they are not a loop's name and a count.

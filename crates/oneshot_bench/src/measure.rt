@@ -15,7 +15,9 @@ const SMALL: u64 = 7;
 /// A message of 4,096 bytes.
 const LARGE: [u8; 4096] = [7; 4096];
 
-/// How long this many rounds of the loop take.
+/// How long `count` rounds of a loop take.
+///
+/// `Err` where the clock cannot be read, and as the rounds: no memory, or a message lost.
 pub fn measure<R: Threads + Wait + Clock + Sync>(
     rt: &R,
     alloc: Global,

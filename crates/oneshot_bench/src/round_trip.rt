@@ -12,13 +12,15 @@ use std::time::Clock;
 /// How many rounds one start of a thread serves.
 const BATCH: u64 = 1024;
 
-/// Has the sender of its reply.
+/// A request, which has the sender of its reply.
 #[derive(Drop)]
 pub struct Request {
     reply: Sender<()>,
 }
 
-/// Sends a request, and waits for its reply.
+/// Sends a request by `requests`, and waits for its reply over a channel made for it.
+///
+/// `Err` where there is no memory for the channel, or nobody replies.
 pub fn ask<Rt: Wait + Clock + Drop>(
     rt: Rt,
     alloc: Global,
@@ -31,7 +33,7 @@ pub fn ask<Rt: Wait + Clock + Drop>(
     Ok(())
 }
 
-/// Waits for a request, and replies to it.
+/// Waits for a request, and replies to it. `Err` where none comes, or nobody waits for the reply.
 pub fn serve<Rt: Wait + Clock + Drop>(requests: Receiver<Request, Rt>) -> Result<(), Fault> {
     let Ok(Request { reply }) = requests.recv() else {
         return Err(Fault::MessageLost);
@@ -95,9 +97,10 @@ fn batch<R: Threads + Wait + Clock + Sync>(rt: &R, alloc: Global, count: u64) ->
     replies
 }
 
-/// Makes this many round trips, a batch at a time, and counts them.
+/// Makes `count` round trips, a batch at a time, and answers how many it made.
 ///
-/// Where no thread can be made it waits for ever.
+/// `Err` where there is no memory for a channel, or a request or a reply was lost. Where no thread
+/// can be made it waits for ever.
 pub fn round_trips<R: Threads + Wait + Clock + Sync>(
     rt: &R,
     alloc: Global,

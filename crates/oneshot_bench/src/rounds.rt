@@ -9,7 +9,9 @@ use std::alloc::Global;
 use std::sync::Wait;
 use std::time::Clock;
 
-/// Makes this many rounds, one after another, and ends at the first fault.
+/// Makes `count` rounds, one after another.
+///
+/// `Err`: the fault of a round, after which none was made.
 pub fn repeat<F: FnMut() -> Result<(), Fault>>(count: u64, mut round: F) -> Result<(), Fault>
     requires { F.IsAlwaysCallable round }
     ensures { OnOk result ((last : F) × Leads (λ before after. F.step before (Ok tt) after) count round last) }
@@ -20,7 +22,9 @@ pub fn repeat<F: FnMut() -> Result<(), Fault>>(count: u64, mut round: F) -> Resu
     Ok(())
 }
 
-/// Makes a channel, sends the message, receives it if it is there, and drops the receiver.
+/// Makes a channel, sends `message`, receives it by `try_recv`, and drops the receiver.
+///
+/// `Err` where there is no memory for the channel, or the message was lost.
 pub fn make_send_receive_drop<T: Send + Drop>(alloc: Global, message: T) -> Result<(), Fault> {
     let (sender, mut receiver) = channel::<T, ()>((), alloc)?;
     if sender.send(message).is_err() || receiver.try_recv().is_err() {
@@ -29,7 +33,7 @@ pub fn make_send_receive_drop<T: Send + Drop>(alloc: Global, message: T) -> Resu
     Ok(())
 }
 
-/// Makes a channel, and drops both ends.
+/// Makes a channel, and drops both ends. `Err` where there is no memory for it.
 pub fn make_drop<T: Send + Drop>(alloc: Global) -> Result<(), Fault> {
     let (sender, receiver) = channel::<T, ()>((), alloc)?;
     drop(sender);
@@ -37,7 +41,9 @@ pub fn make_drop<T: Send + Drop>(alloc: Global) -> Result<(), Fault> {
     Ok(())
 }
 
-/// Makes a channel, sends the message, and receives it as one that waits would.
+/// Makes a channel, sends `message`, and receives it by `recv`, whose receiver keeps `rt`.
+///
+/// `Err` where there is no memory for the channel, or the message was lost.
 pub fn make_send_recv<T: Send + Drop, Rt: Wait + Clock + Drop>(
     rt: Rt,
     alloc: Global,
