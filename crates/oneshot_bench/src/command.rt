@@ -1,0 +1,53 @@
+//! What the program's arguments ask for.
+
+ghost use Rattle.std.specs.Prelude.{◌≡◌, ◌<◌, ◌^◌, ◌↔◌, SomeIff, Some, [], ◌∷◌, string_bytes, map};
+ghost use Rattle.std.specs.Str.Parse.{IsNumeral, digits_value, without_leading_plus};
+ghost use Rattle.oneshot_bench.specs.Command.{Asks};
+
+use crate::loops::Loop;
+
+/// How the program is called.
+pub const USAGE: &str =
+    "usage: oneshot_bench LOOP COUNT, where LOOP is one of make_send_receive_drop, make_drop, make_send_recv, make_send_receive_drop_4096, make_drop_4096, make_send_recv_4096, round_trip";
+
+/// What the program is to do.
+#[derive(Clone, Copy, Debug, PartialEq, Eq)]
+pub enum Command {
+    /// To tell how it is called.
+    Usage,
+    /// To measure so many rounds of a loop.
+    Measure {
+        /// The loop.
+        kind: Loop,
+        /// How many rounds of it.
+        count: u64,
+    },
+}
+
+/// What `words` ask for; `None` where they are not a loop's name and a count.
+pub fn parse_command(words: &[String]) -> Option<Command>
+    ensures { (command : Command) → (result ≡ Some command) ↔ Asks (map string_bytes words.now) command }
+{
+    match words {
+        [] => Some(Command::Usage),
+        [name, count] => parse_measure(name.as_str(), count.as_str()),
+        _ => None,
+    }
+}
+
+fn parse_measure(name: &str, count: &str) -> Option<Command>
+    ensures { (command : Command) → (result ≡ Some command) ↔ Asks (name.now ∷ count.now ∷ []) command }
+{
+    let kind = Loop::named(name)?;
+    let count = parse_count(count)?;
+    Some(Command::Measure { kind, count })
+}
+
+/// The number that a word writes in decimal; `None` where it is no number, or one of more than 64 bits.
+pub fn parse_count(word: &str) -> Option<u64>
+    ensures { SomeIff result
+        (IsNumeral 10 (without_leading_plus word.now) × (digits_value 10 (without_leading_plus word.now) < 2 ^ 64))
+        (digits_value 10 (without_leading_plus word.now)) }
+{
+    word.parse().ok()
+}

@@ -1,0 +1,58 @@
+//! Measures a channel: one of its loops by name, and how many rounds of it.
+#![tactic(auto)]
+
+mod command;
+mod fault;
+mod loops;
+mod measure;
+mod round_trip;
+mod rounds;
+#[cfg(test)]
+mod tests;
+
+use command::{Command, USAGE, parse_command};
+use fault::Fault;
+use measure::measure;
+use std::env;
+use std::io::ErrorKind;
+use std::process::ExitCode;
+use std::rt::{Clock, Env};
+use std::sync::Wait;
+use std::thread::Threads;
+
+fn main(rt: HostRuntime) -> ExitCode {
+    match run(&rt) {
+        Ok(()) => ExitCode::SUCCESS,
+        Err(fault) => {
+            // Where standard error fails too, the status alone tells.
+            let _ = eprintln!(rt; "{fault}");
+            ExitCode::from(fault.status())
+        }
+    }
+}
+
+/// Does what the program's arguments ask for, and prints what it found.
+fn run<R: Env + Print + AllocGlobal + Clock + Threads + Wait + Sync>(rt: &R) -> Result<(), Fault> {
+    let words = arguments(rt)?;
+    let Some(command) = parse_command(words.as_slice()) else {
+        return Err(Fault::BadArguments);
+    };
+    let printed = match command {
+        Command::Usage => println!(rt; "{USAGE}"),
+        Command::Measure { kind, count } => {
+            let nanoseconds = measure(rt, rt.alloc(), kind, count)?.as_nanos();
+            println!(rt; "{kind}: {count} rounds in {nanoseconds} ns")
+        }
+    };
+    printed.map_err(|_| Fault::WriteFailed)
+}
+
+/// The program's arguments, without its own name.
+fn arguments<R: Env + AllocGlobal>(rt: &R) -> Result<Vec<String>, Fault> {
+    let mut words = env::args(rt).map_err(|error| match error.kind() {
+        ErrorKind::OutOfMemory => Fault::OutOfMemory,
+        _ => Fault::BadArguments,
+    })?;
+    let _name = words.next();
+    Ok(words.collect(rt.alloc())?)
+}

@@ -1,0 +1,116 @@
+//! Round trips between two threads: each request, and each reply, over a channel made for it.
+
+ghost use Rattle.std.specs.Prelude.{◌≡◌, IfOk, vec_len};
+
+use crate::fault::Fault;
+use oneshot::{Receiver, Sender, channel};
+use std::alloc::Global;
+use std::sync::Wait;
+use std::thread::{Threads, join};
+use std::time::Clock;
+
+/// How many rounds one start of a thread serves.
+const BATCH: u64 = 1024;
+
+/// A request, which has the sender of its reply.
+#[derive(Drop)]
+pub struct Request {
+    reply: Sender<()>,
+}
+
+/// Sends a request by `requests`, and waits for its reply over a channel made for it.
+///
+/// `Err` where there is no memory for the channel, or nobody replies.
+pub fn ask<Rt: Wait + Clock + Drop>(
+    rt: Rt,
+    alloc: Global,
+    requests: Sender<Request>,
+) -> Result<(), Fault> {
+    let (reply, replies) = channel(rt, alloc)?;
+    if requests.send(Request { reply }).is_err() || replies.recv().is_err() {
+        return Err(Fault::MessageLost);
+    }
+    Ok(())
+}
+
+/// Waits for a request, and replies to it. `Err` where none comes, or nobody waits for the reply.
+pub fn serve<Rt: Wait + Clock + Drop>(requests: Receiver<Request, Rt>) -> Result<(), Fault> {
+    let Ok(Request { reply }) = requests.recv() else {
+        return Err(Fault::MessageLost);
+    };
+    if reply.send(()).is_err() {
+        return Err(Fault::MessageLost);
+    }
+    Ok(())
+}
+
+/// Sends a request over each channel in turn, and counts the replies.
+fn ask_all<R: Wait + Clock>(rt: &R, alloc: Global, all: Vec<Sender<Request>>) -> Result<u64, Fault>
+    ensures { IfOk result (λ replies. replies ≡ vec_len all) }
+{
+    let mut replies = 0;
+    for requests in all {
+        ask(rt, alloc, requests)?;
+        replies += 1;
+    }
+    Ok(replies)
+}
+
+/// Serves a request from each channel in turn.
+fn serve_all<Rt: Wait + Clock + Drop>(all: Vec<Receiver<Request, Rt>>) -> Result<(), Fault> {
+    for requests in all {
+        serve(requests)?;
+    }
+    Ok(())
+}
+
+/// A channel for each request of a batch.
+fn channels<R>(
+    rt: &R,
+    alloc: Global,
+    count: u64,
+) -> Result<(Vec<Sender<Request>>, Vec<Receiver<Request, &R>>), Fault>
+    ensures { IfOk result (λ ends. vec_len ends.0 ≡ count) }
+{
+    let mut senders = Vec::new(alloc);
+    let mut receivers = Vec::new(alloc);
+    for _opened in 0..count {
+        let (sender, receiver) = channel(rt, alloc)?;
+        senders.push(sender)?;
+        receivers.push(receiver)?;
+    }
+    Ok((senders, receivers))
+}
+
+/// Makes this many round trips with a thread that is started for them, and counts them.
+fn batch<R: Threads + Wait + Clock + Sync>(rt: &R, alloc: Global, count: u64) -> Result<u64, Fault>
+    ensures { IfOk result (λ made. made ≡ count) }
+{
+    let (senders, receivers) = channels(rt, alloc, count)?;
+    // The asker crosses to the new thread, so that only senders do.
+    let (replies, served) = join(
+        rt,
+        move || ask_all(rt, alloc, senders),
+        move || serve_all(receivers),
+    );
+    served?;
+    replies
+}
+
+/// Makes `count` round trips, a batch at a time, and answers how many it made.
+///
+/// `Err` where there is no memory for a channel, or a request or a reply was lost. Where no thread
+/// can be made it waits for ever.
+pub fn round_trips<R: Threads + Wait + Clock + Sync>(
+    rt: &R,
+    alloc: Global,
+    count: u64,
+) -> Result<u64, Fault>
+    ensures { IfOk result (λ made. made ≡ count) }
+{
+    let mut made = 0;
+    for _batches in 0..count / BATCH {
+        made += batch(rt, alloc, BATCH)?;
+    }
+    Ok(made + batch(rt, alloc, count % BATCH)?)
+}

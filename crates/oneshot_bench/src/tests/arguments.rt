@@ -1,0 +1,93 @@
+//! What is read, and what is refused.
+
+use crate::command::{Command, parse_command, parse_count};
+use crate::fault::Fault;
+use crate::loops::Loop;
+use std::alloc::{AllocError, Global};
+use std::test::Fail;
+
+fn parsed(alloc: Global, words: &[&str]) -> Result<Option<Command>, AllocError> {
+    let mut owned = Vec::new(alloc);
+    for word in words {
+        owned.push(String::from_str(alloc, word)?)?;
+    }
+    Ok(parse_command(owned.as_slice()))
+}
+
+#[test]
+fn each_name_is_read(rt: HostRuntime) -> Result<(), Fail> {
+    let names = [
+        ("make_send_receive_drop", Loop::MakeSendReceiveDrop),
+        ("make_drop", Loop::MakeDrop),
+        ("make_send_recv", Loop::MakeSendRecv),
+        (
+            "make_send_receive_drop_4096",
+            Loop::MakeSendReceiveDropLarge,
+        ),
+        ("make_drop_4096", Loop::MakeDropLarge),
+        ("make_send_recv_4096", Loop::MakeSendRecvLarge),
+        ("round_trip", Loop::RoundTrip),
+    ];
+    for (name, kind) in names {
+        let command = Command::Measure { kind, count: 12 };
+        assert_eq!(rt; parsed(rt.alloc(), &[name, "12"])?, Some(command), "{name}");
+    }
+    Ok(())
+}
+
+#[test]
+fn other_names_are_refused(rt: HostRuntime) {
+    for name in ["", "make", "make_drop_", "make_drop ", "Make_drop", "4096"] {
+        assert_eq!(rt; Loop::named(name), None, "{name}");
+    }
+}
+
+#[test]
+fn counts_of_64_bits_are_read(rt: HostRuntime) {
+    let counts = [
+        ("0", Some(0)),
+        ("7", Some(7)),
+        ("007", Some(7)),
+        ("+7", Some(7)),
+        ("18446744073709551615", Some(18_446_744_073_709_551_615)),
+        ("18446744073709551616", None),
+        ("100000000000000000000", None),
+        ("", None),
+        ("+", None),
+        ("-1", None),
+        ("1.5", None),
+        ("1 ", None),
+        ("1_000", None),
+        ("ten", None),
+    ];
+    for (word, count) in counts {
+        assert_eq!(rt; parse_count(word), count, "{word}");
+    }
+}
+
+#[test]
+fn two_words_or_none(rt: HostRuntime) -> Result<(), Fail> {
+    assert_eq!(rt; parsed(rt.alloc(), &[])?, Some(Command::Usage));
+    assert_eq!(rt; parsed(rt.alloc(), &["make_drop"])?, None);
+    assert_eq!(rt; parsed(rt.alloc(), &["1", "make_drop"])?, None);
+    assert_eq!(rt; parsed(rt.alloc(), &["make_drop", "1", "1"])?, None);
+    Ok(())
+}
+
+#[test]
+fn a_fault_is_one_line_and_a_status(rt: HostRuntime) -> Result<(), Fail> {
+    let faults = [
+        (Fault::ClockFailed, "1 clock failed"),
+        (Fault::WriteFailed, "1 write failed"),
+        (Fault::MessageLost, "1 message lost"),
+        (Fault::OutOfMemory, "3 out of memory"),
+    ];
+    for (fault, text) in faults {
+        let told = format!(in rt.alloc(); "{} {fault}", fault.status())?;
+        assert_eq!(rt; told.as_str(), text);
+    }
+    let told = format!(in rt.alloc(); "{}", Fault::BadArguments)?;
+    assert!(rt; told.as_str().starts_with("usage: oneshot_bench LOOP COUNT"));
+    assert_eq!(rt; Fault::BadArguments.status(), 2);
+    Ok(())
+}
