@@ -3,6 +3,7 @@
 use crate::{Receiver, channel};
 use oneshot_errors::{RecvError, RecvTimeoutError, TryRecvError};
 use std::io;
+use std::process::Abort;
 use std::sync::{Arc, Wait};
 use std::test::Fail;
 use std::thread::{join, sleep};
@@ -14,11 +15,17 @@ fn hour() -> Duration {
     Duration::from_secs(3_600)
 }
 
+// An instant so long from now.
+fn later(rt: &(impl Clock + Abort), duration: Duration) -> io::Result<Instant> {
+    let sum = Instant::now(rt)?.checked_add(duration);
+    Ok(sum.expect(rt, "an instant can hold it"))
+}
+
 // Now, an hour before it, as far as the clock goes back, and an hour after it.
-fn around_now(rt: &impl Clock) -> io::Result<[Instant; 3]> {
+fn around_now(rt: &(impl Clock + Abort)) -> io::Result<[Instant; 3]> {
     let now = Instant::now(rt)?;
     let past = now.checked_sub(hour()).unwrap_or(now);
-    Ok([past, now, now + hour()])
+    Ok([past, now, later(rt, hour())?])
 }
 
 #[test]
@@ -83,7 +90,7 @@ fn a_deadline_that_runs_out_leaves_the_receiver_open(rt: HostRuntime) -> Result<
         receiver.recv_timeout(short),
         Err(RecvTimeoutError::Timeout)
     );
-    assert!(rt; Instant::now(&rt)? > now + short);
+    assert!(rt; Instant::now(&rt)?.duration_since(now) > short);
     assert!(rt; !receiver.is_closed() && !sender.is_closed());
     assert_eq!(rt; receiver.try_recv(), Err(TryRecvError::Empty));
     // Its waker came back each time, so that it can wait again and be woken.
@@ -120,7 +127,7 @@ fn every_receive_of_a_message_that_crossed(rt: HostRuntime) -> Result<(), Fail> 
 #[test]
 fn a_deadline_in_an_hour_waits_for_the_message(rt: HostRuntime) -> Result<(), Fail> {
     for timeout in [None, Some(hour()), Some(Duration::MAX)] {
-        let deadline = Instant::now(&rt)? + hour();
+        let deadline = later(&rt, hour())?;
         let (sender, mut receiver) = channel::<u8, _>(&rt, rt.alloc())?;
         let (sent, received) = join(
             &rt,
@@ -141,7 +148,7 @@ fn a_deadline_in_an_hour_waits_for_the_message(rt: HostRuntime) -> Result<(), Fa
 
 #[test]
 fn a_deadline_in_an_hour_waits_for_the_senders_drop(rt: HostRuntime) -> Result<(), Fail> {
-    let deadline = Instant::now(&rt)? + hour();
+    let deadline = later(&rt, hour())?;
     let (sender, mut receiver) = channel::<u8, _>(&rt, rt.alloc())?;
     let ((), received) = join(
         &rt,
