@@ -154,3 +154,9 @@ untimed_gone e d is endless (timed_closed c) = left_closed e c
 pub left_is_closed : {T : Type 0} {r : Result T RecvError} {q : ReceiverAt} → LeavesClosed r q → IsClosed q
 left_is_closed (left_received x) = is_over closed_itself
 left_is_closed (left_closed e c) = is_over c
+
+-- a receiver that had its waker may block again
+pub ready_again : {W : Type 0} {hand after : Option W} {q : ReceiverAt} (k : W) → hand ≡ Some k → Hands hand after q → IsReady after q
+ready_again k is (as_it_was hand q) none = absurd (cc)
+ready_again k is (sender_took j c) none = is_over c
+ready_again k is (came_back j b) none = absurd (cc)
