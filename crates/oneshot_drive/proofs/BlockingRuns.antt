@@ -1,5 +1,5 @@
 -- What each receive that blocks owes its ground once it is decided, and that its steps make a run.
-use Rattle.std.proofs.Common.{◌≡◌, ℕ, Bool, true, false, List, [], ◌∷◌, Option, Some, None, Result, Ok, Err, refl, sym, ap, ◌∙◌, subst}
+use Rattle.std.proofs.Common.{◌≡◌, ℕ, Bool, true, false, List, [], ◌∷◌, Option, Some, Result, Ok, Err, refl, sym, subst}
 use Rattle.oneshot_errors.specs.declared.recv.RecvError.{RecvError}
 use Rattle.oneshot_errors.specs.declared.recv_timeout.RecvTimeoutError.{RecvTimeoutError}
 use Rattle.oneshot_errors.specs.declared.recv_timeout.RecvTimeoutError.TheVariants as Timed
@@ -11,19 +11,19 @@ use Rattle.oneshot_machine.specs.declared.machine.Seen.TheVariants as S
 use Rattle.oneshot_machine.specs.declared.machine.Step.TheVariants as Steps
 use Rattle.oneshot_machine.specs.declared.machine.receiver.ReceiverPos.{ReceiverPos}
 use Rattle.oneshot_machine.specs.declared.machine.receiver.ReceiverPos.TheVariants.{Close, Take, CloseOnly, SumClock, StartLoad, RecvLoad, RecvTake, RecvFreeGot, RecvFreeGone}
-use Rattle.oneshot_machine.specs.declared.machine.receiver.ReceiverStart.TheVariants.{Recv, RecvRef, RecvTimeout}
+use Rattle.oneshot_machine.specs.declared.machine.receiver.ReceiverStart.TheVariants.{Recv, RecvTimeout}
 use Rattle.oneshot_machine.specs.declared.states.Op.TheVariants.{Store}
-use Rattle.oneshot_machine.specs.Logs.{Event, Log, Grows, receiver_of, did, took, clocked, worded}
+use Rattle.oneshot_machine.specs.Logs.{Log, Grows, receiver_of, did, took, clocked, worded}
 use Rattle.oneshot_machine.specs.Phases.{between, ReceiverAt, here, Closing, closed_itself, over, receiver_next}
 use Rattle.oneshot_machine.specs.Receiver.{receiver_step, receiver_row}
-use Rattle.oneshot_machine.specs.Rows.{Outcome, Goes, Answers}
+use Rattle.oneshot_machine.specs.Rows.{Goes}
 use Rattle.oneshot_machine.specs.Runs.{last, more, Ran, ReceiverRan}
-use Rattle.oneshot_machine.specs.Slots.{Held, away, vacant, held, ReceiverMay, may_close, may_close_only, ReceiverFinds, close, close_only}
+use Rattle.oneshot_machine.specs.Slots.{Held, vacant, held, ReceiverMay, may_close, may_close_only, ReceiverFinds, close, close_only}
 use Rattle.oneshot_machine.proofs.GrownLists.{receiver_moved, and_then}
-use Rattle.oneshot_drive.specs.Blocking.{Went, Way, by_value, load_of, value_end, end_of, EndsAt, ends_message, ends_closed, ends_unclosed, ends_nothing, Returns, returned, taken, Refills, refilled, HandAt}
-use Rattle.oneshot_drive.specs.Calls.{AtRest, rests_open, rests_closed, IsClosed, is_over, LeavesClosed, left_received, left_closed, LeavesTimed, timed_received, timed_out, timed_closed, IsReady, Hands, as_it_was, sender_took, came_back, recv_reply, timed_reply, received}
+use Rattle.oneshot_drive.specs.Blocking.{Went, value_end, EndsAt, ends_message, ends_closed, ends_unclosed, ends_nothing, Returns, returned, taken, Refills, refilled, HandAt}
+use Rattle.oneshot_drive.specs.Calls.{AtRest, rests_open, rests_closed, IsClosed, is_over, LeavesClosed, left_received, left_closed, LeavesTimed, timed_received, timed_out, timed_closed, IsReady, Hands, as_it_was, sender_took, came_back}
 use Rattle.oneshot_drive.proofs.ReceiverRuns.{HasClosed}
-use Rattle.oneshot_drive.proofs.Stretches.{by_clock, ran, whole, before}
+use Rattle.oneshot_drive.proofs.Stretches.{by_clock, ran, before}
 use Rattle.oneshot_drive.proofs.WaitingRuns.{unmoved, clocked_at}
 
 module _ {T W : Type 0} where
@@ -108,11 +108,6 @@ module _ {T W : Type 0} where
   over_freed : {l k j : Log T W} → Went RecvLoad (Goes RecvFreeGone) l k → Grows k j (did Steps.Free ∷ []) → ReceiverRan Recv l j R.Disconnected [] []
   over_freed went s = ran went (did Steps.Free ∷ []) (last _ refl refl) s refl refl
 
-  pub gone_slots : {f : Found} {q : ReceiverAt} {m : Held T} {w : Held W} → EndsAt false f q m w → ¬ (f ≡ F.Message) → (m ≡ vacant) × (w ≡ vacant)
-  gone_slots (ends_message t g left x) a = absurd (a refl)
-  gone_slots (ends_closed t c) a = (refl, refl)
-  gone_slots (ends_unclosed t left) a = (refl, refl)
-
   pub gone_freed : {l k j : Log T W} (f : Found) → ¬ (f ≡ F.Message) → Went RecvLoad (value_end f) l k → Grows k j (did Steps.Free ∷ []) → ReceiverRan Recv l j R.Disconnected [] []
   gone_freed F.Message a went s = absurd (a refl)
   gone_freed F.Closed a went s = over_freed went s
@@ -154,3 +149,9 @@ untimed_gone e d is endless (timed_closed c) = left_closed e c
 pub left_is_closed : {T : Type 0} {r : Result T RecvError} {q : ReceiverAt} → LeavesClosed r q → IsClosed q
 left_is_closed (left_received x) = is_over closed_itself
 left_is_closed (left_closed e c) = is_over c
+
+-- a receiver that had its waker may block again
+pub ready_again : {W : Type 0} {hand after : Option W} {q : ReceiverAt} (k : W) → hand ≡ Some k → Hands hand after q → IsReady after q
+ready_again k is (as_it_was hand q) none = absurd (cc)
+ready_again k is (sender_took j c) none = is_over c
+ready_again k is (came_back j b) none = absurd (cc)

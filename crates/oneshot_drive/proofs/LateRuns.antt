@@ -1,15 +1,14 @@
 -- What a receive whose deadline is over owes its ground, and where its steps lead.
-use Rattle.std.proofs.Common.{◌≡◌, ℕ, Bool, true, [], ◌∷◌, Option, Some, None, refl, sym, ap, ◌∙◌, subst}
+use Rattle.std.proofs.Common.{◌≡◌, ℕ, Bool, true, [], ◌∷◌, refl, sym, subst}
 use Rattle.oneshot_drive.specs.declared.waiting.Found.{Found}
 use Rattle.oneshot_drive.specs.declared.waiting.Found.TheVariants as F
-use Rattle.oneshot_machine.specs.declared.machine.Reply.TheVariants as R
 use Rattle.oneshot_machine.specs.declared.machine.Seen.TheVariants as S
 use Rattle.oneshot_machine.specs.declared.machine.Step.TheVariants as Steps
 use Rattle.oneshot_machine.specs.declared.machine.receiver.ReceiverPos.TheVariants.{EndSwap, EndBack, LatePark, LateLoad}
 use Rattle.oneshot_machine.specs.declared.states.Op.TheVariants.{Load, Swap}
 use Rattle.oneshot_machine.specs.Logs.{Log, Grows, receiver_of, handed, parked, worded}
-use Rattle.oneshot_machine.specs.Phases.{ReceiverAt, here, between, waits, blocked, overdue, full, waited, unclosed, found_closed, over, receiver_next}
-use Rattle.oneshot_machine.specs.Rows.{Goes, Answers}
+use Rattle.oneshot_machine.specs.Phases.{ReceiverAt, here, between, blocked, overdue, full, waited, unclosed, found_closed, over, receiver_next}
+use Rattle.oneshot_machine.specs.Rows.{Goes}
 use Rattle.oneshot_machine.specs.Slots.{Held, away, vacant, held, ReceiverMay, may_stop, may_wait_on, ReceiverFinds, stop_waiting, stop_claimed, stop_message, stop_closed, late_longer, late_message, late_closed}
 use Rattle.oneshot_machine.proofs.GrownLists.{receiver_moved}
 use Rattle.oneshot_drive.specs.Blocking.{Went, ref_end, EndsAt, ends_message, ends_closed, ends_unclosed, ends_nothing, IsWaiting, is_waiting, IsOverdue, is_overdue}

@@ -1,9 +1,8 @@
 -- How a receiver's ground in memory stands after each of its steps, and after its sender's.
 use Rattle.std.proofs.Common.{◌≡◌, ℕ, ◌≤◌, lit≤, Bool, true, false, rules, List, [], ◌∷◌, ◌++◌, Option, Some, None, refl, sym, ap, subst}
-use Rattle.std.specs.Prelude.{not, ◌&&◌, ◌==◌}
 use Rattle.oneshot_machine.specs.declared.states.Op.{Op}
 use Rattle.oneshot_machine.specs.Logs.{Grows, words, receiver_of, worded}
-use Rattle.oneshot_machine.specs.Phases.{Open, looked, between, blocked, overdue, at_once, waited, found_closed, closed_itself, ReceiverAt, receiver_next, receiver_at}
+use Rattle.oneshot_machine.specs.Phases.{looked, between, blocked, at_once, waited, found_closed, closed_itself, ReceiverAt, receiver_next, receiver_at}
 use Rattle.oneshot_machine.specs.Slots.{Held, away, vacant, held, ReceiverMay, may_load_first, may_load, may_load_closed, may_store, may_wait, may_stop, may_wait_on, may_close, may_close_only, may_drop_first, may_drop, may_drop_closed, ReceiverFinds, first_empty, first_message, first_closed, load_empty, load_message, load_closed, load_over, store_empty, store_message, store_closed, wait_longer, wait_claimed, wait_message, wait_closed, stop_waiting, stop_claimed, stop_message, stop_closed, late_longer, late_message, late_closed, close, close_only, drop_first_empty, drop_first_message, drop_first_closed, drop_empty, drop_message, drop_closed, drop_over}
 use Rattle.oneshot_machine.specs.States.{word_after}
 use Rattle.oneshot_machine.specs.Words.{saw}
@@ -11,7 +10,7 @@ use Rattle.oneshot_machine.proofs.GrownLists.{receiver_moved}
 use Rattle.oneshot_drive.specs.declared.memory.Event.{Event}
 use Rattle.oneshot_drive.specs.declared.memory.receiver.Act.{Act}
 use Rattle.oneshot_drive.specs.declared.memory.receiver.Act.TheVariants as A
-use Rattle.oneshot_drive.specs.Memory.{Plan, Receiving, slot_of, event_of, logged, receiving_of, keeps_message, keeps_waker, is_open, ReceiverOwns, found_it, swapped_it, swapped_end, stopped_it, stopped_end, closed, dropped, ReceiverStands, new_open, new_sent, new_dropped, looked_open, looked_sent, looked_dropped, waiting, waiting_claimed, waiting_sent, waiting_dropped, late_claimed, late_sent, late_dropped, owns, freed, went, word_left, message_left, lies}
+use Rattle.oneshot_drive.specs.Memory.{slot_of, event_of, logged, keeps_message, keeps_waker, is_open, ReceiverOwns, found_it, swapped_it, swapped_end, stopped_it, stopped_end, closed, dropped, ReceiverStands, new_open, new_sent, new_dropped, looked_open, looked_sent, looked_dropped, waiting, waiting_claimed, waiting_sent, waiting_dropped, late_claimed, late_sent, late_dropped, owns, freed, went, word_left, message_left, lies}
 use Rattle.oneshot_drive.proofs.MemoryLogs.{words_same}
 
 module _ {T W : Type 0} where
@@ -174,12 +173,7 @@ pub slot_held : {X : Type 0} (own : Bool) (cell : Option X) (x : X) → slot_of 
 slot_held true cell x e = refl
 slot_held false cell x e = absurd (cc)
 
--- whether both ends are here, by the ground's own fields
-pub open_by : {X : Type 0} (word : ℕ) (own : Bool) (cell : Option X) → ((word == 3) && not own) ≡ is_open word (slot_of own cell)
-open_by word false cell = search rules
-open_by word true None = search rules
-open_by word true (Some x) = search rules
-
+-- both ends are here, by the ground's own fields
 pub record IsOpen (word : ℕ) (own : Bool) : Type 0 where
   pub word_3 : word ≡ 3
   pub away : own ≡ false
@@ -250,31 +244,3 @@ claimed (late_sent x) e lying = absurd (cc)
 claimed late_dropped e lying = absurd (cc)
 claimed (owns message cell has) e lying = absurd (cc)
 claimed went e lying = absurd (cc)
-
--- the message's slot is not the receiver's there
-pub lying_away : {T W : Type 0} {q : ReceiverAt} {word : ℕ} {own_message own_waker : Bool} {cell : Option T} {waker : Option W} → ReceiverStands q word own_message own_waker cell waker → lies own_waker waker ≡ true → own_message ≡ false
-lying_away new_open lying = refl
-lying_away (new_sent x) lying = refl
-lying_away new_dropped lying = refl
-lying_away (looked_open o k) lying = refl
-lying_away (looked_sent o x k) lying = refl
-lying_away (looked_dropped o k) lying = refl
-lying_away (waiting k) lying = refl
-lying_away (waiting_claimed k) lying = refl
-lying_away (waiting_sent x) lying = refl
-lying_away waiting_dropped lying = refl
-lying_away (late_claimed k) lying = refl
-lying_away (late_sent x) lying = refl
-lying_away late_dropped lying = refl
-lying_away (owns message cell has) lying = absurd (cc)
-lying_away (freed _ _ _ has) lying = refl
-lying_away went lying = refl
-
--- what the receiver sees of the sender's act
-slots_away : {X : Type 0} (own : Bool) (cell cell' : Option X) → own ≡ false → slot_of own cell ≡ slot_of own cell'
-slots_away true cell cell' e = absurd (cc)
-slots_away false cell cell' e = refl
-
-pub wakers_away : {W : Type 0} (own : Bool) (waker : Option W) → lies own waker ≡ true → slot_of own waker ≡ slot_of own None
-wakers_away true waker lying = absurd (cc)
-wakers_away false waker lying = refl

@@ -137,10 +137,6 @@ module _ {T W : Type 0} where
   drop_freed n e s t = record { run = worded Xor n ∷ did Free ∷ []; is_run = more DropFree _ _ refl (rw e) (last _ refl refl); grows = and_then _ _ s t; gives = refl; gets = refl }
 
   -- the last word to a receiver that waits
-  pub owes_waker : {p : SenderAt} {word : ℕ} {m : Held T} {w : Held W} → Owes p word m w → (k : W) × (w ≡ held k)
-  owes_waker (owes_message x k) = (k, refl)
-  owes_waker (owes_end k) = (k, refl)
-
   owes_asks : {p : SenderAt} {word : ℕ} {m : Held T} {w : Held W} → Owes p word m w → SenderMay {W = W} p (Swap word) m vacant
   owes_asks (owes_message x k) = may_finish_send x
   owes_asks (owes_end k) = may_finish_drop

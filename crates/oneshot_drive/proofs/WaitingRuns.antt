@@ -1,19 +1,18 @@
 -- What a receive that stores its waker and waits owes its ground, and where its steps lead.
-use Rattle.std.proofs.Common.{◌≡◌, ℕ, Bool, true, false, List, [], ◌∷◌, Option, Some, None, refl, sym, ap, ◌∙◌, subst}
+use Rattle.std.proofs.Common.{◌≡◌, ℕ, Bool, true, false, [], ◌∷◌, Option, Some, None, refl, sym, ap, ◌∙◌, subst}
 use Rattle.oneshot_drive.specs.declared.waiting.Found.{Found}
 use Rattle.oneshot_drive.specs.declared.waiting.Found.TheVariants as F
-use Rattle.oneshot_machine.specs.declared.machine.Reply.TheVariants as R
 use Rattle.oneshot_machine.specs.declared.machine.Seen.TheVariants as S
 use Rattle.oneshot_machine.specs.declared.machine.Step.TheVariants as Steps
 use Rattle.oneshot_machine.specs.declared.machine.receiver.ReceiverPos.{ReceiverPos}
-use Rattle.oneshot_machine.specs.declared.machine.receiver.ReceiverPos.TheVariants.{StartWrite, StartSwap, BackFull, BackClosed, Park, ParkLoad, Clock, TimedPark, TimedLoad, EndSwap, RecvWrite, RecvSwap, RecvBackFull, RecvBackClosed, RecvPark, RecvParkLoad}
+use Rattle.oneshot_machine.specs.declared.machine.receiver.ReceiverPos.TheVariants.{StartSwap, BackFull, BackClosed, Park, ParkLoad, Clock, TimedLoad, EndSwap, RecvSwap, RecvBackFull, RecvBackClosed, RecvPark, RecvParkLoad}
 use Rattle.oneshot_machine.specs.declared.states.Op.TheVariants.{Load, Swap}
-use Rattle.oneshot_machine.specs.Logs.{Event, Log, Grows, receiver_of, handed, parked, clocked, worded}
+use Rattle.oneshot_machine.specs.Logs.{Log, Grows, receiver_of, handed, parked, clocked, worded}
 use Rattle.oneshot_machine.specs.Phases.{ReceiverAt, here, looked, waits, blocked, full, at_once, waited, unclosed, found_closed, over, receiver_next, receiver_at}
-use Rattle.oneshot_machine.specs.Rows.{Outcome, Goes, Answers}
+use Rattle.oneshot_machine.specs.Rows.{Outcome, Goes}
 use Rattle.oneshot_machine.specs.Slots.{Held, away, vacant, held, ReceiverMay, may_store, may_wait, ReceiverFinds, store_empty, store_message, store_closed, wait_longer, wait_claimed, wait_message, wait_closed}
 use Rattle.oneshot_machine.proofs.GrownLists.{words_stay, receiver_moved}
-use Rattle.oneshot_drive.specs.Blocking.{Went, Way, by_ref, by_value, load_of, write_of, wait_of, asked_of, ref_end, value_end, end_of, EndsAt, ends_message, ends_closed, ends_unclosed, IsOpen, is_open, IsWaiting, is_waiting, Returns, returned, taken, Refills, refilled, HandAt, WaitedHand}
+use Rattle.oneshot_drive.specs.Blocking.{Went, Way, by_ref, by_value, load_of, write_of, wait_of, asked_of, ref_end, end_of, EndsAt, ends_message, ends_closed, ends_unclosed, IsOpen, is_open, IsWaiting, is_waiting, Returns, returned, taken, refilled, HandAt, WaitedHand}
 use Rattle.oneshot_drive.specs.Calls.{IsReady}
 use Rattle.oneshot_drive.proofs.ReceiverRuns.{Loaded, loaded_message, loaded_empty, loaded_closed, closed_finds}
 use Rattle.oneshot_drive.proofs.Stretches.{on, begun, by_word, by_write, by_withdraw, by_park, by_clock}

@@ -1,5 +1,5 @@
 -- What a contract sees of a ground in memory, and how its word and its slots stand with its list.
-use Rattle.std.specs.Prelude.{◌≡◌, ℕ, Bool, true, false, not, ◌||◌, ◌==◌, if◌then◌else◌, List, [], map, Option, Some, None}
+use Rattle.std.specs.Prelude.{ℕ, Bool, true, false, not, ◌||◌, ◌==◌, if◌then◌else◌, List, [], map, Option, Some, None}
 use Rattle.std.specs.Option.{option_map}
 use Rattle.oneshot_drive.specs.declared.memory.Event.{Event}
 use Rattle.oneshot_drive.specs.declared.memory.receiver.Act.{Act}
@@ -7,7 +7,7 @@ use Rattle.oneshot_drive.specs.declared.memory.receiver.Act.TheVariants as A
 use Rattle.oneshot_machine.specs.Logs as logs
 use Rattle.oneshot_machine.specs.declared.states.Op.{Op}
 use Rattle.oneshot_machine.specs.declared.states.Op.TheVariants.{Load, Store, Swap}
-use Rattle.oneshot_machine.specs.Phases.{By, SenderAt, fresh, owes, finished, late, Open, looked, blocked, Got, waited, Closing, ReceiverAt, first, here, waits, overdue, full, unclosed, over, gone, ended}
+use Rattle.oneshot_machine.specs.Phases.{By, SenderAt, fresh, owes, finished, late, Open, blocked, Got, waited, Closing, ReceiverAt, first, here, waits, overdue, full, unclosed, over, gone, ended}
 use Rattle.oneshot_machine.specs.Slots.{Held, away, vacant, held}
 
 -- what it has done, its word, and both slots as its end sees them

@@ -326,14 +326,10 @@ fn a_receiver_may_try_again_after_its_deadline(rt: HostRuntime) {
         recv_deadline(&mut g, &rt, &mut hand),
         Err(RecvTimeoutError::Timeout)
     );
-    assert_eq!(rt; try_recv(&mut g), Err(TryRecvError::Empty));
-    assert_eq!(rt;
-        recv_deadline(&mut g, &rt, &mut hand),
-        Err(RecvTimeoutError::Timeout)
-    );
-    g.sender_sends(7);
-    assert_eq!(rt; recv_ref(&mut g, &rt, &mut hand), Ok(7));
     assert_eq!(rt; hand, Some(9));
+    assert_eq!(rt; try_recv(&mut g), Err(TryRecvError::Empty));
+    g.sender_sends(7);
+    assert_eq!(rt; try_recv(&mut g), Ok(7));
     assert_made(
         &rt,
         g.events(),
@@ -345,12 +341,6 @@ fn a_receiver_may_try_again_after_its_deadline(rt: HostRuntime) {
             (Step::Word(Op::Swap(3)), Seen::Word(0)),
             (Step::Withdraw, Seen::Done),
             (Step::Word(Op::Load), Seen::Word(3)),
-            (Step::Word(Op::Load), Seen::Word(3)),
-            (Step::WriteWaker, Seen::Done),
-            (Step::Word(Op::Swap(0)), Seen::Word(3)),
-            (Step::Clock, Seen::Over(true)),
-            (Step::Word(Op::Swap(3)), Seen::Word(0)),
-            (Step::Withdraw, Seen::Done),
             (Step::Word(Op::Load), Seen::Word(4)),
             (Step::Word(Op::Store(2)), Seen::Done),
             (Step::TakeMessage, Seen::Done),
@@ -362,11 +352,11 @@ fn a_receiver_may_try_again_after_its_deadline(rt: HostRuntime) {
 fn a_receiver_may_wait_without_end_after_its_deadline(rt: HostRuntime) {
     let mut g = MemoryReceiver::<u64, u8, _>::new(&rt, rt.alloc());
     let mut hand = Some(9);
+    g.sender_will_drop(3);
     assert_eq!(rt;
         recv_deadline(&mut g, &rt, &mut hand),
         Err(RecvTimeoutError::Timeout)
     );
-    g.sender_will_drop(1);
     assert!(rt; recv_ref(&mut g, &rt, &mut hand).is_err());
     assert_eq!(rt; hand, None);
     assert_made(

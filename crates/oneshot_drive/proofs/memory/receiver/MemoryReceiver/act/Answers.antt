@@ -1,5 +1,5 @@
-use Rattle.std.proofs.Common.{◌≡◌, true, sym, ap, ◌∙◌}
-use Rattle.oneshot_drive.specs.Memory.{slot_of, is_open}
+use Rattle.std.proofs.Common.{sym, ap, ◌∙◌}
+use Rattle.oneshot_drive.specs.Memory.{is_open}
 use Rattle.oneshot_drive.proofs.MemoryReceivers.{IsOpen, is_open_by, left_open, left_waiting}
 use Rattle.oneshot_drive.proofs.memory.receiver.MemoryReceiver.act.Goals as goal
 

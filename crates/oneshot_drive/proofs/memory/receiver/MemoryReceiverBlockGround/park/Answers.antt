@@ -11,4 +11,4 @@ invariant_of-self g c =
 
 pub returns-clause-list : goal.returns-clause-list
 returns-clause-list g c =
-    (c.pause-woken.result, step_grows c.self.inside.events.items c.record.new.events.items c.of-event.result (parked c.pause-woken.result) c.record.ensures (ap event_of c.of-event.ensures) (ap (λ s. s.log) (c.self.view_is ∙ c.pause-woken.ensures)))
+    (c.self.inside.token, step_grows c.self.inside.events.items c.record.new.events.items c.of-event.result (parked c.self.inside.token) c.record.ensures (ap event_of c.of-event.ensures) (ap (λ s. s.log) (c.self.view_is ∙ c.pause.ensures)))
