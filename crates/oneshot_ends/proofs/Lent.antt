@@ -1,5 +1,5 @@
 -- What a driver over a lent seat tells of the receiver that lent it.
-use Rattle.std.proofs.Common.{◌≡◌, ℕ, false, List, [], ◌++◌, Option, Some, None, Result, Err, map, sym, ap, ◌∙◌, subst}
+use Rattle.std.proofs.Common.{◌≡◌, ℕ, false, List, ◌++◌, Option, Some, None, Result, Err, map, sym, ap, ◌∙◌, subst}
 use Rattle.std.specs.Prelude.{IfSome}
 use Rattle.std.specs.Time.{instant_nanos, FitsClock}
 use Rattle.std.specs.declared.time.Duration.{Duration}
@@ -13,7 +13,6 @@ use Rattle.oneshot_machine.specs.Logs.{words}
 use Rattle.oneshot_machine.specs.Phases.{ReceiverAt, closed_itself, receiver_at}
 use Rattle.oneshot_machine.specs.Receiver.{receiver_start, receiver_step, receiver_row}
 use Rattle.oneshot_machine.specs.Runs.{ReceiverRan}
-use Rattle.oneshot_machine.specs.Words.{Noted}
 use Rattle.oneshot_word.specs.Sides.{Side}
 use Rattle.oneshot_ends.specs.declared.deadline.Deadline.{Deadline}
 use Rattle.oneshot_ends.specs.declared.deadline.Deadline.TheVariants.{At, Passed, Never}

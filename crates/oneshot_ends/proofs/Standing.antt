@@ -1,5 +1,5 @@
 -- How an end's ground stands with its side: one that freed makes no operation, and any other shows its side as it is.
-use Rattle.std.proofs.Common.{◌≡◌, ℕ, Bool, true, false, List, [], ◌∷◌, ◌++◌, Option, Some, None, refl, sym, ap, ◌∙◌, subst}
+use Rattle.std.proofs.Common.{◌≡◌, ℕ, Bool, true, false, List, [], ◌∷◌, ◌++◌, Option, refl, sym, ap, ◌∙◌, subst}
 use Rattle.std.proofs.Common.{Result, Err, map}
 use Rattle.std.specs.List.{cons_option}
 use Rattle.std.specs.Option.{option_map}
@@ -20,7 +20,7 @@ use Rattle.oneshot_machine.specs.Words.{Noted}
 use Rattle.oneshot_machine.proofs.GrownLists.{words_after}
 use Rattle.oneshot_drive.specs.Calls.{AtRest, rests_new, IsClosed, is_over, Leaves, leaves_received, leaves_open, leaves_closed, LeavesClosed, left_received, left_closed, IsReady, IsLate, is_late}
 use Rattle.oneshot_word.specs.Sides.{Side, SenderCan, ReceiverCan, ReceiverOwns, none_yet, owns_waker, gave_waker, lost_waker, owns_full, owns_unclosed, owns_closed, gave_all, owns_all}
-use Rattle.oneshot_ends.specs.Sides.{MayBeFreed, not_freed, freed_full, freed_unclosed, freed_closed, freed_ended, unless_freed, slot_of, events_of, logged, lent, left_of, IsNewReceiver}
+use Rattle.oneshot_ends.specs.Sides.{MayBeFreed, not_freed, freed_full, freed_unclosed, freed_closed, freed_ended, unless_freed, events_of, logged, lent, left_of, IsNewReceiver}
 
 pub words_of : (T W : Type 0) (xs : List Noted) → words (events_of {T = T} {W = W} xs) ≡ xs
 words_of T W [] = refl

@@ -1,5 +1,5 @@
 -- What the history, the freeing, the wakers and the replies are in worked traces of calls with a deadline, and in the same traces damaged. The checker computes all of it.
-use Rattle.std.specs.Prelude.{◌≡◌, not, [], ◌∷◌, ◌++◌, take, Some, None, IsTrue}
+use Rattle.std.specs.Prelude.{◌≡◌, not, [], ◌∷◌, ◌++◌, Some, None, IsTrue}
 use Rattle.std.specs.List.{list_all}
 use Rattle.oneshot_machine.specs.declared.machine.Reply.TheVariants as R
 use Rattle.oneshot_machine.specs.declared.machine.Step.TheVariants as T

@@ -1,5 +1,5 @@
 -- A receiver that waits unwoken: what must never be, once the sender's send or drop has answered.
-use Rattle.std.specs.Prelude.{Bool, false, not, ◌&&◌, List, [], ◌∷◌, map, Option, Some, None, IsTrue}
+use Rattle.std.specs.Prelude.{Bool, false, not, ◌&&◌, List, [], ◌∷◌, map, IsTrue}
 use Rattle.oneshot_world.specs.Ahead.{Ahead, ahead_of}
 use Rattle.oneshot_world.specs.Calls.{calls_of}
 use Rattle.oneshot_world.specs.World.{World, opening, Tells}
