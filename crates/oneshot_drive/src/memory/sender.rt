@@ -1,6 +1,6 @@
 //! A sender's ground in memory.
 
-ghost use Rattle.std.specs.Prelude.{◌≡◌, true, map, if◌then◌else◌};
+ghost use Rattle.std.specs.Prelude.{◌≡◌, true, false, map, if◌then◌else◌};
 ghost use Rattle.oneshot_drive.specs.Calls.{IsFresh};
 ghost use Rattle.oneshot_drive.specs.Memory.{event_of, keeps_both, word_then};
 
@@ -45,6 +45,7 @@ impl<'a, T, W, R: Wait> MemorySender<'a, T, W, R> {
     pub fn new(rt: &'a R, alloc: Global, receiver_is_here: bool) -> MemorySender<'a, T, W, R>
         ensures fresh { IsFresh result.log result.message result.waker }
         ensures word { result.word ≡ (if receiver_is_here then 3 else 2) }
+        ensures stays { result.stops ≡ false }
     {
         MemorySender {
             events: Vec::new(alloc),
@@ -66,6 +67,7 @@ impl<'a, T, W, R: Wait> MemorySender<'a, T, W, R> {
     pub fn with_waiting_receiver(rt: &'a R, alloc: Global, waker: W) -> MemorySender<'a, T, W, R>
         ensures fresh { IsFresh result.log result.message result.waker }
         ensures word { result.word ≡ 0 }
+        ensures stays { result.stops ≡ false }
     {
         MemorySender {
             events: Vec::new(alloc),
