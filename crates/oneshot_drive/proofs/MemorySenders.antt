@@ -1,14 +1,14 @@
 -- How a sender's ground in memory stands after each of its steps.
-use Rattle.std.proofs.Common.{◌≡◌, ℕ, ◌≤◌, lit≤, Bool, false, List, [], ◌∷◌, ◌++◌, Option, Some, None, sym, ap, subst}
+use Rattle.std.proofs.Common.{◌≡◌, ℕ, ◌≤◌, lit≤, Bool, true, false, List, [], ◌∷◌, ◌++◌, Option, Some, None, sym, ap, subst}
 use Rattle.oneshot_machine.specs.declared.states.Op.{Op}
 use Rattle.oneshot_machine.specs.Logs.{Grows, words, sender_of, worded}
 use Rattle.oneshot_machine.specs.Phases.{sending, dropping, SenderAt, sender_next, sender_at}
-use Rattle.oneshot_machine.specs.Slots.{Held, vacant, held, SenderMay, may_add, may_flip, may_finish_send, may_finish_drop, SenderFinds, add_empty, add_waker, add_gone, flip_empty, flip_waker, flip_gone, finish_send, finish_drop}
+use Rattle.oneshot_machine.specs.Slots.{Held, vacant, held, SenderMay, may_add, may_flip, may_finish_send, may_finish_drop, SenderFinds, add_empty, add_waker, add_gone, flip_empty, flip_waker, flip_gone, finish_send, finish_drop, finish_late_send, finish_late_drop}
 use Rattle.oneshot_machine.specs.States.{word_after}
 use Rattle.oneshot_machine.specs.Words.{saw}
 use Rattle.oneshot_machine.proofs.GrownLists.{sender_moved}
 use Rattle.oneshot_drive.specs.declared.memory.Event.{Event}
-use Rattle.oneshot_drive.specs.Memory.{slot_of, event_of, logged, keeps_both, SenderStands, receiver_here, receiver_waits, receiver_gone, found_waker, has_all, has_both, gave_all, freed_both}
+use Rattle.oneshot_drive.specs.Memory.{slot_of, event_of, logged, keeps_both, word_then, SenderStands, receiver_here, receiver_waits, receiver_gone, found_waker, found_late, has_all, has_both, gave_all, freed_both}
 use Rattle.oneshot_drive.proofs.MemoryLogs.{words_same}
 
 module _ {T W : Type 0} where
@@ -32,6 +32,13 @@ module _ {T W : Type 0} where
   sender_word _ receiver_gone (Some x) (may_add _) = record { code = lit≤ tt; finds = add_gone x; stands = has_both None (has_all sending) }
   sender_word _ (has_both None (found_waker sending)) (Some x) (may_finish_send _) = record { code = lit≤ tt; finds = finish_send x; stands = gave_all sending 4 None }
   sender_word _ (has_both None (found_waker dropping)) None may_finish_drop = record { code = lit≤ tt; finds = finish_drop; stands = gave_all dropping 2 None }
+  sender_word _ (has_both None (found_late sending)) (Some x) (may_finish_send _) = record { code = lit≤ tt; finds = finish_late_send x; stands = gave_all sending 4 None }
+  sender_word _ (has_both None (found_late dropping)) None may_finish_drop = record { code = lit≤ tt; finds = finish_late_drop; stands = gave_all dropping 2 None }
+  sender_word _ (has_both None (found_late sending)) None may = elim may [ ]
+  sender_word _ (has_both None (found_late dropping)) (Some x) may = elim may [ ]
+  sender_word _ (has_both (Some k) (found_late by)) None may = elim may [ ]
+  sender_word _ (has_both (Some k) (found_late by)) (Some x) may = elim may [ ]
+  sender_word _ (freed_both _ (found_late by)) cell may = elim may [ ]
   sender_word _ (has_both None (found_waker sending)) None may = elim may [ ]
   sender_word _ (has_both None (found_waker dropping)) (Some x) may = elim may [ ]
   sender_word _ (has_both (Some k) (found_waker by)) None may = elim may [ ]
@@ -62,3 +69,17 @@ sender_freed receiver_gone e = absurd (cc)
 sender_freed (has_both cell owns) e = freed_both cell owns
 sender_freed (gave_all by word cell) e = gave_all by word cell
 sender_freed (freed_both cell owns) e = freed_both cell owns
+
+-- the deadline of a receiver whose waker the sender took may be over
+pub sender_outlasts : {W : Type 0} {p : SenderAt} {word : ℕ} {own_message own_waker : Bool} {waker : Option W} (stops : Bool) → SenderStands p word own_message own_waker waker → SenderStands p (word_then stops word) own_message own_waker waker
+sender_outlasts false stands = stands
+sender_outlasts true receiver_here = receiver_here
+sender_outlasts true (receiver_waits k) = receiver_waits k
+sender_outlasts true receiver_gone = receiver_gone
+sender_outlasts true (has_both cell (found_waker by)) = has_both cell (found_late by)
+sender_outlasts true (has_both cell (found_late by)) = has_both cell (found_late by)
+sender_outlasts true (has_both cell (has_all by)) = has_both cell (has_all by)
+sender_outlasts true (gave_all by word cell) = gave_all by _ cell
+sender_outlasts true (freed_both cell (found_waker by)) = freed_both cell (found_late by)
+sender_outlasts true (freed_both cell (found_late by)) = freed_both cell (found_late by)
+sender_outlasts true (freed_both cell (has_all by)) = freed_both cell (has_all by)

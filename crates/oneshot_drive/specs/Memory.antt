@@ -1,5 +1,5 @@
 -- What a contract sees of a ground in memory, and how its word and its slots stand with its list.
-use Rattle.std.specs.Prelude.{ℕ, Bool, true, false, not, ◌||◌, ◌==◌, if◌then◌else◌, List, [], map, Option, Some, None}
+use Rattle.std.specs.Prelude.{ℕ, Bool, true, false, not, ◌&&◌, ◌||◌, ◌==◌, if◌then◌else◌, List, [], map, Option, Some, None}
 use Rattle.std.specs.Option.{option_map}
 use Rattle.oneshot_drive.specs.declared.memory.Event.{Event}
 use Rattle.oneshot_drive.specs.declared.memory.receiver.Act.{Act}
@@ -10,12 +10,14 @@ use Rattle.oneshot_machine.specs.declared.states.Op.TheVariants.{Load, Store, Sw
 use Rattle.oneshot_machine.specs.Phases.{By, SenderAt, fresh, owes, finished, late, Open, blocked, Got, waited, Closing, ReceiverAt, first, here, waits, overdue, full, unclosed, over, gone, ended}
 use Rattle.oneshot_machine.specs.Slots.{Held, away, vacant, held}
 
--- what it has done, its word, and both slots as its end sees them
+-- what a sender's ground has done, its word, both slots as the sender sees them, and whether the deadline
+-- of a receiver that waits is to be over before the sender finishes
 pub record Memory (T W : Type 0) : Type 0 where
   pub log : logs.Log T W
   pub word : ℕ
   pub message : Held T
   pub waker : Held W
+  pub stops : Bool
 
 -- What a test told a receiver's ground. The sender acts once the receiver made so many pauses; where
 -- it finds then that the receiver waits, it lingers for so many more. The deadline is over once the
@@ -26,7 +28,7 @@ pub record Plan (T : Type 0) : Type 0 where
   pub lingers : ℕ
   pub reads : ℕ
 
--- the same of a receiver's ground, with its plan
+-- what a receiver's ground has done, its word, both slots as the receiver sees them, and its plan
 pub record Receiving (T W : Type 0) : Type 0 where
   pub log : logs.Log T W
   pub word : ℕ
@@ -49,9 +51,15 @@ module _ {T W : Type 0} where
   abbrev pub logged : List (Event T W) → logs.Log T W
   logged events = record { whole = true; place = []; list = map event_of events }
 
-  abbrev pub memory_of : List (Event T W) → ℕ → Option T → Option W → Bool → Bool → Memory T W
-  memory_of events word message waker owns_message owns_waker =
-      record { log = logged events; word = word; message = slot_of owns_message message; waker = slot_of owns_waker waker }
+  abbrev pub memory_of : List (Event T W) → ℕ → Option T → Option W → Bool → Bool → Bool → Memory T W
+  memory_of events word message waker owns_message owns_waker stops =
+      record {
+        log = logged events;
+        word = word;
+        message = slot_of owns_message message;
+        waker = slot_of owns_waker waker;
+        stops = stops;
+      }
 
   abbrev pub receiving_of : List (Event T W) → ℕ → Option T → Option W → Bool → Bool → Plan T → Receiving T W
   receiving_of events word message waker owns_message owns_waker plan =
@@ -66,6 +74,7 @@ module _ {T W : Type 0} where
 -- a sender to which both slots belong, with its word
 pub data SenderOwns : SenderAt → ℕ → Type 0 where
   found_waker : (by : By) → SenderOwns (owes by) 1
+  found_late : (by : By) → SenderOwns (owes by) 3
   has_all : (by : By) → SenderOwns (late by 3) 3
 
 -- how far a sender is, its word, which slots are its own, and the waker in its cell
@@ -81,6 +90,10 @@ pub data SenderStands {W : Type 0} : SenderAt → ℕ → Bool → Bool → Opti
 -- whether both slots are the sender's after an operation that found this word
 abbrev pub keeps_both : ℕ → Bool
 keeps_both word = (word == 2) || (word == 0)
+
+-- the word once the sender took the waker of a receiver that waits, whose deadline is over then or not
+abbrev pub word_then : Bool → ℕ → ℕ
+word_then stops word = if stops && (word == 1) then 3 else word
 
 -- a receiver to which both slots belong, with its word
 pub data ReceiverOwns : ReceiverAt → ℕ → Type 0 where

@@ -181,6 +181,41 @@ fn send_wakes_a_receiver_that_waits(rt: HostRuntime) {
 }
 
 #[test]
+fn send_finishes_after_the_receivers_deadline(rt: HostRuntime) {
+    let mut g = MemorySender::<u64, u8, _>::with_waiting_receiver(&rt, rt.alloc(), 9);
+    g.receiver_will_stop();
+    assert!(rt; send(&mut g, 7));
+    assert_made(
+        &rt,
+        g.events(),
+        &[
+            (Step::WriteMessage, Seen::Done),
+            (Step::Word(Op::Add), Seen::Word(0)),
+            (Step::TakeWaker, Seen::Done),
+            (Step::Word(Op::Swap(4)), Seen::Word(3)),
+            (Step::Wake, Seen::Done),
+        ],
+    );
+}
+
+#[test]
+fn the_senders_drop_finishes_after_the_receivers_deadline(rt: HostRuntime) {
+    let mut g = MemorySender::<u64, u8, _>::with_waiting_receiver(&rt, rt.alloc(), 9);
+    g.receiver_will_stop();
+    drop_sender(&mut g);
+    assert_made(
+        &rt,
+        g.events(),
+        &[
+            (Step::Word(Op::Xor), Seen::Word(0)),
+            (Step::TakeWaker, Seen::Done),
+            (Step::Word(Op::Swap(2)), Seen::Word(3)),
+            (Step::Wake, Seen::Done),
+        ],
+    );
+}
+
+#[test]
 fn the_senders_drop_wakes_a_receiver_that_waits(rt: HostRuntime) {
     let mut g = MemorySender::<u64, u8, _>::with_waiting_receiver(&rt, rt.alloc(), 9);
     drop_sender(&mut g);

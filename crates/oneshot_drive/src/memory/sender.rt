@@ -1,19 +1,20 @@
 //! A sender's ground in memory.
 
-ghost use Rattle.std.specs.Prelude.{◌≡◌, map, if◌then◌else◌};
+ghost use Rattle.std.specs.Prelude.{◌≡◌, true, false, map, if◌then◌else◌};
 ghost use Rattle.oneshot_drive.specs.Calls.{IsFresh};
-ghost use Rattle.oneshot_drive.specs.Memory.{event_of, keeps_both};
+ghost use Rattle.oneshot_drive.specs.Memory.{event_of, keeps_both, word_then};
 
 use crate::ground::SenderGround;
 use crate::memory::{Event, record, sight};
 use oneshot_machine::machine::{Seen, Step};
-use oneshot_machine::states::{DISCONNECTED, EMPTY, Op, RECEIVING};
+use oneshot_machine::states::{DISCONNECTED, EMPTY, Op, RECEIVING, UNPARKING};
 use std::alloc::Global;
 use std::marker::Model;
 use std::snapshot::Snapshot;
 use std::sync::Wait;
 
-/// A sender's ground whose receiver is here, waits or is gone, and does nothing.
+/// A sender's ground whose receiver is here, waits or is gone. It does nothing, but that the deadline of
+/// one that waits may be over while the sender finishes.
 #[derive(Drop)]
 pub struct MemorySender<'a, T, W, R: Wait> {
     events: Vec<Event<T, W>>,
@@ -22,6 +23,7 @@ pub struct MemorySender<'a, T, W, R: Wait> {
     waker: Option<W>,
     owns_message: bool,
     owns_waker: bool,
+    stops: bool,
     rt: &'a R,
 }
 
@@ -31,7 +33,7 @@ impl<'a, T, W, R: Wait> Model for MemorySender<'a, T, W, R> {
 
     ghost Value = { Memory T W };
 
-    ghost view = { λ s. memory_of s.events.items s.word s.message s.waker s.owns_message s.owns_waker };
+    ghost view = { λ s. memory_of s.events.items s.word s.message s.waker s.owns_message s.owns_waker s.stops };
 
     ghost invariant = { λ s.
         SenderStands (sender_of (logged s.events.items)) s.word
@@ -43,6 +45,7 @@ impl<'a, T, W, R: Wait> MemorySender<'a, T, W, R> {
     pub fn new(rt: &'a R, alloc: Global, receiver_is_here: bool) -> MemorySender<'a, T, W, R>
         ensures fresh { IsFresh result.log result.message result.waker }
         ensures word { result.word ≡ (if receiver_is_here then 3 else 2) }
+        ensures stays { result.stops ≡ false }
     {
         MemorySender {
             events: Vec::new(alloc),
@@ -55,6 +58,7 @@ impl<'a, T, W, R: Wait> MemorySender<'a, T, W, R> {
             waker: None,
             owns_message: true,
             owns_waker: false,
+            stops: false,
             rt,
         }
     }
@@ -63,6 +67,7 @@ impl<'a, T, W, R: Wait> MemorySender<'a, T, W, R> {
     pub fn with_waiting_receiver(rt: &'a R, alloc: Global, waker: W) -> MemorySender<'a, T, W, R>
         ensures fresh { IsFresh result.log result.message result.waker }
         ensures word { result.word ≡ 0 }
+        ensures stays { result.stops ≡ false }
     {
         MemorySender {
             events: Vec::new(alloc),
@@ -71,8 +76,16 @@ impl<'a, T, W, R: Wait> MemorySender<'a, T, W, R> {
             waker: Some(waker),
             owns_message: true,
             owns_waker: false,
+            stops: false,
             rt,
         }
+    }
+
+    /// The deadline of a receiver that waits is to be over once the sender took its waker.
+    pub fn receiver_will_stop(&mut self)
+        ensures { self.new ≡ record self.old { stops = true } }
+    {
+        self.stops = true;
     }
 
     /// The steps so far.
@@ -136,6 +149,7 @@ impl<'a, T: Drop, W: Drop, R: Wait> SenderGround<T, W> for MemorySender<'a, T, W
         let Some(waker) = self.waker.take() else {
             unreachable!()
         };
+        self.word = outlasted(self.word, self.stops);
         let event = Event::handing(Step::TakeWaker, &waker);
         record(self.rt, &mut self.events, event);
         waker
@@ -151,6 +165,17 @@ impl<'a, T: Drop, W: Drop, R: Wait> SenderGround<T, W> for MemorySender<'a, T, W
         self.owns_waker = false;
         let event = Event::of(Step::Free, Seen::Done);
         record(self.rt, &mut self.events, event);
+    }
+}
+
+// The word once the waker is taken, of a receiver whose deadline is over then or not.
+fn outlasted(word: u8, stops: bool) -> u8
+    ensures { result ≡ word_then stops word }
+{
+    if stops && word == UNPARKING {
+        EMPTY
+    } else {
+        word
     }
 }
 
