@@ -64,8 +64,8 @@ fn ask<Rt: Wait + Clock + Drop>(
     }
     match replies.recv_timeout(patience) {
         Ok(square) if square.root == root => Ok(square.value),
-        // The receiver is open still. Here it is dropped, so that a reply that comes after all is
-        // refused and goes back to the server; it could also wait on.
+        // The receiver is open still. Here it is dropped, so that a later reply is refused and goes back
+        // to the server; it could also wait on.
         Err(RecvTimeoutError::Timeout) => Err(Unanswered::Late),
         // The server dropped the request, or replied to another.
         _ => Err(Unanswered::Lost),

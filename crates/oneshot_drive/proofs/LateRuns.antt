@@ -9,7 +9,7 @@ use Rattle.oneshot_machine.specs.declared.states.Op.TheVariants.{Load, Swap}
 use Rattle.oneshot_machine.specs.Logs.{Log, Grows, receiver_of, handed, parked, worded}
 use Rattle.oneshot_machine.specs.Phases.{ReceiverAt, here, between, blocked, overdue, full, waited, unclosed, found_closed, over, receiver_next}
 use Rattle.oneshot_machine.specs.Rows.{Goes}
-use Rattle.oneshot_machine.specs.Slots.{Held, away, vacant, held, ReceiverMay, may_stop, may_wait_on, ReceiverFinds, stop_waiting, stop_claimed, stop_message, stop_closed, late_longer, late_message, late_closed}
+use Rattle.oneshot_machine.specs.Slots.{Held, away, vacant, held, ReceiverMay, may_stop, may_wait_on, ReceiverFinds, stop_waiting, stop_claimed, stop_message, stop_closed, overdue_longer, overdue_message, overdue_closed}
 use Rattle.oneshot_machine.proofs.GrownLists.{receiver_moved}
 use Rattle.oneshot_drive.specs.Blocking.{Went, ref_end, EndsAt, ends_message, ends_closed, ends_unclosed, ends_nothing, IsWaiting, is_waiting, IsOverdue, is_overdue}
 use Rattle.oneshot_drive.proofs.Stretches.{on, by_word, by_withdraw, by_park}
@@ -101,9 +101,9 @@ module _ {T W : Type 0} where
     ended_closed : Ended 2 (over found_closed) vacant vacant
 
   ends : {q : ReceiverAt} {m m' : Held T} {w w' : Held W} (n : ℕ) → IsOverdue q m w → ReceiverFinds q Load n m w m' w' → Ended n (receiver_next q Load (S.Word n)) m' w'
-  ends _ is_overdue late_longer = ended_early
-  ends _ is_overdue (late_message x) = ended_message x
-  ends _ is_overdue late_closed = ended_closed
+  ends _ is_overdue overdue_longer = ended_early
+  ends _ is_overdue (overdue_message x) = ended_message x
+  ends _ is_overdue overdue_closed = ended_closed
 
   pub ended : {k j : Log T W} {m m' : Held T} {w w' : Held W} (n : ℕ) → IsOverdue (receiver_of k) m w → ReceiverFinds (receiver_of k) Load n m w m' w' → Grows k j (worded Load n ∷ []) → Ended n (receiver_of j) m' w'
   ended {m'} {w'} n is finds grows = subst (λ q. Ended n q m' w') (sym (receiver_moved Load n grows)) (ends n is finds)

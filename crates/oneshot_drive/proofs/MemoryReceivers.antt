@@ -3,7 +3,7 @@ use Rattle.std.proofs.Common.{◌≡◌, ℕ, ◌≤◌, lit≤, Bool, true, fal
 use Rattle.oneshot_machine.specs.declared.states.Op.{Op}
 use Rattle.oneshot_machine.specs.Logs.{Grows, words, receiver_of, worded}
 use Rattle.oneshot_machine.specs.Phases.{looked, between, blocked, at_once, waited, found_closed, closed_itself, ReceiverAt, receiver_next, receiver_at}
-use Rattle.oneshot_machine.specs.Slots.{Held, away, vacant, held, ReceiverMay, may_load_first, may_load, may_load_closed, may_store, may_wait, may_stop, may_wait_on, may_close, may_close_only, may_drop_first, may_drop, may_drop_closed, ReceiverFinds, first_empty, first_message, first_closed, load_empty, load_message, load_closed, load_over, store_empty, store_message, store_closed, wait_longer, wait_claimed, wait_message, wait_closed, stop_waiting, stop_claimed, stop_message, stop_closed, late_longer, late_message, late_closed, close, close_only, drop_first_empty, drop_first_message, drop_first_closed, drop_empty, drop_message, drop_closed, drop_over}
+use Rattle.oneshot_machine.specs.Slots.{Held, away, vacant, held, ReceiverMay, may_load_first, may_load, may_load_closed, may_store, may_wait, may_stop, may_wait_on, may_close, may_close_only, may_drop_first, may_drop, may_drop_closed, ReceiverFinds, first_empty, first_message, first_closed, load_empty, load_message, load_closed, load_over, store_empty, store_message, store_closed, wait_longer, wait_claimed, wait_message, wait_closed, stop_waiting, stop_claimed, stop_message, stop_closed, overdue_longer, overdue_message, overdue_closed, close, close_only, drop_first_empty, drop_first_message, drop_first_closed, drop_empty, drop_message, drop_closed, drop_over}
 use Rattle.oneshot_machine.specs.States.{word_after}
 use Rattle.oneshot_machine.specs.Words.{saw}
 use Rattle.oneshot_machine.proofs.GrownLists.{receiver_moved}
@@ -94,9 +94,9 @@ module _ {T W : Type 0} where
   receiver_word _ _ _ (waiting_sent x) (may_stop _) = record { code = lit≤ tt; finds = stop_message blocked x; stands = owns (Some x) None stopped_it }
   receiver_word _ _ _ waiting_dropped (may_wait _) = record { code = lit≤ tt; finds = wait_closed blocked; stands = owns None None (closed found_closed) }
   receiver_word _ _ _ waiting_dropped (may_stop _) = record { code = lit≤ tt; finds = stop_closed blocked; stands = owns None None stopped_end }
-  receiver_word _ _ _ (late_claimed k) may_wait_on = record { code = lit≤ tt; finds = late_longer; stands = late_claimed k }
-  receiver_word _ _ _ (late_sent x) may_wait_on = record { code = lit≤ tt; finds = late_message x; stands = owns (Some x) None (found_it waited) }
-  receiver_word _ _ _ late_dropped may_wait_on = record { code = lit≤ tt; finds = late_closed; stands = owns None None (closed found_closed) }
+  receiver_word _ _ _ (late_claimed k) may_wait_on = record { code = lit≤ tt; finds = overdue_longer; stands = late_claimed k }
+  receiver_word _ _ _ (late_sent x) may_wait_on = record { code = lit≤ tt; finds = overdue_message x; stands = owns (Some x) None (found_it waited) }
+  receiver_word _ _ _ late_dropped may_wait_on = record { code = lit≤ tt; finds = overdue_closed; stands = owns None None (closed found_closed) }
   receiver_word word cell waker (owns _ _ has) may = owned_word word cell waker has may
   receiver_word word _ _ (freed _ _ _ has) may = absurd (freed_word has may)
   receiver_word _ _ _ went may = elim may [ ]

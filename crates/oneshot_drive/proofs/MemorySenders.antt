@@ -3,7 +3,7 @@ use Rattle.std.proofs.Common.{◌≡◌, ℕ, ◌≤◌, lit≤, Bool, true, fal
 use Rattle.oneshot_machine.specs.declared.states.Op.{Op}
 use Rattle.oneshot_machine.specs.Logs.{Grows, words, sender_of, worded}
 use Rattle.oneshot_machine.specs.Phases.{sending, dropping, SenderAt, sender_next, sender_at}
-use Rattle.oneshot_machine.specs.Slots.{Held, vacant, held, SenderMay, may_add, may_flip, may_finish_send, may_finish_drop, SenderFinds, add_empty, add_waker, add_gone, flip_empty, flip_waker, flip_gone, finish_send, finish_drop, finish_late_send, finish_late_drop}
+use Rattle.oneshot_machine.specs.Slots.{Held, vacant, held, SenderMay, may_add, may_flip, may_finish_send, may_finish_drop, SenderFinds, add_empty, add_waker, add_gone, flip_empty, flip_waker, flip_gone, finish_send, finish_drop, finish_overdue_send, finish_overdue_drop}
 use Rattle.oneshot_machine.specs.States.{word_after}
 use Rattle.oneshot_machine.specs.Words.{saw}
 use Rattle.oneshot_machine.proofs.GrownLists.{sender_moved}
@@ -32,8 +32,8 @@ module _ {T W : Type 0} where
   sender_word _ receiver_gone (Some x) (may_add _) = record { code = lit≤ tt; finds = add_gone x; stands = has_both None (has_all sending) }
   sender_word _ (has_both None (found_waker sending)) (Some x) (may_finish_send _) = record { code = lit≤ tt; finds = finish_send x; stands = gave_all sending 4 None }
   sender_word _ (has_both None (found_waker dropping)) None may_finish_drop = record { code = lit≤ tt; finds = finish_drop; stands = gave_all dropping 2 None }
-  sender_word _ (has_both None (found_late sending)) (Some x) (may_finish_send _) = record { code = lit≤ tt; finds = finish_late_send x; stands = gave_all sending 4 None }
-  sender_word _ (has_both None (found_late dropping)) None may_finish_drop = record { code = lit≤ tt; finds = finish_late_drop; stands = gave_all dropping 2 None }
+  sender_word _ (has_both None (found_late sending)) (Some x) (may_finish_send _) = record { code = lit≤ tt; finds = finish_overdue_send x; stands = gave_all sending 4 None }
+  sender_word _ (has_both None (found_late dropping)) None may_finish_drop = record { code = lit≤ tt; finds = finish_overdue_drop; stands = gave_all dropping 2 None }
   sender_word _ (has_both None (found_late sending)) None may = elim may [ ]
   sender_word _ (has_both None (found_late dropping)) (Some x) may = elim may [ ]
   sender_word _ (has_both (Some k) (found_late by)) None may = elim may [ ]

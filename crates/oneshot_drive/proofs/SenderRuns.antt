@@ -12,7 +12,7 @@ use Rattle.oneshot_machine.specs.Phases.{sending, SenderAt, fresh, sender_next, 
 use Rattle.oneshot_machine.specs.Rows.{Goes}
 use Rattle.oneshot_machine.specs.Runs.{last, more, SenderRan}
 use Rattle.oneshot_machine.specs.Sender.{sender_row}
-use Rattle.oneshot_machine.specs.Slots.{Held, away, vacant, held, SenderMay, may_add, may_flip, may_finish_send, may_finish_drop, SenderFinds, add_empty, add_waker, add_gone, flip_empty, flip_waker, flip_gone, finish_send, finish_drop, finish_late_send, finish_late_drop}
+use Rattle.oneshot_machine.specs.Slots.{Held, away, vacant, held, SenderMay, may_add, may_flip, may_finish_send, may_finish_drop, SenderFinds, add_empty, add_waker, add_gone, flip_empty, flip_waker, flip_gone, finish_send, finish_drop, finish_overdue_send, finish_overdue_drop}
 use Rattle.oneshot_machine.proofs.GrownLists.{words_stay, sender_moved, and_then}
 use Rattle.oneshot_drive.specs.Calls.{IsFresh, IsError, IsLate, is_late, Owes, owes_message, owes_end, finishing, LastFinds, finds_waiting, finds_overdue, Finishes}
 
@@ -149,9 +149,9 @@ module _ {T W : Type 0} where
 
   last_finds : {p : SenderAt} {word : ℕ} {m m' : Held T} {w v w' : Held W} (n : ℕ) → Owes p word m w → SenderFinds p (Swap word) n m v m' w' → LastFinds n
   last_finds _ (owes_message x k) (finish_send _) = finds_waiting
-  last_finds _ (owes_message x k) (finish_late_send _) = finds_overdue
+  last_finds _ (owes_message x k) (finish_overdue_send _) = finds_overdue
   last_finds _ (owes_end k) finish_drop = finds_waiting
-  last_finds _ (owes_end k) finish_late_drop = finds_overdue
+  last_finds _ (owes_end k) finish_overdue_drop = finds_overdue
 
   pub finished_as : {l k j z : Log T W} (word n : ℕ) {m m' m'' : Held T} {w w' w'' : Held W} (y : W) → Owes (sender_of l) word m w → Grows l k (handed TakeWaker y ∷ []) → m' ≡ m → SenderFinds (sender_of k) (Swap word) n m' w' m'' w'' → Grows k j (worded (Swap word) n ∷ []) → Grows j z (handed Wake y ∷ []) → Finishes word l z
   finished_as word n {m''} {w'} {w''} y owes s message finds t u =

@@ -95,7 +95,7 @@ pub data Returns {W : Type 0} : Option W → Option W → Type 0 where
   returned : (hand : Option W) → Returns hand hand
   taken : (k : W) → Returns (Some k) None
 
--- the waker that was in the cell is in the hand
+-- the hand had a waker and has one again, which may be another
 pub data Refills {W : Type 0} : Option W → Option W → Type 0 where
   refilled : (k back : W) → Refills (Some k) (Some back)
 

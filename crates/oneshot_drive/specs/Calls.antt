@@ -80,7 +80,8 @@ abbrev pub IsReady : {W : Type 0} → Option W → ReceiverAt → Type 0
 IsReady hand q = hand ≡ None → IsClosed q
 
 -- The hand before and after a call that blocks: as it was; or the sender took the waker out of its
--- cell, and then the receiver is closed; or the deadline was over, and the waker came back out of it.
+-- cell, and then the receiver is closed; or the deadline was over, and there is a waker in
+-- the hand again, which may be another.
 pub data Hands {W : Type 0} : Option W → Option W → ReceiverAt → Type 0 where
   as_it_was : (hand : Option W) (q : ReceiverAt) → Hands hand hand q
   sender_took : (k : W) (c : Closing) → Hands (Some k) None (over c)

@@ -50,7 +50,8 @@ pub fn recv_ref<T, W: Drop, G: BlockGround<T, W>>(
 /// it; and then the receiver is closed.
 ///
 /// - `Ok`: the message. The receiver is closed.
-/// - `Err(Timeout)`: the deadline is over, with nothing sent. The receiver stays open.
+/// - `Err(Timeout)`: the deadline is over, and nothing had been sent when the call last looked. The
+///   receiver stays open.
 /// - `Err(Disconnected)`: the sender was dropped with nothing sent, or the receiver was closed before.
 ///   It is closed.
 pub fn recv_deadline<T, W: Drop, G: BlockGround<T, W>>(

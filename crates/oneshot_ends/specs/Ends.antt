@@ -39,11 +39,11 @@ pub record ReceiverGrew (T : Type 0) (call : ReceiverStart) (before after : List
   pub is_run : Run receiver_step receiver_row (receiver_start call) run reply
   pub list : after ≡ before ++ words run
 
--- a clock can read a time so late that no instant is this far behind it
+-- some time that a clock can read is so late that no instant is this long after it
 abbrev pub IsTooFar : Duration → Type 0
 IsTooFar timeout = (now : ℕ) × FitsClock now × (FitsClock (now + as_nanos timeout) → ⊥)
 
--- the same of a receive with this timeout, which only one that is too far may leave without an end
+-- the same of a receive with this timeout, which has no end only where the timeout is too far
 pub record TimeoutGrew (T : Type 0) (timeout : Duration) (before after : List Noted) (reply : Reply) : Type 0 where
   pub has_end : Bool
   pub grew : ReceiverGrew T (RecvTimeout has_end) before after reply

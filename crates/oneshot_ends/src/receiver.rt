@@ -104,8 +104,8 @@ impl<T: Drop, Rt: Wait + Clock + Drop> Receiver<T, Rt> {
     /// Receives the message, and waits until it is there or never will be: for ever, where the sender
     /// is kept and neither sends nor is dropped, also by the caller itself. It asks for no memory.
     ///
-    /// `Ok`: the message. `Err` where the sender is gone without a message, or the message was received before. Then, as
-    /// after `Ok`, the receiver is closed, and every later receive answers an error.
+    /// `Ok`: the message. `Err` where the sender is gone without a message, or the message was received
+    /// before. Then, as after `Ok`, the receiver is closed, and every later receive answers an error.
     pub fn recv_ref(&mut self) -> Result<T, RecvError>
         ensures table { self.new.table ≡ self.old.table }
         ensures run { ReceiverGrew T RecvRef self.old.steps self.new.steps (recv_reply result) }
@@ -128,12 +128,14 @@ impl<T: Drop, Rt: Wait + Clock + Drop> Receiver<T, Rt> {
     /// A message that is there is received however late it is. An instant is not over at itself, so
     /// that the clock is then read again; a clock that cannot be read counts as past each (a rule of
     /// this port). Where the deadline is over while the sender is in its `send` or its drop, and has
-    /// taken this receiver's waker, the call waits until the sender is done, as the Rust crate's does.
+    /// found that this receiver waits, the call waits until the sender is done, as the Rust crate's
+    /// does.
     ///
-    /// `Ok`: the message. `Err(Timeout)` where the deadline is over and nothing was sent: the receiver stays open, and
-    /// a later receive may find the message. `Err(Disconnected)` where the sender is gone without a
-    /// message, or the message was received before; then, as after `Ok`, the receiver is closed, and
-    /// every later receive answers the disconnected error.
+    /// `Ok`: the message. `Err(Timeout)` where the deadline is over and nothing had been sent when the
+    /// call last looked: the receiver stays open, and a later receive may find the message.
+    /// `Err(Disconnected)` where the sender is gone without a message, or the message was received
+    /// before; then, as after `Ok`, the receiver is closed, and every later receive answers the
+    /// disconnected error.
     pub fn recv_deadline(&mut self, deadline: Instant) -> Result<T, RecvTimeoutError>
         ensures table { self.new.table ≡ self.old.table }
         ensures run { ReceiverGrew T RecvDeadline self.old.steps self.new.steps (timed_reply result) }

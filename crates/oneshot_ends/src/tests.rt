@@ -1,4 +1,5 @@
-//! What no clause says of the ends: their texts, their drops, and how they do on two threads.
+//! What no clause says of the ends: their texts, their drops, their deadlines and clocks, and how they
+//! do on two threads.
 
 mod clocks;
 mod crossing;

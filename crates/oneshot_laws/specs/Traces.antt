@@ -467,3 +467,34 @@ sent_before_its_deadline =
           ∷ E.Made (replying R.Message (moving P.InCell P.Delivered (receiver T.TakeMessage 2 2)))
           ∷ [];
     }
+
+-- S drop
+-- R deadline
+-- X rrrossssrr
+abbrev pub dropped_at_its_deadline : Example
+dropped_at_its_deadline =
+    record {
+      calls = record { sender = C.Drop_sender ∷ []; error = []; receiver = C.Recv_deadline ∷ [] };
+      entries =
+          E.Made (receiver (T.Word O.Load) 3 3)
+          ∷ E.Made (carrying Parker W.Hand W.Cell (receiver T.WriteWaker 3 3))
+          ∷ E.Made (receiver (T.Word (O.Swap 0)) 3 0)
+          ∷ E.Made (clocked true 0)
+          ∷ E.Made (sender (T.Word O.Xor) 0 1)
+          ∷ E.Made (carrying Parker W.Cell W.SenderHand (sender T.TakeWaker 1 1))
+          ∷ E.Made (sender (T.Word (O.Swap 2)) 1 2)
+          ∷ E.Made (replying R.Done (setting_token (carrying Parker W.SenderHand W.Used (sender T.Wake 2 2))))
+          ∷ E.Made (receiver (T.Word (O.Swap 3)) 2 3)
+          ∷ E.Made (replying R.Disconnected (receiver (T.Word (O.Store 2)) 3 2))
+          ∷ [];
+    }
+
+-- S
+-- R try
+-- X r
+abbrev pub tried_in_vain : Example
+tried_in_vain =
+    record {
+      calls = record { sender = []; error = []; receiver = C.Try_recv ∷ [] };
+      entries = E.Made (replying R.Empty (receiver (T.Word O.Load) 3 3)) ∷ [];
+    }

@@ -15,7 +15,7 @@ use Rattle.oneshot_laws.specs.Places.{steps}
 use Rattle.oneshot_world.specs.Ahead.{Ahead, ahead_of}
 use Rattle.oneshot_laws.specs.Unwoken.{is_never_unwoken}
 use Rattle.oneshot_laws.specs.Notation.{Example, over_in, sender, receiver, parked, carrying, setting_token, replying, up_to, answered_by}
-use Rattle.oneshot_laws.specs.Traces.{waited_for_message, woken_by_drop, still_waiting}
+use Rattle.oneshot_laws.specs.Traces.{waited_past_its_deadline, waited_for_message, woken_by_drop, still_waiting}
 use Rattle.oneshot_laws.specs.LawExamples.{is_right}
 
 -- THE WAITING: before each entry, and at the end, whether the receiver is about to park, and whether there is a token
@@ -38,6 +38,10 @@ around_a_message =
 abbrev pub around_a_drop : List Ahead
 around_a_drop = replicate 3 up ++ replicate 4 parks ++ parks_with_token ∷ replicate 4 up
 
+-- past its deadline it parks for the sender
+abbrev pub around_a_late_message : List Ahead
+around_a_late_message = replicate 7 up ++ parks ∷ up ∷ replicate 3 parks ++ parks_with_token ∷ replicate 4 up
+
 abbrev pub around_no_sender : List Ahead
 around_no_sender = replicate 3 up ++ parks ∷ []
 
@@ -53,6 +57,7 @@ abbrev pub AheadsOfRuns : Type 0
 AheadsOfRuns =
     (aheads_by (Some P.NotSent) waited_for_message ≡ around_a_message)
     × (aheads_by None woken_by_drop ≡ around_a_drop)
+    × (aheads_by (Some P.NotSent) waited_past_its_deadline ≡ around_a_late_message)
     × (aheads_by (Some P.NotSent) still_waiting ≡ around_no_sender)
 
 abbrev pub is_woken_in : List Ahead → Example → Bool
@@ -90,6 +95,7 @@ UnwokenWaits =
     && is_woken_in around_no_sender still_waiting)
     × IsTrue (is_unwoken_behind 9 around_a_hasty_wake woken_too_soon)
     × IsTrue (is_unwoken_behind 5 around_a_drop never_woken)
+    × IsTrue (is_unwoken_behind 10 around_a_late_message (answered_by 11 R.Sent (up_to 11 waited_past_its_deadline)))
     -- the other definitions let both pass
     × IsTrue (is_right woken_too_soon && is_right never_woken)
     -- the list says too little

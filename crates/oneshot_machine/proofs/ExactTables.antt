@@ -13,7 +13,7 @@ use Rattle.oneshot_machine.specs.declared.states.Op.{Op}
 use Rattle.oneshot_machine.specs.declared.states.Op.TheVariants.{Load, Store, Swap, Exchange, Add, Xor}
 use Rattle.oneshot_machine.specs.Words.{Noted, saw, op_of}
 use Rattle.oneshot_machine.specs.Phases.{By, sending, dropping, SenderAt, fresh, owes, finished, late, sender_next, sender_at, ReceiverAt, first, here, looked, between, Waiting, blocked, waits, overdue, Got, at_once, waited, full, unclosed, Closing, found_closed, closed_itself, over, gone, ended, receiver_next, receiver_at}
-use Rattle.oneshot_machine.specs.Slots.{Held, away, vacant, held, SenderMay, may_add, may_flip, may_finish_send, may_finish_drop, SenderFinds, add_empty, add_waker, add_gone, flip_empty, flip_waker, flip_gone, finish_send, finish_drop, finish_late_send, finish_late_drop, ReceiverMay, may_load_first, may_load, may_load_closed, may_store, may_wait, may_stop, may_wait_on, may_close, may_close_only, may_drop_first, may_drop, may_drop_closed, ReceiverFinds, first_empty, first_message, first_closed, load_empty, load_message, load_closed, load_over, store_empty, store_message, store_closed, wait_longer, wait_claimed, wait_message, wait_closed, stop_waiting, stop_claimed, stop_message, stop_closed, late_longer, late_message, late_closed, close, close_only, drop_first_empty, drop_first_message, drop_first_closed, drop_empty, drop_message, drop_closed, drop_over}
+use Rattle.oneshot_machine.specs.Slots.{Held, away, vacant, held, SenderMay, may_add, may_flip, may_finish_send, may_finish_drop, SenderFinds, add_empty, add_waker, add_gone, flip_empty, flip_waker, flip_gone, finish_send, finish_drop, finish_overdue_send, finish_overdue_drop, ReceiverMay, may_load_first, may_load, may_load_closed, may_store, may_wait, may_stop, may_wait_on, may_close, may_close_only, may_drop_first, may_drop, may_drop_closed, ReceiverFinds, first_empty, first_message, first_closed, load_empty, load_message, load_closed, load_over, store_empty, store_message, store_closed, wait_longer, wait_claimed, wait_message, wait_closed, stop_waiting, stop_claimed, stop_message, stop_closed, overdue_longer, overdue_message, overdue_closed, close, close_only, drop_first_empty, drop_first_message, drop_first_closed, drop_empty, drop_message, drop_closed, drop_over}
 use Rattle.oneshot_machine.specs.Standing.{Table, is_same_op, is_op, moved, standing_from, standing, made_at, operations, sender_table, receiver_table}
 use Rattle.oneshot_machine.specs.Exact.{IsFound, none_yet, one_more, IsAllowed, Accepts, SenderIsExact, ReceiverIsExact}
 use Rattle.oneshot_machine.proofs.GrownLists.{sender_from-snoc, receiver_from-snoc}
@@ -105,8 +105,8 @@ module _ {T W : Type 0} where
   sender_moves _ flip_gone stands_fresh = stands_late dropping 3
   sender_moves _ (finish_send x) owes_send = stands_finished sending
   sender_moves _ finish_drop owes_drop = stands_finished dropping
-  sender_moves _ (finish_late_send x) owes_send = stands_finished sending
-  sender_moves _ finish_late_drop owes_drop = stands_finished dropping
+  sender_moves _ (finish_overdue_send x) owes_send = stands_finished sending
+  sender_moves _ finish_overdue_drop owes_drop = stands_finished dropping
 
   receiver_moves : {q : ReceiverAt} {ps : List ReceiverPos} {op : Op} {m m' : Held T} {w w' : Held W} (word : ℕ) → ReceiverFinds q op word m w m' w' → ReceiverStands q ps → ReceiverStands (receiver_next q op (saw op word)) (moved receiver_table ps (op, saw op word))
   receiver_moves _ first_empty stands_first = stands_looked
@@ -130,9 +130,9 @@ module _ {T W : Type 0} where
   receiver_moves _ (stop_claimed w) (stands_waiting _) = stands_overdue
   receiver_moves _ (stop_message w x) (stands_waiting _) = stands_full waited 3
   receiver_moves _ (stop_closed w) (stands_waiting _) = stands_unclosed 3
-  receiver_moves _ late_longer stands_overdue = stands_overdue
-  receiver_moves _ (late_message x) stands_overdue = stands_full waited 4
-  receiver_moves _ late_closed stands_overdue = stands_over found_closed
+  receiver_moves _ overdue_longer stands_overdue = stands_overdue
+  receiver_moves _ (overdue_message x) stands_overdue = stands_full waited 4
+  receiver_moves _ overdue_closed stands_overdue = stands_over found_closed
   receiver_moves _ (close g left x) (stands_full _ _) = stands_over closed_itself
   receiver_moves _ (close_only left) (stands_unclosed _) = stands_over closed_itself
   receiver_moves _ drop_first_empty stands_first = stands_gone
@@ -226,7 +226,7 @@ module _ {T W : Type 0} where
   receiver_word (may_store k) = (3, away, away, store_empty k)
   receiver_word (may_wait w) = (0, away, away, wait_longer w)
   receiver_word (may_stop w) = (1, away, away, stop_claimed w)
-  receiver_word may_wait_on = (3, away, away, late_longer)
+  receiver_word may_wait_on = (3, away, away, overdue_longer)
   receiver_word (may_close g left x) = (left, held x, vacant, close g left x)
   receiver_word (may_close_only left) = (left, vacant, vacant, close_only left)
   receiver_word may_drop_first = (3, away, away, drop_first_empty)
@@ -243,8 +243,8 @@ module _ {T W : Type 0} where
   sender_ready _ flip_gone stands_fresh = refl
   sender_ready _ (finish_send x) owes_send = refl
   sender_ready _ finish_drop owes_drop = refl
-  sender_ready _ (finish_late_send x) owes_send = refl
-  sender_ready _ finish_late_drop owes_drop = refl
+  sender_ready _ (finish_overdue_send x) owes_send = refl
+  sender_ready _ finish_overdue_drop owes_drop = refl
 
   receiver_ready : {q : ReceiverAt} {op : Op} {m m' : Held T} {w w' : Held W} {ps : List ReceiverPos} (word : ℕ) → ReceiverFinds q op word m w m' w' → ReceiverStands q ps → list_all (is_ready receiver_table op word) ps ≡ true
   receiver_ready _ first_empty stands_first = refl
@@ -268,9 +268,9 @@ module _ {T W : Type 0} where
   receiver_ready _ (stop_claimed w) (stands_waiting _) = refl
   receiver_ready _ (stop_message w x) (stands_waiting _) = refl
   receiver_ready _ (stop_closed w) (stands_waiting _) = refl
-  receiver_ready _ late_longer stands_overdue = refl
-  receiver_ready _ (late_message x) stands_overdue = refl
-  receiver_ready _ late_closed stands_overdue = refl
+  receiver_ready _ overdue_longer stands_overdue = refl
+  receiver_ready _ (overdue_message x) stands_overdue = refl
+  receiver_ready _ overdue_closed stands_overdue = refl
   receiver_ready _ (close g left x) (stands_full _ _) = refl
   receiver_ready _ (close_only left) (stands_unclosed _) = refl
   receiver_ready _ drop_first_empty stands_first = refl

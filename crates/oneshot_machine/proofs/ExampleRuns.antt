@@ -140,6 +140,16 @@ runs_that_are =
           (more Close _ _ refl refl
           (more Take _ _ refl refl
           (last _ refl refl)))))))));
+      runs_out_over_a_drop =
+          more (StartWrite true) _ _ refl refl
+          (more (StartSwap true) _ _ refl refl
+          (more Clock _ _ refl refl
+          (more TimedPark _ _ refl refl
+          (more TimedLoad _ _ refl refl
+          (more Clock _ _ refl refl
+          (more EndSwap _ _ refl refl
+          (more CloseOnly _ _ refl refl
+          (last _ refl refl))))))));
       waits_for_the_sender =
           more (StartWrite true) _ _ refl refl
           (more (StartSwap true) _ _ refl refl

@@ -153,6 +153,8 @@ pub record RunsThatAre : Type 0 where
       ReceiverRun (SumClock true) (clocked true ∷ running_out ++ worded (Swap 3) 0 ∷ handed Withdraw 1 ∷ []) Timeout
   pub runs_out_over_a_message :
       ReceiverRun (StartLoad true) (running_out ++ worded (Swap 3) 4 ∷ worded (Store 2) 3 ∷ took 7 ∷ []) Message
+  pub runs_out_over_a_drop :
+      ReceiverRun (StartLoad true) (running_out ++ worded (Swap 3) 2 ∷ worded (Store 2) 3 ∷ []) Disconnected
   pub waits_for_the_sender :
       ReceiverRun
       (StartLoad true)

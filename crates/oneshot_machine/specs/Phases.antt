@@ -53,7 +53,7 @@ pub data ReceiverAt : Type 0 where
   here : Open → ReceiverAt
   -- its waker is stored, unless the sender took it since
   waits : Waiting → ReceiverAt
-  -- its deadline was over, but the sender had its waker: it waits for the sender's final swap
+  -- its deadline was over, but its waker is the sender's: it waits for the sender's final swap
   overdue : ReceiverAt
   -- it has the message, and the word is now this
   full : Got → ℕ → ReceiverAt

@@ -30,8 +30,8 @@ pub data SenderFinds {T W : Type 0}
   flip_gone : SenderFinds fresh Xor 2 vacant away vacant vacant
   finish_send : (x : T) → SenderFinds (owes sending) (Swap 4) 1 (held x) vacant away away
   finish_drop : SenderFinds (owes dropping) (Swap 2) 1 vacant vacant away away
-  finish_late_send : (x : T) → SenderFinds (owes sending) (Swap 4) 3 (held x) vacant away away
-  finish_late_drop : SenderFinds (owes dropping) (Swap 2) 3 vacant vacant away away
+  finish_overdue_send : (x : T) → SenderFinds (owes sending) (Swap 4) 3 (held x) vacant away away
+  finish_overdue_drop : SenderFinds (owes dropping) (Swap 2) 3 vacant vacant away away
 
 pub data ReceiverMay {T W : Type 0} : ReceiverAt → Op → Held T → Held W → Type 0 where
   -- a receive loads
@@ -78,9 +78,9 @@ pub data ReceiverFinds {T W : Type 0}
   stop_message : (w : Waiting) (x : T) → ReceiverFinds (waits w) (Swap 3) 4 away away (held x) vacant
   stop_closed : (w : Waiting) → ReceiverFinds (waits w) (Swap 3) 2 away away vacant vacant
   -- and loads where the sender is about to finish
-  late_longer : ReceiverFinds overdue Load 3 away away away away
-  late_message : (x : T) → ReceiverFinds overdue Load 4 away away (held x) vacant
-  late_closed : ReceiverFinds overdue Load 2 away away vacant vacant
+  overdue_longer : ReceiverFinds overdue Load 3 away away away away
+  overdue_message : (x : T) → ReceiverFinds overdue Load 4 away away (held x) vacant
+  overdue_closed : ReceiverFinds overdue Load 2 away away vacant vacant
   -- it closes
   close : (g : Got) (left : ℕ) (x : T)
       → ReceiverFinds (full g left) (Store 2) left (held x) vacant (held x) vacant

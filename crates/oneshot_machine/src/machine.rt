@@ -73,7 +73,7 @@ pub enum Reply {
     Message,
     /// `try_recv` found nothing yet.
     Empty,
-    /// The deadline of a receive is over, and nothing was there.
+    /// The deadline of a receive is over, and nothing was there at its last look.
     Timeout,
     /// The call's disconnected error.
     Disconnected,

@@ -4,7 +4,7 @@ use Rattle.oneshot_machine.specs.declared.machine.Seen.{Seen}
 use Rattle.oneshot_machine.specs.declared.states.Op.{Op}
 use Rattle.oneshot_machine.specs.Words.{Noted, saw}
 use Rattle.oneshot_machine.specs.Phases.{sending, dropping, SenderAt, sender_next, looked, between, found_closed, closed_itself, ReceiverAt, receiver_next}
-use Rattle.oneshot_machine.specs.Slots.{Held, SenderFinds, add_empty, add_waker, add_gone, flip_empty, flip_waker, flip_gone, finish_send, finish_drop, finish_late_send, finish_late_drop, ReceiverFinds, first_empty, first_message, first_closed, load_empty, load_message, load_closed, load_over, store_empty, store_message, store_closed, wait_longer, wait_claimed, wait_message, wait_closed, stop_waiting, stop_claimed, stop_message, stop_closed, late_longer, late_message, late_closed, close, close_only, drop_first_empty, drop_first_message, drop_first_closed, drop_empty, drop_message, drop_closed, drop_over}
+use Rattle.oneshot_machine.specs.Slots.{Held, SenderFinds, add_empty, add_waker, add_gone, flip_empty, flip_waker, flip_gone, finish_send, finish_drop, finish_overdue_send, finish_overdue_drop, ReceiverFinds, first_empty, first_message, first_closed, load_empty, load_message, load_closed, load_over, store_empty, store_message, store_closed, wait_longer, wait_claimed, wait_message, wait_closed, stop_waiting, stop_claimed, stop_message, stop_closed, overdue_longer, overdue_message, overdue_closed, close, close_only, drop_first_empty, drop_first_message, drop_first_closed, drop_empty, drop_message, drop_closed, drop_over}
 use Rattle.oneshot_word.specs.Lists.{send_found, drop_found, sent, sent_to_it, sent_to_overdue, dropped, dropped_before_it, dropped_before_overdue, sent_late, dropped_late, along, stores_next, overdue_next, gone_next, wrote_next}
 use Rattle.oneshot_word.specs.Rule.{stores_of, overdue_of, gone_of, wrote_of, SenderSays, says_none, says_owes, says_last, says_late, ReceiverSays}
 
@@ -29,8 +29,8 @@ module _ {T W : Type 0} where
   sender_says _ flip_gone says_none = says_late dropping 3 dropped_late
   sender_says _ (finish_send x) (says_owes _ send_found) = says_last sending sent_to_it
   sender_says _ finish_drop (says_owes _ drop_found) = says_last dropping dropped_before_it
-  sender_says _ (finish_late_send x) (says_owes _ send_found) = says_last sending sent_to_overdue
-  sender_says _ finish_late_drop (says_owes _ drop_found) = says_last dropping dropped_before_overdue
+  sender_says _ (finish_overdue_send x) (says_owes _ send_found) = says_last sending sent_to_overdue
+  sender_says _ finish_overdue_drop (says_owes _ drop_found) = says_last dropping dropped_before_overdue
 
   adds : {q : ReceiverAt} {op : Op} {m m' : Held T} {w w' : Held W} (word : ℕ) → ReceiverFinds q op word m w m' w' → Adds q op (saw op word)
   adds _ first_empty = record { stores = refl; overdue = refl; gone = refl; wrote = refl }
@@ -52,9 +52,9 @@ module _ {T W : Type 0} where
   adds _ (stop_claimed a) = record { stores = refl; overdue = refl; gone = refl; wrote = refl }
   adds _ (stop_message a x) = record { stores = refl; overdue = refl; gone = refl; wrote = refl }
   adds _ (stop_closed a) = record { stores = refl; overdue = refl; gone = refl; wrote = refl }
-  adds _ late_longer = record { stores = refl; overdue = refl; gone = refl; wrote = refl }
-  adds _ (late_message x) = record { stores = refl; overdue = refl; gone = refl; wrote = refl }
-  adds _ late_closed = record { stores = refl; overdue = refl; gone = refl; wrote = refl }
+  adds _ overdue_longer = record { stores = refl; overdue = refl; gone = refl; wrote = refl }
+  adds _ (overdue_message x) = record { stores = refl; overdue = refl; gone = refl; wrote = refl }
+  adds _ overdue_closed = record { stores = refl; overdue = refl; gone = refl; wrote = refl }
   adds _ (close g n x) = record { stores = refl; overdue = refl; gone = refl; wrote = refl }
   adds _ (close_only n) = record { stores = refl; overdue = refl; gone = refl; wrote = refl }
   adds _ drop_first_empty = record { stores = refl; overdue = refl; gone = refl; wrote = refl }

@@ -5,7 +5,7 @@ use Rattle.oneshot_machine.specs.declared.states.Op.{Op}
 use Rattle.oneshot_machine.specs.declared.states.Op.TheVariants.{Load, Store, Swap, Add, Xor}
 use Rattle.oneshot_machine.specs.Words.{saw}
 use Rattle.oneshot_machine.specs.Phases.{sending, dropping, SenderAt, sender_next, looked, between, blocked, at_once, waited, found_closed, closed_itself, ReceiverAt, receiver_next}
-use Rattle.oneshot_machine.specs.Slots.{Held, SenderMay, may_add, may_flip, may_finish_send, may_finish_drop, SenderFinds, add_empty, add_waker, add_gone, flip_empty, flip_waker, flip_gone, finish_send, finish_drop, finish_late_send, finish_late_drop, ReceiverMay, may_load_first, may_load, may_load_closed, may_store, may_wait, may_stop, may_wait_on, may_close, may_close_only, may_drop_first, may_drop, may_drop_closed, ReceiverFinds, first_empty, first_message, first_closed, load_empty, load_message, load_closed, load_over, store_empty, store_message, store_closed, wait_longer, wait_claimed, wait_message, wait_closed, stop_waiting, stop_claimed, stop_message, stop_closed, late_longer, late_message, late_closed, close, close_only, drop_first_empty, drop_first_message, drop_first_closed, drop_empty, drop_message, drop_closed, drop_over}
+use Rattle.oneshot_machine.specs.Slots.{Held, SenderMay, may_add, may_flip, may_finish_send, may_finish_drop, SenderFinds, add_empty, add_waker, add_gone, flip_empty, flip_waker, flip_gone, finish_send, finish_drop, finish_overdue_send, finish_overdue_drop, ReceiverMay, may_load_first, may_load, may_load_closed, may_store, may_wait, may_stop, may_wait_on, may_close, may_close_only, may_drop_first, may_drop, may_drop_closed, ReceiverFinds, first_empty, first_message, first_closed, load_empty, load_message, load_closed, load_over, store_empty, store_message, store_closed, wait_longer, wait_claimed, wait_message, wait_closed, stop_waiting, stop_claimed, stop_message, stop_closed, overdue_longer, overdue_message, overdue_closed, close, close_only, drop_first_empty, drop_first_message, drop_first_closed, drop_empty, drop_message, drop_closed, drop_over}
 use Rattle.oneshot_word.specs.declared.rule.Slot.{Slot}
 use Rattle.oneshot_word.specs.declared.rule.Slot.TheVariants.{Empty, Message, Waker}
 use Rattle.oneshot_word.specs.Seats.{Carried, message_in, waker_in, no_message, the_message, no_waker, the_waker, SenderHas, has_fresh, has_owes, has_finished, has_late, ReceiverHas, has_first, has_here, has_waits, has_overdue, has_full, has_unclosed, has_over, has_gone, has_ended}
@@ -65,8 +65,8 @@ module _ {T W : Type 0} where
   pub finishes : (new : ℕ) {p : SenderAt} {q : ReceiverAt} (word : ℕ) {h k : Home T W} {c : Carried T W} {m : Held T} {w : Held W} → SenderMay p (Swap new) m w → SenderHas p c m w → Row T W p q word h k → SenderTurn p q (Swap new) word new h k c m w
   finishes _ _ (may_finish_send x) (has_owes _ (the_message _) no_waker) (sender_owes _ a) = sender_acts (chain gives gives) (tt, tt) refl (message_waited x a) (finish_send x) (has_finished sending)
   finishes _ _ may_finish_drop (has_owes _ no_message no_waker) (sender_owes _ a) = sender_acts (chain gives gives) (tt, tt) refl (nothing_waited a) finish_drop (has_finished dropping)
-  finishes _ _ (may_finish_send x) (has_owes _ (the_message _) no_waker) (owes_overdue _) = sender_acts (chain gives gives) (tt, tt) refl (message_overdue x) (finish_late_send x) (has_finished sending)
-  finishes _ _ may_finish_drop (has_owes _ no_message no_waker) (owes_overdue _) = sender_acts (chain gives gives) (tt, tt) refl nothing_overdue finish_late_drop (has_finished dropping)
+  finishes _ _ (may_finish_send x) (has_owes _ (the_message _) no_waker) (owes_overdue _) = sender_acts (chain gives gives) (tt, tt) refl (message_overdue x) (finish_overdue_send x) (has_finished sending)
+  finishes _ _ may_finish_drop (has_owes _ no_message no_waker) (owes_overdue _) = sender_acts (chain gives gives) (tt, tt) refl nothing_overdue finish_overdue_drop (has_finished dropping)
 
   pub loads : {p : SenderAt} {q : ReceiverAt} (word : ℕ) {h k : Home T W} {c : Carried T W} {m : Held T} {w : Held W} → ReceiverMay q Load m w → ReceiverHas q c m w → Row T W p q word h k → ReceiverTurn p q Load word word h k c m w
   loads _ may_load_first has_first both_new = receiver_acts (takes 1 Empty) refl refl (both_here looked) first_empty (has_here looked no_waker)
@@ -81,9 +81,9 @@ module _ {T W : Type 0} where
   loads _ (may_wait a) (has_waits _) (sender_owes by _) = receiver_acts keeps tt refl (sender_owes by a) (wait_claimed a) (has_waits a)
   loads _ (may_wait a) (has_waits _) (message_waited x _) = receiver_acts (chain (takes 1 Empty) (takes 0 (Message x))) (refl, refl) refl (message_found waited) (wait_message a x) (has_full waited 4 (the_message x) no_waker)
   loads _ (may_wait a) (has_waits _) (nothing_waited _) = receiver_acts (chain (takes 1 Empty) (takes 0 Empty)) (refl, refl) refl nothing_found (wait_closed a) (has_over found_closed no_message no_waker)
-  loads _ may_wait_on has_overdue (owes_overdue by) = receiver_acts keeps tt refl (owes_overdue by) late_longer has_overdue
-  loads _ may_wait_on has_overdue (message_overdue x) = receiver_acts (chain (takes 1 Empty) (takes 0 (Message x))) (refl, refl) refl (message_found waited) (late_message x) (has_full waited 4 (the_message x) no_waker)
-  loads _ may_wait_on has_overdue nothing_overdue = receiver_acts (chain (takes 1 Empty) (takes 0 Empty)) (refl, refl) refl nothing_found late_closed (has_over found_closed no_message no_waker)
+  loads _ may_wait_on has_overdue (owes_overdue by) = receiver_acts keeps tt refl (owes_overdue by) overdue_longer has_overdue
+  loads _ may_wait_on has_overdue (message_overdue x) = receiver_acts (chain (takes 1 Empty) (takes 0 (Message x))) (refl, refl) refl (message_found waited) (overdue_message x) (has_full waited 4 (the_message x) no_waker)
+  loads _ may_wait_on has_overdue nothing_overdue = receiver_acts (chain (takes 1 Empty) (takes 0 Empty)) (refl, refl) refl nothing_found overdue_closed (has_over found_closed no_message no_waker)
 
   pub stores : (new : ℕ) {p : SenderAt} {q : ReceiverAt} (word : ℕ) {h k : Home T W} {c : Carried T W} {m : Held T} {w : Held W} → ReceiverMay q (Store new) m w → ReceiverHas q c m w → Row T W p q word h k → ReceiverTurn p q (Store new) word new h k c m w
   stores _ _ (may_close g n x) (has_full _ _ (the_message _) no_waker) (message_found _) = receiver_acts keeps tt refl (receiver_closed sending) (close g n x) (has_over closed_itself (the_message x) no_waker)

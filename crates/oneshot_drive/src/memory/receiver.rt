@@ -125,7 +125,8 @@ impl<'a, T: Drop, W: Drop, R: Wait> MemoryReceiver<'a, T, W, R> {
     }
 
     /// The sender is to send this message in a pause of the receiver, once so many pauses are over: with
-    /// 0 before the receiver waits, with 1 in its first park or at its first look at the clock after.
+    /// 0 in the first. That is where the waker is written, and the next is the first park or look at the
+    /// clock after; `recv_timeout` makes one pause before, at the look at the clock for its sum.
     pub fn sender_will_send(&mut self, pauses: u64, message: T)
         ensures { self.new ≡ record self.old {
           plan = record self.old.plan { act = Some (Send message); pauses = pauses };

@@ -86,11 +86,12 @@ fn a_deadline_that_runs_out_leaves_the_receiver_open(rt: HostRuntime) -> Result<
         Err(RecvTimeoutError::Timeout)
     );
     let short = Duration::from_millis(2);
+    let start = Instant::now(&rt)?;
     assert_eq!(rt;
         receiver.recv_timeout(short),
         Err(RecvTimeoutError::Timeout)
     );
-    assert!(rt; Instant::now(&rt)?.duration_since(now) > short);
+    assert!(rt; Instant::now(&rt)?.duration_since(start) > short);
     assert!(rt; !receiver.is_closed() && !sender.is_closed());
     assert_eq!(rt; receiver.try_recv(), Err(TryRecvError::Empty));
     // Its waker came back each time, so that it can wait again and be woken.
@@ -209,7 +210,7 @@ fn within<T: Drop, Rt: Wait + Clock + Drop>(
     }
 }
 
-// Timeouts about as long as the other thread lingers, so that some run out and some do not.
+// Timeouts about as long as the other thread lingers; which of them run out is left to chance.
 fn timeout_of(round: u64) -> Duration {
     Duration::from_micros(round % 120)
 }

@@ -117,3 +117,24 @@ block here
         output
     );
 }
+
+#[test]
+fn a_sender_that_goes_at_the_deadline(rt: HostRuntime) {
+    let output = "1 R load 3>3
+2 R write-waker 3>3 p:Hand>Cell
+3 R swap 3>0
+4 R clock 0>0 over
+5 S xor 0>1
+6 S take-waker 1>1 p:Cell>SenderHand
+7 S swap 1>2
+8 S wake 2>2 p:SenderHand>Used token+ = dropped
+9 R swap 2>3
+10 R store 3>2 = Err(Disconnected)
+rest none
+block here
+";
+    assert_eq!(rt;
+        told(&rt, b"S drop\nR deadline\nX rrrossssrr\n").as_str(),
+        output
+    );
+}

@@ -2,7 +2,7 @@ use Rattle.std.proofs.Common.{rules, ◌≡◌, ℕ, refl, ◌∙◌}
 use Rattle.oneshot_machine.specs.declared.machine.Seen.TheVariants.{Word}
 use Rattle.oneshot_machine.specs.declared.states.Op.TheVariants.{Load, Swap}
 use Rattle.oneshot_machine.specs.Phases.{overdue, ReceiverAt, receiver_next}
-use Rattle.oneshot_machine.specs.Slots.{Held, away, may_wait_on, ReceiverFinds, stop_claimed, late_longer}
+use Rattle.oneshot_machine.specs.Slots.{Held, away, may_wait_on, ReceiverFinds, stop_claimed, overdue_longer}
 use Rattle.oneshot_word.specs.Sides.{Side, ReceiverDid}
 use Rattle.oneshot_word.proofs.Told.{ReceiverIs, receiver_can, receiver_told, receiver_went, receiver_is}
 use Rattle.oneshot_word.proofs.tests.stop_too_late.Goals as goal
@@ -12,7 +12,7 @@ module _ {T W : Type 0} where
   found_claimed (stop_claimed a) = (refl, refl, refl)
 
   found_nothing : {m : Held T} {w : Held W} → ReceiverFinds overdue Load 3 away away m w → (m ≡ away) × (w ≡ away)
-  found_nothing late_longer = (refl, refl)
+  found_nothing overdue_longer = (refl, refl)
 
   stops : {s t : Side T W} {found : ℕ} → ReceiverDid s (Swap 3) found t → found ≡ 1 → ReceiverIs t overdue away away
   stops {s} did same =
