@@ -75,11 +75,11 @@ module _ {T W : Type 0} where
   stops_over n e s = by_word _ (Swap 3) n s refl (rw e)
 
   -- the sender is about to finish
-  pub record IsLate (n : ℕ) (q : ReceiverAt) (m : Held T) (w : Held W) : Type 0 where
+  pub record FoundClaimed (n : ℕ) (q : ReceiverAt) (m : Held T) (w : Held W) : Type 0 where
     pub word : n ≡ 1
     pub overdue : IsOverdue q m w
 
-  pub stopped_late : {n : ℕ} {q : ReceiverAt} {m : Held T} {w : Held W} → Stopped n q m w → ¬ (n ≡ 0) → ¬ (n ≡ 4) → ¬ (n ≡ 2) → IsLate n q m w
+  pub stopped_late : {n : ℕ} {q : ReceiverAt} {m : Held T} {w : Held W} → Stopped n q m w → ¬ (n ≡ 0) → ¬ (n ≡ 4) → ¬ (n ≡ 2) → FoundClaimed n q m w
   stopped_late (stopped_open k) a b c = absurd (a refl)
   stopped_late stopped_claimed a b c = record { word = refl; overdue = is_overdue }
   stopped_late (stopped_message x) a b c = absurd (b refl)
