@@ -122,3 +122,55 @@ fn a_clock_that_fails_hides_no_message(rt: HostRuntime) -> Result<(), Fail> {
     );
     Ok(())
 }
+
+/// What the sender does.
+#[derive(Drop)]
+enum Act {
+    Send(Sender<u8>, u8),
+    Go(Sender<u8>),
+}
+
+/// A runtime whose clock reads an hour, and at whose first reading the sender acts.
+#[derive(Drop)]
+struct Meanwhile<'a, R> {
+    rt: &'a R,
+    act: Cell<Option<Act>>,
+}
+
+impl<'a, R: Wait> Wait for Meanwhile<'a, R> {}
+
+impl<'a, R> Clock for Meanwhile<'a, R> {
+    fn monotonic(&self) -> io::Result<Duration> {
+        match self.act.take() {
+            Some(Act::Send(sender, message)) => {
+                let _ = sender.send(message);
+            }
+            Some(Act::Go(sender)) => drop(sender),
+            None => {}
+        }
+        Ok(Duration::from_secs(3_600))
+    }
+
+    fn since_1970(&self) -> io::Result<Duration> {
+        self.monotonic()
+    }
+}
+
+// The receiver finds what the sender left by the swap that was to end its wait.
+#[test]
+fn what_comes_at_the_deadline_is_found(rt: HostRuntime) -> Result<(), Fail> {
+    let clock = Meanwhile {
+        rt: &rt,
+        act: Cell::new(None),
+    };
+    let (sender, mut receiver) = channel::<u8, _>(&clock, rt.alloc())?;
+    clock.act.set(Some(Act::Send(sender, 19)));
+    assert_eq!(rt; receiver.recv_deadline(five(&rt)?), Ok(19));
+    assert!(rt; receiver.is_closed());
+    let (sender, mut receiver) = channel::<u8, _>(&clock, rt.alloc())?;
+    clock.act.set(Some(Act::Go(sender)));
+    let received = receiver.recv_deadline(five(&rt)?);
+    assert_eq!(rt; received, Err(RecvTimeoutError::Disconnected));
+    assert!(rt; receiver.is_closed());
+    Ok(())
+}
