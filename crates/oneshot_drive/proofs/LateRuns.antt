@@ -1,15 +1,18 @@
 -- What a receive whose deadline is over owes its ground, and where its steps lead.
-use Rattle.std.proofs.Common.{◌≡◌, ℕ, Bool, true, [], ◌∷◌, refl, sym, subst}
+use Rattle.std.proofs.Common.{◌≡◌, ℕ, Bool, true, [], ◌∷◌, Some, refl, sym, ap, subst, ◌∙◌}
 use Rattle.oneshot_drive.specs.declared.waiting.Found.{Found}
 use Rattle.oneshot_drive.specs.declared.waiting.Found.TheVariants as F
 use Rattle.oneshot_machine.specs.declared.machine.Seen.TheVariants as S
 use Rattle.oneshot_machine.specs.declared.machine.Step.TheVariants as Steps
+use Rattle.oneshot_machine.specs.declared.machine.receiver.ReceiverPos.{ReceiverPos}
 use Rattle.oneshot_machine.specs.declared.machine.receiver.ReceiverPos.TheVariants.{EndSwap, EndBack, LatePark, LateLoad}
 use Rattle.oneshot_machine.specs.declared.states.Op.TheVariants.{Load, Swap}
 use Rattle.oneshot_machine.specs.Logs.{Log, Grows, receiver_of, handed, parked, worded}
 use Rattle.oneshot_machine.specs.Phases.{ReceiverAt, here, between, blocked, overdue, full, waited, unclosed, found_closed, over, receiver_next}
-use Rattle.oneshot_machine.specs.Rows.{Goes}
+use Rattle.oneshot_machine.specs.Receiver.{receiver_row}
+use Rattle.oneshot_machine.specs.Rows.{Outcome, Goes}
 use Rattle.oneshot_machine.specs.Slots.{Held, away, vacant, held, ReceiverMay, may_stop, may_wait_on, ReceiverFinds, stop_waiting, stop_claimed, stop_message, stop_closed, overdue_longer, overdue_message, overdue_closed}
+use Rattle.oneshot_machine.specs.Words.{saw}
 use Rattle.oneshot_machine.proofs.GrownLists.{receiver_moved}
 use Rattle.oneshot_drive.specs.Blocking.{Went, ref_end, EndsAt, ends_message, ends_closed, ends_unclosed, ends_nothing, IsWaiting, is_waiting, IsOverdue, is_overdue}
 use Rattle.oneshot_drive.proofs.Stretches.{on, by_word, by_withdraw, by_park}
@@ -129,11 +132,14 @@ module _ {T W : Type 0} where
   ended_again ended_closed a b = absurd (b refl)
 
   module _ {l k j z : Log T W} (went : Went LatePark (Goes LatePark) l k) (woken : Bool) (s : Grows k j (parked woken ∷ [])) (n : ℕ) (t : Grows j z (worded Load n ∷ [])) where
+    late_to : (o : Outcome ReceiverPos) (found : ℕ) → receiver_row LateLoad (saw Load found) ≡ Some o → n ≡ found → Went LatePark o l z
+    late_to o found leads e = on went (on (by_park (Goes LateLoad) woken s refl refl refl) (by_word o Load n t refl (ap (λ v. receiver_row LateLoad (saw Load v)) e ∙ leads)))
+
     pub late_again : n ≡ 3 → Went LatePark (Goes LatePark) l z
-    late_again e = on went (on (by_park (Goes LateLoad) woken s refl refl refl) (by_word _ Load n t refl (rw e)))
+    late_again = late_to _ 3 refl
 
     pub late_full : n ≡ 4 → Went LatePark (ref_end F.Message) l z
-    late_full e = on went (on (by_park (Goes LateLoad) woken s refl refl refl) (by_word _ Load n t refl (rw e)))
+    late_full = late_to _ 4 refl
 
     pub late_over : n ≡ 2 → Went LatePark (ref_end F.Closed) l z
-    late_over e = on went (on (by_park (Goes LateLoad) woken s refl refl refl) (by_word _ Load n t refl (rw e)))
+    late_over = late_to _ 2 refl

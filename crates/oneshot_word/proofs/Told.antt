@@ -1,9 +1,10 @@
 -- What an operation tells of an end whose phase and slots are known.
 use Rattle.std.proofs.Common.{◌≡◌, ℕ, refl, sym, ap, ◌∙◌, subst}
 use Rattle.oneshot_machine.specs.declared.states.Op.{Op}
+use Rattle.oneshot_machine.specs.declared.states.Op.TheVariants.{Store}
 use Rattle.oneshot_machine.specs.Words.{saw}
-use Rattle.oneshot_machine.specs.Phases.{SenderAt, fresh, sender_next, sender_at, ReceiverAt, first, receiver_next, receiver_at}
-use Rattle.oneshot_machine.specs.Slots.{Held, away, held, SenderMay, SenderFinds, add_waker, flip_waker, ReceiverMay, ReceiverFinds}
+use Rattle.oneshot_machine.specs.Phases.{Got, full, SenderAt, fresh, sender_next, sender_at, ReceiverAt, first, receiver_next, receiver_at}
+use Rattle.oneshot_machine.specs.Slots.{Held, away, vacant, held, SenderMay, SenderFinds, add_waker, flip_waker, ReceiverMay, ReceiverFinds, close}
 use Rattle.oneshot_machine.proofs.GrownLists.{sender_from-snoc, receiver_from-snoc}
 use Rattle.oneshot_word.specs.Sides.{Side, SenderOwns, owns_message, SenderCan, SenderDid, ReceiverCan, ReceiverDid}
 
@@ -81,3 +82,7 @@ module _ {T W : Type 0} where
   finds_waker op is did same =
       let it = found_waker (sender_told op 0 is did same) in
       (it.1, record { at = sender_went op 0 is did same; message = it.0; waker = it.2 })
+
+  -- a receiver that closes keeps the message
+  pub keeps_message : {g : Got} {left found : ℕ} {x : T} {m : Held T} {w : Held W} → ReceiverFinds (full g left) (Store 2) found (held x) vacant m w → m ≡ held x
+  keeps_message (close _ _ x) = refl

@@ -67,6 +67,30 @@ fn an_overdue_receiver_finds_the_sender_gone(rt: HostRuntime) -> Result<(), Fail
     Ok(())
 }
 
+#[test]
+fn a_receiver_that_stops_over_the_message_gets_it(rt: HostRuntime) -> Result<(), Fail> {
+    let (mut sender, mut receiver) = open::<u8, u8>(rt.alloc())?;
+    look(&rt, &mut receiver);
+    store_waker(&rt, &mut receiver, 5);
+    assert_eq!(rt; begin_send(&rt, &mut sender, 7), 5);
+    assert_eq!(rt; sender.swap(4), 1);
+    assert_eq!(rt; stop_over_the_message(&rt, &mut receiver), 7);
+    assert_eq!(rt; receiver.peek(), 2);
+    Ok(())
+}
+
+#[test]
+fn a_receiver_that_stops_over_an_end_closes(rt: HostRuntime) -> Result<(), Fail> {
+    let (mut sender, mut receiver) = open::<u8, u8>(rt.alloc())?;
+    look(&rt, &mut receiver);
+    store_waker(&rt, &mut receiver, 5);
+    assert_eq!(rt; begin_drop(&rt, &mut sender), 5);
+    assert_eq!(rt; sender.swap(2), 1);
+    stop_over_the_end(&rt, &mut receiver);
+    assert_eq!(rt; receiver.peek(), 2);
+    Ok(())
+}
+
 fn look(rt: &impl Abort, receiver: &mut ReceiverSide<u8, u8>)
     requires { receiver_at receiver.old.steps ≡ first }
     ensures at { receiver_at receiver.new.steps ≡ here looked }
@@ -110,6 +134,25 @@ fn stop_too_late(rt: &impl Abort, receiver: &mut ReceiverSide<u8, u8>)
     let found = receiver.swap(3);
     assert!(rt; found == 1);
     let found = receiver.load();
+    assert!(rt; found == 3);
+}
+
+fn stop_over_the_message(rt: &impl Abort, receiver: &mut ReceiverSide<u8, u8>) -> u8
+    requires { ReceiverCan receiver.old (Swap 3) }
+{
+    let found = receiver.swap(3);
+    assert!(rt; found == 4);
+    let found = receiver.store(2);
+    assert!(rt; found == 3);
+    receiver.take_message()
+}
+
+fn stop_over_the_end(rt: &impl Abort, receiver: &mut ReceiverSide<u8, u8>)
+    requires { ReceiverCan receiver.old (Swap 3) }
+{
+    let found = receiver.swap(3);
+    assert!(rt; found == 2);
+    let found = receiver.store(2);
     assert!(rt; found == 3);
 }
 

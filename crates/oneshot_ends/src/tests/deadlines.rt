@@ -9,6 +9,7 @@ use std::test::Fail;
 use std::thread::{join, sleep};
 use std::time::{Clock, Duration, Instant};
 
+// For each of the two timed receives.
 const ROUNDS: u64 = 1_000;
 
 fn hour() -> Duration {
@@ -198,26 +199,33 @@ fn two_threads_answer_each_other_promptly(rt: HostRuntime) -> Result<(), Fail> {
     Ok(())
 }
 
-// What a receiver gets that waits so long, and, where that ran out, what its next receive gets.
-fn within<T: Drop, Rt: Wait + Clock + Drop>(
+// What a receiver gets that waits for one round's time, by a deadline in the even rounds and by a
+// timeout in the odd ones, and, where that ran out, what its next receive gets.
+fn within<T: Drop, Rt: Wait + Clock + Abort + Drop>(
+    rt: &(impl Clock + Abort),
     mut receiver: Receiver<T, Rt>,
-    timeout: Duration,
-) -> Result<T, RecvError> {
-    match receiver.recv_timeout(timeout) {
+    round: u64,
+) -> io::Result<Result<T, RecvError>> {
+    let timeout = timeout_of(round / 2);
+    let received = match round % 2 {
+        0 => receiver.recv_deadline(later(rt, timeout)?),
+        _ => receiver.recv_timeout(timeout),
+    };
+    Ok(match received {
         Ok(message) => Ok(message),
         Err(RecvTimeoutError::Timeout) => receiver.recv(),
         Err(RecvTimeoutError::Disconnected) => Err(RecvError),
-    }
+    })
 }
 
-// Timeouts about as long as the other thread lingers; which of them run out is left to chance.
-fn timeout_of(round: u64) -> Duration {
-    Duration::from_micros(round % 120)
+// Times about as long as the other thread lingers; which of them run out is left to chance.
+fn timeout_of(turn: u64) -> Duration {
+    Duration::from_micros(turn % 120)
 }
 
 #[test]
-fn a_message_beside_a_timeout_is_received_once(rt: HostRuntime) -> Result<(), Fail> {
-    for round in 0..ROUNDS {
+fn a_message_beside_a_limit_is_received_once(rt: HostRuntime) -> Result<(), Fail> {
+    for round in 0..2 * ROUNDS {
         let (sender, receiver) = channel(&rt, rt.alloc())?;
         let shared = Arc::new(rt.alloc(), round)?;
         let message = Arc::try_clone(&shared)?;
@@ -227,10 +235,10 @@ fn a_message_beside_a_timeout_is_received_once(rt: HostRuntime) -> Result<(), Fa
                 sleep(&rt, Duration::from_micros(60));
                 sender.send(message).is_ok()
             },
-            || within(receiver, timeout_of(round)),
+            || within(&rt, receiver, round),
         );
         assert!(rt; sent);
-        let Ok(message) = received else {
+        let Ok(message) = received? else {
             panic!(rt; "the message comes")
         };
         assert_eq!(rt; *message, round);
@@ -242,8 +250,8 @@ fn a_message_beside_a_timeout_is_received_once(rt: HostRuntime) -> Result<(), Fa
 }
 
 #[test]
-fn a_drop_beside_a_timeout_is_told(rt: HostRuntime) -> Result<(), Fail> {
-    for round in 0..ROUNDS {
+fn a_drop_beside_a_limit_is_told(rt: HostRuntime) -> Result<(), Fail> {
+    for round in 0..2 * ROUNDS {
         let (sender, receiver) = channel::<u8, _>(&rt, rt.alloc())?;
         let ((), received) = join(
             &rt,
@@ -251,9 +259,9 @@ fn a_drop_beside_a_timeout_is_told(rt: HostRuntime) -> Result<(), Fail> {
                 sleep(&rt, Duration::from_micros(60));
                 drop(sender);
             },
-            || within(receiver, timeout_of(round)),
+            || within(&rt, receiver, round),
         );
-        assert_eq!(rt; received, Err(RecvError));
+        assert_eq!(rt; received?, Err(RecvError));
     }
     Ok(())
 }

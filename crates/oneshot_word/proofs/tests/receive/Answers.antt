@@ -2,9 +2,9 @@ use Rattle.std.proofs.Common.{rules, ◌≡◌, ℕ, refl, ◌∙◌}
 use Rattle.oneshot_machine.specs.declared.machine.Seen.TheVariants.{Word}
 use Rattle.oneshot_machine.specs.declared.states.Op.TheVariants.{Load, Store}
 use Rattle.oneshot_machine.specs.Phases.{Got, at_once, waited, full, ReceiverAt, receiver_next}
-use Rattle.oneshot_machine.specs.Slots.{Held, vacant, held, may_close, ReceiverFinds, first_message, load_message, wait_message, overdue_message, close}
+use Rattle.oneshot_machine.specs.Slots.{Held, vacant, held, may_close, ReceiverFinds, first_message, load_message, wait_message, overdue_message}
 use Rattle.oneshot_word.specs.Sides.{Side, ReceiverDid}
-use Rattle.oneshot_word.proofs.Told.{ReceiverIs, receiver_can, receiver_told, receiver_went, receiver_is}
+use Rattle.oneshot_word.proofs.Told.{ReceiverIs, receiver_can, receiver_told, receiver_went, receiver_is, keeps_message}
 use Rattle.oneshot_word.proofs.tests.receive.Goals as goal
 
 module _ {T W : Type 0} where
@@ -20,9 +20,6 @@ module _ {T W : Type 0} where
   found_message (load_message o x) = record { got = at_once; message = x; at = refl; holds = refl; no_waker = refl }
   found_message (wait_message a x) = record { got = waited; message = x; at = refl; holds = refl; no_waker = refl }
   found_message (overdue_message x) = record { got = waited; message = x; at = refl; holds = refl; no_waker = refl }
-
-  kept_message : {g : Got} {x : T} {m : Held T} {w : Held W} → ReceiverFinds (full g 4) (Store 2) 4 (held x) vacant m w → m ≡ held x
-  kept_message (close _ _ x) = refl
 
   finds : {s t : Side T W} {found : ℕ} → ReceiverDid s Load found t → found ≡ 4 → (g : Got) × (x : T) × ReceiverIs t (full g 4) (held x) vacant
   finds {s} did same =
@@ -40,4 +37,4 @@ store-found-requires g c =
 pub take_message-requires : goal.take_message-requires
 take_message-requires g c =
     let it = finds c.load-found.ensures (search rules) in
-    (it.1, kept_message (receiver_told (Store 2) 4 it.2 c.store-found.ensures (search rules)))
+    (it.1, keeps_message (receiver_told (Store 2) 4 it.2 c.store-found.ensures (search rules)))
