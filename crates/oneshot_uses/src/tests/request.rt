@@ -1,6 +1,6 @@
 //! Replies that come, and those that do not.
 
-use crate::request::{ask, squares_of};
+use crate::request::{ask, serve_all, squares_of};
 use std::test::Fail;
 
 #[test]
@@ -26,5 +26,18 @@ fn a_reply_that_nobody_waits_for_is_refused(rt: HostRuntime) -> Result<(), Fail>
     let (request, asked) = ask((), rt.alloc(), 3)?;
     drop(asked);
     assert!(rt; !request.serve());
+    Ok(())
+}
+
+#[test]
+fn a_worker_counts_the_replies_that_are_waited_for(rt: HostRuntime) -> Result<(), Fail> {
+    let (waited_for, asked) = ask(&rt, rt.alloc(), 3)?;
+    let (given_up, gone) = ask((), rt.alloc(), 5)?;
+    drop(gone);
+    let mut requests = Vec::new(rt.alloc());
+    requests.push(waited_for)?;
+    requests.push(given_up)?;
+    assert_eq!(rt; serve_all(requests), 1);
+    assert_eq!(rt; asked.wait(), Some(9));
     Ok(())
 }
