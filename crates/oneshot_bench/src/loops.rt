@@ -62,6 +62,8 @@ impl Loop {
 }
 
 impl fmt::Display for Loop {
+    ghost output = { λ kind. Some (name_of kind) };
+
     fn fmt<W: fmt::Write>(&self, f: &mut fmt::Formatter<W>) -> fmt::Result {
         f.pad(self.name())
     }
