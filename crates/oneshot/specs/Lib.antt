@@ -1,5 +1,39 @@
-pub use Rattle.oneshot_machine.specs.Phases
-pub use Rattle.oneshot_drive.specs.Calls
+-- what the contracts of the ends name
 pub use Rattle.oneshot_ends.specs.Ends
+pub use Rattle.oneshot_ends.specs.Sides
+pub use Rattle.oneshot_errors.specs.declared.recv.RecvError
+pub use Rattle.oneshot_errors.specs.declared.recv_timeout.RecvTimeoutError
+pub use Rattle.oneshot_errors.specs.declared.try_recv.TryRecvError
+-- what those of the drivers and of the grounds in memory name
+pub use Rattle.oneshot_drive.specs.Blocking
+pub use Rattle.oneshot_drive.specs.Calls
+pub use Rattle.oneshot_machine.specs.Logs
+pub use Rattle.oneshot_machine.specs.Phases
+pub use Rattle.oneshot_machine.specs.Runs
+pub use Rattle.oneshot_machine.specs.Slots
+pub use Rattle.oneshot_memory.specs.Events
+pub use Rattle.oneshot_memory.specs.Receiver as ReceiverMemory
+pub use Rattle.oneshot_memory.specs.Sender as SenderMemory
+-- what those of the machines name
+pub use Rattle.oneshot_machine.specs.Receiver
+pub use Rattle.oneshot_machine.specs.Rows
+pub use Rattle.oneshot_machine.specs.Sender
+pub use Rattle.oneshot_machine.specs.States
+pub use Rattle.oneshot_machine.specs.declared.machine.Reply
+pub use Rattle.oneshot_machine.specs.declared.machine.receiver.ReceiverStart
+pub use Rattle.oneshot_machine.specs.declared.machine.sender.SenderCall
+-- what those of `replay` name
 pub use Rattle.oneshot_replay.specs.Rest
 pub use Rattle.oneshot_replay.specs.Told
+pub use Rattle.oneshot_replay.specs.declared.rest.Rest as RestOf
+pub use Rattle.oneshot_world.specs.Calls as Scripts
+pub use Rattle.oneshot_world.specs.World
+pub use Rattle.oneshot_laws.specs.Alone
+pub use Rattle.oneshot_laws.specs.History
+pub use Rattle.oneshot_laws.specs.Holders
+pub use Rattle.oneshot_laws.specs.Idle
+pub use Rattle.oneshot_laws.specs.Laws
+pub use Rattle.oneshot_laws.specs.Marks
+pub use Rattle.oneshot_laws.specs.Places
+pub use Rattle.oneshot_laws.specs.Unwoken
+pub use Rattle.oneshot_laws.specs.Wakers

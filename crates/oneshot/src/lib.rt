@@ -10,4 +10,5 @@ pub use oneshot_drive as drive;
 pub use oneshot_ends::{Receiver, SendError, Sender, channel};
 pub use oneshot_errors::{RecvError, RecvTimeoutError, TryRecvError};
 pub use oneshot_machine::{machine, states};
+pub use oneshot_memory as memory;
 pub use oneshot_replay as replay;

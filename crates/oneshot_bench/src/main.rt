@@ -7,6 +7,7 @@ mod loops;
 mod measure;
 mod round_trip;
 mod rounds;
+mod tally;
 #[cfg(test)]
 mod tests;
 
@@ -40,7 +41,7 @@ fn run<R: Env + Print + AllocGlobal + Clock + Threads + Wait + Sync>(rt: &R) -> 
     let printed = match command {
         Command::Usage => println!(rt; "{USAGE}"),
         Command::Measure { kind, count } => {
-            let nanoseconds = measure(rt, rt.alloc(), kind, count)?.as_nanos();
+            let nanoseconds = measure(rt, rt.alloc(), kind, count)?.time.as_nanos();
             println!(rt; "{kind}: {count} rounds in {nanoseconds} ns")
         }
     };

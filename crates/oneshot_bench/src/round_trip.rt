@@ -3,8 +3,10 @@
 ghost use Rattle.std.specs.Prelude.{◌≡◌, IfOk, vec_len};
 
 use crate::fault::Fault;
+use crate::tally::Tally;
 use oneshot::{Receiver, Sender, channel};
 use std::alloc::Global;
+use std::mem::size_of;
 use std::sync::Wait;
 use std::thread::{Threads, join};
 use std::time::Clock;
@@ -25,19 +27,26 @@ pub fn ask<Rt: Wait + Clock + Drop>(
     rt: Rt,
     alloc: Global,
     requests: Sender<Request>,
+    tally: &mut Tally,
 ) -> Result<(), Fault> {
     let (reply, replies) = channel(rt, alloc)?;
+    tally.made(0);
     if requests.send(Request { reply }).is_err() || replies.recv().is_err() {
         return Err(Fault::MessageLost);
     }
+    tally.waited();
     Ok(())
 }
 
 /// Waits for a request, and replies to it. `Err` where none comes, or nobody waits for the reply.
-pub fn serve<Rt: Wait + Clock + Drop>(requests: Receiver<Request, Rt>) -> Result<(), Fault> {
+pub fn serve<Rt: Wait + Clock + Drop>(
+    requests: Receiver<Request, Rt>,
+    tally: &mut Tally,
+) -> Result<(), Fault> {
     let Ok(Request { reply }) = requests.recv() else {
         return Err(Fault::MessageLost);
     };
+    tally.waited();
     if reply.send(()).is_err() {
         return Err(Fault::MessageLost);
     }
@@ -45,37 +54,45 @@ pub fn serve<Rt: Wait + Clock + Drop>(requests: Receiver<Request, Rt>) -> Result
 }
 
 /// Sends a request over each channel in turn, and counts the replies.
-fn ask_all<R: Wait + Clock>(rt: &R, alloc: Global, all: Vec<Sender<Request>>) -> Result<u64, Fault>
-    ensures { IfOk result (λ replies. replies ≡ vec_len all) }
+fn ask_all<R: Wait + Clock>(
+    rt: &R,
+    alloc: Global,
+    all: Vec<Sender<Request>>,
+) -> Result<(u64, Tally), Fault>
+    ensures { IfOk result (λ asked. asked.0 ≡ vec_len all) }
 {
+    let mut tally = Tally::new();
     let mut replies = 0;
     for requests in all {
-        ask(rt, alloc, requests)?;
+        ask(rt, alloc, requests, &mut tally)?;
         replies += 1;
     }
-    Ok(replies)
+    Ok((replies, tally))
 }
 
 /// Serves a request from each channel in turn.
-fn serve_all<Rt: Wait + Clock + Drop>(all: Vec<Receiver<Request, Rt>>) -> Result<(), Fault> {
+fn serve_all<Rt: Wait + Clock + Drop>(all: Vec<Receiver<Request, Rt>>) -> Result<Tally, Fault> {
+    let mut tally = Tally::new();
     for requests in all {
-        serve(requests)?;
+        serve(requests, &mut tally)?;
     }
-    Ok(())
+    Ok(tally)
 }
 
 /// A channel for each request of a batch.
-fn channels<R>(
-    rt: &R,
+fn channels<'r, R>(
+    rt: &'r R,
     alloc: Global,
     count: u64,
-) -> Result<(Vec<Sender<Request>>, Vec<Receiver<Request, &R>>), Fault>
+    tally: &mut Tally,
+) -> Result<(Vec<Sender<Request>>, Vec<Receiver<Request, &'r R>>), Fault>
     ensures { IfOk result (λ ends. vec_len ends.0 ≡ count) }
 {
     let mut senders = Vec::new(alloc);
     let mut receivers = Vec::new(alloc);
     for _opened in 0..count {
         let (sender, receiver) = channel(rt, alloc)?;
+        tally.made(size_of::<Request>());
         senders.push(sender)?;
         receivers.push(receiver)?;
     }
@@ -83,18 +100,25 @@ fn channels<R>(
 }
 
 /// Makes this many round trips with a thread that is started for them, and counts them.
-fn batch<R: Threads + Wait + Clock + Sync>(rt: &R, alloc: Global, count: u64) -> Result<u64, Fault>
+fn batch<R: Threads + Wait + Clock + Sync>(
+    rt: &R,
+    alloc: Global,
+    count: u64,
+    tally: &mut Tally,
+) -> Result<u64, Fault>
     ensures { IfOk result (λ made. made ≡ count) }
 {
-    let (senders, receivers) = channels(rt, alloc, count)?;
+    let (senders, receivers) = channels(rt, alloc, count, tally)?;
     // The asker crosses to the new thread, so that only senders do.
-    let (replies, served) = join(
+    let (asked, served) = join(
         rt,
         move || ask_all(rt, alloc, senders),
         move || serve_all(receivers),
     );
-    served?;
-    replies
+    let (replies, asked) = asked?;
+    tally.add(asked);
+    tally.add(served?);
+    Ok(replies)
 }
 
 /// Makes `count` round trips, a batch at a time, and answers how many it made.
@@ -105,12 +129,13 @@ pub fn round_trips<R: Threads + Wait + Clock + Sync>(
     rt: &R,
     alloc: Global,
     count: u64,
+    tally: &mut Tally,
 ) -> Result<u64, Fault>
     ensures { IfOk result (λ made. made ≡ count) }
 {
     let mut made = 0;
     for _batches in 0..count / BATCH {
-        made += batch(rt, alloc, BATCH)?;
+        made += batch(rt, alloc, BATCH, tally)?;
     }
-    Ok(made + batch(rt, alloc, count % BATCH)?)
+    Ok(made + batch(rt, alloc, count % BATCH, tally)?)
 }

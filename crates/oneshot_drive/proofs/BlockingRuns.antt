@@ -1,5 +1,5 @@
 -- What each receive that blocks owes its ground once it is decided, and that its steps make a run.
-use Rattle.std.proofs.Common.{◌≡◌, ℕ, Bool, true, false, List, [], ◌∷◌, Option, Some, Result, Ok, Err, refl, sym, subst}
+use Rattle.std.proofs.Common.{◌≡◌, ℕ, Bool, true, false, List, [], ◌∷◌, Option, Result, Ok, Err, refl, sym, subst}
 use Rattle.oneshot_errors.specs.declared.recv.RecvError.{RecvError}
 use Rattle.oneshot_errors.specs.declared.recv_timeout.RecvTimeoutError.{RecvTimeoutError}
 use Rattle.oneshot_errors.specs.declared.recv_timeout.RecvTimeoutError.TheVariants as Timed
@@ -21,7 +21,7 @@ use Rattle.oneshot_machine.specs.Runs.{last, more, Ran, ReceiverRan}
 use Rattle.oneshot_machine.specs.Slots.{Held, vacant, held, ReceiverMay, may_close, may_close_only, ReceiverFinds, close, close_only}
 use Rattle.oneshot_machine.proofs.GrownLists.{receiver_moved, and_then}
 use Rattle.oneshot_drive.specs.Blocking.{Went, value_end, EndsAt, ends_message, ends_closed, ends_unclosed, ends_nothing, Returns, returned, taken, Refills, refilled, HandAt}
-use Rattle.oneshot_drive.specs.Calls.{AtRest, rests_open, rests_closed, IsClosed, is_over, LeavesClosed, left_received, left_closed, LeavesTimed, timed_received, timed_out, timed_closed, IsReady, Hands, as_it_was, sender_took, came_back}
+use Rattle.oneshot_drive.specs.Calls.{AtRest, rests_open, rests_closed, IsClosed, LeavesClosed, left_received, left_closed, LeavesTimed, timed_received, timed_out, timed_closed, IsReady, Hands, as_it_was, sender_took, came_back}
 use Rattle.oneshot_drive.proofs.ReceiverRuns.{HasClosed}
 use Rattle.oneshot_drive.proofs.Stretches.{by_clock, ran, before}
 use Rattle.oneshot_drive.proofs.WaitingRuns.{unmoved, clocked_at}
@@ -145,13 +145,3 @@ pub untimed_gone : {T : Type 0} {r : Result T RecvTimeoutError} {q : ReceiverAt}
 untimed_gone e d is endless (timed_received y) = absurd (cc)
 untimed_gone e d is endless timed_out = absurd (endless refl)
 untimed_gone e d is endless (timed_closed c) = left_closed e c
-
-pub left_is_closed : {T : Type 0} {r : Result T RecvError} {q : ReceiverAt} → LeavesClosed r q → IsClosed q
-left_is_closed (left_received x) = is_over closed_itself
-left_is_closed (left_closed e c) = is_over c
-
--- a receiver that had its waker may block again
-pub ready_again : {W : Type 0} {hand after : Option W} {q : ReceiverAt} (k : W) → hand ≡ Some k → Hands hand after q → IsReady after q
-ready_again k is (as_it_was hand q) none = absurd (cc)
-ready_again k is (sender_took j c) none = is_over c
-ready_again k is (came_back j b) none = absurd (cc)

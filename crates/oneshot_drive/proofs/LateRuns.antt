@@ -1,5 +1,5 @@
 -- What a receive whose deadline is over owes its ground, and where its steps lead.
-use Rattle.std.proofs.Common.{◌≡◌, ℕ, Bool, true, [], ◌∷◌, Some, refl, sym, ap, subst, ◌∙◌}
+use Rattle.std.proofs.Common.{false, ◌≡◌, ℕ, Bool, true, [], ◌∷◌, Some, refl, sym, ap, subst, ◌∙◌}
 use Rattle.oneshot_drive.specs.declared.waiting.Found.{Found}
 use Rattle.oneshot_drive.specs.declared.waiting.Found.TheVariants as F
 use Rattle.oneshot_machine.specs.declared.machine.Seen.TheVariants as S
@@ -14,7 +14,7 @@ use Rattle.oneshot_machine.specs.Rows.{Outcome, Goes}
 use Rattle.oneshot_machine.specs.Slots.{Held, away, vacant, held, ReceiverMay, may_stop, may_wait_on, ReceiverFinds, stop_waiting, stop_claimed, stop_message, stop_closed, overdue_longer, overdue_message, overdue_closed}
 use Rattle.oneshot_machine.specs.Words.{saw}
 use Rattle.oneshot_machine.proofs.GrownLists.{receiver_moved}
-use Rattle.oneshot_drive.specs.Blocking.{Went, ref_end, EndsAt, ends_message, ends_closed, ends_unclosed, ends_nothing, IsWaiting, is_waiting, IsOverdue, is_overdue}
+use Rattle.oneshot_drive.specs.Blocking.{Went, ref_end, EndsAt, ends_message, ends_closed, ends_unclosed, ends_nothing, IsWaiting, is_waiting, IsOverdue, is_overdue, Parks, parks_overdue}
 use Rattle.oneshot_drive.proofs.Stretches.{on, by_word, by_withdraw, by_park}
 use Rattle.oneshot_drive.proofs.WaitingRuns.{unmoved, parked_at, withdrew_at}
 
@@ -143,3 +143,7 @@ module _ {T W : Type 0} where
 
     pub late_over : n ≡ 2 → Went LatePark (ref_end F.Closed) l z
     late_over = late_to _ 2 refl
+
+-- one that is overdue parks without its deadline
+pub may_park_late : {T W : Type 0} {q : ReceiverAt} {m : Held T} {w : Held W} → IsOverdue q m w → Parks false q
+may_park_late is_overdue = parks_overdue

@@ -1,9 +1,7 @@
 pub mod SenderRuns
 pub mod ReceiverRuns
-pub mod MemoryLogs
-pub mod MemorySenders
-pub mod MemoryReceivers
 pub mod Stretches
 pub mod WaitingRuns
 pub mod LateRuns
 pub mod BlockingRuns
+pub mod ReadyHands

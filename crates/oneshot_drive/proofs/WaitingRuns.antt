@@ -12,7 +12,7 @@ use Rattle.oneshot_machine.specs.Phases.{ReceiverAt, here, looked, waits, blocke
 use Rattle.oneshot_machine.specs.Rows.{Outcome, Goes}
 use Rattle.oneshot_machine.specs.Slots.{Held, away, vacant, held, ReceiverMay, may_store, may_wait, ReceiverFinds, store_empty, store_message, store_closed, wait_longer, wait_claimed, wait_message, wait_closed}
 use Rattle.oneshot_machine.proofs.GrownLists.{words_stay, receiver_moved}
-use Rattle.oneshot_drive.specs.Blocking.{Went, Way, by_ref, by_value, load_of, write_of, wait_of, asked_of, ref_end, end_of, EndsAt, ends_message, ends_closed, ends_unclosed, IsOpen, is_open, IsWaiting, is_waiting, Returns, returned, taken, refilled, HandAt, WaitedHand}
+use Rattle.oneshot_drive.specs.Blocking.{Went, Way, by_ref, by_value, load_of, write_of, wait_of, asked_of, ref_end, end_of, EndsAt, ends_message, ends_closed, ends_unclosed, HasLooked, has_looked, IsWaiting, is_waiting, Returns, returned, taken, refilled, HandAt, WaitedHand, Parks, parks_waiting}
 use Rattle.oneshot_drive.specs.Calls.{IsReady}
 use Rattle.oneshot_drive.proofs.ReceiverRuns.{Loaded, loaded_message, loaded_empty, loaded_closed, closed_finds}
 use Rattle.oneshot_drive.proofs.Stretches.{on, begun, by_word, by_write, by_withdraw, by_park, by_clock}
@@ -152,16 +152,16 @@ module _ {T W : Type 0} where
   stops_went f by_value went asks e is stops = absurd (cc)
 
   -- `store_and_wait`: the waker, and what its swap found
-  pub open_waker : {q : ReceiverAt} {m : Held T} {w : Held W} → IsOpen q m w → w ≡ vacant
-  open_waker is_open = refl
+  pub open_waker : {q : ReceiverAt} {m : Held T} {w : Held W} → HasLooked q m w → w ≡ vacant
+  open_waker has_looked = refl
 
   pub data IsStoring (y : W) : ReceiverAt → Held T → Held W → Type 0 where
     is_storing : IsStoring y (here looked) away (held y)
 
-  storing : {q : ReceiverAt} {m : Held T} {w : Held W} (y : W) → IsOpen q m w → IsStoring y q m (held y)
-  storing y is_open = is_storing
+  storing : {q : ReceiverAt} {m : Held T} {w : Held W} (y : W) → HasLooked q m w → IsStoring y q m (held y)
+  storing y has_looked = is_storing
 
-  pub written : {l k : Log T W} {m m' : Held T} {w w' : Held W} (y : W) → IsOpen (receiver_of l) m w → Grows l k (handed Steps.WriteWaker y ∷ []) → m' ≡ m → w' ≡ held y → IsStoring y (receiver_of k) m' w'
+  pub written : {l k : Log T W} {m m' : Held T} {w w' : Held W} (y : W) → HasLooked (receiver_of l) m w → Grows l k (handed Steps.WriteWaker y ∷ []) → m' ≡ m → w' ≡ held y → IsStoring y (receiver_of k) m' w'
   written y is s message waker = unmoved (IsStoring y) (storing y is) (wrote_at y s) message waker
 
   pub store_asks : {y : W} {q : ReceiverAt} {m : Held T} {w : Held W} → IsStoring y q m w → ReceiverMay q (Swap 0) m w
@@ -245,9 +245,9 @@ module _ {T W : Type 0} where
   found_full timed loaded_empty e = absurd (cc)
   found_full timed (loaded_closed c) e = absurd (cc)
 
-  pub found_open : {n : ℕ} {q : ReceiverAt} {m : Held T} {w : Held W} → Loaded n q m w → n ≡ 3 → IsOpen q m w
+  pub found_open : {n : ℕ} {q : ReceiverAt} {m : Held T} {w : Held W} → Loaded n q m w → n ≡ 3 → HasLooked q m w
   found_open (loaded_message x) e = absurd (cc)
-  found_open loaded_empty e = is_open
+  found_open loaded_empty e = has_looked
   found_open (loaded_closed c) e = absurd (cc)
 
   pub found_over : {n : ℕ} {q : ReceiverAt} {m : Held T} {w : Held W} (timed : Bool) → Loaded n q m w → ¬ (n ≡ 4) → ¬ (n ≡ 3) → EndsAt timed F.Closed q m w
@@ -283,3 +283,7 @@ waited_hand _ F.Message y is none hand = rw (is, hand, none) (taken y)
 waited_hand _ F.Closed y is none hand = rw (is, hand, none) (taken y)
 waited_hand _ F.Unclosed y is none hand = rw (is, hand, none) (taken y)
 waited_hand _ F.Nothing y is none hand = rw (is, hand.1) (refilled y hand.0)
+
+-- one that waits may park, until its deadline or without
+pub may_park : {T W : Type 0} (timed : Bool) {q : ReceiverAt} {m : Held T} {w : Held W} → IsWaiting q m w → Parks timed q
+may_park timed is_waiting = parks_waiting timed blocked

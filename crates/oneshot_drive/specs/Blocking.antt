@@ -7,7 +7,7 @@ use Rattle.oneshot_machine.specs.declared.machine.Reply.TheVariants as R
 use Rattle.oneshot_machine.specs.declared.machine.receiver.ReceiverPos.{ReceiverPos}
 use Rattle.oneshot_machine.specs.declared.machine.receiver.ReceiverPos.TheVariants.{Close, CloseOnly, StartLoad, StartWrite, Park, Clock, TimedPark, EndSwap, RecvLoad, RecvWrite, RecvPark, RecvTake, RecvFreeGone}
 use Rattle.oneshot_machine.specs.Logs.{Event, Log, Grows, messages_given, messages_got}
-use Rattle.oneshot_machine.specs.Phases.{Closing, Got, looked, between, blocked, ReceiverAt, here, waits, overdue, full, unclosed, over}
+use Rattle.oneshot_machine.specs.Phases.{Closing, Got, Waiting, looked, between, blocked, ReceiverAt, here, waits, overdue, full, unclosed, over}
 use Rattle.oneshot_machine.specs.Receiver.{receiver_step, receiver_row}
 use Rattle.oneshot_machine.specs.Rows.{Outcome, Goes, Answers}
 use Rattle.oneshot_machine.specs.Slots.{Held, away, vacant, held}
@@ -79,8 +79,8 @@ pub data EndsAt {T W : Type 0} : Bool → Found → ReceiverAt → Held T → He
   ends_nothing : EndsAt true F.Nothing (here between) away vacant
 
 -- a receiver whose last load found 3, and that may store its waker
-pub data IsOpen {T W : Type 0} : ReceiverAt → Held T → Held W → Type 0 where
-  is_open : IsOpen (here looked) away vacant
+pub data HasLooked {T W : Type 0} : ReceiverAt → Held T → Held W → Type 0 where
+  has_looked : HasLooked (here looked) away vacant
 
 -- one that stored it
 pub data IsWaiting {T W : Type 0} : ReceiverAt → Held T → Held W → Type 0 where
@@ -89,6 +89,11 @@ pub data IsWaiting {T W : Type 0} : ReceiverAt → Held T → Held W → Type 0 
 -- one whose deadline is over while the sender is about to finish
 pub data IsOverdue {T W : Type 0} : ReceiverAt → Held T → Held W → Type 0 where
   is_overdue : IsOverdue overdue away away
+
+-- How it may park: until its deadline only while it waits. One whose deadline is over parks without.
+pub data Parks : Bool → ReceiverAt → Type 0 where
+  parks_waiting : (timed : Bool) (w : Waiting) → Parks timed (waits w)
+  parks_overdue : Parks false overdue
 
 -- the waker is in the hand again, or the sender took it
 pub data Returns {W : Type 0} : Option W → Option W → Type 0 where

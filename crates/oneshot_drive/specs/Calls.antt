@@ -58,6 +58,10 @@ pub data AtRest {T W : Type 0} : ReceiverAt → Held T → Held W → Type 0 whe
 pub data IsClosed : ReceiverAt → Type 0 where
   is_over : (c : Closing) → IsClosed (over c)
 
+pub data IsOpen : ReceiverAt → Type 0 where
+  is_new : IsOpen first
+  is_here : (o : Open) → IsOpen (here o)
+
 -- The message and the disconnected error leave a receiver closed, and `Empty` leaves it open.
 pub data Leaves {T : Type 0} : Result T TryRecvError → ReceiverAt → Type 0 where
   leaves_received : (x : T) → Leaves (Ok x) (over closed_itself)

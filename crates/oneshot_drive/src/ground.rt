@@ -4,6 +4,7 @@ ghost use Rattle.std.specs.Prelude.{◌≡◌, Bool, ◌∷◌, []};
 ghost use Rattle.oneshot_machine.specs.declared.machine.Step.TheVariants.{DropMessage, WriteWaker, TakeWaker, Withdraw, Wake, Free};
 ghost use Rattle.oneshot_machine.specs.Logs.{Log, Grows, sender_of, receiver_of, did, wrote, took, handed, parked, clocked, worded};
 ghost use Rattle.oneshot_machine.specs.Slots.{Held, away, vacant, held, SenderMay, SenderFinds, ReceiverMay, ReceiverFinds};
+ghost use Rattle.oneshot_drive.specs.Blocking.{Parks};
 
 use oneshot_machine::states::Op;
 
@@ -131,9 +132,11 @@ pub trait ReceiverGround<T, W> {
 
 /// What the receiver does to the world in a call that blocks.
 pub trait BlockGround<T, W>: ReceiverGround<T, W> {
-    /// Waits until the receiver is woken, and where `timed` until its deadline at the longest; or goes
-    /// on before. Whether it was woken is in the list alone.
+    /// Blocks until the receiver is woken, and where `timed` until its deadline at the longest. It may
+    /// also go on before (a spurious wakeup). Whether it was woken is in the log alone. A receiver whose
+    /// deadline is over parks without it, or it would not block at all.
     fn park(&mut self, timed: bool)
+        requires { Parks timed (receiver_of (Self.log self.old)) }
         ensures list { (woken : Bool) × Grows (Self.log self.old) (Self.log self.new) (parked woken ∷ []) }
         ensures message { Self.message_slot self.new ≡ Self.message_slot self.old }
         ensures waker { Self.waker_slot self.new ≡ Self.waker_slot self.old };

@@ -3,7 +3,6 @@
 
 mod blocking;
 mod ground;
-pub mod memory;
 mod receiver;
 mod sender;
 mod waiting;
@@ -12,6 +11,3 @@ pub use blocking::{recv, recv_deadline, recv_ref, recv_timeout};
 pub use ground::{BlockGround, ReceiverGround, SenderGround};
 pub use receiver::{drop_receiver, try_recv};
 pub use sender::{drop_error, drop_sender, into_inner, send};
-
-#[cfg(test)]
-mod tests;

@@ -5,7 +5,7 @@ ghost use Rattle.oneshot_machine.specs.declared.machine.receiver.ReceiverPos.The
 ghost use Rattle.oneshot_machine.specs.Logs.{receiver_of};
 ghost use Rattle.oneshot_machine.specs.Rows.{Goes};
 ghost use Rattle.oneshot_drive.specs.declared.waiting.Found.TheVariants as F;
-ghost use Rattle.oneshot_drive.specs.Blocking.{Went, Way, load_of, write_of, wait_of, asked_of, ref_end, end_of, EndsAt, IsOpen, IsWaiting, IsOverdue, HandAt, WaitedHand};
+ghost use Rattle.oneshot_drive.specs.Blocking.{Went, Way, load_of, write_of, wait_of, asked_of, ref_end, end_of, EndsAt, HasLooked, IsWaiting, IsOverdue, HandAt, WaitedHand};
 ghost use Rattle.oneshot_drive.specs.Calls.{AtRest, IsClosed, IsReady};
 
 use crate::ground::BlockGround;
@@ -53,7 +53,7 @@ fn store_and_wait<T, W: Drop, G: BlockGround<T, W>>(
     hand: &mut Option<W>,
     timed: bool,
 ) -> Found
-    requires open { IsOpen (receiver_of (G.log g.old)) (G.message_slot g.old) (G.waker_slot g.old) }
+    requires open { HasLooked (receiver_of (G.log g.old)) (G.message_slot g.old) (G.waker_slot g.old) }
     requires ready { (k : W) × (hand.old ≡ Some k) }
     ensures went { (way : Way timed) → Went (write_of way) (end_of way result) (G.log g.old) (G.log g.new) }
     ensures ends { EndsAt timed result (receiver_of (G.log g.new)) (G.message_slot g.new) (G.waker_slot g.new) }

@@ -1,23 +1,19 @@
 -- What a driver over a lent seat tells of the receiver that lent it.
-use Rattle.std.proofs.Common.{◌≡◌, ℕ, false, List, ◌++◌, Option, Some, None, Result, Err, map, sym, ap, ◌∙◌, subst}
-use Rattle.std.specs.Prelude.{IfSome}
-use Rattle.std.specs.Time.{instant_nanos, FitsClock}
+use Rattle.std.proofs.Common.{◌≡◌, ℕ, List, refl, ◌++◌, Option, Some, None, map, sym, ap, ◌∙◌, subst}
+use Rattle.std.specs.Prelude.{◌↔◌, IsTrue}
 use Rattle.std.specs.declared.time.Duration.{Duration}
 use Rattle.std.specs.declared.time.Instant.{Instant}
-use Rattle.oneshot_drive.specs.Calls.{IsClosed, is_over, LeavesTimed, timed_received, timed_out, timed_closed, Hands, as_it_was, sender_took, came_back, IsReady}
-use Rattle.oneshot_errors.specs.declared.recv_timeout.RecvTimeoutError.{RecvTimeoutError}
-use Rattle.oneshot_errors.specs.declared.recv_timeout.RecvTimeoutError.TheVariants as Timed
 use Rattle.oneshot_machine.specs.declared.machine.Reply.{Reply}
 use Rattle.oneshot_machine.specs.declared.machine.receiver.ReceiverStart.{ReceiverStart}
 use Rattle.oneshot_machine.specs.Logs.{words}
-use Rattle.oneshot_machine.specs.Phases.{ReceiverAt, closed_itself, receiver_at}
+use Rattle.oneshot_machine.specs.Phases.{ReceiverAt, receiver_at}
 use Rattle.oneshot_machine.specs.Receiver.{receiver_start, receiver_step, receiver_row}
 use Rattle.oneshot_machine.specs.Runs.{ReceiverRan}
 use Rattle.oneshot_word.specs.Sides.{Side}
 use Rattle.oneshot_ends.specs.declared.deadline.Deadline.{Deadline}
 use Rattle.oneshot_ends.specs.declared.deadline.Deadline.TheVariants.{At, Passed, Never}
-use Rattle.oneshot_ends.specs.Deadlines.{IsAfter, has_end}
-use Rattle.oneshot_ends.specs.Ends.{End, ReceiverGrew, IsTooFar}
+use Rattle.oneshot_ends.specs.Deadlines.{IsAfter, HasEnd, has_end}
+use Rattle.oneshot_ends.specs.Ends.{End, ReceiverGrew}
 use Rattle.oneshot_ends.specs.Sides.{events_of, lent}
 use Rattle.oneshot_ends.proofs.Standing.{words_of, grown_lent, unnamed, run_unnamed, words_unnamed}
 
@@ -35,20 +31,11 @@ module _ {T W : Type 0} where
   pub at_seat : (P : ReceiverAt → Type 0) (side : Side T W) (end : End) → record { table = side.table; steps = side.steps } ≡ end → P (receiver_at end.steps) → P (receiver_at (words (events_of {T = T} {W = W} side.steps)))
   at_seat P side end is p = subst (λ xs. P (receiver_at xs)) (ap (λ (e : End). e.steps) (sym is) ∙ sym (words_of T W side.steps)) p
 
--- a closed receiver needs no waker in its hand, and one that a call leaves open has one
-closed_still : {T : Type 0} (result : Result T RecvTimeoutError) (at : ReceiverAt) → result ≡ Err Timed.Disconnected → LeavesTimed result at → IsClosed at
-closed_still _ _ is (timed_received x) = is_over closed_itself
-closed_still _ _ is timed_out = absurd (cc is)
-closed_still _ _ is (timed_closed c) = is_over c
-
-pub ready_timed : {T W : Type 0} (result : Result T RecvTimeoutError) (before after : Option W) (at at' : ReceiverAt) → IsReady before at → (IsClosed at → result ≡ Err Timed.Disconnected) → LeavesTimed result at' → Hands before after at' → IsReady after at'
-ready_timed result _ _ at _ ready stays leaves (as_it_was hand q) = λ none. closed_still result q (stays (ready none)) leaves
-ready_timed result _ _ at _ ready stays leaves (sender_took k c) = λ none. is_over c
-ready_timed result _ _ at _ ready stays leaves (came_back k back) = λ none. absurd (cc none)
-
--- a timeout without an end is one that no instant can hold
-pub too_far : (timeout : Duration) (reading : Option Instant) (deadline : Deadline) → IfSome reading (λ now. FitsClock (instant_nanos now)) → IsAfter timeout reading deadline → has_end deadline ≡ false → IsTooFar timeout
-too_far timeout reading (At end) fits after endless = absurd (cc endless)
-too_far timeout reading Passed fits after endless = absurd (cc endless)
-too_far timeout None Never fits after endless = absurd (cc after)
-too_far timeout (Some now) Never fits after endless = (instant_nanos now, fits, after)
+-- a timeout has an end just where an instant can hold its sum
+pub ends_where_held : (timeout : Duration) (reading : Option Instant) (deadline : Deadline) → IsAfter timeout reading deadline → IsTrue (has_end deadline) ↔ HasEnd timeout reading
+ends_where_held timeout None (At end) after = absurd (cc after)
+ends_where_held timeout None Passed after = (λ ends. tt, λ held. refl)
+ends_where_held timeout None Never after = absurd (cc after)
+ends_where_held timeout (Some now) (At end) after = (λ ends. after.1, λ held. refl)
+ends_where_held timeout (Some now) Passed after = absurd after
+ends_where_held timeout (Some now) Never after = (λ ends. absurd (cc ends), λ held. absurd (after held))

@@ -1,11 +1,8 @@
 -- How an end's ground stands with its side: one that freed makes no operation, and any other shows its side as it is.
 use Rattle.std.proofs.Common.{◌≡◌, ℕ, Bool, true, false, List, [], ◌∷◌, ◌++◌, Option, refl, sym, ap, ◌∙◌, subst}
-use Rattle.std.proofs.Common.{Result, Err, map}
+use Rattle.std.proofs.Common.{map}
 use Rattle.std.specs.List.{cons_option}
 use Rattle.std.specs.Option.{option_map}
-use Rattle.oneshot_errors.specs.declared.recv.RecvError.{RecvError}
-use Rattle.oneshot_errors.specs.declared.try_recv.TryRecvError.{TryRecvError}
-use Rattle.oneshot_errors.specs.declared.try_recv.TryRecvError.TheVariants as E
 use Rattle.oneshot_machine.specs.Rows.{Outcome}
 use Rattle.oneshot_machine.specs.Runs.{Run, last, more}
 use Rattle.oneshot_machine.specs.declared.machine.Reply.{Reply}
@@ -14,11 +11,11 @@ use Rattle.oneshot_machine.specs.declared.machine.Step.{Step}
 use Rattle.oneshot_ends.specs.Ends.{Waking}
 use Rattle.oneshot_machine.specs.declared.states.Op.{Op}
 use Rattle.oneshot_machine.specs.Logs.{Event, Grows, noted, words, sender_of, receiver_of}
-use Rattle.oneshot_machine.specs.Phases.{SenderAt, sender_at, closed_itself, ReceiverAt, receiver_at}
+use Rattle.oneshot_machine.specs.Phases.{SenderAt, sender_at, ReceiverAt, receiver_at}
 use Rattle.oneshot_machine.specs.Slots.{Held, vacant, held, SenderMay, SenderFinds, ReceiverMay, ReceiverFinds}
 use Rattle.oneshot_machine.specs.Words.{Noted}
 use Rattle.oneshot_machine.proofs.GrownLists.{words_after}
-use Rattle.oneshot_drive.specs.Calls.{AtRest, rests_new, IsClosed, is_over, Leaves, leaves_received, leaves_open, leaves_closed, LeavesClosed, left_received, left_closed, IsReady, IsLate, is_late}
+use Rattle.oneshot_drive.specs.Calls.{AtRest, rests_new, IsLate, is_late}
 use Rattle.oneshot_word.specs.Sides.{Side, SenderCan, ReceiverCan, ReceiverOwns, none_yet, owns_waker, gave_waker, lost_waker, owns_full, owns_unclosed, owns_closed, gave_all, owns_all}
 use Rattle.oneshot_ends.specs.Sides.{MayBeFreed, not_freed, freed_full, freed_unclosed, freed_closed, freed_ended, unless_freed, events_of, logged, lent, left_of, IsNewReceiver}
 
@@ -30,22 +27,6 @@ words_of T W (x ∷ xs) = ap (λ noted. x ∷ noted) (words_of T W xs)
 pub own_slot : {X : Type 0} (freed : Bool) (slot : Held X) (x : X) → unless_freed freed slot ≡ held x → slot ≡ held x
 own_slot false slot x is = is
 own_slot true slot x is = absurd (cc)
-
--- a closed receiver needs no waker, and one that a call leaves open had its own
-closed_by : {T : Type 0} (result : Result T RecvError) (at : ReceiverAt) → LeavesClosed result at → IsClosed at
-closed_by _ _ (left_received x) = is_over closed_itself
-closed_by _ _ (left_closed e c) = is_over c
-
-pub ready_closed : {T W : Type 0} (hand : Option W) (result : Result T RecvError) (at : ReceiverAt) → LeavesClosed result at → IsReady hand at
-ready_closed hand result at leaves = λ none. closed_by result at leaves
-
-closed_still : {T : Type 0} (result : Result T TryRecvError) (at : ReceiverAt) → result ≡ Err E.Disconnected → Leaves result at → IsClosed at
-closed_still _ _ is (leaves_received x) = absurd (cc is)
-closed_still _ _ is leaves_open = absurd (cc is)
-closed_still _ _ is (leaves_closed c) = is_over c
-
-pub ready_still : {T W : Type 0} (hand : Option W) (result : Result T TryRecvError) (before after : ReceiverAt) → IsReady hand before → (IsClosed before → result ≡ Err E.Disconnected) → Leaves result after → IsReady hand after
-ready_still hand result before after ready stays leaves = λ none. closed_still result after (stays (ready none)) leaves
 
 module _ {T W : Type 0} where
   -- an operation of the sender needs a slot that it has

@@ -22,6 +22,13 @@ has_end Never = false
 -- so long after a reading of the clock, which may have failed, and the sum may be one that no instant holds
 abbrev pub IsAfter : Duration → Option Instant → Deadline → Type 0
 IsAfter timeout None deadline = deadline ≡ Passed
-IsAfter timeout (Some now) (At end) = instant_nanos end ≡ instant_nanos now + as_nanos timeout
+IsAfter timeout (Some now) (At end) =
+    (instant_nanos end ≡ instant_nanos now + as_nanos timeout) × FitsClock (instant_nanos now + as_nanos timeout)
 IsAfter timeout (Some now) Passed = ⊥
 IsAfter timeout (Some now) Never = FitsClock (instant_nanos now + as_nanos timeout) → ⊥
+
+-- An instant can hold the sum of a reading and a timeout. After a reading that failed the wait has an end
+-- too, which is over at once.
+abbrev pub HasEnd : Duration → Option Instant → Type 0
+HasEnd timeout None = Unit {0}
+HasEnd timeout (Some now) = FitsClock (instant_nanos now + as_nanos timeout)

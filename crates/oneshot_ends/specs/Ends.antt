@@ -1,18 +1,21 @@
 -- What a contract sees of an end: the table that it shares, and the list of its operations on the word.
-use Rattle.std.specs.Prelude.{◌≡◌, ℕ, ◌+◌, Bool, false, List, ◌++◌}
-use Rattle.std.specs.Duration.{as_nanos}
-use Rattle.std.specs.Time.{FitsClock}
+use Rattle.std.specs.Prelude.{◌≡◌, ◌↔◌, Bool, List, ◌++◌, Option, IfSome, IsTrue}
+use Rattle.std.specs.Time.{instant_nanos, FitsClock}
 use Rattle.std.specs.declared.time.Duration.{Duration}
+use Rattle.std.specs.declared.time.Instant.{Instant}
 use Rattle.atomic_table.specs.Seated.{TableId}
 use Rattle.oneshot_machine.specs.declared.machine.Reply.{Reply}
 use Rattle.oneshot_machine.specs.declared.machine.receiver.ReceiverStart.{ReceiverStart}
 use Rattle.oneshot_machine.specs.declared.machine.receiver.ReceiverStart.TheVariants.{RecvTimeout}
 use Rattle.oneshot_machine.specs.declared.machine.sender.SenderCall.{SenderCall}
 use Rattle.oneshot_machine.specs.Logs.{Event, words}
+use Rattle.oneshot_machine.specs.Phases.{receiver_at}
 use Rattle.oneshot_machine.specs.Receiver.{receiver_start, receiver_step, receiver_row}
 use Rattle.oneshot_machine.specs.Runs.{Run}
 use Rattle.oneshot_machine.specs.Sender.{sender_start, sender_step, sender_row}
 use Rattle.oneshot_machine.specs.Words.{Noted}
+use Rattle.oneshot_drive.specs.Calls.{IsClosed as Closed, IsOpen as Open}
+use Rattle.oneshot_ends.specs.Deadlines.{HasEnd}
 
 -- a waker of a run: which one it is, no contract says
 abbrev pub Waking : Type 0
@@ -39,12 +42,22 @@ pub record ReceiverGrew (T : Type 0) (call : ReceiverStart) (before after : List
   pub is_run : Run receiver_step receiver_row (receiver_start call) run reply
   pub list : after ≡ before ++ words run
 
--- some time that a clock can read is so late that no instant is this long after it
-abbrev pub IsTooFar : Duration → Type 0
-IsTooFar timeout = (now : ℕ) × FitsClock now × (FitsClock (now + as_nanos timeout) → ⊥)
-
--- the same of a receive with this timeout, which has no end only where the timeout is too far
-pub record TimeoutGrew (T : Type 0) (timeout : Duration) (before after : List Noted) (reply : Reply) : Type 0 where
+-- The same of a receive with this timeout whose clock read so, or failed: it waits without end just where
+-- no instant can hold the sum.
+pub record TimeoutRan (T : Type 0) (timeout : Duration) (reading : Option Instant) (before after : List Noted) (reply : Reply) : Type 0 where
   pub has_end : Bool
+  pub held : IsTrue has_end ↔ HasEnd timeout reading
   pub grew : ReceiverGrew T (RecvTimeout has_end) before after reply
-  pub endless : has_end ≡ false → IsTooFar timeout
+
+-- and so for some reading: a clock promises nothing of what it reads
+pub record TimeoutGrew (T : Type 0) (timeout : Duration) (before after : List Noted) (reply : Reply) : Type 0 where
+  pub reading : Option Instant
+  pub readable : IfSome reading (λ now. FitsClock (instant_nanos now))
+  pub ran : TimeoutRan T timeout reading before after reply
+
+-- a receiver that is closed, or open
+abbrev pub IsClosed : End → Type 0
+IsClosed receiver = Closed (receiver_at receiver.steps)
+
+abbrev pub IsOpen : End → Type 0
+IsOpen receiver = Open (receiver_at receiver.steps)

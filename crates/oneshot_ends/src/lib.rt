@@ -14,6 +14,3 @@ pub use error::SendError;
 pub use pair::channel;
 pub use receiver::Receiver;
 pub use sender::Sender;
-
-#[cfg(test)]
-mod tests;

@@ -1,12 +1,13 @@
 //! The receiver.
 
-ghost use Rattle.std.specs.Prelude.{◌≡◌, Err, IsErr};
+ghost use Rattle.std.specs.Prelude.{◌≡◌, ◌≢◌, Err, IsErr, IfSome};
+ghost use Rattle.std.specs.Time.{instant_nanos, FitsClock};
 ghost use Rattle.oneshot_errors.specs.declared.recv_timeout.RecvTimeoutError.TheVariants as Timed;
-ghost use Rattle.oneshot_errors.specs.declared.try_recv.TryRecvError.TheVariants.{Disconnected};
+ghost use Rattle.oneshot_errors.specs.declared.try_recv.TryRecvError.TheVariants as Tried;
 ghost use Rattle.oneshot_machine.specs.declared.machine.receiver.ReceiverStart.TheVariants.{TryRecv, RecvRef, RecvDeadline};
 ghost use Rattle.oneshot_machine.specs.Phases.{receiver_at};
-ghost use Rattle.oneshot_drive.specs.Calls.{IsClosed, Leaves, LeavesClosed, LeavesTimed, try_recv_reply, recv_reply, timed_reply};
-ghost use Rattle.oneshot_ends.specs.Ends.{ReceiverGrew, TimeoutGrew};
+ghost use Rattle.oneshot_drive.specs.Calls.{Leaves, LeavesClosed, LeavesTimed, try_recv_reply, recv_reply, timed_reply};
+ghost use Rattle.oneshot_ends.specs.Ends.{ReceiverGrew, TimeoutGrew, TimeoutRan, IsClosed, IsOpen};
 ghost use Rattle.oneshot_ends.specs.Sides.{IsNewReceiver};
 
 use crate::blocking::BlockSeat;
@@ -94,7 +95,9 @@ impl<T: Drop, Rt: Drop> Receiver<T, Rt> {
         ensures table { self.new.table ≡ self.old.table }
         ensures run { ReceiverGrew T TryRecv self.old.steps self.new.steps (try_recv_reply result) }
         ensures leaves { Leaves result (receiver_at self.new.steps) }
-        ensures stays_closed { IsClosed (receiver_at self.old.steps) → result ≡ Err Disconnected }
+        ensures closes { result ≢ Err Tried.Empty → IsClosed self.new }
+        ensures stays_open { result ≡ Err Tried.Empty → IsOpen self.new }
+        ensures stays_closed { IsClosed self.old → result ≡ Err Tried.Disconnected }
     {
         try_recv(&mut self.seat)
     }
@@ -110,7 +113,8 @@ impl<T: Drop, Rt: Wait + Clock + Drop> Receiver<T, Rt> {
         ensures table { self.new.table ≡ self.old.table }
         ensures run { ReceiverGrew T RecvRef self.old.steps self.new.steps (recv_reply result) }
         ensures leaves { LeavesClosed result (receiver_at self.new.steps) }
-        ensures stays_closed { IsClosed (receiver_at self.old.steps) → IsErr result }
+        ensures closes { IsClosed self.new }
+        ensures stays_closed { IsClosed self.old → IsErr result }
     {
         let mut lent = BlockSeat {
             seat: &mut self.seat,
@@ -140,7 +144,9 @@ impl<T: Drop, Rt: Wait + Clock + Drop> Receiver<T, Rt> {
         ensures table { self.new.table ≡ self.old.table }
         ensures run { ReceiverGrew T RecvDeadline self.old.steps self.new.steps (timed_reply result) }
         ensures leaves { LeavesTimed result (receiver_at self.new.steps) }
-        ensures stays_closed { IsClosed (receiver_at self.old.steps) → result ≡ Err Timed.Disconnected }
+        ensures closes { result ≢ Err Timed.Timeout → IsClosed self.new }
+        ensures stays_open { result ≡ Err Timed.Timeout → IsOpen self.new }
+        ensures stays_closed { IsClosed self.old → result ≡ Err Timed.Disconnected }
     {
         let mut lent = BlockSeat {
             seat: &mut self.seat,
@@ -162,18 +168,12 @@ impl<T: Drop, Rt: Wait + Clock + Drop> Receiver<T, Rt> {
         ensures table { self.new.table ≡ self.old.table }
         ensures run { TimeoutGrew T timeout self.old.steps self.new.steps (timed_reply result) }
         ensures leaves { LeavesTimed result (receiver_at self.new.steps) }
-        ensures stays_closed { IsClosed (receiver_at self.old.steps) → result ≡ Err Timed.Disconnected }
+        ensures closes { result ≢ Err Timed.Timeout → IsClosed self.new }
+        ensures stays_open { result ≡ Err Timed.Timeout → IsOpen self.new }
+        ensures stays_closed { IsClosed self.old → result ≡ Err Timed.Disconnected }
     {
         let reading = read(&self.rt);
-        let deadline = Deadline::after(reading, timeout);
-        let mut lent = BlockSeat {
-            seat: &mut self.seat,
-            parker: &self.parker,
-            rt: &self.rt,
-            deadline,
-            told: Some(deadline.is_over(reading)),
-        };
-        recv_timeout(&mut lent, &self.rt, &mut self.hand, deadline.has_end())
+        self.recv_after(reading, timeout)
     }
 
     /// Receives the message, waits for it as `recv_ref` does, and ends the receiver.
@@ -181,7 +181,7 @@ impl<T: Drop, Rt: Wait + Clock + Drop> Receiver<T, Rt> {
     /// `Ok`: the message. `Err` where the sender is gone without a message, or the message was received
     /// before.
     pub fn recv(self) -> Result<T, RecvError>
-        ensures stays_closed { IsClosed (receiver_at self.steps) → IsErr result }
+        ensures stays_closed { IsClosed self → IsErr result }
     {
         let Receiver {
             mut seat,
@@ -197,6 +197,32 @@ impl<T: Drop, Rt: Wait + Clock + Drop> Receiver<T, Rt> {
             told: None,
         };
         recv(&mut lent, &rt, &mut hand)
+    }
+}
+
+impl<T: Drop, Rt: Wait + Clock + Drop> Receiver<T, Rt> {
+    // Receives by `timeout` after this reading of the clock, which is `None` where it failed. The ground
+    // is told what the reading says of its deadline, so that the clock is not read twice for the sum.
+    fn recv_after(
+        &mut self,
+        reading: Option<Instant>,
+        timeout: Duration,
+    ) -> Result<T, RecvTimeoutError>
+        requires { IfSome reading (λ now. FitsClock (instant_nanos now)) }
+        ensures table { self.new.table ≡ self.old.table }
+        ensures run { TimeoutRan T timeout reading self.old.steps self.new.steps (timed_reply result) }
+        ensures leaves { LeavesTimed result (receiver_at self.new.steps) }
+        ensures stays_closed { IsClosed self.old → result ≡ Err Timed.Disconnected }
+    {
+        let deadline = Deadline::after(reading, timeout);
+        let mut lent = BlockSeat {
+            seat: &mut self.seat,
+            parker: &self.parker,
+            rt: &self.rt,
+            deadline,
+            told: Some(deadline.is_over(reading)),
+        };
+        recv_timeout(&mut lent, &self.rt, &mut self.hand, deadline.has_end())
     }
 }
 

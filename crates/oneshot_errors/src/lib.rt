@@ -9,6 +9,3 @@ mod try_recv;
 pub use recv::RecvError;
 pub use recv_timeout::RecvTimeoutError;
 pub use try_recv::TryRecvError;
-
-#[cfg(test)]
-mod tests;

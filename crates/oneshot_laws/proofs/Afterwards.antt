@@ -1,5 +1,5 @@
 -- The laws that something told once holds ever after: gone once the message was got, gone once closed, refused once the receiver was gone.
-use Rattle.std.proofs.Common.{◌≡◌, Bool, true, false, ◌&&◌, ◌||◌, ◌==◌, List, [], ◌∷◌, map, Some, refl}
+use Rattle.std.proofs.Common.{◌≡◌, Bool, true, false, ◌&&◌, ◌||◌, List, [], ◌∷◌, map, Some, refl}
 use Rattle.std.specs.List.{list_all}
 use Rattle.oneshot_machine.specs.declared.machine.Reply.{Reply}
 use Rattle.oneshot_machine.specs.declared.machine.Reply.TheVariants as R
@@ -12,12 +12,13 @@ use Rattle.oneshot_world.specs.declared.script.ReceiverScript.{ReceiverScript}
 use Rattle.oneshot_world.specs.declared.script.SenderScript.{SenderScript}
 use Rattle.oneshot_world.specs.declared.trace.Entry.{Entry}
 use Rattle.oneshot_world.proofs.Bools.{both}
-use Rattle.oneshot_world.proofs.Coded.{bool_is}
 use Rattle.oneshot_laws.specs.Words.{only_if, is_reply}
+use Rattle.oneshot_laws.specs.Object.{is_same_flag}
 use Rattle.oneshot_laws.specs.Steps.{is_receive, is_send, is_sender_look, is_closed_look}
 use Rattle.oneshot_laws.specs.Marks.{Mark, marks, after_each}
 use Rattle.oneshot_laws.specs.History.{agrees}
 use Rattle.oneshot_laws.specs.Laws.{is_gone_after_got, is_gone_after_closed, is_refused_after_closed}
+use Rattle.oneshot_laws.proofs.Codes.{flag_is}
 use Rattle.oneshot_laws.proofs.Glanced.{Pair, Passes, glanced_from, all_glanced, passes_run}
 use Rattle.oneshot_laws.proofs.Legal.{Glance, glance_of}
 use Rattle.oneshot_laws.proofs.Watched.{Watched}
@@ -28,9 +29,6 @@ told test reply g = test g.call && is_reply reply g.entry.reply
 
 abbrev pub tells_only : (Call → Bool) → Reply → Glance → Bool
 tells_only test reply g = only_if (test g.call) (agrees g.entry.reply (Some reply))
-
-abbrev pub is_same_flag : Bool → Bool → Bool
-is_same_flag a b = bool_code a == bool_code b
 
 -- what was asked of this and of all that follows
 ever : (after test good later : Bool) → only_if after good ≡ true → only_if (after || test) later ≡ true → only_if after (good && later) ≡ true
@@ -67,7 +65,7 @@ module _ (test good : Glance → Bool) (found : Tree (Watched (Pair Bool))) (all
   ever_after : {T : Type 0} (s : SenderScript T) (r : ReceiverScript) (worlds : List World) (moves : List Move) (entries : List Entry) → Tells (opening s r) worlds moves entries → after_each (λ m. test (glance_of m)) (list_all (λ m. good (glance_of m))) (marks (calls_of s r) entries) ≡ true
   ever_after s r worlds moves entries tells =
       good_after test good (marks (calls_of s r) entries) false
-      (passes_run 2 bool_code is_same_flag (good_then test good) (flag_then test good) bool_is (λ place. false) found all s r worlds moves entries tells)
+      (passes_run 2 bool_code is_same_flag (good_then test good) (flag_then test good) flag_is (λ place. false) found all s r worlds moves entries tells)
 
 -- gone once the message was got
 abbrev got : Glance → Bool

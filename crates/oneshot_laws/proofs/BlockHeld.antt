@@ -15,7 +15,8 @@ use Rattle.oneshot_laws.specs.Words.{only_if, is_word, is_on_a_cell, is_free}
 use Rattle.oneshot_laws.specs.Marks.{Mark, marks}
 use Rattle.oneshot_laws.specs.Ended.{all_ended}
 use Rattle.oneshot_laws.specs.Holders.{Holders, both_hold, holds, other, is_here, uses_block, frees, is_held, is_free_last, is_freed, is_freed_at_end, is_freed_right}
-use Rattle.oneshot_laws.proofs.Afterwards.{is_same_flag}
+use Rattle.oneshot_laws.specs.Object.{is_same_flag}
+use Rattle.oneshot_laws.proofs.Codes.{flag_is}
 use Rattle.oneshot_laws.proofs.AtTheEnd.{Kept, own_after, kept_from, all_kept, at_the_end, or_more}
 use Rattle.oneshot_laws.proofs.Glanced.{Pair, Passes, glanced_from, all_glanced, passes_run}
 use Rattle.oneshot_laws.proofs.Legal.{Glance, glance_of}
@@ -122,7 +123,7 @@ all_unused = refl
 free_last_run : {T : Type 0} (s : SenderScript T) (r : ReceiverScript) (worlds : List World) (moves : List Move) (entries : List Entry) → Tells (opening s r) worlds moves entries → is_free_last (marks (calls_of s r) entries) ≡ true
 free_last_run s r worlds moves entries tells =
     free_last (marks (calls_of s r) entries) false
-    (passes_run 2 bool_code is_same_flag is_unused freed_then bool_is (λ place. false) unused_found all_unused s r worlds moves entries tells)
+    (passes_run 2 bool_code is_same_flag is_unused freed_then flag_is (λ place. false) unused_found all_unused s r worlds moves entries tells)
 
 -- once all have ended the block is freed
 abbrev is_true : Bool → Bool
@@ -143,7 +144,7 @@ all_freed = refl
 freed_at_end : {T : Type 0} (s : SenderScript T) (r : ReceiverScript) (worlds : List World) (moves : List Move) (entries : List Entry) → Tells (opening s r) worlds moves entries → is_freed_at_end (marks (calls_of s r) entries) ≡ true
 freed_at_end s r worlds moves entries tells =
     subst (λ freed. only_if (all_ended (marks (calls_of s r) entries)) freed ≡ true) (freed_after (marks (calls_of s r) entries) false)
-    (at_the_end 2 bool_code is_same_flag freed_then is_true (λ place. false) bool_is freed_found all_freed s r worlds moves entries tells)
+    (at_the_end 2 bool_code is_same_flag freed_then is_true (λ place. false) flag_is freed_found all_freed s r worlds moves entries tells)
 
 pub freed_right : {T : Type 0} (s : SenderScript T) (r : ReceiverScript) (worlds : List World) (moves : List Move) (entries : List Entry) → Tells (opening s r) worlds moves entries → is_freed_right (marks (calls_of s r) entries) ≡ true
 freed_right s r worlds moves entries tells =

@@ -1,12 +1,12 @@
 -- Values that are compared by their codes are the same where their codes are.
-use Rattle.std.proofs.Common.{◌≡◌, ℕ, Bool, true, List, [], ◌∷◌, Option, Some, None, refl, ◌==◌, get_or}
+use Rattle.std.proofs.Common.{◌≡◌, ℕ, Bool, true, false, List, [], ◌∷◌, Option, Some, None, refl, ◌==◌, get_or, sym}
 use Rattle.oneshot_machine.specs.declared.machine.Reply.{Reply}
 use Rattle.oneshot_machine.specs.declared.machine.Reply.TheVariants as R
 use Rattle.oneshot_world.specs.declared.trace.Place.{Place}
 use Rattle.oneshot_world.specs.declared.trace.Place.TheVariants.{NotSent, InCell, InError, Delivered, FromError, Dropped}
 use Rattle.oneshot_world.proofs.Coded.{same_by}
 use Rattle.oneshot_laws.specs.Places.{place_code, is_same_place}
-use Rattle.oneshot_laws.specs.Object.{Content, Open, Full, Closed}
+use Rattle.oneshot_laws.specs.Object.{Content, Open, Full, Closed, content_code, is_same_flag}
 use Rattle.oneshot_laws.specs.Words.{reply_code, is_same_reply}
 
 abbrev replies : List Reply
@@ -56,10 +56,10 @@ answer_back (Some R.Done) = refl
 pub answer_is : (a b : Option Reply) → (answer_code a == answer_code b) ≡ true → a ≡ b
 answer_is = same_by answer_code answers None answer_back
 
-abbrev pub content_code : Content → ℕ
-content_code Open = 0
-content_code Full = 1
-content_code Closed = 2
+pub flag_is : (a b : Bool) → is_same_flag a b ≡ true → a ≡ b
+flag_is true b h = sym h
+flag_is false true h = h
+flag_is false false h = refl
 
 abbrev contents : List Content
 contents = Open ∷ Full ∷ Closed ∷ []

@@ -9,11 +9,11 @@ use Rattle.oneshot_world.specs.declared.trace.Made.{Made}
 use Rattle.oneshot_world.proofs.Bools.{and_left, and_right}
 use Rattle.oneshot_world.proofs.Coded.{bool_is}
 use Rattle.oneshot_laws.specs.Words.{is_same_reply, says_nothing_yet}
-use Rattle.oneshot_laws.specs.Object.{Object, Content, new_object, is_open}
+use Rattle.oneshot_laws.specs.Object.{Object, Content, new_object, is_open, content_code, is_same_flag, is_same_object}
 use Rattle.oneshot_laws.specs.Steps.{action_of, nothing_yet_of, reply_on, stepped, fixed_reply_of}
 use Rattle.oneshot_laws.specs.Marks.{loads, finishes, swaps_closed_in, works_on_word, finds_full_or_closed, until_reply}
 use Rattle.oneshot_laws.specs.History.{agrees}
-use Rattle.oneshot_laws.proofs.Codes.{content_code, content_is, answer_code, answer_is}
+use Rattle.oneshot_laws.proofs.Codes.{content_is, flag_is, answer_code, answer_is}
 
 -- how a call acts: at its first entry that passes a test, as a receive does, or never, with a reply that is always the same
 pub data Kind : Type 0 where
@@ -162,11 +162,6 @@ object_code o = (content_code o.content * 2 + bool_code o.sender_here) * 2 + boo
 abbrev pub reader_code : Reader → ℕ
 reader_code m = (object_code m.object * 64 + watch_code m.sender) * 64 + watch_code m.receiver
 
-abbrev pub is_same_object : Object → Object → Bool
-is_same_object o p =
-    content_code o.content == content_code p.content
-    && (bool_code o.sender_here == bool_code p.sender_here && bool_code o.receiver_here == bool_code p.receiver_here)
-
 abbrev pub is_same_watch : Watch → Watch → Bool
 is_same_watch x y =
     bool_code x.begun == bool_code y.begun
@@ -199,10 +194,10 @@ reader_parts m = refl
 
 pub object_is : (o p : Object) → is_same_object o p ≡ true → o ≡ p
 object_is o p h =
-    let h1 : (bool_code o.sender_here == bool_code p.sender_here && bool_code o.receiver_here == bool_code p.receiver_here) ≡ true = and_right (content_code o.content == content_code p.content) _ h in
+    let h1 : (is_same_flag o.sender_here p.sender_here && is_same_flag o.receiver_here p.receiver_here) ≡ true = and_right (content_code o.content == content_code p.content) _ h in
     let c : o.content ≡ p.content = content_is o.content p.content (and_left _ _ h) in
-    let s : o.sender_here ≡ p.sender_here = bool_is o.sender_here p.sender_here (and_left _ _ h1) in
-    let r : o.receiver_here ≡ p.receiver_here = bool_is o.receiver_here p.receiver_here (and_right (bool_code o.sender_here == bool_code p.sender_here) _ h1) in
+    let s : o.sender_here ≡ p.sender_here = flag_is o.sender_here p.sender_here (and_left _ _ h1) in
+    let r : o.receiver_here ≡ p.receiver_here = flag_is o.receiver_here p.receiver_here (and_right (is_same_flag o.sender_here p.sender_here) _ h1) in
     cc (object_parts o, object_parts p)
 
 watch_is : (x y : Watch) → is_same_watch x y ≡ true → x ≡ y

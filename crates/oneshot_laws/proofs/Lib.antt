@@ -16,3 +16,4 @@ pub mod MessagePath
 pub mod WakerPath
 pub mod Woken
 pub mod IdleRuns
+pub mod PutByCall

@@ -11,14 +11,14 @@ use Rattle.oneshot_world.specs.declared.script.SenderScript.{SenderScript}
 use Rattle.oneshot_world.specs.declared.trace.Entry.{Entry}
 use Rattle.oneshot_world.proofs.Bools.{and_left, and_right, both}
 use Rattle.oneshot_laws.specs.Words.{only_if, is_same_end}
-use Rattle.oneshot_laws.specs.Object.{Object}
+use Rattle.oneshot_laws.specs.Object.{Object, is_same_object}
 use Rattle.oneshot_laws.specs.Steps.{action_of, stepped}
 use Rattle.oneshot_laws.specs.Marks.{Mark, marks, side, ends}
 use Rattle.oneshot_laws.specs.History.{agrees}
-use Rattle.oneshot_laws.specs.Alone.{lone_reply, is_same_content, is_lone_call, are_lone_calls_right}
+use Rattle.oneshot_laws.specs.Alone.{lone_reply, is_lone_call, are_lone_calls_right}
 use Rattle.oneshot_laws.proofs.Glanced.{Pair, Passes, glanced_from, all_glanced, passes_run}
 use Rattle.oneshot_laws.proofs.Legal.{Glance, glance_of}
-use Rattle.oneshot_laws.proofs.LegalReader.{object_code, is_same_object, object_is}
+use Rattle.oneshot_laws.proofs.LegalReader.{object_code, object_is}
 use Rattle.oneshot_laws.proofs.Watched.{Watched}
 
 -- the call beside which the other end has made no step, and the object on which it began
@@ -40,7 +40,7 @@ lone_at lone g = if g.begins then Of g.entry.side g.object else still g.entry.si
 abbrev answers_as : Glance → Lone → Bool
 answers_as g Nobody = true
 answers_as g (Of end o) =
-    agrees g.entry.reply (lone_reply g.call o) && is_same_content g.next.content (stepped (action_of g.call) o).content
+    agrees g.entry.reply (lone_reply g.call o) && is_same_object g.next (stepped (action_of g.call) o)
 
 -- a call does not begin again, and answers as the object where it ran alone
 abbrev answers_alone : Lone → Glance → Bool

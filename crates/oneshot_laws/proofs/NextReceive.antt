@@ -10,12 +10,13 @@ use Rattle.oneshot_world.specs.declared.script.ReceiverScript.{ReceiverScript}
 use Rattle.oneshot_world.specs.declared.script.SenderScript.{SenderScript}
 use Rattle.oneshot_world.specs.declared.trace.Entry.{Entry}
 use Rattle.oneshot_world.proofs.Bools.{both}
-use Rattle.oneshot_world.proofs.Coded.{bool_is}
 use Rattle.oneshot_laws.specs.Words.{only_if, is_reply}
 use Rattle.oneshot_laws.specs.Steps.{is_receive, is_full_look}
 use Rattle.oneshot_laws.specs.Marks.{Mark, marks}
 use Rattle.oneshot_laws.specs.Laws.{next_receive_gets, is_got_after_full}
-use Rattle.oneshot_laws.proofs.Afterwards.{told, is_same_flag}
+use Rattle.oneshot_laws.specs.Object.{is_same_flag}
+use Rattle.oneshot_laws.proofs.Codes.{flag_is}
+use Rattle.oneshot_laws.proofs.Afterwards.{told}
 use Rattle.oneshot_laws.proofs.Glanced.{Pair, Passes, glanced_from, all_glanced, passes_run}
 use Rattle.oneshot_laws.proofs.Legal.{Glance, glance_of}
 use Rattle.oneshot_laws.proofs.Watched.{Watched}
@@ -69,4 +70,4 @@ all_found = refl
 pub got_after_full : {T : Type 0} (s : SenderScript T) (r : ReceiverScript) (worlds : List World) (moves : List Move) (entries : List Entry) → Tells (opening s r) worlds moves entries → is_got_after_full (marks (calls_of s r) entries) ≡ true
 got_after_full s r worlds moves entries tells =
     got (marks (calls_of s r) entries) false
-    (passes_run 2 bool_code is_same_flag gets seen_then bool_is (λ place. false) found all_found s r worlds moves entries tells)
+    (passes_run 2 bool_code is_same_flag gets seen_then flag_is (λ place. false) found all_found s r worlds moves entries tells)

@@ -15,14 +15,14 @@ use Rattle.oneshot_world.specs.declared.trace.WakerName.TheVariants.{Parker, Cop
 use Rattle.oneshot_world.specs.declared.trace.WakerPlace.{WakerPlace}
 use Rattle.oneshot_world.specs.declared.trace.WakerPlace.TheVariants.{New, Hand, Cell, SenderHand, Used, Dropped}
 use Rattle.oneshot_world.proofs.Bools.{both}
-use Rattle.oneshot_world.proofs.Coded.{bool_is, same_by}
+use Rattle.oneshot_world.proofs.Coded.{same_by}
 use Rattle.oneshot_laws.specs.Words.{only_if}
-use Rattle.oneshot_laws.specs.Object.{Object}
+use Rattle.oneshot_laws.specs.Object.{Object, is_same_flag}
 use Rattle.oneshot_laws.specs.Marks.{Reading, Mark, marks, marks_from}
 use Rattle.oneshot_laws.specs.Ended.{all_ended}
 use Rattle.oneshot_laws.specs.Places.{is_path, last_place}
 use Rattle.oneshot_laws.specs.Wakers.{waker_place_code, is_same_waker_place, is_waker_move, waker_moves, moves_of, is_waker_followed, is_waker_end, is_waker_ended, AreWakersRight, is_cell, cell_then, is_cell_right, is_cell_kept}
-use Rattle.oneshot_laws.proofs.Afterwards.{is_same_flag}
+use Rattle.oneshot_laws.proofs.Codes.{flag_is}
 use Rattle.oneshot_laws.proofs.AtTheEnd.{Kept, own_after, kept_from, all_kept, at_the_end}
 use Rattle.oneshot_laws.proofs.Glanced.{Pair, Passes, glanced_from, all_glanced, passes_run}
 use Rattle.oneshot_laws.proofs.Legal.{Glance, glance_of}
@@ -184,4 +184,4 @@ pub cell_kept : {T : Type 0} (s : SenderScript T) (r : ReceiverScript) (worlds :
 cell_kept s r worlds moves entries tells =
     subst (λ ms. is_cell_right false ms ≡ true) (sym (shown entries _ _ 1 _))
     (written (marks (calls_of s r) entries) false
-    (passes_run 2 bool_code is_same_flag writes_rightly full_then bool_is (λ place. false) cell_found all_written s r worlds moves entries tells))
+    (passes_run 2 bool_code is_same_flag writes_rightly full_then flag_is (λ place. false) cell_found all_written s r worlds moves entries tells))

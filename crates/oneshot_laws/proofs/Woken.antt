@@ -21,17 +21,16 @@ use Rattle.oneshot_world.specs.declared.trace.Entry.{Entry}
 use Rattle.oneshot_world.specs.declared.trace.Entry.TheVariants.{Idle, Made as Made_entry}
 use Rattle.oneshot_world.specs.declared.trace.Made.{Made}
 use Rattle.oneshot_world.proofs.Bools.{and_right, both}
-use Rattle.oneshot_world.proofs.Coded.{bool_is}
 use Rattle.oneshot_world.proofs.Explored.{passes_where_found}
 use Rattle.oneshot_world.proofs.Reached.{sender_world, receiver_world, opening_reached}
 use Rattle.oneshot_world.proofs.Turned.{Turned, sender_idle, sender_made, receiver_idle, receiver_made, turned, turned_reaches}
-use Rattle.oneshot_laws.specs.Object.{Object}
+use Rattle.oneshot_laws.specs.Object.{Object, is_same_flag}
 use Rattle.oneshot_laws.specs.Steps.{is_end_of_sender}
 use Rattle.oneshot_laws.specs.Marks.{Reading, read, Mark, marks, marks_from, sender_reading, receiver_reading, call_under_way}
 use Rattle.oneshot_laws.specs.Ended.{has_answered}
 use Rattle.oneshot_world.specs.Ahead.{Ahead, is_some_park, ahead_of}
 use Rattle.oneshot_laws.specs.Unwoken.{waits_in_park, is_unwoken, is_never_unwoken, NeverUnwoken}
-use Rattle.oneshot_laws.proofs.Afterwards.{is_same_flag}
+use Rattle.oneshot_laws.proofs.Codes.{flag_is}
 use Rattle.oneshot_laws.proofs.AtTheEnd.{or_more, or_false}
 use Rattle.oneshot_laws.proofs.Watched.{Watched, watched_from, watched_code, is_same_watched, all_pass, IsFound, watched_is, found_next, opening_found}
 
@@ -87,13 +86,13 @@ unfolding found
 all_awake = refl
 
 abbrev Found : World → Bool → Type 0
-Found w ended = IsFound 2 bool_code is_same_flag all_are_fine ended_then bool_is found (and_right _ _ (and_right _ _ all_found)) w ended
+Found w ended = IsFound 2 bool_code is_same_flag all_are_fine ended_then flag_is found (and_right _ _ (and_right _ _ all_found)) w ended
 
 awake : (w : World) (ended : Bool) → Found w ended → not (ended && waits_in_park (ahead_of w)) ≡ true
 awake w ended f =
     rw (waits_as w)
     (passes_where_found (watched_code 2 bool_code is_same_flag all_are_fine ended_then) (is_same_watched 2 bool_code is_same_flag all_are_fine ended_then)
-    (watched_is 2 bool_code is_same_flag all_are_fine ended_then bool_is found (and_right _ _ (and_right _ _ all_found)))
+    (watched_is 2 bool_code is_same_flag all_are_fine ended_then flag_is found (and_right _ _ (and_right _ _ all_found)))
     is_awake found (record { control = control_of w; reader = ended }) all_awake f)
 
 -- whether the sender's last call answers in a front of the trace
@@ -131,12 +130,12 @@ woken_turn entries later so_far _ w _ _ s r ended worlds moves (receiver_idle at
 woken_turn entries later so_far _ w entry next s r ended worlds moves (sender_made position row at steps) se re h k f so told =
     later (λ front. so_far (entry ∷ front)) next (read s (sender_stepped w.state (sender_step position) row).0) r (ended || ends_sender_at (call_under_way s.left) (sender_stepped w.state (sender_step position) row).0) worlds moves (ap (λ left. left_by Sender (reply_of row) left) se) re k
     (subst (λ left. Found (sender_world w (sender_step position) row) (ended || ends_sender_at (call_under_way left) (sender_stepped w.state (sender_step position) row).0)) (sym se)
-    (found_next 2 bool_code is_same_flag all_are_fine ended_then bool_is found (and_right _ _ (and_right _ _ all_found)) Sender w _ _ ended (sender_made position row at steps) h f))
+    (found_next 2 bool_code is_same_flag all_are_fine ended_then flag_is found (and_right _ _ (and_right _ _ all_found)) Sender w _ _ ended (sender_made position row at steps) h f))
     (λ front. so (entry ∷ front) ∙ or_more ended (ends_sender_at (call_under_way s.left) (sender_stepped w.state (sender_step position) row).0) (ended_in (read s (sender_stepped w.state (sender_step position) row).0) r front)) told
 woken_turn entries later so_far _ w entry next s r ended worlds moves (receiver_made over position row at steps) se re h k f so told =
     later (λ front. so_far (entry ∷ front)) next s (read r (receiver_stepped over w.state (receiver_step position) row).0) (ended || ends_sender_at (call_under_way r.left) (receiver_stepped over w.state (receiver_step position) row).0) worlds moves se (ap (λ left. left_by Receiver (reply_of row) left) re) k
     (subst (λ left. Found (receiver_world w (receiver_step position) row) (ended || ends_sender_at (call_under_way left) (receiver_stepped over w.state (receiver_step position) row).0)) (sym re)
-    (found_next 2 bool_code is_same_flag all_are_fine ended_then bool_is found (and_right _ _ (and_right _ _ all_found)) Receiver w _ _ ended (receiver_made over position row at steps) h f))
+    (found_next 2 bool_code is_same_flag all_are_fine ended_then flag_is found (and_right _ _ (and_right _ _ all_found)) Receiver w _ _ ended (receiver_made over position row at steps) h f))
     (λ front. so (entry ∷ front) ∙ or_more ended (ends_sender_at (call_under_way r.left) (receiver_stepped over w.state (receiver_step position) row).0) (ended_in s (read r (receiver_stepped over w.state (receiver_step position) row).0) front)) told
 
 woken : (entries : List Entry) → Claim entries
@@ -159,6 +158,6 @@ never_unwoken s r worlds moves entries tells =
       tells = tells;
       woken =
           woken entries (marks (calls_of s r)) (opening s r) (sender_reading (calls_of s r)) (receiver_reading (calls_of s r)) false worlds moves refl refl (opening_reached s r)
-          (opening_found 2 bool_code is_same_flag all_are_fine ended_then bool_is (λ place. false) found all_found s.last)
+          (opening_found 2 bool_code is_same_flag all_are_fine ended_then flag_is (λ place. false) found all_found s.last)
           (λ front. answered_in front _ _ 1 _) tells;
     }

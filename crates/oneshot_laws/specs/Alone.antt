@@ -1,31 +1,23 @@
 -- A call between whose first entry and whose answer the other end makes no step does just what the object does.
-use Rattle.std.specs.Prelude.{ℕ, Bool, true, false, not, ◌&&◌, ◌||◌, ◌==◌, List, [], ◌∷◌, Option, if◌then◌else◌}
+use Rattle.std.specs.Prelude.{Bool, true, false, not, ◌&&◌, ◌||◌, List, [], ◌∷◌, Option, if◌then◌else◌}
 use Rattle.oneshot_world.specs.Calls.{Call}
 use Rattle.oneshot_laws.specs.Words.{only_if, is_same_end}
-use Rattle.oneshot_laws.specs.Object.{Content, Open, Full, Closed, Object}
+use Rattle.oneshot_laws.specs.Object.{Object, is_same_object}
 use Rattle.oneshot_laws.specs.Steps.{action_of, fixed_reply_of, reply_on, stepped}
 use Rattle.oneshot_laws.specs.Marks.{Mark, ends, side, object_then}
 use Rattle.oneshot_laws.specs.History.{agrees, is_object_step}
 use Rattle.oneshot_machine.specs.declared.machine.End.{End}
 use Rattle.oneshot_machine.specs.declared.machine.Reply.{Reply}
 
-abbrev pub content_code : Content → ℕ
-content_code Open = 0
-content_code Full = 1
-content_code Closed = 2
-
-abbrev pub is_same_content : Content → Content → Bool
-is_same_content a b = content_code a == content_code b
-
 -- the reply of a call that is made on this object by itself
 abbrev pub lone_reply : Call → Object → Option Reply
 lone_reply call o = elim (is_object_step call) [ true ↦ reply_on call o (action_of call) | false ↦ fixed_reply_of call ]
 
--- its answer, and the content that it leaves, are those of the object on which it began
+-- its answer, and the object that it leaves, are those of the object on which it began
 abbrev pub is_lone_answer : Object → Mark → Bool
 is_lone_answer o m =
     agrees m.entry.reply (lone_reply m.call o)
-    && is_same_content (object_then m).content (stepped (action_of m.call) o).content
+    && is_same_object (object_then m) (stepped (action_of m.call) o)
 
 -- from a call's mark on: unless the other end steps before the answer, that answer is right
 abbrev pub is_lone_call : Object → End → List Mark → Bool

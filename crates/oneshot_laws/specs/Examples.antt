@@ -4,13 +4,14 @@ use Rattle.std.specs.List.{list_all}
 use Rattle.oneshot_machine.specs.declared.machine.End.TheVariants.{Sender, Receiver}
 use Rattle.oneshot_machine.specs.declared.machine.Reply.TheVariants as R
 use Rattle.oneshot_machine.specs.declared.machine.Step.TheVariants as T
+use Rattle.oneshot_machine.specs.declared.states.Op.TheVariants as O
 use Rattle.oneshot_world.specs.declared.trace.Entry.TheVariants as E
 use Rattle.oneshot_laws.specs.Object.{Action, Send, Sender_gone, Take, Take_and_go, Look_receiver_gone, Receiver_gone, Answer, Accepted, Returned, Message, Gone, Nothing_yet, Yes, Finished, Object, new_object, object_after, answer_of}
 use Rattle.oneshot_laws.specs.Marks.{marks}
 use Rattle.oneshot_laws.specs.History.{history, has_legal_history}
 use Rattle.oneshot_laws.specs.Idle.{is_idle_right}
-use Rattle.oneshot_laws.specs.Notation.{Example, sender, without, exchanged, answered_by}
-use Rattle.oneshot_laws.specs.Traces.{sent_then_taken, nothing_moved, nothing_to_do, sent_to_nobody, both_dropped, dropped_then_tried}
+use Rattle.oneshot_laws.specs.Notation.{Example, sender, without, exchanged, answered_by, operating_at}
+use Rattle.oneshot_laws.specs.Traces.{sent_then_taken, nothing_moved, nothing_to_do, sent_to_nobody, both_dropped, dropped_then_tried, taken_from_the_error, dropped_with_the_error}
 
 -- THE OBJECT: what these steps answer, one after the other
 abbrev pub answers_from : Object → List Action → List Answer
@@ -25,6 +26,8 @@ ObjectAnswers =
     × (answers_from new_object (Send ∷ Receiver_gone ∷ Take ∷ []) ≡ Accepted ∷ Finished ∷ Gone ∷ [])
     × (answers_from new_object (Send ∷ Take_and_go ∷ Look_receiver_gone ∷ []) ≡ Accepted ∷ Message ∷ Yes ∷ [])
     × (answers_from new_object (Sender_gone ∷ Take_and_go ∷ []) ≡ Finished ∷ Gone ∷ [])
+    -- a refused message does not fill the channel
+    × (answers_from new_object (Receiver_gone ∷ Send ∷ Take ∷ []) ≡ Finished ∷ Returned ∷ Nothing_yet ∷ [])
 
 -- THE HISTORY: the numbers of the acting entries, in their order
 abbrev pub acting_in : Example → List ℕ
@@ -77,6 +80,12 @@ IllegalTraces =
     ∷ answered_by 3 R.Refused both_dropped
     ∷ answered_by 2 R.Empty dropped_then_tried
     ∷ answered_by 2 R.Message dropped_then_tried
+    -- the error's calls answer otherwise than they always do
+    ∷ answered_by 4 R.Done taken_from_the_error
+    ∷ answered_by 6 R.Done taken_from_the_error
+    ∷ answered_by 5 R.Message dropped_with_the_error
+    -- the receiver's drop leaves the channel open
+    ∷ operating_at 1 (O.Swap 3) 3 3 both_dropped
     -- a step of no call
     ∷ record nothing_to_do { entries = E.Made (sender T.WriteMessage 3 3) ∷ [] }
     ∷ []

@@ -3,24 +3,30 @@ use Rattle.std.specs.Prelude.{Bool, not, ◌&&◌, List, [], ◌∷◌, ◌++◌
 use Rattle.std.specs.List.{list_all}
 use Rattle.oneshot_machine.specs.declared.machine.End.TheVariants.{Sender, Receiver}
 use Rattle.oneshot_machine.specs.declared.machine.Reply.TheVariants as R
+use Rattle.oneshot_machine.specs.declared.machine.Step.TheVariants as T
+use Rattle.oneshot_machine.specs.declared.states.Op.TheVariants as O
 use Rattle.oneshot_world.specs.declared.trace.Entry.TheVariants as E
 use Rattle.oneshot_world.specs.declared.trace.Place.TheVariants as P
 use Rattle.oneshot_laws.specs.Marks.{Mark, marks}
 use Rattle.oneshot_laws.specs.History.{has_legal_history}
-use Rattle.oneshot_laws.specs.Places.{is_message_followed, is_message_ended}
+use Rattle.oneshot_laws.specs.Places.{is_message_followed, is_message_ended, is_message_put}
 use Rattle.oneshot_laws.specs.Wakers.{are_wakers_right, is_cell_kept}
 use Rattle.oneshot_laws.specs.Holders.{is_freed_right}
 use Rattle.oneshot_laws.specs.Laws.{is_gone_after_got, is_got_after_full, is_gone_after_closed, is_refused_after_closed, is_nothing_only_if_open, is_dropped_once}
 use Rattle.oneshot_laws.specs.Alone.{are_lone_calls_right}
-use Rattle.oneshot_laws.specs.Notation.{Example, without, exchanged, twice, answered_by, unmoved_by, moved_by, frees}
+use Rattle.oneshot_laws.specs.Notation.{Example, without, exchanged, twice, answered_by, unmoved_by, moved_by, finding_at, operating_at, up_to, sender, frees}
 use Rattle.oneshot_laws.specs.Traces.{sent_then_taken, nothing_moved, nothing_to_do, sent_to_nobody, both_dropped, dropped_then_tried, looked_at_both_ends, taken_from_the_error, dropped_with_the_error, dropped_unread, tried_again, closed_then_tried, sent_though_closed, received_at_once, waited_for_message, sent_before_waiting, dropped_before_waiting, woken_by_drop, still_waiting}
 
 abbrev pub marks_in : Example → List Mark
 marks_in x = marks x.calls x.entries
 
+abbrev pub fails_at : (List Mark → Bool) → Example → Bool
+fails_at law x = not (law (marks_in x))
+
 -- THE MESSAGE'S PLACE
 abbrev pub is_message_right : Example → Bool
-is_message_right x = is_message_followed x.calls x.entries && is_message_ended x.entries (marks_in x)
+is_message_right x =
+    is_message_followed x.calls x.entries && is_message_ended x.entries (marks_in x) && is_message_put (marks_in x)
 
 abbrev pub MisplacedMessages : Type 0
 MisplacedMessages =
@@ -30,6 +36,8 @@ MisplacedMessages =
     ∷ unmoved_by 3 taken_from_the_error
     ∷ unmoved_by 5 taken_from_the_error
     ∷ unmoved_by 5 sent_then_taken
+    -- all are left out: what was sent is nowhere at the end
+    ∷ unmoved_by 1 (unmoved_by 5 sent_then_taken)
     -- it moves twice, from elsewhere, or as no message moves
     ∷ twice 5 sent_then_taken
     ∷ moved_by 5 P.InError P.Delivered sent_then_taken
@@ -37,6 +45,22 @@ MisplacedMessages =
     ∷ moved_by 4 P.InError P.Delivered dropped_with_the_error
     -- no message was to be sent
     ∷ moved_by 1 P.NotSent P.InCell dropped_then_tried
+    ∷ []
+    ))
+
+-- each of these paths is one of a message; but the call is not the one that makes its last move
+abbrev pub WronglyPut : Type 0
+WronglyPut =
+    IsTrue (list_all (fails_at is_message_put)
+    -- a receive drops it; a drop of the error takes it out; a drop of the receiver delivers it; `into_inner` drops it
+    (moved_by 5 P.InCell P.Dropped sent_then_taken
+    ∷ moved_by 4 P.InError P.FromError dropped_with_the_error
+    ∷ moved_by 4 P.InCell P.Delivered dropped_unread
+    ∷ moved_by 5 P.InError P.Dropped taken_from_the_error
+    -- the sender's drop fills the cell
+    ∷ moved_by 1 P.NotSent P.InCell dropped_then_tried
+    -- an accepted send has it in an error
+    ∷ up_to 3 (answered_by 3 R.Sent dropped_with_the_error)
     ∷ []
     ))
 
@@ -55,6 +79,8 @@ MisfreedBlocks =
     ∷ record sent_then_taken { entries = sent_then_taken.entries ++ E.Made (frees Sender 2) ∷ [] }
     -- a free where the other end still holds
     ∷ record sent_then_taken { entries = take 1 sent_then_taken.entries ++ E.Made (frees Receiver 3) ∷ [] }
+    -- the sender uses the block after it let go
+    ∷ record sent_then_taken { entries = take 2 sent_then_taken.entries ++ E.Made (sender (T.Word O.Load) 4 4) ∷ [] }
     -- neither end frees
     ∷ answered_by 6 R.Done (without 7 sent_then_taken)
     ∷ answered_by 2 R.Done (without 3 both_dropped)
@@ -72,9 +98,6 @@ are_replies_right x =
     && is_nothing_only_if_open (marks_in x)
     && is_dropped_once (marks_in x)
 
-abbrev pub fails_at : (List Mark → Bool) → Example → Bool
-fails_at law x = not (law (marks_in x))
-
 abbrev pub WrongReplies : Type 0
 WrongReplies =
     -- a receive answers otherwise after the message was got
@@ -89,6 +112,8 @@ WrongReplies =
     × IsTrue (list_all (fails_at is_nothing_only_if_open) (answered_by 5 R.Empty sent_then_taken ∷ answered_by 2 R.Empty dropped_then_tried ∷ []))
     -- an unread message is dropped never, or twice
     × IsTrue (list_all (fails_at is_dropped_once) (unmoved_by 4 dropped_unread ∷ moved_by 5 P.InCell P.Dropped dropped_unread ∷ []))
+    -- or by the send
+    × IsTrue (fails_at is_dropped_once (moved_by 2 P.InCell P.Dropped (unmoved_by 4 dropped_unread)))
 
 -- CALLS ALONE
 abbrev pub are_lone_replies_right : Example → Bool
@@ -105,6 +130,11 @@ WrongAlone =
     ∷ answered_by 2 R.Refused sent_then_taken
     ∷ answered_by 5 R.Disconnected sent_then_taken
     ∷ answered_by 6 R.Done taken_from_the_error
+    -- a receive answers with the message and leaves it there
+    ∷ finding_at 3 1 (finding_at 4 1 sent_then_taken)
+    -- the receiver is still there after its drop, and the sender after its send
+    ∷ operating_at 3 O.Load 2 2 dropped_then_tried
+    ∷ operating_at 3 O.Load 2 2 sent_to_nobody
     ∷ []
     ))
 

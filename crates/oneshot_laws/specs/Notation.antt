@@ -7,6 +7,7 @@ use Rattle.oneshot_machine.specs.declared.machine.Seen.{Seen}
 use Rattle.oneshot_machine.specs.declared.machine.Seen.TheVariants as S
 use Rattle.oneshot_machine.specs.declared.machine.Step.{Step}
 use Rattle.oneshot_machine.specs.declared.machine.Step.TheVariants as T
+use Rattle.oneshot_machine.specs.declared.states.Op.{Op}
 use Rattle.oneshot_machine.specs.declared.states.Op.TheVariants as O
 use Rattle.oneshot_world.specs.Calls.{Calls}
 use Rattle.oneshot_world.specs.declared.trace.Entry.{Entry}
@@ -125,6 +126,14 @@ changed_at k change x =
           ++ map (changed change) (take 1 (drop (k - 1) x.entries))
           ++ drop k x.entries;
     }
+
+-- the word of an entry: what it finds, and another operation in its place
+abbrev pub finding_at : ℕ → ℕ → Example → Example
+finding_at k word x = changed_at k (λ e. record e { before = Some word }) x
+
+abbrev pub operating_at : ℕ → Op → ℕ → ℕ → Example → Example
+operating_at k op before after x =
+    changed_at k (λ e. record e { step = T.Word op; seen = seen_at (T.Word op) (Some before); before = Some before; after = Some after }) x
 
 abbrev pub answered_by : ℕ → Reply → Example → Example
 answered_by k reply x = changed_at k (replying reply) x

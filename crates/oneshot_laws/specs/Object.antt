@@ -1,5 +1,5 @@
 -- A channel as an object with one message: what it is, what its steps do, and what they answer. It knows no code, no position and no word.
-use Rattle.std.specs.Prelude.{Bool, true, false, not, if◌then◌else◌}
+use Rattle.std.specs.Prelude.{ℕ, Bool, true, false, not, ◌&&◌, ◌==◌, if◌then◌else◌}
 
 -- Nothing sent yet, the message, or closed for good. There is one message, that of the sender's script, so `Full` need not name it.
 pub data Content : Type 0 where
@@ -119,3 +119,18 @@ answer_of Look_full o = yes_if (is_full o.content)
 answer_of Look_closed o = yes_if (is_closed o.content)
 answer_of Look_receiver_gone o = yes_if (not o.receiver_here)
 answer_of Receiver_gone o = Finished
+
+-- two objects are told apart by their content and both flags
+abbrev pub content_code : Content → ℕ
+content_code Open = 0
+content_code Full = 1
+content_code Closed = 2
+
+abbrev pub is_same_flag : Bool → Bool → Bool
+is_same_flag true b = b
+is_same_flag false b = not b
+
+abbrev pub is_same_object : Object → Object → Bool
+is_same_object o p =
+    content_code o.content == content_code p.content
+    && (is_same_flag o.sender_here p.sender_here && is_same_flag o.receiver_here p.receiver_here)

@@ -87,6 +87,14 @@ abbrev pub is_drop_of_receiver : Call → Bool
 is_drop_of_receiver Drop_receiver = true
 is_drop_of_receiver _ = false
 
+abbrev pub is_into_inner : Call → Bool
+is_into_inner Into_inner = true
+is_into_inner _ = false
+
+abbrev pub is_drop_of_error : Call → Bool
+is_drop_of_error Drop_error = true
+is_drop_of_error _ = false
+
 abbrev pub is_stray : Call → Bool
 is_stray Stray = true
 is_stray _ = false

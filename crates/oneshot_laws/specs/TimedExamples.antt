@@ -1,6 +1,7 @@
 -- What the history, the freeing, the wakers and the replies are in worked traces of calls with a deadline, and in the same traces damaged. The checker computes all of it.
-use Rattle.std.specs.Prelude.{◌≡◌, not, List, [], ◌∷◌, ◌++◌, Some, None, IsTrue}
+use Rattle.std.specs.Prelude.{◌≡◌, true, not, map, List, [], ◌∷◌, ◌++◌, Some, None, IsTrue}
 use Rattle.std.specs.List.{list_all}
+use Rattle.oneshot_machine.specs.declared.machine.Reply.{Reply}
 use Rattle.oneshot_machine.specs.declared.machine.Reply.TheVariants as R
 use Rattle.oneshot_machine.specs.declared.machine.Step.TheVariants as T
 use Rattle.oneshot_machine.specs.declared.states.Op.TheVariants as O
@@ -85,6 +86,13 @@ IllegalTimeouts =
 abbrev pub received_by : List Call → Example → Example
 received_by calls x = record x { calls = record x.calls { receiver = calls } }
 
+-- a receive with a timeout gets the message, and the next one replies so
+abbrev pub received_in_time_then : Reply → Example
+received_in_time_then reply =
+    received_by (C.Recv_timeout true ∷ C.Recv_timeout true ∷ []) (record sent_before_its_deadline {
+      entries = sent_before_its_deadline.entries ++ E.Made (replying reply (receiver (T.Word O.Load) 2 2)) ∷ [];
+    })
+
 abbrev pub WrongTimeouts : Type 0
 WrongTimeouts =
     -- "nothing yet" where the object was never open in the call
@@ -95,6 +103,8 @@ WrongTimeouts =
       calls = record sent_before_its_deadline.calls { receiver = sent_before_its_deadline.calls.receiver ++ sent_before_its_deadline.calls.receiver };
       entries = sent_before_its_deadline.entries ++ E.Made (replying R.Timeout (receiver (T.Word O.Load) 2 2)) ∷ [];
     }))
+    -- the same of a receive with a timeout
+    × IsTrue (list_all (fails_at is_gone_after_got) (map received_in_time_then (R.Empty ∷ R.Timeout ∷ R.Message ∷ [])))
     -- or that says that nothing was there after it was seen, or after the channel was closed
     × IsTrue (fails_at is_got_after_full (answered_by 6 R.Timeout (received_by (C.Is_closed ∷ C.Has_message ∷ C.Recv_deadline ∷ C.Is_closed ∷ []) looked_at_both_ends)))
     × IsTrue (fails_at is_gone_after_closed (answered_by 3 R.Timeout (received_by (C.Is_closed ∷ C.Recv_deadline ∷ C.Is_closed ∷ []) closed_then_tried)))

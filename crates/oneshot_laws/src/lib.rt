@@ -2,7 +2,7 @@
 #![tactic(auto)]
 
 ghost use Rattle.oneshot_laws.specs.Examples.{ObjectAnswers, ActingEntries, LegalTraces, IllegalTraces, IdleTraces, NotIdleTraces};
-ghost use Rattle.oneshot_laws.specs.LawExamples.{RightTraces, MisplacedMessages, MisfreedBlocks, WrongReplies, WrongAlone};
+ghost use Rattle.oneshot_laws.specs.LawExamples.{RightTraces, MisplacedMessages, WronglyPut, MisfreedBlocks, WrongReplies, WrongAlone};
 ghost use Rattle.oneshot_laws.specs.WaitExamples.{WaitsAreTold, WaitsAct, IllegalWaits, MisfreedWaits, WrongReceives};
 ghost use Rattle.oneshot_laws.specs.TimedExamples.{TimedAreTold, TimedAreRight, TimedAct, IllegalTimeouts, WrongTimeouts};
 ghost use Rattle.oneshot_laws.specs.WakerExamples.{MisplacedWakers, FullCells};
@@ -19,6 +19,7 @@ pub fn examples()
     ensures not_idle { NotIdleTraces }
     ensures right { RightTraces }
     ensures misplaced { MisplacedMessages }
+    ensures wrongly_put { WronglyPut }
     ensures misfreed { MisfreedBlocks }
     ensures wrong_replies { WrongReplies }
     ensures wrong_alone { WrongAlone }

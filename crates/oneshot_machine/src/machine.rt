@@ -8,7 +8,7 @@ pub use receiver::{ReceiverPos, ReceiverStart};
 pub use sender::{SenderCall, SenderPos};
 
 /// An end of the channel.
-#[derive(Clone, Copy, Debug, Eq, Hash, PartialEq)]
+#[derive(Clone, Copy, Debug, Eq, PartialEq)]
 pub enum End {
     /// The end that sends, and the error of its refused `send`.
     Sender,
@@ -17,7 +17,7 @@ pub enum End {
 }
 
 /// What one machine step does.
-#[derive(Clone, Copy, Debug, Eq, Hash, PartialEq)]
+#[derive(Clone, Copy, Debug, Eq, PartialEq)]
 pub enum Step {
     /// One operation on the shared word.
     Word(Op),
@@ -46,7 +46,7 @@ pub enum Step {
 }
 
 /// What a step saw.
-#[derive(Clone, Copy, Debug, Eq, Hash, PartialEq)]
+#[derive(Clone, Copy, Debug, Eq, PartialEq)]
 pub enum Seen {
     /// Nothing that the table asks about.
     Done,
@@ -59,7 +59,7 @@ pub enum Seen {
 }
 
 /// What a call answers.
-#[derive(Clone, Copy, Debug, Eq, Hash, PartialEq)]
+#[derive(Clone, Copy, Debug, Eq, PartialEq)]
 pub enum Reply {
     /// `send` gave Ok.
     Sent,

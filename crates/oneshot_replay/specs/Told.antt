@@ -24,3 +24,9 @@ pub record IsReplayed {T : Type 0} (s : SenderScript T) (r : ReceiverScript) (mo
   pub tells : Tells (opening s r) worlds moves t.entries
   pub block_freed : t.block_freed ≡ (last_of (opening s r) worlds).state.freed
   pub rest : t.rest ≡ rest_at (last_of (opening s r) worlds).state.message (message_of s.last)
+
+-- There is one trace at most of two scripts under these moves.
+abbrev pub IsDetermined : (T : Type 0) → Type 0
+IsDetermined T =
+    (s : SenderScript T) (r : ReceiverScript) (moves : List Move) (t u : Told T)
+    → IsReplayed s r moves t → IsReplayed s r moves u → t ≡ u

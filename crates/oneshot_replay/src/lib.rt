@@ -1,6 +1,7 @@
 //! Two machines that run a script each under a schedule, move by move, and the trace of what they did.
 #![tactic(auto)]
 
+pub mod laws;
 mod refused;
 mod replayer;
 mod rest;

@@ -6,7 +6,7 @@ ghost use Rattle.oneshot_world.specs.Calls.{calls_of};
 ghost use Rattle.oneshot_laws.specs.Marks.{marks};
 ghost use Rattle.oneshot_laws.specs.History.{has_legal_history};
 ghost use Rattle.oneshot_laws.specs.Idle.{is_idle_right};
-ghost use Rattle.oneshot_laws.specs.Places.{is_message_followed, is_message_ended, last_message_place};
+ghost use Rattle.oneshot_laws.specs.Places.{is_message_followed, is_message_put, is_message_ended, last_message_place};
 ghost use Rattle.oneshot_laws.specs.Wakers.{AreWakersRight, is_cell_kept};
 ghost use Rattle.oneshot_laws.specs.Unwoken.{NeverUnwoken};
 ghost use Rattle.oneshot_laws.specs.Holders.{is_freed, is_freed_right};
@@ -35,6 +35,7 @@ pub fn replay<T: Drop>(
     ensures idle { IfOk result (λ t. IsTrue (is_idle_right (calls_of s r) t.entries)) }
     ensures legal { IfOk result (λ t. IsTrue (has_legal_history (marks (calls_of s r) t.entries))) }
     ensures message_followed { IfOk result (λ t. IsTrue (is_message_followed (calls_of s r) t.entries)) }
+    ensures message_put { IfOk result (λ t. IsTrue (is_message_put (marks (calls_of s r) t.entries))) }
     ensures message_ended { IfOk result (λ t. IsTrue (is_message_ended t.entries (marks (calls_of s r) t.entries))) }
     ensures wakers { IfOk result (λ t. AreWakersRight t.entries (marks (calls_of s r) t.entries)) }
     ensures cell_kept { IfOk result (λ t. IsTrue (is_cell_kept t.entries)) }

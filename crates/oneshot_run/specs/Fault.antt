@@ -1,17 +1,19 @@
--- The exit status of each fault: 1 where a stream failed, 2 where the input is at fault, 3 where memory was refused.
+-- The program's faults: what becomes of a text that gives no request, and the exit status of each.
 use Rattle.std.specs.Prelude.{ℕ}
 use Rattle.oneshot_run.specs.declared.fault.Fault.{Fault}
-use Rattle.oneshot_run.specs.declared.fault.Fault.TheVariants.{ReadFailed, WriteFailed, InputTooLong, NotAscii, MissingLine, MustBegin, UnknownWord, BadNumber, FollowsLastCall, InputAfterLines, OutOfMemory}
+use Rattle.oneshot_run.specs.declared.fault.Fault.TheVariants.{ReadFailed, WriteFailed, InputTooLong, NotAscii, Malformed, OutOfMemory}
+use Rattle.oneshot_text.specs.declared.fault.ParseError.{ParseError}
+use Rattle.oneshot_text.specs.declared.fault.ParseError.TheVariants as P
 
+abbrev pub fault_of : ParseError → Fault
+fault_of (P.Malformed fault) = Malformed fault
+fault_of (P.OutOfMemory refusal) = OutOfMemory refusal
+
+-- 1 where a stream failed, 2 where the input is at fault, 3 where memory was refused
 abbrev pub status_of : Fault → ℕ
 status_of ReadFailed = 1
 status_of WriteFailed = 1
 status_of InputTooLong = 2
 status_of NotAscii = 2
-status_of (MissingLine line) = 2
-status_of (MustBegin line) = 2
-status_of (UnknownWord line word) = 2
-status_of (BadNumber line word) = 2
-status_of (FollowsLastCall line word) = 2
-status_of InputAfterLines = 2
+status_of (Malformed fault) = 2
 status_of (OutOfMemory refusal) = 3

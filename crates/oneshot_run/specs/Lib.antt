@@ -1,9 +1,1 @@
-pub mod Cut
 pub mod Fault
-pub mod Line
-pub mod Lines
-pub mod Receiver
-pub mod Request
-pub mod Schedule
-pub mod Sender
-pub mod Words

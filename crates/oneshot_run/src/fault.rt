@@ -2,14 +2,14 @@
 
 ghost use Rattle.std.specs.Prelude.{◌≡◌, alloc_error};
 ghost use Rattle.oneshot_run.specs.declared.fault.Fault.TheVariants.{OutOfMemory};
-ghost use Rattle.oneshot_run.specs.Fault.{status_of};
+ghost use Rattle.oneshot_run.specs.Fault.{status_of, fault_of};
 
-use crate::line::Line;
 use oneshot_replay::Refused;
+use oneshot_text::{Malformed, ParseError};
 use std::alloc::{AllocError, AllocFailed};
 use thiserror::Error;
 
-/// Why there is no trace. Words are counted from 1 after their line's first one.
+/// Why there is no trace.
 #[derive(Debug, Drop, Error)]
 pub enum Fault {
     /// The input could not be read.
@@ -24,27 +24,23 @@ pub enum Fault {
     /// A byte is above 127.
     #[error("input is not ASCII")]
     NotAscii,
-    /// The input ends before this line begins.
-    #[error("{0} is missing")]
-    MissingLine(Line),
-    /// The line's first word is not its letter.
-    #[error("{0}: must begin with {letter}", letter = .0.letter())]
-    MustBegin(Line),
-    /// The word is none that may stand there.
-    #[error("{line}: unknown word {word}")]
-    UnknownWord { line: Line, word: usize },
-    /// A number has to stand there, and the word is missing or is none.
-    #[error("{line}: bad number at word {word}")]
-    BadNumber { line: Line, word: usize },
-    /// The word stands after the last call of its line, or after the schedule's letters.
-    #[error("{line}: word {word} follows the last call")]
-    FollowsLastCall { line: Line, word: usize },
-    /// A byte stands after the third line feed.
-    #[error("input after line 3")]
-    InputAfterLines,
+    /// The input is not three lines of the grammar.
+    #[error(transparent)]
+    Malformed(Malformed),
     /// A request for memory was refused.
     #[error("out of memory")]
     OutOfMemory(AllocError),
+}
+
+impl From<ParseError> for Fault {
+    ghost from_gives = { λ error fault. fault ≡ fault_of error };
+
+    fn from(error: ParseError) -> Fault {
+        match error {
+            ParseError::Malformed(malformed) => Fault::Malformed(malformed),
+            ParseError::OutOfMemory(refused) => Fault::OutOfMemory(refused),
+        }
+    }
 }
 
 impl From<AllocError> for Fault {
@@ -81,12 +77,7 @@ impl Fault {
             Fault::WriteFailed => 1,
             Fault::InputTooLong => 2,
             Fault::NotAscii => 2,
-            Fault::MissingLine(_) => 2,
-            Fault::MustBegin(_) => 2,
-            Fault::UnknownWord { .. } => 2,
-            Fault::BadNumber { .. } => 2,
-            Fault::FollowsLastCall { .. } => 2,
-            Fault::InputAfterLines => 2,
+            Fault::Malformed(_) => 2,
             Fault::OutOfMemory(_) => 3,
         }
     }

@@ -3,35 +3,40 @@
 
 mod fault;
 mod input;
-mod line;
-mod lines;
-mod number;
-mod receiver;
-mod request;
-mod schedule;
-mod sender;
-mod show;
 #[cfg(test)]
 mod tests;
-mod words;
 
 pub use fault::Fault;
 use input::{read_input, text_of};
-pub use line::Line;
 use oneshot_replay::replay;
-use request::parse_request;
-use show::write_trace;
+use oneshot_text::{parse_request, write_trace};
 use std::alloc::{AllocError, Global};
 use std::io::{BufWriter, Read, Write};
 use std::process::ExitCode;
 
 fn main(rt: HostRuntime) -> ExitCode {
-    match run(rt.alloc(), &mut rt.stdin(), &mut rt.stdout()) {
-        Ok(()) => ExitCode::SUCCESS,
+    ExitCode::from(answer(
+        rt.alloc(),
+        &mut rt.stdin(),
+        &mut rt.stdout(),
+        &mut rt.stderr(),
+    ))
+}
+
+/// Does what `run` does, writes a fault as a line to `errors`, and gives the program's exit status, which
+/// is 0 where the trace was written.
+pub fn answer<R: Read, W: Write, E: Write>(
+    alloc: Global,
+    input: &mut R,
+    output: &mut W,
+    errors: &mut E,
+) -> u8 {
+    match run(alloc, input, output) {
+        Ok(()) => 0,
         Err(fault) => {
-            // Where standard error fails too, the status alone tells.
-            let _ = eprintln!(rt; "{fault}");
-            ExitCode::from(fault.status())
+            // Where it cannot be written, the status alone tells.
+            let _ = writeln!(errors, "{fault}");
+            fault.status()
         }
     }
 }

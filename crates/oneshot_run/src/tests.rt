@@ -1,29 +1,29 @@
 //! What the program writes for an input, or the fault that it tells.
 
-mod deadlines;
 mod faults;
-mod fronts;
-mod names;
-mod order;
+mod long;
 mod streams;
 mod traces;
-mod waits;
 
-use crate::run;
+use crate::answer;
 use std::alloc::{AllocError, Global};
 use std::process::Abort;
 
-/// The output for `input`; or the status and the line of the fault, before which nothing was written.
+/// The output for `input`, beside which nothing is told; or the status and the one line of the fault,
+/// beside which nothing is written.
 fn told(rt: &(impl Abort + AllocGlobal), input: &[u8]) -> String {
     let mut input = input;
     let mut written = Vec::new(rt.alloc());
-    match run(rt.alloc(), &mut input, &mut written) {
-        Ok(()) => String::from_utf8(written).ok().expect(rt, "text"),
-        Err(fault) => {
-            assert!(rt; written.is_empty(), "output before {fault}");
-            format!(in rt.alloc(); "{} {fault}", fault.status()).expect(rt, "memory")
-        }
+    let mut errors = Vec::new(rt.alloc());
+    let status = answer(rt.alloc(), &mut input, &mut written, &mut errors);
+    let errors = String::from_utf8(errors).ok().expect(rt, "text");
+    if status == 0 {
+        assert!(rt; errors.is_empty(), "{errors} beside the output");
+        return String::from_utf8(written).ok().expect(rt, "text");
     }
+    assert!(rt; written.is_empty(), "output beside {errors}");
+    let fault = errors.strip_suffix('\n').expect(rt, "a whole line");
+    format!(in rt.alloc(); "{status} {fault}").expect(rt, "memory")
 }
 
 /// A message that is sent, received and let go.

@@ -1,12 +1,12 @@
 //! Requests, each with a channel of its own for the reply.
 
-ghost use Rattle.std.specs.Prelude.{◌≡◌, ◌*◌, ◌≤◌, IfOk, IfSome, vec_len, length};
+ghost use Rattle.std.specs.Prelude.{◌≡◌, ◌*◌, ◌≤◌, ℕ, Ok, IfOk, IfSome, vec_len, length};
 
-use oneshot::{Receiver, Sender, channel};
+use oneshot::{Receiver, RecvTimeoutError, Sender, channel};
 use std::alloc::{AllocError, Global};
 use std::sync::Wait;
 use std::thread::{Threads, join};
-use std::time::Clock;
+use std::time::{Clock, Duration};
 
 /// A number and its square.
 #[derive(Drop)]
@@ -41,6 +41,25 @@ pub struct Asked<Rt> {
     pub root: u32,
     /// Where its square comes.
     pub reply: Receiver<Square, Rt>,
+}
+
+/// Why a request has no reply.
+#[derive(Clone, Copy, Debug, PartialEq, Eq)]
+pub enum Unanswered {
+    /// None came in time. A later one is refused.
+    Late,
+    /// None will come: the request was dropped.
+    Lost,
+}
+
+/// What came of a request.
+#[derive(Drop)]
+pub struct Answer {
+    /// The number.
+    pub root: u32,
+    /// Its square, if a reply came.
+    pub square: Result<u64, Unanswered>,
+    ghost right: { (value : ℕ) → square ≡ Ok value → value ≡ root * root },
 }
 
 /// Makes a request for the square of `root`, and what waits for its reply.
@@ -78,6 +97,21 @@ impl<Rt: Wait + Clock + Drop> Asked<Rt> {
             Ok(square) if square.root == root => Some(square.value),
             _ => None,
         }
+    }
+}
+
+impl<Rt: Wait + Clock + Drop> Asked<Rt> {
+    /// Waits for the reply, for `limit` at most.
+    pub fn wait_within(self, limit: Duration) -> Answer
+        ensures { result.root ≡ self.root }
+    {
+        let Asked { root, mut reply } = self;
+        let square = match reply.recv_timeout(limit) {
+            Ok(square) if square.root == root => Ok(square.value),
+            Err(RecvTimeoutError::Timeout) => Err(Unanswered::Late),
+            _ => Err(Unanswered::Lost),
+        };
+        Answer { root, square }
     }
 }
 

@@ -1,8 +1,7 @@
 //! A worker that makes turns until it is told to stop, or until nobody is left to tell it.
 
 ghost use Rattle.std.specs.Prelude.{◌≡◌, ◌≢◌, ◌≤◌};
-ghost use Rattle.oneshot.specs.Phases.{receiver_at};
-ghost use Rattle.oneshot.specs.Calls.{IsClosed};
+ghost use Rattle.oneshot.specs.Ends.{IsClosed};
 ghost use Rattle.oneshot_uses.specs.declared.shutdown.Ending.TheVariants.{Done};
 
 use oneshot::{Receiver, Sender, TryRecvError, channel};
@@ -30,7 +29,6 @@ pub struct Report {
 }
 
 /// Makes turns until the signal comes or its sender is gone, and no more than `limit`.
-#[tactic(auto, using(crate::proofs::Closing::closed_by_message, crate::proofs::Closing::closed_by_end))]
 pub fn work_until<Rt: Drop, F: FnMut()>(
     stop: &mut Receiver<(), Rt>,
     limit: u64,
@@ -39,7 +37,7 @@ pub fn work_until<Rt: Drop, F: FnMut()>(
     requires { F.IsAlwaysCallable turn }
     ensures limit { result.turns ≤ limit }
     ensures done { result.ending ≡ Done → result.turns ≡ limit }
-    ensures heard { result.ending ≢ Done → IsClosed (receiver_at stop.new.steps) }
+    ensures heard { result.ending ≢ Done → IsClosed stop.new }
 {
     for turns in 0..limit {
         match stop.try_recv() {

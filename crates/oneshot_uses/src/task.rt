@@ -30,19 +30,31 @@ pub fn start<R: Threads, T: Send + Drop + 'static, F: FnOnce() -> T + Send + Dro
     Ok(spawn(rt, move || perform(work, waiter))?)
 }
 
-/// Starts `work`, and waits for its result. `Err` inside if the work never ran to its end.
+/// What came of a task, once its thread was joined.
+#[derive(Drop)]
+pub struct Joined<T> {
+    /// What its waiter received. `Err` if the work never ran to its end.
+    pub received: Result<T, RecvError>,
+    /// What its thread gave back: the result, if nobody waited for it.
+    pub unclaimed: Option<T>,
+}
+
+/// Starts `work`, waits for its result, and joins its thread.
 pub fn awaited<
     R: Threads + Wait + Clock,
     T: Send + Drop + 'static,
     F: FnOnce() -> T + Send + Drop + 'static,
->(rt: &R, alloc: Global, work: F) -> Result<Result<T, RecvError>, AllocError>
+>(rt: &R, alloc: Global, work: F) -> Result<Joined<T>, AllocError>
     requires { F.pre work }
 {
     let (waiter, receiver) = channel(rt, alloc)?;
     let thread = start(rt, work, waiter)?;
     let received = receiver.recv();
-    let _unclaimed = thread.join(rt);
-    Ok(received)
+    let unclaimed = thread.join(rt);
+    Ok(Joined {
+        received,
+        unclaimed,
+    })
 }
 
 /// Has `work` done on another thread, though nobody waits for its result, and gives what came back.

@@ -6,4 +6,4 @@ pub mod Opens
 pub mod Trades
 pub mod RowReads
 mod Crosses
-pub mod Told
+mod RuleExamples

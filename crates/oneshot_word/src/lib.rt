@@ -1,14 +1,13 @@
 //! The word that both ends share, with the message's slot and the waker's: its rule and its steps.
 #![tactic(auto)]
 
+pub mod laws;
 mod opening;
 mod plays;
 mod receiver;
 mod rule;
 mod sender;
 mod table;
-#[cfg(test)]
-mod tests;
 
 pub use opening::open;
 pub use receiver::ReceiverSide;

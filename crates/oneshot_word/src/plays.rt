@@ -1,9 +1,10 @@
-// What each step tells of the seat that makes it. These types are for the proofs alone.
+//! What each step notes of the seat that makes it. These types are for the proofs alone.
+
 ghost use Rattle.std.specs.Prelude.{◌≡◌, ◌∷◌, []};
-ghost use Rattle.oneshot_machine.specs.declared.states.Op.TheVariants.{Load, Store, Swap, Add, Xor};
 ghost use Rattle.oneshot_word.specs.declared.rule.Role.TheVariants.{Dealer, Sender, Receiver};
 ghost use Rattle.oneshot_word.specs.declared.rule.Slot.TheVariants.{Empty};
-ghost use Rattle.oneshot_word.specs.Seats.{view, SenderStepped, ReceiverStepped};
+ghost use Rattle.oneshot_word.specs.Plays.{AddFound, FlipFound, FinalSwapFound, LoadFound, StoreFound, SwapFound};
+ghost use Rattle.oneshot_word.specs.Seats.{view};
 
 use crate::rule::{Slot, View};
 use atomic_table::{Play, Split};
@@ -11,37 +12,37 @@ use atomic_table::{Play, Split};
 pub(crate) struct Adds;
 
 impl<T, W> Play<Slot<T, W>, View> for Adds {
-    ghost then = { λ _ before found after. SenderStepped before Add found after };
+    ghost then = { AddFound };
 }
 
 pub(crate) struct Flips;
 
 impl<T, W> Play<Slot<T, W>, View> for Flips {
-    ghost then = { λ _ before found after. SenderStepped before Xor found after };
+    ghost then = { FlipFound };
 }
 
 pub(crate) struct Finishes;
 
 impl<T, W> Play<Slot<T, W>, View> for Finishes {
-    ghost then = { λ s before found after. SenderStepped before (Swap s.first) found after };
+    ghost then = { FinalSwapFound };
 }
 
 pub(crate) struct Loads;
 
 impl<T, W> Play<Slot<T, W>, View> for Loads {
-    ghost then = { λ _ before found after. ReceiverStepped before Load found after };
+    ghost then = { LoadFound };
 }
 
 pub(crate) struct Stores;
 
 impl<T, W> Play<Slot<T, W>, View> for Stores {
-    ghost then = { λ s before found after. ReceiverStepped before (Store s.first) found after };
+    ghost then = { StoreFound };
 }
 
 pub(crate) struct Swaps;
 
 impl<T, W> Play<Slot<T, W>, View> for Swaps {
-    ghost then = { λ s before found after. ReceiverStepped before (Swap s.first) found after };
+    ghost then = { SwapFound };
 }
 
 // The maker takes the message's slot.

@@ -54,7 +54,7 @@ pub struct ReceiverScript {
 }
 
 /// A call that leaves the receiver in place.
-#[derive(Clone, Copy, Debug, Eq, Hash, PartialEq)]
+#[derive(Clone, Copy, Debug, Eq, PartialEq)]
 pub enum ReceiverCall {
     /// `Receiver::try_recv`.
     TryRecv,
@@ -125,7 +125,7 @@ impl<C> CallList<C> {
 }
 
 /// One move of a schedule.
-#[derive(Clone, Copy, Debug, Eq, Hash, PartialEq)]
+#[derive(Clone, Copy, Debug, Eq, PartialEq)]
 pub enum Move {
     /// The sender moves.
     Sender,

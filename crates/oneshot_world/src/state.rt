@@ -12,7 +12,7 @@ use oneshot_machine::machine::{
 use oneshot_machine::states::{EMPTY, Op};
 
 /// Where the sender stands.
-#[derive(Clone, Copy, Debug, Eq, Hash, PartialEq)]
+#[derive(Clone, Copy, Debug)]
 pub enum SenderState {
     /// No call is under way.
     Ready,
@@ -25,7 +25,7 @@ pub enum SenderState {
 }
 
 /// Where the receiver stands.
-#[derive(Clone, Copy, Debug, Eq, Hash, PartialEq)]
+#[derive(Clone, Copy, Debug)]
 pub enum ReceiverState {
     /// No call is under way.
     Ready,
@@ -36,7 +36,7 @@ pub enum ReceiverState {
 }
 
 /// The finite part of the world.
-#[derive(Clone, Copy, Debug, Eq, Hash, PartialEq)]
+#[derive(Clone, Copy, Debug)]
 pub struct State {
     /// The shared word.
     pub word: u8,

@@ -3,7 +3,7 @@
 use oneshot_machine::machine::{End, Reply, Seen, Step};
 
 /// Where the message is.
-#[derive(Clone, Copy, Debug, Eq, Hash, PartialEq)]
+#[derive(Clone, Copy, Debug, Eq, PartialEq)]
 pub enum Place {
     /// Still the script's.
     NotSent,
@@ -20,7 +20,7 @@ pub enum Place {
 }
 
 /// A waker that an entry moves. No call asks for a copy so far, so no entry names one.
-#[derive(Clone, Copy, Debug, Eq, Hash, PartialEq)]
+#[derive(Clone, Copy, Debug, Eq, PartialEq)]
 pub enum WakerName {
     /// The waking half of the parker on which a blocking receive waits.
     Parker,
@@ -34,7 +34,7 @@ pub enum WakerName {
 }
 
 /// Where a waker is.
-#[derive(Clone, Copy, Debug, Eq, Hash, PartialEq)]
+#[derive(Clone, Copy, Debug, Eq, PartialEq)]
 pub enum WakerPlace {
     /// A task's, before its copy is made.
     New,
@@ -51,7 +51,7 @@ pub enum WakerPlace {
 }
 
 /// What one move did.
-#[derive(Clone, Copy, Debug, Eq, Hash, PartialEq)]
+#[derive(Clone, Copy, Debug, Eq, PartialEq)]
 pub enum Entry {
     /// This end had no call under way and none left. Nothing changed.
     Idle(End),
@@ -60,7 +60,7 @@ pub enum Entry {
 }
 
 /// One step of one end.
-#[derive(Clone, Copy, Debug, Eq, Hash, PartialEq)]
+#[derive(Clone, Copy, Debug, Eq, PartialEq)]
 pub struct Made {
     /// The end that moved.
     pub side: End,

@@ -7,7 +7,7 @@ use crate::trace::{WakerName, WakerPlace};
 use oneshot_machine::machine::Step;
 
 /// The waker in each place that holds one, and the token on which the receiver parks.
-#[derive(Clone, Copy, Debug, Eq, Hash, PartialEq)]
+#[derive(Clone, Copy, Debug)]
 pub struct Wakers {
     /// The one in the channel's cell.
     pub cell: Option<WakerName>,

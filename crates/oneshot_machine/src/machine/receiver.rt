@@ -9,7 +9,7 @@ use crate::machine::{Reply, Seen, Step};
 use crate::states::{DISCONNECTED, EMPTY, MESSAGE, Op, RECEIVING, UNPARKING};
 
 /// A call of the receiver.
-#[derive(Clone, Copy, Debug, Eq, Hash, PartialEq)]
+#[derive(Clone, Copy, Debug, Eq, PartialEq)]
 pub enum ReceiverStart {
     /// `Receiver::try_recv`.
     TryRecv,
@@ -34,7 +34,7 @@ pub enum ReceiverStart {
 }
 
 /// Where a call of the receiver stands: a position of its table.
-#[derive(Clone, Copy, Debug, Eq, Hash, PartialEq)]
+#[derive(Clone, Copy, Debug, Eq, PartialEq)]
 pub enum ReceiverPos {
     /// `has_message` is about to read the word.
     LookFull,

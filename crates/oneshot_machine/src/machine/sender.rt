@@ -9,7 +9,7 @@ use crate::machine::{Reply, Seen, Step};
 use crate::states::{DISCONNECTED, EMPTY, MESSAGE, Op, RECEIVING, UNPARKING};
 
 /// A call of the sender, or of the error of its refused `send`.
-#[derive(Clone, Copy, Debug, Eq, Hash, PartialEq)]
+#[derive(Clone, Copy, Debug, Eq, PartialEq)]
 pub enum SenderCall {
     /// `Sender::is_closed`.
     IsClosed,
@@ -26,7 +26,7 @@ pub enum SenderCall {
 }
 
 /// Where a call of the sender or of its error stands: a position of the sender's table.
-#[derive(Clone, Copy, Debug, Eq, Hash, PartialEq)]
+#[derive(Clone, Copy, Debug, Eq, PartialEq)]
 pub enum SenderPos {
     /// `is_closed` is about to read the word.
     LookClosed,

@@ -1,27 +1,44 @@
 //! Readers and writers that fail, are interrupted, or move few bytes at a time.
 
 use super::{SENT, SENT_TRACE, idle};
-use crate::{Fault, run};
+use crate::{Fault, answer, run};
 use std::alloc::Global;
 use std::io;
 use std::io::{ErrorKind, Read, Write};
 use std::test::Fail;
 
-/// How many calls come before the one that fails, and how it does. Those after it succeed again.
-type Failure = Option<(usize, ErrorKind)>;
+/// Calls of a stream that fail: how many come before them, how many they are, and how they fail.
+#[derive(Clone, Copy)]
+struct Failures {
+    before: usize,
+    count: usize,
+    kind: ErrorKind,
+}
 
-/// Counts a call of a stream, and fails it if its turn has come.
-fn count_call(failure: &mut Failure) -> io::Result<()> {
-    match *failure {
-        None => Ok(()),
-        Some((0, kind)) => {
-            *failure = None;
-            Err(io::Error::from(kind))
+impl Failures {
+    fn of(before: usize, count: usize, kind: ErrorKind) -> Failures {
+        Failures {
+            before,
+            count,
+            kind,
         }
-        Some((before, kind)) => {
-            *failure = Some((before - 1, kind));
-            Ok(())
+    }
+
+    fn none() -> Failures {
+        Failures::of(0, 0, ErrorKind::Other)
+    }
+
+    /// Counts a call, and fails it if its turn has come.
+    fn count_call(&mut self) -> io::Result<()> {
+        if self.before > 0 {
+            self.before -= 1;
+            return Ok(());
         }
+        if self.count == 0 {
+            return Ok(());
+        }
+        self.count -= 1;
+        Err(io::Error::from(self.kind))
     }
 }
 
@@ -29,21 +46,21 @@ fn count_call(failure: &mut Failure) -> io::Result<()> {
 #[derive(Drop)]
 struct Reader {
     rest: &'static [u8],
-    failure: Failure,
+    failures: Failures,
 }
 
 impl Reader {
-    fn new(failure: Failure) -> Reader {
+    fn new(failures: Failures) -> Reader {
         Reader {
             rest: SENT.as_bytes(),
-            failure,
+            failures,
         }
     }
 }
 
 impl Read for Reader {
     fn read(&mut self, buf: &mut [u8]) -> io::Result<usize> {
-        count_call(&mut self.failure)?;
+        self.failures.count_call()?;
         let most = buf.len().min(1);
         self.rest.read(&mut buf[..most])
     }
@@ -54,36 +71,36 @@ impl Read for Reader {
 struct Writer {
     written: Vec<u8>,
     most: usize,
-    failure: Failure,
+    failures: Failures,
 }
 
 impl Writer {
-    fn new(alloc: Global, most: usize, failure: Failure) -> Writer {
+    fn new(alloc: Global, most: usize, failures: Failures) -> Writer {
         Writer {
             written: Vec::new(alloc),
             most,
-            failure,
+            failures,
         }
     }
 }
 
 impl Write for Writer {
     fn write(&mut self, buf: &[u8]) -> io::Result<usize> {
-        count_call(&mut self.failure)?;
+        self.failures.count_call()?;
         let count = buf.len().min(self.most);
         self.written.extend_from_slice(&buf[..count])?;
         Ok(count)
     }
 
     fn flush(&mut self) -> io::Result<()> {
-        count_call(&mut self.failure)
+        self.failures.count_call()
     }
 }
 
 #[test]
 fn short_reads_and_writes_move_all(rt: HostRuntime) -> Result<(), Fail> {
-    let mut writer = Writer::new(rt.alloc(), 1, None);
-    run(rt.alloc(), &mut Reader::new(None), &mut writer)?;
+    let mut writer = Writer::new(rt.alloc(), 1, Failures::none());
+    run(rt.alloc(), &mut Reader::new(Failures::none()), &mut writer)?;
     assert_eq!(rt; writer.written.as_slice(), SENT_TRACE.as_bytes());
     Ok(())
 }
@@ -92,13 +109,15 @@ fn short_reads_and_writes_move_all(rt: HostRuntime) -> Result<(), Fail> {
 fn a_failed_read_is_told_alone(rt: HostRuntime) -> Result<(), Fail> {
     // The read after all bytes were given is the one that would find the end.
     for before in 0..=SENT.len() {
-        let mut reader = Reader::new(Some((before, ErrorKind::ConnectionReset)));
-        let mut written = Vec::new(rt.alloc());
-        let ended = run(rt.alloc(), &mut reader, &mut written);
-        let fault = ended.err().ok_or("no fault")?;
-        assert_eq!(rt; fault.status(), 1, "after {before} reads");
-        assert_eq!(rt; fault.to_string(rt.alloc())?.as_str(), "read failed");
-        assert!(rt; written.is_empty(), "after {before} reads");
+        for kind in [ErrorKind::ConnectionReset, ErrorKind::TimedOut] {
+            let mut reader = Reader::new(Failures::of(before, 1, kind));
+            let mut written = Vec::new(rt.alloc());
+            let ended = run(rt.alloc(), &mut reader, &mut written);
+            let fault = ended.err().ok_or("no fault")?;
+            assert_eq!(rt; fault.status(), 1, "after {before} reads");
+            assert_eq!(rt; fault.to_string(rt.alloc())?.as_str(), "read failed");
+            assert!(rt; written.is_empty(), "after {before} reads");
+        }
     }
     Ok(())
 }
@@ -106,14 +125,16 @@ fn a_failed_read_is_told_alone(rt: HostRuntime) -> Result<(), Fail> {
 #[test]
 fn an_interrupted_read_is_made_again(rt: HostRuntime) -> Result<(), Fail> {
     for before in 0..=SENT.len() {
-        let mut reader = Reader::new(Some((before, ErrorKind::Interrupted)));
-        let mut written = Vec::new(rt.alloc());
-        run(rt.alloc(), &mut reader, &mut written)?;
-        assert_eq!(rt;
-            written.as_slice(),
-            SENT_TRACE.as_bytes(),
-            "after {before} reads"
-        );
+        for count in 1..=3usize {
+            let interrupts = Failures::of(before, count, ErrorKind::Interrupted);
+            let mut written = Vec::new(rt.alloc());
+            run(rt.alloc(), &mut Reader::new(interrupts), &mut written)?;
+            assert_eq!(rt;
+                written.as_slice(),
+                SENT_TRACE.as_bytes(),
+                "{count} after {before} reads"
+            );
+        }
     }
     Ok(())
 }
@@ -122,9 +143,9 @@ fn an_interrupted_read_is_made_again(rt: HostRuntime) -> Result<(), Fail> {
 fn a_failed_write_ends_the_output(rt: HostRuntime) -> Result<(), Fail> {
     // The call after all bytes were taken is the flush.
     for before in 0..=SENT_TRACE.len() {
-        let failure = Some((before, ErrorKind::BrokenPipe));
-        let mut writer = Writer::new(rt.alloc(), 1, failure);
-        let ended = run(rt.alloc(), &mut Reader::new(None), &mut writer);
+        let failures = Failures::of(before, 1, ErrorKind::BrokenPipe);
+        let mut writer = Writer::new(rt.alloc(), 1, failures);
+        let ended = run(rt.alloc(), &mut Reader::new(Failures::none()), &mut writer);
         let fault = ended.err().ok_or("no fault")?;
         assert_eq!(rt; fault.status(), 1, "after {before} writes");
         assert_eq!(rt; fault.to_string(rt.alloc())?.as_str(), "write failed");
@@ -137,14 +158,20 @@ fn a_failed_write_ends_the_output(rt: HostRuntime) -> Result<(), Fail> {
 #[test]
 fn an_interrupted_write_is_made_again(rt: HostRuntime) -> Result<(), Fail> {
     for before in 0..SENT_TRACE.len() {
-        let failure = Some((before, ErrorKind::Interrupted));
-        let mut writer = Writer::new(rt.alloc(), 1, failure);
-        run(rt.alloc(), &mut Reader::new(None), &mut writer)?;
-        assert_eq!(rt;
-            writer.written.as_slice(),
-            SENT_TRACE.as_bytes(),
-            "after {before} writes"
-        );
+        for count in 1..=3usize {
+            let interrupts = Failures::of(before, count, ErrorKind::Interrupted);
+            let mut writer = Writer::new(rt.alloc(), 1, interrupts);
+            run(
+                rt.alloc(),
+                &mut Reader::new(Failures::none()),
+                &mut writer,
+            )?;
+            assert_eq!(rt;
+                writer.written.as_slice(),
+                SENT_TRACE.as_bytes(),
+                "{count} after {before} writes"
+            );
+        }
     }
     Ok(())
 }
@@ -153,8 +180,8 @@ fn an_interrupted_write_is_made_again(rt: HostRuntime) -> Result<(), Fail> {
 fn a_long_output_ends_where_a_write_fails(rt: HostRuntime) -> Result<(), Fail> {
     let (input, output) = idle(rt.alloc(), 3000)?;
     for before in 0..100usize {
-        let failure = Some((before, ErrorKind::StorageFull));
-        let mut writer = Writer::new(rt.alloc(), 1000, failure);
+        let failures = Failures::of(before, 1, ErrorKind::StorageFull);
+        let mut writer = Writer::new(rt.alloc(), 1000, failures);
         let ended = run(rt.alloc(), &mut input.as_bytes(), &mut writer);
         if ended.is_ok() {
             assert_eq!(rt; writer.written.as_slice(), output.as_bytes());
@@ -174,9 +201,19 @@ fn a_long_output_ends_where_a_write_fails(rt: HostRuntime) -> Result<(), Fail> {
 
 #[test]
 fn a_writer_that_takes_nothing_has_failed(rt: HostRuntime) {
-    let mut writer = Writer::new(rt.alloc(), 0, None);
-    let ended = run(rt.alloc(), &mut Reader::new(None), &mut writer);
+    let mut writer = Writer::new(rt.alloc(), 0, Failures::none());
+    let ended = run(rt.alloc(), &mut Reader::new(Failures::none()), &mut writer);
     assert!(rt; matches!(ended, Err(Fault::WriteFailed)));
+}
+
+#[test]
+fn where_a_fault_cannot_be_told_the_status_tells(rt: HostRuntime) {
+    let broken = Failures::of(0, 1, ErrorKind::BrokenPipe);
+    let mut errors = Writer::new(rt.alloc(), 100, broken);
+    let mut written = Vec::new(rt.alloc());
+    let status = answer(rt.alloc(), &mut &b"Q"[..], &mut written, &mut errors);
+    assert_eq!(rt; status, 2);
+    assert!(rt; written.is_empty() && errors.written.is_empty());
 }
 
 /// Never ends, and counts the bytes that it gave.

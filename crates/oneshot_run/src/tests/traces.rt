@@ -1,7 +1,16 @@
 //! Inputs that are run.
 
-use super::{SENT, SENT_TRACE, idle, told};
+use crate::tests::{SENT, SENT_TRACE, told};
+use std::alloc::AllocGlobal;
+use std::process::Abort;
 use std::test::Fail;
+
+/// Each input has this output.
+fn assert_traces(rt: &(impl Abort + AllocGlobal), cases: &[(&str, &str)]) {
+    for (input, output) in cases {
+        assert_eq!(rt; told(rt, input.as_bytes()).as_str(), *output, "{input}");
+    }
+}
 
 #[test]
 fn traces(rt: HostRuntime) {
@@ -72,9 +81,7 @@ block freed
 ",
         ),
     ];
-    for (input, output) in traces {
-        assert_eq!(rt; told(&rt, input.as_bytes()).as_str(), output, "{input}");
-    }
+    assert_traces(&rt, &traces);
 }
 
 #[test]
@@ -125,9 +132,7 @@ block here
 ",
         ),
     ];
-    for (input, output) in traces {
-        assert_eq!(rt; told(&rt, input.as_bytes()).as_str(), output, "{input}");
-    }
+    assert_traces(&rt, &traces);
 }
 
 #[test]
@@ -181,16 +186,539 @@ block here
 ",
         ),
     ];
-    for (input, output) in traces {
-        assert_eq!(rt; told(&rt, input.as_bytes()).as_str(), output, "{input}");
+    assert_traces(&rt, &traces);
+}
+
+#[test]
+fn traces_of_receives_that_wait(rt: HostRuntime) {
+    let traces = [
+        // a receive that is woken late
+        (
+            "S send 7\nR recv\nX rrrsssrrsrrrrs\n",
+            "1 R load 3>3
+2 R write-waker 3>3 p:Hand>Cell
+3 R swap 3>0
+4 S write-message 0>0 m:NotSent>InCell
+5 S add 0>1
+6 S take-waker 1>1 p:Cell>SenderHand
+7 R park 1>1 spurious
+8 R load 1>1
+9 S swap 1>4
+10 R park 4>4 spurious
+11 R load 4>4
+12 R take-message 4>4 m:InCell>Delivered
+13 R free 4>- = Ok(7)
+14 S wake ->- p:SenderHand>Used token+ = Ok
+rest Delivered(7)
+block freed
+",
+        ),
+        // a park that uses its token
+        (
+            "S send 7\nR ref\nX rrrsssssrrrr\n",
+            "1 R load 3>3
+2 R write-waker 3>3 p:Hand>Cell
+3 R swap 3>0
+4 S write-message 0>0 m:NotSent>InCell
+5 S add 0>1
+6 S take-waker 1>1 p:Cell>SenderHand
+7 S swap 1>4
+8 S wake 4>4 p:SenderHand>Used token+ = Ok
+9 R park 4>4 token-
+10 R load 4>4
+11 R store 4>2
+12 R take-message 2>2 m:InCell>Delivered = Ok(7)
+rest Delivered(7)
+block here
+",
+        ),
+        // a message that comes before the wait
+        (
+            "S send 7\nR ref\nX rrssrrrr\n",
+            "1 R load 3>3
+2 R write-waker 3>3 p:Hand>Cell
+3 S write-message 3>3 m:NotSent>InCell
+4 S add 3>4 = Ok
+5 R swap 4>0
+6 R withdraw 0>0 p:Cell>Hand
+7 R store 0>2
+8 R take-message 2>2 m:InCell>Delivered = Ok(7)
+rest Delivered(7)
+block here
+",
+        ),
+        // a receiver is woken by the senders drop
+        (
+            "S drop\nR recv\nX rrrssssrrr\n",
+            "1 R load 3>3
+2 R write-waker 3>3 p:Hand>Cell
+3 R swap 3>0
+4 S xor 0>1
+5 S take-waker 1>1 p:Cell>SenderHand
+6 S swap 1>2
+7 S wake 2>2 p:SenderHand>Used token+ = dropped
+8 R park 2>2 token-
+9 R load 2>2
+10 R free 2>- = Err(RecvError)
+rest none
+block freed
+",
+        ),
+        // a sender that goes during the wait
+        (
+            "S closed drop\nR recv\nX rrrsssssrrr\n",
+            "1 R load 3>3
+2 R write-waker 3>3 p:Hand>Cell
+3 R swap 3>0
+4 S load 0>0 = false
+5 S xor 0>1
+6 S take-waker 1>1 p:Cell>SenderHand
+7 S swap 1>2
+8 S wake 2>2 p:SenderHand>Used token+ = dropped
+9 R park 2>2 token-
+10 R load 2>2
+11 R free 2>- = Err(RecvError)
+rest none
+block freed
+",
+        ),
+        // each call has its own error
+        (
+            "S drop\nR try ref closed try recv\nX srrrrrrr\n",
+            "1 S xor 3>2 = dropped
+2 R load 2>2 = Err(Disconnected)
+3 R load 2>2 = Err(RecvError)
+4 R load 2>2 = true
+5 R load 2>2 = Err(Disconnected)
+6 R load 2>2
+7 R free 2>- = Err(RecvError)
+8 R idle
+rest none
+block freed
+",
+        ),
+        // a sender that goes before the wait
+        (
+            "S drop\nR recv\nX rrsrrr\n",
+            "1 R load 3>3
+2 R write-waker 3>3 p:Hand>Cell
+3 S xor 3>2 = dropped
+4 R swap 2>0
+5 R withdraw 0>0 p:Cell>Hand
+6 R free 0>- = Err(RecvError)
+rest none
+block freed
+",
+        ),
+        (
+            "S drop\nR ref\nX rrsrrr\n",
+            "1 R load 3>3
+2 R write-waker 3>3 p:Hand>Cell
+3 S xor 3>2 = dropped
+4 R swap 2>0
+5 R withdraw 0>0 p:Cell>Hand
+6 R store 0>2 = Err(RecvError)
+rest none
+block here
+",
+        ),
+        // a receive that takes back its waker, and the message
+        (
+            "S send 7\nR recv\nX rrssrrrr\n",
+            "1 R load 3>3
+2 R write-waker 3>3 p:Hand>Cell
+3 S write-message 3>3 m:NotSent>InCell
+4 S add 3>4 = Ok
+5 R swap 4>0
+6 R withdraw 0>0 p:Cell>Hand
+7 R take-message 0>0 m:InCell>Delivered
+8 R free 0>- = Ok(7)
+rest Delivered(7)
+block freed
+",
+        ),
+        // a wake of a receiver that has freed the block
+        (
+            "S drop\nR recv\nX rrrsssrrrs\n",
+            "1 R load 3>3
+2 R write-waker 3>3 p:Hand>Cell
+3 R swap 3>0
+4 S xor 0>1
+5 S take-waker 1>1 p:Cell>SenderHand
+6 S swap 1>2
+7 R park 2>2 spurious
+8 R load 2>2
+9 R free 2>- = Err(RecvError)
+10 S wake ->- p:SenderHand>Used token+ = dropped
+rest none
+block freed
+",
+        ),
+    ];
+    assert_traces(&rt, &traces);
+}
+
+#[test]
+fn traces_of_receives_with_a_deadline(rt: HostRuntime) {
+    let traces = [
+        // a message that comes past the deadline
+        (
+            "S send 7\nR deadline\nX rrrossrrrsssrrrr\n",
+            "1 R load 3>3
+2 R write-waker 3>3 p:Hand>Cell
+3 R swap 3>0
+4 R clock 0>0 over
+5 S write-message 0>0 m:NotSent>InCell
+6 S add 0>1
+7 R swap 1>3
+8 R park 3>3 spurious
+9 R load 3>3
+10 S take-waker 3>3 p:Cell>SenderHand
+11 S swap 3>4
+12 S wake 4>4 p:SenderHand>Used token+ = Ok
+13 R park 4>4 token-
+14 R load 4>4
+15 R store 4>2
+16 R take-message 2>2 m:InCell>Delivered = Ok(7)
+rest Delivered(7)
+block here
+",
+        ),
+        // a message that is there at the deadline
+        (
+            "S send 7\nR deadline\nX rrrosssssrrr\n",
+            "1 R load 3>3
+2 R write-waker 3>3 p:Hand>Cell
+3 R swap 3>0
+4 R clock 0>0 over
+5 S write-message 0>0 m:NotSent>InCell
+6 S add 0>1
+7 S take-waker 1>1 p:Cell>SenderHand
+8 S swap 1>4
+9 S wake 4>4 p:SenderHand>Used token+ = Ok
+10 R swap 4>3
+11 R store 3>2
+12 R take-message 2>2 m:InCell>Delivered = Ok(7)
+rest Delivered(7)
+block here
+",
+        ),
+        // a deadline that runs out
+        (
+            "S send 7\nR deadline\nX rrrorr\n",
+            "1 R load 3>3
+2 R write-waker 3>3 p:Hand>Cell
+3 R swap 3>0
+4 R clock 0>0 over
+5 R swap 0>3
+6 R withdraw 3>3 p:Cell>Hand = Err(Timeout)
+rest NotSent(7)
+block here
+",
+        ),
+        // a timeout that no instant can hold
+        (
+            "S\nR forever\nX orrrr\n",
+            "1 R clock 3>3 over
+2 R load 3>3
+3 R write-waker 3>3 p:Hand>Cell
+4 R swap 3>0
+5 R park 0>0 spurious
+rest none
+block here
+",
+        ),
+        // a timeout that runs out after a park
+        (
+            "S\nR timeout\nX orrrrrrorr\n",
+            "1 R clock 3>3 over
+2 R load 3>3
+3 R write-waker 3>3 p:Hand>Cell
+4 R swap 3>0
+5 R clock 0>0 left
+6 R park 0>0 spurious
+7 R load 0>0
+8 R clock 0>0 over
+9 R swap 0>3
+10 R withdraw 3>3 p:Cell>Hand = Err(Timeout)
+rest none
+block here
+",
+        ),
+        // each timed call finds no sender
+        (
+            "S drop\nR deadline timeout forever\nX srrrorr\n",
+            "1 S xor 3>2 = dropped
+2 R load 2>2 = Err(Disconnected)
+3 R clock 2>2 left
+4 R load 2>2 = Err(Disconnected)
+5 R clock 2>2 over
+6 R load 2>2 = Err(Disconnected)
+7 R idle
+rest none
+block here
+",
+        ),
+        // a sender that goes at the deadline
+        (
+            "S drop\nR deadline\nX rrrossssrr\n",
+            "1 R load 3>3
+2 R write-waker 3>3 p:Hand>Cell
+3 R swap 3>0
+4 R clock 0>0 over
+5 S xor 0>1
+6 S take-waker 1>1 p:Cell>SenderHand
+7 S swap 1>2
+8 S wake 2>2 p:SenderHand>Used token+ = dropped
+9 R swap 2>3
+10 R store 3>2 = Err(Disconnected)
+rest none
+block here
+",
+        ),
+        // a sender that goes before the wait
+        (
+            "S drop\nR deadline\nX rrsrrr\n",
+            "1 R load 3>3
+2 R write-waker 3>3 p:Hand>Cell
+3 S xor 3>2 = dropped
+4 R swap 2>0
+5 R withdraw 0>0 p:Cell>Hand
+6 R store 0>2 = Err(Disconnected)
+rest none
+block here
+",
+        ),
+        // a clock that is read while the sender has the waker
+        (
+            "S send 7\nR deadline\nX rrrssr\n",
+            "1 R load 3>3
+2 R write-waker 3>3 p:Hand>Cell
+3 R swap 3>0
+4 S write-message 0>0 m:NotSent>InCell
+5 S add 0>1
+6 R clock 1>1 left
+rest InCell(7)
+block here
+",
+        ),
+        // a message that is there at the deadline, and a wake after it was received
+        (
+            "S send 7\nR deadline\nX rrrssssorrrs\n",
+            "1 R load 3>3
+2 R write-waker 3>3 p:Hand>Cell
+3 R swap 3>0
+4 S write-message 0>0 m:NotSent>InCell
+5 S add 0>1
+6 S take-waker 1>1 p:Cell>SenderHand
+7 S swap 1>4
+8 R clock 4>4 over
+9 R swap 4>3
+10 R store 3>2
+11 R take-message 2>2 m:InCell>Delivered = Ok(7)
+12 S wake 2>2 p:SenderHand>Used token+ = Ok
+rest Delivered(7)
+block here
+",
+        ),
+        // the wake comes before it is received
+        (
+            "S send 7\nR deadline\nX rrrssssorsrr\n",
+            "1 R load 3>3
+2 R write-waker 3>3 p:Hand>Cell
+3 R swap 3>0
+4 S write-message 0>0 m:NotSent>InCell
+5 S add 0>1
+6 S take-waker 1>1 p:Cell>SenderHand
+7 S swap 1>4
+8 R clock 4>4 over
+9 R swap 4>3
+10 S wake 3>3 p:SenderHand>Used token+ = Ok
+11 R store 3>2
+12 R take-message 2>2 m:InCell>Delivered = Ok(7)
+rest Delivered(7)
+block here
+",
+        ),
+        // a sender that is past its first step at the deadline, and then goes
+        (
+            "S drop\nR deadline\nX rrrosrrssrs\n",
+            "1 R load 3>3
+2 R write-waker 3>3 p:Hand>Cell
+3 R swap 3>0
+4 R clock 0>0 over
+5 S xor 0>1
+6 R swap 1>3
+7 R park 3>3 spurious
+8 S take-waker 3>3 p:Cell>SenderHand
+9 S swap 3>2
+10 R load 2>2 = Err(Disconnected)
+11 S wake 2>2 p:SenderHand>Used token+ = dropped
+rest none
+block here
+",
+        ),
+        // a message that comes once the wait has ended
+        (
+            "S send 7\nR deadline\nX rrrorssr\n",
+            "1 R load 3>3
+2 R write-waker 3>3 p:Hand>Cell
+3 R swap 3>0
+4 R clock 0>0 over
+5 R swap 0>3
+6 S write-message 3>3 m:NotSent>InCell
+7 S add 3>4 = Ok
+8 R withdraw 4>4 p:Cell>Hand = Err(Timeout)
+rest InCell(7)
+block here
+",
+        ),
+        // a sender that goes once the wait has ended
+        (
+            "S drop\nR deadline\nX rrrorsr\n",
+            "1 R load 3>3
+2 R write-waker 3>3 p:Hand>Cell
+3 R swap 3>0
+4 R clock 0>0 over
+5 R swap 0>3
+6 S xor 3>2 = dropped
+7 R withdraw 2>2 p:Cell>Hand = Err(Timeout)
+rest none
+block here
+",
+        ),
+        // the first clock of a timeout
+        (
+            "S\nR timeout\nX r\n",
+            "1 R clock 3>3 left
+rest none
+block here
+",
+        ),
+        // each call has its own word for nothing, also where the message is 0
+        (
+            "S send 0\nR try deadline\nX rrrrorr\n",
+            "1 R load 3>3 = Err(Empty)
+2 R load 3>3
+3 R write-waker 3>3 p:Hand>Cell
+4 R swap 3>0
+5 R clock 0>0 over
+6 R swap 0>3
+7 R withdraw 3>3 p:Cell>Hand = Err(Timeout)
+rest NotSent(0)
+block here
+",
+        ),
+    ];
+    assert_traces(&rt, &traces);
+}
+
+/// The largest message that 64 bits hold, in each reply that has it and at each place.
+#[test]
+fn traces_of_a_large_message(rt: HostRuntime) {
+    let traces = [
+        (
+            "S send 18446744073709551615\nR\nX ss\n",
+            "1 S write-message 3>3 m:NotSent>InCell
+2 S add 3>4 = Ok
+rest InCell(18446744073709551615)
+block here
+",
+        ),
+        (
+            "S send 18446744073709551615\nR recv\nX ssrrr\n",
+            "1 S write-message 3>3 m:NotSent>InCell
+2 S add 3>4 = Ok
+3 R load 4>4
+4 R take-message 4>4 m:InCell>Delivered
+5 R free 4>- = Ok(18446744073709551615)
+rest Delivered(18446744073709551615)
+block freed
+",
+        ),
+        (
+            "S send 18446744073709551615 inner\nR drop\nX rsss\n",
+            "1 R swap 3>2 = dropped
+2 S write-message 2>2 m:NotSent>InCell
+3 S add 2>3 m:InCell>InError = Err
+4 S plain 3>3 = 18446744073709551615
+rest InError(18446744073709551615)
+block here
+",
+        ),
+        (
+            "S send 18446744073709551615 into\nR drop\nX rssss\n",
+            "1 R swap 3>2 = dropped
+2 S write-message 2>2 m:NotSent>InCell
+3 S add 2>3 m:InCell>InError = Err
+4 S take-message 3>3 m:InError>FromError
+5 S free 3>- = 18446744073709551615
+rest FromError(18446744073709551615)
+block freed
+",
+        ),
+        (
+            "S send 18446744073709551615\nR drop\nX ssrrr\n",
+            "1 S write-message 3>3 m:NotSent>InCell
+2 S add 3>4 = Ok
+3 R swap 4>2
+4 R drop-message 2>2 m:InCell>Dropped
+5 R free 2>- = dropped
+rest Dropped(18446744073709551615)
+block freed
+",
+        ),
+    ];
+    assert_traces(&rt, &traces);
+}
+
+/// `o` and `n` at steps that read no clock and copy no waker are as `r`, and `n` at a clock is one that
+/// has time left.
+#[test]
+fn a_letter_says_only_what_its_step_asks(rt: HostRuntime) {
+    let trace = "1 R load 3>3
+2 R write-waker 3>3 p:Hand>Cell
+3 R swap 3>0
+4 R clock 0>0 left
+5 R park 0>0 spurious
+6 R load 0>0
+7 R clock 0>0 left
+rest none
+block here
+";
+    let schedules = [
+        "S\nR deadline\nX rrrrrrr\n",
+        "S\nR deadline\nX nnnnnnn\n",
+        "S\nR deadline\nX ooonoon\n",
+        "S\nR deadline\nX onornor\n",
+    ];
+    for input in schedules {
+        assert_eq!(rt; told(&rt, input.as_bytes()).as_str(), trace, "{input}");
     }
 }
 
 #[test]
-fn as_many_bytes_as_an_input_may_have(rt: HostRuntime) -> Result<(), Fail> {
-    let (mut input, output) = idle(rt.alloc(), 1_048_569)?;
-    input.push('\n')?;
-    assert_eq!(rt; input.len(), 1_048_576);
-    assert!(rt; told(&rt, input.as_bytes()) == output);
+fn traces_of_fronts_of_a_schedule(rt: HostRuntime) -> Result<(), Fail> {
+    let scripts = "S send 7\nR try drop\nX";
+    let here = |moves, rest| (moves, rest, "block here");
+    let fronts = [
+        here("", "NotSent(7)"),
+        here(" s", "InCell(7)"),
+        here(" ss", "InCell(7)"),
+        here(" ssr", "InCell(7)"),
+        here(" ssrr", "InCell(7)"),
+        here(" ssrrr", "Delivered(7)"),
+        here(" ssrrrr", "Delivered(7)"),
+        (" ssrrrrr", "Delivered(7)", "block freed"),
+    ];
+    for (entries, (moves, rest, block)) in fronts.into_iter().enumerate() {
+        let input = format!(in rt.alloc(); "{scripts}{moves}")?;
+        let mut output = String::new(rt.alloc());
+        for line in SENT_TRACE.lines().take(entries) {
+            writeln!(output, "{line}")?;
+        }
+        writeln!(output, "rest {rest}\n{block}")?;
+        assert_eq!(rt; told(&rt, input.as_bytes()), output, "{moves}");
+    }
     Ok(())
 }

@@ -6,7 +6,9 @@ use std::test::Fail;
 
 #[test]
 fn a_result_is_waited_for(rt: HostRuntime) -> Result<(), Fail> {
-    assert_eq!(rt; awaited(&rt, rt.alloc(), || 7u8)?, Ok(7));
+    let awaited = awaited(&rt, rt.alloc(), || 7u8)?;
+    assert_eq!(rt; awaited.received, Ok(7));
+    assert_eq!(rt; awaited.unclaimed, None);
     Ok(())
 }
 

@@ -1,7 +1,7 @@
 use Rattle.std.proofs.Common.{refl, rules}
 use Rattle.oneshot_drive.specs.Blocking.{wait_of}
 use Rattle.oneshot_drive.proofs.Stretches.{begun}
-use Rattle.oneshot_drive.proofs.WaitingRuns.{still_waits, wait_asks, woke, woke_full, woke_over, woke_again, parks_again, parks_full, parks_over, stops_went}
+use Rattle.oneshot_drive.proofs.WaitingRuns.{may_park, still_waits, wait_asks, woke, woke_full, woke_over, woke_again, parks_again, parks_full, parks_over, stops_went}
 use Rattle.oneshot_drive.proofs.waiting.wait.Goals as goal
 
 pub loop-init : goal.loop-init
@@ -9,6 +9,9 @@ loop-init g c = record { can_next = tt; is_finite = tt; went = λ way. begun (wa
 
 pub returns-then-is_over-clause-went : goal.returns-then-is_over-clause-went
 returns-then-is_over-clause-went g c way = stops_went c.stop.result way (c.loop.invariant.went way) (c.is_over.ensures.went way) c.if-is_over.true (c.is_over.ensures.deadline c.if-is_over.true) c.stop.ensures.went
+
+pub park-requires : goal.park-requires
+park-requires g c = may_park c.args.timed c.is_over.ensures.waits
 
 pub word-requires : goal.word-requires
 word-requires g c = wait_asks (still_waits c.is_over.ensures.waits c.park.ensures.list.0 c.park.ensures.list.1 c.park.ensures.message c.park.ensures.waker)

@@ -6,6 +6,7 @@ use Rattle.oneshot_world.specs.declared.script.Move.TheVariants.{Sender}
 use Rattle.oneshot_laws.proofs.IdleRuns.{idle_run}
 use Rattle.oneshot_laws.proofs.LegalRuns.{legal_run}
 use Rattle.oneshot_laws.proofs.MessagePath.{message_followed, message_ended}
+use Rattle.oneshot_laws.proofs.PutByCall.{message_put}
 use Rattle.oneshot_laws.proofs.WakerPath.{wakers_right, cell_kept}
 use Rattle.oneshot_laws.proofs.Woken.{never_unwoken}
 use Rattle.oneshot_laws.proofs.BlockHeld.{freed_right}
@@ -47,6 +48,11 @@ pub returns-clause-message_followed : goal.returns-clause-message_followed
 returns-clause-message_followed g c =
     let run = c.loop-m.invariant.run in
     message_followed c.args.s c.args.r run.worlds _ c.loop-m.entries.items run.tells
+
+pub returns-clause-message_put : goal.returns-clause-message_put
+returns-clause-message_put g c =
+    let run = c.loop-m.invariant.run in
+    message_put c.args.s c.args.r run.worlds _ c.loop-m.entries.items run.tells
 
 pub returns-clause-message_ended : goal.returns-clause-message_ended
 returns-clause-message_ended g c =

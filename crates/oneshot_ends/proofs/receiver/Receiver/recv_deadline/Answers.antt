@@ -2,7 +2,8 @@ use Rattle.std.proofs.Common.{subst}
 use Rattle.oneshot_machine.specs.Phases.{receiver_at}
 use Rattle.oneshot_machine.specs.declared.machine.receiver.ReceiverStart.TheVariants.{RecvDeadline}
 use Rattle.oneshot_drive.specs.Calls.{IsClosed, LeavesTimed}
-use Rattle.oneshot_ends.proofs.Lent.{lent_grew, at_seat, ready_timed}
+use Rattle.oneshot_drive.proofs.ReadyHands.{closed_in_time, open_too_late, ready_timed}
+use Rattle.oneshot_ends.proofs.Lent.{lent_grew, at_seat}
 use Rattle.oneshot_ends.proofs.Standing.{words_of}
 use Rattle.oneshot_ends.proofs.receiver.Receiver.recv_deadline.Goals as goal
 
@@ -21,3 +22,9 @@ returns-clause-leaves g c =
 
 pub returns-clause-stays_closed : goal.returns-clause-stays_closed
 returns-clause-stays_closed g c = λ closed. c.recv_deadline.ensures.stays (at_seat IsClosed c.self.inside.seat c.args.self.now c.self.view_is closed)
+
+pub returns-clause-closes : goal.returns-clause-closes
+returns-clause-closes g c = closed_in_time (returns-clause-leaves g c)
+
+pub returns-clause-stays_open : goal.returns-clause-stays_open
+returns-clause-stays_open g c = open_too_late (returns-clause-leaves g c)

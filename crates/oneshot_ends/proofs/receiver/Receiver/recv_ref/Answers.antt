@@ -4,8 +4,9 @@ use Rattle.oneshot_machine.specs.Phases.{receiver_at}
 use Rattle.oneshot_machine.specs.Receiver.{receiver_start, receiver_step, receiver_row}
 use Rattle.oneshot_machine.specs.declared.machine.receiver.ReceiverStart.TheVariants.{RecvRef}
 use Rattle.oneshot_drive.specs.Calls.{IsClosed, LeavesClosed}
+use Rattle.oneshot_drive.proofs.ReadyHands.{closed_by, ready_closed}
 use Rattle.oneshot_ends.specs.Ends.{End}
-use Rattle.oneshot_ends.proofs.Standing.{words_of, grown_lent, unnamed, run_unnamed, words_unnamed, ready_closed}
+use Rattle.oneshot_ends.proofs.Standing.{words_of, grown_lent, unnamed, run_unnamed, words_unnamed}
 use Rattle.oneshot_ends.proofs.receiver.Receiver.recv_ref.Goals as goal
 
 pub invariant_of-self : goal.invariant_of-self
@@ -29,3 +30,6 @@ pub returns-clause-stays_closed : goal.returns-clause-stays_closed
 returns-clause-stays_closed g c = λ closed.
     c.recv_ref.ensures.stays
     (subst (λ xs. IsClosed (receiver_at xs)) (ap (λ (e : End). e.steps) (sym c.self.view_is) ∙ sym (words_of _ _ c.self.inside.seat.steps)) closed)
+
+pub returns-clause-closes : goal.returns-clause-closes
+returns-clause-closes g c = closed_by _ _ (returns-clause-leaves g c)

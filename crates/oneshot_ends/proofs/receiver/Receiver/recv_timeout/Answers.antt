@@ -1,28 +1,11 @@
-use Rattle.std.proofs.Common.{sym, ◌∙◌, subst}
-use Rattle.oneshot_machine.specs.Phases.{receiver_at}
-use Rattle.oneshot_machine.specs.declared.machine.receiver.ReceiverStart.TheVariants.{RecvTimeout}
-use Rattle.oneshot_drive.specs.Calls.{IsClosed, LeavesTimed}
-use Rattle.oneshot_ends.proofs.Lent.{lent_grew, at_seat, ready_timed, too_far}
-use Rattle.oneshot_ends.proofs.Standing.{words_of}
+use Rattle.oneshot_drive.proofs.ReadyHands.{closed_in_time, open_too_late}
 use Rattle.oneshot_ends.proofs.receiver.Receiver.recv_timeout.Goals as goal
 
-pub invariant_of-self : goal.invariant_of-self
-invariant_of-self g c = (
-  c.recv_timeout.ensures.rests,
-  ready_timed c.recv_timeout.result c.self.inside.hand c.recv_timeout.new.hand _ _ c.self.invariant.1 c.recv_timeout.ensures.stays c.recv_timeout.ensures.leaves c.recv_timeout.ensures.hand,
-)
-
 pub returns-clause-run : goal.returns-clause-run
-returns-clause-run g c =
-    record {
-      has_end = c.has_end.result;
-      grew = lent_grew (RecvTimeout c.has_end.result) _ _ c.self.inside.seat c.recv_timeout.new.g.seat.now c.args.self.now _ _ _ c.self.view_is c.recv_timeout.ensures.run;
-      endless = λ none. too_far c.args.timeout c.read-reading.result c.after-deadline.result c.read-reading.ensures c.after-deadline.ensures (sym c.has_end.ensures ∙ none);
-    }
+returns-clause-run g c = record { reading = c.read-reading.result; readable = c.read-reading.ensures; ran = c.recv_after.ensures.run }
 
-pub returns-clause-leaves : goal.returns-clause-leaves
-returns-clause-leaves g c =
-    subst (λ xs. LeavesTimed c.recv_timeout.result (receiver_at xs)) (words_of _ _ c.recv_timeout.new.g.seat.now.steps) c.recv_timeout.ensures.leaves
+pub returns-clause-closes : goal.returns-clause-closes
+returns-clause-closes g c = closed_in_time c.recv_after.ensures.leaves
 
-pub returns-clause-stays_closed : goal.returns-clause-stays_closed
-returns-clause-stays_closed g c = λ closed. c.recv_timeout.ensures.stays (at_seat IsClosed c.self.inside.seat c.args.self.now c.self.view_is closed)
+pub returns-clause-stays_open : goal.returns-clause-stays_open
+returns-clause-stays_open g c = open_too_late c.recv_after.ensures.leaves

@@ -2,10 +2,11 @@ use Rattle.std.proofs.Common.{◌++◌, map, sym, ap, ◌∙◌, subst}
 use Rattle.oneshot_machine.specs.Logs.{words}
 use Rattle.oneshot_machine.specs.Phases.{receiver_at}
 use Rattle.oneshot_drive.specs.Calls.{IsClosed, Leaves}
+use Rattle.oneshot_drive.proofs.ReadyHands.{closed_tried, open_tried, ready_still}
 use Rattle.oneshot_ends.specs.Ends.{End}
 use Rattle.oneshot_machine.specs.Receiver.{receiver_start, receiver_step, receiver_row}
 use Rattle.oneshot_machine.specs.declared.machine.receiver.ReceiverStart.TheVariants.{TryRecv}
-use Rattle.oneshot_ends.proofs.Standing.{words_of, grown, unnamed, run_unnamed, words_unnamed, ready_still}
+use Rattle.oneshot_ends.proofs.Standing.{words_of, grown, unnamed, run_unnamed, words_unnamed}
 use Rattle.oneshot_ends.proofs.receiver.Receiver.try_recv.Goals as goal
 
 pub returns-clause-run : goal.returns-clause-run
@@ -31,3 +32,9 @@ invariant_of-self g c = (
   c.try_recv.ensures.rests,
   ready_still c.self.inside.hand c.try_recv.result _ _ c.self.invariant.1 c.try_recv.ensures.stays c.try_recv.ensures.leaves,
 )
+
+pub returns-clause-closes : goal.returns-clause-closes
+returns-clause-closes g c = closed_tried (returns-clause-leaves g c)
+
+pub returns-clause-stays_open : goal.returns-clause-stays_open
+returns-clause-stays_open g c = open_tried (returns-clause-leaves g c)

@@ -1,6 +1,0 @@
-use Rattle.std.proofs.Common.{rules}
-use Rattle.oneshot_drive.proofs.MemoryReceivers.{claimed}
-use Rattle.oneshot_drive.proofs.memory.receiver.MemoryReceiver.begin.Goals as goal
-
-pub invariant_of-self : goal.invariant_of-self
-invariant_of-self g c = claimed c.self.invariant (search rules) (search rules)

@@ -1,6 +1,0 @@
-use Rattle.std.proofs.Common.{◌≡◌, [], rules}
-use Rattle.oneshot_drive.specs.Memory.{receiver_waits}
-use Rattle.oneshot_drive.proofs.memory.sender.MemorySender.with_waiting_receiver.Goals as goal
-
-pub invariant_of-result : goal.invariant_of-result
-invariant_of-result g c = let none : c.new.result.items ≡ [] = search rules in rw none (receiver_waits c.args.waker)

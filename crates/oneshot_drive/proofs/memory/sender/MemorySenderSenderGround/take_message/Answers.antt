@@ -1,6 +1,0 @@
-use Rattle.std.proofs.Common.{refl}
-use Rattle.oneshot_drive.proofs.MemorySenders.{sender_stays}
-use Rattle.oneshot_drive.proofs.memory.sender.MemorySenderSenderGround.take_message.Goals as goal
-
-pub invariant_of-self : goal.invariant_of-self
-invariant_of-self g c = sender_stays c.self.inside.events.items c.record.new.events.items _ c.record.ensures refl c.self.invariant

@@ -1,0 +1,21 @@
+-- What a contract sees of the events of a ground in memory, and of its slots.
+use Rattle.std.specs.Prelude.{Bool, true, false, List, [], map, Option, Some, None}
+use Rattle.std.specs.Option.{option_map}
+use Rattle.oneshot_machine.specs.Logs as logs
+use Rattle.oneshot_machine.specs.Slots.{Held, away, vacant, held}
+use Rattle.oneshot_memory.specs.declared.Event.{Event}
+
+-- a slot with this in it, if it is the end's
+abbrev pub slot_of : {X : Type 0} → Bool → Option X → Held X
+slot_of false content = away
+slot_of true None = vacant
+slot_of true (Some x) = held x
+
+module _ {T W : Type 0} where
+  abbrev pub event_of : Event T W → logs.Event T W
+  event_of e =
+      record { step = e.step; seen = e.seen; message = option_map (λ s. s.value) e.message; waker = option_map (λ s. s.value) e.waker }
+
+  -- a ground in memory is whole, and stands at no place
+  abbrev pub logged : List (Event T W) → logs.Log T W
+  logged events = record { whole = true; place = []; list = map event_of events }

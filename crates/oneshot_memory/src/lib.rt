@@ -1,0 +1,76 @@
+//! Grounds in memory, for tests of what runs over a ground: whole, so that they keep each step that they make.
+#![tactic(auto)]
+
+mod receiver;
+mod sender;
+
+ghost use Rattle.std.specs.Prelude.{◌≡◌, ◌++◌, ◌∷◌, [], None};
+ghost use Rattle.oneshot_machine.specs.Logs.{handed};
+ghost use Rattle.oneshot_machine.specs.Words.{saw};
+ghost use Rattle.oneshot_memory.specs.Events.{event_of};
+
+use oneshot_machine::machine::{Seen, Step};
+use oneshot_machine::states::Op;
+pub use receiver::{Act, MemoryReceiver};
+pub use sender::MemorySender;
+use std::snapshot::Snapshot;
+use std::sync::Wait;
+
+/// A step that a ground made.
+#[derive(Drop)]
+pub struct Event<T, W> {
+    /// What it did.
+    pub step: Step,
+    /// What it saw.
+    pub seen: Seen,
+    /// The message that it handed in or out. It takes no room, and is for contracts alone.
+    pub message: Option<Snapshot<T>>,
+    /// The waker that it handed in or out, as the message.
+    pub waker: Option<Snapshot<W>>,
+}
+
+impl<T, W> Event<T, W> {
+    // A step that hands nothing in or out.
+    fn of(step: Step, seen: Seen) -> Event<T, W>
+        ensures { result ≡ record { step = step; seen = seen; message = None; waker = None } }
+    {
+        Event {
+            step,
+            seen,
+            message: None,
+            waker: None,
+        }
+    }
+
+    // A step that hands this waker in or out.
+    fn handing(step: Step, waker: &W) -> Event<T, W>
+        ensures { event_of result ≡ handed step waker.now }
+    {
+        Event {
+            step,
+            seen: Seen::Done,
+            message: None,
+            waker: Some(Snapshot::of(waker)),
+        }
+    }
+}
+
+// What an operation sees of the word that it finds.
+fn sight(op: Op, word: u8) -> Seen
+    ensures { result ≡ saw op word }
+{
+    match op {
+        Op::Store(_) => Seen::Done,
+        _ => Seen::Word(word),
+    }
+}
+
+// Waits for ever where there is no memory for one more event, for which a ground has no answer.
+fn record<T, W, R: Wait>(rt: &R, events: &mut Vec<Event<T, W>>, event: Event<T, W>)
+    ensures { events.new.items ≡ events.old.items ++ event ∷ [] }
+{
+    if events.push(event).is_err() {
+        for _ in rt.forever() {}
+        unreachable!()
+    }
+}

@@ -1,0 +1,328 @@
+//! A receiver's ground in memory.
+
+ghost use Rattle.std.specs.Prelude.{◌≡◌, true, map, Some, None};
+ghost use Rattle.oneshot_machine.specs.Logs.{receiver_of};
+ghost use Rattle.oneshot_drive.specs.Calls.{AtRest};
+ghost use Rattle.oneshot_memory.specs.declared.receiver.Act.TheVariants.{Send, Drop};
+ghost use Rattle.oneshot_memory.specs.Events.{event_of};
+ghost use Rattle.oneshot_memory.specs.Receiver.{keeps_message, keeps_waker, is_open, word_by, word_left, message_left, lies};
+
+use crate::{Event, record, sight};
+use oneshot_drive::{BlockGround, ReceiverGround};
+use oneshot_machine::machine::{Seen, Step};
+use oneshot_machine::states::{DISCONNECTED, EMPTY, MESSAGE, Op, RECEIVING, UNPARKING};
+use std::alloc::Global;
+use std::marker::Model;
+use std::snapshot::Snapshot;
+use std::sync::Wait;
+
+/// What the sender is to do.
+#[derive(Drop)]
+pub enum Act<T> {
+    /// It sends this message.
+    Send(T),
+    /// It is dropped.
+    Drop,
+}
+
+impl<T> Act<T> {
+    // The word that it leaves, and the message.
+    fn left(self) -> (u8, Option<T>)
+        ensures word { result.0 ≡ word_left self }
+        ensures message { result.1 ≡ message_left self }
+    {
+        match self {
+            Act::Send(message) => (MESSAGE, Some(message)),
+            Act::Drop => (DISCONNECTED, None),
+        }
+    }
+}
+
+/// A receiver's ground, whose sender acts where it is told to: at once, or in a pause of the receiver.
+///
+/// The receiver makes a pause when it has written its waker, in each park, and at each look at its
+/// clock. A park ends by its token if the sender woke the receiver by then, and without one if not;
+/// where the sender never acts, a call that blocks waits for ever, or until its deadline. That is over
+/// at once, unless a test puts it off.
+#[derive(Drop)]
+pub struct MemoryReceiver<'a, T, W, R: Wait> {
+    events: Vec<Event<T, W>>,
+    word: u8,
+    message: Option<T>,
+    waker: Option<W>,
+    owns_message: bool,
+    owns_waker: bool,
+    act: Option<Act<T>>,
+    pauses: u64,
+    lingers: u64,
+    reads: u64,
+    token: bool,
+    rt: &'a R,
+}
+
+impl<'a, T, W, R: Wait> Model for MemoryReceiver<'a, T, W, R> {
+    ghost use Rattle.oneshot_machine.specs.Logs.{receiver_of};
+    ghost use Rattle.oneshot_memory.specs.Events.{logged};
+    ghost use Rattle.oneshot_memory.specs.Receiver.{Receiving, receiving_of, ReceiverStands};
+
+    ghost Value = { Receiving T W };
+
+    ghost view = { λ s.
+        receiving_of s.events.items s.word s.message s.waker s.owns_message s.owns_waker
+        (record { act = s.act; pauses = s.pauses; lingers = s.lingers; reads = s.reads }) };
+
+    ghost invariant = { λ s.
+        ReceiverStands (receiver_of (logged s.events.items)) s.word
+        s.owns_message s.owns_waker s.message s.waker };
+}
+
+impl<'a, T, W, R: Wait> MemoryReceiver<'a, T, W, R> {
+    /// The ground of a new receiver, whose sender is here.
+    pub fn new(rt: &'a R, alloc: Global) -> MemoryReceiver<'a, T, W, R>
+        ensures rests { AtRest (receiver_of result.log) result.message result.waker }
+        ensures word { result.word ≡ 3 }
+        ensures plan { result.plan ≡ record { act = None; pauses = 0; lingers = 0; reads = 0 } }
+    {
+        MemoryReceiver {
+            events: Vec::new(alloc),
+            word: EMPTY,
+            message: None,
+            waker: None,
+            owns_message: false,
+            owns_waker: false,
+            act: None,
+            pauses: 0,
+            lingers: 0,
+            reads: 0,
+            token: false,
+            rt,
+        }
+    }
+
+    /// The steps so far.
+    pub fn events(&self) -> &[Event<T, W>]
+        ensures { map event_of result.now ≡ self.now.log.list }
+    {
+        &self.events
+    }
+}
+
+impl<'a, T: Drop, W: Drop, R: Wait> MemoryReceiver<'a, T, W, R> {
+    /// The sender sends, if both ends are still here.
+    pub fn sender_sends(&mut self, message: T)
+        ensures { self.new ≡ record self.old { word = word_by 4 self.old.word self.old.message } }
+    {
+        if self.is_open() {
+            self.act(Act::Send(message));
+        }
+    }
+
+    /// The sender is dropped, if both ends are still here.
+    pub fn sender_drops(&mut self)
+        ensures { self.new ≡ record self.old { word = word_by 2 self.old.word self.old.message } }
+    {
+        if self.is_open() {
+            self.act(Act::Drop);
+        }
+    }
+
+    /// The sender is to send this message in a pause of the receiver, once so many pauses are over: with
+    /// 0 in the first. That is where the waker is written, and the next is the first park or look at the
+    /// clock after; `recv_timeout` makes one pause before, at the look at the clock for its sum.
+    pub fn sender_will_send(&mut self, pauses: u64, message: T)
+        ensures { self.new ≡ record self.old {
+          plan = record self.old.plan { act = Some (Send message); pauses = pauses };
+        } }
+    {
+        self.act = Some(Act::Send(message));
+        self.pauses = pauses;
+    }
+
+    /// The sender is to be dropped in a pause of the receiver, once so many pauses are over.
+    pub fn sender_will_drop(&mut self, pauses: u64)
+        ensures { self.new ≡ record self.old {
+          plan = record self.old.plan { act = Some Drop; pauses = pauses };
+        } }
+    {
+        self.act = Some(Act::Drop);
+        self.pauses = pauses;
+    }
+
+    /// The sender is to linger for so many pauses, where it finds that the receiver waits: with 0 it
+    /// finishes in the pause in which it began, with 1 in the next.
+    pub fn sender_will_linger(&mut self, pauses: u64)
+        ensures { self.new ≡ record self.old { plan = record self.old.plan { lingers = pauses } } }
+    {
+        self.lingers = pauses;
+    }
+
+    /// The deadline is to be over once the clock was read so many times: with 0 at its first read.
+    pub fn deadline_will_be_over(&mut self, reads: u64)
+        ensures { self.new ≡ record self.old { plan = record self.old.plan { reads = reads } } }
+    {
+        self.reads = reads;
+    }
+
+    // A pause, in which the sender may act, and wake the receiver.
+    fn pause(&mut self)
+        ensures { self.new ≡ record self.old { word = self.new.word; plan = self.new.plan } }
+    {
+        if self.pauses > 0 {
+            self.pauses -= 1;
+            return;
+        }
+        if let Some(act) = self.act.take() {
+            self.token = self.begin(act);
+        }
+    }
+
+    // The sender acts, or begins to and lingers: whether it woke the receiver.
+    fn begin(&mut self, act: Act<T>) -> bool
+        ensures { self.new ≡ record self.old { word = self.new.word; plan = self.new.plan } }
+    {
+        let waits = self.word == RECEIVING && is_waiting(self.owns_waker, &self.waker);
+        if !waits || self.lingers == 0 {
+            return self.act(act);
+        }
+        self.word = UNPARKING;
+        self.act = Some(act);
+        self.pauses = self.lingers - 1;
+        self.lingers = 0;
+        false
+    }
+
+    // The sender acts, if both ends are here or the receiver waits: whether it woke the receiver.
+    fn act(&mut self, act: Act<T>) -> bool
+        ensures keeps { self.new ≡ record self.old { word = self.new.word } }
+        ensures leaves { is_open self.old.word self.old.message ≡ true → self.new.word ≡ word_left act }
+    {
+        let (word, message) = act.left();
+        if is_waiting(self.owns_waker, &self.waker) {
+            self.word = word;
+            self.message = message;
+            self.waker = None;
+            return true;
+        }
+        if self.is_open() {
+            self.word = word;
+            self.message = message;
+        }
+        false
+    }
+
+    // Whether both ends are here.
+    fn is_open(&self) -> bool
+        ensures { result ≡ is_open self.now.word self.now.message }
+    {
+        self.word == EMPTY && !self.owns_message
+    }
+}
+
+impl<'a, T: Drop, W: Drop, R: Wait> ReceiverGround<T, W> for MemoryReceiver<'a, T, W, R> {
+    ghost log = { λ s. s.log };
+
+    ghost message_slot = { λ s. s.message };
+
+    ghost waker_slot = { λ s. s.waker };
+
+    fn word(&mut self, op: Op) -> u8 {
+        let before = self.word;
+        self.word = op.after(before);
+        self.owns_message = has_message(op, before);
+        self.owns_waker = has_waker(op, before, is_waiting(self.owns_waker, &self.waker));
+        let event = Event::of(Step::Word(op), sight(op, before));
+        record(self.rt, &mut self.events, event);
+        before
+    }
+
+    fn take_message(&mut self) -> T {
+        let Some(message) = self.message.take() else {
+            unreachable!()
+        };
+        let event = Event {
+            step: Step::TakeMessage,
+            seen: Seen::Done,
+            message: Some(Snapshot::of(&message)),
+            waker: None,
+        };
+        record(self.rt, &mut self.events, event);
+        message
+    }
+
+    fn drop_message(&mut self) {
+        self.message = None;
+        let event = Event::of(Step::DropMessage, Seen::Done);
+        record(self.rt, &mut self.events, event);
+    }
+
+    fn write_waker(&mut self, waker: W) {
+        let event = Event::handing(Step::WriteWaker, &waker);
+        self.waker = Some(waker);
+        record(self.rt, &mut self.events, event);
+        self.pause();
+    }
+
+    fn withdraw(&mut self) -> W {
+        let Some(waker) = self.waker.take() else {
+            unreachable!()
+        };
+        let event = Event::handing(Step::Withdraw, &waker);
+        record(self.rt, &mut self.events, event);
+        waker
+    }
+
+    fn free(&mut self) {
+        self.owns_message = false;
+        self.owns_waker = false;
+        let event = Event::of(Step::Free, Seen::Done);
+        record(self.rt, &mut self.events, event);
+    }
+}
+
+impl<'a, T: Drop, W: Drop, R: Wait> BlockGround<T, W> for MemoryReceiver<'a, T, W, R> {
+    fn park(&mut self, _timed: bool) {
+        self.pause();
+        let woken = self.token;
+        self.token = false;
+        let event = Event::of(Step::Park, Seen::Token(woken));
+        record(self.rt, &mut self.events, event);
+    }
+
+    fn over(&mut self) -> bool {
+        self.pause();
+        let over = self.reads == 0;
+        self.reads = self.reads.saturating_sub(1);
+        let event = Event::of(Step::Clock, Seen::Over(over));
+        record(self.rt, &mut self.events, event);
+        over
+    }
+}
+
+// Whether the waker of a receiver that waits lies in this cell.
+fn is_waiting<W>(owns_waker: bool, waker: &Option<W>) -> bool
+    ensures { result ≡ lies owns_waker waker.now }
+{
+    !owns_waker && waker.is_some()
+}
+
+// Whether the message's slot is the receiver's after an operation that found this word.
+fn has_message(op: Op, found: u8) -> bool
+    ensures { result ≡ keeps_message op found }
+{
+    match op {
+        Op::Store(_) => true,
+        _ => found == MESSAGE || found == DISCONNECTED,
+    }
+}
+
+// Whether the waker's slot is the receiver's after an operation that found this word, where the receiver
+// waits or not.
+fn has_waker(op: Op, found: u8, waits: bool) -> bool
+    ensures { result ≡ keeps_waker op found waits }
+{
+    match op {
+        Op::Swap(_) => found != EMPTY && found != UNPARKING,
+        Op::Load => !waits,
+        _ => true,
+    }
+}

@@ -1,0 +1,189 @@
+//! A sender's ground in memory.
+
+ghost use Rattle.std.specs.Prelude.{◌≡◌, true, false, map, if◌then◌else◌};
+ghost use Rattle.oneshot_drive.specs.Calls.{IsFresh};
+ghost use Rattle.oneshot_memory.specs.Events.{event_of};
+ghost use Rattle.oneshot_memory.specs.Sender.{keeps_both, word_then};
+
+use crate::{Event, record, sight};
+use oneshot_drive::SenderGround;
+use oneshot_machine::machine::{Seen, Step};
+use oneshot_machine::states::{DISCONNECTED, EMPTY, Op, RECEIVING, UNPARKING};
+use std::alloc::Global;
+use std::marker::Model;
+use std::snapshot::Snapshot;
+use std::sync::Wait;
+
+/// A sender's ground whose receiver is here, waits or is gone. It does nothing, but that the deadline of
+/// one that waits may be over while the sender finishes.
+#[derive(Drop)]
+pub struct MemorySender<'a, T, W, R: Wait> {
+    events: Vec<Event<T, W>>,
+    word: u8,
+    message: Option<T>,
+    waker: Option<W>,
+    owns_message: bool,
+    owns_waker: bool,
+    stops: bool,
+    rt: &'a R,
+}
+
+impl<'a, T, W, R: Wait> Model for MemorySender<'a, T, W, R> {
+    ghost use Rattle.oneshot_machine.specs.Logs.{sender_of};
+    ghost use Rattle.oneshot_memory.specs.Events.{logged};
+    ghost use Rattle.oneshot_memory.specs.Sender.{Sending, sending_of, SenderStands};
+
+    ghost Value = { Sending T W };
+
+    ghost view = { λ s. sending_of s.events.items s.word s.message s.waker s.owns_message s.owns_waker s.stops };
+
+    ghost invariant = { λ s.
+        SenderStands (sender_of (logged s.events.items)) s.word
+        s.owns_message s.owns_waker s.waker };
+}
+
+impl<'a, T, W, R: Wait> MemorySender<'a, T, W, R> {
+    /// The ground of a new sender.
+    pub fn new(rt: &'a R, alloc: Global, receiver_is_here: bool) -> MemorySender<'a, T, W, R>
+        ensures fresh { IsFresh result.log result.message result.waker }
+        ensures word { result.word ≡ (if receiver_is_here then 3 else 2) }
+        ensures stays { result.stops ≡ false }
+    {
+        MemorySender {
+            events: Vec::new(alloc),
+            word: if receiver_is_here {
+                EMPTY
+            } else {
+                DISCONNECTED
+            },
+            message: None,
+            waker: None,
+            owns_message: true,
+            owns_waker: false,
+            stops: false,
+            rt,
+        }
+    }
+
+    /// The ground of a new sender, whose receiver waits with this waker.
+    pub fn with_waiting_receiver(rt: &'a R, alloc: Global, waker: W) -> MemorySender<'a, T, W, R>
+        ensures fresh { IsFresh result.log result.message result.waker }
+        ensures word { result.word ≡ 0 }
+        ensures stays { result.stops ≡ false }
+    {
+        MemorySender {
+            events: Vec::new(alloc),
+            word: RECEIVING,
+            message: None,
+            waker: Some(waker),
+            owns_message: true,
+            owns_waker: false,
+            stops: false,
+            rt,
+        }
+    }
+
+    /// The deadline of a receiver that waits is to be over once the sender took its waker.
+    pub fn receiver_will_stop(&mut self)
+        ensures { self.new ≡ record self.old { stops = true } }
+    {
+        self.stops = true;
+    }
+
+    /// The steps so far.
+    pub fn events(&self) -> &[Event<T, W>]
+        ensures { map event_of result.now ≡ self.now.log.list }
+    {
+        &self.events
+    }
+}
+
+impl<'a, T: Drop, W: Drop, R: Wait> SenderGround<T, W> for MemorySender<'a, T, W, R> {
+    ghost log = { λ s. s.log };
+
+    ghost message_slot = { λ s. s.message };
+
+    ghost waker_slot = { λ s. s.waker };
+
+    fn word(&mut self, op: Op) -> u8 {
+        let before = self.word;
+        self.word = op.after(before);
+        let keeps = keeps_slots(before);
+        self.owns_message = keeps;
+        self.owns_waker = keeps;
+        let event = Event::of(Step::Word(op), sight(op, before));
+        record(self.rt, &mut self.events, event);
+        before
+    }
+
+    fn write_message(&mut self, message: T) {
+        let event = Event {
+            step: Step::WriteMessage,
+            seen: Seen::Done,
+            message: Some(Snapshot::of(&message)),
+            waker: None,
+        };
+        self.message = Some(message);
+        record(self.rt, &mut self.events, event);
+    }
+
+    fn take_message(&mut self) -> T {
+        let Some(message) = self.message.take() else {
+            unreachable!()
+        };
+        let event = Event {
+            step: Step::TakeMessage,
+            seen: Seen::Done,
+            message: Some(Snapshot::of(&message)),
+            waker: None,
+        };
+        record(self.rt, &mut self.events, event);
+        message
+    }
+
+    fn drop_message(&mut self) {
+        self.message = None;
+        let event = Event::of(Step::DropMessage, Seen::Done);
+        record(self.rt, &mut self.events, event);
+    }
+
+    fn take_waker(&mut self) -> W {
+        let Some(waker) = self.waker.take() else {
+            unreachable!()
+        };
+        self.word = outlasted(self.word, self.stops);
+        let event = Event::handing(Step::TakeWaker, &waker);
+        record(self.rt, &mut self.events, event);
+        waker
+    }
+
+    fn wake(&mut self, waker: W) {
+        let event = Event::handing(Step::Wake, &waker);
+        record(self.rt, &mut self.events, event);
+    }
+
+    fn free(&mut self) {
+        self.owns_message = false;
+        self.owns_waker = false;
+        let event = Event::of(Step::Free, Seen::Done);
+        record(self.rt, &mut self.events, event);
+    }
+}
+
+// The word once the waker is taken, of a receiver whose deadline is over then or not.
+fn outlasted(word: u8, stops: bool) -> u8
+    ensures { result ≡ word_then stops word }
+{
+    if stops && word == UNPARKING {
+        EMPTY
+    } else {
+        word
+    }
+}
+
+// Whether both slots are the sender's after an operation that found this word.
+fn keeps_slots(found: u8) -> bool
+    ensures { result ≡ keeps_both found }
+{
+    found == DISCONNECTED || found == RECEIVING
+}

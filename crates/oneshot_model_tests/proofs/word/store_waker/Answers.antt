@@ -1,0 +1,39 @@
+use Rattle.std.proofs.Common.{rules, ◌≡◌, ℕ, refl, subst}
+use Rattle.oneshot_machine.specs.declared.states.Op.TheVariants.{Load, Swap}
+use Rattle.oneshot_machine.specs.Phases.{here, looked, blocked, waits, receiver_at}
+use Rattle.oneshot_machine.specs.Slots.{Held, away, vacant, held, may_store, may_wait, may_stop, ReceiverFinds, store_empty}
+use Rattle.oneshot_word.specs.Sides.{Side, ReceiverDid, ReceiverOwns, owns_waker}
+use Rattle.oneshot_model_tests.proofs.Told.{ReceiverIs, receiver_can, receiver_told, receiver_went, receiver_changed}
+use Rattle.oneshot_model_tests.proofs.word.store_waker.Goals as goal
+
+module _ {T W : Type 0} where
+  owns_no_message : {m : Held T} {w : Held W} → ReceiverOwns (here looked) m w → m ≡ away
+  owns_no_message (owns_waker f own) = refl
+
+  gave_both : {k : W} {m : Held T} {w : Held W} → ReceiverFinds (here looked) (Swap 0) 3 away (held k) m w → (m ≡ away) × (w ≡ away)
+  gave_both (store_empty k) = (refl, refl)
+
+  begins : (s : Side T W) → receiver_at s.steps ≡ here looked → s.waker ≡ vacant → ReceiverOwns (receiver_at s.steps) s.message s.waker → ReceiverIs s (here looked) away vacant
+  begins s at waker owns =
+      record { at = at; message = owns_no_message (subst (λ q. ReceiverOwns q s.message s.waker) at owns); waker = waker }
+
+  stores : {s t u : Side T W} {k : W} {found : ℕ} → ReceiverIs s (here looked) away vacant → t ≡ record s { waker = held k } → ReceiverDid t (Swap 0) found u → found ≡ 3 → ReceiverIs u (waits blocked) away away
+  stores {s} {t} {k} is e did same =
+      let written = receiver_changed s t (held k) is e in
+      let none = gave_both (receiver_told (Swap 0) 3 written did same) in
+      record { at = receiver_went (Swap 0) 3 written did same; message = none.0; waker = none.1 }
+
+pub swap-found-requires : goal.swap-found-requires
+swap-found-requires g c =
+    let is = begins c.args.receiver.now c.requires.at c.requires.waker c.slots.ensures in
+    receiver_can (Swap 0) (receiver_changed _ c.write_waker.new.self (held c.args.waker) is c.write_waker.ensures) (may_store c.args.waker)
+
+pub returns-clause-loads : goal.returns-clause-loads
+returns-clause-loads g c =
+    let is = begins c.args.receiver.now c.requires.at c.requires.waker c.slots.ensures in
+    receiver_can Load (stores is c.write_waker.ensures c.swap-found.ensures (search rules)) (may_wait blocked)
+
+pub returns-clause-stops : goal.returns-clause-stops
+returns-clause-stops g c =
+    let is = begins c.args.receiver.now c.requires.at c.requires.waker c.slots.ensures in
+    receiver_can (Swap 3) (stores is c.write_waker.ensures c.swap-found.ensures (search rules)) (may_stop blocked)

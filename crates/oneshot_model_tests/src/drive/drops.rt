@@ -1,0 +1,61 @@
+//! Messages and wakers over grounds in memory that count their drops.
+
+use oneshot_drive::{drop_error, drop_receiver, recv, send};
+use oneshot_memory::{MemoryReceiver, MemorySender};
+use std::cell::Cell;
+
+/// A message or a waker that counts its drops.
+struct Counted<'a>(&'a Cell<u32>);
+
+impl Drop for Counted<'_> {
+    fn drop(self) {
+        let Counted(drops) = self;
+        drops.set(drops.get().wrapping_add(1));
+    }
+}
+
+#[test]
+fn the_errors_drop_drops_the_message_once(rt: HostRuntime) {
+    let drops = Cell::new(0);
+    let mut g = MemorySender::<Counted, (), _>::new(&rt, rt.alloc(), false);
+    if !send(&mut g, Counted(&drops)) {
+        assert_eq!(rt; drops.get(), 0);
+        drop_error(&mut g);
+    }
+    assert_eq!(rt; drops.get(), 1);
+    drop(g);
+    assert_eq!(rt; drops.get(), 1);
+}
+
+#[test]
+fn send_uses_the_waker_up(rt: HostRuntime) {
+    let drops = Cell::new(0);
+    let waker = Counted(&drops);
+    let mut g = MemorySender::<u64, Counted, _>::with_waiting_receiver(&rt, rt.alloc(), waker);
+    assert!(rt; send(&mut g, 7));
+    assert_eq!(rt; drops.get(), 1);
+}
+
+#[test]
+fn the_receivers_drop_drops_the_message_once(rt: HostRuntime) {
+    let drops = Cell::new(0);
+    let mut g = MemoryReceiver::<Counted, (), _>::new(&rt, rt.alloc());
+    g.sender_sends(Counted(&drops));
+    drop_receiver(&mut g);
+    assert_eq!(rt; drops.get(), 1);
+    drop(g);
+    assert_eq!(rt; drops.get(), 1);
+}
+
+#[test]
+fn recv_gives_the_message_out(rt: HostRuntime) {
+    let drops = Cell::new(0);
+    let mut g = MemoryReceiver::<Counted, u8, _>::new(&rt, rt.alloc());
+    g.sender_sends(Counted(&drops));
+    let received = recv(&mut g, &rt, &mut Some(9));
+    assert!(rt; received.is_ok());
+    assert_eq!(rt; drops.get(), 0);
+    drop(received);
+    drop(g);
+    assert_eq!(rt; drops.get(), 1);
+}

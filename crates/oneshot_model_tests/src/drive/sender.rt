@@ -1,0 +1,94 @@
+//! The sender's drivers, by whether its receiver is here, waits or is gone.
+
+ghost use Rattle.oneshot_drive.specs.Calls.{IsFresh};
+
+use crate::drive::steps::steps_of;
+use oneshot_drive::{drop_sender, into_inner, send};
+use oneshot_memory::MemorySender;
+use std::alloc::Global;
+use std::sync::Wait;
+use std::test::Fail;
+
+/// Where the receiver is.
+#[derive(Clone, Copy)]
+enum Receiver {
+    Here,
+    Gone,
+    Waits,
+    /// It waits, and its deadline is over before the sender finishes.
+    Stops,
+}
+
+type Ground<'a, R> = MemorySender<'a, u64, u8, R>;
+
+fn ground<R: Wait>(rt: &R, alloc: Global, receiver: Receiver) -> Ground<'_, R>
+    ensures { IsFresh result.log result.message result.waker }
+{
+    match receiver {
+        Receiver::Here => Ground::new(rt, alloc, true),
+        Receiver::Gone => Ground::new(rt, alloc, false),
+        Receiver::Waits => Ground::with_waiting_receiver(rt, alloc, 9),
+        Receiver::Stops => {
+            let mut g = Ground::with_waiting_receiver(rt, alloc, 9);
+            g.receiver_will_stop();
+            g
+        }
+    }
+}
+
+#[test]
+fn send_makes_its_steps(rt: HostRuntime) -> Result<(), Fail> {
+    let cases = [
+        (Receiver::Here, true, "write-message, add:3"),
+        (
+            Receiver::Waits,
+            true,
+            "write-message, add:0, take-waker, swap 4:1, wake",
+        ),
+        (
+            Receiver::Stops,
+            true,
+            "write-message, add:0, take-waker, swap 4:3, wake",
+        ),
+        (
+            Receiver::Gone,
+            false,
+            "write-message, add:2, take-message, free",
+        ),
+    ];
+    for (number, (receiver, sent, steps)) in cases.into_iter().enumerate() {
+        let mut g = ground(&rt, rt.alloc(), receiver);
+        if send(&mut g, 7) {
+            assert!(rt; sent, "case {number}");
+        } else {
+            assert!(rt; !sent, "case {number}");
+            assert_eq!(rt; into_inner(&mut g), 7);
+        }
+        assert_eq!(rt;
+            steps_of(rt.alloc(), g.events())?.as_str(),
+            steps,
+            "case {number}"
+        );
+    }
+    Ok(())
+}
+
+#[test]
+fn the_senders_drop_makes_its_steps(rt: HostRuntime) -> Result<(), Fail> {
+    let cases = [
+        (Receiver::Here, "flip:3"),
+        (Receiver::Waits, "flip:0, take-waker, swap 2:1, wake"),
+        (Receiver::Stops, "flip:0, take-waker, swap 2:3, wake"),
+        (Receiver::Gone, "flip:2, free"),
+    ];
+    for (number, (receiver, steps)) in cases.into_iter().enumerate() {
+        let mut g = ground(&rt, rt.alloc(), receiver);
+        drop_sender(&mut g);
+        assert_eq!(rt;
+            steps_of(rt.alloc(), g.events())?.as_str(),
+            steps,
+            "case {number}"
+        );
+    }
+    Ok(())
+}

@@ -1,0 +1,20 @@
+//! The operations on the word.
+
+use oneshot_machine::states::Op;
+
+#[test]
+fn each_operation_leaves_its_word(rt: HostRuntime) {
+    let rows = [
+        (Op::Load, [0, 1, 2, 3, 4]),
+        (Op::Store(2), [2, 2, 2, 2, 2]),
+        (Op::Swap(0), [0, 0, 0, 0, 0]),
+        (Op::Exchange(3, 0), [0, 1, 2, 0, 4]),
+        (Op::Add, [1, 2, 3, 4, 5]),
+        (Op::Xor, [1, 0, 3, 2, 5]),
+    ];
+    for (op, left) in rows {
+        for word in 0..5u8 {
+            assert_eq!(rt; op.after(word), left[word as usize], "{op:?} of {word}");
+        }
+    }
+}

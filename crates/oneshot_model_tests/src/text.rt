@@ -1,0 +1,24 @@
+//! Texts that ask for a run, and the lines of entries.
+
+mod entries;
+mod faults;
+mod fronts;
+mod order;
+
+use oneshot_text::parse_request;
+use std::alloc::AllocGlobal;
+use std::process::Abort;
+use std::test::Fail;
+
+/// A text and its fault.
+type Case = (&'static str, &'static str);
+
+fn assert_faults(rt: &(impl Abort + AllocGlobal), cases: &[Case]) -> Result<(), Fail> {
+    for (text, fault) in cases {
+        let Err(error) = parse_request(rt.alloc(), text) else {
+            panic!(rt; "{text:?} asks for a run")
+        };
+        assert_eq!(rt; error.to_string(rt.alloc())?.as_str(), *fault, "{text:?}");
+    }
+    Ok(())
+}

@@ -1,0 +1,151 @@
+//! Each fault of a text, alone.
+
+use crate::text::{Case, assert_faults};
+use std::test::Fail;
+
+const OF_A_TEXT: &[Case] = &[
+    ("", "line 1 is missing"),
+    ("S", "line 2 is missing"),
+    ("S\n", "line 2 is missing"),
+    ("S\nR", "line 3 is missing"),
+    ("S\nR\n", "line 3 is missing"),
+    ("\n", "line 1: must begin with S"),
+    ("R\n", "line 1: must begin with S"),
+    ("s\n", "line 1: must begin with S"),
+    ("Sdrop\n", "line 1: must begin with S"),
+    (" S\n", "line 1: must begin with S"),
+    ("S\n\n", "line 2: must begin with R"),
+    ("S\nX\n", "line 2: must begin with R"),
+    ("S\nR\n\n", "line 3: must begin with X"),
+    ("S\nR\nR", "line 3: must begin with X"),
+    ("S \n", "line 1: unknown word 1"),
+    ("S  drop\n", "line 1: unknown word 1"),
+    ("S Drop\n", "line 1: unknown word 1"),
+    ("S drop\r\n", "line 1: unknown word 1"),
+    ("S\nR poll 1\n", "line 2: unknown word 1"),
+    ("S\nR tryrecv\n", "line 2: unknown word 1"),
+    ("S\nR try  drop\n", "line 2: unknown word 2"),
+    ("S\nR try try Try\n", "line 2: unknown word 3"),
+    ("S\nR\nX sq\n", "line 3: unknown word 1"),
+    ("S\nR\nX \n", "line 3: unknown word 1"),
+    ("S\nR\nX  s\n", "line 3: unknown word 1"),
+    ("S send\n", "line 1: bad number at word 2"),
+    ("S send \n", "line 1: bad number at word 2"),
+    ("S send  7\n", "line 1: bad number at word 2"),
+    ("S send 07\n", "line 1: bad number at word 2"),
+    ("S send 00\n", "line 1: bad number at word 2"),
+    ("S send +7\n", "line 1: bad number at word 2"),
+    ("S send -7\n", "line 1: bad number at word 2"),
+    ("S send 7a\n", "line 1: bad number at word 2"),
+    (
+        "S send 18446744073709551616\nR\nX\n",
+        "line 1: bad number at word 2",
+    ),
+    ("S drop drop\n", "line 1: word 2 follows the last call"),
+    ("S drop \n", "line 1: word 2 follows the last call"),
+    ("S\nR drop try\n", "line 2: word 2 follows the last call"),
+    ("S\nR try drop \n", "line 2: word 3 follows the last call"),
+    ("S\nR\nX s r\n", "line 3: word 2 follows the last call"),
+    ("S\nR\nX s \n", "line 3: word 2 follows the last call"),
+    ("S\nR\nX\ns", "input after line 3"),
+    ("S\nR\nX\n\n", "input after line 3"),
+];
+
+#[test]
+fn faults_of_a_text(rt: HostRuntime) -> Result<(), Fail> {
+    assert_faults(&rt, OF_A_TEXT)
+}
+
+const OF_LOOKS: &[Case] = &[
+    ("S closed\n", "line 2 is missing"),
+    ("S closed closed", "line 2 is missing"),
+    ("S closed \n", "line 1: unknown word 2"),
+    ("S closed  closed\n", "line 1: unknown word 2"),
+    ("S closed closed Closed\n", "line 1: unknown word 3"),
+    ("S closed 7\n", "line 1: unknown word 2"),
+    ("S closed send\n", "line 1: bad number at word 3"),
+    ("S closed send closed\n", "line 1: bad number at word 3"),
+    (
+        "S closed drop closed\n",
+        "line 1: word 3 follows the last call",
+    ),
+    ("S full\n", "line 1: unknown word 1"),
+    ("S inner\n", "line 1: unknown word 1"),
+    ("S into\n", "line 1: unknown word 1"),
+    ("S\nR closed full try\n", "line 3 is missing"),
+    ("S\nR full full \n", "line 2: unknown word 3"),
+    ("S\nR closed fullclosed\n", "line 2: unknown word 2"),
+    ("S\nR inner\n", "line 2: unknown word 1"),
+    (
+        "S\nR full drop full\n",
+        "line 2: word 3 follows the last call",
+    ),
+];
+
+#[test]
+fn faults_of_looks(rt: HostRuntime) -> Result<(), Fail> {
+    assert_faults(&rt, OF_LOOKS)
+}
+
+const OF_RECEIVES: &[Case] = &[
+    ("S ref\n", "line 1: unknown word 1"),
+    ("S recv\n", "line 1: unknown word 1"),
+    ("S closed recv\n", "line 1: unknown word 2"),
+    ("S send recv\n", "line 1: bad number at word 2"),
+    ("S send 7 recv\n", "line 1: unknown word 3"),
+    ("S send 7 inner ref\n", "line 1: unknown word 4"),
+    ("S drop recv\n", "line 1: word 2 follows the last call"),
+    ("S\nR recv", "line 3 is missing"),
+    ("S\nR ref ref try recv\n", "line 3 is missing"),
+    ("S\nR Recv\n", "line 2: unknown word 1"),
+    ("S\nR recv_ref\n", "line 2: unknown word 1"),
+    ("S\nR ref \n", "line 2: unknown word 2"),
+    ("S\nR ref  recv\n", "line 2: unknown word 2"),
+    ("S\nR recv \n", "line 2: word 2 follows the last call"),
+    ("S\nR recv ref\n", "line 2: word 2 follows the last call"),
+    ("S\nR recv recv\n", "line 2: word 2 follows the last call"),
+    ("S\nR recv drop\n", "line 2: word 2 follows the last call"),
+    ("S\nR drop recv\n", "line 2: word 2 follows the last call"),
+    (
+        "S\nR ref recv 7 7\n",
+        "line 2: word 3 follows the last call",
+    ),
+    ("S\nR\nX recv\n", "line 3: unknown word 1"),
+];
+
+#[test]
+fn faults_of_receives(rt: HostRuntime) -> Result<(), Fail> {
+    assert_faults(&rt, OF_RECEIVES)
+}
+
+const AFTER_A_SEND: &[Case] = &[
+    ("S send 7 inner inner\n", "line 2 is missing"),
+    ("S send 7 x\n", "line 1: unknown word 3"),
+    ("S send 7 \n", "line 1: unknown word 3"),
+    ("S send 7 7\n", "line 1: unknown word 3"),
+    ("S send 7 closed\n", "line 1: unknown word 3"),
+    ("S send 7 send 7\n", "line 1: unknown word 3"),
+    ("S send 7  into\n", "line 1: unknown word 3"),
+    ("S send inner\n", "line 1: bad number at word 2"),
+    ("S send 7 inner x\n", "line 1: unknown word 4"),
+    ("S send 7 inner \n", "line 1: unknown word 4"),
+    ("S send 7 inner closed\n", "line 1: unknown word 4"),
+    (
+        "S send 7 into drop\n",
+        "line 1: word 4 follows the last call",
+    ),
+    ("S send 7 drop \n", "line 1: word 4 follows the last call"),
+    (
+        "S send 7 inner into inner\n",
+        "line 1: word 5 follows the last call",
+    ),
+    (
+        "S closed send 7 inner drop drop\n",
+        "line 1: word 6 follows the last call",
+    ),
+];
+
+#[test]
+fn faults_after_a_send(rt: HostRuntime) -> Result<(), Fail> {
+    assert_faults(&rt, AFTER_A_SEND)
+}

@@ -1,0 +1,95 @@
+//! Fronts of texts that ask for a run.
+
+use crate::text::{Case, assert_faults};
+use std::test::Fail;
+
+const WITHOUT_A_SCHEDULE: &[Case] = &[
+    ("", "line 1 is missing"),
+    ("S", "line 2 is missing"),
+    ("S ", "line 1: unknown word 1"),
+    ("S s", "line 1: unknown word 1"),
+    ("S se", "line 1: unknown word 1"),
+    ("S sen", "line 1: unknown word 1"),
+    ("S send", "line 1: bad number at word 2"),
+    ("S send ", "line 1: bad number at word 2"),
+    ("S send 7", "line 2 is missing"),
+    ("S send 7\n", "line 2 is missing"),
+    ("S send 7\nR", "line 3 is missing"),
+    ("S send 7\nR ", "line 2: unknown word 1"),
+    ("S send 7\nR t", "line 2: unknown word 1"),
+    ("S send 7\nR tr", "line 2: unknown word 1"),
+    ("S send 7\nR try", "line 3 is missing"),
+    ("S send 7\nR try ", "line 2: unknown word 2"),
+    ("S send 7\nR try d", "line 2: unknown word 2"),
+    ("S send 7\nR try dr", "line 2: unknown word 2"),
+    ("S send 7\nR try dro", "line 2: unknown word 2"),
+    ("S send 7\nR try drop", "line 3 is missing"),
+    ("S send 7\nR try drop\n", "line 3 is missing"),
+];
+
+#[test]
+fn fronts_without_a_schedule(rt: HostRuntime) -> Result<(), Fail> {
+    assert_faults(&rt, WITHOUT_A_SCHEDULE)
+}
+
+const OF_LOOKS_AND_OF_AN_ERRORS_SCRIPT: &[Case] = &[
+    ("S c", "line 1: unknown word 1"),
+    ("S close", "line 1: unknown word 1"),
+    ("S closed", "line 2 is missing"),
+    ("S closed ", "line 1: unknown word 2"),
+    ("S closed s", "line 1: unknown word 2"),
+    ("S closed send", "line 1: bad number at word 3"),
+    ("S closed send ", "line 1: bad number at word 3"),
+    ("S closed send 5", "line 2 is missing"),
+    ("S closed send 5 ", "line 1: unknown word 4"),
+    ("S closed send 5 i", "line 1: unknown word 4"),
+    ("S closed send 5 in", "line 1: unknown word 4"),
+    ("S closed send 5 inne", "line 1: unknown word 4"),
+    ("S closed send 5 inner", "line 2 is missing"),
+    ("S closed send 5 inner ", "line 1: unknown word 5"),
+    ("S closed send 5 inner in", "line 1: unknown word 5"),
+    ("S closed send 5 inner into", "line 2 is missing"),
+    ("S closed send 5 inner into\n", "line 2 is missing"),
+    (
+        "S closed send 5 inner into\nR ful",
+        "line 2: unknown word 1",
+    ),
+    ("S closed send 5 inner into\nR full", "line 3 is missing"),
+    (
+        "S closed send 5 inner into\nR full c",
+        "line 2: unknown word 2",
+    ),
+    (
+        "S closed send 5 inner into\nR full closed",
+        "line 3 is missing",
+    ),
+    (
+        "S closed send 5 inner into\nR full closed ",
+        "line 2: unknown word 3",
+    ),
+    (
+        "S closed send 5 inner into\nR full closed drop\n",
+        "line 3 is missing",
+    ),
+];
+
+#[test]
+fn fronts_of_looks_and_of_an_errors_script(rt: HostRuntime) -> Result<(), Fail> {
+    assert_faults(&rt, OF_LOOKS_AND_OF_AN_ERRORS_SCRIPT)
+}
+
+const OF_RECEIVES: &[Case] = &[
+    ("S\nR r", "line 2: unknown word 1"),
+    ("S\nR re", "line 2: unknown word 1"),
+    ("S\nR ref", "line 3 is missing"),
+    ("S\nR ref ", "line 2: unknown word 2"),
+    ("S\nR ref re", "line 2: unknown word 2"),
+    ("S\nR ref rec", "line 2: unknown word 2"),
+    ("S\nR ref recv", "line 3 is missing"),
+    ("S\nR ref recv\n", "line 3 is missing"),
+];
+
+#[test]
+fn fronts_of_receives(rt: HostRuntime) -> Result<(), Fail> {
+    assert_faults(&rt, OF_RECEIVES)
+}

@@ -1,0 +1,190 @@
+//! Both sides of one word in one thread.
+
+ghost use Rattle.std.specs.Prelude.{◌≡◌};
+ghost use Rattle.oneshot_machine.specs.declared.states.Op.TheVariants.{Load, Swap};
+ghost use Rattle.oneshot_machine.specs.Phases.{fresh, sender_at, looked, first, here, receiver_at};
+ghost use Rattle.oneshot_machine.specs.Slots.{vacant};
+ghost use Rattle.oneshot_word.specs.Sides.{SenderCan, ReceiverCan};
+
+use oneshot_word::{ReceiverSide, SenderSide, open};
+use std::process::Abort;
+use std::test::Fail;
+
+#[test]
+fn a_new_table_reads_3_at_both_ends(rt: HostRuntime) -> Result<(), Fail> {
+    let (sender, receiver) = open::<u64, u64>(rt.alloc())?;
+    assert_eq!(rt; sender.peek(), 3);
+    assert_eq!(rt; receiver.peek(), 3);
+    Ok(())
+}
+
+#[test]
+fn a_waker_goes_one_way_and_a_message_the_other(rt: HostRuntime) -> Result<(), Fail> {
+    let (mut sender, mut receiver) = open::<u8, u8>(rt.alloc())?;
+    look(&rt, &mut receiver);
+    store_waker(&rt, &mut receiver, 5);
+    assert_eq!(rt; begin_send(&rt, &mut sender, 7), 5);
+    assert_eq!(rt; sender.swap(4), 1);
+    assert_eq!(rt; receive(&rt, &mut receiver), 7);
+    Ok(())
+}
+
+#[test]
+fn a_receiver_that_stops_waiting_goes_on(rt: HostRuntime) -> Result<(), Fail> {
+    let (mut sender, mut receiver) = open::<u8, u8>(rt.alloc())?;
+    look(&rt, &mut receiver);
+    store_waker(&rt, &mut receiver, 5);
+    assert_eq!(rt; stop(&rt, &mut receiver), 5);
+    assert_eq!(rt; sender.peek(), 3);
+    store_waker(&rt, &mut receiver, 6);
+    assert_eq!(rt; begin_send(&rt, &mut sender, 7), 6);
+    assert_eq!(rt; sender.swap(4), 1);
+    assert_eq!(rt; receive(&rt, &mut receiver), 7);
+    Ok(())
+}
+
+#[test]
+fn an_overdue_receiver_gets_the_message(rt: HostRuntime) -> Result<(), Fail> {
+    let (mut sender, mut receiver) = open::<u8, u8>(rt.alloc())?;
+    look(&rt, &mut receiver);
+    store_waker(&rt, &mut receiver, 5);
+    assert_eq!(rt; begin_send(&rt, &mut sender, 7), 5);
+    stop_too_late(&rt, &mut receiver);
+    assert_eq!(rt; sender.swap(4), 3);
+    assert_eq!(rt; receive(&rt, &mut receiver), 7);
+    Ok(())
+}
+
+#[test]
+fn an_overdue_receiver_finds_the_sender_gone(rt: HostRuntime) -> Result<(), Fail> {
+    let (mut sender, mut receiver) = open::<u8, u8>(rt.alloc())?;
+    look(&rt, &mut receiver);
+    store_waker(&rt, &mut receiver, 5);
+    assert_eq!(rt; begin_drop(&rt, &mut sender), 5);
+    stop_too_late(&rt, &mut receiver);
+    assert_eq!(rt; sender.swap(2), 3);
+    assert_eq!(rt; receiver.load(), 2);
+    Ok(())
+}
+
+#[test]
+fn a_receiver_that_stops_over_the_message_gets_it(rt: HostRuntime) -> Result<(), Fail> {
+    let (mut sender, mut receiver) = open::<u8, u8>(rt.alloc())?;
+    look(&rt, &mut receiver);
+    store_waker(&rt, &mut receiver, 5);
+    assert_eq!(rt; begin_send(&rt, &mut sender, 7), 5);
+    assert_eq!(rt; sender.swap(4), 1);
+    assert_eq!(rt; stop_over_the_message(&rt, &mut receiver), 7);
+    assert_eq!(rt; receiver.peek(), 2);
+    Ok(())
+}
+
+#[test]
+fn a_receiver_that_stops_over_an_end_closes(rt: HostRuntime) -> Result<(), Fail> {
+    let (mut sender, mut receiver) = open::<u8, u8>(rt.alloc())?;
+    look(&rt, &mut receiver);
+    store_waker(&rt, &mut receiver, 5);
+    assert_eq!(rt; begin_drop(&rt, &mut sender), 5);
+    assert_eq!(rt; sender.swap(2), 1);
+    stop_over_the_end(&rt, &mut receiver);
+    assert_eq!(rt; receiver.peek(), 2);
+    Ok(())
+}
+
+fn look(rt: &impl Abort, receiver: &mut ReceiverSide<u8, u8>)
+    requires { receiver_at receiver.old.steps ≡ first }
+    ensures at { receiver_at receiver.new.steps ≡ here looked }
+    ensures waker { receiver.new.waker ≡ vacant }
+{
+    receiver.slots();
+    let found = receiver.load();
+    assert!(rt; found == 3);
+}
+
+fn store_waker(rt: &impl Abort, receiver: &mut ReceiverSide<u8, u8>, waker: u8)
+    requires at { receiver_at receiver.old.steps ≡ here looked }
+    requires waker { receiver.old.waker ≡ vacant }
+    ensures loads { ReceiverCan receiver.new Load }
+    ensures stops { ReceiverCan receiver.new (Swap 3) }
+{
+    receiver.slots();
+    receiver.write_waker(waker);
+    let found = receiver.swap(0);
+    assert!(rt; found == 3);
+}
+
+// It gives its waker.
+fn stop(rt: &impl Abort, receiver: &mut ReceiverSide<u8, u8>) -> u8
+    requires { ReceiverCan receiver.old (Swap 3) }
+    ensures at { receiver_at receiver.new.steps ≡ here looked }
+    ensures waker { receiver.new.waker ≡ vacant }
+{
+    let found = receiver.swap(3);
+    assert!(rt; found == 0);
+    let waker = receiver.take_waker();
+    let found = receiver.load();
+    assert!(rt; found == 3);
+    waker
+}
+
+fn stop_too_late(rt: &impl Abort, receiver: &mut ReceiverSide<u8, u8>)
+    requires { ReceiverCan receiver.old (Swap 3) }
+    ensures { ReceiverCan receiver.new Load }
+{
+    let found = receiver.swap(3);
+    assert!(rt; found == 1);
+    let found = receiver.load();
+    assert!(rt; found == 3);
+}
+
+fn stop_over_the_message(rt: &impl Abort, receiver: &mut ReceiverSide<u8, u8>) -> u8
+    requires { ReceiverCan receiver.old (Swap 3) }
+{
+    let found = receiver.swap(3);
+    assert!(rt; found == 4);
+    let found = receiver.store(2);
+    assert!(rt; found == 3);
+    receiver.take_message()
+}
+
+fn stop_over_the_end(rt: &impl Abort, receiver: &mut ReceiverSide<u8, u8>)
+    requires { ReceiverCan receiver.old (Swap 3) }
+{
+    let found = receiver.swap(3);
+    assert!(rt; found == 2);
+    let found = receiver.store(2);
+    assert!(rt; found == 3);
+}
+
+// It gives the waker that it found.
+fn begin_send(rt: &impl Abort, sender: &mut SenderSide<u8, u8>, message: u8) -> u8
+    requires { (sender_at sender.old.steps ≡ fresh) × (sender.old.message ≡ vacant) }
+    ensures { SenderCan sender.new (Swap 4) }
+{
+    sender.write_message(message);
+    sender.peek();
+    let found = sender.add();
+    assert!(rt; found == 0);
+    sender.take_waker()
+}
+
+// It gives the waker that it found.
+fn begin_drop(rt: &impl Abort, sender: &mut SenderSide<u8, u8>) -> u8
+    requires { (sender_at sender.old.steps ≡ fresh) × (sender.old.message ≡ vacant) }
+    ensures { SenderCan sender.new (Swap 2) }
+{
+    sender.peek();
+    let found = sender.flip();
+    assert!(rt; found == 0);
+    sender.take_waker()
+}
+
+fn receive(rt: &impl Abort, receiver: &mut ReceiverSide<u8, u8>) -> u8
+    requires { ReceiverCan receiver.old Load }
+{
+    let found = receiver.load();
+    assert!(rt; found == 4);
+    let found = receiver.store(2);
+    assert!(rt; found == 4);
+    receiver.take_message()
+}

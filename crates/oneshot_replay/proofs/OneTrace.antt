@@ -1,0 +1,33 @@
+-- Of two scripts under a schedule there is one trace at most, since a turn is a function.
+use Rattle.std.proofs.Common.{◌≡◌, Bool, List, Option, Some, refl, sym, ap, ◌∙◌}
+use Rattle.oneshot_world.specs.World.{World, opening}
+use Rattle.oneshot_world.specs.declared.script.Move.{Move}
+use Rattle.oneshot_world.specs.declared.script.ReceiverScript.{ReceiverScript}
+use Rattle.oneshot_world.specs.declared.script.SenderScript.{SenderScript}
+use Rattle.oneshot_world.specs.declared.trace.Entry.{Entry}
+use Rattle.oneshot_world.proofs.Determined.{run_is}
+use Rattle.oneshot_replay.specs.Rest.{message_of, rest_at}
+use Rattle.oneshot_replay.specs.Told.{Told, IsReplayed, last_of}
+use Rattle.oneshot_replay.specs.declared.rest.Rest.{Rest}
+
+same_value : {X : Type 0} {a b : X} → Some a ≡ Some b → a ≡ b
+same_value is = cc
+
+module _ {T : Type 0} where
+  told_with : List Entry → Bool → Option (Rest T) → Told T
+  told_with entries freed rest = record { entries = entries; block_freed = freed; rest = rest }
+
+  told_parts : (t : Told T) → told_with t.entries t.block_freed t.rest ≡ t
+  unfolding told_with
+  told_parts t = refl
+
+  pub one_trace : (s : SenderScript T) (r : ReceiverScript) (moves : List Move) (t u : Told T) → IsReplayed s r moves t → IsReplayed s r moves u → t ≡ u
+  one_trace s r moves t u a b =
+      let same : (t.entries, a.worlds) ≡ (u.entries, b.worlds) =
+      same_value (sym (run_is (opening s r) a.worlds moves t.entries a.tells) ∙ run_is (opening s r) b.worlds moves u.entries b.tells) in
+      let entries : t.entries ≡ u.entries = ap (λ (x : List Entry × List World). x.0) same in
+      let worlds : a.worlds ≡ b.worlds = ap (λ (x : List Entry × List World). x.1) same in
+      let freed : t.block_freed ≡ u.block_freed = a.block_freed ∙ ap (λ ws. (last_of (opening s r) ws).state.freed) worlds ∙ sym b.block_freed in
+      let rest : t.rest ≡ u.rest =
+      a.rest ∙ ap (λ ws. rest_at (last_of (opening s r) ws).state.message (message_of s.last)) worlds ∙ sym b.rest in
+      cc (told_parts t, told_parts u)

@@ -1,6 +1,0 @@
-use Rattle.std.proofs.Common.{arith}
-use Rattle.oneshot_run.proofs.Cut.{length-parts}
-use Rattle.oneshot_run.proofs.words.Words.new.Goals as goal
-
-pub invariant_of-result : goal.invariant_of-result
-invariant_of-result c = omega (arith, length-parts 32 c.args.text.now)

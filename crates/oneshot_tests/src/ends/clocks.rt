@@ -1,0 +1,230 @@
+//! Receives by a clock that answers what the test wrote down, and fails afterwards.
+
+use oneshot::{Receiver, RecvTimeoutError, Sender, channel};
+use std::alloc::{AllocError, Global};
+use std::cell::Cell;
+use std::io;
+use std::sync::Wait;
+use std::test::Fail;
+use std::time::{Clock, Duration, Instant};
+
+/// A runtime whose clock reads so many nanoseconds, one after the other, and then fails.
+#[derive(Drop)]
+struct Written<'a, R> {
+    rt: &'a R,
+    readings: Cell<&'a [u64]>,
+}
+
+impl<'a, R> Written<'a, R> {
+    fn new(rt: &'a R, readings: &'a [u64]) -> Written<'a, R> {
+        Written {
+            rt,
+            readings: Cell::new(readings),
+        }
+    }
+
+    // How many readings are left.
+    fn left(&self) -> usize {
+        self.readings.get().len()
+    }
+}
+
+impl<'a, R: Wait> Wait for Written<'a, R> {}
+
+impl<'a, R> Clock for Written<'a, R> {
+    fn monotonic(&self) -> io::Result<Duration> {
+        let Some((first, rest)) = self.readings.get().split_first() else {
+            return Err(io::ErrorKind::Unsupported.into());
+        };
+        self.readings.set(rest);
+        Ok(Duration::from_nanos(*first))
+    }
+
+    fn since_1970(&self) -> io::Result<Duration> {
+        self.monotonic()
+    }
+}
+
+type Ends<'w, 'a, R> = (Sender<u8>, Receiver<u8, &'w Written<'a, R>>);
+
+// A channel whose receiver has the written clock.
+fn by_clock<'w, 'a, R>(
+    clock: &'w Written<'a, R>,
+    alloc: Global,
+) -> Result<Ends<'w, 'a, R>, AllocError> {
+    channel(clock, alloc)
+}
+
+// Five nanoseconds after the clock's start.
+pub(super) fn five(rt: &impl Wait) -> io::Result<Instant> {
+    Instant::now(&Written::new(rt, &[5]))
+}
+
+#[test]
+fn an_instant_is_not_over_at_itself(rt: HostRuntime) -> Result<(), Fail> {
+    // Read at the deadline, by the park at the deadline, and a nanosecond past it.
+    let clock = Written::new(&rt, &[5, 5, 6, 7]);
+    let (_sender, mut receiver) = by_clock(&clock, rt.alloc())?;
+    let received = receiver.recv_deadline(five(&rt)?);
+    assert_eq!(rt; received, Err(RecvTimeoutError::Timeout));
+    assert_eq!(rt; clock.left(), 1);
+    Ok(())
+}
+
+#[test]
+fn a_later_instant_is_over_at_once(rt: HostRuntime) -> Result<(), Fail> {
+    let clock = Written::new(&rt, &[6, 7]);
+    let (_sender, mut receiver) = by_clock(&clock, rt.alloc())?;
+    let received = receiver.recv_deadline(five(&rt)?);
+    assert_eq!(rt; received, Err(RecvTimeoutError::Timeout));
+    assert_eq!(rt; clock.left(), 1);
+    Ok(())
+}
+
+#[test]
+fn a_clock_that_fails_counts_as_past_the_deadline(rt: HostRuntime) -> Result<(), Fail> {
+    // It fails at once, in the park, or after it.
+    let readings: [&[u64]; 3] = [&[], &[1], &[5, 5]];
+    for written in readings {
+        let clock = Written::new(&rt, written);
+        let (_sender, mut receiver) = by_clock(&clock, rt.alloc())?;
+        let received = receiver.recv_deadline(five(&rt)?);
+        assert_eq!(rt; received, Err(RecvTimeoutError::Timeout));
+        assert_eq!(rt; clock.left(), 0);
+    }
+    Ok(())
+}
+
+#[test]
+fn a_timeout_counts_from_one_reading(rt: HostRuntime) -> Result<(), Fail> {
+    // The sum is six, which is not past it, also not once the park has read it; seven is, and eight is
+    // not read. A reading that fails counts as past it.
+    let readings: [(&[u64], usize); 4] = [
+        (&[1, 7, 8], 1),
+        (&[1, 6, 6, 7, 8], 1),
+        (&[], 0),
+        (&[1], 0),
+    ];
+    for (written, left) in readings {
+        let clock = Written::new(&rt, written);
+        let (_sender, mut receiver) = by_clock(&clock, rt.alloc())?;
+        let received = receiver.recv_timeout(Duration::from_nanos(5));
+        assert_eq!(rt; received, Err(RecvTimeoutError::Timeout));
+        assert_eq!(rt; clock.left(), left);
+    }
+    Ok(())
+}
+
+#[test]
+fn a_clock_that_fails_hides_no_message(rt: HostRuntime) -> Result<(), Fail> {
+    let clock = Written::new(&rt, &[]);
+    let (sender, mut receiver) = by_clock(&clock, rt.alloc())?;
+    assert!(rt; sender.send(19).is_ok());
+    assert_eq!(rt; receiver.recv_timeout(Duration::from_nanos(5)), Ok(19));
+    assert_eq!(rt;
+        receiver.recv_timeout(Duration::from_nanos(5)),
+        Err(RecvTimeoutError::Disconnected)
+    );
+    Ok(())
+}
+
+/// A runtime that counts the readings of its clock.
+#[derive(Drop)]
+struct Counting<'a, R> {
+    rt: &'a R,
+    readings: Cell<u64>,
+}
+
+impl<'a, R: Wait> Wait for Counting<'a, R> {}
+
+impl<'a, R: Clock> Clock for Counting<'a, R> {
+    fn monotonic(&self) -> io::Result<Duration> {
+        self.readings.set(self.readings.get().saturating_add(1));
+        self.rt.monotonic()
+    }
+
+    fn since_1970(&self) -> io::Result<Duration> {
+        self.rt.since_1970()
+    }
+}
+
+// A receive that spins reads the clock some ten thousand times in this while.
+#[test]
+fn a_receive_that_waits_reads_the_clock_few_times(rt: HostRuntime) -> Result<(), Fail> {
+    let counting = Counting {
+        rt: &rt,
+        readings: Cell::new(0),
+    };
+    let (_sender, mut receiver) = channel::<u8, _>(&counting, rt.alloc())?;
+    let received = receiver.recv_timeout(Duration::from_millis(20));
+    assert_eq!(rt; received, Err(RecvTimeoutError::Timeout));
+    assert!(rt; counting.readings.get() < 100);
+    let end = Instant::now(&rt)?.checked_add(Duration::from_millis(20));
+    let received = receiver.recv_deadline(end.ok_or("an instant can hold it")?);
+    assert_eq!(rt; received, Err(RecvTimeoutError::Timeout));
+    assert!(rt; counting.readings.get() < 200);
+    Ok(())
+}
+
+/// What the sender does.
+#[derive(Drop)]
+pub(super) enum Act {
+    Send(Sender<u8>, u8),
+    Go(Sender<u8>),
+}
+
+/// A runtime whose clock reads an hour, and at whose first reading the sender acts.
+#[derive(Drop)]
+pub(super) struct Meanwhile<'a, R> {
+    rt: &'a R,
+    act: Cell<Option<Act>>,
+}
+
+impl<'a, R> Meanwhile<'a, R> {
+    pub(super) fn new(rt: &'a R) -> Meanwhile<'a, R> {
+        Meanwhile {
+            rt,
+            act: Cell::new(None),
+        }
+    }
+
+    // What the sender does at the next reading.
+    pub(super) fn will(&self, act: Act) {
+        self.act.set(Some(act));
+    }
+}
+
+impl<'a, R: Wait> Wait for Meanwhile<'a, R> {}
+
+impl<'a, R> Clock for Meanwhile<'a, R> {
+    fn monotonic(&self) -> io::Result<Duration> {
+        match self.act.take() {
+            Some(Act::Send(sender, message)) => {
+                let _ = sender.send(message);
+            }
+            Some(Act::Go(sender)) => drop(sender),
+            None => {}
+        }
+        Ok(Duration::from_secs(3_600))
+    }
+
+    fn since_1970(&self) -> io::Result<Duration> {
+        self.monotonic()
+    }
+}
+
+// The receiver finds what the sender left by the swap that was to end its wait.
+#[test]
+fn what_comes_at_the_deadline_is_found(rt: HostRuntime) -> Result<(), Fail> {
+    let clock = Meanwhile::new(&rt);
+    let (sender, mut receiver) = channel::<u8, _>(&clock, rt.alloc())?;
+    clock.will(Act::Send(sender, 19));
+    assert_eq!(rt; receiver.recv_deadline(five(&rt)?), Ok(19));
+    assert!(rt; receiver.is_closed());
+    let (sender, mut receiver) = channel::<u8, _>(&clock, rt.alloc())?;
+    clock.will(Act::Go(sender));
+    let received = receiver.recv_deadline(five(&rt)?);
+    assert_eq!(rt; received, Err(RecvTimeoutError::Disconnected));
+    assert!(rt; receiver.is_closed());
+    Ok(())
+}

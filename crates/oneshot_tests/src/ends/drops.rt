@@ -1,0 +1,73 @@
+//! A message is dropped once, whichever end goes first; an `Arc` counts who holds it.
+
+use oneshot::channel;
+use std::sync::Arc;
+use std::test::Fail;
+
+#[test]
+fn a_received_message_is_the_tests_to_drop(rt: HostRuntime) -> Result<(), Fail> {
+    let shared = Arc::new(rt.alloc(), 7u8)?;
+    let (sender, mut receiver) = channel((), rt.alloc())?;
+    assert!(rt; sender.send(Arc::try_clone(&shared)?).is_ok());
+    let received = receiver.try_recv();
+    drop(receiver);
+    assert_eq!(rt; Arc::strong_count(&shared), 2);
+    drop(received);
+    assert_eq!(rt; Arc::strong_count(&shared), 1);
+    Ok(())
+}
+
+#[test]
+fn the_receiver_drops_an_unread_message(rt: HostRuntime) -> Result<(), Fail> {
+    let shared = Arc::new(rt.alloc(), 7u8)?;
+    let (sender, receiver) = channel((), rt.alloc())?;
+    assert!(rt; sender.send(Arc::try_clone(&shared)?).is_ok());
+    assert_eq!(rt; Arc::strong_count(&shared), 2);
+    drop(receiver);
+    assert_eq!(rt; Arc::strong_count(&shared), 1);
+    Ok(())
+}
+
+#[test]
+fn the_error_drops_a_refused_message(rt: HostRuntime) -> Result<(), Fail> {
+    let shared = Arc::new(rt.alloc(), 7u8)?;
+    let (sender, receiver) = channel((), rt.alloc())?;
+    drop(receiver);
+    let refused = sender.send(Arc::try_clone(&shared)?);
+    assert!(rt; refused.is_err());
+    assert_eq!(rt; Arc::strong_count(&shared), 2);
+    drop(refused);
+    assert_eq!(rt; Arc::strong_count(&shared), 1);
+    Ok(())
+}
+
+#[test]
+fn a_message_given_back_is_the_tests_to_drop(rt: HostRuntime) -> Result<(), Fail> {
+    let shared = Arc::new(rt.alloc(), 7u8)?;
+    let (sender, receiver) = channel((), rt.alloc())?;
+    drop(receiver);
+    let Err(error) = sender.send(Arc::try_clone(&shared)?) else {
+        panic!(rt; "the receiver is gone")
+    };
+    let message = error.into_inner();
+    assert_eq!(rt; Arc::strong_count(&shared), 2);
+    drop(message);
+    assert_eq!(rt; Arc::strong_count(&shared), 1);
+    Ok(())
+}
+
+#[test]
+fn the_ends_drop_nothing_that_was_not_sent(rt: HostRuntime) -> Result<(), Fail> {
+    let shared = Arc::new(rt.alloc(), 7u8)?;
+    let message = Arc::try_clone(&shared)?;
+    let (sender, receiver) = channel::<Arc<u8>, ()>((), rt.alloc())?;
+    drop(sender);
+    drop(receiver);
+    let (sender, receiver) = channel::<Arc<u8>, ()>((), rt.alloc())?;
+    drop(receiver);
+    drop(sender);
+    assert_eq!(rt; Arc::strong_count(&shared), 2);
+    drop(message);
+    assert_eq!(rt; Arc::strong_count(&shared), 1);
+    Ok(())
+}

@@ -1,0 +1,192 @@
+//! Whatever way a channel ends, all that it owned is given back: the block, the parker and the runtime.
+
+use super::clocks::{Act, Meanwhile, five};
+use oneshot::{RecvError, channel};
+use std::alloc::AllocError;
+use std::fs;
+use std::io;
+use std::process::Abort;
+use std::rt::Files;
+use std::sync::{Arc, Wait};
+use std::test::Fail;
+use std::time::{Clock, Duration};
+
+/// The least that one leak a round takes in so many rounds is more than `MOST_PAGES`.
+const ROUNDS: u64 = 1_000_000;
+
+/// How many more pages a test may have at its end.
+const MOST_PAGES: u64 = 128;
+
+/// How many pages of memory the process has in use.
+fn resident_pages(rt: &(impl Files + AllocGlobal)) -> io::Result<u64> {
+    let statm = fs::read_to_string(rt, "/proc/self/statm")?;
+    let resident = statm.split_whitespace().nth(1);
+    let pages = resident.and_then(|pages| pages.parse::<u64>().ok());
+    pages.ok_or(io::ErrorKind::InvalidData.into())
+}
+
+/// How many pages more the process has once it has run so many rounds.
+fn growth<F: FnMut() -> Result<(), AllocError>>(
+    rt: &(impl Files + AllocGlobal),
+    rounds: u64,
+    mut round: F,
+) -> Result<u64, Fail>
+    requires { F.IsAlwaysCallable round }
+{
+    for _ in 0..rounds / 10 {
+        round()?;
+    }
+    let before = resident_pages(rt)?;
+    for _ in 0..rounds {
+        round()?;
+    }
+    Ok(resident_pages(rt)?.saturating_sub(before))
+}
+
+/// Whether this process has more memory only where more is in use. A sanitizer keeps what was freed.
+fn frees_memory(rt: &(impl Files + AllocGlobal)) -> Result<bool, Fail> {
+    let alloc = rt.alloc();
+    let grown = growth(rt, ROUNDS, || {
+        Arc::new(alloc, [0u64; 8])?;
+        Ok(())
+    })?;
+    Ok(grown <= MOST_PAGES)
+}
+
+/// Fails if each of so many rounds keeps some memory.
+fn assert_no_leak<F: FnMut() -> Result<(), AllocError>>(
+    rt: &(impl Files + AllocGlobal + Abort),
+    round: F,
+) -> Result<(), Fail>
+    requires { F.IsAlwaysCallable round }
+{
+    if frees_memory(rt)? {
+        let grown = growth(rt, ROUNDS, round)?;
+        assert!(rt; grown <= MOST_PAGES, "{grown} pages");
+    }
+    Ok(())
+}
+
+#[test]
+fn a_received_message_leaves_nothing(rt: HostRuntime) -> Result<(), Fail> {
+    assert_no_leak(&rt, || {
+        let (sender, receiver) = channel(&rt, rt.alloc())?;
+        let _ = sender.send(19u64);
+        let _ = receiver.recv();
+        let (sender, mut receiver) = channel(&rt, rt.alloc())?;
+        let _ = sender.send(19u64);
+        let _ = receiver.recv_ref();
+        let (sender, mut receiver) = channel(&rt, rt.alloc())?;
+        let _ = sender.send(19u64);
+        let _ = receiver.try_recv();
+        Ok(())
+    })
+}
+
+#[test]
+fn a_message_that_nobody_receives_leaves_nothing(rt: HostRuntime) -> Result<(), Fail> {
+    assert_no_leak(&rt, || {
+        let (sender, receiver) = channel(&rt, rt.alloc())?;
+        let _ = sender.send(19u64);
+        drop(receiver);
+        let (sender, receiver) = channel(&rt, rt.alloc())?;
+        drop(receiver);
+        drop(sender.send(19u64));
+        let (sender, receiver) = channel(&rt, rt.alloc())?;
+        drop(receiver);
+        let _ = sender.send(19u64).map_err(|refused| refused.into_inner());
+        Ok(())
+    })
+}
+
+#[test]
+fn a_channel_without_a_message_leaves_nothing(rt: HostRuntime) -> Result<(), Fail> {
+    assert_no_leak(&rt, || {
+        let (sender, receiver) = channel::<u64, _>(&rt, rt.alloc())?;
+        drop(sender);
+        drop(receiver);
+        let (sender, receiver) = channel::<u64, _>(&rt, rt.alloc())?;
+        drop(receiver);
+        drop(sender);
+        let (sender, receiver) = channel::<u64, _>(&rt, rt.alloc())?;
+        drop(sender);
+        let _ = receiver.recv();
+        Ok(())
+    })
+}
+
+#[test]
+fn a_deadline_that_is_over_leaves_nothing(rt: HostRuntime) -> Result<(), Fail> {
+    assert_no_leak(&rt, || {
+        let (sender, mut receiver) = channel(&rt, rt.alloc())?;
+        let _ = receiver.recv_timeout(Duration::ZERO);
+        let _ = sender.send(19u64);
+        let _ = receiver.recv();
+        let (sender, mut receiver) = channel::<u64, _>(&rt, rt.alloc())?;
+        let _ = receiver.recv_timeout(Duration::ZERO);
+        drop(receiver);
+        drop(sender);
+        Ok(())
+    })
+}
+
+// The sender acts while the receiver waits, so that it takes the waker and wakes it.
+#[test]
+fn a_receiver_that_was_woken_leaves_nothing(rt: HostRuntime) -> Result<(), Fail> {
+    let clock = Meanwhile::new(&rt);
+    let deadline = five(&rt)?;
+    assert_no_leak(&rt, || {
+        let (sender, mut receiver) = channel(&clock, rt.alloc())?;
+        clock.will(Act::Send(sender, 19));
+        let _ = receiver.recv_deadline(deadline);
+        let (sender, mut receiver) = channel(&clock, rt.alloc())?;
+        clock.will(Act::Go(sender));
+        let _ = receiver.recv_deadline(deadline);
+        Ok(())
+    })
+}
+
+/// A runtime that is alive as long as its `Arc` is.
+#[derive(Drop)]
+struct Counted<'a, R> {
+    rt: &'a R,
+    _alive: Arc<u8>,
+}
+
+impl<'a, R: Wait> Wait for Counted<'a, R> {}
+
+impl<'a, R: Clock> Clock for Counted<'a, R> {
+    fn monotonic(&self) -> io::Result<Duration> {
+        self.rt.monotonic()
+    }
+
+    fn since_1970(&self) -> io::Result<Duration> {
+        self.rt.since_1970()
+    }
+}
+
+#[test]
+fn the_runtime_is_dropped_with_the_receiver(rt: HostRuntime) -> Result<(), Fail> {
+    let alive = Arc::new(rt.alloc(), 0u8)?;
+    let ends = || {
+        let counted = Counted {
+            rt: &rt,
+            _alive: Arc::try_clone(&alive)?,
+        };
+        channel::<u8, _>(counted, rt.alloc())
+    };
+    let (sender, receiver) = ends()?;
+    assert_eq!(rt; Arc::strong_count(&alive), 2);
+    drop(receiver);
+    assert_eq!(rt; Arc::strong_count(&alive), 1);
+    drop(sender);
+    let (sender, receiver) = ends()?;
+    assert!(rt; sender.send(19).is_ok());
+    assert_eq!(rt; receiver.recv(), Ok(19));
+    assert_eq!(rt; Arc::strong_count(&alive), 1);
+    let (sender, receiver) = ends()?;
+    drop(sender);
+    assert_eq!(rt; receiver.recv(), Err(RecvError));
+    assert_eq!(rt; Arc::strong_count(&alive), 1);
+    Ok(())
+}

@@ -1,0 +1,93 @@
+//! Deadlines that end while the sender is in its send or its drop. Where the receiver is not woken then, or
+//! waits once more than it is woken, these tests do not end.
+
+use oneshot::{Receiver, RecvError, RecvTimeoutError, channel};
+use std::io;
+use std::process::Abort;
+use std::sync::Wait;
+use std::sync::atomic::{AtomicU64, Ordering};
+use std::test::Fail;
+use std::thread::join;
+use std::time::{Clock, Duration, Instant};
+
+const ROUNDS: u64 = 20_000;
+
+// More than it takes to start a thread.
+const SPINS: u64 = 100_000_000;
+
+/// Goes on once both threads are here.
+fn meet(here: &AtomicU64) {
+    here.fetch_add(1, Ordering::SeqCst);
+    for _ in 0..SPINS {
+        if here.load(Ordering::SeqCst) == 2 {
+            return;
+        }
+    }
+}
+
+/// Passes a little time without a wait: up to 400 loads.
+fn linger(here: &AtomicU64, round: u64) {
+    for _ in 0..round % 400 {
+        here.load(Ordering::SeqCst);
+    }
+}
+
+/// What a receive gets whose deadline is up to six microseconds away, or the next one after it.
+fn just_in_time<T: Drop, Rt: Wait + Clock + Drop>(
+    rt: &(impl Clock + Abort),
+    mut receiver: Receiver<T, Rt>,
+    round: u64,
+) -> io::Result<Result<T, RecvError>> {
+    let deadline = Instant::now(rt)?.checked_add(Duration::from_micros(round % 7));
+    let deadline = deadline.expect(rt, "an instant can hold it");
+    Ok(match receiver.recv_deadline(deadline) {
+        Ok(message) => Ok(message),
+        Err(RecvTimeoutError::Timeout) => receiver.recv(),
+        Err(RecvTimeoutError::Disconnected) => Err(RecvError),
+    })
+}
+
+#[test]
+fn a_message_that_comes_at_the_deadline_is_received_once(rt: HostRuntime) -> Result<(), Fail> {
+    for round in 0..ROUNDS {
+        let here = AtomicU64::new(0);
+        let (sender, receiver) = channel(&rt, rt.alloc())?;
+        let (sent, received) = join(
+            &rt,
+            || {
+                meet(&here);
+                linger(&here, round);
+                sender.send(round).is_ok()
+            },
+            || {
+                meet(&here);
+                just_in_time(&rt, receiver, round)
+            },
+        );
+        assert!(rt; sent);
+        assert_eq!(rt; received?, Ok(round));
+    }
+    Ok(())
+}
+
+#[test]
+fn a_sender_that_goes_at_the_deadline_is_told(rt: HostRuntime) -> Result<(), Fail> {
+    for round in 0..ROUNDS {
+        let here = AtomicU64::new(0);
+        let (sender, receiver) = channel::<u64, _>(&rt, rt.alloc())?;
+        let ((), received) = join(
+            &rt,
+            || {
+                meet(&here);
+                linger(&here, round);
+                drop(sender);
+            },
+            || {
+                meet(&here);
+                just_in_time(&rt, receiver, round)
+            },
+        );
+        assert_eq!(rt; received?, Err(RecvError));
+    }
+    Ok(())
+}

@@ -1,0 +1,83 @@
+//! Each end on a thread of its own.
+
+use oneshot::{Receiver, Sender, TryRecvError, channel};
+use std::sync::Arc;
+use std::test::Fail;
+use std::thread::{Threads, join};
+
+const ROUNDS: u64 = 1_000;
+
+const TRIES: u64 = 1_000_000_000;
+
+// Asks until the message is there, or until the sender is gone without one.
+fn poll<T: Drop, Rt: Drop>(receiver: &mut Receiver<T, Rt>) -> Result<T, TryRecvError> {
+    for _ in 0..TRIES {
+        match receiver.try_recv() {
+            Err(TryRecvError::Empty) => {}
+            answer => return answer,
+        }
+    }
+    Err(TryRecvError::Empty)
+}
+
+#[test]
+fn each_round_gets_its_message_once(rt: HostRuntime) -> Result<(), Fail> {
+    for round in 0..ROUNDS {
+        let (sender, mut receiver) = channel((), rt.alloc())?;
+        let shared = Arc::new(rt.alloc(), round)?;
+        let message = Arc::try_clone(&shared)?;
+        let (sent, received) = join(
+            &rt,
+            move || sender.send(message).is_ok(),
+            move || {
+                let first = poll(&mut receiver);
+                (first, receiver.try_recv().is_err())
+            },
+        );
+        assert!(rt; sent);
+        let (Ok(message), true) = received else {
+            panic!(rt; "the message comes once")
+        };
+        assert_eq!(rt; *message, round);
+        assert_eq!(rt; Arc::strong_count(&shared), 2);
+        drop(message);
+        assert_eq!(rt; Arc::strong_count(&shared), 1);
+    }
+    Ok(())
+}
+
+// What two threads find that look at one sender.
+fn two_looks<T: Send + Sync>(rt: &impl Threads, sender: &Sender<T>) -> (bool, bool) {
+    join(rt, || sender.is_closed(), || sender.is_closed())
+}
+
+#[test]
+fn two_threads_look_at_one_sender(rt: HostRuntime) -> Result<(), Fail> {
+    let (sender, receiver) = channel::<u8, ()>((), rt.alloc())?;
+    assert_eq!(rt; two_looks(&rt, &sender), (false, false));
+    drop(receiver);
+    assert_eq!(rt; two_looks(&rt, &sender), (true, true));
+    Ok(())
+}
+
+// What a receiver gets on another thread, while this one sends `message`, and whether that was sent.
+fn received_there<T: Send + Drop, Rt: Send + Drop>(
+    rt: &impl Threads,
+    (sender, mut receiver): (Sender<T>, Receiver<T, Rt>),
+    message: T,
+) -> (Result<T, TryRecvError>, bool) {
+    join(
+        rt,
+        move || poll(&mut receiver),
+        move || sender.send(message).is_ok(),
+    )
+}
+
+#[test]
+fn a_receiver_may_go_to_another_thread(rt: HostRuntime) -> Result<(), Fail> {
+    for round in 0..ROUNDS {
+        let ends = channel(&rt, rt.alloc())?;
+        assert_eq!(rt; received_there(&rt, ends, round), (Ok(round), true));
+    }
+    Ok(())
+}

@@ -1,0 +1,135 @@
+//! Receives that wait, against a sender on another thread. Where a wake does nothing they do not end.
+
+use oneshot::{Receiver, RecvError, TryRecvError, channel};
+use std::sync::{Arc, Wait};
+use std::test::Fail;
+use std::thread::{join, sleep};
+use std::time::{Clock, Duration};
+
+const ROUNDS: u64 = 1_000;
+
+// In every other round the sender lets the receiver park first, as far as a short sleep can.
+fn linger(rt: &impl Clock, round: u64) {
+    if round % 2 == 1 {
+        sleep(rt, Duration::from_micros(100));
+    }
+}
+
+#[test]
+fn a_message_that_is_there_is_received(rt: HostRuntime) -> Result<(), Fail> {
+    let (sender, receiver) = channel::<u8, _>(&rt, rt.alloc())?;
+    assert!(rt; sender.send(19).is_ok());
+    assert_eq!(rt; receiver.recv(), Ok(19));
+    let (sender, mut receiver) = channel::<u8, _>(&rt, rt.alloc())?;
+    assert!(rt; sender.send(19).is_ok());
+    assert_eq!(rt; receiver.recv_ref(), Ok(19));
+    assert_eq!(rt; receiver.recv_ref(), Err(RecvError));
+    assert_eq!(rt; receiver.try_recv(), Err(TryRecvError::Disconnected));
+    assert_eq!(rt; receiver.recv(), Err(RecvError));
+    Ok(())
+}
+
+#[test]
+fn nobody_is_waited_for_once_the_sender_is_gone(rt: HostRuntime) -> Result<(), Fail> {
+    let (sender, mut receiver) = channel::<u8, _>(&rt, rt.alloc())?;
+    drop(sender);
+    assert_eq!(rt; receiver.recv_ref(), Err(RecvError));
+    assert_eq!(rt; receiver.recv(), Err(RecvError));
+    Ok(())
+}
+
+// What a receiver gets by `recv_ref`, and whether every later receive says that nothing more comes.
+fn by_ref<T: Drop, Rt: Wait + Clock + Drop>(
+    mut receiver: Receiver<T, Rt>,
+) -> (Result<T, RecvError>, bool) {
+    let first = receiver.recv_ref();
+    let over = receiver.try_recv().is_err() && receiver.recv_ref().is_err();
+    (first, over)
+}
+
+#[test]
+fn recv_gets_each_message_once(rt: HostRuntime) -> Result<(), Fail> {
+    for round in 0..ROUNDS {
+        let (sender, receiver) = channel(&rt, rt.alloc())?;
+        let shared = Arc::new(rt.alloc(), round)?;
+        let message = Arc::try_clone(&shared)?;
+        let (sent, received) = join(
+            &rt,
+            || {
+                linger(&rt, round);
+                !sender.is_closed() && sender.send(message).is_ok()
+            },
+            || receiver.recv(),
+        );
+        assert!(rt; sent);
+        let Ok(message) = received else {
+            panic!(rt; "the message comes")
+        };
+        assert_eq!(rt; *message, round);
+        assert_eq!(rt; Arc::strong_count(&shared), 2);
+        drop(message);
+        assert_eq!(rt; Arc::strong_count(&shared), 1);
+    }
+    Ok(())
+}
+
+#[test]
+fn recv_ref_gets_each_message_once(rt: HostRuntime) -> Result<(), Fail> {
+    for round in 0..ROUNDS {
+        let (sender, receiver) = channel(&rt, rt.alloc())?;
+        let shared = Arc::new(rt.alloc(), round)?;
+        let message = Arc::try_clone(&shared)?;
+        let (sent, (received, over)) = join(
+            &rt,
+            || {
+                linger(&rt, round);
+                sender.send(message).is_ok()
+            },
+            || by_ref(receiver),
+        );
+        assert!(rt; sent && over);
+        let Ok(message) = received else {
+            panic!(rt; "the message comes")
+        };
+        assert_eq!(rt; *message, round);
+        assert_eq!(rt; Arc::strong_count(&shared), 2);
+        drop(message);
+        assert_eq!(rt; Arc::strong_count(&shared), 1);
+    }
+    Ok(())
+}
+
+#[test]
+fn recv_sees_each_drop_of_the_sender(rt: HostRuntime) -> Result<(), Fail> {
+    for round in 0..ROUNDS {
+        let (sender, receiver) = channel::<u8, _>(&rt, rt.alloc())?;
+        let ((), received) = join(
+            &rt,
+            || {
+                linger(&rt, round);
+                drop(sender);
+            },
+            || receiver.recv(),
+        );
+        assert_eq!(rt; received, Err(RecvError));
+    }
+    Ok(())
+}
+
+#[test]
+fn recv_ref_sees_each_drop_of_the_sender(rt: HostRuntime) -> Result<(), Fail> {
+    for round in 0..ROUNDS {
+        let (sender, receiver) = channel::<u8, _>(&rt, rt.alloc())?;
+        let ((), (received, over)) = join(
+            &rt,
+            || {
+                linger(&rt, round);
+                drop(sender);
+            },
+            || by_ref(receiver),
+        );
+        assert_eq!(rt; received, Err(RecvError));
+        assert!(rt; over);
+    }
+    Ok(())
+}

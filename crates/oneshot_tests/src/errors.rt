@@ -1,0 +1,5 @@
+//! The errors of the receives: their texts, their copies, their equality and their hashes.
+
+mod debug;
+mod display;
+mod values;

@@ -1,0 +1,40 @@
+//! The texts that `{}` prints, asked of each error through the trait `Error`.
+
+use oneshot::{RecvError, RecvTimeoutError, TryRecvError};
+use std::alloc::Global;
+use std::error::Error;
+use std::process::Abort;
+use std::test::Fail;
+
+fn display_is<E: Error>(
+    rt: &impl Abort,
+    alloc: Global,
+    error: &E,
+    expected: &str,
+) -> Result<(), Fail> {
+    let text = format!(in alloc; "{error}")?;
+    assert_eq!(rt; text.as_str(), expected);
+    Ok(())
+}
+
+#[test]
+fn recv_error_text_is_printed(rt: HostRuntime) -> Result<(), Fail> {
+    display_is(&rt, rt.alloc(), &RecvError, "receiving on a closed channel")
+}
+
+#[test]
+fn recv_timeout_error_texts_are_printed(rt: HostRuntime) -> Result<(), Fail> {
+    let timeout = RecvTimeoutError::Timeout;
+    display_is(&rt, rt.alloc(), &timeout, "timed out waiting on channel")?;
+    let closed = RecvTimeoutError::Disconnected;
+    let text = "channel is empty and sending half is closed";
+    display_is(&rt, rt.alloc(), &closed, text)
+}
+
+#[test]
+fn try_recv_error_texts_are_printed(rt: HostRuntime) -> Result<(), Fail> {
+    let empty = TryRecvError::Empty;
+    display_is(&rt, rt.alloc(), &empty, "receiving on an empty channel")?;
+    let closed = TryRecvError::Disconnected;
+    display_is(&rt, rt.alloc(), &closed, "receiving on a closed channel")
+}

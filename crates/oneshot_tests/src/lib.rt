@@ -1,0 +1,7 @@
+//! Tests of the real channel by its public names.
+#![tactic(auto)]
+
+#[cfg(test)]
+mod ends;
+#[cfg(test)]
+mod errors;

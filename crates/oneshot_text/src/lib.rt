@@ -1,0 +1,18 @@
+//! The text of a run: the three lines that ask for it, read, and its trace, written.
+#![tactic(auto)]
+
+mod fault;
+mod line;
+mod lines;
+mod number;
+mod receiver;
+mod request;
+mod schedule;
+mod sender;
+mod show;
+mod words;
+
+pub use fault::{Malformed, ParseError};
+pub use line::Line;
+pub use request::{Request, parse_request};
+pub use show::{EntryLine, ReplyText, write_trace};

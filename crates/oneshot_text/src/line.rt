@@ -1,0 +1,44 @@
+//! The three lines of a text, by name.
+
+ghost use Rattle.std.specs.Prelude.{◌≡◌};
+ghost use Rattle.oneshot_text.specs.Line.{letter_of_line};
+
+use std::fmt;
+
+/// A line of a text, which shows as `line` and its number.
+#[derive(Clone, Copy, Debug, Eq, PartialEq)]
+pub enum Line {
+    /// The sender's script.
+    Sender,
+    /// The receiver's script.
+    Receiver,
+    /// The schedule.
+    Schedule,
+}
+
+impl Line {
+    /// The letter that is the line's first word.
+    pub fn letter(self) -> &'static str
+        ensures { result.now ≡ letter_of_line self }
+    {
+        match self {
+            Line::Sender => "S",
+            Line::Receiver => "R",
+            Line::Schedule => "X",
+        }
+    }
+
+    fn number(self) -> u8 {
+        match self {
+            Line::Sender => 1,
+            Line::Receiver => 2,
+            Line::Schedule => 3,
+        }
+    }
+}
+
+impl fmt::Display for Line {
+    fn fmt<W: fmt::Write>(&self, f: &mut fmt::Formatter<W>) -> fmt::Result {
+        write!(f, "line {}", self.number())
+    }
+}

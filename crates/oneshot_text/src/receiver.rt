@@ -1,0 +1,91 @@
+//! The receiver's script: its calls in their order, and its last one.
+
+ghost use Rattle.std.specs.Prelude.{◌≡◌, ◌≢◌, ◌↔◌, [], ◌∷◌, ◌++◌, Some, IfOk, OnOk, MatchResult, map, slice_get, alloc_error};
+ghost use Rattle.oneshot_replay.specs.declared.ReceiverCall.{ReceiverCall};
+ghost use Rattle.oneshot_replay.specs.declared.ReceiverLast.{ReceiverLast};
+ghost use Rattle.oneshot_replay.specs.declared.ReceiverScript.{ReceiverScript};
+ghost use Rattle.oneshot_text.specs.Receiver.{word_of_call, words_of_receiver_last, words_of_receiver};
+ghost use Rattle.oneshot_text.specs.Words.{words_left};
+
+use crate::fault::{Malformed, ParseError};
+use crate::words::Words;
+use oneshot_replay::{ReceiverCall, ReceiverLast, ReceiverScript};
+use std::alloc::{AllocError, Global};
+
+/// The script that the receiver's line asks for.
+pub(crate) fn parse_receiver(
+    alloc: Global,
+    mut words: Words<'_>,
+) -> Result<ReceiverScript, ParseError>
+    ensures written { IfOk result (λ receiver. words_left words.entry ≡ words_of_receiver receiver) }
+    ensures each { (receiver : ReceiverScript) → words_left words.entry ≡ words_of_receiver receiver →
+        MatchResult result (λ read. read ≡ receiver) (λ error. error ≡ ParseError.OutOfMemory alloc_error) }
+{
+    let calls = parse_calls(alloc, &mut words)?;
+    let last = parse_last(words)?;
+    Ok(ReceiverScript {
+        calls: calls.into(),
+        last,
+    })
+}
+
+/// Takes the words that ask for a call, as far as they come next.
+fn parse_calls(alloc: Global, words: &mut Words<'_>) -> Result<Vec<ReceiverCall>, AllocError>
+    ensures run { IfOk result (λ calls.
+        words_left words.old ≡ map word_of_call calls.items ++ words_left words.new) }
+    ensures whole { OnOk result ((call : ReceiverCall) →
+        slice_get (words_left words.new) 0 ≢ Some (word_of_call call)) }
+{
+    let mut calls = Vec::new(alloc);
+    while let Some(call) = words.peek().and_then(call_of) {
+        calls.push(call)?;
+        words.next();
+    }
+    Ok(calls)
+}
+
+/// The last call, to which all words that are left belong.
+fn parse_last(mut words: Words<'_>) -> Result<ReceiverLast, Malformed>
+    ensures written { IfOk result (λ last. words_left words.entry ≡ words_of_receiver_last last) }
+    ensures each { (last : ReceiverLast) →
+        words_left words.entry ≡ words_of_receiver_last last → result ≡ Ok last }
+{
+    let Some(word) = words.next() else {
+        return Ok(ReceiverLast::Stop);
+    };
+    let last = last_of(word.text).ok_or(word.unknown())?;
+    words.end()?;
+    Ok(last)
+}
+
+/// The call that the word asks for.
+fn call_of(word: &str) -> Option<ReceiverCall>
+    ensures { (call : ReceiverCall) → (result ≡ Some call) ↔ (word_of_call call ≡ word.now) }
+{
+    match word.as_bytes() {
+        b"try" => Some(ReceiverCall::TryRecv),
+        b"ref" => Some(ReceiverCall::RecvRef),
+        b"deadline" => Some(ReceiverCall::RecvDeadline),
+        b"timeout" => Some(ReceiverCall::RecvTimeout {
+            representable: true,
+        }),
+        b"forever" => Some(ReceiverCall::RecvTimeout {
+            representable: false,
+        }),
+        b"full" => Some(ReceiverCall::HasMessage),
+        b"closed" => Some(ReceiverCall::IsClosed),
+        _ => None,
+    }
+}
+
+/// The last call that the word asks for.
+fn last_of(word: &str) -> Option<ReceiverLast>
+    ensures { (last : ReceiverLast) →
+        (result ≡ Some last) ↔ (words_of_receiver_last last ≡ word.now ∷ []) }
+{
+    match word.as_bytes() {
+        b"recv" => Some(ReceiverLast::Recv),
+        b"drop" => Some(ReceiverLast::Drop),
+        _ => None,
+    }
+}

@@ -1,0 +1,73 @@
+//! What a text asks for: two scripts and a schedule.
+
+ghost use Rattle.std.specs.Prelude.{◌≡◌, ℕ, List, IfOk, MatchResult, unwrap_or, alloc_error};
+ghost use Rattle.oneshot_replay.specs.Rest.{message_of};
+ghost use Rattle.oneshot_replay.specs.declared.Move.{Move};
+ghost use Rattle.oneshot_replay.specs.declared.ReceiverScript.{ReceiverScript};
+ghost use Rattle.oneshot_replay.specs.declared.SenderScript.{SenderScript};
+ghost use Rattle.oneshot_text.specs.Request.{Asks};
+ghost use Rattle.oneshot_text.specs.Sender.{IsSendable};
+
+use crate::fault::ParseError;
+use crate::line::Line;
+use crate::lines::Lines;
+use crate::receiver::parse_receiver;
+use crate::schedule::parse_schedule;
+use crate::sender::parse_sender;
+use oneshot_replay::{Move, ReceiverCall, ReceiverScript, SenderLast, SenderScript};
+use std::alloc::{AllocError, Global};
+
+/// What a text asks for: a run of two scripts under a schedule.
+#[derive(Drop)]
+pub struct Request {
+    /// The sender's script, with its message.
+    pub sender: SenderScript<u64>,
+    /// The receiver's script.
+    pub receiver: ReceiverScript,
+    /// The schedule.
+    pub moves: Vec<Move>,
+}
+
+impl Request {
+    /// The message of the sender's script; 0 where it sends none, which then no reply shows.
+    pub fn message(&self) -> u64
+        ensures { result ≡ unwrap_or (message_of self.now.sender.last) 0 }
+    {
+        match self.sender.last {
+            SenderLast::Send(message, _) => message,
+            SenderLast::Drop | SenderLast::Stop => 0,
+        }
+    }
+
+    /// The calls of the receiver's script but its last one, in memory of their own.
+    pub fn calls(&self, alloc: Global) -> Result<Vec<ReceiverCall>, AllocError>
+        ensures { IfOk result (λ calls. calls.items ≡ self.now.receiver.calls) }
+    {
+        Vec::from_slice(alloc, self.receiver.calls.as_slice())
+    }
+}
+
+/// Reads the three lines of `text`, the sender's script, the receiver's and the schedule, each ended by a
+/// line feed, which the third may lack.
+///
+/// `Ok`: what they ask for. `Err(Malformed)`: the text is not of the grammar, and this is its first fault.
+/// `Err(OutOfMemory)`: there was no memory for the calls or the moves.
+pub fn parse_request(alloc: Global, text: &str) -> Result<Request, ParseError>
+    ensures written { IfOk result (λ read. Asks text.now read.sender read.receiver read.moves.items) }
+    ensures each { (sender : SenderScript ℕ) (receiver : ReceiverScript) (moves : List Move) →
+        IsSendable sender.last → Asks text.now sender receiver moves →
+        MatchResult result
+        (λ read. (read.sender ≡ sender) × (read.receiver ≡ receiver) × (read.moves.items ≡ moves))
+        (λ error. error ≡ ParseError.OutOfMemory alloc_error) }
+{
+    let mut lines = Lines::new(text);
+    let sender = parse_sender(lines.take(Line::Sender)?)?;
+    let receiver = parse_receiver(alloc, lines.take(Line::Receiver)?)?;
+    let moves = parse_schedule(alloc, lines.take(Line::Schedule)?)?;
+    lines.end()?;
+    Ok(Request {
+        sender,
+        receiver,
+        moves,
+    })
+}

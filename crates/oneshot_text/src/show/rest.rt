@@ -1,0 +1,30 @@
+//! The rest's line: the message's last place.
+
+use crate::show::names::message_place;
+use oneshot_replay::{Place, Rest};
+use std::fmt;
+
+/// The message's last place, with the message.
+#[derive(Drop)]
+pub(crate) struct RestText(pub(crate) Option<Rest<u64>>);
+
+impl fmt::Display for RestText {
+    fn fmt<W: fmt::Write>(&self, f: &mut fmt::Formatter<W>) -> fmt::Result {
+        let Some(rest) = &self.0 else {
+            return write!(f, "none");
+        };
+        let (place, message) = place_of(rest);
+        write!(f, "{}({message})", message_place(place))
+    }
+}
+
+fn place_of(rest: &Rest<u64>) -> (Place, u64) {
+    match rest {
+        Rest::NotSent(message) => (Place::NotSent, *message),
+        Rest::InCell(message) => (Place::InCell, *message),
+        Rest::InError(message) => (Place::InError, *message),
+        Rest::Delivered(message) => (Place::Delivered, *message),
+        Rest::FromError(message) => (Place::FromError, *message),
+        Rest::Dropped(message) => (Place::Dropped, *message),
+    }
+}

@@ -1,0 +1,139 @@
+//! The words of a line.
+
+ghost use Rattle.std.specs.Prelude.{◌≡◌, ◌≢◌, ◌↔◌, ℕ, ◌+◌, ◌^◌, ◌<◌, [], ◌∷◌, ◌++◌, Some, Ok, IfOk, IsTrue, IsOk, length, slice_get, replicate, decimal};
+ghost use Rattle.std.specs.Option.{option_copied};
+ghost use Rattle.std.specs.Iterator.{YieldsFirstBy};
+ghost use Rattle.oneshot_text.specs.Cut.{words_of, words_in};
+
+use crate::fault::Malformed;
+use crate::line::Line;
+use crate::number::parse_number;
+
+/// A word of a line, with its number; the line's first word has the number 0.
+#[derive(Clone, Copy)]
+pub(crate) struct Word<'a> {
+    line: Line,
+    number: usize,
+    pub(crate) text: &'a str,
+}
+
+impl Word<'_> {
+    /// Tells that the word is none that may stand here.
+    pub(crate) fn unknown(self) -> Malformed {
+        Malformed::UnknownWord {
+            line: self.line,
+            word: self.number,
+        }
+    }
+
+    fn follows_last_call(self) -> Malformed {
+        Malformed::FollowsLastCall {
+            line: self.line,
+            word: self.number,
+        }
+    }
+}
+
+/// The words that are left of a line. One space parts them, so that a word may be empty.
+#[derive(Drop)]
+pub(crate) struct Words<'a> {
+    line: Line,
+    taken: usize,
+    rest: Option<&'a str>,
+    ghost countable: { taken + length (words_in rest) < 2 ^ 64 },
+}
+
+impl<'a> Words<'a> {
+    ghost use Rattle.oneshot_text.specs.Words.{words_left};
+
+    /// All words of the line `text`.
+    pub(crate) fn new(line: Line, text: &'a str) -> Words<'a>
+        ensures { words_left result ≡ words_of text.now }
+    {
+        Words {
+            line,
+            taken: 0,
+            rest: Some(text),
+        }
+    }
+
+    /// The next word's text.
+    pub(crate) fn peek(&self) -> Option<&'a str>
+        ensures { option_copied result ≡ slice_get (words_left self.now) 0 }
+    {
+        let (first, _) = cut_word(self.rest?);
+        Some(first)
+    }
+
+    /// Whether a next word is there, and is `text`.
+    pub(crate) fn next_is(&self, text: &str) -> bool
+        ensures { IsTrue result ↔ (slice_get (words_left self.now) 0 ≡ Some text.now) }
+    {
+        self.peek() == Some(text)
+    }
+
+    /// Takes the words that are `text`, as far as they come next, and tells how many they were.
+    pub(crate) fn take_run(&mut self, text: &str) -> usize
+        ensures run { words_left self.old ≡ replicate result text.now ++ words_left self.new }
+        ensures whole { slice_get (words_left self.new) 0 ≢ Some text.now }
+    {
+        let mut count = 0;
+        while self.next_is(text) {
+            self.next();
+            count += 1;
+        }
+        count
+    }
+
+    /// Takes the number that has to stand here.
+    pub(crate) fn number(&mut self) -> Result<u64, Malformed>
+        ensures written { IfOk result (λ n. words_left self.old ≡ decimal n ∷ words_left self.new) }
+        ensures each { (n : ℕ) → n < 2 ^ 64 →
+            slice_get (words_left self.old) 0 ≡ Some (decimal n) → result ≡ Ok n }
+    {
+        let (line, word) = (self.line, self.taken);
+        self.next()
+            .and_then(|word| parse_number(word.text))
+            .ok_or(Malformed::BadNumber { line, word })
+    }
+
+    /// Ends the line, of which no word may be left.
+    pub(crate) fn end(mut self) -> Result<(), Malformed>
+        ensures { IsOk result ↔ (words_left self.entry ≡ []) }
+    {
+        match self.next() {
+            None => Ok(()),
+            Some(word) => Err(word.follows_last_call()),
+        }
+    }
+}
+
+impl<'a> Iterator for Words<'a> {
+    ghost use Rattle.oneshot_text.specs.Words.{words_left};
+
+    type Item = Word<'a>;
+
+    ghost next_gives = { YieldsFirstBy (λ word. word.text.now) words_left };
+
+    fn next(&mut self) -> Option<Word<'a>> {
+        let (text, rest) = cut_word(self.rest?);
+        let number = self.taken;
+        self.taken += 1;
+        self.rest = rest;
+        Some(Word {
+            line: self.line,
+            number,
+            text,
+        })
+    }
+}
+
+/// The first word of a text, and what follows the space behind it.
+fn cut_word(text: &str) -> (&str, Option<&str>)
+    ensures { words_of text.now ≡ result.0.now ∷ words_in result.1 }
+{
+    match text.split_once(' ') {
+        Some((first, rest)) => (first, Some(rest)),
+        None => (text, None),
+    }
+}

@@ -1,0 +1,73 @@
+-- What the lists say and which states the rule has, by examples; and states that it has not.
+use Rattle.std.specs.Prelude.{◌≡◌, ℕ, true, false, List, [], ◌∷◌, ◌++◌, Some, None}
+use Rattle.oneshot_machine.specs.declared.machine.Seen.TheVariants.{Done, Word}
+use Rattle.oneshot_machine.specs.declared.states.Op.TheVariants.{Load, Store, Swap, Add, Xor}
+use Rattle.oneshot_machine.specs.Words.{Noted}
+use Rattle.oneshot_word.specs.Lists.{stores_waker, is_overdue, is_gone, wrote_since}
+use Rattle.oneshot_word.specs.Rows.{Owned}
+use Rattle.oneshot_word.specs.Rule.{Home, out, bare, has_message, has_waker}
+
+-- A receiver that waits; that stopped in time, too late, over the message, or over the sender's end; and
+-- one that was dropped.
+abbrev pub waits : List Noted
+waits = (Load, Word 3) ∷ (Swap 0, Word 3) ∷ []
+
+abbrev pub stopped_over : ℕ → List Noted
+stopped_over word = waits ++ (Swap 3, Word word) ∷ []
+
+abbrev pub went : List Noted
+went = (Swap 2, Word 3) ∷ []
+
+-- A sender that found it waiting, in a `send` or in its drop; and that has finished.
+abbrev pub claims : List Noted
+claims = (Add, Word 0) ∷ []
+
+abbrev pub sent_over : ℕ → List Noted
+sent_over word = claims ++ (Swap 4, Word word) ∷ []
+
+abbrev pub dropped_over : ℕ → List Noted
+dropped_over word = (Xor, Word 0) ∷ (Swap 2, Word word) ∷ []
+
+pub record ListsSay : Type 0 where
+  pub stores : stores_waker waits ≡ true
+  pub stores_on : stores_waker (waits ++ (Load, Word 1) ∷ []) ≡ true
+  pub stores_no_more : stores_waker (stopped_over 0) ≡ false
+  pub found_the_message : stores_waker ((Load, Word 3) ∷ (Swap 0, Word 4) ∷ []) ≡ false
+  pub overdue : is_overdue (stopped_over 1) ≡ true
+  pub overdue_on : is_overdue (stopped_over 1 ++ (Load, Word 3) ∷ []) ≡ true
+  pub stopped_in_time : is_overdue (stopped_over 0) ≡ false
+  pub waits_in_time : is_overdue waits ≡ false
+  pub gone : is_gone went ≡ true
+  pub here : is_gone waits ≡ false
+  pub wrote_nothing : wrote_since waits ≡ None
+  pub wrote_too_late : wrote_since (stopped_over 1) ≡ None
+  pub wrote_over_the_message : wrote_since (stopped_over 4) ≡ Some 3
+  pub wrote_and_closed : wrote_since (stopped_over 4 ++ (Store 2, Done) ∷ []) ≡ Some 2
+
+-- the sender's list, the receiver's list, the word, and what of both slots is at home
+pub record StatesThatAre (T W : Type 0) : Type 0 where
+  pub new : Owned {T = T} {W = W} [] [] 3 out bare
+  pub waiting : (k : W) → Owned {T = T} [] waits 0 out (has_waker k)
+  pub claimed : Owned {T = T} {W = W} claims waits 1 out out
+  pub claimed_too_late : Owned {T = T} {W = W} claims (stopped_over 1) 3 out out
+  pub sent_to_it : (x : T) → Owned {W = W} (sent_over 1) waits 4 (has_message x) bare
+  pub sent_too_late : (x : T) → Owned {W = W} (sent_over 3) (stopped_over 1) 4 (has_message x) bare
+  pub dropped_too_late : Owned {T = T} {W = W} (dropped_over 3) (stopped_over 1) 2 bare bare
+  pub stopped_over_the_message : Owned {T = T} {W = W} (sent_over 1) (stopped_over 4) 3 out out
+  pub gone_first : Owned {T = T} {W = W} [] went 2 out bare
+
+pub record StatesThatAreNot (T W : Type 0) : Type 0 where
+  -- an overdue receiver leaves 3, and its waker to the sender
+  pub overdue_leaves_1 : {h k : Home T W} → Owned claims (stopped_over 1) 1 h k → ⊥
+  pub overdue_has_its_waker : {h : Home T W} (k : W) → Owned claims (stopped_over 1) 3 h (has_waker k) → ⊥
+  -- one that waits does not
+  pub waits_at_3 : {h k : Home T W} → Owned claims waits 3 h k → ⊥
+  -- a sender that finishes over 3 leaves its own word
+  pub send_leaves_3 : {h k : Home T W} → Owned (sent_over 3) (stopped_over 1) 3 h k → ⊥
+  pub drop_leaves_3 : {h k : Home T W} → Owned (dropped_over 3) (stopped_over 1) 3 h k → ⊥
+  -- a swap of 3 leaves 3 over the message and over the sender's end
+  pub stop_leaves_0_over_the_message : {h k : Home T W} → Owned (sent_over 1) (stopped_over 4) 0 h k → ⊥
+  pub stop_leaves_0_over_the_end : {h k : Home T W} → Owned (dropped_over 1) (stopped_over 2) 0 h k → ⊥
+  -- what waits in the word waits there for its end
+  pub message_lies_with_nobody : {k : Home T W} → Owned (sent_over 1) waits 4 bare k → ⊥
+  pub waker_is_gone : {h : Home T W} → Owned [] waits 0 h bare → ⊥

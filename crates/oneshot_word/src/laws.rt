@@ -1,0 +1,10 @@
+//! What the definitions say by examples: the function's contract says it, its body does nothing.
+
+ghost use Rattle.oneshot_word.specs.Examples.{ListsSay, StatesThatAre, StatesThatAreNot};
+
+/// Which lists say what, which states of the word the rule has, and which it has not, by examples.
+pub fn examples_are_so<T, W>()
+    ensures lists { ListsSay }
+    ensures states { StatesThatAre T W }
+    ensures no_states { StatesThatAreNot T W }
+{}
