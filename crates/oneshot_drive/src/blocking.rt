@@ -16,7 +16,7 @@ use oneshot_errors::{RecvError, RecvTimeoutError};
 use oneshot_machine::states::{DISCONNECTED, Op};
 use std::sync::Wait;
 
-/// Receives the message, and waits until it is there or never will be. Then the receiver is closed.
+/// Blocks until the message is there or will never come. Then the receiver is closed.
 ///
 /// `hand` has the waker by which the sender wakes the receiver; that of a closed receiver may be
 /// empty. After the call it has the same waker again, unless the sender took it.
@@ -43,8 +43,8 @@ pub fn recv_ref<T, W: Drop, G: BlockGround<T, W>>(
     }
 }
 
-/// Receives the message, and waits until it is there or never will be, or until a deadline is over,
-/// which the ground's clock tells.
+/// Blocks until the message is there or will never come, or until the deadline is over, which the
+/// ground's clock tells.
 ///
 /// `hand` is as for `recv_ref` before the call. After it, it has a waker again, unless the sender took
 /// it; and then the receiver is closed.
@@ -71,11 +71,10 @@ pub fn recv_deadline<T, W: Drop, G: BlockGround<T, W>>(
     receive(g, rt, hand, true)
 }
 
-/// Receives the message as `recv_deadline`, after one look at the clock for the sum of now and a
-/// timeout.
+/// Blocks as `recv_deadline` does, after one reading of the clock for the sum of now and a timeout.
 ///
-/// `representable` says whether an instant can hold that sum. Where none can, the call waits without a
-/// deadline.
+/// `representable` says whether an instant can hold that sum. Where none can, the call blocks without a
+/// deadline and never answers `Timeout`.
 ///
 /// `hand`, the message and the errors are as for `recv_deadline`.
 pub fn recv_timeout<T, W: Drop, G: BlockGround<T, W>>(
@@ -129,8 +128,8 @@ fn receive<T, W: Drop, G: BlockGround<T, W>>(
     }
 }
 
-/// Receives the message, and waits until it is there or never will be; then frees the block. The receiver
-/// is no more.
+/// Blocks until the message is there or will never come. Then it frees the block, and the receiver is no
+/// more.
 ///
 /// `hand` is as for `recv_ref`, before and after.
 ///

@@ -141,7 +141,8 @@ pub trait BlockGround<T, W>: ReceiverGround<T, W> {
         ensures message { Self.message_slot self.new ≡ Self.message_slot self.old }
         ensures waker { Self.waker_slot self.new ≡ Self.waker_slot self.old };
 
-    /// Reads the clock once: whether the deadline is over.
+    /// Whether the deadline is over, by a reading of the clock. A reading that fails counts as past every
+    /// deadline. The first answer of a timeout may rest on the reading that its sum was made from.
     fn over(&mut self) -> bool
         ensures list { Grows (Self.log self.old) (Self.log self.new) (clocked result ∷ []) }
         ensures message { Self.message_slot self.new ≡ Self.message_slot self.old }

@@ -1,4 +1,4 @@
-//! The calls of the receiver that never wait.
+//! The calls of the receiver that never block.
 
 ghost use Rattle.std.specs.Prelude.{◌≡◌, Err, []};
 ghost use Rattle.oneshot_errors.specs.declared.try_recv.TryRecvError.TheVariants.{Disconnected};
@@ -12,7 +12,12 @@ use crate::ground::ReceiverGround;
 use oneshot_errors::TryRecvError;
 use oneshot_machine::states::{DISCONNECTED, EMPTY, MESSAGE, Op};
 
-/// Receives the message, if it is there.
+/// Receives the message on `g`, where no receive is under way, if it is there. It never blocks and frees
+/// nothing.
+///
+/// - `Ok`: the message. The receiver is closed from then on.
+/// - `Err(Empty)`: nothing was sent yet, and the sender is there.
+/// - `Err(Disconnected)`: the sender is gone without a message, or the message was received before.
 pub fn try_recv<T, W, G: ReceiverGround<T, W>>(g: &mut G) -> Result<T, TryRecvError>
     requires { AtRest (receiver_of (G.log g.old)) (G.message_slot g.old) (G.waker_slot g.old) }
     ensures run { ReceiverRan TryRecv (G.log g.old) (G.log g.new)
@@ -31,7 +36,10 @@ pub fn try_recv<T, W, G: ReceiverGround<T, W>>(g: &mut G) -> Result<T, TryRecvEr
     }
 }
 
-/// Drops the receiver, and the message that it finds.
+/// Drops the receiver on `g`, where no receive is under way, and the message that it finds. It never
+/// blocks and cannot fail.
+///
+/// It frees the block if the sender was gone or had sent. Otherwise the sender's side frees it.
 pub fn drop_receiver<T, W, G: ReceiverGround<T, W>>(g: &mut G)
     requires { AtRest (receiver_of (G.log g.old)) (G.message_slot g.old) (G.waker_slot g.old) }
     ensures { ReceiverRan Drop (G.log g.old) (G.log g.new) R.Done [] [] }

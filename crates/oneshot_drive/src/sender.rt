@@ -11,8 +11,12 @@ ghost use Rattle.oneshot_drive.specs.Calls.{IsFresh, IsError, IsLate, Owes, Fini
 use crate::ground::SenderGround;
 use oneshot_machine::states::{DISCONNECTED, EMPTY, MESSAGE, Op, RECEIVING};
 
-/// Sends the message, and wakes a receiver that waits. Answers whether the receiver was there: where it
-/// was not, the message stays in its slot.
+/// Sends `message` on `g`, which has made no operation yet, and wakes a receiver that blocks. It never
+/// blocks.
+///
+/// - `true`: the receiver was there. The receiver's side frees the block.
+/// - `false`: the receiver was gone. The message is in its slot, and `g` owns the block: `into_inner` or
+///   `drop_error` ends it.
 pub fn send<T, W, G: SenderGround<T, W>>(g: &mut G, message: T) -> bool
     requires { IsFresh (G.log g.old) (G.message_slot g.old) (G.waker_slot g.old) }
     ensures run { SenderRan Send (G.log g.old) (G.log g.new) (send_reply result) (message ∷ []) [] }
@@ -31,7 +35,10 @@ pub fn send<T, W, G: SenderGround<T, W>>(g: &mut G, message: T) -> bool
     }
 }
 
-/// Drops the sender, and wakes a receiver that waits.
+/// Drops the sender on `g`, which has made no operation yet, and wakes a receiver that blocks. It never
+/// blocks and cannot fail.
+///
+/// It frees the block if the receiver was gone. Otherwise the receiver's side frees it.
 pub fn drop_sender<T, W, G: SenderGround<T, W>>(g: &mut G)
     requires { IsFresh (G.log g.old) (G.message_slot g.old) (G.waker_slot g.old) }
     ensures { SenderRan Drop (G.log g.old) (G.log g.new) Done [] [] }
@@ -53,7 +60,7 @@ fn finish<T, W, G: SenderGround<T, W>>(g: &mut G, last: u8)
     g.wake(waker);
 }
 
-/// Gives the refused message, and frees.
+/// Gives the message of a refused `send` back, and frees the block. It never blocks and cannot fail.
 pub fn into_inner<T, W, G: SenderGround<T, W>>(g: &mut G) -> T
     requires { (x : T) × IsError (held x) (G.message_slot g.old) (G.waker_slot g.old) }
     ensures run { SenderRan IntoInner (G.log g.old) (G.log g.new) Message [] (result ∷ []) }
@@ -64,7 +71,7 @@ pub fn into_inner<T, W, G: SenderGround<T, W>>(g: &mut G) -> T
     message
 }
 
-/// Drops the refused message, and frees.
+/// Drops the message of a refused `send`, and frees the block. It never blocks and cannot fail.
 pub fn drop_error<T, W, G: SenderGround<T, W>>(g: &mut G)
     requires { (x : T) × IsError (held x) (G.message_slot g.old) (G.waker_slot g.old) }
     ensures { SenderRan DropError (G.log g.old) (G.log g.new) Done [] [] }

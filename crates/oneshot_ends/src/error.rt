@@ -13,9 +13,12 @@ use std::fmt;
 use std::fmt::{Debug, Display, Formatter};
 use std::marker::Model;
 
-/// The message that a `send` could not deliver, since the receiver was gone.
+/// The message of a `send` that was refused, since the receiver was gone.
 ///
-/// A contract sees the message, the table, and the sender's list of operations on the word.
+/// The error owns the message, and the channel's memory in the sender's place. Dropping it drops both;
+/// `into_inner` gives the message back and gives up the memory.
+///
+/// A contract sees the message, the table, and the sender's log of operations on the word.
 pub struct SendError<T> {
     message: T,
     side: SenderSide<T, Unparker>,
@@ -41,7 +44,7 @@ impl<T> SendError<T> {
         SendError { message, side }
     }
 
-    /// The message.
+    /// The message, which stays in the error.
     pub fn as_inner(&self) -> &T
         ensures { result.now ≡ self.now.message }
     {
@@ -50,7 +53,7 @@ impl<T> SendError<T> {
 }
 
 impl<T: Drop> SendError<T> {
-    /// Gives the message back, and frees the block.
+    /// Gives the message back, and gives up the error's share of the channel's memory.
     pub fn into_inner(self) -> T
         ensures { result ≡ self.message }
     {

@@ -10,10 +10,11 @@ use std::alloc::{AllocError, Global};
 
 /// Makes a channel for one message: its sender and its receiver.
 ///
-/// The receiver keeps `rt`, the runtime of its waiting calls, which want it to be `Wait` and `Clock`
-/// (the clock is for receives with a deadline, which share their bounds); `()` does for a receiver
-/// that never waits. `Err` comes only where a request for
-/// memory was refused; then nothing was made.
+/// `rt` is the runtime of the receives that block, which want `Rt: Wait + Clock`. The receiver keeps it.
+/// Pass `()` for a receiver that never blocks. `alloc` is the allocator of the channel's memory; no later
+/// call allocates.
+///
+/// `Err`: an allocation failed. Nothing is kept then, and `rt` is dropped.
 pub fn channel<T: Send + Drop, Rt: Drop>(
     rt: Rt,
     alloc: Global,

@@ -24,11 +24,16 @@ use std::time::{Clock, Duration, Instant};
 
 /// Receives one message from its sender.
 ///
-/// A contract sees the table that it shares with the sender, and the list of its operations on the
-/// word, from which it reads whether the receiver is closed.
+/// Dropping it drops a message that was sent and not received, and a later `send` is refused: its error
+/// gives the message back. The drop never blocks. `rt` is dropped with the receiver.
 ///
-/// Where `T` and `Rt` are `Send` it may go to another thread, which a caller's proof finds by itself.
-/// No two threads may share it.
+/// The receives that block (`recv`, `recv_ref`, `recv_deadline`, `recv_timeout`) want `Rt: Wait + Clock`.
+/// The others want nothing of `Rt`, which may be `()` then.
+///
+/// A contract sees the table that the receiver shares with its sender, and the log of its operations on
+/// the word. Whether the receiver is closed is read off that log.
+///
+/// It may go to another thread where `T` and `Rt` are `Send`. Two threads may not share it.
 pub struct Receiver<T, Rt> {
     seat: ReceiverSeat<T, Unparker>,
     // The parker's waking half, unless the sender took it to wake the receiver.
@@ -74,23 +79,26 @@ impl<T, Rt> Receiver<T, Rt> {
 }
 
 impl<T, Rt> Receiver<T, Rt> {
-    /// Whether the sender is gone without a message, or the message was received, by one load.
+    /// Whether the sender is gone without a message, or the message was received. Every later receive
+    /// says `Disconnected` then. It is one load and never blocks.
     pub fn is_closed(&self) -> bool {
         self.seat.peek() == DISCONNECTED
     }
 
-    /// Whether the message is there, by one load; the next receive gives it then.
+    /// Whether the message is there. The next receive gives it then. It is one load and never blocks.
     pub fn has_message(&self) -> bool {
         self.seat.peek() == MESSAGE
     }
 }
 
 impl<T: Drop, Rt: Drop> Receiver<T, Rt> {
-    /// Receives the message, if it is there. It waits for nobody and asks for no memory.
+    /// Receives the message if it is there. It never blocks and does not allocate.
     ///
-    /// `Empty` where nothing was sent yet and the sender is there. `Disconnected` where the sender is
-    /// gone without a message, or the message was received before; the receiver is closed then, as
-    /// after `Ok`, and every later receive answers `Disconnected`.
+    /// - `Ok`: the message. The receiver is closed from then on.
+    /// - `Err(Empty)`: nothing was sent yet, or a `send` is under way; the sender is there. The receiver
+    ///   stays open.
+    /// - `Err(Disconnected)`: the sender is gone without a message, or the message was received before.
+    ///   Every later receive says the same.
     pub fn try_recv(&mut self) -> Result<T, TryRecvError>
         ensures table { self.new.table ≡ self.old.table }
         ensures run { ReceiverGrew T TryRecv self.old.steps self.new.steps (try_recv_reply result) }
@@ -104,11 +112,15 @@ impl<T: Drop, Rt: Drop> Receiver<T, Rt> {
 }
 
 impl<T: Drop, Rt: Wait + Clock + Drop> Receiver<T, Rt> {
-    /// Receives the message, and waits until it is there or never will be: for ever, where the sender
-    /// is kept and neither sends nor is dropped, also by the caller itself. It asks for no memory.
+    /// Blocks until the message is there or will never come. It does not allocate.
     ///
-    /// `Ok`: the message. `Err` where the sender is gone without a message, or the message was received
-    /// before. Then, as after `Ok`, the receiver is closed, and every later receive answers an error.
+    /// It blocks forever if the sender is neither used nor dropped, for example because this thread
+    /// still holds it.
+    ///
+    /// - `Ok`: the message.
+    /// - `Err`: the sender is gone without a message, or the message was received before.
+    ///
+    /// Either way the receiver is closed, and every later receive says that no message will come.
     pub fn recv_ref(&mut self) -> Result<T, RecvError>
         ensures table { self.new.table ≡ self.old.table }
         ensures run { ReceiverGrew T RecvRef self.old.steps self.new.steps (recv_reply result) }
@@ -126,20 +138,18 @@ impl<T: Drop, Rt: Wait + Clock + Drop> Receiver<T, Rt> {
         recv_ref(&mut lent, &self.rt, &mut self.hand)
     }
 
-    /// Receives the message, and waits until it is there or never will be, or until `deadline` is over:
-    /// until the runtime's clock is past that instant. It asks for no memory.
+    /// Blocks until the message is there or will never come, or until the runtime's clock is past
+    /// `deadline`. It does not allocate.
     ///
-    /// A message that is there is received however late it is. An instant is not over at itself, so
-    /// that the clock is then read again; a clock that cannot be read counts as past each (a rule of
-    /// this port). Where the deadline is over while the sender is in its `send` or its drop, and has
-    /// found that this receiver waits, the call waits until the sender is done, as the Rust crate's
-    /// does.
+    /// - `Ok`: the message. A message that is there is received, however late the call is.
+    /// - `Err(Timeout)`: the clock is past `deadline`, and when the call last looked nothing had been sent
+    ///   and the sender was there. The receiver stays open.
+    /// - `Err(Disconnected)`: the sender is gone without a message, or the message was received before.
+    ///   Every later receive says the same.
     ///
-    /// `Ok`: the message. `Err(Timeout)` where the deadline is over and nothing had been sent when the
-    /// call last looked: the receiver stays open, and a later receive may find the message.
-    /// `Err(Disconnected)` where the sender is gone without a message, or the message was received
-    /// before; then, as after `Ok`, the receiver is closed, and every later receive answers the
-    /// disconnected error.
+    /// A clock that shows `deadline` itself is not past it. A clock that fails counts as past every
+    /// deadline, which is a rule of this port. A sender that has found this receiver parked and is in its
+    /// `send` or its drop is waited for, also past the deadline, as in the Rust crate.
     pub fn recv_deadline(&mut self, deadline: Instant) -> Result<T, RecvTimeoutError>
         ensures table { self.new.table ≡ self.old.table }
         ensures run { ReceiverGrew T RecvDeadline self.old.steps self.new.steps (timed_reply result) }
@@ -158,12 +168,12 @@ impl<T: Drop, Rt: Wait + Clock + Drop> Receiver<T, Rt> {
         recv_deadline(&mut lent, &self.rt, &mut self.hand)
     }
 
-    /// Receives the message as `recv_deadline` does, until `timeout` from now. It asks for no memory.
+    /// Blocks as `recv_deadline` does, until the runtime's clock has gone on by more than `timeout`. It
+    /// does not allocate.
     ///
-    /// Where no instant can hold that sum, the call waits as `recv_ref` does, and never answers
-    /// `Timeout`. Where the clock cannot be read for it, the deadline is over at once.
-    ///
-    /// The answers are those of `recv_deadline`.
+    /// The answers are those of `recv_deadline`. If no instant can hold the sum of now and `timeout`, the
+    /// call blocks as `recv_ref` does and never answers `Timeout`. If the clock fails, the deadline is over
+    /// at once.
     pub fn recv_timeout(&mut self, timeout: Duration) -> Result<T, RecvTimeoutError>
         ensures table { self.new.table ≡ self.old.table }
         ensures run { TimeoutGrew T timeout self.old.steps self.new.steps (timed_reply result) }
@@ -176,10 +186,13 @@ impl<T: Drop, Rt: Wait + Clock + Drop> Receiver<T, Rt> {
         self.recv_after(reading, timeout)
     }
 
-    /// Receives the message, waits for it as `recv_ref` does, and ends the receiver.
+    /// Blocks until the message is there or will never come, and ends the receiver. It does not allocate.
     ///
-    /// `Ok`: the message. `Err` where the sender is gone without a message, or the message was received
-    /// before.
+    /// - `Ok`: the message.
+    /// - `Err`: the sender is gone without a message, or the message was received before.
+    ///
+    /// It blocks forever if the sender is neither used nor dropped, for example because this thread
+    /// still holds it.
     pub fn recv(self) -> Result<T, RecvError>
         ensures stays_closed { IsClosed self → IsErr result }
     {

@@ -18,13 +18,14 @@ use std::marker::Model;
 
 /// Sends one message to its receiver.
 ///
-/// Dropping it unsent wakes a receiver that waits, which then answers an error.
+/// Dropping it without a `send` wakes a receiver that blocks, whose receive then says that no message
+/// will come. The drop never blocks.
 ///
-/// A contract sees the table that it shares with the receiver, and the list of its operations on the
-/// word, which is empty until its one call.
+/// A contract sees the table that the sender shares with its receiver, and the log of its operations on
+/// the word, which is empty until its one call.
 ///
-/// Where `T` is `Send` and `Sync` several threads may share a `&` to it, and ask `is_closed`. A
-/// caller's proof finds this by itself.
+/// It may go to another thread where `T` is `Send`. Several threads may share a `&` to it where `T` is
+/// also `Sync`, and ask `is_closed`.
 pub struct Sender<T> {
     side: SenderSide<T, Unparker>,
 }
@@ -51,17 +52,17 @@ impl<T> Sender<T> {
 }
 
 impl<T> Sender<T> {
-    /// Whether the receiver is gone, by one load; `send` is refused then.
+    /// Whether the receiver is gone. A `send` is refused then. It is one load and never blocks.
     pub fn is_closed(&self) -> bool {
         self.side.peek() == DISCONNECTED
     }
 }
 
 impl<T: Drop> Sender<T> {
-    /// Sends `message`, and wakes a receiver that waits. It waits for nobody and asks for no memory.
+    /// Sends `message`, and wakes a receiver that blocks. It never blocks and does not allocate.
     ///
-    /// `Ok` where the receiver was there; that it is received later is not said. `Err` where the
-    /// receiver was gone: the error gives the message back.
+    /// - `Ok`: the receiver was there. It may still be dropped before it receives the message.
+    /// - `Err`: the receiver was gone. The error has the message.
     pub fn send(self, message: T) -> Result<(), SendError<T>>
         ensures message { IfErr result (λ error. error.message ≡ message) }
         ensures table { IfErr result (λ error. error.table ≡ self.table) }

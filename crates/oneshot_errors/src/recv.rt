@@ -1,13 +1,13 @@
-//! Why `recv`, `recv_ref` or a poll has no message.
+//! Why `recv` or `recv_ref` has no message.
 
 use std::error::Error;
 use std::fmt;
 use std::fmt::{Display, Formatter};
 
-/// Why `recv`, `recv_ref` or a poll has no message: none will ever come.
+/// Why `recv` or `recv_ref` has no message: none will ever come.
 ///
-/// Either the sender was dropped with nothing sent, or this receiver was given its message before.
-/// That there is no other reason is the rule of the Rust crate too.
+/// The sender was dropped without a message, or this receiver has received its message before. The Rust
+/// crate knows no other reason either.
 #[derive(Clone, Copy, Debug, Eq, Hash, PartialEq)]
 pub struct RecvError;
 

@@ -9,10 +9,10 @@ use std::fmt::{Display, Formatter};
 /// The two reasons are those of the Rust crate.
 #[derive(Clone, Copy, Debug, Eq, Hash, PartialEq)]
 pub enum RecvTimeoutError {
-    /// The time was over while nothing was sent and the sender was still there. The receiver stays open,
-    /// so that a later receive may find the message.
+    /// The deadline was over while nothing was sent and the sender was still there. The receiver stays
+    /// open, and a later receive may find the message.
     ///
-    /// In this port the time counts as over where the clock cannot be read.
+    /// In this port the deadline also counts as over where the clock fails.
     Timeout,
     /// The sender is gone without a message, or the message was received before. None will ever come.
     Disconnected,

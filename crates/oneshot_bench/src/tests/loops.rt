@@ -103,7 +103,12 @@ fn rounds_end_at_the_first_fault(rt: HostRuntime) {
 fn a_request_to_nobody_is_lost(rt: HostRuntime) -> Result<(), Fail> {
     let (requests, served) = channel::<Request, ()>((), rt.alloc())?;
     drop(served);
-    assert!(rt; matches!(ask(&rt, rt.alloc(), requests, &mut Tally::new()), Err(Fault::MessageLost)));
+    assert!(rt;
+        matches!(
+            ask(&rt, rt.alloc(), requests, &mut Tally::new()),
+            Err(Fault::MessageLost)
+        )
+    );
     Ok(())
 }
 

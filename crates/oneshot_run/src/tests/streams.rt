@@ -161,11 +161,7 @@ fn an_interrupted_write_is_made_again(rt: HostRuntime) -> Result<(), Fail> {
         for count in 1..=3usize {
             let interrupts = Failures::of(before, count, ErrorKind::Interrupted);
             let mut writer = Writer::new(rt.alloc(), 1, interrupts);
-            run(
-                rt.alloc(),
-                &mut Reader::new(Failures::none()),
-                &mut writer,
-            )?;
+            run(rt.alloc(), &mut Reader::new(Failures::none()), &mut writer)?;
             assert_eq!(rt;
                 writer.written.as_slice(),
                 SENT_TRACE.as_bytes(),

@@ -3,13 +3,12 @@
 use super::clocks::{Act, Meanwhile, five};
 use oneshot::{RecvError, channel};
 use std::alloc::AllocError;
-use std::fs;
-use std::io;
 use std::process::Abort;
 use std::rt::Files;
 use std::sync::{Arc, Wait};
 use std::test::Fail;
 use std::time::{Clock, Duration};
+use std::{fs, io};
 
 /// The least that one leak a round takes in so many rounds is more than `MOST_PAGES`.
 const ROUNDS: u64 = 1_000_000;
