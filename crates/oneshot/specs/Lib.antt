@@ -1,4 +1,5 @@
 -- what the contracts of the ends name
+pub use Rattle.oneshot_ends.specs.Deadlines
 pub use Rattle.oneshot_ends.specs.Ends
 pub use Rattle.oneshot_ends.specs.Sides
 pub use Rattle.oneshot_errors.specs.declared.recv.RecvError
@@ -11,6 +12,7 @@ pub use Rattle.oneshot_machine.specs.Logs
 pub use Rattle.oneshot_machine.specs.Phases
 pub use Rattle.oneshot_machine.specs.Runs
 pub use Rattle.oneshot_machine.specs.Slots
+pub use Rattle.oneshot_machine.specs.Words
 pub use Rattle.oneshot_memory.specs.Events
 pub use Rattle.oneshot_memory.specs.Receiver as ReceiverMemory
 pub use Rattle.oneshot_memory.specs.Sender as SenderMemory
@@ -27,13 +29,18 @@ pub use Rattle.oneshot_replay.specs.Rest
 pub use Rattle.oneshot_replay.specs.Told
 pub use Rattle.oneshot_replay.specs.declared.rest.Rest as RestOf
 pub use Rattle.oneshot_world.specs.Calls as Scripts
+pub use Rattle.oneshot_world.specs.Ahead
+pub use Rattle.oneshot_world.specs.State
 pub use Rattle.oneshot_world.specs.World
 pub use Rattle.oneshot_laws.specs.Alone
+pub use Rattle.oneshot_laws.specs.Ended
 pub use Rattle.oneshot_laws.specs.History
 pub use Rattle.oneshot_laws.specs.Holders
 pub use Rattle.oneshot_laws.specs.Idle
 pub use Rattle.oneshot_laws.specs.Laws
 pub use Rattle.oneshot_laws.specs.Marks
+pub use Rattle.oneshot_laws.specs.Object
 pub use Rattle.oneshot_laws.specs.Places
+pub use Rattle.oneshot_laws.specs.Steps
 pub use Rattle.oneshot_laws.specs.Unwoken
 pub use Rattle.oneshot_laws.specs.Wakers

@@ -13,7 +13,7 @@ use Rattle.oneshot_machine.specs.Logs.{Event, Log, Grows, sender_of, handed, wor
 use Rattle.oneshot_machine.specs.Phases.{By, sending, dropping, SenderAt, fresh, owes, late, Closing, closed_itself, Open, looked, between, ReceiverAt, first, here, over}
 use Rattle.oneshot_machine.specs.Slots.{Held, away, vacant, held}
 
--- a sender that has made no call: the message's slot is its own and empty
+-- a sender that has made no operation: the message's slot is its own and empty
 pub record IsFresh {T W : Type 0} (log : Log T W) (message : Held T) (waker : Held W) : Type 0 where
   pub at : sender_of log ≡ fresh
   pub no_message : message ≡ vacant

@@ -57,7 +57,7 @@ pub data MayBeFreed : Bool → ReceiverAt → Type 0 where
   freed_ended : MayBeFreed true ended
 
 module _ {T W : Type 0} where
-  -- the sides of ends that have made no call
+  -- the sides of ends that have made no operation
   pub record IsNewSender (s : Side T W) : Type 0 where
     pub steps : s.steps ≡ []
     pub message : s.message ≡ vacant

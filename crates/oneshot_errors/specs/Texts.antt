@@ -1,4 +1,4 @@
--- The texts of the errors.
+-- The texts of the receives' errors.
 use Rattle.std.specs.Prelude.{ℕ, List, codes}
 use Rattle.oneshot_errors.specs.declared.try_recv.TryRecvError.{TryRecvError}
 use Rattle.oneshot_errors.specs.declared.try_recv.TryRecvError.TheVariants.{Empty, Disconnected}

@@ -21,7 +21,7 @@ answers test reply m = test m.call && is_reply reply m.entry.reply
 abbrev pub answers_only : (Call → Bool) → Reply → Mark → Bool
 answers_only test reply m = only_if (test m.call) (agrees m.entry.reply (Some reply))
 
--- after an Ok of a receive every later receive that answers, answers Gone
+-- after an Ok of a receive every later receive that answers, answers `Disconnected`
 abbrev pub is_gone_after_got : List Mark → Bool
 is_gone_after_got ms =
     after_each (answers is_receive R.Message) (list_all (answers_only is_receive R.Disconnected)) ms
@@ -39,7 +39,7 @@ next_receive_gets (m ∷ later) =
 abbrev pub is_got_after_full : List Mark → Bool
 is_got_after_full ms = after_each (answers is_full_look R.Yes) next_receive_gets ms
 
--- after the receiver's `is_closed` was true every later receive that answers, answers Gone, and `is_closed` stays true
+-- after the receiver's `is_closed` was true every later receive that answers, answers `Disconnected`, and `is_closed` stays true
 abbrev pub is_gone_after_closed : List Mark → Bool
 is_gone_after_closed ms =
     after_each (answers is_closed_look R.Yes)

@@ -23,8 +23,8 @@ action_of Is_closed = Some Look_closed
 action_of Drop_receiver = Some Receiver_gone
 action_of Stray = None
 
--- How a receive says "nothing yet". One that waits without end has no reply for it; the object
--- gives none to a timeout that no instant can hold, and it never says so.
+-- How a receive says "nothing yet". A receive that waits without end has no reply for it, and so a
+-- history in which one says so is not legal.
 abbrev pub nothing_yet_of : Call → Option Reply
 nothing_yet_of Try_recv = Some R.Empty
 nothing_yet_of Recv_deadline = Some R.Timeout

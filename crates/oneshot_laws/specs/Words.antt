@@ -44,7 +44,7 @@ abbrev pub is_nothing_yet : Option Reply → Bool
 is_nothing_yet None = false
 is_nothing_yet (Some reply) = says_nothing_yet reply
 
--- what a step does to the word
+-- which operation on the word a step is
 abbrev pub is_word : Step → Bool
 is_word (T.Word op) = true
 is_word _ = false

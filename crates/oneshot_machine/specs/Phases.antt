@@ -39,7 +39,7 @@ pub data Waiting : Type 0 where
 pub data Got : Type 0 where
   -- by the first load of a call
   at_once : Got
-  -- in a call that blocks, by the swap that was to store its waker or by a load after it
+  -- in a call that blocks, by the swap that was to store its waker, by a load after it, or by the swap past its deadline
   waited : Got
 
 -- how the 2 came into the word of a closed receiver

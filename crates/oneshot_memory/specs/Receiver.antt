@@ -68,7 +68,7 @@ pub data ReceiverStands {T W : Type 0} : ReceiverAt → ℕ → Bool → Bool �
   late_claimed : (k : W) → ReceiverStands overdue 3 false false None (Some k)
   late_sent : (x : T) → ReceiverStands overdue 4 false false (Some x) None
   late_dropped : ReceiverStands overdue 2 false false None None
-  -- it has both slots, and freed them
+  -- it has both slots, or freed them
   owns : {q : ReceiverAt} {word : ℕ} (message : Option T) (cell : Option W)
       → ReceiverOwns q word → ReceiverStands q word true true message cell
   freed : {q : ReceiverAt} {was : ℕ} (word : ℕ) (message : Option T) (cell : Option W)

@@ -1,4 +1,4 @@
--- The rule of the table as its reader wants it: both lists, the word, and each slot with its owner.
+-- The rule of the table as its reader wants it: both lists, the word, and whether each slot is out, empty, or holds what.
 use Rattle.std.specs.Prelude.{◌≡◌, ℕ, true, false, List, [], ◌∷◌, Some, None}
 use Rattle.oneshot_machine.specs.Words.{Noted}
 use Rattle.oneshot_machine.specs.Phases.{By, sending, dropping}

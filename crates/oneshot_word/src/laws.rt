@@ -2,7 +2,7 @@
 
 ghost use Rattle.oneshot_word.specs.Examples.{ListsSay, StatesThatAre, StatesThatAreNot};
 
-/// Which lists say what, which states of the word the rule has, and which it has not, by examples.
+/// Which lists say what, which states of the word have a row of owners, and which have none, by examples.
 pub fn examples_are_so<T, W>()
     ensures lists { ListsSay }
     ensures states { StatesThatAre T W }

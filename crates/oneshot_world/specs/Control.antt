@@ -166,7 +166,7 @@ is_same_control c d =
     is_same_state c.state d.state
     && (call_code c.sender == call_code d.sender && call_code c.receiver == call_code d.receiver)
 
--- the order in which the search keeps them; two values that a run can reach never have one code, or the search would not end
+-- the order in which the search keeps them; two values that a run can reach never have one code, or the search would leave one of them out
 abbrev pub wakers_code : Wakers → ℕ
 wakers_code w = ((name_code w.cell * 3 + name_code w.hand) * 3 + name_code w.taken) * 2 + bool_code w.token
 

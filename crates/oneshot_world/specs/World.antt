@@ -18,7 +18,7 @@ use Rattle.oneshot_world.specs.declared.trace.Entry.TheVariants.{Idle, Made as M
 use Rattle.oneshot_world.specs.declared.trace.Place.{Place}
 use Rattle.oneshot_world.specs.declared.trace.Place.TheVariants.{NotSent}
 
--- the word, the block, both ends' positions and the message's place; and what each script has left
+-- the word, the block, both ends' positions, the message's place and the wakers; and what each script has left
 pub record World : Type 0 where
   pub state : State
   pub sender : Unanswered
@@ -75,7 +75,7 @@ world_then side w turned = (
   },
 )
 
--- A move, with what a clock answers then: what it tells, and the world that it leads to. None where the moving end finds what its table has no row for.
+-- A move, with what a clock answers then: what it tells, and the world that it leads to. None where the moving end finds what its table has no row for, or a cell or a hand is not as the step needs it.
 abbrev pub turn_of : End → Bool → World → Option (Entry × World)
 turn_of side over w = option_map (world_then side w) (turns side over w.state (first (by_end side w.sender w.receiver).calls))
 
