@@ -50,6 +50,6 @@ fn the_time_grows_with_the_calls(rt: HostRuntime) -> Result<(), Fail> {
         many = many.min(time_of(&rt, 200_000)?);
     }
     // Twenty times the calls take twenty times as long, and four hundred times if each copies the rest.
-    assert!(rt; many < few * 80);
+    assert!(rt; many / 80 < few);
     Ok(())
 }
