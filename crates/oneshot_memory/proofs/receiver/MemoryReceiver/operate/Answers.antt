@@ -5,8 +5,8 @@ use Rattle.oneshot_memory.specs.Events.{slot_of, logged}
 use Rattle.oneshot_memory.specs.Receiver.{keeps_message, keeps_waker, lies}
 use Rattle.oneshot_memory.proofs.Logs.{word_grows}
 use Rattle.oneshot_memory.proofs.Receivers.{ReceiverWord, receiver_word, receiver_worded}
-use Rattle.oneshot_memory.proofs.receiver.MemoryReceiverReceiverGround.word.Given as given
-use Rattle.oneshot_memory.proofs.receiver.MemoryReceiverReceiverGround.word.Goals as goal
+use Rattle.oneshot_memory.proofs.receiver.MemoryReceiver.operate.Given as given
+use Rattle.oneshot_memory.proofs.receiver.MemoryReceiver.operate.Goals as goal
 
 pub after-self-inside-requires : goal.after-self-inside-requires
 after-self-inside-requires g c =
