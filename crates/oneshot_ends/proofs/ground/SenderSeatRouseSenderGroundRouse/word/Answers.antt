@@ -1,5 +1,5 @@
 use Rattle.oneshot_ends.proofs.Standing.{sender_can, sender_found}
-use Rattle.oneshot_ends.proofs.ground.SenderSeatUnparkerSenderGroundUnparker.word.Goals as goal
+use Rattle.oneshot_ends.proofs.ground.SenderSeatRouseSenderGroundRouse.word.Goals as goal
 
 pub add-requires : goal.add-requires
 add-requires g c = (sender_can c.self.inside.freed.value c.self.inside.side c.args.self.now _ c.args.op c.self.view_is c.in-Add.is c.requires).1

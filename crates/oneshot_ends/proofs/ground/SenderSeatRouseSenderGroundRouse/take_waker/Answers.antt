@@ -1,6 +1,6 @@
 use Rattle.std.proofs.Common.{ap, ◌∙◌}
 use Rattle.oneshot_ends.proofs.Standing.{own_slot}
-use Rattle.oneshot_ends.proofs.ground.SenderSeatUnparkerSenderGroundUnparker.take_waker.Goals as goal
+use Rattle.oneshot_ends.proofs.ground.SenderSeatRouseSenderGroundRouse.take_waker.Goals as goal
 
 pub take_waker-requires : goal.take_waker-requires
 take_waker-requires g c =
