@@ -19,3 +19,5 @@ pub mod WaitExamples
 pub mod TimedExamples
 pub mod WakerExamples
 pub mod UnwokenExamples
+pub mod FutureTraces
+pub mod FutureExamples

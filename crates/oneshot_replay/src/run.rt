@@ -61,7 +61,8 @@ pub fn replay<T: Drop>(
     };
     let mut end = Replayer::new(s, r);
     for m in moves {
-        let Ok(()) = entries.push(end.step(*m)) else {
+        let entry = entries.len() + 1;
+        let Ok(()) = entries.push(end.step(*m, entry)) else {
             unreachable!()
         };
     }
