@@ -2,8 +2,6 @@
 #![tactic(auto)]
 
 #[cfg(test)]
-mod awaited;
-#[cfg(test)]
 mod callers;
 #[cfg(test)]
 mod example;
@@ -11,7 +9,7 @@ mod example;
 mod rehearsal;
 
 pub use oneshot_drive as drive;
-pub use oneshot_ends::{AsyncReceiver, Receiver, SendError, Sender, async_channel, channel};
+pub use oneshot_ends::{Receiver, SendError, Sender, channel};
 pub use oneshot_errors::{RecvError, RecvTimeoutError, TryRecvError};
 pub use oneshot_machine::{machine, states};
 pub use oneshot_memory as memory;

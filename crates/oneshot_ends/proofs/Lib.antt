@@ -1,4 +1,2 @@
 pub mod Standing
 pub mod Lent
-mod Tokens
-mod Polled

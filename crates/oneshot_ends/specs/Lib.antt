@@ -1,4 +1,3 @@
 pub mod Sides
 pub mod Ends
 pub mod Deadlines
-pub mod Tasks

@@ -5,7 +5,7 @@ ghost use Rattle.oneshot_machine.specs.Phases.{sender_at};
 ghost use Rattle.oneshot_drive.specs.Calls.{IsLate};
 
 use crate::ground::ErrorSeat;
-use crate::rouse::Rouse;
+use crossbeam_utils::sync::Unparker;
 use oneshot_drive::{drop_error, into_inner};
 use oneshot_word::SenderSide;
 use std::error::Error;
@@ -21,7 +21,7 @@ use std::marker::Model;
 /// A contract sees the message, the table, and the sender's log of operations on the word.
 pub struct SendError<T> {
     message: T,
-    side: SenderSide<T, Rouse>,
+    side: SenderSide<T, Unparker>,
 }
 
 impl<T> Model for SendError<T> {
@@ -37,7 +37,7 @@ impl<T> Model for SendError<T> {
 }
 
 impl<T> SendError<T> {
-    pub(crate) fn new(message: T, side: SenderSide<T, Rouse>) -> SendError<T>
+    pub(crate) fn new(message: T, side: SenderSide<T, Unparker>) -> SendError<T>
         requires { IsLate (sender_at side.steps) }
         ensures { result ≡ record { message = message; table = side.table; steps = side.steps } }
     {

@@ -1,6 +1,6 @@
 //! What a real end does to the world: its ground over the shared word.
 
-ghost use Rattle.std.specs.Prelude.{◌≡◌, false, true, ⊤};
+ghost use Rattle.std.specs.Prelude.{◌≡◌, false, true};
 ghost use Rattle.oneshot_machine.specs.Slots.{held};
 ghost use Rattle.oneshot_machine.specs.Phases.{sender_at};
 ghost use Rattle.oneshot_drive.specs.Calls.{IsError, IsLate};
@@ -8,7 +8,7 @@ ghost use Rattle.oneshot_word.specs.Sides.{Side};
 ghost use Rattle.oneshot_ends.specs.Sides.{left_of};
 
 use crate::freed::Freed;
-use crate::rouse::Rouse;
+use crossbeam_utils::sync::Unparker;
 use oneshot_drive::{ReceiverGround, SenderGround};
 use oneshot_machine::states::Op;
 use oneshot_word::{ReceiverSide, SenderSide};
@@ -55,7 +55,7 @@ impl<T: Drop, W: Drop> SenderSeat<T, W> {
     }
 }
 
-impl<T: Drop> SenderGround<T, Rouse> for SenderSeat<T, Rouse> {
+impl<T: Drop> SenderGround<T, Unparker> for SenderSeat<T, Unparker> {
     ghost use Rattle.oneshot_ends.specs.Sides.{logged};
 
     ghost log = { logged };
@@ -85,14 +85,14 @@ impl<T: Drop> SenderGround<T, Rouse> for SenderSeat<T, Rouse> {
         self.side.take_message();
     }
 
-    fn take_waker(&mut self) -> Rouse {
+    fn take_waker(&mut self) -> Unparker {
         self.side.take_waker()
     }
 
-    fn wake(&mut self, waker: Rouse) {
+    fn wake(&mut self, waker: Unparker) {
         // A body that reads nothing of itself tells its proof nothing of itself.
         let _side = &self.side;
-        waker.wake();
+        waker.unpark();
     }
 
     fn free(&mut self) {
@@ -137,7 +137,7 @@ impl<T, W> ErrorSeat<T, W> {
     }
 }
 
-impl<T: Drop> SenderGround<T, Rouse> for ErrorSeat<T, Rouse> {
+impl<T: Drop> SenderGround<T, Unparker> for ErrorSeat<T, Unparker> {
     ghost use Rattle.oneshot_ends.specs.Sides.{logged};
 
     ghost log = { logged };
@@ -166,16 +166,16 @@ impl<T: Drop> SenderGround<T, Rouse> for ErrorSeat<T, Rouse> {
     }
 
     // No receiver waits for a sender that found it gone.
-    fn take_waker(&mut self) -> Rouse {
+    fn take_waker(&mut self) -> Unparker {
         // A body that reads nothing of itself tells its proof nothing of itself.
         let _side = &self.side;
         unreachable!()
     }
 
-    fn wake(&mut self, waker: Rouse) {
+    fn wake(&mut self, waker: Unparker) {
         // A body that reads nothing of itself tells its proof nothing of itself.
         let _side = &self.side;
-        waker.wake();
+        waker.unpark();
     }
 
     fn free(&mut self) {
@@ -228,19 +228,11 @@ impl<T: Drop, W: Drop> ReceiverGround<T, W> for ReceiverSeat<T, W> {
 
     ghost waker_slot = { λ s. s.waker };
 
-    // It has nothing beside the channel.
-    ghost keeps = { λ _ _. ⊤ };
-
-    ghost keeps_same = { λ _. tt };
-
-    ghost keeps_on = { λ _ _ _ _ _. tt };
-
     fn word(&mut self, op: Op) -> u8 {
         match op {
             Op::Load => self.side.load(),
             Op::Store(new) => self.side.store(new),
             Op::Swap(new) => self.side.swap(new),
-            Op::Exchange(expected, new) => self.side.exchange(expected, new),
             _ => unreachable!(),
         }
     }

@@ -5,16 +5,12 @@ mod blocking;
 mod deadline;
 mod error;
 mod freed;
-mod future;
 mod ground;
 mod pair;
 mod receiver;
-mod rouse;
 mod sender;
-mod task;
 
 pub use error::SendError;
-pub use future::AsyncReceiver;
-pub use pair::{async_channel, channel};
+pub use pair::channel;
 pub use receiver::Receiver;
 pub use sender::Sender;

@@ -12,11 +12,8 @@ ghost use Rattle.oneshot_ends.specs.Sides.{IsNewReceiver};
 
 use crate::blocking::BlockSeat;
 use crate::deadline::{Deadline, read};
-use crate::future::AsyncReceiver;
 use crate::ground::ReceiverSeat;
-use crate::rouse::Rouse;
-use crossbeam_utils::sync::Parker;
-use futures::task::Source;
+use crossbeam_utils::sync::{Parker, Unparker};
 use oneshot_drive::{drop_receiver, recv, recv_deadline, recv_ref, recv_timeout, try_recv};
 use oneshot_errors::{RecvError, RecvTimeoutError, TryRecvError};
 use oneshot_machine::states::{DISCONNECTED, MESSAGE};
@@ -38,13 +35,11 @@ use std::time::{Clock, Duration, Instant};
 ///
 /// It may go to another thread where `T` and `Rt` are `Send`. Two threads may not share it.
 pub struct Receiver<T, Rt> {
-    seat: ReceiverSeat<T, Rouse>,
+    seat: ReceiverSeat<T, Unparker>,
     // The parker's waking half, unless the sender took it to wake the receiver.
-    hand: Option<Rouse>,
+    hand: Option<Unparker>,
     // A parker may not be shared, so that one thread at a time has the receiver.
     parker: Parker,
-    // Where its polls register, once it is a future.
-    source: Source,
     rt: Rt,
 }
 
@@ -65,9 +60,9 @@ impl<T, Rt> Model for Receiver<T, Rt> {
 
 impl<T, Rt> Receiver<T, Rt> {
     pub(crate) fn new(
-        side: ReceiverSide<T, Rouse>,
+        side: ReceiverSide<T, Unparker>,
         parker: Parker,
-        half: Rouse,
+        half: Unparker,
         rt: Rt,
     ) -> Receiver<T, Rt>
         requires { IsNewReceiver side }
@@ -78,7 +73,6 @@ impl<T, Rt> Receiver<T, Rt> {
             seat: ReceiverSeat::new(side),
             hand: Some(half),
             parker,
-            source: Source::new(),
             rt,
         }
     }
@@ -206,7 +200,6 @@ impl<T: Drop, Rt: Wait + Clock + Drop> Receiver<T, Rt> {
             mut seat,
             mut hand,
             parker,
-            source: _,
             rt,
         } = self;
         let mut lent = BlockSeat {
@@ -246,31 +239,12 @@ impl<T: Drop, Rt: Wait + Clock + Drop> Receiver<T, Rt> {
     }
 }
 
-impl<T: Drop, Rt: Wait + Drop> Receiver<T, Rt> {
-    /// Makes a future of the receiver, which a task can poll. It makes no operation on the word, waits for
-    /// nobody and allocates nothing. The receiver's parker is dropped.
-    pub fn into_future(self) -> AsyncReceiver<T, Rt>
-        ensures table { result.table ≡ self.table }
-        ensures steps { result.steps ≡ self.steps }
-    {
-        let Receiver {
-            seat,
-            hand: _,
-            parker: _,
-            source,
-            rt,
-        } = self;
-        AsyncReceiver::new(seat, source, rt)
-    }
-}
-
 impl<T: Drop, Rt: Drop> Drop for Receiver<T, Rt> {
     fn drop(self) {
         let Receiver {
             mut seat,
             hand: _,
             parker: _,
-            source: _,
             rt: _,
         } = self;
         drop_receiver(&mut seat);

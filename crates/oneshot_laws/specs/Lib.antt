@@ -19,5 +19,3 @@ pub mod WaitExamples
 pub mod TimedExamples
 pub mod WakerExamples
 pub mod UnwokenExamples
-pub mod FutureTraces
-pub mod FutureExamples

@@ -7,7 +7,6 @@ ghost use Rattle.oneshot_laws.specs.WaitExamples.{WaitsAreTold, WaitsAct, Illega
 ghost use Rattle.oneshot_laws.specs.TimedExamples.{TimedAreTold, TimedAreRight, TimedAct, IllegalTimeouts, WrongTimeouts};
 ghost use Rattle.oneshot_laws.specs.WakerExamples.{MisplacedWakers, FullCells};
 ghost use Rattle.oneshot_laws.specs.UnwokenExamples.{AheadsOfRuns, UnwokenWaits};
-ghost use Rattle.oneshot_laws.specs.FutureExamples.{FuturesAreTold, FuturesAreRight, NotTold, PollsAct, IllegalPolls, MisplacedCopies, MisfreedFutures, WrongPolls};
 
 /// Says nothing at run time. Its contract is what the definitions say of worked traces, and of the same
 /// traces damaged, so that a definition that is changed by mistake is refused here.
@@ -38,12 +37,4 @@ pub fn examples()
     ensures full_cells { FullCells }
     ensures aheads { AheadsOfRuns }
     ensures unwoken { UnwokenWaits }
-    ensures futures_told { FuturesAreTold }
-    ensures futures_right { FuturesAreRight }
-    ensures not_told { NotTold }
-    ensures polls_act { PollsAct }
-    ensures illegal_polls { IllegalPolls }
-    ensures misplaced_copies { MisplacedCopies }
-    ensures misfreed_futures { MisfreedFutures }
-    ensures wrong_polls { WrongPolls }
 {}

@@ -2,7 +2,6 @@
 
 mod deeds;
 mod drops;
-mod polls;
 mod receiver;
 mod sender;
 mod steps;

@@ -2,7 +2,6 @@
 
 mod faults;
 mod long;
-mod polls;
 mod streams;
 mod traces;
 

@@ -6,7 +6,6 @@ mod deadlines;
 mod drops;
 mod leaks;
 mod overdue;
-mod polls;
 mod refused;
 mod threads;
 mod waiting;

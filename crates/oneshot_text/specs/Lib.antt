@@ -1,5 +1,4 @@
 pub mod Cut
-pub mod Future
 pub mod Line
 pub mod Lines
 pub mod Receiver

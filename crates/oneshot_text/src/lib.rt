@@ -2,7 +2,6 @@
 #![tactic(auto)]
 
 mod fault;
-mod future;
 mod line;
 mod lines;
 mod number;

@@ -1,12 +1,10 @@
 -- The examples of the rule: each state by its row, and why no row fits the others.
-use Rattle.std.proofs.Common.{[], ◌∷◌, refl}
-use Rattle.oneshot_machine.specs.declared.machine.Seen.TheVariants.{Word}
-use Rattle.oneshot_machine.specs.declared.states.Op.TheVariants.{Add}
+use Rattle.std.proofs.Common.{[], refl}
 use Rattle.oneshot_machine.specs.Phases.{sending}
-use Rattle.oneshot_word.specs.Examples.{waits, stopped_over, polled, polled_over, exchanged_back, claims, sent_over, dropped_over, StatesThatAre, StatesThatAreNot}
-use Rattle.oneshot_word.specs.Lists.{send_found, sent as sent_alone, sent_to_it, sent_to_overdue, dropped_before_overdue}
-use Rattle.oneshot_word.specs.Rule.{Home, out, bare, has_waker}
-use Rattle.oneshot_word.specs.Rows.{Owned, both_open, waker_stored, waker_claimed, claimed_overdue, receiver_gone, sender_after, sent, dropped, written, sender_has_it, left_for_sender, left_for_receiver, receiver_has_it, receiver_found_it, waits_for_receiver, waker_at_home}
+use Rattle.oneshot_word.specs.Examples.{waits, stopped_over, claims, sent_over, dropped_over, StatesThatAre, StatesThatAreNot}
+use Rattle.oneshot_word.specs.Lists.{send_found, sent_to_it, sent_to_overdue, dropped_before_overdue}
+use Rattle.oneshot_word.specs.Rule.{Home, bare, has_waker}
+use Rattle.oneshot_word.specs.Rows.{Owned, both_open, waker_stored, waker_claimed, claimed_overdue, receiver_gone, sender_after, sent, dropped, written, sender_has_it, left_for_sender, left_for_receiver, receiver_has_it, waits_for_receiver, waker_at_home}
 
 module _ {T W : Type 0} where
   pub states_that_are : StatesThatAre T W
@@ -21,11 +19,6 @@ module _ {T W : Type 0} where
         dropped_too_late = dropped dropped_before_overdue refl left_for_receiver left_for_receiver;
         stopped_over_the_message = written sending sent_to_it refl receiver_has_it receiver_has_it;
         gone_first = receiver_gone refl refl sender_has_it left_for_sender;
-        polls = λ k. waker_stored refl refl refl sender_has_it (waker_at_home k);
-        took_back = both_open refl refl refl sender_has_it receiver_has_it;
-        claimed_in_a_poll = waker_claimed sending send_found refl refl sender_has_it sender_has_it;
-        sent_to_a_future = λ x. sent sent_to_it refl (waits_for_receiver x) left_for_receiver;
-        polled_too_late = sent sent_alone refl receiver_found_it receiver_has_it;
       }
 
   overdue_leaves_1 : {h k : Home T W} → Owned claims (stopped_over 1) 1 h k → ⊥
@@ -77,39 +70,6 @@ module _ {T W : Type 0} where
   waker_is_gone (sender_after by made is m w) = elim made [ ]
   waker_is_gone (written by made is m w) = elim made [ ]
 
-  poll_leaves_3 : {h k : Home T W} → Owned [] polled 3 h k → ⊥
-  poll_leaves_3 (both_open none stores here m w) = absurd (cc)
-  poll_leaves_3 (claimed_overdue by found late here m w) = elim found [ ]
-  poll_leaves_3 (sender_after by made is m w) = elim made [ ]
-  poll_leaves_3 (written by made is m w) = elim made [ ]
-
-  poll_has_its_copy : {h : Home T W} → Owned [] polled 0 h out → ⊥
-  poll_has_its_copy (waker_stored none stores here m w) = elim w [ ]
-  poll_has_its_copy (sender_after by made is m w) = elim made [ ]
-  poll_has_its_copy (written by made is m w) = elim made [ ]
-
-  takes_back_and_leaves_0 : {h k : Home T W} → Owned [] (exchanged_back 0) 0 h k → ⊥
-  takes_back_and_leaves_0 (waker_stored none stores here m w) = absurd (cc)
-  takes_back_and_leaves_0 (sender_after by made is m w) = elim made [ ]
-  takes_back_and_leaves_0 (written by made is m w) = elim made [ ]
-
-  takes_nothing_back : {h : Home T W} (k : W) → Owned [] (exchanged_back 0) 3 h (has_waker k) → ⊥
-  takes_nothing_back k (both_open none stores here m w) = elim w [ ]
-  takes_nothing_back k (claimed_overdue by found late here m w) = elim w [ ]
-  takes_nothing_back k (sender_after by made is m w) = elim made [ ]
-  takes_nothing_back k (written by made is m w) = elim made [ ]
-
-  late_poll_leaves_0 : {h k : Home T W} → Owned ((Add, Word 3) ∷ []) (polled_over 4) 0 h k → ⊥
-  late_poll_leaves_0 (waker_stored none stores here m w) = absurd (cc)
-  late_poll_leaves_0 (sender_after by made is m w) = elim made [ ]
-  late_poll_leaves_0 (written by made is m w) = absurd (cc)
-
-  takes_back_over_1 : {h k : Home T W} → Owned claims (exchanged_back 1) 3 h k → ⊥
-  takes_back_over_1 (both_open none stores here m w) = absurd (cc)
-  takes_back_over_1 (claimed_overdue by found late here m w) = absurd (cc)
-  takes_back_over_1 (sender_after by made is m w) = elim made [ ]
-  takes_back_over_1 (written by made is m w) = elim made [ ]
-
   pub states_that_are_not : StatesThatAreNot T W
   states_that_are_not =
       record {
@@ -122,10 +82,4 @@ module _ {T W : Type 0} where
         stop_leaves_0_over_the_end = stop_leaves_0_over_the_end;
         message_lies_with_nobody = message_lies_with_nobody;
         waker_is_gone = waker_is_gone;
-        poll_leaves_3 = poll_leaves_3;
-        poll_has_its_copy = poll_has_its_copy;
-        takes_back_and_leaves_0 = takes_back_and_leaves_0;
-        takes_nothing_back = takes_nothing_back;
-        late_poll_leaves_0 = late_poll_leaves_0;
-        takes_back_over_1 = takes_back_over_1;
       }

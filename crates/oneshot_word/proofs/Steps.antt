@@ -1,11 +1,9 @@
 -- Each step of an end keeps the rule, and tells the end what it found.
 use Rattle.std.proofs.Common.{ℕ, ◌+◌, ◌%◌, ◌^◌, bit_xor, List, [], ◌∷◌, ◌++◌, get_or, set, refl, sym, ap, ◌∙◌, subst}
-use Rattle.std.specs.Prelude.{◌==◌}
-use prog.Atomic.{either}
 use mathlib.Core.Option as maybe
 use Rattle.atomic_table.specs.Table.{State, Me, Act, Valid, Allows, homes_after, carried_after}
 use Rattle.oneshot_machine.specs.declared.states.Op.{Op}
-use Rattle.oneshot_machine.specs.declared.states.Op.TheVariants.{Load, Store, Swap, Exchange, Add, Xor}
+use Rattle.oneshot_machine.specs.declared.states.Op.TheVariants.{Load, Store, Swap, Add, Xor}
 use Rattle.oneshot_machine.specs.Words.{Noted, saw}
 use Rattle.oneshot_machine.specs.Phases.{SenderAt, fresh, sender_at, ReceiverAt, first, receiver_at}
 use Rattle.oneshot_machine.specs.Slots.{SenderMay, ReceiverMay}
@@ -17,7 +15,7 @@ use Rattle.oneshot_word.specs.Rule.{Home, Row, SenderSays, ReceiverSays, Tied, r
 use Rattle.oneshot_word.specs.Seats.{view, message_in, waker_in, SenderHas, ReceiverHas, SenderSeat, ReceiverSeat, SenderStepped, ReceiverStepped}
 use Rattle.oneshot_word.proofs.Found.{SenderFound, found_sender, sender_found, ReceiverFound, found_receiver, receiver_found}
 use Rattle.oneshot_word.proofs.Says.{sender_says, receiver_says}
-use Rattle.oneshot_word.proofs.Turns.{SenderTurn, sender_acts, row_code, ReceiverTurn, receiver_acts, adds, flips, finishes, loads, stores, swaps, exchanges}
+use Rattle.oneshot_word.proofs.Turns.{SenderTurn, sender_acts, row_code, ReceiverTurn, receiver_acts, adds, flips, finishes, loads, stores, swaps}
 
 module _ {T W : Type 0} where
   abbrev pub Holds : State (Slot T W) View → Type 0
@@ -107,6 +105,3 @@ module _ {T W : Type 0} where
 
     pub swap_allowed : (new : ℕ) → ReceiverSeat me → ReceiverAsks me (Swap new) → Allows Holds slots id me 0 (λ _. new) (ReceiverStepped me (Swap new))
     swap_allowed new seat may = receiver_allows me _ (Swap new) slots id seat (λ p w h k row. swaps new w may seat.has row)
-
-    pub exchange_allowed : (expected new : ℕ) → ReceiverSeat me → ReceiverAsks me (Exchange expected new) → Allows Holds slots id me 0 (λ n. either (n == expected) new n) (ReceiverStepped me (Exchange expected new))
-    exchange_allowed expected new seat may = receiver_allows me _ (Exchange expected new) slots id seat (λ p w h k row. exchanges expected new w may seat.has row)

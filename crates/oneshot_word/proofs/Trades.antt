@@ -7,7 +7,7 @@ use Rattle.oneshot_machine.specs.Slots.{Held, away, vacant}
 use Rattle.oneshot_word.specs.declared.rule.Slot.{Slot}
 use Rattle.oneshot_word.specs.declared.rule.Slot.TheVariants.{Empty, Message, Waker}
 use Rattle.oneshot_word.specs.declared.rule.View.{View}
-use Rattle.oneshot_word.specs.Seats.{Carried, message_of, waker_of, message_in, waker_in, MessageSlot, no_message, the_message, WakerSlot, no_waker, the_waker, SenderHas, has_fresh, has_owes, has_finished, has_late, ReceiverHas, has_first, has_here, has_waits, has_claimed, has_withdrew, has_overdue, has_full, has_unclosed, has_over, has_resolved, has_gone, has_ended, SenderSeat, ReceiverSeat}
+use Rattle.oneshot_word.specs.Seats.{Carried, message_of, waker_of, message_in, waker_in, MessageSlot, no_message, the_message, WakerSlot, no_waker, the_waker, SenderHas, has_fresh, has_owes, has_finished, has_late, ReceiverHas, has_first, has_here, has_waits, has_overdue, has_full, has_unclosed, has_over, has_gone, has_ended, SenderSeat, ReceiverSeat}
 use Rattle.oneshot_word.specs.Sides.{Side, side_of}
 
 module _ {T W : Type 0} where
@@ -44,13 +44,10 @@ module _ {T W : Type 0} where
   receiver_reads has_first = (refl, refl)
   receiver_reads (has_here f other) = (refl, waker_reads other)
   receiver_reads (has_waits a) = (refl, refl)
-  receiver_reads has_claimed = (refl, refl)
-  receiver_reads (has_withdrew other) = (refl, waker_reads other)
   receiver_reads has_overdue = (refl, refl)
   receiver_reads (has_full g n slot other) = (message_reads slot, waker_reads other)
   receiver_reads (has_unclosed n slot other) = (message_reads slot, waker_reads other)
   receiver_reads (has_over c slot other) = (message_reads slot, waker_reads other)
-  receiver_reads (has_resolved c slot other) = (message_reads slot, waker_reads other)
   receiver_reads has_gone = (refl, refl)
   receiver_reads (has_ended slot other) = (message_reads slot, waker_reads other)
 
@@ -90,13 +87,10 @@ module _ {T W : Type 0} where
   receiver_trades_message has_first its new = absurd (its refl)
   receiver_trades_message (has_here f other) its new = absurd (its refl)
   receiver_trades_message (has_waits a) its new = absurd (its refl)
-  receiver_trades_message has_claimed its new = absurd (its refl)
-  receiver_trades_message (has_withdrew other) its new = absurd (its refl)
   receiver_trades_message has_overdue its new = absurd (its refl)
   receiver_trades_message (has_full g n {s} slot other) its new = record { was = s; fits = slot; in_front = refl; has = has_full g n new other }
   receiver_trades_message (has_unclosed n {s} slot other) its new = record { was = s; fits = slot; in_front = refl; has = has_unclosed n new other }
   receiver_trades_message (has_over c {s} slot other) its new = record { was = s; fits = slot; in_front = refl; has = has_over c new other }
-  receiver_trades_message (has_resolved c {s} slot other) its new = record { was = s; fits = slot; in_front = refl; has = has_resolved c new other }
   receiver_trades_message has_gone its new = absurd (its refl)
   receiver_trades_message (has_ended {s} slot other) its new = record { was = s; fits = slot; in_front = refl; has = has_ended new other }
 
@@ -104,13 +98,10 @@ module _ {T W : Type 0} where
   receiver_trades_waker has_first its new = absurd (its refl)
   receiver_trades_waker (has_here f {t} other) its new = record { was = t; fits = other; in_front = refl; has = has_here f new }
   receiver_trades_waker (has_waits a) its new = absurd (its refl)
-  receiver_trades_waker has_claimed its new = absurd (its refl)
-  receiver_trades_waker (has_withdrew {t} other) its new = record { was = t; fits = other; in_front = refl; has = has_withdrew new }
   receiver_trades_waker has_overdue its new = absurd (its refl)
   receiver_trades_waker (has_full g n {t} slot other) its new = record { was = t; fits = other; in_front = refl; has = has_full g n slot new }
   receiver_trades_waker (has_unclosed n {t} slot other) its new = record { was = t; fits = other; in_front = refl; has = has_unclosed n slot new }
   receiver_trades_waker (has_over c {t} slot other) its new = record { was = t; fits = other; in_front = refl; has = has_over c slot new }
-  receiver_trades_waker (has_resolved c {t} slot other) its new = record { was = t; fits = other; in_front = refl; has = has_resolved c slot new }
   receiver_trades_waker has_gone its new = absurd (its refl)
   receiver_trades_waker (has_ended {t} slot other) its new = record { was = t; fits = other; in_front = refl; has = has_ended slot new }
 

@@ -1,7 +1,7 @@
 -- What the lists say, and which states of the word and the slots have a row of owners, by examples; and states that have none.
 use Rattle.std.specs.Prelude.{◌≡◌, ℕ, true, false, List, [], ◌∷◌, ◌++◌, Some, None}
 use Rattle.oneshot_machine.specs.declared.machine.Seen.TheVariants.{Done, Word}
-use Rattle.oneshot_machine.specs.declared.states.Op.TheVariants.{Load, Store, Swap, Exchange, Add, Xor}
+use Rattle.oneshot_machine.specs.declared.states.Op.TheVariants.{Load, Store, Swap, Add, Xor}
 use Rattle.oneshot_machine.specs.Words.{Noted}
 use Rattle.oneshot_word.specs.Lists.{stores_waker, is_overdue, is_gone, wrote_since}
 use Rattle.oneshot_word.specs.Rows.{Owned}
@@ -17,17 +17,6 @@ stopped_over word = waits ++ (Swap 3, Word word) ∷ []
 
 abbrev pub went : List Noted
 went = (Swap 2, Word 3) ∷ []
-
--- A poll that stored its copy, and one that found the message or no sender by its exchange; a later one
--- that took the copy back, and one that found a sender about to finish.
-abbrev pub polled : List Noted
-polled = (Load, Word 3) ∷ (Exchange 3 0, Word 3) ∷ []
-
-abbrev pub polled_over : ℕ → List Noted
-polled_over word = (Load, Word 3) ∷ (Exchange 3 0, Word word) ∷ []
-
-abbrev pub exchanged_back : ℕ → List Noted
-exchanged_back word = polled ++ (Load, Word 0) ∷ (Exchange 0 3, Word word) ∷ []
 
 -- A sender that found it waiting, in a `send` or in its drop; and that has finished.
 abbrev pub claims : List Noted
@@ -54,14 +43,6 @@ pub record ListsSay : Type 0 where
   pub wrote_too_late : wrote_since (stopped_over 1) ≡ None
   pub wrote_over_the_message : wrote_since (stopped_over 4) ≡ Some 3
   pub wrote_and_closed : wrote_since (stopped_over 4 ++ (Store 2, Done) ∷ []) ≡ Some 2
-  -- a poll
-  pub stores_its_copy : stores_waker polled ≡ true
-  pub took_its_copy_back : stores_waker (exchanged_back 0) ≡ false
-  pub exchanged_too_late : stores_waker (exchanged_back 1) ≡ true
-  pub stores_another_copy : stores_waker (exchanged_back 0 ++ (Exchange 3 0, Word 3) ∷ []) ≡ true
-  pub stores_no_copy : stores_waker (polled_over 4) ≡ false
-  pub exchanged_in_vain : wrote_since (polled_over 4) ≡ None
-  pub exchanged_and_closed : wrote_since (polled_over 4 ++ (Store 2, Done) ∷ []) ≡ Some 2
 
 -- the sender's list, the receiver's list, the word, and what of both slots is at home
 pub record StatesThatAre (T W : Type 0) : Type 0 where
@@ -74,12 +55,6 @@ pub record StatesThatAre (T W : Type 0) : Type 0 where
   pub dropped_too_late : Owned {T = T} {W = W} (dropped_over 3) (stopped_over 1) 2 bare bare
   pub stopped_over_the_message : Owned {T = T} {W = W} (sent_over 1) (stopped_over 4) 3 out out
   pub gone_first : Owned {T = T} {W = W} [] went 2 out bare
-  -- a poll
-  pub polls : (k : W) → Owned {T = T} [] polled 0 out (has_waker k)
-  pub took_back : Owned {T = T} {W = W} [] (exchanged_back 0) 3 out out
-  pub claimed_in_a_poll : Owned {T = T} {W = W} claims (exchanged_back 1) 1 out out
-  pub sent_to_a_future : (x : T) → Owned {W = W} (sent_over 1) polled 4 (has_message x) bare
-  pub polled_too_late : Owned {T = T} {W = W} ((Add, Word 3) ∷ []) (polled_over 4) 4 out out
 
 pub record StatesThatAreNot (T W : Type 0) : Type 0 where
   -- an overdue receiver leaves 3, and its waker to the sender
@@ -96,11 +71,3 @@ pub record StatesThatAreNot (T W : Type 0) : Type 0 where
   -- what waits in the word waits there for its end
   pub message_lies_with_nobody : {k : Home T W} → Owned (sent_over 1) waits 4 bare k → ⊥
   pub waker_is_gone : {h : Home T W} → Owned [] waits 0 h bare → ⊥
-  -- an exchange that found what it expects leaves its word, and the copy with the right owner
-  pub poll_leaves_3 : {h k : Home T W} → Owned [] polled 3 h k → ⊥
-  pub poll_has_its_copy : {h : Home T W} → Owned [] polled 0 h out → ⊥
-  pub takes_back_and_leaves_0 : {h k : Home T W} → Owned [] (exchanged_back 0) 0 h k → ⊥
-  pub takes_nothing_back : {h : Home T W} (k : W) → Owned [] (exchanged_back 0) 3 h (has_waker k) → ⊥
-  -- one that did not leaves the word that it found
-  pub late_poll_leaves_0 : {h k : Home T W} → Owned ((Add, Word 3) ∷ []) (polled_over 4) 0 h k → ⊥
-  pub takes_back_over_1 : {h k : Home T W} → Owned claims (exchanged_back 1) 3 h k → ⊥

@@ -2,7 +2,7 @@
 -- The table calls a note with the number that the word really held, and nothing else says that a list tells what was found: the rule speaks of lists alone. So each is to be read.
 use Rattle.std.specs.Prelude.{ℕ}
 use Rattle.atomic_table.specs.Table.{Me, Step}
-use Rattle.oneshot_machine.specs.declared.states.Op.TheVariants.{Load, Store, Swap, Exchange, Add, Xor}
+use Rattle.oneshot_machine.specs.declared.states.Op.TheVariants.{Load, Store, Swap, Add, Xor}
 use Rattle.oneshot_word.specs.declared.rule.Slot.{Slot}
 use Rattle.oneshot_word.specs.declared.rule.View.{View}
 use Rattle.oneshot_word.specs.Seats.{SenderStepped, ReceiverStepped}
@@ -26,7 +26,3 @@ module _ {T W : Type 0} where
 
   abbrev pub SwapFound : Step (Slot T W) → Me (Slot T W) View → ℕ → Me (Slot T W) View → Type 0
   SwapFound step before word after = ReceiverStepped before (Swap step.first) word after
-
-  -- an exchange puts in `second` where it finds `first`
-  abbrev pub ExchangeFound : Step (Slot T W) → Me (Slot T W) View → ℕ → Me (Slot T W) View → Type 0
-  ExchangeFound step before word after = ReceiverStepped before (Exchange step.first step.second) word after

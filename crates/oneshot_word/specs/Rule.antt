@@ -2,7 +2,7 @@
 use Rattle.std.specs.Prelude.{◌≡◌, ℕ, Bool, true, false, ◌==◌, if◌then◌else◌, List, [], ◌∷◌, Option, Some, None}
 use mathlib.Core.Option as maybe
 use Rattle.oneshot_machine.specs.Words.{Noted}
-use Rattle.oneshot_machine.specs.Phases.{By, sending, dropping, SenderAt, fresh, owes, finished, late, sender_at, Open, Waiting, Got, waited, found_closed, closed_itself, ReceiverAt, first, here, waits, claimed, withdrew, overdue, full, unclosed, over, resolved, gone, ended, receiver_at}
+use Rattle.oneshot_machine.specs.Phases.{By, sending, dropping, SenderAt, fresh, owes, finished, late, sender_at, Open, Waiting, Got, waited, found_closed, closed_itself, ReceiverAt, first, here, waits, overdue, full, unclosed, over, gone, ended, receiver_at}
 use Rattle.oneshot_word.specs.declared.rule.Role.TheVariants.{Maker, Dealer, Sender, Receiver}
 use Rattle.oneshot_word.specs.declared.rule.Slot.{Slot}
 use Rattle.oneshot_word.specs.declared.rule.Slot.TheVariants.{Empty, Message, Waker}
@@ -33,11 +33,9 @@ pub data Row (T W : Type 0) : SenderAt → ReceiverAt → ℕ → Home T W → H
   both_new : Row T W fresh first 3 out bare
   both_here : (f : Open) → Row T W fresh (here f) 3 out out
   receiver_waits : (k : W) (a : Waiting) → Row T W fresh (waits a) 0 out (has_waker k)
-  both_withdrew : Row T W fresh withdrew 3 out out
   receiver_went : Row T W fresh gone 2 out bare
   -- it found 0, and its final swap is to come
   sender_owes : (by : By) (a : Waiting) → Row T W (owes by) (waits a) 1 out out
-  owes_claimed : (by : By) → Row T W (owes by) claimed 1 out out
   owes_overdue : (by : By) → Row T W (owes by) overdue 3 out out
   -- its last operation found 2
   sender_late : (by : By) → Row T W (late by 3) gone 3 out out
@@ -45,32 +43,25 @@ pub data Row (T W : Type 0) : SenderAt → ReceiverAt → ℕ → Home T W → H
   message_new : (m : T) → Row T W (finished sending) first 4 (has_message m) bare
   message_left : (m : T) (f : Open) → Row T W (finished sending) (here f) 4 (has_message m) out
   message_waited : (m : T) (a : Waiting) → Row T W (finished sending) (waits a) 4 (has_message m) bare
-  message_claimed : (m : T) → Row T W (finished sending) claimed 4 (has_message m) bare
-  message_withdrew : (m : T) → Row T W (finished sending) withdrew 4 (has_message m) out
   message_overdue : (m : T) → Row T W (finished sending) overdue 4 (has_message m) bare
   -- it dropped, and the receiver has made no operation since
   nothing_new : Row T W (finished dropping) first 2 bare bare
   nothing_left : (f : Open) → Row T W (finished dropping) (here f) 2 bare out
   nothing_waited : (a : Waiting) → Row T W (finished dropping) (waits a) 2 bare bare
-  nothing_claimed : Row T W (finished dropping) claimed 2 bare bare
-  nothing_withdrew : Row T W (finished dropping) withdrew 2 bare out
   nothing_overdue : Row T W (finished dropping) overdue 2 bare bare
   -- the receiver has made one since
   message_found : (g : Got) → Row T W (finished sending) (full g 4) 4 out out
   message_swapped : Row T W (finished sending) (full waited 0) 0 out out
   message_stopped : Row T W (finished sending) (full waited 3) 3 out out
   nothing_found : Row T W (finished dropping) (over found_closed) 2 out out
-  nothing_resolved : Row T W (finished dropping) (resolved found_closed) 2 out out
   nothing_swapped : Row T W (finished dropping) (unclosed 0) 0 out out
   nothing_stopped : Row T W (finished dropping) (unclosed 3) 3 out out
   receiver_closed : (by : By) → Row T W (finished by) (over closed_itself) 2 out out
-  receiver_resolved : (by : By) → Row T W (finished by) (resolved closed_itself) 2 out out
   both_went : (by : By) → Row T W (finished by) ended 2 out out
 
 -- what a list says that is so far
 abbrev pub stores_of : ReceiverAt → Bool
 stores_of (waits a) = true
-stores_of claimed = true
 stores_of _ = false
 
 abbrev pub overdue_of : ReceiverAt → Bool
@@ -86,7 +77,6 @@ abbrev pub wrote_of : ReceiverAt → Option ℕ
 wrote_of (full g n) = if n == 4 then None else Some n
 wrote_of (unclosed n) = Some n
 wrote_of (over closed_itself) = Some 2
-wrote_of (resolved closed_itself) = Some 2
 wrote_of ended = Some 2
 wrote_of _ = None
 

@@ -4,7 +4,7 @@ use Rattle.atomic_table.specs.Seated.{TableId}
 use Rattle.atomic_table.specs.Table.{Me}
 use Rattle.oneshot_machine.specs.declared.states.Op.{Op}
 use Rattle.oneshot_machine.specs.Words.{Noted, saw}
-use Rattle.oneshot_machine.specs.Phases.{By, SenderAt, fresh, owes, finished, late, sender_at, Open, Waiting, Got, Closing, ReceiverAt, first, here, waits, claimed, withdrew, overdue, full, unclosed, over, resolved, gone, ended, receiver_at}
+use Rattle.oneshot_machine.specs.Phases.{By, SenderAt, fresh, owes, finished, late, sender_at, Open, Waiting, Got, Closing, ReceiverAt, first, here, waits, overdue, full, unclosed, over, gone, ended, receiver_at}
 use Rattle.oneshot_machine.specs.Slots.{Held, away, vacant, held, SenderFinds, ReceiverFinds}
 use Rattle.oneshot_word.specs.declared.rule.Role.{Role}
 use Rattle.oneshot_word.specs.declared.rule.Role.TheVariants.{Sender, Receiver}
@@ -65,9 +65,6 @@ pub data ReceiverHas {T W : Type 0} : ReceiverAt → Carried T W → Held T → 
   has_here : (f : Open) {t : Slot T W} {w : Held W}
       → WakerSlot t w → ReceiverHas (here f) ((1, t) ∷ []) away w
   has_waits : (a : Waiting) → ReceiverHas (waits a) [] away away
-  has_claimed : ReceiverHas claimed [] away away
-  has_withdrew : {t : Slot T W} {w : Held W}
-      → WakerSlot t w → ReceiverHas withdrew ((1, t) ∷ []) away w
   has_overdue : ReceiverHas overdue [] away away
   has_full : (g : Got) (n : ℕ) {s t : Slot T W} {m : Held T} {w : Held W}
       → MessageSlot s m → WakerSlot t w → ReceiverHas (full g n) ((0, s) ∷ (1, t) ∷ []) m w
@@ -75,8 +72,6 @@ pub data ReceiverHas {T W : Type 0} : ReceiverAt → Carried T W → Held T → 
       → MessageSlot s m → WakerSlot t w → ReceiverHas (unclosed n) ((0, s) ∷ (1, t) ∷ []) m w
   has_over : (c : Closing) {s t : Slot T W} {m : Held T} {w : Held W}
       → MessageSlot s m → WakerSlot t w → ReceiverHas (over c) ((0, s) ∷ (1, t) ∷ []) m w
-  has_resolved : (c : Closing) {s t : Slot T W} {m : Held T} {w : Held W}
-      → MessageSlot s m → WakerSlot t w → ReceiverHas (resolved c) ((0, s) ∷ (1, t) ∷ []) m w
   has_gone : ReceiverHas gone [] away away
   has_ended : {s t : Slot T W} {m : Held T} {w : Held W}
       → MessageSlot s m → WakerSlot t w → ReceiverHas ended ((0, s) ∷ (1, t) ∷ []) m w

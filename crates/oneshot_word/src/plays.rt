@@ -3,7 +3,7 @@
 ghost use Rattle.std.specs.Prelude.{◌≡◌, ◌∷◌, []};
 ghost use Rattle.oneshot_word.specs.declared.rule.Role.TheVariants.{Dealer, Sender, Receiver};
 ghost use Rattle.oneshot_word.specs.declared.rule.Slot.TheVariants.{Empty};
-ghost use Rattle.oneshot_word.specs.Plays.{AddFound, FlipFound, FinalSwapFound, LoadFound, StoreFound, SwapFound, ExchangeFound};
+ghost use Rattle.oneshot_word.specs.Plays.{AddFound, FlipFound, FinalSwapFound, LoadFound, StoreFound, SwapFound};
 ghost use Rattle.oneshot_word.specs.Seats.{view};
 
 use crate::rule::{Slot, View};
@@ -43,12 +43,6 @@ pub(crate) struct Swaps;
 
 impl<T, W> Play<Slot<T, W>, View> for Swaps {
     ghost then = { SwapFound };
-}
-
-pub(crate) struct Exchanges;
-
-impl<T, W> Play<Slot<T, W>, View> for Exchanges {
-    ghost then = { ExchangeFound };
 }
 
 // The maker takes the message's slot.

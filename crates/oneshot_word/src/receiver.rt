@@ -1,14 +1,14 @@
 //! The receiver's side of the shared word.
 
 ghost use Rattle.std.specs.Prelude.{◌≡◌, ◌≢◌};
-ghost use Rattle.oneshot_machine.specs.declared.states.Op.TheVariants.{Load, Store, Swap, Exchange};
+ghost use Rattle.oneshot_machine.specs.declared.states.Op.TheVariants.{Load, Store, Swap};
 ghost use Rattle.oneshot_machine.specs.Phases.{receiver_at};
 ghost use Rattle.oneshot_machine.specs.Slots.{away, vacant, held};
 ghost use Rattle.oneshot_word.specs.Rows.{RuleReads};
 ghost use Rattle.oneshot_word.specs.Seats.{MessageSlot, WakerSlot, message_of, waker_of};
 ghost use Rattle.oneshot_word.specs.Sides.{ReceiverCan, ReceiverDid, ReceiverOwns};
 
-use crate::plays::{Exchanges, Loads, Stores, Swaps};
+use crate::plays::{Loads, Stores, Swaps};
 use crate::rule::Slot;
 use crate::table::{Board, Chair, look};
 use std::alloc::Global;
@@ -62,16 +62,6 @@ impl<T, W> ReceiverSide<T, W> {
         self.board
             .shared
             .swap::<Swaps>(&mut self.chair, 0, new as u64) as u8
-    }
-
-    /// Puts `new` into the word where it is `expected`, and gives the word before.
-    pub fn exchange(&mut self, expected: u8, new: u8) -> u8
-        requires { ReceiverCan self.old (Exchange expected new) }
-        ensures { ReceiverDid self.old (Exchange expected new) result self.new }
-    {
-        self.board
-            .shared
-            .compare_exchange::<Exchanges>(&mut self.chair, 0, expected as u64, new as u64) as u8
     }
 
     /// Does nothing. Its contract tells which slots are the receiver's by what it did.

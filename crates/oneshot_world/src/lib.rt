@@ -2,19 +2,17 @@
 #![tactic(auto)]
 
 mod calls;
-mod laws;
 mod script;
 mod state;
 mod trace;
 mod wakers;
 mod world;
 
-pub use laws::turns_commute;
 pub use script::{
-    AsyncCall, AsyncLast, AsyncScript, CallList, ErrorLast, ErrorScript, Move, ReceiverCall,
-    ReceiverLast, ReceiverScript, SenderLast, SenderScript,
+    CallList, ErrorLast, ErrorScript, Move, ReceiverCall, ReceiverLast, ReceiverScript, SenderLast,
+    SenderScript,
 };
 pub use state::{ReceiverState, SenderState, State};
 pub use trace::{Entry, Made, Place, WakerName, WakerPlace};
-pub use wakers::{Told, Wakers};
+pub use wakers::Wakers;
 pub use world::World;

@@ -1,7 +1,7 @@
 -- One more move, and the end of the run.
-use Rattle.std.proofs.Common.{rules, ◌≡◌, ◌+◌, Some, get_or, length, take, sym, ap, subst, ◌∙◌}
+use Rattle.std.proofs.Common.{rules, ◌≡◌, take, sym, ap, ◌∙◌}
 use Rattle.std.proofs.lemmas.List.{take_more, take_all}
-use Rattle.oneshot_world.specs.World.{World, turn}
+use Rattle.oneshot_world.specs.World.{World}
 use Rattle.oneshot_world.specs.declared.script.Move.TheVariants.{Sender}
 use Rattle.oneshot_laws.proofs.IdleRuns.{idle_run}
 use Rattle.oneshot_laws.proofs.LegalRuns.{legal_run}
@@ -22,12 +22,8 @@ use Rattle.oneshot_replay.proofs.run.replay.Goals as goal
 
 pub loop-m-preserved : goal.loop-m-preserved
 loop-m-preserved g c =
-    let number : c.len-entry.result + 1 ≡ 1 + length c.loop-m.entries.items = search rules in
     record {
-      run =
-          rw (take_more c.args.moves.now c.loop-m.m-index Sender c.loop-m-test.true, c.in-Ok-push.ensures.items)
-          (grows _ _ _ c.loop-m.end.world _ c.step.result c.step.new.self.world c.loop-m.invariant.run
-          (subst (λ n. turn n c.loop-m.end.world (get_or c.args.moves.now c.loop-m.m-index Sender) ≡ Some (c.step.result, c.step.new.self.world)) number c.step.ensures.turn));
+      run = rw (take_more c.args.moves.now c.loop-m.m-index Sender c.loop-m-test.true, c.in-Ok-push.ensures.items) (grows _ _ _ c.loop-m.end.world _ c.step.result c.step.new.self.world c.loop-m.invariant.run c.step.ensures.turn);
       message = search rules;
       room = search rules;
     }

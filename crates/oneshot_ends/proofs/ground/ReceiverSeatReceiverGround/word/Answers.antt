@@ -45,18 +45,3 @@ returns-in-Swap-clause-finds g c =
     receiver_found c.self.inside.freed.value c.self.inside.side c.args.self.now c.swap.new.self _ c.args.op c.swap.result c.self.view_is c.in-Swap.is
     (receiver_can c.self.inside.freed.value c.self.inside.side c.args.self.now _ c.args.op c.self.invariant c.self.view_is c.in-Swap.is c.requires).0
     c.swap.ensures.finds
-
-pub exchange-requires : goal.exchange-requires
-exchange-requires g c =
-    (receiver_can c.self.inside.freed.value c.self.inside.side c.args.self.now _ c.args.op c.self.invariant c.self.view_is c.in-Exchange.is c.requires).1
-
-pub invariant_of-self-in-Exchange : goal.invariant_of-self-in-Exchange
-invariant_of-self-in-Exchange g c =
-    stays_unfreed c.self.inside.freed.value _
-    (receiver_can c.self.inside.freed.value c.self.inside.side c.args.self.now _ c.args.op c.self.invariant c.self.view_is c.in-Exchange.is c.requires).0
-
-pub returns-in-Exchange-clause-finds : goal.returns-in-Exchange-clause-finds
-returns-in-Exchange-clause-finds g c =
-    receiver_found c.self.inside.freed.value c.self.inside.side c.args.self.now c.exchange.new.self _ c.args.op c.exchange.result c.self.view_is c.in-Exchange.is
-    (receiver_can c.self.inside.freed.value c.self.inside.side c.args.self.now _ c.args.op c.self.invariant c.self.view_is c.in-Exchange.is c.requires).0
-    c.exchange.ensures.finds

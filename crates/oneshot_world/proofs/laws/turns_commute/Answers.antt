@@ -1,5 +1,0 @@
-use Rattle.oneshot_world.proofs.Classed.{turns_as}
-use Rattle.oneshot_world.proofs.laws.turns_commute.Goals as goal
-
-pub returns : goal.returns
-returns c = turns_as
