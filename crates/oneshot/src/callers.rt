@@ -4,7 +4,7 @@ ghost use Rattle.std.specs.Prelude.{◌≡◌, ◌≢◌, None, Ok, Err, IsErr, 
 ghost use Rattle.oneshot.specs.Ends.{IsClosed, IsOpen};
 ghost use Rattle.oneshot.specs.TryRecvError.TheVariants as Tried;
 
-use crate::{Receiver, RecvError, RecvTimeoutError, Sender, TryRecvError, channel};
+use crate::{RawReceiver, Receiver, RecvError, RecvTimeoutError, Sender, TryRecvError, channel};
 use std::sync::Wait;
 use std::test::Fail;
 use std::time::{Clock, Duration, Instant};
@@ -69,6 +69,16 @@ fn received_before<T: Drop, Rt: Wait + Clock + Drop>(
     receiver.recv()
 }
 
+/// Ends an opaque receiver whose message was received, after it was kept elsewhere.
+fn opaque_received_before<T: Drop, Rt: Wait + Clock + Drop>(
+    raw: RawReceiver<T, Rt>,
+) -> Result<T, RecvError>
+    requires { IsClosed raw }
+    ensures { IsErr result }
+{
+    Receiver::from_raw(raw).recv()
+}
+
 #[test]
 fn a_message_is_kept_if_the_receiver_is_gone(rt: HostRuntime) -> Result<(), Fail> {
     let (sender, receiver) = channel(&rt, rt.alloc())?;
@@ -125,5 +135,14 @@ fn a_receiver_that_received_ends_with_an_error(rt: HostRuntime) -> Result<(), Fa
     if first.is_ok() {
         assert_eq!(rt; received_before(receiver), Err(RecvError));
     }
+    Ok(())
+}
+
+#[test]
+fn an_opaque_receiver_that_received_ends_with_an_error(rt: HostRuntime) -> Result<(), Fail> {
+    let (sender, mut receiver) = channel(&rt, rt.alloc())?;
+    assert!(rt; sender.send(19u64).is_ok());
+    assert_eq!(rt; receiver.recv_ref(), Ok(19));
+    assert_eq!(rt; opaque_received_before(receiver.into_raw()), Err(RecvError));
     Ok(())
 }

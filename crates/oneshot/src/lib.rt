@@ -2,6 +2,8 @@
 #![tactic(auto)]
 
 #[cfg(test)]
+mod awaited;
+#[cfg(test)]
 mod callers;
 #[cfg(test)]
 mod example;
@@ -9,7 +11,9 @@ mod example;
 mod rehearsal;
 
 pub use oneshot_drive as drive;
-pub use oneshot_ends::{Receiver, SendError, Sender, channel};
+pub use oneshot_ends::{
+    AsyncReceiver, RawReceiver, RawSender, Receiver, SendError, Sender, async_channel, channel,
+};
 pub use oneshot_errors::{RecvError, RecvTimeoutError, TryRecvError};
 pub use oneshot_machine::{machine, states};
 pub use oneshot_memory as memory;

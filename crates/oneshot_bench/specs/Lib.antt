@@ -1,3 +1,4 @@
+pub mod Channel
 pub mod Command
 pub mod Fault
 pub mod Loop

@@ -2,13 +2,14 @@
 
 ghost use Rattle.std.specs.Prelude.{◌≡◌, ◌<◌, ◌^◌, ◌↔◌, SomeIff, Some, [], ◌∷◌, string_bytes, map};
 ghost use Rattle.std.specs.Str.Parse.{IsNumeral, digits_value, without_leading_plus};
-ghost use Rattle.oneshot_bench.specs.Command.{Asks};
+ghost use Rattle.oneshot_bench.specs.Command.{Asks, AsksOver};
 
+use crate::channels::Channel;
 use crate::loops::Loop;
 
 /// How the program is called.
 pub const USAGE: &str =
-    "usage: oneshot_bench LOOP COUNT, where LOOP is one of make_send_receive_drop, make_drop, make_send_recv, make_send_receive_drop_4096, make_drop_4096, make_send_recv_4096, round_trip";
+    "usage: oneshot_bench [CHANNEL] LOOP COUNT, where CHANNEL is one of oneshot, futures, crossbeam, and LOOP is one of make_send_receive_drop, make_drop, make_send_recv, make_poll_send_poll, make_send_receive_drop_4096, make_drop_4096, make_send_recv_4096, make_poll_send_poll_4096, round_trip";
 
 /// What the program is to do.
 #[derive(Clone, Copy, Debug, PartialEq, Eq)]
@@ -17,6 +18,8 @@ pub enum Command {
     Usage,
     /// To measure so many rounds of a loop.
     Measure {
+        /// The channel that it runs over.
+        channel: Channel,
         /// The loop.
         kind: Loop,
         /// How many rounds of it.
@@ -24,23 +27,35 @@ pub enum Command {
     },
 }
 
-/// What `words` ask for; `None` where they are not a loop's name and a count.
+/// What `words` ask for; `None` where they are not a loop's name and a count,
+/// with or without a channel's name before them.
 pub fn parse_command(words: &[String]) -> Option<Command>
     ensures { (command : Command) → (result ≡ Some command) ↔ Asks (map string_bytes words.now) command }
 {
     match words {
         [] => Some(Command::Usage),
-        [name, count] => parse_measure(name.as_str(), count.as_str()),
+        [name, count] => parse_measure(Channel::Oneshot, name.as_str(), count.as_str()),
+        [channel, name, count] => {
+            parse_measure(
+                Channel::named(channel.as_str())?,
+                name.as_str(),
+                count.as_str(),
+            )
+        }
         _ => None,
     }
 }
 
-fn parse_measure(name: &str, count: &str) -> Option<Command>
-    ensures { (command : Command) → (result ≡ Some command) ↔ Asks (name.now ∷ count.now ∷ []) command }
+fn parse_measure(channel: Channel, name: &str, count: &str) -> Option<Command>
+    ensures { (command : Command) → (result ≡ Some command) ↔ AsksOver channel (name.now ∷ count.now ∷ []) command }
 {
     let kind = Loop::named(name)?;
     let count = parse_count(count)?;
-    Some(Command::Measure { kind, count })
+    Some(Command::Measure {
+        channel,
+        kind,
+        count,
+    })
 }
 
 /// The number that a word writes in decimal; `None` where it is no number, or one of more than 64 bits.

@@ -11,7 +11,7 @@ use thiserror::Error;
 /// Why nothing was measured.
 #[derive(Debug, Drop, Error)]
 pub enum Fault {
-    /// The arguments are not a loop's name and a count.
+    /// The arguments are not a loop's name and a count, with or without a channel's name before them.
     #[error("{USAGE}")]
     BadArguments,
     /// The clock could not be read.
@@ -23,6 +23,12 @@ pub enum Fault {
     /// A message that was sent was not received.
     #[error("message lost")]
     MessageLost,
+    /// The channel has no call that the loop needs.
+    #[error("channel cannot run this loop")]
+    CannotRun,
+    /// A task could not be made.
+    #[error("task failed")]
+    TaskFailed,
     /// A request for memory was refused.
     #[error("out of memory")]
     OutOfMemory,
@@ -54,6 +60,8 @@ impl Fault {
             Fault::ClockFailed => 1,
             Fault::WriteFailed => 1,
             Fault::MessageLost => 1,
+            Fault::CannotRun => 2,
+            Fault::TaskFailed => 1,
             Fault::OutOfMemory => 3,
         }
     }

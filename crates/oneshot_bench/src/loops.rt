@@ -16,24 +16,30 @@ pub enum Loop {
     MakeDrop,
     /// It sends 8 bytes, and receives them by `recv`.
     MakeSendRecv,
+    /// It polls, sends 8 bytes, and receives them by another poll.
+    MakePollSendPoll,
     /// `MakeSendReceiveDrop` with 4,096 bytes.
     MakeSendReceiveDropLarge,
     /// `MakeDrop` with room for 4,096 bytes.
     MakeDropLarge,
     /// `MakeSendRecv` with 4,096 bytes.
     MakeSendRecvLarge,
+    /// `MakePollSendPoll` with 4,096 bytes.
+    MakePollSendPollLarge,
     /// It asks another thread, and waits for the reply.
     RoundTrip,
 }
 
 /// Every loop.
-const LOOPS: [Loop; 7] = [
+const LOOPS: [Loop; 9] = [
     Loop::MakeSendReceiveDrop,
     Loop::MakeDrop,
     Loop::MakeSendRecv,
+    Loop::MakePollSendPoll,
     Loop::MakeSendReceiveDropLarge,
     Loop::MakeDropLarge,
     Loop::MakeSendRecvLarge,
+    Loop::MakePollSendPollLarge,
     Loop::RoundTrip,
 ];
 
@@ -46,9 +52,11 @@ impl Loop {
             Loop::MakeSendReceiveDrop => "make_send_receive_drop",
             Loop::MakeDrop => "make_drop",
             Loop::MakeSendRecv => "make_send_recv",
+            Loop::MakePollSendPoll => "make_poll_send_poll",
             Loop::MakeSendReceiveDropLarge => "make_send_receive_drop_4096",
             Loop::MakeDropLarge => "make_drop_4096",
             Loop::MakeSendRecvLarge => "make_send_recv_4096",
+            Loop::MakePollSendPollLarge => "make_poll_send_poll_4096",
             Loop::RoundTrip => "round_trip",
         }
     }

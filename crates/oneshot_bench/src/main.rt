@@ -1,12 +1,18 @@
-//! Measures a channel: one of its loops by name, and how many rounds of it.
+//! Measures a channel: one of its loops by name, how many rounds of it, and over which channel.
 #![tactic(auto)]
 
+mod channels;
 mod command;
+mod crossbeam_rounds;
+mod crossbeam_trips;
 mod fault;
+mod futures_rounds;
 mod loops;
 mod measure;
+mod polled;
 mod round_trip;
 mod rounds;
+mod run;
 mod tally;
 #[cfg(test)]
 mod tests;
@@ -17,12 +23,13 @@ use measure::measure;
 use std::env;
 use std::io::ErrorKind;
 use std::process::ExitCode;
+use std::random::RandomSource;
 use std::rt::{Clock, Env};
 use std::sync::Wait;
 use std::thread::Threads;
 
 fn main(rt: HostRuntime) -> ExitCode {
-    match run(&rt) {
+    match answer(&rt) {
         Ok(()) => ExitCode::SUCCESS,
         Err(fault) => {
             // Where standard error fails too, the status alone tells.
@@ -33,16 +40,22 @@ fn main(rt: HostRuntime) -> ExitCode {
 }
 
 /// Does what the program's arguments ask for, and prints what it found.
-fn run<R: Env + Print + AllocGlobal + Clock + Threads + Wait + Sync>(rt: &R) -> Result<(), Fault> {
+fn answer<R: Env + Print + AllocGlobal + Clock + RandomSource + Threads + Wait + Sync>(
+    rt: &R,
+) -> Result<(), Fault> {
     let words = arguments(rt)?;
     let Some(command) = parse_command(words.as_slice()) else {
         return Err(Fault::BadArguments);
     };
     let printed = match command {
         Command::Usage => println!(rt; "{USAGE}"),
-        Command::Measure { kind, count } => {
-            let nanoseconds = measure(rt, rt.alloc(), kind, count)?.time.as_nanos();
-            println!(rt; "{kind}: {count} rounds in {nanoseconds} ns")
+        Command::Measure {
+            channel,
+            kind,
+            count,
+        } => {
+            let nanoseconds = measure(rt, channel, kind, count)?.time.as_nanos();
+            println!(rt; "{channel} {kind}: {count} rounds in {nanoseconds} ns")
         }
     };
     printed.map_err(|_| Fault::WriteFailed)

@@ -12,7 +12,7 @@ use std::thread::{Threads, join};
 use std::time::Clock;
 
 /// How many rounds one start of a thread serves.
-const BATCH: u64 = 1024;
+pub const BATCH: u64 = 1024;
 
 /// A request, which has the sender of its reply.
 #[derive(Drop)]

@@ -1,11 +1,15 @@
 //! One round of each loop on one thread, and rounds that follow one another.
 
 ghost use Rattle.std.specs.Prelude.{Ok, OnOk};
+ghost use Rattle.futures.specs.Task.{Keeps};
 ghost use Rattle.oneshot_bench.specs.Rounds.{Leads};
 
 use crate::fault::Fault;
+use crate::polled::PolledRound;
 use crate::tally::Tally;
-use oneshot::channel;
+use futures::Future;
+use futures::task::{Context, Poll};
+use oneshot::{async_channel, channel};
 use std::alloc::Global;
 use std::sync::Wait;
 use std::time::Clock;
@@ -71,4 +75,63 @@ pub fn make_send_recv<T: Send + Drop, Rt: Wait + Clock + Drop>(
     }
     tally.waited();
     Ok(())
+}
+
+/// Makes a channel whose receiver is a future, polls it, sends `message` of so many bytes, polls again,
+/// and drops the receiver, which keeps `rt`.
+///
+/// `Err` where there is no memory for the channel, or the message was lost.
+pub fn make_poll_send_poll<T: Send + Drop, Rt: Wait + Drop>(
+    rt: Rt,
+    alloc: Global,
+    message: T,
+    bytes: usize,
+    cx: &mut Context<'_>,
+    tally: &mut Tally,
+) -> Result<(), Fault>
+    ensures { Keeps cx.old cx.new }
+{
+    let (sender, mut receiver) = async_channel(rt, alloc)?;
+    tally.made(bytes);
+    if receiver.poll(cx).is_pending() {
+        tally.pended();
+    }
+    if sender.send(message).is_err() || !matches!(receiver.poll(cx), Poll::Ready(Ok(_))) {
+        return Err(Fault::MessageLost);
+    }
+    tally.polled();
+    Ok(())
+}
+
+/// `make_poll_send_poll` as a round of a task.
+#[derive(Drop)]
+pub struct MakePollSendPoll<T, Rt> {
+    rt: Rt,
+    alloc: Global,
+    message: T,
+    bytes: usize,
+}
+
+impl<T, Rt> MakePollSendPoll<T, Rt> {
+    /// A round that sends `message` of so many bytes.
+    pub fn new(rt: Rt, alloc: Global, message: T, bytes: usize) -> MakePollSendPoll<T, Rt> {
+        MakePollSendPoll {
+            rt,
+            alloc,
+            message,
+            bytes,
+        }
+    }
+}
+
+impl<Rt: Wait + Copy + Drop> PolledRound for MakePollSendPoll<u64, Rt> {
+    fn make(&self, cx: &mut Context<'_>, tally: &mut Tally) -> Result<(), Fault> {
+        make_poll_send_poll(self.rt, self.alloc, self.message, self.bytes, cx, tally)
+    }
+}
+
+impl<Rt: Wait + Copy + Drop> PolledRound for MakePollSendPoll<[u8; 4096], Rt> {
+    fn make(&self, cx: &mut Context<'_>, tally: &mut Tally) -> Result<(), Fault> {
+        make_poll_send_poll(self.rt, self.alloc, self.message, self.bytes, cx, tally)
+    }
 }

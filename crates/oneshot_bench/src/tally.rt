@@ -11,6 +11,10 @@ pub struct Tally {
     pub tried: u64,
     /// How many were received by `recv`.
     pub waited: u64,
+    /// How many polls found no message yet.
+    pub pended: u64,
+    /// How many messages were received by a poll.
+    pub polled: u64,
 }
 
 impl Tally {
@@ -21,6 +25,8 @@ impl Tally {
             room: 0,
             tried: 0,
             waited: 0,
+            pended: 0,
+            polled: 0,
         }
     }
 
@@ -40,11 +46,23 @@ impl Tally {
         self.waited = self.waited.wrapping_add(1);
     }
 
-    /// All that another thread did besides.
+    /// A poll found no message yet.
+    pub fn pended(&mut self) {
+        self.pended = self.pended.wrapping_add(1);
+    }
+
+    /// A message was received by a poll.
+    pub fn polled(&mut self) {
+        self.polled = self.polled.wrapping_add(1);
+    }
+
+    /// All that another thread or a task did besides.
     pub fn add(&mut self, other: Tally) {
         self.channels = self.channels.wrapping_add(other.channels);
         self.room = self.room.wrapping_add(other.room);
         self.tried = self.tried.wrapping_add(other.tried);
         self.waited = self.waited.wrapping_add(other.waited);
+        self.pended = self.pended.wrapping_add(other.pended);
+        self.polled = self.polled.wrapping_add(other.polled);
     }
 }

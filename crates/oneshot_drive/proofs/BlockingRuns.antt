@@ -14,13 +14,13 @@ use Rattle.oneshot_machine.specs.declared.machine.receiver.ReceiverPos.TheVarian
 use Rattle.oneshot_machine.specs.declared.machine.receiver.ReceiverStart.TheVariants.{Recv, RecvTimeout}
 use Rattle.oneshot_machine.specs.declared.states.Op.TheVariants.{Store}
 use Rattle.oneshot_machine.specs.Logs.{Log, Grows, receiver_of, did, took, clocked, worded}
-use Rattle.oneshot_machine.specs.Phases.{between, ReceiverAt, here, Closing, closed_itself, over, receiver_next}
+use Rattle.oneshot_machine.specs.Phases.{between, ReceiverAt, here, at_once, waited, Closing, closed_itself, over, receiver_next}
 use Rattle.oneshot_machine.specs.Receiver.{receiver_step, receiver_row}
 use Rattle.oneshot_machine.specs.Rows.{Goes}
 use Rattle.oneshot_machine.specs.Runs.{last, more, Ran, ReceiverRan}
 use Rattle.oneshot_machine.specs.Slots.{Held, vacant, held, ReceiverMay, may_close, may_close_only, ReceiverFinds, close, close_only}
 use Rattle.oneshot_machine.proofs.GrownLists.{receiver_moved, and_then}
-use Rattle.oneshot_drive.specs.Blocking.{Went, value_end, EndsAt, ends_message, ends_closed, ends_unclosed, ends_nothing, Returns, returned, taken, Refills, refilled, HandAt}
+use Rattle.oneshot_drive.specs.Blocking.{Went, value_end, EndsAt, ends_at_once, ends_waited, ends_closed, ends_unclosed, ends_nothing, Returns, returned, taken, Refills, refilled, HandAt}
 use Rattle.oneshot_drive.specs.Calls.{AtRest, rests_open, rests_closed, IsClosed, LeavesClosed, left_received, left_closed, LeavesTimed, timed_received, timed_out, timed_closed, IsReady, Hands, as_it_was, sender_took, came_back}
 use Rattle.oneshot_drive.proofs.ReceiverRuns.{HasClosed}
 use Rattle.oneshot_drive.proofs.Stretches.{by_clock, ran, before}
@@ -29,10 +29,12 @@ use Rattle.oneshot_drive.proofs.WaitingRuns.{unmoved, clocked_at}
 module _ {T W : Type 0} where
   -- `receive`: it closes over the message
   pub ends_asks : {t : Bool} {q : ReceiverAt} {m : Held T} {w : Held W} → EndsAt t F.Message q m w → ReceiverMay q (Store 2) m w
-  ends_asks (ends_message t g left x) = may_close g left x
+  ends_asks (ends_at_once t x) = may_close at_once 4 x
+  ends_asks (ends_waited t left x) = may_close waited left x
 
   ends : {t : Bool} {q : ReceiverAt} {m m' : Held T} {w w' : Held W} (n : ℕ) → EndsAt t F.Message q m w → ReceiverFinds q (Store 2) n m w m' w' → HasClosed (receiver_next q (Store 2) S.Done) m' w'
-  ends _ (ends_message _ _ _ x) (close _ _ _) = record { at = refl; message = (x, refl); waker = refl }
+  ends _ (ends_at_once _ x) (close _ _ _) = record { at = refl; message = (x, refl); waker = refl }
+  ends _ (ends_waited _ _ x) (close _ _ _) = record { at = refl; message = (x, refl); waker = refl }
 
   pub ended_full : {t : Bool} {k j : Log T W} {m m' : Held T} {w w' : Held W} (n : ℕ) → EndsAt t F.Message (receiver_of k) m w → ReceiverFinds (receiver_of k) (Store 2) n m w m' w' → Grows k j (worded (Store 2) n ∷ []) → HasClosed (receiver_of j) m' w'
   ended_full {m'} {w'} n at finds grows = subst (λ q. HasClosed q m' w') (sym (receiver_moved (Store 2) n grows)) (ends n at finds)
@@ -97,10 +99,12 @@ module _ {T W : Type 0} where
 
   -- `recv`
   pub full_message : {t : Bool} {q : ReceiverAt} {m : Held T} {w : Held W} → EndsAt t F.Message q m w → (x : T) × (m ≡ held x)
-  full_message (ends_message t g left x) = (x, refl)
+  full_message (ends_at_once t x) = (x, refl)
+  full_message (ends_waited t left x) = (x, refl)
 
   pub full_waker : {t : Bool} {q : ReceiverAt} {m : Held T} {w : Held W} → EndsAt t F.Message q m w → w ≡ vacant
-  full_waker (ends_message t g left x) = refl
+  full_waker (ends_at_once t x) = refl
+  full_waker (ends_waited t left x) = refl
 
   pub full_freed : {l k j z : Log T W} (x : T) → Went RecvLoad (Goes RecvTake) l k → Grows k j (took x ∷ []) → Grows j z (did Steps.Free ∷ []) → ReceiverRan Recv l z R.Message [] (x ∷ [])
   full_freed x went s t = ran went (took x ∷ did Steps.Free ∷ []) (more RecvFreeGot _ _ refl refl (last _ refl refl)) (and_then (took x ∷ []) _ s t) refl refl

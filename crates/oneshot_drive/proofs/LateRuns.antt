@@ -8,20 +8,20 @@ use Rattle.oneshot_machine.specs.declared.machine.receiver.ReceiverPos.{Receiver
 use Rattle.oneshot_machine.specs.declared.machine.receiver.ReceiverPos.TheVariants.{EndSwap, EndBack, LatePark, LateLoad}
 use Rattle.oneshot_machine.specs.declared.states.Op.TheVariants.{Load, Swap}
 use Rattle.oneshot_machine.specs.Logs.{Log, Grows, receiver_of, handed, parked, worded}
-use Rattle.oneshot_machine.specs.Phases.{ReceiverAt, here, between, blocked, overdue, full, waited, unclosed, found_closed, over, receiver_next}
+use Rattle.oneshot_machine.specs.Phases.{ReceiverAt, here, between, overdue, full, waited, unclosed, found_closed, over, receiver_next}
 use Rattle.oneshot_machine.specs.Receiver.{receiver_row}
 use Rattle.oneshot_machine.specs.Rows.{Outcome, Goes}
 use Rattle.oneshot_machine.specs.Slots.{Held, away, vacant, held, ReceiverMay, may_stop, may_wait_on, ReceiverFinds, stop_waiting, stop_claimed, stop_message, stop_closed, overdue_longer, overdue_message, overdue_closed}
 use Rattle.oneshot_machine.specs.Words.{saw}
 use Rattle.oneshot_machine.proofs.GrownLists.{receiver_moved}
-use Rattle.oneshot_drive.specs.Blocking.{Went, ref_end, EndsAt, ends_message, ends_closed, ends_unclosed, ends_nothing, IsWaiting, is_waiting, IsOverdue, is_overdue, Parks, parks_overdue}
+use Rattle.oneshot_drive.specs.Blocking.{Went, ref_end, EndsAt, ends_waited, ends_closed, ends_unclosed, ends_nothing, IsWaiting, is_waiting, IsOverdue, is_overdue, Parks, parks_overdue}
 use Rattle.oneshot_drive.proofs.Stretches.{on, by_word, by_withdraw, by_park}
 use Rattle.oneshot_drive.proofs.WaitingRuns.{unmoved, parked_at, withdrew_at}
 
 module _ {T W : Type 0} where
   -- `stop`: what its swap found
   pub stop_asks : {q : ReceiverAt} {m : Held T} {w : Held W} → IsWaiting q m w → ReceiverMay q (Swap 3) m w
-  stop_asks is_waiting = may_stop blocked
+  stop_asks is_waiting = may_stop
 
   pub data Stopped : ℕ → ReceiverAt → Held T → Held W → Type 0 where
     stopped_open : (k : W) → Stopped 0 (here between) away (held k)
@@ -30,10 +30,10 @@ module _ {T W : Type 0} where
     stopped_closed : Stopped 2 (unclosed 3) vacant vacant
 
   stops : {q : ReceiverAt} {m m' : Held T} {w w' : Held W} (n : ℕ) → IsWaiting q m w → ReceiverFinds q (Swap 3) n m w m' w' → Stopped n (receiver_next q (Swap 3) (S.Word n)) m' w'
-  stops _ is_waiting (stop_waiting _ k) = stopped_open k
-  stops _ is_waiting (stop_claimed _) = stopped_claimed
-  stops _ is_waiting (stop_message _ x) = stopped_message x
-  stops _ is_waiting (stop_closed _) = stopped_closed
+  stops _ is_waiting (stop_waiting k) = stopped_open k
+  stops _ is_waiting stop_claimed = stopped_claimed
+  stops _ is_waiting (stop_message x) = stopped_message x
+  stops _ is_waiting stop_closed = stopped_closed
 
   pub stopped : {k j : Log T W} {m m' : Held T} {w w' : Held W} (n : ℕ) → IsWaiting (receiver_of k) m w → ReceiverFinds (receiver_of k) (Swap 3) n m w m' w' → Grows k j (worded (Swap 3) n ∷ []) → Stopped n (receiver_of j) m' w'
   stopped {m'} {w'} n is finds grows = subst (λ q. Stopped n q m' w') (sym (receiver_moved (Swap 3) n grows)) (stops n is finds)
@@ -61,7 +61,7 @@ module _ {T W : Type 0} where
   pub stopped_full : {n : ℕ} {q : ReceiverAt} {m : Held T} {w : Held W} → Stopped n q m w → n ≡ 4 → EndsAt true F.Message q m w
   stopped_full (stopped_open k) e = absurd (cc)
   stopped_full stopped_claimed e = absurd (cc)
-  stopped_full (stopped_message x) e = ends_message true waited 3 x
+  stopped_full (stopped_message x) e = ends_waited true 3 x
   stopped_full stopped_closed e = absurd (cc)
 
   pub stops_full : {l k : Log T W} (n : ℕ) → n ≡ 4 → Grows l k (worded (Swap 3) n ∷ []) → Went EndSwap (ref_end F.Message) l k
@@ -113,7 +113,7 @@ module _ {T W : Type 0} where
 
   pub ended_full : {n : ℕ} {q : ReceiverAt} {m : Held T} {w : Held W} → Ended n q m w → n ≡ 4 → EndsAt true F.Message q m w
   ended_full ended_early e = absurd (cc)
-  ended_full (ended_message x) e = ends_message true waited 4 x
+  ended_full (ended_message x) e = ends_waited true 4 x
   ended_full ended_closed e = absurd (cc)
 
   pub ended_over : {n : ℕ} {q : ReceiverAt} {m : Held T} {w : Held W} → Ended n q m w → n ≡ 2 → EndsAt true F.Closed q m w

@@ -5,3 +5,6 @@ pub mod WaitingRuns
 pub mod LateRuns
 pub mod BlockingRuns
 pub mod ReadyHands
+pub mod PollRuns
+pub mod OwnCopies
+pub mod EndRuns

@@ -10,9 +10,9 @@ use Rattle.oneshot_machine.specs.declared.states.Op.TheVariants.{Load, Store, Sw
 use Rattle.oneshot_machine.specs.Logs.{Log, Grows, receiver_of, did, took, worded}
 use Rattle.oneshot_machine.specs.Phases.{ReceiverAt, here, looked, full, at_once, Closing, found_closed, closed_itself, over, receiver_next, receiver_at}
 use Rattle.oneshot_machine.specs.Runs.{last, more, ReceiverRan}
-use Rattle.oneshot_machine.specs.Slots.{Held, away, vacant, held, ReceiverMay, may_load_first, may_load, may_load_closed, may_close, may_drop_first, may_drop, may_drop_closed, ReceiverFinds, first_empty, first_message, first_closed, load_empty, load_message, load_closed, load_over, close, drop_first_empty, drop_first_message, drop_first_closed, drop_empty, drop_message, drop_closed, drop_over}
+use Rattle.oneshot_machine.specs.Slots.{Held, away, vacant, held, ReceiverMay, may_load_first, may_load, may_load_closed, may_close, may_drop_first, may_drop, may_drop_closed, ReceiverFinds, first_empty, first_message, first_closed, load_empty, load_message, load_closed, load_over, load_resolved, close, drop_first_empty, drop_first_message, drop_first_closed, drop_empty, drop_message, drop_closed, drop_over}
 use Rattle.oneshot_machine.proofs.GrownLists.{words_stay, receiver_moved, and_then}
-use Rattle.oneshot_drive.specs.Calls.{AtRest, rests_new, rests_open, rests_closed, IsClosed, is_over, Leaves, leaves_received, leaves_open, leaves_closed}
+use Rattle.oneshot_drive.specs.Calls.{AtRest, rests_new, rests_open, rests_closed, IsClosed, is_over, is_resolved, Leaves, leaves_received, leaves_open, leaves_closed}
 
 module _ {T W : Type 0} where
   -- `try_recv`
@@ -108,6 +108,7 @@ module _ {T W : Type 0} where
   -- a closed receiver finds 2
   pub closed_finds : {q : ReceiverAt} {m m' : Held T} {w w' : Held W} (n : ℕ) → IsClosed q → ReceiverFinds q Load n m w m' w' → n ≡ 2
   closed_finds _ (is_over c) (load_over _) = refl
+  closed_finds _ (is_resolved c) (load_resolved _) = refl
 
   -- the drop
   pub swap_asks : {q : ReceiverAt} {m : Held T} {w : Held W} → AtRest q m w → ReceiverMay q (Swap 2) m w

@@ -1,5 +1,5 @@
 -- Stretches of a receive, one after the other, and what they make with the steps that end it.
-use Rattle.std.proofs.Common.{◌≡◌, ℕ, Bool, true, false, List, [], ◌∷◌, ◌++◌, Some, refl, sym, ap, ◌∙◌}
+use Rattle.std.proofs.Common.{◌≡◌, ℕ, Bool, true, false, List, [], ◌∷◌, ◌++◌, Some, None, refl, sym, ap, ◌∙◌}
 use Rattle.std.proofs.lemmas.List.{append-nil}
 use Rattle.std.proofs.lemmas.List.Elements.{filter_map-append}
 use Rattle.oneshot_machine.specs.declared.machine.Reply.{Reply}
@@ -7,7 +7,7 @@ use Rattle.oneshot_machine.specs.declared.machine.Seen.TheVariants as S
 use Rattle.oneshot_machine.specs.declared.machine.Step.TheVariants as Steps
 use Rattle.oneshot_machine.specs.declared.machine.receiver.ReceiverPos.{ReceiverPos}
 use Rattle.oneshot_machine.specs.declared.states.Op.{Op}
-use Rattle.oneshot_machine.specs.Logs.{Event, Log, Grows, kept, handed, parked, clocked, worded, when_written, when_taken, messages_given, messages_got}
+use Rattle.oneshot_machine.specs.Logs.{Event, Log, Grows, kept, did, handed, parked, clocked, copied, worded, when_written, when_taken, messages_given, messages_got}
 use Rattle.oneshot_machine.specs.Receiver.{receiver_step, receiver_row}
 use Rattle.oneshot_machine.specs.Rows.{Outcome, Goes, Answers}
 use Rattle.oneshot_machine.specs.Runs.{Run, last, more, Ran}
@@ -54,15 +54,12 @@ module _ {T W : Type 0} where
   kept_none true = refl
   kept_none false = refl
 
+  -- no step
+  pub stays : (a : Log T W) → Grows a a []
+  stays a = record { whole = refl; place = refl; list = sym (append-nil a.list) ∙ ap (λ l. a.list ++ l) (sym (kept_none a.whole)) }
+
   pub begun : (p : ReceiverPos) (a : Log T W) → Went p (Goes p) a a
-  begun p a =
-      record {
-        steps = [];
-        grows = record { whole = refl; place = refl; list = sym (append-nil a.list) ∙ ap (λ l. a.list ++ l) (sym (kept_none a.whole)) };
-        gives = refl;
-        gets = refl;
-        leads = nothing;
-      }
+  begun p a = record { steps = []; grows = stays a; gives = refl; gets = refl; leads = nothing }
 
   -- one step more: an operation, a waker, a park, a read of the clock
   module _ {p : ReceiverPos} (o : Outcome ReceiverPos) {a b : Log T W} where
@@ -81,6 +78,15 @@ module _ {T W : Type 0} where
 
     pub by_clock : (past : Bool) → Grows a b (clocked past ∷ []) → Steps.Clock ≡ receiver_step p → receiver_row p (S.Over past) ≡ Some o → Went p o a b
     by_clock past grows at leads = record { steps = clocked past ∷ []; grows = grows; gives = refl; gets = refl; leads = one o _ at leads }
+
+    pub by_copy : (k : W) → Grows a b (copied (Some k) ∷ []) → Steps.Copy ≡ receiver_step p → receiver_row p (S.Refused false) ≡ Some o → Went p o a b
+    by_copy k grows at leads = record { steps = copied (Some k) ∷ []; grows = grows; gives = refl; gets = refl; leads = one o _ at leads }
+
+    pub by_refusal : Grows a b (copied None ∷ []) → Steps.Copy ≡ receiver_step p → receiver_row p (S.Refused true) ≡ Some o → Went p o a b
+    by_refusal grows at leads = record { steps = copied None ∷ []; grows = grows; gives = refl; gets = refl; leads = one o _ at leads }
+
+    pub by_own : Grows a b (did Steps.WakeOwn ∷ []) → Steps.WakeOwn ≡ receiver_step p → receiver_row p S.Done ≡ Some o → Went p o a b
+    by_own grows at leads = record { steps = did Steps.WakeOwn ∷ []; grows = grows; gives = refl; gets = refl; leads = one o _ at leads }
 
   -- a stretch and the steps that end the call
   pub ran : {p q : ReceiverPos} {reply : Reply} {got : List T} {a b c : Log T W} → Went p (Goes q) a b → (ys : List (Event T W)) → Run receiver_step receiver_row q ys reply → Grows b c ys → messages_given ys ≡ [] → messages_got ys ≡ got → Ran receiver_step receiver_row p a c reply [] got

@@ -8,11 +8,11 @@ use Rattle.oneshot_machine.specs.declared.machine.receiver.ReceiverPos.{Receiver
 use Rattle.oneshot_machine.specs.declared.machine.receiver.ReceiverPos.TheVariants.{StartSwap, BackFull, BackClosed, Park, ParkLoad, Clock, TimedLoad, EndSwap, RecvSwap, RecvBackFull, RecvBackClosed, RecvPark, RecvParkLoad}
 use Rattle.oneshot_machine.specs.declared.states.Op.TheVariants.{Load, Swap}
 use Rattle.oneshot_machine.specs.Logs.{Log, Grows, receiver_of, handed, parked, clocked, worded}
-use Rattle.oneshot_machine.specs.Phases.{ReceiverAt, here, looked, waits, blocked, full, at_once, waited, unclosed, found_closed, over, receiver_next, receiver_at}
+use Rattle.oneshot_machine.specs.Phases.{ReceiverAt, here, looked, waits, blocked, full, waited, unclosed, found_closed, over, receiver_next, receiver_at}
 use Rattle.oneshot_machine.specs.Rows.{Outcome, Goes}
 use Rattle.oneshot_machine.specs.Slots.{Held, away, vacant, held, ReceiverMay, may_store, may_wait, ReceiverFinds, store_empty, store_message, store_closed, wait_longer, wait_claimed, wait_message, wait_closed}
 use Rattle.oneshot_machine.proofs.GrownLists.{words_stay, receiver_moved}
-use Rattle.oneshot_drive.specs.Blocking.{Went, Way, by_ref, by_value, load_of, write_of, wait_of, asked_of, ref_end, end_of, EndsAt, ends_message, ends_closed, ends_unclosed, HasLooked, has_looked, IsWaiting, is_waiting, Returns, returned, taken, refilled, HandAt, WaitedHand, Parks, parks_waiting}
+use Rattle.oneshot_drive.specs.Blocking.{Went, Way, by_ref, by_value, load_of, write_of, wait_of, asked_of, ref_end, end_of, EndsAt, ends_at_once, ends_waited, ends_closed, ends_unclosed, HasLooked, has_looked, IsWaiting, is_waiting, Returns, returned, taken, refilled, HandAt, WaitedHand, Parks, parks_waiting}
 use Rattle.oneshot_drive.specs.Calls.{IsReady}
 use Rattle.oneshot_drive.proofs.ReceiverRuns.{Loaded, loaded_message, loaded_empty, loaded_closed, closed_finds}
 use Rattle.oneshot_drive.proofs.Stretches.{on, begun, by_word, by_write, by_withdraw, by_park, by_clock}
@@ -84,7 +84,7 @@ module _ {T W : Type 0} where
   pub woke_full : {n : ℕ} {q : ReceiverAt} {m : Held T} {w : Held W} (timed : Bool) → Woke n q m w → n ≡ 4 → EndsAt timed F.Message q m w
   woke_full timed woke_early e = absurd (cc)
   woke_full timed woke_claimed e = absurd (cc)
-  woke_full timed (woke_message x) e = ends_message timed waited 4 x
+  woke_full timed (woke_message x) e = ends_waited timed 4 x
   woke_full timed woke_closed e = absurd (cc)
 
   pub woke_over : {n : ℕ} {q : ReceiverAt} {m : Held T} {w : Held W} (timed : Bool) → Woke n q m w → n ≡ 2 → EndsAt timed F.Closed q m w
@@ -192,7 +192,7 @@ module _ {T W : Type 0} where
 
   stored_full : {y : W} {n : ℕ} {q : ReceiverAt} {m : Held T} {w : Held W} (timed : Bool) → Stored y n q m w → n ≡ 4 → EndsAt {W = W} timed F.Message q m vacant
   stored_full timed stored_empty e = absurd (cc)
-  stored_full timed (stored_message x) e = ends_message timed waited 0 x
+  stored_full timed (stored_message x) e = ends_waited timed 0 x
   stored_full timed stored_closed e = absurd (cc)
 
   stored_over : {y : W} {n : ℕ} {q : ReceiverAt} {m : Held T} {w : Held W} (timed : Bool) → Stored y n q m w → ¬ (n ≡ 3) → ¬ (n ≡ 4) → EndsAt {W = W} timed F.Unclosed q m vacant
@@ -241,7 +241,7 @@ module _ {T W : Type 0} where
 
   -- `find`
   pub found_full : {n : ℕ} {q : ReceiverAt} {m : Held T} {w : Held W} (timed : Bool) → Loaded n q m w → n ≡ 4 → EndsAt timed F.Message q m w
-  found_full timed (loaded_message x) e = ends_message timed at_once 4 x
+  found_full timed (loaded_message x) e = ends_at_once timed x
   found_full timed loaded_empty e = absurd (cc)
   found_full timed (loaded_closed c) e = absurd (cc)
 

@@ -7,7 +7,7 @@ use Rattle.oneshot_machine.specs.declared.machine.Reply.TheVariants as R
 use Rattle.oneshot_machine.specs.declared.machine.receiver.ReceiverPos.{ReceiverPos}
 use Rattle.oneshot_machine.specs.declared.machine.receiver.ReceiverPos.TheVariants.{Close, CloseOnly, StartLoad, StartWrite, Park, Clock, TimedPark, EndSwap, RecvLoad, RecvWrite, RecvPark, RecvTake, RecvFreeGone}
 use Rattle.oneshot_machine.specs.Logs.{Event, Log, Grows, messages_given, messages_got}
-use Rattle.oneshot_machine.specs.Phases.{Closing, Got, Waiting, looked, between, blocked, ReceiverAt, here, waits, overdue, full, unclosed, over}
+use Rattle.oneshot_machine.specs.Phases.{Closing, at_once, waited, Waiting, looked, between, blocked, ReceiverAt, here, waits, overdue, full, unclosed, over}
 use Rattle.oneshot_machine.specs.Receiver.{receiver_step, receiver_row}
 use Rattle.oneshot_machine.specs.Rows.{Outcome, Goes, Answers}
 use Rattle.oneshot_machine.specs.Slots.{Held, away, vacant, held}
@@ -73,7 +73,8 @@ end_of by_value = value_end
 
 -- how far the receiver is then, with its slots: only a deadline ends a receive with nothing found
 pub data EndsAt {T W : Type 0} : Bool → Found → ReceiverAt → Held T → Held W → Type 0 where
-  ends_message : (timed : Bool) (g : Got) (left : ℕ) (x : T) → EndsAt timed F.Message (full g left) (held x) vacant
+  ends_at_once : (timed : Bool) (x : T) → EndsAt timed F.Message (full at_once 4) (held x) vacant
+  ends_waited : (timed : Bool) (left : ℕ) (x : T) → EndsAt timed F.Message (full waited left) (held x) vacant
   ends_closed : (timed : Bool) (c : Closing) → EndsAt timed F.Closed (over c) vacant vacant
   ends_unclosed : (timed : Bool) (left : ℕ) → EndsAt timed F.Unclosed (unclosed left) vacant vacant
   ends_nothing : EndsAt true F.Nothing (here between) away vacant

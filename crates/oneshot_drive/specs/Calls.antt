@@ -10,7 +10,7 @@ use Rattle.oneshot_machine.specs.declared.machine.Reply.TheVariants.{Sent, Refus
 use Rattle.oneshot_machine.specs.declared.machine.Step.TheVariants.{TakeWaker, Wake}
 use Rattle.oneshot_machine.specs.declared.states.Op.TheVariants.{Swap}
 use Rattle.oneshot_machine.specs.Logs.{Event, Log, Grows, sender_of, handed, worded}
-use Rattle.oneshot_machine.specs.Phases.{By, sending, dropping, SenderAt, fresh, owes, late, Closing, closed_itself, Open, looked, between, ReceiverAt, first, here, over}
+use Rattle.oneshot_machine.specs.Phases.{By, sending, dropping, SenderAt, fresh, owes, late, Closing, closed_itself, Open, looked, between, Waiting, ReceiverAt, first, here, waits, claimed, over, resolved}
 use Rattle.oneshot_machine.specs.Slots.{Held, away, vacant, held}
 
 -- a sender that has made no operation: the message's slot is its own and empty
@@ -57,10 +57,14 @@ pub data AtRest {T W : Type 0} : ReceiverAt → Held T → Held W → Type 0 whe
 
 pub data IsClosed : ReceiverAt → Type 0 where
   is_over : (c : Closing) → IsClosed (over c)
+  is_resolved : (c : Closing) → IsClosed (resolved c)
 
 pub data IsOpen : ReceiverAt → Type 0 where
   is_new : IsOpen first
   is_here : (o : Open) → IsOpen (here o)
+  -- a future, with its copy in the cell, or with the sender about to finish
+  is_waiting : (w : Waiting) → IsOpen (waits w)
+  is_claimed : IsOpen claimed
 
 -- The message and the disconnected error leave a receiver closed, and `Empty` leaves it open.
 pub data Leaves {T : Type 0} : Result T TryRecvError → ReceiverAt → Type 0 where

@@ -1,8 +1,8 @@
 //! What an end does to the world.
 
-ghost use Rattle.std.specs.Prelude.{◌≡◌, Bool, ◌∷◌, []};
-ghost use Rattle.oneshot_machine.specs.declared.machine.Step.TheVariants.{DropMessage, WriteWaker, TakeWaker, Withdraw, Wake, Free};
-ghost use Rattle.oneshot_machine.specs.Logs.{Log, Grows, sender_of, receiver_of, did, wrote, took, handed, parked, clocked, worded};
+ghost use Rattle.std.specs.Prelude.{◌≡◌, Bool, ◌∷◌, [], IfSome};
+ghost use Rattle.oneshot_machine.specs.declared.machine.Step.TheVariants.{DropMessage, WriteWaker, TakeWaker, Withdraw, Wake, WakeOwn, Free};
+ghost use Rattle.oneshot_machine.specs.Logs.{Log, Grows, sender_of, receiver_of, did, wrote, took, handed, parked, clocked, copied, worded};
 ghost use Rattle.oneshot_machine.specs.Slots.{Held, away, vacant, held, SenderMay, SenderFinds, ReceiverMay, ReceiverFinds};
 ghost use Rattle.oneshot_drive.specs.Blocking.{Parks};
 
@@ -82,6 +82,13 @@ pub trait ReceiverGround<T, W> {
 
     ghost waker_slot: { Self → Held W };
 
+    // What the ground has beside the channel stays so, from one state to a later one.
+    ghost keeps: { Self → Self → Type 0 };
+
+    ghost keeps_same: { (a : Self) → keeps a a };
+
+    ghost keeps_on: { (a b c : Self) → keeps a b → keeps b c → keeps a c };
+
     /// Makes an operation on the word, and gives the word before.
     fn word(&mut self, op: Op) -> u8
         requires { ReceiverMay (receiver_of (log self.old)) op
@@ -89,7 +96,8 @@ pub trait ReceiverGround<T, W> {
         ensures list { Grows (log self.old) (log self.new) (worded op result ∷ []) }
         ensures finds { ReceiverFinds (receiver_of (log self.old)) op result
             (message_slot self.old) (waker_slot self.old)
-            (message_slot self.new) (waker_slot self.new) };
+            (message_slot self.new) (waker_slot self.new) }
+        ensures keeps { keeps self.old self.new };
 
     /// Takes the message out of its slot.
     fn take_message(&mut self) -> T
@@ -97,21 +105,24 @@ pub trait ReceiverGround<T, W> {
         ensures list { Grows (log self.old) (log self.new) (took result ∷ []) }
         ensures was { message_slot self.old ≡ held result }
         ensures message { message_slot self.new ≡ vacant }
-        ensures waker { waker_slot self.new ≡ waker_slot self.old };
+        ensures waker { waker_slot self.new ≡ waker_slot self.old }
+        ensures keeps { keeps self.old self.new };
 
     /// Drops the message in its slot.
     fn drop_message(&mut self)
         requires { (x : T) × (message_slot self.old ≡ held x) }
         ensures list { Grows (log self.old) (log self.new) (did DropMessage ∷ []) }
         ensures message { message_slot self.new ≡ vacant }
-        ensures waker { waker_slot self.new ≡ waker_slot self.old };
+        ensures waker { waker_slot self.new ≡ waker_slot self.old }
+        ensures keeps { keeps self.old self.new };
 
     /// Puts the waker into its slot, which is the end's and empty.
     fn write_waker(&mut self, waker: W)
         requires { waker_slot self.old ≡ vacant }
         ensures list { Grows (log self.old) (log self.new) (handed WriteWaker waker ∷ []) }
         ensures message { message_slot self.new ≡ message_slot self.old }
-        ensures waker { waker_slot self.new ≡ held waker };
+        ensures waker { waker_slot self.new ≡ held waker }
+        ensures keeps { keeps self.old self.new };
 
     /// Takes the waker back out of its slot, and gives it.
     fn withdraw(&mut self) -> W
@@ -119,7 +130,8 @@ pub trait ReceiverGround<T, W> {
         ensures list { Grows (log self.old) (log self.new) (handed Withdraw result ∷ []) }
         ensures was { waker_slot self.old ≡ held result }
         ensures message { message_slot self.new ≡ message_slot self.old }
-        ensures waker { waker_slot self.new ≡ vacant };
+        ensures waker { waker_slot self.new ≡ vacant }
+        ensures keeps { keeps self.old self.new };
 
     /// Frees the block, whose slots are the end's and empty. Then neither is, so nothing follows.
     fn free(&mut self)
@@ -127,7 +139,8 @@ pub trait ReceiverGround<T, W> {
         requires waker { waker_slot self.old ≡ vacant }
         ensures list { Grows (log self.old) (log self.new) (did Free ∷ []) }
         ensures message { message_slot self.new ≡ away }
-        ensures waker { waker_slot self.new ≡ away };
+        ensures waker { waker_slot self.new ≡ away }
+        ensures keeps { keeps self.old self.new };
 }
 
 /// What the receiver does to the world in a call that blocks.
@@ -147,4 +160,28 @@ pub trait BlockGround<T, W>: ReceiverGround<T, W> {
         ensures list { Grows (Self.log self.old) (Self.log self.new) (clocked result ∷ []) }
         ensures message { Self.message_slot self.new ≡ Self.message_slot self.old }
         ensures waker { Self.waker_slot self.new ≡ Self.waker_slot self.old };
+}
+
+/// What the receiver does to the world in a poll.
+pub trait TaskGround<T, W>: ReceiverGround<T, W> {
+    // The task of the poll will be polled again: it asked for it, or it left a copy of its waker.
+    ghost heard: { Self → Type 0 };
+
+    /// Copies the waker of the task, and gives the copy. `None` where it is refused.
+    fn copy(&mut self) -> Option<W>
+        ensures list { Grows (Self.log self.old) (Self.log self.new) (copied result ∷ []) }
+        ensures message { Self.message_slot self.new ≡ Self.message_slot self.old }
+        ensures waker { Self.waker_slot self.new ≡ Self.waker_slot self.old }
+        ensures heard { IfSome result (λ _. heard self.new) }
+        ensures keeps { Self.keeps self.old self.new };
+
+    /// Wakes the task of the poll by its own waker.
+    fn wake_own(&mut self)
+        ensures list { Grows (Self.log self.old) (Self.log self.new) (did WakeOwn ∷ []) }
+        ensures message { Self.message_slot self.new ≡ Self.message_slot self.old }
+        ensures waker { Self.waker_slot self.new ≡ Self.waker_slot self.old }
+        ensures heard { heard self.new }
+        ensures keeps { Self.keeps self.old self.new };
+
+    ghost heard_on: { (a b : Self) → heard a → Self.keeps a b → heard b };
 }

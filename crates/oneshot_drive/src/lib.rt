@@ -3,11 +3,13 @@
 
 mod blocking;
 mod ground;
+mod polling;
 mod receiver;
 mod sender;
 mod waiting;
 
 pub use blocking::{recv, recv_deadline, recv_ref, recv_timeout};
-pub use ground::{BlockGround, ReceiverGround, SenderGround};
+pub use ground::{BlockGround, ReceiverGround, SenderGround, TaskGround};
+pub use polling::{drop_async, poll};
 pub use receiver::{drop_receiver, try_recv};
 pub use sender::{drop_error, drop_sender, into_inner, send};

@@ -1,2 +1,4 @@
 pub mod Standing
 pub mod Lent
+mod Tokens
+mod Polled

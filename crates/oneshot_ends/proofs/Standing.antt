@@ -16,8 +16,8 @@ use Rattle.oneshot_machine.specs.Slots.{Held, vacant, held, SenderMay, SenderFin
 use Rattle.oneshot_machine.specs.Words.{Noted}
 use Rattle.oneshot_machine.proofs.GrownLists.{words_after}
 use Rattle.oneshot_drive.specs.Calls.{AtRest, rests_new, IsLate, is_late}
-use Rattle.oneshot_word.specs.Sides.{Side, SenderCan, ReceiverCan, ReceiverOwns, none_yet, owns_waker, gave_waker, lost_waker, owns_full, owns_unclosed, owns_closed, gave_all, owns_all}
-use Rattle.oneshot_ends.specs.Sides.{MayBeFreed, not_freed, freed_full, freed_unclosed, freed_closed, freed_ended, unless_freed, events_of, logged, lent, left_of, IsNewReceiver}
+use Rattle.oneshot_word.specs.Sides.{Side, SenderCan, ReceiverCan, ReceiverOwns, none_yet, owns_waker, gave_waker, gave_claimed, owns_withdrawn, lost_waker, owns_full, owns_unclosed, owns_closed, owns_resolved, gave_all, owns_all}
+use Rattle.oneshot_ends.specs.Sides.{MayBeFreed, not_freed, freed_full, freed_unclosed, freed_closed, freed_resolved, freed_ended, unless_freed, events_of, logged, lent, left_of, IsNewReceiver}
 
 pub words_of : (T W : Type 0) (xs : List Noted) → words (events_of {T = T} {W = W} xs) ≡ xs
 words_of T W [] = refl
@@ -65,6 +65,7 @@ module _ {T W : Type 0} where
   receiver_unfreed true _ op m w (freed_full got word) may = elim may [ ]
   receiver_unfreed true _ op m w (freed_unclosed word) may = elim may [ ]
   receiver_unfreed true _ op m w (freed_closed closing) may = elim may [ ]
+  receiver_unfreed true _ op m w (freed_resolved closing) may = elim may [ ]
   receiver_unfreed true _ op m w freed_ended may = elim may [ ]
 
   pub receiver_can : (freed : Bool) (s now : Side T W) (op asked : Op) → MayBeFreed freed (receiver_at s.steps) → left_of freed s ≡ now → asked ≡ op → ReceiverMay (receiver_of (logged now)) asked now.message now.waker → (freed ≡ false) × ReceiverCan s op
@@ -88,10 +89,13 @@ module _ {T W : Type 0} where
   may_free false _ _ _ none_yet is = absurd (cc is)
   may_free false _ _ _ (owns_waker f own) is = absurd (cc is)
   may_free false _ _ _ (gave_waker a) is = absurd (cc is)
+  may_free false _ _ _ gave_claimed is = absurd (cc is)
+  may_free false _ _ _ (owns_withdrawn own) is = absurd (cc is)
   may_free false _ _ _ lost_waker is = absurd (cc is)
   may_free false _ _ _ (owns_full got word own also) is = freed_full got word
   may_free false _ _ _ (owns_unclosed word own also) is = freed_unclosed word
   may_free false _ _ _ (owns_closed closing own also) is = freed_closed closing
+  may_free false _ _ _ (owns_resolved closing own also) is = freed_resolved closing
   may_free false _ _ _ gave_all is = absurd (cc is)
   may_free false _ _ _ (owns_all own also) is = freed_ended
 

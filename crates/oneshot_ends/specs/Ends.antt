@@ -1,5 +1,5 @@
 -- What a contract sees of an end: the table that it shares, and the list of its operations on the word.
-use Rattle.std.specs.Prelude.{◌≡◌, ◌↔◌, Bool, List, ◌++◌, Option, IfSome, IsTrue}
+use Rattle.std.specs.Prelude.{◌≡◌, ◌↔◌, ℕ, Bool, List, ◌++◌, Option, IfSome, IsTrue}
 use Rattle.std.specs.Time.{instant_nanos, FitsClock}
 use Rattle.std.specs.declared.time.Duration.{Duration}
 use Rattle.std.specs.declared.time.Instant.{Instant}
@@ -24,6 +24,12 @@ Waking = Unit {0}
 pub record End : Type 0 where
   pub table : TableId
   pub steps : List Noted
+
+-- the same of a future, with the source at which its polls register
+pub record FutureEnd : Type 0 where
+  pub table : TableId
+  pub steps : List Noted
+  pub source : ℕ
 
 -- the same of an error, with the message that was refused
 pub record Failed (T : Type 0) : Type 0 where
@@ -61,3 +67,10 @@ IsClosed receiver = Closed (receiver_at receiver.steps)
 
 abbrev pub IsOpen : End → Type 0
 IsOpen receiver = Open (receiver_at receiver.steps)
+
+-- the same of a future
+abbrev pub IsDone : FutureEnd → Type 0
+IsDone future = Closed (receiver_at future.steps)
+
+abbrev pub IsPending : FutureEnd → Type 0
+IsPending future = Open (receiver_at future.steps)

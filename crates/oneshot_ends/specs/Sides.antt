@@ -1,9 +1,9 @@
 -- What the ground of a real end shows: its list is its seat's, without the steps that touch no word.
-use Rattle.std.specs.Prelude.{◌≡◌, ℕ, Bool, true, false, List, [], ◌∷◌, map, Option, Some, None}
+use Rattle.std.specs.Prelude.{◌≡◌, ℕ, Bool, true, false, List, [], ◌∷◌, ◌++◌, map, Option, Some, None}
 use Rattle.atomic_table.specs.Seated.{TableId}
 use Rattle.oneshot_machine.specs.declared.machine.Step.TheVariants.{Word}
 use Rattle.oneshot_machine.specs.Logs.{Event, Log}
-use Rattle.oneshot_machine.specs.Phases.{ReceiverAt, Got, Closing, full, unclosed, over, ended}
+use Rattle.oneshot_machine.specs.Phases.{ReceiverAt, Got, Closing, full, unclosed, over, resolved, ended}
 use Rattle.oneshot_machine.specs.Slots.{Held, away, vacant, held}
 use Rattle.oneshot_machine.specs.Words.{Noted}
 use Rattle.oneshot_word.specs.Sides.{Side}
@@ -54,6 +54,7 @@ pub data MayBeFreed : Bool → ReceiverAt → Type 0 where
   freed_full : (got : Got) (word : ℕ) → MayBeFreed true (full got word)
   freed_unclosed : (word : ℕ) → MayBeFreed true (unclosed word)
   freed_closed : (closing : Closing) → MayBeFreed true (over closing)
+  freed_resolved : (closing : Closing) → MayBeFreed true (resolved closing)
   freed_ended : MayBeFreed true ended
 
 module _ {T W : Type 0} where
@@ -67,3 +68,8 @@ module _ {T W : Type 0} where
     pub steps : s.steps ≡ []
     pub message : s.message ≡ away
     pub waker : s.waker ≡ away
+
+-- a seat that was lent beside something else, under these names, to one whose wakers are others
+abbrev pub lent_beside : {T W V : Type 0} → List ℕ → Side T W → Log T V
+lent_beside {T} {W} {V} names s =
+    record { whole = false; place = names ++ place_of s.table; list = events_of {T = T} {W = V} s.steps }

@@ -1,8 +1,12 @@
 //! What a receiver does to the world in a call that blocks: its ground, with its parker beside it.
 
+ghost use Rattle.std.specs.Prelude.{⊤};
+
 use crate::deadline::{Deadline, read};
 use crate::ground::ReceiverSeat;
+use crate::rouse::Rouse;
 use crossbeam_utils::sync::{Parker, Unparker};
+use futures::task::Waker;
 use oneshot_drive::{BlockGround, ReceiverGround};
 use oneshot_machine::states::Op;
 use std::sync::Wait;
@@ -11,7 +15,7 @@ use std::time::Clock;
 /// The ground of a receiver, lent for one call, with what it parks by.
 #[derive(Drop)]
 pub(crate) struct BlockSeat<'s, 'p, 'r, T, Rt> {
-    pub(crate) seat: &'s mut ReceiverSeat<T, Unparker>,
+    pub(crate) seat: &'s mut ReceiverSeat<T, Unparker, Waker>,
     pub(crate) parker: &'p Parker,
     pub(crate) rt: &'r Rt,
     pub(crate) deadline: Deadline,
@@ -19,7 +23,7 @@ pub(crate) struct BlockSeat<'s, 'p, 'r, T, Rt> {
     pub(crate) told: Option<bool>,
 }
 
-impl<'s, 'p, 'r, T: Drop, Rt> ReceiverGround<T, Unparker> for BlockSeat<'s, 'p, 'r, T, Rt> {
+impl<'s, 'p, 'r, T: Drop, Rt> ReceiverGround<T, Rouse> for BlockSeat<'s, 'p, 'r, T, Rt> {
     ghost use Rattle.oneshot_ends.specs.Sides.{lent};
 
     // The place names the seat that was lent too, so that a caller knows it again.
@@ -28,6 +32,13 @@ impl<'s, 'p, 'r, T: Drop, Rt> ReceiverGround<T, Unparker> for BlockSeat<'s, 'p, 
     ghost message_slot = { λ b. b.seat.now.message };
 
     ghost waker_slot = { λ b. b.seat.now.waker };
+
+    // It has nothing beside the channel.
+    ghost keeps = { λ _ _. ⊤ };
+
+    ghost keeps_same = { λ _. tt };
+
+    ghost keeps_on = { λ _ _ _ _ _. tt };
 
     fn word(&mut self, op: Op) -> u8 {
         self.seat.word(op)
@@ -41,11 +52,11 @@ impl<'s, 'p, 'r, T: Drop, Rt> ReceiverGround<T, Unparker> for BlockSeat<'s, 'p, 
         self.seat.drop_message();
     }
 
-    fn write_waker(&mut self, waker: Unparker) {
+    fn write_waker(&mut self, waker: Rouse) {
         self.seat.write_waker(waker);
     }
 
-    fn withdraw(&mut self) -> Unparker {
+    fn withdraw(&mut self) -> Rouse {
         self.seat.withdraw()
     }
 
@@ -54,8 +65,7 @@ impl<'s, 'p, 'r, T: Drop, Rt> ReceiverGround<T, Unparker> for BlockSeat<'s, 'p, 
     }
 }
 
-impl<'s, 'p, 'r, T: Drop, Rt: Wait + Clock> BlockGround<T, Unparker>
-    for BlockSeat<'s, 'p, 'r, T, Rt> {
+impl<'s, 'p, 'r, T: Drop, Rt: Wait + Clock> BlockGround<T, Rouse> for BlockSeat<'s, 'p, 'r, T, Rt> {
     fn park(&mut self, timed: bool) {
         if !timed {
             return self.parker.park(self.rt);

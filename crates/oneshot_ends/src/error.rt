@@ -6,6 +6,7 @@ ghost use Rattle.oneshot_drive.specs.Calls.{IsLate};
 
 use crate::ground::ErrorSeat;
 use crossbeam_utils::sync::Unparker;
+use futures::task::Waker;
 use oneshot_drive::{drop_error, into_inner};
 use oneshot_word::SenderSide;
 use std::error::Error;
@@ -21,7 +22,7 @@ use std::marker::Model;
 /// A contract sees the message, the table, and the sender's log of operations on the word.
 pub struct SendError<T> {
     message: T,
-    side: SenderSide<T, Unparker>,
+    side: SenderSide<T, Unparker, Waker>,
 }
 
 impl<T> Model for SendError<T> {
@@ -37,7 +38,7 @@ impl<T> Model for SendError<T> {
 }
 
 impl<T> SendError<T> {
-    pub(crate) fn new(message: T, side: SenderSide<T, Unparker>) -> SendError<T>
+    pub(crate) fn new(message: T, side: SenderSide<T, Unparker, Waker>) -> SendError<T>
         requires { IsLate (sender_at side.steps) }
         ensures { result ≡ record { message = message; table = side.table; steps = side.steps } }
     {

@@ -1,6 +1,6 @@
 //! What a real end does to the world: its ground over the shared word.
 
-ghost use Rattle.std.specs.Prelude.{◌≡◌, false, true};
+ghost use Rattle.std.specs.Prelude.{◌≡◌, false, true, ⊤};
 ghost use Rattle.oneshot_machine.specs.Slots.{held};
 ghost use Rattle.oneshot_machine.specs.Phases.{sender_at};
 ghost use Rattle.oneshot_drive.specs.Calls.{IsError, IsLate};
@@ -8,32 +8,35 @@ ghost use Rattle.oneshot_word.specs.Sides.{Side};
 ghost use Rattle.oneshot_ends.specs.Sides.{left_of};
 
 use crate::freed::Freed;
+use crate::rouse::wake;
 use crossbeam_utils::sync::Unparker;
+use futures::task::Waker;
 use oneshot_drive::{ReceiverGround, SenderGround};
 use oneshot_machine::states::Op;
-use oneshot_word::{ReceiverSide, SenderSide};
+use oneshot_word::{ReceiverSide, Rouse, SenderSide};
 use std::marker::Model;
 
 /// The sender's ground.
 #[derive(Drop)]
-pub(crate) struct SenderSeat<T, W> {
-    side: SenderSide<T, W>,
+pub(crate) struct SenderSeat<T, H, K> {
+    side: SenderSide<T, H, K>,
     // The block goes with the last of both shares, so that nothing is left to do; only proofs read this.
     freed: Freed,
 }
 
-impl<T, W> Model for SenderSeat<T, W> {
+impl<T, H, K> Model for SenderSeat<T, H, K> {
     ghost use Rattle.oneshot_word.specs.Sides.{Side};
+    ghost use Rattle.oneshot_word.specs.declared.rouse.Rouse.{Rouse};
     ghost use Rattle.oneshot_ends.specs.Sides.{left_of};
 
-    ghost Value = { Side T W };
+    ghost Value = { Side T (Rouse H K) };
 
     ghost view = { λ s. left_of s.freed.value s.side };
 }
 
-impl<T, W> SenderSeat<T, W> {
+impl<T, H, K> SenderSeat<T, H, K> {
     /// The ground of a sender that has freed nothing.
-    pub(crate) fn new(side: SenderSide<T, W>) -> SenderSeat<T, W>
+    pub(crate) fn new(side: SenderSide<T, H, K>) -> SenderSeat<T, H, K>
         ensures { result ≡ side }
     {
         let freed = Freed::of(false);
@@ -41,9 +44,9 @@ impl<T, W> SenderSeat<T, W> {
     }
 }
 
-impl<T: Drop, W: Drop> SenderSeat<T, W> {
+impl<T: Drop, H: Drop, K: Drop> SenderSeat<T, H, K> {
     /// Takes the message out of its slot, with the side that it lay in.
-    pub(crate) fn into_refused(self) -> (T, SenderSide<T, W>)
+    pub(crate) fn into_refused(self) -> (T, SenderSide<T, H, K>)
         requires { (x : T) × (self.message ≡ held x) }
         ensures message { self.message ≡ held result.0 }
         ensures table { result.1.table ≡ self.table }
@@ -55,7 +58,7 @@ impl<T: Drop, W: Drop> SenderSeat<T, W> {
     }
 }
 
-impl<T: Drop> SenderGround<T, Unparker> for SenderSeat<T, Unparker> {
+impl<T: Drop> SenderGround<T, Rouse<Unparker, Waker>> for SenderSeat<T, Unparker, Waker> {
     ghost use Rattle.oneshot_ends.specs.Sides.{logged};
 
     ghost log = { logged };
@@ -85,14 +88,14 @@ impl<T: Drop> SenderGround<T, Unparker> for SenderSeat<T, Unparker> {
         self.side.take_message();
     }
 
-    fn take_waker(&mut self) -> Unparker {
+    fn take_waker(&mut self) -> Rouse<Unparker, Waker> {
         self.side.take_waker()
     }
 
-    fn wake(&mut self, waker: Unparker) {
+    fn wake(&mut self, waker: Rouse<Unparker, Waker>) {
         // A body that reads nothing of itself tells its proof nothing of itself.
         let _side = &self.side;
-        waker.unpark();
+        wake(waker);
     }
 
     fn free(&mut self) {
@@ -102,29 +105,30 @@ impl<T: Drop> SenderGround<T, Unparker> for SenderSeat<T, Unparker> {
 
 /// The ground of an error, which has the refused message in its own hands.
 #[derive(Drop)]
-pub(crate) struct ErrorSeat<T, W> {
+pub(crate) struct ErrorSeat<T, H, K> {
     message: Option<T>,
-    side: SenderSide<T, W>,
+    side: SenderSide<T, H, K>,
     freed: Freed,
 }
 
-impl<T, W> Model for ErrorSeat<T, W> {
+impl<T, H, K> Model for ErrorSeat<T, H, K> {
     ghost use Rattle.oneshot_machine.specs.Phases.{sender_at};
     ghost use Rattle.oneshot_machine.specs.Slots.{vacant};
     ghost use Rattle.oneshot_drive.specs.Calls.{IsLate};
     ghost use Rattle.oneshot_word.specs.Sides.{Side};
+    ghost use Rattle.oneshot_word.specs.declared.rouse.Rouse.{Rouse};
     ghost use Rattle.oneshot_ends.specs.Sides.{unless_freed, slot_of};
 
-    ghost Value = { Side T W };
+    ghost Value = { Side T (Rouse H K) };
 
     ghost view = { λ e. record e.side { message = unless_freed e.freed.value (slot_of e.message); waker = unless_freed e.freed.value vacant } };
 
     ghost invariant = { λ e. IsLate (sender_at e.side.steps) };
 }
 
-impl<T, W> ErrorSeat<T, W> {
+impl<T, H, K> ErrorSeat<T, H, K> {
     /// The ground of an error that has freed nothing.
-    pub(crate) fn new(message: T, side: SenderSide<T, W>) -> ErrorSeat<T, W>
+    pub(crate) fn new(message: T, side: SenderSide<T, H, K>) -> ErrorSeat<T, H, K>
         requires { IsLate (sender_at side.steps) }
         ensures { IsError (held message) result.message result.waker }
     {
@@ -137,7 +141,7 @@ impl<T, W> ErrorSeat<T, W> {
     }
 }
 
-impl<T: Drop> SenderGround<T, Unparker> for ErrorSeat<T, Unparker> {
+impl<T: Drop> SenderGround<T, Rouse<Unparker, Waker>> for ErrorSeat<T, Unparker, Waker> {
     ghost use Rattle.oneshot_ends.specs.Sides.{logged};
 
     ghost log = { logged };
@@ -166,16 +170,16 @@ impl<T: Drop> SenderGround<T, Unparker> for ErrorSeat<T, Unparker> {
     }
 
     // No receiver waits for a sender that found it gone.
-    fn take_waker(&mut self) -> Unparker {
+    fn take_waker(&mut self) -> Rouse<Unparker, Waker> {
         // A body that reads nothing of itself tells its proof nothing of itself.
         let _side = &self.side;
         unreachable!()
     }
 
-    fn wake(&mut self, waker: Unparker) {
+    fn wake(&mut self, waker: Rouse<Unparker, Waker>) {
         // A body that reads nothing of itself tells its proof nothing of itself.
         let _side = &self.side;
-        waker.unpark();
+        wake(waker);
     }
 
     fn free(&mut self) {
@@ -185,26 +189,27 @@ impl<T: Drop> SenderGround<T, Unparker> for ErrorSeat<T, Unparker> {
 
 /// The receiver's ground.
 #[derive(Drop)]
-pub(crate) struct ReceiverSeat<T, W> {
-    side: ReceiverSide<T, W>,
+pub(crate) struct ReceiverSeat<T, H, K> {
+    side: ReceiverSide<T, H, K>,
     freed: Freed,
 }
 
-impl<T, W> Model for ReceiverSeat<T, W> {
+impl<T, H, K> Model for ReceiverSeat<T, H, K> {
     ghost use Rattle.oneshot_word.specs.Sides.{Side};
+    ghost use Rattle.oneshot_word.specs.declared.rouse.Rouse.{Rouse};
     ghost use Rattle.oneshot_ends.specs.Sides.{left_of, MayBeFreed};
     ghost use Rattle.oneshot_machine.specs.Phases.{receiver_at};
 
-    ghost Value = { Side T W };
+    ghost Value = { Side T (Rouse H K) };
 
     ghost view = { λ s. left_of s.freed.value s.side };
 
     ghost invariant = { λ s. MayBeFreed s.freed.value (receiver_at s.side.steps) };
 }
 
-impl<T, W> ReceiverSeat<T, W> {
+impl<T, H, K> ReceiverSeat<T, H, K> {
     /// The ground of a receiver that has freed nothing.
-    pub(crate) fn new(side: ReceiverSide<T, W>) -> ReceiverSeat<T, W>
+    pub(crate) fn new(side: ReceiverSide<T, H, K>) -> ReceiverSeat<T, H, K>
         ensures { result ≡ side }
     {
         let freed = Freed::of(false);
@@ -212,14 +217,14 @@ impl<T, W> ReceiverSeat<T, W> {
     }
 }
 
-impl<T, W> ReceiverSeat<T, W> {
+impl<T, H, K> ReceiverSeat<T, H, K> {
     /// Reads the word as a look does.
     pub(crate) fn peek(&self) -> u8 {
         self.side.peek()
     }
 }
 
-impl<T: Drop, W: Drop> ReceiverGround<T, W> for ReceiverSeat<T, W> {
+impl<T: Drop, H: Drop, K: Drop> ReceiverGround<T, Rouse<H, K>> for ReceiverSeat<T, H, K> {
     ghost use Rattle.oneshot_ends.specs.Sides.{logged};
 
     ghost log = { logged };
@@ -228,11 +233,19 @@ impl<T: Drop, W: Drop> ReceiverGround<T, W> for ReceiverSeat<T, W> {
 
     ghost waker_slot = { λ s. s.waker };
 
+    // It has nothing beside the channel.
+    ghost keeps = { λ _ _. ⊤ };
+
+    ghost keeps_same = { λ _. tt };
+
+    ghost keeps_on = { λ _ _ _ _ _. tt };
+
     fn word(&mut self, op: Op) -> u8 {
         match op {
             Op::Load => self.side.load(),
             Op::Store(new) => self.side.store(new),
             Op::Swap(new) => self.side.swap(new),
+            Op::Exchange(expected, new) => self.side.exchange(expected, new),
             _ => unreachable!(),
         }
     }
@@ -245,11 +258,11 @@ impl<T: Drop, W: Drop> ReceiverGround<T, W> for ReceiverSeat<T, W> {
         self.side.take_message();
     }
 
-    fn write_waker(&mut self, waker: W) {
+    fn write_waker(&mut self, waker: Rouse<H, K>) {
         self.side.write_waker(waker);
     }
 
-    fn withdraw(&mut self) -> W {
+    fn withdraw(&mut self) -> Rouse<H, K> {
         self.side.take_waker()
     }
 

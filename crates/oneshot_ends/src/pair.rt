@@ -2,11 +2,14 @@
 
 ghost use Rattle.std.specs.Prelude.{◌≡◌, [], IfOk};
 
+use crate::future::AsyncReceiver;
 use crate::receiver::Receiver;
+use crate::rouse::Rouse;
 use crate::sender::Sender;
 use crossbeam_utils::sync::Parker;
 use oneshot_word::open;
 use std::alloc::{AllocError, Global};
+use std::sync::Wait;
 
 /// Makes a channel for one message: its sender and its receiver.
 ///
@@ -25,6 +28,22 @@ pub fn channel<T: Send + Drop, Rt: Drop>(
 {
     let (near, far) = open(alloc)?;
     let parker = Parker::new(alloc)?;
-    let half = parker.unparker().clone()?;
+    let half = Rouse::Thread(parker.unparker().clone()?);
     Ok((Sender::new(near), Receiver::new(far, parker, half, rt)))
+}
+
+/// Makes a channel whose receiver is a future: `channel` followed by `Receiver::into_future`.
+///
+/// The future keeps `rt` for polls that wait for a sender about to finish. `Err` comes only where an
+/// allocation was refused; then nothing was made.
+pub fn async_channel<T: Send + Drop, Rt: Wait + Drop>(
+    rt: Rt,
+    alloc: Global,
+) -> Result<(Sender<T>, AsyncReceiver<T, Rt>), AllocError>
+    ensures one_table { IfOk result (λ ends. ends.0.table ≡ ends.1.table) }
+    ensures new_sender { IfOk result (λ ends. ends.0.steps ≡ []) }
+    ensures new_receiver { IfOk result (λ ends. ends.1.steps ≡ []) }
+{
+    let (sender, receiver) = channel(rt, alloc)?;
+    Ok((sender, receiver.into_future()))
 }

@@ -12,8 +12,11 @@ ghost use Rattle.oneshot_ends.specs.Sides.{IsNewReceiver};
 
 use crate::blocking::BlockSeat;
 use crate::deadline::{Deadline, read};
+use crate::future::AsyncReceiver;
 use crate::ground::ReceiverSeat;
+use crate::rouse::Rouse;
 use crossbeam_utils::sync::{Parker, Unparker};
+use futures::task::{Source, Waker};
 use oneshot_drive::{drop_receiver, recv, recv_deadline, recv_ref, recv_timeout, try_recv};
 use oneshot_errors::{RecvError, RecvTimeoutError, TryRecvError};
 use oneshot_machine::states::{DISCONNECTED, MESSAGE};
@@ -35,11 +38,13 @@ use std::time::{Clock, Duration, Instant};
 ///
 /// It may go to another thread where `T` and `Rt` are `Send`. Two threads may not share it.
 pub struct Receiver<T, Rt> {
-    seat: ReceiverSeat<T, Unparker>,
+    seat: ReceiverSeat<T, Unparker, Waker>,
     // The parker's waking half, unless the sender took it to wake the receiver.
-    hand: Option<Unparker>,
+    hand: Option<Rouse>,
     // A parker may not be shared, so that one thread at a time has the receiver.
     parker: Parker,
+    // Where its polls register, once it is a future.
+    source: Source,
     rt: Rt,
 }
 
@@ -60,9 +65,9 @@ impl<T, Rt> Model for Receiver<T, Rt> {
 
 impl<T, Rt> Receiver<T, Rt> {
     pub(crate) fn new(
-        side: ReceiverSide<T, Unparker>,
+        side: ReceiverSide<T, Unparker, Waker>,
         parker: Parker,
-        half: Unparker,
+        half: Rouse,
         rt: Rt,
     ) -> Receiver<T, Rt>
         requires { IsNewReceiver side }
@@ -73,6 +78,7 @@ impl<T, Rt> Receiver<T, Rt> {
             seat: ReceiverSeat::new(side),
             hand: Some(half),
             parker,
+            source: Source::new(),
             rt,
         }
     }
@@ -200,6 +206,7 @@ impl<T: Drop, Rt: Wait + Clock + Drop> Receiver<T, Rt> {
             mut seat,
             mut hand,
             parker,
+            source: _,
             rt,
         } = self;
         let mut lent = BlockSeat {
@@ -239,12 +246,31 @@ impl<T: Drop, Rt: Wait + Clock + Drop> Receiver<T, Rt> {
     }
 }
 
+impl<T: Drop, Rt: Wait + Drop> Receiver<T, Rt> {
+    /// Makes a future of the receiver, which a task can poll. It makes no operation on the word, waits for
+    /// nobody and allocates nothing. The receiver's parker is dropped.
+    pub fn into_future(self) -> AsyncReceiver<T, Rt>
+        ensures table { result.table ≡ self.table }
+        ensures steps { result.steps ≡ self.steps }
+    {
+        let Receiver {
+            seat,
+            hand: _,
+            parker: _,
+            source,
+            rt,
+        } = self;
+        AsyncReceiver::new(seat, source, rt)
+    }
+}
+
 impl<T: Drop, Rt: Drop> Drop for Receiver<T, Rt> {
     fn drop(self) {
         let Receiver {
             mut seat,
             hand: _,
             parker: _,
+            source: _,
             rt: _,
         } = self;
         drop_receiver(&mut seat);

@@ -11,6 +11,7 @@ ghost use Rattle.oneshot_ends.specs.Sides.{IsNewSender};
 use crate::error::SendError;
 use crate::ground::SenderSeat;
 use crossbeam_utils::sync::Unparker;
+use futures::task::Waker;
 use oneshot_drive::{drop_sender, send};
 use oneshot_machine::states::DISCONNECTED;
 use oneshot_word::SenderSide;
@@ -27,7 +28,7 @@ use std::marker::Model;
 /// It may go to another thread where `T` is `Send`. Several threads may share a `&` to it where `T` is
 /// also `Sync`, and ask `is_closed`.
 pub struct Sender<T> {
-    side: SenderSide<T, Unparker>,
+    side: SenderSide<T, Unparker, Waker>,
 }
 
 impl<T> Model for Sender<T> {
@@ -42,7 +43,7 @@ impl<T> Model for Sender<T> {
 }
 
 impl<T> Sender<T> {
-    pub(crate) fn new(side: SenderSide<T, Unparker>) -> Sender<T>
+    pub(crate) fn new(side: SenderSide<T, Unparker, Waker>) -> Sender<T>
         requires { IsNewSender side }
         ensures table { result.table ≡ side.table }
         ensures steps { result.steps ≡ side.steps }

@@ -19,9 +19,9 @@ use Rattle.oneshot_laws.specs.Marks.{Mark, marks, after_each}
 use Rattle.oneshot_laws.specs.History.{agrees}
 use Rattle.oneshot_laws.specs.Laws.{is_gone_after_got, is_gone_after_closed, is_refused_after_closed}
 use Rattle.oneshot_laws.proofs.Codes.{flag_is}
-use Rattle.oneshot_laws.proofs.Glanced.{Pair, Passes, glanced_from, all_glanced, passes_run}
+use Rattle.oneshot_laws.proofs.Glanced.{Pair, Passes, Nameless, of_call, glanced_from, all_glanced, passes_run}
 use Rattle.oneshot_laws.proofs.Legal.{Glance, glance_of}
-use Rattle.oneshot_laws.proofs.Watched.{Watched}
+use Rattle.oneshot_laws.proofs.Watched.{Watched, no_names}
 
 -- a call that answers so, and a call that answers so if it answers
 abbrev pub told : (Call → Bool) → Reply → Glance → Bool
@@ -61,11 +61,11 @@ module _ (test good : Glance → Bool) where
   good_after (m ∷ ms) after p =
       both _ _ (from_here after (test (glance_of m)) _ (all_good ms _ p.1)) (good_after ms _ p.1)
 
-module _ (test good : Glance → Bool) (found : Tree (Watched (Pair Bool))) (all : all_glanced 2 bool_code is_same_flag (good_then test good) (flag_then test good) (λ place. false) found ≡ true) where
+module _ (test good : Glance → Bool) (nameless : Nameless (good_then test good) (flag_then test good)) (found : Tree (Watched (Pair Bool))) (all : all_glanced 2 bool_code is_same_flag (good_then test good) (flag_then test good) no_names (λ place. false) found ≡ true) where
   ever_after : {T : Type 0} (s : SenderScript T) (r : ReceiverScript) (worlds : List World) (moves : List Move) (entries : List Entry) → Tells (opening s r) worlds moves entries → after_each (λ m. test (glance_of m)) (list_all (λ m. good (glance_of m))) (marks (calls_of s r) entries) ≡ true
   ever_after s r worlds moves entries tells =
       good_after test good (marks (calls_of s r) entries) false
-      (passes_run 2 bool_code is_same_flag (good_then test good) (flag_then test good) flag_is (λ place. false) found all s r worlds moves entries tells)
+      (passes_run 2 bool_code is_same_flag (good_then test good) (flag_then test good) nameless flag_is (λ place. false) found all s r worlds moves entries tells)
 
 -- gone once the message was got
 abbrev got : Glance → Bool
@@ -74,15 +74,22 @@ got = told is_receive R.Message
 abbrev gone : Glance → Bool
 gone = tells_only is_receive R.Disconnected
 
-got_found : Tree (Watched (Pair Bool))
-got_found = glanced_from 2 bool_code is_same_flag (good_then got gone) (flag_then got gone) (λ place. false)
+got_nameless : Nameless (good_then got gone) (flag_then got gone)
+got_nameless =
+    record {
+      passes_same = λ k n g. of_call k (λ call. good_then got gone n (record g { call = call })) (λ a b. refl) g.call;
+      sees_same = λ k n g. of_call k (λ call. flag_then got gone n (record g { call = call })) (λ a b. refl) g.call;
+    }
 
-all_got : all_glanced 2 bool_code is_same_flag (good_then got gone) (flag_then got gone) (λ place. false) got_found ≡ true
+got_found : Tree (Watched (Pair Bool))
+got_found = glanced_from 2 bool_code is_same_flag (good_then got gone) (flag_then got gone) no_names (λ place. false)
+
+all_got : all_glanced 2 bool_code is_same_flag (good_then got gone) (flag_then got gone) no_names (λ place. false) got_found ≡ true
 unfolding got_found
 all_got = refl
 
 pub gone_after_got : {T : Type 0} (s : SenderScript T) (r : ReceiverScript) (worlds : List World) (moves : List Move) (entries : List Entry) → Tells (opening s r) worlds moves entries → is_gone_after_got (marks (calls_of s r) entries) ≡ true
-gone_after_got = ever_after got gone got_found all_got
+gone_after_got = ever_after got gone got_nameless got_found all_got
 
 -- gone, and closed, once closed
 abbrev closed : Glance → Bool
@@ -91,15 +98,22 @@ closed = told is_closed_look R.Yes
 abbrev stays_closed : Glance → Bool
 stays_closed g = gone g && tells_only is_closed_look R.Yes g
 
-closed_found : Tree (Watched (Pair Bool))
-closed_found = glanced_from 2 bool_code is_same_flag (good_then closed stays_closed) (flag_then closed stays_closed) (λ place. false)
+closed_nameless : Nameless (good_then closed stays_closed) (flag_then closed stays_closed)
+closed_nameless =
+    record {
+      passes_same = λ k n g. of_call k (λ call. good_then closed stays_closed n (record g { call = call })) (λ a b. refl) g.call;
+      sees_same = λ k n g. of_call k (λ call. flag_then closed stays_closed n (record g { call = call })) (λ a b. refl) g.call;
+    }
 
-all_closed : all_glanced 2 bool_code is_same_flag (good_then closed stays_closed) (flag_then closed stays_closed) (λ place. false) closed_found ≡ true
+closed_found : Tree (Watched (Pair Bool))
+closed_found = glanced_from 2 bool_code is_same_flag (good_then closed stays_closed) (flag_then closed stays_closed) no_names (λ place. false)
+
+all_closed : all_glanced 2 bool_code is_same_flag (good_then closed stays_closed) (flag_then closed stays_closed) no_names (λ place. false) closed_found ≡ true
 unfolding closed_found
 all_closed = refl
 
 pub gone_after_closed : {T : Type 0} (s : SenderScript T) (r : ReceiverScript) (worlds : List World) (moves : List Move) (entries : List Entry) → Tells (opening s r) worlds moves entries → is_gone_after_closed (marks (calls_of s r) entries) ≡ true
-gone_after_closed = ever_after closed stays_closed closed_found all_closed
+gone_after_closed = ever_after closed stays_closed closed_nameless closed_found all_closed
 
 -- refused once the receiver was gone
 abbrev receiver_gone : Glance → Bool
@@ -108,12 +122,19 @@ receiver_gone = told is_sender_look R.Yes
 abbrev refused : Glance → Bool
 refused = tells_only is_send R.Refused
 
-refused_found : Tree (Watched (Pair Bool))
-refused_found = glanced_from 2 bool_code is_same_flag (good_then receiver_gone refused) (flag_then receiver_gone refused) (λ place. false)
+refused_nameless : Nameless (good_then receiver_gone refused) (flag_then receiver_gone refused)
+refused_nameless =
+    record {
+      passes_same = λ k n g. of_call k (λ call. good_then receiver_gone refused n (record g { call = call })) (λ a b. refl) g.call;
+      sees_same = λ k n g. of_call k (λ call. flag_then receiver_gone refused n (record g { call = call })) (λ a b. refl) g.call;
+    }
 
-all_refused : all_glanced 2 bool_code is_same_flag (good_then receiver_gone refused) (flag_then receiver_gone refused) (λ place. false) refused_found ≡ true
+refused_found : Tree (Watched (Pair Bool))
+refused_found = glanced_from 2 bool_code is_same_flag (good_then receiver_gone refused) (flag_then receiver_gone refused) no_names (λ place. false)
+
+all_refused : all_glanced 2 bool_code is_same_flag (good_then receiver_gone refused) (flag_then receiver_gone refused) no_names (λ place. false) refused_found ≡ true
 unfolding refused_found
 all_refused = refl
 
 pub refused_after_closed : {T : Type 0} (s : SenderScript T) (r : ReceiverScript) (worlds : List World) (moves : List Move) (entries : List Entry) → Tells (opening s r) worlds moves entries → is_refused_after_closed (marks (calls_of s r) entries) ≡ true
-refused_after_closed = ever_after receiver_gone refused refused_found all_refused
+refused_after_closed = ever_after receiver_gone refused refused_nameless refused_found all_refused

@@ -17,10 +17,10 @@ use Rattle.oneshot_laws.specs.Ended.{all_ended}
 use Rattle.oneshot_laws.specs.Holders.{Holders, both_hold, holds, other, is_here, uses_block, frees, is_held, is_free_last, is_freed, is_freed_at_end, is_freed_right}
 use Rattle.oneshot_laws.specs.Object.{is_same_flag}
 use Rattle.oneshot_laws.proofs.Codes.{flag_is}
-use Rattle.oneshot_laws.proofs.AtTheEnd.{Kept, own_after, kept_from, all_kept, at_the_end, or_more}
-use Rattle.oneshot_laws.proofs.Glanced.{Pair, Passes, glanced_from, all_glanced, passes_run}
+use Rattle.oneshot_laws.proofs.AtTheEnd.{Kept, own_after, nothing_asked, kept_from, all_kept, at_the_end, or_more}
+use Rattle.oneshot_laws.proofs.Glanced.{Pair, Passes, Nameless, of_call, glanced_from, all_glanced, passes_run}
 use Rattle.oneshot_laws.proofs.Legal.{Glance, glance_of}
-use Rattle.oneshot_laws.proofs.Watched.{Watched}
+use Rattle.oneshot_laws.proofs.Watched.{Watched, no_names}
 
 abbrev uses : Glance → Bool
 uses g = is_word g.entry.step || is_on_a_cell g.entry.step || is_free g.entry.step
@@ -66,17 +66,24 @@ held : (ms : List Mark) (h : Holders) → Passes is_used_by_holder then_held h (
 held [] h p = refl
 held (m ∷ ms) h p = both _ _ p.0 (held ms _ p.1)
 
-held_found : Tree (Watched (Pair Holders))
-held_found = glanced_from 4 holders_code is_same_holders is_used_by_holder then_held (λ place. both_hold)
+held_nameless : Nameless is_used_by_holder then_held
+held_nameless =
+    record {
+      passes_same = λ k n g. of_call k (λ call. is_used_by_holder n (record g { call = call })) (λ a b. refl) g.call;
+      sees_same = λ k n g. of_call k (λ call. then_held n (record g { call = call })) (λ a b. refl) g.call;
+    }
 
-all_held : all_glanced 4 holders_code is_same_holders is_used_by_holder then_held (λ place. both_hold) held_found ≡ true
+held_found : Tree (Watched (Pair Holders))
+held_found = glanced_from 4 holders_code is_same_holders is_used_by_holder then_held no_names (λ place. both_hold)
+
+all_held : all_glanced 4 holders_code is_same_holders is_used_by_holder then_held no_names (λ place. both_hold) held_found ≡ true
 unfolding held_found
 all_held = refl
 
 held_run : {T : Type 0} (s : SenderScript T) (r : ReceiverScript) (worlds : List World) (moves : List Move) (entries : List Entry) → Tells (opening s r) worlds moves entries → is_held both_hold (marks (calls_of s r) entries) ≡ true
 held_run s r worlds moves entries tells =
     held (marks (calls_of s r) entries) both_hold
-    (passes_run 4 holders_code is_same_holders is_used_by_holder then_held holders_are (λ place. both_hold) held_found all_held s r worlds moves entries tells)
+    (passes_run 4 holders_code is_same_holders is_used_by_holder then_held held_nameless holders_are (λ place. both_hold) held_found all_held s r worlds moves entries tells)
 
 -- nothing uses the block after a free; the flag is whether it was freed
 abbrev is_unused : Bool → Glance → Bool
@@ -113,38 +120,45 @@ free_last [] freed p = refl
 free_last (m ∷ ms) freed p =
     both _ _ (freed_here freed (is_freeing (glance_of m)) _ (unused ms _ p.1)) (free_last ms _ p.1)
 
-unused_found : Tree (Watched (Pair Bool))
-unused_found = glanced_from 2 bool_code is_same_flag is_unused freed_then (λ place. false)
+unused_nameless : Nameless is_unused freed_then
+unused_nameless =
+    record {
+      passes_same = λ k n g. of_call k (λ call. is_unused n (record g { call = call })) (λ a b. refl) g.call;
+      sees_same = λ k n g. of_call k (λ call. freed_then n (record g { call = call })) (λ a b. refl) g.call;
+    }
 
-all_unused : all_glanced 2 bool_code is_same_flag is_unused freed_then (λ place. false) unused_found ≡ true
+unused_found : Tree (Watched (Pair Bool))
+unused_found = glanced_from 2 bool_code is_same_flag is_unused freed_then no_names (λ place. false)
+
+all_unused : all_glanced 2 bool_code is_same_flag is_unused freed_then no_names (λ place. false) unused_found ≡ true
 unfolding unused_found
 all_unused = refl
 
 free_last_run : {T : Type 0} (s : SenderScript T) (r : ReceiverScript) (worlds : List World) (moves : List Move) (entries : List Entry) → Tells (opening s r) worlds moves entries → is_free_last (marks (calls_of s r) entries) ≡ true
 free_last_run s r worlds moves entries tells =
     free_last (marks (calls_of s r) entries) false
-    (passes_run 2 bool_code is_same_flag is_unused freed_then flag_is (λ place. false) unused_found all_unused s r worlds moves entries tells)
+    (passes_run 2 bool_code is_same_flag is_unused freed_then unused_nameless flag_is (λ place. false) unused_found all_unused s r worlds moves entries tells)
 
 -- once all have ended the block is freed
 abbrev is_true : Bool → Bool
 is_true freed = freed
 
-freed_after : (ms : List Mark) (freed : Bool) → own_after freed_then is_true freed (map glance_of ms) ≡ (freed || is_freed ms)
+freed_after : (ms : List Mark) (freed : Bool) → own_after freed_then freed (map glance_of ms) ≡ (freed || is_freed ms)
 freed_after [] freed = elim freed as (λ b. b ≡ (b || false)) [ true ↦ refl | false ↦ refl ]
 freed_after (m ∷ ms) freed =
     rw (or_more freed (frees m) (is_freed ms)) (freed_after ms (freed || frees m))
 
 freed_found : Tree (Watched (Pair (Kept Bool)))
-freed_found = kept_from 2 bool_code is_same_flag freed_then is_true (λ place. false)
+freed_found = kept_from 2 bool_code is_same_flag freed_then nothing_asked is_true no_names (λ place. false)
 
-all_freed : all_kept 2 bool_code is_same_flag freed_then is_true (λ place. false) freed_found ≡ true
+all_freed : all_kept 2 bool_code is_same_flag freed_then nothing_asked is_true no_names (λ place. false) freed_found ≡ true
 unfolding freed_found
 all_freed = refl
 
 freed_at_end : {T : Type 0} (s : SenderScript T) (r : ReceiverScript) (worlds : List World) (moves : List Move) (entries : List Entry) → Tells (opening s r) worlds moves entries → is_freed_at_end (marks (calls_of s r) entries) ≡ true
 freed_at_end s r worlds moves entries tells =
     subst (λ freed. only_if (all_ended (marks (calls_of s r) entries)) freed ≡ true) (freed_after (marks (calls_of s r) entries) false)
-    (at_the_end 2 bool_code is_same_flag freed_then is_true (λ place. false) flag_is freed_found all_freed s r worlds moves entries tells)
+    (at_the_end 2 bool_code is_same_flag freed_then is_true (λ k freed g. refl) (λ place. false) flag_is freed_found all_freed s r worlds moves entries tells)
 
 pub freed_right : {T : Type 0} (s : SenderScript T) (r : ReceiverScript) (worlds : List World) (moves : List Move) (entries : List Entry) → Tells (opening s r) worlds moves entries → is_freed_right (marks (calls_of s r) entries) ≡ true
 freed_right s r worlds moves entries tells =

@@ -10,7 +10,7 @@ use Rattle.oneshot_laws.specs.Object.{Content, Open, Full, Closed, content_code,
 use Rattle.oneshot_laws.specs.Words.{reply_code, is_same_reply}
 
 abbrev replies : List Reply
-replies = R.Sent ∷ R.Refused ∷ R.Yes ∷ R.No ∷ R.Message ∷ R.Empty ∷ R.Timeout ∷ R.Disconnected ∷ R.Done ∷ []
+replies = R.Sent ∷ R.Refused ∷ R.Yes ∷ R.No ∷ R.Message ∷ R.Empty ∷ R.Timeout ∷ R.Disconnected ∷ R.Pending ∷ R.Future ∷ R.Done ∷ []
 
 reply_back : (x : Reply) → get_or replies (reply_code x) R.Done ≡ x
 reply_back R.Sent = refl
@@ -21,6 +21,8 @@ reply_back R.Message = refl
 reply_back R.Empty = refl
 reply_back R.Timeout = refl
 reply_back R.Disconnected = refl
+reply_back R.Pending = refl
+reply_back R.Future = refl
 reply_back R.Done = refl
 
 pub reply_is : (a b : Reply) → is_same_reply a b ≡ true → a ≡ b
@@ -36,10 +38,12 @@ answer_code (Some R.Message) = 5
 answer_code (Some R.Empty) = 6
 answer_code (Some R.Timeout) = 7
 answer_code (Some R.Disconnected) = 8
-answer_code (Some R.Done) = 9
+answer_code (Some R.Pending) = 9
+answer_code (Some R.Future) = 10
+answer_code (Some R.Done) = 11
 
 abbrev answers : List (Option Reply)
-answers = None ∷ Some R.Sent ∷ Some R.Refused ∷ Some R.Yes ∷ Some R.No ∷ Some R.Message ∷ Some R.Empty ∷ Some R.Timeout ∷ Some R.Disconnected ∷ Some R.Done ∷ []
+answers = None ∷ Some R.Sent ∷ Some R.Refused ∷ Some R.Yes ∷ Some R.No ∷ Some R.Message ∷ Some R.Empty ∷ Some R.Timeout ∷ Some R.Disconnected ∷ Some R.Pending ∷ Some R.Future ∷ Some R.Done ∷ []
 
 answer_back : (x : Option Reply) → get_or answers (answer_code x) None ≡ x
 answer_back None = refl
@@ -51,6 +55,8 @@ answer_back (Some R.Message) = refl
 answer_back (Some R.Empty) = refl
 answer_back (Some R.Timeout) = refl
 answer_back (Some R.Disconnected) = refl
+answer_back (Some R.Pending) = refl
+answer_back (Some R.Future) = refl
 answer_back (Some R.Done) = refl
 
 pub answer_is : (a b : Option Reply) → (answer_code a == answer_code b) ≡ true → a ≡ b

@@ -18,9 +18,9 @@ use Rattle.oneshot_laws.specs.Marks.{Mark, marks}
 use Rattle.oneshot_laws.specs.Ended.{has_answered}
 use Rattle.oneshot_laws.specs.Laws.{answers, is_dropped, is_dropping, is_one_by_receiver, is_dropped_once}
 use Rattle.oneshot_laws.proofs.Afterwards.{told}
-use Rattle.oneshot_laws.proofs.Glanced.{Pair, Passes, glanced_from, all_glanced, passes_run}
+use Rattle.oneshot_laws.proofs.Glanced.{Pair, Passes, Nameless, of_call, glanced_from, all_glanced, passes_run}
 use Rattle.oneshot_laws.proofs.Legal.{Glance, glance_of}
-use Rattle.oneshot_laws.proofs.Watched.{Watched}
+use Rattle.oneshot_laws.proofs.Watched.{Watched, no_names}
 
 -- how the message was dropped so far
 pub data Drops : Type 0 where
@@ -166,10 +166,17 @@ ends_well (m ∷ ms) story well p =
 abbrev nothing_told : Story
 nothing_told = record { sent = false; got = false; done = false; drops = Never }
 
-found : Tree (Watched (Pair Story))
-found = glanced_from 24 story_code is_same_story goes_well story_then (λ place. nothing_told)
+nameless : Nameless goes_well story_then
+nameless =
+    record {
+      passes_same = λ k n g. of_call k (λ call. goes_well n (record g { call = call })) (λ a b. refl) g.call;
+      sees_same = λ k n g. of_call k (λ call. story_then n (record g { call = call })) (λ a b. refl) g.call;
+    }
 
-all_found : all_glanced 24 story_code is_same_story goes_well story_then (λ place. nothing_told) found ≡ true
+found : Tree (Watched (Pair Story))
+found = glanced_from 24 story_code is_same_story goes_well story_then no_names (λ place. nothing_told)
+
+all_found : all_glanced 24 story_code is_same_story goes_well story_then no_names (λ place. nothing_told) found ≡ true
 unfolding found
 all_found = refl
 
@@ -181,4 +188,4 @@ pub dropped_once : {T : Type 0} (s : SenderScript T) (r : ReceiverScript) (world
 dropped_once s r worlds moves entries tells =
     with_drops _ (filter is_dropping (marks (calls_of s r) entries))
     (ends_well (marks (calls_of s r) entries) nothing_told refl
-    (passes_run 24 story_code is_same_story goes_well story_then story_is (λ place. nothing_told) found all_found s r worlds moves entries tells))
+    (passes_run 24 story_code is_same_story goes_well story_then nameless story_is (λ place. nothing_told) found all_found s r worlds moves entries tells))

@@ -1,14 +1,14 @@
 -- In each run an end is idle only where its script has nothing left.
-use Rattle.std.proofs.Common.{◌≡◌, true, List, [], ◌∷◌, Option, None, refl, ap}
+use Rattle.std.proofs.Common.{◌≡◌, ℕ, ◌+◌, Bool, true, false, List, [], ◌∷◌, Option, None, refl, ap}
 use Rattle.std.specs.Option.{option_and_then}
 use Rattle.oneshot_machine.specs.Receiver.{receiver_step}
 use Rattle.oneshot_machine.specs.Sender.{sender_step}
 use Rattle.oneshot_machine.specs.declared.machine.End.{End}
 use Rattle.oneshot_machine.specs.declared.machine.End.TheVariants.{Sender, Receiver}
-use Rattle.oneshot_world.specs.Calls.{Call, Sender_is_closed, Send, Drop_sender, As_inner, Into_inner, Drop_error, Try_recv, Recv_ref, Recv_deadline, Recv_timeout, Recv, Has_message, Is_closed, Drop_receiver, calls_of, first, is_none_left, left_by, as_sender_call, as_receiver_call}
+use Rattle.oneshot_world.specs.Calls.{Call, Sender_is_closed, Send, Drop_sender, As_inner, Into_inner, Drop_error, Try_recv, Recv_ref, Recv_deadline, Recv_timeout, Recv, Has_message, Is_closed, Drop_receiver, Into_future, Poll, Drop_async, calls_of, first, is_none_left, left_by, as_sender_call, as_receiver_call}
 use Rattle.oneshot_world.specs.Control.{sender_has, receiver_has, IsReached}
 use Rattle.oneshot_world.specs.State.{sender_position, receiver_position, reply_of}
-use Rattle.oneshot_world.specs.World.{World, Tells, opening, side_of, over_of}
+use Rattle.oneshot_world.specs.World.{World, Tells_from, Tells, opening, side_of, receiver_told}
 use Rattle.oneshot_world.specs.declared.script.Move.{Move}
 use Rattle.oneshot_world.specs.declared.script.ReceiverScript.{ReceiverScript}
 use Rattle.oneshot_world.specs.declared.script.SenderScript.{SenderScript}
@@ -39,43 +39,50 @@ sender_none message SS.Failed (Drop_error ∷ calls) h at = cc
 sender_none message SS.Failed (_ ∷ calls) h at = cc
 sender_none message SS.Ended calls h at = h
 
-receiver_none : (s : ReceiverState) (calls : List Call) → receiver_has s calls ≡ true → receiver_position s (option_and_then as_receiver_call (first calls)) ≡ None → is_none_left calls ≡ true
-receiver_none RS.Ready [] h at = refl
-receiver_none RS.Ready (Try_recv ∷ calls) h at = cc
-receiver_none RS.Ready (Recv_ref ∷ calls) h at = cc
-receiver_none RS.Ready (Recv_deadline ∷ calls) h at = cc
-receiver_none RS.Ready (Recv_timeout representable ∷ calls) h at = cc
-receiver_none RS.Ready (Recv ∷ calls) h at = cc
-receiver_none RS.Ready (Has_message ∷ calls) h at = cc
-receiver_none RS.Ready (Is_closed ∷ calls) h at = cc
-receiver_none RS.Ready (Drop_receiver ∷ calls) h at = cc
-receiver_none RS.Ready (_ ∷ calls) h at = cc
-receiver_none (RS.At position) calls h at = cc
-receiver_none RS.Ended calls h at = h
+receiver_none : (s : ReceiverState) (future : Bool) (calls : List Call) → receiver_has s future calls ≡ true → receiver_position s (option_and_then as_receiver_call (first calls)) ≡ None → is_none_left calls ≡ true
+receiver_none RS.Ready false [] h at = refl
+receiver_none RS.Ready false (Try_recv ∷ calls) h at = cc
+receiver_none RS.Ready false (Recv_ref ∷ calls) h at = cc
+receiver_none RS.Ready false (Recv_deadline ∷ calls) h at = cc
+receiver_none RS.Ready false (Recv_timeout representable ∷ calls) h at = cc
+receiver_none RS.Ready false (Recv ∷ calls) h at = cc
+receiver_none RS.Ready false (Has_message ∷ calls) h at = cc
+receiver_none RS.Ready false (Is_closed ∷ calls) h at = cc
+receiver_none RS.Ready false (Drop_receiver ∷ calls) h at = cc
+receiver_none RS.Ready false (Into_future ∷ calls) h at = cc
+receiver_none RS.Ready false (_ ∷ calls) h at = cc
+receiver_none RS.Ready true [] h at = refl
+receiver_none RS.Ready true (Has_message ∷ calls) h at = cc
+receiver_none RS.Ready true (Is_closed ∷ calls) h at = cc
+receiver_none RS.Ready true (Poll number ∷ calls) h at = cc
+receiver_none RS.Ready true (Drop_async ∷ calls) h at = cc
+receiver_none RS.Ready true (_ ∷ calls) h at = cc
+receiver_none (RS.At position) future calls h at = cc
+receiver_none RS.Ended future calls h at = h
 
 -- a reading of what a run from this world tells
 abbrev Claim : List Entry → Type 0
-Claim entries = (w : World) (s r : Reading) (worlds : List World) (moves : List Move) → s.left ≡ w.sender → r.left ≡ w.receiver → IsReached w → Tells w worlds moves entries → is_idle_right_from s r entries ≡ true
+Claim entries = (n : ℕ) (w : World) (s r : Reading) (worlds : List World) (moves : List Move) → s.left ≡ w.sender → r.left ≡ w.receiver → IsReached w → Tells_from n w worlds moves entries → is_idle_right_from s r entries ≡ true
 
-idle_turn : (entries : List Entry) → Claim entries → (side : End) (w : World) (entry : Entry) (next : World) (s r : Reading) (worlds : List World) (moves : List Move) → Turned w side entry next → s.left ≡ w.sender → r.left ≡ w.receiver → IsReached w → IsReached next → Tells next worlds moves entries → is_idle_right_from s r (entry ∷ entries) ≡ true
-idle_turn entries later _ w _ _ s r worlds moves (sender_idle at) se re h k told =
-    both _ _ (rw se (sender_none w.state.message w.state.sender w.sender.calls h.sender at)) (later w s r worlds moves se re h told)
-idle_turn entries later _ w _ _ s r worlds moves (receiver_idle at) se re h k told =
-    both _ _ (rw re (receiver_none w.state.receiver w.receiver.calls h.receiver at)) (later w s r worlds moves se re h told)
-idle_turn entries later _ w _ _ s r worlds moves (sender_made position row at steps) se re h k told =
-    later (sender_world w (sender_step position) row) _ r worlds moves (ap (λ left. left_by Sender (reply_of row) left) se) re k told
-idle_turn entries later _ w _ _ s r worlds moves (receiver_made over position row at steps) se re h k told =
-    later (receiver_world w (receiver_step position) row) s _ worlds moves se (ap (λ left. left_by Receiver (reply_of row) left) re) k told
+idle_turn : (entries : List Entry) → Claim entries → (n : ℕ) (side : End) (w : World) (entry : Entry) (next : World) (s r : Reading) (worlds : List World) (moves : List Move) → Turned n w side entry next → s.left ≡ w.sender → r.left ≡ w.receiver → IsReached w → IsReached next → Tells_from (n + 1) next worlds moves entries → is_idle_right_from s r (entry ∷ entries) ≡ true
+idle_turn entries later n _ w _ _ s r worlds moves (sender_idle at) se re h k told =
+    both _ _ (rw se (sender_none w.state.message w.state.sender w.sender.calls h.sender at)) (later (n + 1) w s r worlds moves se re h told)
+idle_turn entries later n _ w _ _ s r worlds moves (receiver_idle at) se re h k told =
+    both _ _ (rw re (receiver_none w.state.receiver w.state.future w.receiver.calls h.receiver at)) (later (n + 1) w s r worlds moves se re h told)
+idle_turn entries later n _ w _ _ s r worlds moves (sender_made position row at steps) se re h k told =
+    later (n + 1) (sender_world w (sender_step position) row) _ r worlds moves (ap (λ left. left_by Sender (reply_of row) left) se) re k told
+idle_turn entries later n _ w _ _ s r worlds moves (receiver_made answer position row at steps) se re h k told =
+    later (n + 1) (receiver_world (receiver_told answer n w) w (receiver_step position) row) s _ worlds moves se (ap (λ left. left_by Receiver (reply_of row) left) re) k told
 
 idles : (entries : List Entry) → Claim entries
-idles [] w s r worlds moves se re h told = refl
-idles (entry ∷ entries) w s r (next ∷ worlds) (move ∷ moves) se re h told =
-    let by : Turned w (side_of move) entry next = turned (side_of move) (over_of move) w (entry, next) told.0 in
-    idle_turn entries (idles entries) (side_of move) w entry next s r worlds moves by se re h (turned_reaches (side_of move) w entry next h by) told.1
-idles (entry ∷ entries) w s r [] [] se re h told = elim told [ ]
-idles (entry ∷ entries) w s r [] (move ∷ moves) se re h told = elim told [ ]
-idles (entry ∷ entries) w s r (next ∷ worlds) [] se re h told = elim told [ ]
+idles [] n w s r worlds moves se re h told = refl
+idles (entry ∷ entries) n w s r (next ∷ worlds) (move ∷ moves) se re h told =
+    let by : Turned n w (side_of move) entry next = turned n w move (entry, next) told.0 in
+    idle_turn entries (idles entries) n (side_of move) w entry next s r worlds moves by se re h (turned_reaches n (side_of move) w entry next h by) told.1
+idles (entry ∷ entries) n w s r [] [] se re h told = elim told [ ]
+idles (entry ∷ entries) n w s r [] (move ∷ moves) se re h told = elim told [ ]
+idles (entry ∷ entries) n w s r (next ∷ worlds) [] se re h told = elim told [ ]
 
 pub idle_run : {T : Type 0} (s : SenderScript T) (r : ReceiverScript) (worlds : List World) (moves : List Move) (entries : List Entry) → Tells (opening s r) worlds moves entries → is_idle_right (calls_of s r) entries ≡ true
 idle_run s r worlds moves entries told =
-    idles entries (opening s r) (sender_reading (calls_of s r)) (receiver_reading (calls_of s r)) worlds moves refl refl (opening_reached s r) told
+    idles entries 1 (opening s r) (sender_reading (calls_of s r)) (receiver_reading (calls_of s r)) worlds moves refl refl (opening_reached s r) told

@@ -4,7 +4,7 @@ use Rattle.std.specs.List.{list_any, list_all}
 use Rattle.oneshot_machine.specs.declared.machine.End.{End}
 use Rattle.oneshot_machine.specs.declared.machine.End.TheVariants.{Sender, Receiver}
 use Rattle.oneshot_machine.specs.declared.machine.Reply.{Reply}
-use Rattle.oneshot_world.specs.Calls.{Call, Sender_is_closed, Send, Drop_sender, As_inner, Into_inner, Drop_error, Try_recv, Recv_ref, Recv_deadline, Recv_timeout, Recv, Has_message, Is_closed, Drop_receiver, Stray, Unanswered, is_none_left, left_by}
+use Rattle.oneshot_world.specs.Calls.{Call, Sender_is_closed, Send, Drop_sender, As_inner, Into_inner, Drop_error, Try_recv, Recv_ref, Recv_deadline, Recv_timeout, Recv, Has_message, Is_closed, Drop_receiver, Into_future, Poll, Drop_async, Stray, Unanswered, is_none_left, left_by}
 use Rattle.oneshot_world.specs.World.{by_end}
 use Rattle.oneshot_world.specs.declared.trace.Entry.{Entry}
 use Rattle.oneshot_world.specs.declared.trace.Entry.TheVariants.{Idle, Made as Made_entry}
@@ -62,6 +62,7 @@ takes : (call : Call) (n : Reply) → nothing_yet_of call ≡ Some n → action_
 takes Try_recv n h = refl
 takes Recv_deadline n h = refl
 takes (Recv_timeout true) n h = refl
+takes (Poll number) n h = refl
 takes _ n h = cc
 
 open_stays_at : (c : Content) (s r : Bool) → is_open c ≡ true → object_after Take (record { content = c; sender_here = s; receiver_here = r }) ≡ record { content = c; sender_here = s; receiver_here = r }
@@ -245,6 +246,9 @@ local_right Recv o x earlier e later f ok paid says = local_receive Recv o x ear
 local_right Has_message o x earlier e later f ok paid says = local_first loads Has_message o x earlier e later f.acted ok paid
 local_right Is_closed o x earlier e later f ok paid says = local_first loads Is_closed o x earlier e later f.acted ok paid
 local_right Drop_receiver o x earlier e later f ok paid says = local_first swaps_closed_in Drop_receiver o x earlier e later f.acted ok paid
+local_right Into_future o x earlier e later f ok paid says = local_fixed Into_future o x earlier e later refl
+local_right (Poll number) o x earlier e later f ok paid says = local_receive (Poll number) o x earlier e later f.acted f.worked ok paid (says refl)
+local_right Drop_async o x earlier e later f ok paid says = local_first swaps_closed_in Drop_async o x earlier e later f.acted ok paid
 local_right Stray o x earlier e later f ok paid says = absurd (cc ok)
 
 not_stray : (call : Call) (e : Made) (o : Object) (x : Watch) → accepts_call call e o x ≡ true → not (is_stray call) ≡ true
@@ -255,6 +259,7 @@ answers_as_ever : (call : Call) (e : Made) (o : Object) (x : Watch) → accepts_
 answers_as_ever As_inner e o x h = and_right (not (is_some x.owes)) _ h
 answers_as_ever Into_inner e o x h = and_right (not (is_some x.owes)) _ h
 answers_as_ever Drop_error e o x h = and_right (not (is_some x.owes)) _ h
+answers_as_ever Into_future e o x h = and_right (not (is_some x.owes)) _ h
 answers_as_ever Stray e o x h = cc
 answers_as_ever _ e o x h = refl
 
@@ -332,6 +337,7 @@ no_word : (call : Call) → (is_end_of_sender call || is_end_of_receiver call) �
 no_word Try_recv h = cc
 no_word Recv_deadline h = cc
 no_word (Recv_timeout true) h = cc
+no_word (Poll number) h = cc
 no_word _ h = refl
 
 both_false : (a b : Bool) → (a && false) ≡ (b && false)

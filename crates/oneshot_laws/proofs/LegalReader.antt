@@ -1,9 +1,10 @@
 -- A reader of the trace, entry by entry, with finitely many states: the object, and what the call under way at each end owes since it acted.
-use Rattle.std.proofs.Common.{◌≡◌, ℕ, ◌+◌, ◌*◌, Bool, true, false, not, ◌&&◌, ◌||◌, ◌==◌, Option, Some, None, is_some, refl}
+use Rattle.std.proofs.Common.{◌≡◌, ℕ, ◌+◌, ◌*◌, Bool, true, false, not, ◌&&◌, ◌||◌, ◌==◌, Option, Some, None, is_some, refl, ap}
 use Rattle.oneshot_machine.specs.declared.machine.End.{End}
 use Rattle.oneshot_machine.specs.declared.machine.End.TheVariants.{Sender, Receiver}
 use Rattle.oneshot_machine.specs.declared.machine.Reply.{Reply}
-use Rattle.oneshot_world.specs.Calls.{Call, Sender_is_closed, Send, Drop_sender, As_inner, Into_inner, Drop_error, Try_recv, Recv_ref, Recv_deadline, Recv_timeout, Recv, Has_message, Is_closed, Drop_receiver, Stray}
+use Rattle.oneshot_world.specs.Calls.{Call, Sender_is_closed, Send, Drop_sender, As_inner, Into_inner, Drop_error, Try_recv, Recv_ref, Recv_deadline, Recv_timeout, Recv, Has_message, Is_closed, Drop_receiver, Into_future, Poll, Drop_async, Stray}
+use Rattle.oneshot_world.specs.Classes.{Classes, as_call, as_made}
 use Rattle.oneshot_world.specs.Control.{bool_code}
 use Rattle.oneshot_world.specs.declared.trace.Made.{Made}
 use Rattle.oneshot_world.proofs.Bools.{and_left, and_right}
@@ -37,6 +38,9 @@ kind Recv = Receives
 kind Has_message = Acts_first loads
 kind Is_closed = Acts_first loads
 kind Drop_receiver = Acts_first swaps_closed_in
+kind Into_future = Answers_always
+kind (Poll number) = Receives
+kind Drop_async = Acts_first swaps_closed_in
 kind Stray = Is_none
 
 -- the entry at which a call acts that does not answer "nothing yet"
@@ -215,3 +219,24 @@ reader_is m n h =
     let s : m.sender ≡ n.sender = watch_is m.sender n.sender (and_left _ _ h1) in
     let r : m.receiver ≡ n.receiver = watch_is m.receiver n.receiver (and_right (is_same_watch m.sender n.sender) _ h1) in
     cc (reader_parts m, reader_parts n)
+
+-- the reader looks at no name and at no number
+pub accepts_alike : (k : Classes) (side : End) (call : Call) (e : Made) (m : Reader) → accepts side (as_call k call) (as_made k e) m ≡ accepts side call e m
+accepts_alike k side (Poll number) e m = refl
+accepts_alike k side _ e m = refl
+
+pub object_as : (k : Classes) (now : Bool) (number : ℕ) (o : Object) → object_if now (Poll (k.polls number)) o ≡ object_if now (Poll number) o
+object_as k true number o = refl
+object_as k false number o = refl
+
+abbrev read_to : End → Object → Watch → Reader → Reader
+read_to Sender o x m = record { object = o; sender = x; receiver = m.receiver }
+read_to Receiver o x m = record { object = o; sender = m.sender; receiver = x }
+
+pub reads_alike : (k : Classes) (side : End) (call : Call) (e : Made) (m : Reader) → reads side (as_call k call) (as_made k e) m ≡ reads side call e m
+reads_alike k Sender (Poll number) e m =
+    ap (λ o. read_to Sender o (watch_then (Poll number) e m.object m.sender) m) (object_as k (hits Receives e m.sender) number m.object)
+reads_alike k Sender _ e m = refl
+reads_alike k Receiver (Poll number) e m =
+    ap (λ o. read_to Receiver o (watch_then (Poll number) e m.object m.receiver) m) (object_as k (hits Receives e m.receiver) number m.object)
+reads_alike k Receiver _ e m = refl

@@ -1,3 +1,4 @@
+pub mod Tasks
 pub mod Watched
 pub mod Codes
 pub mod LegalReader
@@ -15,5 +16,7 @@ pub mod BlockHeld
 pub mod MessagePath
 pub mod WakerPath
 pub mod Woken
+pub mod CallBounds
+pub mod SoonAnswered
 pub mod IdleRuns
 pub mod PutByCall

@@ -16,10 +16,10 @@ use Rattle.oneshot_laws.specs.Steps.{action_of, stepped}
 use Rattle.oneshot_laws.specs.Marks.{Mark, marks, side, ends}
 use Rattle.oneshot_laws.specs.History.{agrees}
 use Rattle.oneshot_laws.specs.Alone.{lone_reply, is_lone_call, are_lone_calls_right}
-use Rattle.oneshot_laws.proofs.Glanced.{Pair, Passes, glanced_from, all_glanced, passes_run}
+use Rattle.oneshot_laws.proofs.Glanced.{Pair, Passes, Nameless, of_call, glanced_from, all_glanced, passes_run}
 use Rattle.oneshot_laws.proofs.Legal.{Glance, glance_of}
 use Rattle.oneshot_laws.proofs.LegalReader.{object_code, object_is}
-use Rattle.oneshot_laws.proofs.Watched.{Watched}
+use Rattle.oneshot_laws.proofs.Watched.{Watched, no_names}
 
 -- the call beside which the other end has made no step, and the object on which it began
 pub data Lone : Type 0 where
@@ -112,14 +112,21 @@ lone_calls (m ∷ ms) lone p =
     (lone_claim ms (lone_then lone (glance_of m)) p.1))
     (lone_calls ms _ p.1)
 
-found : Tree (Watched (Pair Lone))
-found = glanced_from 64 lone_code is_same_lone answers_alone lone_then (λ place. Nobody)
+nameless : Nameless answers_alone lone_then
+nameless =
+    record {
+      passes_same = λ k n g. of_call k (λ call. answers_alone n (record g { call = call })) (λ a b. refl) g.call;
+      sees_same = λ k n g. of_call k (λ call. lone_then n (record g { call = call })) (λ a b. refl) g.call;
+    }
 
-all_found : all_glanced 64 lone_code is_same_lone answers_alone lone_then (λ place. Nobody) found ≡ true
+found : Tree (Watched (Pair Lone))
+found = glanced_from 64 lone_code is_same_lone answers_alone lone_then no_names (λ place. Nobody)
+
+all_found : all_glanced 64 lone_code is_same_lone answers_alone lone_then no_names (λ place. Nobody) found ≡ true
 unfolding found
 all_found = refl
 
 pub lone_calls_right : {T : Type 0} (s : SenderScript T) (r : ReceiverScript) (worlds : List World) (moves : List Move) (entries : List Entry) → Tells (opening s r) worlds moves entries → are_lone_calls_right (marks (calls_of s r) entries) ≡ true
 lone_calls_right s r worlds moves entries tells =
     lone_calls (marks (calls_of s r) entries) Nobody
-    (passes_run 64 lone_code is_same_lone answers_alone lone_then lone_is (λ place. Nobody) found all_found s r worlds moves entries tells)
+    (passes_run 64 lone_code is_same_lone answers_alone lone_then nameless lone_is (λ place. Nobody) found all_found s r worlds moves entries tells)

@@ -2,6 +2,7 @@
 use Rattle.std.proofs.Common.{◌≡◌, ℕ, zero, suc, ◌+◌, ◌*◌, Bool, true, false, ◌&&◌, ◌||◌, ◌==◌, List, [], ◌∷◌, ◌++◌, Option, Some, None, is_some, map, replicate, refl, sym, ◌∙◌, ap, subst}
 use Rattle.std.specs.List.{list_any, filter_map, cons_option}
 use Rattle.oneshot_world.specs.Calls.{Call, Sender_is_closed, calls_of, sender_last}
+use Rattle.oneshot_world.specs.Classes.{Classes}
 use Rattle.oneshot_world.specs.Control.{bool_code}
 use Rattle.oneshot_world.specs.Explore.{Tree}
 use Rattle.oneshot_world.specs.World.{World, Tells, opening, opening_place}
@@ -22,11 +23,11 @@ use Rattle.oneshot_laws.specs.Steps.{is_send}
 use Rattle.oneshot_laws.specs.Marks.{Reading, Mark, marks, marks_from}
 use Rattle.oneshot_laws.specs.Ended.{all_ended}
 use Rattle.oneshot_laws.specs.Places.{is_path, last_place, place_code, is_same_place, is_message_move, message_moves, is_message_followed, last_message_place, is_message_end, is_message_ended}
-use Rattle.oneshot_laws.proofs.AtTheEnd.{Kept, own_after, kept_from, all_kept, at_the_end, or_more, or_false}
+use Rattle.oneshot_laws.proofs.AtTheEnd.{Kept, own_after, nothing_asked, kept_from, all_kept, at_the_end, or_more, or_false}
 use Rattle.oneshot_laws.proofs.Codes.{place_is, some_place_code, is_same_some_place, some_place_is}
-use Rattle.oneshot_laws.proofs.Glanced.{Pair, Passes, glanced_from, all_glanced, passes_run}
+use Rattle.oneshot_laws.proofs.Glanced.{Pair, Passes, Nameless, as_glance, of_call, glanced_from, all_glanced, passes_run}
 use Rattle.oneshot_laws.proofs.Legal.{Glance, glance_of}
-use Rattle.oneshot_laws.proofs.Watched.{Watched}
+use Rattle.oneshot_laws.proofs.Watched.{Watched, no_names}
 
 -- the moves that marks show
 abbrev moves_of : List Mark → List (Place × Place)
@@ -89,17 +90,24 @@ begins_there (SL.Send message error) = refl
 begins_there SL.Drop = refl
 begins_there SL.Stop = refl
 
-path_found : Tree (Watched (Pair (Option Place)))
-path_found = glanced_from 8 some_place_code is_same_some_place moves_rightly place_then (λ place. place)
+place_as : (k : Classes) (place : Option Place) (g : Glance) → place_then place (as_glance k g) ≡ place_then place g
+place_as k None g = refl
+place_as k (Some place) g = refl
 
-all_on_path : all_glanced 8 some_place_code is_same_some_place moves_rightly place_then (λ place. place) path_found ≡ true
+path_nameless : Nameless moves_rightly place_then
+path_nameless = record { passes_same = λ k place g. refl; sees_same = place_as }
+
+path_found : Tree (Watched (Pair (Option Place)))
+path_found = glanced_from 8 some_place_code is_same_some_place moves_rightly place_then no_names (λ place. place)
+
+all_on_path : all_glanced 8 some_place_code is_same_some_place moves_rightly place_then no_names (λ place. place) path_found ≡ true
 unfolding path_found
 all_on_path = refl
 
 pub message_followed : {T : Type 0} (s : SenderScript T) (r : ReceiverScript) (worlds : List World) (moves : List Move) (entries : List Entry) → Tells (opening s r) worlds moves entries → is_message_followed (calls_of s r) entries ≡ true
 message_followed s r worlds moves entries tells =
     let at_marks = path (marks (calls_of s r) entries) (opening_place s.last)
-    (passes_run 8 some_place_code is_same_some_place moves_rightly place_then some_place_is (λ place. place) path_found all_on_path s r worlds moves entries tells) in
+    (passes_run 8 some_place_code is_same_some_place moves_rightly place_then path_nameless some_place_is (λ place. place) path_found all_on_path s r worlds moves entries tells) in
     let at_entries : IsPath (is_some (opening_place s.last)) (or_not_sent (opening_place s.last)) (message_moves entries) =
     subst (IsPath _ _) (sym (shown entries _ _ 1 _)) at_marks in
     let from_start : IsPath (is_some (opening_place s.last)) NotSent (message_moves entries) =
@@ -136,7 +144,7 @@ sending_is a b h =
     let place : a.place ≡ b.place = place_is a.place b.place (and_right (bool_code a.begun == bool_code b.begun) _ h) in
     cc (its_parts a, its_parts b)
 
-begun_after : (ms : List Mark) (x : Sending) → (own_after sending_then is_with_somebody x (map glance_of ms)).begun ≡ (x.begun || list_any (λ m. is_send m.call) ms)
+begun_after : (ms : List Mark) (x : Sending) → (own_after sending_then x (map glance_of ms)).begun ≡ (x.begun || list_any (λ m. is_send m.call) ms)
 begun_after [] x = sym (or_false x.begun)
 begun_after (m ∷ ms) x =
     begun_after ms (sending_then x (glance_of m)) ∙ sym (or_more x.begun (is_send m.call) (list_any (λ m. is_send m.call) ms))
@@ -145,7 +153,7 @@ last_after : (x : Option (Place × Place)) (place : Place) (later : List (Place 
 last_after None place later = refl
 last_after (Some move) place later = refl
 
-place_after : (ms : List Mark) (x : Sending) → (own_after sending_then is_with_somebody x (map glance_of ms)).place ≡ last_place x.place (moves_of ms)
+place_after : (ms : List Mark) (x : Sending) → (own_after sending_then x (map glance_of ms)).place ≡ last_place x.place (moves_of ms)
 place_after [] x = refl
 place_after (m ∷ ms) x =
     place_after ms (sending_then x (glance_of m)) ∙ last_after m.entry.message x.place (moves_of ms)
@@ -153,10 +161,13 @@ place_after (m ∷ ms) x =
 abbrev not_sent_yet : Sending
 not_sent_yet = record { begun = false; place = NotSent }
 
-end_found : Tree (Watched (Pair (Kept Sending)))
-end_found = kept_from 16 sending_code is_same_sending sending_then is_with_somebody (λ place. not_sent_yet)
+sending_same : (k : Classes) (x : Sending) (g : Glance) → sending_then x (as_glance k g) ≡ sending_then x g
+sending_same k x g = of_call k (λ call. sending_then x (record g { call = call })) (λ a b. refl) g.call
 
-all_at_end : all_kept 16 sending_code is_same_sending sending_then is_with_somebody (λ place. not_sent_yet) end_found ≡ true
+end_found : Tree (Watched (Pair (Kept Sending)))
+end_found = kept_from 16 sending_code is_same_sending sending_then nothing_asked is_with_somebody no_names (λ place. not_sent_yet)
+
+all_at_end : all_kept 16 sending_code is_same_sending sending_then nothing_asked is_with_somebody no_names (λ place. not_sent_yet) end_found ≡ true
 unfolding end_found
 all_at_end = refl
 
@@ -169,5 +180,5 @@ message_ended s r worlds moves entries tells =
     let last = place_after (marks (calls_of s r) entries) not_sent_yet ∙ sym (ap (last_place NotSent) (shown entries _ _ 1 _)) in
     if_both (all_ended (marks (calls_of s r) entries)) (list_any (λ m. is_send m.call) (marks (calls_of s r) entries)) (is_message_end (last_message_place entries))
     (subst (λ begun. only_if (all_ended (marks (calls_of s r) entries)) (only_if begun (is_message_end (last_message_place entries))) ≡ true) (begun_after (marks (calls_of s r) entries) not_sent_yet)
-    (subst (λ place. only_if (all_ended (marks (calls_of s r) entries)) (only_if (own_after sending_then is_with_somebody not_sent_yet (map glance_of (marks (calls_of s r) entries))).begun (is_message_end place)) ≡ true) last
-    (at_the_end 16 sending_code is_same_sending sending_then is_with_somebody (λ place. not_sent_yet) sending_is end_found all_at_end s r worlds moves entries tells)))
+    (subst (λ place. only_if (all_ended (marks (calls_of s r) entries)) (only_if (own_after sending_then not_sent_yet (map glance_of (marks (calls_of s r) entries))).begun (is_message_end place)) ≡ true) last
+    (at_the_end 16 sending_code is_same_sending sending_then is_with_somebody sending_same (λ place. not_sent_yet) sending_is end_found all_at_end s r worlds moves entries tells)))

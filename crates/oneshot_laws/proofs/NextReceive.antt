@@ -17,9 +17,9 @@ use Rattle.oneshot_laws.specs.Laws.{next_receive_gets, is_got_after_full}
 use Rattle.oneshot_laws.specs.Object.{is_same_flag}
 use Rattle.oneshot_laws.proofs.Codes.{flag_is}
 use Rattle.oneshot_laws.proofs.Afterwards.{told}
-use Rattle.oneshot_laws.proofs.Glanced.{Pair, Passes, glanced_from, all_glanced, passes_run}
+use Rattle.oneshot_laws.proofs.Glanced.{Pair, Passes, Nameless, of_call, glanced_from, all_glanced, passes_run}
 use Rattle.oneshot_laws.proofs.Legal.{Glance, glance_of}
-use Rattle.oneshot_laws.proofs.Watched.{Watched}
+use Rattle.oneshot_laws.proofs.Watched.{Watched, no_names}
 
 abbrev full : Glance → Bool
 full = told is_full_look R.Yes
@@ -60,14 +60,21 @@ got [] seen p = refl
 got (m ∷ ms) seen p =
     both _ _ (full_now seen (answers_receive (glance_of m)) (full (glance_of m)) _ (next_gets ms _ p.1)) (got ms _ p.1)
 
-found : Tree (Watched (Pair Bool))
-found = glanced_from 2 bool_code is_same_flag gets seen_then (λ place. false)
+nameless : Nameless gets seen_then
+nameless =
+    record {
+      passes_same = λ k n g. of_call k (λ call. gets n (record g { call = call })) (λ a b. refl) g.call;
+      sees_same = λ k n g. of_call k (λ call. seen_then n (record g { call = call })) (λ a b. refl) g.call;
+    }
 
-all_found : all_glanced 2 bool_code is_same_flag gets seen_then (λ place. false) found ≡ true
+found : Tree (Watched (Pair Bool))
+found = glanced_from 2 bool_code is_same_flag gets seen_then no_names (λ place. false)
+
+all_found : all_glanced 2 bool_code is_same_flag gets seen_then no_names (λ place. false) found ≡ true
 unfolding found
 all_found = refl
 
 pub got_after_full : {T : Type 0} (s : SenderScript T) (r : ReceiverScript) (worlds : List World) (moves : List Move) (entries : List Entry) → Tells (opening s r) worlds moves entries → is_got_after_full (marks (calls_of s r) entries) ≡ true
 got_after_full s r worlds moves entries tells =
     got (marks (calls_of s r) entries) false
-    (passes_run 2 bool_code is_same_flag gets seen_then flag_is (λ place. false) found all_found s r worlds moves entries tells)
+    (passes_run 2 bool_code is_same_flag gets seen_then nameless flag_is (λ place. false) found all_found s r worlds moves entries tells)

@@ -18,9 +18,9 @@ use Rattle.oneshot_laws.specs.Words.{only_if, is_nothing_yet, is_same_end}
 use Rattle.oneshot_laws.specs.Object.{is_open}
 use Rattle.oneshot_laws.specs.Marks.{Mark, marks, side, call_marks, until_reply}
 use Rattle.oneshot_laws.specs.Laws.{is_nothing_only_if_open}
-use Rattle.oneshot_laws.proofs.Glanced.{Pair, Passes, glanced_from, all_glanced, passes_run}
+use Rattle.oneshot_laws.proofs.Glanced.{Pair, Passes, Nameless, of_call, glanced_from, all_glanced, passes_run}
 use Rattle.oneshot_laws.proofs.Legal.{Glance, glance_of}
-use Rattle.oneshot_laws.proofs.Watched.{Watched}
+use Rattle.oneshot_laws.proofs.Watched.{Watched, no_names}
 
 -- whether each end's call under way has met an open object
 pub record Met : Type 0 where
@@ -126,14 +126,21 @@ each (m ∷ ms) met p =
 abbrev nothing_met : Met
 nothing_met = record { sender = false; receiver = false }
 
-found : Tree (Watched (Pair Met))
-found = glanced_from 4 met_code is_same_met says_nothing_rightly met_then (λ place. nothing_met)
+nameless : Nameless says_nothing_rightly met_then
+nameless =
+    record {
+      passes_same = λ k n g. of_call k (λ call. says_nothing_rightly n (record g { call = call })) (λ a b. refl) g.call;
+      sees_same = λ k n g. of_call k (λ call. met_then n (record g { call = call })) (λ a b. refl) g.call;
+    }
 
-all_found : all_glanced 4 met_code is_same_met says_nothing_rightly met_then (λ place. nothing_met) found ≡ true
+found : Tree (Watched (Pair Met))
+found = glanced_from 4 met_code is_same_met says_nothing_rightly met_then no_names (λ place. nothing_met)
+
+all_found : all_glanced 4 met_code is_same_met says_nothing_rightly met_then no_names (λ place. nothing_met) found ≡ true
 unfolding found
 all_found = refl
 
 pub nothing_only_if_open : {T : Type 0} (s : SenderScript T) (r : ReceiverScript) (worlds : List World) (moves : List Move) (entries : List Entry) → Tells (opening s r) worlds moves entries → is_nothing_only_if_open (marks (calls_of s r) entries) ≡ true
 nothing_only_if_open s r worlds moves entries tells =
     each (marks (calls_of s r) entries) nothing_met
-    (passes_run 4 met_code is_same_met says_nothing_rightly met_then met_is (λ place. nothing_met) found all_found s r worlds moves entries tells)
+    (passes_run 4 met_code is_same_met says_nothing_rightly met_then nameless met_is (λ place. nothing_met) found all_found s r worlds moves entries tells)

@@ -15,11 +15,11 @@ use Rattle.oneshot_laws.specs.Steps.{nothing_yet_of}
 use Rattle.oneshot_laws.specs.Marks.{until_reply, to_reply, reply_among, call_under_way, works_on_word, finds_full_or_closed}
 use Rattle.oneshot_laws.specs.History.{agrees}
 use Rattle.oneshot_laws.proofs.Codes.{reply_is}
-use Rattle.oneshot_laws.proofs.LegalReader.{Kind, Acts_first, Receives, Answers_always, Is_none, kind, Watch, Reader, due, hit, owed, owes_then, watch_at, pays, may_say, pays_receive, may_owe, has_reply, accepts_as, accepts_call, accepts, reads, reader_code, is_same_reader, hits}
+use Rattle.oneshot_laws.proofs.LegalReader.{Kind, Acts_first, Receives, Answers_always, Is_none, kind, Watch, Reader, due, hit, owed, owes_then, watch_at, pays, may_say, pays_receive, may_owe, has_reply, accepts_as, accepts_call, accepts, reads, hits}
 use Rattle.oneshot_laws.proofs.Watched.{Accepts, left_after}
 
 abbrev pub Accepted : Reader → Unanswered → Unanswered → List Entry → Type 0
-Accepted m s r entries = Accepts 65536 reader_code is_same_reader accepts reads m s r entries
+Accepted m s r entries = Accepts accepts reads m s r entries
 
 -- an entry of this end is accepted, and so are those after it
 abbrev pub Goes_on : End → Made → List Entry → Reader → Unanswered → Unanswered → Type 0

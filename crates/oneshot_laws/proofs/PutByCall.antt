@@ -18,9 +18,9 @@ use Rattle.oneshot_laws.specs.Steps.{is_send, is_receive, is_into_inner, is_drop
 use Rattle.oneshot_laws.specs.Marks.{Mark, marks}
 use Rattle.oneshot_laws.specs.Places.{is_message_put}
 use Rattle.oneshot_laws.proofs.Codes.{flag_is}
-use Rattle.oneshot_laws.proofs.Glanced.{Pair, Passes, glanced_from, all_glanced, passes_run}
+use Rattle.oneshot_laws.proofs.Glanced.{Pair, Passes, Nameless, of_call, glanced_from, all_glanced, passes_run}
 use Rattle.oneshot_laws.proofs.Legal.{Glance, glance_of}
-use Rattle.oneshot_laws.proofs.Watched.{Watched}
+use Rattle.oneshot_laws.proofs.Watched.{Watched, no_names}
 
 abbrev may_put : Glance → Place → Bool
 may_put g NotSent = false
@@ -41,14 +41,21 @@ put : (ms : List Mark) (state : Bool) → Passes puts stays state (map glance_of
 put [] state p = refl
 put (m ∷ ms) state p = both _ _ p.0 (put ms false p.1)
 
-found : Tree (Watched (Pair Bool))
-found = glanced_from 2 bool_code is_same_flag puts stays (λ place. false)
+nameless : Nameless puts stays
+nameless =
+    record {
+      passes_same = λ k n g. of_call k (λ call. puts n (record g { call = call })) (λ a b. refl) g.call;
+      sees_same = λ k n g. of_call k (λ call. stays n (record g { call = call })) (λ a b. refl) g.call;
+    }
 
-all_found : all_glanced 2 bool_code is_same_flag puts stays (λ place. false) found ≡ true
+found : Tree (Watched (Pair Bool))
+found = glanced_from 2 bool_code is_same_flag puts stays no_names (λ place. false)
+
+all_found : all_glanced 2 bool_code is_same_flag puts stays no_names (λ place. false) found ≡ true
 unfolding found
 all_found = refl
 
 pub message_put : {T : Type 0} (s : SenderScript T) (r : ReceiverScript) (worlds : List World) (moves : List Move) (entries : List Entry) → Tells (opening s r) worlds moves entries → is_message_put (marks (calls_of s r) entries) ≡ true
 message_put s r worlds moves entries tells =
     put (marks (calls_of s r) entries) false
-    (passes_run 2 bool_code is_same_flag puts stays flag_is (λ place. false) found all_found s r worlds moves entries tells)
+    (passes_run 2 bool_code is_same_flag puts stays nameless flag_is (λ place. false) found all_found s r worlds moves entries tells)

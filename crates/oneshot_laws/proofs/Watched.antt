@@ -1,17 +1,23 @@
--- A reader of traces beside the machines: the checker explores both together, and what each found pair passes, each run passes.
-use Rattle.std.proofs.Common.{◌≡◌, ℕ, ◌+◌, ◌*◌, Bool, true, false, ◌&&◌, List, [], ◌∷◌, Option, Some, None, refl, subst}
+-- A reader of traces beside the machines, by classes of copies and polls: the checker explores both together, and what each found pair passes, each run passes.
+use Rattle.std.proofs.Common.{◌≡◌, ℕ, ◌+◌, ◌*◌, ◌==◌, if◌then◌else◌, Bool, true, false, ◌&&◌, List, [], ◌∷◌, Option, Some, None, refl, sym, ◌∙◌, ap, subst}
+use Rattle.std.proofs.lemmas.Bool.{eq-eqb}
 use Rattle.std.specs.List.{list_all, filter_map}
-use Rattle.std.specs.Option.{option_map}
+use Rattle.std.specs.Option.{option_map, option_and_then}
 use Rattle.oneshot_machine.specs.Receiver.{receiver_step}
 use Rattle.oneshot_machine.specs.Sender.{sender_step}
 use Rattle.oneshot_machine.specs.declared.machine.End.{End}
 use Rattle.oneshot_machine.specs.declared.machine.End.TheVariants.{Sender, Receiver}
 use Rattle.oneshot_machine.specs.declared.machine.Reply.{Reply}
-use Rattle.oneshot_world.specs.Calls.{Call, Unanswered, left_by}
-use Rattle.oneshot_world.specs.Control.{Control, control_of, Begin, begins, control_turn, control_code, is_same_control, opening_control, IsReached}
+use Rattle.oneshot_machine.specs.declared.machine.Step.{Step}
+use Rattle.oneshot_machine.specs.declared.machine.Step.TheVariants as T
+use Rattle.oneshot_machine.specs.declared.states.Op.TheVariants as O
+use Rattle.oneshot_world.specs.Calls.{Call, Unanswered, first, left_by, number_of}
+use Rattle.oneshot_world.specs.Classes.{Classes, all_alike, as_call, as_made, as_entry}
+use Rattle.oneshot_world.specs.Control.{Control, control_of, Begin, begins, control_turn, control_code, is_same_control, opening_control, IsReached, one_poll, one_copy, as_control}
 use Rattle.oneshot_world.specs.Explore.{Tree, reach, is_in, all_in}
 use Rattle.oneshot_world.specs.State.{sender_stepped, receiver_stepped}
-use Rattle.oneshot_world.specs.World.{World, Tells, opening, opening_place, side_of, over_of, by_end}
+use Rattle.oneshot_world.specs.Wakers.{WakerMove, waker_move, back_to}
+use Rattle.oneshot_world.specs.World.{World, Tells_from, Tells, opening, opening_place, side_of, by_end, nothing_told, told_with, receiver_told}
 use Rattle.oneshot_world.specs.declared.script.Move.{Move}
 use Rattle.oneshot_world.specs.declared.script.ReceiverScript.{ReceiverScript}
 use Rattle.oneshot_world.specs.declared.script.SenderLast.{SenderLast}
@@ -22,12 +28,50 @@ use Rattle.oneshot_world.specs.declared.trace.Entry.TheVariants.{Idle, Made as M
 use Rattle.oneshot_world.specs.declared.trace.Made.{Made}
 use Rattle.oneshot_world.specs.declared.trace.Place.{Place}
 use Rattle.oneshot_world.specs.declared.trace.Place.TheVariants.{NotSent}
+use Rattle.oneshot_world.specs.declared.trace.WakerName.{WakerName}
+use Rattle.oneshot_world.specs.declared.trace.WakerName.TheVariants.{Parker, Copy}
+use Rattle.oneshot_world.specs.declared.trace.WakerPlace.TheVariants as W
+use Rattle.oneshot_world.specs.declared.wakers.Wakers.{Wakers}
 use Rattle.oneshot_world.proofs.Bools.{and_left, and_right}
 use Rattle.oneshot_world.proofs.Coded.{control_is}
 use Rattle.oneshot_world.proofs.Explored.{passes_where_found}
+use Rattle.oneshot_world.proofs.Listed.{is_listed}
 use Rattle.oneshot_world.proofs.Reached.{sender_passes, receiver_passes, sender_world, receiver_world, sender_control_is, receiver_control_is, opening_reached}
 use Rattle.oneshot_world.proofs.Turned.{Turned, sender_idle, sender_made, receiver_idle, receiver_made, turned, turned_reaches}
 use Rattle.oneshot_laws.specs.Marks.{or_stray, call_under_way}
+
+-- a copy that comes into being in an entry is named by that entry
+abbrev pub is_named_by : ℕ → WakerName → Bool
+is_named_by e Parker = true
+is_named_by e (Copy number entry) = entry == e
+
+abbrev pub is_fresh : ℕ → Option WakerMove → Bool
+is_fresh e None = true
+is_fresh e (Some (name, W.New, to)) = is_named_by e name
+is_fresh e (Some (name, _, to)) = true
+
+old_move : (e : ℕ) (f : WakerName → WakerMove) → ((name : WakerName) → is_fresh e (Some (f name)) ≡ true) → (x : Option WakerName) → is_fresh e (option_map f x) ≡ true
+old_move e f h None = refl
+old_move e f h (Some name) = h name
+
+told_fresh : (e : ℕ) (answer : Bool) (number : Option ℕ) → is_fresh e (if answer then None else option_map (λ name. (name, W.New, W.Hand)) (told_with answer e number).copy) ≡ true
+told_fresh e true number = refl
+told_fresh e false None = refl
+told_fresh e false (Some number) = eq-eqb e e refl
+
+exchange_fresh : (e : ℕ) (b : Bool) (x : Option WakerName) → is_fresh e (if b then None else option_map (λ name. (name, W.Hand, W.Dropped)) x) ≡ true
+exchange_fresh e true x = refl
+exchange_fresh e false x = old_move e (λ name. (name, W.Hand, W.Dropped)) (λ name. refl) x
+
+move_fresh : (e : ℕ) (answer : Bool) (number : Option ℕ) (word : ℕ) (w : Wakers) (step : Step) → is_fresh e (waker_move (told_with answer e number) word w step) ≡ true
+move_fresh e answer number word w T.WriteWaker = old_move e (λ name. (name, W.Hand, W.Cell)) (λ name. refl) w.hand
+move_fresh e answer number word w T.TakeWaker = old_move e (λ name. (name, W.Cell, W.SenderHand)) (λ name. refl) w.cell
+move_fresh e answer number word w T.Withdraw = old_move e (λ name. (name, W.Cell, back_to name)) (λ name. refl) w.cell
+move_fresh e answer number word w T.Wake = old_move e (λ name. (name, W.SenderHand, W.Used)) (λ name. refl) w.taken
+move_fresh e answer number word w T.Copy = told_fresh e answer number
+move_fresh e answer number word w (T.Word (O.Exchange expected new)) = exchange_fresh e (word == expected) w.hand
+move_fresh e answer number word w (T.Word _) = refl
+move_fresh e answer number word w _ = refl
 
 -- the machines' finite part and the reader
 pub record Watched (M : Type 0) : Type 0 where
@@ -48,8 +92,17 @@ left_after Receiver Receiver reply left = left_by Receiver reply left
 left_after Sender Receiver reply left = left
 left_after Receiver Sender reply left = left
 
--- `width` is above each code; `accepts` tells whether an entry is accepted, and `reads` where the reader goes with it
-module _ {M : Type 0} (width : ℕ) (code : M → ℕ) (is_same : M → M → Bool) (accepts : End → Call → Made → M → Bool) (reads : End → Call → Made → M → M) where
+-- the classes of polls, and those that a copy may have which a poll of a class makes where the reader stands so
+pub record Names (M : Type 0) : Type 0 where
+  pub polls : List ℕ
+  pub copies : M → ℕ → List ℕ
+
+-- of a reader that looks at no name and at no number
+abbrev pub no_names : {M : Type 0} → Names M
+no_names = record { polls = one_poll; copies = λ m. one_copy }
+
+-- `width` is above each code; `accepts` tells whether an entry is accepted, and `reads` where the reader goes with it: both see the entry and its call by classes
+module _ {M : Type 0} (width : ℕ) (code : M → ℕ) (is_same : M → M → Bool) (accepts : End → Call → Made → M → Bool) (reads : End → Call → Made → M → M) (names : Names M) where
   abbrev pub watched_code : Watched M → ℕ
   watched_code x = control_code x.control * width + code x.reader
 
@@ -67,9 +120,12 @@ module _ {M : Type 0} (width : ℕ) (code : M → ℕ) (is_same : M → M → Bo
   abbrev pub watched_then : Begin → M → Entry × Control → Watched M
   watched_then b m t = record { control = t.1; reader = reads_entry (or_stray b.call) t.0 m }
 
+  abbrev pub begins_beside : Watched M → List Begin
+  begins_beside x = begins names.polls (names.copies x.reader) x.control
+
   abbrev pub watched_successors : Watched M → List (Watched M)
   watched_successors x =
-      filter_map (λ b. option_map (watched_then b x.reader) (control_turn x.control b)) (begins x.control)
+      filter_map (λ b. option_map (watched_then b x.reader) (control_turn x.control b)) (begins_beside x)
 
   -- before the first move, with the message in this place or no message
   abbrev pub opening_watched : (Option Place → M) → Option Place → Watched M
@@ -91,7 +147,7 @@ module _ {M : Type 0} (width : ℕ) (code : M → ℕ) (is_same : M → M → Bo
 
   abbrev pub all_move_on : Tree (Watched M) → Bool
   all_move_on found =
-      all_in (λ x. list_all (λ b. passes_on found x.reader b (control_turn x.control b)) (begins x.control)) found
+      all_in (λ x. list_all (λ b. passes_on found x.reader b (control_turn x.control b)) (begins_beside x)) found
 
   -- both openings are found, and each move from what is found passes
   abbrev pub all_pass : (Option Place → M) → Tree (Watched M) → Bool
@@ -99,6 +155,13 @@ module _ {M : Type 0} (width : ℕ) (code : M → ℕ) (is_same : M → M → Bo
       is_watched_in found (opening_watched first None)
       && (is_watched_in found (opening_watched first (Some NotSent)) && all_move_on found)
 
+abbrev pub class_under_way : Classes → Unanswered → Call
+class_under_way k left = or_stray (option_map (as_call k) (first left.calls))
+
+pub class_is : (k : Classes) (left : Unanswered) → class_under_way k left ≡ as_call k (call_under_way left)
+class_is k left = elim (first left.calls) as (λ c. or_stray (option_map (as_call k) c) ≡ as_call k (or_stray c)) [ None ↦ refl | Some call ↦ refl ]
+
+module _ {M : Type 0} (accepts : End → Call → Made → M → Bool) (reads : End → Call → Made → M → M) where
   -- the reader accepts a trace of scripts that have this left
   abbrev pub Accepts : M → Unanswered → Unanswered → List Entry → Type 0
   Accepts m s r [] = Unit {0}
@@ -107,75 +170,123 @@ module _ {M : Type 0} (width : ℕ) (code : M → ℕ) (is_same : M → M → Bo
       (accepts e.side (call_under_way (by_end e.side s r)) e m ≡ true)
       × Accepts (reads e.side (call_under_way (by_end e.side s r)) e m) (left_after e.side Sender e.reply s) (left_after e.side Receiver e.reply r) entries
 
-module _ {M : Type 0} (width : ℕ) (code : M → ℕ) (is_same : M → M → Bool) (accepts : End → Call → Made → M → Bool) (reads : End → Call → Made → M → M) (sound : (m n : M) → is_same m n ≡ true → m ≡ n) (found : Tree (Watched M)) (all : all_move_on width code is_same accepts reads found ≡ true) where
-  pub watched_is : (x y : Watched M) → is_same_watched width code is_same accepts reads x y ≡ true → x ≡ y
+  -- it accepts the trace as it is seen by classes
+  abbrev pub Accepts_by : Classes → M → Unanswered → Unanswered → List Entry → Type 0
+  Accepts_by k m s r [] = Unit {0}
+  Accepts_by k m s r (Idle side ∷ entries) = Accepts_by k m s r entries
+  Accepts_by k m s r (Made_entry e ∷ entries) =
+      (accepts e.side (class_under_way k (by_end e.side s r)) (as_made k e) m ≡ true)
+      × Accepts_by k (reads e.side (class_under_way k (by_end e.side s r)) (as_made k e) m) (left_after e.side Sender e.reply s) (left_after e.side Receiver e.reply r) entries
+
+-- a reader that looks at no name and no number accepts a trace where it accepts it by classes
+module _ {M : Type 0} (accepts : End → Call → Made → M → Bool) (reads : End → Call → Made → M → M) (k : Classes) (same_accepts : (side : End) (call : Call) (e : Made) (m : M) → accepts side (as_call k call) (as_made k e) m ≡ accepts side call e m) (same_reads : (side : End) (call : Call) (e : Made) (m : M) → reads side (as_call k call) (as_made k e) m ≡ reads side call e m) where
+  pub accepts_same : (side : End) (left : Unanswered) (e : Made) (m : M) → accepts side (class_under_way k left) (as_made k e) m ≡ accepts side (call_under_way left) e m
+  accepts_same side left e m = ap (λ call. accepts side call (as_made k e) m) (class_is k left) ∙ same_accepts side (call_under_way left) e m
+
+  pub reads_same : (side : End) (left : Unanswered) (e : Made) (m : M) → reads side (class_under_way k left) (as_made k e) m ≡ reads side (call_under_way left) e m
+  reads_same side left e m = ap (λ call. reads side call (as_made k e) m) (class_is k left) ∙ same_reads side (call_under_way left) e m
+
+  pub alike : (entries : List Entry) (m : M) (s r : Unanswered) → Accepts_by accepts reads k m s r entries → Accepts accepts reads m s r entries
+  alike [] m s r a = tt
+  alike (Idle side ∷ entries) m s r a = alike entries m s r a
+  alike (Made_entry e ∷ entries) m s r a = (
+    sym (accepts_same e.side (by_end e.side s r) e m) ∙ a.0,
+    alike entries _ _ _ (subst (λ n. Accepts_by accepts reads k n (left_after e.side Sender e.reply s) (left_after e.side Receiver e.reply r) entries) (reads_same e.side (by_end e.side s r) e m) a.1),
+  )
+
+-- Each poll and each copy has a class that was explored. `apt` ties a reader to the number of the entry that is made next, so far as the classes of copies hang on it.
+pub record Classed {M : Type 0} (accepts : End → Call → Made → M → Bool) (reads : End → Call → Made → M → M) (names : Names M) (k : Classes) : Type 0 where
+  pub apt : ℕ → M → Bool
+  pub polled : (number : ℕ) → is_listed (k.polls number) names.polls ≡ true
+  pub copied : (n : ℕ) (m : M) → apt n m ≡ true → (number : ℕ) → is_listed (k.copies number n) (names.copies m (k.polls number)) ≡ true
+  pub stays : (n : ℕ) (m : M) → apt n m ≡ true → apt (n + 1) m ≡ true
+  pub goes : (n : ℕ) (m : M) (side : End) (call : Call) (e : Made) → apt n m ≡ true → accepts side call (as_made k e) m ≡ true → is_fresh n e.waker ≡ true → apt (n + 1) (reads side call (as_made k e) m) ≡ true
+
+abbrev pub all_classed : {M : Type 0} (accepts : End → Call → Made → M → Bool) (reads : End → Call → Made → M → M) → Classed accepts reads no_names all_alike
+all_classed accepts reads =
+    record {
+      apt = λ n m. true;
+      polled = λ number. refl;
+      copied = λ n m apt number. refl;
+      stays = λ n m apt. refl;
+      goes = λ n m side call e apt a fresh. refl;
+    }
+
+module _ {M : Type 0} (width : ℕ) (code : M → ℕ) (is_same : M → M → Bool) (accepts : End → Call → Made → M → Bool) (reads : End → Call → Made → M → M) (names : Names M) (k : Classes) (classed : Classed accepts reads names k) (sound : (m n : M) → is_same m n ≡ true → m ≡ n) (found : Tree (Watched M)) (all : all_move_on width code is_same accepts reads names found ≡ true) where
+  pub watched_is : (x y : Watched M) → is_same_watched width code is_same accepts reads names x y ≡ true → x ≡ y
   watched_is x y h =
       let c : x.control ≡ y.control = control_is x.control y.control (and_left _ _ h) in
       let m : x.reader ≡ y.reader = sound x.reader y.reader (and_right (is_same_control x.control y.control) _ h) in
       cc (its_parts x, its_parts y)
 
-  abbrev pub beside : World → M → Watched M
-  beside w m = record { control = control_of w; reader = m }
+  -- the pair, as it was explored
+  abbrev pub beside : Control → M → Watched M
+  beside c m = record { control = as_control k c; reader = m }
+
+  abbrev IsFoundAt : Control → M → Type 0
+  IsFoundAt c m = is_watched_in width code is_same accepts reads names found (beside c m) ≡ true
 
   abbrev pub IsFound : World → M → Type 0
-  IsFound w m = is_watched_in width code is_same accepts reads found (beside w m) ≡ true
+  IsFound w m = IsFoundAt (control_of w) m
 
-  passing : (w : World) (m : M) → IsFound w m → list_all (λ b. passes_on width code is_same accepts reads found m b (control_turn (control_of w) b)) (begins (control_of w)) ≡ true
-  passing w m h = passes_where_found (watched_code width code is_same accepts reads) (is_same_watched width code is_same accepts reads) watched_is (λ x. list_all (λ b. passes_on width code is_same accepts reads found x.reader b (control_turn x.control b)) (begins x.control)) found (beside w m) all h
+  passing : (w : World) (m : M) → IsFound w m → list_all (λ b. passes_on width code is_same accepts reads names found m b (control_turn (as_control k (control_of w)) b)) (begins names.polls (names.copies m) (as_control k (control_of w))) ≡ true
+  passing w m h = passes_where_found (watched_code width code is_same accepts reads names) (is_same_watched width code is_same accepts reads names) watched_is (λ x. list_all (λ b. passes_on width code is_same accepts reads names found x.reader b (control_turn x.control b)) (begins_beside width code is_same accepts reads names x)) found (beside (control_of w) m) all h
 
   -- a pair that was found leads to one that was found
-  pub found_next : (side : End) (w : World) (entry : Entry) (next : World) (m : M) → Turned w side entry next → IsReached w → IsFound w m → IsFound next (reads_entry width code is_same accepts reads (call_under_way (by_end side w.sender w.receiver)) entry m)
-  found_next _ w _ _ m (sender_idle at) h f = f
-  found_next _ w _ _ m (receiver_idle at) h f = f
-  found_next _ w _ _ m (sender_made position row at steps) h f =
-      let passed = rw steps at (sender_passes (passes_on width code is_same accepts reads found m) w position h at (passing w m f)) in
-      subst (λ c. is_watched_in width code is_same accepts reads found (record { control = c; reader = reads Sender (call_under_way w.sender) (sender_stepped w.state (sender_step position) row).0 m }) ≡ true)
+  pub found_next : (n : ℕ) (side : End) (w : World) (entry : Entry) (next : World) (m : M) → Turned n w side entry next → IsReached w → IsFound w m → classed.apt n m ≡ true → IsFound next (reads_entry width code is_same accepts reads names (class_under_way k (by_end side w.sender w.receiver)) (as_entry k entry) m)
+  found_next n _ w _ _ m (sender_idle at) h f apt = f
+  found_next n _ w _ _ m (receiver_idle at) h f apt = f
+  found_next n _ w _ _ m (sender_made position row at steps) h f apt =
+      let passed = rw steps at (sender_passes k names.polls (names.copies m) (passes_on width code is_same accepts reads names found m) w position h at (passing w m f)) in
+      subst (λ c. IsFoundAt c (reads Sender (class_under_way k w.sender) (as_made k (sender_stepped nothing_told w.state (sender_step position) row).0) m))
       (sender_control_is w (sender_step position) row)
       (and_right _ _ passed)
-  found_next _ w _ _ m (receiver_made over position row at steps) h f =
-      let passed = rw steps at (receiver_passes (passes_on width code is_same accepts reads found m) over w position h at (passing w m f)) in
-      subst (λ c. is_watched_in width code is_same accepts reads found (record { control = c; reader = reads Receiver (call_under_way w.receiver) (receiver_stepped over w.state (receiver_step position) row).0 m }) ≡ true)
-      (receiver_control_is w (receiver_step position) row)
+  found_next n _ w _ _ m (receiver_made answer position row at steps) h f apt =
+      let passed = rw steps at (receiver_passes k names.polls (names.copies m) (passes_on width code is_same accepts reads names found m) n classed.polled (classed.copied n m apt) answer w position h at (passing w m f)) in
+      subst (λ c. IsFoundAt c (reads Receiver (class_under_way k w.receiver) (as_made k (receiver_stepped (receiver_told answer n w) w.state (receiver_step position) row).0) m))
+      (receiver_control_is (receiver_told answer n w) w (receiver_step position) row)
       (and_right _ _ passed)
 
-  -- every run from here on that tells these entries is accepted
+  -- every run from here on that tells these entries, of which the next is the n-th, is accepted
   abbrev Claim : List Entry → Type 0
-  Claim entries = (w : World) (m : M) (worlds : List World) (moves : List Move) → IsReached w → IsFound w m → Tells w worlds moves entries → Accepts width code is_same accepts reads m w.sender w.receiver entries
+  Claim entries = (n : ℕ) (w : World) (m : M) (worlds : List World) (moves : List Move) → IsReached w → IsFound w m → classed.apt n m ≡ true → Tells_from n w worlds moves entries → Accepts_by accepts reads k m w.sender w.receiver entries
 
-  accepted_turn : (entries : List Entry) → Claim entries → (side : End) (w : World) (entry : Entry) (next : World) (m : M) (worlds : List World) (moves : List Move) → Turned w side entry next → IsReached w → IsReached next → IsFound w m → Tells next worlds moves entries → Accepts width code is_same accepts reads m w.sender w.receiver (entry ∷ entries)
-  accepted_turn entries later _ w _ _ m worlds moves (sender_idle at) h k f told = later w m worlds moves h f told
-  accepted_turn entries later _ w _ _ m worlds moves (receiver_idle at) h k f told = later w m worlds moves h f told
-  accepted_turn entries later _ w _ _ m worlds moves (sender_made position row at steps) h k f told =
-      let passed = rw steps at (sender_passes (passes_on width code is_same accepts reads found m) w position h at (passing w m f)) in (
+  accepted_turn : (entries : List Entry) → Claim entries → (n : ℕ) (side : End) (w : World) (entry : Entry) (next : World) (m : M) (worlds : List World) (moves : List Move) → Turned n w side entry next → IsReached w → IsReached next → IsFound w m → classed.apt n m ≡ true → Tells_from (n + 1) next worlds moves entries → Accepts_by accepts reads k m w.sender w.receiver (entry ∷ entries)
+  accepted_turn entries later n _ w _ _ m worlds moves (sender_idle at) h r f apt told = later (n + 1) w m worlds moves h f (classed.stays n m apt) told
+  accepted_turn entries later n _ w _ _ m worlds moves (receiver_idle at) h r f apt told = later (n + 1) w m worlds moves h f (classed.stays n m apt) told
+  accepted_turn entries later n _ w _ _ m worlds moves (sender_made position row at steps) h r f apt told =
+      let passed = rw steps at (sender_passes k names.polls (names.copies m) (passes_on width code is_same accepts reads names found m) w position h at (passing w m f)) in (
         and_left _ _ passed,
-        later (sender_world w (sender_step position) row) _ worlds moves k
-            (found_next Sender w _ _ m (sender_made position row at steps) h f)
+        later (n + 1) (sender_world w (sender_step position) row) _ worlds moves r
+            (found_next n Sender w _ _ m (sender_made position row at steps) h f apt)
+            (classed.goes n m Sender (class_under_way k w.sender) (sender_stepped nothing_told w.state (sender_step position) row).0 apt (and_left _ _ passed) (move_fresh n false None w.state.word w.state.wakers (sender_step position)))
             told,
       )
-  accepted_turn entries later _ w _ _ m worlds moves (receiver_made over position row at steps) h k f told =
-      let passed = rw steps at (receiver_passes (passes_on width code is_same accepts reads found m) over w position h at (passing w m f)) in (
+  accepted_turn entries later n _ w _ _ m worlds moves (receiver_made answer position row at steps) h r f apt told =
+      let passed = rw steps at (receiver_passes k names.polls (names.copies m) (passes_on width code is_same accepts reads names found m) n classed.polled (classed.copied n m apt) answer w position h at (passing w m f)) in (
         and_left _ _ passed,
-        later (receiver_world w (receiver_step position) row) _ worlds moves k
-            (found_next Receiver w _ _ m (receiver_made over position row at steps) h f)
+        later (n + 1) (receiver_world (receiver_told answer n w) w (receiver_step position) row) _ worlds moves r
+            (found_next n Receiver w _ _ m (receiver_made answer position row at steps) h f apt)
+            (classed.goes n m Receiver (class_under_way k w.receiver) (receiver_stepped (receiver_told answer n w) w.state (receiver_step position) row).0 apt (and_left _ _ passed) (move_fresh n answer (option_and_then number_of (first w.receiver.calls)) w.state.word w.state.wakers (receiver_step position)))
             told,
       )
 
   pub accepted : (entries : List Entry) → Claim entries
-  accepted [] w m worlds moves h f told = tt
-  accepted (entry ∷ entries) w m (next ∷ worlds) (move ∷ moves) h f told =
-      let by : Turned w (side_of move) entry next = turned (side_of move) (over_of move) w (entry, next) told.0 in
-      accepted_turn entries (accepted entries) (side_of move) w entry next m worlds moves by h (turned_reaches (side_of move) w entry next h by) f told.1
-  accepted (entry ∷ entries) w m [] [] h f told = elim told [ ]
-  accepted (entry ∷ entries) w m [] (move ∷ moves) h f told = elim told [ ]
-  accepted (entry ∷ entries) w m (next ∷ worlds) [] h f told = elim told [ ]
+  accepted [] n w m worlds moves h f apt told = tt
+  accepted (entry ∷ entries) n w m (next ∷ worlds) (move ∷ moves) h f apt told =
+      let by : Turned n w (side_of move) entry next = turned n w move (entry, next) told.0 in
+      accepted_turn entries (accepted entries) n (side_of move) w entry next m worlds moves by h (turned_reaches n (side_of move) w entry next h by) f apt told.1
+  accepted (entry ∷ entries) n w m [] [] h f apt told = elim told [ ]
+  accepted (entry ∷ entries) n w m [] (move ∷ moves) h f apt told = elim told [ ]
+  accepted (entry ∷ entries) n w m (next ∷ worlds) [] h f apt told = elim told [ ]
 
 -- each run of two scripts is accepted
-module _ {M : Type 0} (width : ℕ) (code : M → ℕ) (is_same : M → M → Bool) (accepts : End → Call → Made → M → Bool) (reads : End → Call → Made → M → M) (sound : (m n : M) → is_same m n ≡ true → m ≡ n) (first : Option Place → M) (found : Tree (Watched M)) (all : all_pass width code is_same accepts reads first found ≡ true) where
-  pub opening_found : {T : Type 0} (last : SenderLast T) → is_watched_in width code is_same accepts reads found (opening_watched width code is_same accepts reads first (opening_place last)) ≡ true
+module _ {M : Type 0} (width : ℕ) (code : M → ℕ) (is_same : M → M → Bool) (accepts : End → Call → Made → M → Bool) (reads : End → Call → Made → M → M) (names : Names M) (k : Classes) (classed : Classed accepts reads names k) (sound : (m n : M) → is_same m n ≡ true → m ≡ n) (first : Option Place → M) (found : Tree (Watched M)) (all : all_pass width code is_same accepts reads names first found ≡ true) where
+  pub opening_found : {T : Type 0} (last : SenderLast T) → is_watched_in width code is_same accepts reads names found (opening_watched width code is_same accepts reads names first (opening_place last)) ≡ true
   opening_found (SL.Send message error) = and_left _ _ (and_right _ _ all)
   opening_found SL.Drop = and_left _ _ all
   opening_found SL.Stop = and_left _ _ all
 
-  pub accepted_run : {T : Type 0} (s : SenderScript T) (r : ReceiverScript) (worlds : List World) (moves : List Move) (entries : List Entry) → Tells (opening s r) worlds moves entries → Accepts width code is_same accepts reads (first (opening_place s.last)) (opening s r).sender (opening s r).receiver entries
-  accepted_run s r worlds moves entries told =
-      accepted width code is_same accepts reads sound found (and_right _ _ (and_right _ _ all)) entries (opening s r) (first (opening_place s.last)) worlds moves (opening_reached s r) (opening_found s.last) told
+  pub accepted_run : {T : Type 0} (s : SenderScript T) (r : ReceiverScript) (worlds : List World) (moves : List Move) (entries : List Entry) → classed.apt 1 (first (opening_place s.last)) ≡ true → Tells (opening s r) worlds moves entries → Accepts_by accepts reads k (first (opening_place s.last)) (opening s r).sender (opening s r).receiver entries
+  accepted_run s r worlds moves entries apt told =
+      accepted width code is_same accepts reads names k classed sound found (and_right _ _ (and_right _ _ all)) entries 1 (opening s r) (first (opening_place s.last)) worlds moves (opening_reached s r) (opening_found s.last) apt told

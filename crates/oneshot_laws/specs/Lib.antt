@@ -11,6 +11,7 @@ pub mod Unwoken
 pub mod Holders
 pub mod Laws
 pub mod Alone
+pub mod Bounds
 pub mod Notation
 pub mod Traces
 pub mod Examples
@@ -19,3 +20,7 @@ pub mod WaitExamples
 pub mod TimedExamples
 pub mod WakerExamples
 pub mod UnwokenExamples
+pub mod FutureTraces
+pub mod FutureExamples
+pub mod TaskExamples
+pub mod BoundExamples

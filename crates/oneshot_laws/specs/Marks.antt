@@ -3,7 +3,7 @@ use Rattle.std.specs.Prelude.{ℕ, ◌+◌, Bool, true, false, not, ◌&&◌, �
 use Rattle.std.specs.List.{list_any}
 use Rattle.oneshot_machine.specs.declared.machine.End.{End}
 use Rattle.oneshot_machine.specs.declared.machine.Reply.{Reply}
-use Rattle.oneshot_world.specs.Calls.{Call, Sender_is_closed, Send, Drop_sender, As_inner, Into_inner, Drop_error, Try_recv, Recv_ref, Recv_deadline, Recv_timeout, Recv, Has_message, Is_closed, Drop_receiver, Stray, Calls, Unanswered, first, is_none_left, left_by}
+use Rattle.oneshot_world.specs.Calls.{Call, Sender_is_closed, Send, Drop_sender, As_inner, Into_inner, Drop_error, Try_recv, Recv_ref, Recv_deadline, Recv_timeout, Recv, Has_message, Is_closed, Drop_receiver, Into_future, Poll, Drop_async, Stray, Calls, Unanswered, first, is_none_left, left_by}
 use Rattle.oneshot_world.specs.World.{by_end}
 use Rattle.oneshot_world.specs.declared.trace.Entry.{Entry}
 use Rattle.oneshot_world.specs.declared.trace.Entry.TheVariants.{Idle, Made as Made_entry}
@@ -54,6 +54,9 @@ rule Recv answer = receive_rule answer
 rule Has_message answer = First loads
 rule Is_closed answer = First loads
 rule Drop_receiver answer = First swaps_closed_in
+rule Into_future answer = Never
+rule (Poll number) answer = receive_rule answer
+rule Drop_async answer = First swaps_closed_in
 rule Stray answer = Never
 
 -- whether an entry is the acting one of a call with these entries before it and these after it

@@ -10,6 +10,8 @@ use Rattle.oneshot_machine.specs.declared.machine.Step.TheVariants as T
 use Rattle.oneshot_machine.specs.declared.states.Op.{Op}
 use Rattle.oneshot_machine.specs.declared.states.Op.TheVariants as O
 use Rattle.oneshot_world.specs.Calls.{Calls}
+use Rattle.oneshot_world.specs.declared.script.Move.{Move}
+use Rattle.oneshot_world.specs.declared.script.Move.TheVariants as M
 use Rattle.oneshot_world.specs.declared.trace.Entry.{Entry}
 use Rattle.oneshot_world.specs.declared.trace.Entry.TheVariants as E
 use Rattle.oneshot_world.specs.declared.trace.Made.{Made}
@@ -27,10 +29,16 @@ seen_at (T.Word (O.Store new)) before = S.Done
 seen_at (T.Word op) (Some word) = S.Word word
 seen_at _ before = S.Done
 
--- what a clock answers that is read in an entry
-abbrev pub over_in : Seen → Bool
-over_in (S.Over over) = over
-over_in _ = false
+-- the move that makes an entry, by what its clock or its copy saw
+abbrev pub moved_when : Seen → Move
+moved_when (S.Over over) = M.Receiver over false
+moved_when (S.Refused refuse) = M.Receiver false refuse
+moved_when _ = M.Receiver false false
+
+abbrev pub move_in : Entry → Move
+move_in (E.Idle Sender) = M.Sender
+move_in (E.Idle Receiver) = M.Receiver false false
+move_in (E.Made e) = elim e.side [ Sender ↦ M.Sender | Receiver ↦ moved_when e.seen ]
 
 -- an end's step, with the word before and after it; none once the block is freed
 abbrev pub step_of : End → Step → Option ℕ → Option ℕ → Made
@@ -65,11 +73,15 @@ without_block end step = step_of end step None None
 abbrev pub parked : Bool → ℕ → Made
 parked by_token before = record (receiver T.Park before before) { seen = S.Token by_token }
 
+-- a copy of a task's waker, which is refused or not
+abbrev pub copied : Bool → ℕ → Made
+copied refused before = record (receiver T.Copy before before) { seen = S.Refused refused }
+
 -- a read of the clock
 abbrev pub clocked : Bool → ℕ → Made
 clocked over before = record (receiver T.Clock before before) { seen = S.Over over }
 
--- the message's move, a waker's move, a token that is set, and the reply
+-- the message's move, a waker's move, a token that is set, a poll's own wake, and the reply
 abbrev pub moving : Place → Place → Made → Made
 moving from to e = record e { message = Some (from, to) }
 
@@ -78,6 +90,9 @@ carrying name from to e = record e { waker = Some (name, from, to) }
 
 abbrev pub setting_token : Made → Made
 setting_token e = record e { token_set = true }
+
+abbrev pub waking_own : ℕ → Made → Made
+waking_own number e = record e { own = Some number }
 
 abbrev pub replying : Reply → Made → Made
 replying reply e = record e { reply = Some reply }

@@ -2,10 +2,10 @@
 use Rattle.std.specs.Prelude.{Bool, true, false, Option, Some, None}
 use Rattle.oneshot_machine.specs.declared.machine.Reply.{Reply}
 use Rattle.oneshot_machine.specs.declared.machine.Reply.TheVariants as R
-use Rattle.oneshot_world.specs.Calls.{Call, Sender_is_closed, Send, Drop_sender, As_inner, Into_inner, Drop_error, Try_recv, Recv_ref, Recv_deadline, Recv_timeout, Recv, Has_message, Is_closed, Drop_receiver, Stray}
+use Rattle.oneshot_world.specs.Calls.{Call, Sender_is_closed, Send, Drop_sender, As_inner, Into_inner, Drop_error, Try_recv, Recv_ref, Recv_deadline, Recv_timeout, Recv, Has_message, Is_closed, Drop_receiver, Into_future, Poll, Drop_async, Stray}
 use Rattle.oneshot_laws.specs.Object.{Action, Send as Send_step, Sender_gone, Take, Take_and_go, Look_full, Look_closed, Look_receiver_gone, Receiver_gone, Answer, Accepted, Returned, Message, Gone, Nothing_yet, Yes, No, Finished, Object, answer_of, object_after}
 
--- each call as a step of the object; the error's calls are none
+-- each call as a step of the object; the error's calls are none, nor is the making of a future
 abbrev pub action_of : Call → Option Action
 action_of Sender_is_closed = Some Look_receiver_gone
 action_of Send = Some Send_step
@@ -21,6 +21,9 @@ action_of Recv = Some Take_and_go
 action_of Has_message = Some Look_full
 action_of Is_closed = Some Look_closed
 action_of Drop_receiver = Some Receiver_gone
+action_of Into_future = None
+action_of (Poll number) = Some Take
+action_of Drop_async = Some Receiver_gone
 action_of Stray = None
 
 -- How a receive says "nothing yet". A receive that waits without end has no reply for it, and so a
@@ -29,6 +32,7 @@ abbrev pub nothing_yet_of : Call → Option Reply
 nothing_yet_of Try_recv = Some R.Empty
 nothing_yet_of Recv_deadline = Some R.Timeout
 nothing_yet_of (Recv_timeout true) = Some R.Timeout
+nothing_yet_of (Poll number) = Some R.Pending
 nothing_yet_of _ = None
 
 -- the reply that reads an answer
@@ -42,11 +46,12 @@ reading_of call Yes = Some R.Yes
 reading_of call No = Some R.No
 reading_of call Finished = Some R.Done
 
--- what a call answers that is no step of the object: the refused message, or that it is dropped
+-- what a call answers that is no step of the object: the refused message, that it is dropped, or the future
 abbrev pub fixed_reply_of : Call → Option Reply
 fixed_reply_of As_inner = Some R.Message
 fixed_reply_of Into_inner = Some R.Message
 fixed_reply_of Drop_error = Some R.Done
+fixed_reply_of Into_future = Some R.Future
 fixed_reply_of _ = None
 
 -- the reply of a call that makes this step on this object, and the object after it
@@ -65,6 +70,7 @@ is_receive Recv_ref = true
 is_receive Recv_deadline = true
 is_receive (Recv_timeout representable) = true
 is_receive Recv = true
+is_receive (Poll number) = true
 is_receive _ = false
 
 abbrev pub is_send : Call → Bool
@@ -85,6 +91,7 @@ is_closed_look _ = false
 
 abbrev pub is_drop_of_receiver : Call → Bool
 is_drop_of_receiver Drop_receiver = true
+is_drop_of_receiver Drop_async = true
 is_drop_of_receiver _ = false
 
 abbrev pub is_into_inner : Call → Bool
@@ -108,6 +115,7 @@ is_end_of_sender _ = false
 abbrev pub is_end_of_receiver : Call → Bool
 is_end_of_receiver Recv = true
 is_end_of_receiver Drop_receiver = true
+is_end_of_receiver Drop_async = true
 is_end_of_receiver _ = false
 
 abbrev pub is_end_of_error : Call → Bool

@@ -3,18 +3,17 @@ use Rattle.std.specs.Prelude.{◌≡◌, ℕ, ◌+◌, Bool, true, false, not, �
 use Rattle.oneshot_machine.specs.declared.machine.Reply.TheVariants as R
 use Rattle.oneshot_machine.specs.declared.machine.Step.TheVariants as T
 use Rattle.oneshot_machine.specs.declared.states.Op.TheVariants as O
-use Rattle.oneshot_world.specs.World.{World, opening_with, turn_of}
+use Rattle.oneshot_world.specs.World.{World, opening_with, turn}
 use Rattle.oneshot_world.specs.declared.trace.Entry.TheVariants as E
-use Rattle.oneshot_world.specs.declared.trace.Made.{Made}
+use Rattle.oneshot_world.specs.declared.trace.Entry.{Entry}
 use Rattle.oneshot_world.specs.declared.trace.Place.{Place}
 use Rattle.oneshot_world.specs.declared.trace.Place.TheVariants as P
 use Rattle.oneshot_world.specs.declared.trace.WakerName.TheVariants.{Parker}
 use Rattle.oneshot_world.specs.declared.trace.WakerPlace.TheVariants as W
 use Rattle.oneshot_laws.specs.Marks.{marks}
-use Rattle.oneshot_laws.specs.Places.{steps}
 use Rattle.oneshot_world.specs.Ahead.{Ahead, ahead_of}
 use Rattle.oneshot_laws.specs.Unwoken.{is_never_unwoken}
-use Rattle.oneshot_laws.specs.Notation.{Example, over_in, sender, receiver, parked, carrying, setting_token, replying, up_to, answered_by}
+use Rattle.oneshot_laws.specs.Notation.{Example, move_in, sender, receiver, parked, carrying, setting_token, replying, up_to, answered_by}
 use Rattle.oneshot_laws.specs.Traces.{waited_past_its_deadline, waited_for_message, woken_by_drop, still_waiting}
 use Rattle.oneshot_laws.specs.LawExamples.{is_right}
 
@@ -45,13 +44,13 @@ around_a_late_message = replicate 7 up ++ parks ∷ up ∷ replicate 3 parks ++ 
 abbrev pub around_no_sender : List Ahead
 around_no_sender = replicate 3 up ++ parks ∷ []
 
-abbrev pub aheads_from : World → List Made → List Ahead
-aheads_from w [] = ahead_of w ∷ []
-aheads_from w (e ∷ es) =
-    ahead_of w ∷ elim (turn_of e.side (over_in e.seen) w) [ None ↦ [] | Some told ↦ aheads_from told.1 es ]
+abbrev pub aheads_from : ℕ → World → List Entry → List Ahead
+aheads_from n w [] = ahead_of w ∷ []
+aheads_from n w (entry ∷ entries) =
+    ahead_of w ∷ elim (turn n w (move_in entry)) [ None ↦ [] | Some told ↦ aheads_from (n + 1) told.1 entries ]
 
 abbrev pub aheads_by : Option Place → Example → List Ahead
-aheads_by message x = aheads_from (opening_with message x.calls) (steps x.entries)
+aheads_by message x = aheads_from 1 (opening_with message x.calls) x.entries
 
 abbrev pub AheadsOfRuns : Type 0
 AheadsOfRuns =

@@ -1,5 +1,5 @@
 -- What the history, the freeing and the replies are in worked traces of calls that wait, and in the same traces damaged. The checker computes all of it.
-use Rattle.std.specs.Prelude.{◌≡◌, not, List, [], ◌∷◌, ◌++◌, take, Option, Some, None, IsTrue}
+use Rattle.std.specs.Prelude.{◌≡◌, ℕ, ◌+◌, not, List, [], ◌∷◌, ◌++◌, take, Option, Some, None, IsTrue}
 use Rattle.std.specs.List.{list_all}
 use Rattle.oneshot_machine.specs.declared.machine.End.TheVariants.{Sender, Receiver}
 use Rattle.oneshot_machine.specs.declared.machine.Reply.{Reply}
@@ -7,29 +7,27 @@ use Rattle.oneshot_machine.specs.declared.machine.Reply.TheVariants as R
 use Rattle.oneshot_machine.specs.declared.machine.Step.TheVariants as T
 use Rattle.oneshot_machine.specs.declared.states.Op.TheVariants as O
 use Rattle.oneshot_world.specs.Calls as C
-use Rattle.oneshot_world.specs.World.{World, opening_with, turn_of}
+use Rattle.oneshot_world.specs.World.{World, opening_with, turn}
 use Rattle.oneshot_world.specs.declared.trace.Entry.{Entry}
 use Rattle.oneshot_world.specs.declared.trace.Entry.TheVariants as E
-use Rattle.oneshot_world.specs.declared.trace.Made.{Made}
 use Rattle.oneshot_world.specs.declared.trace.Place.{Place}
 use Rattle.oneshot_world.specs.declared.trace.Place.TheVariants as P
 use Rattle.oneshot_world.specs.declared.trace.WakerName.TheVariants.{Parker}
 use Rattle.oneshot_world.specs.declared.trace.WakerPlace.TheVariants as W
-use Rattle.oneshot_laws.specs.Places.{steps}
 use Rattle.oneshot_laws.specs.Laws.{is_gone_after_got, is_gone_after_closed}
-use Rattle.oneshot_laws.specs.Notation.{Example, over_in, sender, receiver, frees, without_block, carrying, setting_token, replying, up_to, without, exchanged, put_behind, answered_by}
+use Rattle.oneshot_laws.specs.Notation.{Example, move_in, sender, receiver, frees, without_block, carrying, setting_token, replying, up_to, without, exchanged, put_behind, answered_by}
 use Rattle.oneshot_laws.specs.Traces.{received_at_once, waited_for_message, sent_before_waiting, dropped_before_waiting, woken_by_drop, still_waiting}
 use Rattle.oneshot_laws.specs.Examples.{acting_in, is_legal_trace}
 use Rattle.oneshot_laws.specs.LawExamples.{is_block_right, are_lone_replies_right, fails_at, is_right}
 
 -- THE RUNS: each trace is what its scripts tell under its moves
-abbrev pub told_from : World → List Made → List Entry
-told_from w [] = []
-told_from w (e ∷ es) =
-    elim (turn_of e.side (over_in e.seen) w) [ None ↦ [] | Some told ↦ told.0 ∷ told_from told.1 es ]
+abbrev pub told_from : ℕ → World → List Entry → List Entry
+told_from n w [] = []
+told_from n w (entry ∷ entries) =
+    elim (turn n w (move_in entry)) [ None ↦ [] | Some told ↦ told.0 ∷ told_from (n + 1) told.1 entries ]
 
 abbrev pub told_by : Option Place → Example → List Entry
-told_by message x = told_from (opening_with message x.calls) (steps x.entries)
+told_by message x = told_from 1 (opening_with message x.calls) x.entries
 
 abbrev pub WaitsAreTold : Type 0
 WaitsAreTold =

@@ -27,7 +27,9 @@ reply_code R.Message = 4
 reply_code R.Empty = 5
 reply_code R.Timeout = 6
 reply_code R.Disconnected = 7
-reply_code R.Done = 8
+reply_code R.Pending = 8
+reply_code R.Future = 9
+reply_code R.Done = 10
 
 abbrev pub is_same_reply : Reply → Reply → Bool
 is_same_reply a b = reply_code a == reply_code b
@@ -38,7 +40,7 @@ is_reply reply (Some other) = is_same_reply reply other
 
 -- "nothing yet", as the receives say it
 abbrev pub says_nothing_yet : Reply → Bool
-says_nothing_yet reply = is_same_reply reply R.Empty || is_same_reply reply R.Timeout
+says_nothing_yet reply = is_same_reply reply R.Empty || is_same_reply reply R.Timeout || is_same_reply reply R.Pending
 
 abbrev pub is_nothing_yet : Option Reply → Bool
 is_nothing_yet None = false

@@ -6,7 +6,10 @@ ghost use Rattle.oneshot_laws.specs.LawExamples.{RightTraces, MisplacedMessages,
 ghost use Rattle.oneshot_laws.specs.WaitExamples.{WaitsAreTold, WaitsAct, IllegalWaits, MisfreedWaits, WrongReceives};
 ghost use Rattle.oneshot_laws.specs.TimedExamples.{TimedAreTold, TimedAreRight, TimedAct, IllegalTimeouts, WrongTimeouts};
 ghost use Rattle.oneshot_laws.specs.WakerExamples.{MisplacedWakers, FullCells};
+ghost use Rattle.oneshot_laws.specs.TaskExamples.{WokenTasks, UnwokenTasks};
 ghost use Rattle.oneshot_laws.specs.UnwokenExamples.{AheadsOfRuns, UnwokenWaits};
+ghost use Rattle.oneshot_laws.specs.BoundExamples.{WithinBounds, OneOperationMore, OneMoveMore};
+ghost use Rattle.oneshot_laws.specs.FutureExamples.{FuturesAreTold, FuturesAreRight, NotTold, PollsAct, IllegalPolls, MisplacedCopies, MisfreedFutures, WrongPolls};
 
 /// Says nothing at run time. Its contract is what the definitions say of worked traces, and of the same
 /// traces damaged, so that a definition that is changed by mistake is refused here.
@@ -37,4 +40,17 @@ pub fn examples()
     ensures full_cells { FullCells }
     ensures aheads { AheadsOfRuns }
     ensures unwoken { UnwokenWaits }
+    ensures woken_tasks { WokenTasks }
+    ensures unwoken_tasks { UnwokenTasks }
+    ensures within_bounds { WithinBounds }
+    ensures one_operation_more { OneOperationMore }
+    ensures one_move_more { OneMoveMore }
+    ensures futures_told { FuturesAreTold }
+    ensures futures_right { FuturesAreRight }
+    ensures not_told { NotTold }
+    ensures polls_act { PollsAct }
+    ensures illegal_polls { IllegalPolls }
+    ensures misplaced_copies { MisplacedCopies }
+    ensures misfreed_futures { MisfreedFutures }
+    ensures wrong_polls { WrongPolls }
 {}

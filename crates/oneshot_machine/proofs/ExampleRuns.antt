@@ -192,7 +192,7 @@ runs_that_are =
 
 module _ {P : Type 0} {step : P → Step} {row : P → Seen → Option (Outcome P)} where
   -- a run's first step is its position's
-  begins : {p : P} {x : Event ℕ ℕ} {xs : List (Event ℕ ℕ)} {r : Reply} → Run step row p (x ∷ xs) r → x.step ≡ step p
+  pub begins : {p : P} {x : Event ℕ ℕ} {xs : List (Event ℕ ℕ)} {r : Reply} → Run step row p (x ∷ xs) r → x.step ≡ step p
   begins (last x is leads) = is
   begins (more next x xs is leads rest) = is
 
@@ -200,7 +200,7 @@ module _ {P : Type 0} {step : P → Step} {row : P → Seen → Option (Outcome 
   no_run run = elim run [ ]
 
   -- one of one step answers
-  answers : {p : P} {x : Event ℕ ℕ} {r : Reply} → Run step row p (x ∷ []) r → row p x.seen ≡ Some (Answers r)
+  pub answers : {p : P} {x : Event ℕ ℕ} {r : Reply} → Run step row p (x ∷ []) r → row p x.seen ≡ Some (Answers r)
   answers (last x is leads) = leads
   answers (more next x xs is leads rest) = absurd (no_run rest)
 
@@ -208,7 +208,7 @@ module _ {P : Type 0} {step : P → Step} {row : P → Seen → Option (Outcome 
   does_go_on : {p : P} {x y : Event ℕ ℕ} {ys : List (Event ℕ ℕ)} {r : Reply} → Run step row p (x ∷ y ∷ ys) r → (q : P) × (row p x.seen ≡ Some (Goes q)) × Run step row q (y ∷ ys) r
   does_go_on (more next x xs is leads rest) = (next, leads, rest)
 
-  goes_on : {p : P} {x y : Event ℕ ℕ} {ys : List (Event ℕ ℕ)} {r : Reply} (q : P) → row p x.seen ≡ Some (Goes q) → Run step row p (x ∷ y ∷ ys) r → Run step row q (y ∷ ys) r
+  pub goes_on : {p : P} {x y : Event ℕ ℕ} {ys : List (Event ℕ ℕ)} {r : Reply} (q : P) → row p x.seen ≡ Some (Goes q) → Run step row p (x ∷ y ∷ ys) r → Run step row q (y ∷ ys) r
   goes_on {y} {ys} {r} q to run =
       let on = does_go_on run in
       let same : on.0 ≡ q = cc in

@@ -70,7 +70,7 @@ pub record ReceiverLists : Type 0 where
   pub dropped_after_all : receiver_at ((Load, Word 2) ∷ (Swap 2, Word 2) ∷ []) ≡ ended
   -- and lists that no receiver makes
   pub leaves_the_message : receiver_at ((Load, Word 4) ∷ (Load, Word 4) ∷ []) ≡ no_receiver
-  pub drops_in_its_call : receiver_at ((Load, Word 4) ∷ (Swap 2, Word 4) ∷ []) ≡ no_receiver
+  pub drops_in_its_call : receiver_at ((Load, Word 3) ∷ (Swap 0, Word 4) ∷ (Swap 2, Word 0) ∷ []) ≡ no_receiver
   pub stores_another_word : receiver_at ((Load, Word 4) ∷ (Store 3, Done) ∷ []) ≡ no_receiver
   pub closes_unasked : receiver_at ((Load, Word 3) ∷ (Store 2, Done) ∷ []) ≡ no_receiver
   pub opens_again : receiver_at ((Load, Word 2) ∷ (Load, Word 3) ∷ []) ≡ no_receiver

@@ -1,11 +1,11 @@
 -- What a ground has done: its steps, and what of them it keeps.
-use Rattle.std.specs.Prelude.{◌≡◌, ℕ, Bool, true, false, List, ◌++◌, filter, Option, Some, None, is_some}
+use Rattle.std.specs.Prelude.{◌≡◌, ℕ, Bool, true, false, List, ◌++◌, filter, Option, Some, None, is_some, is_none}
 use Rattle.std.specs.List.{filter_map}
 use Rattle.std.specs.Option.{option_map}
 use Rattle.oneshot_machine.specs.declared.machine.Seen.{Seen}
-use Rattle.oneshot_machine.specs.declared.machine.Seen.TheVariants.{Done, Over, Token}
+use Rattle.oneshot_machine.specs.declared.machine.Seen.TheVariants.{Done, Over, Refused, Token}
 use Rattle.oneshot_machine.specs.declared.machine.Step.{Step}
-use Rattle.oneshot_machine.specs.declared.machine.Step.TheVariants.{Word, WriteMessage, TakeMessage, Park, Clock}
+use Rattle.oneshot_machine.specs.declared.machine.Step.TheVariants.{Word, WriteMessage, TakeMessage, Park, Clock, Copy}
 use Rattle.oneshot_machine.specs.declared.states.Op.{Op}
 use Rattle.oneshot_machine.specs.Words.{Noted, saw, op_of}
 use Rattle.oneshot_machine.specs.Phases.{SenderAt, sender_at, ReceiverAt, receiver_at}
@@ -47,6 +47,10 @@ module _ {T W : Type 0} where
   -- a clock's answer
   abbrev pub clocked : Bool → Event T W
   clocked over = record { step = Clock; seen = Over over; message = None; waker = None }
+
+  -- a copy of a waker, or its refusal
+  abbrev pub copied : Option W → Event T W
+  copied copy = record { step = Copy; seen = Refused (is_none copy); message = None; waker = copy }
 
   -- an operation that found this word
   abbrev pub worded : Op → ℕ → Event T W

@@ -2,7 +2,7 @@
 use Rattle.std.specs.Prelude.{Bool, true, false, Option, Some, None, List, [], ◌∷◌, ◌==◌, if◌then◌else◌}
 use Rattle.oneshot_machine.specs.declared.machine.Reply.{Reply}
 use Rattle.oneshot_machine.specs.declared.machine.Seen.{Seen}
-use Rattle.oneshot_machine.specs.declared.machine.Seen.TheVariants.{Done, Word, Over, Token}
+use Rattle.oneshot_machine.specs.declared.machine.Seen.TheVariants.{Done, Word, Over, Refused, Token}
 
 -- where a row leads: to another position of the call, or to the reply that ends it
 pub data Outcome (Position : Type 0) : Type 0 where
@@ -18,6 +18,8 @@ is_same_seen Done Done = true
 is_same_seen (Word a) (Word b) = a == b
 is_same_seen (Over true) (Over true) = true
 is_same_seen (Over false) (Over false) = true
+is_same_seen (Refused true) (Refused true) = true
+is_same_seen (Refused false) (Refused false) = true
 is_same_seen (Token true) (Token true) = true
 is_same_seen (Token false) (Token false) = true
 is_same_seen _ _ = false

@@ -1,14 +1,16 @@
 -- Where an end may stand after its operations on the word, computed from its table.
-use Rattle.std.specs.Prelude.{ℕ, Bool, true, false, ◌&&◌, ◌==◌, if◌then◌else◌, List, [], ◌∷◌, filter, Option, Some, None, is_some}
+use Rattle.std.specs.Option.{option_map}
+use Rattle.std.specs.Prelude.{ℕ, ◌+◌, ◌++◌, Bool, true, false, ◌&&◌, ◌==◌, if◌then◌else◌, List, [], ◌∷◌, filter, map, Option, Some, None, is_some}
 use Rattle.std.specs.List.{list_any, filter_map, flat_map}
 use Rattle.std.proofs.Common.{zero, suc}
 use Rattle.oneshot_machine.specs.declared.machine.Reply.{Reply}
 use Rattle.oneshot_machine.specs.declared.machine.Reply.TheVariants as R
 use Rattle.oneshot_machine.specs.declared.machine.Seen.{Seen}
-use Rattle.oneshot_machine.specs.declared.machine.Seen.TheVariants.{Done, Over, Token}
+use Rattle.oneshot_machine.specs.declared.machine.Seen.TheVariants.{Done, Over, Refused, Token}
 use Rattle.oneshot_machine.specs.declared.machine.Step.{Step}
 use Rattle.oneshot_machine.specs.declared.machine.receiver.ReceiverPos.{ReceiverPos}
 use Rattle.oneshot_machine.specs.declared.machine.receiver.ReceiverPos.TheVariants as RP
+use Rattle.oneshot_machine.specs.declared.machine.future.FuturePos.TheVariants as F
 use Rattle.oneshot_machine.specs.declared.machine.receiver.ReceiverStart.TheVariants as RC
 use Rattle.oneshot_machine.specs.declared.machine.sender.SenderPos.{SenderPos}
 use Rattle.oneshot_machine.specs.declared.machine.sender.SenderPos.TheVariants as SP
@@ -46,7 +48,7 @@ is_op op (Some other) = is_same_op op other
 
 -- what a step that is no operation on the word may see
 abbrev pub sights : List Seen
-sights = Done ∷ Over true ∷ Over false ∷ Token true ∷ Token false ∷ []
+sights = Done ∷ Over true ∷ Over false ∷ Refused true ∷ Refused false ∷ Token true ∷ Token false ∷ []
 
 module _ {P : Type 0} (t : Table P) where
   -- The positions that come next at which an operation on the word is made. Where more steps than
@@ -178,6 +180,22 @@ receiver_positions =
     ∷ RP.RecvTake
     ∷ RP.RecvFreeGot
     ∷ RP.RecvFreeGone
+    ∷ RP.Future F.IntoFuture
+    ∷ RP.Future F.PollLoad
+    ∷ RP.Future F.PollCopy
+    ∷ RP.Future F.PollWrite
+    ∷ RP.Future F.PollExchange
+    ∷ RP.Future F.PollBackFull
+    ∷ RP.Future F.PollBackClosed
+    ∷ RP.Future F.AgainCopy
+    ∷ RP.Future F.AgainExchange
+    ∷ RP.Future F.AgainBack
+    ∷ RP.Future F.PollOwn
+    ∷ RP.Future F.PollSpin
+    ∷ RP.Future F.AsyncLoad
+    ∷ RP.Future F.AsyncExchange
+    ∷ RP.Future F.AsyncBack
+    ∷ RP.Future F.AsyncSpin
     ∷ RP.DropSwap
     ∷ RP.DropMessage
     ∷ RP.DropFree
@@ -219,9 +237,25 @@ receiver_number RP.RecvParkLoad = 31
 receiver_number RP.RecvTake = 32
 receiver_number RP.RecvFreeGot = 33
 receiver_number RP.RecvFreeGone = 34
-receiver_number RP.DropSwap = 35
-receiver_number RP.DropMessage = 36
-receiver_number RP.DropFree = 37
+receiver_number (RP.Future F.IntoFuture) = 35
+receiver_number (RP.Future F.PollLoad) = 36
+receiver_number (RP.Future F.PollCopy) = 37
+receiver_number (RP.Future F.PollWrite) = 38
+receiver_number (RP.Future F.PollExchange) = 39
+receiver_number (RP.Future F.PollBackFull) = 40
+receiver_number (RP.Future F.PollBackClosed) = 41
+receiver_number (RP.Future F.AgainCopy) = 42
+receiver_number (RP.Future F.AgainExchange) = 43
+receiver_number (RP.Future F.AgainBack) = 44
+receiver_number (RP.Future F.PollOwn) = 45
+receiver_number (RP.Future F.PollSpin) = 46
+receiver_number (RP.Future F.AsyncLoad) = 47
+receiver_number (RP.Future F.AsyncExchange) = 48
+receiver_number (RP.Future F.AsyncBack) = 49
+receiver_number (RP.Future F.AsyncSpin) = 50
+receiver_number RP.DropSwap = 51
+receiver_number RP.DropMessage = 52
+receiver_number RP.DropFree = 53
 
 abbrev pub receiver_opens : List ReceiverPos
 receiver_opens =
@@ -231,28 +265,63 @@ receiver_opens =
     ∷ receiver_start (RC.RecvTimeout true)
     ∷ receiver_start (RC.RecvTimeout false)
     ∷ receiver_start RC.Recv
+    ∷ receiver_start RC.IntoFuture
     ∷ receiver_start RC.Drop
     ∷ []
 
--- after `recv` and a drop no call, after any other receive each
-abbrev pub receiver_follows : ReceiverPos → Reply → List ReceiverPos
-receiver_follows RP.TryLoad reply = receiver_opens
-receiver_follows RP.Take reply = receiver_opens
-receiver_follows RP.CloseOnly reply = receiver_opens
-receiver_follows (RP.StartLoad timed) reply = receiver_opens
-receiver_follows RP.ParkLoad reply = receiver_opens
-receiver_follows RP.TimedLoad reply = receiver_opens
-receiver_follows RP.EndBack reply = receiver_opens
-receiver_follows RP.LateLoad reply = receiver_opens
+abbrev pub future_opens : List ReceiverPos
+future_opens = receiver_start RC.Poll ∷ receiver_start RC.DropAsync ∷ []
+
+-- where a receiver stands, which is a future from its `into_future` on: some positions have both
+pub data Standpoint : Type 0 where
+  plainly : ReceiverPos → Standpoint
+  as_future : ReceiverPos → Standpoint
+
+abbrev pub standpoint_step : Standpoint → Step
+standpoint_step (plainly p) = receiver_step p
+standpoint_step (as_future p) = receiver_step p
+
+abbrev pub outcome_at : (ReceiverPos → Standpoint) → Outcome ReceiverPos → Outcome Standpoint
+outcome_at stands (Goes next) = Goes (stands next)
+outcome_at stands (Answers reply) = Answers reply
+
+abbrev pub standpoint_row : Standpoint → Seen → Option (Outcome Standpoint)
+standpoint_row (plainly p) seen = option_map (outcome_at plainly) (receiver_row p seen)
+standpoint_row (as_future p) seen = option_map (outcome_at as_future) (receiver_row p seen)
+
+abbrev pub standpoint_number : Standpoint → ℕ
+standpoint_number (plainly p) = receiver_number p
+standpoint_number (as_future p) = 54 + receiver_number p
+
+-- after `recv` and a drop no call, after `into_future` those of a future, after any other each
+abbrev pub receiver_follows : ReceiverPos → Reply → List Standpoint
+receiver_follows RP.TryLoad reply = map plainly receiver_opens
+receiver_follows RP.Take reply = map plainly receiver_opens
+receiver_follows RP.CloseOnly reply = map plainly receiver_opens
+receiver_follows (RP.StartLoad timed) reply = map plainly receiver_opens
+receiver_follows RP.ParkLoad reply = map plainly receiver_opens
+receiver_follows RP.TimedLoad reply = map plainly receiver_opens
+receiver_follows RP.EndBack reply = map plainly receiver_opens
+receiver_follows RP.LateLoad reply = map plainly receiver_opens
+receiver_follows (RP.Future F.IntoFuture) reply = map as_future future_opens
 receiver_follows _ reply = []
 
-abbrev pub receiver_table : Table ReceiverPos
+-- after a poll each call of a future, after its drop none
+abbrev pub future_follows : Reply → List Standpoint
+future_follows R.Done = []
+future_follows _ = map as_future future_opens
+
+abbrev pub standpoint_follows : Standpoint → Reply → List Standpoint
+standpoint_follows (plainly p) reply = receiver_follows p reply
+standpoint_follows (as_future p) reply = future_follows reply
+
+abbrev pub receiver_table : Table Standpoint
 receiver_table =
     record {
-      step = receiver_step;
-      row = receiver_row;
-      positions = receiver_positions;
-      number = receiver_number;
-      opens = receiver_opens;
-      follows = receiver_follows;
+      step = standpoint_step;
+      row = standpoint_row;
+      positions = map plainly receiver_positions ++ map as_future receiver_positions;
+      number = standpoint_number;
+      opens = map plainly receiver_opens;
+      follows = standpoint_follows;
     }

@@ -2,6 +2,7 @@
 
 ghost use Rattle.oneshot_machine.specs.Exact.{SenderIsExact, ReceiverIsExact};
 ghost use Rattle.oneshot_machine.specs.Examples.{SenderLists, ReceiverLists, RunsThatAre, RunsThatAreNot};
+ghost use Rattle.oneshot_machine.specs.FutureExamples.{FutureLists, FutureRuns, FutureRunsThatAreNot};
 
 /// What the definitions allow an end after its operations on the word is what its table makes.
 pub fn tables_are_exact<T, W>()
@@ -15,4 +16,7 @@ pub fn examples_are_so()
     ensures receivers { ReceiverLists }
     ensures runs { RunsThatAre }
     ensures no_runs { RunsThatAreNot }
+    ensures futures { FutureLists }
+    ensures future_runs { FutureRuns }
+    ensures no_future_runs { FutureRunsThatAreNot }
 {}

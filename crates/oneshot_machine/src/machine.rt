@@ -1,9 +1,11 @@
 //! The words in which both machines speak: ends, steps, what a step saw, calls and replies.
 
+mod future;
 mod receiver;
 mod sender;
 
 use crate::states::Op;
+pub use future::FuturePos;
 pub use receiver::{ReceiverPos, ReceiverStart};
 pub use sender::{SenderCall, SenderPos};
 
@@ -37,8 +39,12 @@ pub enum Step {
     Park,
     /// The receiver asks its clock whether its deadline is over.
     Clock,
+    /// The receiver copies its task's waker into its hand.
+    Copy,
     /// The sender uses the waker that it took: it wakes the receiver.
     Wake,
+    /// A poll wakes its own task.
+    WakeOwn,
     /// The block is freed.
     Free,
     /// A call that does none of these.
@@ -54,6 +60,8 @@ pub enum Seen {
     Word(u8),
     /// What a clock answered: whether the deadline is over.
     Over(bool),
+    /// Whether the copy of a waker was refused.
+    Refused(bool),
     /// Whether a park ended by its token, which it used, or without one.
     Token(bool),
 }
@@ -77,6 +85,10 @@ pub enum Reply {
     Timeout,
     /// The call's disconnected error.
     Disconnected,
+    /// A poll found nothing yet.
+    Pending,
+    /// `into_future` gave the future.
+    Future,
     /// The drop is done.
     Done,
 }

@@ -2,8 +2,8 @@
 use Rattle.std.specs.Prelude.{ℕ, Bool, true, false, not, ◌||◌, ◌==◌, if◌then◌else◌, List, Option, Some, None}
 use Rattle.oneshot_machine.specs.Logs as logs
 use Rattle.oneshot_machine.specs.declared.states.Op.{Op}
-use Rattle.oneshot_machine.specs.declared.states.Op.TheVariants.{Load, Store, Swap}
-use Rattle.oneshot_machine.specs.Phases.{Open, blocked, Got, waited, Closing, ReceiverAt, first, here, waits, overdue, full, unclosed, over, gone, ended}
+use Rattle.oneshot_machine.specs.declared.states.Op.TheVariants.{Load, Store, Swap, Exchange}
+use Rattle.oneshot_machine.specs.Phases.{Open, Waiting, Got, waited, Closing, ReceiverAt, first, here, waits, claimed, withdrew, overdue, full, unclosed, over, resolved, gone, ended}
 use Rattle.oneshot_machine.specs.Slots.{Held, away}
 use Rattle.oneshot_memory.specs.declared.Event.{Event}
 use Rattle.oneshot_memory.specs.declared.receiver.Act.{Act}
@@ -46,6 +46,7 @@ pub data ReceiverOwns : ReceiverAt → ℕ → Type 0 where
   stopped_it : ReceiverOwns (full waited 3) 3
   stopped_end : ReceiverOwns (unclosed 3) 3
   closed : (c : Closing) → ReceiverOwns (over c) 2
+  closed_future : (c : Closing) → ReceiverOwns (resolved c) 2
   dropped : ReceiverOwns ended 2
 
 -- How far a receiver is, its word, which slots are its own, the message in its slot and the waker in
@@ -60,10 +61,18 @@ pub data ReceiverStands {T W : Type 0} : ReceiverAt → ℕ → Bool → Bool �
   looked_sent : (o : Open) (x : T) (cell : Option W) → ReceiverStands (here o) 4 false true (Some x) cell
   looked_dropped : (o : Open) (cell : Option W) → ReceiverStands (here o) 2 false true None cell
   -- it waits; the sender may be about to finish
-  waiting : (k : W) → ReceiverStands (waits blocked) 0 false false None (Some k)
-  waiting_claimed : (k : W) → ReceiverStands (waits blocked) 1 false false None (Some k)
-  waiting_sent : (x : T) → ReceiverStands (waits blocked) 4 false false (Some x) None
-  waiting_dropped : ReceiverStands (waits blocked) 2 false false None None
+  waiting : (a : Waiting) (k : W) → ReceiverStands (waits a) 0 false false None (Some k)
+  waiting_claimed : (a : Waiting) (k : W) → ReceiverStands (waits a) 1 false false None (Some k)
+  waiting_sent : (a : Waiting) (x : T) → ReceiverStands (waits a) 4 false false (Some x) None
+  waiting_dropped : (a : Waiting) → ReceiverStands (waits a) 2 false false None None
+  -- its poll or its drop found that the sender is about to finish
+  spinning : (k : W) → ReceiverStands claimed 1 false false None (Some k)
+  spinning_sent : (x : T) → ReceiverStands claimed 4 false false (Some x) None
+  spinning_dropped : ReceiverStands claimed 2 false false None None
+  -- its poll or its drop has the cell with the stored copy
+  withdrawn_open : (cell : Option W) → ReceiverStands withdrew 3 false true None cell
+  withdrawn_sent : (x : T) (cell : Option W) → ReceiverStands withdrew 4 false true (Some x) cell
+  withdrawn_dropped : (cell : Option W) → ReceiverStands withdrew 2 false true None cell
   -- its deadline was over while the sender was about to finish
   late_claimed : (k : W) → ReceiverStands overdue 3 false false None (Some k)
   late_sent : (x : T) → ReceiverStands overdue 4 false false (Some x) None
@@ -89,12 +98,17 @@ lies _ _ = false
 -- whether the waker's slot is the receiver's after it, where the waker of one that waits lies there, or not
 abbrev pub keeps_waker : Op → ℕ → Bool → Bool
 keeps_waker (Swap new) word lying = not ((word == 3) || (word == 1))
+keeps_waker (Exchange expected new) word lying = not ((word == 3) || (word == 1))
 keeps_waker Load word lying = not lying
 keeps_waker _ word lying = true
 
+-- the words of a channel whose ends have not acted: nobody waits, or the receiver does
+abbrev pub is_quiet : ℕ → Bool
+is_quiet word = (word == 3) || (word == 0)
+
 -- whether both ends are here, by the word and the message's slot
 abbrev pub is_open : {T : Type 0} → ℕ → Held T → Bool
-is_open word away = word == 3
+is_open word away = is_quiet word
 is_open word _ = false
 
 -- the word after the sender's act, which it makes only there

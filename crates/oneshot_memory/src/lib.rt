@@ -1,20 +1,26 @@
 //! Grounds in memory, for tests of what runs over a ground: whole, so that they keep each step that they make.
 #![tactic(auto)]
 
+mod future;
 mod receiver;
 mod sender;
+mod task;
+mod wakes;
 
 ghost use Rattle.std.specs.Prelude.{◌≡◌, ◌++◌, ◌∷◌, [], None};
-ghost use Rattle.oneshot_machine.specs.Logs.{handed};
+ghost use Rattle.oneshot_machine.specs.Logs.{handed, copied};
 ghost use Rattle.oneshot_machine.specs.Words.{saw};
 ghost use Rattle.oneshot_memory.specs.Events.{event_of};
 
+pub use future::MemoryFuture;
 use oneshot_machine::machine::{Seen, Step};
 use oneshot_machine::states::Op;
 pub use receiver::{Act, MemoryReceiver};
 pub use sender::MemorySender;
 use std::snapshot::Snapshot;
 use std::sync::Wait;
+pub use task::{MemoryTask, TaskWaker};
+pub use wakes::Wakes;
 
 /// A step that a ground made.
 #[derive(Drop)]
@@ -51,6 +57,21 @@ impl<T, W> Event<T, W> {
             seen: Seen::Done,
             message: None,
             waker: Some(Snapshot::of(waker)),
+        }
+    }
+
+    // A copy of a waker, or its refusal.
+    fn copied(copy: &Option<W>) -> Event<T, W>
+        ensures { event_of result ≡ copied copy.now }
+    {
+        match copy {
+            Some(copy) => Event {
+                step: Step::Copy,
+                seen: Seen::Refused(false),
+                message: None,
+                waker: Some(Snapshot::of(copy)),
+            },
+            None => Event::of(Step::Copy, Seen::Refused(true)),
         }
     }
 }

@@ -1,12 +1,15 @@
 //! A receiver's ground in memory.
 
-ghost use Rattle.std.specs.Prelude.{◌≡◌, true, map, Some, None};
-ghost use Rattle.oneshot_machine.specs.Logs.{receiver_of};
+ghost use Rattle.std.specs.Prelude.{◌≡◌, ⊤, true, map, Some, None, [], ◌∷◌};
+ghost use Rattle.oneshot_machine.specs.declared.machine.Step.TheVariants.{WakeOwn};
+ghost use Rattle.oneshot_machine.specs.Logs.{receiver_of, Grows, copied, did, worded};
+ghost use Rattle.oneshot_machine.specs.Slots.{ReceiverMay, ReceiverFinds};
 ghost use Rattle.oneshot_drive.specs.Calls.{AtRest};
 ghost use Rattle.oneshot_memory.specs.declared.receiver.Act.TheVariants.{Send, Drop};
 ghost use Rattle.oneshot_memory.specs.Events.{event_of};
 ghost use Rattle.oneshot_memory.specs.Receiver.{keeps_message, keeps_waker, is_open, word_by, word_left, message_left, lies};
 
+use crate::wakes::Wakes;
 use crate::{Event, record, sight};
 use oneshot_drive::{BlockGround, ReceiverGround};
 use oneshot_machine::machine::{Seen, Step};
@@ -40,8 +43,8 @@ impl<T> Act<T> {
 
 /// A receiver's ground, whose sender acts where it is told to: at once, or in a pause of the receiver.
 ///
-/// The receiver makes a pause when it has written its waker, in each park, and at each look at its
-/// clock. A park ends by its token if the sender woke the receiver by then, and without one if not;
+/// The receiver makes a pause when it has copied or written its waker, in each park, at each look at its
+/// clock, and at each load outside a wait that finds the sender about to finish. A park ends by its token if the sender woke the receiver by then, and without one if not;
 /// where the sender never acts, a call that blocks waits for ever, or until its deadline. That is over
 /// at once, unless a test puts it off.
 #[derive(Drop)]
@@ -57,6 +60,7 @@ pub struct MemoryReceiver<'a, T, W, R: Wait> {
     lingers: u64,
     reads: u64,
     token: bool,
+    parked: bool,
     rt: &'a R,
 }
 
@@ -95,6 +99,7 @@ impl<'a, T, W, R: Wait> MemoryReceiver<'a, T, W, R> {
             lingers: 0,
             reads: 0,
             token: false,
+            parked: false,
             rt,
         }
     }
@@ -107,8 +112,8 @@ impl<'a, T, W, R: Wait> MemoryReceiver<'a, T, W, R> {
     }
 }
 
-impl<'a, T: Drop, W: Drop, R: Wait> MemoryReceiver<'a, T, W, R> {
-    /// The sender sends, if both ends are still here.
+impl<'a, T: Drop, W: Drop + Wakes, R: Wait> MemoryReceiver<'a, T, W, R> {
+    /// The sender sends, if both ends are still here, and wakes a receiver that waits.
     pub fn sender_sends(&mut self, message: T)
         ensures { self.new ≡ record self.old { word = word_by 4 self.old.word self.old.message } }
     {
@@ -117,7 +122,7 @@ impl<'a, T: Drop, W: Drop, R: Wait> MemoryReceiver<'a, T, W, R> {
         }
     }
 
-    /// The sender is dropped, if both ends are still here.
+    /// The sender is dropped, if both ends are still here, and wakes a receiver that waits.
     pub fn sender_drops(&mut self)
         ensures { self.new ≡ record self.old { word = word_by 2 self.old.word self.old.message } }
     {
@@ -163,6 +168,41 @@ impl<'a, T: Drop, W: Drop, R: Wait> MemoryReceiver<'a, T, W, R> {
         self.reads = reads;
     }
 
+    // Makes an operation on the word, and gives the word before.
+    fn operate(&mut self, op: Op) -> u8
+        requires { ReceiverMay (receiver_of self.old.log) op self.old.message self.old.waker }
+        ensures list { Grows self.old.log self.new.log (worded op result ∷ []) }
+        ensures finds { ReceiverFinds (receiver_of self.old.log) op result
+            self.old.message self.old.waker self.new.message self.new.waker }
+    {
+        let before = self.word;
+        self.word = op.after(before);
+        self.owns_message = has_message(op, before);
+        self.owns_waker = has_waker(op, before, is_waiting(self.owns_waker, &self.waker));
+        let event = Event::of(Step::Word(op), sight(op, before));
+        record(self.rt, &mut self.events, event);
+        before
+    }
+
+    // Notes a copy of a waker, or its refusal.
+    pub(crate) fn note_copy(&mut self, copy: &Option<W>)
+        ensures list { Grows self.old.log self.new.log (copied copy.now ∷ []) }
+        ensures slots { (self.new.message ≡ self.old.message) × (self.new.waker ≡ self.old.waker) }
+    {
+        let event = Event::copied(copy);
+        record(self.rt, &mut self.events, event);
+        self.pause();
+    }
+
+    // Notes that the poll woke its own task.
+    pub(crate) fn note_own_wake(&mut self)
+        ensures list { Grows self.old.log self.new.log (did WakeOwn ∷ []) }
+        ensures slots { (self.new.message ≡ self.old.message) × (self.new.waker ≡ self.old.waker) }
+    {
+        let event = Event::of(Step::WakeOwn, Seen::Done);
+        record(self.rt, &mut self.events, event);
+    }
+
     // A pause, in which the sender may act, and wake the receiver.
     fn pause(&mut self)
         ensures { self.new ≡ record self.old { word = self.new.word; plan = self.new.plan } }
@@ -200,7 +240,9 @@ impl<'a, T: Drop, W: Drop, R: Wait> MemoryReceiver<'a, T, W, R> {
         if is_waiting(self.owns_waker, &self.waker) {
             self.word = word;
             self.message = message;
-            self.waker = None;
+            if let Some(waker) = self.waker.take() {
+                waker.wake();
+            }
             return true;
         }
         if self.is_open() {
@@ -214,24 +256,31 @@ impl<'a, T: Drop, W: Drop, R: Wait> MemoryReceiver<'a, T, W, R> {
     fn is_open(&self) -> bool
         ensures { result ≡ is_open self.now.word self.now.message }
     {
-        self.word == EMPTY && !self.owns_message
+        (self.word == EMPTY || self.word == RECEIVING) && !self.owns_message
     }
 }
 
-impl<'a, T: Drop, W: Drop, R: Wait> ReceiverGround<T, W> for MemoryReceiver<'a, T, W, R> {
+impl<'a, T: Drop, W: Drop + Wakes, R: Wait> ReceiverGround<T, W> for MemoryReceiver<'a, T, W, R> {
     ghost log = { λ s. s.log };
 
     ghost message_slot = { λ s. s.message };
 
     ghost waker_slot = { λ s. s.waker };
 
+    // It has nothing beside the channel.
+    ghost keeps = { λ a b. ⊤ };
+
+    ghost keeps_same = { λ a. tt };
+
+    ghost keeps_on = { λ a b c f g. tt };
+
     fn word(&mut self, op: Op) -> u8 {
-        let before = self.word;
-        self.word = op.after(before);
-        self.owns_message = has_message(op, before);
-        self.owns_waker = has_waker(op, before, is_waiting(self.owns_waker, &self.waker));
-        let event = Event::of(Step::Word(op), sight(op, before));
-        record(self.rt, &mut self.events, event);
+        let before = self.operate(op);
+        // One that waits makes its pause in its next park.
+        if op == Op::Load && before == UNPARKING && !self.parked {
+            self.pause();
+        }
+        self.parked = false;
         before
     }
 
@@ -279,11 +328,12 @@ impl<'a, T: Drop, W: Drop, R: Wait> ReceiverGround<T, W> for MemoryReceiver<'a, 
     }
 }
 
-impl<'a, T: Drop, W: Drop, R: Wait> BlockGround<T, W> for MemoryReceiver<'a, T, W, R> {
+impl<'a, T: Drop, W: Drop + Wakes, R: Wait> BlockGround<T, W> for MemoryReceiver<'a, T, W, R> {
     fn park(&mut self, _timed: bool) {
         self.pause();
         let woken = self.token;
         self.token = false;
+        self.parked = true;
         let event = Event::of(Step::Park, Seen::Token(woken));
         record(self.rt, &mut self.events, event);
     }
@@ -322,6 +372,7 @@ fn has_waker(op: Op, found: u8, waits: bool) -> bool
 {
     match op {
         Op::Swap(_) => found != EMPTY && found != UNPARKING,
+        Op::Exchange(_, _) => found != EMPTY && found != UNPARKING,
         Op::Load => !waits,
         _ => true,
     }

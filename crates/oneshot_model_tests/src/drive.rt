@@ -2,6 +2,7 @@
 
 mod deeds;
 mod drops;
+mod polls;
 mod receiver;
 mod sender;
 mod steps;

@@ -6,24 +6,32 @@ ghost use Rattle.oneshot_machine.specs.Phases.{fresh, sender_at, looked, first, 
 ghost use Rattle.oneshot_machine.specs.Slots.{vacant};
 ghost use Rattle.oneshot_word.specs.Sides.{SenderCan, ReceiverCan};
 
-use oneshot_word::{ReceiverSide, SenderSide, open};
+use oneshot_word::{ReceiverSide, Rouse, SenderSide, Slot, open};
+use std::mem::size_of;
 use std::process::Abort;
 use std::test::Fail;
 
 #[test]
 fn a_new_table_reads_3_at_both_ends(rt: HostRuntime) -> Result<(), Fail> {
-    let (sender, receiver) = open::<u64, u64>(rt.alloc())?;
+    let (sender, receiver) = open::<u64, u64, u64>(rt.alloc())?;
     assert_eq!(rt; sender.peek(), 3);
     assert_eq!(rt; receiver.peek(), 3);
     Ok(())
 }
 
 #[test]
+fn a_slot_has_one_tag_beside_the_larger_of_its_values(rt: HostRuntime) -> Result<(), Fail> {
+    assert_eq!(rt; size_of::<Slot<u64, u64, [u64; 2]>>(), 24);
+    assert_eq!(rt; size_of::<Slot<[u64; 4], u64, [u64; 2]>>(), 40);
+    Ok(())
+}
+
+#[test]
 fn a_waker_goes_one_way_and_a_message_the_other(rt: HostRuntime) -> Result<(), Fail> {
-    let (mut sender, mut receiver) = open::<u8, u8>(rt.alloc())?;
+    let (mut sender, mut receiver) = open::<u8, u8, u8>(rt.alloc())?;
     look(&rt, &mut receiver);
-    store_waker(&rt, &mut receiver, 5);
-    assert_eq!(rt; begin_send(&rt, &mut sender, 7), 5);
+    store_waker(&rt, &mut receiver, Rouse::Thread(5));
+    assert!(rt; matches!(begin_send(&rt, &mut sender, 7), Rouse::Thread(5)));
     assert_eq!(rt; sender.swap(4), 1);
     assert_eq!(rt; receive(&rt, &mut receiver), 7);
     Ok(())
@@ -31,13 +39,13 @@ fn a_waker_goes_one_way_and_a_message_the_other(rt: HostRuntime) -> Result<(), F
 
 #[test]
 fn a_receiver_that_stops_waiting_goes_on(rt: HostRuntime) -> Result<(), Fail> {
-    let (mut sender, mut receiver) = open::<u8, u8>(rt.alloc())?;
+    let (mut sender, mut receiver) = open::<u8, u8, u8>(rt.alloc())?;
     look(&rt, &mut receiver);
-    store_waker(&rt, &mut receiver, 5);
-    assert_eq!(rt; stop(&rt, &mut receiver), 5);
+    store_waker(&rt, &mut receiver, Rouse::Thread(5));
+    assert!(rt; matches!(stop(&rt, &mut receiver), Rouse::Thread(5)));
     assert_eq!(rt; sender.peek(), 3);
-    store_waker(&rt, &mut receiver, 6);
-    assert_eq!(rt; begin_send(&rt, &mut sender, 7), 6);
+    store_waker(&rt, &mut receiver, Rouse::Task(6));
+    assert!(rt; matches!(begin_send(&rt, &mut sender, 7), Rouse::Task(6)));
     assert_eq!(rt; sender.swap(4), 1);
     assert_eq!(rt; receive(&rt, &mut receiver), 7);
     Ok(())
@@ -45,10 +53,10 @@ fn a_receiver_that_stops_waiting_goes_on(rt: HostRuntime) -> Result<(), Fail> {
 
 #[test]
 fn an_overdue_receiver_gets_the_message(rt: HostRuntime) -> Result<(), Fail> {
-    let (mut sender, mut receiver) = open::<u8, u8>(rt.alloc())?;
+    let (mut sender, mut receiver) = open::<u8, u8, u8>(rt.alloc())?;
     look(&rt, &mut receiver);
-    store_waker(&rt, &mut receiver, 5);
-    assert_eq!(rt; begin_send(&rt, &mut sender, 7), 5);
+    store_waker(&rt, &mut receiver, Rouse::Thread(5));
+    assert!(rt; matches!(begin_send(&rt, &mut sender, 7), Rouse::Thread(5)));
     stop_too_late(&rt, &mut receiver);
     assert_eq!(rt; sender.swap(4), 3);
     assert_eq!(rt; receive(&rt, &mut receiver), 7);
@@ -57,10 +65,10 @@ fn an_overdue_receiver_gets_the_message(rt: HostRuntime) -> Result<(), Fail> {
 
 #[test]
 fn an_overdue_receiver_finds_the_sender_gone(rt: HostRuntime) -> Result<(), Fail> {
-    let (mut sender, mut receiver) = open::<u8, u8>(rt.alloc())?;
+    let (mut sender, mut receiver) = open::<u8, u8, u8>(rt.alloc())?;
     look(&rt, &mut receiver);
-    store_waker(&rt, &mut receiver, 5);
-    assert_eq!(rt; begin_drop(&rt, &mut sender), 5);
+    store_waker(&rt, &mut receiver, Rouse::Nobody);
+    assert!(rt; matches!(begin_drop(&rt, &mut sender), Rouse::Nobody));
     stop_too_late(&rt, &mut receiver);
     assert_eq!(rt; sender.swap(2), 3);
     assert_eq!(rt; receiver.load(), 2);
@@ -69,10 +77,10 @@ fn an_overdue_receiver_finds_the_sender_gone(rt: HostRuntime) -> Result<(), Fail
 
 #[test]
 fn a_receiver_that_stops_over_the_message_gets_it(rt: HostRuntime) -> Result<(), Fail> {
-    let (mut sender, mut receiver) = open::<u8, u8>(rt.alloc())?;
+    let (mut sender, mut receiver) = open::<u8, u8, u8>(rt.alloc())?;
     look(&rt, &mut receiver);
-    store_waker(&rt, &mut receiver, 5);
-    assert_eq!(rt; begin_send(&rt, &mut sender, 7), 5);
+    store_waker(&rt, &mut receiver, Rouse::Thread(5));
+    assert!(rt; matches!(begin_send(&rt, &mut sender, 7), Rouse::Thread(5)));
     assert_eq!(rt; sender.swap(4), 1);
     assert_eq!(rt; stop_over_the_message(&rt, &mut receiver), 7);
     assert_eq!(rt; receiver.peek(), 2);
@@ -81,17 +89,17 @@ fn a_receiver_that_stops_over_the_message_gets_it(rt: HostRuntime) -> Result<(),
 
 #[test]
 fn a_receiver_that_stops_over_an_end_closes(rt: HostRuntime) -> Result<(), Fail> {
-    let (mut sender, mut receiver) = open::<u8, u8>(rt.alloc())?;
+    let (mut sender, mut receiver) = open::<u8, u8, u8>(rt.alloc())?;
     look(&rt, &mut receiver);
-    store_waker(&rt, &mut receiver, 5);
-    assert_eq!(rt; begin_drop(&rt, &mut sender), 5);
+    store_waker(&rt, &mut receiver, Rouse::Thread(5));
+    assert!(rt; matches!(begin_drop(&rt, &mut sender), Rouse::Thread(5)));
     assert_eq!(rt; sender.swap(2), 1);
     stop_over_the_end(&rt, &mut receiver);
     assert_eq!(rt; receiver.peek(), 2);
     Ok(())
 }
 
-fn look(rt: &impl Abort, receiver: &mut ReceiverSide<u8, u8>)
+fn look(rt: &impl Abort, receiver: &mut ReceiverSide<u8, u8, u8>)
     requires { receiver_at receiver.old.steps ≡ first }
     ensures at { receiver_at receiver.new.steps ≡ here looked }
     ensures waker { receiver.new.waker ≡ vacant }
@@ -101,7 +109,7 @@ fn look(rt: &impl Abort, receiver: &mut ReceiverSide<u8, u8>)
     assert!(rt; found == 3);
 }
 
-fn store_waker(rt: &impl Abort, receiver: &mut ReceiverSide<u8, u8>, waker: u8)
+fn store_waker(rt: &impl Abort, receiver: &mut ReceiverSide<u8, u8, u8>, waker: Rouse<u8, u8>)
     requires at { receiver_at receiver.old.steps ≡ here looked }
     requires waker { receiver.old.waker ≡ vacant }
     ensures loads { ReceiverCan receiver.new Load }
@@ -114,7 +122,7 @@ fn store_waker(rt: &impl Abort, receiver: &mut ReceiverSide<u8, u8>, waker: u8)
 }
 
 // It gives its waker.
-fn stop(rt: &impl Abort, receiver: &mut ReceiverSide<u8, u8>) -> u8
+fn stop(rt: &impl Abort, receiver: &mut ReceiverSide<u8, u8, u8>) -> Rouse<u8, u8>
     requires { ReceiverCan receiver.old (Swap 3) }
     ensures at { receiver_at receiver.new.steps ≡ here looked }
     ensures waker { receiver.new.waker ≡ vacant }
@@ -127,7 +135,7 @@ fn stop(rt: &impl Abort, receiver: &mut ReceiverSide<u8, u8>) -> u8
     waker
 }
 
-fn stop_too_late(rt: &impl Abort, receiver: &mut ReceiverSide<u8, u8>)
+fn stop_too_late(rt: &impl Abort, receiver: &mut ReceiverSide<u8, u8, u8>)
     requires { ReceiverCan receiver.old (Swap 3) }
     ensures { ReceiverCan receiver.new Load }
 {
@@ -137,7 +145,7 @@ fn stop_too_late(rt: &impl Abort, receiver: &mut ReceiverSide<u8, u8>)
     assert!(rt; found == 3);
 }
 
-fn stop_over_the_message(rt: &impl Abort, receiver: &mut ReceiverSide<u8, u8>) -> u8
+fn stop_over_the_message(rt: &impl Abort, receiver: &mut ReceiverSide<u8, u8, u8>) -> u8
     requires { ReceiverCan receiver.old (Swap 3) }
 {
     let found = receiver.swap(3);
@@ -147,7 +155,7 @@ fn stop_over_the_message(rt: &impl Abort, receiver: &mut ReceiverSide<u8, u8>) -
     receiver.take_message()
 }
 
-fn stop_over_the_end(rt: &impl Abort, receiver: &mut ReceiverSide<u8, u8>)
+fn stop_over_the_end(rt: &impl Abort, receiver: &mut ReceiverSide<u8, u8, u8>)
     requires { ReceiverCan receiver.old (Swap 3) }
 {
     let found = receiver.swap(3);
@@ -157,7 +165,7 @@ fn stop_over_the_end(rt: &impl Abort, receiver: &mut ReceiverSide<u8, u8>)
 }
 
 // It gives the waker that it found.
-fn begin_send(rt: &impl Abort, sender: &mut SenderSide<u8, u8>, message: u8) -> u8
+fn begin_send(rt: &impl Abort, sender: &mut SenderSide<u8, u8, u8>, message: u8) -> Rouse<u8, u8>
     requires { (sender_at sender.old.steps ≡ fresh) × (sender.old.message ≡ vacant) }
     ensures { SenderCan sender.new (Swap 4) }
 {
@@ -169,7 +177,7 @@ fn begin_send(rt: &impl Abort, sender: &mut SenderSide<u8, u8>, message: u8) -> 
 }
 
 // It gives the waker that it found.
-fn begin_drop(rt: &impl Abort, sender: &mut SenderSide<u8, u8>) -> u8
+fn begin_drop(rt: &impl Abort, sender: &mut SenderSide<u8, u8, u8>) -> Rouse<u8, u8>
     requires { (sender_at sender.old.steps ≡ fresh) × (sender.old.message ≡ vacant) }
     ensures { SenderCan sender.new (Swap 2) }
 {
@@ -179,7 +187,7 @@ fn begin_drop(rt: &impl Abort, sender: &mut SenderSide<u8, u8>) -> u8
     sender.take_waker()
 }
 
-fn receive(rt: &impl Abort, receiver: &mut ReceiverSide<u8, u8>) -> u8
+fn receive(rt: &impl Abort, receiver: &mut ReceiverSide<u8, u8, u8>) -> u8
     requires { ReceiverCan receiver.old Load }
 {
     let found = receiver.load();

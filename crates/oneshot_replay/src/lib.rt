@@ -9,8 +9,8 @@ mod run;
 mod trace;
 
 pub use oneshot_world::{
-    CallList, Entry, ErrorLast, ErrorScript, Made, Move, Place, ReceiverCall, ReceiverLast,
-    ReceiverScript, SenderLast, SenderScript, WakerName, WakerPlace,
+    AsyncCall, AsyncLast, AsyncScript, CallList, Entry, ErrorLast, ErrorScript, Made, Move, Place,
+    ReceiverCall, ReceiverLast, ReceiverScript, SenderLast, SenderScript, WakerName, WakerPlace,
 };
 pub use refused::Refused;
 pub use rest::Rest;

@@ -37,12 +37,12 @@ impl<T: Drop> Replayer<T> {
         Replayer { world, message }
     }
 
-    /// Makes one move, and tells it.
-    pub(crate) fn step(&mut self, m: Move) -> Entry
-        ensures turn { turn self.old.world m ≡ Some (result, self.new.world) }
+    /// Makes one move, and tells it. The entry's number counts from 1.
+    pub(crate) fn step(&mut self, m: Move, entry: usize) -> Entry
+        ensures turn { turn entry self.old.world m ≡ Some (result, self.new.world) }
         ensures message { self.new.message ≡ self.old.message }
     {
-        self.world.step(m)
+        self.world.step(m, entry)
     }
 
     /// Whether the block is freed.

@@ -12,6 +12,7 @@ ghost use Rattle.oneshot_laws.specs.Unwoken.{NeverUnwoken};
 ghost use Rattle.oneshot_laws.specs.Holders.{is_freed, is_freed_right};
 ghost use Rattle.oneshot_laws.specs.Laws.{is_gone_after_got, is_got_after_full, is_gone_after_closed, is_refused_after_closed, is_nothing_only_if_open, is_dropped_once};
 ghost use Rattle.oneshot_laws.specs.Alone.{are_lone_calls_right};
+ghost use Rattle.oneshot_laws.specs.Bounds.{are_calls_bounded, is_soon_answered};
 ghost use Rattle.oneshot_replay.specs.Rest.{message_of, rest_of};
 ghost use Rattle.oneshot_replay.specs.Told.{IsReplayed};
 
@@ -50,6 +51,8 @@ pub fn replay<T: Drop>(
     ensures nothing_only_if_open { IfOk result (λ t. IsTrue (is_nothing_only_if_open (marks (calls_of s r) t.entries))) }
     ensures dropped_once { IfOk result (λ t. IsTrue (is_dropped_once (marks (calls_of s r) t.entries))) }
     ensures lone_calls { IfOk result (λ t. IsTrue (are_lone_calls_right (marks (calls_of s r) t.entries))) }
+    ensures calls_bounded { IfOk result (λ t. IsTrue (are_calls_bounded (marks (calls_of s r) t.entries))) }
+    ensures soon_answered { IfOk result (λ t. IsTrue (is_soon_answered (marks (calls_of s r) t.entries))) }
     ensures sender_back { IfErr result (λ e. e.sender ≡ s) }
     ensures receiver_back { IfErr result (λ e. e.receiver ≡ r) }
 {
@@ -61,7 +64,8 @@ pub fn replay<T: Drop>(
     };
     let mut end = Replayer::new(s, r);
     for m in moves {
-        let Ok(()) = entries.push(end.step(*m)) else {
+        let entry = entries.len() + 1;
+        let Ok(()) = entries.push(end.step(*m, entry)) else {
             unreachable!()
         };
     }

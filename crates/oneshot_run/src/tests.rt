@@ -2,6 +2,7 @@
 
 mod faults;
 mod long;
+mod polls;
 mod streams;
 mod traces;
 

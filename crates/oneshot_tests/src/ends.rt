@@ -6,6 +6,8 @@ mod deadlines;
 mod drops;
 mod leaks;
 mod overdue;
+mod polls;
+mod raw;
 mod refused;
 mod threads;
 mod waiting;

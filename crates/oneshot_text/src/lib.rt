@@ -2,6 +2,7 @@
 #![tactic(auto)]
 
 mod fault;
+mod future;
 mod line;
 mod lines;
 mod number;

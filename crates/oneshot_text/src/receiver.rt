@@ -4,10 +4,11 @@ ghost use Rattle.std.specs.Prelude.{◌≡◌, ◌≢◌, ◌↔◌, [], ◌∷�
 ghost use Rattle.oneshot_replay.specs.declared.ReceiverCall.{ReceiverCall};
 ghost use Rattle.oneshot_replay.specs.declared.ReceiverLast.{ReceiverLast};
 ghost use Rattle.oneshot_replay.specs.declared.ReceiverScript.{ReceiverScript};
-ghost use Rattle.oneshot_text.specs.Receiver.{word_of_call, words_of_receiver_last, words_of_receiver};
+ghost use Rattle.oneshot_text.specs.Receiver.{word_of_call, words_of_receiver_last, words_of_receiver, IsPollable};
 ghost use Rattle.oneshot_text.specs.Words.{words_left};
 
-use crate::fault::{Malformed, ParseError};
+use crate::fault::ParseError;
+use crate::future::parse_future;
 use crate::words::Words;
 use oneshot_replay::{ReceiverCall, ReceiverLast, ReceiverScript};
 use std::alloc::{AllocError, Global};
@@ -18,11 +19,12 @@ pub(crate) fn parse_receiver(
     mut words: Words<'_>,
 ) -> Result<ReceiverScript, ParseError>
     ensures written { IfOk result (λ receiver. words_left words.entry ≡ words_of_receiver receiver) }
-    ensures each { (receiver : ReceiverScript) → words_left words.entry ≡ words_of_receiver receiver →
+    ensures each { (receiver : ReceiverScript) → IsPollable receiver.last →
+        words_left words.entry ≡ words_of_receiver receiver →
         MatchResult result (λ read. read ≡ receiver) (λ error. error ≡ ParseError.OutOfMemory alloc_error) }
 {
     let calls = parse_calls(alloc, &mut words)?;
-    let last = parse_last(words)?;
+    let last = parse_last(alloc, words)?;
     Ok(ReceiverScript {
         calls: calls.into(),
         last,
@@ -45,17 +47,30 @@ fn parse_calls(alloc: Global, words: &mut Words<'_>) -> Result<Vec<ReceiverCall>
 }
 
 /// The last call, to which all words that are left belong.
-fn parse_last(mut words: Words<'_>) -> Result<ReceiverLast, Malformed>
+fn parse_last(alloc: Global, mut words: Words<'_>) -> Result<ReceiverLast, ParseError>
     ensures written { IfOk result (λ last. words_left words.entry ≡ words_of_receiver_last last) }
-    ensures each { (last : ReceiverLast) →
-        words_left words.entry ≡ words_of_receiver_last last → result ≡ Ok last }
+    ensures each { (last : ReceiverLast) → IsPollable last →
+        words_left words.entry ≡ words_of_receiver_last last →
+        MatchResult result (λ read. read ≡ last) (λ error. error ≡ ParseError.OutOfMemory alloc_error) }
 {
+    if words.next_is("future") {
+        words.next();
+        return Ok(ReceiverLast::IntoFuture(parse_future(alloc, words)?));
+    }
     let Some(word) = words.next() else {
         return Ok(ReceiverLast::Stop);
     };
-    let last = last_of(word.text).ok_or(word.unknown())?;
-    words.end()?;
-    Ok(last)
+    match word.text.as_bytes() {
+        b"recv" => {
+            words.end()?;
+            Ok(ReceiverLast::Recv)
+        }
+        b"drop" => {
+            words.end()?;
+            Ok(ReceiverLast::Drop)
+        }
+        _ => Err(ParseError::Malformed(word.unknown())),
+    }
 }
 
 /// The call that the word asks for.
@@ -74,18 +89,6 @@ fn call_of(word: &str) -> Option<ReceiverCall>
         }),
         b"full" => Some(ReceiverCall::HasMessage),
         b"closed" => Some(ReceiverCall::IsClosed),
-        _ => None,
-    }
-}
-
-/// The last call that the word asks for.
-fn last_of(word: &str) -> Option<ReceiverLast>
-    ensures { (last : ReceiverLast) →
-        (result ≡ Some last) ↔ (words_of_receiver_last last ≡ word.now ∷ []) }
-{
-    match word.as_bytes() {
-        b"recv" => Some(ReceiverLast::Recv),
-        b"drop" => Some(ReceiverLast::Drop),
         _ => None,
     }
 }

@@ -5,6 +5,7 @@ ghost use Rattle.oneshot_replay.specs.Rest.{message_of};
 ghost use Rattle.oneshot_replay.specs.declared.Move.{Move};
 ghost use Rattle.oneshot_replay.specs.declared.ReceiverScript.{ReceiverScript};
 ghost use Rattle.oneshot_replay.specs.declared.SenderScript.{SenderScript};
+ghost use Rattle.oneshot_text.specs.Receiver.{IsPollable};
 ghost use Rattle.oneshot_text.specs.Request.{Asks};
 ghost use Rattle.oneshot_text.specs.Sender.{IsSendable};
 
@@ -55,7 +56,7 @@ impl Request {
 pub fn parse_request(alloc: Global, text: &str) -> Result<Request, ParseError>
     ensures written { IfOk result (λ read. Asks text.now read.sender read.receiver read.moves.items) }
     ensures each { (sender : SenderScript ℕ) (receiver : ReceiverScript) (moves : List Move) →
-        IsSendable sender.last → Asks text.now sender receiver moves →
+        IsSendable sender.last → IsPollable receiver.last → Asks text.now sender receiver moves →
         MatchResult result
         (λ read. (read.sender ≡ sender) × (read.receiver ≡ receiver) × (read.moves.items ≡ moves))
         (λ error. error ≡ ParseError.OutOfMemory alloc_error) }

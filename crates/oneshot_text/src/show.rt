@@ -7,8 +7,8 @@ mod rest;
 
 pub use entry::EntryLine;
 use oneshot_replay::{ReceiverCall, Trace};
+use reply::Callers;
 pub use reply::ReplyText;
-use reply::reply_of;
 use rest::RestText;
 use std::io;
 use std::io::Write;
@@ -26,12 +26,12 @@ pub fn write_trace<W: Write>(
     calls: &[ReceiverCall],
     message: u64,
 ) -> io::Result<()> {
-    let mut calls = calls.iter();
+    let mut callers = Callers::new(calls, message);
     for (before, entry) in trace.entries().iter().enumerate() {
         let line = EntryLine {
             number: before + 1,
             entry: *entry,
-            reply: reply_of(*entry, &mut calls, message),
+            reply: callers.reply_of(*entry),
         };
         writeln!(output, "{line}")?;
     }

@@ -1,17 +1,23 @@
-//! Four uses of a channel for one message: replies to requests, a task's result, a signal to stop, and a pool of workers.
+//! Six uses of a channel for one message: replies to requests, a task's result, a signal to stop, a pool of workers,
+//! and, with a future, two replies that one task awaits and a search on another thread.
 #![tactic(auto)]
 
+mod divisor;
 mod pool;
+mod replies;
 mod request;
 mod shutdown;
 mod task;
 #[cfg(test)]
 mod tests;
 
+use divisor::divisor_of;
 use pool::pooled;
+use replies::{both_squares, first_square};
 use request::squares_of;
 use shutdown::{Order, watched};
 use std::io;
+use std::random::RandomSource;
 use std::sync::Wait;
 use std::thread::Threads;
 use std::time::{Clock, Duration};
@@ -24,7 +30,9 @@ fn main(rt: HostRuntime) -> io::Result<()> {
     show_requests(&rt)?;
     show_tasks(&rt)?;
     show_shutdown(&rt)?;
-    show_pool(&rt)
+    show_pool(&rt)?;
+    show_replies(&rt)?;
+    show_divisors(&rt)
 }
 
 fn show_requests<R: AllocGlobal + Print + Threads + Wait + Clock + Sync>(rt: &R) -> io::Result<()> {
@@ -68,4 +76,27 @@ fn show_pool<R: AllocGlobal + Print + Threads + Wait + Clock + Sync>(rt: &R) -> 
         Some(served) => println!(rt; "pool: {served} served"),
         None => println!(rt; "pool: a worker did not end"),
     }
+}
+
+fn show_replies<R: AllocGlobal + Print + Threads + Wait + RandomSource + Sync>(
+    rt: &R,
+) -> io::Result<()> {
+    let (first, second) = both_squares(rt, rt.alloc(), 7, 11)?;
+    for square in [first, second, first_square(rt, rt.alloc(), 13)?] {
+        match square {
+            Some(value) => println!(rt; "replies: {value}")?,
+            None => println!(rt; "replies: no reply")?,
+        }
+    }
+    Ok(())
+}
+
+fn show_divisors<R: AllocGlobal + Print + Threads + Wait + RandomSource>(rt: &R) -> io::Result<()> {
+    for number in [91, 97] {
+        match divisor_of(rt, rt.alloc(), number)? {
+            Ok(value) => println!(rt; "divisor: {value}")?,
+            Err(error) => println!(rt; "divisor: {error}")?,
+        }
+    }
+    Ok(())
 }

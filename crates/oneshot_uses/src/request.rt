@@ -2,7 +2,7 @@
 
 ghost use Rattle.std.specs.Prelude.{◌≡◌, ◌*◌, ◌≤◌, ℕ, Ok, IfOk, IfSome, vec_len, length};
 
-use oneshot::{Receiver, RecvTimeoutError, Sender, channel};
+use oneshot::{Receiver, RecvError, RecvTimeoutError, Sender, channel};
 use std::alloc::{AllocError, Global};
 use std::sync::Wait;
 use std::thread::{Threads, join};
@@ -87,16 +87,25 @@ impl Request {
     }
 }
 
+/// The value of the square that came. `None` if none came, or one of another number.
+///
+/// `root` is the number that was asked for, and `reply` is what the receiver of its square gave.
+pub fn answer_to(root: u32, reply: Result<Square, RecvError>) -> Option<u64>
+    ensures { IfSome result (λ value. value ≡ root * root) }
+{
+    match reply {
+        Ok(square) if square.root == root => Some(square.value),
+        _ => None,
+    }
+}
+
 impl<Rt: Wait + Clock + Drop> Asked<Rt> {
     /// Waits for the reply. `None` if none comes, or one to another request.
     pub fn wait(self) -> Option<u64>
         ensures { IfSome result (λ value. value ≡ self.root * self.root) }
     {
         let Asked { root, reply } = self;
-        match reply.recv() {
-            Ok(square) if square.root == root => Some(square.value),
-            _ => None,
-        }
+        answer_to(root, reply.recv())
     }
 }
 

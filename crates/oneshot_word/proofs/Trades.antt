@@ -3,119 +3,142 @@ use Rattle.std.proofs.Common.{◌≡◌, ◌≢◌, ℕ, [], ◌∷◌, refl, sy
 use Rattle.atomic_table.specs.Seated.{TableId}
 use Rattle.atomic_table.specs.Table.{Me, rest, turned}
 use Rattle.oneshot_machine.specs.Phases.{SenderAt, sender_at, ReceiverAt, receiver_at}
-use Rattle.oneshot_machine.specs.Slots.{Held, away, vacant}
+use Rattle.oneshot_machine.specs.Slots.{Held, away, vacant, held}
+use Rattle.oneshot_word.specs.declared.rouse.Rouse.{Rouse}
 use Rattle.oneshot_word.specs.declared.rule.Slot.{Slot}
-use Rattle.oneshot_word.specs.declared.rule.Slot.TheVariants.{Empty, Message, Waker}
+use Rattle.oneshot_word.specs.declared.rouse.Rouse.TheVariants as R
+use Rattle.oneshot_word.specs.declared.rule.Slot.TheVariants.{Empty, Message, Thread, Task, Nobody}
 use Rattle.oneshot_word.specs.declared.rule.View.{View}
-use Rattle.oneshot_word.specs.Seats.{Carried, message_of, waker_of, message_in, waker_in, MessageSlot, no_message, the_message, WakerSlot, no_waker, the_waker, SenderHas, has_fresh, has_owes, has_finished, has_late, ReceiverHas, has_first, has_here, has_waits, has_overdue, has_full, has_unclosed, has_over, has_gone, has_ended, SenderSeat, ReceiverSeat}
+use Rattle.oneshot_word.specs.Seats.{with_waker, Carried, message_of, waker_of, message_in, waker_in, MessageSlot, no_message, the_message, WakerSlot, no_waker, the_waker, SenderHas, has_fresh, has_owes, has_finished, has_late, ReceiverHas, has_first, has_here, has_waits, has_claimed, has_withdrew, has_overdue, has_full, has_unclosed, has_over, has_resolved, has_gone, has_ended, SenderSeat, ReceiverSeat}
 use Rattle.oneshot_word.specs.Sides.{Side, side_of}
 
-module _ {T W : Type 0} where
-  message_reads : {s : Slot T W} {m : Held T} → MessageSlot s m → message_of s ≡ m
+reads_back : (T : Type 0) {H K : Type 0} (k : Rouse H K) → waker_of (with_waker {T = T} k) ≡ held k
+reads_back T (R.Thread half) = refl
+reads_back T (R.Task copy) = refl
+reads_back T R.Nobody = refl
+
+module _ {T H K : Type 0} where
+  message_reads : {s : Slot T H K} {m : Held T} → MessageSlot s m → message_of s ≡ m
   message_reads no_message = refl
   message_reads (the_message x) = refl
 
-  waker_reads : {t : Slot T W} {w : Held W} → WakerSlot t w → waker_of t ≡ w
+  waker_reads : {t : Slot T H K} {w : Held (Rouse H K)} → WakerSlot t w → waker_of t ≡ w
   waker_reads no_waker = refl
-  waker_reads (the_waker k) = refl
+  waker_reads (the_waker k) = reads_back T k
 
   -- what is no waker may lie in a message's slot, and what is no message in a waker's
-  pub fits_message : (s : Slot T W) → waker_of s ≡ vacant → MessageSlot s (message_of s)
+  pub fits_message : (s : Slot T H K) → waker_of s ≡ vacant → MessageSlot s (message_of s)
   fits_message Empty e = no_message
   fits_message (Message x) e = the_message x
-  fits_message (Waker k) e = absurd (cc)
+  fits_message (Thread half) e = absurd (cc)
+  fits_message (Task copy) e = absurd (cc)
+  fits_message Nobody e = absurd (cc)
 
-  pub fits_waker : (s : Slot T W) → message_of s ≡ vacant → WakerSlot s (waker_of s)
+  pub fits_waker : (s : Slot T H K) → message_of s ≡ vacant → WakerSlot s (waker_of s)
   fits_waker Empty e = no_waker
   fits_waker (Message x) e = absurd (cc)
-  fits_waker (Waker k) e = the_waker k
+  fits_waker (Thread half) e = the_waker (R.Thread half)
+  fits_waker (Task copy) e = the_waker (R.Task copy)
+  fits_waker Nobody e = the_waker R.Nobody
 
   -- what a seat carries reads as what its end has
-  abbrev Reads : Carried T W → Held T → Held W → Type 0
+  abbrev pub Reads : Carried T H K → Held T → Held (Rouse H K) → Type 0
   Reads c m w = (message_in c ≡ m) × (waker_in c ≡ w)
 
-  sender_reads : {p : SenderAt} {c : Carried T W} {m : Held T} {w : Held W} → SenderHas p c m w → Reads c m w
+  pub sender_reads : {p : SenderAt} {c : Carried T H K} {m : Held T} {w : Held (Rouse H K)} → SenderHas p c m w → Reads c m w
   sender_reads (has_fresh slot) = (message_reads slot, refl)
   sender_reads (has_owes by slot other) = (message_reads slot, waker_reads other)
   sender_reads (has_finished by) = (refl, refl)
   sender_reads (has_late by n slot other) = (message_reads slot, waker_reads other)
 
-  receiver_reads : {q : ReceiverAt} {c : Carried T W} {m : Held T} {w : Held W} → ReceiverHas q c m w → Reads c m w
+  pub receiver_reads : {q : ReceiverAt} {c : Carried T H K} {m : Held T} {w : Held (Rouse H K)} → ReceiverHas q c m w → Reads c m w
   receiver_reads has_first = (refl, refl)
   receiver_reads (has_here f other) = (refl, waker_reads other)
   receiver_reads (has_waits a) = (refl, refl)
+  receiver_reads has_claimed = (refl, refl)
+  receiver_reads (has_withdrew other) = (refl, waker_reads other)
   receiver_reads has_overdue = (refl, refl)
   receiver_reads (has_full g n slot other) = (message_reads slot, waker_reads other)
   receiver_reads (has_unclosed n slot other) = (message_reads slot, waker_reads other)
   receiver_reads (has_over c slot other) = (message_reads slot, waker_reads other)
+  receiver_reads (has_resolved c slot other) = (message_reads slot, waker_reads other)
   receiver_reads has_gone = (refl, refl)
   receiver_reads (has_ended slot other) = (message_reads slot, waker_reads other)
 
+  pub as_read : (c : Carried T H K) {m : Held T} {w : Held (Rouse H K)} (P : Held T → Held (Rouse H K) → Type 0) → Reads c m w → P m w → P (message_in c) (waker_in c)
+  as_read c {m} P reads p = subst (λ m. P m (waker_in c)) (sym reads.0) (subst (λ w. P m w) (sym reads.1) p)
+
   -- with something else in front
-  abbrev pub renewed : ℕ → Carried T W → Slot T W → Carried T W
+  abbrev pub renewed : ℕ → Carried T H K → Slot T H K → Carried T H K
   renewed place c new = (place, new) ∷ rest c
 
   -- `front` has the slot in front, with what fits there, and once the new is there the end carries `after`
-  record Trade (place : ℕ) (Fits : Slot T W → Type 0) (Has : Carried T W → Type 0) (front after : Carried T W) : Type 0 where
-    was : Slot T W
+  record Trade (place : ℕ) (Fits : Slot T H K → Type 0) (Has : Carried T H K → Type 0) (front after : Carried T H K) : Type 0 where
+    was : Slot T H K
     fits : Fits was
     in_front : front ≡ renewed place front was
     has : Has after
 
   -- a slot that is in front, and one that is turned to the front, and back
-  abbrev TradeHere : ℕ → (Slot T W → Type 0) → (Carried T W → Type 0) → Carried T W → Slot T W → Type 0
+  abbrev TradeHere : ℕ → (Slot T H K → Type 0) → (Carried T H K → Type 0) → Carried T H K → Slot T H K → Type 0
   TradeHere place Fits Has c new = Trade place Fits Has c (renewed place c new)
 
-  abbrev TradeBehind : ℕ → (Slot T W → Type 0) → (Carried T W → Type 0) → Carried T W → Slot T W → Type 0
+  abbrev TradeBehind : ℕ → (Slot T H K → Type 0) → (Carried T H K → Type 0) → Carried T H K → Slot T H K → Type 0
   TradeBehind place Fits Has c new = Trade place Fits Has (turned c) (turned (renewed place (turned c) new))
 
   -- in the sender's seat the waker's slot is in front, wherever it has both
-  sender_trades_message : {p : SenderAt} {c : Carried T W} {m m' : Held T} {w : Held W} {new : Slot T W} → SenderHas p c m w → m ≢ away → MessageSlot new m' → TradeBehind 0 (λ s. MessageSlot s m) (λ c. SenderHas p c m' w) c new
+  sender_trades_message : {p : SenderAt} {c : Carried T H K} {m m' : Held T} {w : Held (Rouse H K)} {new : Slot T H K} → SenderHas p c m w → m ≢ away → MessageSlot new m' → TradeBehind 0 (λ s. MessageSlot s m) (λ c. SenderHas p c m' w) c new
   sender_trades_message (has_fresh {s} slot) its new = record { was = s; fits = slot; in_front = refl; has = has_fresh new }
   sender_trades_message (has_owes by {s} slot other) its new = record { was = s; fits = slot; in_front = refl; has = has_owes by new other }
   sender_trades_message (has_finished by) its new = absurd (its refl)
   sender_trades_message (has_late by n {s} slot other) its new = record { was = s; fits = slot; in_front = refl; has = has_late by n new other }
 
-  sender_trades_waker : {p : SenderAt} {c : Carried T W} {m : Held T} {w w' : Held W} {new : Slot T W} → SenderHas p c m w → w ≢ away → WakerSlot new w' → TradeHere 1 (λ s. WakerSlot s w) (λ c. SenderHas p c m w') c new
+  sender_trades_waker : {p : SenderAt} {c : Carried T H K} {m : Held T} {w w' : Held (Rouse H K)} {new : Slot T H K} → SenderHas p c m w → w ≢ away → WakerSlot new w' → TradeHere 1 (λ s. WakerSlot s w) (λ c. SenderHas p c m w') c new
   sender_trades_waker (has_fresh slot) its new = absurd (its refl)
   sender_trades_waker (has_owes by {t} slot other) its new = record { was = t; fits = other; in_front = refl; has = has_owes by slot new }
   sender_trades_waker (has_finished by) its new = absurd (its refl)
   sender_trades_waker (has_late by n {t} slot other) its new = record { was = t; fits = other; in_front = refl; has = has_late by n slot new }
 
   -- in the receiver's the message's
-  receiver_trades_message : {q : ReceiverAt} {c : Carried T W} {m m' : Held T} {w : Held W} {new : Slot T W} → ReceiverHas q c m w → m ≢ away → MessageSlot new m' → TradeHere 0 (λ s. MessageSlot s m) (λ c. ReceiverHas q c m' w) c new
+  receiver_trades_message : {q : ReceiverAt} {c : Carried T H K} {m m' : Held T} {w : Held (Rouse H K)} {new : Slot T H K} → ReceiverHas q c m w → m ≢ away → MessageSlot new m' → TradeHere 0 (λ s. MessageSlot s m) (λ c. ReceiverHas q c m' w) c new
   receiver_trades_message has_first its new = absurd (its refl)
   receiver_trades_message (has_here f other) its new = absurd (its refl)
   receiver_trades_message (has_waits a) its new = absurd (its refl)
+  receiver_trades_message has_claimed its new = absurd (its refl)
+  receiver_trades_message (has_withdrew other) its new = absurd (its refl)
   receiver_trades_message has_overdue its new = absurd (its refl)
   receiver_trades_message (has_full g n {s} slot other) its new = record { was = s; fits = slot; in_front = refl; has = has_full g n new other }
   receiver_trades_message (has_unclosed n {s} slot other) its new = record { was = s; fits = slot; in_front = refl; has = has_unclosed n new other }
   receiver_trades_message (has_over c {s} slot other) its new = record { was = s; fits = slot; in_front = refl; has = has_over c new other }
+  receiver_trades_message (has_resolved c {s} slot other) its new = record { was = s; fits = slot; in_front = refl; has = has_resolved c new other }
   receiver_trades_message has_gone its new = absurd (its refl)
   receiver_trades_message (has_ended {s} slot other) its new = record { was = s; fits = slot; in_front = refl; has = has_ended new other }
 
-  receiver_trades_waker : {q : ReceiverAt} {c : Carried T W} {m : Held T} {w w' : Held W} {new : Slot T W} → ReceiverHas q c m w → w ≢ away → WakerSlot new w' → TradeBehind 1 (λ s. WakerSlot s w) (λ c. ReceiverHas q c m w') c new
+  receiver_trades_waker : {q : ReceiverAt} {c : Carried T H K} {m : Held T} {w w' : Held (Rouse H K)} {new : Slot T H K} → ReceiverHas q c m w → w ≢ away → WakerSlot new w' → TradeBehind 1 (λ s. WakerSlot s w) (λ c. ReceiverHas q c m w') c new
   receiver_trades_waker has_first its new = absurd (its refl)
   receiver_trades_waker (has_here f {t} other) its new = record { was = t; fits = other; in_front = refl; has = has_here f new }
   receiver_trades_waker (has_waits a) its new = absurd (its refl)
+  receiver_trades_waker has_claimed its new = absurd (its refl)
+  receiver_trades_waker (has_withdrew {t} other) its new = record { was = t; fits = other; in_front = refl; has = has_withdrew new }
   receiver_trades_waker has_overdue its new = absurd (its refl)
   receiver_trades_waker (has_full g n {t} slot other) its new = record { was = t; fits = other; in_front = refl; has = has_full g n slot new }
   receiver_trades_waker (has_unclosed n {t} slot other) its new = record { was = t; fits = other; in_front = refl; has = has_unclosed n slot new }
   receiver_trades_waker (has_over c {t} slot other) its new = record { was = t; fits = other; in_front = refl; has = has_over c slot new }
+  receiver_trades_waker (has_resolved c {t} slot other) its new = record { was = t; fits = other; in_front = refl; has = has_resolved c slot new }
   receiver_trades_waker has_gone its new = absurd (its refl)
   receiver_trades_waker (has_ended {t} slot other) its new = record { was = t; fits = other; in_front = refl; has = has_ended slot new }
 
   -- one slot alone can be in front
-  slot_in_front : Slot T W → Carried T W → Slot T W
+  slot_in_front : Slot T H K → Carried T H K → Slot T H K
   slot_in_front otherwise [] = otherwise
   slot_in_front otherwise (x ∷ xs) = x.1
 
-  same_front : {place : ℕ} {c : Carried T W} {s t : Slot T W} → c ≡ renewed place c s → c ≡ renewed place c t → s ≡ t
+  same_front : {place : ℕ} {c : Carried T H K} {s t : Slot T H K} → c ≡ renewed place c s → c ≡ renewed place c t → s ≡ t
   unfolding slot_in_front
   same_front {s} here there = ap (slot_in_front s) (sym here ∙ there)
 
   -- what a trade leaves that gave `old`, seen at the seats
-  pub record Traded (Fits : Slot T W → Type 0) (Seat : Me (Slot T W) View → Type 0) (before after : Me (Slot T W) View) (old : Slot T W) (m : Held T) (w : Held W) : Type 0 where
+  pub record Traded (Fits : Slot T H K → Type 0) (Seat : Me (Slot T H K) View → Type 0) (before after : Me (Slot T H K) View) (old : Slot T H K) (m : Held T) (w : Held (Rouse H K)) : Type 0 where
     pub was : Fits old
     pub seat : Seat after
     pub view : after.0 ≡ before.0
@@ -123,102 +146,102 @@ module _ {T W : Type 0} where
     pub waker : waker_in after.1 ≡ w
 
   -- the seat that an end has then
-  record Seated (Seat : Me (Slot T W) View → Type 0) (v : View) (c : Carried T W) (m : Held T) (w : Held W) : Type 0 where
+  record Seated (Seat : Me (Slot T H K) View → Type 0) (v : View) (c : Carried T H K) (m : Held T) (w : Held (Rouse H K)) : Type 0 where
     seat : Seat (v, c)
     reads : Reads c m w
 
-  sender_seated : (before : Me (Slot T W) View) (c : Carried T W) {m : Held T} {w : Held W} → SenderSeat before → SenderHas (sender_at before.0.steps) c m w → Seated SenderSeat before.0 c m w
+  sender_seated : (before : Me (Slot T H K) View) (c : Carried T H K) {m : Held T} {w : Held (Rouse H K)} → SenderSeat before → SenderHas (sender_at before.0.steps) c m w → Seated SenderSeat before.0 c m w
   sender_seated before c before_it has =
       let reads = sender_reads has in
       record {
-        seat = record { role = before_it.role; has = subst (λ (z : Held T × Held W). SenderHas (sender_at before.0.steps) c z.0 z.1) (λ i. (sym reads.0 i, sym reads.1 i)) has };
+        seat = record { role = before_it.role; has = subst (λ (z : Held T × Held (Rouse H K)). SenderHas (sender_at before.0.steps) c z.0 z.1) (λ i. (sym reads.0 i, sym reads.1 i)) has };
         reads = reads;
       }
 
-  receiver_seated : (before : Me (Slot T W) View) (c : Carried T W) {m : Held T} {w : Held W} → ReceiverSeat before → ReceiverHas (receiver_at before.0.steps) c m w → Seated ReceiverSeat before.0 c m w
+  receiver_seated : (before : Me (Slot T H K) View) (c : Carried T H K) {m : Held T} {w : Held (Rouse H K)} → ReceiverSeat before → ReceiverHas (receiver_at before.0.steps) c m w → Seated ReceiverSeat before.0 c m w
   receiver_seated before c before_it has =
       let reads = receiver_reads has in
       record {
-        seat = record { role = before_it.role; has = subst (λ (z : Held T × Held W). ReceiverHas (receiver_at before.0.steps) c z.0 z.1) (λ i. (sym reads.0 i, sym reads.1 i)) has };
+        seat = record { role = before_it.role; has = subst (λ (z : Held T × Held (Rouse H K)). ReceiverHas (receiver_at before.0.steps) c z.0 z.1) (λ i. (sym reads.0 i, sym reads.1 i)) has };
         reads = reads;
       }
 
-  trade_done : {place : ℕ} {Fits : Slot T W → Type 0} {Seat : Me (Slot T W) View → Type 0} {Has : Carried T W → Type 0} {front c : Carried T W} {old : Slot T W} {m : Held T} {w : Held W} (before after : Me (Slot T W) View) → Trade place Fits Has front c → Seated Seat before.0 c m w → front ≡ renewed place front old → after ≡ (before.0, c) → Traded Fits Seat before after old m w
+  trade_done : {place : ℕ} {Fits : Slot T H K → Type 0} {Seat : Me (Slot T H K) View → Type 0} {Has : Carried T H K → Type 0} {front c : Carried T H K} {old : Slot T H K} {m : Held T} {w : Held (Rouse H K)} (before after : Me (Slot T H K) View) → Trade place Fits Has front c → Seated Seat before.0 c m w → front ≡ renewed place front old → after ≡ (before.0, c) → Traded Fits Seat before after old m w
   trade_done {Fits} {Seat} before after t s here is =
       record {
         was = subst Fits (same_front t.in_front here) t.fits;
         seat = subst Seat (sym is) s.seat;
-        view = ap (λ (m : Me (Slot T W) View). m.0) is;
-        message = ap (λ (m : Me (Slot T W) View). message_in m.1) is ∙ s.reads.0;
-        waker = ap (λ (m : Me (Slot T W) View). waker_in m.1) is ∙ s.reads.1;
+        view = ap (λ (m : Me (Slot T H K) View). m.0) is;
+        message = ap (λ (m : Me (Slot T H K) View). message_in m.1) is ∙ s.reads.0;
+        waker = ap (λ (m : Me (Slot T H K) View). waker_in m.1) is ∙ s.reads.1;
       }
 
   -- the seats of a trade behind: as it was, turned, traded, and turned back
-  pub record Turned (place : ℕ) (before there traded after : Me (Slot T W) View) (old new : Slot T W) : Type 0 where
+  pub record Turned (place : ℕ) (before there traded after : Me (Slot T H K) View) (old new : Slot T H K) : Type 0 where
     pub turn : there ≡ (before.0, turned before.1)
     pub front : there.1 ≡ renewed place there.1 old
     pub trade : traded ≡ (there.0, renewed place there.1 new)
     pub back : after ≡ (traded.0, turned traded.1)
 
-  turned_front : {place : ℕ} {before there traded after : Me (Slot T W) View} {old new : Slot T W} → Turned place before there traded after old new → turned before.1 ≡ renewed place (turned before.1) old
-  turned_front {place} {old} t = subst (λ (l : Carried T W). l ≡ renewed place l old) (ap (λ (m : Me (Slot T W) View). m.1) t.turn) t.front
+  turned_front : {place : ℕ} {before there traded after : Me (Slot T H K) View} {old new : Slot T H K} → Turned place before there traded after old new → turned before.1 ≡ renewed place (turned before.1) old
+  turned_front {place} {old} t = subst (λ (l : Carried T H K). l ≡ renewed place l old) (ap (λ (m : Me (Slot T H K) View). m.1) t.turn) t.front
 
-  turned_back : {place : ℕ} {before there traded after : Me (Slot T W) View} {old new : Slot T W} → Turned place before there traded after old new → after ≡ (before.0, turned (renewed place (turned before.1) new))
+  turned_back : {place : ℕ} {before there traded after : Me (Slot T H K) View} {old new : Slot T H K} → Turned place before there traded after old new → after ≡ (before.0, turned (renewed place (turned before.1) new))
   turned_back {place} {new} t =
-      t.back ∙ ap (λ (m : Me (Slot T W) View). (m.0, turned m.1)) t.trade ∙ ap (λ (m : Me (Slot T W) View). (m.0, turned (renewed place m.1 new))) t.turn
+      t.back ∙ ap (λ (m : Me (Slot T H K) View). (m.0, turned m.1)) t.trade ∙ ap (λ (m : Me (Slot T H K) View). (m.0, turned (renewed place m.1 new))) t.turn
 
   -- what is in front once a seat is turned
-  front_there : {place : ℕ} {Fits : Slot T W → Type 0} {Has : Carried T W → Type 0} {c : Carried T W} (before there : Me (Slot T W) View) → Trade place Fits Has (turned before.1) c → there ≡ (before.0, turned before.1) → (old : Slot T W) × (there.1 ≡ renewed place there.1 old)
+  front_there : {place : ℕ} {Fits : Slot T H K → Type 0} {Has : Carried T H K → Type 0} {c : Carried T H K} (before there : Me (Slot T H K) View) → Trade place Fits Has (turned before.1) c → there ≡ (before.0, turned before.1) → (old : Slot T H K) × (there.1 ≡ renewed place there.1 old)
   front_there {place} before there t turn =
-      (t.was, subst (λ (l : Carried T W). l ≡ renewed place l t.was) (sym (ap (λ (m : Me (Slot T W) View). m.1) turn)) t.in_front)
+      (t.was, subst (λ (l : Carried T H K). l ≡ renewed place l t.was) (sym (ap (λ (m : Me (Slot T H K) View). m.1) turn)) t.in_front)
 
-  pub sender_message_front : (before there : Me (Slot T W) View) → SenderSeat before → message_in before.1 ≢ away → there ≡ (before.0, turned before.1) → (old : Slot T W) × (there.1 ≡ renewed 0 there.1 old)
+  pub sender_message_front : (before there : Me (Slot T H K) View) → SenderSeat before → message_in before.1 ≢ away → there ≡ (before.0, turned before.1) → (old : Slot T H K) × (there.1 ≡ renewed 0 there.1 old)
   sender_message_front before there seat its turn = front_there before there (sender_trades_message seat.has its no_message) turn
 
-  pub sender_message_traded : (before there traded after : Me (Slot T W) View) {old new : Slot T W} {m : Held T} → SenderSeat before → message_in before.1 ≢ away → MessageSlot new m → Turned 0 before there traded after old new
+  pub sender_message_traded : (before there traded after : Me (Slot T H K) View) {old new : Slot T H K} {m : Held T} → SenderSeat before → message_in before.1 ≢ away → MessageSlot new m → Turned 0 before there traded after old new
       → Traded (λ s. MessageSlot s (message_in before.1)) SenderSeat before after old m (waker_in before.1)
   sender_message_traded before there traded after seat its fits turns =
       let t = sender_trades_message seat.has its fits in trade_done before after t (sender_seated before _ seat t.has) (turned_front turns) (turned_back turns)
 
-  pub sender_waker_front : (before : Me (Slot T W) View) → SenderSeat before → waker_in before.1 ≢ away → (old : Slot T W) × (before.1 ≡ renewed 1 before.1 old)
+  pub sender_waker_front : (before : Me (Slot T H K) View) → SenderSeat before → waker_in before.1 ≢ away → (old : Slot T H K) × (before.1 ≡ renewed 1 before.1 old)
   sender_waker_front before seat its = let t = sender_trades_waker seat.has its no_waker in (t.was, t.in_front)
 
-  pub sender_waker_traded : (before after : Me (Slot T W) View) {old new : Slot T W} {w : Held W} → SenderSeat before → waker_in before.1 ≢ away → WakerSlot new w → before.1 ≡ renewed 1 before.1 old → after ≡ (before.0, renewed 1 before.1 new)
+  pub sender_waker_traded : (before after : Me (Slot T H K) View) {old new : Slot T H K} {w : Held (Rouse H K)} → SenderSeat before → waker_in before.1 ≢ away → WakerSlot new w → before.1 ≡ renewed 1 before.1 old → after ≡ (before.0, renewed 1 before.1 new)
       → Traded (λ s. WakerSlot s (waker_in before.1)) SenderSeat before after old (message_in before.1) w
   sender_waker_traded before after seat its fits front is =
       let t = sender_trades_waker seat.has its fits in trade_done before after t (sender_seated before _ seat t.has) front is
 
-  pub receiver_message_front : (before : Me (Slot T W) View) → ReceiverSeat before → message_in before.1 ≢ away → (old : Slot T W) × (before.1 ≡ renewed 0 before.1 old)
+  pub receiver_message_front : (before : Me (Slot T H K) View) → ReceiverSeat before → message_in before.1 ≢ away → (old : Slot T H K) × (before.1 ≡ renewed 0 before.1 old)
   receiver_message_front before seat its = let t = receiver_trades_message seat.has its no_message in (t.was, t.in_front)
 
-  pub receiver_message_traded : (before after : Me (Slot T W) View) {old new : Slot T W} {m : Held T} → ReceiverSeat before → message_in before.1 ≢ away → MessageSlot new m → before.1 ≡ renewed 0 before.1 old → after ≡ (before.0, renewed 0 before.1 new)
+  pub receiver_message_traded : (before after : Me (Slot T H K) View) {old new : Slot T H K} {m : Held T} → ReceiverSeat before → message_in before.1 ≢ away → MessageSlot new m → before.1 ≡ renewed 0 before.1 old → after ≡ (before.0, renewed 0 before.1 new)
       → Traded (λ s. MessageSlot s (message_in before.1)) ReceiverSeat before after old m (waker_in before.1)
   receiver_message_traded before after seat its fits front is =
       let t = receiver_trades_message seat.has its fits in trade_done before after t (receiver_seated before _ seat t.has) front is
 
-  pub receiver_waker_front : (before there : Me (Slot T W) View) → ReceiverSeat before → waker_in before.1 ≢ away → there ≡ (before.0, turned before.1) → (old : Slot T W) × (there.1 ≡ renewed 1 there.1 old)
+  pub receiver_waker_front : (before there : Me (Slot T H K) View) → ReceiverSeat before → waker_in before.1 ≢ away → there ≡ (before.0, turned before.1) → (old : Slot T H K) × (there.1 ≡ renewed 1 there.1 old)
   receiver_waker_front before there seat its turn = front_there before there (receiver_trades_waker seat.has its no_waker) turn
 
-  pub receiver_waker_traded : (before there traded after : Me (Slot T W) View) {old new : Slot T W} {w : Held W} → ReceiverSeat before → waker_in before.1 ≢ away → WakerSlot new w → Turned 1 before there traded after old new
+  pub receiver_waker_traded : (before there traded after : Me (Slot T H K) View) {old new : Slot T H K} {w : Held (Rouse H K)} → ReceiverSeat before → waker_in before.1 ≢ away → WakerSlot new w → Turned 1 before there traded after old new
       → Traded (λ s. WakerSlot s (waker_in before.1)) ReceiverSeat before after old (message_in before.1) w
   receiver_waker_traded before there traded after seat its fits turns =
       let t = receiver_trades_waker seat.has its fits in trade_done before after t (receiver_seated before _ seat t.has) (turned_front turns) (turned_back turns)
 
   -- and what their ends' sides show then
-  pub message_side : {Fits : Slot T W → Type 0} {Seat : Me (Slot T W) View → Type 0} (table table' : TableId) (before after : Me (Slot T W) View) {old : Slot T W} {m : Held T} (now : Side T W) → side_of table before ≡ now → table' ≡ table → Traded Fits Seat before after old m (waker_in before.1) → side_of table' after ≡ record now { message = m }
+  pub message_side : {Fits : Slot T H K → Type 0} {Seat : Me (Slot T H K) View → Type 0} (table table' : TableId) (before after : Me (Slot T H K) View) {old : Slot T H K} {m : Held T} (now : Side T (Rouse H K)) → side_of table before ≡ now → table' ≡ table → Traded Fits Seat before after old m (waker_in before.1) → side_of table' after ≡ record now { message = m }
   message_side table table' before after now is same t =
       λ i. record {
-        table = (same ∙ ap (λ (s : Side T W). s.table) is) i;
-        steps = (ap (λ (v : View). v.steps) t.view ∙ ap (λ (s : Side T W). s.steps) is) i;
+        table = (same ∙ ap (λ (s : Side T (Rouse H K)). s.table) is) i;
+        steps = (ap (λ (v : View). v.steps) t.view ∙ ap (λ (s : Side T (Rouse H K)). s.steps) is) i;
         message = t.message i;
-        waker = (t.waker ∙ ap (λ (s : Side T W). s.waker) is) i;
+        waker = (t.waker ∙ ap (λ (s : Side T (Rouse H K)). s.waker) is) i;
       }
 
-  pub waker_side : {Fits : Slot T W → Type 0} {Seat : Me (Slot T W) View → Type 0} (table table' : TableId) (before after : Me (Slot T W) View) {old : Slot T W} {w : Held W} (now : Side T W) → side_of table before ≡ now → table' ≡ table → Traded Fits Seat before after old (message_in before.1) w → side_of table' after ≡ record now { waker = w }
+  pub waker_side : {Fits : Slot T H K → Type 0} {Seat : Me (Slot T H K) View → Type 0} (table table' : TableId) (before after : Me (Slot T H K) View) {old : Slot T H K} {w : Held (Rouse H K)} (now : Side T (Rouse H K)) → side_of table before ≡ now → table' ≡ table → Traded Fits Seat before after old (message_in before.1) w → side_of table' after ≡ record now { waker = w }
   waker_side table table' before after now is same t =
       λ i. record {
-        table = (same ∙ ap (λ (s : Side T W). s.table) is) i;
-        steps = (ap (λ (v : View). v.steps) t.view ∙ ap (λ (s : Side T W). s.steps) is) i;
-        message = (t.message ∙ ap (λ (s : Side T W). s.message) is) i;
+        table = (same ∙ ap (λ (s : Side T (Rouse H K)). s.table) is) i;
+        steps = (ap (λ (v : View). v.steps) t.view ∙ ap (λ (s : Side T (Rouse H K)). s.steps) is) i;
+        message = (t.message ∙ ap (λ (s : Side T (Rouse H K)). s.message) is) i;
         waker = t.waker i;
       }

@@ -1,8 +1,9 @@
 -- What the lists say, and which states of the word and the slots have a row of owners, by examples; and states that have none.
 use Rattle.std.specs.Prelude.{◌≡◌, ℕ, true, false, List, [], ◌∷◌, ◌++◌, Some, None}
 use Rattle.oneshot_machine.specs.declared.machine.Seen.TheVariants.{Done, Word}
-use Rattle.oneshot_machine.specs.declared.states.Op.TheVariants.{Load, Store, Swap, Add, Xor}
+use Rattle.oneshot_machine.specs.declared.states.Op.TheVariants.{Load, Store, Swap, Exchange, Add, Xor}
 use Rattle.oneshot_machine.specs.Words.{Noted}
+use Rattle.oneshot_word.specs.declared.rouse.Rouse.{Rouse}
 use Rattle.oneshot_word.specs.Lists.{stores_waker, is_overdue, is_gone, wrote_since}
 use Rattle.oneshot_word.specs.Rows.{Owned}
 use Rattle.oneshot_word.specs.Rule.{Home, out, bare, has_message, has_waker}
@@ -17,6 +18,17 @@ stopped_over word = waits ++ (Swap 3, Word word) ∷ []
 
 abbrev pub went : List Noted
 went = (Swap 2, Word 3) ∷ []
+
+-- A poll that stored its copy, and one that found the message or no sender by its exchange; a later one
+-- that took the copy back, and one that found a sender about to finish.
+abbrev pub polled : List Noted
+polled = (Load, Word 3) ∷ (Exchange 3 0, Word 3) ∷ []
+
+abbrev pub polled_over : ℕ → List Noted
+polled_over word = (Load, Word 3) ∷ (Exchange 3 0, Word word) ∷ []
+
+abbrev pub exchanged_back : ℕ → List Noted
+exchanged_back word = polled ++ (Load, Word 0) ∷ (Exchange 0 3, Word word) ∷ []
 
 -- A sender that found it waiting, in a `send` or in its drop; and that has finished.
 abbrev pub claims : List Noted
@@ -43,31 +55,53 @@ pub record ListsSay : Type 0 where
   pub wrote_too_late : wrote_since (stopped_over 1) ≡ None
   pub wrote_over_the_message : wrote_since (stopped_over 4) ≡ Some 3
   pub wrote_and_closed : wrote_since (stopped_over 4 ++ (Store 2, Done) ∷ []) ≡ Some 2
+  -- a poll
+  pub stores_its_copy : stores_waker polled ≡ true
+  pub took_its_copy_back : stores_waker (exchanged_back 0) ≡ false
+  pub exchanged_too_late : stores_waker (exchanged_back 1) ≡ true
+  pub stores_another_copy : stores_waker (exchanged_back 0 ++ (Exchange 3 0, Word 3) ∷ []) ≡ true
+  pub stores_no_copy : stores_waker (polled_over 4) ≡ false
+  pub exchanged_in_vain : wrote_since (polled_over 4) ≡ None
+  pub exchanged_and_closed : wrote_since (polled_over 4 ++ (Store 2, Done) ∷ []) ≡ Some 2
 
 -- the sender's list, the receiver's list, the word, and what of both slots is at home
-pub record StatesThatAre (T W : Type 0) : Type 0 where
-  pub new : Owned {T = T} {W = W} [] [] 3 out bare
-  pub waiting : (k : W) → Owned {T = T} [] waits 0 out (has_waker k)
-  pub claimed : Owned {T = T} {W = W} claims waits 1 out out
-  pub claimed_too_late : Owned {T = T} {W = W} claims (stopped_over 1) 3 out out
-  pub sent_to_it : (x : T) → Owned {W = W} (sent_over 1) waits 4 (has_message x) bare
-  pub sent_too_late : (x : T) → Owned {W = W} (sent_over 3) (stopped_over 1) 4 (has_message x) bare
-  pub dropped_too_late : Owned {T = T} {W = W} (dropped_over 3) (stopped_over 1) 2 bare bare
-  pub stopped_over_the_message : Owned {T = T} {W = W} (sent_over 1) (stopped_over 4) 3 out out
-  pub gone_first : Owned {T = T} {W = W} [] went 2 out bare
+pub record StatesThatAre (T H K : Type 0) : Type 0 where
+  pub new : Owned {T = T} {H = H} {K = K} [] [] 3 out bare
+  pub waiting : (k : Rouse H K) → Owned {T = T} [] waits 0 out (has_waker k)
+  pub claimed : Owned {T = T} {H = H} {K = K} claims waits 1 out out
+  pub claimed_too_late : Owned {T = T} {H = H} {K = K} claims (stopped_over 1) 3 out out
+  pub sent_to_it : (x : T) → Owned {H = H} {K = K} (sent_over 1) waits 4 (has_message x) bare
+  pub sent_too_late : (x : T) → Owned {H = H} {K = K} (sent_over 3) (stopped_over 1) 4 (has_message x) bare
+  pub dropped_too_late : Owned {T = T} {H = H} {K = K} (dropped_over 3) (stopped_over 1) 2 bare bare
+  pub stopped_over_the_message : Owned {T = T} {H = H} {K = K} (sent_over 1) (stopped_over 4) 3 out out
+  pub gone_first : Owned {T = T} {H = H} {K = K} [] went 2 out bare
+  -- a poll
+  pub polls : (k : Rouse H K) → Owned {T = T} [] polled 0 out (has_waker k)
+  pub took_back : Owned {T = T} {H = H} {K = K} [] (exchanged_back 0) 3 out out
+  pub claimed_in_a_poll : Owned {T = T} {H = H} {K = K} claims (exchanged_back 1) 1 out out
+  pub sent_to_a_future : (x : T) → Owned {H = H} {K = K} (sent_over 1) polled 4 (has_message x) bare
+  pub polled_too_late : Owned {T = T} {H = H} {K = K} ((Add, Word 3) ∷ []) (polled_over 4) 4 out out
 
-pub record StatesThatAreNot (T W : Type 0) : Type 0 where
+pub record StatesThatAreNot (T H K : Type 0) : Type 0 where
   -- an overdue receiver leaves 3, and its waker to the sender
-  pub overdue_leaves_1 : {h k : Home T W} → Owned claims (stopped_over 1) 1 h k → ⊥
-  pub overdue_has_its_waker : {h : Home T W} (k : W) → Owned claims (stopped_over 1) 3 h (has_waker k) → ⊥
+  pub overdue_leaves_1 : {h k : Home T H K} → Owned claims (stopped_over 1) 1 h k → ⊥
+  pub overdue_has_its_waker : {h : Home T H K} (k : Rouse H K) → Owned claims (stopped_over 1) 3 h (has_waker k) → ⊥
   -- one that waits does not
-  pub waits_at_3 : {h k : Home T W} → Owned claims waits 3 h k → ⊥
+  pub waits_at_3 : {h k : Home T H K} → Owned claims waits 3 h k → ⊥
   -- a sender that finishes over 3 leaves its own word
-  pub send_leaves_3 : {h k : Home T W} → Owned (sent_over 3) (stopped_over 1) 3 h k → ⊥
-  pub drop_leaves_3 : {h k : Home T W} → Owned (dropped_over 3) (stopped_over 1) 3 h k → ⊥
+  pub send_leaves_3 : {h k : Home T H K} → Owned (sent_over 3) (stopped_over 1) 3 h k → ⊥
+  pub drop_leaves_3 : {h k : Home T H K} → Owned (dropped_over 3) (stopped_over 1) 3 h k → ⊥
   -- a swap of 3 leaves 3 over the message and over the sender's end
-  pub stop_leaves_0_over_the_message : {h k : Home T W} → Owned (sent_over 1) (stopped_over 4) 0 h k → ⊥
-  pub stop_leaves_0_over_the_end : {h k : Home T W} → Owned (dropped_over 1) (stopped_over 2) 0 h k → ⊥
+  pub stop_leaves_0_over_the_message : {h k : Home T H K} → Owned (sent_over 1) (stopped_over 4) 0 h k → ⊥
+  pub stop_leaves_0_over_the_end : {h k : Home T H K} → Owned (dropped_over 1) (stopped_over 2) 0 h k → ⊥
   -- what waits in the word waits there for its end
-  pub message_lies_with_nobody : {k : Home T W} → Owned (sent_over 1) waits 4 bare k → ⊥
-  pub waker_is_gone : {h : Home T W} → Owned [] waits 0 h bare → ⊥
+  pub message_lies_with_nobody : {k : Home T H K} → Owned (sent_over 1) waits 4 bare k → ⊥
+  pub waker_is_gone : {h : Home T H K} → Owned [] waits 0 h bare → ⊥
+  -- an exchange that found what it expects leaves its word, and the copy with the right owner
+  pub poll_leaves_3 : {h k : Home T H K} → Owned [] polled 3 h k → ⊥
+  pub poll_has_its_copy : {h : Home T H K} → Owned [] polled 0 h out → ⊥
+  pub takes_back_and_leaves_0 : {h k : Home T H K} → Owned [] (exchanged_back 0) 0 h k → ⊥
+  pub takes_nothing_back : {h : Home T H K} (k : Rouse H K) → Owned [] (exchanged_back 0) 3 h (has_waker k) → ⊥
+  -- one that did not leaves the word that it found
+  pub late_poll_leaves_0 : {h k : Home T H K} → Owned ((Add, Word 3) ∷ []) (polled_over 4) 0 h k → ⊥
+  pub takes_back_over_1 : {h k : Home T H K} → Owned claims (exchanged_back 1) 3 h k → ⊥

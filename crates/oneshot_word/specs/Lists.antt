@@ -3,7 +3,7 @@ use Rattle.std.specs.Prelude.{ℕ, Bool, false, ◌&&◌, ◌||◌, ◌==◌, if
 use Rattle.oneshot_machine.specs.declared.machine.Seen.{Seen}
 use Rattle.oneshot_machine.specs.declared.machine.Seen.TheVariants.{Word}
 use Rattle.oneshot_machine.specs.declared.states.Op.{Op}
-use Rattle.oneshot_machine.specs.declared.states.Op.TheVariants.{Load, Store, Swap, Add, Xor}
+use Rattle.oneshot_machine.specs.declared.states.Op.TheVariants.{Load, Store, Swap, Exchange, Add, Xor}
 use Rattle.oneshot_machine.specs.Words.{Noted}
 use Rattle.oneshot_machine.specs.Phases.{By, sending, dropping}
 
@@ -34,10 +34,12 @@ along next a (x ∷ xs) = along next (next a x.0 x.1) xs
 abbrev pub stores_next : Bool → Op → Seen → Bool
 stores_next before Load (Word word) = before && (word == 0 || word == 1)
 stores_next before (Swap new) (Word word) = new == 0 && word == 3
+stores_next before (Exchange expected new) (Word word) =
+    if word == expected then new == 0 else before && word == 1
 stores_next before _ seen = false
 
--- The receiver stores a waker: after a swap of 0 that found 3 it has made nothing but loads that
--- found 0 or 1.
+-- The receiver stores a waker: after a swap of 0 that found 3, or an exchange of 3 for 0 that did, it
+-- has made nothing but loads that found 0 or 1 and exchanges that found 1.
 abbrev pub stores_waker : List Noted → Bool
 stores_waker = along stores_next false
 

@@ -2,27 +2,31 @@
 -- The table calls a note with the number that the word really held, and nothing else says that a list tells what was found: the rule speaks of lists alone. So each is to be read.
 use Rattle.std.specs.Prelude.{ℕ}
 use Rattle.atomic_table.specs.Table.{Me, Step}
-use Rattle.oneshot_machine.specs.declared.states.Op.TheVariants.{Load, Store, Swap, Add, Xor}
+use Rattle.oneshot_machine.specs.declared.states.Op.TheVariants.{Load, Store, Swap, Exchange, Add, Xor}
 use Rattle.oneshot_word.specs.declared.rule.Slot.{Slot}
 use Rattle.oneshot_word.specs.declared.rule.View.{View}
 use Rattle.oneshot_word.specs.Seats.{SenderStepped, ReceiverStepped}
 
-module _ {T W : Type 0} where
-  abbrev pub AddFound : Step (Slot T W) → Me (Slot T W) View → ℕ → Me (Slot T W) View → Type 0
+module _ {T H K : Type 0} where
+  abbrev pub AddFound : Step (Slot T H K) → Me (Slot T H K) View → ℕ → Me (Slot T H K) View → Type 0
   AddFound step before word after = SenderStepped before Add word after
 
-  abbrev pub FlipFound : Step (Slot T W) → Me (Slot T W) View → ℕ → Me (Slot T W) View → Type 0
+  abbrev pub FlipFound : Step (Slot T H K) → Me (Slot T H K) View → ℕ → Me (Slot T H K) View → Type 0
   FlipFound step before word after = SenderStepped before Xor word after
 
   -- `first` is the number that the step puts in
-  abbrev pub FinalSwapFound : Step (Slot T W) → Me (Slot T W) View → ℕ → Me (Slot T W) View → Type 0
+  abbrev pub FinalSwapFound : Step (Slot T H K) → Me (Slot T H K) View → ℕ → Me (Slot T H K) View → Type 0
   FinalSwapFound step before word after = SenderStepped before (Swap step.first) word after
 
-  abbrev pub LoadFound : Step (Slot T W) → Me (Slot T W) View → ℕ → Me (Slot T W) View → Type 0
+  abbrev pub LoadFound : Step (Slot T H K) → Me (Slot T H K) View → ℕ → Me (Slot T H K) View → Type 0
   LoadFound step before word after = ReceiverStepped before Load word after
 
-  abbrev pub StoreFound : Step (Slot T W) → Me (Slot T W) View → ℕ → Me (Slot T W) View → Type 0
+  abbrev pub StoreFound : Step (Slot T H K) → Me (Slot T H K) View → ℕ → Me (Slot T H K) View → Type 0
   StoreFound step before word after = ReceiverStepped before (Store step.first) word after
 
-  abbrev pub SwapFound : Step (Slot T W) → Me (Slot T W) View → ℕ → Me (Slot T W) View → Type 0
+  abbrev pub SwapFound : Step (Slot T H K) → Me (Slot T H K) View → ℕ → Me (Slot T H K) View → Type 0
   SwapFound step before word after = ReceiverStepped before (Swap step.first) word after
+
+  -- an exchange puts in `second` where it finds `first`
+  abbrev pub ExchangeFound : Step (Slot T H K) → Me (Slot T H K) View → ℕ → Me (Slot T H K) View → Type 0
+  ExchangeFound step before word after = ReceiverStepped before (Exchange step.first step.second) word after

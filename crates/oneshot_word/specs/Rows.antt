@@ -2,6 +2,7 @@
 use Rattle.std.specs.Prelude.{◌≡◌, ℕ, true, false, List, [], ◌∷◌, Some, None}
 use Rattle.oneshot_machine.specs.Words.{Noted}
 use Rattle.oneshot_machine.specs.Phases.{By, sending, dropping}
+use Rattle.oneshot_word.specs.declared.rouse.Rouse.{Rouse}
 use Rattle.oneshot_word.specs.declared.rule.Role.TheVariants.{Maker, Dealer, Sender, Receiver}
 use Rattle.oneshot_word.specs.declared.rule.View.{View}
 use Rattle.oneshot_word.specs.Lists.{FoundZero, MadeLast, MadeLate, stores_waker, is_overdue, is_gone, wrote_since}
@@ -10,65 +11,65 @@ use Rattle.oneshot_word.specs.Seats.{view}
 
 -- A slot of the sender's: out with it, or empty at home, where the receiver left it for the
 -- sender's next operation.
-pub data IsSenders {T W : Type 0} : Home T W → Type 0 where
+pub data IsSenders {T H K : Type 0} : Home T H K → Type 0 where
   sender_has_it : IsSenders out
   left_for_sender : IsSenders bare
 
 -- A slot of the receiver's: out with it, or empty at home, where it is left for the receiver's next
 -- operation.
-pub data IsReceivers {T W : Type 0} : Home T W → Type 0 where
+pub data IsReceivers {T H K : Type 0} : Home T H K → Type 0 where
   receiver_has_it : IsReceivers out
   left_for_receiver : IsReceivers bare
 
 -- the same, and while at home it holds the message
-pub data IsReceiversFull {T W : Type 0} : Home T W → Type 0 where
+pub data IsReceiversFull {T H K : Type 0} : Home T H K → Type 0 where
   receiver_found_it : IsReceiversFull out
   waits_for_receiver : (m : T) → IsReceiversFull (has_message m)
 
 -- the word's own slot, with the receiver's waker in it
-pub data IsWords {T W : Type 0} : Home T W → Type 0 where
-  waker_at_home : (k : W) → IsWords (has_waker k)
+pub data IsWords {T H K : Type 0} : Home T H K → Type 0 where
+  waker_at_home : (k : Rouse H K) → IsWords (has_waker k)
 
 -- the sender's list, the receiver's list, the word, the message's slot and the waker's
-pub data Owned {T W : Type 0} (xs ys : List Noted) : ℕ → Home T W → Home T W → Type 0 where
+pub data Owned {T H K : Type 0} (xs ys : List Noted) : ℕ → Home T H K → Home T H K → Type 0 where
   -- the sender has made no operation, and the receiver is here and stores no waker
-  both_open : {h k : Home T W} → xs ≡ [] → stores_waker ys ≡ false → is_gone ys ≡ false
+  both_open : {h k : Home T H K} → xs ≡ [] → stores_waker ys ≡ false → is_gone ys ≡ false
       → IsSenders h → IsReceivers k → Owned xs ys 3 h k
   -- the sender has made no operation, and the receiver stores a waker
-  waker_stored : {h k : Home T W} → xs ≡ [] → stores_waker ys ≡ true → is_gone ys ≡ false
+  waker_stored : {h k : Home T H K} → xs ≡ [] → stores_waker ys ≡ true → is_gone ys ≡ false
       → IsSenders h → IsWords k → Owned xs ys 0 h k
   -- the sender found 0, and its final swap is to come; the receiver still waits
-  waker_claimed : {h k : Home T W} (by : By) → FoundZero by xs → stores_waker ys ≡ true → is_gone ys ≡ false
+  waker_claimed : {h k : Home T H K} (by : By) → FoundZero by xs → stores_waker ys ≡ true → is_gone ys ≡ false
       → IsSenders h → IsSenders k → Owned xs ys 1 h k
   -- the sender found 0, and its final swap is to come; the receiver is overdue
-  claimed_overdue : {h k : Home T W} (by : By) → FoundZero by xs → is_overdue ys ≡ true → is_gone ys ≡ false
+  claimed_overdue : {h k : Home T H K} (by : By) → FoundZero by xs → is_overdue ys ≡ true → is_gone ys ≡ false
       → IsSenders h → IsSenders k → Owned xs ys 3 h k
   -- the sender has made no operation, and the receiver is gone
-  receiver_gone : {h k : Home T W} → xs ≡ [] → is_gone ys ≡ true
+  receiver_gone : {h k : Home T H K} → xs ≡ [] → is_gone ys ≡ true
       → IsSenders h → IsSenders k → Owned xs ys 2 h k
   -- the sender made its last operation after that
-  sender_after : {h k : Home T W} (by : By) {w : ℕ} → MadeLate by w xs → is_gone ys ≡ true
+  sender_after : {h k : Home T H K} (by : By) {w : ℕ} → MadeLate by w xs → is_gone ys ≡ true
       → IsSenders h → IsSenders k → Owned xs ys w h k
   -- it sent, and the receiver has written nothing since
-  sent : {h k : Home T W} → MadeLast sending xs → wrote_since ys ≡ None
+  sent : {h k : Home T H K} → MadeLast sending xs → wrote_since ys ≡ None
       → IsReceiversFull h → IsReceivers k → Owned xs ys 4 h k
   -- it dropped, and the receiver has written nothing since
-  dropped : {h k : Home T W} → MadeLast dropping xs → wrote_since ys ≡ None
+  dropped : {h k : Home T H K} → MadeLast dropping xs → wrote_since ys ≡ None
       → IsReceivers h → IsReceivers k → Owned xs ys 2 h k
   -- the receiver was here till then, and has written since
-  written : {h k : Home T W} (by : By) {w : ℕ} → MadeLast by xs → wrote_since ys ≡ Some w
+  written : {h k : Home T H K} (by : By) {w : ℕ} → MadeLast by xs → wrote_since ys ≡ Some w
       → IsReceivers h → IsReceivers k → Owned xs ys w h k
 
 -- the words, the slots at home and the views of all seats
-pub data Ruled {T W : Type 0} : List ℕ → List (Home T W) → List View → Type 0 where
+pub data Ruled {T H K : Type 0} : List ℕ → List (Home T H K) → List View → Type 0 where
   -- before there are ends
   maker_alone : Ruled (3 ∷ []) (bare ∷ bare ∷ []) (view Maker [] ∷ [])
   dealer_alone : Ruled (3 ∷ []) (out ∷ bare ∷ []) (view Dealer [] ∷ [])
   -- and then always
-  two_ends : {w : ℕ} {h k : Home T W} (xs ys : List Noted) → Owned xs ys w h k
+  two_ends : {w : ℕ} {h k : Home T H K} (xs ys : List Noted) → Owned xs ys w h k
       → Ruled (w ∷ []) (h ∷ k ∷ []) (view Sender xs ∷ view Receiver ys ∷ [])
 
 -- Whatever the table is under its rule, it is as the rows say.
-abbrev pub RuleReads : (T W : Type 0) → Type 0
-RuleReads T W =
-    (words : List ℕ) (homes : List (Home T W)) (views : List View) → Tied words homes views → Ruled words homes views
+abbrev pub RuleReads : (T H K : Type 0) → Type 0
+RuleReads T H K =
+    (words : List ℕ) (homes : List (Home T H K)) (views : List View) → Tied words homes views → Ruled words homes views

@@ -4,8 +4,9 @@ use Rattle.atomic_table.specs.Seated.{TableId}
 use Rattle.atomic_table.specs.Table.{Me}
 use Rattle.oneshot_machine.specs.declared.states.Op.{Op}
 use Rattle.oneshot_machine.specs.Words.{Noted, saw}
-use Rattle.oneshot_machine.specs.Phases.{By, SenderAt, fresh, owes, finished, late, sender_at, Open, Waiting, Got, Closing, ReceiverAt, first, here, waits, overdue, full, unclosed, over, gone, ended, receiver_at}
+use Rattle.oneshot_machine.specs.Phases.{By, SenderAt, fresh, owes, finished, late, sender_at, Open, Waiting, Got, Closing, ReceiverAt, first, here, waits, claimed, withdrew, overdue, full, unclosed, over, resolved, gone, ended, receiver_at}
 use Rattle.oneshot_machine.specs.Slots.{Held, away, vacant, held, SenderMay, SenderFinds, ReceiverMay, ReceiverFinds}
+use Rattle.oneshot_word.specs.declared.rouse.Rouse.{Rouse}
 use Rattle.oneshot_word.specs.declared.rule.Slot.{Slot}
 use Rattle.oneshot_word.specs.declared.rule.View.{View}
 use Rattle.oneshot_word.specs.Seats.{message_in, waker_in}
@@ -18,7 +19,7 @@ pub record Side (T W : Type 0) : Type 0 where
   pub waker : Held W
 
 -- what a seat of such a table shows
-abbrev pub side_of : {T W : Type 0} → TableId → Me (Slot T W) View → Side T W
+abbrev pub side_of : {T H K : Type 0} → TableId → Me (Slot T H K) View → Side T (Rouse H K)
 side_of table me =
     record { table = table; steps = me.0.steps; message = message_in me.1; waker = waker_in me.1 }
 
@@ -50,6 +51,8 @@ pub data ReceiverOwns {T W : Type 0} : ReceiverAt → Held T → Held W → Type
   none_yet : ReceiverOwns first away away
   owns_waker : (f : Open) {w : Held W} → IsOwn w → ReceiverOwns (here f) away w
   gave_waker : (a : Waiting) → ReceiverOwns (waits a) away away
+  gave_claimed : ReceiverOwns claimed away away
+  owns_withdrawn : {w : Held W} → IsOwn w → ReceiverOwns withdrew away w
   lost_waker : ReceiverOwns overdue away away
   owns_full : (g : Got) (word : ℕ) {m : Held T} {w : Held W}
       → IsOwn m → IsOwn w → ReceiverOwns (full g word) m w
@@ -57,6 +60,8 @@ pub data ReceiverOwns {T W : Type 0} : ReceiverAt → Held T → Held W → Type
       → IsOwn m → IsOwn w → ReceiverOwns (unclosed word) m w
   owns_closed : (c : Closing) {m : Held T} {w : Held W}
       → IsOwn m → IsOwn w → ReceiverOwns (over c) m w
+  owns_resolved : (c : Closing) {m : Held T} {w : Held W}
+      → IsOwn m → IsOwn w → ReceiverOwns (resolved c) m w
   gave_all : ReceiverOwns gone away away
   owns_all : {m : Held T} {w : Held W}
       → IsOwn m → IsOwn w → ReceiverOwns ended m w

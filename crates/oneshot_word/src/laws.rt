@@ -3,8 +3,8 @@
 ghost use Rattle.oneshot_word.specs.Examples.{ListsSay, StatesThatAre, StatesThatAreNot};
 
 /// Which lists say what, which states of the word have a row of owners, and which have none, by examples.
-pub fn examples_are_so<T, W>()
+pub fn examples_are_so<T, H, K>()
     ensures lists { ListsSay }
-    ensures states { StatesThatAre T W }
-    ensures no_states { StatesThatAreNot T W }
+    ensures states { StatesThatAre T H K }
+    ensures no_states { StatesThatAreNot T H K }
 {}

@@ -5,11 +5,13 @@ pub mod laws;
 mod opening;
 mod plays;
 mod receiver;
+mod rouse;
 mod rule;
 mod sender;
 mod table;
 
 pub use opening::open;
 pub use receiver::ReceiverSide;
+pub use rouse::Rouse;
 pub use rule::{Role, Slot, View, WordRule};
 pub use sender::SenderSide;

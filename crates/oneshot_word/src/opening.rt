@@ -14,9 +14,9 @@ use std::alloc::{AllocError, Global};
 use std::sync::Arc;
 
 /// Both sides of a new table. Where memory is refused nothing is made.
-pub fn open<T: Send + Drop, W: Send + Drop>(
+pub fn open<T: Send + Drop, H: Send + Drop, K: Send + Drop>(
     alloc: Global,
-) -> Result<(SenderSide<T, W>, ReceiverSide<T, W>), AllocError>
+) -> Result<(SenderSide<T, H, K>, ReceiverSide<T, H, K>), AllocError>
     ensures { IfOk result (λ sides. AreEnds sides.0 sides.1) }
 {
     let Ok((table, mut chair)) = Table::new(alloc, &[EMPTY as u64], empty_slots(alloc)?, &()) else {
@@ -34,7 +34,7 @@ pub fn open<T: Send + Drop, W: Send + Drop>(
     Ok((sender, receiver))
 }
 
-fn empty_slots<T: Drop, W: Drop>(alloc: Global) -> Result<Vec<Slot<T, W>>, AllocError>
+fn empty_slots<T: Drop, H: Drop, K: Drop>(alloc: Global) -> Result<Vec<Slot<T, H, K>>, AllocError>
     ensures { IfOk result (λ slots. slots.items ≡ Empty ∷ Empty ∷ []) }
 {
     let mut slots = Vec::with_capacity(alloc, 2)?;

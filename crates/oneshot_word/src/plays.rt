@@ -3,7 +3,7 @@
 ghost use Rattle.std.specs.Prelude.{◌≡◌, ◌∷◌, []};
 ghost use Rattle.oneshot_word.specs.declared.rule.Role.TheVariants.{Dealer, Sender, Receiver};
 ghost use Rattle.oneshot_word.specs.declared.rule.Slot.TheVariants.{Empty};
-ghost use Rattle.oneshot_word.specs.Plays.{AddFound, FlipFound, FinalSwapFound, LoadFound, StoreFound, SwapFound};
+ghost use Rattle.oneshot_word.specs.Plays.{AddFound, FlipFound, FinalSwapFound, LoadFound, StoreFound, SwapFound, ExchangeFound};
 ghost use Rattle.oneshot_word.specs.Seats.{view};
 
 use crate::rule::{Slot, View};
@@ -11,44 +11,50 @@ use atomic_table::{Play, Split};
 
 pub(crate) struct Adds;
 
-impl<T, W> Play<Slot<T, W>, View> for Adds {
+impl<T, H, K> Play<Slot<T, H, K>, View> for Adds {
     ghost then = { AddFound };
 }
 
 pub(crate) struct Flips;
 
-impl<T, W> Play<Slot<T, W>, View> for Flips {
+impl<T, H, K> Play<Slot<T, H, K>, View> for Flips {
     ghost then = { FlipFound };
 }
 
 pub(crate) struct Finishes;
 
-impl<T, W> Play<Slot<T, W>, View> for Finishes {
+impl<T, H, K> Play<Slot<T, H, K>, View> for Finishes {
     ghost then = { FinalSwapFound };
 }
 
 pub(crate) struct Loads;
 
-impl<T, W> Play<Slot<T, W>, View> for Loads {
+impl<T, H, K> Play<Slot<T, H, K>, View> for Loads {
     ghost then = { LoadFound };
 }
 
 pub(crate) struct Stores;
 
-impl<T, W> Play<Slot<T, W>, View> for Stores {
+impl<T, H, K> Play<Slot<T, H, K>, View> for Stores {
     ghost then = { StoreFound };
 }
 
 pub(crate) struct Swaps;
 
-impl<T, W> Play<Slot<T, W>, View> for Swaps {
+impl<T, H, K> Play<Slot<T, H, K>, View> for Swaps {
     ghost then = { SwapFound };
+}
+
+pub(crate) struct Exchanges;
+
+impl<T, H, K> Play<Slot<T, H, K>, View> for Exchanges {
+    ghost then = { ExchangeFound };
 }
 
 // The maker takes the message's slot.
 pub(crate) struct Deals;
 
-impl<T, W> Play<Slot<T, W>, View> for Deals {
+impl<T, H, K> Play<Slot<T, H, K>, View> for Deals {
     ghost then = { λ _ before found after. after ≡ (view Dealer [], (0, Empty) ∷ []) };
 }
 

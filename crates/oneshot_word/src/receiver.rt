@@ -1,14 +1,16 @@
 //! The receiver's side of the shared word.
 
 ghost use Rattle.std.specs.Prelude.{◌≡◌, ◌≢◌};
-ghost use Rattle.oneshot_machine.specs.declared.states.Op.TheVariants.{Load, Store, Swap};
+ghost use Rattle.oneshot_machine.specs.declared.states.Op.TheVariants.{Load, Store, Swap, Exchange};
 ghost use Rattle.oneshot_machine.specs.Phases.{receiver_at};
 ghost use Rattle.oneshot_machine.specs.Slots.{away, vacant, held};
+ghost use Rattle.oneshot_word.specs.declared.rouse.Rouse.{Rouse};
 ghost use Rattle.oneshot_word.specs.Rows.{RuleReads};
 ghost use Rattle.oneshot_word.specs.Seats.{MessageSlot, WakerSlot, message_of, waker_of};
 ghost use Rattle.oneshot_word.specs.Sides.{ReceiverCan, ReceiverDid, ReceiverOwns};
 
-use crate::plays::{Loads, Stores, Swaps};
+use crate::plays::{Exchanges, Loads, Stores, Swaps};
+use crate::rouse::Rouse;
 use crate::rule::Slot;
 use crate::table::{Board, Chair, look};
 use std::alloc::Global;
@@ -17,17 +19,18 @@ use std::sync::Arc;
 
 /// The receiver's share of the table, with its seat.
 #[derive(Drop)]
-pub struct ReceiverSide<T, W> {
-    pub(crate) board: Arc<Board<T, W>, Global>,
-    pub(crate) chair: Chair<T, W>,
+pub struct ReceiverSide<T, H, K> {
+    pub(crate) board: Arc<Board<T, H, K>, Global>,
+    pub(crate) chair: Chair<T, H, K>,
 }
 
-impl<T, W> Model for ReceiverSide<T, W> {
+impl<T, H, K> Model for ReceiverSide<T, H, K> {
     ghost use Rattle.std.specs.Arc.{arc_value};
     ghost use Rattle.oneshot_word.specs.Seats.{IsAt, ReceiverSeat};
     ghost use Rattle.oneshot_word.specs.Sides.{Side, side_of};
+    ghost use Rattle.oneshot_word.specs.declared.rouse.Rouse.{Rouse};
 
-    ghost Value = { Side T W };
+    ghost Value = { Side T (Rouse H K) };
 
     ghost view = { λ s. side_of s.chair.table_id s.chair.me };
 
@@ -35,7 +38,7 @@ impl<T, W> Model for ReceiverSide<T, W> {
         ReceiverSeat s.chair.me × IsAt (arc_value s.board).shared.table_id s.chair.table_id };
 }
 
-impl<T, W> ReceiverSide<T, W> {
+impl<T, H, K> ReceiverSide<T, H, K> {
     /// Reads the word.
     pub fn load(&mut self) -> u8
         requires { ReceiverCan self.old Load }
@@ -64,6 +67,16 @@ impl<T, W> ReceiverSide<T, W> {
             .swap::<Swaps>(&mut self.chair, 0, new as u64) as u8
     }
 
+    /// Puts `new` into the word where it is `expected`, and gives the word before.
+    pub fn exchange(&mut self, expected: u8, new: u8) -> u8
+        requires { ReceiverCan self.old (Exchange expected new) }
+        ensures { ReceiverDid self.old (Exchange expected new) result self.new }
+    {
+        self.board
+            .shared
+            .compare_exchange::<Exchanges>(&mut self.chair, 0, expected as u64, new as u64) as u8
+    }
+
     /// Does nothing. Its contract tells which slots are the receiver's by what it did.
     pub fn slots(&self)
         ensures { ReceiverOwns (receiver_at self.now.steps) self.now.message self.now.waker }
@@ -73,50 +86,44 @@ impl<T, W> ReceiverSide<T, W> {
 
     /// Reads the word as a look does, which lengthens no list and tells nothing of what it found.
     pub fn peek(&self) -> u8
-        ensures rule { RuleReads T W }
+        ensures rule { RuleReads T H K }
         ensures slots { ReceiverOwns (receiver_at self.now.steps) self.now.message self.now.waker }
     {
         look(&self.board)
     }
 }
 
-impl<T: Drop, W: Drop> ReceiverSide<T, W> {
+impl<T: Drop, H: Drop, K: Drop> ReceiverSide<T, H, K> {
     /// Takes the message out of its slot, which is the receiver's and full.
     pub fn take_message(&mut self) -> T
         requires { (message : T) × (self.old.message ≡ held message) }
         ensures message { self.old.message ≡ held result }
         ensures rest { self.new ≡ record self.old { message = vacant } }
     {
-        match self.trade_message(Slot::Empty) {
-            Slot::Message(message) => message,
-            _ => unreachable!(),
-        }
+        self.trade_message(Slot::Empty).into_message()
     }
 
     /// Puts the waker into its slot, which is the receiver's and empty.
-    pub fn write_waker(&mut self, waker: W)
+    pub fn write_waker(&mut self, waker: Rouse<H, K>)
         requires { self.old.waker ≡ vacant }
         ensures { self.new ≡ record self.old { waker = held waker } }
     {
-        self.trade_waker(Slot::Waker(waker));
+        self.trade_waker(Slot::of(waker));
     }
 
     /// Takes the waker back out of its slot, which is the receiver's and full.
-    pub fn take_waker(&mut self) -> W
-        requires { (waker : W) × (self.old.waker ≡ held waker) }
+    pub fn take_waker(&mut self) -> Rouse<H, K>
+        requires { (waker : Rouse H K) × (self.old.waker ≡ held waker) }
         ensures waker { self.old.waker ≡ held result }
         ensures rest { self.new ≡ record self.old { waker = vacant } }
     {
-        match self.trade_waker(Slot::Empty) {
-            Slot::Waker(waker) => waker,
-            _ => unreachable!(),
-        }
+        self.trade_waker(Slot::Empty).into_waker()
     }
 }
 
-impl<T, W> ReceiverSide<T, W> {
+impl<T, H, K> ReceiverSide<T, H, K> {
     // Where the message's slot is the receiver's, it is the one in front.
-    fn trade_message(&mut self, new: Slot<T, W>) -> Slot<T, W>
+    fn trade_message(&mut self, new: Slot<T, H, K>) -> Slot<T, H, K>
         requires its_own { self.old.message ≢ away }
         requires no_waker { waker_of new ≡ vacant }
         ensures was { MessageSlot result self.old.message }
@@ -126,7 +133,7 @@ impl<T, W> ReceiverSide<T, W> {
     }
 
     // Only the slot in front can be read, so the waker's is turned there, and then back.
-    fn trade_waker(&mut self, new: Slot<T, W>) -> Slot<T, W>
+    fn trade_waker(&mut self, new: Slot<T, H, K>) -> Slot<T, H, K>
         requires its_own { self.old.waker ≢ away }
         requires no_message { message_of new ≡ vacant }
         ensures was { WakerSlot result self.old.waker }

@@ -1,20 +1,69 @@
 //! What the table holds, what a seat of it knows, and the rule that it keeps.
 
+ghost use Rattle.std.specs.Prelude.{◌≡◌};
+ghost use Rattle.oneshot_machine.specs.Slots.{held};
+ghost use Rattle.oneshot_word.specs.declared.rouse.Rouse.{Rouse};
+ghost use Rattle.oneshot_word.specs.Seats.{with_waker, message_of, waker_of};
+
+use crate::rouse::Rouse;
 use atomic_table::TableRule;
 use oneshot_machine::machine::Seen;
 use oneshot_machine::states::Op;
 use std::collections::LinkedList;
 
-// A variant for the empty slot, since an `Option` round an enum has a tag of its own.
-/// What lies in a slot.
+// One flat enum: an `Option` or a `Rouse` inside would have a tag of its own.
+/// What lies in a slot: nothing, the message that was sent, or by what a receiver that waits is woken.
 #[derive(Drop)]
-pub enum Slot<T, W> {
+pub enum Slot<T, H, K> {
     /// Nothing.
     Empty,
     /// A message that was sent.
     Message(T),
-    /// The waker of a receiver that waits.
-    Waker(W),
+    /// The waking half of a thread's parker.
+    Thread(H),
+    /// A copy of a task's waker.
+    Task(K),
+    /// A waker that wakes nobody.
+    Nobody,
+}
+
+impl<T, H, K> Slot<T, H, K> {
+    /// A waker's slot that is full.
+    pub(crate) fn of(waker: Rouse<H, K>) -> Slot<T, H, K>
+        ensures { result ≡ with_waker waker }
+    {
+        match waker {
+            Rouse::Thread(half) => Slot::Thread(half),
+            Rouse::Task(copy) => Slot::Task(copy),
+            Rouse::Nobody => Slot::Nobody,
+        }
+    }
+}
+
+impl<T: Drop, H: Drop, K: Drop> Slot<T, H, K> {
+    /// The message in a message's slot that is full.
+    pub(crate) fn into_message(self) -> T
+        requires { (message : T) × (message_of self ≡ held message) }
+        ensures { message_of self ≡ held result }
+    {
+        match self {
+            Slot::Message(message) => message,
+            _ => unreachable!(),
+        }
+    }
+
+    /// The waker in a waker's slot that is full.
+    pub(crate) fn into_waker(self) -> Rouse<H, K>
+        requires { (waker : Rouse H K) × (waker_of self ≡ held waker) }
+        ensures { waker_of self ≡ held result }
+    {
+        match self {
+            Slot::Thread(half) => Rouse::Thread(half),
+            Slot::Task(copy) => Rouse::Task(copy),
+            Slot::Nobody => Rouse::Nobody,
+            _ => unreachable!(),
+        }
+    }
 }
 
 /// Who has a seat: an end, or before there are ends the maker of the table.
@@ -41,7 +90,7 @@ pub struct View {
 /// The rule of the shared word.
 pub struct WordRule;
 
-impl<T, W> TableRule<Slot<T, W>, View, ()> for WordRule {
+impl<T, H, K> TableRule<Slot<T, H, K>, View, ()> for WordRule {
     ghost use Rattle.std.specs.Prelude.{[]};
     ghost use Rattle.oneshot_word.specs.Rule.{Tied};
     ghost use Rattle.oneshot_word.specs.Seats.{view};

@@ -5,11 +5,13 @@ ghost use Rattle.std.specs.Arc.{arc_value};
 ghost use Rattle.oneshot_machine.specs.declared.states.Op.TheVariants.{Swap, Add, Xor};
 ghost use Rattle.oneshot_machine.specs.Phases.{sender_at};
 ghost use Rattle.oneshot_machine.specs.Slots.{away, vacant, held};
+ghost use Rattle.oneshot_word.specs.declared.rouse.Rouse.{Rouse};
 ghost use Rattle.oneshot_word.specs.Rows.{RuleReads};
 ghost use Rattle.oneshot_word.specs.Seats.{IsAt, MessageSlot, SenderSeat, WakerSlot, message_of, waker_of};
 ghost use Rattle.oneshot_word.specs.Sides.{SenderCan, SenderDid, SenderOwns, side_of};
 
 use crate::plays::{Adds, Finishes, Flips};
+use crate::rouse::Rouse;
 use crate::rule::Slot;
 use crate::table::{Board, Chair, look};
 use std::alloc::Global;
@@ -18,18 +20,19 @@ use std::sync::Arc;
 
 /// The sender's share of the table, with its seat.
 #[derive(Drop)]
-pub struct SenderSide<T, W> {
-    pub(crate) board: Arc<Board<T, W>, Global>,
-    pub(crate) chair: Chair<T, W>,
+pub struct SenderSide<T, H, K> {
+    pub(crate) board: Arc<Board<T, H, K>, Global>,
+    pub(crate) chair: Chair<T, H, K>,
 }
 
-impl<T, W> Model for SenderSide<T, W> {
+impl<T, H, K> Model for SenderSide<T, H, K> {
     ghost use base.Fml.{ftrue};
     ghost use Rattle.std.specs.Arc.{arc_value};
     ghost use Rattle.oneshot_word.specs.Seats.{IsAt, SenderSeat};
     ghost use Rattle.oneshot_word.specs.Sides.{Side, side_of};
+    ghost use Rattle.oneshot_word.specs.declared.rouse.Rouse.{Rouse};
 
-    ghost Value = { Side T W };
+    ghost Value = { Side T (Rouse H K) };
 
     ghost view = { λ s. side_of s.chair.table_id s.chair.me };
 
@@ -45,13 +48,16 @@ impl<T, W> Model for SenderSide<T, W> {
 
 // Both are proved, in proofs/sender/SenderSide/TheSendSync. The kit has no proof that a seat is
 // `Sync`, so the checker finds none for this struct by itself.
-unsafe impl<T: Send, W: Send> Send for SenderSide<T, W> {}
+unsafe impl<T: Send, H: Send, K: Send> Send for SenderSide<T, H, K> {}
 
-unsafe impl<T: Send + Sync, W: Send + Sync> Sync for SenderSide<T, W> {}
+unsafe impl<T: Send + Sync, H: Send + Sync, K: Send + Sync> Sync for SenderSide<T, H, K> {}
 
-impl<T, W> SenderSide<T, W> {
+impl<T, H, K> SenderSide<T, H, K> {
     // A side is made here alone, since its `also_owns` wants a proof by hand of what makes one.
-    pub(crate) fn new(board: Arc<Board<T, W>, Global>, chair: Chair<T, W>) -> SenderSide<T, W>
+    pub(crate) fn new(
+        board: Arc<Board<T, H, K>, Global>,
+        chair: Chair<T, H, K>,
+    ) -> SenderSide<T, H, K>
         requires { SenderSeat chair.me × IsAt (arc_value board).shared.table_id chair.table_id }
         ensures { result ≡ side_of chair.table_id chair.me }
     {
@@ -86,14 +92,14 @@ impl<T, W> SenderSide<T, W> {
 
     /// Reads the word as a look does, which lengthens no list and tells nothing of what it found.
     pub fn peek(&self) -> u8
-        ensures rule { RuleReads T W }
+        ensures rule { RuleReads T H K }
         ensures slots { SenderOwns (sender_at self.now.steps) self.now.message self.now.waker }
     {
         look(&self.board)
     }
 }
 
-impl<T: Drop, W: Drop> SenderSide<T, W> {
+impl<T: Drop, H: Drop, K: Drop> SenderSide<T, H, K> {
     /// Puts the message into its slot, which is the sender's and empty.
     pub fn write_message(&mut self, message: T)
         requires { self.old.message ≡ vacant }
@@ -108,28 +114,22 @@ impl<T: Drop, W: Drop> SenderSide<T, W> {
         ensures message { self.old.message ≡ held result }
         ensures rest { self.new ≡ record self.old { message = vacant } }
     {
-        match self.trade_message(Slot::Empty) {
-            Slot::Message(message) => message,
-            _ => unreachable!(),
-        }
+        self.trade_message(Slot::Empty).into_message()
     }
 
     /// Takes the receiver's waker out of its slot, which is the sender's and full.
-    pub fn take_waker(&mut self) -> W
-        requires { (waker : W) × (self.old.waker ≡ held waker) }
+    pub fn take_waker(&mut self) -> Rouse<H, K>
+        requires { (waker : Rouse H K) × (self.old.waker ≡ held waker) }
         ensures waker { self.old.waker ≡ held result }
         ensures rest { self.new ≡ record self.old { waker = vacant } }
     {
-        match self.trade_waker(Slot::Empty) {
-            Slot::Waker(waker) => waker,
-            _ => unreachable!(),
-        }
+        self.trade_waker(Slot::Empty).into_waker()
     }
 }
 
-impl<T, W> SenderSide<T, W> {
+impl<T, H, K> SenderSide<T, H, K> {
     // Only the slot in front can be read, so the message's is turned there, and then back.
-    fn trade_message(&mut self, new: Slot<T, W>) -> Slot<T, W>
+    fn trade_message(&mut self, new: Slot<T, H, K>) -> Slot<T, H, K>
         requires its_own { self.old.message ≢ away }
         requires no_waker { waker_of new ≡ vacant }
         ensures was { MessageSlot result self.old.message }
@@ -142,7 +142,7 @@ impl<T, W> SenderSide<T, W> {
     }
 
     // Where the waker's slot is the sender's, it is the one in front.
-    fn trade_waker(&mut self, new: Slot<T, W>) -> Slot<T, W>
+    fn trade_waker(&mut self, new: Slot<T, H, K>) -> Slot<T, H, K>
         requires its_own { self.old.waker ≢ away }
         requires no_message { message_of new ≡ vacant }
         ensures was { WakerSlot result self.old.waker }

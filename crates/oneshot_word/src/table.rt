@@ -9,14 +9,14 @@ use std::alloc::Global;
 use std::sync::Arc;
 
 /// One word, the message's slot and the waker's, in this order.
-pub(crate) type Board<T, W> = Table<Slot<T, W>, View, (), WordRule, Global>;
+pub(crate) type Board<T, H, K> = Table<Slot<T, H, K>, View, (), WordRule, Global>;
 
 /// A seat of it.
-pub(crate) type Chair<T, W> = Seat<Slot<T, W>, View>;
+pub(crate) type Chair<T, H, K> = Seat<Slot<T, H, K>, View>;
 
 // No proof knows what a load without a seat finds. By the rule it is below 5, so the low byte is
 // all of it.
-pub(crate) fn look<T, W>(board: &Arc<Board<T, W>, Global>) -> u8
+pub(crate) fn look<T, H, K>(board: &Arc<Board<T, H, K>, Global>) -> u8
     requires { 0 < (arc_value board.now).shared.table_id.words }
 {
     (board.shared.peek(0) & 0xff) as u8

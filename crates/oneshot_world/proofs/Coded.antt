@@ -2,10 +2,11 @@
 use Rattle.std.proofs.Common.{◌≡◌, ℕ, Bool, true, false, List, [], ◌∷◌, Option, Some, None, refl, sym, ◌∙◌, ap, ◌==◌, ◌&&◌, get_or, map}
 use Rattle.std.proofs.lemmas.Bool.{eqb-true}
 use Rattle.oneshot_machine.specs.Standing.{sender_positions, receiver_positions}
+use Rattle.oneshot_machine.specs.declared.machine.future.FuturePos.TheVariants as F
 use Rattle.oneshot_machine.specs.declared.machine.receiver.ReceiverPos.TheVariants as R
 use Rattle.oneshot_machine.specs.declared.machine.sender.SenderPos.TheVariants as S
-use Rattle.oneshot_world.specs.Calls.{Call, Sender_is_closed, Send, Drop_sender, As_inner, Into_inner, Drop_error, Try_recv, Recv_ref, Recv_deadline, Recv_timeout, Recv, Has_message, Is_closed, Drop_receiver, Stray}
-use Rattle.oneshot_world.specs.Control.{Control, sender_code, receiver_code, call_code, place_code, bool_code, is_same_wakers, is_same_state, is_same_control}
+use Rattle.oneshot_world.specs.Calls.{Call, Sender_is_closed, Send, Drop_sender, As_inner, Into_inner, Drop_error, Try_recv, Recv_ref, Recv_deadline, Recv_timeout, Recv, Has_message, Is_closed, Drop_receiver, Into_future, Poll, Drop_async, Stray}
+use Rattle.oneshot_world.specs.Control.{Control, sender_code, receiver_code, call_code, poll_code, is_same_call, place_code, bool_code, is_same_wakers, is_same_state, is_same_control}
 use Rattle.oneshot_world.specs.Wakers.{is_same_waker, is_same_name}
 use Rattle.oneshot_world.specs.declared.state.ReceiverState.{ReceiverState}
 use Rattle.oneshot_world.specs.declared.state.ReceiverState.TheVariants as RS
@@ -88,32 +89,70 @@ receiver_back (RS.At R.RecvParkLoad) = refl
 receiver_back (RS.At R.RecvTake) = refl
 receiver_back (RS.At R.RecvFreeGot) = refl
 receiver_back (RS.At R.RecvFreeGone) = refl
+receiver_back (RS.At (R.Future F.IntoFuture)) = refl
+receiver_back (RS.At (R.Future F.PollLoad)) = refl
+receiver_back (RS.At (R.Future F.PollCopy)) = refl
+receiver_back (RS.At (R.Future F.PollWrite)) = refl
+receiver_back (RS.At (R.Future F.PollExchange)) = refl
+receiver_back (RS.At (R.Future F.PollBackFull)) = refl
+receiver_back (RS.At (R.Future F.PollBackClosed)) = refl
+receiver_back (RS.At (R.Future F.AgainCopy)) = refl
+receiver_back (RS.At (R.Future F.AgainExchange)) = refl
+receiver_back (RS.At (R.Future F.AgainBack)) = refl
+receiver_back (RS.At (R.Future F.PollOwn)) = refl
+receiver_back (RS.At (R.Future F.PollSpin)) = refl
+receiver_back (RS.At (R.Future F.AsyncLoad)) = refl
+receiver_back (RS.At (R.Future F.AsyncExchange)) = refl
+receiver_back (RS.At (R.Future F.AsyncBack)) = refl
+receiver_back (RS.At (R.Future F.AsyncSpin)) = refl
 receiver_back (RS.At R.DropSwap) = refl
 receiver_back (RS.At R.DropMessage) = refl
 receiver_back (RS.At R.DropFree) = refl
 
-abbrev calls : List (Option Call)
+-- the call of a code, with this number if it is a poll
+abbrev calls : List Call
 calls =
-    None ∷ Some Sender_is_closed ∷ Some Send ∷ Some Drop_sender ∷ Some As_inner ∷ Some Into_inner ∷ Some Drop_error ∷ Some Try_recv ∷ Some Recv_ref ∷ Some Recv_deadline ∷ Some (Recv_timeout false) ∷ Some (Recv_timeout true) ∷ Some Recv ∷ Some Has_message ∷ Some Is_closed ∷ Some Drop_receiver ∷ Some Stray ∷ []
+    Stray ∷ Sender_is_closed ∷ Send ∷ Drop_sender ∷ As_inner ∷ Into_inner ∷ Drop_error ∷ Try_recv ∷ Recv_ref ∷ Recv_deadline ∷ Recv_timeout false ∷ Recv_timeout true ∷ Recv ∷ Has_message ∷ Is_closed ∷ Drop_receiver ∷ Stray ∷ Into_future ∷ Drop_async ∷ Poll 0 ∷ []
 
-call_back : (c : Option Call) → get_or calls (call_code c) None ≡ c
-call_back None = refl
-call_back (Some Sender_is_closed) = refl
-call_back (Some Send) = refl
-call_back (Some Drop_sender) = refl
-call_back (Some As_inner) = refl
-call_back (Some Into_inner) = refl
-call_back (Some Drop_error) = refl
-call_back (Some Try_recv) = refl
-call_back (Some Recv_ref) = refl
-call_back (Some Recv_deadline) = refl
-call_back (Some (Recv_timeout false)) = refl
-call_back (Some (Recv_timeout true)) = refl
-call_back (Some Recv) = refl
-call_back (Some Has_message) = refl
-call_back (Some Is_closed) = refl
-call_back (Some Drop_receiver) = refl
-call_back (Some Stray) = refl
+abbrev numbered : ℕ → Call → Call
+numbered number (Poll other) = Poll number
+numbered number call = call
+
+call_back : (c : Call) → numbered (poll_code c) (get_or calls (call_code c) Stray) ≡ c
+call_back Sender_is_closed = refl
+call_back Send = refl
+call_back Drop_sender = refl
+call_back As_inner = refl
+call_back Into_inner = refl
+call_back Drop_error = refl
+call_back Try_recv = refl
+call_back Recv_ref = refl
+call_back Recv_deadline = refl
+call_back (Recv_timeout false) = refl
+call_back (Recv_timeout true) = refl
+call_back Recv = refl
+call_back Has_message = refl
+call_back Is_closed = refl
+call_back Drop_receiver = refl
+call_back Stray = refl
+call_back Into_future = refl
+call_back Drop_async = refl
+call_back (Poll number) = refl
+
+pub call_is : (a b : Call) → (call_code a == call_code b && poll_code a == poll_code b) ≡ true → a ≡ b
+call_is a b h =
+    let code : call_code a ≡ call_code b = eqb-true (call_code a) (call_code b) (and_left _ (poll_code a == poll_code b) h) in
+    let number : poll_code a ≡ poll_code b = eqb-true (poll_code a) (poll_code b) (and_right (call_code a == call_code b) _ h) in
+    sym (call_back a)
+    ∙ ap (λ n. numbered n (get_or calls (call_code a) Stray)) number
+    ∙ ap (λ k. numbered (poll_code b) (get_or calls k Stray)) code
+    ∙ call_back b
+
+pub under_way_is : (a b : Option Call) → is_same_call a b ≡ true → a ≡ b
+under_way_is None None h = refl
+under_way_is (Some a) (Some b) h = ap (λ (c : Call). Some c) (call_is a b h)
+under_way_is None (Some b) h = cc
+under_way_is (Some a) None h = cc
 
 abbrev places : List (Option Place)
 places =
@@ -171,11 +210,11 @@ wakers_are v w h =
     let token : v.token ≡ w.token = bool_is v.token w.token (and_right (is_same_name v.taken w.taken) _ h2) in
     cc (its_wakers v, its_wakers w)
 
-state_of : ℕ → Bool → SenderState → ReceiverState → Option Place → Wakers → State
-state_of word freed sender receiver message wakers =
-    record { word = word; freed = freed; sender = sender; receiver = receiver; message = message; wakers = wakers }
+state_of : ℕ → Bool → SenderState → ReceiverState → Bool → Option Place → Wakers → State
+state_of word freed sender receiver future message wakers =
+    record { word = word; freed = freed; sender = sender; receiver = receiver; future = future; message = message; wakers = wakers }
 
-its_fields : (s : State) → state_of s.word s.freed s.sender s.receiver s.message s.wakers ≡ s
+its_fields : (s : State) → state_of s.word s.freed s.sender s.receiver s.future s.message s.wakers ≡ s
 unfolding state_of
 its_fields s = refl
 
@@ -188,7 +227,9 @@ state_is s t h =
     let receiver : s.receiver ≡ t.receiver = same_by receiver_code receivers RS.Ended receiver_back s.receiver t.receiver (and_left _ _ h1) in
     let word : s.word ≡ t.word = eqb-true s.word t.word (and_left _ _ h2) in
     let freed : s.freed ≡ t.freed = bool_is s.freed t.freed (and_left _ _ h3) in
-    let h4 = and_right _ _ h3 in
+    let h5 = and_right _ _ h3 in
+    let future : s.future ≡ t.future = bool_is s.future t.future (and_left _ _ h5) in
+    let h4 = and_right _ _ h5 in
     let message : s.message ≡ t.message = same_by place_code places None place_back s.message t.message (and_left _ _ h4) in
     let wakers : s.wakers ≡ t.wakers = wakers_are s.wakers t.wakers (and_right _ _ h4) in
     cc (its_fields s, its_fields t)
@@ -204,6 +245,6 @@ pub control_is : (c d : Control) → is_same_control c d ≡ true → c ≡ d
 control_is c d h =
     let h1 = and_right (is_same_state c.state d.state) _ h in
     let state : c.state ≡ d.state = state_is c.state d.state (and_left _ _ h) in
-    let sender : c.sender ≡ d.sender = same_by call_code calls None call_back c.sender d.sender (and_left _ _ h1) in
-    let receiver : c.receiver ≡ d.receiver = same_by call_code calls None call_back c.receiver d.receiver (and_right _ _ h1) in
+    let sender : c.sender ≡ d.sender = under_way_is c.sender d.sender (and_left _ _ h1) in
+    let receiver : c.receiver ≡ d.receiver = under_way_is c.receiver d.receiver (and_right _ _ h1) in
     cc (its_parts c, its_parts d)

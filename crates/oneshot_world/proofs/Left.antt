@@ -4,10 +4,14 @@ use Rattle.oneshot_machine.specs.declared.machine.receiver.ReceiverPos.{Receiver
 use Rattle.oneshot_machine.specs.declared.machine.receiver.ReceiverStart.{ReceiverStart}
 use Rattle.oneshot_machine.specs.declared.machine.sender.SenderCall.{SenderCall}
 use Rattle.oneshot_machine.specs.declared.machine.sender.SenderPos.{SenderPos}
-use Rattle.oneshot_world.specs.Calls.{Call, Sender_is_closed, Send, Drop_sender, As_inner, Into_inner, Drop_error, Try_recv, Recv_ref, Recv_deadline, Recv_timeout, Recv, Has_message, Is_closed, Drop_receiver, rest, is_none_left, sender_last, error_last, receiver_calls}
-use Rattle.oneshot_world.specs.Control.{is_script, stays_sender, ends_sender, stays_error, ends_error, stays_receiver, ends_receiver, is_sender_script, is_error_script, sender_has, receiver_has}
+use Rattle.oneshot_world.specs.Calls.{Call, Sender_is_closed, Send, Drop_sender, As_inner, Into_inner, Drop_error, Try_recv, Recv_ref, Recv_deadline, Recv_timeout, Recv, Has_message, Is_closed, Drop_receiver, Into_future, Poll, Drop_async, first, rest, is_none_left, sender_last, error_last, receiver_calls, async_calls}
+use Rattle.oneshot_world.specs.Control.{is_script, stays_sender, ends_sender, stays_error, ends_error, ends_receiver, is_sender_script, is_error_script, is_receiver_script, is_async_script, has_script, ends_async, sender_has, receiver_has}
 use Rattle.oneshot_world.specs.State.{sender_position, receiver_position, place_left}
 use Rattle.oneshot_world.specs.World.{opening_place}
+use Rattle.oneshot_world.specs.declared.script.AsyncCall.{AsyncCall}
+use Rattle.oneshot_world.specs.declared.script.AsyncCall.TheVariants as AC
+use Rattle.oneshot_world.specs.declared.script.AsyncLast.{AsyncLast}
+use Rattle.oneshot_world.specs.declared.script.AsyncLast.TheVariants as AL
 use Rattle.oneshot_world.specs.declared.script.ErrorLast.{ErrorLast}
 use Rattle.oneshot_world.specs.declared.script.ErrorLast.TheVariants as EL
 use Rattle.oneshot_world.specs.declared.script.ReceiverCall.{ReceiverCall}
@@ -67,10 +71,10 @@ sender_has_script message (SS.At here) call position calls at h = h
 sender_has_script message SS.Failed call position calls at h = or_right (is_sender_script message calls) _ h
 sender_has_script message SS.Ended call position calls at h = cc
 
-pub receiver_has_script : (s : ReceiverState) (call : Option ReceiverStart) (position : ReceiverPos) (calls : List Call) → receiver_position s call ≡ Some position → receiver_has s calls ≡ true → is_script stays_receiver ends_receiver calls ≡ true
-receiver_has_script RS.Ready call position calls at h = h
-receiver_has_script (RS.At here) call position calls at h = h
-receiver_has_script RS.Ended call position calls at h = cc
+pub receiver_has_script : (s : ReceiverState) (future : Bool) (call : Option ReceiverStart) (position : ReceiverPos) (calls : List Call) → receiver_position s call ≡ Some position → receiver_has s future calls ≡ true → has_script future calls ≡ true
+receiver_has_script RS.Ready future call position calls at h = h
+receiver_has_script (RS.At here) future call position calls at h = h
+receiver_has_script RS.Ended future call position calls at h = cc
 
 -- after a call that stays a script is left, and after one that ends nothing
 pub sender_goes_on : (message : Option Place) (calls : List Call) (call : Call) → stays_sender call ≡ true → (is_sender_script message (call ∷ calls) || is_error_script (call ∷ calls)) ≡ true → is_sender_script message calls ≡ true
@@ -89,26 +93,55 @@ sender_ends message calls Into_inner ends h = h
 sender_ends message calls Drop_error ends h = h
 sender_ends message calls _ ends h = cc
 
-none_is_script : (calls : List Call) → is_none_left calls ≡ true → is_script stays_receiver ends_receiver calls ≡ true
+none_is_script : (calls : List Call) → is_none_left calls ≡ true → is_receiver_script calls ≡ true
 none_is_script [] h = refl
 none_is_script (call ∷ calls) h = cc
 
-pub receiver_goes_on : (calls : List Call) → is_script stays_receiver ends_receiver calls ≡ true → is_script stays_receiver ends_receiver (rest calls) ≡ true
-receiver_goes_on [] h = refl
-receiver_goes_on (Try_recv ∷ calls) h = left_of_or _ h
-receiver_goes_on (Recv_ref ∷ calls) h = left_of_or _ h
-receiver_goes_on (Recv_deadline ∷ calls) h = left_of_or _ h
-receiver_goes_on (Recv_timeout representable ∷ calls) h = left_of_or _ h
-receiver_goes_on (Recv ∷ calls) h = none_is_script calls h
-receiver_goes_on (Has_message ∷ calls) h = left_of_or _ h
-receiver_goes_on (Is_closed ∷ calls) h = left_of_or _ h
-receiver_goes_on (Drop_receiver ∷ calls) h = none_is_script calls h
-receiver_goes_on (_ ∷ calls) h = cc
+none_is_async : (calls : List Call) → is_none_left calls ≡ true → is_async_script calls ≡ true
+none_is_async [] h = refl
+none_is_async (call ∷ calls) h = cc
 
-pub receiver_ends : (calls : List Call) (call : Call) → ends_receiver call ≡ true → is_script stays_receiver ends_receiver (call ∷ calls) ≡ true → is_none_left calls ≡ true
-receiver_ends calls Recv ends h = h
-receiver_ends calls Drop_receiver ends h = h
-receiver_ends calls _ ends h = cc
+-- the call that makes the receiver a future
+abbrev pub makes_future : Option Call → Bool
+makes_future (Some Into_future) = true
+makes_future _ = false
+
+receiver_goes : (calls : List Call) → is_receiver_script calls ≡ true → has_script (makes_future (first calls)) (rest calls) ≡ true
+receiver_goes [] h = refl
+receiver_goes (Try_recv ∷ calls) h = left_of_or _ h
+receiver_goes (Recv_ref ∷ calls) h = left_of_or _ h
+receiver_goes (Recv_deadline ∷ calls) h = left_of_or _ h
+receiver_goes (Recv_timeout representable ∷ calls) h = left_of_or _ h
+receiver_goes (Recv ∷ calls) h = none_is_script calls h
+receiver_goes (Has_message ∷ calls) h = left_of_or _ h
+receiver_goes (Is_closed ∷ calls) h = left_of_or _ h
+receiver_goes (Drop_receiver ∷ calls) h = none_is_script calls h
+receiver_goes (Into_future ∷ calls) h = h
+receiver_goes (_ ∷ calls) h = cc
+
+async_goes : (calls : List Call) → is_async_script calls ≡ true → is_async_script (rest calls) ≡ true
+async_goes [] h = refl
+async_goes (Poll number ∷ calls) h = left_of_or _ h
+async_goes (Has_message ∷ calls) h = left_of_or _ h
+async_goes (Is_closed ∷ calls) h = left_of_or _ h
+async_goes (Drop_async ∷ calls) h = none_is_async calls h
+async_goes (_ ∷ calls) h = cc
+
+pub receiver_goes_on : (future : Bool) (calls : List Call) → has_script future calls ≡ true → has_script (future || makes_future (first calls)) (rest calls) ≡ true
+receiver_goes_on false calls h = receiver_goes calls h
+receiver_goes_on true calls h = async_goes calls h
+
+abbrev pub ends_either : Call → Bool
+ends_either call = ends_receiver call || ends_async call
+
+pub receiver_ends : (future : Bool) (calls : List Call) (call : Call) → ends_either call ≡ true → has_script future (call ∷ calls) ≡ true → is_none_left calls ≡ true
+receiver_ends false calls Recv ends h = h
+receiver_ends false calls Drop_receiver ends h = h
+receiver_ends false calls Drop_async ends h = cc
+receiver_ends true calls Drop_async ends h = h
+receiver_ends true calls Recv ends h = cc
+receiver_ends true calls Drop_receiver ends h = cc
+receiver_ends future calls _ ends h = cc
 
 -- the calls of a script are a script
 looked : (stays ends : Call → Bool) (call : Call) (n : ℕ) (calls : List Call) → stays call ≡ true → is_script stays ends calls ≡ true → is_script stays ends (replicate n call ++ calls) ≡ true
@@ -125,9 +158,17 @@ sender_scripted looks (SL.Send message error) = looked stays_sender (ends_sender
 sender_scripted looks SL.Drop = looked stays_sender (ends_sender None) Sender_is_closed looks (Drop_sender ∷ []) refl refl
 sender_scripted looks SL.Stop = looked stays_sender (ends_sender None) Sender_is_closed looks [] refl refl
 
-pub receiver_scripted : (calls : List ReceiverCall) (last : ReceiverLast) → is_script stays_receiver ends_receiver (receiver_calls calls last) ≡ true
+async_scripted : (calls : List AsyncCall) (last : AsyncLast) → is_async_script (async_calls calls last) ≡ true
+async_scripted [] AL.Drop = refl
+async_scripted [] AL.Stop = refl
+async_scripted (AC.Poll number ∷ calls) last = rw (async_scripted calls last) refl
+async_scripted (AC.HasMessage ∷ calls) last = rw (async_scripted calls last) refl
+async_scripted (AC.IsClosed ∷ calls) last = rw (async_scripted calls last) refl
+
+pub receiver_scripted : (calls : List ReceiverCall) (last : ReceiverLast) → is_receiver_script (receiver_calls calls last) ≡ true
 receiver_scripted [] RL.Recv = refl
 receiver_scripted [] RL.Drop = refl
+receiver_scripted [] (RL.IntoFuture script) = async_scripted script.calls script.last
 receiver_scripted [] RL.Stop = refl
 receiver_scripted (RC.TryRecv ∷ calls) last = rw (receiver_scripted calls last) refl
 receiver_scripted (RC.RecvRef ∷ calls) last = rw (receiver_scripted calls last) refl

@@ -1,6 +1,8 @@
 pub mod Bools
 pub mod Explored
+pub mod Listed
 pub mod Coded
+pub mod Classed
 pub mod Stepped
 pub mod Left
 pub mod Reached

@@ -1,5 +1,5 @@
 -- Each move from a world that a run reaches has its row, and leads to a world that a run reaches.
-use Rattle.std.proofs.Common.{◌≡◌, ◌≤◌, Bool, true, false, List, [], ◌∷◌, Option, Some, None, refl, sym, ◌∙◌, ap, subst, ◌&&◌, ◌||◌, nat_le, if◌then◌else◌}
+use Rattle.std.proofs.Common.{◌≡◌, ◌≤◌, ◌==◌, ℕ, Bool, true, false, List, [], ◌∷◌, Option, Some, None, refl, sym, ◌∙◌, ap, subst, ◌&&◌, ◌||◌, nat_le, if◌then◌else◌}
 use Rattle.std.proofs.lemmas.Bool.{leb-true}
 use Rattle.std.specs.List.{list_all}
 use Rattle.std.specs.Option.{option_map, option_and_then, IsSome}
@@ -12,11 +12,12 @@ use Rattle.oneshot_machine.specs.declared.machine.Reply.TheVariants as Replies
 use Rattle.oneshot_machine.specs.declared.machine.Step.{Step}
 use Rattle.oneshot_machine.specs.declared.machine.receiver.ReceiverPos.{ReceiverPos}
 use Rattle.oneshot_machine.specs.declared.machine.sender.SenderPos.{SenderPos}
-use Rattle.oneshot_world.specs.Calls.{Call, Sender_is_closed, Send, Drop_sender, As_inner, Into_inner, Drop_error, Try_recv, Recv_ref, Recv_deadline, Recv_timeout, Recv, Has_message, Is_closed, Drop_receiver, Unanswered, first, rest, is_none_left, left_by, error_calls, as_sender_call, as_receiver_call}
-use Rattle.oneshot_world.specs.Control.{Control, control_of, Begin, begins, sender_begins, receiver_begins_at, receiver_begins, sender_under_way, receiver_under_way, control_then, control_turn, control_code, is_same_control, reached, is_reached, IsReached, opening_control, is_script, is_sender_script, is_error_script, stays_sender, ends_sender, stays_error, ends_error, stays_receiver, ends_receiver, sender_has, receiver_has}
+use Rattle.oneshot_world.specs.Calls.{Call, Sender_is_closed, Send, Drop_sender, As_inner, Into_inner, Drop_error, Try_recv, Recv_ref, Recv_deadline, Recv_timeout, Recv, Has_message, Is_closed, Drop_receiver, Into_future, Poll, Drop_async, Unanswered, number_of, first, rest, is_none_left, left_by, error_calls, as_sender_call, as_receiver_call}
+use Rattle.oneshot_world.specs.Classes.{Classes, all_alike, as_call}
+use Rattle.oneshot_world.specs.Control.{Control, control_of, Begin, begins, begins_poll, poll_begin, plain_told, one_poll, one_copy, as_begin, as_control, as_control_turned, bool_code, sender_begins, receiver_begins_at, receiver_begins, sender_under_way, receiver_under_way, control_then, control_turn, control_code, is_same_control, reached, is_reached, IsReached, opening_control, is_sender_script, is_error_script, has_script, stays_sender, ends_sender, stays_error, ends_error, sender_has, receiver_has}
 use Rattle.oneshot_world.specs.Explore.{all_in}
-use Rattle.oneshot_world.specs.State.{sender_turns_at, receiver_turns_at, sender_position, receiver_position, sender_steps, receiver_steps, sender_stepped, receiver_moved, receiver_stepped, made_entry, place_left, reply_of, sender_goes, receiver_goes, is_plain, is_free, sender_fits, receiver_fits, seen_by, sender_puts, receiver_puts}
-use Rattle.oneshot_world.specs.World.{World, by_end, reply_in, opening, opening_place}
+use Rattle.oneshot_world.specs.State.{sender_turns_at, receiver_turns_at, sender_stands, receiver_stands, sender_position, receiver_position, sender_steps, receiver_steps, sender_moved, sender_stepped, receiver_moved, receiver_stepped, made_entry, place_left, reply_of, sender_goes, receiver_goes, is_plain, is_free, is_future, sender_fits, receiver_fits, seen_by, sender_puts, receiver_puts}
+use Rattle.oneshot_world.specs.World.{World, by_end, reply_in, nothing_told, told_with, receiver_told, opening, opening_place}
 use Rattle.oneshot_world.specs.declared.script.ReceiverScript.{ReceiverScript}
 use Rattle.oneshot_world.specs.declared.script.SenderLast.{SenderLast}
 use Rattle.oneshot_world.specs.declared.script.SenderLast.TheVariants as SL
@@ -31,8 +32,11 @@ use Rattle.oneshot_world.specs.declared.trace.Made.{Made}
 use Rattle.oneshot_world.specs.declared.trace.Place.{Place}
 use Rattle.oneshot_world.specs.declared.trace.Place.TheVariants.{NotSent}
 use Rattle.oneshot_world.proofs.Bools.{and_left, and_right, all_left, all_right}
-use Rattle.oneshot_world.proofs.Coded.{control_is}
-use Rattle.oneshot_world.proofs.Left.{either_stays, script_stays, sender_still_has, sender_has_script, receiver_has_script, sender_goes_on, error_goes_on, sender_ends, receiver_goes_on, receiver_ends, error_scripted, sender_scripted, receiver_scripted}
+use Rattle.oneshot_world.specs.declared.wakers.Told.{Told}
+use Rattle.oneshot_world.proofs.Classed.{control_turn_as}
+use Rattle.oneshot_world.proofs.Coded.{bool_is, control_is}
+use Rattle.oneshot_world.proofs.Listed.{is_listed, all_mapped, all_flat}
+use Rattle.oneshot_world.proofs.Left.{either_stays, script_stays, sender_still_has, sender_has_script, receiver_has_script, sender_goes_on, error_goes_on, sender_ends, makes_future, ends_either, receiver_goes_on, receiver_ends, error_scripted, sender_scripted, receiver_scripted}
 use Rattle.oneshot_world.proofs.Explored.{passes_where_found}
 
 -- a test that passes on all that is reached
@@ -52,15 +56,21 @@ sender_left_by_its_call None s call = true
 sender_left_by_its_call (Some Replies.Refused) s call = true
 sender_left_by_its_call (Some _) s call = left_as s call
 
-receiver_left_by_its_call : ReceiverState → Option Call → Bool
-receiver_left_by_its_call RS.Ready call = true
-receiver_left_by_its_call (RS.At position) call = true
-receiver_left_by_its_call RS.Ended None = false
-receiver_left_by_its_call RS.Ended (Some call) = ends_receiver call
+-- a receiver becomes a future by that call alone, and ends by one that ends it
+ends_right : ReceiverState → Option Call → Bool
+ends_right RS.Ready call = true
+ends_right (RS.At position) call = false
+ends_right RS.Ended None = false
+ends_right RS.Ended (Some call) = ends_either call
+
+receiver_left_by_its_call : Option Reply → ReceiverState → Option Call → Bool
+receiver_left_by_its_call None s call = true
+receiver_left_by_its_call (Some reply) s call =
+    bool_code (makes_future call) == bool_code (is_future (Some reply)) && ends_right s call
 
 abbrev left_right : Begin → Entry → State → Bool
 left_right b entry s =
-    by_end b.side (sender_left_by_its_call (reply_in entry) s.sender b.call) (receiver_left_by_its_call s.receiver b.call)
+    by_end b.side (sender_left_by_its_call (reply_in entry) s.sender b.call) (receiver_left_by_its_call (reply_in entry) s.receiver b.call)
 
 leads_on : Begin → Option (Entry × Control) → Bool
 leads_on b None = false
@@ -69,79 +79,100 @@ leads_on b (Some turned) = is_reached turned.1 && left_right b turned.0 turned.1
 abbrev moves_on : Control → Begin → Bool
 moves_on c b = leads_on b (control_turn c b)
 
-is_closed : all_in (λ c. nat_le c.state.word 4 && list_all (moves_on c) (begins c)) reached ≡ true
-unfolding reached leads_on left_as sender_left_by_its_call receiver_left_by_its_call
+is_closed : all_in (λ c. nat_le c.state.word 4 && list_all (moves_on c) (begins one_poll one_copy c)) reached ≡ true
+unfolding reached leads_on left_as sender_left_by_its_call receiver_left_by_its_call ends_right
 is_closed = refl
 
 -- the word is one of the codes
 pub word_is_code : (w : World) → IsReached w → w.state.word ≤ 4
-word_is_code w h = leb-true w.state.word 4 (and_left _ _ (passes _ is_closed (control_of w) h.control))
+word_is_code w h = leb-true w.state.word 4 (and_left _ _ (passes _ is_closed (as_control all_alike (control_of w)) h.control))
 
 -- what passes at each move that may begin passes at the move that an end makes
-pub at_sender : (test : Begin → Bool) (message : Option Place) (s : SenderState) (calls : List Call) (position : SenderPos) → sender_has message s calls ≡ true → sender_position s (option_and_then as_sender_call (first calls)) ≡ Some position → list_all test (sender_begins message s (sender_under_way s (first calls))) ≡ true → test (record { side = Sender; over = false; call = first calls }) ≡ true
-at_sender test message SS.Ready [] position has at h = cc
-at_sender test message SS.Ready (Sender_is_closed ∷ calls) position has at h = and_left _ _ h
-at_sender test message SS.Ready (Drop_sender ∷ calls) position has at h = and_left _ _ (and_right _ _ h)
-at_sender test None SS.Ready (Send ∷ calls) position has at h = cc
-at_sender test (Some place) SS.Ready (Send ∷ calls) position has at h = and_left _ _ (and_right _ _ (and_right _ _ h))
-at_sender test message SS.Ready (_ ∷ calls) position has at h = cc
-at_sender test message (SS.At here) calls position has at h = and_left _ _ h
-at_sender test message SS.Failed [] position has at h = cc
-at_sender test message SS.Failed (As_inner ∷ calls) position has at h = and_left _ _ h
-at_sender test message SS.Failed (Into_inner ∷ calls) position has at h = and_left _ _ (and_right _ _ h)
-at_sender test message SS.Failed (Drop_error ∷ calls) position has at h = and_left _ _ (and_right _ _ (and_right _ _ h))
-at_sender test message SS.Failed (_ ∷ calls) position has at h = cc
-at_sender test message SS.Ended calls position has at h = cc
+pub at_sender : (k : Classes) (test : Begin → Bool) (message : Option Place) (s : SenderState) (calls : List Call) (position : SenderPos) → sender_has message s calls ≡ true → sender_position s (option_and_then as_sender_call (first calls)) ≡ Some position → list_all test (sender_begins message s (option_map (as_call k) (sender_under_way s (first calls)))) ≡ true → test (record { side = Sender; told = nothing_told; call = option_map (as_call k) (first calls) }) ≡ true
+at_sender k test message SS.Ready [] position has at h = cc
+at_sender k test message SS.Ready (Sender_is_closed ∷ calls) position has at h = and_left _ _ h
+at_sender k test message SS.Ready (Drop_sender ∷ calls) position has at h = and_left _ _ (and_right _ _ h)
+at_sender k test None SS.Ready (Send ∷ calls) position has at h = cc
+at_sender k test (Some place) SS.Ready (Send ∷ calls) position has at h = and_left _ _ (and_right _ _ (and_right _ _ h))
+at_sender k test message SS.Ready (_ ∷ calls) position has at h = cc
+at_sender k test message (SS.At here) calls position has at h = and_left _ _ h
+at_sender k test message SS.Failed [] position has at h = cc
+at_sender k test message SS.Failed (As_inner ∷ calls) position has at h = and_left _ _ h
+at_sender k test message SS.Failed (Into_inner ∷ calls) position has at h = and_left _ _ (and_right _ _ h)
+at_sender k test message SS.Failed (Drop_error ∷ calls) position has at h = and_left _ _ (and_right _ _ (and_right _ _ h))
+at_sender k test message SS.Failed (_ ∷ calls) position has at h = cc
+at_sender k test message SS.Ended calls position has at h = cc
 
 abbrev receives : Bool → Call → Begin
-receives over call = record { side = Receiver; over = over; call = Some call }
+receives answer call = record { side = Receiver; told = plain_told answer; call = Some call }
 
-past : (test : Begin → Bool) (over : Bool) (call : Call) {more : Bool} → (test (receives over call) && more) ≡ true → more ≡ true
-past test over call {more} h = and_right (test (receives over call)) more h
+past : (test : Begin → Bool) (answer : Bool) (call : Call) {more : Bool} → (test (receives answer call) && more) ≡ true → more ≡ true
+past test answer call {more} h = and_right (test (receives answer call)) more h
 
 -- the calls from the fourth on
-past_three : (test : Begin → Bool) (over : Bool) {more : Bool} → (test (receives over Try_recv) && (test (receives over Recv_ref) && (test (receives over Recv_deadline) && more))) ≡ true → more ≡ true
-past_three test over h = past test over Recv_deadline (past test over Recv_ref (past test over Try_recv h))
+past_three : (test : Begin → Bool) (answer : Bool) {more : Bool} → (test (receives answer Try_recv) && (test (receives answer Recv_ref) && (test (receives answer Recv_deadline) && more))) ≡ true → more ≡ true
+past_three test answer h = past test answer Recv_deadline (past test answer Recv_ref (past test answer Try_recv h))
 
--- and from the seventh on
-past_six : (test : Begin → Bool) (over : Bool) {more : Bool} → (test (receives over Try_recv) && (test (receives over Recv_ref) && (test (receives over Recv_deadline) && (test (receives over (Recv_timeout false)) && (test (receives over (Recv_timeout true)) && (test (receives over Recv) && more)))))) ≡ true → more ≡ true
-past_six test over h = past test over Recv (past test over (Recv_timeout true) (past test over (Recv_timeout false) (past_three test over h)))
+-- from the seventh on
+past_six : (test : Begin → Bool) (answer : Bool) {more : Bool} → (test (receives answer Try_recv) && (test (receives answer Recv_ref) && (test (receives answer Recv_deadline) && (test (receives answer (Recv_timeout false)) && (test (receives answer (Recv_timeout true)) && (test (receives answer Recv) && more)))))) ≡ true → more ≡ true
+past_six test answer h = past test answer Recv (past test answer (Recv_timeout true) (past test answer (Recv_timeout false) (past_three test answer h)))
 
-at_receiver_when : (test : Begin → Bool) (over : Bool) (s : ReceiverState) (calls : List Call) (position : ReceiverPos) → receiver_position s (option_and_then as_receiver_call (first calls)) ≡ Some position → list_all test (receiver_begins_at over s (receiver_under_way s (first calls))) ≡ true → test (record { side = Receiver; over = over; call = first calls }) ≡ true
-at_receiver_when test over RS.Ready [] position at h = cc
-at_receiver_when test over RS.Ready (Try_recv ∷ calls) position at h = and_left _ _ h
-at_receiver_when test over RS.Ready (Recv_ref ∷ calls) position at h = and_left _ _ (past test over Try_recv h)
-at_receiver_when test over RS.Ready (Recv_deadline ∷ calls) position at h = and_left _ _ (past test over Recv_ref (past test over Try_recv h))
-at_receiver_when test over RS.Ready (Recv_timeout false ∷ calls) position at h = and_left _ _ (past_three test over h)
-at_receiver_when test over RS.Ready (Recv_timeout true ∷ calls) position at h = and_left _ _ (past test over (Recv_timeout false) (past_three test over h))
-at_receiver_when test over RS.Ready (Recv ∷ calls) position at h = and_left _ _ (past test over (Recv_timeout true) (past test over (Recv_timeout false) (past_three test over h)))
-at_receiver_when test over RS.Ready (Has_message ∷ calls) position at h = and_left _ _ (past_six test over h)
-at_receiver_when test over RS.Ready (Is_closed ∷ calls) position at h = and_left _ _ (past test over Has_message (past_six test over h))
-at_receiver_when test over RS.Ready (Drop_receiver ∷ calls) position at h = and_left _ true (past test over Is_closed (past test over Has_message (past_six test over h)))
-at_receiver_when test over RS.Ready (_ ∷ calls) position at h = cc
-at_receiver_when test over (RS.At here) calls position at h = and_left _ _ h
-at_receiver_when test over RS.Ended calls position at h = cc
+-- the moves of a receiver, by the call under way or next and the entry that is made
+abbrev pub receives_at : Bool → ℕ → Option Call → Begin
+receives_at answer entry call =
+    record { side = Receiver; told = told_with answer entry (option_and_then number_of call); call = call }
 
--- whatever a clock answers then
-when : (test : Begin → Bool) (over : Bool) (s : ReceiverState) (call : Option Call) → list_all test (receiver_begins s call) ≡ true → list_all test (receiver_begins_at over s call) ≡ true
-when test false s call h = all_left test (receiver_begins_at false s call) _ h
-when test true s call h = all_right test (receiver_begins_at false s call) _ h
+-- Each poll's class is among `polls`, and the class of each copy made in this entry among those of its poll.
+module _ (k : Classes) (polls : List ℕ) (copies : ℕ → List ℕ) (entry : ℕ) (polled : (number : ℕ) → is_listed (k.polls number) polls ≡ true) (copied : (number : ℕ) → is_listed (k.copies number entry) (copies (k.polls number)) ≡ true) where
+  at_poll : (test : Begin → Bool) (answer : Bool) (number : ℕ) → list_all test (begins_poll copies answer (k.polls number)) ≡ true → test (as_begin k (receives_at answer entry (Some (Poll number)))) ≡ true
+  at_poll test answer number h = all_mapped test (λ copy. poll_begin answer (k.polls number) copy) (copies (k.polls number)) (k.copies number entry) h (copied number)
 
-pub at_receiver : (test : Begin → Bool) (over : Bool) (s : ReceiverState) (calls : List Call) (position : ReceiverPos) → receiver_position s (option_and_then as_receiver_call (first calls)) ≡ Some position → list_all test (receiver_begins s (receiver_under_way s (first calls))) ≡ true → test (record { side = Receiver; over = over; call = first calls }) ≡ true
-at_receiver test over s calls position at h = at_receiver_when test over s calls position at (when test over s (receiver_under_way s (first calls)) h)
+  at_receiver_when : (test : Begin → Bool) (answer : Bool) (s : ReceiverState) (future : Bool) (calls : List Call) (position : ReceiverPos) → receiver_has s future calls ≡ true → receiver_position s (option_and_then as_receiver_call (first calls)) ≡ Some position → list_all test (receiver_begins_at polls copies answer s future (option_map (as_call k) (receiver_under_way s (first calls)))) ≡ true → test (as_begin k (receives_at answer entry (first calls))) ≡ true
+  at_receiver_when test answer RS.Ready false [] position has at h = cc
+  at_receiver_when test answer RS.Ready false (Try_recv ∷ calls) position has at h = and_left _ _ h
+  at_receiver_when test answer RS.Ready false (Recv_ref ∷ calls) position has at h = and_left _ _ (past test answer Try_recv h)
+  at_receiver_when test answer RS.Ready false (Recv_deadline ∷ calls) position has at h = and_left _ _ (past test answer Recv_ref (past test answer Try_recv h))
+  at_receiver_when test answer RS.Ready false (Recv_timeout false ∷ calls) position has at h = and_left _ _ (past_three test answer h)
+  at_receiver_when test answer RS.Ready false (Recv_timeout true ∷ calls) position has at h = and_left _ _ (past test answer (Recv_timeout false) (past_three test answer h))
+  at_receiver_when test answer RS.Ready false (Recv ∷ calls) position has at h = and_left _ _ (past test answer (Recv_timeout true) (past test answer (Recv_timeout false) (past_three test answer h)))
+  at_receiver_when test answer RS.Ready false (Has_message ∷ calls) position has at h = and_left _ _ (past_six test answer h)
+  at_receiver_when test answer RS.Ready false (Is_closed ∷ calls) position has at h = and_left _ _ (past test answer Has_message (past_six test answer h))
+  at_receiver_when test answer RS.Ready false (Drop_receiver ∷ calls) position has at h = and_left _ _ (past test answer Is_closed (past test answer Has_message (past_six test answer h)))
+  at_receiver_when test answer RS.Ready false (Into_future ∷ calls) position has at h = and_left _ true (past test answer Drop_receiver (past test answer Is_closed (past test answer Has_message (past_six test answer h))))
+  at_receiver_when test answer RS.Ready false (_ ∷ calls) position has at h = cc
+  at_receiver_when test answer RS.Ready true [] position has at h = cc
+  at_receiver_when test answer RS.Ready true (Has_message ∷ calls) position has at h = and_left _ _ h
+  at_receiver_when test answer RS.Ready true (Is_closed ∷ calls) position has at h = and_left _ _ (past test answer Has_message h)
+  at_receiver_when test answer RS.Ready true (Drop_async ∷ calls) position has at h = and_left _ _ (past test answer Is_closed (past test answer Has_message h))
+  at_receiver_when test answer RS.Ready true (Poll number ∷ calls) position has at h =
+      at_poll test answer number
+      (all_flat test (begins_poll copies answer) polls (k.polls number) (past test answer Drop_async (past test answer Is_closed (past test answer Has_message h))) (polled number))
+  at_receiver_when test answer RS.Ready true (_ ∷ calls) position has at h = cc
+  at_receiver_when test answer (RS.At here) future [] position has at h = and_left _ _ h
+  at_receiver_when test answer (RS.At here) future (Poll number ∷ calls) position has at h = at_poll test answer number h
+  at_receiver_when test answer (RS.At here) future (_ ∷ calls) position has at h = and_left _ _ h
+  at_receiver_when test answer RS.Ended future calls position has at h = cc
+
+  -- whatever is answered then
+  when : (test : Begin → Bool) (answer : Bool) (s : ReceiverState) (future : Bool) (call : Option Call) → list_all test (receiver_begins polls copies s future call) ≡ true → list_all test (receiver_begins_at polls copies answer s future call) ≡ true
+  when test false s future call h = all_left test (receiver_begins_at polls copies false s future call) _ h
+  when test true s future call h = all_right test (receiver_begins_at polls copies false s future call) _ h
+
+  pub at_receiver : (test : Begin → Bool) (answer : Bool) (s : ReceiverState) (future : Bool) (calls : List Call) (position : ReceiverPos) → receiver_has s future calls ≡ true → receiver_position s (option_and_then as_receiver_call (first calls)) ≡ Some position → list_all test (receiver_begins polls copies s future (option_map (as_call k) (receiver_under_way s (first calls)))) ≡ true → test (as_begin k (receives_at answer entry (first calls))) ≡ true
+  at_receiver test answer s future calls position has at h = at_receiver_when test answer s future calls position has at (when test answer s future (option_map (as_call k) (receiver_under_way s (first calls))) h)
 
 -- where an end of a world is, and the move that it makes there
 abbrev pub sender_at : World → Option SenderPos
-sender_at w = sender_position w.state.sender (option_and_then as_sender_call (first w.sender.calls))
+sender_at w = sender_stands w.state (first w.sender.calls)
 
 abbrev pub receiver_at : World → Option ReceiverPos
-receiver_at w = receiver_position w.state.receiver (option_and_then as_receiver_call (first w.receiver.calls))
+receiver_at w = receiver_stands w.state (first w.receiver.calls)
 
 abbrev pub sender_begin : World → Begin
-sender_begin w = record { side = Sender; over = false; call = first w.sender.calls }
+sender_begin w = record { side = Sender; told = nothing_told; call = first w.sender.calls }
 
-abbrev pub receiver_begin : Bool → World → Begin
-receiver_begin over w = record { side = Receiver; over = over; call = first w.receiver.calls }
+abbrev pub receiver_begin : Bool → ℕ → World → Begin
+receiver_begin answer entry w = receives_at answer entry (first w.receiver.calls)
 
 -- a test of all moves that may begin, at the move that an end makes at its position
 abbrev pub after_sender : World → Entry × State → Entry × Control
@@ -150,29 +181,41 @@ after_sender w turned = (turned.0, control_then Sender (first w.sender.calls) (c
 abbrev pub after_receiver : World → Entry × State → Entry × Control
 after_receiver w turned = (turned.0, control_then Receiver (first w.receiver.calls) (control_of w) turned.1)
 
-pub sender_passes : (test : Begin → Option (Entry × Control) → Bool) (w : World) (position : SenderPos) → IsReached w → sender_at w ≡ Some position → list_all (λ b. test b (control_turn (control_of w) b)) (begins (control_of w)) ≡ true → test (sender_begin w) (option_map (after_sender w) (option_map made_entry (sender_steps w.state position))) ≡ true
-sender_passes test w position h at all =
-    rw (at, sender_turns_at) at
-    (at_sender (λ b. test b (control_turn (control_of w) b)) w.state.message w.state.sender w.sender.calls position h.sender at
-    (all_left (λ b. test b (control_turn (control_of w) b)) (sender_begins w.state.message w.state.sender (control_of w).sender) _ all))
+sender_turn_is : (w : World) (position : SenderPos) → sender_at w ≡ Some position → control_turn (control_of w) (sender_begin w) ≡ option_map (after_sender w) (option_map made_entry (sender_steps nothing_told w.state position))
+sender_turn_is w position at = ap (λ p. option_map (after_sender w) (sender_turns_at nothing_told w.state p)) at
 
-pub receiver_passes : (test : Begin → Option (Entry × Control) → Bool) (over : Bool) (w : World) (position : ReceiverPos) → IsReached w → receiver_at w ≡ Some position → list_all (λ b. test b (control_turn (control_of w) b)) (begins (control_of w)) ≡ true → test (receiver_begin over w) (option_map (after_receiver w) (option_map made_entry (receiver_steps over w.state position))) ≡ true
-receiver_passes test over w position h at all =
-    rw (at, receiver_turns_at) at
-    (at_receiver (λ b. test b (control_turn (control_of w) b)) over w.state.receiver w.receiver.calls position at
-    (all_right (λ b. test b (control_turn (control_of w) b)) (sender_begins w.state.message w.state.sender (control_of w).sender) _ all))
+receiver_turn_is : (answer : Bool) (entry : ℕ) (w : World) (position : ReceiverPos) → receiver_at w ≡ Some position → control_turn (control_of w) (receiver_begin answer entry w) ≡ option_map (after_receiver w) (option_map made_entry (receiver_steps (receiver_told answer entry w) w.state position))
+receiver_turn_is answer entry w position at = ap (λ p. option_map (after_receiver w) (receiver_turns_at (receiver_told answer entry w) w.state p)) at
 
-moves_there : (w : World) → IsReached w → list_all (moves_on (control_of w)) (begins (control_of w)) ≡ true
-moves_there w h = and_right (nat_le w.state.word 4) _ (passes _ is_closed (control_of w) h.control)
+module _ (k : Classes) (polls : List ℕ) (copies : ℕ → List ℕ) (test : Begin → Option (Entry × Control) → Bool) where
+  abbrev pub AllPass : World → Type 0
+  AllPass w = list_all (λ b. test b (control_turn (as_control k (control_of w)) b)) (begins polls copies (as_control k (control_of w))) ≡ true
 
-sender_leads : (w : World) (position : SenderPos) → IsReached w → sender_at w ≡ Some position → leads_on (sender_begin w) (option_map (after_sender w) (option_map made_entry (sender_steps w.state position))) ≡ true
-sender_leads w position h at = sender_passes leads_on w position h at (moves_there w h)
+  pub sender_passes : (w : World) (position : SenderPos) → IsReached w → sender_at w ≡ Some position → AllPass w → test (as_begin k (sender_begin w)) (option_map (as_control_turned k) (option_map (after_sender w) (option_map made_entry (sender_steps nothing_told w.state position)))) ≡ true
+  sender_passes w position h at all =
+      subst (λ o. test (as_begin k (sender_begin w)) o ≡ true)
+      (control_turn_as k (control_of w) (sender_begin w) ∙ ap (option_map (as_control_turned k)) (sender_turn_is w position at))
+      (at_sender k (λ b. test b (control_turn (as_control k (control_of w)) b)) w.state.message w.state.sender w.sender.calls position h.sender at
+      (all_left (λ b. test b (control_turn (as_control k (control_of w)) b)) (sender_begins w.state.message w.state.sender (as_control k (control_of w)).sender) _ all))
 
-receiver_leads : (over : Bool) (w : World) (position : ReceiverPos) → IsReached w → receiver_at w ≡ Some position → leads_on (receiver_begin over w) (option_map (after_receiver w) (option_map made_entry (receiver_steps over w.state position))) ≡ true
-receiver_leads over w position h at = receiver_passes leads_on over w position h at (moves_there w h)
+  pub receiver_passes : (entry : ℕ) → ((number : ℕ) → is_listed (k.polls number) polls ≡ true) → ((number : ℕ) → is_listed (k.copies number entry) (copies (k.polls number)) ≡ true) → (answer : Bool) (w : World) (position : ReceiverPos) → IsReached w → receiver_at w ≡ Some position → AllPass w → test (as_begin k (receiver_begin answer entry w)) (option_map (as_control_turned k) (option_map (after_receiver w) (option_map made_entry (receiver_steps (receiver_told answer entry w) w.state position)))) ≡ true
+  receiver_passes entry polled copied answer w position h at all =
+      subst (λ o. test (as_begin k (receiver_begin answer entry w)) o ≡ true)
+      (control_turn_as k (control_of w) (receiver_begin answer entry w) ∙ ap (option_map (as_control_turned k)) (receiver_turn_is answer entry w position at))
+      (at_receiver k polls copies entry polled copied (λ b. test b (control_turn (as_control k (control_of w)) b)) answer w.state.receiver w.state.future w.receiver.calls position h.receiver at
+      (all_right (λ b. test b (control_turn (as_control k (control_of w)) b)) (sender_begins w.state.message w.state.sender (as_control k (control_of w)).sender) _ all))
+
+moves_there : (w : World) → IsReached w → AllPass all_alike one_poll one_copy leads_on w
+moves_there w h = and_right (nat_le w.state.word 4) _ (passes _ is_closed (as_control all_alike (control_of w)) h.control)
+
+sender_leads : (w : World) (position : SenderPos) → IsReached w → sender_at w ≡ Some position → leads_on (as_begin all_alike (sender_begin w)) (option_map (as_control_turned all_alike) (option_map (after_sender w) (option_map made_entry (sender_steps nothing_told w.state position)))) ≡ true
+sender_leads w position h at = sender_passes all_alike one_poll one_copy leads_on w position h at (moves_there w h)
+
+receiver_leads : (answer : Bool) (entry : ℕ) (w : World) (position : ReceiverPos) → IsReached w → receiver_at w ≡ Some position → leads_on (as_begin all_alike (receiver_begin answer entry w)) (option_map (as_control_turned all_alike) (option_map (after_receiver w) (option_map made_entry (receiver_steps (receiver_told answer entry w) w.state position)))) ≡ true
+receiver_leads answer entry w position h at = receiver_passes all_alike one_poll one_copy leads_on entry (λ number. refl) (λ number. refl) answer w position h at (moves_there w h)
 
 -- a step that leads on is made
-made_if : (b : Begin) (f : Entry × State → Entry × Control) (steps : Option (Made × State)) → leads_on b (option_map f (option_map made_entry steps)) ≡ true → IsSome steps
+made_if : (b : Begin) (f : Entry × State → Entry × Control) (steps : Option (Made × State)) → leads_on b (option_map (as_control_turned all_alike) (option_map f (option_map made_entry steps))) ≡ true → IsSome steps
 unfolding leads_on
 made_if b f None h = cc
 made_if b f (Some x) h = refl
@@ -187,38 +230,46 @@ from_row false f row t h = absurd (cc h)
 abbrev pub sender_world : World → Step → Outcome SenderPos → World
 sender_world w step row =
     record {
-      state = (sender_stepped w.state step row).1;
+      state = sender_moved nothing_told w.state step row;
       sender = left_by Sender (reply_of row) w.sender;
       receiver = w.receiver;
     }
 
-abbrev pub receiver_world : World → Step → Outcome ReceiverPos → World
-receiver_world w step row =
+abbrev pub receiver_world : Told → World → Step → Outcome ReceiverPos → World
+receiver_world t w step row =
     record {
-      state = receiver_moved w.state step row;
+      state = receiver_moved t w.state step row;
       sender = w.sender;
       receiver = left_by Receiver (reply_of row) w.receiver;
     }
 
--- where a step by a row leads, as the finite part shows it
-pub sender_control_is : (w : World) (step : Step) (row : Outcome SenderPos) → control_then Sender (first w.sender.calls) (control_of w) (sender_stepped w.state step row).1 ≡ control_of (sender_world w step row)
-sender_control_is w step (Goes next) = refl
-sender_control_is w step (Answers Replies.Message) =
-    elim (is_plain step) as (λ b. control_then Sender (first w.sender.calls) (control_of w) (record (sender_stepped w.state step (Answers Replies.Message)).1 { sender = if b then SS.Failed else SS.Ended }) ≡ control_of (record (sender_world w step (Answers Replies.Message)) { state = record (sender_stepped w.state step (Answers Replies.Message)).1 { sender = if b then SS.Failed else SS.Ended } })) [
-      | true ↦ refl
-      | false ↦ refl
-    ]
-sender_control_is w step (Answers Replies.Refused) = refl
-sender_control_is w step (Answers _) = refl
+-- once a call is answered none is under way
+sender_idles : (step : Step) (reply : Reply) (a b : Option Call) → sender_under_way (sender_goes step (Answers reply)) a ≡ sender_under_way (sender_goes step (Answers reply)) b
+sender_idles step Replies.Message a b =
+    elim (is_plain step) as (λ p. sender_under_way (if p then SS.Failed else SS.Ended) a ≡ sender_under_way (if p then SS.Failed else SS.Ended) b) [ true ↦ refl | false ↦ refl ]
+sender_idles step Replies.Yes a b = refl
+sender_idles step Replies.No a b = refl
+sender_idles step Replies.Refused a b = refl
+sender_idles step _ a b = refl
 
-pub receiver_control_is : (w : World) (step : Step) (row : Outcome ReceiverPos) → control_then Receiver (first w.receiver.calls) (control_of w) (receiver_moved w.state step row) ≡ control_of (receiver_world w step row)
-receiver_control_is w step (Goes next) = refl
-receiver_control_is w step (Answers Replies.Done) = refl
-receiver_control_is w step (Answers reply) =
-    elim (is_free step) as (λ b. control_then Receiver (first w.receiver.calls) (control_of w) (record (receiver_moved w.state step (Answers reply)) { receiver = if b then RS.Ended else RS.Ready }) ≡ control_of (record (receiver_world w step (Answers reply)) { state = record (receiver_moved w.state step (Answers reply)) { receiver = if b then RS.Ended else RS.Ready } })) [
-      | true ↦ refl
-      | false ↦ refl
-    ]
+receiver_idles : (step : Step) (reply : Reply) (a b : Option Call) → receiver_under_way (receiver_goes step (Answers reply)) a ≡ receiver_under_way (receiver_goes step (Answers reply)) b
+receiver_idles step Replies.Done a b = refl
+receiver_idles step _ a b =
+    elim (is_free step) as (λ p. receiver_under_way (if p then RS.Ended else RS.Ready) a ≡ receiver_under_way (if p then RS.Ended else RS.Ready) b) [ true ↦ refl | false ↦ refl ]
+
+control_by : State → Option Call → Option Call → Control
+control_by state sender receiver = record { state = state; sender = sender; receiver = receiver }
+
+-- where a step by a row leads, as the finite part shows it
+pub sender_control_is : (w : World) (step : Step) (row : Outcome SenderPos) → control_then Sender (first w.sender.calls) (control_of w) (sender_moved nothing_told w.state step row) ≡ control_of (sender_world w step row)
+unfolding control_by
+sender_control_is w step (Goes next) = refl
+sender_control_is w step (Answers reply) = ap (λ call. control_by (sender_moved nothing_told w.state step (Answers reply)) call (control_of w).receiver) (sender_idles step reply (first w.sender.calls) (first (left_by Sender (Some reply) w.sender).calls))
+
+pub receiver_control_is : (t : Told) (w : World) (step : Step) (row : Outcome ReceiverPos) → control_then Receiver (first w.receiver.calls) (control_of w) (receiver_moved t w.state step row) ≡ control_of (receiver_world t w step row)
+unfolding control_by
+receiver_control_is t w step (Goes next) = refl
+receiver_control_is t w step (Answers reply) = ap (λ call. control_by (receiver_moved t w.state step (Answers reply)) (control_of w).sender call) (receiver_idles step reply (first w.receiver.calls) (first (left_by Receiver (Some reply) w.receiver).calls))
 
 -- what is left after a reply of the sender's side
 ready_left : (from to : Option Place) (calls : List Call) → (is_sender_script from calls || is_error_script calls) ≡ true → left_as SS.Ready (first calls) ≡ true → is_sender_script (place_left from to) (rest calls) ≡ true
@@ -260,86 +311,129 @@ same_error None left = refl
 same_error (Some Replies.Refused) left = refl
 same_error (Some _) left = refl
 
-sender_stays_reached : (w : World) (step : Step) (row : Outcome SenderPos) → IsReached w → (is_sender_script w.state.message w.sender.calls || is_error_script w.sender.calls) ≡ true → is_reached (control_then Sender (first w.sender.calls) (control_of w) (sender_stepped w.state step row).1) ≡ true → sender_left_by_its_call (reply_of row) (sender_goes step row) (first w.sender.calls) ≡ true → IsReached (sender_world w step row)
+sender_stays_reached : (w : World) (step : Step) (row : Outcome SenderPos) → IsReached w → (is_sender_script w.state.message w.sender.calls || is_error_script w.sender.calls) ≡ true → is_reached (as_control all_alike (control_then Sender (first w.sender.calls) (control_of w) (sender_moved nothing_told w.state step row))) ≡ true → sender_left_by_its_call (reply_of row) (sender_goes step row) (first w.sender.calls) ≡ true → IsReached (sender_world w step row)
 sender_stays_reached w step row h script on by =
     record {
-      control = rw (← sender_control_is w step row) on;
+      control = subst (λ c. is_reached (as_control all_alike c) ≡ true) (sender_control_is w step row) on;
       sender = sender_left w step row h.error script by;
       error = rw (same_error (reply_of row) w.sender) h.error;
       receiver = h.receiver;
     }
 
-receiver_left_after : (calls : List Call) → is_script stays_receiver ends_receiver calls ≡ true → receiver_left_by_its_call RS.Ended (first calls) ≡ true → is_none_left (rest calls) ≡ true
-unfolding receiver_left_by_its_call
-receiver_left_after [] h by = cc
-receiver_left_after (call ∷ calls) h by = receiver_ends calls call by h
+receiver_none_left : (future : Bool) (calls : List Call) → has_script future calls ≡ true → ends_right RS.Ended (first calls) ≡ true → is_none_left (rest calls) ≡ true
+unfolding ends_right
+receiver_none_left future [] h by = cc
+receiver_none_left future (call ∷ calls) h by = receiver_ends future calls call by h
 
--- a call that frees ends the receiver, and any other leaves it ready
-receiver_left : (ends : Bool) (calls : List Call) → is_script stays_receiver ends_receiver calls ≡ true → receiver_left_by_its_call (if ends then RS.Ended else RS.Ready) (first calls) ≡ true → receiver_has (if ends then RS.Ended else RS.Ready) (rest calls) ≡ true
-receiver_left true calls h by = receiver_left_after calls h by
-receiver_left false calls h by = receiver_goes_on calls h
+receiver_left : (reply : Reply) (s : ReceiverState) (future : Bool) (calls : List Call) → has_script future calls ≡ true → receiver_left_by_its_call (Some reply) s (first calls) ≡ true → receiver_has s (future || is_future (Some reply)) (rest calls) ≡ true
+unfolding receiver_left_by_its_call ends_right
+receiver_left reply RS.Ready future calls h by =
+    subst (λ f. has_script (future || f) (rest calls) ≡ true)
+    (bool_is (makes_future (first calls)) (is_future (Some reply)) (and_left _ true by))
+    (receiver_goes_on future calls h)
+receiver_left reply (RS.At position) future calls h by = absurd (cc (and_right (bool_code (makes_future (first calls)) == bool_code (is_future (Some reply))) false by))
+receiver_left reply RS.Ended future calls h by = receiver_none_left future calls h (and_right (bool_code (makes_future (first calls)) == bool_code (is_future (Some reply))) (ends_right RS.Ended (first calls)) by)
 
-receiver_stays_reached : (w : World) (step : Step) (row : Outcome ReceiverPos) → IsReached w → is_script stays_receiver ends_receiver w.receiver.calls ≡ true → is_reached (control_then Receiver (first w.receiver.calls) (control_of w) (receiver_moved w.state step row)) ≡ true → receiver_left_by_its_call (receiver_goes step row) (first w.receiver.calls) ≡ true → IsReached (receiver_world w step row)
-receiver_stays_reached w step (Goes next) h script on by = record { control = on; sender = sender_still_has w.state.message (receiver_puts step) w.state.sender w.sender.calls h.sender; error = h.error; receiver = script }
-receiver_stays_reached w step (Answers Replies.Done) h script on by = record { control = on; sender = sender_still_has w.state.message (receiver_puts step) w.state.sender w.sender.calls h.sender; error = h.error; receiver = receiver_left_after w.receiver.calls script by }
-receiver_stays_reached w step (Answers reply) h script on by = record { control = rw (← receiver_control_is w step (Answers reply)) on; sender = sender_still_has w.state.message (receiver_puts step) w.state.sender w.sender.calls h.sender; error = h.error; receiver = receiver_left (is_free step) w.receiver.calls script by }
+or_none : (b : Bool) → (b || false) ≡ b
+or_none true = refl
+or_none false = refl
+
+receiver_row_left : (w : World) (step : Step) (row : Outcome ReceiverPos) → has_script w.state.future w.receiver.calls ≡ true → receiver_left_by_its_call (reply_of row) (receiver_goes step row) (first w.receiver.calls) ≡ true → receiver_has (receiver_goes step row) (w.state.future || is_future (reply_of row)) (left_by Receiver (reply_of row) w.receiver).calls ≡ true
+receiver_row_left w step (Goes next) script by = subst (λ f. has_script f w.receiver.calls ≡ true) (sym (or_none w.state.future)) script
+receiver_row_left w step (Answers reply) script by = receiver_left reply (receiver_goes step (Answers reply)) w.state.future w.receiver.calls script by
+
+receiver_stays_reached : (t : Told) (w : World) (step : Step) (row : Outcome ReceiverPos) → IsReached w → has_script w.state.future w.receiver.calls ≡ true → is_reached (as_control all_alike (control_then Receiver (first w.receiver.calls) (control_of w) (receiver_moved t w.state step row))) ≡ true → receiver_left_by_its_call (reply_of row) (receiver_goes step row) (first w.receiver.calls) ≡ true → IsReached (receiver_world t w step row)
+receiver_stays_reached t w step row h script on by =
+    record {
+      control = subst (λ c. is_reached (as_control all_alike c) ≡ true) (receiver_control_is t w step row) on;
+      sender = sender_still_has w.state.message (receiver_puts step) w.state.sender w.sender.calls h.sender;
+      error = h.error;
+      receiver = receiver_row_left w step row script by;
+    }
+
+-- the calls' classes stay or end as the calls do
+left_as_class : (k : Classes) (s : SenderState) (call : Option Call) → left_as s (option_map (as_call k) call) ≡ left_as s call
+unfolding left_as
+left_as_class k s None = refl
+left_as_class k SS.Ready (Some (Poll number)) = refl
+left_as_class k (SS.At position) (Some (Poll number)) = refl
+left_as_class k SS.Failed (Some (Poll number)) = refl
+left_as_class k SS.Ended (Some (Poll number)) = refl
+left_as_class k s (Some _) = refl
+
+sender_left_class : (k : Classes) (reply : Option Reply) (s : SenderState) (call : Option Call) → sender_left_by_its_call reply s (option_map (as_call k) call) ≡ true → sender_left_by_its_call reply s call ≡ true
+unfolding sender_left_by_its_call
+sender_left_class k None s call h = refl
+sender_left_class k (Some Replies.Refused) s call h = refl
+sender_left_class k (Some _) s call h = sym (left_as_class k s call) ∙ h
+
+receiver_left_class : (k : Classes) (reply : Option Reply) (s : ReceiverState) (call : Option Call) → receiver_left_by_its_call reply s (option_map (as_call k) call) ≡ true → receiver_left_by_its_call reply s call ≡ true
+unfolding receiver_left_by_its_call ends_right
+receiver_left_class k None s call h = refl
+receiver_left_class k (Some reply) s None h = h
+receiver_left_class k (Some reply) RS.Ready (Some (Poll number)) h = h
+receiver_left_class k (Some reply) (RS.At position) (Some (Poll number)) h = h
+receiver_left_class k (Some reply) RS.Ended (Some (Poll number)) h = h
+receiver_left_class k (Some reply) s (Some _) h = h
 
 -- a position that an end of a reached world has, has a step, and the world after it is reached
-pub sender_makes : (w : World) (position : SenderPos) → IsReached w → sender_at w ≡ Some position → IsSome (sender_steps w.state position)
-sender_makes w position h at = made_if (sender_begin w) (after_sender w) (sender_steps w.state position) (sender_leads w position h at)
+pub sender_makes : (w : World) (position : SenderPos) → IsReached w → sender_at w ≡ Some position → IsSome (sender_steps nothing_told w.state position)
+sender_makes w position h at = made_if (as_begin all_alike (sender_begin w)) (after_sender w) (sender_steps nothing_told w.state position) (sender_leads w position h at)
 
-pub receiver_makes : (over : Bool) (w : World) (position : ReceiverPos) → IsReached w → receiver_at w ≡ Some position → IsSome (receiver_steps over w.state position)
-receiver_makes over w position h at = made_if (receiver_begin over w) (after_receiver w) (receiver_steps over w.state position) (receiver_leads over w position h at)
+pub receiver_makes : (answer : Bool) (entry : ℕ) (w : World) (position : ReceiverPos) → IsReached w → receiver_at w ≡ Some position → IsSome (receiver_steps (receiver_told answer entry w) w.state position)
+receiver_makes answer entry w position h at = made_if (as_begin all_alike (receiver_begin answer entry w)) (after_receiver w) (receiver_steps (receiver_told answer entry w) w.state position) (receiver_leads answer entry w position h at)
 
-pub sender_row_reaches : (w : World) (position : SenderPos) (row : Outcome SenderPos) → IsReached w → sender_at w ≡ Some position → sender_steps w.state position ≡ Some (sender_stepped w.state (sender_step position) row) → IsReached (sender_world w (sender_step position) row)
+pub sender_row_reaches : (w : World) (position : SenderPos) (row : Outcome SenderPos) → IsReached w → sender_at w ≡ Some position → sender_steps nothing_told w.state position ≡ Some (sender_stepped nothing_told w.state (sender_step position) row) → IsReached (sender_world w (sender_step position) row)
 unfolding leads_on
 sender_row_reaches w position row h at steps =
     let leads = rw steps at (sender_leads w position h at) in
     sender_stays_reached w (sender_step position) row h
     (sender_has_script w.state.message w.state.sender _ position w.sender.calls at h.sender)
-    (and_left _ (sender_left_by_its_call (reply_of row) (sender_goes (sender_step position) row) (first w.sender.calls)) leads)
-    (and_right (is_reached (control_then Sender (first w.sender.calls) (control_of w) (sender_stepped w.state (sender_step position) row).1)) _ leads)
+    (and_left _ (sender_left_by_its_call (reply_of row) (sender_goes (sender_step position) row) (option_map (as_call all_alike) (first w.sender.calls))) leads)
+    (sender_left_class all_alike (reply_of row) (sender_goes (sender_step position) row) (first w.sender.calls)
+    (and_right (is_reached (as_control all_alike (control_then Sender (first w.sender.calls) (control_of w) (sender_moved nothing_told w.state (sender_step position) row)))) _ leads))
 
-pub receiver_row_reaches : (over : Bool) (w : World) (position : ReceiverPos) (row : Outcome ReceiverPos) → IsReached w → receiver_at w ≡ Some position → receiver_steps over w.state position ≡ Some (receiver_stepped over w.state (receiver_step position) row) → IsReached (receiver_world w (receiver_step position) row)
+pub receiver_row_reaches : (answer : Bool) (entry : ℕ) (w : World) (position : ReceiverPos) (row : Outcome ReceiverPos) → IsReached w → receiver_at w ≡ Some position → receiver_steps (receiver_told answer entry w) w.state position ≡ Some (receiver_stepped (receiver_told answer entry w) w.state (receiver_step position) row) → IsReached (receiver_world (receiver_told answer entry w) w (receiver_step position) row)
 unfolding leads_on
-receiver_row_reaches over w position row h at steps =
-    let leads = rw steps at (receiver_leads over w position h at) in
-    receiver_stays_reached w (receiver_step position) row h
-    (receiver_has_script w.state.receiver _ position w.receiver.calls at h.receiver)
-    (and_left _ (receiver_left_by_its_call (receiver_goes (receiver_step position) row) (first w.receiver.calls)) leads)
-    (and_right (is_reached (control_then Receiver (first w.receiver.calls) (control_of w) (receiver_moved w.state (receiver_step position) row))) _ leads)
+receiver_row_reaches answer entry w position row h at steps =
+    let leads = rw steps at (receiver_leads answer entry w position h at) in
+    receiver_stays_reached (receiver_told answer entry w) w (receiver_step position) row h
+    (receiver_has_script w.state.receiver w.state.future _ position w.receiver.calls at h.receiver)
+    (and_left _ (receiver_left_by_its_call (reply_of row) (receiver_goes (receiver_step position) row) (option_map (as_call all_alike) (first w.receiver.calls))) leads)
+    (receiver_left_class all_alike (reply_of row) (receiver_goes (receiver_step position) row) (first w.receiver.calls)
+    (and_right (is_reached (as_control all_alike (control_then Receiver (first w.receiver.calls) (control_of w) (receiver_moved (receiver_told answer entry w) w.state (receiver_step position) row)))) _ leads))
 
 -- a step that is made, is made by a row
-pub sender_made_by : (s : State) (position : SenderPos) (t : Made × State) → sender_steps s position ≡ Some t → (row : Outcome SenderPos) × (sender_stepped s (sender_step position) row ≡ t)
-sender_made_by s position t h = from_row (sender_fits s (sender_step position)) (sender_stepped s (sender_step position)) (sender_row position (seen_by false s (sender_step position))) t h
+pub sender_made_by : (t : Told) (s : State) (position : SenderPos) (x : Made × State) → sender_steps t s position ≡ Some x → (row : Outcome SenderPos) × (sender_stepped t s (sender_step position) row ≡ x)
+sender_made_by t s position x h = from_row (sender_fits s (sender_step position)) (sender_stepped t s (sender_step position)) (sender_row position (seen_by t.answer s (sender_step position))) x h
 
-pub receiver_made_by : (over : Bool) (s : State) (position : ReceiverPos) (t : Made × State) → receiver_steps over s position ≡ Some t → (row : Outcome ReceiverPos) × (receiver_stepped over s (receiver_step position) row ≡ t)
-receiver_made_by over s position t h = from_row (receiver_fits s (receiver_step position)) (receiver_stepped over s (receiver_step position)) (receiver_row position (seen_by over s (receiver_step position))) t h
+pub receiver_made_by : (t : Told) (s : State) (position : ReceiverPos) (x : Made × State) → receiver_steps t s position ≡ Some x → (row : Outcome ReceiverPos) × (receiver_stepped t s (receiver_step position) row ≡ x)
+receiver_made_by t s position x h = from_row (receiver_fits s (receiver_step position)) (receiver_stepped t s (receiver_step position)) (receiver_row position (seen_by t.answer s (receiver_step position))) x h
 
-pub sender_reaches : (w : World) (position : SenderPos) (e : Made) (s : State) → IsReached w → sender_at w ≡ Some position → sender_steps w.state position ≡ Some (e, s) → IsReached (record { state = s; sender = left_by Sender e.reply w.sender; receiver = w.receiver })
+pub sender_reaches : (w : World) (position : SenderPos) (e : Made) (s : State) → IsReached w → sender_at w ≡ Some position → sender_steps nothing_told w.state position ≡ Some (e, s) → IsReached (record { state = s; sender = left_by Sender e.reply w.sender; receiver = w.receiver })
 sender_reaches w position e s h at steps =
-    let made = sender_made_by w.state position (e, s) steps in
-    let same : sender_stepped w.state (sender_step position) made.0 ≡ (e, s) = made.1 in
+    let made = sender_made_by nothing_told w.state position (e, s) steps in
+    let same : sender_stepped nothing_told w.state (sender_step position) made.0 ≡ (e, s) = made.1 in
     subst (λ (t : Made × State). IsReached (record { state = t.1; sender = left_by Sender t.0.reply w.sender; receiver = w.receiver })) same
     (sender_row_reaches w position made.0 h at (steps ∙ ap (λ (t : Made × State). Some t) (sym same)))
 
-pub receiver_reaches : (over : Bool) (w : World) (position : ReceiverPos) (e : Made) (s : State) → IsReached w → receiver_at w ≡ Some position → receiver_steps over w.state position ≡ Some (e, s) → IsReached (record { state = s; sender = w.sender; receiver = left_by Receiver e.reply w.receiver })
-receiver_reaches over w position e s h at steps =
-    let made = receiver_made_by over w.state position (e, s) steps in
-    let same : receiver_stepped over w.state (receiver_step position) made.0 ≡ (e, s) = made.1 in
+pub receiver_reaches : (answer : Bool) (entry : ℕ) (w : World) (position : ReceiverPos) (e : Made) (s : State) → IsReached w → receiver_at w ≡ Some position → receiver_steps (receiver_told answer entry w) w.state position ≡ Some (e, s) → IsReached (record { state = s; sender = w.sender; receiver = left_by Receiver e.reply w.receiver })
+receiver_reaches answer entry w position e s h at steps =
+    let made = receiver_made_by (receiver_told answer entry w) w.state position (e, s) steps in
+    let same : receiver_stepped (receiver_told answer entry w) w.state (receiver_step position) made.0 ≡ (e, s) = made.1 in
     subst (λ (t : Made × State). IsReached (record { state = t.1; sender = w.sender; receiver = left_by Receiver t.0.reply w.receiver })) same
-    (receiver_row_reaches over w position made.0 h at (steps ∙ ap (λ (t : Made × State). Some t) (sym same)))
+    (receiver_row_reaches answer entry w position made.0 h at (steps ∙ ap (λ (t : Made × State). Some t) (sym same)))
 
 -- the world before the first move is reached
-nothing_sent : is_reached (opening_control None) ≡ true
+nothing_sent : is_reached (as_control all_alike (opening_control None)) ≡ true
 unfolding reached
 nothing_sent = refl
 
-message_there : is_reached (opening_control (Some NotSent)) ≡ true
+message_there : is_reached (as_control all_alike (opening_control (Some NotSent))) ≡ true
 unfolding reached
 message_there = refl
 
-opening_place_reached : {T : Type 0} (last : SenderLast T) → is_reached (opening_control (opening_place last)) ≡ true
+opening_place_reached : {T : Type 0} (last : SenderLast T) → is_reached (as_control all_alike (opening_control (opening_place last))) ≡ true
 opening_place_reached (SL.Send message error) = message_there
 opening_place_reached SL.Drop = nothing_sent
 opening_place_reached SL.Stop = nothing_sent

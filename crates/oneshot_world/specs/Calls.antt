@@ -1,5 +1,5 @@
 -- The calls of a pair of scripts, as lists, and what is left of them as they are answered.
-use Rattle.std.specs.Prelude.{Bool, true, false, List, [], ◌∷◌, ◌++◌, map, replicate, Option, Some, None}
+use Rattle.std.specs.Prelude.{ℕ, Bool, true, false, List, [], ◌∷◌, ◌++◌, map, replicate, Option, Some, None}
 use Rattle.oneshot_machine.specs.declared.machine.End.{End}
 use Rattle.oneshot_machine.specs.declared.machine.End.TheVariants.{Sender, Receiver}
 use Rattle.oneshot_machine.specs.declared.machine.Reply.{Reply}
@@ -8,6 +8,10 @@ use Rattle.oneshot_machine.specs.declared.machine.receiver.ReceiverStart.{Receiv
 use Rattle.oneshot_machine.specs.declared.machine.receiver.ReceiverStart.TheVariants as RS
 use Rattle.oneshot_machine.specs.declared.machine.sender.SenderCall.{SenderCall}
 use Rattle.oneshot_machine.specs.declared.machine.sender.SenderCall.TheVariants as SC
+use Rattle.oneshot_world.specs.declared.script.AsyncCall.{AsyncCall}
+use Rattle.oneshot_world.specs.declared.script.AsyncCall.TheVariants as AC
+use Rattle.oneshot_world.specs.declared.script.AsyncLast.{AsyncLast}
+use Rattle.oneshot_world.specs.declared.script.AsyncLast.TheVariants as AL
 use Rattle.oneshot_world.specs.declared.script.ErrorLast.{ErrorLast}
 use Rattle.oneshot_world.specs.declared.script.ErrorLast.TheVariants as EL
 use Rattle.oneshot_world.specs.declared.script.ErrorScript.{ErrorScript}
@@ -36,6 +40,9 @@ pub data Call : Type 0 where
   Has_message : Call
   Is_closed : Call
   Drop_receiver : Call
+  Into_future : Call
+  Poll : (number : ℕ) → Call
+  Drop_async : Call
   Stray : Call
 
 -- the call as the sender's machine begins it, and as the receiver's does; a call of the other end is none of its own
@@ -54,6 +61,9 @@ as_sender_call Recv = None
 as_sender_call Has_message = None
 as_sender_call Is_closed = None
 as_sender_call Drop_receiver = None
+as_sender_call Into_future = None
+as_sender_call (Poll number) = None
+as_sender_call Drop_async = None
 as_sender_call Stray = None
 
 abbrev pub as_receiver_call : Call → Option ReceiverStart
@@ -71,7 +81,15 @@ as_receiver_call Recv = Some RS.Recv
 as_receiver_call Has_message = Some RS.HasMessage
 as_receiver_call Is_closed = Some RS.IsClosed
 as_receiver_call Drop_receiver = Some RS.Drop
+as_receiver_call Into_future = Some RS.IntoFuture
+as_receiver_call (Poll number) = Some RS.Poll
+as_receiver_call Drop_async = Some RS.DropAsync
 as_receiver_call Stray = None
+
+-- the number of a poll's waker
+abbrev pub number_of : Call → Option ℕ
+number_of (Poll number) = Some number
+number_of _ = None
 
 -- the call of the sender that its machine begins so
 abbrev pub of_sender : SenderCall → Call
@@ -114,9 +132,22 @@ receiver_call (RC.RecvTimeout representable) = Recv_timeout representable
 receiver_call RC.HasMessage = Has_message
 receiver_call RC.IsClosed = Is_closed
 
+abbrev pub async_call : AsyncCall → Call
+async_call (AC.Poll number) = Poll number
+async_call AC.HasMessage = Has_message
+async_call AC.IsClosed = Is_closed
+
+abbrev pub async_last : AsyncLast → List Call
+async_last AL.Drop = Drop_async ∷ []
+async_last AL.Stop = []
+
+abbrev pub async_calls : List AsyncCall → AsyncLast → List Call
+async_calls calls last = map async_call calls ++ async_last last
+
 abbrev pub receiver_last : ReceiverLast → List Call
 receiver_last RL.Recv = Recv ∷ []
 receiver_last RL.Drop = Drop_receiver ∷ []
+receiver_last (RL.IntoFuture script) = Into_future ∷ async_calls script.calls script.last
 receiver_last RL.Stop = []
 
 abbrev pub receiver_calls : List ReceiverCall → ReceiverLast → List Call

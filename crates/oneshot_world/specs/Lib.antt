@@ -5,4 +5,6 @@ pub mod State
 pub mod World
 pub mod Ahead
 pub mod Explore
+pub mod Classes
 pub mod Control
+pub mod Commutes

@@ -1,5 +1,5 @@
 -- One step of one end: what it tells, and the state that it leaves.
-use Rattle.std.specs.Prelude.{ℕ, Bool, true, false, ◌&&◌, is_some, is_none, Option, Some, None, if◌then◌else◌}
+use Rattle.std.specs.Prelude.{ℕ, Bool, true, false, ◌&&◌, ◌||◌, is_some, is_none, Option, Some, None, if◌then◌else◌}
 use Rattle.std.specs.Option.{option_map, option_and_then}
 use Rattle.oneshot_machine.specs.States.{word_after}
 use Rattle.oneshot_machine.specs.Rows.{Outcome, Goes, Answers}
@@ -12,14 +12,15 @@ use Rattle.oneshot_machine.specs.declared.machine.Reply.TheVariants as R
 use Rattle.oneshot_machine.specs.declared.machine.Seen.{Seen}
 use Rattle.oneshot_machine.specs.declared.machine.Seen.TheVariants as S
 use Rattle.oneshot_machine.specs.declared.machine.Step.{Step}
-use Rattle.oneshot_machine.specs.declared.machine.Step.TheVariants.{Word, WriteMessage, TakeMessage, DropMessage, WriteWaker, TakeWaker, Withdraw, Park, Clock, Wake, Free, Plain}
+use Rattle.oneshot_machine.specs.declared.machine.Step.TheVariants as T
+use Rattle.oneshot_machine.specs.declared.machine.Step.TheVariants.{Word, WriteMessage, TakeMessage, DropMessage, WriteWaker, TakeWaker, Withdraw, Park, Clock, Wake, WakeOwn, Free, Plain}
 use Rattle.oneshot_machine.specs.declared.machine.receiver.ReceiverPos.{ReceiverPos}
 use Rattle.oneshot_machine.specs.declared.machine.receiver.ReceiverStart.{ReceiverStart}
 use Rattle.oneshot_machine.specs.declared.machine.sender.SenderCall.{SenderCall}
 use Rattle.oneshot_machine.specs.declared.machine.sender.SenderPos.{SenderPos}
 use Rattle.oneshot_machine.specs.declared.states.Op.TheVariants.{Store}
 use Rattle.oneshot_world.specs.Calls.{Call, as_sender_call, as_receiver_call}
-use Rattle.oneshot_world.specs.Wakers.{opening_wakers, wakers_left, waker_move, sets_token}
+use Rattle.oneshot_world.specs.Wakers.{opening_wakers, wakers_left, waker_move, sets_token, own_of, is_copy}
 use Rattle.oneshot_world.specs.declared.state.ReceiverState.{ReceiverState}
 use Rattle.oneshot_world.specs.declared.state.ReceiverState.TheVariants as RS
 use Rattle.oneshot_world.specs.declared.state.SenderState.{SenderState}
@@ -30,6 +31,8 @@ use Rattle.oneshot_world.specs.declared.trace.Entry.TheVariants.{Idle, Made as M
 use Rattle.oneshot_world.specs.declared.trace.Made.{Made}
 use Rattle.oneshot_world.specs.declared.trace.Place.{Place}
 use Rattle.oneshot_world.specs.declared.trace.Place.TheVariants.{NotSent, InCell, InError, Delivered, FromError, Dropped}
+use Rattle.oneshot_world.specs.declared.wakers.Told.{Told}
+use Rattle.oneshot_world.specs.declared.wakers.Wakers.{Wakers}
 
 -- before the first move
 abbrev pub opening_state : Option Place → State
@@ -39,17 +42,19 @@ opening_state message =
       freed = false;
       sender = SS.Ready;
       receiver = RS.Ready;
+      future = false;
       message = message;
       wakers = opening_wakers;
     }
 
--- what a step sees: an operation on the word sees the word before it, but a store sees nothing; a park sees its token, and a clock what the move gives
+-- what a step sees: an operation on the word sees the word before it, but a store sees nothing; a park sees its token, and a clock or a copy what the move is told
 abbrev pub seen_by : Bool → State → Step → Seen
-seen_by over s (Word (Store new)) = S.Done
-seen_by over s (Word op) = S.Word s.word
-seen_by over s Park = S.Token s.wakers.token
-seen_by over s Clock = S.Over over
-seen_by over s _ = S.Done
+seen_by answer s (Word (Store new)) = S.Done
+seen_by answer s (Word op) = S.Word s.word
+seen_by answer s Park = S.Token s.wakers.token
+seen_by answer s Clock = S.Over answer
+seen_by answer s T.Copy = S.Refused answer
+seen_by answer s _ = S.Done
 
 abbrev pub word_left : ℕ → Step → ℕ
 word_left word (Word op) = word_after op word
@@ -88,13 +93,16 @@ sender_fits s WriteWaker = false
 sender_fits s Withdraw = false
 sender_fits s Park = false
 sender_fits s Clock = false
+sender_fits s T.Copy = false
+sender_fits s WakeOwn = false
 sender_fits s _ = true
 
 abbrev pub receiver_fits : State → Step → Bool
 receiver_fits s TakeMessage = is_in_cell s.message
 receiver_fits s DropMessage = is_in_cell s.message
 receiver_fits s WriteWaker = is_some s.wakers.hand && is_none s.wakers.cell
-receiver_fits s Withdraw = is_some s.wakers.cell && is_none s.wakers.hand
+receiver_fits s Withdraw = is_some s.wakers.cell && (is_copy s.wakers.cell || is_none s.wakers.hand)
+receiver_fits s T.Copy = is_none s.wakers.hand
 receiver_fits s WriteMessage = false
 receiver_fits s TakeWaker = false
 receiver_fits s Wake = false
@@ -154,63 +162,78 @@ receiver_goes step (Answers R.Done) = RS.Ended
 receiver_goes step (Answers _) = if is_free step then RS.Ended else RS.Ready
 
 -- what an end's step tells, with its reply if it ends the call, and the place where it puts the message
-abbrev pub made : End → Bool → State → Step → Option Reply → Option Place → Made
-made side over s step reply to =
+abbrev pub made : End → Told → State → Step → Option Reply → Option Place → Made
+made side t s step reply to =
     record {
       side = side;
       step = step;
-      seen = seen_by over s step;
+      seen = seen_by t.answer s step;
       before = shown s.freed s.word;
       after = shown (freed_by s.freed step) (word_left s.word step);
       message = move_of s.message to;
-      waker = waker_move s.wakers step;
+      waker = waker_move t s.word s.wakers step;
       token_set = sets_token s.wakers step;
-      own = None;
+      own = own_of t step;
       reply = reply;
     }
 
 -- the state after a step that puts the message there, but for where its end stands
-abbrev pub moved : State → Step → Option Place → State
-moved s step to =
+abbrev pub moved : Told → State → Step → Option Place → State
+moved t s step to =
     record s {
       word = word_left s.word step;
       freed = freed_by s.freed step;
       message = place_left s.message to;
-      wakers = wakers_left s.wakers step;
+      wakers = wakers_left t s.word s.wakers step;
     }
 
 -- a step by a row of its table
-abbrev pub sender_stepped : State → Step → Outcome SenderPos → Made × State
-sender_stepped s step row = (
-  made Sender false s step (reply_of row) (sender_puts step (reply_of row)),
-  record (moved s step (sender_puts step (reply_of row))) { sender = sender_goes step row },
+abbrev pub sender_moved : Told → State → Step → Outcome SenderPos → State
+sender_moved t s step row = record (moved t s step (sender_puts step (reply_of row))) { sender = sender_goes step row }
+
+abbrev pub sender_stepped : Told → State → Step → Outcome SenderPos → Made × State
+sender_stepped t s step row = (
+  made Sender t s step (reply_of row) (sender_puts step (reply_of row)),
+  sender_moved t s step row,
 )
 
--- the state that the receiver's step leaves, which is the same whatever a clock answers
-abbrev pub receiver_moved : State → Step → Outcome ReceiverPos → State
-receiver_moved s step row = record (moved s step (receiver_puts step)) { receiver = receiver_goes step row }
+-- the receiver becomes a future, and its hand gives up the parker's half
+abbrev pub is_future : Option Reply → Bool
+is_future (Some R.Future) = true
+is_future _ = false
 
-abbrev pub receiver_stepped : Bool → State → Step → Outcome ReceiverPos → Made × State
-receiver_stepped over s step row = (
-  made Receiver over s step (reply_of row) (receiver_puts step),
-  receiver_moved s step row,
+abbrev pub hand_kept : Bool → Wakers → Wakers
+hand_kept future w = record w { hand = if future then None else w.hand }
+
+abbrev pub receiver_moved : Told → State → Step → Outcome ReceiverPos → State
+receiver_moved t s step row =
+    record (moved t s step (receiver_puts step)) {
+      receiver = receiver_goes step row;
+      future = s.future || is_future (reply_of row);
+      wakers = hand_kept (is_future (reply_of row)) (wakers_left t s.word s.wakers step);
+    }
+
+abbrev pub receiver_stepped : Told → State → Step → Outcome ReceiverPos → Made × State
+receiver_stepped t s step row = (
+  made Receiver t s step (reply_of row) (receiver_puts step),
+  receiver_moved t s step row,
 )
 
 -- the step that is made at a position; none where the table has no row for what is seen, or the cell is not as the step needs it
-abbrev pub sender_steps : State → SenderPos → Option (Made × State)
-sender_steps s position =
+abbrev pub sender_steps : Told → State → SenderPos → Option (Made × State)
+sender_steps t s position =
     if sender_fits s (sender_step position)
     then option_map
-    (sender_stepped s (sender_step position))
-    (sender_row position (seen_by false s (sender_step position)))
+    (sender_stepped t s (sender_step position))
+    (sender_row position (seen_by t.answer s (sender_step position)))
     else None
 
-abbrev pub receiver_steps : Bool → State → ReceiverPos → Option (Made × State)
-receiver_steps over s position =
+abbrev pub receiver_steps : Told → State → ReceiverPos → Option (Made × State)
+receiver_steps t s position =
     if receiver_fits s (receiver_step position)
     then option_map
-    (receiver_stepped over s (receiver_step position))
-    (receiver_row position (seen_by over s (receiver_step position)))
+    (receiver_stepped t s (receiver_step position))
+    (receiver_row position (seen_by t.answer s (receiver_step position)))
     else None
 
 -- where an end makes its next step: in the call under way, or at the start of the next call
@@ -229,21 +252,22 @@ abbrev pub made_entry : Made × State → Entry × State
 made_entry stepped = (Made_entry stepped.0, stepped.1)
 
 -- what an end does at its position: without one it has no step to make, and is idle
-abbrev pub sender_turns_at : State → Option SenderPos → Option (Entry × State)
-sender_turns_at s None = Some (Idle Sender, s)
-sender_turns_at s (Some position) = option_map made_entry (sender_steps s position)
+abbrev pub sender_turns_at : Told → State → Option SenderPos → Option (Entry × State)
+sender_turns_at t s None = Some (Idle Sender, s)
+sender_turns_at t s (Some position) = option_map made_entry (sender_steps t s position)
 
-abbrev pub receiver_turns_at : Bool → State → Option ReceiverPos → Option (Entry × State)
-receiver_turns_at over s None = Some (Idle Receiver, s)
-receiver_turns_at over s (Some position) = option_map made_entry (receiver_steps over s position)
+abbrev pub receiver_turns_at : Told → State → Option ReceiverPos → Option (Entry × State)
+receiver_turns_at t s None = Some (Idle Receiver, s)
+receiver_turns_at t s (Some position) = option_map made_entry (receiver_steps t s position)
 
--- what an end does whose call under way, or next, is this one
-abbrev pub sender_turns : State → Option Call → Option (Entry × State)
-sender_turns s call = sender_turns_at s (sender_position s.sender (option_and_then as_sender_call call))
+-- where an end stands whose call under way, or next, is this one
+abbrev pub sender_stands : State → Option Call → Option SenderPos
+sender_stands s call = sender_position s.sender (option_and_then as_sender_call call)
 
-abbrev pub receiver_turns : Bool → State → Option Call → Option (Entry × State)
-receiver_turns over s call = receiver_turns_at over s (receiver_position s.receiver (option_and_then as_receiver_call call))
+abbrev pub receiver_stands : State → Option Call → Option ReceiverPos
+receiver_stands s call = receiver_position s.receiver (option_and_then as_receiver_call call)
 
-abbrev pub turns : End → Bool → State → Option Call → Option (Entry × State)
-turns Sender over s call = sender_turns s call
-turns Receiver over s call = receiver_turns over s call
+-- and what it does
+abbrev pub turns : End → Told → State → Option Call → Option (Entry × State)
+turns Sender t s call = sender_turns_at t s (sender_stands s call)
+turns Receiver t s call = receiver_turns_at t s (receiver_stands s call)

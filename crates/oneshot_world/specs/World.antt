@@ -1,11 +1,15 @@
 -- The world between two moves, and a run as a list of worlds.
-use Rattle.std.specs.Prelude.{◌≡◌, Bool, false, List, [], ◌∷◌, Option, Some, None}
-use Rattle.std.specs.Option.{option_map}
+use Rattle.std.specs.Prelude.{◌≡◌, ℕ, ◌+◌, if◌then◌else◌, Bool, true, false, List, [], ◌∷◌, Option, Some, None}
+use Rattle.std.specs.Option.{option_map, option_and_then}
 use Rattle.oneshot_machine.specs.declared.machine.End.{End}
 use Rattle.oneshot_machine.specs.declared.machine.End.TheVariants.{Sender, Receiver}
 use Rattle.oneshot_machine.specs.declared.machine.Reply.{Reply}
-use Rattle.oneshot_world.specs.Calls.{Unanswered, Calls, calls_of, first, left_by}
-use Rattle.oneshot_world.specs.State.{opening_state, turns}
+use Rattle.oneshot_machine.specs.declared.machine.Step.{Step}
+use Rattle.oneshot_machine.specs.declared.machine.Step.TheVariants as T
+use Rattle.oneshot_machine.specs.declared.machine.receiver.ReceiverPos.{ReceiverPos}
+use Rattle.oneshot_machine.specs.Receiver.{receiver_step}
+use Rattle.oneshot_world.specs.Calls.{Unanswered, Calls, calls_of, first, left_by, number_of}
+use Rattle.oneshot_world.specs.State.{opening_state, receiver_stands, turns}
 use Rattle.oneshot_world.specs.declared.script.Move.{Move}
 use Rattle.oneshot_world.specs.declared.script.Move.TheVariants as M
 use Rattle.oneshot_world.specs.declared.script.ReceiverScript.{ReceiverScript}
@@ -16,6 +20,8 @@ use Rattle.oneshot_world.specs.declared.state.State.{State}
 use Rattle.oneshot_world.specs.declared.trace.Entry.{Entry}
 use Rattle.oneshot_world.specs.declared.trace.Entry.TheVariants.{Idle, Made as Made_entry}
 use Rattle.oneshot_world.specs.declared.trace.Place.{Place}
+use Rattle.oneshot_world.specs.declared.trace.WakerName.TheVariants.{Copy}
+use Rattle.oneshot_world.specs.declared.wakers.Told.{Told}
 use Rattle.oneshot_world.specs.declared.trace.Place.TheVariants.{NotSent}
 
 -- the word, the block, both ends' positions, the message's place and the wakers; and what each script has left
@@ -45,10 +51,25 @@ abbrev pub side_of : Move → End
 side_of M.Sender = Sender
 side_of (M.Receiver over refuse) = Receiver
 
--- what a clock answers that is read by the move: only the receiver reads one
-abbrev pub over_of : Move → Bool
-over_of M.Sender = false
-over_of (M.Receiver over refuse) = over
+-- what a move answers to a clock, or of a copy: only the receiver asks
+abbrev pub is_copying : Step → Bool
+is_copying T.Copy = true
+is_copying _ = false
+
+abbrev pub copies_at : Option ReceiverPos → Bool
+copies_at None = false
+copies_at (Some position) = is_copying (receiver_step position)
+
+abbrev pub answer_of : Option ReceiverPos → Bool → Bool → Bool
+answer_of position over refuse = if copies_at position then refuse else over
+
+-- what a move is told that makes this entry: a poll also the copy that it makes then, and its number
+abbrev pub told_with : Bool → ℕ → Option ℕ → Told
+told_with answer entry number =
+    record { answer = answer; copy = option_map (λ number. Copy number entry) number; own = number }
+
+abbrev pub nothing_told : Told
+nothing_told = record { answer = false; copy = None; own = None }
 
 abbrev pub by_end : {X : Type 0} → End → X → X → X
 by_end Sender sender receiver = sender
@@ -75,15 +96,28 @@ world_then side w turned = (
   },
 )
 
--- A move, with what a clock answers then: what it tells, and the world that it leads to. None where the moving end finds what its table has no row for, or a cell or a hand is not as the step needs it.
-abbrev pub turn_of : End → Bool → World → Option (Entry × World)
-turn_of side over w = option_map (world_then side w) (turns side over w.state (first (by_end side w.sender w.receiver).calls))
+-- what the receiver is told
+abbrev pub receiver_told : Bool → ℕ → World → Told
+receiver_told answer entry w = told_with answer entry (option_and_then number_of (first w.receiver.calls))
 
-abbrev pub turn : World → Move → Option (Entry × World)
-turn w move = turn_of (side_of move) (over_of move) w
+-- what an end of a world does
+abbrev pub turn_of : End → Told → World → Option (Entry × World)
+turn_of side t w = option_map (world_then side w) (turns side t w.state (first (by_end side w.sender w.receiver).calls))
+
+abbrev pub told_of : Move → ℕ → World → Told
+told_of M.Sender entry w = nothing_told
+told_of (M.Receiver over refuse) entry w =
+    receiver_told (answer_of (receiver_stands w.state (first w.receiver.calls)) over refuse) entry w
+
+-- A move, by which entry `entry` is made, counted from 1: what it tells, and the world that it leads to. None where the moving end finds what its table has no row for, or a cell or a hand is not as the step needs it.
+abbrev pub turn : ℕ → World → Move → Option (Entry × World)
+turn entry w move = turn_of (side_of move) (told_of move entry w) w
 
 -- A run: entry k tells the step from world k to world k + 1 by move k. The worlds are one more than the moves, `w` and then these.
+abbrev pub Tells_from : ℕ → World → List World → List Move → List Entry → Type 0
+Tells_from k w [] [] [] = Unit {0}
+Tells_from k w (next ∷ worlds) (move ∷ moves) (entry ∷ entries) = (turn k w move ≡ Some (entry, next)) × Tells_from (k + 1) next worlds moves entries
+Tells_from k w _ _ _ = ⊥
+
 abbrev pub Tells : World → List World → List Move → List Entry → Type 0
-Tells w [] [] [] = Unit {0}
-Tells w (next ∷ worlds) (move ∷ moves) (entry ∷ entries) = (turn w move ≡ Some (entry, next)) × Tells next worlds moves entries
-Tells w _ _ _ = ⊥
+Tells = Tells_from 1

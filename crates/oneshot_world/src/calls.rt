@@ -3,15 +3,16 @@
 ghost use Rattle.std.specs.Prelude.{◌≡◌, []};
 ghost use Rattle.std.specs.Option.{option_and_then};
 ghost use Rattle.oneshot_machine.specs.declared.machine.End.TheVariants as Ends;
-ghost use Rattle.oneshot_world.specs.Calls.{first, rest, left_by, as_sender_call, as_receiver_call, sender_calls, error_script, error_calls, receiver_calls};
+ghost use Rattle.oneshot_world.specs.Calls.{first, rest, left_by, as_sender_call, as_receiver_call, sender_calls, error_script, error_calls, receiver_calls, async_calls, number_of};
 ghost use Rattle.oneshot_world.specs.Looks.{looks_left};
 
 use crate::script::{
-    CallList, ErrorLast, ErrorScript, ReceiverCall, ReceiverLast, ReceiverScript, SenderLast,
-    SenderScript,
+    AsyncCall, AsyncLast, AsyncScript, CallList, ErrorLast, ErrorScript, ReceiverCall,
+    ReceiverLast, ReceiverScript, SenderLast, SenderScript,
 };
 use oneshot_machine::machine::{ReceiverStart, Reply, SenderCall};
 use std::marker::Model;
+use std::mem;
 
 /// What is left of a script that looks so many times and then makes its last call.
 #[derive(Clone, Copy)]
@@ -133,21 +134,96 @@ fn no_error() -> Looks
     }
 }
 
-/// The calls of the receiver that are not answered yet.
+/// The calls of the future that are not answered yet.
+#[derive(Drop)]
+struct FutureCalls {
+    calls: CallList<AsyncCall>,
+    answered: usize,
+    last: AsyncLast,
+}
+
+impl Model for FutureCalls {
+    ghost use Rattle.std.specs.Prelude.{List, drop, length, ◌≤◌};
+    ghost use Rattle.oneshot_world.specs.Calls.{Call, async_calls};
+
+    ghost Value = { List Call };
+
+    ghost view = { λ c. async_calls (drop c.answered c.calls) c.last };
+
+    ghost invariant = { λ c. c.answered ≤ length c.calls };
+}
+
+impl FutureCalls {
+    fn new(script: AsyncScript) -> FutureCalls
+        ensures { result ≡ async_calls script.calls script.last }
+    {
+        FutureCalls {
+            calls: script.calls,
+            answered: 0,
+            last: script.last,
+        }
+    }
+
+    fn first(&self) -> Option<ReceiverStart>
+        ensures { result ≡ option_and_then as_receiver_call (first self.now) }
+    {
+        let calls = self.calls.as_slice();
+        if self.answered < calls.len() {
+            match calls[self.answered] {
+                AsyncCall::Poll(_) => Some(ReceiverStart::Poll),
+                AsyncCall::HasMessage => Some(ReceiverStart::HasMessage),
+                AsyncCall::IsClosed => Some(ReceiverStart::IsClosed),
+            }
+        } else {
+            match self.last {
+                AsyncLast::Drop => Some(ReceiverStart::DropAsync),
+                AsyncLast::Stop => None,
+            }
+        }
+    }
+
+    fn number(&self) -> Option<u64>
+        ensures { result ≡ option_and_then number_of (first self.now) }
+    {
+        let calls = self.calls.as_slice();
+        if self.answered < calls.len() {
+            match calls[self.answered] {
+                AsyncCall::Poll(number) => Some(number),
+                AsyncCall::HasMessage | AsyncCall::IsClosed => None,
+            }
+        } else {
+            None
+        }
+    }
+
+    fn answer(&mut self)
+        ensures { self.new ≡ rest self.old }
+    {
+        if self.answered < self.calls.as_slice().len() {
+            self.answered += 1;
+        } else {
+            self.last = AsyncLast::Stop;
+        }
+    }
+}
+
+/// The calls of the receiver that are not answered yet, and those of the future that it became.
 #[derive(Drop)]
 pub(crate) struct ReceiverCalls {
     calls: CallList<ReceiverCall>,
     answered: usize,
     last: ReceiverLast,
+    future: Option<FutureCalls>,
 }
 
 impl Model for ReceiverCalls {
     ghost use Rattle.std.specs.Prelude.{[], drop, length, ◌≤◌};
+    ghost use Rattle.std.specs.Option.{unwrap_or};
     ghost use Rattle.oneshot_world.specs.Calls.{Unanswered, receiver_calls};
 
     ghost Value = { Unanswered };
 
-    ghost view = { λ c. record { calls = receiver_calls (drop c.answered c.calls) c.last; error = [] } };
+    ghost view = { λ c. record { calls = unwrap_or c.future (receiver_calls (drop c.answered c.calls) c.last); error = [] } };
 
     ghost invariant = { λ c. c.answered ≤ length c.calls };
 }
@@ -161,6 +237,7 @@ impl ReceiverCalls {
             calls: script.calls,
             answered: 0,
             last: script.last,
+            future: None,
         }
     }
 
@@ -168,6 +245,9 @@ impl ReceiverCalls {
     pub(crate) fn first(&self) -> Option<ReceiverStart>
         ensures { result ≡ option_and_then as_receiver_call (first self.now.calls) }
     {
+        if let Some(future) = &self.future {
+            return future.first();
+        }
         let calls = self.calls.as_slice();
         if self.answered < calls.len() {
             match calls[self.answered] {
@@ -181,11 +261,22 @@ impl ReceiverCalls {
                 ReceiverCall::IsClosed => Some(ReceiverStart::IsClosed),
             }
         } else {
-            match self.last {
+            match &self.last {
                 ReceiverLast::Recv => Some(ReceiverStart::Recv),
                 ReceiverLast::Drop => Some(ReceiverStart::Drop),
+                ReceiverLast::IntoFuture(_) => Some(ReceiverStart::IntoFuture),
                 ReceiverLast::Stop => None,
             }
+        }
+    }
+
+    /// The number of the poll under way or next, if that call is a poll.
+    pub(crate) fn number(&self) -> Option<u64>
+        ensures { result ≡ option_and_then number_of (first self.now.calls) }
+    {
+        match &self.future {
+            Some(future) => future.number(),
+            None => None,
         }
     }
 
@@ -196,10 +287,16 @@ impl ReceiverCalls {
         if reply.is_none() {
             return;
         }
+        if let Some(future) = &mut self.future {
+            future.answer();
+            return;
+        }
         if self.answered < self.calls.as_slice().len() {
             self.answered += 1;
-        } else {
-            self.last = ReceiverLast::Stop;
+            return;
+        }
+        if let ReceiverLast::IntoFuture(script) = mem::replace(&mut self.last, ReceiverLast::Stop) {
+            self.future = Some(FutureCalls::new(script));
         }
     }
 }

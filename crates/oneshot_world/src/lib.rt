@@ -2,17 +2,19 @@
 #![tactic(auto)]
 
 mod calls;
+mod laws;
 mod script;
 mod state;
 mod trace;
 mod wakers;
 mod world;
 
+pub use laws::turns_commute;
 pub use script::{
-    CallList, ErrorLast, ErrorScript, Move, ReceiverCall, ReceiverLast, ReceiverScript, SenderLast,
-    SenderScript,
+    AsyncCall, AsyncLast, AsyncScript, CallList, ErrorLast, ErrorScript, Move, ReceiverCall,
+    ReceiverLast, ReceiverScript, SenderLast, SenderScript,
 };
 pub use state::{ReceiverState, SenderState, State};
 pub use trace::{Entry, Made, Place, WakerName, WakerPlace};
-pub use wakers::Wakers;
+pub use wakers::{Told, Wakers};
 pub use world::World;

@@ -81,7 +81,38 @@ pub enum ReceiverLast {
     Recv,
     /// The receiver is dropped.
     Drop,
+    /// `Receiver::into_future`, and what the future does.
+    IntoFuture(AsyncScript),
     /// No call: the receiver stays where it is.
+    Stop,
+}
+
+/// What the future does: these calls in their order, and then its last one.
+#[derive(Debug, Drop)]
+pub struct AsyncScript {
+    /// The calls that leave the future in place.
+    pub calls: CallList<AsyncCall>,
+    /// The call that ends the future.
+    pub last: AsyncLast,
+}
+
+/// A call that leaves the future in place.
+#[derive(Clone, Copy, Debug, Eq, PartialEq)]
+pub enum AsyncCall {
+    /// `AsyncReceiver::poll`, with the task's waker of this number.
+    Poll(u64),
+    /// `AsyncReceiver::has_message`.
+    HasMessage,
+    /// `AsyncReceiver::is_closed`.
+    IsClosed,
+}
+
+/// The future's last call.
+#[derive(Debug, Drop)]
+pub enum AsyncLast {
+    /// The future is dropped.
+    Drop,
+    /// No call: the future stays where it is.
     Stop,
 }
 

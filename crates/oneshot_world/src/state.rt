@@ -1,11 +1,12 @@
 //! The finite part of the world, and one step of one end.
 
-ghost use Rattle.std.specs.Prelude.{◌≡◌, ◌≤◌, Some, IsSome};
+ghost use Rattle.std.specs.Prelude.{◌≡◌, ◌≤◌, ◌||◌, Some, IsSome};
 ghost use Rattle.oneshot_machine.specs.Rows.{outcome};
-ghost use Rattle.oneshot_world.specs.State.{opening_state, sender_position, receiver_position, made, moved, seen_by, word_left, shown, sender_goes, receiver_goes, sender_puts, receiver_puts, place_left, move_of, sender_steps, receiver_steps};
+ghost use Rattle.oneshot_world.specs.Wakers.{own_of};
+ghost use Rattle.oneshot_world.specs.State.{is_future, opening_state, sender_position, receiver_position, made, moved, seen_by, word_left, shown, sender_goes, receiver_goes, sender_puts, receiver_puts, place_left, move_of, sender_steps, receiver_steps};
 
 use crate::trace::{Made, Place};
-use crate::wakers::Wakers;
+use crate::wakers::{Told, Wakers};
 use oneshot_machine::machine::{
     End, ReceiverPos, ReceiverStart, Reply, Seen, SenderCall, SenderPos, Step,
 };
@@ -46,6 +47,8 @@ pub struct State {
     pub sender: SenderState,
     /// Where the receiver stands.
     pub receiver: ReceiverState,
+    /// Whether the receiver is a future.
+    pub future: bool,
     /// The message's place; `None` where the script sends none.
     pub message: Option<Place>,
     /// The wakers, and the token on which the receiver parks.
@@ -88,34 +91,37 @@ impl State {
             freed: false,
             sender: SenderState::Ready,
             receiver: ReceiverState::Ready,
+            future: false,
             message,
             wakers: Wakers::new(),
         }
     }
 
     /// Makes the sender's step at `position`, and tells it.
-    pub(crate) fn step_sender(&mut self, position: SenderPos) -> Made
-        requires row { IsSome (sender_steps self.old position) }
+    pub(crate) fn step_sender(&mut self, position: SenderPos, told: Told) -> Made
+        requires row { IsSome (sender_steps told self.old position) }
         requires code { self.old.word ≤ 4 }
-        ensures { sender_steps self.old position ≡ Some (result, self.new) }
+        ensures { sender_steps told self.old position ≡ Some (result, self.new) }
     {
         let step = position.step();
-        let (next, reply) = position.next(seen_by(false, *self, step));
-        let made = self.make(End::Sender, false, step, reply, sender_puts(step, reply));
+        let (next, reply) = position.next(seen_by(told.answer, *self, step));
+        let made = self.make(End::Sender, told, step, reply, sender_puts(step, reply));
         self.sender = sender_goes(step, next, reply);
         made
     }
 
-    /// Makes the receiver's step at `position`, and tells it. A clock that is read there answers `over`.
-    pub(crate) fn step_receiver(&mut self, position: ReceiverPos, over: bool) -> Made
-        requires row { IsSome (receiver_steps over self.old position) }
+    /// Makes the receiver's step at `position`, and tells it.
+    pub(crate) fn step_receiver(&mut self, position: ReceiverPos, told: Told) -> Made
+        requires row { IsSome (receiver_steps told self.old position) }
         requires code { self.old.word ≤ 4 }
-        ensures { receiver_steps over self.old position ≡ Some (result, self.new) }
+        ensures { receiver_steps told self.old position ≡ Some (result, self.new) }
     {
         let step = position.step();
-        let (next, reply) = position.next(seen_by(over, *self, step));
-        let made = self.make(End::Receiver, over, step, reply, receiver_puts(step));
+        let (next, reply) = position.next(seen_by(told.answer, *self, step));
+        let made = self.make(End::Receiver, told, step, reply, receiver_puts(step));
         self.receiver = receiver_goes(step, next, reply);
+        self.future = future_left(self.future, reply);
+        self.wakers = self.wakers.kept(is_future(reply));
         made
     }
 
@@ -123,45 +129,56 @@ impl State {
     fn make(
         &mut self,
         side: End,
-        over: bool,
+        told: Told,
         step: Step,
         reply: Option<Reply>,
         to: Option<Place>,
     ) -> Made
         requires { self.old.word ≤ 4 }
-        ensures tells { result ≡ made side over self.old step reply to }
-        ensures moves { self.new ≡ moved self.old step to }
+        ensures tells { result ≡ made side told self.old step reply to }
+        ensures moves { self.new ≡ moved told self.old step to }
     {
         let from = *self;
         self.word = word_left(from.word, step);
         self.freed = from.freed || step == Step::Free;
         self.message = place_left(from.message, to);
-        self.wakers = from.wakers.after(step);
+        self.wakers = from.wakers.after(told, from.word, step);
         Made {
             side,
             step,
-            seen: seen_by(over, from, step),
+            seen: seen_by(told.answer, from, step),
             before: shown(from.freed, from.word),
             after: shown(self.freed, self.word),
             message: move_of(from.message, to),
-            waker: from.wakers.moved_by(step),
+            waker: from.wakers.moved_by(told, from.word, step),
             token_set: from.wakers.sets_token(step),
-            own: None,
+            own: own_of(told, step),
             reply,
         }
     }
 }
 
-/// What a step sees: an operation the word, unless it only stores, a park its token, and a clock what
-/// the move gives.
-fn seen_by(over: bool, state: State, step: Step) -> Seen
-    ensures { result ≡ seen_by over state step }
+/// The number of the poll's own waker, where the poll wakes it.
+fn own_of(told: Told, step: Step) -> Option<u64>
+    ensures { result ≡ own_of told step }
+{
+    match step {
+        Step::WakeOwn => told.own,
+        _ => None,
+    }
+}
+
+/// What a step sees: an operation the word, unless it only stores, a park its token, and a clock or a
+/// copy what the move is told.
+fn seen_by(answer: bool, state: State, step: Step) -> Seen
+    ensures { result ≡ seen_by answer state step }
 {
     match step {
         Step::Word(Op::Store(_)) => Seen::Done,
         Step::Word(_) => Seen::Word(state.word),
         Step::Park => Seen::Token(state.wakers.token),
-        Step::Clock => Seen::Over(over),
+        Step::Clock => Seen::Over(answer),
+        Step::Copy => Seen::Refused(answer),
         _ => Seen::Done,
     }
 }
@@ -245,6 +262,23 @@ fn sender_goes(step: Step, next: SenderPos, reply: Option<Reply>) -> SenderState
         }
         Some(_) => SenderState::Ended,
     }
+}
+
+/// Whether a reply gives the future.
+fn is_future(reply: Option<Reply>) -> bool
+    ensures { result ≡ is_future reply }
+{
+    match reply {
+        Some(Reply::Future) => true,
+        _ => false,
+    }
+}
+
+/// Whether the receiver is a future after that.
+fn future_left(future: bool, reply: Option<Reply>) -> bool
+    ensures { result ≡ (future || is_future reply) }
+{
+    future || is_future(reply)
 }
 
 /// Where the receiver stands after a step that leads to `next`, or ends its call with `reply`.

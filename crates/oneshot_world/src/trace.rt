@@ -19,7 +19,7 @@ pub enum Place {
     Dropped,
 }
 
-/// A waker that an entry moves. No call asks for a copy so far, so no entry names one.
+/// A waker that an entry moves.
 #[derive(Clone, Copy, Debug, Eq, PartialEq)]
 pub enum WakerName {
     /// The waking half of the parker on which a blocking receive waits.

@@ -1,14 +1,16 @@
 //! The world between two moves, and one move of it.
 
-ghost use Rattle.std.specs.Prelude.{◌≡◌, Some, false};
+ghost use Rattle.std.specs.Prelude.{◌≡◌, Some};
 ghost use Rattle.oneshot_machine.specs.declared.machine.End.TheVariants as Ends;
-ghost use Rattle.oneshot_world.specs.World.{opening, opening_place, turn, turn_of};
+ghost use Rattle.oneshot_world.specs.World.{opening, opening_place, turn, turn_of, nothing_told, answer_of, told_with};
+ghost use Rattle.oneshot_world.specs.declared.script.Move.TheVariants as Moves;
 
 use crate::calls::{ReceiverCalls, SenderCalls};
 use crate::script::{Move, ReceiverScript, SenderLast, SenderScript};
 use crate::state::State;
-use crate::trace::{Entry, Place};
-use oneshot_machine::machine::End;
+use crate::trace::{Entry, Place, WakerName};
+use crate::wakers::Told;
+use oneshot_machine::machine::{End, ReceiverPos, Step};
 use std::marker::Model;
 
 /// Both machines between two moves, and what each script has left.
@@ -42,13 +44,14 @@ impl World {
         }
     }
 
-    /// Makes one move, and tells it.
-    pub fn step(&mut self, m: Move) -> Entry
-        ensures { turn self.old m ≡ Some (result, self.new) }
+    /// Makes one move, and tells it. The entry's number counts from 1; a copy of a waker that is made
+    /// then is named by it.
+    pub fn step(&mut self, m: Move, entry: usize) -> Entry
+        ensures { turn entry self.old m ≡ Some (result, self.new) }
     {
         match m {
             Move::Sender => self.step_sender(),
-            Move::Receiver { over, .. } => self.step_receiver(over),
+            Move::Receiver { over, refuse } => self.step_receiver(over, refuse, entry),
         }
     }
 
@@ -67,26 +70,54 @@ impl World {
     }
 
     fn step_sender(&mut self) -> Entry
-        ensures { turn_of Ends.Sender false self.old ≡ Some (result, self.new) }
+        ensures { turn_of Ends.Sender nothing_told self.old ≡ Some (result, self.new) }
     {
         let Some(position) = self.state.sender.position(self.sender.first()) else {
             return Entry::Idle(End::Sender);
         };
-        let made = self.state.step_sender(position);
+        let told = Told {
+            answer: false,
+            copy: None,
+            own: None,
+        };
+        let made = self.state.step_sender(position, told);
         self.sender.advance(made.reply);
         Entry::Made(made)
     }
 
-    fn step_receiver(&mut self, over: bool) -> Entry
-        ensures { turn_of Ends.Receiver over self.old ≡ Some (result, self.new) }
+    fn step_receiver(&mut self, over: bool, refuse: bool, entry: usize) -> Entry
+        ensures { turn entry self.old (Moves.Receiver over refuse) ≡ Some (result, self.new) }
     {
         let Some(position) = self.state.receiver.position(self.receiver.first()) else {
             return Entry::Idle(End::Receiver);
         };
-        let made = self.state.step_receiver(position, over);
+        let answer = answer_at(position, over, refuse);
+        let told = told_with(answer, entry, self.receiver.number());
+        let made = self.state.step_receiver(position, told);
         self.receiver.advance(made.reply);
         Entry::Made(made)
     }
+}
+
+/// What a move answers at a position: to a copy whether it is refused, and to a clock.
+fn answer_at(position: ReceiverPos, over: bool, refuse: bool) -> bool
+    ensures { result ≡ answer_of (Some position) over refuse }
+{
+    match position.step() {
+        Step::Copy => refuse,
+        _ => over,
+    }
+}
+
+/// What a move is told that answers so and makes this entry.
+fn told_with(answer: bool, entry: usize, own: Option<u64>) -> Told
+    ensures { result ≡ told_with answer entry own }
+{
+    let copy = match own {
+        Some(number) => Some(WakerName::Copy { number, entry }),
+        None => None,
+    };
+    Told { answer, copy, own }
 }
 
 /// Where the message of a script is before the first move.

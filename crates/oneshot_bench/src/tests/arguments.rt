@@ -1,5 +1,6 @@
 //! What is read, and what is refused.
 
+use crate::channels::Channel;
 use crate::command::{Command, parse_command, parse_count};
 use crate::fault::Fault;
 use crate::loops::Loop;
@@ -20,23 +21,51 @@ fn each_name_is_read(rt: HostRuntime) -> Result<(), Fail> {
         ("make_send_receive_drop", Loop::MakeSendReceiveDrop),
         ("make_drop", Loop::MakeDrop),
         ("make_send_recv", Loop::MakeSendRecv),
+        ("make_poll_send_poll", Loop::MakePollSendPoll),
         (
             "make_send_receive_drop_4096",
             Loop::MakeSendReceiveDropLarge,
         ),
         ("make_drop_4096", Loop::MakeDropLarge),
         ("make_send_recv_4096", Loop::MakeSendRecvLarge),
+        ("make_poll_send_poll_4096", Loop::MakePollSendPollLarge),
         ("round_trip", Loop::RoundTrip),
     ];
     for (name, kind) in names {
-        let command = Command::Measure { kind, count: 12 };
+        let command = Command::Measure {
+            channel: Channel::Oneshot,
+            kind,
+            count: 12,
+        };
         assert_eq!(rt; parsed(rt.alloc(), &[name, "12"])?, Some(command), "{name}");
     }
     Ok(())
 }
 
 #[test]
+fn each_channel_is_read(rt: HostRuntime) -> Result<(), Fail> {
+    let names = [
+        ("oneshot", Channel::Oneshot),
+        ("futures", Channel::Futures),
+        ("crossbeam", Channel::Crossbeam),
+    ];
+    for (name, channel) in names {
+        let command = Command::Measure {
+            channel,
+            kind: Loop::MakeDrop,
+            count: 12,
+        };
+        let read = parsed(rt.alloc(), &[name, "make_drop", "12"])?;
+        assert_eq!(rt; read, Some(command), "{name}");
+    }
+    Ok(())
+}
+
+#[test]
 fn other_names_are_refused(rt: HostRuntime) {
+    for name in ["", "one", "oneshot ", "Futures", "make_drop"] {
+        assert_eq!(rt; Channel::named(name), None, "{name}");
+    }
     for name in ["", "make", "make_drop_", "make_drop ", "Make_drop", "4096"] {
         assert_eq!(rt; Loop::named(name), None, "{name}");
     }
@@ -66,11 +95,17 @@ fn counts_of_64_bits_are_read(rt: HostRuntime) {
 }
 
 #[test]
-fn two_words_or_none(rt: HostRuntime) -> Result<(), Fail> {
+fn two_words_or_three_or_none(rt: HostRuntime) -> Result<(), Fail> {
     assert_eq!(rt; parsed(rt.alloc(), &[])?, Some(Command::Usage));
     assert_eq!(rt; parsed(rt.alloc(), &["make_drop"])?, None);
     assert_eq!(rt; parsed(rt.alloc(), &["1", "make_drop"])?, None);
     assert_eq!(rt; parsed(rt.alloc(), &["make_drop", "1", "1"])?, None);
+    assert_eq!(rt; parsed(rt.alloc(), &["make_drop", "futures", "1"])?, None);
+    assert_eq!(rt; parsed(rt.alloc(), &["futures", "make_drop"])?, None);
+    assert_eq!(rt;
+        parsed(rt.alloc(), &["futures", "make_drop", "1", "1"])?,
+        None
+    );
     Ok(())
 }
 
@@ -80,6 +115,8 @@ fn a_fault_is_one_line_and_a_status(rt: HostRuntime) -> Result<(), Fail> {
         (Fault::ClockFailed, "1 clock failed"),
         (Fault::WriteFailed, "1 write failed"),
         (Fault::MessageLost, "1 message lost"),
+        (Fault::CannotRun, "2 channel cannot run this loop"),
+        (Fault::TaskFailed, "1 task failed"),
         (Fault::OutOfMemory, "3 out of memory"),
     ];
     for (fault, text) in faults {
@@ -87,7 +124,10 @@ fn a_fault_is_one_line_and_a_status(rt: HostRuntime) -> Result<(), Fail> {
         assert_eq!(rt; told.as_str(), text);
     }
     let told = format!(in rt.alloc(); "{}", Fault::BadArguments)?;
-    assert!(rt; told.as_str().starts_with("usage: oneshot_bench LOOP COUNT"));
+    assert!(rt;
+        told.as_str()
+            .starts_with("usage: oneshot_bench [CHANNEL] LOOP COUNT")
+    );
     assert_eq!(rt; Fault::BadArguments.status(), 2);
     Ok(())
 }

@@ -1,55 +1,143 @@
 //! That each loop does what its name says, and tells a message that is lost.
 
+use crate::channels::Channel;
+use crate::crossbeam_trips;
 use crate::fault::Fault;
 use crate::loops::Loop;
 use crate::measure::{measure, timed};
+use crate::polled::{PolledRound, repeat_in_task};
 use crate::round_trip::{Request, ask, serve};
 use crate::rounds::repeat;
 use crate::tally::Tally;
+use crossbeam_channel::bounded;
+use futures::task::Context;
 use oneshot::channel;
 use std::cell::Cell;
 use std::io;
 use std::test::Fail;
 use std::time::{Clock, Duration};
 
-/// What so many rounds do that each make a channel for this many bytes, and receive its message so often.
-fn tally_of(count: u64, bytes: u64, tried: u64, waited: u64) -> Tally {
+/// What so many rounds do that each do what `round` has.
+fn tally_of(count: u64, round: Tally) -> Tally {
     Tally {
-        channels: count,
-        room: count.wrapping_mul(bytes),
-        tried: count.wrapping_mul(tried),
-        waited: count.wrapping_mul(waited),
+        channels: count.wrapping_mul(round.channels),
+        room: count.wrapping_mul(round.room),
+        tried: count.wrapping_mul(round.tried),
+        waited: count.wrapping_mul(round.waited),
+        pended: count.wrapping_mul(round.pended),
+        polled: count.wrapping_mul(round.polled),
+    }
+}
+
+/// What a round does that makes a channel for this many bytes and drops it.
+fn made(bytes: u64) -> Tally {
+    Tally {
+        channels: 1,
+        room: bytes,
+        ..Tally::new()
+    }
+}
+
+/// What a round does besides that receives its message by `try_recv`.
+fn tried(bytes: u64) -> Tally {
+    Tally {
+        tried: 1,
+        ..made(bytes)
+    }
+}
+
+/// What a round does besides that receives its message by `recv`.
+fn waited(bytes: u64) -> Tally {
+    Tally {
+        waited: 1,
+        ..made(bytes)
+    }
+}
+
+/// What a round does besides that polls, and receives its message by another poll.
+fn polled(bytes: u64) -> Tally {
+    Tally {
+        pended: 1,
+        polled: 1,
+        ..made(bytes)
     }
 }
 
 #[test]
 fn each_loop_makes_its_rounds(rt: HostRuntime) -> Result<(), Fail> {
     let kinds = [
-        (Loop::MakeSendReceiveDrop, 8, 1, 0),
-        (Loop::MakeDrop, 8, 0, 0),
-        (Loop::MakeSendRecv, 8, 0, 1),
-        (Loop::MakeSendReceiveDropLarge, 4096, 1, 0),
-        (Loop::MakeDropLarge, 4096, 0, 0),
-        (Loop::MakeSendRecvLarge, 4096, 0, 1),
+        (Channel::Oneshot, Loop::MakeSendReceiveDrop, tried(8)),
+        (Channel::Oneshot, Loop::MakeDrop, made(8)),
+        (Channel::Oneshot, Loop::MakeSendRecv, waited(8)),
+        (Channel::Oneshot, Loop::MakePollSendPoll, polled(8)),
+        (
+            Channel::Oneshot,
+            Loop::MakeSendReceiveDropLarge,
+            tried(4096),
+        ),
+        (Channel::Oneshot, Loop::MakeDropLarge, made(4096)),
+        (Channel::Oneshot, Loop::MakeSendRecvLarge, waited(4096)),
+        (Channel::Oneshot, Loop::MakePollSendPollLarge, polled(4096)),
+        (Channel::Futures, Loop::MakeSendReceiveDrop, tried(8)),
+        (Channel::Futures, Loop::MakeDrop, made(8)),
+        (Channel::Futures, Loop::MakePollSendPoll, polled(8)),
+        (
+            Channel::Futures,
+            Loop::MakeSendReceiveDropLarge,
+            tried(4096),
+        ),
+        (Channel::Futures, Loop::MakeDropLarge, made(4096)),
+        (Channel::Futures, Loop::MakePollSendPollLarge, polled(4096)),
+        (Channel::Crossbeam, Loop::MakeSendReceiveDrop, tried(8)),
+        (Channel::Crossbeam, Loop::MakeDrop, made(8)),
+        (Channel::Crossbeam, Loop::MakeSendRecv, waited(8)),
+        (
+            Channel::Crossbeam,
+            Loop::MakeSendReceiveDropLarge,
+            tried(4096),
+        ),
+        (Channel::Crossbeam, Loop::MakeDropLarge, made(4096)),
+        (Channel::Crossbeam, Loop::MakeSendRecvLarge, waited(4096)),
     ];
-    for (kind, bytes, tried, waited) in kinds {
+    for (channel, kind, round) in kinds {
         for count in [0, 3] {
-            let measured = measure(&rt, rt.alloc(), kind, count)?;
-            let tally = tally_of(count, bytes, tried, waited);
-            assert_eq!(rt; measured.tally, tally, "{count} of {kind}");
+            let tally = measure(&rt, channel, kind, count)?.tally;
+            assert_eq!(rt;
+                tally,
+                tally_of(count, round),
+                "{count} of {channel} {kind}"
+            );
         }
     }
     Ok(())
 }
 
+#[test]
+fn a_channel_refuses_a_loop_that_it_has_no_call_for(rt: HostRuntime) {
+    let kinds = [
+        (Channel::Futures, Loop::MakeSendRecv),
+        (Channel::Futures, Loop::MakeSendRecvLarge),
+        (Channel::Futures, Loop::RoundTrip),
+        (Channel::Crossbeam, Loop::MakePollSendPoll),
+        (Channel::Crossbeam, Loop::MakePollSendPollLarge),
+    ];
+    for (channel, kind) in kinds {
+        let refused = matches!(measure(&rt, channel, kind, 3), Err(Fault::CannotRun));
+        assert!(rt; refused, "{channel} {kind}");
+    }
+}
+
 // Two channels a round trip, and over each of them a message that was waited for.
 #[test]
 fn each_round_trip_is_made(rt: HostRuntime) -> Result<(), Fail> {
-    for count in [0, 1, 1024, 1025] {
-        let tally = measure(&rt, rt.alloc(), Loop::RoundTrip, count)?.tally;
-        assert_eq!(rt; tally.channels, 2 * count);
-        assert_eq!(rt; tally.waited, 2 * count);
-        assert_eq!(rt; tally.tried, 0);
+    for channel in [Channel::Oneshot, Channel::Crossbeam] {
+        for count in [0, 1, 1024, 1025] {
+            let tally = measure(&rt, channel, Loop::RoundTrip, count)?.tally;
+            assert_eq!(rt; tally.channels, 2 * count);
+            assert_eq!(rt; tally.waited, 2 * count);
+            assert_eq!(rt; tally.tried, 0);
+            assert_eq!(rt; tally.polled, 0);
+        }
     }
     Ok(())
 }
@@ -117,5 +205,55 @@ fn a_request_that_never_comes_is_lost(rt: HostRuntime) -> Result<(), Fail> {
     let (requests, served) = channel::<Request, _>(&rt, rt.alloc())?;
     drop(requests);
     assert!(rt; matches!(serve(served, &mut Tally::new()), Err(Fault::MessageLost)));
+    Ok(())
+}
+
+#[test]
+fn a_crossbeam_request_to_nobody_is_lost(rt: HostRuntime) -> Result<(), Fail> {
+    let (requests, served) = bounded::<crossbeam_trips::Request, _>(rt.alloc(), 1)?;
+    drop(served);
+    assert!(rt;
+        matches!(
+            crossbeam_trips::ask(&rt, rt.alloc(), requests, &mut Tally::new()),
+            Err(Fault::MessageLost)
+        )
+    );
+    Ok(())
+}
+
+#[test]
+fn a_crossbeam_request_that_never_comes_is_lost(rt: HostRuntime) -> Result<(), Fail> {
+    let (requests, served) = bounded::<crossbeam_trips::Request, _>(rt.alloc(), 1)?;
+    drop(requests);
+    assert!(rt;
+        matches!(
+            crossbeam_trips::serve(&rt, served, &mut Tally::new()),
+            Err(Fault::MessageLost)
+        )
+    );
+    Ok(())
+}
+
+/// A round that is lost once two were made.
+#[derive(Drop)]
+struct LostAtTheThird;
+
+impl PolledRound for LostAtTheThird {
+    fn make(&self, _cx: &mut Context<'_>, tally: &mut Tally) -> Result<(), Fault> {
+        if tally.channels == 2 {
+            return Err(Fault::MessageLost);
+        }
+        tally.made(8);
+        Ok(())
+    }
+}
+
+#[test]
+fn rounds_in_a_task_end_at_the_first_fault(rt: HostRuntime) -> Result<(), Fail> {
+    let mut tally = Tally::new();
+    let lost = repeat_in_task(&rt, 5, LostAtTheThird, &mut tally);
+    assert!(rt; matches!(lost, Err(Fault::MessageLost)));
+    repeat_in_task(&rt, 2, LostAtTheThird, &mut tally)?;
+    assert_eq!(rt; tally, tally_of(2, made(8)));
     Ok(())
 }

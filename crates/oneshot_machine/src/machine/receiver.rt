@@ -5,6 +5,7 @@ ghost use Rattle.std.specs.Option.{option_map};
 ghost use Rattle.oneshot_machine.specs.Rows.{outcome};
 ghost use Rattle.oneshot_machine.specs.Receiver.{receiver_start, receiver_step, receiver_row};
 
+use crate::machine::future::FuturePos;
 use crate::machine::{Reply, Seen, Step};
 use crate::states::{DISCONNECTED, EMPTY, MESSAGE, Op, RECEIVING, UNPARKING};
 
@@ -29,8 +30,14 @@ pub enum ReceiverStart {
     HasMessage,
     /// `Receiver::is_closed`.
     IsClosed,
+    /// `Receiver::into_future`.
+    IntoFuture,
+    /// `AsyncReceiver::poll`.
+    Poll,
     /// The receiver is dropped.
     Drop,
+    /// The future is dropped.
+    DropAsync,
 }
 
 /// Where a call of the receiver stands: a position of its table.
@@ -110,6 +117,8 @@ pub enum ReceiverPos {
     RecvFreeGot,
     /// `recv` found no sender, and is about to free the block.
     RecvFreeGone,
+    /// A call of the receiver as a future.
+    Future(FuturePos),
     /// The drop is about to close the channel.
     DropSwap,
     /// The drop is about to drop the message that it found.
@@ -131,7 +140,10 @@ impl ReceiverPos {
             ReceiverStart::RecvTimeout { representable } => ReceiverPos::SumClock { representable },
             ReceiverStart::HasMessage => ReceiverPos::LookFull,
             ReceiverStart::IsClosed => ReceiverPos::LookClosed,
+            ReceiverStart::IntoFuture => ReceiverPos::Future(FuturePos::IntoFuture),
+            ReceiverStart::Poll => ReceiverPos::Future(FuturePos::PollLoad),
             ReceiverStart::Drop => ReceiverPos::DropSwap,
+            ReceiverStart::DropAsync => ReceiverPos::Future(FuturePos::AsyncLoad),
         }
     }
 
@@ -171,6 +183,7 @@ impl ReceiverPos {
             ReceiverPos::RecvTake => Step::TakeMessage,
             ReceiverPos::RecvFreeGot => Step::Free,
             ReceiverPos::RecvFreeGone => Step::Free,
+            ReceiverPos::Future(at) => at.step(),
             ReceiverPos::DropSwap => Step::Word(Op::Swap(DISCONNECTED)),
             ReceiverPos::DropMessage => Step::DropMessage,
             ReceiverPos::DropFree => Step::Free,
@@ -310,6 +323,7 @@ impl ReceiverPos {
             (ReceiverPos::RecvTake, Seen::Done) => (ReceiverPos::RecvFreeGot, None),
             (ReceiverPos::RecvFreeGot, Seen::Done) => (*self, Some(Reply::Message)),
             (ReceiverPos::RecvFreeGone, Seen::Done) => (*self, Some(Reply::Disconnected)),
+            (ReceiverPos::Future(at), _) => return at.row(seen),
             (ReceiverPos::DropSwap, Seen::Word(EMPTY)) => (*self, Some(Reply::Done)),
             (ReceiverPos::DropSwap, Seen::Word(MESSAGE)) => (ReceiverPos::DropMessage, None),
             (ReceiverPos::DropSwap, Seen::Word(DISCONNECTED)) => (ReceiverPos::DropFree, None),

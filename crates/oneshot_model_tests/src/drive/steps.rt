@@ -29,7 +29,9 @@ fn push_step(text: &mut String, step: Step) -> Result<(), AllocError> {
         Step::Withdraw => text.push_str("withdraw"),
         Step::Park => text.push_str("park"),
         Step::Clock => text.push_str("clock"),
+        Step::Copy => text.push_str("copy"),
         Step::Wake => text.push_str("wake"),
+        Step::WakeOwn => text.push_str("wake-own"),
         Step::Free => text.push_str("free"),
         Step::Plain => text.push_str("plain"),
     }
@@ -52,6 +54,8 @@ fn push_seen(text: &mut String, seen: Seen) -> Result<(), AllocError> {
         Seen::Word(word) => write!(text, ":{word}"),
         Seen::Over(true) => text.push_str(":over"),
         Seen::Over(false) => text.push_str(":left"),
+        Seen::Refused(true) => text.push_str(":refused"),
+        Seen::Refused(false) => text.push_str(":made"),
         Seen::Token(true) => text.push_str(":woken"),
         Seen::Token(false) => text.push_str(":unwoken"),
     }

@@ -1,4 +1,4 @@
-//! Lines of entries that no script's trace shows so far.
+//! Lines of entries that no script's trace shows.
 
 use oneshot_machine::machine::{End, Seen, Step};
 use oneshot_machine::states::Op;

@@ -93,3 +93,30 @@ const OF_RECEIVES: &[Case] = &[
 fn fronts_of_receives(rt: HostRuntime) -> Result<(), Fail> {
     assert_faults(&rt, OF_RECEIVES)
 }
+
+const OF_A_FUTURE: &[Case] = &[
+    ("S send 7\nR ", "line 2: unknown word 1"),
+    ("S send 7\nR f", "line 2: unknown word 1"),
+    ("S send 7\nR fu", "line 2: unknown word 1"),
+    ("S send 7\nR fut", "line 2: unknown word 1"),
+    ("S send 7\nR futu", "line 2: unknown word 1"),
+    ("S send 7\nR futur", "line 2: unknown word 1"),
+    ("S send 7\nR future", "line 3 is missing"),
+    ("S send 7\nR future ", "line 2: unknown word 2"),
+    ("S send 7\nR future p", "line 2: unknown word 2"),
+    ("S send 7\nR future po", "line 2: unknown word 2"),
+    ("S send 7\nR future pol", "line 2: unknown word 2"),
+    ("S send 7\nR future poll", "line 2: bad number at word 3"),
+    ("S send 7\nR future poll ", "line 2: bad number at word 3"),
+    ("S send 7\nR future poll 1", "line 3 is missing"),
+    ("S send 7\nR future poll 1 ", "line 2: unknown word 4"),
+    ("S send 7\nR future poll 1 d", "line 2: unknown word 4"),
+    ("S send 7\nR future poll 1 dr", "line 2: unknown word 4"),
+    ("S send 7\nR future poll 1 dro", "line 2: unknown word 4"),
+    ("S send 7\nR future poll 1 drop", "line 3 is missing"),
+];
+
+#[test]
+fn fronts_of_a_future(rt: HostRuntime) -> Result<(), Fail> {
+    assert_faults(&rt, OF_A_FUTURE)
+}

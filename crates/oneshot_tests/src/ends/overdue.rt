@@ -7,7 +7,7 @@ use std::process::Abort;
 use std::sync::Wait;
 use std::sync::atomic::{AtomicU64, Ordering};
 use std::test::Fail;
-use std::thread::join;
+use std::thread::{join, yield_now};
 use std::time::{Clock, Duration, Instant};
 
 const ROUNDS: u64 = 20_000;
@@ -15,14 +15,25 @@ const ROUNDS: u64 = 20_000;
 // More than it takes to start a thread.
 const SPINS: u64 = 100_000_000;
 
-/// Goes on once both threads are here.
+// As many loads as a thread makes that has a processor while the other one starts.
+const QUICK: u64 = 20_000;
+
+/// Goes on once both threads are here. After a while it lets other threads run.
 fn meet(here: &AtomicU64) {
     here.fetch_add(1, Ordering::SeqCst);
-    for _ in 0..SPINS {
+    for spin in 0..SPINS {
         if here.load(Ordering::SeqCst) == 2 {
             return;
         }
+        if spin > QUICK {
+            yield_now();
+        }
     }
+}
+
+/// Whether half of the minute is over that a test has: a busy machine makes fewer rounds.
+fn is_late(rt: &impl Clock, first: Instant) -> io::Result<bool> {
+    Ok(first.elapsed(rt)? > Duration::from_secs(30))
 }
 
 /// Passes a little time without a wait: up to 400 loads.
@@ -49,7 +60,11 @@ fn just_in_time<T: Drop, Rt: Wait + Clock + Drop>(
 
 #[test]
 fn a_message_that_comes_at_the_deadline_is_received_once(rt: HostRuntime) -> Result<(), Fail> {
+    let first = Instant::now(&rt)?;
     for round in 0..ROUNDS {
+        if is_late(&rt, first)? {
+            break;
+        }
         let here = AtomicU64::new(0);
         let (sender, receiver) = channel(&rt, rt.alloc())?;
         let (sent, received) = join(
@@ -72,7 +87,11 @@ fn a_message_that_comes_at_the_deadline_is_received_once(rt: HostRuntime) -> Res
 
 #[test]
 fn a_sender_that_goes_at_the_deadline_is_told(rt: HostRuntime) -> Result<(), Fail> {
+    let first = Instant::now(&rt)?;
     for round in 0..ROUNDS {
+        if is_late(&rt, first)? {
+            break;
+        }
         let here = AtomicU64::new(0);
         let (sender, receiver) = channel::<u64, _>(&rt, rt.alloc())?;
         let ((), received) = join(

@@ -50,6 +50,9 @@ impl fmt::Display for MadeText {
         if let Some(found) = found_text(made) {
             write!(f, " {found}")?;
         }
+        if let Some(number) = made.own {
+            write!(f, " own:{number}")?;
+        }
         match self.reply {
             Some(reply) => write!(f, " = {reply}"),
             None => Ok(()),
@@ -57,12 +60,14 @@ impl fmt::Display for MadeText {
     }
 }
 
-/// What a step found or did beside the word: a clock past the deadline or before it, the token on which
-/// the receiver parks, or a park that ended without it.
+/// What a step found or did beside the word: a clock past the deadline or before it, a copy that was
+/// refused, the token on which the receiver parks, or a park that ended without it.
 fn found_text(made: Made) -> Option<&'static str> {
     match made.seen {
         Seen::Over(true) => Some("over"),
         Seen::Over(false) => Some("left"),
+        Seen::Refused(true) => Some("refused"),
+        Seen::Refused(false) => None,
         Seen::Token(true) => Some("token-"),
         Seen::Token(false) => Some("spurious"),
         Seen::Done | Seen::Word(_) if made.token_set => Some("token+"),

@@ -25,7 +25,9 @@ pub(crate) fn step_name(step: Step) -> &'static str {
         Step::Withdraw => "withdraw",
         Step::Park => "park",
         Step::Clock => "clock",
+        Step::Copy => "copy",
         Step::Wake => "wake",
+        Step::WakeOwn => "wake",
         Step::Free => "free",
         Step::Plain => "plain",
     }

@@ -13,6 +13,8 @@ enum Caller {
     Receiver(ReceiverCall),
     /// The receiver's last one.
     ReceiverLast,
+    /// One of the future that the receiver became. A poll alone answers with a message or an error.
+    Future,
 }
 
 /// The reply of a call, which shows in the words of that call.
@@ -23,29 +25,52 @@ pub struct ReplyText {
     message: u64,
 }
 
-/// The entry's reply, if it ends a call. `calls` are those that the receiver has not ended, but for
-/// its last one.
-pub(crate) fn reply_of(
-    entry: Entry,
-    calls: &mut slice::Iter<'_, ReceiverCall>,
+/// The calls of two scripts, in the order in which a trace's replies end them.
+#[derive(Drop)]
+pub(crate) struct Callers<'a> {
+    receiver: slice::Iter<'a, ReceiverCall>,
+    is_future: bool,
     message: u64,
-) -> Option<ReplyText> {
-    let Entry::Made(made) = entry else {
-        return None;
-    };
-    let reply = made.reply?;
-    let caller = match made.side {
-        End::Sender => Caller::Sender,
-        End::Receiver => match calls.next() {
+}
+
+impl<'a> Callers<'a> {
+    /// `calls` are those of the receiver's script but its last one, and `message` is the message of the
+    /// sender's.
+    pub(crate) fn new(calls: &'a [ReceiverCall], message: u64) -> Callers<'a> {
+        Callers {
+            receiver: calls.iter(),
+            is_future: false,
+            message,
+        }
+    }
+
+    /// The reply of the trace's next entry, if it ends a call.
+    pub(crate) fn reply_of(&mut self, entry: Entry) -> Option<ReplyText> {
+        let Entry::Made(made) = entry else {
+            return None;
+        };
+        let reply = made.reply?;
+        let caller = match made.side {
+            End::Sender => Caller::Sender,
+            End::Receiver => self.receiver_of(reply),
+        };
+        Some(ReplyText {
+            caller,
+            reply,
+            message: self.message,
+        })
+    }
+
+    fn receiver_of(&mut self, reply: Reply) -> Caller {
+        if self.is_future {
+            return Caller::Future;
+        }
+        self.is_future = reply == Reply::Future;
+        match self.receiver.next() {
             Some(call) => Caller::Receiver(*call),
             None => Caller::ReceiverLast,
-        },
-    };
-    Some(ReplyText {
-        caller,
-        reply,
-        message,
-    })
+        }
+    }
 }
 
 impl fmt::Display for ReplyText {
@@ -59,10 +84,13 @@ impl fmt::Display for ReplyText {
             Reply::Message => match self.caller {
                 Caller::Sender => write!(f, "{message}"),
                 Caller::Receiver(_) | Caller::ReceiverLast => write!(f, "Ok({message})"),
+                Caller::Future => write!(f, "Ready(Ok({message}))"),
             },
             Reply::Empty => write!(f, "Err(Empty)"),
             Reply::Timeout => write!(f, "Err(Timeout)"),
-            Reply::Disconnected => write!(f, "Err({})", error_of(self.caller)),
+            Reply::Disconnected => write!(f, "{}", error_of(self.caller)),
+            Reply::Pending => write!(f, "Pending"),
+            Reply::Future => write!(f, "future"),
             Reply::Done => write!(f, "dropped"),
         }
     }
@@ -73,9 +101,10 @@ fn error_of(caller: Caller) -> &'static str {
     match caller {
         Caller::Receiver(
             ReceiverCall::TryRecv | ReceiverCall::RecvDeadline | ReceiverCall::RecvTimeout { .. },
-        ) => "Disconnected",
+        ) => "Err(Disconnected)",
         Caller::Receiver(ReceiverCall::RecvRef | ReceiverCall::HasMessage | ReceiverCall::IsClosed)
         | Caller::Sender
-        | Caller::ReceiverLast => "RecvError",
+        | Caller::ReceiverLast => "Err(RecvError)",
+        Caller::Future => "Ready(Err(RecvError))",
     }
 }

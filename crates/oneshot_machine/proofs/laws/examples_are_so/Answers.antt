@@ -1,5 +1,15 @@
 use Rattle.oneshot_machine.proofs.ExampleRuns.{sender_lists, receiver_lists, runs_that_are, runs_that_are_not}
+use Rattle.oneshot_machine.proofs.FutureExampleRuns.{future_lists, future_runs, future_runs_that_are_not}
 use Rattle.oneshot_machine.proofs.laws.examples_are_so.Goals as goal
 
 pub returns : goal.returns
-returns c = record { senders = sender_lists; receivers = receiver_lists; runs = runs_that_are; no_runs = runs_that_are_not }
+returns c =
+    record {
+      senders = sender_lists;
+      receivers = receiver_lists;
+      runs = runs_that_are;
+      no_runs = runs_that_are_not;
+      futures = future_lists;
+      future_runs = future_runs;
+      no_future_runs = future_runs_that_are_not;
+    }

@@ -15,7 +15,7 @@ module _ {T W : Type 0} where
     holds : w ≡ held waker
 
   found_waiting : {q : ReceiverAt} {m m' : Held T} {w w' : Held W} → ReceiverFinds q (Swap 3) 0 m w m' w' → HasItBack q m' w'
-  found_waiting (stop_waiting a k) = record { waker = k; at = refl; no_message = refl; holds = refl }
+  found_waiting (stop_waiting k) = record { waker = k; at = refl; no_message = refl; holds = refl }
 
   found_none : {m : Held T} {w : Held W} → ReceiverFinds (here between) Load 3 away vacant m w → w ≡ vacant
   found_none (load_empty o) = refl

@@ -9,7 +9,7 @@ use Rattle.oneshot_model_tests.proofs.word.stop_over_the_end.Goals as goal
 
 module _ {T W : Type 0} where
   found_end : {q : ReceiverAt} {m m' : Held T} {w w' : Held W} → ReceiverFinds q (Swap 3) 2 m w m' w' → (receiver_next q (Swap 3) (Word 2) ≡ unclosed 3) × (m' ≡ vacant) × (w' ≡ vacant)
-  found_end (stop_closed a) = (refl, refl, refl)
+  found_end stop_closed = (refl, refl, refl)
 
   stops : {s t : Side T W} {found : ℕ} → ReceiverDid s (Swap 3) found t → found ≡ 2 → ReceiverIs t (unclosed 3) vacant vacant
   stops {s} did same =

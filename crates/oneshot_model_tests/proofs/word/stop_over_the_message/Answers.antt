@@ -15,7 +15,7 @@ module _ {T W : Type 0} where
     no_waker : w ≡ vacant
 
   found_message : {q : ReceiverAt} {m m' : Held T} {w w' : Held W} → ReceiverFinds q (Swap 3) 4 m w m' w' → HasIt q m' w'
-  found_message (stop_message a x) = record { message = x; at = refl; holds = refl; no_waker = refl }
+  found_message (stop_message x) = record { message = x; at = refl; holds = refl; no_waker = refl }
 
   stops : {s t : Side T W} {found : ℕ} → ReceiverDid s (Swap 3) found t → found ≡ 4 → (x : T) × ReceiverIs t (full waited 3) (held x) vacant
   stops {s} did same =

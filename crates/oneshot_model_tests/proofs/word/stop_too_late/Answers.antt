@@ -9,7 +9,7 @@ use Rattle.oneshot_model_tests.proofs.word.stop_too_late.Goals as goal
 
 module _ {T W : Type 0} where
   found_claimed : {q : ReceiverAt} {m m' : Held T} {w w' : Held W} → ReceiverFinds q (Swap 3) 1 m w m' w' → (receiver_next q (Swap 3) (Word 1) ≡ overdue) × (m' ≡ away) × (w' ≡ away)
-  found_claimed (stop_claimed a) = (refl, refl, refl)
+  found_claimed stop_claimed = (refl, refl, refl)
 
   found_nothing : {m : Held T} {w : Held W} → ReceiverFinds overdue Load 3 away away m w → (m ≡ away) × (w ≡ away)
   found_nothing overdue_longer = (refl, refl)

@@ -36,4 +36,4 @@ returns-clause-loads g c =
 pub returns-clause-stops : goal.returns-clause-stops
 returns-clause-stops g c =
     let is = begins c.args.receiver.now c.requires.at c.requires.waker c.slots.ensures in
-    receiver_can (Swap 3) (stores is c.write_waker.ensures c.swap-found.ensures (search rules)) (may_stop blocked)
+    receiver_can (Swap 3) (stores is c.write_waker.ensures c.swap-found.ensures (search rules)) may_stop

@@ -1,7 +1,7 @@
 -- One more move, and the end of the run.
-use Rattle.std.proofs.Common.{rules, ◌≡◌, take, sym, ap, ◌∙◌}
+use Rattle.std.proofs.Common.{rules, ◌≡◌, ◌+◌, Some, get_or, length, take, sym, ap, subst, ◌∙◌}
 use Rattle.std.proofs.lemmas.List.{take_more, take_all}
-use Rattle.oneshot_world.specs.World.{World}
+use Rattle.oneshot_world.specs.World.{World, turn}
 use Rattle.oneshot_world.specs.declared.script.Move.TheVariants.{Sender}
 use Rattle.oneshot_laws.proofs.IdleRuns.{idle_run}
 use Rattle.oneshot_laws.proofs.LegalRuns.{legal_run}
@@ -15,6 +15,8 @@ use Rattle.oneshot_laws.proofs.NextReceive.{got_after_full}
 use Rattle.oneshot_laws.proofs.NothingYet.{nothing_only_if_open}
 use Rattle.oneshot_laws.proofs.DroppedOnce.{dropped_once}
 use Rattle.oneshot_laws.proofs.LoneCalls.{lone_calls_right}
+use Rattle.oneshot_laws.proofs.CallBounds.{calls_bounded}
+use Rattle.oneshot_laws.proofs.SoonAnswered.{soon_answered}
 use Rattle.oneshot_replay.specs.Rest.{message_of, rest_at}
 use Rattle.oneshot_replay.proofs.Runs.{grows, length-tells}
 use Rattle.oneshot_replay.proofs.Tied.{freed_shown, rest_shown}
@@ -22,8 +24,12 @@ use Rattle.oneshot_replay.proofs.run.replay.Goals as goal
 
 pub loop-m-preserved : goal.loop-m-preserved
 loop-m-preserved g c =
+    let number : c.len-entry.result + 1 ≡ 1 + length c.loop-m.entries.items = search rules in
     record {
-      run = rw (take_more c.args.moves.now c.loop-m.m-index Sender c.loop-m-test.true, c.in-Ok-push.ensures.items) (grows _ _ _ c.loop-m.end.world _ c.step.result c.step.new.self.world c.loop-m.invariant.run c.step.ensures.turn);
+      run =
+          rw (take_more c.args.moves.now c.loop-m.m-index Sender c.loop-m-test.true, c.in-Ok-push.ensures.items)
+          (grows _ _ _ c.loop-m.end.world _ c.step.result c.step.new.self.world c.loop-m.invariant.run
+          (subst (λ n. turn n c.loop-m.end.world (get_or c.args.moves.now c.loop-m.m-index Sender) ≡ Some (c.step.result, c.step.new.self.world)) number c.step.ensures.turn));
       message = search rules;
       room = search rules;
     }
@@ -127,3 +133,13 @@ returns-clause-rest_as_shown g c =
     ap (rest_at c.loop-m.end.world.state.message) c.loop-m.invariant.message
     ∙ ap (λ (w : World). rest_at w.state.message (message_of c.args.s.last)) (sym run.ends)
     ∙ rest_shown c.args.s c.args.r run.worlds _ c.loop-m.entries.items run.tells
+
+pub returns-clause-calls_bounded : goal.returns-clause-calls_bounded
+returns-clause-calls_bounded g c =
+    let run = c.loop-m.invariant.run in
+    calls_bounded c.args.s c.args.r run.worlds _ c.loop-m.entries.items run.tells
+
+pub returns-clause-soon_answered : goal.returns-clause-soon_answered
+returns-clause-soon_answered g c =
+    let run = c.loop-m.invariant.run in
+    soon_answered c.args.s c.args.r run.worlds _ c.loop-m.entries.items run.tells

@@ -7,7 +7,7 @@ use Rattle.oneshot_word.specs.contracts.sender.SenderSide.TheInside as Inside
 use Rattle.oneshot_word.proofs.sender.SenderSide.TheInside.TheFields.TheLaws as fields
 use Rattle.oneshot_word.proofs.sender.SenderSide.TheLaw.Statement.{statement}
 
-pub shares : (T W : RattleType) (L : Laws T) (M : Laws W) → statement T W L M
-shares T W L M =
-    of_Lends (Inside.struct T W) (Inside.the_codes T.Denot W.Denot T.coded W.coded) (Inside.the_heap T W) (Inside.the_lent T W)
-    (λ d p. nothing_shr_laws) (fields.the_shared T W L M) (λ _ 𝓤 𝓛 d p. Lends-nothing 𝓛 (Inside.the_heap T W d) (Inside.the_row T W).lives)
+pub shares : (T H K : RattleType) (L : Laws T) (M : Laws H) (N : Laws K) → statement T H K L M N
+shares T H K L M N =
+    of_Lends (Inside.struct T H K) (Inside.the_codes T.Denot H.Denot K.Denot T.coded H.coded K.coded) (Inside.the_heap T H K) (Inside.the_lent T H K)
+    (λ d p. nothing_shr_laws) (fields.the_shared T H K L M N) (λ _ 𝓤 𝓛 d p. Lends-nothing 𝓛 (Inside.the_heap T H K d) (Inside.the_row T H K).lives)

@@ -6,8 +6,8 @@ use Rattle.oneshot_word.specs.contracts.sender.SenderSide.{the_row}
 use Rattle.oneshot_word.specs.contracts.sender.SenderSide.TheInside.{the_type}
 use Rattle.oneshot_word.proofs.Crosses.{parts_send}
 
-pub send : (T W : RattleType) → IsSend T → IsSend W → IsSend (the_row T W)
-send T W s u = record {
-  owned = λ d vs x. (((struct_send (shape (the_type T W)) (parts_send T W s u)).owned (to (the_type T W) x.0) vs, tt), tt);
+pub send : (T H K : RattleType) → IsSend T → IsSend H → IsSend K → IsSend (the_row T H K)
+send T H K s u v = record {
+  owned = λ d vs x. (((struct_send (shape (the_type T H K)) (parts_send T H K s u v)).owned (to (the_type T H K) x.0) vs, tt), tt);
   leaving = λ k d w. tt;
 }

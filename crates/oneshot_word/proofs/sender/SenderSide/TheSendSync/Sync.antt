@@ -6,7 +6,7 @@ use Rattle.oneshot_word.specs.contracts.sender.SenderSide.{the_row}
 use Rattle.oneshot_word.specs.contracts.sender.SenderSide.TheInside.{the_type}
 use Rattle.oneshot_word.proofs.Crosses.{parts_sync}
 
-pub sync : (T W : RattleType) → IsSend T → IsSend W → IsSync T → IsSync W → IsSync (the_row T W)
-sync T W s u _ _ = record {
-  shared = λ d b o κ x. (((struct_sync (shape (the_type T W)) (parts_sync T W s u)).shared (to (the_type T W) x.0) b o κ, tt), tt);
+pub sync : (T H K : RattleType) → IsSend T → IsSend H → IsSend K → IsSync T → IsSync H → IsSync K → IsSync (the_row T H K)
+sync T H K s u v _ _ _ = record {
+  shared = λ d b o κ x. (((struct_sync (shape (the_type T H K)) (parts_sync T H K s u v)).shared (to (the_type T H K) x.0) b o κ, tt), tt);
 }

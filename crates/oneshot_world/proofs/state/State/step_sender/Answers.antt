@@ -1,5 +1,5 @@
 -- The step is the one of the row that `next` gives.
-use Rattle.std.proofs.Common.{◌≡◌, Some, false}
+use Rattle.std.proofs.Common.{◌≡◌, Some}
 use Rattle.oneshot_machine.specs.Rows.{outcome}
 use Rattle.oneshot_machine.specs.Sender.{sender_step, sender_row}
 use Rattle.oneshot_world.specs.State.{seen_by}
@@ -8,6 +8,6 @@ use Rattle.oneshot_world.proofs.state.State.step_sender.Goals as goal
 
 pub returns : goal.returns
 returns c =
-    let row : sender_row c.args.position (seen_by false c.args.self.now (sender_step c.args.position)) ≡ Some (outcome c.next-next.result) = cc in
+    let row : sender_row c.args.position (seen_by c.args.told.answer c.args.self.now (sender_step c.args.position)) ≡ Some (outcome c.next-next.result) = cc in
     rw (c.sender_goes-self.ensures, c.make-made.ensures.tells, c.make-made.ensures.moves, c.sender_puts.ensures, c.step-step.ensures)
-    (sender_made_of c.args.self.now c.args.position c.next-next.result c.requires.row row)
+    (sender_made_of c.args.told c.args.self.now c.args.position c.next-next.result c.requires.row row)

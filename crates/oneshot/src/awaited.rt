@@ -1,0 +1,38 @@
+//! A message that a future waits for, under an executor; the README shows it.
+
+use crate::{AsyncReceiver, RecvError, async_channel};
+use futures::executor::block_on;
+use std::io;
+use std::random::RandomSource;
+use std::sync::Wait;
+use std::test::Fail;
+use std::thread::join;
+
+/// Blocks this thread until the message is there or will never come.
+fn awaited<R: Wait + RandomSource + AllocGlobal, T: Drop, Rt: Wait + Drop>(
+    rt: &R,
+    receiver: AsyncReceiver<T, Rt>,
+) -> io::Result<Result<T, RecvError>> {
+    block_on(rt, receiver)
+}
+
+#[test]
+fn a_message_is_awaited(rt: HostRuntime) -> Result<(), Fail> {
+    let (sender, receiver) = async_channel(&rt, rt.alloc())?;
+    let (received, sent) = join(
+        &rt,
+        || awaited(&rt, receiver),
+        || sender.send(19u64).is_ok(),
+    );
+    assert_eq!(rt; received?, Ok(19));
+    assert!(rt; sent);
+    Ok(())
+}
+
+#[test]
+fn a_sender_that_goes_ends_the_wait(rt: HostRuntime) -> Result<(), Fail> {
+    let (sender, receiver) = async_channel::<u64, _>(&rt, rt.alloc())?;
+    let (received, ()) = join(&rt, || awaited(&rt, receiver), || drop(sender));
+    assert_eq!(rt; received?, Err(RecvError));
+    Ok(())
+}

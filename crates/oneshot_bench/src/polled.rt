@@ -1,0 +1,70 @@
+//! Rounds that a task makes within one poll, so that no round pays for the executor.
+
+ghost use Rattle.futures.specs.Task.{Keeps};
+
+use crate::fault::Fault;
+use crate::tally::Tally;
+use futures::Future;
+use futures::executor::block_on;
+use futures::task::{Context, Poll};
+use std::alloc::AllocGlobal;
+use std::io;
+use std::io::ErrorKind;
+use std::random::RandomSource;
+use std::sync::Wait;
+
+/// A round over a receiver that is a future.
+pub trait PolledRound: Drop {
+    /// Makes the round as the task of `cx`.
+    ///
+    /// `Err` where there is no memory for the channel, or the message was lost.
+    fn make(&self, cx: &mut Context<'_>, tally: &mut Tally) -> Result<(), Fault>
+        ensures { Keeps cx.old cx.new };
+}
+
+/// `count` rounds, which the first poll makes.
+#[derive(Drop)]
+struct InTask<P> {
+    count: u64,
+    round: P,
+}
+
+impl<P: PolledRound> Future for InTask<P> {
+    type Output = Result<Tally, Fault>;
+
+    fn poll(&mut self, cx: &mut Context<'_>) -> Poll<Result<Tally, Fault>> {
+        Poll::Ready(make_all(self.count, &self.round, cx))
+    }
+}
+
+/// Makes `count` rounds, one after another, and counts what they did.
+fn make_all<P: PolledRound>(count: u64, round: &P, cx: &mut Context<'_>) -> Result<Tally, Fault>
+    ensures { Keeps cx.old cx.new }
+{
+    let mut tally = Tally::new();
+    for _made in 0..count {
+        round.make(cx, &mut tally)?;
+    }
+    Ok(tally)
+}
+
+/// Makes `count` rounds within one poll of a task, and adds what they did.
+///
+/// `Err`: the fault of a round, after which none was made, or that the task could not be made.
+pub fn repeat_in_task<R: Wait + RandomSource + AllocGlobal, P: PolledRound>(
+    rt: &R,
+    count: u64,
+    round: P,
+    tally: &mut Tally,
+) -> Result<(), Fault> {
+    let made = block_on(rt, InTask { count, round }).map_err(task_fault)?;
+    tally.add(made?);
+    Ok(())
+}
+
+fn task_fault(error: io::Error) -> Fault {
+    match error.kind() {
+        ErrorKind::OutOfMemory => Fault::OutOfMemory,
+        _ => Fault::TaskFailed,
+    }
+}

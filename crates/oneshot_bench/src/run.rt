@@ -1,0 +1,149 @@
+//! The rounds of each loop over each channel.
+
+use crate::channels::Channel;
+use crate::fault::Fault;
+use crate::loops::Loop;
+use crate::polled::repeat_in_task;
+use crate::rounds::repeat;
+use crate::tally::Tally;
+use crate::{crossbeam_rounds, crossbeam_trips, futures_rounds, round_trip, rounds};
+use std::alloc::AllocGlobal;
+use std::mem::size_of;
+use std::random::RandomSource;
+use std::sync::Wait;
+use std::thread::Threads;
+use std::time::Clock;
+
+/// A message of 8 bytes.
+const SMALL: u64 = 7;
+
+/// A message of 4,096 bytes.
+const LARGE: [u8; 4096] = [7; 4096];
+
+/// Makes `count` rounds of a loop over a channel, and counts what they did.
+///
+/// `Err` where the channel cannot run the loop, and as the rounds.
+pub fn run_loop<R: AllocGlobal + RandomSource + Threads + Wait + Clock + Sync>(
+    rt: &R,
+    channel: Channel,
+    kind: Loop,
+    count: u64,
+    tally: &mut Tally,
+) -> Result<(), Fault> {
+    match channel {
+        Channel::Oneshot => run_oneshot(rt, kind, count, tally),
+        Channel::Futures => run_futures(rt, kind, count, tally),
+        Channel::Crossbeam => run_crossbeam(rt, kind, count, tally),
+    }
+}
+
+/// Over this repository's channel.
+fn run_oneshot<R: AllocGlobal + RandomSource + Threads + Wait + Clock + Sync>(
+    rt: &R,
+    kind: Loop,
+    count: u64,
+    tally: &mut Tally,
+) -> Result<(), Fault> {
+    let alloc = rt.alloc();
+    let small = size_of::<u64>();
+    let large = size_of::<[u8; 4096]>();
+    match kind {
+        Loop::MakeSendReceiveDrop => repeat(count, || {
+            rounds::make_send_receive_drop(alloc, SMALL, small, tally)
+        }),
+        Loop::MakeDrop => repeat(count, || rounds::make_drop::<u64>(alloc, small, tally)),
+        Loop::MakeSendRecv => repeat(count, || {
+            rounds::make_send_recv(rt, alloc, SMALL, small, tally)
+        }),
+        Loop::MakePollSendPoll => {
+            let round = rounds::MakePollSendPoll::new(rt, alloc, SMALL, small);
+            repeat_in_task(rt, count, round, tally)
+        }
+        Loop::MakeSendReceiveDropLarge => repeat(count, || {
+            rounds::make_send_receive_drop(alloc, LARGE, large, tally)
+        }),
+        Loop::MakeDropLarge => repeat(count, || {
+            rounds::make_drop::<[u8; 4096]>(alloc, large, tally)
+        }),
+        Loop::MakeSendRecvLarge => repeat(count, || {
+            rounds::make_send_recv(rt, alloc, LARGE, large, tally)
+        }),
+        Loop::MakePollSendPollLarge => {
+            let round = rounds::MakePollSendPoll::new(rt, alloc, LARGE, large);
+            repeat_in_task(rt, count, round, tally)
+        }
+        Loop::RoundTrip => round_trip::round_trips(rt, alloc, count, tally).map(|_| ()),
+    }
+}
+
+/// Over `futures::channel::oneshot`, whose receiver is a future and blocks no thread by itself.
+fn run_futures<R: AllocGlobal + RandomSource + Wait>(
+    rt: &R,
+    kind: Loop,
+    count: u64,
+    tally: &mut Tally,
+) -> Result<(), Fault> {
+    let alloc = rt.alloc();
+    let small = size_of::<u64>();
+    let large = size_of::<[u8; 4096]>();
+    match kind {
+        Loop::MakeSendReceiveDrop => repeat(count, || {
+            futures_rounds::make_send_receive_drop(alloc, SMALL, small, tally)
+        }),
+        Loop::MakeDrop => repeat(count, || {
+            futures_rounds::make_drop::<u64>(alloc, small, tally)
+        }),
+        Loop::MakeSendRecv => Err(Fault::CannotRun),
+        Loop::MakePollSendPoll => {
+            let round = futures_rounds::MakePollSendPoll::new(alloc, SMALL, small);
+            repeat_in_task(rt, count, round, tally)
+        }
+        Loop::MakeSendReceiveDropLarge => repeat(count, || {
+            futures_rounds::make_send_receive_drop(alloc, LARGE, large, tally)
+        }),
+        Loop::MakeDropLarge => repeat(count, || {
+            futures_rounds::make_drop::<[u8; 4096]>(alloc, large, tally)
+        }),
+        Loop::MakeSendRecvLarge => Err(Fault::CannotRun),
+        Loop::MakePollSendPollLarge => {
+            let round = futures_rounds::MakePollSendPoll::new(alloc, LARGE, large);
+            repeat_in_task(rt, count, round, tally)
+        }
+        Loop::RoundTrip => Err(Fault::CannotRun),
+    }
+}
+
+/// Over `crossbeam_channel`, which has no poll.
+fn run_crossbeam<R: AllocGlobal + Threads + Wait + Sync>(
+    rt: &R,
+    kind: Loop,
+    count: u64,
+    tally: &mut Tally,
+) -> Result<(), Fault> {
+    let alloc = rt.alloc();
+    let small = size_of::<u64>();
+    let large = size_of::<[u8; 4096]>();
+    match kind {
+        Loop::MakeSendReceiveDrop => repeat(count, || {
+            crossbeam_rounds::make_send_receive_drop(rt, alloc, SMALL, small, tally)
+        }),
+        Loop::MakeDrop => repeat(count, || {
+            crossbeam_rounds::make_drop::<u64>(alloc, small, tally)
+        }),
+        Loop::MakeSendRecv => repeat(count, || {
+            crossbeam_rounds::make_send_recv(rt, alloc, SMALL, small, tally)
+        }),
+        Loop::MakePollSendPoll => Err(Fault::CannotRun),
+        Loop::MakeSendReceiveDropLarge => repeat(count, || {
+            crossbeam_rounds::make_send_receive_drop(rt, alloc, LARGE, large, tally)
+        }),
+        Loop::MakeDropLarge => repeat(count, || {
+            crossbeam_rounds::make_drop::<[u8; 4096]>(alloc, large, tally)
+        }),
+        Loop::MakeSendRecvLarge => repeat(count, || {
+            crossbeam_rounds::make_send_recv(rt, alloc, LARGE, large, tally)
+        }),
+        Loop::MakePollSendPollLarge => Err(Fault::CannotRun),
+        Loop::RoundTrip => crossbeam_trips::round_trips(rt, alloc, count, tally).map(|_| ()),
+    }
+}

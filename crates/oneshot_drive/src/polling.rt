@@ -1,0 +1,219 @@
+//! The calls of a receiver that is a future: a poll, and its drop.
+
+ghost use Rattle.std.specs.Prelude.{◌≡◌, [], Some};
+ghost use Rattle.futures.specs.Poll.{OnPending};
+ghost use Rattle.oneshot_machine.specs.declared.machine.Reply.TheVariants as R;
+ghost use Rattle.oneshot_machine.specs.declared.machine.receiver.ReceiverPos.TheVariants.{DropSwap, Future};
+ghost use Rattle.oneshot_machine.specs.declared.machine.future.FuturePos.TheVariants.{PollLoad, PollCopy, PollWrite, AgainCopy, PollSpin, AsyncExchange, AsyncSpin};
+ghost use Rattle.oneshot_machine.specs.declared.machine.receiver.ReceiverStart.TheVariants as C;
+ghost use Rattle.oneshot_machine.specs.Logs.{receiver_of};
+ghost use Rattle.oneshot_machine.specs.Runs.{Ran, ReceiverRan};
+ghost use Rattle.oneshot_machine.specs.Receiver.{receiver_step, receiver_row};
+ghost use Rattle.oneshot_machine.specs.Rows.{Goes};
+ghost use Rattle.oneshot_drive.specs.declared.waiting.Found.TheVariants as F;
+ghost use Rattle.oneshot_drive.specs.Blocking.{Went, HasLooked};
+ghost use Rattle.oneshot_drive.specs.Calls.{IsClosed};
+ghost use Rattle.oneshot_drive.specs.Polls.{IsPolled, LeavesPolled, poll_reply, poll_received, poll_end, EndsPoll, MayLeave, FindsCopy, Spins, IsDisconnected, MayEnd, WroteCopies, WritesItsCopy};
+
+use crate::ground::{ReceiverGround, TaskGround};
+use crate::waiting::Found;
+use futures::task::Poll;
+use oneshot_errors::RecvError;
+use oneshot_machine::states::{DISCONNECTED, EMPTY, MESSAGE, Op, RECEIVING, UNPARKING};
+use std::sync::Wait;
+
+/// Polls the receiver once, without blocking except for a sender that is about to finish.
+///
+/// - `Ready(Ok)`: the message, which closes the receiver.
+/// - `Ready(Err)`: the sender was dropped, or the message was received before.
+/// - `Pending`: nothing is there yet. The channel holds a new copy of the task's waker, in place of that
+///   of an earlier poll; or the poll woke its own task, where a copy was refused or the sender is about
+///   to finish.
+pub fn poll<T, W: Drop, G: TaskGround<T, W>>(
+    g: &mut G,
+    rt: &impl Wait,
+) -> Poll<Result<T, RecvError>>
+    requires { IsPolled (receiver_of (G.log g.old)) (G.message_slot g.old) (G.waker_slot g.old) }
+    ensures run { ReceiverRan C.Poll (G.log g.old) (G.log g.new) (poll_reply result) [] (poll_received result) }
+    ensures rests { IsPolled (receiver_of (G.log g.new)) (G.message_slot g.new) (G.waker_slot g.new) }
+    ensures leaves { LeavesPolled result (receiver_of (G.log g.new)) }
+    ensures stays { IsClosed (receiver_of (G.log g.old)) → IsDisconnected result }
+    ensures own_copy { WritesItsCopy (G.log g.old) (G.log g.new) }
+    ensures heard { OnPending result (G.heard g.new) }
+    ensures keeps { G.keeps g.old g.new }
+{
+    match meet(g, rt) {
+        Found::Message => {
+            g.word(Op::Store(DISCONNECTED));
+            Poll::Ready(Ok(g.take_message()))
+        }
+        Found::Nothing => Poll::Pending,
+        _ => Poll::Ready(Err(RecvError)),
+    }
+}
+
+// Reads the word, and leaves a copy where nothing is there yet.
+fn meet<T, W: Drop, G: TaskGround<T, W>>(g: &mut G, rt: &impl Wait) -> Found
+    requires { IsPolled (receiver_of (G.log g.old)) (G.message_slot g.old) (G.waker_slot g.old) }
+    ensures went { Went (Future PollLoad) (poll_end result) (G.log g.old) (G.log g.new) }
+    ensures ends { EndsPoll result (receiver_of (G.log g.new)) (G.message_slot g.new) (G.waker_slot g.new) }
+    ensures stays { IsClosed (receiver_of (G.log g.old)) → result ≡ F.Closed }
+    ensures heard { result ≡ F.Nothing → G.heard g.new }
+    ensures own { WritesItsCopy (G.log g.old) (G.log g.new) }
+    ensures keeps { G.keeps g.old g.new }
+{
+    match g.word(Op::Load) {
+        EMPTY => leave_first(g),
+        RECEIVING => leave_again(g),
+        MESSAGE => Found::Message,
+        UNPARKING => spin(g, rt),
+        _ => Found::Closed,
+    }
+}
+
+// Leaves a copy where there is none.
+fn leave_first<T, W: Drop, G: TaskGround<T, W>>(g: &mut G) -> Found
+    requires { HasLooked (receiver_of (G.log g.old)) (G.message_slot g.old) (G.waker_slot g.old) }
+    ensures went { Went (Future PollCopy) (poll_end result) (G.log g.old) (G.log g.new) }
+    ensures ends { EndsPoll result (receiver_of (G.log g.new)) (G.message_slot g.new) (G.waker_slot g.new) }
+    ensures heard { result ≡ F.Nothing → G.heard g.new }
+    ensures own { WritesItsCopy (G.log g.old) (G.log g.new) }
+    ensures keeps { G.keeps g.old g.new }
+{
+    let Some(copy) = g.copy() else {
+        g.wake_own();
+        return Found::Nothing;
+    };
+    leave(g, copy)
+}
+
+// Leaves this copy, unless the sender has acted before.
+fn leave<T, W: Drop, G: TaskGround<T, W>>(g: &mut G, copy: W) -> Found
+    requires open { MayLeave (receiver_of (G.log g.old)) (G.message_slot g.old) (G.waker_slot g.old) }
+    requires heard { G.heard g.old }
+    ensures went { Went (Future PollWrite) (poll_end result) (G.log g.old) (G.log g.new) }
+    ensures ends { EndsPoll result (receiver_of (G.log g.new)) (G.message_slot g.new) (G.waker_slot g.new) }
+    ensures heard { result ≡ F.Nothing → G.heard g.new }
+    ensures own { WroteCopies (Some copy) (G.log g.old) (G.log g.new) }
+    ensures keeps { G.keeps g.old g.new }
+{
+    g.write_waker(copy);
+    let word = g.word(Op::Exchange(EMPTY, RECEIVING));
+    if word == EMPTY {
+        return Found::Nothing;
+    }
+    drop(g.withdraw());
+    if word == MESSAGE {
+        Found::Message
+    } else {
+        Found::Closed
+    }
+}
+
+// Leaves a copy in place of that of an earlier poll.
+fn leave_again<T, W: Drop, G: TaskGround<T, W>>(g: &mut G) -> Found
+    requires { FindsCopy (receiver_of (G.log g.old)) (G.message_slot g.old) (G.waker_slot g.old) }
+    ensures went { Went (Future AgainCopy) (poll_end result) (G.log g.old) (G.log g.new) }
+    ensures ends { EndsPoll result (receiver_of (G.log g.new)) (G.message_slot g.new) (G.waker_slot g.new) }
+    ensures heard { result ≡ F.Nothing → G.heard g.new }
+    ensures own { WritesItsCopy (G.log g.old) (G.log g.new) }
+    ensures keeps { G.keeps g.old g.new }
+{
+    let Some(copy) = g.copy() else {
+        g.wake_own();
+        return Found::Nothing;
+    };
+    match g.word(Op::Exchange(RECEIVING, EMPTY)) {
+        RECEIVING => {
+            let stored = g.withdraw();
+            drop(stored);
+            leave(g, copy)
+        }
+        MESSAGE => Found::Message,
+        DISCONNECTED => Found::Closed,
+        _ => {
+            g.wake_own();
+            Found::Nothing
+        }
+    }
+}
+
+// Reads the word until the sender has finished.
+fn spin<T, W: Drop, G: TaskGround<T, W>>(g: &mut G, rt: &impl Wait) -> Found
+    requires { Spins (receiver_of (G.log g.old)) (G.message_slot g.old) (G.waker_slot g.old) }
+    ensures went { Went (Future PollSpin) (poll_end result) (G.log g.old) (G.log g.new) }
+    ensures ends { EndsPoll result (receiver_of (G.log g.new)) (G.message_slot g.new) (G.waker_slot g.new) }
+    ensures sent { ¬ (result ≡ F.Nothing) }
+    ensures own { WritesItsCopy (G.log g.old) (G.log g.new) }
+    ensures keeps { G.keeps g.old g.new }
+{
+    for _ in rt.forever() {
+        match g.word(Op::Load) {
+            MESSAGE => return Found::Message,
+            DISCONNECTED => return Found::Closed,
+            _ => {}
+        }
+    }
+    unreachable!()
+}
+
+/// Drops the future, with the copy of a waker that it left with the channel and the message that it
+/// finds. It blocks for a sender that is about to finish, and for nothing else.
+pub fn drop_async<T, W: Drop, G: ReceiverGround<T, W>>(g: &mut G, rt: &impl Wait)
+    requires { IsPolled (receiver_of (G.log g.old)) (G.message_slot g.old) (G.waker_slot g.old) }
+    ensures { ReceiverRan C.DropAsync (G.log g.old) (G.log g.new) R.Done [] [] }
+{
+    match g.word(Op::Load) {
+        RECEIVING => {
+            take_back(g, rt);
+            end(g);
+        }
+        UNPARKING => {
+            wait_out(g, rt);
+            end(g);
+        }
+        _ => end(g),
+    }
+}
+
+// Takes the copy back, unless the sender has acted before.
+fn take_back<T, W: Drop, G: ReceiverGround<T, W>>(g: &mut G, rt: &impl Wait)
+    requires { FindsCopy (receiver_of (G.log g.old)) (G.message_slot g.old) (G.waker_slot g.old) }
+    ensures went { Went (Future AsyncExchange) (Goes DropSwap) (G.log g.old) (G.log g.new) }
+    ensures ends { MayEnd (receiver_of (G.log g.new)) (G.message_slot g.new) (G.waker_slot g.new) }
+{
+    match g.word(Op::Exchange(RECEIVING, EMPTY)) {
+        RECEIVING => drop(g.withdraw()),
+        UNPARKING => wait_out(g, rt),
+        _ => {}
+    }
+}
+
+// Reads the word until the sender has finished.
+fn wait_out<T, W: Drop, G: ReceiverGround<T, W>>(g: &mut G, rt: &impl Wait)
+    requires { Spins (receiver_of (G.log g.old)) (G.message_slot g.old) (G.waker_slot g.old) }
+    ensures went { Went (Future AsyncSpin) (Goes DropSwap) (G.log g.old) (G.log g.new) }
+    ensures ends { MayEnd (receiver_of (G.log g.new)) (G.message_slot g.new) (G.waker_slot g.new) }
+{
+    for _ in rt.forever() {
+        if g.word(Op::Load) != UNPARKING {
+            return;
+        }
+    }
+    unreachable!()
+}
+
+// Closes the channel, and drops the message that it finds.
+fn end<T, W: Drop, G: ReceiverGround<T, W>>(g: &mut G)
+    requires { MayEnd (receiver_of (G.log g.old)) (G.message_slot g.old) (G.waker_slot g.old) }
+    ensures { Ran receiver_step receiver_row DropSwap (G.log g.old) (G.log g.new) R.Done [] [] }
+{
+    match g.word(Op::Swap(DISCONNECTED)) {
+        MESSAGE => {
+            g.drop_message();
+            g.free();
+        }
+        EMPTY => {}
+        _ => g.free(),
+    }
+}

@@ -1,0 +1,5 @@
+use Rattle.oneshot_drive.specs.Polls.{unpolled}
+use Rattle.oneshot_ends.proofs.future.AsyncReceiver.new.Goals as goal
+
+pub invariant_of-result : goal.invariant_of-result
+invariant_of-result g c = unpolled c.requires

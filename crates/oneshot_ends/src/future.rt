@@ -1,0 +1,132 @@
+//! The receiver as a future, which a task polls.
+
+ghost use Rattle.std.specs.Prelude.{◌≡◌, ◌≢◌, ⊤, Result};
+ghost use Rattle.oneshot_errors.specs.declared.recv.RecvError.{RecvError};
+ghost use Rattle.futures.specs.declared.task.Poll.TheVariants.{Pending};
+ghost use Rattle.futures.specs.Poll.{IfReady, OnPending};
+ghost use Rattle.futures.specs.Task.{Covers, Keeps};
+ghost use Rattle.oneshot_machine.specs.declared.machine.receiver.ReceiverStart.TheVariants as C;
+ghost use Rattle.oneshot_machine.specs.Logs.{receiver_of};
+ghost use Rattle.oneshot_machine.specs.Phases.{receiver_at};
+ghost use Rattle.oneshot_drive.specs.Calls.{AtRest};
+ghost use Rattle.oneshot_drive.specs.Polls.{LeavesPolled, IsDisconnected, poll_reply};
+ghost use Rattle.oneshot_ends.specs.Ends.{ReceiverGrew, IsDone, IsPending};
+ghost use Rattle.oneshot_ends.specs.Sides.{logged};
+
+use crate::ground::ReceiverSeat;
+use crate::task::{Copies, TaskSeat};
+use crossbeam_utils::sync::Unparker;
+use futures::Future;
+use futures::task::{Context, Poll, Source, Waker};
+use oneshot_drive::{drop_async, poll};
+use oneshot_errors::RecvError;
+use oneshot_machine::states::{DISCONNECTED, MESSAGE};
+use std::marker::Model;
+use std::sync::Wait;
+
+/// Receives one message from its sender, as a future: `Ok` with the message, or `Err` where the sender
+/// was dropped without a message or the message was received before.
+///
+/// A contract sees the table that it shares with the sender, the list of its operations on the word,
+/// from which it reads whether the future is done, and the source at which its polls register.
+///
+/// Where `T` and `Rt` are `Send` it may go to another thread between two polls.
+pub struct AsyncReceiver<T, Rt: Wait> {
+    seat: ReceiverSeat<T, Unparker, Waker>,
+    source: Source,
+    // Copies of wakers that are not in the channel.
+    copies: Copies,
+    rt: Rt,
+}
+
+impl<T, Rt: Wait> Model for AsyncReceiver<T, Rt> {
+    ghost use Rattle.oneshot_machine.specs.Logs.{receiver_of};
+    ghost use Rattle.oneshot_drive.specs.Polls.{IsPolled};
+    ghost use Rattle.oneshot_ends.specs.Ends.{FutureEnd};
+    ghost use Rattle.oneshot_ends.specs.Sides.{logged};
+
+    ghost Value = { FutureEnd };
+
+    ghost view = { λ r. record { table = r.seat.table; steps = r.seat.steps; source = r.source.id } };
+
+    ghost invariant = { λ r. IsPolled (receiver_of (logged r.seat)) r.seat.message r.seat.waker };
+}
+
+impl<T, Rt: Wait> AsyncReceiver<T, Rt> {
+    pub(crate) fn new(
+        seat: ReceiverSeat<T, Unparker, Waker>,
+        source: Source,
+        rt: Rt,
+    ) -> AsyncReceiver<T, Rt>
+        requires { AtRest (receiver_of (logged seat)) seat.message seat.waker }
+        ensures table { result.table ≡ seat.table }
+        ensures steps { result.steps ≡ seat.steps }
+    {
+        AsyncReceiver {
+            seat,
+            source,
+            copies: Copies::new(),
+            rt,
+        }
+    }
+}
+
+impl<T, Rt: Wait> AsyncReceiver<T, Rt> {
+    /// Whether the sender is gone without a message, or the message was received, by one load.
+    pub fn is_closed(&self) -> bool {
+        self.seat.peek() == DISCONNECTED
+    }
+
+    /// Whether the message is there, by one load; the next poll gives it then.
+    pub fn has_message(&self) -> bool {
+        self.seat.peek() == MESSAGE
+    }
+}
+
+impl<T: Drop, Rt: Wait + Drop> Future for AsyncReceiver<T, Rt> {
+    type Output = Result<T, RecvError>;
+
+    ghost needs = { λ r s. s ≡ r.source };
+
+    /// Polls once. It allocates nothing, and blocks only for a sender that is about to finish.
+    ///
+    /// - `Ready(Ok)`: the message.
+    /// - `Ready(Err)`: the sender was dropped without a message, or the message was received before. A
+    ///   future that was ready answers this from then on.
+    /// - `Pending`: nothing is there yet. The task was registered to be woken when that changes, or woke
+    ///   itself, where no copy of its waker could be made or the sender is about to finish.
+    fn poll(&mut self, cx: &mut Context<'_>) -> Poll<Result<T, RecvError>>
+        ensures value { IfReady result (λ _. ⊤) }
+        ensures again { OnPending result ⊤ }
+        ensures same { OnPending result (Result T RecvError → ⊤ → ⊤) }
+        ensures registered { OnPending result (Covers cx.new (λ s. s ≡ self.new.source)) }
+        ensures kept { Keeps cx.old cx.new }
+        ensures table { self.new.table ≡ self.old.table }
+        ensures source { self.new.source ≡ self.old.source }
+        ensures run { ReceiverGrew T C.Poll self.old.steps self.new.steps (poll_reply result) }
+        ensures leaves { LeavesPolled result (receiver_at self.new.steps) }
+        ensures closes { result ≢ Pending → IsDone self.new }
+        ensures stays_open { result ≡ Pending → IsPending self.new }
+        ensures stays_closed { IsDone self.old → IsDisconnected result }
+    {
+        let mut lent = TaskSeat {
+            seat: &mut self.seat,
+            cx: &mut *cx,
+            source: &self.source,
+            copies: &mut self.copies,
+        };
+        poll(&mut lent, &self.rt)
+    }
+}
+
+impl<T: Drop, Rt: Wait + Drop> Drop for AsyncReceiver<T, Rt> {
+    fn drop(self) {
+        let AsyncReceiver {
+            mut seat,
+            source: _,
+            copies: _,
+            rt,
+        } = self;
+        drop_async(&mut seat, &rt);
+    }
+}

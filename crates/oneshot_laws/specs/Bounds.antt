@@ -1,0 +1,54 @@
+-- How many operations on the word a call makes, and how soon a receiver's call ends once the sender is done with the word.
+use Rattle.std.specs.Prelude.{ℕ, zero, suc, Bool, true, not, ◌&&◌, List, [], ◌∷◌, if◌then◌else◌}
+use Rattle.oneshot_machine.specs.declared.machine.End.TheVariants.{Sender, Receiver}
+use Rattle.oneshot_world.specs.Calls.{Call, Send, Drop_sender, Try_recv, Poll, Drop_async}
+use Rattle.oneshot_laws.specs.Words.{is_same_end, is_word, found}
+use Rattle.oneshot_laws.specs.Marks.{Mark, finishes, side, call_marks, each_call, after_each}
+
+-- at most so many of these marks pass a test
+abbrev pub at_most : ℕ → (Mark → Bool) → List Mark → Bool
+at_most limit test [] = true
+at_most zero test (m ∷ ms) = not (test m) && at_most zero test ms
+at_most (suc limit) test (m ∷ ms) = if test m then at_most limit test ms else at_most (suc limit) test ms
+
+-- an operation on the word
+abbrev pub operates : Mark → Bool
+operates m = is_word m.entry.step
+
+-- one that did not find the sender about to finish
+abbrev pub operates_past_1 : Mark → Bool
+operates_past_1 m = is_word m.entry.step && not (found 1 m.entry.before)
+
+-- the most operations that a call makes, for the calls that have a bound; a poll and a future's drop make more only while the sender is about to finish
+abbrev pub is_within_its_bound : Call → List Mark → Bool
+is_within_its_bound Send own = at_most 2 operates own
+is_within_its_bound Drop_sender own = at_most 2 operates own
+is_within_its_bound Try_recv own = at_most 2 operates own
+is_within_its_bound (Poll number) own = at_most 4 operates_past_1 own
+is_within_its_bound Drop_async own = at_most 3 operates_past_1 own
+is_within_its_bound _ own = true
+
+abbrev pub is_bounded : List Mark → Bool
+is_bounded [] = true
+is_bounded (m ∷ later) = is_within_its_bound m.call (m ∷ later)
+
+abbrev pub are_calls_bounded : List Mark → Bool
+are_calls_bounded ms = each_call is_bounded ms
+
+-- the sender's last operation on the word
+abbrev pub is_senders_last : Mark → Bool
+is_senders_last m = is_same_end (side m) Sender && finishes m.entry
+
+abbrev pub each_move : Mark → Bool
+each_move m = true
+
+-- from each mark on, the receiver's call that is under way or begins next makes at most two operations and six moves until its answer
+abbrev pub answers_soon : List Mark → Bool
+answers_soon [] = true
+answers_soon (m ∷ later) =
+    at_most 2 operates (call_marks Receiver (m ∷ later))
+    && at_most 6 each_move (call_marks Receiver (m ∷ later))
+    && answers_soon later
+
+abbrev pub is_soon_answered : List Mark → Bool
+is_soon_answered ms = after_each is_senders_last answers_soon ms

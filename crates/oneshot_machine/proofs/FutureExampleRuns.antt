@@ -1,0 +1,103 @@
+-- The examples of a future, computed.
+use Rattle.std.proofs.Common.{refl}
+use Rattle.oneshot_machine.specs.declared.machine.receiver.ReceiverPos.TheVariants.{Close, Take, Future, DropSwap, DropFree}
+use Rattle.oneshot_machine.specs.declared.machine.future.FuturePos.TheVariants.{PollCopy, PollWrite, PollExchange, PollBackFull, PollBackClosed, AgainCopy, AgainExchange, AgainBack, PollOwn, PollSpin, AsyncExchange, AsyncBack, AsyncSpin}
+use Rattle.oneshot_machine.specs.Runs.{last, more}
+use Rattle.oneshot_machine.specs.FutureExamples.{FutureLists, FutureRuns, FutureRunsThatAreNot}
+use Rattle.oneshot_machine.proofs.ExampleRuns.{begins, answers, goes_on}
+
+pub future_lists : FutureLists
+future_lists =
+    record {
+      polls = refl;
+      polls_again = refl;
+      takes_its_copy_back = refl;
+      stores_another_copy = refl;
+      sees_the_sender_finish = refl;
+      exchanges_too_late = refl;
+      finds_it_by_its_load = refl;
+      finds_it_by_its_exchange = refl;
+      receives = refl;
+      finds_nobody_by_its_exchange = refl;
+      polls_after_the_end = refl;
+      is_dropped_with_its_copy = refl;
+      is_dropped_over_a_message = refl;
+      stores_without_a_look = refl;
+      takes_back_without_a_look = refl;
+      blocks = refl;
+      stops_by_a_swap = refl;
+      is_dropped_over_its_copy = refl;
+      is_dropped_over_a_sender_that_finishes = refl;
+      is_dropped_in_its_poll = refl;
+      is_dropped_without_a_look = refl;
+    }
+
+pub future_runs : FutureRuns
+future_runs =
+    record {
+      becomes_a_future = last _ refl refl;
+      waits_by_a_poll =
+          more (Future PollCopy) _ _ refl refl
+          (more (Future PollWrite) _ _ refl refl
+          (more (Future PollExchange) _ _ refl refl
+          (last _ refl refl)));
+      finds_no_memory_for_a_copy =
+          more (Future PollCopy) _ _ refl refl (more (Future PollOwn) _ _ refl refl (last _ refl refl));
+      finds_the_message_by_its_exchange =
+          more (Future PollCopy) _ _ refl refl
+          (more (Future PollWrite) _ _ refl refl
+          (more (Future PollExchange) _ _ refl refl
+          (more (Future PollBackFull) _ _ refl refl
+          (more Close _ _ refl refl
+          (more Take _ _ refl refl
+          (last _ refl refl))))));
+      finds_no_sender_by_its_exchange =
+          more (Future PollCopy) _ _ refl refl
+          (more (Future PollWrite) _ _ refl refl
+          (more (Future PollExchange) _ _ refl refl
+          (more (Future PollBackClosed) _ _ refl refl
+          (last _ refl refl))));
+      replaces_its_copy =
+          more (Future AgainCopy) _ _ refl refl
+          (more (Future AgainExchange) _ _ refl refl
+          (more (Future AgainBack) _ _ refl refl
+          (more (Future PollWrite) _ _ refl refl
+          (more (Future PollExchange) _ _ refl refl
+          (last _ refl refl)))));
+      polls_too_late =
+          more (Future AgainCopy) _ _ refl refl
+          (more (Future AgainExchange) _ _ refl refl
+          (more (Future PollOwn) _ _ refl refl
+          (last _ refl refl)));
+      spins =
+          more (Future PollSpin) _ _ refl refl
+          (more (Future PollSpin) _ _ refl refl
+          (more Close _ _ refl refl
+          (more Take _ _ refl refl
+          (last _ refl refl))));
+      drops_its_copy =
+          more (Future AsyncExchange) _ _ refl refl
+          (more (Future AsyncBack) _ _ refl refl
+          (more DropSwap _ _ refl refl
+          (last _ refl refl)));
+      waits_for_the_sender_to_finish =
+          more (Future AsyncExchange) _ _ refl refl
+          (more (Future AsyncSpin) _ _ refl refl
+          (more DropSwap _ _ refl refl
+          (more DropFree _ _ refl refl
+          (last _ refl refl))));
+    }
+
+pub future_runs_that_are_not : FutureRunsThatAreNot
+future_runs_that_are_not =
+    record {
+      keeps_the_old_copy = λ run. let e = answers (goes_on (Future AgainCopy) refl run) in cc;
+      waits_for_nothing = λ run. let e = answers (goes_on (Future PollCopy) refl run) in cc;
+      forgets_its_copy =
+          λ run. let e =
+          begins (goes_on (Future PollBackFull) refl (goes_on (Future PollExchange) refl (goes_on (Future PollWrite) refl (goes_on (Future PollCopy) refl run))))
+          in cc;
+      spins_in_vain = λ run. let e = answers (goes_on (Future PollSpin) refl run) in cc;
+      drops_over_1 = λ run. let e = begins (goes_on (Future AsyncSpin) refl run) in cc;
+      drops_its_copy_too_early = λ run. let e = begins (goes_on (Future AsyncExchange) refl run) in cc;
+    }

@@ -1,0 +1,111 @@
+-- Lists and runs that a future makes, and some that none makes.
+use Rattle.std.specs.Prelude.{◌≡◌, ℕ, List, [], ◌∷◌, ◌++◌, Some, None}
+use Rattle.oneshot_machine.specs.declared.machine.Reply.TheVariants.{Message, Disconnected, Pending}
+use Rattle.oneshot_machine.specs.declared.machine.Reply.TheVariants as R
+use Rattle.oneshot_machine.specs.declared.machine.Seen.TheVariants.{Done, Word}
+use Rattle.oneshot_machine.specs.declared.machine.Step.TheVariants.{WriteWaker, Withdraw, WakeOwn, Plain, Free}
+use Rattle.oneshot_machine.specs.declared.machine.receiver.ReceiverPos.TheVariants.{Future}
+use Rattle.oneshot_machine.specs.declared.machine.future.FuturePos.TheVariants.{IntoFuture, PollLoad, AsyncLoad}
+use Rattle.oneshot_machine.specs.declared.states.Op.TheVariants.{Load, Store, Swap, Exchange}
+use Rattle.oneshot_machine.specs.Words.{Noted}
+use Rattle.oneshot_machine.specs.Phases.{waits, polled, again, claimed, withdrew, full, by_future, by_poll, over, resolved, found_closed, closed_itself, gone, ended, no_receiver, receiver_at}
+use Rattle.oneshot_machine.specs.Logs.{Event, did, took, handed, copied, worded}
+use Rattle.oneshot_machine.specs.Examples.{ReceiverRun}
+
+-- a poll that stored its copy
+abbrev pub once_polled : List Noted
+once_polled = (Load, Word 3) ∷ (Exchange 3 0, Word 3) ∷ []
+
+-- how far a future's list takes it
+pub record FutureLists : Type 0 where
+  pub polls : receiver_at once_polled ≡ waits polled
+  pub polls_again : receiver_at (once_polled ++ (Load, Word 0) ∷ []) ≡ waits again
+  pub takes_its_copy_back :
+      receiver_at (once_polled ++ (Load, Word 0) ∷ (Exchange 0 3, Word 0) ∷ []) ≡ withdrew
+  pub stores_another_copy :
+      receiver_at (once_polled ++ (Load, Word 0) ∷ (Exchange 0 3, Word 0) ∷ (Exchange 3 0, Word 3) ∷ [])
+      ≡ waits polled
+  pub sees_the_sender_finish : receiver_at (once_polled ++ (Load, Word 1) ∷ []) ≡ claimed
+  pub exchanges_too_late :
+      receiver_at (once_polled ++ (Load, Word 0) ∷ (Exchange 0 3, Word 1) ∷ (Load, Word 1) ∷ []) ≡ claimed
+  pub finds_it_by_its_load : receiver_at (once_polled ++ (Load, Word 4) ∷ []) ≡ full by_future 4
+  pub finds_it_by_its_exchange : receiver_at ((Load, Word 3) ∷ (Exchange 3 0, Word 4) ∷ []) ≡ full by_poll 4
+  pub receives :
+      receiver_at (once_polled ++ (Load, Word 4) ∷ (Store 2, Done) ∷ []) ≡ resolved closed_itself
+  pub finds_nobody_by_its_exchange :
+      receiver_at ((Load, Word 3) ∷ (Exchange 3 0, Word 2) ∷ []) ≡ resolved found_closed
+  pub polls_after_the_end :
+      receiver_at (once_polled ++ (Load, Word 4) ∷ (Store 2, Done) ∷ (Load, Word 2) ∷ []) ≡ over closed_itself
+  pub is_dropped_with_its_copy :
+      receiver_at (once_polled ++ (Load, Word 0) ∷ (Exchange 0 3, Word 0) ∷ (Swap 2, Word 3) ∷ []) ≡ gone
+  pub is_dropped_over_a_message : receiver_at ((Load, Word 4) ∷ (Swap 2, Word 4) ∷ []) ≡ ended
+  -- and lists that no future makes
+  pub stores_without_a_look : receiver_at ((Exchange 3 0, Word 3) ∷ []) ≡ no_receiver
+  pub takes_back_without_a_look : receiver_at (once_polled ++ (Exchange 0 3, Word 0) ∷ []) ≡ no_receiver
+  pub blocks : receiver_at (once_polled ++ (Swap 0, Word 0) ∷ []) ≡ no_receiver
+  pub stops_by_a_swap : receiver_at (once_polled ++ (Load, Word 0) ∷ (Swap 3, Word 0) ∷ []) ≡ no_receiver
+  pub is_dropped_over_its_copy :
+      receiver_at (once_polled ++ (Load, Word 0) ∷ (Swap 2, Word 0) ∷ []) ≡ no_receiver
+  pub is_dropped_over_a_sender_that_finishes :
+      receiver_at (once_polled ++ (Load, Word 1) ∷ (Swap 2, Word 1) ∷ []) ≡ no_receiver
+  pub is_dropped_in_its_poll :
+      receiver_at ((Load, Word 3) ∷ (Exchange 3 0, Word 4) ∷ (Swap 2, Word 4) ∷ []) ≡ no_receiver
+  pub is_dropped_without_a_look :
+      receiver_at ((Load, Word 3) ∷ (Exchange 3 0, Word 2) ∷ (Swap 2, Word 2) ∷ []) ≡ no_receiver
+
+-- a poll whose copy was made, up to its exchange, which finds this word
+abbrev pub polling : ℕ → List (Event ℕ ℕ)
+polling word =
+    worded Load 3 ∷ copied (Some 1) ∷ handed WriteWaker 1 ∷ worded (Exchange 3 0) word ∷ []
+
+-- a later poll, up to the exchange by which it takes the stored copy back, which finds this word
+abbrev pub polling_again : ℕ → List (Event ℕ ℕ)
+polling_again word = worded Load 0 ∷ copied (Some 2) ∷ worded (Exchange 0 3) word ∷ []
+
+-- steps that are a run of the future's call, with this reply
+pub record FutureRuns : Type 0 where
+  pub becomes_a_future : ReceiverRun (Future IntoFuture) (did Plain ∷ []) R.Future
+  pub waits_by_a_poll : ReceiverRun (Future PollLoad) (polling 3) Pending
+  pub finds_no_memory_for_a_copy :
+      ReceiverRun (Future PollLoad) (worded Load 3 ∷ copied None ∷ did WakeOwn ∷ []) Pending
+  pub finds_the_message_by_its_exchange :
+      ReceiverRun
+      (Future PollLoad)
+      (polling 4 ++ handed Withdraw 1 ∷ worded (Store 2) 4 ∷ took 7 ∷ [])
+      Message
+  pub finds_no_sender_by_its_exchange :
+      ReceiverRun (Future PollLoad) (polling 2 ++ handed Withdraw 1 ∷ []) Disconnected
+  pub replaces_its_copy :
+      ReceiverRun
+      (Future PollLoad)
+      (polling_again 0 ++ handed Withdraw 1 ∷ handed WriteWaker 2 ∷ worded (Exchange 3 0) 3 ∷ [])
+      Pending
+  pub polls_too_late : ReceiverRun (Future PollLoad) (polling_again 1 ++ did WakeOwn ∷ []) Pending
+  pub spins :
+      ReceiverRun
+      (Future PollLoad)
+      (worded Load 1 ∷ worded Load 1 ∷ worded Load 4 ∷ worded (Store 2) 4 ∷ took 7 ∷ [])
+      Message
+  pub drops_its_copy :
+      ReceiverRun
+      (Future AsyncLoad)
+      (worded Load 0 ∷ worded (Exchange 0 3) 0 ∷ handed Withdraw 1 ∷ worded (Swap 2) 3 ∷ [])
+      R.Done
+  pub waits_for_the_sender_to_finish :
+      ReceiverRun
+      (Future AsyncLoad)
+      (worded Load 0 ∷ worded (Exchange 0 3) 1 ∷ worded Load 2 ∷ worded (Swap 2) 2 ∷ did Free ∷ [])
+      R.Done
+
+-- and steps that are none
+pub record FutureRunsThatAreNot : Type 0 where
+  pub keeps_the_old_copy :
+      ReceiverRun (Future PollLoad) (worded Load 0 ∷ copied (Some 2) ∷ []) Pending → ⊥
+  pub waits_for_nothing : ReceiverRun (Future PollLoad) (worded Load 3 ∷ copied None ∷ []) Pending → ⊥
+  pub forgets_its_copy :
+      ReceiverRun (Future PollLoad) (polling 4 ++ worded (Store 2) 4 ∷ took 7 ∷ []) Message → ⊥
+  pub spins_in_vain : ReceiverRun (Future PollLoad) (worded Load 1 ∷ worded Load 1 ∷ []) Pending → ⊥
+  pub drops_over_1 :
+      ReceiverRun (Future AsyncLoad) (worded Load 1 ∷ worded (Swap 2) 1 ∷ []) R.Done → ⊥
+  pub drops_its_copy_too_early :
+      ReceiverRun (Future AsyncLoad) (worded Load 0 ∷ handed Withdraw 1 ∷ worded (Swap 2) 0 ∷ []) R.Done → ⊥

@@ -1,0 +1,6 @@
+-- A new receiver is at rest, and so a future that was not polled.
+use Rattle.oneshot_drive.specs.Polls.{unpolled}
+use Rattle.oneshot_memory.proofs.future.MemoryFuture.new.Goals as goal
+
+pub returns-clause-rests : goal.returns-clause-rests
+returns-clause-rests g c = unpolled c.new.ensures.rests

@@ -1,0 +1,99 @@
+//! The ground in memory of a receiver that is a future, with the task that polls it.
+
+ghost use Rattle.std.specs.Prelude.{◌≡◌, ⊤, false};
+ghost use Rattle.oneshot_machine.specs.Logs.{receiver_of};
+ghost use Rattle.oneshot_drive.specs.Polls.{IsPolled};
+
+use crate::receiver::MemoryReceiver;
+use crate::task::{MemoryTask, TaskWaker};
+use oneshot_drive::{ReceiverGround, TaskGround};
+use oneshot_machine::states::Op;
+use std::alloc::Global;
+use std::sync::Wait;
+
+/// A receiver's ground that is polled.
+#[derive(Drop)]
+pub struct MemoryFuture<'a, 't, T, R: Wait> {
+    /// The receiver's ground.
+    pub receiver: MemoryReceiver<'a, T, TaskWaker<'t>, R>,
+    /// The task of the next poll.
+    pub task: &'t MemoryTask,
+    /// Whether a copy of its waker is refused.
+    pub refuses: bool,
+}
+
+impl<'a, 't, T, R: Wait> MemoryFuture<'a, 't, T, R> {
+    /// The ground of a new future, whose sender is here, with the task of its first poll; no copy is
+    /// refused.
+    pub fn new(rt: &'a R, alloc: Global, task: &'t MemoryTask) -> MemoryFuture<'a, 't, T, R>
+        ensures rests { IsPolled (receiver_of result.receiver.log) result.receiver.message result.receiver.waker }
+        ensures copies { result.refuses ≡ false }
+    {
+        MemoryFuture {
+            receiver: MemoryReceiver::new(rt, alloc),
+            task,
+            refuses: false,
+        }
+    }
+}
+
+impl<'a, 't, T: Drop, R: Wait> ReceiverGround<T, TaskWaker<'t>> for MemoryFuture<'a, 't, T, R> {
+    ghost log = { λ s. s.receiver.log };
+
+    ghost message_slot = { λ s. s.receiver.message };
+
+    ghost waker_slot = { λ s. s.receiver.waker };
+
+    // It has nothing beside the channel of which a contract speaks.
+    ghost keeps = { λ a b. ⊤ };
+
+    ghost keeps_same = { λ a. tt };
+
+    ghost keeps_on = { λ a b c f g. tt };
+
+    fn word(&mut self, op: Op) -> u8 {
+        self.receiver.word(op)
+    }
+
+    fn take_message(&mut self) -> T {
+        self.receiver.take_message()
+    }
+
+    fn drop_message(&mut self) {
+        self.receiver.drop_message();
+    }
+
+    fn write_waker(&mut self, waker: TaskWaker<'t>) {
+        self.receiver.write_waker(waker);
+    }
+
+    fn withdraw(&mut self) -> TaskWaker<'t> {
+        self.receiver.withdraw()
+    }
+
+    fn free(&mut self) {
+        self.receiver.free();
+    }
+}
+
+impl<'a, 't, T: Drop, R: Wait> TaskGround<T, TaskWaker<'t>> for MemoryFuture<'a, 't, T, R> {
+    // No contract tells whether a task in memory was woken; it counts that.
+    ghost heard = { λ s. ⊤ };
+
+    ghost heard_on = { λ a b h k. tt };
+
+    fn copy(&mut self) -> Option<TaskWaker<'t>> {
+        let copy = if self.refuses {
+            None
+        } else {
+            Some(self.task.copy())
+        };
+        self.receiver.note_copy(&copy);
+        copy
+    }
+
+    fn wake_own(&mut self) {
+        self.task.wake();
+        self.receiver.note_own_wake();
+    }
+}

@@ -1,0 +1,81 @@
+//! Polls over a ground in memory: what becomes of the copies of a waker, and how often its task is woken.
+
+use futures::task::Poll;
+use oneshot_drive::{drop_async, poll};
+use oneshot_errors::RecvError;
+use oneshot_memory::{MemoryFuture, MemoryTask};
+
+/// The copies that were made of its waker, those that ended, and its wakes.
+fn counts(task: &MemoryTask) -> (u64, u64, u64) {
+    (task.copies(), task.ended(), task.wakes())
+}
+
+#[test]
+fn poll_then_send(rt: HostRuntime) {
+    let task = MemoryTask::new();
+    let mut g = MemoryFuture::<'_, '_, u64, _>::new(&rt, rt.alloc(), &task);
+    assert!(rt; matches!(&poll(&mut g, &rt), Poll::Pending));
+    assert!(rt; counts(&task) == (1, 0, 0));
+    g.receiver.sender_sends(1234);
+    assert!(rt; counts(&task) == (1, 1, 1));
+    assert!(rt; matches!(&poll(&mut g, &rt), Poll::Ready(Ok(1234))));
+    assert!(rt; counts(&task) == (1, 1, 1));
+}
+
+#[test]
+fn poll_with_different_wakers(rt: HostRuntime) {
+    let first = MemoryTask::new();
+    let second = MemoryTask::new();
+    let mut g = MemoryFuture::<'_, '_, u64, _>::new(&rt, rt.alloc(), &first);
+    assert!(rt; matches!(&poll(&mut g, &rt), Poll::Pending));
+    assert!(rt; counts(&first) == (1, 0, 0));
+    g.task = &second;
+    assert!(rt; matches!(&poll(&mut g, &rt), Poll::Pending));
+    assert!(rt; counts(&first) == (1, 1, 0));
+    assert!(rt; counts(&second) == (1, 0, 0));
+    g.receiver.sender_sends(1234);
+    assert!(rt; counts(&first) == (1, 1, 0));
+    assert!(rt; counts(&second) == (1, 1, 1));
+}
+
+#[test]
+fn a_refused_copy_wakes_its_task(rt: HostRuntime) {
+    let task = MemoryTask::new();
+    let mut g = MemoryFuture::<'_, '_, u64, _>::new(&rt, rt.alloc(), &task);
+    g.refuses = true;
+    assert!(rt; matches!(&poll(&mut g, &rt), Poll::Pending));
+    assert!(rt; counts(&task) == (0, 0, 1));
+}
+
+#[test]
+fn a_refused_copy_leaves_the_stored_one(rt: HostRuntime) {
+    let first = MemoryTask::new();
+    let second = MemoryTask::new();
+    let mut g = MemoryFuture::<'_, '_, u64, _>::new(&rt, rt.alloc(), &first);
+    assert!(rt; matches!(&poll(&mut g, &rt), Poll::Pending));
+    g.task = &second;
+    g.refuses = true;
+    assert!(rt; matches!(&poll(&mut g, &rt), Poll::Pending));
+    assert!(rt; counts(&second) == (0, 0, 1));
+    g.receiver.sender_drops();
+    assert!(rt; counts(&first) == (1, 1, 1));
+    assert!(rt; matches!(&poll(&mut g, &rt), Poll::Ready(Err(RecvError))));
+}
+
+#[test]
+fn a_copy_whose_exchange_failed_is_dropped(rt: HostRuntime) {
+    let task = MemoryTask::new();
+    let mut g = MemoryFuture::<'_, '_, u64, _>::new(&rt, rt.alloc(), &task);
+    g.receiver.sender_will_send(0, 7);
+    assert!(rt; matches!(&poll(&mut g, &rt), Poll::Ready(Ok(7))));
+    assert!(rt; counts(&task) == (1, 1, 0));
+}
+
+#[test]
+fn a_dropped_future_ends_its_copy(rt: HostRuntime) {
+    let task = MemoryTask::new();
+    let mut g = MemoryFuture::<'_, '_, u64, _>::new(&rt, rt.alloc(), &task);
+    assert!(rt; matches!(&poll(&mut g, &rt), Poll::Pending));
+    drop_async(&mut g, &rt);
+    assert!(rt; counts(&task) == (1, 1, 0));
+}

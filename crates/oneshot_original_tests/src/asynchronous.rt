@@ -1,0 +1,147 @@
+//! The tests of `tests/async.rs`, whose name is a keyword: the receiver as a future.
+//!
+//! The original runs each of four tests under `tokio` and under `async-std`. Both names stand here, over
+//! one function that runs under `futures::executor::block_on`, with a second thread in place of a task
+//! that sleeps.
+
+use super::counted::Drops;
+use super::threads::on_two_threads;
+use futures::executor::block_on;
+use futures::task::Poll;
+use futures::test::MockTask;
+use oneshot::{RecvError, async_channel, channel};
+use std::alloc::AllocGlobal;
+use std::process::Abort;
+use std::random::RandomSource;
+use std::sync::Wait;
+use std::test::Fail;
+use std::thread::{Threads, sleep};
+use std::time::{Clock, Duration};
+
+fn send_before_await<R: Wait + RandomSource + AllocGlobal + Abort>(rt: &R) -> Result<(), Fail> {
+    let (sender, receiver) = channel(rt, rt.alloc())?;
+    assert!(rt; sender.send(19i128).is_ok());
+    assert_eq!(rt; block_on(rt, receiver.into_future())?, Ok(19));
+    Ok(())
+}
+
+#[test]
+fn send_before_await_tokio(rt: HostRuntime) -> Result<(), Fail> {
+    send_before_await(&rt)
+}
+
+#[test]
+fn send_before_await_async_std(rt: HostRuntime) -> Result<(), Fail> {
+    send_before_await(&rt)
+}
+
+fn await_with_dropped_sender<R: Wait + RandomSource + AllocGlobal + Abort>(
+    rt: &R,
+) -> Result<(), Fail> {
+    let (sender, receiver) = channel::<u128, _>(rt, rt.alloc())?;
+    drop(sender);
+    assert_eq!(rt; block_on(rt, receiver.into_future())?, Err(RecvError));
+    Ok(())
+}
+
+#[test]
+fn await_with_dropped_sender_tokio(rt: HostRuntime) -> Result<(), Fail> {
+    await_with_dropped_sender(&rt)
+}
+
+#[test]
+fn await_with_dropped_sender_async_std(rt: HostRuntime) -> Result<(), Fail> {
+    await_with_dropped_sender(&rt)
+}
+
+fn await_before_send<R: Threads + Wait + Clock + RandomSource + AllocGlobal + Abort + Sync>(
+    rt: &R,
+) -> Result<(), Fail> {
+    let drops = Drops::new();
+    let message = drops.message(79u128);
+    let (sent, received) = on_two_threads(
+        rt,
+        channel(rt, rt.alloc())?,
+        |sender| {
+            sleep(rt, Duration::from_millis(10));
+            sender.send(message).is_ok()
+        },
+        |receiver| block_on(rt, receiver.into_future()),
+    );
+    let Ok(returned) = received? else {
+        panic!(rt; "it was sent");
+    };
+    assert_eq!(rt; drops.count(), 0);
+    assert_eq!(rt; returned.value, 79);
+    drop(returned);
+    assert_eq!(rt; drops.count(), 1);
+    assert!(rt; sent);
+    Ok(())
+}
+
+#[test]
+fn await_before_send_tokio(rt: HostRuntime) -> Result<(), Fail> {
+    await_before_send(&rt)
+}
+
+#[test]
+fn await_before_send_async_std(rt: HostRuntime) -> Result<(), Fail> {
+    await_before_send(&rt)
+}
+
+fn await_before_send_then_drop_sender<
+    R: Threads + Wait + Clock + RandomSource + AllocGlobal + Abort + Sync,
+>(rt: &R) -> Result<(), Fail> {
+    let ((), received) = on_two_threads(
+        rt,
+        channel::<u128, _>(rt, rt.alloc())?,
+        |sender| {
+            sleep(rt, Duration::from_millis(10));
+            drop(sender);
+        },
+        |receiver| block_on(rt, receiver.into_future()),
+    );
+    assert_eq!(rt; received?, Err(RecvError));
+    Ok(())
+}
+
+#[test]
+fn await_before_send_then_drop_sender_tokio(rt: HostRuntime) -> Result<(), Fail> {
+    await_before_send_then_drop_sender(&rt)
+}
+
+#[test]
+fn await_before_send_then_drop_sender_async_std(rt: HostRuntime) -> Result<(), Fail> {
+    await_before_send_then_drop_sender(&rt)
+}
+
+// Polled by hand as `tokio`'s timeout polls: at once, and once more when the time is over.
+#[test]
+fn poll_receiver_then_drop_it(rt: HostRuntime) -> Result<(), Fail> {
+    let task = MockTask::new(&rt)?;
+    let (sender, mut receiver) = async_channel::<(), _>(&rt, rt.alloc())?;
+    assert_eq!(rt; task.poll(&mut receiver), Poll::Pending);
+    sleep(&rt, Duration::from_millis(100));
+    assert_eq!(rt; task.poll(&mut receiver), Poll::Pending);
+    drop(receiver);
+    assert!(rt; sender.send(()).is_err());
+    Ok(())
+}
+
+#[test]
+fn dropping_sender_disconnects_async_receiver(rt: HostRuntime) -> Result<(), Fail> {
+    let (sender, receiver) = async_channel::<(), _>(&rt, rt.alloc())?;
+    assert!(rt; !(sender.is_closed() || receiver.is_closed()));
+    drop(sender);
+    assert!(rt; receiver.is_closed());
+    Ok(())
+}
+
+#[test]
+fn async_receiver_has_message(rt: HostRuntime) -> Result<(), Fail> {
+    let (sender, receiver) = async_channel(&rt, rt.alloc())?;
+    assert!(rt; !receiver.has_message());
+    assert!(rt; sender.send(19i128).is_ok());
+    assert!(rt; receiver.has_message());
+    Ok(())
+}

@@ -1,0 +1,55 @@
+//! The example in the crate's documentation: a thread that answers texts by their lengths, to one who
+//! blocks and to one who awaits.
+
+use super::times::patience;
+use crossbeam_channel as queue;
+use futures::executor::block_on;
+use oneshot::{Sender, channel};
+use std::sync::Wait;
+use std::test::Fail;
+use std::thread::spawn;
+
+/// A text, and where its length is sent.
+#[derive(Drop)]
+struct Request {
+    text: String,
+    reply: Sender<usize>,
+}
+
+/// Answers each text by its length, until nobody can ask any more.
+fn process(rt: &impl Wait, requests: queue::Receiver<Request>) {
+    for request in requests.iter(rt) {
+        let Request { text, reply } = request;
+        // A client that is gone needs no answer.
+        let _ = reply.send(text.len());
+    }
+}
+
+/// Asks for the length of a text. `false` if the thread is gone.
+fn ask(
+    rt: &impl Wait,
+    requests: &queue::Sender<Request>,
+    text: String,
+    reply: Sender<usize>,
+) -> bool {
+    requests.send(rt, Request { text, reply }).is_ok()
+}
+
+#[test]
+fn a_processing_thread_answers_lengths(rt: HostRuntime) -> Result<(), Fail> {
+    let (requests, taken) = queue::unbounded(rt.alloc())?;
+    let processor = spawn(&rt, move || process(&rt, taken))?;
+    for (text, length) in [("", 0), ("lengths", 7), ("a processing thread", 19)] {
+        let (reply, mut answer) = channel(&rt, rt.alloc())?;
+        let request = String::from_str(rt.alloc(), text)?;
+        assert!(rt; ask(&rt, &requests, request, reply));
+        assert_eq!(rt; answer.recv_timeout(patience()), Ok(length));
+        let (reply, answer) = channel(&rt, rt.alloc())?;
+        let request = String::from_str(rt.alloc(), text)?;
+        assert!(rt; ask(&rt, &requests, request, reply));
+        assert_eq!(rt; block_on(&rt, answer.into_future())?, Ok(length));
+    }
+    drop(requests);
+    processor.join(&rt);
+    Ok(())
+}

@@ -1,0 +1,109 @@
+//! The programs of `examples/`, each as a test that runs it once.
+
+use super::threads::on_two_threads;
+use super::times::patience;
+use oneshot::{RecvError, RecvTimeoutError, Sender, channel};
+use std::test::Fail;
+use std::thread::sleep;
+use std::time::{Clock, Duration};
+
+// Sends a while after the receiver began to wait.
+fn send_later(rt: &impl Clock, sender: Sender<u128>) -> bool {
+    sleep(rt, Duration::from_millis(2));
+    sender.send(9).is_ok()
+}
+
+// Drops the sender a while after the receiver began to wait.
+fn drop_later(rt: &impl Clock, sender: Sender<u128>) {
+    sleep(rt, Duration::from_millis(2));
+    drop(sender);
+}
+
+#[test]
+fn send_with_dropped_receiver(rt: HostRuntime) -> Result<(), Fail> {
+    let (sender, receiver) = channel::<u128, ()>((), rt.alloc())?;
+    drop(receiver);
+    let back = sender.send(5).err().map(|refused| refused.into_inner());
+    assert_eq!(rt; back, Some(5));
+    Ok(())
+}
+
+#[test]
+fn send_before_recv(rt: HostRuntime) -> Result<(), Fail> {
+    let (sender, receiver) = channel::<i128, _>(&rt, rt.alloc())?;
+    let sent = sender.send(19).is_ok();
+    assert_eq!(rt; (sent, receiver.recv()), (true, Ok(19)));
+    Ok(())
+}
+
+#[test]
+fn recv_before_send(rt: HostRuntime) -> Result<(), Fail> {
+    let answers = on_two_threads(
+        &rt,
+        channel(&rt, rt.alloc())?,
+        |sender| send_later(&rt, sender),
+        |receiver| receiver.recv(),
+    );
+    assert_eq!(rt; answers, (true, Ok(9)));
+    Ok(())
+}
+
+#[test]
+fn recv_before_send_then_drop_sender(rt: HostRuntime) -> Result<(), Fail> {
+    let ((), received) = on_two_threads(
+        &rt,
+        channel(&rt, rt.alloc())?,
+        |sender| drop_later(&rt, sender),
+        |receiver| receiver.recv(),
+    );
+    assert_eq!(rt; received, Err(RecvError));
+    Ok(())
+}
+
+#[test]
+fn recv_ref_before_send(rt: HostRuntime) -> Result<(), Fail> {
+    let answers = on_two_threads(
+        &rt,
+        channel(&rt, rt.alloc())?,
+        |sender| send_later(&rt, sender),
+        |mut receiver| receiver.recv_ref(),
+    );
+    assert_eq!(rt; answers, (true, Ok(9)));
+    Ok(())
+}
+
+#[test]
+fn recv_ref_before_send_then_drop_sender(rt: HostRuntime) -> Result<(), Fail> {
+    let ((), received) = on_two_threads(
+        &rt,
+        channel(&rt, rt.alloc())?,
+        |sender| drop_later(&rt, sender),
+        |mut receiver| receiver.recv_ref(),
+    );
+    assert_eq!(rt; received, Err(RecvError));
+    Ok(())
+}
+
+#[test]
+fn recv_timeout_before_send(rt: HostRuntime) -> Result<(), Fail> {
+    let answers = on_two_threads(
+        &rt,
+        channel(&rt, rt.alloc())?,
+        |sender| send_later(&rt, sender),
+        |mut receiver| receiver.recv_timeout(patience()),
+    );
+    assert_eq!(rt; answers, (true, Ok(9)));
+    Ok(())
+}
+
+#[test]
+fn recv_timeout_before_send_then_drop_sender(rt: HostRuntime) -> Result<(), Fail> {
+    let ((), received) = on_two_threads(
+        &rt,
+        channel(&rt, rt.alloc())?,
+        |sender| drop_later(&rt, sender),
+        |mut receiver| receiver.recv_timeout(patience()),
+    );
+    assert_eq!(rt; received, Err(RecvTimeoutError::Disconnected));
+    Ok(())
+}

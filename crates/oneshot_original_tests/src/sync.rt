@@ -1,0 +1,321 @@
+//! The tests of `tests/sync.rs`: both ends on one thread, and on two.
+//!
+//! Not carried: `non_send_type_can_be_used_on_same_thread`, since a message's type is `Send` here.
+
+use super::counted::Drops;
+use super::threads::{ROUNDS, on_two_threads};
+use super::times::{linger, patience, slack};
+use oneshot::{RecvError, RecvTimeoutError, SendError, Sender, TryRecvError, channel};
+use std::alloc::{AllocError, Global};
+use std::process::Abort;
+use std::sync::Wait;
+use std::test::Fail;
+use std::time::{Clock, Duration, Instant};
+
+#[test]
+fn send_before_try_recv(rt: HostRuntime) -> Result<(), Fail> {
+    let (sender, mut receiver) = channel(&rt, rt.alloc())?;
+    let before = receiver.has_message();
+    assert!(rt; !before && sender.send(19i128).is_ok());
+    let sent = receiver.has_message();
+    let received = receiver.try_recv();
+    assert_eq!(rt; (sent, received), (true, Ok(19)));
+    let after = receiver.has_message();
+    let again = receiver.try_recv();
+    assert_eq!(rt; (after, again), (false, Err(TryRecvError::Disconnected)));
+    assert_eq!(rt; receiver.recv_ref(), Err(RecvError));
+    let timed = receiver.recv_timeout(patience());
+    assert_eq!(rt; timed, Err(RecvTimeoutError::Disconnected));
+    Ok(())
+}
+
+// What is received of a message that was sent before. `None` if it was refused or did not come.
+fn carried<R: Wait + Clock, T: Send + Drop>(
+    rt: &R,
+    alloc: Global,
+    message: T,
+) -> Result<Option<T>, AllocError> {
+    let (sender, receiver) = channel(rt, alloc)?;
+    if sender.send(message).is_err() {
+        return Ok(None);
+    }
+    Ok(receiver.recv().ok())
+}
+
+#[test]
+fn send_before_recv(rt: HostRuntime) -> Result<(), Fail> {
+    assert_eq!(rt; carried(&rt, rt.alloc(), ())?, Some(()));
+    assert_eq!(rt; carried(&rt, rt.alloc(), 19u8)?, Some(19));
+    assert_eq!(rt; carried(&rt, rt.alloc(), 21u64)?, Some(21));
+    let page = [0b1010_1010u8; 4096];
+    let received = carried(&rt, rt.alloc(), page)?;
+    assert!(rt; received.is_some_and(|bytes| bytes.as_slice() == page.as_slice()));
+    Ok(())
+}
+
+#[test]
+fn send_before_recv_ref(rt: HostRuntime) -> Result<(), Fail> {
+    let (sender, mut receiver) = channel(&rt, rt.alloc())?;
+    let sent = sender.send(19i128).is_ok();
+    assert_eq!(rt; (sent, receiver.recv_ref()), (true, Ok(19)));
+    let by_ref = receiver.recv_ref();
+    let tried = receiver.try_recv();
+    let timed = receiver.recv_timeout(patience());
+    assert_eq!(rt; by_ref, Err(RecvError));
+    assert_eq!(rt; tried, Err(TryRecvError::Disconnected));
+    assert_eq!(rt; timed, Err(RecvTimeoutError::Disconnected));
+    Ok(())
+}
+
+#[test]
+fn send_before_recv_timeout(rt: HostRuntime) -> Result<(), Fail> {
+    let (sender, mut receiver) = channel(&rt, rt.alloc())?;
+    let sent = sender.send(19i128).is_ok();
+    let before = Instant::now(&rt)?;
+    let received = receiver.recv_timeout(patience());
+    assert!(rt; before.elapsed(&rt)? < slack());
+    assert_eq!(rt; (sent, received), (true, Ok(19)));
+    let timed = receiver.recv_timeout(patience());
+    let tried = receiver.try_recv();
+    assert_eq!(rt; timed, Err(RecvTimeoutError::Disconnected));
+    assert_eq!(rt; tried, Err(TryRecvError::Disconnected));
+    assert_eq!(rt; receiver.recv(), Err(RecvError));
+    Ok(())
+}
+
+#[test]
+fn send_then_drop_receiver(rt: HostRuntime) -> Result<(), Fail> {
+    let (sender, receiver) = channel::<_, ()>((), rt.alloc())?;
+    let sent = sender.send(19i128);
+    drop(receiver);
+    assert!(rt; sent.is_ok());
+    Ok(())
+}
+
+// The error of a send whose receiver is gone.
+fn refused<T: Send + Drop>(
+    rt: &impl Abort,
+    alloc: Global,
+    message: T,
+) -> Result<SendError<T>, AllocError> {
+    let (sender, _) = channel::<T, ()>((), alloc)?;
+    match sender.send(message) {
+        Ok(()) => panic!(rt; "the receiver is gone"),
+        Err(error) => Ok(error),
+    }
+}
+
+#[test]
+fn send_with_dropped_receiver(rt: HostRuntime) -> Result<(), Fail> {
+    let error = refused(&rt, rt.alloc(), 5u128)?;
+    let seen = *error.as_inner();
+    assert_eq!(rt; (seen, error.into_inner()), (5, 5));
+    Ok(())
+}
+
+#[test]
+fn try_recv_with_dropped_sender(rt: HostRuntime) -> Result<(), Fail> {
+    let (_, mut receiver) = channel::<u128, ()>((), rt.alloc())?;
+    let found = receiver.has_message();
+    let received = receiver.try_recv();
+    assert_eq!(rt; (found, received), (false, Err(TryRecvError::Disconnected)));
+    Ok(())
+}
+
+#[test]
+fn recv_with_dropped_sender(rt: HostRuntime) -> Result<(), Fail> {
+    let (_, receiver) = channel::<u128, _>(&rt, rt.alloc())?;
+    assert_eq!(rt; receiver.recv(), Err(RecvError));
+    Ok(())
+}
+
+#[test]
+fn recv_before_send(rt: HostRuntime) -> Result<(), Fail> {
+    for round in 0..ROUNDS {
+        let answers = on_two_threads(
+            &rt,
+            channel(&rt, rt.alloc())?,
+            |sender| {
+                linger(&rt, round, 2);
+                sender.send(9u128).is_ok()
+            },
+            |receiver| receiver.recv(),
+        );
+        assert_eq!(rt; answers, (true, Ok(9)));
+    }
+    Ok(())
+}
+
+#[test]
+fn recv_timeout_before_send(rt: HostRuntime) -> Result<(), Fail> {
+    for round in 0..ROUNDS {
+        let answers = on_two_threads(
+            &rt,
+            channel(&rt, rt.alloc())?,
+            |sender| {
+                linger(&rt, round, 2);
+                sender.send(9u128).is_ok()
+            },
+            |mut receiver| receiver.recv_timeout(patience()),
+        );
+        assert_eq!(rt; answers, (true, Ok(9)));
+    }
+    Ok(())
+}
+
+#[test]
+fn recv_before_send_then_drop_sender(rt: HostRuntime) -> Result<(), Fail> {
+    for round in 0..ROUNDS {
+        let ((), received) = on_two_threads(
+            &rt,
+            channel::<u128, _>(&rt, rt.alloc())?,
+            |sender| {
+                linger(&rt, round, 10);
+                drop(sender);
+            },
+            |receiver| receiver.recv(),
+        );
+        assert_eq!(rt; received, Err(RecvError));
+    }
+    Ok(())
+}
+
+#[test]
+fn recv_timeout_before_send_then_drop_sender(rt: HostRuntime) -> Result<(), Fail> {
+    for round in 0..ROUNDS {
+        let ((), received) = on_two_threads(
+            &rt,
+            channel::<u128, _>(&rt, rt.alloc())?,
+            |sender| {
+                linger(&rt, round, 10);
+                drop(sender);
+            },
+            |mut receiver| receiver.recv_timeout(patience()),
+        );
+        assert_eq!(rt; received, Err(RecvTimeoutError::Disconnected));
+    }
+    Ok(())
+}
+
+#[test]
+fn try_recv(rt: HostRuntime) -> Result<(), Fail> {
+    let (sender, mut receiver) = channel::<u128, ()>((), rt.alloc())?;
+    let received = receiver.try_recv();
+    drop(sender);
+    assert_eq!(rt; received, Err(TryRecvError::Empty));
+    Ok(())
+}
+
+#[test]
+fn try_recv_then_drop_receiver(rt: HostRuntime) -> Result<(), Fail> {
+    for _ in 0..ROUNDS {
+        let (_, received) = on_two_threads(
+            &rt,
+            channel(&rt, rt.alloc())?,
+            |sender| sender.send(42u128).is_ok(),
+            |mut receiver| receiver.try_recv(),
+        );
+        assert!(rt; received == Ok(42) || received == Err(TryRecvError::Empty));
+    }
+    Ok(())
+}
+
+// How long a receive takes that has to run out of time. It is told when it began.
+fn timed_out<T: Drop, F: FnOnce(Instant) -> Result<T, RecvTimeoutError>>(
+    rt: &(impl Clock + Abort),
+    receive: F,
+) -> Result<Duration, Fail>
+    requires { F.IsAlwaysCallable receive }
+{
+    let start = Instant::now(rt)?;
+    let received = receive(start);
+    let took = start.elapsed(rt)?;
+    assert!(rt; matches!(received, Err(RecvTimeoutError::Timeout)));
+    Ok(took)
+}
+
+#[test]
+fn recv_deadline_and_timeout_no_time(rt: HostRuntime) -> Result<(), Fail> {
+    let (_sender, mut receiver) = channel::<u128, _>(&rt, rt.alloc())?;
+    let took = timed_out(&rt, |start| receiver.recv_deadline(start))?;
+    assert!(rt; took < slack());
+    let took = timed_out(&rt, |_| receiver.recv_timeout(Duration::ZERO))?;
+    assert!(rt; took < slack());
+    Ok(())
+}
+
+#[test]
+fn recv_deadline_time_should_elapse(rt: HostRuntime) -> Result<(), Fail> {
+    let (_sender, mut receiver) = channel::<u128, _>(&rt, rt.alloc())?;
+    let tenth = Duration::from_millis(100);
+    let took = timed_out(&rt, |start| {
+        let end = start
+            .checked_add(tenth)
+            .expect(&rt, "an instant can hold it");
+        receiver.recv_deadline(end)
+    })?;
+    assert!(rt; took > tenth && took < slack());
+    Ok(())
+}
+
+#[test]
+fn recv_timeout_time_should_elapse(rt: HostRuntime) -> Result<(), Fail> {
+    let (_sender, mut receiver) = channel::<u128, _>(&rt, rt.alloc())?;
+    let tenth = Duration::from_millis(100);
+    let took = timed_out(&rt, |_| receiver.recv_timeout(tenth))?;
+    assert!(rt; took > tenth && took < slack());
+    Ok(())
+}
+
+#[test]
+fn message_in_channel_dropped_on_receiver_drop(rt: HostRuntime) -> Result<(), Fail> {
+    let drops = Drops::new();
+    let (sender, receiver) = channel::<_, ()>((), rt.alloc())?;
+    let message = drops.message(());
+    assert_eq!(rt; drops.count(), 0);
+    assert!(rt; sender.send(message).is_ok());
+    assert_eq!(rt; drops.count(), 0);
+    drop(receiver);
+    assert_eq!(rt; drops.count(), 1);
+    Ok(())
+}
+
+#[test]
+fn send_error_drops_message_correctly(rt: HostRuntime) -> Result<(), Fail> {
+    let drops = Drops::new();
+    let error = refused(&rt, rt.alloc(), drops.message(()))?;
+    assert_eq!(rt; drops.count(), 0);
+    drop(error);
+    assert_eq!(rt; drops.count(), 1);
+    Ok(())
+}
+
+#[test]
+fn send_error_drops_message_correctly_on_into_inner(rt: HostRuntime) -> Result<(), Fail> {
+    let drops = Drops::new();
+    let error = refused(&rt, rt.alloc(), drops.message(5u8))?;
+    assert_eq!(rt; drops.count(), 0);
+    let back = error.into_inner();
+    assert_eq!(rt; (back.value, drops.count()), (5, 0));
+    drop(back);
+    assert_eq!(rt; drops.count(), 1);
+    Ok(())
+}
+
+#[test]
+fn dropping_receiver_disconnects_sender(rt: HostRuntime) -> Result<(), Fail> {
+    let (sender, receiver) = channel::<(), ()>((), rt.alloc())?;
+    assert!(rt; !(sender.is_closed() || receiver.is_closed()));
+    drop(receiver);
+    assert!(rt; sender.is_closed());
+    Ok(())
+}
+
+#[test]
+fn dropping_sender_disconnects_receiver(rt: HostRuntime) -> Result<(), Fail> {
+    let (sender, receiver) = channel::<(), ()>((), rt.alloc())?;
+    assert!(rt; !(sender.is_closed() || receiver.is_closed()));
+    drop(sender);
+    assert!(rt; receiver.is_closed());
+    Ok(())
+}

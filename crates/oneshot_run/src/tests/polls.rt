@@ -1,0 +1,163 @@
+//! Inputs of a future that are run.
+
+use crate::tests::told;
+use std::alloc::AllocGlobal;
+use std::process::Abort;
+
+fn assert_trace(rt: &(impl Abort + AllocGlobal), input: &str, output: &str) {
+    assert_eq!(rt; told(rt, input.as_bytes()).as_str(), output);
+}
+
+#[test]
+fn the_drop_waits_until_a_sender_has_finished(rt: HostRuntime) {
+    assert_trace(
+        &rt,
+        "S send 7\nR future poll 1 drop\nX rrrrrssrrssrrrrs\n",
+        "1 R plain 3>3 = future
+2 R load 3>3
+3 R copy 3>3 w1@3:New>Hand
+4 R write-waker 3>3 w1@3:Hand>Cell
+5 R exchange 3>0 = Pending
+6 S write-message 0>0 m:NotSent>InCell
+7 S add 0>1
+8 R load 1>1
+9 R load 1>1
+10 S take-waker 1>1 w1@3:Cell>SenderHand
+11 S swap 1>4
+12 R load 4>4
+13 R swap 4>2
+14 R drop-message 2>2 m:InCell>Dropped
+15 R free 2>- = dropped
+16 S wake ->- w1@3:SenderHand>Used = Ok
+rest Dropped(7)
+block freed
+",
+    );
+}
+
+#[test]
+fn a_poll_beside_a_sender_that_finishes_wakes_its_own_task(rt: HostRuntime) {
+    assert_trace(
+        &rt,
+        "S send 7\nR future poll 1 poll 2\nX rrrrrrrssrrsss\n",
+        "1 R plain 3>3 = future
+2 R load 3>3
+3 R copy 3>3 w1@3:New>Hand
+4 R write-waker 3>3 w1@3:Hand>Cell
+5 R exchange 3>0 = Pending
+6 R load 0>0
+7 R copy 0>0 w2@7:New>Hand
+8 S write-message 0>0 m:NotSent>InCell
+9 S add 0>1
+10 R exchange 1>1 w2@7:Hand>Dropped
+11 R wake 1>1 own:2 = Pending
+12 S take-waker 1>1 w1@3:Cell>SenderHand
+13 S swap 1>4
+14 S wake 4>4 w1@3:SenderHand>Used = Ok
+rest InCell(7)
+block here
+",
+    );
+}
+
+#[test]
+fn a_poll_whose_copy_is_refused_wakes_its_own_task(rt: HostRuntime) {
+    assert_trace(
+        &rt,
+        "S send 7\nR future poll 1\nX rrnr\n",
+        "1 R plain 3>3 = future
+2 R load 3>3
+3 R copy 3>3 refused
+4 R wake 3>3 own:1 = Pending
+rest NotSent(7)
+block here
+",
+    );
+}
+
+#[test]
+fn the_second_tasks_waker_takes_the_place_of_the_first(rt: HostRuntime) {
+    assert_trace(
+        &rt,
+        "S send 7\nR future poll 1 poll 2\nX rrrrrrrrrrrsssss\n",
+        "1 R plain 3>3 = future
+2 R load 3>3
+3 R copy 3>3 w1@3:New>Hand
+4 R write-waker 3>3 w1@3:Hand>Cell
+5 R exchange 3>0 = Pending
+6 R load 0>0
+7 R copy 0>0 w2@7:New>Hand
+8 R exchange 0>3
+9 R withdraw 3>3 w1@3:Cell>Dropped
+10 R write-waker 3>3 w2@7:Hand>Cell
+11 R exchange 3>0 = Pending
+12 S write-message 0>0 m:NotSent>InCell
+13 S add 0>1
+14 S take-waker 1>1 w2@7:Cell>SenderHand
+15 S swap 1>4
+16 S wake 4>4 w2@7:SenderHand>Used = Ok
+rest InCell(7)
+block here
+",
+    );
+}
+
+#[test]
+fn the_message_comes_while_the_poll_is_about_to_wait(rt: HostRuntime) {
+    assert_trace(
+        &rt,
+        "S send 7\nR future poll 1\nX rrrrssrrrr\n",
+        "1 R plain 3>3 = future
+2 R load 3>3
+3 R copy 3>3 w1@3:New>Hand
+4 R write-waker 3>3 w1@3:Hand>Cell
+5 S write-message 3>3 m:NotSent>InCell
+6 S add 3>4 = Ok
+7 R exchange 4>4
+8 R withdraw 4>4 w1@3:Cell>Dropped
+9 R store 4>2
+10 R take-message 2>2 m:InCell>Delivered = Ready(Ok(7))
+rest Delivered(7)
+block here
+",
+    );
+}
+
+#[test]
+fn a_future_of_a_sender_that_is_gone(rt: HostRuntime) {
+    assert_trace(
+        &rt,
+        "S drop\nR future poll 18446744073709551615 full closed drop\nX srrrrrrrr\n",
+        "1 S xor 3>2 = dropped
+2 R plain 2>2 = future
+3 R load 2>2 = Ready(Err(RecvError))
+4 R load 2>2 = false
+5 R load 2>2 = true
+6 R load 2>2
+7 R swap 2>2
+8 R free 2>- = dropped
+9 R idle
+rest none
+block freed
+",
+    );
+}
+
+#[test]
+fn a_receiver_that_tries_and_becomes_a_future(rt: HostRuntime) {
+    assert_trace(
+        &rt,
+        "S send 7\nR try future poll 0\nX rrssrrrr\n",
+        "1 R load 3>3 = Err(Empty)
+2 R plain 3>3 = future
+3 S write-message 3>3 m:NotSent>InCell
+4 S add 3>4 = Ok
+5 R load 4>4
+6 R store 4>2
+7 R take-message 2>2 m:InCell>Delivered = Ready(Ok(7))
+8 R idle
+rest Delivered(7)
+block here
+",
+    );
+}

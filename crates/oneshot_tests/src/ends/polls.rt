@@ -1,0 +1,213 @@
+//! Receivers that are futures: how often they are polled, by whom, and what becomes of them.
+
+ghost use Rattle.std.specs.Prelude.{◌≡◌};
+
+use futures::Future;
+use futures::executor::block_on;
+use futures::future::join;
+use futures::task::{Context, Poll};
+use oneshot::{AsyncReceiver, RecvError, async_channel, channel};
+use std::random::RandomSource;
+use std::sync::Wait;
+use std::sync::atomic::{AtomicU64, Ordering};
+use std::test::Fail;
+use std::thread;
+use std::time::Duration;
+
+/// A receiver whose polls are counted.
+#[derive(Drop)]
+struct Counted<'a, T, Rt: Wait> {
+    receiver: AsyncReceiver<T, Rt>,
+    polls: &'a AtomicU64,
+}
+
+impl<'a, T: Drop, Rt: Wait + Drop> Future for Counted<'a, T, Rt> {
+    type Output = Result<T, RecvError>;
+
+    ghost needs = { λ c s. s ≡ c.receiver.source };
+
+    fn poll(&mut self, cx: &mut Context<'_>) -> Poll<Result<T, RecvError>> {
+        self.polls.fetch_add(1, Ordering::SeqCst);
+        self.receiver.poll(cx)
+    }
+}
+
+/// A receiver that is polled so often by one executor, and is then given back.
+#[derive(Drop)]
+struct Lent<T, Rt: Wait> {
+    receiver: Option<AsyncReceiver<T, Rt>>,
+}
+
+impl<T: Drop, Rt: Wait + Drop> Future for Lent<T, Rt> {
+    type Output = Option<AsyncReceiver<T, Rt>>;
+
+    fn poll(&mut self, cx: &mut Context<'_>) -> Poll<Option<AsyncReceiver<T, Rt>>> {
+        if let Some(receiver) = &mut self.receiver {
+            let _ = receiver.poll(cx);
+        }
+        Poll::Ready(self.receiver.take())
+    }
+}
+
+#[test]
+fn a_send_of_another_thread_wakes_the_task(rt: HostRuntime) -> Result<(), Fail> {
+    let polls = AtomicU64::new(0);
+    let (sender, receiver) = async_channel(&rt, rt.alloc())?;
+    let counted = Counted {
+        receiver,
+        polls: &polls,
+    };
+    let (received, sent) = thread::join(
+        &rt,
+        || block_on(&rt, counted),
+        || {
+            thread::sleep(&rt, Duration::from_millis(100));
+            sender.send(19u8).is_ok()
+        },
+    );
+    assert!(rt; sent);
+    assert_eq!(rt; received?, Ok(19));
+    assert!(rt; polls.load(Ordering::SeqCst) <= 10);
+    Ok(())
+}
+
+// A copy of a waker that the channel gives back is kept: a dropped one would wake its task, which would
+// poll both receivers without end.
+#[test]
+fn two_joined_receivers_are_polled_as_often_as_they_are_woken(rt: HostRuntime) -> Result<(), Fail> {
+    let polls = AtomicU64::new(0);
+    let (sender, receiver) = async_channel(&rt, rt.alloc())?;
+    let (other_sender, other) = async_channel(&rt, rt.alloc())?;
+    let counted = Counted {
+        receiver,
+        polls: &polls,
+    };
+    let other = Counted {
+        receiver: other,
+        polls: &polls,
+    };
+    let (received, sent) = thread::join(
+        &rt,
+        || block_on(&rt, join(counted, other)),
+        || {
+            thread::sleep(&rt, Duration::from_millis(100));
+            let first = other_sender.send(1u8).is_ok();
+            thread::sleep(&rt, Duration::from_millis(100));
+            first && sender.send(19u8).is_ok()
+        },
+    );
+    assert!(rt; sent);
+    assert_eq!(rt; received?, (Ok(19), Ok(1)));
+    assert!(rt; polls.load(Ordering::SeqCst) <= 10);
+    Ok(())
+}
+
+#[test]
+fn a_sender_that_is_dropped_ends_the_wait(rt: HostRuntime) -> Result<(), Fail> {
+    let (sender, receiver) = async_channel::<u8, _>(&rt, rt.alloc())?;
+    let (received, ()) = thread::join(
+        &rt,
+        || block_on(&rt, receiver),
+        || {
+            thread::sleep(&rt, Duration::from_millis(50));
+            drop(sender);
+        },
+    );
+    assert_eq!(rt; received?, Err(RecvError));
+    Ok(())
+}
+
+#[test]
+fn looks_of_both_ends(rt: HostRuntime) -> Result<(), Fail> {
+    let (sender, receiver) = channel(&rt, rt.alloc())?;
+    let mut receiver = receiver.into_future();
+    assert!(rt; !receiver.is_closed());
+    assert!(rt; !receiver.has_message());
+    receiver = block_on(
+        &rt,
+        Lent {
+            receiver: Some(receiver),
+        },
+    )?
+    .expect(&rt, "it is given back");
+    assert!(rt; !sender.is_closed());
+    assert!(rt; sender.send(19u8).is_ok());
+    assert!(rt; receiver.has_message());
+    assert!(rt; !receiver.is_closed());
+    assert_eq!(rt; block_on(&rt, receiver)?, Ok(19));
+    let (sender, receiver) = async_channel::<u8, _>(&rt, rt.alloc())?;
+    drop(receiver);
+    assert!(rt; sender.is_closed());
+    let (sender, receiver) = async_channel::<u8, _>(&rt, rt.alloc())?;
+    drop(sender);
+    assert!(rt; receiver.is_closed());
+    assert!(rt; !receiver.has_message());
+    Ok(())
+}
+
+/// Polls a receiver once on another thread, and has it back.
+fn polled_there<T: Send + Drop, Rt: Wait + Send + Drop>(
+    rt: &(impl thread::Threads + Wait + RandomSource + AllocGlobal + Sync),
+    receiver: AsyncReceiver<T, Rt>,
+) -> Option<AsyncReceiver<T, Rt>> {
+    let lent = Lent {
+        receiver: Some(receiver),
+    };
+    let ((), polled) = thread::join(rt, || (), move || block_on(rt, lent));
+    polled.ok()?
+}
+
+#[test]
+fn two_threads_and_two_executors_poll_one_receiver(rt: HostRuntime) -> Result<(), Fail> {
+    let (sender, receiver) = async_channel(&rt, rt.alloc())?;
+    let receiver = polled_there(&rt, receiver).expect(&rt, "it is given back");
+    let receiver = polled_there(&rt, receiver).expect(&rt, "it is given back");
+    let (received, sent) = thread::join(
+        &rt,
+        || block_on(&rt, receiver),
+        || {
+            thread::sleep(&rt, Duration::from_millis(50));
+            sender.send(19u8).is_ok()
+        },
+    );
+    assert!(rt; sent);
+    assert_eq!(rt; received?, Ok(19));
+    Ok(())
+}
+
+/// How many pairs of threads race.
+const ROUNDS: u64 = 10_000;
+
+// A future that was polled is dropped while its sender finishes: the message goes back or is dropped.
+#[test]
+fn a_future_is_dropped_while_its_sender_finishes(rt: HostRuntime) -> Result<(), Fail> {
+    let mut refused = 0u64;
+    for round in 0..ROUNDS {
+        let (sender, receiver) = async_channel(&rt, rt.alloc())?;
+        let lent = Lent {
+            receiver: Some(receiver),
+        };
+        let receiver = block_on(&rt, lent)?;
+        let (sent, ()) = thread::join(&rt, || sender.send(round), || drop(receiver));
+        if let Err(error) = sent {
+            assert_eq!(rt; error.into_inner(), round);
+            refused = refused.saturating_add(1);
+        }
+    }
+    assert!(rt; refused < ROUNDS);
+    Ok(())
+}
+
+#[test]
+fn a_message_that_was_sent_before_is_ready_at_once(rt: HostRuntime) -> Result<(), Fail> {
+    let polls = AtomicU64::new(0);
+    let (sender, receiver) = async_channel(&rt, rt.alloc())?;
+    assert!(rt; sender.send(19u8).is_ok());
+    let counted = Counted {
+        receiver,
+        polls: &polls,
+    };
+    assert_eq!(rt; block_on(&rt, counted)?, Ok(19));
+    assert_eq!(rt; polls.load(Ordering::SeqCst), 1);
+    Ok(())
+}

@@ -1,0 +1,101 @@
+//! A search for a divisor on a thread of its own, whose result is awaited as a future.
+
+ghost use Rattle.std.specs.Prelude.{◌≡◌, ◌≢◌, ◌%◌, ◌<◌, ℕ, IfNone, IfOk, IfSome};
+
+use futures::executor::block_on;
+use oneshot::{AsyncReceiver, RecvError, Sender, async_channel};
+use std::alloc::{AllocError, AllocGlobal, Global};
+use std::io;
+use std::random::RandomSource;
+use std::sync::Wait;
+use std::thread::{JoinHandle, Threads, spawn};
+
+/// A number and a divisor of it that is neither 1 nor the number.
+#[derive(Drop)]
+pub struct Divisor {
+    /// The number.
+    pub number: u32,
+    /// The divisor.
+    pub value: u32,
+    ghost divides: { number % value ≡ 0 },
+    ghost above_one: { 1 < value },
+    ghost below_number: { value < number },
+}
+
+/// The least divisor of `number` that is above 1 and below the number. `None` if there is none.
+pub fn least_divisor(number: u32) -> Option<Divisor>
+    ensures number { IfSome result (λ divisor. divisor.number ≡ number) }
+    ensures least { IfSome result (λ divisor. (k : ℕ) → 1 < k → k < divisor.value → number % k ≢ 0) }
+    ensures none { IfNone result ((k : ℕ) → 1 < k → k < number → number % k ≢ 0) }
+{
+    for value in 2..number {
+        if number % value == 0 {
+            return Some(Divisor { number, value });
+        }
+    }
+    None
+}
+
+/// Sends the least divisor of `number`. If there is none, drops the sender without a message.
+///
+/// `waiter` is the sender to whoever awaits the divisor.
+pub fn send_divisor(number: u32, waiter: Sender<Divisor>) {
+    if let Some(divisor) = least_divisor(number) {
+        // A waiter that is gone needs no divisor.
+        let _ = waiter.send(divisor);
+    }
+}
+
+/// Starts the search on a thread of its own.
+///
+/// `rt` is the runtime of the thread, `number` the number to divide, and `waiter` the sender of its divisor.
+/// `Err`: no thread could be started, and the sender was dropped.
+pub fn start<R: Threads>(
+    rt: &R,
+    number: u32,
+    waiter: Sender<Divisor>,
+) -> Result<JoinHandle<()>, AllocError> {
+    Ok(spawn(rt, move || send_divisor(number, waiter))?)
+}
+
+/// Awaits a divisor of `number`.
+///
+/// `rt` is the runtime of the executor, and `receiver` the future of the divisor. `Err(RecvError)`: the
+/// sender was dropped without a divisor, or sent one of another number. The outer `Err` comes only from
+/// the executor.
+pub fn await_divisor<R, Rt>(
+    rt: &R,
+    number: u32,
+    receiver: AsyncReceiver<Divisor, Rt>,
+) -> io::Result<Result<u32, RecvError>>
+where
+    R: Wait + RandomSource + AllocGlobal,
+    Rt: Wait + Drop,
+    ensures divides { IfOk result (λ found. IfOk found (λ value. number % value ≡ 0)) }
+    ensures proper { IfOk result (λ found. IfOk found (λ value. (1 < value) × (value < number))) }
+{
+    match block_on(rt, receiver)? {
+        Ok(divisor) if divisor.number == number => Ok(Ok(divisor.value)),
+        _ => Ok(Err(RecvError)),
+    }
+}
+
+/// Searches for a divisor of `number` on another thread, awaits it, and joins the thread.
+///
+/// `rt` is the runtime of the thread and of the executor, and `alloc` the allocator of the channel.
+/// `Err(RecvError)`: the search ended without a divisor. The outer `Err`: an allocation was refused, no
+/// thread could be started, or the executor failed.
+pub fn divisor_of<R: Threads + Wait + RandomSource + AllocGlobal>(
+    rt: &R,
+    alloc: Global,
+    number: u32,
+) -> io::Result<Result<u32, RecvError>>
+    ensures divides { IfOk result (λ found. IfOk found (λ value. number % value ≡ 0)) }
+    ensures proper { IfOk result (λ found. IfOk found (λ value. (1 < value) × (value < number))) }
+{
+    let (waiter, receiver) = async_channel(rt, alloc)?;
+    let thread = start(rt, number, waiter)?;
+    let found = await_divisor(rt, number, receiver);
+    thread.join(rt);
+    found
+}

@@ -1,0 +1,116 @@
+//! Two requests at once: one task awaits both replies, or the first that comes.
+
+ghost use Rattle.std.specs.Prelude.{◌≡◌, ◌*◌, IfOk, IfSome};
+
+use crate::request::{Asked, Request, Square, answer_to, ask};
+use futures::executor::block_on;
+use futures::future::{Either, join, select};
+use oneshot::AsyncReceiver;
+use std::alloc::{AllocGlobal, Global};
+use std::random::RandomSource;
+use std::sync::Wait;
+use std::thread::Threads;
+use std::{io, thread};
+
+/// The answers to two requests, each `None` if no reply came.
+pub type Answers = (Option<u64>, Option<u64>);
+
+/// Awaits the replies to two requests, in whichever order they come.
+///
+/// `rt` is the runtime of the executor, and `first` and `second` have the receivers. An answer is `None`
+/// if its request was dropped without a reply. `Err` comes only from the executor.
+pub fn both_replies<R, Rt>(rt: &R, first: Asked<Rt>, second: Asked<Rt>) -> io::Result<Answers>
+where
+    R: Wait + RandomSource + AllocGlobal,
+    Rt: Wait + Drop,
+    ensures first { IfOk result (λ both. IfSome both.0 (λ value. value ≡ first.root * first.root)) }
+    ensures second { IfOk result (λ both. IfSome both.1 (λ value. value ≡ second.root * second.root)) }
+{
+    let (first_root, second_root) = (first.root, second.root);
+    let replies = join(first.reply.into_future(), second.reply.into_future());
+    let (first, second) = block_on(rt, replies)?;
+    Ok((answer_to(first_root, first), answer_to(second_root, second)))
+}
+
+/// Awaits the first reply to two requests for the square of one number.
+///
+/// `rt` is the runtime of the executor, `root` the number, and `first` and `second` the futures of its
+/// square. If one request was dropped, or was for another number, awaits the other reply. `None`: neither
+/// reply is the square. `Err` comes only from the executor.
+pub fn first_reply<R, Rt>(
+    rt: &R,
+    root: u32,
+    first: AsyncReceiver<Square, Rt>,
+    second: AsyncReceiver<Square, Rt>,
+) -> io::Result<Option<u64>>
+where
+    R: Wait + RandomSource + AllocGlobal,
+    Rt: Wait + Drop,
+    ensures { IfOk result (λ answer. IfSome answer (λ value. value ≡ root * root)) }
+{
+    let (reply, other) = match block_on(rt, select(first, second))? {
+        Either::Left(came) => came,
+        Either::Right(came) => came,
+    };
+    match answer_to(root, reply) {
+        Some(value) => Ok(Some(value)),
+        None => Ok(answer_to(root, block_on(rt, other)?)),
+    }
+}
+
+/// Has two requests served, each on a thread of its own, while `await_replies` runs on this one.
+fn beside_servers<R: Threads + Sync, A, F: FnOnce() -> A>(
+    rt: &R,
+    first: Request,
+    second: Request,
+    await_replies: F,
+) -> A
+    requires { F.pre await_replies }
+    ensures { F.post await_replies result }
+{
+    let (_, replies) = thread::join(
+        rt,
+        move || thread::join(rt, move || first.serve(), move || second.serve()),
+        await_replies,
+    );
+    replies
+}
+
+/// Asks a thread of its own for the square of each of two numbers, and awaits both replies.
+///
+/// `rt` is the runtime of the threads and of the executor, and `alloc` the allocator of both channels. An
+/// answer is `None` if its square did not come. `Err`: an allocation was refused, or the executor failed.
+pub fn both_squares<R: Threads + Wait + RandomSource + AllocGlobal + Sync>(
+    rt: &R,
+    alloc: Global,
+    first: u32,
+    second: u32,
+) -> io::Result<Answers>
+    ensures first { IfOk result (λ both. IfSome both.0 (λ value. value ≡ first * first)) }
+    ensures second { IfOk result (λ both. IfSome both.1 (λ value. value ≡ second * second)) }
+{
+    let (first_request, first) = ask(rt, alloc, first)?;
+    let (second_request, second) = ask(rt, alloc, second)?;
+    beside_servers(rt, first_request, second_request, move || {
+        both_replies(rt, first, second)
+    })
+}
+
+/// Asks two threads for the square of one number, and awaits the reply that comes first.
+///
+/// `rt` is the runtime of the threads and of the executor, `alloc` the allocator of both channels, and
+/// `root` the number. `None`: no reply came. `Err`: an allocation was refused, or the executor failed.
+pub fn first_square<R: Threads + Wait + RandomSource + AllocGlobal + Sync>(
+    rt: &R,
+    alloc: Global,
+    root: u32,
+) -> io::Result<Option<u64>>
+    ensures { IfOk result (λ answer. IfSome answer (λ value. value ≡ root * root)) }
+{
+    let (first_request, first) = ask(rt, alloc, root)?;
+    let (second_request, second) = ask(rt, alloc, root)?;
+    beside_servers(rt, first_request, second_request, move || {
+        let (first, second) = (first.reply.into_future(), second.reply.into_future());
+        first_reply(rt, root, first, second)
+    })
+}

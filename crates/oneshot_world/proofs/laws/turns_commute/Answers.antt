@@ -1,0 +1,5 @@
+use Rattle.oneshot_world.proofs.Classed.{turns_as}
+use Rattle.oneshot_world.proofs.laws.turns_commute.Goals as goal
+
+pub returns : goal.returns
+returns c = turns_as
