@@ -5,18 +5,15 @@ use Rattle.std.proofs.lemmas.List.Elements.{filter-append, filter_map-append}
 use Rattle.std.specs.Prelude.{is_some, filter}
 use Rattle.std.specs.List.{cons_option}
 use Rattle.std.specs.Option.{option_map}
+use Rattle.oneshot_machine.specs.declared.machine.Seen.{Seen}
 use Rattle.oneshot_machine.specs.declared.states.Op.{Op}
 use Rattle.oneshot_machine.specs.Words.{Noted, saw, op_of}
-use Rattle.oneshot_machine.specs.Phases.{SenderAt, fresh, sender_next, sender_from, sender_at, ReceiverAt, first, receiver_next, receiver_from, receiver_at}
+use Rattle.oneshot_machine.specs.Phases.{fresh, sender_next, sender_at, first, receiver_next, receiver_at, phase_from}
 use Rattle.oneshot_machine.specs.Logs.{Event, worded, noted, words, kept, Log, Grows, sender_of, receiver_of}
 
-pub sender_from-snoc : (at : SenderAt) (xs : List Noted) (x : Noted) → sender_from at (xs ++ x ∷ []) ≡ sender_next (sender_from at xs) x.0 x.1
-sender_from-snoc at [] x = refl
-sender_from-snoc at (y ∷ xs) x = sender_from-snoc (sender_next at y.0 y.1) xs x
-
-pub receiver_from-snoc : (at : ReceiverAt) (xs : List Noted) (x : Noted) → receiver_from at (xs ++ x ∷ []) ≡ receiver_next (receiver_from at xs) x.0 x.1
-receiver_from-snoc at [] x = refl
-receiver_from-snoc at (y ∷ xs) x = receiver_from-snoc (receiver_next at y.0 y.1) xs x
+pub phase_from-snoc : {At : Type 0} (next : At → Op → Seen → At) (at : At) (xs : List Noted) (x : Noted) → phase_from next at (xs ++ x ∷ []) ≡ next (phase_from next at xs) x.0 x.1
+phase_from-snoc next at [] x = refl
+phase_from-snoc next at (y ∷ xs) x = phase_from-snoc next (next at y.0 y.1) xs x
 
 module _ {T W : Type 0} where
   pub kept-append : (whole : Bool) (xs ys : List (Event T W)) → kept whole (xs ++ ys) ≡ kept whole xs ++ kept whole ys
@@ -51,10 +48,10 @@ module _ {T W : Type 0} where
 
     -- and an operation takes it on
     pub sender_moved : (op : Op) (word : ℕ) → Grows before after (worded op word ∷ []) → sender_of after ≡ sender_next (sender_of before) op (saw op word)
-    sender_moved op word grows = ap sender_at (words_after (worded op word ∷ []) grows) ∙ sender_from-snoc fresh (words before.list) (op, saw op word)
+    sender_moved op word grows = ap sender_at (words_after (worded op word ∷ []) grows) ∙ phase_from-snoc sender_next fresh (words before.list) (op, saw op word)
 
     pub receiver_moved : (op : Op) (word : ℕ) → Grows before after (worded op word ∷ []) → receiver_of after ≡ receiver_next (receiver_of before) op (saw op word)
-    receiver_moved op word grows = ap receiver_at (words_after (worded op word ∷ []) grows) ∙ receiver_from-snoc first (words before.list) (op, saw op word)
+    receiver_moved op word grows = ap receiver_at (words_after (worded op word ∷ []) grows) ∙ phase_from-snoc receiver_next first (words before.list) (op, saw op word)
 
     -- first some steps, and then some more
     pub and_then : {last : Log T W} (xs ys : List (Event T W)) → Grows before after xs → Grows after last ys → Grows before last (xs ++ ys)

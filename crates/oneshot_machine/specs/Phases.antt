@@ -1,10 +1,10 @@
--- How far an end is, read off the list of its operations on the word.
-use Rattle.std.specs.Prelude.{ℕ, List, [], ◌∷◌, ◌&&◌, ◌==◌, if◌then◌else◌}
+-- How far an end is by its log, and the transition table of the phases: which operations an end may make at each, what they find, where that leads, and what becomes of its slots.
+use Rattle.std.specs.Prelude.{ℕ, Bool, true, false, List, [], ◌∷◌, ◌&&◌, if◌then◌else◌, Option, Some, None}
 use Rattle.oneshot_machine.specs.declared.machine.Seen.{Seen}
-use Rattle.oneshot_machine.specs.declared.machine.Seen.TheVariants.{Done, Word}
 use Rattle.oneshot_machine.specs.declared.states.Op.{Op}
 use Rattle.oneshot_machine.specs.declared.states.Op.TheVariants.{Load, Store, Swap, Exchange, Add, Xor}
-use Rattle.oneshot_machine.specs.Words.{Noted}
+use Rattle.oneshot_machine.specs.Rows.{is_same_seen}
+use Rattle.oneshot_machine.specs.Words.{Noted, saw, is_same_op}
 
 -- a sender's end, by its `send` or by its drop
 pub data By : Type 0 where
@@ -18,8 +18,8 @@ pub data SenderAt : Type 0 where
   owes : By → SenderAt
   -- its last operation is made, and the receiver was here
   finished : By → SenderAt
-  -- its last operation is made and found 2: the receiver was gone, and the word is now this
-  late : By → ℕ → SenderAt
+  -- its last operation is made and found 2: the receiver was gone, and the word is now 3
+  late : By → SenderAt
   -- no sender makes such a list
   no_sender : SenderAt
 
@@ -39,12 +39,21 @@ pub data Waiting : Type 0 where
   -- by a poll, and its last operation is a load that found 0
   again : Waiting
 
--- how a receiver came to the message
+-- a swap of a receiver that blocks, which leaves another word than it finds
+pub data Swapping : Type 0 where
+  -- the one that begins its wait, and leaves 0
+  storing : Swapping
+  -- the one that ends it, and leaves 3
+  stopping : Swapping
+
+-- how a receiver came to the message: by its own swap, or by an operation that left 4
 pub data Got : Type 0 where
   -- by its first load or by one after a load that found 3: a receive takes it, or a future is dropped
   at_once : Got
-  -- in a call that blocks, which takes it
+  -- by a load in a call that blocks, which takes it
   waited : Got
+  -- by a swap of a call that blocks, which takes it
+  swapped : Swapping → Got
   -- by an operation that a poll makes, which takes it, and the drop of a future too
   by_future : Got
   -- by one that only a poll makes
@@ -67,10 +76,10 @@ pub data ReceiverAt : Type 0 where
   withdrew : ReceiverAt
   -- its deadline was over, but its waker is the sender's: it waits for the sender's final swap
   overdue : ReceiverAt
-  -- it has the message, and the word is now this
-  full : Got → ℕ → ReceiverAt
-  -- it found 2 by a swap that left this word
-  unclosed : ℕ → ReceiverAt
+  -- it has the message
+  full : Got → ReceiverAt
+  -- it found 2 by a swap that left another word
+  unclosed : Swapping → ReceiverAt
   -- it is closed, and the word is 2
   over : Closing → ReceiverAt
   -- it is a future that is closed: its poll has answered, and it has not looked at the 2 since
@@ -82,135 +91,199 @@ pub data ReceiverAt : Type 0 where
   -- no receiver makes such a list
   no_receiver : ReceiverAt
 
--- where the word found leads, by a list of words, each with the phase after it
-abbrev pub leads : {At : Type 0} → At → ℕ → List (ℕ × At) → At
-leads nowhere word [] = nowhere
-leads nowhere word (row ∷ rows) = if row.0 == word then row.1 else leads nowhere word rows
+-- the word that a swap of a receiver leaves
+abbrev pub swapped_in : Swapping → ℕ
+swapped_in storing = 0
+swapped_in stopping = 3
 
--- the word that a final swap leaves
-abbrev pub final_word : By → ℕ
-final_word sending = 4
-final_word dropping = 2
+-- the word of a receiver that has the message
+abbrev pub word_of : Got → ℕ
+word_of (swapped by) = swapped_in by
+word_of _ = 4
+
+-- what an end has of a slot: it is not the end's, or it is and is empty, or it is and is filled
+pub data Share : Type 0 where
+  none : Share
+  empty : Share
+  filled : Share
+
+-- the message's slot and the waker's
+abbrev pub Slots : Type 0
+Slots = Share × Share
+
+-- A row: the operation, the slots that it needs, a word that it may find, the phase after that, and the
+-- slots then. A slot that is filled before and after holds the same.
+abbrev pub Row : Type 0 → Type 0
+Row At = Op × Slots × ℕ × At × Slots
+
+-- the sender's table
+abbrev pub sender_moves : SenderAt → List (Row SenderAt)
+sender_moves fresh =
+    (Add, (filled, none), 3, finished sending, (none, none))
+    ∷ (Add, (filled, none), 0, owes sending, (filled, filled))
+    ∷ (Add, (filled, none), 2, late sending, (filled, empty))
+    ∷ (Xor, (empty, none), 3, finished dropping, (none, none))
+    ∷ (Xor, (empty, none), 0, owes dropping, (empty, filled))
+    ∷ (Xor, (empty, none), 2, late dropping, (empty, empty))
+    ∷ []
+sender_moves (owes sending) =
+    (Swap 4, (filled, empty), 1, finished sending, (none, none))
+    ∷ (Swap 4, (filled, empty), 3, finished sending, (none, none))
+    ∷ []
+sender_moves (owes dropping) =
+    (Swap 2, (empty, empty), 1, finished dropping, (none, none))
+    ∷ (Swap 2, (empty, empty), 3, finished dropping, (none, none))
+    ∷ []
+sender_moves (finished by) = []
+sender_moves (late by) = []
+sender_moves no_sender = []
+
+-- the receiver's table
+abbrev pub receiver_moves : ReceiverAt → List (Row ReceiverAt)
+receiver_moves first =
+    (Load, (none, none), 3, here looked, (none, empty))
+    ∷ (Load, (none, none), 4, full at_once, (filled, empty))
+    ∷ (Load, (none, none), 2, over found_closed, (empty, empty))
+    ∷ (Swap 2, (none, none), 3, gone, (none, none))
+    ∷ (Swap 2, (none, none), 4, ended, (filled, empty))
+    ∷ (Swap 2, (none, none), 2, ended, (empty, empty))
+    ∷ []
+receiver_moves (here looked) =
+    (Load, (none, empty), 3, here looked, (none, empty))
+    ∷ (Load, (none, empty), 4, full at_once, (filled, empty))
+    ∷ (Load, (none, empty), 2, over found_closed, (empty, empty))
+    ∷ (Swap 0, (none, filled), 3, waits blocked, (none, none))
+    ∷ (Swap 0, (none, filled), 4, full (swapped storing), (filled, filled))
+    ∷ (Swap 0, (none, filled), 2, unclosed storing, (empty, filled))
+    ∷ (Exchange 3 0, (none, filled), 3, waits polled, (none, none))
+    ∷ (Exchange 3 0, (none, filled), 4, full by_poll, (filled, filled))
+    ∷ (Exchange 3 0, (none, filled), 2, resolved found_closed, (empty, filled))
+    ∷ (Swap 2, (none, empty), 3, gone, (none, none))
+    ∷ (Swap 2, (none, empty), 4, ended, (filled, empty))
+    ∷ (Swap 2, (none, empty), 2, ended, (empty, empty))
+    ∷ []
+receiver_moves (here between) =
+    (Load, (none, empty), 3, here looked, (none, empty))
+    ∷ (Load, (none, empty), 4, full at_once, (filled, empty))
+    ∷ (Load, (none, empty), 2, over found_closed, (empty, empty))
+    ∷ (Swap 2, (none, empty), 3, gone, (none, none))
+    ∷ (Swap 2, (none, empty), 4, ended, (filled, empty))
+    ∷ (Swap 2, (none, empty), 2, ended, (empty, empty))
+    ∷ []
+receiver_moves (waits blocked) =
+    (Load, (none, none), 0, waits blocked, (none, none))
+    ∷ (Load, (none, none), 1, waits blocked, (none, none))
+    ∷ (Load, (none, none), 4, full waited, (filled, empty))
+    ∷ (Load, (none, none), 2, over found_closed, (empty, empty))
+    ∷ (Swap 3, (none, none), 0, here between, (none, filled))
+    ∷ (Swap 3, (none, none), 1, overdue, (none, none))
+    ∷ (Swap 3, (none, none), 4, full (swapped stopping), (filled, empty))
+    ∷ (Swap 3, (none, none), 2, unclosed stopping, (empty, empty))
+    ∷ []
+receiver_moves (waits polled) =
+    (Load, (none, none), 0, waits again, (none, none))
+    ∷ (Load, (none, none), 1, claimed, (none, none))
+    ∷ (Load, (none, none), 4, full by_future, (filled, empty))
+    ∷ (Load, (none, none), 2, over found_closed, (empty, empty))
+    ∷ []
+receiver_moves (waits again) =
+    (Load, (none, none), 0, waits again, (none, none))
+    ∷ (Load, (none, none), 1, claimed, (none, none))
+    ∷ (Load, (none, none), 4, full by_future, (filled, empty))
+    ∷ (Load, (none, none), 2, over found_closed, (empty, empty))
+    ∷ (Exchange 0 3, (none, none), 0, withdrew, (none, filled))
+    ∷ (Exchange 0 3, (none, none), 1, claimed, (none, none))
+    ∷ (Exchange 0 3, (none, none), 4, full by_future, (filled, empty))
+    ∷ (Exchange 0 3, (none, none), 2, over found_closed, (empty, empty))
+    ∷ []
+receiver_moves claimed =
+    (Load, (none, none), 1, claimed, (none, none))
+    ∷ (Load, (none, none), 4, full by_future, (filled, empty))
+    ∷ (Load, (none, none), 2, over found_closed, (empty, empty))
+    ∷ []
+receiver_moves withdrew =
+    (Exchange 3 0, (none, filled), 3, waits polled, (none, none))
+    ∷ (Exchange 3 0, (none, filled), 4, full by_poll, (filled, filled))
+    ∷ (Exchange 3 0, (none, filled), 2, resolved found_closed, (empty, filled))
+    ∷ (Swap 2, (none, empty), 3, gone, (none, none))
+    ∷ (Swap 2, (none, empty), 4, ended, (filled, empty))
+    ∷ (Swap 2, (none, empty), 2, ended, (empty, empty))
+    ∷ []
+receiver_moves overdue =
+    (Load, (none, none), 3, overdue, (none, none))
+    ∷ (Load, (none, none), 4, full waited, (filled, empty))
+    ∷ (Load, (none, none), 2, over found_closed, (empty, empty))
+    ∷ []
+receiver_moves (full at_once) =
+    (Store 2, (filled, empty), 4, over closed_itself, (filled, empty))
+    ∷ (Swap 2, (filled, empty), 4, ended, (filled, empty))
+    ∷ []
+receiver_moves (full waited) = (Store 2, (filled, empty), 4, over closed_itself, (filled, empty)) ∷ []
+receiver_moves (full (swapped by)) =
+    (Store 2, (filled, empty), swapped_in by, over closed_itself, (filled, empty)) ∷ []
+receiver_moves (full by_future) =
+    (Store 2, (filled, empty), 4, resolved closed_itself, (filled, empty))
+    ∷ (Swap 2, (filled, empty), 4, ended, (filled, empty))
+    ∷ []
+receiver_moves (full by_poll) =
+    (Store 2, (filled, empty), 4, resolved closed_itself, (filled, empty)) ∷ []
+receiver_moves (unclosed by) =
+    (Store 2, (empty, empty), swapped_in by, over closed_itself, (empty, empty)) ∷ []
+receiver_moves (over closing) =
+    (Load, (empty, empty), 2, over closing, (empty, empty))
+    ∷ (Swap 2, (empty, empty), 2, ended, (empty, empty))
+    ∷ []
+receiver_moves (resolved closing) = (Load, (empty, empty), 2, over closing, (empty, empty)) ∷ []
+receiver_moves gone = []
+receiver_moves ended = []
+receiver_moves no_receiver = []
+
+-- which slots are the end's: the message's, and the waker's
+abbrev pub sender_owns : SenderAt → Option (Bool × Bool)
+sender_owns fresh = Some (true, false)
+sender_owns (owes by) = Some (true, true)
+sender_owns (finished by) = Some (false, false)
+sender_owns (late by) = Some (true, true)
+sender_owns no_sender = None
+
+abbrev pub receiver_owns : ReceiverAt → Option (Bool × Bool)
+receiver_owns first = Some (false, false)
+receiver_owns (here open_at) = Some (false, true)
+receiver_owns (waits waiting) = Some (false, false)
+receiver_owns claimed = Some (false, false)
+receiver_owns withdrew = Some (false, true)
+receiver_owns overdue = Some (false, false)
+receiver_owns (full got) = Some (true, true)
+receiver_owns (unclosed by) = Some (true, true)
+receiver_owns (over closing) = Some (true, true)
+receiver_owns (resolved closing) = Some (true, true)
+receiver_owns gone = Some (false, false)
+receiver_owns ended = Some (true, true)
+receiver_owns no_receiver = None
+
+-- whether a row is of this operation, which saw this
+abbrev pub is_row_for : {At : Type 0} → Op → Seen → Row At → Bool
+is_row_for op seen (made, before, word, next, after) = is_same_op made op && is_same_seen (saw made word) seen
+
+-- the phase after an operation that saw this
+abbrev pub next_by : {At : Type 0} → At → List (Row At) → Op → Seen → At
+next_by nowhere [] op seen = nowhere
+next_by nowhere (row ∷ rows) op seen =
+    if is_row_for op seen row then row.3 else next_by nowhere rows op seen
 
 abbrev pub sender_next : SenderAt → Op → Seen → SenderAt
-sender_next fresh Add (Word word) =
-    leads no_sender word ((3, finished sending) ∷ (0, owes sending) ∷ (2, late sending 3) ∷ [])
-sender_next fresh Xor (Word word) =
-    leads no_sender word ((3, finished dropping) ∷ (0, owes dropping) ∷ (2, late dropping 3) ∷ [])
-sender_next (owes by) (Swap new) (Word word) =
-    if new == final_word by then leads no_sender word ((1, finished by) ∷ (3, finished by) ∷ []) else no_sender
-sender_next _ _ _ = no_sender
-
--- the load of a receiver that is open
-abbrev pub loaded : ℕ → ReceiverAt
-loaded word =
-    leads no_receiver word ((3, here looked) ∷ (4, full at_once 4) ∷ (2, over found_closed) ∷ [])
-
--- the swap of a receiver that is about to wait
-abbrev pub stored : ℕ → ReceiverAt
-stored word =
-    leads no_receiver word ((3, waits blocked) ∷ (4, full waited 0) ∷ (2, unclosed 0) ∷ [])
-
--- the load of one that waits: it waits on, the sender is about to finish, or it came to the message
-abbrev pub longer : Waiting → ReceiverAt
-longer blocked = waits blocked
-longer _ = waits again
-
-abbrev pub owed : Waiting → ReceiverAt
-owed blocked = waits blocked
-owed _ = claimed
-
-abbrev pub got_by : Waiting → Got
-got_by blocked = waited
-got_by _ = by_future
-
-abbrev pub still : Waiting → ℕ → ReceiverAt
-still w word =
-    leads no_receiver word ((0, longer w) ∷ (1, owed w) ∷ (4, full (got_by w) 4) ∷ (2, over found_closed) ∷ [])
-
--- the exchange of a poll that is about to wait
-abbrev pub stored_if : ℕ → ReceiverAt
-stored_if word =
-    leads no_receiver word ((3, waits polled) ∷ (4, full by_poll 4) ∷ (2, resolved found_closed) ∷ [])
-
--- the exchange of one that takes its stored waker back
-abbrev pub stopped_if : ℕ → ReceiverAt
-stopped_if word =
-    leads no_receiver word ((0, withdrew) ∷ (1, claimed) ∷ (4, full by_future 4) ∷ (2, over found_closed) ∷ [])
-
--- the load of one that found a sender about to finish
-abbrev pub still_claimed : ℕ → ReceiverAt
-still_claimed word =
-    leads no_receiver word ((1, claimed) ∷ (4, full by_future 4) ∷ (2, over found_closed) ∷ [])
-
--- the swap of one whose deadline is over
-abbrev pub stopped : ℕ → ReceiverAt
-stopped word =
-    leads no_receiver word ((0, here between) ∷ (1, overdue) ∷ (4, full waited 3) ∷ (2, unclosed 3) ∷ [])
-
--- the load of one that is overdue
-abbrev pub still_overdue : ℕ → ReceiverAt
-still_overdue word =
-    leads no_receiver word ((3, overdue) ∷ (4, full waited 4) ∷ (2, over found_closed) ∷ [])
-
--- the swap of a future's drop that found the message before
-abbrev pub dropped_full : Got → ℕ → ReceiverAt
-dropped_full at_once word = leads no_receiver word ((4, ended) ∷ [])
-dropped_full waited word = no_receiver
-dropped_full by_future word = leads no_receiver word ((4, ended) ∷ [])
-dropped_full by_poll word = no_receiver
-
--- the store of one that has the message
-abbrev pub closed_by : Got → ReceiverAt
-closed_by at_once = over closed_itself
-closed_by waited = over closed_itself
-closed_by by_future = resolved closed_itself
-closed_by by_poll = resolved closed_itself
-
--- the swap of a drop
-abbrev pub dropped : ℕ → ReceiverAt
-dropped word = leads no_receiver word ((3, gone) ∷ (4, ended) ∷ (2, ended) ∷ [])
+sender_next at = next_by no_sender (sender_moves at)
 
 abbrev pub receiver_next : ReceiverAt → Op → Seen → ReceiverAt
-receiver_next first Load (Word word) = loaded word
-receiver_next first (Swap new) (Word word) = if new == 2 then dropped word else no_receiver
-receiver_next (here o) Load (Word word) = loaded word
-receiver_next (here looked) (Swap new) (Word word) =
-    if new == 2 then dropped word else (if new == 0 then stored word else no_receiver)
-receiver_next (here looked) (Exchange expected new) (Word word) =
-    if expected == 3 && new == 0 then stored_if word else no_receiver
-receiver_next (here between) (Swap new) (Word word) = if new == 2 then dropped word else no_receiver
-receiver_next withdrew (Swap new) (Word word) = if new == 2 then dropped word else no_receiver
-receiver_next withdrew (Exchange expected new) (Word word) =
-    if expected == 3 && new == 0 then stored_if word else no_receiver
-receiver_next (waits w) Load (Word word) = still w word
-receiver_next (waits blocked) (Swap new) (Word word) = if new == 3 then stopped word else no_receiver
-receiver_next (waits again) (Exchange expected new) (Word word) =
-    if expected == 0 && new == 3 then stopped_if word else no_receiver
-receiver_next claimed Load (Word word) = still_claimed word
-receiver_next (full got left) (Swap new) (Word word) = if new == 2 then dropped_full got word else no_receiver
-receiver_next overdue Load (Word word) = still_overdue word
-receiver_next (full got left) (Store new) Done =
-    if new == 2 then closed_by got else no_receiver
-receiver_next (unclosed left) (Store new) Done =
-    if new == 2 then over closed_itself else no_receiver
-receiver_next (over closing) Load (Word word) = leads no_receiver word ((2, over closing) ∷ [])
-receiver_next (over closing) (Swap new) (Word word) =
-    if new == 2 then leads no_receiver word ((2, ended) ∷ []) else no_receiver
-receiver_next (resolved closing) Load (Word word) = leads no_receiver word ((2, over closing) ∷ [])
-receiver_next _ _ _ = no_receiver
+receiver_next at = next_by no_receiver (receiver_moves at)
 
-abbrev pub sender_from : SenderAt → List Noted → SenderAt
-sender_from at [] = at
-sender_from at (x ∷ xs) = sender_from (sender_next at x.0 x.1) xs
+-- how far a log takes an end, from this phase on
+abbrev pub phase_from : {At : Type 0} → (At → Op → Seen → At) → At → List Noted → At
+phase_from next at [] = at
+phase_from next at (x ∷ xs) = phase_from next (next at x.0 x.1) xs
 
-abbrev pub receiver_from : ReceiverAt → List Noted → ReceiverAt
-receiver_from at [] = at
-receiver_from at (x ∷ xs) = receiver_from (receiver_next at x.0 x.1) xs
-
--- how far such a list takes an end
 abbrev pub sender_at : List Noted → SenderAt
-sender_at = sender_from fresh
+sender_at = phase_from sender_next fresh
 
 abbrev pub receiver_at : List Noted → ReceiverAt
-receiver_at = receiver_from first
+receiver_at = phase_from receiver_next first

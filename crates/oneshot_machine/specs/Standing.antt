@@ -20,7 +20,7 @@ use Rattle.oneshot_machine.specs.declared.states.Op.TheVariants as O
 use Rattle.oneshot_machine.specs.Rows.{Outcome, Goes, Answers}
 use Rattle.oneshot_machine.specs.Sender.{sender_start, sender_step, sender_row}
 use Rattle.oneshot_machine.specs.Receiver.{receiver_start, receiver_step, receiver_row}
-use Rattle.oneshot_machine.specs.Words.{Noted, op_of}
+use Rattle.oneshot_machine.specs.Words.{Noted, op_of, is_same_op}
 
 -- An end's table, with all its positions and a number for each. `opens` are those at which a new
 -- end's calls begin, and `follows` those at which a call may begin where another has answered; looks
@@ -32,15 +32,6 @@ pub record Table (P : Type 0) : Type 0 where
   pub number : P → ℕ
   pub opens : List P
   pub follows : P → Reply → List P
-
-abbrev pub is_same_op : Op → Op → Bool
-is_same_op O.Load O.Load = true
-is_same_op (O.Store a) (O.Store b) = a == b
-is_same_op (O.Swap a) (O.Swap b) = a == b
-is_same_op (O.Exchange a b) (O.Exchange c d) = a == c && b == d
-is_same_op O.Add O.Add = true
-is_same_op O.Xor O.Xor = true
-is_same_op _ _ = false
 
 abbrev pub is_op : Op → Option Op → Bool
 is_op op None = false

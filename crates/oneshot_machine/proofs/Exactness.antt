@@ -1,0 +1,292 @@
+-- The law that ties the phases' table of an end to its positions, from what is computed for each phase.
+use Rattle.std.proofs.Common.{◌≡◌, ℕ, Bool, true, false, not, ◌&&◌, List, [], ◌∷◌, ◌++◌, Option, Some, None, refl, sym, ap, ◌∙◌, subst, All, Contains, true≢false, cond}
+use Rattle.std.specs.Prelude.{◌==◌, if◌then◌else◌, is_some, filter}
+use Rattle.std.specs.List.{list_all, list_any, flat_map}
+use Rattle.std.proofs.lemmas.Bool.{and_parts, eq-eqb, eqb-true}
+use Rattle.std.proofs.lemmas.List.Elements.{All-cons}
+use Rattle.std.proofs.lemmas.Map.Views.{Contains-from_any}
+use Rattle.oneshot_machine.specs.declared.machine.Seen.{Seen}
+use Rattle.oneshot_machine.specs.declared.machine.Seen.TheVariants as S
+use Rattle.oneshot_machine.specs.declared.states.Op.{Op}
+use Rattle.oneshot_machine.specs.declared.states.Op.TheVariants.{Load, Store, Swap, Exchange, Add, Xor}
+use Rattle.oneshot_machine.specs.Rows.{Goes, is_same_seen}
+use Rattle.oneshot_machine.specs.Words.{Noted, saw, op_of, is_same_op}
+use Rattle.oneshot_machine.specs.Phases.{Share, none, empty, filled, Slots, Row, is_row_for, next_by, phase_from}
+use Rattle.oneshot_machine.specs.Slots.{Held, away, vacant, held, IsSlot, is_away, is_vacant, is_held, Turns, stays_away, stays_vacant, stays_held, gives_room, gives_thing, gets_room, gets_thing, In, head, tail, May, may, Finds, finds}
+use Rattle.oneshot_machine.specs.Standing.{Table, is_op, onward, onward_all, in_order, moved, standing_from, standing, made_at, operations}
+use Rattle.oneshot_machine.proofs.GrownLists.{phase_from-snoc}
+use Rattle.oneshot_machine.specs.Exact.{IsFound, none_yet, one_more, IsAllowed, Accepts, IsExact}
+
+-- what a test of each element tells of one, and which one a test of some element found
+pub each_passes : {X : Type 0} (p : X → Bool) (xs : List X) {x : X} → list_all p xs ≡ true → In x xs → p x ≡ true
+each_passes p [] all there = elim there [ ]
+each_passes p (x ∷ xs) all head = (and_parts (p x) _ all).0
+each_passes p (x ∷ xs) all (tail there) = each_passes p xs (and_parts (p x) _ all).1 there
+
+record Passing {X : Type 0} (p : X → Bool) (xs : List X) : Type 0 where
+  one : X
+  among : In one xs
+  passes : p one ≡ true
+
+some_passes : {X : Type 0} (p : X → Bool) (xs : List X) → list_any p xs ≡ true → Passing p xs
+some_passes p [] any = absurd (true≢false (sym any))
+some_passes p (x ∷ xs) any = by (p x) refl any (some_passes p xs)
+  where
+    by : (b : Bool) → p x ≡ b → cond b true (list_any p xs) ≡ true → (list_any p xs ≡ true → Passing p xs) → Passing p (x ∷ xs)
+    by true is any rest = record { one = x; among = head; passes = is }
+    by false is any rest =
+        let found = rest any in
+        record { one = found.one; among = tail found.among; passes = found.passes }
+
+-- an operation, what was seen, and the shares of slots, told apart by their tests
+same_op : (op : Op) → is_same_op op op ≡ true
+same_op Load = refl
+same_op (Store new) = eq-eqb new new refl
+same_op (Swap new) = eq-eqb new new refl
+same_op (Exchange expected new) = rw (eq-eqb expected expected refl, eq-eqb new new refl) refl
+same_op Add = refl
+same_op Xor = refl
+
+pub ops_are_same : (a b : Op) → is_same_op a b ≡ true → a ≡ b
+ops_are_same Load Load e = refl
+ops_are_same (Store a) (Store b) e = ap Store (eqb-true a b e)
+ops_are_same (Swap a) (Swap b) e = ap Swap (eqb-true a b e)
+ops_are_same (Exchange a b) (Exchange c d) e =
+    let parts = and_parts (a == c) (b == d) e in ap (λ x. Exchange x b) (eqb-true a c parts.0) ∙ ap (λ x. Exchange c x) (eqb-true b d parts.1)
+ops_are_same Add Add e = refl
+ops_are_same Xor Xor e = refl
+ops_are_same _ _ e = absurd (cc)
+
+same_sight : (op : Op) (word : ℕ) → is_same_seen (saw op word) (saw op word) ≡ true
+same_sight (Store new) word = refl
+same_sight Load word = eq-eqb word word refl
+same_sight (Swap new) word = eq-eqb word word refl
+same_sight (Exchange expected new) word = eq-eqb word word refl
+same_sight Add word = eq-eqb word word refl
+same_sight Xor word = eq-eqb word word refl
+
+abbrev is_same_share : Share → Share → Bool
+is_same_share none none = true
+is_same_share empty empty = true
+is_same_share filled filled = true
+is_same_share _ _ = false
+
+shares_are_same : (a b : Share) → is_same_share a b ≡ true → a ≡ b
+shares_are_same none none e = refl
+shares_are_same empty empty e = refl
+shares_are_same filled filled e = refl
+shares_are_same _ _ e = absurd (cc)
+
+-- a slot of each share, where there is something to fill it
+fill : {X : Type 0} → X → Share → Held X
+fill x none = away
+fill x empty = vacant
+fill x filled = held x
+
+fills : {X : Type 0} (x : X) (s : Share) → IsSlot s (fill x s)
+unfolding fill
+fills x none = is_away
+fills x empty = is_vacant
+fills x filled = is_held x
+
+-- a slot turns so with nothing new in it
+abbrev is_plain : Share → Share → Bool
+is_plain none none = true
+is_plain empty empty = true
+is_plain filled filled = true
+is_plain empty none = true
+is_plain filled none = true
+is_plain none empty = true
+is_plain _ _ = false
+
+turns_plainly : {X : Type 0} {s t : Share} {h : Held X} → is_plain s t ≡ true → IsSlot s h → (h' : Held X) × Turns s t h h'
+turns_plainly {s = none} {t = none} e is_away = (away, stays_away)
+turns_plainly {s = empty} {t = empty} e is_vacant = (vacant, stays_vacant)
+turns_plainly {s = filled} {t = filled} e (is_held x) = (held x, stays_held x)
+turns_plainly {s = empty} {t = none} e is_vacant = (away, gives_room)
+turns_plainly {s = filled} {t = none} e (is_held x) = (away, gives_thing x)
+turns_plainly {s = none} {t = empty} e is_away = (vacant, gets_room)
+turns_plainly e _ = absurd (cc)
+
+module _ {At : Type 0} (nowhere : At) where
+  -- the rows of a phase differ in their operation or in what it sees
+  abbrev pub differ : List (Row At) → Bool
+  differ [] = true
+  differ (row ∷ rows) =
+      list_all (λ (other : Row At). not (is_row_for other.0 (saw other.0 other.2) row)) rows && differ rows
+
+  not_so : {b : Bool} → not b ≡ true → b ≡ false
+  not_so {b = true} e = absurd (true≢false (sym e))
+  not_so {b = false} e = refl
+
+  -- so each leads where it says
+  pub leads : (rows : List (Row At)) {op : Op} {before after : Slots} {word : ℕ} {next : At} → differ rows ≡ true → In (op, before, word, next, after) rows → next_by nowhere rows op (saw op word) ≡ next
+  leads [] apart there = elim there [ ]
+  leads (row ∷ rows) {op} {word} {next} apart head =
+      let same : is_row_for op (saw op word) row ≡ true = rw (same_op op, same_sight op word) refl in
+      ap (λ b. if b then next else next_by nowhere rows op (saw op word)) same
+  leads (row ∷ rows) {op} {word} apart (tail there) =
+      let parts = and_parts (list_all (λ (other : Row At). not (is_row_for other.0 (saw other.0 other.2) row)) rows) (differ rows) apart in
+      let other : is_row_for op (saw op word) row ≡ false = not_so (each_passes (λ (other : Row At). not (is_row_for other.0 (saw other.0 other.2) row)) rows parts.0 there) in
+      ap (λ b. if b then row.3 else next_by nowhere rows op (saw op word)) other ∙ leads rows parts.1 there
+
+-- where an end stands after one operation more
+standing_from-snoc : {P : Type 0} (t : Table P) (ps : List P) (xs : List Noted) (x : Noted) → standing_from t ps (xs ++ x ∷ []) ≡ moved t (standing_from t ps xs) x
+standing_from-snoc t ps [] x = refl
+standing_from-snoc t ps (y ∷ xs) x = standing_from-snoc t (moved t ps y) xs x
+
+standing-snoc : {P : Type 0} (t : Table P) (xs : List Noted) (x : Noted) → standing t (xs ++ x ∷ []) ≡ moved t (standing t xs) x
+standing-snoc t xs x = standing_from-snoc t (standing t []) xs x
+
+module _ {P At : Type 0} (t : Table P) (nowhere : At) (rows : At → List (Row At)) (stands : At → List (List P)) where
+  abbrev next_at : At → Op → Seen → At
+  next_at at = next_by nowhere (rows at)
+
+  -- the positions to which an operation leads from these
+  abbrev reached : List P → Op → ℕ → List P
+  reached ps op word =
+      flat_map (λ p. onward t 6 p (if is_op op (op_of (t.step p)) then t.row p (saw op word) else None)) ps
+
+  -- two lists of the same positions
+  abbrev is_in : List P → P → Bool
+  is_in ps p = list_any (λ q. t.number q == t.number p) ps
+
+  abbrev is_same : Bool → Bool → Bool
+  is_same true b = b
+  is_same false b = not b
+
+  abbrev agree : List P → List P → Bool
+  agree ps qs = list_all (λ p. is_same (is_in ps p) (is_in qs p)) t.positions
+
+  -- a position that makes the operation has a row for what it saw
+  abbrev is_ready : Op → ℕ → P → Bool
+  is_ready op word p = if is_op op (op_of (t.step p)) then is_some (t.row p (saw op word)) else true
+
+  -- another row, or the same, finds a word with which nothing new comes
+  abbrev is_findable : At → Row At → Bool
+  is_findable at row =
+      list_any
+        (λ (other : Row At).
+          is_same_op row.0 other.0
+          && is_same_share row.1.0 other.1.0
+          && is_same_share row.1.1 other.1.1
+          && is_plain row.1.0 other.4.0
+          && is_plain row.1.1 other.4.1)
+        (rows at)
+
+  -- a row of a phase at which an end stands there
+  abbrev is_row_made : At → List P → Row At → Bool
+  is_row_made at ps row =
+      list_any (is_same_op row.0) (made_at t ps)
+      && list_all (is_ready row.0 row.2) ps
+      && list_any (agree (reached ps row.0 row.2)) (stands row.3)
+
+  abbrev is_fit : At → List P → Bool
+  is_fit at ps =
+      list_all (is_row_made at ps) (rows at)
+      && list_all (λ op. list_any (λ (row : Row At). is_same_op op row.0) (rows at)) (made_at t ps)
+
+  -- what is computed for each phase
+  abbrev pub is_exact_at : At → Bool
+  is_exact_at at =
+      differ nowhere (rows at) && list_all (is_findable at) (rows at) && list_all (λ ps. is_fit at (in_order t ps)) (stands at)
+
+  -- the lists of positions at which an end may stand there
+  data StandsAt (at : At) : List P → Type 0 where
+    stands_at : (ps : List P) → In ps (stands at) → StandsAt at (in_order t ps)
+
+  filter-agree : (f g : P → Bool) (ps : List P) → list_all (λ p. is_same (f p) (g p)) ps ≡ true → filter f ps ≡ filter g ps
+  filter-agree f g [] all = refl
+  filter-agree f g (p ∷ ps) all =
+      let parts = and_parts (is_same (f p) (g p)) _ all in
+      by (f p) (g p) parts.0 (filter-agree f g ps parts.1)
+    where
+      by : (a b : Bool) → is_same a b ≡ true → filter f ps ≡ filter g ps → cond a (p ∷ filter f ps) (filter f ps) ≡ cond b (p ∷ filter g ps) (filter g ps)
+      by true true e rest = ap (λ ps. p ∷ ps) rest
+      by true false e rest = absurd (cc)
+      by false true e rest = absurd (cc)
+      by false false e rest = rest
+
+  -- the same positions make the same list
+  in_one_order : (ps qs : List P) → agree ps qs ≡ true → in_order t ps ≡ in_order t qs
+  in_one_order ps qs same = filter-agree (is_in ps) (is_in qs) t.positions same
+
+  lands : (at : At) (ps : List P) → list_any (agree ps) (stands at) ≡ true → StandsAt at (in_order t ps)
+  lands at ps any =
+      let found = some_passes (agree ps) (stands at) any in
+      subst (λ l. StandsAt at l) (sym (in_one_order ps found.one found.passes)) (stands_at found.one found.among)
+
+  module _ (start : At) (exact : (at : At) → is_exact_at at ≡ true) (starts : list_any (agree (onward_all t t.opens)) (stands start) ≡ true) where
+    fits : (at : At) {ps : List P} → StandsAt at ps → is_fit at ps ≡ true
+    fits at (stands_at ps among) =
+        each_passes (λ ps. is_fit at (in_order t ps)) (stands at) (and_parts (list_all (is_findable at) (rows at)) _ (and_parts (differ nowhere (rows at)) _ (exact at)).1).1 among
+
+    made : (at : At) {ps : List P} {row : Row At} → StandsAt at ps → In row (rows at) → is_row_made at ps row ≡ true
+    made at {ps} there row = each_passes (is_row_made at ps) (rows at) (and_parts (list_all (is_row_made at ps) (rows at)) _ (fits at there)).0 row
+
+    -- one operation more
+    module _ {T W : Type 0} where
+      abbrev at_after : List Noted → At
+      at_after = phase_from next_at start
+
+      abbrev Found : List Noted → Type 0
+      Found xs = IsFound {T = T} {W = W} at_after (Finds rows) xs
+
+      goes_on : (at : At) {ps : List P} {op : Op} {m m' : Held T} {w w' : Held W} (word : ℕ) → StandsAt at ps → Finds rows at op word m w m' w' → StandsAt (next_at at op (saw op word)) (moved t ps (op, saw op word))
+      goes_on at {ps} {op} word there (finds {next} row _ _) =
+          let at_row = and_parts (list_all (is_ready op word) ps) _ (and_parts (list_any (is_same_op op) (made_at t ps)) _ (made at there row)).1 in
+          subst (λ at. StandsAt at (moved t ps (op, saw op word))) (sym (leads nowhere (rows at) (and_parts (differ nowhere (rows at)) _ (exact at)).0 row)) (lands next (reached ps op word) at_row.1)
+
+      -- and so along each log
+      stands_after : {xs : List Noted} → Found xs → StandsAt (at_after xs) (standing t xs)
+      stands_after none_yet = lands start (onward_all t t.opens) starts
+      stands_after (one_more {xs} {op} word before found) =
+          subst (λ (z : At × List P). StandsAt z.0 z.1) (λ i. (sym (phase_from-snoc next_at start xs (op, saw op word)) i, sym (standing-snoc t xs (op, saw op word)) i)) (goes_on (at_after xs) word (stands_after before) found)
+
+      -- the operations made there are allowed
+      allowed : (x : T) (k : W) (at : At) (op : Op) → list_any (λ (row : Row At). is_same_op op row.0) (rows at) ≡ true → IsAllowed (May {T = T} {W = W} rows) at op
+      allowed x k at op any =
+          let found = some_passes (λ (row : Row At). is_same_op op row.0) (rows at) any in
+          let row = found.one in
+          subst (λ op. IsAllowed (May rows) at op) (sym (ops_are_same op row.0 found.passes)) (fill x row.1.0, fill k row.1.1, may found.among (fills x row.1.0) (fills k row.1.1))
+
+      each_allowed : (x : T) (k : W) (at : At) (ops : List Op) → list_all (λ op. list_any (λ (row : Row At). is_same_op op row.0) (rows at)) ops ≡ true → All (IsAllowed (May {T = T} {W = W} rows) at) ops
+      each_allowed x k at [] all = λ n d below. absurd (omega arith)
+      each_allowed x k at (op ∷ ops) all =
+          let parts = and_parts (list_any (λ (row : Row At). is_same_op op row.0) (rows at)) _ all in
+          All-cons (IsAllowed (May rows) at) op ops (allowed x k at op parts.0) (each_allowed x k at ops parts.1)
+
+      -- what is allowed is made there
+      is_made : (at : At) {op : Op} {m : Held T} {w : Held W} {ps : List P} → StandsAt at ps → May rows at op m w → Contains (made_at t ps) op
+      is_made at {op} {ps} there (may row _ _) =
+          Contains-from_any ops_are_same op (made_at t ps) (and_parts (list_any (is_same_op op) (made_at t ps)) _ (made at there row)).0
+
+      -- what is allowed may find some word
+      some_word : (at : At) {op : Op} {m : Held T} {w : Held W} → May rows at op m w → (word : ℕ) × (m' : Held T) × (w' : Held W) × Finds rows at op word m w m' w'
+      some_word at {op} (may row message waker) =
+          finds_other at (each_passes (is_findable at) (rows at) (and_parts (list_all (is_findable at) (rows at)) _ (and_parts (differ nowhere (rows at)) _ (exact at)).1).0 row) message waker
+        where
+          finds_other : (at : At) {op : Op} {before after : Slots} {word : ℕ} {next : At} {m : Held T} {w : Held W} → is_findable at (op, before, word, next, after) ≡ true → IsSlot before.0 m → IsSlot before.1 w → (word : ℕ) × (m' : Held T) × (w' : Held W) × Finds rows at op word m w m' w'
+          finds_other = ?
+
+      -- and only words that are accepted
+      accepts_there : (op : Op) (word : ℕ) (p : P) → is_ready op word p ≡ true → Accepts t op word p
+      accepts_there op word p ready step = sym (ap (λ b. if b then is_some (t.row p (saw op word)) else true) (ap (λ s. is_op op (op_of s)) step ∙ same_op op)) ∙ ready
+
+      accept : (op : Op) (word : ℕ) (ps : List P) → list_all (is_ready op word) ps ≡ true → All (Accepts t op word) ps
+      accept op word [] ready = λ n d below. absurd (omega arith)
+      accept op word (p ∷ ps) ready =
+          let parts = and_parts (is_ready op word p) _ ready in All-cons (Accepts t op word) p ps (accepts_there op word p parts.0) (accept op word ps parts.1)
+
+      accepted_there : (at : At) {op : Op} {m m' : Held T} {w w' : Held W} {ps : List P} (word : ℕ) → StandsAt at ps → Finds rows at op word m w m' w' → All (Accepts t op word) ps
+      accepted_there at {op} {ps} word there (finds row _ _) =
+          accept op word ps (and_parts (list_all (is_ready op word) ps) _ (and_parts (list_any (is_same_op op) (made_at t ps)) _ (made at there row)).1).0
+
+    pub is_exact : (T W : Type 0) → IsExact {T = T} {W = W} t (phase_from next_at start) (May rows) (Finds rows)
+    is_exact T W =
+        record {
+          no_less = λ x k {xs} found. each_allowed x k _ (operations t xs) (and_parts (list_all (is_row_made _ (standing t xs)) (rows _)) _ (fits _ (stands_after found))).1;
+          no_more = λ found. is_made _ (stands_after found);
+          finds = some_word _;
+          accepted = λ word found. accepted_there _ word (stands_after found);
+        }
