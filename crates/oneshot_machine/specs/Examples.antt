@@ -12,7 +12,7 @@ use Rattle.oneshot_machine.specs.declared.machine.sender.SenderPos.TheVariants.{
 use Rattle.oneshot_machine.specs.declared.states.Op.TheVariants.{Load, Store, Swap, Add, Xor}
 use Rattle.oneshot_machine.specs.Sender.{sender_step, sender_row}
 use Rattle.oneshot_machine.specs.Receiver.{receiver_step, receiver_row}
-use Rattle.oneshot_machine.specs.Phases.{sending, dropping, fresh, owes, finished, late, no_sender, sender_at, first, here, looked, between, waits, blocked, overdue, full, at_once, waited, unclosed, over, found_closed, closed_itself, gone, ended, no_receiver, receiver_at}
+use Rattle.oneshot_machine.specs.Phases.{sending, dropping, fresh, owes, finished, late, no_sender, sender_at, first, here, looked, between, waits, blocked, overdue, full, at_once, waited, swapped, storing, stopping, unclosed, over, found_closed, closed_itself, gone, ended, no_receiver, receiver_at}
 use Rattle.oneshot_machine.specs.Logs.{Event, did, wrote, took, handed, parked, clocked, worded, words, kept, messages_given, messages_got}
 use Rattle.oneshot_machine.specs.Runs.{Run}
 
@@ -20,13 +20,13 @@ use Rattle.oneshot_machine.specs.Runs.{Run}
 pub record SenderLists : Type 0 where
   pub nothing_yet : sender_at [] ≡ fresh
   pub sent : sender_at ((Add, Word 3) ∷ []) ≡ finished sending
-  pub sent_too_late : sender_at ((Add, Word 2) ∷ []) ≡ late sending 3
+  pub sent_too_late : sender_at ((Add, Word 2) ∷ []) ≡ late sending
   pub found_a_waker : sender_at ((Add, Word 0) ∷ []) ≡ owes sending
   pub sent_to_it : sender_at ((Add, Word 0) ∷ (Swap 4, Word 1) ∷ []) ≡ finished sending
   pub sent_to_one_that_stopped : sender_at ((Add, Word 0) ∷ (Swap 4, Word 3) ∷ []) ≡ finished sending
   pub dropped : sender_at ((Xor, Word 3) ∷ []) ≡ finished dropping
   pub dropped_before_it : sender_at ((Xor, Word 0) ∷ (Swap 2, Word 1) ∷ []) ≡ finished dropping
-  pub dropped_too_late : sender_at ((Xor, Word 2) ∷ []) ≡ late dropping 3
+  pub dropped_too_late : sender_at ((Xor, Word 2) ∷ []) ≡ late dropping
   -- and lists that no sender makes
   pub sends_over_a_message : sender_at ((Add, Word 4) ∷ []) ≡ no_sender
   pub sends_twice : sender_at ((Add, Word 3) ∷ (Add, Word 3) ∷ []) ≡ no_sender
@@ -41,7 +41,7 @@ pub record SenderLists : Type 0 where
 pub record ReceiverLists : Type 0 where
   pub nothing_yet : receiver_at [] ≡ first
   pub looked_in_vain : receiver_at ((Load, Word 3) ∷ (Load, Word 3) ∷ []) ≡ here looked
-  pub found_it : receiver_at ((Load, Word 3) ∷ (Load, Word 4) ∷ []) ≡ full at_once 4
+  pub found_it : receiver_at ((Load, Word 3) ∷ (Load, Word 4) ∷ []) ≡ full at_once
   pub received : receiver_at ((Load, Word 4) ∷ (Store 2, Done) ∷ []) ≡ over closed_itself
   pub tried_again : receiver_at ((Load, Word 4) ∷ (Store 2, Done) ∷ (Load, Word 2) ∷ []) ≡ over closed_itself
   pub found_no_sender : receiver_at ((Load, Word 2) ∷ (Load, Word 2) ∷ []) ≡ over found_closed
@@ -49,20 +49,20 @@ pub record ReceiverLists : Type 0 where
   pub woke_too_early :
       receiver_at ((Load, Word 3) ∷ (Swap 0, Word 3) ∷ (Load, Word 0) ∷ (Load, Word 1) ∷ []) ≡ waits blocked
   pub waited_for_it :
-      receiver_at ((Load, Word 3) ∷ (Swap 0, Word 3) ∷ (Load, Word 4) ∷ []) ≡ full waited 4
-  pub found_it_by_its_swap : receiver_at ((Load, Word 3) ∷ (Swap 0, Word 4) ∷ []) ≡ full waited 0
-  pub found_nobody_by_its_swap : receiver_at ((Load, Word 3) ∷ (Swap 0, Word 2) ∷ []) ≡ unclosed 0
+      receiver_at ((Load, Word 3) ∷ (Swap 0, Word 3) ∷ (Load, Word 4) ∷ []) ≡ full waited
+  pub found_it_by_its_swap : receiver_at ((Load, Word 3) ∷ (Swap 0, Word 4) ∷ []) ≡ full (swapped storing)
+  pub found_nobody_by_its_swap : receiver_at ((Load, Word 3) ∷ (Swap 0, Word 2) ∷ []) ≡ unclosed storing
   pub ran_out : receiver_at ((Load, Word 3) ∷ (Swap 0, Word 3) ∷ (Swap 3, Word 0) ∷ []) ≡ here between
   pub ran_out_and_tried_again :
       receiver_at ((Load, Word 3) ∷ (Swap 0, Word 3) ∷ (Swap 3, Word 0) ∷ (Load, Word 3) ∷ []) ≡ here looked
   pub ran_out_over_a_message :
-      receiver_at ((Load, Word 3) ∷ (Swap 0, Word 3) ∷ (Swap 3, Word 4) ∷ []) ≡ full waited 3
+      receiver_at ((Load, Word 3) ∷ (Swap 0, Word 3) ∷ (Swap 3, Word 4) ∷ []) ≡ full (swapped stopping)
   pub ran_out_over_a_drop :
-      receiver_at ((Load, Word 3) ∷ (Swap 0, Word 3) ∷ (Swap 3, Word 2) ∷ []) ≡ unclosed 3
+      receiver_at ((Load, Word 3) ∷ (Swap 0, Word 3) ∷ (Swap 3, Word 2) ∷ []) ≡ unclosed stopping
   pub ran_out_too_late : receiver_at ((Load, Word 3) ∷ (Swap 0, Word 3) ∷ (Swap 3, Word 1) ∷ []) ≡ overdue
   pub waited_for_the_sender :
       receiver_at ((Load, Word 3) ∷ (Swap 0, Word 3) ∷ (Swap 3, Word 1) ∷ (Load, Word 3) ∷ (Load, Word 4) ∷ [])
-      ≡ full waited 4
+      ≡ full waited
   pub put_it_back :
       receiver_at ((Load, Word 3) ∷ (Swap 0, Word 2) ∷ (Store 2, Done) ∷ []) ≡ over closed_itself
   pub dropped_early : receiver_at ((Load, Word 3) ∷ (Swap 2, Word 3) ∷ []) ≡ gone

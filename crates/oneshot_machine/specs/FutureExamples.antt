@@ -28,8 +28,8 @@ pub record FutureLists : Type 0 where
   pub sees_the_sender_finish : receiver_at (once_polled ++ (Load, Word 1) ∷ []) ≡ claimed
   pub exchanges_too_late :
       receiver_at (once_polled ++ (Load, Word 0) ∷ (Exchange 0 3, Word 1) ∷ (Load, Word 1) ∷ []) ≡ claimed
-  pub finds_it_by_its_load : receiver_at (once_polled ++ (Load, Word 4) ∷ []) ≡ full by_future 4
-  pub finds_it_by_its_exchange : receiver_at ((Load, Word 3) ∷ (Exchange 3 0, Word 4) ∷ []) ≡ full by_poll 4
+  pub finds_it_by_its_load : receiver_at (once_polled ++ (Load, Word 4) ∷ []) ≡ full by_future
+  pub finds_it_by_its_exchange : receiver_at ((Load, Word 3) ∷ (Exchange 3 0, Word 4) ∷ []) ≡ full by_poll
   pub receives :
       receiver_at (once_polled ++ (Load, Word 4) ∷ (Store 2, Done) ∷ []) ≡ resolved closed_itself
   pub finds_nobody_by_its_exchange :
