@@ -4,6 +4,12 @@ use Rattle.std.proofs.lemmas.Bool.{eqb-true}
 use Rattle.oneshot_machine.specs.Standing.{sender_positions, receiver_positions}
 use Rattle.oneshot_machine.specs.declared.machine.future.FuturePos.TheVariants as F
 use Rattle.oneshot_machine.specs.declared.machine.receiver.ReceiverPos.TheVariants as R
+use Rattle.oneshot_machine.specs.declared.machine.look.LookPos.TheVariants.{LookFull, LookClosed, TryLoad, Close, Take, CloseOnly}
+use Rattle.oneshot_machine.specs.declared.machine.by_ref.RefPos.TheVariants.{StartLoad, StartWrite, StartSwap, BackFull, BackClosed, Park, ParkLoad}
+use Rattle.oneshot_machine.specs.declared.machine.timed.TimedPos.TheVariants.{SumClock, Clock, TimedPark, TimedLoad, EndSwap, EndBack, LatePark, LateLoad}
+use Rattle.oneshot_machine.specs.declared.machine.value.ValuePos.TheVariants.{RecvLoad, RecvWrite, RecvSwap, RecvBackFull, RecvBackClosed, RecvPark, RecvParkLoad, RecvTake, RecvFreeGot, RecvFreeGone}
+use Rattle.oneshot_machine.specs.declared.machine.async_drop.AsyncDropPos.TheVariants.{AsyncLoad, AsyncExchange, AsyncBack, AsyncSpin}
+use Rattle.oneshot_machine.specs.declared.machine.drop.DropPos.TheVariants.{DropSwap, DropMessage, DropFree}
 use Rattle.oneshot_machine.specs.declared.machine.sender.SenderPos.TheVariants as S
 use Rattle.oneshot_world.specs.Calls.{Call, Sender_is_closed, Send, Drop_sender, As_inner, Into_inner, Drop_error, Try_recv, Recv_ref, Recv_deadline, Recv_timeout, Recv, Has_message, Is_closed, Drop_receiver, Into_future, Poll, Drop_async, Stray}
 use Rattle.oneshot_world.specs.Control.{Control, sender_code, receiver_code, call_code, poll_code, is_same_call, place_code, bool_code, is_same_wakers, is_same_state, is_same_control}
@@ -54,41 +60,41 @@ receivers = RS.Ready ∷ RS.Ended ∷ map RS.At receiver_positions
 receiver_back : (s : ReceiverState) → get_or receivers (receiver_code s) RS.Ended ≡ s
 receiver_back RS.Ready = refl
 receiver_back RS.Ended = refl
-receiver_back (RS.At R.LookFull) = refl
-receiver_back (RS.At R.LookClosed) = refl
-receiver_back (RS.At R.TryLoad) = refl
-receiver_back (RS.At R.Close) = refl
-receiver_back (RS.At R.Take) = refl
-receiver_back (RS.At R.CloseOnly) = refl
-receiver_back (RS.At (R.SumClock false)) = refl
-receiver_back (RS.At (R.SumClock true)) = refl
-receiver_back (RS.At (R.StartLoad false)) = refl
-receiver_back (RS.At (R.StartLoad true)) = refl
-receiver_back (RS.At (R.StartWrite false)) = refl
-receiver_back (RS.At (R.StartWrite true)) = refl
-receiver_back (RS.At (R.StartSwap false)) = refl
-receiver_back (RS.At (R.StartSwap true)) = refl
-receiver_back (RS.At R.BackFull) = refl
-receiver_back (RS.At R.BackClosed) = refl
-receiver_back (RS.At R.Park) = refl
-receiver_back (RS.At R.ParkLoad) = refl
-receiver_back (RS.At R.Clock) = refl
-receiver_back (RS.At R.TimedPark) = refl
-receiver_back (RS.At R.TimedLoad) = refl
-receiver_back (RS.At R.EndSwap) = refl
-receiver_back (RS.At R.EndBack) = refl
-receiver_back (RS.At R.LatePark) = refl
-receiver_back (RS.At R.LateLoad) = refl
-receiver_back (RS.At R.RecvLoad) = refl
-receiver_back (RS.At R.RecvWrite) = refl
-receiver_back (RS.At R.RecvSwap) = refl
-receiver_back (RS.At R.RecvBackFull) = refl
-receiver_back (RS.At R.RecvBackClosed) = refl
-receiver_back (RS.At R.RecvPark) = refl
-receiver_back (RS.At R.RecvParkLoad) = refl
-receiver_back (RS.At R.RecvTake) = refl
-receiver_back (RS.At R.RecvFreeGot) = refl
-receiver_back (RS.At R.RecvFreeGone) = refl
+receiver_back (RS.At (R.Look LookFull)) = refl
+receiver_back (RS.At (R.Look LookClosed)) = refl
+receiver_back (RS.At (R.Look TryLoad)) = refl
+receiver_back (RS.At (R.Look Close)) = refl
+receiver_back (RS.At (R.Look Take)) = refl
+receiver_back (RS.At (R.Look CloseOnly)) = refl
+receiver_back (RS.At (R.Timed (SumClock false))) = refl
+receiver_back (RS.At (R.Timed (SumClock true))) = refl
+receiver_back (RS.At (R.Ref (StartLoad false))) = refl
+receiver_back (RS.At (R.Ref (StartLoad true))) = refl
+receiver_back (RS.At (R.Ref (StartWrite false))) = refl
+receiver_back (RS.At (R.Ref (StartWrite true))) = refl
+receiver_back (RS.At (R.Ref (StartSwap false))) = refl
+receiver_back (RS.At (R.Ref (StartSwap true))) = refl
+receiver_back (RS.At (R.Ref BackFull)) = refl
+receiver_back (RS.At (R.Ref BackClosed)) = refl
+receiver_back (RS.At (R.Ref Park)) = refl
+receiver_back (RS.At (R.Ref ParkLoad)) = refl
+receiver_back (RS.At (R.Timed Clock)) = refl
+receiver_back (RS.At (R.Timed TimedPark)) = refl
+receiver_back (RS.At (R.Timed TimedLoad)) = refl
+receiver_back (RS.At (R.Timed EndSwap)) = refl
+receiver_back (RS.At (R.Timed EndBack)) = refl
+receiver_back (RS.At (R.Timed LatePark)) = refl
+receiver_back (RS.At (R.Timed LateLoad)) = refl
+receiver_back (RS.At (R.Value RecvLoad)) = refl
+receiver_back (RS.At (R.Value RecvWrite)) = refl
+receiver_back (RS.At (R.Value RecvSwap)) = refl
+receiver_back (RS.At (R.Value RecvBackFull)) = refl
+receiver_back (RS.At (R.Value RecvBackClosed)) = refl
+receiver_back (RS.At (R.Value RecvPark)) = refl
+receiver_back (RS.At (R.Value RecvParkLoad)) = refl
+receiver_back (RS.At (R.Value RecvTake)) = refl
+receiver_back (RS.At (R.Value RecvFreeGot)) = refl
+receiver_back (RS.At (R.Value RecvFreeGone)) = refl
 receiver_back (RS.At (R.Future F.IntoFuture)) = refl
 receiver_back (RS.At (R.Future F.PollLoad)) = refl
 receiver_back (RS.At (R.Future F.PollCopy)) = refl
@@ -101,13 +107,13 @@ receiver_back (RS.At (R.Future F.AgainExchange)) = refl
 receiver_back (RS.At (R.Future F.AgainBack)) = refl
 receiver_back (RS.At (R.Future F.PollOwn)) = refl
 receiver_back (RS.At (R.Future F.PollSpin)) = refl
-receiver_back (RS.At (R.Future F.AsyncLoad)) = refl
-receiver_back (RS.At (R.Future F.AsyncExchange)) = refl
-receiver_back (RS.At (R.Future F.AsyncBack)) = refl
-receiver_back (RS.At (R.Future F.AsyncSpin)) = refl
-receiver_back (RS.At R.DropSwap) = refl
-receiver_back (RS.At R.DropMessage) = refl
-receiver_back (RS.At R.DropFree) = refl
+receiver_back (RS.At (R.AsyncDrop AsyncLoad)) = refl
+receiver_back (RS.At (R.AsyncDrop AsyncExchange)) = refl
+receiver_back (RS.At (R.AsyncDrop AsyncBack)) = refl
+receiver_back (RS.At (R.AsyncDrop AsyncSpin)) = refl
+receiver_back (RS.At (R.Drop DropSwap)) = refl
+receiver_back (RS.At (R.Drop DropMessage)) = refl
+receiver_back (RS.At (R.Drop DropFree)) = refl
 
 -- the call of a code, with this number if it is a poll
 abbrev calls : List Call
