@@ -2,7 +2,7 @@
 use Rattle.std.specs.Prelude.{ℕ, zero, suc, Bool, true, not, ◌&&◌, List, [], ◌∷◌, if◌then◌else◌}
 use Rattle.oneshot_machine.specs.declared.machine.End.TheVariants.{Sender, Receiver}
 use Rattle.oneshot_world.specs.Calls.{Call, Send, Drop_sender, Try_recv, Poll, Drop_async}
-use Rattle.oneshot_laws.specs.Words.{is_same_end, is_word, found}
+use Rattle.oneshot_laws.specs.Entries.{is_same_end, is_word, found}
 use Rattle.oneshot_laws.specs.Marks.{Mark, finishes, side, call_marks, each_call, after_each}
 
 -- at most so many of these marks pass a test
