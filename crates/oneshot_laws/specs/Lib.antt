@@ -12,15 +12,3 @@ pub mod Holders
 pub mod Laws
 pub mod Alone
 pub mod Bounds
-pub mod Notation
-pub mod Traces
-pub mod Examples
-pub mod LawExamples
-pub mod WaitExamples
-pub mod TimedExamples
-pub mod WakerExamples
-pub mod UnwokenExamples
-pub mod FutureTraces
-pub mod FutureExamples
-pub mod TaskExamples
-pub mod BoundExamples

@@ -13,9 +13,9 @@ use Rattle.oneshot_world.specs.declared.trace.WakerPlace.TheVariants as W
 use Rattle.oneshot_laws.specs.Marks.{marks}
 use Rattle.oneshot_world.specs.Ahead.{Ahead, ahead_of}
 use Rattle.oneshot_laws.specs.Unwoken.{is_never_unwoken}
-use Rattle.oneshot_laws.specs.Notation.{Example, move_in, sender, receiver, parked, carrying, setting_token, replying, up_to, answered_by}
-use Rattle.oneshot_laws.specs.Traces.{waited_past_its_deadline, waited_for_message, woken_by_drop, still_waiting}
-use Rattle.oneshot_laws.specs.LawExamples.{is_right}
+use Rattle.oneshot_law_examples.specs.Notation.{Example, move_in, sender, receiver, parked, carrying, setting_token, replying, up_to, answered_by}
+use Rattle.oneshot_law_examples.specs.Traces.{waited_past_its_deadline, waited_for_message, woken_by_drop, still_waiting}
+use Rattle.oneshot_law_examples.specs.LawExamples.{is_right}
 
 -- THE WAITING: before each entry, and at the end, whether the receiver is about to park, and whether there is a token
 abbrev pub up : Ahead

@@ -2,10 +2,10 @@
 use Rattle.std.specs.Prelude.{Bool, not, ◌&&◌, [], ◌∷◌, IsTrue}
 use Rattle.std.specs.List.{list_all}
 use Rattle.oneshot_laws.specs.Bounds.{are_calls_bounded, is_soon_answered}
-use Rattle.oneshot_laws.specs.Notation.{Example, twice}
-use Rattle.oneshot_laws.specs.LawExamples.{marks_in}
-use Rattle.oneshot_laws.specs.Traces.{sent_then_taken, waited_for_message, sent_before_waiting, woken_by_drop, sent_at_its_deadline}
-use Rattle.oneshot_laws.specs.FutureTraces.{dropped_while_finishing, polled_while_finishing, sent_while_polling, sent_while_replacing, dropped_while_pending, both_dropped_while_pending}
+use Rattle.oneshot_law_examples.specs.Notation.{Example, twice}
+use Rattle.oneshot_law_examples.specs.LawExamples.{marks_in}
+use Rattle.oneshot_law_examples.specs.Traces.{sent_then_taken, waited_for_message, sent_before_waiting, woken_by_drop, sent_at_its_deadline}
+use Rattle.oneshot_law_examples.specs.FutureTraces.{dropped_while_finishing, polled_while_finishing, sent_while_polling, sent_while_replacing, dropped_while_pending, both_dropped_while_pending}
 
 abbrev pub is_bounded_in : Example → Bool
 is_bounded_in x = are_calls_bounded (marks_in x)

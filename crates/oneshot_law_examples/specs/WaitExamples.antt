@@ -15,10 +15,10 @@ use Rattle.oneshot_world.specs.declared.trace.Place.TheVariants as P
 use Rattle.oneshot_world.specs.declared.trace.WakerName.TheVariants.{Parker}
 use Rattle.oneshot_world.specs.declared.trace.WakerPlace.TheVariants as W
 use Rattle.oneshot_laws.specs.Laws.{is_gone_after_got, is_gone_after_closed}
-use Rattle.oneshot_laws.specs.Notation.{Example, move_in, sender, receiver, frees, without_block, carrying, setting_token, replying, up_to, without, exchanged, put_behind, answered_by}
-use Rattle.oneshot_laws.specs.Traces.{received_at_once, waited_for_message, sent_before_waiting, dropped_before_waiting, woken_by_drop, still_waiting}
-use Rattle.oneshot_laws.specs.Examples.{acting_in, is_legal_trace}
-use Rattle.oneshot_laws.specs.LawExamples.{is_block_right, are_lone_replies_right, fails_at, is_right}
+use Rattle.oneshot_law_examples.specs.Notation.{Example, move_in, sender, receiver, frees, without_block, carrying, setting_token, replying, up_to, without, exchanged, put_behind, answered_by}
+use Rattle.oneshot_law_examples.specs.Traces.{received_at_once, waited_for_message, sent_before_waiting, dropped_before_waiting, woken_by_drop, still_waiting}
+use Rattle.oneshot_law_examples.specs.HistoryExamples.{acting_in, is_legal_trace}
+use Rattle.oneshot_law_examples.specs.LawExamples.{is_block_right, are_lone_replies_right, fails_at, is_right}
 
 -- THE RUNS: each trace is what its scripts tell under its moves
 abbrev pub told_from : ℕ → World → List Entry → List Entry

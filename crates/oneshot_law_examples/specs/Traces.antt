@@ -9,7 +9,7 @@ use Rattle.oneshot_world.specs.declared.trace.Entry.TheVariants as E
 use Rattle.oneshot_world.specs.declared.trace.Place.TheVariants as P
 use Rattle.oneshot_world.specs.declared.trace.WakerName.TheVariants.{Parker}
 use Rattle.oneshot_world.specs.declared.trace.WakerPlace.TheVariants as W
-use Rattle.oneshot_laws.specs.Notation.{Example, sender, receiver, frees, without_block, parked, clocked, moving, carrying, setting_token, replying}
+use Rattle.oneshot_law_examples.specs.Notation.{Example, sender, receiver, frees, without_block, parked, clocked, moving, carrying, setting_token, replying}
 
 -- S send 7
 -- R try drop

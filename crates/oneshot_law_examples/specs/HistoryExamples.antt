@@ -1,4 +1,4 @@
--- What each definition says of worked traces, and of the same traces damaged. The checker computes all of it.
+-- What the object answers, and what acting entries, histories and idle ends are in worked traces, and in the same traces damaged. The checker computes all of it.
 use Rattle.std.specs.Prelude.{◌≡◌, ℕ, Bool, not, List, [], ◌∷◌, ◌++◌, map, take, IsTrue}
 use Rattle.std.specs.List.{list_all}
 use Rattle.oneshot_machine.specs.declared.machine.End.TheVariants.{Sender, Receiver}
@@ -10,8 +10,8 @@ use Rattle.oneshot_laws.specs.Object.{Action, Send, Sender_gone, Take, Take_and_
 use Rattle.oneshot_laws.specs.Marks.{marks}
 use Rattle.oneshot_laws.specs.History.{history, has_legal_history}
 use Rattle.oneshot_laws.specs.Idle.{is_idle_right}
-use Rattle.oneshot_laws.specs.Notation.{Example, sender, without, exchanged, answered_by, operating_at}
-use Rattle.oneshot_laws.specs.Traces.{sent_then_taken, nothing_moved, nothing_to_do, sent_to_nobody, both_dropped, dropped_then_tried, taken_from_the_error, dropped_with_the_error}
+use Rattle.oneshot_law_examples.specs.Notation.{Example, sender, without, exchanged, answered_by, operating_at}
+use Rattle.oneshot_law_examples.specs.Traces.{sent_then_taken, nothing_moved, nothing_to_do, sent_to_nobody, both_dropped, dropped_then_tried, taken_from_the_error, dropped_with_the_error}
 
 -- THE OBJECT: what these steps answer, one after the other
 abbrev pub answers_from : Object → List Action → List Answer

@@ -12,13 +12,13 @@ use Rattle.oneshot_world.specs.declared.trace.WakerName.TheVariants.{Parker, Cop
 use Rattle.oneshot_world.specs.declared.trace.WakerPlace.TheVariants as W
 use Rattle.oneshot_laws.specs.Wakers.{are_wakers_right, is_cell_kept}
 use Rattle.oneshot_laws.specs.Laws.{is_gone_after_got, is_got_after_full, is_gone_after_closed, is_nothing_only_if_open, is_dropped_once}
-use Rattle.oneshot_laws.specs.Notation.{Example, receiver, frees, without_block, carrying, replying, up_to, without, twice, put_behind, answered_by, unmoved_by, uncarried_by, carried_by}
-use Rattle.oneshot_laws.specs.Examples.{acting_in, is_legal_trace}
-use Rattle.oneshot_laws.specs.LawExamples.{marks_in, is_block_right, are_lone_replies_right, fails_at, is_right}
-use Rattle.oneshot_laws.specs.WaitExamples.{told_by}
-use Rattle.oneshot_laws.specs.TimedExamples.{received_by}
-use Rattle.oneshot_laws.specs.UnwokenExamples.{up, aheads_by}
-use Rattle.oneshot_laws.specs.FutureTraces.{dropped_while_finishing, polled_while_finishing, copy_refused, polled_by_another_task, sent_before_pending, sent_while_polling, sent_while_replacing, dropped_while_pending, woken_then_ready, both_dropped_while_pending}
+use Rattle.oneshot_law_examples.specs.Notation.{Example, receiver, frees, without_block, carrying, replying, up_to, without, twice, put_behind, answered_by, unmoved_by, uncarried_by, carried_by}
+use Rattle.oneshot_law_examples.specs.HistoryExamples.{acting_in, is_legal_trace}
+use Rattle.oneshot_law_examples.specs.LawExamples.{marks_in, is_block_right, are_lone_replies_right, fails_at, is_right}
+use Rattle.oneshot_law_examples.specs.WaitExamples.{told_by}
+use Rattle.oneshot_law_examples.specs.TimedExamples.{received_by}
+use Rattle.oneshot_law_examples.specs.UnwokenExamples.{up, aheads_by}
+use Rattle.oneshot_law_examples.specs.FutureTraces.{dropped_while_finishing, polled_while_finishing, copy_refused, polled_by_another_task, sent_before_pending, sent_while_polling, sent_while_replacing, dropped_while_pending, woken_then_ready, both_dropped_while_pending}
 
 -- THE RUNS: each trace is what its scripts tell under its moves
 abbrev pub FuturesAreTold : Type 0

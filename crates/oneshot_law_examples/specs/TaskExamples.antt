@@ -8,11 +8,11 @@ use Rattle.oneshot_world.specs.declared.trace.Entry.TheVariants as E
 use Rattle.oneshot_world.specs.declared.trace.Place.TheVariants as P
 use Rattle.oneshot_world.specs.declared.trace.WakerName.TheVariants.{Copy}
 use Rattle.oneshot_world.specs.declared.trace.WakerPlace.TheVariants as W
-use Rattle.oneshot_laws.specs.Notation.{Example, sender, moving, carrying, waking_own, replying, up_to, answered_by, changed_at}
-use Rattle.oneshot_laws.specs.LawExamples.{is_right}
-use Rattle.oneshot_laws.specs.UnwokenExamples.{up, is_woken_in, is_unwoken_behind}
-use Rattle.oneshot_laws.specs.FutureTraces.{dropped_while_finishing, polled_while_finishing, copy_refused, polled_by_another_task, sent_before_pending, sent_while_polling, sent_while_replacing, dropped_while_pending, woken_then_ready, both_dropped_while_pending}
-use Rattle.oneshot_laws.specs.FutureExamples.{kept_the_old_waker, refused_and_silent}
+use Rattle.oneshot_law_examples.specs.Notation.{Example, sender, moving, carrying, waking_own, replying, up_to, answered_by, changed_at}
+use Rattle.oneshot_law_examples.specs.LawExamples.{is_right}
+use Rattle.oneshot_law_examples.specs.UnwokenExamples.{up, is_woken_in, is_unwoken_behind}
+use Rattle.oneshot_law_examples.specs.FutureTraces.{dropped_while_finishing, polled_while_finishing, copy_refused, polled_by_another_task, sent_before_pending, sent_while_polling, sent_while_replacing, dropped_while_pending, woken_then_ready, both_dropped_while_pending}
+use Rattle.oneshot_law_examples.specs.FutureExamples.{kept_the_old_waker, refused_and_silent}
 
 -- The second poll says "pending" and leaves the first task's waker in the cell. The sender then wakes the first task.
 abbrev pub wakes_the_first_task : Example

@@ -9,7 +9,7 @@ use Rattle.oneshot_world.specs.declared.trace.Entry.TheVariants as E
 use Rattle.oneshot_world.specs.declared.trace.Place.TheVariants as P
 use Rattle.oneshot_world.specs.declared.trace.WakerName.TheVariants.{Copy}
 use Rattle.oneshot_world.specs.declared.trace.WakerPlace.TheVariants as W
-use Rattle.oneshot_laws.specs.Notation.{Example, sender, receiver, frees, without_block, copied, moving, carrying, waking_own, replying}
+use Rattle.oneshot_law_examples.specs.Notation.{Example, sender, receiver, frees, without_block, copied, moving, carrying, waking_own, replying}
 
 -- S send 7
 -- R future poll 1 drop
