@@ -9,10 +9,10 @@ use Rattle.oneshot_world.specs.declared.trace.Entry.TheVariants as E
 use Rattle.oneshot_world.specs.declared.trace.Place.TheVariants as P
 use Rattle.oneshot_laws.specs.Marks.{Mark, marks}
 use Rattle.oneshot_laws.specs.History.{has_legal_history}
-use Rattle.oneshot_laws.specs.Places.{is_message_followed, is_message_ended, is_message_put}
-use Rattle.oneshot_laws.specs.Wakers.{are_wakers_right, is_cell_kept}
+use Rattle.oneshot_laws.specs.MessagePlaces.{is_message_followed, is_message_ended, is_message_put}
+use Rattle.oneshot_laws.specs.WakerPlaces.{are_wakers_right, is_cell_kept}
 use Rattle.oneshot_laws.specs.Holders.{is_freed_right}
-use Rattle.oneshot_laws.specs.Laws.{is_gone_after_got, is_got_after_full, is_gone_after_closed, is_refused_after_closed, is_nothing_only_if_open, is_dropped_once}
+use Rattle.oneshot_laws.specs.Replies.{is_gone_after_got, is_got_after_full, is_gone_after_closed, is_refused_after_closed, is_nothing_only_if_open, is_dropped_once}
 use Rattle.oneshot_laws.specs.Alone.{are_lone_calls_right}
 use Rattle.oneshot_law_examples.specs.Notation.{Example, without, exchanged, twice, answered_by, unmoved_by, moved_by, finding_at, operating_at, up_to, sender, frees}
 use Rattle.oneshot_law_examples.specs.Traces.{sent_then_taken, nothing_moved, nothing_to_do, sent_to_nobody, both_dropped, dropped_then_tried, looked_at_both_ends, taken_from_the_error, dropped_with_the_error, dropped_unread, tried_again, closed_then_tried, sent_though_closed, received_at_once, waited_for_message, sent_before_waiting, dropped_before_waiting, woken_by_drop, still_waiting}

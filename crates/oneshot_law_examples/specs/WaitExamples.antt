@@ -16,7 +16,7 @@ use Rattle.oneshot_world.specs.declared.trace.Place.{Place}
 use Rattle.oneshot_world.specs.declared.trace.Place.TheVariants as P
 use Rattle.oneshot_world.specs.declared.trace.WakerName.TheVariants.{Parker}
 use Rattle.oneshot_world.specs.declared.trace.WakerPlace.TheVariants as W
-use Rattle.oneshot_laws.specs.Laws.{is_gone_after_got, is_gone_after_closed}
+use Rattle.oneshot_laws.specs.Replies.{is_gone_after_got, is_gone_after_closed}
 use Rattle.oneshot_law_examples.specs.Notation.{Example, move_in, sender, receiver, frees, without_block, carrying, setting_token, replying, up_to, without, exchanged, put_behind, answered_by}
 use Rattle.oneshot_law_examples.specs.Traces.{received_at_once, waited_for_message, sent_before_waiting, dropped_before_waiting, woken_by_drop, still_waiting}
 use Rattle.oneshot_law_examples.specs.HistoryExamples.{acting_in, is_legal_trace}

@@ -18,9 +18,9 @@ use Rattle.oneshot_world.specs.declared.trace.Place.{Place}
 use Rattle.oneshot_world.proofs.Bools.{and_left, and_right}
 use Rattle.oneshot_laws.specs.Marks.{marks, call_under_way}
 use Rattle.oneshot_laws.specs.Object.{Object}
-use Rattle.oneshot_laws.proofs.Legal.{Glance, glance_of, glance_at, glances}
-use Rattle.oneshot_laws.proofs.LegalReader.{Receives, hits, object_as, Reader, Watch, new_reader, watch_at, accepts, reads, reader_code, is_same_reader, reader_is, accepts_alike, reads_alike}
-use Rattle.oneshot_laws.proofs.LegalRuns.{marks_run}
+use Rattle.oneshot_laws.proofs.HistoryAccepted.{Glance, glance_of, glance_at, glances}
+use Rattle.oneshot_laws.proofs.HistoryReader.{Receives, hits, object_as, Reader, Watch, new_reader, watch_at, accepts, reads, reader_code, is_same_reader, reader_is, accepts_alike, reads_alike}
+use Rattle.oneshot_laws.proofs.HistoryRuns.{marks_run}
 use Rattle.oneshot_laws.proofs.Watched.{Watched, Names, no_names, watched_from, all_pass, class_under_way, class_is, reads_same, Accepts_by, left_after, Classed, all_classed, accepted_run}
 
 -- the reader of histories, and the law's own state

@@ -4,7 +4,7 @@ use Rattle.oneshot_machine.specs.declared.machine.End.TheVariants.{Sender, Recei
 use Rattle.oneshot_machine.specs.declared.machine.receiver.ReceiverStart.TheVariants as RC
 use Rattle.oneshot_machine.specs.declared.machine.sender.SenderCall.TheVariants as SC
 use Rattle.oneshot_world.specs.Calls.{Call, Of_sender, Of_receiver, Poll}
-use Rattle.oneshot_laws.specs.Words.{is_same_end, is_word, found}
+use Rattle.oneshot_laws.specs.Entries.{is_same_end, is_word, found}
 use Rattle.oneshot_laws.specs.Marks.{Mark, finishes, side, call_marks, each_call, after_each}
 
 -- at most so many of these marks pass a test

@@ -1,14 +1,15 @@
-pub mod Words
+-- What every trace of two scripts keeps, in reading order.
 pub mod Object
-pub mod Steps
+pub mod Entries
+pub mod Actions
 pub mod Marks
 pub mod History
 pub mod Idle
 pub mod Ended
-pub mod Places
-pub mod Wakers
+pub mod MessagePlaces
+pub mod WakerPlaces
 pub mod Unwoken
 pub mod Holders
-pub mod Laws
+pub mod Replies
 pub mod Alone
 pub mod Bounds

@@ -12,9 +12,9 @@ use Rattle.oneshot_world.specs.World.{by_end}
 use Rattle.oneshot_world.specs.declared.trace.Entry.{Entry}
 use Rattle.oneshot_world.specs.declared.trace.Entry.TheVariants.{Idle, Made as Made_entry}
 use Rattle.oneshot_world.specs.declared.trace.Made.{Made}
-use Rattle.oneshot_laws.specs.Words.{is_same_end, is_nothing_yet, is_word, is_load, is_add_or_xor, is_swap, is_swap_of, found}
+use Rattle.oneshot_laws.specs.Entries.{is_same_end, is_nothing_yet, is_word, is_load, is_add_or_xor, is_swap, is_swap_of, found}
 use Rattle.oneshot_laws.specs.Object.{Object, new_object}
-use Rattle.oneshot_laws.specs.Steps.{action_of, stepped}
+use Rattle.oneshot_laws.specs.Actions.{action_of, stepped}
 
 -- The acting entry of a call is the first, or the last, of its entries that pass a test; a call that is no step of the object has none.
 pub data Rule : Type 0 where

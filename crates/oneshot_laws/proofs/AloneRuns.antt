@@ -10,15 +10,15 @@ use Rattle.oneshot_world.specs.declared.script.ReceiverScript.{ReceiverScript}
 use Rattle.oneshot_world.specs.declared.script.SenderScript.{SenderScript}
 use Rattle.oneshot_world.specs.declared.trace.Entry.{Entry}
 use Rattle.oneshot_world.proofs.Bools.{and_left, and_right, both}
-use Rattle.oneshot_laws.specs.Words.{only_if, is_same_end}
+use Rattle.oneshot_laws.specs.Entries.{only_if, is_same_end}
 use Rattle.oneshot_laws.specs.Object.{Object, is_same_object}
-use Rattle.oneshot_laws.specs.Steps.{action_of, stepped}
+use Rattle.oneshot_laws.specs.Actions.{action_of, stepped}
 use Rattle.oneshot_laws.specs.Marks.{Mark, marks, side, ends}
 use Rattle.oneshot_laws.specs.History.{agrees}
 use Rattle.oneshot_laws.specs.Alone.{lone_reply, is_lone_call, are_lone_calls_right}
 use Rattle.oneshot_laws.proofs.Glanced.{Pair, Passes, Nameless, of_call, glanced_from, all_glanced, passes_run}
-use Rattle.oneshot_laws.proofs.Legal.{Glance, glance_of}
-use Rattle.oneshot_laws.proofs.LegalReader.{object_code, object_is}
+use Rattle.oneshot_laws.proofs.HistoryAccepted.{Glance, glance_of}
+use Rattle.oneshot_laws.proofs.HistoryReader.{object_code, object_is}
 use Rattle.oneshot_laws.proofs.Watched.{Watched, no_names}
 
 -- the call beside which the other end has made no step, and the object on which it began

@@ -11,15 +11,15 @@ use Rattle.oneshot_world.specs.declared.script.SenderScript.{SenderScript}
 use Rattle.oneshot_world.specs.declared.trace.Entry.{Entry}
 use Rattle.oneshot_world.proofs.Bools.{and_left, and_right, both}
 use Rattle.oneshot_world.proofs.Coded.{bool_is}
-use Rattle.oneshot_laws.specs.Words.{only_if, is_word, is_on_a_cell, is_free}
+use Rattle.oneshot_laws.specs.Entries.{only_if, is_word, is_on_a_cell, is_free}
 use Rattle.oneshot_laws.specs.Marks.{Mark, marks}
 use Rattle.oneshot_laws.specs.Ended.{all_ended}
 use Rattle.oneshot_laws.specs.Holders.{Holders, both_hold, holds, other, is_here, uses_block, frees, is_held, is_free_last, is_freed, is_freed_at_end, is_freed_right}
 use Rattle.oneshot_laws.specs.Object.{is_same_flag}
-use Rattle.oneshot_laws.proofs.Codes.{flag_is}
-use Rattle.oneshot_laws.proofs.AtTheEnd.{Kept, own_after, nothing_asked, kept_from, all_kept, at_the_end, or_more}
+use Rattle.oneshot_laws.proofs.Coding.{flag_is}
+use Rattle.oneshot_laws.proofs.EndedRuns.{Kept, own_after, nothing_asked, kept_from, all_kept, at_the_end, or_more}
 use Rattle.oneshot_laws.proofs.Glanced.{Pair, Passes, Nameless, of_call, glanced_from, all_glanced, passes_run}
-use Rattle.oneshot_laws.proofs.Legal.{Glance, glance_of}
+use Rattle.oneshot_laws.proofs.HistoryAccepted.{Glance, glance_of}
 use Rattle.oneshot_laws.proofs.Watched.{Watched, no_names}
 
 abbrev uses : Glance → Bool

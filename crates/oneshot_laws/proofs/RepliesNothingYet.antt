@@ -14,12 +14,12 @@ use Rattle.oneshot_world.specs.declared.script.SenderScript.{SenderScript}
 use Rattle.oneshot_world.specs.declared.trace.Entry.{Entry}
 use Rattle.oneshot_world.proofs.Bools.{and_left, and_right, both}
 use Rattle.oneshot_world.proofs.Coded.{bool_is}
-use Rattle.oneshot_laws.specs.Words.{only_if, is_nothing_yet, is_same_end}
+use Rattle.oneshot_laws.specs.Entries.{only_if, is_nothing_yet, is_same_end}
 use Rattle.oneshot_laws.specs.Object.{is_open}
 use Rattle.oneshot_laws.specs.Marks.{Mark, marks, side, call_marks, until_reply}
-use Rattle.oneshot_laws.specs.Laws.{is_nothing_only_if_open}
+use Rattle.oneshot_laws.specs.Replies.{is_nothing_only_if_open}
 use Rattle.oneshot_laws.proofs.Glanced.{Pair, Passes, Nameless, of_call, glanced_from, all_glanced, passes_run}
-use Rattle.oneshot_laws.proofs.Legal.{Glance, glance_of}
+use Rattle.oneshot_laws.proofs.HistoryAccepted.{Glance, glance_of}
 use Rattle.oneshot_laws.proofs.Watched.{Watched, no_names}
 
 -- whether each end's call under way has met an open object

@@ -8,15 +8,16 @@ use Rattle.oneshot_world.specs.declared.trace.Entry.TheVariants.{Idle, Made as M
 use Rattle.oneshot_world.specs.declared.trace.Made.{Made}
 use Rattle.oneshot_world.specs.declared.trace.Place.{Place}
 use Rattle.oneshot_world.specs.declared.trace.Place.TheVariants.{NotSent, InCell, InError, Delivered, FromError, Dropped}
-use Rattle.oneshot_laws.specs.Words.{only_if, is_reply}
-use Rattle.oneshot_laws.specs.Steps.{is_send, is_receive, is_into_inner, is_drop_of_receiver, is_drop_of_error}
+use Rattle.oneshot_laws.specs.Entries.{only_if, is_reply}
+use Rattle.oneshot_laws.specs.Actions.{is_send, is_receive, is_into_inner, is_drop_of_receiver, is_drop_of_error}
 use Rattle.oneshot_laws.specs.Marks.{Mark}
 use Rattle.oneshot_laws.specs.Ended.{all_ended}
 
-abbrev pub steps : List Entry → List Made
-steps [] = []
-steps (Idle side ∷ entries) = steps entries
-steps (Made_entry e ∷ entries) = e ∷ steps entries
+-- the trace without its idle entries
+abbrev pub made_entries : List Entry → List Made
+made_entries [] = []
+made_entries (Idle side ∷ entries) = made_entries entries
+made_entries (Made_entry e ∷ entries) = e ∷ made_entries entries
 
 -- A path: each move leaves the place where the thing is, and is allowed.
 abbrev pub is_path : {P : Type 0} → (P → P → Bool) → (P → P → Bool) → P → List (P × P) → Bool
@@ -49,7 +50,7 @@ is_message_move InError Dropped = true
 is_message_move _ _ = false
 
 abbrev pub message_moves : List Entry → List (Place × Place)
-message_moves entries = filter_map (λ e. e.message) (steps entries)
+message_moves entries = filter_map (λ e. e.message) (made_entries entries)
 
 -- whether the scripts have a message
 abbrev pub has_message : Calls → Bool

@@ -12,14 +12,14 @@ use Rattle.oneshot_world.specs.declared.trace.Entry.{Entry}
 use Rattle.oneshot_world.specs.declared.trace.Place.{Place}
 use Rattle.oneshot_world.specs.declared.trace.Place.TheVariants.{NotSent, InCell, InError, Delivered, FromError, Dropped}
 use Rattle.oneshot_world.proofs.Bools.{both}
-use Rattle.oneshot_laws.specs.Words.{is_reply}
+use Rattle.oneshot_laws.specs.Entries.{is_reply}
 use Rattle.oneshot_laws.specs.Object.{is_same_flag}
-use Rattle.oneshot_laws.specs.Steps.{is_send, is_receive, is_into_inner, is_drop_of_receiver, is_drop_of_error}
+use Rattle.oneshot_laws.specs.Actions.{is_send, is_receive, is_into_inner, is_drop_of_receiver, is_drop_of_error}
 use Rattle.oneshot_laws.specs.Marks.{Mark, marks}
-use Rattle.oneshot_laws.specs.Places.{is_message_put}
-use Rattle.oneshot_laws.proofs.Codes.{flag_is}
+use Rattle.oneshot_laws.specs.MessagePlaces.{is_message_put}
+use Rattle.oneshot_laws.proofs.Coding.{flag_is}
 use Rattle.oneshot_laws.proofs.Glanced.{Pair, Passes, Nameless, of_call, glanced_from, all_glanced, passes_run}
-use Rattle.oneshot_laws.proofs.Legal.{Glance, glance_of}
+use Rattle.oneshot_laws.proofs.HistoryAccepted.{Glance, glance_of}
 use Rattle.oneshot_laws.proofs.Watched.{Watched, no_names}
 
 abbrev may_put : Glance → Place → Bool

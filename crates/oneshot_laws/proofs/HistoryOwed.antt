@@ -9,13 +9,13 @@ use Rattle.oneshot_world.specs.declared.trace.Entry.{Entry}
 use Rattle.oneshot_world.specs.declared.trace.Entry.TheVariants.{Idle, Made as Made_entry}
 use Rattle.oneshot_world.specs.declared.trace.Made.{Made}
 use Rattle.oneshot_world.proofs.Bools.{and_left, and_right}
-use Rattle.oneshot_laws.specs.Words.{is_same_end, says_nothing_yet, is_nothing_yet}
+use Rattle.oneshot_laws.specs.Entries.{is_same_end, says_nothing_yet, is_nothing_yet}
 use Rattle.oneshot_laws.specs.Object.{Object, Content}
-use Rattle.oneshot_laws.specs.Steps.{nothing_yet_of}
+use Rattle.oneshot_laws.specs.Actions.{nothing_yet_of}
 use Rattle.oneshot_laws.specs.Marks.{until_reply, to_reply, reply_among, call_under_way, works_on_word, finds_full_or_closed}
 use Rattle.oneshot_laws.specs.History.{agrees}
-use Rattle.oneshot_laws.proofs.Codes.{reply_is}
-use Rattle.oneshot_laws.proofs.LegalReader.{Kind, Acts_first, Receives, Answers_always, Is_none, kind, Watch, Reader, due, hit, owed, owes_then, watch_at, pays, may_say, pays_receive, may_owe, has_reply, accepts_as, accepts_call, accepts, reads, hits}
+use Rattle.oneshot_laws.proofs.Coding.{reply_is}
+use Rattle.oneshot_laws.proofs.HistoryReader.{Kind, Acts_first, Receives, Answers_always, Is_none, kind, Watch, Reader, due, hit, owed, owes_then, watch_at, pays, may_say, pays_receive, may_owe, has_reply, accepts_as, accepts_call, accepts, reads, hits}
 use Rattle.oneshot_laws.proofs.Watched.{Accepts, left_after}
 
 abbrev pub Accepted : Reader → Unanswered → Unanswered → List Entry → Type 0

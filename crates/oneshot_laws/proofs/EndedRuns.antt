@@ -13,13 +13,13 @@ use Rattle.oneshot_world.specs.declared.trace.Entry.{Entry}
 use Rattle.oneshot_world.specs.declared.trace.Place.{Place}
 use Rattle.oneshot_world.proofs.Bools.{and_left, and_right}
 use Rattle.oneshot_world.proofs.Coded.{bool_is}
-use Rattle.oneshot_laws.specs.Words.{only_if, is_reply}
-use Rattle.oneshot_laws.specs.Steps.{is_end_of_sender, is_end_of_receiver, is_end_of_error}
+use Rattle.oneshot_laws.specs.Entries.{only_if, is_reply}
+use Rattle.oneshot_laws.specs.Actions.{is_end_of_sender, is_end_of_receiver, is_end_of_error}
 use Rattle.oneshot_laws.specs.Marks.{Mark, marks}
 use Rattle.oneshot_laws.specs.Ended.{has_answered, is_refused, all_ended}
 use Rattle.oneshot_laws.proofs.Glanced.{Pair, Passes, as_glance, of_call, pair_accepts, pair_reads, pair_names, glanced_from, all_glanced, passes_by}
-use Rattle.oneshot_laws.proofs.Legal.{Glance, glance_of}
-use Rattle.oneshot_laws.proofs.LegalReader.{new_reader}
+use Rattle.oneshot_laws.proofs.HistoryAccepted.{Glance, glance_of}
+use Rattle.oneshot_laws.proofs.HistoryReader.{new_reader}
 use Rattle.oneshot_laws.proofs.Watched.{Watched, Names, no_names, Classed, all_classed}
 
 -- which calls have answered that end something, and what is kept besides

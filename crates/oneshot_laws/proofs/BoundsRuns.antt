@@ -17,11 +17,11 @@ use Rattle.oneshot_world.specs.declared.trace.Entry.{Entry}
 use Rattle.oneshot_world.specs.declared.trace.Made.{Made}
 use Rattle.oneshot_world.proofs.Bools.{and_left, and_right, both}
 use Rattle.oneshot_world.proofs.Coded.{bool_is}
-use Rattle.oneshot_laws.specs.Words.{is_same_end, is_word, found}
+use Rattle.oneshot_laws.specs.Entries.{is_same_end, is_word, found}
 use Rattle.oneshot_laws.specs.Marks.{Mark, marks, side, call_marks, until_reply}
 use Rattle.oneshot_laws.specs.Bounds.{at_most, is_within_its_bound, is_bounded, are_calls_bounded}
 use Rattle.oneshot_laws.proofs.Glanced.{Pair, Passes, Nameless, of_call, glanced_from, all_glanced, passes_run}
-use Rattle.oneshot_laws.proofs.Legal.{Glance, glance_of}
+use Rattle.oneshot_laws.proofs.HistoryAccepted.{Glance, glance_of}
 use Rattle.oneshot_laws.proofs.Watched.{Watched, no_names}
 
 -- what is counted of a call: its operations on the word, or those alone that did not find 1

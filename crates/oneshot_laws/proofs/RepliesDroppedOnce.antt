@@ -12,14 +12,14 @@ use Rattle.oneshot_world.specs.declared.script.SenderScript.{SenderScript}
 use Rattle.oneshot_world.specs.declared.trace.Entry.{Entry}
 use Rattle.oneshot_world.proofs.Bools.{and_left, and_right}
 use Rattle.oneshot_world.proofs.Coded.{bool_is, same_by}
-use Rattle.oneshot_laws.specs.Words.{only_if}
-use Rattle.oneshot_laws.specs.Steps.{is_receive, is_send, is_drop_of_receiver}
+use Rattle.oneshot_laws.specs.Entries.{only_if}
+use Rattle.oneshot_laws.specs.Actions.{is_receive, is_send, is_drop_of_receiver}
 use Rattle.oneshot_laws.specs.Marks.{Mark, marks}
 use Rattle.oneshot_laws.specs.Ended.{has_answered}
-use Rattle.oneshot_laws.specs.Laws.{answers, is_dropped, is_dropping, is_one_by_receiver, is_dropped_once}
-use Rattle.oneshot_laws.proofs.Afterwards.{told}
+use Rattle.oneshot_laws.specs.Replies.{answers, is_dropped, is_dropping, is_one_by_receiver, is_dropped_once}
+use Rattle.oneshot_laws.proofs.RepliesAfterwards.{told}
 use Rattle.oneshot_laws.proofs.Glanced.{Pair, Passes, Nameless, of_call, glanced_from, all_glanced, passes_run}
-use Rattle.oneshot_laws.proofs.Legal.{Glance, glance_of}
+use Rattle.oneshot_laws.proofs.HistoryAccepted.{Glance, glance_of}
 use Rattle.oneshot_laws.proofs.Watched.{Watched, no_names}
 
 -- how the message was dropped so far

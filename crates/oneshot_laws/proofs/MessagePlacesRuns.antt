@@ -18,16 +18,16 @@ use Rattle.oneshot_world.specs.declared.trace.Place.{Place}
 use Rattle.oneshot_world.specs.declared.trace.Place.TheVariants.{NotSent}
 use Rattle.oneshot_world.proofs.Bools.{and_left, and_right, both}
 use Rattle.oneshot_world.proofs.Coded.{bool_is}
-use Rattle.oneshot_laws.specs.Words.{only_if}
+use Rattle.oneshot_laws.specs.Entries.{only_if}
 use Rattle.oneshot_laws.specs.Object.{Object}
-use Rattle.oneshot_laws.specs.Steps.{is_send}
+use Rattle.oneshot_laws.specs.Actions.{is_send}
 use Rattle.oneshot_laws.specs.Marks.{Reading, Mark, marks, marks_from}
 use Rattle.oneshot_laws.specs.Ended.{all_ended}
-use Rattle.oneshot_laws.specs.Places.{is_path, last_place, place_code, is_same_place, is_message_move, message_moves, is_message_followed, last_message_place, is_message_end, is_message_ended}
-use Rattle.oneshot_laws.proofs.AtTheEnd.{Kept, own_after, nothing_asked, kept_from, all_kept, at_the_end, or_more, or_false}
-use Rattle.oneshot_laws.proofs.Codes.{place_is, some_place_code, is_same_some_place, some_place_is}
+use Rattle.oneshot_laws.specs.MessagePlaces.{is_path, last_place, place_code, is_same_place, is_message_move, message_moves, is_message_followed, last_message_place, is_message_end, is_message_ended}
+use Rattle.oneshot_laws.proofs.EndedRuns.{Kept, own_after, nothing_asked, kept_from, all_kept, at_the_end, or_more, or_false}
+use Rattle.oneshot_laws.proofs.Coding.{place_is, some_place_code, is_same_some_place, some_place_is}
 use Rattle.oneshot_laws.proofs.Glanced.{Pair, Passes, Nameless, as_glance, of_call, glanced_from, all_glanced, passes_run}
-use Rattle.oneshot_laws.proofs.Legal.{Glance, glance_of}
+use Rattle.oneshot_laws.proofs.HistoryAccepted.{Glance, glance_of}
 use Rattle.oneshot_laws.proofs.Watched.{Watched, no_names}
 
 -- the moves that marks show

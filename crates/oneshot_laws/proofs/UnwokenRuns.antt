@@ -26,16 +26,16 @@ use Rattle.oneshot_world.proofs.Explored.{passes_where_found}
 use Rattle.oneshot_world.proofs.Reached.{sender_world, receiver_world, opening_reached}
 use Rattle.oneshot_world.proofs.Turned.{Turned, sender_idle, sender_made, receiver_idle, receiver_made, turned, turned_reaches}
 use Rattle.oneshot_laws.specs.Object.{Object, is_same_flag}
-use Rattle.oneshot_laws.specs.Steps.{is_end_of_sender}
+use Rattle.oneshot_laws.specs.Actions.{is_end_of_sender}
 use Rattle.oneshot_laws.specs.Marks.{Reading, read, Mark, marks, marks_from, sender_reading, receiver_reading, call_under_way}
 use Rattle.oneshot_laws.specs.Ended.{has_answered}
 use Rattle.oneshot_world.specs.Ahead.{Ahead, is_some_park, ahead_of}
 use Rattle.oneshot_laws.specs.Unwoken.{waits_in_park, waits_in_task, is_unwoken, is_never_unwoken, NeverUnwoken}
-use Rattle.oneshot_laws.proofs.Codes.{flag_is}
-use Rattle.oneshot_laws.proofs.AtTheEnd.{or_more, or_false}
+use Rattle.oneshot_laws.proofs.Coding.{flag_is}
+use Rattle.oneshot_laws.proofs.EndedRuns.{or_more, or_false}
 use Rattle.oneshot_laws.proofs.Watched.{Watched, no_names, watched_from, watched_code, is_same_watched, all_pass, class_under_way, class_is, reads_entry, all_classed, IsFound, watched_is, found_next, opening_found}
 use Rattle.oneshot_laws.proofs.Glanced.{of_call}
-use Rattle.oneshot_laws.proofs.Tasks.{no_task_waits}
+use Rattle.oneshot_laws.proofs.UnwokenTasks.{no_task_waits}
 
 -- the reader keeps whether the sender's last call has answered
 abbrev all_are_fine : End → Call → Made → Bool → Bool

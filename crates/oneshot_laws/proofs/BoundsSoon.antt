@@ -15,12 +15,12 @@ use Rattle.oneshot_world.specs.declared.trace.Entry.{Entry}
 use Rattle.oneshot_world.specs.declared.trace.Made.{Made}
 use Rattle.oneshot_world.proofs.Bools.{and_left, and_right, both}
 use Rattle.oneshot_world.proofs.Coded.{bool_is}
-use Rattle.oneshot_laws.specs.Words.{is_same_end, is_word}
+use Rattle.oneshot_laws.specs.Entries.{is_same_end, is_word}
 use Rattle.oneshot_laws.specs.Marks.{Mark, marks, finishes, call_marks, until_reply}
 use Rattle.oneshot_laws.specs.Bounds.{at_most, operates, is_senders_last, each_move, answers_soon, is_soon_answered}
-use Rattle.oneshot_laws.proofs.CallBounds.{can, spend, pay, no_more}
+use Rattle.oneshot_laws.proofs.BoundsRuns.{can, spend, pay, no_more}
 use Rattle.oneshot_laws.proofs.Glanced.{Pair, Passes, Nameless, glanced_from, all_glanced, passes_run}
-use Rattle.oneshot_laws.proofs.Legal.{Glance, glance_of}
+use Rattle.oneshot_laws.proofs.HistoryAccepted.{Glance, glance_of}
 use Rattle.oneshot_laws.proofs.Watched.{Watched, no_names}
 
 -- whether the sender is done with the word, and what the receiver's call has left since

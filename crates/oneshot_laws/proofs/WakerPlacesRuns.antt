@@ -22,16 +22,16 @@ use Rattle.oneshot_world.proofs.Bools.{and_left, and_right, both}
 use Rattle.oneshot_world.proofs.Coded.{same_by}
 use Rattle.oneshot_world.proofs.Left.{or_right}
 use Rattle.oneshot_world.proofs.Listed.{is_listed}
-use Rattle.oneshot_laws.specs.Words.{only_if}
+use Rattle.oneshot_laws.specs.Entries.{only_if}
 use Rattle.oneshot_laws.specs.Object.{Object, is_same_flag}
 use Rattle.oneshot_laws.specs.Marks.{Reading, Mark, marks, marks_from}
 use Rattle.oneshot_laws.specs.Ended.{all_ended}
-use Rattle.oneshot_laws.specs.Places.{is_path, last_place}
-use Rattle.oneshot_laws.specs.Wakers.{waker_place_code, is_same_waker_place, is_waker_move, first_waker_place, waker_moves, moves_of, is_waker_followed, is_waker_end, is_waker_ended, AreWakersRight, is_cell, cell_then, is_cell_right, is_cell_kept}
-use Rattle.oneshot_laws.proofs.Codes.{flag_is}
-use Rattle.oneshot_laws.proofs.AtTheEnd.{Kept, own_after, kept_from, all_kept, KeptClassed, asked_run, ended_run}
+use Rattle.oneshot_laws.specs.MessagePlaces.{is_path, last_place}
+use Rattle.oneshot_laws.specs.WakerPlaces.{waker_place_code, is_same_waker_place, is_waker_move, first_waker_place, waker_moves, moves_of, is_waker_followed, is_waker_end, is_waker_ended, AreWakersRight, is_cell, cell_then, is_cell_right, is_cell_kept}
+use Rattle.oneshot_laws.proofs.Coding.{flag_is}
+use Rattle.oneshot_laws.proofs.EndedRuns.{Kept, own_after, kept_from, all_kept, KeptClassed, asked_run, ended_run}
 use Rattle.oneshot_laws.proofs.Glanced.{Pair, Passes, Nameless, as_glance, glanced_from, all_glanced, passes_run}
-use Rattle.oneshot_laws.proofs.Legal.{Glance, glance_of}
+use Rattle.oneshot_laws.proofs.HistoryAccepted.{Glance, glance_of}
 use Rattle.oneshot_laws.proofs.Watched.{Watched, Names, no_names, is_fresh, all_classed}
 
 -- the moves that marks show

@@ -6,9 +6,9 @@ use Rattle.oneshot_machine.specs.declared.machine.Reply.TheVariants as R
 use Rattle.oneshot_world.specs.Calls.{Call}
 use Rattle.oneshot_world.specs.declared.trace.Place.{Place}
 use Rattle.oneshot_world.specs.declared.trace.Place.TheVariants as P
-use Rattle.oneshot_laws.specs.Words.{only_if, is_reply, is_nothing_yet}
+use Rattle.oneshot_laws.specs.Entries.{only_if, is_reply, is_nothing_yet}
 use Rattle.oneshot_laws.specs.Object.{is_open}
-use Rattle.oneshot_laws.specs.Steps.{is_receive, is_send, is_sender_look, is_full_look, is_closed_look, is_drop_of_receiver}
+use Rattle.oneshot_laws.specs.Actions.{is_receive, is_send, is_sender_look, is_full_look, is_closed_look, is_drop_of_receiver}
 use Rattle.oneshot_laws.specs.Marks.{Mark, after_each, each_call}
 use Rattle.oneshot_laws.specs.History.{agrees}
 use Rattle.oneshot_laws.specs.Ended.{has_answered}

@@ -7,9 +7,9 @@ use Rattle.oneshot_world.specs.declared.trace.WakerName.{WakerName}
 use Rattle.oneshot_world.specs.declared.trace.WakerName.TheVariants.{Parker, Copy}
 use Rattle.oneshot_world.specs.declared.trace.WakerPlace.{WakerPlace}
 use Rattle.oneshot_world.specs.declared.trace.WakerPlace.TheVariants.{New, Hand, Cell, SenderHand, Used, Dropped}
-use Rattle.oneshot_laws.specs.Words.{only_if}
+use Rattle.oneshot_laws.specs.Entries.{only_if}
 use Rattle.oneshot_laws.specs.Marks.{Mark}
-use Rattle.oneshot_laws.specs.Places.{steps, is_path, last_place}
+use Rattle.oneshot_laws.specs.MessagePlaces.{made_entries, is_path, last_place}
 use Rattle.oneshot_laws.specs.Ended.{all_ended}
 
 abbrev pub waker_place_code : WakerPlace → ℕ
@@ -40,7 +40,7 @@ first_waker_place Parker = Hand
 first_waker_place (Copy number entry) = New
 
 abbrev pub waker_moves : List Entry → List WakerMove
-waker_moves entries = filter_map (λ e. e.waker) (steps entries)
+waker_moves entries = filter_map (λ e. e.waker) (made_entries entries)
 
 -- the moves of one waker
 abbrev pub move_of : WakerName → WakerMove → Option (WakerPlace × WakerPlace)

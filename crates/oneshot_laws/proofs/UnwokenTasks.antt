@@ -19,15 +19,15 @@ use Rattle.oneshot_world.specs.declared.trace.WakerPlace.TheVariants as W
 use Rattle.oneshot_world.proofs.Bools.{and_left, and_right, both}
 use Rattle.oneshot_world.proofs.Coded.{bool_is, same_by}
 use Rattle.oneshot_world.proofs.Listed.{is_listed}
-use Rattle.oneshot_laws.specs.Words.{is_reply}
-use Rattle.oneshot_laws.specs.Steps.{is_end_of_sender, is_drop_of_receiver}
+use Rattle.oneshot_laws.specs.Entries.{is_reply}
+use Rattle.oneshot_laws.specs.Actions.{is_end_of_sender, is_drop_of_receiver}
 use Rattle.oneshot_laws.specs.Marks.{Mark, marks}
 use Rattle.oneshot_laws.specs.Ended.{has_answered}
 use Rattle.oneshot_laws.specs.Unwoken.{uses_copy_of, is_own, wakes, is_poll, begins_poll_or_drop, answers_pending, is_left_by, waits_in_task}
 use Rattle.oneshot_machine.specs.declared.machine.Reply.TheVariants as R
-use Rattle.oneshot_laws.proofs.AtTheEnd.{own_after, or_more, or_false}
+use Rattle.oneshot_laws.proofs.EndedRuns.{own_after, or_more, or_false}
 use Rattle.oneshot_laws.proofs.Glanced.{Pair, Passes, as_glance, of_call, pair_accepts, pair_reads, pair_names, glanced_from, all_glanced, passes_by}
-use Rattle.oneshot_laws.proofs.Legal.{Glance, glance_of}
+use Rattle.oneshot_laws.proofs.HistoryAccepted.{Glance, glance_of}
 use Rattle.oneshot_laws.proofs.Watched.{Watched, Names, Classed}
 
 -- of the last poll: none of the number that waits, one under way, or one that left its task; nothing woke it since it began

@@ -13,12 +13,12 @@ use Rattle.oneshot_world.specs.Control.{bool_code}
 use Rattle.oneshot_world.specs.declared.trace.Made.{Made}
 use Rattle.oneshot_world.proofs.Bools.{and_left, and_right}
 use Rattle.oneshot_world.proofs.Coded.{bool_is}
-use Rattle.oneshot_laws.specs.Words.{is_same_reply, says_nothing_yet}
+use Rattle.oneshot_laws.specs.Entries.{is_same_reply, says_nothing_yet}
 use Rattle.oneshot_laws.specs.Object.{Object, Content, new_object, is_open, content_code, is_same_flag, is_same_object}
-use Rattle.oneshot_laws.specs.Steps.{action_of, nothing_yet_of, reply_on, stepped, fixed_reply_of}
+use Rattle.oneshot_laws.specs.Actions.{action_of, nothing_yet_of, reply_on, stepped, fixed_reply_of}
 use Rattle.oneshot_laws.specs.Marks.{loads, finishes, swaps_closed_in, works_on_word, finds_full_or_closed, until_reply}
 use Rattle.oneshot_laws.specs.History.{agrees}
-use Rattle.oneshot_laws.proofs.Codes.{content_is, flag_is, answer_code, answer_is}
+use Rattle.oneshot_laws.proofs.Coding.{content_is, flag_is, answer_code, answer_is}
 
 -- how a call acts: at its first entry that passes a test, as a receive does, or never, with a reply that is always the same
 pub data Kind : Type 0 where

@@ -1,4 +1,4 @@
--- Each call as a step of the object, and how its reply reads the object's answer.
+-- Each call as an action of the object, how its reply reads the answer, and the kinds of calls.
 use Rattle.std.specs.Prelude.{Bool, true, false, Option, Some, None}
 use Rattle.oneshot_machine.specs.declared.machine.Reply.{Reply}
 use Rattle.oneshot_machine.specs.declared.machine.Reply.TheVariants as R

@@ -12,15 +12,15 @@ use Rattle.oneshot_world.specs.declared.script.ReceiverScript.{ReceiverScript}
 use Rattle.oneshot_world.specs.declared.script.SenderScript.{SenderScript}
 use Rattle.oneshot_world.specs.declared.trace.Entry.{Entry}
 use Rattle.oneshot_world.proofs.Bools.{both}
-use Rattle.oneshot_laws.specs.Words.{only_if, is_reply}
+use Rattle.oneshot_laws.specs.Entries.{only_if, is_reply}
 use Rattle.oneshot_laws.specs.Object.{is_same_flag}
-use Rattle.oneshot_laws.specs.Steps.{is_receive, is_send, is_sender_look, is_closed_look}
+use Rattle.oneshot_laws.specs.Actions.{is_receive, is_send, is_sender_look, is_closed_look}
 use Rattle.oneshot_laws.specs.Marks.{Mark, marks, after_each}
 use Rattle.oneshot_laws.specs.History.{agrees}
-use Rattle.oneshot_laws.specs.Laws.{is_gone_after_got, is_gone_after_closed, is_refused_after_closed}
-use Rattle.oneshot_laws.proofs.Codes.{flag_is}
+use Rattle.oneshot_laws.specs.Replies.{is_gone_after_got, is_gone_after_closed, is_refused_after_closed}
+use Rattle.oneshot_laws.proofs.Coding.{flag_is}
 use Rattle.oneshot_laws.proofs.Glanced.{Pair, Passes, Nameless, of_call, glanced_from, all_glanced, passes_run}
-use Rattle.oneshot_laws.proofs.Legal.{Glance, glance_of}
+use Rattle.oneshot_laws.proofs.HistoryAccepted.{Glance, glance_of}
 use Rattle.oneshot_laws.proofs.Watched.{Watched, no_names}
 
 -- a call that answers so, and a call that answers so if it answers

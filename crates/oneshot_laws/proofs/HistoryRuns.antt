@@ -10,9 +10,9 @@ use Rattle.oneshot_world.specs.declared.script.SenderScript.{SenderScript}
 use Rattle.oneshot_world.specs.declared.trace.Entry.{Entry}
 use Rattle.oneshot_laws.specs.Marks.{marks, sender_reading, receiver_reading, call_under_way}
 use Rattle.oneshot_laws.specs.History.{has_legal_history}
-use Rattle.oneshot_laws.proofs.LegalReader.{Reader, new_reader, new_watch, accepts, reads, reader_code, is_same_reader, reader_is, accepts_alike, reads_alike}
-use Rattle.oneshot_laws.proofs.Legal.{FollowsAt, MarksRight, glances, all_right, legal}
-use Rattle.oneshot_laws.proofs.Owes.{Accepted}
+use Rattle.oneshot_laws.proofs.HistoryReader.{Reader, new_reader, new_watch, accepts, reads, reader_code, is_same_reader, reader_is, accepts_alike, reads_alike}
+use Rattle.oneshot_laws.proofs.HistoryAccepted.{FollowsAt, MarksRight, glances, all_right, legal}
+use Rattle.oneshot_laws.proofs.HistoryOwed.{Accepted}
 use Rattle.oneshot_laws.proofs.Watched.{Watched, no_names, watched_from, all_pass, alike, all_classed, accepted_run}
 
 found : Tree (Watched Reader)

@@ -12,14 +12,14 @@ use Rattle.oneshot_world.specs.declared.trace.Entry.{Entry}
 use Rattle.oneshot_world.specs.declared.trace.Entry.TheVariants.{Idle, Made as Made_entry}
 use Rattle.oneshot_world.specs.declared.trace.Made.{Made}
 use Rattle.oneshot_world.proofs.Bools.{and_left, and_right, both}
-use Rattle.oneshot_laws.specs.Words.{only_if, says_nothing_yet, is_nothing_yet}
+use Rattle.oneshot_laws.specs.Entries.{only_if, says_nothing_yet, is_nothing_yet}
 use Rattle.oneshot_laws.specs.Object.{Object, Content, Open, Full, Closed, Take, is_open, object_after}
-use Rattle.oneshot_laws.specs.Steps.{action_of, nothing_yet_of, reply_on, stepped, fixed_reply_of, is_stray, is_end_of_sender, is_end_of_receiver}
+use Rattle.oneshot_laws.specs.Actions.{action_of, nothing_yet_of, reply_on, stepped, fixed_reply_of, is_stray, is_end_of_sender, is_end_of_receiver}
 use Rattle.oneshot_laws.specs.Marks.{Rule, First, Last, Never, rule, acts, has_acted, receive_rule, works_on_word, finds_full_or_closed, until_reply, to_reply, reply_among, Reading, read_by, Mark, loads, finishes, swaps_closed_in, mark_at, marks_from, call_under_way, object_then, ends}
 use Rattle.oneshot_laws.specs.History.{agrees, object_reply, is_object_step, is_legal, is_complete, is_right_outside, is_covered, history, has_legal_history}
 use Rattle.oneshot_laws.specs.Holders.{acts_last}
-use Rattle.oneshot_laws.proofs.LegalReader.{Receives, kind, Watch, Reader, due, hit, hits, owed, owes_then, object_if, object_by, watch_at, pays, may_say, pays_receive, may_owe, has_reply, accepts_call, reads}
-use Rattle.oneshot_laws.proofs.Owes.{Accepted, Goes_on, answer_from, answer_pays, pays_in, answer_says, says_in, fine_as, not_owed}
+use Rattle.oneshot_laws.proofs.HistoryReader.{Receives, kind, Watch, Reader, due, hit, hits, owed, owes_then, object_if, object_by, watch_at, pays, may_say, pays_receive, may_owe, has_reply, accepts_call, reads}
+use Rattle.oneshot_laws.proofs.HistoryOwed.{Accepted, Goes_on, answer_from, answer_pays, pays_in, answer_says, says_in, fine_as, not_owed}
 use Rattle.oneshot_laws.proofs.Watched.{left_after}
 
 -- one more entry of a call

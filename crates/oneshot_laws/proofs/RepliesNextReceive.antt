@@ -10,15 +10,15 @@ use Rattle.oneshot_world.specs.declared.script.ReceiverScript.{ReceiverScript}
 use Rattle.oneshot_world.specs.declared.script.SenderScript.{SenderScript}
 use Rattle.oneshot_world.specs.declared.trace.Entry.{Entry}
 use Rattle.oneshot_world.proofs.Bools.{both}
-use Rattle.oneshot_laws.specs.Words.{only_if, is_reply}
-use Rattle.oneshot_laws.specs.Steps.{is_receive, is_full_look}
+use Rattle.oneshot_laws.specs.Entries.{only_if, is_reply}
+use Rattle.oneshot_laws.specs.Actions.{is_receive, is_full_look}
 use Rattle.oneshot_laws.specs.Marks.{Mark, marks}
-use Rattle.oneshot_laws.specs.Laws.{next_receive_gets, is_got_after_full}
+use Rattle.oneshot_laws.specs.Replies.{next_receive_gets, is_got_after_full}
 use Rattle.oneshot_laws.specs.Object.{is_same_flag}
-use Rattle.oneshot_laws.proofs.Codes.{flag_is}
-use Rattle.oneshot_laws.proofs.Afterwards.{told}
+use Rattle.oneshot_laws.proofs.Coding.{flag_is}
+use Rattle.oneshot_laws.proofs.RepliesAfterwards.{told}
 use Rattle.oneshot_laws.proofs.Glanced.{Pair, Passes, Nameless, of_call, glanced_from, all_glanced, passes_run}
-use Rattle.oneshot_laws.proofs.Legal.{Glance, glance_of}
+use Rattle.oneshot_laws.proofs.HistoryAccepted.{Glance, glance_of}
 use Rattle.oneshot_laws.proofs.Watched.{Watched, no_names}
 
 abbrev full : Glance → Bool
