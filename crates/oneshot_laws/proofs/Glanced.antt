@@ -2,7 +2,9 @@
 use Rattle.std.proofs.Common.{◌≡◌, ℕ, ◌+◌, ◌*◌, Bool, true, ◌&&◌, List, [], ◌∷◌, map, Option, refl, sym, ◌∙◌, ap, subst}
 use Rattle.oneshot_machine.specs.declared.machine.End.{End}
 use Rattle.oneshot_machine.specs.declared.machine.End.TheVariants.{Sender, Receiver}
-use Rattle.oneshot_world.specs.Calls.{Call, Poll, Unanswered, calls_of}
+use Rattle.oneshot_machine.specs.declared.machine.receiver.ReceiverStart.TheVariants as RC
+use Rattle.oneshot_machine.specs.declared.machine.sender.SenderCall.TheVariants as SC
+use Rattle.oneshot_world.specs.Calls.{Call, Of_sender, Of_receiver, Poll, Unanswered, calls_of}
 use Rattle.oneshot_world.specs.Classes.{Classes, all_alike, as_call, as_made}
 use Rattle.oneshot_world.specs.Explore.{Tree}
 use Rattle.oneshot_world.specs.World.{World, Tells, opening, opening_place, by_end}
@@ -16,9 +18,9 @@ use Rattle.oneshot_world.specs.declared.trace.Place.{Place}
 use Rattle.oneshot_world.proofs.Bools.{and_left, and_right}
 use Rattle.oneshot_laws.specs.Marks.{marks, call_under_way}
 use Rattle.oneshot_laws.specs.Object.{Object}
-use Rattle.oneshot_laws.proofs.Legal.{Glance, glance_of, glance_at, glances}
-use Rattle.oneshot_laws.proofs.LegalReader.{Receives, hits, object_as, Reader, Watch, new_reader, watch_at, accepts, reads, reader_code, is_same_reader, reader_is, accepts_alike, reads_alike}
-use Rattle.oneshot_laws.proofs.LegalRuns.{marks_run}
+use Rattle.oneshot_laws.proofs.HistoryAccepted.{Glance, glance_of, glance_at, glances}
+use Rattle.oneshot_laws.proofs.HistoryReader.{Receives, hits, object_as, Reader, Watch, new_reader, watch_at, accepts, reads, reader_code, is_same_reader, reader_is, accepts_alike, reads_alike}
+use Rattle.oneshot_laws.proofs.HistoryRuns.{marks_run}
 use Rattle.oneshot_laws.proofs.Watched.{Watched, Names, no_names, watched_from, all_pass, class_under_way, class_is, reads_same, Accepts_by, left_after, Classed, all_classed, accepted_run}
 
 -- the reader of histories, and the law's own state
@@ -46,6 +48,8 @@ as_glance k g = record g { entry = as_made k g.entry; call = as_call k g.call }
 glance_as : (k : Classes) (call : Call) (e : Made) (o : Object) (x : Watch) → glance_at (as_call k call) (as_made k e) o x ≡ as_glance k (glance_at call e o x)
 glance_as k (Poll number) e o x =
     ap (λ next. record (as_glance k (glance_at (Poll number) e o x)) { next = next }) (object_as k (hits Receives e x) number o)
+glance_as k (Of_sender SC.Send) e o x = refl
+glance_as k (Of_receiver RC.Recv) e o x = refl
 glance_as k _ e o x = refl
 
 -- what is said of a call and not of a poll's number

@@ -12,8 +12,8 @@ use Rattle.oneshot_world.specs.declared.script.SenderScript.{SenderScript}
 use Rattle.oneshot_world.specs.declared.trace.Entry.{Entry}
 use Rattle.oneshot_world.specs.declared.trace.WakerName.TheVariants.{Copy}
 use Rattle.oneshot_world.specs.declared.trace.WakerPlace.TheVariants.{Used}
-use Rattle.oneshot_laws.specs.Words.{is_reply}
-use Rattle.oneshot_laws.specs.Steps.{is_end_of_sender, is_drop_of_receiver}
+use Rattle.oneshot_laws.specs.Entries.{is_reply}
+use Rattle.oneshot_laws.specs.Actions.{is_end_of_sender, is_drop_of_receiver}
 use Rattle.oneshot_laws.specs.Marks.{Mark, marks}
 use Rattle.oneshot_laws.specs.Ended.{has_answered}
 

@@ -1,6 +1,12 @@
 -- What the definitions allow is what the tables make: where an end may stand at each phase, and the law, computed for each.
 use Rattle.std.proofs.Common.{List, [], ◌∷◌, ◌++◌, refl}
-use Rattle.oneshot_machine.specs.declared.machine.receiver.ReceiverPos.TheVariants.{TryLoad, Close, CloseOnly, StartLoad, StartSwap, ParkLoad, TimedLoad, EndSwap, LateLoad, RecvLoad, RecvSwap, RecvParkLoad, Future, DropSwap}
+use Rattle.oneshot_machine.specs.declared.machine.receiver.ReceiverPos.TheVariants.{Look, Ref, Timed, Value, Future, AsyncDrop, Drop}
+use Rattle.oneshot_machine.specs.declared.machine.look.LookPos.TheVariants.{TryLoad, Close, CloseOnly}
+use Rattle.oneshot_machine.specs.declared.machine.by_ref.RefPos.TheVariants.{StartLoad, StartSwap, ParkLoad}
+use Rattle.oneshot_machine.specs.declared.machine.timed.TimedPos.TheVariants.{TimedLoad, EndSwap, LateLoad}
+use Rattle.oneshot_machine.specs.declared.machine.value.ValuePos.TheVariants.{RecvLoad, RecvSwap, RecvParkLoad}
+use Rattle.oneshot_machine.specs.declared.machine.async_drop.AsyncDropPos.TheVariants.{AsyncLoad, AsyncExchange, AsyncSpin}
+use Rattle.oneshot_machine.specs.declared.machine.drop.DropPos.TheVariants.{DropSwap}
 use Rattle.oneshot_machine.specs.declared.machine.future.FuturePos.TheVariants as F
 use Rattle.oneshot_machine.specs.declared.machine.sender.SenderPos.{SenderPos}
 use Rattle.oneshot_machine.specs.declared.machine.sender.SenderPos.TheVariants.{SendAdd, SendFinal, DropXor, DropFinal}
@@ -21,19 +27,19 @@ sender_stands no_sender = []
 
 -- where a receiver may between its calls, and a future
 abbrev calls : List Standpoint
-calls = plainly TryLoad ∷ plainly (StartLoad false) ∷ plainly (StartLoad true) ∷ plainly RecvLoad ∷ plainly DropSwap ∷ []
+calls = plainly (Look TryLoad) ∷ plainly (Ref (StartLoad false)) ∷ plainly (Ref (StartLoad true)) ∷ plainly (Value RecvLoad) ∷ plainly (Drop DropSwap) ∷ []
 
 abbrev polls : List Standpoint
-polls = as_future (Future F.PollLoad) ∷ as_future (Future F.AsyncLoad) ∷ []
+polls = as_future (Future F.PollLoad) ∷ as_future (AsyncDrop AsyncLoad) ∷ []
 
 -- after the load of a call that blocks, of a poll or of a future's drop, too
 abbrev stores : List Standpoint
 stores =
-    plainly (StartSwap false)
-    ∷ plainly (StartSwap true)
-    ∷ plainly RecvSwap
+    plainly (Ref (StartSwap false))
+    ∷ plainly (Ref (StartSwap true))
+    ∷ plainly (Value RecvSwap)
     ∷ as_future (Future F.PollExchange)
-    ∷ as_future DropSwap
+    ∷ as_future (Drop DropSwap)
     ∷ []
 
 -- Where it may at each phase: some are reached in several ways, after which it stands elsewhere.
@@ -42,26 +48,26 @@ receiver_stands first = (calls ++ polls) ∷ []
 receiver_stands (here looked) = (calls ++ polls ++ stores) ∷ []
 receiver_stands (here between) = (calls ++ polls) ∷ []
 receiver_stands (waits blocked) =
-    (plainly ParkLoad ∷ plainly TimedLoad ∷ plainly EndSwap ∷ plainly RecvParkLoad ∷ []) ∷ []
+    (plainly (Ref ParkLoad) ∷ plainly (Timed TimedLoad) ∷ plainly (Timed EndSwap) ∷ plainly (Value RecvParkLoad) ∷ []) ∷ []
 receiver_stands (waits polled) = polls ∷ []
 receiver_stands (waits again) =
-    (as_future (Future F.AgainExchange) ∷ as_future (Future F.AsyncExchange) ∷ polls) ∷ []
+    (as_future (Future F.AgainExchange) ∷ as_future (AsyncDrop AsyncExchange) ∷ polls) ∷ []
 receiver_stands claimed =
-    (as_future (Future F.PollSpin) ∷ as_future (Future F.AsyncSpin) ∷ [])
-    ∷ (as_future (Future F.AsyncSpin) ∷ polls)
+    (as_future (Future F.PollSpin) ∷ as_future (AsyncDrop AsyncSpin) ∷ [])
+    ∷ (as_future (AsyncDrop AsyncSpin) ∷ polls)
     ∷ []
-receiver_stands withdrew = (as_future (Future F.PollExchange) ∷ as_future DropSwap ∷ []) ∷ []
-receiver_stands overdue = (plainly LateLoad ∷ []) ∷ []
-receiver_stands (full at_once) = (plainly Close ∷ as_future Close ∷ as_future DropSwap ∷ []) ∷ []
-receiver_stands (full waited) = (plainly Close ∷ []) ∷ []
-receiver_stands (full (swapped by)) = (plainly Close ∷ []) ∷ []
-receiver_stands (full by_future) = (as_future Close ∷ as_future DropSwap ∷ []) ∷ []
-receiver_stands (full by_poll) = (as_future Close ∷ []) ∷ []
-receiver_stands (unclosed by) = (plainly CloseOnly ∷ []) ∷ []
+receiver_stands withdrew = (as_future (Future F.PollExchange) ∷ as_future (Drop DropSwap) ∷ []) ∷ []
+receiver_stands overdue = (plainly (Timed LateLoad) ∷ []) ∷ []
+receiver_stands (full at_once) = (plainly (Look Close) ∷ as_future (Look Close) ∷ as_future (Drop DropSwap) ∷ []) ∷ []
+receiver_stands (full waited) = (plainly (Look Close) ∷ []) ∷ []
+receiver_stands (full (swapped by)) = (plainly (Look Close) ∷ []) ∷ []
+receiver_stands (full by_future) = (as_future (Look Close) ∷ as_future (Drop DropSwap) ∷ []) ∷ []
+receiver_stands (full by_poll) = (as_future (Look Close) ∷ []) ∷ []
+receiver_stands (unclosed by) = (plainly (Look CloseOnly) ∷ []) ∷ []
 receiver_stands (over closing) =
     (calls ++ polls)
-    ∷ (as_future DropSwap ∷ calls ++ polls)
-    ∷ (as_future DropSwap ∷ polls)
+    ∷ (as_future (Drop DropSwap) ∷ calls ++ polls)
+    ∷ (as_future (Drop DropSwap) ∷ polls)
     ∷ []
 receiver_stands (resolved closing) = polls ∷ []
 receiver_stands gone = [] ∷ []
