@@ -1,5 +1,5 @@
 -- The receiver's table: where each call begins, and the table of each family of positions.
-use Rattle.std.specs.Prelude.{true, false, Option}
+use Rattle.std.specs.Prelude.{true, false, List, [], ◌∷◌, map, Option}
 use Rattle.oneshot_machine.specs.declared.machine.receiver.ReceiverStart.{ReceiverStart}
 use Rattle.oneshot_machine.specs.declared.machine.receiver.ReceiverStart.TheVariants as RS
 use Rattle.oneshot_machine.specs.declared.machine.receiver.ReceiverPos.{ReceiverPos}
@@ -34,6 +34,23 @@ receiver_start RS.IntoFuture = Future IntoFuture
 receiver_start RS.Poll = Future PollLoad
 receiver_start RS.Drop = Drop DropSwap
 receiver_start RS.DropAsync = AsyncDrop AsyncLoad
+
+-- where the calls of a receiver begin that are no looks, and those of a future
+abbrev pub receiver_opens : List ReceiverPos
+receiver_opens =
+    map receiver_start
+    (RS.TryRecv
+    ∷ RS.RecvRef
+    ∷ RS.RecvDeadline
+    ∷ RS.RecvTimeout true
+    ∷ RS.RecvTimeout false
+    ∷ RS.Recv
+    ∷ RS.IntoFuture
+    ∷ RS.Drop
+    ∷ [])
+
+abbrev pub future_opens : List ReceiverPos
+future_opens = map receiver_start (RS.Poll ∷ RS.DropAsync ∷ [])
 
 abbrev pub receiver_step : ReceiverPos → Step
 receiver_step (Look at) = look_step at

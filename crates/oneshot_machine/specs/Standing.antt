@@ -14,7 +14,6 @@ use Rattle.oneshot_machine.specs.declared.machine.look.LookPos.TheVariants.{TryL
 use Rattle.oneshot_machine.specs.declared.machine.by_ref.RefPos.TheVariants.{StartLoad, ParkLoad}
 use Rattle.oneshot_machine.specs.declared.machine.timed.TimedPos.TheVariants.{TimedLoad, EndBack, LateLoad}
 use Rattle.oneshot_machine.specs.declared.machine.future.FuturePos.TheVariants.{IntoFuture}
-use Rattle.oneshot_machine.specs.declared.machine.receiver.ReceiverStart.TheVariants as RC
 use Rattle.oneshot_machine.specs.declared.machine.sender.SenderPos.{SenderPos}
 use Rattle.oneshot_machine.specs.declared.machine.sender.SenderPos.TheVariants as SP
 use Rattle.oneshot_machine.specs.declared.machine.sender.SenderCall.TheVariants as SC
@@ -22,7 +21,7 @@ use Rattle.oneshot_machine.specs.declared.states.Op.{Op}
 use Rattle.oneshot_machine.specs.declared.states.Op.TheVariants as O
 use Rattle.oneshot_machine.specs.Rows.{Outcome, Goes, Answers}
 use Rattle.oneshot_machine.specs.Sender.{sender_start, sender_step, sender_row}
-use Rattle.oneshot_machine.specs.Receiver.{receiver_start, receiver_step, receiver_row}
+use Rattle.oneshot_machine.specs.Receiver.{receiver_step, receiver_row, receiver_opens, future_opens}
 use Rattle.oneshot_machine.specs.Look.{look_positions, look_number}
 use Rattle.oneshot_machine.specs.ByRef.{ref_positions, ref_number}
 use Rattle.oneshot_machine.specs.Timed.{timed_positions, timed_number}
@@ -162,21 +161,6 @@ receiver_number (RP.Value at) = 25 + value_number at
 receiver_number (RP.Future at) = 35 + future_number at
 receiver_number (RP.AsyncDrop at) = 47 + async_drop_number at
 receiver_number (RP.Drop at) = 51 + drop_number at
-
-abbrev pub receiver_opens : List ReceiverPos
-receiver_opens =
-    receiver_start RC.TryRecv
-    ∷ receiver_start RC.RecvRef
-    ∷ receiver_start RC.RecvDeadline
-    ∷ receiver_start (RC.RecvTimeout true)
-    ∷ receiver_start (RC.RecvTimeout false)
-    ∷ receiver_start RC.Recv
-    ∷ receiver_start RC.IntoFuture
-    ∷ receiver_start RC.Drop
-    ∷ []
-
-abbrev pub future_opens : List ReceiverPos
-future_opens = receiver_start RC.Poll ∷ receiver_start RC.DropAsync ∷ []
 
 -- where a receiver stands, which is a future from its `into_future` on: some positions have both
 pub data Standpoint : Type 0 where
