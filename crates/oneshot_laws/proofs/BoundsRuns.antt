@@ -5,9 +5,10 @@ use Rattle.oneshot_machine.specs.declared.machine.End.{End}
 use Rattle.oneshot_machine.specs.declared.machine.End.TheVariants.{Sender, Receiver}
 use Rattle.oneshot_machine.specs.declared.machine.receiver.ReceiverStart.TheVariants as RC
 use Rattle.oneshot_machine.specs.declared.machine.sender.SenderCall.TheVariants as SC
-use Rattle.oneshot_world.specs.Calls.{Call, Of_sender, Of_receiver, Poll, Stray, calls_of}
+use Rattle.oneshot_world.specs.Calls.{Call, Of_sender, Of_receiver, Poll, Stray}
+use Rattle.oneshot_world.specs.Scripts.{calls_of}
 use Rattle.oneshot_world.specs.Classes.{Classes, as_call, as_made}
-use Rattle.oneshot_world.specs.Control.{bool_code}
+use Rattle.oneshot_world.specs.ControlCodes.{bool_code}
 use Rattle.oneshot_world.specs.Explore.{Tree}
 use Rattle.oneshot_world.specs.World.{World, Tells, opening}
 use Rattle.oneshot_world.specs.declared.script.Move.{Move}
@@ -16,7 +17,7 @@ use Rattle.oneshot_world.specs.declared.script.SenderScript.{SenderScript}
 use Rattle.oneshot_world.specs.declared.trace.Entry.{Entry}
 use Rattle.oneshot_world.specs.declared.trace.Made.{Made}
 use Rattle.oneshot_world.proofs.Bools.{and_left, and_right, both}
-use Rattle.oneshot_world.proofs.Coded.{bool_is}
+use Rattle.oneshot_world.proofs.ControlCodes.{bool_is}
 use Rattle.oneshot_laws.specs.Entries.{is_same_end, is_word, found}
 use Rattle.oneshot_laws.specs.Marks.{Mark, marks, side, call_marks, until_reply}
 use Rattle.oneshot_laws.specs.Bounds.{at_most, is_within_its_bound, is_bounded, are_calls_bounded}

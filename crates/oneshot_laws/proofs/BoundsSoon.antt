@@ -3,9 +3,9 @@ use Rattle.std.proofs.Common.{◌≡◌, ℕ, zero, suc, ◌+◌, ◌*◌, ◌==
 use Rattle.std.proofs.lemmas.Bool.{eqb-true}
 use Rattle.oneshot_machine.specs.declared.machine.End.{End}
 use Rattle.oneshot_machine.specs.declared.machine.End.TheVariants.{Sender, Receiver}
-use Rattle.oneshot_world.specs.Calls.{calls_of}
+use Rattle.oneshot_world.specs.Scripts.{calls_of}
 use Rattle.oneshot_world.specs.Classes.{Classes, as_made}
-use Rattle.oneshot_world.specs.Control.{bool_code}
+use Rattle.oneshot_world.specs.ControlCodes.{bool_code}
 use Rattle.oneshot_world.specs.Explore.{Tree}
 use Rattle.oneshot_world.specs.World.{World, Tells, opening}
 use Rattle.oneshot_world.specs.declared.script.Move.{Move}
@@ -14,7 +14,7 @@ use Rattle.oneshot_world.specs.declared.script.SenderScript.{SenderScript}
 use Rattle.oneshot_world.specs.declared.trace.Entry.{Entry}
 use Rattle.oneshot_world.specs.declared.trace.Made.{Made}
 use Rattle.oneshot_world.proofs.Bools.{and_left, and_right, both}
-use Rattle.oneshot_world.proofs.Coded.{bool_is}
+use Rattle.oneshot_world.proofs.ControlCodes.{bool_is}
 use Rattle.oneshot_laws.specs.Entries.{is_same_end, is_word}
 use Rattle.oneshot_laws.specs.Marks.{Mark, marks, finishes, call_marks, until_reply}
 use Rattle.oneshot_laws.specs.Bounds.{at_most, operates, is_senders_last, each_move, answers_soon, is_soon_answered}

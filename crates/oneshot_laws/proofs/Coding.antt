@@ -4,7 +4,7 @@ use Rattle.oneshot_machine.specs.declared.machine.Reply.{Reply}
 use Rattle.oneshot_machine.specs.declared.machine.Reply.TheVariants as R
 use Rattle.oneshot_world.specs.declared.trace.Place.{Place}
 use Rattle.oneshot_world.specs.declared.trace.Place.TheVariants.{NotSent, InCell, InError, Delivered, FromError, Dropped}
-use Rattle.oneshot_world.proofs.Coded.{same_by}
+use Rattle.oneshot_world.proofs.ControlCodes.{same_by}
 use Rattle.oneshot_laws.specs.MessagePlaces.{place_code, is_same_place}
 use Rattle.oneshot_laws.specs.Object.{Content, Open, Full, Closed, content_code, is_same_flag}
 use Rattle.oneshot_laws.specs.Entries.{reply_code, is_same_reply}

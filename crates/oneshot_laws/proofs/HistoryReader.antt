@@ -9,10 +9,10 @@ use Rattle.oneshot_machine.specs.declared.machine.sender.SenderCall.{SenderCall}
 use Rattle.oneshot_machine.specs.declared.machine.sender.SenderCall.TheVariants as SC
 use Rattle.oneshot_world.specs.Calls.{Call, Of_sender, Of_receiver, Poll, Stray}
 use Rattle.oneshot_world.specs.Classes.{Classes, as_call, as_made}
-use Rattle.oneshot_world.specs.Control.{bool_code}
+use Rattle.oneshot_world.specs.ControlCodes.{bool_code}
 use Rattle.oneshot_world.specs.declared.trace.Made.{Made}
 use Rattle.oneshot_world.proofs.Bools.{and_left, and_right}
-use Rattle.oneshot_world.proofs.Coded.{bool_is}
+use Rattle.oneshot_world.proofs.ControlCodes.{bool_is}
 use Rattle.oneshot_laws.specs.Entries.{is_same_reply, says_nothing_yet}
 use Rattle.oneshot_laws.specs.Object.{Object, Content, new_object, is_open, content_code, is_same_flag, is_same_object}
 use Rattle.oneshot_laws.specs.Actions.{action_of, nothing_yet_of, reply_on, stepped, fixed_reply_of}

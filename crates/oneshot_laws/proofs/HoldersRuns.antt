@@ -1,8 +1,8 @@
 -- Only holders use the block, its last holder frees it, nothing uses it afterwards, and once all have ended it is freed.
 use Rattle.std.proofs.Common.{◌≡◌, ℕ, ◌+◌, ◌*◌, Bool, true, false, not, ◌&&◌, ◌||◌, ◌==◌, List, [], ◌∷◌, map, refl, subst}
 use Rattle.std.specs.List.{list_any}
-use Rattle.oneshot_world.specs.Calls.{calls_of}
-use Rattle.oneshot_world.specs.Control.{bool_code}
+use Rattle.oneshot_world.specs.Scripts.{calls_of}
+use Rattle.oneshot_world.specs.ControlCodes.{bool_code}
 use Rattle.oneshot_world.specs.Explore.{Tree}
 use Rattle.oneshot_world.specs.World.{World, Tells, opening, by_end}
 use Rattle.oneshot_world.specs.declared.script.Move.{Move}
@@ -10,7 +10,7 @@ use Rattle.oneshot_world.specs.declared.script.ReceiverScript.{ReceiverScript}
 use Rattle.oneshot_world.specs.declared.script.SenderScript.{SenderScript}
 use Rattle.oneshot_world.specs.declared.trace.Entry.{Entry}
 use Rattle.oneshot_world.proofs.Bools.{and_left, and_right, both}
-use Rattle.oneshot_world.proofs.Coded.{bool_is}
+use Rattle.oneshot_world.proofs.ControlCodes.{bool_is}
 use Rattle.oneshot_laws.specs.Entries.{only_if, is_word, is_on_a_cell, is_free}
 use Rattle.oneshot_laws.specs.Marks.{Mark, marks}
 use Rattle.oneshot_laws.specs.Ended.{all_ended}

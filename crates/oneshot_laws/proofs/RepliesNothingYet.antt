@@ -4,8 +4,8 @@ use Rattle.std.specs.List.{list_any}
 use Rattle.oneshot_machine.specs.declared.machine.End.{End}
 use Rattle.oneshot_machine.specs.declared.machine.End.TheVariants.{Sender, Receiver}
 use Rattle.oneshot_machine.specs.declared.machine.Reply.{Reply}
-use Rattle.oneshot_world.specs.Calls.{calls_of}
-use Rattle.oneshot_world.specs.Control.{bool_code}
+use Rattle.oneshot_world.specs.Scripts.{calls_of}
+use Rattle.oneshot_world.specs.ControlCodes.{bool_code}
 use Rattle.oneshot_world.specs.Explore.{Tree}
 use Rattle.oneshot_world.specs.World.{World, Tells, opening}
 use Rattle.oneshot_world.specs.declared.script.Move.{Move}
@@ -13,7 +13,7 @@ use Rattle.oneshot_world.specs.declared.script.ReceiverScript.{ReceiverScript}
 use Rattle.oneshot_world.specs.declared.script.SenderScript.{SenderScript}
 use Rattle.oneshot_world.specs.declared.trace.Entry.{Entry}
 use Rattle.oneshot_world.proofs.Bools.{and_left, and_right, both}
-use Rattle.oneshot_world.proofs.Coded.{bool_is}
+use Rattle.oneshot_world.proofs.ControlCodes.{bool_is}
 use Rattle.oneshot_laws.specs.Entries.{only_if, is_nothing_yet, is_same_end}
 use Rattle.oneshot_laws.specs.Object.{is_open}
 use Rattle.oneshot_laws.specs.Marks.{Mark, marks, side, call_marks, until_reply}

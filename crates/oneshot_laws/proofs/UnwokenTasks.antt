@@ -3,9 +3,10 @@ use Rattle.std.proofs.Common.{◌≡◌, ℕ, ◌+◌, ◌*◌, ◌==◌, Bool, 
 use Rattle.std.proofs.lemmas.Bool.{eq-eqb}
 use Rattle.std.specs.List.{list_any}
 use Rattle.std.specs.Option.{option_map}
-use Rattle.oneshot_world.specs.Calls.{Call, Poll, calls_of, number_of}
+use Rattle.oneshot_world.specs.Calls.{Call, Poll, number_of}
+use Rattle.oneshot_world.specs.Scripts.{calls_of}
 use Rattle.oneshot_world.specs.Classes.{Classes, as_call, as_move}
-use Rattle.oneshot_world.specs.Control.{bool_code}
+use Rattle.oneshot_world.specs.ControlCodes.{bool_code}
 use Rattle.oneshot_world.specs.Explore.{Tree}
 use Rattle.oneshot_world.specs.Wakers.{WakerMove}
 use Rattle.oneshot_world.specs.World.{World, Tells, opening}
@@ -17,7 +18,7 @@ use Rattle.oneshot_world.specs.declared.trace.Place.{Place}
 use Rattle.oneshot_world.specs.declared.trace.WakerName.TheVariants.{Parker, Copy}
 use Rattle.oneshot_world.specs.declared.trace.WakerPlace.TheVariants as W
 use Rattle.oneshot_world.proofs.Bools.{and_left, and_right, both}
-use Rattle.oneshot_world.proofs.Coded.{bool_is, same_by}
+use Rattle.oneshot_world.proofs.ControlCodes.{bool_is, same_by}
 use Rattle.oneshot_world.proofs.Listed.{is_listed}
 use Rattle.oneshot_laws.specs.Entries.{is_reply}
 use Rattle.oneshot_laws.specs.Actions.{is_end_of_sender, is_drop_of_receiver}

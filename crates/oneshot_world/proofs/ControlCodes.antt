@@ -9,9 +9,10 @@ use Rattle.oneshot_machine.specs.declared.machine.receiver.ReceiverStart.{Receiv
 use Rattle.oneshot_machine.specs.declared.machine.receiver.ReceiverStart.TheVariants as RC
 use Rattle.oneshot_machine.specs.declared.machine.sender.SenderCall.{SenderCall}
 use Rattle.oneshot_machine.specs.declared.machine.sender.SenderCall.TheVariants as SC
-use Rattle.oneshot_world.specs.Calls.{Call, Of_sender, Of_receiver, Poll, Stray}
-use Rattle.oneshot_world.specs.Control.{Control, sender_code, receiver_code, sender_call_code, receiver_call_code, is_same_call, is_same_under_way, place_code, bool_code, is_same_wakers, is_same_state, is_same_control}
-use Rattle.oneshot_world.specs.Wakers.{is_same_waker, is_same_name}
+use Rattle.oneshot_world.specs.Calls.{Call, Of_sender, Of_receiver, Poll, Stray, all_sender_calls, all_receiver_calls}
+use Rattle.oneshot_world.specs.Control.{Control}
+use Rattle.oneshot_world.specs.ControlCodes.{sender_code, receiver_code, sender_call_code, receiver_call_code, is_same_call, is_same_under_way, place_code, bool_code, is_same_wakers, is_same_state, is_same_control, is_same_name}
+use Rattle.oneshot_world.specs.Wakers.{is_same_waker}
 use Rattle.oneshot_world.specs.declared.state.ReceiverState.{ReceiverState}
 use Rattle.oneshot_world.specs.declared.state.ReceiverState.TheVariants as RS
 use Rattle.oneshot_world.specs.declared.state.SenderState.{SenderState}
@@ -36,21 +37,7 @@ sender_back SS.Ready = refl
 sender_back SS.Failed = refl
 sender_back SS.Ended = refl
 sender_back (SS.At S.LookClosed) = refl
-sender_back (SS.At S.SendWrite) = refl
-sender_back (SS.At S.SendAdd) = refl
-sender_back (SS.At S.SendTakeWaker) = refl
-sender_back (SS.At S.SendFinal) = refl
-sender_back (SS.At S.SendWake) = refl
-sender_back (SS.At S.DropXor) = refl
-sender_back (SS.At S.DropTakeWaker) = refl
-sender_back (SS.At S.DropFinal) = refl
-sender_back (SS.At S.DropWake) = refl
-sender_back (SS.At S.DropFree) = refl
-sender_back (SS.At S.ErrorLook) = refl
-sender_back (SS.At S.IntoTake) = refl
-sender_back (SS.At S.IntoFree) = refl
-sender_back (SS.At S.ErrorDrop) = refl
-sender_back (SS.At S.ErrorFree) = refl
+sender_back (SS.At _) = refl
 
 abbrev receivers : List ReceiverState
 receivers = RS.Ready ∷ RS.Ended ∷ map RS.At receiver_positions
@@ -58,12 +45,6 @@ receivers = RS.Ready ∷ RS.Ended ∷ map RS.At receiver_positions
 receiver_back : (s : ReceiverState) → get_or receivers (receiver_code s) RS.Ended ≡ s
 receiver_back RS.Ready = refl
 receiver_back RS.Ended = refl
-receiver_back (RS.At R.LookFull) = refl
-receiver_back (RS.At R.LookClosed) = refl
-receiver_back (RS.At R.TryLoad) = refl
-receiver_back (RS.At R.Close) = refl
-receiver_back (RS.At R.Take) = refl
-receiver_back (RS.At R.CloseOnly) = refl
 receiver_back (RS.At (R.SumClock false)) = refl
 receiver_back (RS.At (R.SumClock true)) = refl
 receiver_back (RS.At (R.StartLoad false)) = refl
@@ -72,49 +53,11 @@ receiver_back (RS.At (R.StartWrite false)) = refl
 receiver_back (RS.At (R.StartWrite true)) = refl
 receiver_back (RS.At (R.StartSwap false)) = refl
 receiver_back (RS.At (R.StartSwap true)) = refl
-receiver_back (RS.At R.BackFull) = refl
-receiver_back (RS.At R.BackClosed) = refl
-receiver_back (RS.At R.Park) = refl
-receiver_back (RS.At R.ParkLoad) = refl
-receiver_back (RS.At R.Clock) = refl
-receiver_back (RS.At R.TimedPark) = refl
-receiver_back (RS.At R.TimedLoad) = refl
-receiver_back (RS.At R.EndSwap) = refl
-receiver_back (RS.At R.EndBack) = refl
-receiver_back (RS.At R.LatePark) = refl
-receiver_back (RS.At R.LateLoad) = refl
-receiver_back (RS.At R.RecvLoad) = refl
-receiver_back (RS.At R.RecvWrite) = refl
-receiver_back (RS.At R.RecvSwap) = refl
-receiver_back (RS.At R.RecvBackFull) = refl
-receiver_back (RS.At R.RecvBackClosed) = refl
-receiver_back (RS.At R.RecvPark) = refl
-receiver_back (RS.At R.RecvParkLoad) = refl
-receiver_back (RS.At R.RecvTake) = refl
-receiver_back (RS.At R.RecvFreeGot) = refl
-receiver_back (RS.At R.RecvFreeGone) = refl
 receiver_back (RS.At (R.Future F.IntoFuture)) = refl
-receiver_back (RS.At (R.Future F.PollLoad)) = refl
-receiver_back (RS.At (R.Future F.PollCopy)) = refl
-receiver_back (RS.At (R.Future F.PollWrite)) = refl
-receiver_back (RS.At (R.Future F.PollExchange)) = refl
-receiver_back (RS.At (R.Future F.PollBackFull)) = refl
-receiver_back (RS.At (R.Future F.PollBackClosed)) = refl
-receiver_back (RS.At (R.Future F.AgainCopy)) = refl
-receiver_back (RS.At (R.Future F.AgainExchange)) = refl
-receiver_back (RS.At (R.Future F.AgainBack)) = refl
-receiver_back (RS.At (R.Future F.PollOwn)) = refl
-receiver_back (RS.At (R.Future F.PollSpin)) = refl
-receiver_back (RS.At (R.Future F.AsyncLoad)) = refl
-receiver_back (RS.At (R.Future F.AsyncExchange)) = refl
-receiver_back (RS.At (R.Future F.AsyncBack)) = refl
-receiver_back (RS.At (R.Future F.AsyncSpin)) = refl
-receiver_back (RS.At R.DropSwap) = refl
-receiver_back (RS.At R.DropMessage) = refl
-receiver_back (RS.At R.DropFree) = refl
+receiver_back (RS.At _) = refl
 
 -- the value of a list that has a code
-abbrev with_code : {X : Type 0} → (X → ℕ) → ℕ → List X → Option X
+abbrev pub with_code : {X : Type 0} → (X → ℕ) → ℕ → List X → Option X
 with_code code n [] = None
 with_code code n (x ∷ xs) = if code x == n then Some x else with_code code n xs
 
@@ -123,39 +66,20 @@ same_with code values back x y h =
     let same : Some x ≡ Some y = sym (back x) ∙ ap (λ k. with_code code k values) (eqb-true (code x) (code y) h) ∙ back y in
     cc same
 
-abbrev sender_calls : List SenderCall
-sender_calls = SC.IsClosed ∷ SC.Send ∷ SC.Drop ∷ SC.AsInner ∷ SC.IntoInner ∷ SC.DropError ∷ []
-
-sender_call_back : (c : SenderCall) → with_code sender_call_code (sender_call_code c) sender_calls ≡ Some c
+pub sender_call_back : (c : SenderCall) → with_code sender_call_code (sender_call_code c) all_sender_calls ≡ Some c
 sender_call_back SC.IsClosed = refl
 sender_call_back _ = refl
 
-abbrev receiver_calls : List ReceiverStart
-receiver_calls =
-    RC.TryRecv
-    ∷ RC.Recv
-    ∷ RC.RecvRef
-    ∷ RC.RecvDeadline
-    ∷ RC.RecvTimeout false
-    ∷ RC.RecvTimeout true
-    ∷ RC.HasMessage
-    ∷ RC.IsClosed
-    ∷ RC.IntoFuture
-    ∷ RC.Poll
-    ∷ RC.Drop
-    ∷ RC.DropAsync
-    ∷ []
-
-receiver_call_back : (c : ReceiverStart) → with_code receiver_call_code (receiver_call_code c) receiver_calls ≡ Some c
+pub receiver_call_back : (c : ReceiverStart) → with_code receiver_call_code (receiver_call_code c) all_receiver_calls ≡ Some c
 receiver_call_back (RC.RecvTimeout false) = refl
 receiver_call_back (RC.RecvTimeout true) = refl
 receiver_call_back _ = refl
 
 pub call_is : (a b : Call) → is_same_call a b ≡ true → a ≡ b
 call_is (Of_sender a) (Of_sender b) h =
-    ap (λ (c : SenderCall). Of_sender c) (same_with sender_call_code sender_calls sender_call_back a b h)
+    ap (λ (c : SenderCall). Of_sender c) (same_with sender_call_code all_sender_calls sender_call_back a b h)
 call_is (Of_receiver a) (Of_receiver b) h =
-    ap (λ (c : ReceiverStart). Of_receiver c) (same_with receiver_call_code receiver_calls receiver_call_back a b h)
+    ap (λ (c : ReceiverStart). Of_receiver c) (same_with receiver_call_code all_receiver_calls receiver_call_back a b h)
 call_is (Poll a) (Poll b) h = ap (λ (n : ℕ). Poll n) (eqb-true a b h)
 call_is Stray Stray h = refl
 call_is _ _ h = cc
