@@ -4,6 +4,12 @@ use Rattle.std.proofs.lemmas.Bool.{eqb-true}
 use Rattle.oneshot_machine.specs.Standing.{sender_positions, receiver_positions}
 use Rattle.oneshot_machine.specs.declared.machine.future.FuturePos.TheVariants as F
 use Rattle.oneshot_machine.specs.declared.machine.receiver.ReceiverPos.TheVariants as R
+use Rattle.oneshot_machine.specs.declared.machine.look.LookPos.TheVariants.{LookFull}
+use Rattle.oneshot_machine.specs.declared.machine.by_ref.RefPos.TheVariants.{StartLoad, StartWrite, StartSwap}
+use Rattle.oneshot_machine.specs.declared.machine.timed.TimedPos.TheVariants.{SumClock}
+use Rattle.oneshot_machine.specs.declared.machine.value.ValuePos.TheVariants.{RecvLoad}
+use Rattle.oneshot_machine.specs.declared.machine.async_drop.AsyncDropPos.TheVariants.{AsyncLoad}
+use Rattle.oneshot_machine.specs.declared.machine.drop.DropPos.TheVariants.{DropSwap}
 use Rattle.oneshot_machine.specs.declared.machine.sender.SenderPos.TheVariants as S
 use Rattle.oneshot_machine.specs.declared.machine.receiver.ReceiverStart.{ReceiverStart}
 use Rattle.oneshot_machine.specs.declared.machine.receiver.ReceiverStart.TheVariants as RC
@@ -45,16 +51,26 @@ receivers = RS.Ready ∷ RS.Ended ∷ map RS.At receiver_positions
 receiver_back : (s : ReceiverState) → get_or receivers (receiver_code s) RS.Ended ≡ s
 receiver_back RS.Ready = refl
 receiver_back RS.Ended = refl
-receiver_back (RS.At (R.SumClock false)) = refl
-receiver_back (RS.At (R.SumClock true)) = refl
-receiver_back (RS.At (R.StartLoad false)) = refl
-receiver_back (RS.At (R.StartLoad true)) = refl
-receiver_back (RS.At (R.StartWrite false)) = refl
-receiver_back (RS.At (R.StartWrite true)) = refl
-receiver_back (RS.At (R.StartSwap false)) = refl
-receiver_back (RS.At (R.StartSwap true)) = refl
+receiver_back (RS.At (R.Look LookFull)) = refl
+receiver_back (RS.At (R.Look _)) = refl
+receiver_back (RS.At (R.Ref (StartLoad false))) = refl
+receiver_back (RS.At (R.Ref (StartLoad true))) = refl
+receiver_back (RS.At (R.Ref (StartWrite false))) = refl
+receiver_back (RS.At (R.Ref (StartWrite true))) = refl
+receiver_back (RS.At (R.Ref (StartSwap false))) = refl
+receiver_back (RS.At (R.Ref (StartSwap true))) = refl
+receiver_back (RS.At (R.Ref _)) = refl
+receiver_back (RS.At (R.Timed (SumClock false))) = refl
+receiver_back (RS.At (R.Timed (SumClock true))) = refl
+receiver_back (RS.At (R.Timed _)) = refl
+receiver_back (RS.At (R.Value RecvLoad)) = refl
+receiver_back (RS.At (R.Value _)) = refl
 receiver_back (RS.At (R.Future F.IntoFuture)) = refl
-receiver_back (RS.At _) = refl
+receiver_back (RS.At (R.Future _)) = refl
+receiver_back (RS.At (R.AsyncDrop AsyncLoad)) = refl
+receiver_back (RS.At (R.AsyncDrop _)) = refl
+receiver_back (RS.At (R.Drop DropSwap)) = refl
+receiver_back (RS.At (R.Drop _)) = refl
 
 -- the value of a list that has a code
 abbrev pub with_code : {X : Type 0} → (X → ℕ) → ℕ → List X → Option X
