@@ -1,7 +1,6 @@
 -- A call between whose first entry and whose answer the other end makes no step does just what the object does.
 use Rattle.std.proofs.Common.{◌≡◌, Bool, true, false, not, ◌&&◌, ◌||◌, List, [], ◌∷◌, Option, Some, None, is_some, map, refl, if◌then◌else◌}
 use Rattle.oneshot_machine.specs.declared.machine.End.{End}
-use Rattle.oneshot_machine.specs.declared.machine.End.TheVariants.{Sender, Receiver}
 use Rattle.oneshot_world.proofs.Bools.{and_right, both}
 use Rattle.oneshot_laws.specs.Entries.{only_if, is_same_end}
 use Rattle.oneshot_laws.specs.Object.{Object, is_same_object}

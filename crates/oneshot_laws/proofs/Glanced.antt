@@ -1,5 +1,5 @@
 -- A law's own reader, which goes through the glances at the marks, by classes of names: explored beside the machines and the reader of histories, for any such reader.
-use Rattle.std.proofs.Common.{◌≡◌, ℕ, ◌+◌, ◌*◌, Bool, true, ◌&&◌, List, [], ◌∷◌, map, Option, refl, sym, ◌∙◌, ap, subst}
+use Rattle.std.proofs.Common.{◌≡◌, ℕ, Bool, true, ◌&&◌, List, [], ◌∷◌, map, Option, refl, sym, ◌∙◌, ap, subst}
 use Rattle.oneshot_machine.specs.declared.machine.End.{End}
 use Rattle.oneshot_machine.specs.declared.machine.End.TheVariants.{Sender, Receiver}
 use Rattle.oneshot_world.specs.Calls.{Call, Poll, Unanswered, calls_of}
@@ -13,7 +13,7 @@ use Rattle.oneshot_world.specs.declared.trace.Entry.{Entry}
 use Rattle.oneshot_world.specs.declared.trace.Entry.TheVariants.{Idle, Made as Made_entry}
 use Rattle.oneshot_world.specs.declared.trace.Made.{Made}
 use Rattle.oneshot_world.specs.declared.trace.Place.{Place}
-use Rattle.oneshot_world.proofs.Bools.{and_left, and_right}
+use Rattle.oneshot_world.proofs.Bools.{and_right}
 use Rattle.oneshot_laws.specs.Marks.{Mark, marks, call_under_way}
 use Rattle.oneshot_laws.specs.Object.{Object}
 use Rattle.oneshot_laws.proofs.Coding.{Coding, pairs, by_parts}

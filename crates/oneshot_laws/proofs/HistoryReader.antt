@@ -1,16 +1,13 @@
 -- A reader of the trace, entry by entry, with finitely many states: the object, and what the call under way at each end owes since it acted.
-use Rattle.std.proofs.Common.{◌≡◌, ℕ, ◌+◌, ◌*◌, Bool, true, false, not, ◌&&◌, ◌||◌, ◌==◌, Option, Some, None, is_some, refl, ap}
+use Rattle.std.proofs.Common.{◌≡◌, ℕ, Bool, true, false, not, ◌&&◌, ◌||◌, Option, Some, None, is_some, refl, ap}
 use Rattle.oneshot_machine.specs.declared.machine.End.{End}
 use Rattle.oneshot_machine.specs.declared.machine.End.TheVariants.{Sender, Receiver}
 use Rattle.oneshot_machine.specs.declared.machine.Reply.{Reply}
 use Rattle.oneshot_world.specs.Calls.{Call, Sender_is_closed, Send, Drop_sender, As_inner, Into_inner, Drop_error, Try_recv, Recv_ref, Recv_deadline, Recv_timeout, Recv, Has_message, Is_closed, Drop_receiver, Into_future, Poll, Drop_async, Stray}
 use Rattle.oneshot_world.specs.Classes.{Classes, as_call, as_made}
-use Rattle.oneshot_world.specs.Control.{bool_code}
 use Rattle.oneshot_world.specs.declared.trace.Made.{Made}
-use Rattle.oneshot_world.proofs.Bools.{and_left, and_right}
-use Rattle.oneshot_world.proofs.Coded.{bool_is}
 use Rattle.oneshot_laws.specs.Entries.{is_same_reply, says_nothing_yet}
-use Rattle.oneshot_laws.specs.Object.{Object, Content, new_object, is_open, content_code, is_same_flag, is_same_object}
+use Rattle.oneshot_laws.specs.Object.{Object, Content, new_object, is_open}
 use Rattle.oneshot_laws.specs.Actions.{action_of, nothing_yet_of, reply_on, stepped, fixed_reply_of}
 use Rattle.oneshot_laws.specs.Marks.{loads, finishes, swaps_closed_in, works_on_word, finds_full_or_closed, until_reply}
 use Rattle.oneshot_laws.specs.History.{agrees}
