@@ -5,6 +5,7 @@ use Rattle.oneshot_machine.specs.declared.machine.End.TheVariants.{Sender, Recei
 use Rattle.oneshot_machine.specs.declared.machine.Reply.TheVariants as R
 use Rattle.oneshot_machine.specs.declared.machine.Step.TheVariants as T
 use Rattle.oneshot_machine.specs.declared.states.Op.TheVariants as O
+use Rattle.oneshot_machine.specs.declared.machine.receiver.ReceiverStart.TheVariants as RC
 use Rattle.oneshot_world.specs.Calls as C
 use Rattle.oneshot_world.specs.declared.trace.Entry.TheVariants as E
 use Rattle.oneshot_world.specs.declared.trace.Place.TheVariants as P
@@ -195,7 +196,7 @@ WrongPolls =
     × IsTrue (list_all (fails_at is_got_after_full)
     (answered_by 14 R.Pending woken_then_ready ∷ answered_by 14 R.Disconnected woken_then_ready ∷ []))
     -- the channel was closed, and a poll waits
-    × IsTrue (fails_at is_gone_after_closed (received_by (C.Into_future ∷ C.Poll 1 ∷ C.Is_closed ∷ C.Poll 1 ∷ C.Poll 1 ∷ []) (answered_by 15 R.Pending (up_to 15 woken_then_ready))))
+    × IsTrue (fails_at is_gone_after_closed (received_by (C.Of_receiver RC.IntoFuture ∷ C.Poll 1 ∷ C.Of_receiver RC.IsClosed ∷ C.Poll 1 ∷ C.Poll 1 ∷ []) (answered_by 15 R.Pending (up_to 15 woken_then_ready))))
     -- a message that nobody took is not dropped, or dropped twice
     × IsTrue (list_all (fails_at is_dropped_once)
     (unmoved_by 14 dropped_while_finishing ∷ twice 14 dropped_while_finishing ∷ []))

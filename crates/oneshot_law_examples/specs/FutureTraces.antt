@@ -4,6 +4,8 @@ use Rattle.oneshot_machine.specs.declared.machine.End.TheVariants.{Sender, Recei
 use Rattle.oneshot_machine.specs.declared.machine.Reply.TheVariants as R
 use Rattle.oneshot_machine.specs.declared.machine.Step.TheVariants as T
 use Rattle.oneshot_machine.specs.declared.states.Op.TheVariants as O
+use Rattle.oneshot_machine.specs.declared.machine.receiver.ReceiverStart.TheVariants as RC
+use Rattle.oneshot_machine.specs.declared.machine.sender.SenderCall.TheVariants as SC
 use Rattle.oneshot_world.specs.Calls as C
 use Rattle.oneshot_world.specs.declared.trace.Entry.TheVariants as E
 use Rattle.oneshot_world.specs.declared.trace.Place.TheVariants as P
@@ -20,9 +22,9 @@ dropped_while_finishing =
     record {
       calls =
           record {
-            sender = C.Send ∷ [];
+            sender = C.Of_sender SC.Send ∷ [];
             error = [];
-            receiver = C.Into_future ∷ C.Poll 1 ∷ C.Drop_async ∷ [];
+            receiver = C.Of_receiver RC.IntoFuture ∷ C.Poll 1 ∷ C.Of_receiver RC.DropAsync ∷ [];
           };
       entries =
           E.Made (replying R.Future (receiver T.Plain 3 3))
@@ -53,9 +55,9 @@ polled_while_finishing =
     record {
       calls =
           record {
-            sender = C.Send ∷ [];
+            sender = C.Of_sender SC.Send ∷ [];
             error = [];
-            receiver = C.Into_future ∷ C.Poll 1 ∷ C.Poll 2 ∷ C.Drop_async ∷ [];
+            receiver = C.Of_receiver RC.IntoFuture ∷ C.Poll 1 ∷ C.Poll 2 ∷ C.Of_receiver RC.DropAsync ∷ [];
           };
       entries =
           E.Made (replying R.Future (receiver T.Plain 3 3))
@@ -88,9 +90,9 @@ copy_refused =
     record {
       calls =
           record {
-            sender = C.Send ∷ [];
+            sender = C.Of_sender SC.Send ∷ [];
             error = [];
-            receiver = C.Into_future ∷ C.Poll 1 ∷ [];
+            receiver = C.Of_receiver RC.IntoFuture ∷ C.Poll 1 ∷ [];
           };
       entries =
           E.Made (replying R.Future (receiver T.Plain 3 3))
@@ -109,9 +111,9 @@ polled_by_another_task =
     record {
       calls =
           record {
-            sender = C.Send ∷ [];
+            sender = C.Of_sender SC.Send ∷ [];
             error = [];
-            receiver = C.Into_future ∷ C.Poll 1 ∷ C.Poll 2 ∷ [];
+            receiver = C.Of_receiver RC.IntoFuture ∷ C.Poll 1 ∷ C.Poll 2 ∷ [];
           };
       entries =
           E.Made (replying R.Future (receiver T.Plain 3 3))
@@ -142,9 +144,9 @@ sent_before_pending =
     record {
       calls =
           record {
-            sender = C.Send ∷ [];
+            sender = C.Of_sender SC.Send ∷ [];
             error = [];
-            receiver = C.Into_future ∷ C.Poll 1 ∷ [];
+            receiver = C.Of_receiver RC.IntoFuture ∷ C.Poll 1 ∷ [];
           };
       entries =
           E.Made (replying R.Future (receiver T.Plain 3 3))
@@ -169,9 +171,9 @@ sent_while_polling =
     record {
       calls =
           record {
-            sender = C.Send ∷ [];
+            sender = C.Of_sender SC.Send ∷ [];
             error = [];
-            receiver = C.Into_future ∷ C.Poll 1 ∷ [];
+            receiver = C.Of_receiver RC.IntoFuture ∷ C.Poll 1 ∷ [];
           };
       entries =
           E.Made (replying R.Future (receiver T.Plain 3 3))
@@ -196,9 +198,9 @@ sent_while_replacing =
     record {
       calls =
           record {
-            sender = C.Send ∷ [];
+            sender = C.Of_sender SC.Send ∷ [];
             error = [];
-            receiver = C.Into_future ∷ C.Poll 1 ∷ C.Poll 2 ∷ [];
+            receiver = C.Of_receiver RC.IntoFuture ∷ C.Poll 1 ∷ C.Poll 2 ∷ [];
           };
       entries =
           E.Made (replying R.Future (receiver T.Plain 3 3))
@@ -229,9 +231,9 @@ dropped_while_pending =
     record {
       calls =
           record {
-            sender = C.Send ∷ [];
-            error = C.Drop_error ∷ [];
-            receiver = C.Into_future ∷ C.Poll 1 ∷ C.Drop_async ∷ [];
+            sender = C.Of_sender SC.Send ∷ [];
+            error = C.Of_sender SC.DropError ∷ [];
+            receiver = C.Of_receiver RC.IntoFuture ∷ C.Poll 1 ∷ C.Of_receiver RC.DropAsync ∷ [];
           };
       entries =
           E.Made (replying R.Future (receiver T.Plain 3 3))
@@ -259,9 +261,9 @@ woken_then_ready =
     record {
       calls =
           record {
-            sender = C.Send ∷ [];
+            sender = C.Of_sender SC.Send ∷ [];
             error = [];
-            receiver = C.Into_future ∷ C.Poll 1 ∷ C.Has_message ∷ C.Poll 1 ∷ C.Poll 1 ∷ C.Is_closed ∷ C.Drop_async ∷ [];
+            receiver = C.Of_receiver RC.IntoFuture ∷ C.Poll 1 ∷ C.Of_receiver RC.HasMessage ∷ C.Poll 1 ∷ C.Poll 1 ∷ C.Of_receiver RC.IsClosed ∷ C.Of_receiver RC.DropAsync ∷ [];
           };
       entries =
           E.Made (replying R.Future (receiver T.Plain 3 3))
@@ -295,9 +297,9 @@ both_dropped_while_pending =
     record {
       calls =
           record {
-            sender = C.Drop_sender ∷ [];
+            sender = C.Of_sender SC.Drop ∷ [];
             error = [];
-            receiver = C.Into_future ∷ C.Poll 1 ∷ C.Drop_async ∷ [];
+            receiver = C.Of_receiver RC.IntoFuture ∷ C.Poll 1 ∷ C.Of_receiver RC.DropAsync ∷ [];
           };
       entries =
           E.Made (replying R.Future (receiver T.Plain 3 3))

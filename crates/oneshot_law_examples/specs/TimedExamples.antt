@@ -5,6 +5,7 @@ use Rattle.oneshot_machine.specs.declared.machine.Reply.{Reply}
 use Rattle.oneshot_machine.specs.declared.machine.Reply.TheVariants as R
 use Rattle.oneshot_machine.specs.declared.machine.Step.TheVariants as T
 use Rattle.oneshot_machine.specs.declared.states.Op.TheVariants as O
+use Rattle.oneshot_machine.specs.declared.machine.receiver.ReceiverStart.TheVariants as RC
 use Rattle.oneshot_world.specs.Calls as C
 use Rattle.oneshot_world.specs.Calls.{Call}
 use Rattle.oneshot_world.specs.declared.trace.Entry.TheVariants as E
@@ -89,7 +90,7 @@ received_by calls x = record x { calls = record x.calls { receiver = calls } }
 -- a receive with a timeout gets the message, and the next one replies so
 abbrev pub received_in_time_then : Reply → Example
 received_in_time_then reply =
-    received_by (C.Recv_timeout true ∷ C.Recv_timeout true ∷ []) (record sent_before_its_deadline {
+    received_by (C.Of_receiver (RC.RecvTimeout true) ∷ C.Of_receiver (RC.RecvTimeout true) ∷ []) (record sent_before_its_deadline {
       entries = sent_before_its_deadline.entries ++ E.Made (replying reply (receiver (T.Word O.Load) 2 2)) ∷ [];
     })
 
@@ -106,8 +107,8 @@ WrongTimeouts =
     -- the same of a receive with a timeout
     × IsTrue (list_all (fails_at is_gone_after_got) (map received_in_time_then (R.Empty ∷ R.Timeout ∷ R.Message ∷ [])))
     -- or that says that nothing was there after it was seen, or after the channel was closed
-    × IsTrue (fails_at is_got_after_full (answered_by 6 R.Timeout (received_by (C.Is_closed ∷ C.Has_message ∷ C.Recv_deadline ∷ C.Is_closed ∷ []) looked_at_both_ends)))
-    × IsTrue (fails_at is_gone_after_closed (answered_by 3 R.Timeout (received_by (C.Is_closed ∷ C.Recv_deadline ∷ C.Is_closed ∷ []) closed_then_tried)))
+    × IsTrue (fails_at is_got_after_full (answered_by 6 R.Timeout (received_by (C.Of_receiver RC.IsClosed ∷ C.Of_receiver RC.HasMessage ∷ C.Of_receiver RC.RecvDeadline ∷ C.Of_receiver RC.IsClosed ∷ []) looked_at_both_ends)))
+    × IsTrue (fails_at is_gone_after_closed (answered_by 3 R.Timeout (received_by (C.Of_receiver RC.IsClosed ∷ C.Of_receiver RC.RecvDeadline ∷ C.Of_receiver RC.IsClosed ∷ []) closed_then_tried)))
     -- a call that was alone answers otherwise
     × IsTrue (list_all (λ x. not (are_lone_replies_right x))
     (answered_by 5 R.Timeout sent_before_its_deadline ∷ answered_by 10 R.Disconnected ran_out_then_taken ∷ []))

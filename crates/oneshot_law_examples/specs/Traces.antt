@@ -4,6 +4,8 @@ use Rattle.oneshot_machine.specs.declared.machine.End.TheVariants.{Sender, Recei
 use Rattle.oneshot_machine.specs.declared.machine.Reply.TheVariants as R
 use Rattle.oneshot_machine.specs.declared.machine.Step.TheVariants as T
 use Rattle.oneshot_machine.specs.declared.states.Op.TheVariants as O
+use Rattle.oneshot_machine.specs.declared.machine.receiver.ReceiverStart.TheVariants as RC
+use Rattle.oneshot_machine.specs.declared.machine.sender.SenderCall.TheVariants as SC
 use Rattle.oneshot_world.specs.Calls as C
 use Rattle.oneshot_world.specs.declared.trace.Entry.TheVariants as E
 use Rattle.oneshot_world.specs.declared.trace.Place.TheVariants as P
@@ -17,7 +19,7 @@ use Rattle.oneshot_law_examples.specs.Notation.{Example, sender, receiver, frees
 abbrev pub sent_then_taken : Example
 sent_then_taken =
     record {
-      calls = record { sender = C.Send ∷ []; error = []; receiver = C.Try_recv ∷ C.Drop_receiver ∷ [] };
+      calls = record { sender = C.Of_sender SC.Send ∷ []; error = []; receiver = C.Of_receiver RC.TryRecv ∷ C.Of_receiver RC.Drop ∷ [] };
       entries =
           E.Made (moving P.NotSent P.InCell (sender T.WriteMessage 3 3))
           ∷ E.Made (replying R.Sent (sender (T.Word O.Add) 3 4))
@@ -33,7 +35,7 @@ sent_then_taken =
 -- R
 -- X
 abbrev pub nothing_moved : Example
-nothing_moved = record { calls = record { sender = C.Send ∷ []; error = []; receiver = [] }; entries = [] }
+nothing_moved = record { calls = record { sender = C.Of_sender SC.Send ∷ []; error = []; receiver = [] }; entries = [] }
 
 -- S
 -- R
@@ -51,7 +53,7 @@ nothing_to_do =
 abbrev pub sent_to_nobody : Example
 sent_to_nobody =
     record {
-      calls = record { sender = C.Send ∷ []; error = []; receiver = C.Drop_receiver ∷ [] };
+      calls = record { sender = C.Of_sender SC.Send ∷ []; error = []; receiver = C.Of_receiver RC.Drop ∷ [] };
       entries =
           E.Made (replying R.Done (receiver (T.Word (O.Swap 2)) 3 2))
           ∷ E.Made (moving P.NotSent P.InCell (sender T.WriteMessage 2 2))
@@ -65,7 +67,7 @@ sent_to_nobody =
 abbrev pub both_dropped : Example
 both_dropped =
     record {
-      calls = record { sender = C.Drop_sender ∷ []; error = []; receiver = C.Drop_receiver ∷ [] };
+      calls = record { sender = C.Of_sender SC.Drop ∷ []; error = []; receiver = C.Of_receiver RC.Drop ∷ [] };
       entries =
           E.Made (replying R.Done (receiver (T.Word (O.Swap 2)) 3 2))
           ∷ E.Made (sender (T.Word O.Xor) 2 3)
@@ -79,7 +81,7 @@ both_dropped =
 abbrev pub dropped_then_tried : Example
 dropped_then_tried =
     record {
-      calls = record { sender = C.Drop_sender ∷ []; error = []; receiver = C.Try_recv ∷ C.Drop_receiver ∷ [] };
+      calls = record { sender = C.Of_sender SC.Drop ∷ []; error = []; receiver = C.Of_receiver RC.TryRecv ∷ C.Of_receiver RC.Drop ∷ [] };
       entries =
           E.Made (replying R.Done (sender (T.Word O.Xor) 3 2))
           ∷ E.Made (replying R.Disconnected (receiver (T.Word O.Load) 2 2))
@@ -96,9 +98,9 @@ looked_at_both_ends =
     record {
       calls =
           record {
-            sender = C.Sender_is_closed ∷ C.Send ∷ [];
+            sender = C.Of_sender SC.IsClosed ∷ C.Of_sender SC.Send ∷ [];
             error = [];
-            receiver = C.Is_closed ∷ C.Has_message ∷ C.Try_recv ∷ C.Is_closed ∷ [];
+            receiver = C.Of_receiver RC.IsClosed ∷ C.Of_receiver RC.HasMessage ∷ C.Of_receiver RC.TryRecv ∷ C.Of_receiver RC.IsClosed ∷ [];
           };
       entries =
           E.Made (replying R.No (sender (T.Word O.Load) 3 3))
@@ -120,7 +122,7 @@ abbrev pub taken_from_the_error : Example
 taken_from_the_error =
     record {
       calls =
-          record { sender = C.Send ∷ []; error = C.As_inner ∷ C.Into_inner ∷ []; receiver = C.Drop_receiver ∷ [] };
+          record { sender = C.Of_sender SC.Send ∷ []; error = C.Of_sender SC.AsInner ∷ C.Of_sender SC.IntoInner ∷ []; receiver = C.Of_receiver RC.Drop ∷ [] };
       entries =
           E.Made (replying R.Done (receiver (T.Word (O.Swap 2)) 3 2))
           ∷ E.Made (moving P.NotSent P.InCell (sender T.WriteMessage 2 2))
@@ -138,7 +140,7 @@ taken_from_the_error =
 abbrev pub dropped_with_the_error : Example
 dropped_with_the_error =
     record {
-      calls = record { sender = C.Send ∷ []; error = C.Drop_error ∷ []; receiver = C.Drop_receiver ∷ [] };
+      calls = record { sender = C.Of_sender SC.Send ∷ []; error = C.Of_sender SC.DropError ∷ []; receiver = C.Of_receiver RC.Drop ∷ [] };
       entries =
           E.Made (replying R.Done (receiver (T.Word (O.Swap 2)) 3 2))
           ∷ E.Made (moving P.NotSent P.InCell (sender T.WriteMessage 2 2))
@@ -154,7 +156,7 @@ dropped_with_the_error =
 abbrev pub dropped_unread : Example
 dropped_unread =
     record {
-      calls = record { sender = C.Send ∷ []; error = []; receiver = C.Drop_receiver ∷ [] };
+      calls = record { sender = C.Of_sender SC.Send ∷ []; error = []; receiver = C.Of_receiver RC.Drop ∷ [] };
       entries =
           E.Made (moving P.NotSent P.InCell (sender T.WriteMessage 3 3))
           ∷ E.Made (replying R.Sent (sender (T.Word O.Add) 3 4))
@@ -170,7 +172,7 @@ dropped_unread =
 abbrev pub tried_again : Example
 tried_again =
     record {
-      calls = record { sender = C.Send ∷ []; error = []; receiver = C.Try_recv ∷ C.Try_recv ∷ [] };
+      calls = record { sender = C.Of_sender SC.Send ∷ []; error = []; receiver = C.Of_receiver RC.TryRecv ∷ C.Of_receiver RC.TryRecv ∷ [] };
       entries =
           E.Made (moving P.NotSent P.InCell (sender T.WriteMessage 3 3))
           ∷ E.Made (replying R.Sent (sender (T.Word O.Add) 3 4))
@@ -189,9 +191,9 @@ closed_then_tried =
     record {
       calls =
           record {
-            sender = C.Drop_sender ∷ [];
+            sender = C.Of_sender SC.Drop ∷ [];
             error = [];
-            receiver = C.Is_closed ∷ C.Try_recv ∷ C.Is_closed ∷ [];
+            receiver = C.Of_receiver RC.IsClosed ∷ C.Of_receiver RC.TryRecv ∷ C.Of_receiver RC.IsClosed ∷ [];
           };
       entries =
           E.Made (replying R.Done (sender (T.Word O.Xor) 3 2))
@@ -208,7 +210,7 @@ abbrev pub sent_though_closed : Example
 sent_though_closed =
     record {
       calls =
-          record { sender = C.Sender_is_closed ∷ C.Send ∷ []; error = []; receiver = C.Drop_receiver ∷ [] };
+          record { sender = C.Of_sender SC.IsClosed ∷ C.Of_sender SC.Send ∷ []; error = []; receiver = C.Of_receiver RC.Drop ∷ [] };
       entries =
           E.Made (replying R.Done (receiver (T.Word (O.Swap 2)) 3 2))
           ∷ E.Made (replying R.Yes (sender (T.Word O.Load) 2 2))
@@ -223,7 +225,7 @@ sent_though_closed =
 abbrev pub received_at_once : Example
 received_at_once =
     record {
-      calls = record { sender = C.Send ∷ []; error = []; receiver = C.Recv ∷ [] };
+      calls = record { sender = C.Of_sender SC.Send ∷ []; error = []; receiver = C.Of_receiver RC.Recv ∷ [] };
       entries =
           E.Made (moving P.NotSent P.InCell (sender T.WriteMessage 3 3))
           ∷ E.Made (replying R.Sent (sender (T.Word O.Add) 3 4))
@@ -240,7 +242,7 @@ received_at_once =
 abbrev pub waited_for_message : Example
 waited_for_message =
     record {
-      calls = record { sender = C.Send ∷ []; error = []; receiver = C.Recv ∷ [] };
+      calls = record { sender = C.Of_sender SC.Send ∷ []; error = []; receiver = C.Of_receiver RC.Recv ∷ [] };
       entries =
           E.Made (receiver (T.Word O.Load) 3 3)
           ∷ E.Made (carrying Parker W.Hand W.Cell (receiver T.WriteWaker 3 3))
@@ -265,7 +267,7 @@ waited_for_message =
 abbrev pub sent_before_waiting : Example
 sent_before_waiting =
     record {
-      calls = record { sender = C.Send ∷ []; error = []; receiver = C.Recv_ref ∷ [] };
+      calls = record { sender = C.Of_sender SC.Send ∷ []; error = []; receiver = C.Of_receiver RC.RecvRef ∷ [] };
       entries =
           E.Made (receiver (T.Word O.Load) 3 3)
           ∷ E.Made (carrying Parker W.Hand W.Cell (receiver T.WriteWaker 3 3))
@@ -284,7 +286,7 @@ sent_before_waiting =
 abbrev pub dropped_before_waiting : Example
 dropped_before_waiting =
     record {
-      calls = record { sender = C.Drop_sender ∷ []; error = []; receiver = C.Recv ∷ [] };
+      calls = record { sender = C.Of_sender SC.Drop ∷ []; error = []; receiver = C.Of_receiver RC.Recv ∷ [] };
       entries =
           E.Made (receiver (T.Word O.Load) 3 3)
           ∷ E.Made (carrying Parker W.Hand W.Cell (receiver T.WriteWaker 3 3))
@@ -301,7 +303,7 @@ dropped_before_waiting =
 abbrev pub woken_by_drop : Example
 woken_by_drop =
     record {
-      calls = record { sender = C.Drop_sender ∷ []; error = []; receiver = C.Recv_ref ∷ C.Drop_receiver ∷ [] };
+      calls = record { sender = C.Of_sender SC.Drop ∷ []; error = []; receiver = C.Of_receiver RC.RecvRef ∷ C.Of_receiver RC.Drop ∷ [] };
       entries =
           E.Made (receiver (T.Word O.Load) 3 3)
           ∷ E.Made (carrying Parker W.Hand W.Cell (receiver T.WriteWaker 3 3))
@@ -323,7 +325,7 @@ woken_by_drop =
 abbrev pub still_waiting : Example
 still_waiting =
     record {
-      calls = record { sender = C.Send ∷ []; error = []; receiver = C.Recv_ref ∷ [] };
+      calls = record { sender = C.Of_sender SC.Send ∷ []; error = []; receiver = C.Of_receiver RC.RecvRef ∷ [] };
       entries =
           E.Made (receiver (T.Word O.Load) 3 3)
           ∷ E.Made (carrying Parker W.Hand W.Cell (receiver T.WriteWaker 3 3))
@@ -338,7 +340,7 @@ still_waiting =
 abbrev pub waited_past_its_deadline : Example
 waited_past_its_deadline =
     record {
-      calls = record { sender = C.Send ∷ []; error = []; receiver = C.Recv_deadline ∷ [] };
+      calls = record { sender = C.Of_sender SC.Send ∷ []; error = []; receiver = C.Of_receiver RC.RecvDeadline ∷ [] };
       entries =
           E.Made (receiver (T.Word O.Load) 3 3)
           ∷ E.Made (carrying Parker W.Hand W.Cell (receiver T.WriteWaker 3 3))
@@ -365,7 +367,7 @@ waited_past_its_deadline =
 abbrev pub sent_at_its_deadline : Example
 sent_at_its_deadline =
     record {
-      calls = record { sender = C.Send ∷ []; error = []; receiver = C.Recv_deadline ∷ [] };
+      calls = record { sender = C.Of_sender SC.Send ∷ []; error = []; receiver = C.Of_receiver RC.RecvDeadline ∷ [] };
       entries =
           E.Made (receiver (T.Word O.Load) 3 3)
           ∷ E.Made (carrying Parker W.Hand W.Cell (receiver T.WriteWaker 3 3))
@@ -389,7 +391,7 @@ sent_at_its_deadline =
 abbrev pub ran_out_then_taken : Example
 ran_out_then_taken =
     record {
-      calls = record { sender = C.Send ∷ []; error = []; receiver = C.Recv_timeout true ∷ C.Try_recv ∷ [] };
+      calls = record { sender = C.Of_sender SC.Send ∷ []; error = []; receiver = C.Of_receiver (RC.RecvTimeout true) ∷ C.Of_receiver RC.TryRecv ∷ [] };
       entries =
           E.Made (clocked false 3)
           ∷ E.Made (receiver (T.Word O.Load) 3 3)
@@ -416,7 +418,7 @@ ran_out_then_taken =
 abbrev pub never_ran_out : Example
 never_ran_out =
     record {
-      calls = record { sender = C.Drop_sender ∷ []; error = []; receiver = C.Recv_timeout false ∷ [] };
+      calls = record { sender = C.Of_sender SC.Drop ∷ []; error = []; receiver = C.Of_receiver (RC.RecvTimeout false) ∷ [] };
       entries =
           E.Made (clocked true 3)
           ∷ E.Made (receiver (T.Word O.Load) 3 3)
@@ -438,7 +440,7 @@ never_ran_out =
 abbrev pub ran_out_then_dropped : Example
 ran_out_then_dropped =
     record {
-      calls = record { sender = C.Drop_sender ∷ []; error = []; receiver = C.Recv_deadline ∷ C.Drop_receiver ∷ [] };
+      calls = record { sender = C.Of_sender SC.Drop ∷ []; error = []; receiver = C.Of_receiver RC.RecvDeadline ∷ C.Of_receiver RC.Drop ∷ [] };
       entries =
           E.Made (receiver (T.Word O.Load) 3 3)
           ∷ E.Made (carrying Parker W.Hand W.Cell (receiver T.WriteWaker 3 3))
@@ -458,7 +460,7 @@ ran_out_then_dropped =
 abbrev pub sent_before_its_deadline : Example
 sent_before_its_deadline =
     record {
-      calls = record { sender = C.Send ∷ []; error = []; receiver = C.Recv_deadline ∷ [] };
+      calls = record { sender = C.Of_sender SC.Send ∷ []; error = []; receiver = C.Of_receiver RC.RecvDeadline ∷ [] };
       entries =
           E.Made (moving P.NotSent P.InCell (sender T.WriteMessage 3 3))
           ∷ E.Made (replying R.Sent (sender (T.Word O.Add) 3 4))
@@ -474,7 +476,7 @@ sent_before_its_deadline =
 abbrev pub dropped_at_its_deadline : Example
 dropped_at_its_deadline =
     record {
-      calls = record { sender = C.Drop_sender ∷ []; error = []; receiver = C.Recv_deadline ∷ [] };
+      calls = record { sender = C.Of_sender SC.Drop ∷ []; error = []; receiver = C.Of_receiver RC.RecvDeadline ∷ [] };
       entries =
           E.Made (receiver (T.Word O.Load) 3 3)
           ∷ E.Made (carrying Parker W.Hand W.Cell (receiver T.WriteWaker 3 3))
@@ -495,6 +497,6 @@ dropped_at_its_deadline =
 abbrev pub tried_in_vain : Example
 tried_in_vain =
     record {
-      calls = record { sender = []; error = []; receiver = C.Try_recv ∷ [] };
+      calls = record { sender = []; error = []; receiver = C.Of_receiver RC.TryRecv ∷ [] };
       entries = E.Made (replying R.Empty (receiver (T.Word O.Load) 3 3)) ∷ [];
     }

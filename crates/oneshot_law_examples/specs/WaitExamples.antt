@@ -6,6 +6,8 @@ use Rattle.oneshot_machine.specs.declared.machine.Reply.{Reply}
 use Rattle.oneshot_machine.specs.declared.machine.Reply.TheVariants as R
 use Rattle.oneshot_machine.specs.declared.machine.Step.TheVariants as T
 use Rattle.oneshot_machine.specs.declared.states.Op.TheVariants as O
+use Rattle.oneshot_machine.specs.declared.machine.receiver.ReceiverStart.TheVariants as RC
+use Rattle.oneshot_machine.specs.declared.machine.sender.SenderCall.TheVariants as SC
 use Rattle.oneshot_world.specs.Calls as C
 use Rattle.oneshot_world.specs.World.{World, opening_with, turn}
 use Rattle.oneshot_world.specs.declared.trace.Entry.{Entry}
@@ -81,7 +83,7 @@ IllegalWaits =
     -- "nothing yet" is no answer of these calls
     ∷ answered_by 1 R.Empty (up_to 1 still_waiting)
     ∷ record {
-      calls = record { sender = []; error = []; receiver = C.Recv ∷ [] };
+      calls = record { sender = []; error = []; receiver = C.Of_receiver RC.Recv ∷ [] };
       entries = E.Made (replying R.Empty (receiver (T.Word O.Load) 3 3)) ∷ [];
     }
     -- after a `recv` the receiver has no other call
@@ -123,14 +125,14 @@ MisfreedWaits =
 abbrev pub received_twice : Reply → Example
 received_twice reply =
     record {
-      calls = record { sender = C.Send ∷ []; error = []; receiver = C.Recv_ref ∷ C.Recv_ref ∷ [] };
+      calls = record { sender = C.Of_sender SC.Send ∷ []; error = []; receiver = C.Of_receiver RC.RecvRef ∷ C.Of_receiver RC.RecvRef ∷ [] };
       entries = sent_before_waiting.entries ++ E.Made (replying reply (receiver (T.Word O.Load) 2 2)) ∷ [];
     }
 
 abbrev pub closed_then_received : Reply → Example
 closed_then_received reply =
     record {
-      calls = record { sender = C.Drop_sender ∷ []; error = []; receiver = C.Is_closed ∷ C.Recv ∷ [] };
+      calls = record { sender = C.Of_sender SC.Drop ∷ []; error = []; receiver = C.Of_receiver RC.IsClosed ∷ C.Of_receiver RC.Recv ∷ [] };
       entries =
           E.Made (replying R.Done (sender (T.Word O.Xor) 3 2))
           ∷ E.Made (replying R.Yes (receiver (T.Word O.Load) 2 2))

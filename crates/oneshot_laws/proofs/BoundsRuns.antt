@@ -2,7 +2,9 @@
 use Rattle.std.proofs.Common.{◌≡◌, ℕ, zero, suc, Bool, true, false, not, ◌&&◌, ◌||◌, List, [], ◌∷◌, map, Option, Some, None, refl, ◌∙◌, ap, if◌then◌else◌}
 use Rattle.oneshot_machine.specs.declared.machine.End.{End}
 use Rattle.oneshot_machine.specs.declared.machine.End.TheVariants.{Sender, Receiver}
-use Rattle.oneshot_world.specs.Calls.{Call, Sender_is_closed, Send, Drop_sender, As_inner, Into_inner, Drop_error, Try_recv, Recv_ref, Recv_deadline, Recv_timeout, Recv, Has_message, Is_closed, Drop_receiver, Into_future, Poll, Drop_async, Stray}
+use Rattle.oneshot_machine.specs.declared.machine.receiver.ReceiverStart.TheVariants as RC
+use Rattle.oneshot_machine.specs.declared.machine.sender.SenderCall.TheVariants as SC
+use Rattle.oneshot_world.specs.Calls.{Call, Of_sender, Of_receiver, Poll, Stray}
 use Rattle.oneshot_world.specs.Classes.{Classes, as_call, as_made}
 use Rattle.oneshot_world.specs.declared.trace.Made.{Made}
 use Rattle.oneshot_world.proofs.Bools.{and_left, and_right, both}
@@ -31,11 +33,11 @@ pub data Left : Type 0 where
 
 -- what a call has that begins
 abbrev begun : Call → Left
-begun Send = Counted false 2
-begun Drop_sender = Counted false 2
-begun Try_recv = Counted false 2
+begun (Of_sender SC.Send) = Counted false 2
+begun (Of_sender SC.Drop) = Counted false 2
+begun (Of_receiver RC.TryRecv) = Counted false 2
 begun (Poll number) = Counted true 4
-begun Drop_async = Counted true 3
+begun (Of_receiver RC.DropAsync) = Counted true 3
 begun _ = Unbounded
 
 abbrev under_way : Call → Left → Left
@@ -181,24 +183,12 @@ claims (m ∷ ms) x end p = either m.entry.side end m ms x p.0 (claims ms (budge
 
 -- the bound of the call that begins
 within : (call : Call) (own : List Mark) → covers (begun call) own ≡ true → is_within_its_bound call own ≡ true
-within Sender_is_closed own h = refl
-within Send own h = h
-within Drop_sender own h = h
-within As_inner own h = refl
-within Into_inner own h = refl
-within Drop_error own h = refl
-within Try_recv own h = h
-within Recv_ref own h = refl
-within Recv_deadline own h = refl
-within (Recv_timeout representable) own h = refl
-within Recv own h = refl
-within Has_message own h = refl
-within Is_closed own h = refl
-within Drop_receiver own h = refl
-within Into_future own h = refl
+within (Of_sender SC.Send) own h = h
+within (Of_sender SC.Drop) own h = h
+within (Of_receiver RC.TryRecv) own h = h
+within (Of_receiver RC.DropAsync) own h = h
 within (Poll number) own h = h
-within Drop_async own h = h
-within Stray own h = refl
+within _ own h = refl
 
 begins_at_rest : (begins : Bool) (call : Call) (left : Left) (own : List Mark) → is_same_flag begins (is_resting left) ≡ true → covers (under_way call left) own ≡ true → (not begins || is_within_its_bound call own) ≡ true
 begins_at_rest false call left own h k = refl

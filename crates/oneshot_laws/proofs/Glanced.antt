@@ -2,7 +2,9 @@
 use Rattle.std.proofs.Common.{◌≡◌, ℕ, Bool, true, ◌&&◌, List, [], ◌∷◌, map, Option, refl, sym, ◌∙◌, ap, subst}
 use Rattle.oneshot_machine.specs.declared.machine.End.{End}
 use Rattle.oneshot_machine.specs.declared.machine.End.TheVariants.{Sender, Receiver}
-use Rattle.oneshot_world.specs.Calls.{Call, Poll, Unanswered, calls_of}
+use Rattle.oneshot_machine.specs.declared.machine.receiver.ReceiverStart.TheVariants as RC
+use Rattle.oneshot_machine.specs.declared.machine.sender.SenderCall.TheVariants as SC
+use Rattle.oneshot_world.specs.Calls.{Call, Of_sender, Of_receiver, Poll, Unanswered, calls_of}
 use Rattle.oneshot_world.specs.Classes.{Classes, all_alike, as_call, as_made}
 use Rattle.oneshot_world.specs.Explore.{Tree}
 use Rattle.oneshot_world.specs.World.{World, Tells, opening, opening_place, by_end}
@@ -47,6 +49,8 @@ as_glance k g = record g { entry = as_made k g.entry; call = as_call k g.call }
 glance_as : (k : Classes) (call : Call) (e : Made) (o : Object) (x : Watch) → glance_at (as_call k call) (as_made k e) o x ≡ as_glance k (glance_at call e o x)
 glance_as k (Poll number) e o x =
     ap (λ next. record (as_glance k (glance_at (Poll number) e o x)) { next = next }) (object_as k (hits Receives e x) number o)
+glance_as k (Of_sender SC.Send) e o x = refl
+glance_as k (Of_receiver RC.Recv) e o x = refl
 glance_as k _ e o x = refl
 
 -- what is said of a call and not of a poll's number

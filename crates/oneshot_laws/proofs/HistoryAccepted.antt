@@ -4,7 +4,9 @@ use Rattle.std.specs.List.{list_any, list_all}
 use Rattle.oneshot_machine.specs.declared.machine.End.{End}
 use Rattle.oneshot_machine.specs.declared.machine.End.TheVariants.{Sender, Receiver}
 use Rattle.oneshot_machine.specs.declared.machine.Reply.{Reply}
-use Rattle.oneshot_world.specs.Calls.{Call, Sender_is_closed, Send, Drop_sender, As_inner, Into_inner, Drop_error, Try_recv, Recv_ref, Recv_deadline, Recv_timeout, Recv, Has_message, Is_closed, Drop_receiver, Into_future, Poll, Drop_async, Stray, Unanswered, is_none_left, left_by}
+use Rattle.oneshot_machine.specs.declared.machine.receiver.ReceiverStart.TheVariants as RC
+use Rattle.oneshot_machine.specs.declared.machine.sender.SenderCall.TheVariants as SC
+use Rattle.oneshot_world.specs.Calls.{Call, Of_sender, Of_receiver, Poll, Stray, Unanswered, is_none_left, left_by}
 use Rattle.oneshot_world.specs.World.{by_end}
 use Rattle.oneshot_world.specs.declared.trace.Entry.{Entry}
 use Rattle.oneshot_world.specs.declared.trace.Entry.TheVariants.{Idle, Made as Made_entry}
@@ -59,9 +61,9 @@ stepped_if false call o = refl
 
 -- a receive that has a word for "nothing yet" is a take, and a take of nothing changes nothing
 takes : (call : Call) (n : Reply) → nothing_yet_of call ≡ Some n → action_of call ≡ Some Take
-takes Try_recv n h = refl
-takes Recv_deadline n h = refl
-takes (Recv_timeout true) n h = refl
+takes (Of_receiver RC.TryRecv) n h = refl
+takes (Of_receiver RC.RecvDeadline) n h = refl
+takes (Of_receiver (RC.RecvTimeout true)) n h = refl
 takes (Poll number) n h = refl
 takes _ n h = cc
 
@@ -232,23 +234,24 @@ local_fixed call o x earlier e later none =
     }
 
 local_right : (call : Call) (o : Object) (x : Watch) (earlier : List Made) (e : Made) (later : List Made) → FollowsAt call x earlier → accepts_call call e o x ≡ true → ((y : Reply) → owes_then call e o x ≡ Some y → agrees (answer_from e later) (Some y) ≡ true) → (kind call ≡ Receives → is_nothing_yet (answer_from e later) ≡ true → agrees (answer_from e later) (nothing_yet_of call) ≡ true) → EntryRight (rule call (answer_from e later)) call o (object_by call e o x) (hits (kind call) e x) (answer_from e later) e.reply earlier e (until_reply e.reply later [])
-local_right Sender_is_closed o x earlier e later f ok paid says = local_first loads Sender_is_closed o x earlier e later f.acted ok paid
-local_right Send o x earlier e later f ok paid says = local_first finishes Send o x earlier e later f.acted ok paid
-local_right Drop_sender o x earlier e later f ok paid says = local_first finishes Drop_sender o x earlier e later f.acted ok paid
-local_right As_inner o x earlier e later f ok paid says = local_fixed As_inner o x earlier e later refl
-local_right Into_inner o x earlier e later f ok paid says = local_fixed Into_inner o x earlier e later refl
-local_right Drop_error o x earlier e later f ok paid says = local_fixed Drop_error o x earlier e later refl
-local_right Try_recv o x earlier e later f ok paid says = local_receive Try_recv o x earlier e later f.acted f.worked ok paid (says refl)
-local_right Recv_ref o x earlier e later f ok paid says = local_receive Recv_ref o x earlier e later f.acted f.worked ok paid (says refl)
-local_right Recv_deadline o x earlier e later f ok paid says = local_receive Recv_deadline o x earlier e later f.acted f.worked ok paid (says refl)
-local_right (Recv_timeout representable) o x earlier e later f ok paid says = local_receive (Recv_timeout representable) o x earlier e later f.acted f.worked ok paid (says refl)
-local_right Recv o x earlier e later f ok paid says = local_receive Recv o x earlier e later f.acted f.worked ok paid (says refl)
-local_right Has_message o x earlier e later f ok paid says = local_first loads Has_message o x earlier e later f.acted ok paid
-local_right Is_closed o x earlier e later f ok paid says = local_first loads Is_closed o x earlier e later f.acted ok paid
-local_right Drop_receiver o x earlier e later f ok paid says = local_first swaps_closed_in Drop_receiver o x earlier e later f.acted ok paid
-local_right Into_future o x earlier e later f ok paid says = local_fixed Into_future o x earlier e later refl
+local_right (Of_sender SC.IsClosed) o x earlier e later f ok paid says = local_first loads (Of_sender SC.IsClosed) o x earlier e later f.acted ok paid
+local_right (Of_sender SC.Send) o x earlier e later f ok paid says = local_first finishes (Of_sender SC.Send) o x earlier e later f.acted ok paid
+local_right (Of_sender SC.Drop) o x earlier e later f ok paid says = local_first finishes (Of_sender SC.Drop) o x earlier e later f.acted ok paid
+local_right (Of_sender SC.AsInner) o x earlier e later f ok paid says = local_fixed (Of_sender SC.AsInner) o x earlier e later refl
+local_right (Of_sender SC.IntoInner) o x earlier e later f ok paid says = local_fixed (Of_sender SC.IntoInner) o x earlier e later refl
+local_right (Of_sender SC.DropError) o x earlier e later f ok paid says = local_fixed (Of_sender SC.DropError) o x earlier e later refl
+local_right (Of_receiver RC.TryRecv) o x earlier e later f ok paid says = local_receive (Of_receiver RC.TryRecv) o x earlier e later f.acted f.worked ok paid (says refl)
+local_right (Of_receiver RC.RecvRef) o x earlier e later f ok paid says = local_receive (Of_receiver RC.RecvRef) o x earlier e later f.acted f.worked ok paid (says refl)
+local_right (Of_receiver RC.RecvDeadline) o x earlier e later f ok paid says = local_receive (Of_receiver RC.RecvDeadline) o x earlier e later f.acted f.worked ok paid (says refl)
+local_right (Of_receiver (RC.RecvTimeout representable)) o x earlier e later f ok paid says = local_receive (Of_receiver (RC.RecvTimeout representable)) o x earlier e later f.acted f.worked ok paid (says refl)
+local_right (Of_receiver RC.Recv) o x earlier e later f ok paid says = local_receive (Of_receiver RC.Recv) o x earlier e later f.acted f.worked ok paid (says refl)
+local_right (Of_receiver RC.HasMessage) o x earlier e later f ok paid says = local_first loads (Of_receiver RC.HasMessage) o x earlier e later f.acted ok paid
+local_right (Of_receiver RC.IsClosed) o x earlier e later f ok paid says = local_first loads (Of_receiver RC.IsClosed) o x earlier e later f.acted ok paid
+local_right (Of_receiver RC.Drop) o x earlier e later f ok paid says = local_first swaps_closed_in (Of_receiver RC.Drop) o x earlier e later f.acted ok paid
+local_right (Of_receiver RC.IntoFuture) o x earlier e later f ok paid says = local_fixed (Of_receiver RC.IntoFuture) o x earlier e later refl
+local_right (Of_receiver RC.Poll) o x earlier e later f ok paid says = local_receive (Of_receiver RC.Poll) o x earlier e later f.acted f.worked ok paid (says refl)
 local_right (Poll number) o x earlier e later f ok paid says = local_receive (Poll number) o x earlier e later f.acted f.worked ok paid (says refl)
-local_right Drop_async o x earlier e later f ok paid says = local_first swaps_closed_in Drop_async o x earlier e later f.acted ok paid
+local_right (Of_receiver RC.DropAsync) o x earlier e later f ok paid says = local_first swaps_closed_in (Of_receiver RC.DropAsync) o x earlier e later f.acted ok paid
 local_right Stray o x earlier e later f ok paid says = absurd (cc ok)
 
 not_stray : (call : Call) (e : Made) (o : Object) (x : Watch) → accepts_call call e o x ≡ true → not (is_stray call) ≡ true
@@ -256,10 +259,10 @@ not_stray Stray e o x h = cc
 not_stray _ e o x h = refl
 
 answers_as_ever : (call : Call) (e : Made) (o : Object) (x : Watch) → accepts_call call e o x ≡ true → only_if (not (is_object_step call) && not (is_stray call)) (agrees e.reply (fixed_reply_of call)) ≡ true
-answers_as_ever As_inner e o x h = and_right (not (is_some x.owes)) _ h
-answers_as_ever Into_inner e o x h = and_right (not (is_some x.owes)) _ h
-answers_as_ever Drop_error e o x h = and_right (not (is_some x.owes)) _ h
-answers_as_ever Into_future e o x h = and_right (not (is_some x.owes)) _ h
+answers_as_ever (Of_sender SC.AsInner) e o x h = and_right (not (is_some x.owes)) _ h
+answers_as_ever (Of_sender SC.IntoInner) e o x h = and_right (not (is_some x.owes)) _ h
+answers_as_ever (Of_sender SC.DropError) e o x h = and_right (not (is_some x.owes)) _ h
+answers_as_ever (Of_receiver RC.IntoFuture) e o x h = and_right (not (is_some x.owes)) _ h
 answers_as_ever Stray e o x h = cc
 answers_as_ever _ e o x h = refl
 
@@ -334,9 +337,9 @@ glances m s r (Made_entry e ∷ es) =
 
 -- a call that ends its end has no word for "nothing yet"
 no_word : (call : Call) → (is_end_of_sender call || is_end_of_receiver call) ≡ true → nothing_yet_of call ≡ None
-no_word Try_recv h = cc
-no_word Recv_deadline h = cc
-no_word (Recv_timeout true) h = cc
+no_word (Of_receiver RC.TryRecv) h = cc
+no_word (Of_receiver RC.RecvDeadline) h = cc
+no_word (Of_receiver (RC.RecvTimeout true)) h = cc
 no_word (Poll number) h = cc
 no_word _ h = refl
 

@@ -3,7 +3,11 @@ use Rattle.std.proofs.Common.{◌≡◌, ℕ, Bool, true, false, not, ◌&&◌, 
 use Rattle.oneshot_machine.specs.declared.machine.End.{End}
 use Rattle.oneshot_machine.specs.declared.machine.End.TheVariants.{Sender, Receiver}
 use Rattle.oneshot_machine.specs.declared.machine.Reply.{Reply}
-use Rattle.oneshot_world.specs.Calls.{Call, Sender_is_closed, Send, Drop_sender, As_inner, Into_inner, Drop_error, Try_recv, Recv_ref, Recv_deadline, Recv_timeout, Recv, Has_message, Is_closed, Drop_receiver, Into_future, Poll, Drop_async, Stray}
+use Rattle.oneshot_machine.specs.declared.machine.receiver.ReceiverStart.{ReceiverStart}
+use Rattle.oneshot_machine.specs.declared.machine.receiver.ReceiverStart.TheVariants as RC
+use Rattle.oneshot_machine.specs.declared.machine.sender.SenderCall.{SenderCall}
+use Rattle.oneshot_machine.specs.declared.machine.sender.SenderCall.TheVariants as SC
+use Rattle.oneshot_world.specs.Calls.{Call, Of_sender, Of_receiver, Poll, Stray}
 use Rattle.oneshot_world.specs.Classes.{Classes, as_call, as_made}
 use Rattle.oneshot_world.specs.declared.trace.Made.{Made}
 use Rattle.oneshot_laws.specs.Entries.{is_same_reply, says_nothing_yet}
@@ -21,24 +25,31 @@ pub data Kind : Type 0 where
   Answers_always : Kind
   Is_none : Kind
 
+abbrev pub sender_kind : SenderCall → Kind
+sender_kind SC.IsClosed = Acts_first loads
+sender_kind SC.Send = Acts_first finishes
+sender_kind SC.Drop = Acts_first finishes
+sender_kind SC.AsInner = Answers_always
+sender_kind SC.IntoInner = Answers_always
+sender_kind SC.DropError = Answers_always
+
+abbrev pub receiver_kind : ReceiverStart → Kind
+receiver_kind RC.TryRecv = Receives
+receiver_kind RC.RecvRef = Receives
+receiver_kind RC.RecvDeadline = Receives
+receiver_kind (RC.RecvTimeout representable) = Receives
+receiver_kind RC.Recv = Receives
+receiver_kind RC.HasMessage = Acts_first loads
+receiver_kind RC.IsClosed = Acts_first loads
+receiver_kind RC.Drop = Acts_first swaps_closed_in
+receiver_kind RC.IntoFuture = Answers_always
+receiver_kind RC.Poll = Receives
+receiver_kind RC.DropAsync = Acts_first swaps_closed_in
+
 abbrev pub kind : Call → Kind
-kind Sender_is_closed = Acts_first loads
-kind Send = Acts_first finishes
-kind Drop_sender = Acts_first finishes
-kind As_inner = Answers_always
-kind Into_inner = Answers_always
-kind Drop_error = Answers_always
-kind Try_recv = Receives
-kind Recv_ref = Receives
-kind Recv_deadline = Receives
-kind (Recv_timeout representable) = Receives
-kind Recv = Receives
-kind Has_message = Acts_first loads
-kind Is_closed = Acts_first loads
-kind Drop_receiver = Acts_first swaps_closed_in
-kind Into_future = Answers_always
-kind (Poll number) = Receives
-kind Drop_async = Acts_first swaps_closed_in
+kind (Of_sender call) = sender_kind call
+kind (Of_receiver call) = receiver_kind call
+kind (Poll number) = receiver_kind RC.Poll
 kind Stray = Is_none
 
 -- the entry at which a call acts that does not answer "nothing yet"
@@ -176,7 +187,8 @@ histories =
 
 -- the reader looks at no name and at no number
 accepts_alike : (k : Classes) (side : End) (call : Call) (e : Made) (m : Reader) → accepts side (as_call k call) (as_made k e) m ≡ accepts side call e m
-accepts_alike k side (Poll number) e m = refl
+accepts_alike k side (Of_sender SC.Send) e m = refl
+accepts_alike k side (Of_receiver RC.Recv) e m = refl
 accepts_alike k side _ e m = refl
 
 pub object_as : (k : Classes) (now : Bool) (number : ℕ) (o : Object) → object_if now (Poll (k.polls number)) o ≡ object_if now (Poll number) o
@@ -190,9 +202,13 @@ read_to Receiver o x m = record { object = o; sender = m.sender; receiver = x }
 reads_alike : (k : Classes) (side : End) (call : Call) (e : Made) (m : Reader) → reads side (as_call k call) (as_made k e) m ≡ reads side call e m
 reads_alike k Sender (Poll number) e m =
     ap (λ o. read_to Sender o (watch_then (Poll number) e m.object m.sender) m) (object_as k (hits Receives e m.sender) number m.object)
+reads_alike k Sender (Of_sender SC.Send) e m = refl
+reads_alike k Sender (Of_receiver RC.Recv) e m = refl
 reads_alike k Sender _ e m = refl
 reads_alike k Receiver (Poll number) e m =
     ap (λ o. read_to Receiver o (watch_then (Poll number) e m.object m.receiver) m) (object_as k (hits Receives e m.receiver) number m.object)
+reads_alike k Receiver (Of_sender SC.Send) e m = refl
+reads_alike k Receiver (Of_receiver RC.Recv) e m = refl
 reads_alike k Receiver _ e m = refl
 
 pub histories_nameless : NamelessReader histories

@@ -1,7 +1,8 @@
 -- The message is always in one place: it begins as not sent, moves as it may, and ends with somebody once all have ended.
 use Rattle.std.proofs.Common.{◌≡◌, ℕ, zero, suc, ◌+◌, Bool, true, false, ◌&&◌, ◌||◌, List, [], ◌∷◌, ◌++◌, Option, Some, None, is_some, map, replicate, refl, sym, ◌∙◌, ap, subst}
 use Rattle.std.specs.List.{list_any, filter_map, cons_option}
-use Rattle.oneshot_world.specs.Calls.{Call, Sender_is_closed, calls_of, sender_last}
+use Rattle.oneshot_machine.specs.declared.machine.sender.SenderCall.TheVariants as SC
+use Rattle.oneshot_world.specs.Calls.{Call, Of_sender, calls_of, sender_last}
 use Rattle.oneshot_world.specs.Classes.{Classes}
 use Rattle.oneshot_world.specs.World.{World, Tells, opening, opening_place}
 use Rattle.oneshot_world.specs.declared.script.Move.{Move}
@@ -77,7 +78,7 @@ path (m ∷ ms) None p = no_move m.entry.message (moves_of ms) p.0 (path ms None
 path (m ∷ ms) (Some place) p = one_move m.entry.message place (moves_of ms) p.0 (path ms _ p.1)
 
 -- whether the scripts have a message
-sends_after_looks : (n : ℕ) (calls : List Call) → list_any is_send (replicate n Sender_is_closed ++ calls) ≡ list_any is_send calls
+sends_after_looks : (n : ℕ) (calls : List Call) → list_any is_send (replicate n (Of_sender SC.IsClosed) ++ calls) ≡ list_any is_send calls
 sends_after_looks zero calls = refl
 sends_after_looks (suc n) calls = sends_after_looks n calls
 

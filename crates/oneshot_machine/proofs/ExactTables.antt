@@ -5,7 +5,13 @@ use Rattle.std.specs.Prelude.{◌==◌, if◌then◌else◌, is_some}
 use Rattle.std.specs.List.{list_all}
 use Rattle.std.proofs.lemmas.Bool.{eq-eqb}
 use Rattle.std.proofs.lemmas.List.Elements.{All-cons}
-use Rattle.oneshot_machine.specs.declared.machine.receiver.ReceiverPos.TheVariants.{TryLoad, Close, CloseOnly, StartLoad, StartSwap, ParkLoad, TimedLoad, EndSwap, LateLoad, RecvLoad, RecvSwap, RecvParkLoad, Future, DropSwap}
+use Rattle.oneshot_machine.specs.declared.machine.receiver.ReceiverPos.TheVariants.{Look, Ref, Timed, Value, Future, AsyncDrop, Drop}
+use Rattle.oneshot_machine.specs.declared.machine.look.LookPos.TheVariants.{TryLoad, Close, CloseOnly}
+use Rattle.oneshot_machine.specs.declared.machine.by_ref.RefPos.TheVariants.{StartLoad, StartSwap, ParkLoad}
+use Rattle.oneshot_machine.specs.declared.machine.timed.TimedPos.TheVariants.{TimedLoad, EndSwap, LateLoad}
+use Rattle.oneshot_machine.specs.declared.machine.value.ValuePos.TheVariants.{RecvLoad, RecvSwap, RecvParkLoad}
+use Rattle.oneshot_machine.specs.declared.machine.async_drop.AsyncDropPos.TheVariants.{AsyncLoad, AsyncExchange, AsyncSpin}
+use Rattle.oneshot_machine.specs.declared.machine.drop.DropPos.TheVariants.{DropSwap}
 use Rattle.oneshot_machine.specs.declared.machine.future.FuturePos.TheVariants as F
 use Rattle.oneshot_machine.specs.declared.machine.sender.SenderPos.{SenderPos}
 use Rattle.oneshot_machine.specs.declared.machine.sender.SenderPos.TheVariants.{SendAdd, SendFinal, DropXor, DropFinal}
@@ -77,56 +83,56 @@ data SenderStands : SenderAt → List SenderPos → Type 0 where
 -- where a receiver stands between its calls
 abbrev between_calls : List Standpoint
 between_calls =
-    plainly TryLoad
-    ∷ plainly (StartLoad false)
-    ∷ plainly (StartLoad true)
-    ∷ plainly RecvLoad
-    ∷ plainly DropSwap
+    plainly (Look TryLoad)
+    ∷ plainly (Ref (StartLoad false))
+    ∷ plainly (Ref (StartLoad true))
+    ∷ plainly (Value RecvLoad)
+    ∷ plainly (Drop DropSwap)
     ∷ as_future (Future F.PollLoad)
-    ∷ as_future (Future F.AsyncLoad)
+    ∷ as_future (AsyncDrop AsyncLoad)
     ∷ []
 
 -- where it may after a load that found 3, which may also be the first of a call that blocks, of a
 -- poll or of a future's drop
 abbrev after_a_look : List Standpoint
 after_a_look =
-    plainly TryLoad
-    ∷ plainly (StartLoad false)
-    ∷ plainly (StartLoad true)
-    ∷ plainly (StartSwap false)
-    ∷ plainly (StartSwap true)
-    ∷ plainly RecvLoad
-    ∷ plainly RecvSwap
-    ∷ plainly DropSwap
+    plainly (Look TryLoad)
+    ∷ plainly (Ref (StartLoad false))
+    ∷ plainly (Ref (StartLoad true))
+    ∷ plainly (Ref (StartSwap false))
+    ∷ plainly (Ref (StartSwap true))
+    ∷ plainly (Value RecvLoad)
+    ∷ plainly (Value RecvSwap)
+    ∷ plainly (Drop DropSwap)
     ∷ as_future (Future F.PollLoad)
     ∷ as_future (Future F.PollExchange)
-    ∷ as_future (Future F.AsyncLoad)
-    ∷ as_future DropSwap
+    ∷ as_future (AsyncDrop AsyncLoad)
+    ∷ as_future (Drop DropSwap)
     ∷ []
 
 -- and where a future does
 abbrev between_polls : List Standpoint
-between_polls = as_future (Future F.PollLoad) ∷ as_future (Future F.AsyncLoad) ∷ []
+between_polls = as_future (Future F.PollLoad) ∷ as_future (AsyncDrop AsyncLoad) ∷ []
 
 abbrev in_its_drop : List Standpoint
-in_its_drop = as_future DropSwap ∷ []
+in_its_drop = as_future (Drop DropSwap) ∷ []
 
 data ReceiverStands : ReceiverAt → List Standpoint → Type 0 where
   stands_first : ReceiverStands first between_calls
   stands_looked : ReceiverStands (here looked) after_a_look
   stands_between : ReceiverStands (here between) between_calls
-  stands_waiting : ReceiverStands (waits blocked) (plainly ParkLoad ∷ plainly TimedLoad ∷ plainly EndSwap ∷ plainly RecvParkLoad ∷ [])
+  stands_waiting : ReceiverStands (waits blocked) (plainly (Ref ParkLoad) ∷ plainly (Timed TimedLoad) ∷ plainly (Timed EndSwap) ∷ plainly (Value RecvParkLoad) ∷ [])
   stands_polled : ReceiverStands (waits polled) between_polls
-  stands_again : ReceiverStands (waits again) (as_future (Future F.PollLoad) ∷ as_future (Future F.AgainExchange) ∷ as_future (Future F.AsyncLoad) ∷ as_future (Future F.AsyncExchange) ∷ [])
-  stands_spinning : ReceiverStands claimed (as_future (Future F.PollSpin) ∷ as_future (Future F.AsyncSpin) ∷ [])
-  stands_claimed : ReceiverStands claimed (as_future (Future F.PollLoad) ∷ as_future (Future F.AsyncLoad) ∷ as_future (Future F.AsyncSpin) ∷ [])
+  stands_again : ReceiverStands (waits again) (as_future (Future F.PollLoad) ∷ as_future (Future F.AgainExchange) ∷ as_future (AsyncDrop AsyncLoad) ∷ as_future (AsyncDrop AsyncExchange) ∷ [])
+  stands_spinning : ReceiverStands claimed (as_future (Future F.PollSpin) ∷ as_future (AsyncDrop AsyncSpin) ∷ [])
+  stands_claimed : ReceiverStands claimed (as_future (Future F.PollLoad) ∷ as_future (AsyncDrop AsyncLoad) ∷ as_future (AsyncDrop AsyncSpin) ∷ [])
   stands_withdrew : ReceiverStands withdrew (as_future (Future F.PollExchange) ∷ in_its_drop)
-  stands_overdue : ReceiverStands overdue (plainly LateLoad ∷ [])
-  stands_full : (left : ℕ) → ReceiverStands (full waited left) (plainly Close ∷ [])
-  stands_found : ReceiverStands (full at_once 4) (plainly Close ∷ as_future Close ∷ in_its_drop)
-  stands_found_by_future : ReceiverStands (full by_future 4) (as_future Close ∷ in_its_drop)
-  stands_found_by_poll : ReceiverStands (full by_poll 4) (as_future Close ∷ [])
-  stands_unclosed : (left : ℕ) → ReceiverStands (unclosed left) (plainly CloseOnly ∷ [])
+  stands_overdue : ReceiverStands overdue (plainly (Timed LateLoad) ∷ [])
+  stands_full : (left : ℕ) → ReceiverStands (full waited left) (plainly (Look Close) ∷ [])
+  stands_found : ReceiverStands (full at_once 4) (plainly (Look Close) ∷ as_future (Look Close) ∷ in_its_drop)
+  stands_found_by_future : ReceiverStands (full by_future 4) (as_future (Look Close) ∷ in_its_drop)
+  stands_found_by_poll : ReceiverStands (full by_poll 4) (as_future (Look Close) ∷ [])
+  stands_unclosed : (left : ℕ) → ReceiverStands (unclosed left) (plainly (Look CloseOnly) ∷ [])
   stands_closed : (c : Closing) → ReceiverStands (over c) between_calls
   stands_over : (c : Closing) → ReceiverStands (over c) (between_calls ++ in_its_drop)
   stands_over_as_future : (c : Closing) → ReceiverStands (over c) (between_polls ++ in_its_drop)

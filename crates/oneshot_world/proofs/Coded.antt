@@ -1,12 +1,22 @@
 -- Values that are compared by their codes are the same where their codes are.
-use Rattle.std.proofs.Common.{◌≡◌, ℕ, Bool, true, false, List, [], ◌∷◌, Option, Some, None, refl, sym, ◌∙◌, ap, ◌==◌, ◌&&◌, get_or, map}
+use Rattle.std.proofs.Common.{◌≡◌, ℕ, Bool, true, false, List, [], ◌∷◌, Option, Some, None, refl, sym, ◌∙◌, ap, ◌==◌, ◌&&◌, get_or, map, if◌then◌else◌}
 use Rattle.std.proofs.lemmas.Bool.{eqb-true}
 use Rattle.oneshot_machine.specs.Standing.{sender_positions, receiver_positions}
 use Rattle.oneshot_machine.specs.declared.machine.future.FuturePos.TheVariants as F
 use Rattle.oneshot_machine.specs.declared.machine.receiver.ReceiverPos.TheVariants as R
+use Rattle.oneshot_machine.specs.declared.machine.look.LookPos.TheVariants.{LookFull, LookClosed, TryLoad, Close, Take, CloseOnly}
+use Rattle.oneshot_machine.specs.declared.machine.by_ref.RefPos.TheVariants.{StartLoad, StartWrite, StartSwap, BackFull, BackClosed, Park, ParkLoad}
+use Rattle.oneshot_machine.specs.declared.machine.timed.TimedPos.TheVariants.{SumClock, Clock, TimedPark, TimedLoad, EndSwap, EndBack, LatePark, LateLoad}
+use Rattle.oneshot_machine.specs.declared.machine.value.ValuePos.TheVariants.{RecvLoad, RecvWrite, RecvSwap, RecvBackFull, RecvBackClosed, RecvPark, RecvParkLoad, RecvTake, RecvFreeGot, RecvFreeGone}
+use Rattle.oneshot_machine.specs.declared.machine.async_drop.AsyncDropPos.TheVariants.{AsyncLoad, AsyncExchange, AsyncBack, AsyncSpin}
+use Rattle.oneshot_machine.specs.declared.machine.drop.DropPos.TheVariants.{DropSwap, DropMessage, DropFree}
 use Rattle.oneshot_machine.specs.declared.machine.sender.SenderPos.TheVariants as S
-use Rattle.oneshot_world.specs.Calls.{Call, Sender_is_closed, Send, Drop_sender, As_inner, Into_inner, Drop_error, Try_recv, Recv_ref, Recv_deadline, Recv_timeout, Recv, Has_message, Is_closed, Drop_receiver, Into_future, Poll, Drop_async, Stray}
-use Rattle.oneshot_world.specs.Control.{Control, sender_code, receiver_code, call_code, poll_code, is_same_call, place_code, bool_code, is_same_wakers, is_same_state, is_same_control}
+use Rattle.oneshot_machine.specs.declared.machine.receiver.ReceiverStart.{ReceiverStart}
+use Rattle.oneshot_machine.specs.declared.machine.receiver.ReceiverStart.TheVariants as RC
+use Rattle.oneshot_machine.specs.declared.machine.sender.SenderCall.{SenderCall}
+use Rattle.oneshot_machine.specs.declared.machine.sender.SenderCall.TheVariants as SC
+use Rattle.oneshot_world.specs.Calls.{Call, Of_sender, Of_receiver, Poll, Stray}
+use Rattle.oneshot_world.specs.Control.{Control, sender_code, receiver_code, sender_call_code, receiver_call_code, is_same_call, is_same_under_way, place_code, bool_code, is_same_wakers, is_same_state, is_same_control}
 use Rattle.oneshot_world.specs.Wakers.{is_same_waker, is_same_name}
 use Rattle.oneshot_world.specs.declared.state.ReceiverState.{ReceiverState}
 use Rattle.oneshot_world.specs.declared.state.ReceiverState.TheVariants as RS
@@ -54,41 +64,41 @@ receivers = RS.Ready ∷ RS.Ended ∷ map RS.At receiver_positions
 receiver_back : (s : ReceiverState) → get_or receivers (receiver_code s) RS.Ended ≡ s
 receiver_back RS.Ready = refl
 receiver_back RS.Ended = refl
-receiver_back (RS.At R.LookFull) = refl
-receiver_back (RS.At R.LookClosed) = refl
-receiver_back (RS.At R.TryLoad) = refl
-receiver_back (RS.At R.Close) = refl
-receiver_back (RS.At R.Take) = refl
-receiver_back (RS.At R.CloseOnly) = refl
-receiver_back (RS.At (R.SumClock false)) = refl
-receiver_back (RS.At (R.SumClock true)) = refl
-receiver_back (RS.At (R.StartLoad false)) = refl
-receiver_back (RS.At (R.StartLoad true)) = refl
-receiver_back (RS.At (R.StartWrite false)) = refl
-receiver_back (RS.At (R.StartWrite true)) = refl
-receiver_back (RS.At (R.StartSwap false)) = refl
-receiver_back (RS.At (R.StartSwap true)) = refl
-receiver_back (RS.At R.BackFull) = refl
-receiver_back (RS.At R.BackClosed) = refl
-receiver_back (RS.At R.Park) = refl
-receiver_back (RS.At R.ParkLoad) = refl
-receiver_back (RS.At R.Clock) = refl
-receiver_back (RS.At R.TimedPark) = refl
-receiver_back (RS.At R.TimedLoad) = refl
-receiver_back (RS.At R.EndSwap) = refl
-receiver_back (RS.At R.EndBack) = refl
-receiver_back (RS.At R.LatePark) = refl
-receiver_back (RS.At R.LateLoad) = refl
-receiver_back (RS.At R.RecvLoad) = refl
-receiver_back (RS.At R.RecvWrite) = refl
-receiver_back (RS.At R.RecvSwap) = refl
-receiver_back (RS.At R.RecvBackFull) = refl
-receiver_back (RS.At R.RecvBackClosed) = refl
-receiver_back (RS.At R.RecvPark) = refl
-receiver_back (RS.At R.RecvParkLoad) = refl
-receiver_back (RS.At R.RecvTake) = refl
-receiver_back (RS.At R.RecvFreeGot) = refl
-receiver_back (RS.At R.RecvFreeGone) = refl
+receiver_back (RS.At (R.Look LookFull)) = refl
+receiver_back (RS.At (R.Look LookClosed)) = refl
+receiver_back (RS.At (R.Look TryLoad)) = refl
+receiver_back (RS.At (R.Look Close)) = refl
+receiver_back (RS.At (R.Look Take)) = refl
+receiver_back (RS.At (R.Look CloseOnly)) = refl
+receiver_back (RS.At (R.Ref (StartLoad false))) = refl
+receiver_back (RS.At (R.Ref (StartLoad true))) = refl
+receiver_back (RS.At (R.Ref (StartWrite false))) = refl
+receiver_back (RS.At (R.Ref (StartWrite true))) = refl
+receiver_back (RS.At (R.Ref (StartSwap false))) = refl
+receiver_back (RS.At (R.Ref (StartSwap true))) = refl
+receiver_back (RS.At (R.Ref BackFull)) = refl
+receiver_back (RS.At (R.Ref BackClosed)) = refl
+receiver_back (RS.At (R.Ref Park)) = refl
+receiver_back (RS.At (R.Ref ParkLoad)) = refl
+receiver_back (RS.At (R.Timed (SumClock false))) = refl
+receiver_back (RS.At (R.Timed (SumClock true))) = refl
+receiver_back (RS.At (R.Timed Clock)) = refl
+receiver_back (RS.At (R.Timed TimedPark)) = refl
+receiver_back (RS.At (R.Timed TimedLoad)) = refl
+receiver_back (RS.At (R.Timed EndSwap)) = refl
+receiver_back (RS.At (R.Timed EndBack)) = refl
+receiver_back (RS.At (R.Timed LatePark)) = refl
+receiver_back (RS.At (R.Timed LateLoad)) = refl
+receiver_back (RS.At (R.Value RecvLoad)) = refl
+receiver_back (RS.At (R.Value RecvWrite)) = refl
+receiver_back (RS.At (R.Value RecvSwap)) = refl
+receiver_back (RS.At (R.Value RecvBackFull)) = refl
+receiver_back (RS.At (R.Value RecvBackClosed)) = refl
+receiver_back (RS.At (R.Value RecvPark)) = refl
+receiver_back (RS.At (R.Value RecvParkLoad)) = refl
+receiver_back (RS.At (R.Value RecvTake)) = refl
+receiver_back (RS.At (R.Value RecvFreeGot)) = refl
+receiver_back (RS.At (R.Value RecvFreeGone)) = refl
 receiver_back (RS.At (R.Future F.IntoFuture)) = refl
 receiver_back (RS.At (R.Future F.PollLoad)) = refl
 receiver_back (RS.At (R.Future F.PollCopy)) = refl
@@ -101,58 +111,65 @@ receiver_back (RS.At (R.Future F.AgainExchange)) = refl
 receiver_back (RS.At (R.Future F.AgainBack)) = refl
 receiver_back (RS.At (R.Future F.PollOwn)) = refl
 receiver_back (RS.At (R.Future F.PollSpin)) = refl
-receiver_back (RS.At (R.Future F.AsyncLoad)) = refl
-receiver_back (RS.At (R.Future F.AsyncExchange)) = refl
-receiver_back (RS.At (R.Future F.AsyncBack)) = refl
-receiver_back (RS.At (R.Future F.AsyncSpin)) = refl
-receiver_back (RS.At R.DropSwap) = refl
-receiver_back (RS.At R.DropMessage) = refl
-receiver_back (RS.At R.DropFree) = refl
+receiver_back (RS.At (R.AsyncDrop AsyncLoad)) = refl
+receiver_back (RS.At (R.AsyncDrop AsyncExchange)) = refl
+receiver_back (RS.At (R.AsyncDrop AsyncBack)) = refl
+receiver_back (RS.At (R.AsyncDrop AsyncSpin)) = refl
+receiver_back (RS.At (R.Drop DropSwap)) = refl
+receiver_back (RS.At (R.Drop DropMessage)) = refl
+receiver_back (RS.At (R.Drop DropFree)) = refl
 
--- the call of a code, with this number if it is a poll
-abbrev calls : List Call
-calls =
-    Stray ∷ Sender_is_closed ∷ Send ∷ Drop_sender ∷ As_inner ∷ Into_inner ∷ Drop_error ∷ Try_recv ∷ Recv_ref ∷ Recv_deadline ∷ Recv_timeout false ∷ Recv_timeout true ∷ Recv ∷ Has_message ∷ Is_closed ∷ Drop_receiver ∷ Stray ∷ Into_future ∷ Drop_async ∷ Poll 0 ∷ []
+-- the value of a list that has a code
+abbrev with_code : {X : Type 0} → (X → ℕ) → ℕ → List X → Option X
+with_code code n [] = None
+with_code code n (x ∷ xs) = if code x == n then Some x else with_code code n xs
 
-abbrev numbered : ℕ → Call → Call
-numbered number (Poll other) = Poll number
-numbered number call = call
+same_with : {X : Type 0} (code : X → ℕ) (values : List X) → ((x : X) → with_code code (code x) values ≡ Some x) → (x y : X) → (code x == code y) ≡ true → x ≡ y
+same_with code values back x y h =
+    let same : Some x ≡ Some y = sym (back x) ∙ ap (λ k. with_code code k values) (eqb-true (code x) (code y) h) ∙ back y in
+    cc same
 
-call_back : (c : Call) → numbered (poll_code c) (get_or calls (call_code c) Stray) ≡ c
-call_back Sender_is_closed = refl
-call_back Send = refl
-call_back Drop_sender = refl
-call_back As_inner = refl
-call_back Into_inner = refl
-call_back Drop_error = refl
-call_back Try_recv = refl
-call_back Recv_ref = refl
-call_back Recv_deadline = refl
-call_back (Recv_timeout false) = refl
-call_back (Recv_timeout true) = refl
-call_back Recv = refl
-call_back Has_message = refl
-call_back Is_closed = refl
-call_back Drop_receiver = refl
-call_back Stray = refl
-call_back Into_future = refl
-call_back Drop_async = refl
-call_back (Poll number) = refl
+abbrev sender_calls : List SenderCall
+sender_calls = SC.IsClosed ∷ SC.Send ∷ SC.Drop ∷ SC.AsInner ∷ SC.IntoInner ∷ SC.DropError ∷ []
 
-pub call_is : (a b : Call) → (call_code a == call_code b && poll_code a == poll_code b) ≡ true → a ≡ b
-call_is a b h =
-    let code : call_code a ≡ call_code b = eqb-true (call_code a) (call_code b) (and_left _ (poll_code a == poll_code b) h) in
-    let number : poll_code a ≡ poll_code b = eqb-true (poll_code a) (poll_code b) (and_right (call_code a == call_code b) _ h) in
-    sym (call_back a)
-    ∙ ap (λ n. numbered n (get_or calls (call_code a) Stray)) number
-    ∙ ap (λ k. numbered (poll_code b) (get_or calls k Stray)) code
-    ∙ call_back b
+sender_call_back : (c : SenderCall) → with_code sender_call_code (sender_call_code c) sender_calls ≡ Some c
+sender_call_back SC.IsClosed = refl
+sender_call_back _ = refl
 
-pub under_way_is : (a b : Option Call) → is_same_call a b ≡ true → a ≡ b
+abbrev receiver_calls : List ReceiverStart
+receiver_calls =
+    RC.TryRecv
+    ∷ RC.Recv
+    ∷ RC.RecvRef
+    ∷ RC.RecvDeadline
+    ∷ RC.RecvTimeout false
+    ∷ RC.RecvTimeout true
+    ∷ RC.HasMessage
+    ∷ RC.IsClosed
+    ∷ RC.IntoFuture
+    ∷ RC.Poll
+    ∷ RC.Drop
+    ∷ RC.DropAsync
+    ∷ []
+
+receiver_call_back : (c : ReceiverStart) → with_code receiver_call_code (receiver_call_code c) receiver_calls ≡ Some c
+receiver_call_back (RC.RecvTimeout false) = refl
+receiver_call_back (RC.RecvTimeout true) = refl
+receiver_call_back _ = refl
+
+pub call_is : (a b : Call) → is_same_call a b ≡ true → a ≡ b
+call_is (Of_sender a) (Of_sender b) h =
+    ap (λ (c : SenderCall). Of_sender c) (same_with sender_call_code sender_calls sender_call_back a b h)
+call_is (Of_receiver a) (Of_receiver b) h =
+    ap (λ (c : ReceiverStart). Of_receiver c) (same_with receiver_call_code receiver_calls receiver_call_back a b h)
+call_is (Poll a) (Poll b) h = ap (λ (n : ℕ). Poll n) (eqb-true a b h)
+call_is Stray Stray h = refl
+call_is _ _ h = cc
+
+pub under_way_is : (a b : Option Call) → is_same_under_way a b ≡ true → a ≡ b
 under_way_is None None h = refl
 under_way_is (Some a) (Some b) h = ap (λ (c : Call). Some c) (call_is a b h)
-under_way_is None (Some b) h = cc
-under_way_is (Some a) None h = cc
+under_way_is _ _ h = cc
 
 abbrev places : List (Option Place)
 places =

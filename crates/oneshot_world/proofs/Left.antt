@@ -4,7 +4,9 @@ use Rattle.oneshot_machine.specs.declared.machine.receiver.ReceiverPos.{Receiver
 use Rattle.oneshot_machine.specs.declared.machine.receiver.ReceiverStart.{ReceiverStart}
 use Rattle.oneshot_machine.specs.declared.machine.sender.SenderCall.{SenderCall}
 use Rattle.oneshot_machine.specs.declared.machine.sender.SenderPos.{SenderPos}
-use Rattle.oneshot_world.specs.Calls.{Call, Sender_is_closed, Send, Drop_sender, As_inner, Into_inner, Drop_error, Try_recv, Recv_ref, Recv_deadline, Recv_timeout, Recv, Has_message, Is_closed, Drop_receiver, Into_future, Poll, Drop_async, first, rest, is_none_left, sender_last, error_last, receiver_calls, async_calls}
+use Rattle.oneshot_machine.specs.declared.machine.receiver.ReceiverStart.TheVariants as RC
+use Rattle.oneshot_machine.specs.declared.machine.sender.SenderCall.TheVariants as SC
+use Rattle.oneshot_world.specs.Calls.{Call, Of_sender, Of_receiver, Poll, first, rest, is_none_left, sender_last, error_last, receiver_calls, async_calls}
 use Rattle.oneshot_world.specs.Control.{is_script, stays_sender, ends_sender, stays_error, ends_error, ends_receiver, is_sender_script, is_error_script, is_receiver_script, is_async_script, has_script, ends_async, sender_has, receiver_has}
 use Rattle.oneshot_world.specs.State.{sender_position, receiver_position, place_left}
 use Rattle.oneshot_world.specs.World.{opening_place}
@@ -15,7 +17,7 @@ use Rattle.oneshot_world.specs.declared.script.AsyncLast.TheVariants as AL
 use Rattle.oneshot_world.specs.declared.script.ErrorLast.{ErrorLast}
 use Rattle.oneshot_world.specs.declared.script.ErrorLast.TheVariants as EL
 use Rattle.oneshot_world.specs.declared.script.ReceiverCall.{ReceiverCall}
-use Rattle.oneshot_world.specs.declared.script.ReceiverCall.TheVariants as RC
+use Rattle.oneshot_world.specs.declared.script.ReceiverCall.TheVariants as Script
 use Rattle.oneshot_world.specs.declared.script.ReceiverLast.{ReceiverLast}
 use Rattle.oneshot_world.specs.declared.script.ReceiverLast.TheVariants as RL
 use Rattle.oneshot_world.specs.declared.script.SenderLast.{SenderLast}
@@ -47,8 +49,8 @@ still_there (Some from) (Some to) = refl
 
 pub script_stays : (from to : Option Place) (calls : List Call) → is_sender_script from calls ≡ true → is_sender_script (place_left from to) calls ≡ true
 script_stays from to [] h = refl
-script_stays from to (Sender_is_closed ∷ calls) h = or_left _ false (script_stays from to calls (left_of_or _ h))
-script_stays from to (Send ∷ calls) h = rw (still_there from to) h
+script_stays from to (Of_sender SC.IsClosed ∷ calls) h = or_left _ false (script_stays from to calls (left_of_or _ h))
+script_stays from to (Of_sender SC.Send ∷ calls) h = rw (still_there from to) h
 script_stays from to (_ ∷ calls) h = h
 
 pub either_stays : (from to : Option Place) (calls : List Call) → (is_sender_script from calls || is_error_script calls) ≡ true → (is_sender_script (place_left from to) calls || is_error_script calls) ≡ true
@@ -78,19 +80,19 @@ receiver_has_script RS.Ended future call position calls at h = cc
 
 -- after a call that stays a script is left, and after one that ends nothing
 pub sender_goes_on : (message : Option Place) (calls : List Call) (call : Call) → stays_sender call ≡ true → (is_sender_script message (call ∷ calls) || is_error_script (call ∷ calls)) ≡ true → is_sender_script message calls ≡ true
-sender_goes_on message calls Sender_is_closed stays h = left_of_or _ (left_of_or _ h)
+sender_goes_on message calls (Of_sender SC.IsClosed) stays h = left_of_or _ (left_of_or _ h)
 sender_goes_on message calls _ stays h = cc
 
 pub error_goes_on : (message : Option Place) (calls : List Call) (call : Call) → stays_error call ≡ true → (is_sender_script message (call ∷ calls) || is_error_script (call ∷ calls)) ≡ true → is_error_script calls ≡ true
-error_goes_on message calls As_inner stays h = left_of_or _ h
+error_goes_on message calls (Of_sender SC.AsInner) stays h = left_of_or _ h
 error_goes_on message calls _ stays h = cc
 
 pub sender_ends : (message : Option Place) (calls : List Call) (call : Call) → (ends_sender (Some NotSent) call || ends_error call) ≡ true → (is_sender_script message (call ∷ calls) || is_error_script (call ∷ calls)) ≡ true → is_none_left calls ≡ true
-sender_ends None calls Send ends h = cc
-sender_ends (Some place) calls Send ends h = left_of_or _ h
-sender_ends message calls Drop_sender ends h = left_of_or _ h
-sender_ends message calls Into_inner ends h = h
-sender_ends message calls Drop_error ends h = h
+sender_ends None calls (Of_sender SC.Send) ends h = cc
+sender_ends (Some place) calls (Of_sender SC.Send) ends h = left_of_or _ h
+sender_ends message calls (Of_sender SC.Drop) ends h = left_of_or _ h
+sender_ends message calls (Of_sender SC.IntoInner) ends h = h
+sender_ends message calls (Of_sender SC.DropError) ends h = h
 sender_ends message calls _ ends h = cc
 
 none_is_script : (calls : List Call) → is_none_left calls ≡ true → is_receiver_script calls ≡ true
@@ -103,28 +105,28 @@ none_is_async (call ∷ calls) h = cc
 
 -- the call that makes the receiver a future
 abbrev pub makes_future : Option Call → Bool
-makes_future (Some Into_future) = true
+makes_future (Some (Of_receiver RC.IntoFuture)) = true
 makes_future _ = false
 
 receiver_goes : (calls : List Call) → is_receiver_script calls ≡ true → has_script (makes_future (first calls)) (rest calls) ≡ true
 receiver_goes [] h = refl
-receiver_goes (Try_recv ∷ calls) h = left_of_or _ h
-receiver_goes (Recv_ref ∷ calls) h = left_of_or _ h
-receiver_goes (Recv_deadline ∷ calls) h = left_of_or _ h
-receiver_goes (Recv_timeout representable ∷ calls) h = left_of_or _ h
-receiver_goes (Recv ∷ calls) h = none_is_script calls h
-receiver_goes (Has_message ∷ calls) h = left_of_or _ h
-receiver_goes (Is_closed ∷ calls) h = left_of_or _ h
-receiver_goes (Drop_receiver ∷ calls) h = none_is_script calls h
-receiver_goes (Into_future ∷ calls) h = h
+receiver_goes (Of_receiver RC.TryRecv ∷ calls) h = left_of_or _ h
+receiver_goes (Of_receiver RC.RecvRef ∷ calls) h = left_of_or _ h
+receiver_goes (Of_receiver RC.RecvDeadline ∷ calls) h = left_of_or _ h
+receiver_goes (Of_receiver (RC.RecvTimeout representable) ∷ calls) h = left_of_or _ h
+receiver_goes (Of_receiver RC.Recv ∷ calls) h = none_is_script calls h
+receiver_goes (Of_receiver RC.HasMessage ∷ calls) h = left_of_or _ h
+receiver_goes (Of_receiver RC.IsClosed ∷ calls) h = left_of_or _ h
+receiver_goes (Of_receiver RC.Drop ∷ calls) h = none_is_script calls h
+receiver_goes (Of_receiver RC.IntoFuture ∷ calls) h = h
 receiver_goes (_ ∷ calls) h = cc
 
 async_goes : (calls : List Call) → is_async_script calls ≡ true → is_async_script (rest calls) ≡ true
 async_goes [] h = refl
 async_goes (Poll number ∷ calls) h = left_of_or _ h
-async_goes (Has_message ∷ calls) h = left_of_or _ h
-async_goes (Is_closed ∷ calls) h = left_of_or _ h
-async_goes (Drop_async ∷ calls) h = none_is_async calls h
+async_goes (Of_receiver RC.HasMessage ∷ calls) h = left_of_or _ h
+async_goes (Of_receiver RC.IsClosed ∷ calls) h = left_of_or _ h
+async_goes (Of_receiver RC.DropAsync ∷ calls) h = none_is_async calls h
 async_goes (_ ∷ calls) h = cc
 
 pub receiver_goes_on : (future : Bool) (calls : List Call) → has_script future calls ≡ true → has_script (future || makes_future (first calls)) (rest calls) ≡ true
@@ -135,12 +137,12 @@ abbrev pub ends_either : Call → Bool
 ends_either call = ends_receiver call || ends_async call
 
 pub receiver_ends : (future : Bool) (calls : List Call) (call : Call) → ends_either call ≡ true → has_script future (call ∷ calls) ≡ true → is_none_left calls ≡ true
-receiver_ends false calls Recv ends h = h
-receiver_ends false calls Drop_receiver ends h = h
-receiver_ends false calls Drop_async ends h = cc
-receiver_ends true calls Drop_async ends h = h
-receiver_ends true calls Recv ends h = cc
-receiver_ends true calls Drop_receiver ends h = cc
+receiver_ends false calls (Of_receiver RC.Recv) ends h = h
+receiver_ends false calls (Of_receiver RC.Drop) ends h = h
+receiver_ends false calls (Of_receiver RC.DropAsync) ends h = cc
+receiver_ends true calls (Of_receiver RC.DropAsync) ends h = h
+receiver_ends true calls (Of_receiver RC.Recv) ends h = cc
+receiver_ends true calls (Of_receiver RC.Drop) ends h = cc
 receiver_ends future calls _ ends h = cc
 
 -- the calls of a script are a script
@@ -148,15 +150,15 @@ looked : (stays ends : Call → Bool) (call : Call) (n : ℕ) (calls : List Call
 looked stays ends call zero calls s h = h
 looked stays ends call (suc n) calls s h = rw s (or_left _ _ (looked stays ends call n calls s h))
 
-pub error_scripted : (looks : ℕ) (last : ErrorLast) → is_error_script (replicate looks As_inner ++ error_last last) ≡ true
-error_scripted looks EL.IntoInner = looked stays_error ends_error As_inner looks (Into_inner ∷ []) refl refl
-error_scripted looks EL.Drop = looked stays_error ends_error As_inner looks (Drop_error ∷ []) refl refl
-error_scripted looks EL.Stop = looked stays_error ends_error As_inner looks [] refl refl
+pub error_scripted : (looks : ℕ) (last : ErrorLast) → is_error_script (replicate looks (Of_sender SC.AsInner) ++ error_last last) ≡ true
+error_scripted looks EL.IntoInner = looked stays_error ends_error (Of_sender SC.AsInner) looks (Of_sender SC.IntoInner ∷ []) refl refl
+error_scripted looks EL.Drop = looked stays_error ends_error (Of_sender SC.AsInner) looks (Of_sender SC.DropError ∷ []) refl refl
+error_scripted looks EL.Stop = looked stays_error ends_error (Of_sender SC.AsInner) looks [] refl refl
 
-pub sender_scripted : {T : Type 0} (looks : ℕ) (last : SenderLast T) → is_sender_script (opening_place last) (replicate looks Sender_is_closed ++ sender_last last) ≡ true
-sender_scripted looks (SL.Send message error) = looked stays_sender (ends_sender (Some NotSent)) Sender_is_closed looks (Send ∷ []) refl refl
-sender_scripted looks SL.Drop = looked stays_sender (ends_sender None) Sender_is_closed looks (Drop_sender ∷ []) refl refl
-sender_scripted looks SL.Stop = looked stays_sender (ends_sender None) Sender_is_closed looks [] refl refl
+pub sender_scripted : {T : Type 0} (looks : ℕ) (last : SenderLast T) → is_sender_script (opening_place last) (replicate looks (Of_sender SC.IsClosed) ++ sender_last last) ≡ true
+sender_scripted looks (SL.Send message error) = looked stays_sender (ends_sender (Some NotSent)) (Of_sender SC.IsClosed) looks (Of_sender SC.Send ∷ []) refl refl
+sender_scripted looks SL.Drop = looked stays_sender (ends_sender None) (Of_sender SC.IsClosed) looks (Of_sender SC.Drop ∷ []) refl refl
+sender_scripted looks SL.Stop = looked stays_sender (ends_sender None) (Of_sender SC.IsClosed) looks [] refl refl
 
 async_scripted : (calls : List AsyncCall) (last : AsyncLast) → is_async_script (async_calls calls last) ≡ true
 async_scripted [] AL.Drop = refl
@@ -170,9 +172,9 @@ receiver_scripted [] RL.Recv = refl
 receiver_scripted [] RL.Drop = refl
 receiver_scripted [] (RL.IntoFuture script) = async_scripted script.calls script.last
 receiver_scripted [] RL.Stop = refl
-receiver_scripted (RC.TryRecv ∷ calls) last = rw (receiver_scripted calls last) refl
-receiver_scripted (RC.RecvRef ∷ calls) last = rw (receiver_scripted calls last) refl
-receiver_scripted (RC.RecvDeadline ∷ calls) last = rw (receiver_scripted calls last) refl
-receiver_scripted (RC.RecvTimeout representable ∷ calls) last = rw (receiver_scripted calls last) refl
-receiver_scripted (RC.HasMessage ∷ calls) last = rw (receiver_scripted calls last) refl
-receiver_scripted (RC.IsClosed ∷ calls) last = rw (receiver_scripted calls last) refl
+receiver_scripted (Script.TryRecv ∷ calls) last = rw (receiver_scripted calls last) refl
+receiver_scripted (Script.RecvRef ∷ calls) last = rw (receiver_scripted calls last) refl
+receiver_scripted (Script.RecvDeadline ∷ calls) last = rw (receiver_scripted calls last) refl
+receiver_scripted (Script.RecvTimeout representable ∷ calls) last = rw (receiver_scripted calls last) refl
+receiver_scripted (Script.HasMessage ∷ calls) last = rw (receiver_scripted calls last) refl
+receiver_scripted (Script.IsClosed ∷ calls) last = rw (receiver_scripted calls last) refl

@@ -12,7 +12,9 @@ use Rattle.oneshot_machine.specs.declared.machine.Reply.TheVariants as Replies
 use Rattle.oneshot_machine.specs.declared.machine.Step.{Step}
 use Rattle.oneshot_machine.specs.declared.machine.receiver.ReceiverPos.{ReceiverPos}
 use Rattle.oneshot_machine.specs.declared.machine.sender.SenderPos.{SenderPos}
-use Rattle.oneshot_world.specs.Calls.{Call, Sender_is_closed, Send, Drop_sender, As_inner, Into_inner, Drop_error, Try_recv, Recv_ref, Recv_deadline, Recv_timeout, Recv, Has_message, Is_closed, Drop_receiver, Into_future, Poll, Drop_async, Unanswered, number_of, first, rest, is_none_left, left_by, error_calls, as_sender_call, as_receiver_call}
+use Rattle.oneshot_machine.specs.declared.machine.receiver.ReceiverStart.TheVariants as RC
+use Rattle.oneshot_machine.specs.declared.machine.sender.SenderCall.TheVariants as SC
+use Rattle.oneshot_world.specs.Calls.{Call, Of_sender, Of_receiver, Poll, Unanswered, number_of, first, rest, is_none_left, left_by, error_calls, as_sender_call, as_receiver_call}
 use Rattle.oneshot_world.specs.Classes.{Classes, all_alike, as_call}
 use Rattle.oneshot_world.specs.Control.{Control, control_of, Begin, begins, begins_poll, poll_begin, plain_told, one_poll, one_copy, as_begin, as_control, as_control_turned, bool_code, sender_begins, receiver_begins_at, receiver_begins, sender_under_way, receiver_under_way, control_then, control_turn, control_code, is_same_control, reached, is_reached, IsReached, opening_control, is_sender_script, is_error_script, has_script, stays_sender, ends_sender, stays_error, ends_error, sender_has, receiver_has}
 use Rattle.oneshot_world.specs.Explore.{all_in}
@@ -90,16 +92,16 @@ word_is_code w h = leb-true w.state.word 4 (and_left _ _ (passes _ is_closed (as
 -- what passes at each move that may begin passes at the move that an end makes
 pub at_sender : (k : Classes) (test : Begin → Bool) (message : Option Place) (s : SenderState) (calls : List Call) (position : SenderPos) → sender_has message s calls ≡ true → sender_position s (option_and_then as_sender_call (first calls)) ≡ Some position → list_all test (sender_begins message s (option_map (as_call k) (sender_under_way s (first calls)))) ≡ true → test (record { side = Sender; told = nothing_told; call = option_map (as_call k) (first calls) }) ≡ true
 at_sender k test message SS.Ready [] position has at h = cc
-at_sender k test message SS.Ready (Sender_is_closed ∷ calls) position has at h = and_left _ _ h
-at_sender k test message SS.Ready (Drop_sender ∷ calls) position has at h = and_left _ _ (and_right _ _ h)
-at_sender k test None SS.Ready (Send ∷ calls) position has at h = cc
-at_sender k test (Some place) SS.Ready (Send ∷ calls) position has at h = and_left _ _ (and_right _ _ (and_right _ _ h))
+at_sender k test message SS.Ready (Of_sender SC.IsClosed ∷ calls) position has at h = and_left _ _ h
+at_sender k test message SS.Ready (Of_sender SC.Drop ∷ calls) position has at h = and_left _ _ (and_right _ _ h)
+at_sender k test None SS.Ready (Of_sender SC.Send ∷ calls) position has at h = cc
+at_sender k test (Some place) SS.Ready (Of_sender SC.Send ∷ calls) position has at h = and_left _ _ (and_right _ _ (and_right _ _ h))
 at_sender k test message SS.Ready (_ ∷ calls) position has at h = cc
 at_sender k test message (SS.At here) calls position has at h = and_left _ _ h
 at_sender k test message SS.Failed [] position has at h = cc
-at_sender k test message SS.Failed (As_inner ∷ calls) position has at h = and_left _ _ h
-at_sender k test message SS.Failed (Into_inner ∷ calls) position has at h = and_left _ _ (and_right _ _ h)
-at_sender k test message SS.Failed (Drop_error ∷ calls) position has at h = and_left _ _ (and_right _ _ (and_right _ _ h))
+at_sender k test message SS.Failed (Of_sender SC.AsInner ∷ calls) position has at h = and_left _ _ h
+at_sender k test message SS.Failed (Of_sender SC.IntoInner ∷ calls) position has at h = and_left _ _ (and_right _ _ h)
+at_sender k test message SS.Failed (Of_sender SC.DropError ∷ calls) position has at h = and_left _ _ (and_right _ _ (and_right _ _ h))
 at_sender k test message SS.Failed (_ ∷ calls) position has at h = cc
 at_sender k test message SS.Ended calls position has at h = cc
 
@@ -110,12 +112,12 @@ past : (test : Begin → Bool) (answer : Bool) (call : Call) {more : Bool} → (
 past test answer call {more} h = and_right (test (receives answer call)) more h
 
 -- the calls from the fourth on
-past_three : (test : Begin → Bool) (answer : Bool) {more : Bool} → (test (receives answer Try_recv) && (test (receives answer Recv_ref) && (test (receives answer Recv_deadline) && more))) ≡ true → more ≡ true
-past_three test answer h = past test answer Recv_deadline (past test answer Recv_ref (past test answer Try_recv h))
+past_three : (test : Begin → Bool) (answer : Bool) {more : Bool} → (test (receives answer (Of_receiver RC.TryRecv)) && (test (receives answer (Of_receiver RC.RecvRef)) && (test (receives answer (Of_receiver RC.RecvDeadline)) && more))) ≡ true → more ≡ true
+past_three test answer h = past test answer (Of_receiver RC.RecvDeadline) (past test answer (Of_receiver RC.RecvRef) (past test answer (Of_receiver RC.TryRecv) h))
 
 -- from the seventh on
-past_six : (test : Begin → Bool) (answer : Bool) {more : Bool} → (test (receives answer Try_recv) && (test (receives answer Recv_ref) && (test (receives answer Recv_deadline) && (test (receives answer (Recv_timeout false)) && (test (receives answer (Recv_timeout true)) && (test (receives answer Recv) && more)))))) ≡ true → more ≡ true
-past_six test answer h = past test answer Recv (past test answer (Recv_timeout true) (past test answer (Recv_timeout false) (past_three test answer h)))
+past_six : (test : Begin → Bool) (answer : Bool) {more : Bool} → (test (receives answer (Of_receiver RC.TryRecv)) && (test (receives answer (Of_receiver RC.RecvRef)) && (test (receives answer (Of_receiver RC.RecvDeadline)) && (test (receives answer (Of_receiver (RC.RecvTimeout false))) && (test (receives answer (Of_receiver (RC.RecvTimeout true))) && (test (receives answer (Of_receiver RC.Recv)) && more)))))) ≡ true → more ≡ true
+past_six test answer h = past test answer (Of_receiver RC.Recv) (past test answer (Of_receiver (RC.RecvTimeout true)) (past test answer (Of_receiver (RC.RecvTimeout false)) (past_three test answer h)))
 
 -- the moves of a receiver, by the call under way or next and the entry that is made
 abbrev pub receives_at : Bool → ℕ → Option Call → Begin
@@ -129,24 +131,24 @@ module _ (k : Classes) (polls : List ℕ) (copies : ℕ → List ℕ) (entry : �
 
   at_receiver_when : (test : Begin → Bool) (answer : Bool) (s : ReceiverState) (future : Bool) (calls : List Call) (position : ReceiverPos) → receiver_has s future calls ≡ true → receiver_position s (option_and_then as_receiver_call (first calls)) ≡ Some position → list_all test (receiver_begins_at polls copies answer s future (option_map (as_call k) (receiver_under_way s (first calls)))) ≡ true → test (as_begin k (receives_at answer entry (first calls))) ≡ true
   at_receiver_when test answer RS.Ready false [] position has at h = cc
-  at_receiver_when test answer RS.Ready false (Try_recv ∷ calls) position has at h = and_left _ _ h
-  at_receiver_when test answer RS.Ready false (Recv_ref ∷ calls) position has at h = and_left _ _ (past test answer Try_recv h)
-  at_receiver_when test answer RS.Ready false (Recv_deadline ∷ calls) position has at h = and_left _ _ (past test answer Recv_ref (past test answer Try_recv h))
-  at_receiver_when test answer RS.Ready false (Recv_timeout false ∷ calls) position has at h = and_left _ _ (past_three test answer h)
-  at_receiver_when test answer RS.Ready false (Recv_timeout true ∷ calls) position has at h = and_left _ _ (past test answer (Recv_timeout false) (past_three test answer h))
-  at_receiver_when test answer RS.Ready false (Recv ∷ calls) position has at h = and_left _ _ (past test answer (Recv_timeout true) (past test answer (Recv_timeout false) (past_three test answer h)))
-  at_receiver_when test answer RS.Ready false (Has_message ∷ calls) position has at h = and_left _ _ (past_six test answer h)
-  at_receiver_when test answer RS.Ready false (Is_closed ∷ calls) position has at h = and_left _ _ (past test answer Has_message (past_six test answer h))
-  at_receiver_when test answer RS.Ready false (Drop_receiver ∷ calls) position has at h = and_left _ _ (past test answer Is_closed (past test answer Has_message (past_six test answer h)))
-  at_receiver_when test answer RS.Ready false (Into_future ∷ calls) position has at h = and_left _ true (past test answer Drop_receiver (past test answer Is_closed (past test answer Has_message (past_six test answer h))))
+  at_receiver_when test answer RS.Ready false (Of_receiver RC.TryRecv ∷ calls) position has at h = and_left _ _ h
+  at_receiver_when test answer RS.Ready false (Of_receiver RC.RecvRef ∷ calls) position has at h = and_left _ _ (past test answer (Of_receiver RC.TryRecv) h)
+  at_receiver_when test answer RS.Ready false (Of_receiver RC.RecvDeadline ∷ calls) position has at h = and_left _ _ (past test answer (Of_receiver RC.RecvRef) (past test answer (Of_receiver RC.TryRecv) h))
+  at_receiver_when test answer RS.Ready false (Of_receiver (RC.RecvTimeout false) ∷ calls) position has at h = and_left _ _ (past_three test answer h)
+  at_receiver_when test answer RS.Ready false (Of_receiver (RC.RecvTimeout true) ∷ calls) position has at h = and_left _ _ (past test answer (Of_receiver (RC.RecvTimeout false)) (past_three test answer h))
+  at_receiver_when test answer RS.Ready false (Of_receiver RC.Recv ∷ calls) position has at h = and_left _ _ (past test answer (Of_receiver (RC.RecvTimeout true)) (past test answer (Of_receiver (RC.RecvTimeout false)) (past_three test answer h)))
+  at_receiver_when test answer RS.Ready false (Of_receiver RC.HasMessage ∷ calls) position has at h = and_left _ _ (past_six test answer h)
+  at_receiver_when test answer RS.Ready false (Of_receiver RC.IsClosed ∷ calls) position has at h = and_left _ _ (past test answer (Of_receiver RC.HasMessage) (past_six test answer h))
+  at_receiver_when test answer RS.Ready false (Of_receiver RC.Drop ∷ calls) position has at h = and_left _ _ (past test answer (Of_receiver RC.IsClosed) (past test answer (Of_receiver RC.HasMessage) (past_six test answer h)))
+  at_receiver_when test answer RS.Ready false (Of_receiver RC.IntoFuture ∷ calls) position has at h = and_left _ true (past test answer (Of_receiver RC.Drop) (past test answer (Of_receiver RC.IsClosed) (past test answer (Of_receiver RC.HasMessage) (past_six test answer h))))
   at_receiver_when test answer RS.Ready false (_ ∷ calls) position has at h = cc
   at_receiver_when test answer RS.Ready true [] position has at h = cc
-  at_receiver_when test answer RS.Ready true (Has_message ∷ calls) position has at h = and_left _ _ h
-  at_receiver_when test answer RS.Ready true (Is_closed ∷ calls) position has at h = and_left _ _ (past test answer Has_message h)
-  at_receiver_when test answer RS.Ready true (Drop_async ∷ calls) position has at h = and_left _ _ (past test answer Is_closed (past test answer Has_message h))
+  at_receiver_when test answer RS.Ready true (Of_receiver RC.HasMessage ∷ calls) position has at h = and_left _ _ h
+  at_receiver_when test answer RS.Ready true (Of_receiver RC.IsClosed ∷ calls) position has at h = and_left _ _ (past test answer (Of_receiver RC.HasMessage) h)
+  at_receiver_when test answer RS.Ready true (Of_receiver RC.DropAsync ∷ calls) position has at h = and_left _ _ (past test answer (Of_receiver RC.IsClosed) (past test answer (Of_receiver RC.HasMessage) h))
   at_receiver_when test answer RS.Ready true (Poll number ∷ calls) position has at h =
       at_poll test answer number
-      (all_flat test (begins_poll copies answer) polls (k.polls number) (past test answer Drop_async (past test answer Is_closed (past test answer Has_message h))) (polled number))
+      (all_flat test (begins_poll copies answer) polls (k.polls number) (past test answer (Of_receiver RC.DropAsync) (past test answer (Of_receiver RC.IsClosed) (past test answer (Of_receiver RC.HasMessage) h))) (polled number))
   at_receiver_when test answer RS.Ready true (_ ∷ calls) position has at h = cc
   at_receiver_when test answer (RS.At here) future [] position has at h = and_left _ _ h
   at_receiver_when test answer (RS.At here) future (Poll number ∷ calls) position has at h = at_poll test answer number h

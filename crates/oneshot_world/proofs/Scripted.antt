@@ -7,14 +7,14 @@ use Rattle.oneshot_world.specs.declared.script.AsyncCall.{AsyncCall}
 use Rattle.oneshot_world.specs.declared.script.AsyncCall.TheVariants as AC
 use Rattle.oneshot_world.specs.declared.script.AsyncLast.{AsyncLast}
 use Rattle.oneshot_world.specs.declared.script.ReceiverCall.{ReceiverCall}
-use Rattle.oneshot_world.specs.declared.script.ReceiverCall.TheVariants as RC
+use Rattle.oneshot_world.specs.declared.script.ReceiverCall.TheVariants as Script
 use Rattle.oneshot_world.specs.declared.script.ReceiverLast.{ReceiverLast}
 use Rattle.oneshot_world.specs.declared.script.ReceiverLast.TheVariants as RL
 use Rattle.std.specs.Option.{option_and_then}
 
 -- the calls from the n-th on are that call and those after it
-pub from_here : (calls : List ReceiverCall) (n : ℕ) (last : ReceiverLast) → n < length calls → receiver_calls (drop n calls) last ≡ receiver_call (get_or calls n RC.TryRecv) ∷ receiver_calls (drop (n + 1) calls) last
-from_here calls n last h = rw (add-one, drop-cons calls n RC.TryRecv) refl
+pub from_here : (calls : List ReceiverCall) (n : ℕ) (last : ReceiverLast) → n < length calls → receiver_calls (drop n calls) last ≡ receiver_call (get_or calls n Script.TryRecv) ∷ receiver_calls (drop (n + 1) calls) last
+from_here calls n last h = rw (add-one, drop-cons calls n Script.TryRecv) refl
 
 -- a reply answers the first call that is left
 pub answers : (reply : Option Reply) (left : Unanswered) → is_some reply ≡ true → left_by Receiver reply left ≡ record { calls = rest left.calls; error = left.error }
@@ -31,9 +31,9 @@ not_polled [] RL.Recv = refl
 not_polled [] RL.Drop = refl
 not_polled [] (RL.IntoFuture script) = refl
 not_polled [] RL.Stop = refl
-not_polled (RC.TryRecv ∷ calls) last = refl
-not_polled (RC.RecvRef ∷ calls) last = refl
-not_polled (RC.RecvDeadline ∷ calls) last = refl
-not_polled (RC.RecvTimeout representable ∷ calls) last = refl
-not_polled (RC.HasMessage ∷ calls) last = refl
-not_polled (RC.IsClosed ∷ calls) last = refl
+not_polled (Script.TryRecv ∷ calls) last = refl
+not_polled (Script.RecvRef ∷ calls) last = refl
+not_polled (Script.RecvDeadline ∷ calls) last = refl
+not_polled (Script.RecvTimeout representable ∷ calls) last = refl
+not_polled (Script.HasMessage ∷ calls) last = refl
+not_polled (Script.IsClosed ∷ calls) last = refl

@@ -4,8 +4,14 @@ use Rattle.std.specs.Option.{option_map}
 use Rattle.std.specs.List.{filter_map, flat_map}
 use Rattle.oneshot_machine.specs.declared.machine.End.{End}
 use Rattle.oneshot_machine.specs.declared.machine.End.TheVariants.{Sender, Receiver}
+use Rattle.oneshot_machine.specs.Receiver.{receiver_start}
+use Rattle.oneshot_machine.specs.Sender.{sender_start}
 use Rattle.oneshot_machine.specs.Standing.{sender_number, receiver_number}
-use Rattle.oneshot_world.specs.Calls.{Call, Sender_is_closed, Send, Drop_sender, As_inner, Into_inner, Drop_error, Try_recv, Recv_ref, Recv_deadline, Recv_timeout, Recv, Has_message, Is_closed, Drop_receiver, Into_future, Poll, Drop_async, Stray, first, is_none_left}
+use Rattle.oneshot_machine.specs.declared.machine.receiver.ReceiverStart.{ReceiverStart}
+use Rattle.oneshot_machine.specs.declared.machine.receiver.ReceiverStart.TheVariants as RC
+use Rattle.oneshot_machine.specs.declared.machine.sender.SenderCall.{SenderCall}
+use Rattle.oneshot_machine.specs.declared.machine.sender.SenderCall.TheVariants as SC
+use Rattle.oneshot_world.specs.Calls.{Call, Of_sender, Of_receiver, Poll, Stray, first, is_none_left}
 use Rattle.oneshot_world.specs.Classes.{Classes, all_alike, as_told, as_state, as_call, as_entry}
 use Rattle.oneshot_world.specs.Explore.{Tree, reach, is_in}
 use Rattle.oneshot_world.specs.State.{opening_state, turns}
@@ -61,31 +67,31 @@ begins_with side t calls = map (λ call. record { side = side; told = t; call = 
 -- a send is there where there is a message
 abbrev pub sends_begins : Option Place → List Begin
 sends_begins None = []
-sends_begins (Some place) = record { side = Sender; told = nothing_told; call = Some Send } ∷ []
+sends_begins (Some place) = record { side = Sender; told = nothing_told; call = Some (Of_sender SC.Send) } ∷ []
 
 -- the moves of an end: it goes on with the call under way, or begins any call
 abbrev pub sender_begins : Option Place → SenderState → Option Call → List Begin
-sender_begins message SS.Ready call = begins_with Sender nothing_told (Sender_is_closed ∷ Drop_sender ∷ []) ++ sends_begins message
+sender_begins message SS.Ready call = begins_with Sender nothing_told (Of_sender SC.IsClosed ∷ Of_sender SC.Drop ∷ []) ++ sends_begins message
 sender_begins message (SS.At position) call = record { side = Sender; told = nothing_told; call = call } ∷ []
-sender_begins message SS.Failed call = begins_with Sender nothing_told (As_inner ∷ Into_inner ∷ Drop_error ∷ [])
+sender_begins message SS.Failed call = begins_with Sender nothing_told (Of_sender SC.AsInner ∷ Of_sender SC.IntoInner ∷ Of_sender SC.DropError ∷ [])
 sender_begins message SS.Ended call = []
 
 abbrev pub of_receiver : List Call
 of_receiver =
-    Try_recv
-    ∷ Recv_ref
-    ∷ Recv_deadline
-    ∷ Recv_timeout false
-    ∷ Recv_timeout true
-    ∷ Recv
-    ∷ Has_message
-    ∷ Is_closed
-    ∷ Drop_receiver
-    ∷ Into_future
+    Of_receiver RC.TryRecv
+    ∷ Of_receiver RC.RecvRef
+    ∷ Of_receiver RC.RecvDeadline
+    ∷ Of_receiver (RC.RecvTimeout false)
+    ∷ Of_receiver (RC.RecvTimeout true)
+    ∷ Of_receiver RC.Recv
+    ∷ Of_receiver RC.HasMessage
+    ∷ Of_receiver RC.IsClosed
+    ∷ Of_receiver RC.Drop
+    ∷ Of_receiver RC.IntoFuture
     ∷ []
 
 abbrev pub of_future : List Call
-of_future = Has_message ∷ Is_closed ∷ Drop_async ∷ []
+of_future = Of_receiver RC.HasMessage ∷ Of_receiver RC.IsClosed ∷ Of_receiver RC.DropAsync ∷ []
 
 abbrev pub plain_told : Bool → Told
 plain_told answer = record { answer = answer; copy = None; own = None }
@@ -162,40 +168,24 @@ receiver_code RS.Ready = 0
 receiver_code RS.Ended = 1
 receiver_code (RS.At position) = 2 + receiver_number position
 
-abbrev pub call_code : Call → ℕ
-call_code Sender_is_closed = 1
-call_code Send = 2
-call_code Drop_sender = 3
-call_code As_inner = 4
-call_code Into_inner = 5
-call_code Drop_error = 6
-call_code Try_recv = 7
-call_code Recv_ref = 8
-call_code Recv_deadline = 9
-call_code (Recv_timeout false) = 10
-call_code (Recv_timeout true) = 11
-call_code Recv = 12
-call_code Has_message = 13
-call_code Is_closed = 14
-call_code Drop_receiver = 15
-call_code Stray = 16
-call_code Into_future = 17
-call_code Drop_async = 18
-call_code (Poll number) = 19
+-- the code of a call: by the position at which it begins, since no two calls of an end begin at one
+abbrev pub sender_call_code : SenderCall → ℕ
+sender_call_code call = sender_number (sender_start call)
 
--- the number of a poll
-abbrev pub poll_code : Call → ℕ
-poll_code (Poll number) = number
-poll_code _ = 0
+abbrev pub receiver_call_code : ReceiverStart → ℕ
+receiver_call_code call = receiver_number (receiver_start call)
 
-abbrev pub under_way_code : Option Call → ℕ
-under_way_code None = 0
-under_way_code (Some call) = call_code call + poll_code call
-
-abbrev pub is_same_call : Option Call → Option Call → Bool
-is_same_call None None = true
-is_same_call (Some a) (Some b) = call_code a == call_code b && poll_code a == poll_code b
+abbrev pub is_same_call : Call → Call → Bool
+is_same_call (Of_sender a) (Of_sender b) = sender_call_code a == sender_call_code b
+is_same_call (Of_receiver a) (Of_receiver b) = receiver_call_code a == receiver_call_code b
+is_same_call (Poll a) (Poll b) = a == b
+is_same_call Stray Stray = true
 is_same_call _ _ = false
+
+abbrev pub is_same_under_way : Option Call → Option Call → Bool
+is_same_under_way None None = true
+is_same_under_way (Some a) (Some b) = is_same_call a b
+is_same_under_way _ _ = false
 
 abbrev pub place_code : Option Place → ℕ
 place_code None = 0
@@ -227,7 +217,7 @@ is_same_state s t =
 abbrev pub is_same_control : Control → Control → Bool
 is_same_control c d =
     is_same_state c.state d.state
-    && (is_same_call c.sender d.sender && is_same_call c.receiver d.receiver)
+    && (is_same_under_way c.sender d.sender && is_same_under_way c.receiver d.receiver)
 
 -- the order in which the search keeps them; two values that a run can reach never have one code, or the search would leave one of them out
 abbrev pub wakers_code : Wakers → ℕ
@@ -240,8 +230,15 @@ state_code s =
     + bool_code s.freed) * 2
     + bool_code s.future
 
+abbrev pub under_way_code : Option Call → ℕ
+under_way_code None = 0
+under_way_code (Some Stray) = 1
+under_way_code (Some (Of_sender call)) = 2 + sender_call_code call
+under_way_code (Some (Of_receiver call)) = 2 + receiver_call_code call
+under_way_code (Some (Poll number)) = 128 + number
+
 abbrev pub control_code : Control → ℕ
-control_code c = (state_code c.state * 32 + under_way_code c.sender) * 32 + under_way_code c.receiver
+control_code c = (state_code c.state * 32 + under_way_code c.sender) * 256 + under_way_code c.receiver
 
 abbrev pub opening_control : Option Place → Control
 opening_control message = record { state = opening_state message; sender = None; receiver = None }
@@ -268,46 +265,46 @@ is_script stays ends [] = true
 is_script stays ends (call ∷ calls) = (stays call && is_script stays ends calls) || (ends call && is_none_left calls)
 
 abbrev pub stays_sender : Call → Bool
-stays_sender Sender_is_closed = true
+stays_sender (Of_sender SC.IsClosed) = true
 stays_sender _ = false
 
 -- a send is there where there is a message
 abbrev pub ends_sender : Option Place → Call → Bool
-ends_sender message Send = is_some message
-ends_sender message Drop_sender = true
+ends_sender message (Of_sender SC.Send) = is_some message
+ends_sender message (Of_sender SC.Drop) = true
 ends_sender message _ = false
 
 abbrev pub stays_error : Call → Bool
-stays_error As_inner = true
+stays_error (Of_sender SC.AsInner) = true
 stays_error _ = false
 
 abbrev pub ends_error : Call → Bool
-ends_error Into_inner = true
-ends_error Drop_error = true
+ends_error (Of_sender SC.IntoInner) = true
+ends_error (Of_sender SC.DropError) = true
 ends_error _ = false
 
 abbrev pub stays_receiver : Call → Bool
-stays_receiver Try_recv = true
-stays_receiver Recv_ref = true
-stays_receiver Recv_deadline = true
-stays_receiver (Recv_timeout representable) = true
-stays_receiver Has_message = true
-stays_receiver Is_closed = true
+stays_receiver (Of_receiver RC.TryRecv) = true
+stays_receiver (Of_receiver RC.RecvRef) = true
+stays_receiver (Of_receiver RC.RecvDeadline) = true
+stays_receiver (Of_receiver (RC.RecvTimeout representable)) = true
+stays_receiver (Of_receiver RC.HasMessage) = true
+stays_receiver (Of_receiver RC.IsClosed) = true
 stays_receiver _ = false
 
 abbrev pub ends_receiver : Call → Bool
-ends_receiver Recv = true
-ends_receiver Drop_receiver = true
+ends_receiver (Of_receiver RC.Recv) = true
+ends_receiver (Of_receiver RC.Drop) = true
 ends_receiver _ = false
 
 abbrev pub stays_async : Call → Bool
 stays_async (Poll number) = true
-stays_async Has_message = true
-stays_async Is_closed = true
+stays_async (Of_receiver RC.HasMessage) = true
+stays_async (Of_receiver RC.IsClosed) = true
 stays_async _ = false
 
 abbrev pub ends_async : Call → Bool
-ends_async Drop_async = true
+ends_async (Of_receiver RC.DropAsync) = true
 ends_async _ = false
 
 abbrev pub is_sender_script : Option Place → List Call → Bool
@@ -322,7 +319,7 @@ is_async_script calls = is_script stays_async ends_async calls
 -- a receiver becomes a future at the most once
 abbrev pub is_receiver_script : List Call → Bool
 is_receiver_script [] = true
-is_receiver_script (Into_future ∷ calls) = is_async_script calls
+is_receiver_script (Of_receiver RC.IntoFuture ∷ calls) = is_async_script calls
 is_receiver_script (call ∷ calls) =
     (stays_receiver call && is_receiver_script calls) || (ends_receiver call && is_none_left calls)
 
