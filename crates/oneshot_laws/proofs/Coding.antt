@@ -5,11 +5,11 @@ use Rattle.oneshot_machine.specs.declared.machine.End.{End}
 use Rattle.oneshot_machine.specs.declared.machine.End.TheVariants.{Sender, Receiver}
 use Rattle.oneshot_machine.specs.declared.machine.Reply.{Reply}
 use Rattle.oneshot_machine.specs.declared.machine.Reply.TheVariants as R
-use Rattle.oneshot_world.specs.Control.{bool_code}
+use Rattle.oneshot_world.specs.ControlCodes.{bool_code}
 use Rattle.oneshot_world.specs.declared.trace.Place.{Place}
 use Rattle.oneshot_world.specs.declared.trace.Place.TheVariants.{NotSent, InCell, InError, Delivered, FromError, Dropped}
 use Rattle.oneshot_world.proofs.Bools.{and_left, and_right}
-use Rattle.oneshot_world.proofs.Coded.{same_by}
+use Rattle.oneshot_world.proofs.ControlCodes.{same_by}
 use Rattle.oneshot_laws.specs.Entries.{reply_code}
 use Rattle.oneshot_laws.specs.MessagePlaces.{place_code}
 use Rattle.oneshot_laws.specs.Object.{Content, Open, Full, Closed, content_code, is_same_flag}

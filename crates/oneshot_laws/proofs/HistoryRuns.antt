@@ -1,6 +1,7 @@
 -- Each run of two scripts has a legal history: the reader accepts it, as the checker computes over machines and reader together.
 use Rattle.std.proofs.Common.{◌≡◌, true, List, [], refl}
-use Rattle.oneshot_world.specs.Calls.{Unanswered, calls_of}
+use Rattle.oneshot_world.specs.Calls.{Unanswered}
+use Rattle.oneshot_world.specs.Scripts.{calls_of}
 use Rattle.oneshot_world.specs.Classes.{all_alike}
 use Rattle.oneshot_world.specs.World.{World, Tells, opening}
 use Rattle.oneshot_world.specs.declared.script.Move.{Move}

@@ -1,7 +1,7 @@
 -- Only holders use the block, its last holder frees it, nothing uses it afterwards, and once all have ended it is freed.
 use Rattle.std.proofs.Common.{◌≡◌, Bool, true, false, not, ◌&&◌, ◌||◌, List, [], ◌∷◌, map, refl, subst}
 use Rattle.std.specs.List.{list_any}
-use Rattle.oneshot_world.specs.Calls.{calls_of}
+use Rattle.oneshot_world.specs.Scripts.{calls_of}
 use Rattle.oneshot_world.specs.World.{by_end}
 use Rattle.oneshot_world.proofs.Bools.{both}
 use Rattle.oneshot_laws.specs.Entries.{only_if, is_word, is_on_a_cell, is_free}

@@ -2,7 +2,8 @@
 use Rattle.std.proofs.Common.{◌≡◌, ℕ, zero, suc, ◌+◌, Bool, true, false, ◌&&◌, ◌||◌, List, [], ◌∷◌, ◌++◌, Option, Some, None, is_some, map, replicate, refl, sym, ◌∙◌, ap, subst}
 use Rattle.std.specs.List.{list_any, filter_map, cons_option}
 use Rattle.oneshot_machine.specs.declared.machine.sender.SenderCall.TheVariants as SC
-use Rattle.oneshot_world.specs.Calls.{Call, Of_sender, calls_of, sender_last}
+use Rattle.oneshot_world.specs.Calls.{Call, Of_sender}
+use Rattle.oneshot_world.specs.Scripts.{calls_of, sender_last}
 use Rattle.oneshot_world.specs.Classes.{Classes}
 use Rattle.oneshot_world.specs.World.{World, Tells, opening, opening_place}
 use Rattle.oneshot_world.specs.declared.script.Move.{Move}

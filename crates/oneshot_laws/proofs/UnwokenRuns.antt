@@ -6,9 +6,11 @@ use Rattle.oneshot_machine.specs.declared.machine.End.{End}
 use Rattle.oneshot_machine.specs.declared.machine.End.TheVariants.{Sender, Receiver}
 use Rattle.oneshot_machine.specs.declared.machine.receiver.ReceiverStart.{ReceiverStart}
 use Rattle.oneshot_machine.specs.declared.machine.receiver.ReceiverStart.TheVariants as RC
-use Rattle.oneshot_world.specs.Calls.{Call, Unanswered, calls_of, first, as_receiver_call, left_by}
+use Rattle.oneshot_world.specs.Calls.{Call, Unanswered, first, as_receiver_call, left_by}
+use Rattle.oneshot_world.specs.Scripts.{calls_of}
 use Rattle.oneshot_world.specs.Classes.{all_alike, as_made, as_entry}
-use Rattle.oneshot_world.specs.Control.{Control, control_of, as_control, IsReached}
+use Rattle.oneshot_world.specs.Control.{Control, control_of, as_control}
+use Rattle.oneshot_world.specs.Reached.{IsReached}
 use Rattle.oneshot_world.specs.Explore.{all_in}
 use Rattle.oneshot_machine.specs.Sender.{sender_step}
 use Rattle.oneshot_world.specs.State.{receiver_position, reply_of, sender_stepped, receiver_stepped}
@@ -22,9 +24,10 @@ use Rattle.oneshot_world.specs.declared.trace.Entry.{Entry}
 use Rattle.oneshot_world.specs.declared.trace.Entry.TheVariants.{Idle, Made as Made_entry}
 use Rattle.oneshot_world.specs.declared.trace.Made.{Made}
 use Rattle.oneshot_world.proofs.Bools.{both}
-use Rattle.oneshot_world.proofs.Explored.{passes_where_found}
-use Rattle.oneshot_world.proofs.Reached.{sender_world, receiver_world, opening_reached}
-use Rattle.oneshot_world.proofs.Turned.{Turned, sender_idle, sender_made, receiver_idle, receiver_made, turned, turned_reaches}
+use Rattle.oneshot_world.proofs.ExploreFound.{passes_where_found}
+use Rattle.oneshot_world.proofs.ReachedMoves.{sender_world, receiver_world}
+use Rattle.oneshot_world.proofs.ReachedOpening.{opening_reached}
+use Rattle.oneshot_world.proofs.WorldTurns.{Turned, sender_idle, sender_made, receiver_idle, receiver_made, turned, turned_reaches}
 use Rattle.oneshot_laws.specs.Object.{Object}
 use Rattle.oneshot_laws.specs.Actions.{is_end_of_sender}
 use Rattle.oneshot_laws.specs.Marks.{Reading, read, Mark, marks, marks_from, sender_reading, receiver_reading, call_under_way}

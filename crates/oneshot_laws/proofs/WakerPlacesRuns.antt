@@ -3,9 +3,10 @@ use Rattle.std.proofs.Common.{arith, ◌≡◌, ℕ, ◌+◌, ◌==◌, Bool, tr
 use Rattle.std.proofs.lemmas.Bool.{eqb-true, ne_eqb, ltb-true, lt-ltb}
 use Rattle.std.specs.List.{filter_map, cons_option}
 use Rattle.std.specs.Option.{option_map}
-use Rattle.oneshot_world.specs.Calls.{calls_of}
+use Rattle.oneshot_world.specs.Scripts.{calls_of}
 use Rattle.oneshot_world.specs.Classes.{Classes, all_alike, as_name, as_move}
-use Rattle.oneshot_world.specs.Control.{bool_code, one_poll}
+use Rattle.oneshot_world.specs.ControlCodes.{bool_code}
+use Rattle.oneshot_world.specs.Reached.{one_poll}
 use Rattle.oneshot_world.specs.Wakers.{WakerMove, is_same_waker}
 use Rattle.oneshot_world.specs.World.{World, Tells, opening}
 use Rattle.oneshot_world.specs.declared.script.Move.{Move}
@@ -18,7 +19,7 @@ use Rattle.oneshot_world.specs.declared.trace.WakerName.TheVariants.{Parker, Cop
 use Rattle.oneshot_world.specs.declared.trace.WakerPlace.{WakerPlace}
 use Rattle.oneshot_world.specs.declared.trace.WakerPlace.TheVariants.{New, Hand, Cell, SenderHand, Used, Dropped}
 use Rattle.oneshot_world.proofs.Bools.{and_left, and_right, both}
-use Rattle.oneshot_world.proofs.Left.{or_right}
+use Rattle.oneshot_world.proofs.ScriptsLeft.{or_right}
 use Rattle.oneshot_world.proofs.Listed.{is_listed}
 use Rattle.oneshot_laws.specs.Entries.{only_if}
 use Rattle.oneshot_laws.specs.Object.{Object}

@@ -11,9 +11,12 @@ use Rattle.oneshot_machine.specs.declared.machine.Reply.{Reply}
 use Rattle.oneshot_machine.specs.declared.machine.Step.{Step}
 use Rattle.oneshot_machine.specs.declared.machine.Step.TheVariants as T
 use Rattle.oneshot_machine.specs.declared.states.Op.TheVariants as O
-use Rattle.oneshot_world.specs.Calls.{Call, Unanswered, calls_of, first, left_by, number_of}
+use Rattle.oneshot_world.specs.Calls.{Call, Unanswered, first, left_by, number_of}
+use Rattle.oneshot_world.specs.Scripts.{calls_of}
 use Rattle.oneshot_world.specs.Classes.{Classes, all_alike, as_call, as_made, as_entry}
-use Rattle.oneshot_world.specs.Control.{Control, control_of, Begin, begins, control_turn, control_code, is_same_control, opening_control, IsReached, one_poll, one_copy, as_control}
+use Rattle.oneshot_world.specs.Control.{Control, control_of, Begin, begins, control_turn, as_control}
+use Rattle.oneshot_world.specs.ControlCodes.{control_code, is_same_control}
+use Rattle.oneshot_world.specs.Reached.{opening_control, IsReached, one_poll, one_copy}
 use Rattle.oneshot_world.specs.Explore.{Tree, reach, is_in, all_in}
 use Rattle.oneshot_world.specs.State.{sender_stepped, receiver_stepped}
 use Rattle.oneshot_world.specs.Wakers.{WakerMove, waker_move, back_to}
@@ -33,11 +36,12 @@ use Rattle.oneshot_world.specs.declared.trace.WakerName.TheVariants.{Parker, Cop
 use Rattle.oneshot_world.specs.declared.trace.WakerPlace.TheVariants as W
 use Rattle.oneshot_world.specs.declared.wakers.Wakers.{Wakers}
 use Rattle.oneshot_world.proofs.Bools.{and_left, and_right}
-use Rattle.oneshot_world.proofs.Coded.{control_is}
-use Rattle.oneshot_world.proofs.Explored.{passes_where_found}
+use Rattle.oneshot_world.proofs.ControlCodes.{control_is}
+use Rattle.oneshot_world.proofs.ExploreFound.{passes_where_found}
 use Rattle.oneshot_world.proofs.Listed.{is_listed}
-use Rattle.oneshot_world.proofs.Reached.{sender_passes, receiver_passes, sender_world, receiver_world, sender_control_is, receiver_control_is, opening_reached}
-use Rattle.oneshot_world.proofs.Turned.{Turned, sender_idle, sender_made, receiver_idle, receiver_made, turned, turned_reaches}
+use Rattle.oneshot_world.proofs.ReachedMoves.{sender_passes, receiver_passes, sender_world, receiver_world, sender_control_is, receiver_control_is}
+use Rattle.oneshot_world.proofs.ReachedOpening.{opening_reached}
+use Rattle.oneshot_world.proofs.WorldTurns.{Turned, sender_idle, sender_made, receiver_idle, receiver_made, turned, turned_reaches}
 use Rattle.oneshot_laws.specs.Marks.{Mark, marks, or_stray, call_under_way}
 use Rattle.oneshot_laws.proofs.Coding.{Coding, pairs, by_parts}
 

@@ -1,10 +1,14 @@
 pub mod Calls
+pub mod Scripts
 pub mod Looks
 pub mod Wakers
 pub mod State
 pub mod World
 pub mod Ahead
-pub mod Explore
 pub mod Classes
-pub mod Control
 pub mod Commutes
+pub mod Control
+pub mod ControlCodes
+pub mod Explore
+pub mod ScriptsLeft
+pub mod Reached

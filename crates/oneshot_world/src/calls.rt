@@ -3,7 +3,8 @@
 ghost use Rattle.std.specs.Prelude.{◌≡◌, []};
 ghost use Rattle.std.specs.Option.{option_and_then};
 ghost use Rattle.oneshot_machine.specs.declared.machine.End.TheVariants as Ends;
-ghost use Rattle.oneshot_world.specs.Calls.{first, rest, left_by, as_sender_call, as_receiver_call, sender_calls, error_script, error_calls, receiver_calls, async_calls, number_of};
+ghost use Rattle.oneshot_world.specs.Calls.{first, rest, left_by, as_sender_call, as_receiver_call, number_of};
+ghost use Rattle.oneshot_world.specs.Scripts.{sender_calls, error_script, error_calls, receiver_calls, async_calls};
 ghost use Rattle.oneshot_world.specs.Looks.{looks_left};
 
 use crate::script::{
@@ -144,7 +145,8 @@ struct FutureCalls {
 
 impl Model for FutureCalls {
     ghost use Rattle.std.specs.Prelude.{List, drop, length, ◌≤◌};
-    ghost use Rattle.oneshot_world.specs.Calls.{Call, async_calls};
+    ghost use Rattle.oneshot_world.specs.Calls.{Call};
+    ghost use Rattle.oneshot_world.specs.Scripts.{async_calls};
 
     ghost Value = { List Call };
 
@@ -219,7 +221,8 @@ pub(crate) struct ReceiverCalls {
 impl Model for ReceiverCalls {
     ghost use Rattle.std.specs.Prelude.{[], drop, length, ◌≤◌};
     ghost use Rattle.std.specs.Option.{unwrap_or};
-    ghost use Rattle.oneshot_world.specs.Calls.{Unanswered, receiver_calls};
+    ghost use Rattle.oneshot_world.specs.Calls.{Unanswered};
+    ghost use Rattle.oneshot_world.specs.Scripts.{receiver_calls};
 
     ghost Value = { Unanswered };
 

@@ -23,7 +23,7 @@ pub struct World {
 
 impl Model for World {
     ghost use Rattle.oneshot_world.specs.World.{World};
-    ghost use Rattle.oneshot_world.specs.Control.{IsReached};
+    ghost use Rattle.oneshot_world.specs.Reached.{IsReached};
 
     ghost Value = { World };
 

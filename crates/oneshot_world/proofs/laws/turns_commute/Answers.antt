@@ -1,4 +1,4 @@
-use Rattle.oneshot_world.proofs.Classed.{turns_as}
+use Rattle.oneshot_world.proofs.CommutesTurns.{turns_as}
 use Rattle.oneshot_world.proofs.laws.turns_commute.Goals as goal
 
 pub returns : goal.returns

@@ -1,6 +1,6 @@
 -- A receiver that is no future polls nothing.
 use Rattle.std.proofs.Common.{◌≡◌, None, drop, sym}
-use Rattle.oneshot_world.proofs.Scripted.{not_polled}
+use Rattle.oneshot_world.proofs.ScriptsAnswered.{not_polled}
 use Rattle.oneshot_world.proofs.calls.ReceiverCalls.number.Goals as goal
 
 pub returns-in-None : goal.returns-in-None
