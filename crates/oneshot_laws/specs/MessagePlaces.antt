@@ -75,9 +75,8 @@ abbrev pub is_message_ended : List Entry → List Mark → Bool
 is_message_ended entries ms =
     only_if (all_ended ms && list_any (λ m. is_send m.call) ms) (is_message_end (last_message_place entries))
 
--- Each move of the message belongs to the call that makes it: into the cell and into the error only a
--- `send` puts it, the latter only if it is refused; it is delivered by a receive alone, given out of the
--- error by `into_inner`, and dropped by a drop of the receiver or of the error.
+-- Each move of the message belongs to the call that makes it: into the cell and, if it is refused, into the error only a
+-- `send` puts it, only a receive delivers it, only `into_inner` gives it back, and only a drop of the receiver or the error drops it.
 abbrev pub may_put : Mark → Place → Bool
 may_put m NotSent = false
 may_put m InCell = is_send m.call
@@ -86,8 +85,5 @@ may_put m Delivered = is_receive m.call
 may_put m FromError = is_into_inner m.call
 may_put m Dropped = is_drop_of_receiver m.call || is_drop_of_error m.call
 
-abbrev pub is_put_by_its_call : Mark → Bool
-is_put_by_its_call m = elim m.entry.message [ None ↦ true | Some move ↦ may_put m move.1 ]
-
 abbrev pub is_message_put : List Mark → Bool
-is_message_put ms = list_all is_put_by_its_call ms
+is_message_put ms = list_all (λ m. elim m.entry.message [ None ↦ true | Some move ↦ may_put m move.1 ]) ms
