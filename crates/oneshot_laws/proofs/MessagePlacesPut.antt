@@ -9,7 +9,7 @@ use Rattle.oneshot_laws.specs.Actions.{is_send, is_receive, is_into_inner, is_dr
 use Rattle.oneshot_laws.specs.Marks.{Mark}
 use Rattle.oneshot_laws.specs.MessagePlaces.{is_message_put}
 use Rattle.oneshot_laws.proofs.Coding.{flags}
-use Rattle.oneshot_laws.proofs.Glanced.{Law, Passes, Nameless, of_call, LawExplored, all_glanced, holds_by}
+use Rattle.oneshot_laws.proofs.Glanced.{Law, Passes, Nameless, nameless_of, LawExplored, all_glanced, holds_by}
 use Rattle.oneshot_laws.proofs.HistoryAccepted.{Glance, glance_of}
 use Rattle.oneshot_laws.proofs.Watched.{no_names, EachRun}
 
@@ -36,12 +36,7 @@ put [] state p = refl
 put (m ∷ ms) state p = both _ _ p.0 (put ms false p.1)
 
 nameless : Nameless put_law
-nameless =
-    record {
-      none = refl;
-      passes_same = λ k n g. of_call k (λ call. puts n (record g { call = call })) (λ a b. refl) g.call;
-      sees_same = λ k n g. refl;
-    }
+nameless = nameless_of put_law refl (λ k n g. (refl, refl)) (λ n g a b. (refl, refl))
 
 explored : LawExplored put_law
 explored = record { found = all_glanced put_law; all = refl }
