@@ -33,6 +33,7 @@ pub use Rattle.oneshot_replay.specs.declared.rest.Rest as RestOf
 pub use Rattle.oneshot_world.specs.Calls as ScriptCalls
 pub use Rattle.oneshot_world.specs.Scripts
 pub use Rattle.oneshot_world.specs.Ahead
+pub use Rattle.oneshot_world.specs.Effects
 pub use Rattle.oneshot_world.specs.State
 pub use Rattle.oneshot_world.specs.World
 pub use Rattle.oneshot_laws.specs.Actions

@@ -11,7 +11,8 @@ use Rattle.oneshot_world.specs.Calls.{Call, Of_sender, Of_receiver, Poll, first,
 use Rattle.oneshot_world.specs.Scripts.{calls_of}
 use Rattle.oneshot_world.specs.ScriptsLeft.{sender_has, receiver_has}
 use Rattle.oneshot_world.specs.Reached.{IsReached}
-use Rattle.oneshot_world.specs.State.{sender_position, receiver_position, reply_of}
+use Rattle.oneshot_world.specs.State.{sender_position, receiver_position}
+use Rattle.oneshot_world.specs.Effects.{reply_of}
 use Rattle.oneshot_world.specs.World.{World, Tells_from, Tells, opening, side_of, receiver_told}
 use Rattle.oneshot_world.specs.declared.script.Move.{Move}
 use Rattle.oneshot_world.specs.declared.script.ReceiverScript.{ReceiverScript}

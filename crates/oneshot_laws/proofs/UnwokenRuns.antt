@@ -13,7 +13,8 @@ use Rattle.oneshot_world.specs.Control.{Control, control_of, as_control}
 use Rattle.oneshot_world.specs.Reached.{IsReached}
 use Rattle.oneshot_world.specs.Explore.{all_in}
 use Rattle.oneshot_machine.specs.Sender.{sender_step}
-use Rattle.oneshot_world.specs.State.{receiver_position, reply_of, sender_stepped, receiver_stepped}
+use Rattle.oneshot_world.specs.State.{receiver_position, sender_stepped, receiver_stepped}
+use Rattle.oneshot_world.specs.Effects.{reply_of}
 use Rattle.oneshot_world.specs.World.{World, Tells_from, Tells, opening, side_of, by_end, nothing_told, receiver_told}
 use Rattle.oneshot_world.specs.declared.script.Move.{Move}
 use Rattle.oneshot_world.specs.declared.script.ReceiverScript.{ReceiverScript}

@@ -8,7 +8,7 @@ use Rattle.oneshot_machine.specs.declared.machine.End.{End}
 use Rattle.oneshot_machine.specs.declared.machine.Step.{Step}
 use Rattle.oneshot_machine.specs.declared.machine.Step.TheVariants as T
 use Rattle.oneshot_world.specs.Scripts.{calls_of}
-use Rattle.oneshot_world.specs.State.{freed_by, place_left, move_of, sender_puts, receiver_puts, reply_of}
+use Rattle.oneshot_world.specs.Effects.{freed_by, place_left, move_of, sender_puts, receiver_puts, reply_of}
 use Rattle.oneshot_world.specs.World.{World, Tells_from, Tells, opening, opening_place, side_of, receiver_told}
 use Rattle.oneshot_world.specs.declared.script.Move.{Move}
 use Rattle.oneshot_world.specs.declared.script.ReceiverScript.{ReceiverScript}

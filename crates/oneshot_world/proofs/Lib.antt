@@ -1,3 +1,4 @@
+-- The proof that each move of each run has its row, and leads to a world that a run reaches.
 pub mod Bools
 pub mod ExploreFound
 pub mod Listed

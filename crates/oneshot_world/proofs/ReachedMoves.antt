@@ -19,7 +19,8 @@ use Rattle.oneshot_world.specs.Reached.{one_poll, one_copy, reached, is_reached,
 use Rattle.oneshot_world.specs.ControlCodes.{bool_code, control_code, is_same_control}
 use Rattle.oneshot_world.specs.ScriptsLeft.{is_sender_script, is_error_script, has_script, stays_sender, ends_sender, stays_error, ends_error, sender_has, receiver_has}
 use Rattle.oneshot_world.specs.Explore.{all_in}
-use Rattle.oneshot_world.specs.State.{sender_turns_at, receiver_turns_at, sender_stands, receiver_stands, sender_steps, receiver_steps, sender_moved, sender_stepped, receiver_moved, receiver_stepped, made_entry, place_left, reply_of, sender_goes, receiver_goes, is_plain, is_free, is_future, sender_fits, receiver_fits, seen_by, sender_puts, receiver_puts}
+use Rattle.oneshot_world.specs.State.{sender_turns_at, receiver_turns_at, sender_stands, receiver_stands, sender_steps, receiver_steps, sender_moved, sender_stepped, receiver_moved, receiver_stepped, made_entry, sender_fits, receiver_fits}
+use Rattle.oneshot_world.specs.Effects.{place_left, reply_of, sender_goes, receiver_goes, is_plain, is_free, is_future, seen_by, sender_puts, receiver_puts}
 use Rattle.oneshot_world.specs.World.{World, by_end, reply_in, nothing_told, receiver_told}
 use Rattle.oneshot_world.specs.declared.state.ReceiverState.{ReceiverState}
 use Rattle.oneshot_world.specs.declared.state.ReceiverState.TheVariants as RS
@@ -148,9 +149,8 @@ made_if b f (Some x) h = refl
 
 -- a step that is made, is made by a row
 from_row : {P : Type 0} (fits : Bool) (f : P → Made × State) (row : Option P) (t : Made × State) → (if fits then option_map f row else None) ≡ Some t → (r : P) × (f r ≡ t)
-from_row true f None t h = absurd (cc h)
 from_row true f (Some r) t h = (r, cc)
-from_row false f row t h = absurd (cc h)
+from_row _ f _ t h = absurd (cc h)
 
 -- the world after a step by a row is reached
 abbrev pub sender_world : World → Step → Outcome SenderPos → World

@@ -8,8 +8,9 @@ use Rattle.oneshot_machine.specs.declared.machine.receiver.ReceiverStart.TheVari
 use Rattle.oneshot_machine.specs.declared.machine.sender.SenderCall.TheVariants as SC
 use Rattle.oneshot_world.specs.Calls.{Call, Of_sender, Of_receiver, Poll, first, rest, is_none_left}
 use Rattle.oneshot_world.specs.Scripts.{sender_last, error_last, receiver_calls, async_calls}
-use Rattle.oneshot_world.specs.ScriptsLeft.{is_script, stays_sender, ends_sender, stays_error, ends_error, ends_receiver, is_sender_script, is_error_script, is_receiver_script, is_async_script, has_script, ends_async, makes_future, begins_receiver, sender_has, receiver_has}
-use Rattle.oneshot_world.specs.State.{sender_position, receiver_position, place_left}
+use Rattle.oneshot_world.specs.ScriptsLeft.{is_script, stays_sender, ends_sender, stays_error, ends_error, ends_receiver, is_sender_script, is_error_script, is_receiver_script, is_async_script, has_script, ends_async, makes_future, begins_receiver, sender_has, receiver_has, stays_receiver, stays_async}
+use Rattle.oneshot_world.specs.State.{sender_position, receiver_position}
+use Rattle.oneshot_world.specs.Effects.{place_left}
 use Rattle.oneshot_world.specs.World.{opening_place}
 use Rattle.oneshot_world.specs.declared.script.AsyncCall.{AsyncCall}
 use Rattle.oneshot_world.specs.declared.script.AsyncCall.TheVariants as AC
@@ -96,13 +97,22 @@ sender_ends message calls (Of_sender SC.IntoInner) ends h = h
 sender_ends message calls (Of_sender SC.DropError) ends h = h
 sender_ends message calls _ ends h = cc
 
-none_is_script : (calls : List Call) → is_none_left calls ≡ true → is_receiver_script calls ≡ true
-none_is_script [] h = refl
-none_is_script (call ∷ calls) h = cc
+none_is_script : (stays ends : Call → Bool) (calls : List Call) → is_none_left calls ≡ true → is_script stays ends calls ≡ true
+none_is_script stays ends [] h = refl
+none_is_script stays ends (call ∷ calls) h = cc
 
-none_is_async : (calls : List Call) → is_none_left calls ≡ true → is_async_script calls ≡ true
-none_is_async [] h = refl
-none_is_async (call ∷ calls) h = cc
+none_is_receiver : (calls : List Call) → is_none_left calls ≡ true → is_receiver_script calls ≡ true
+none_is_receiver [] h = refl
+none_is_receiver (call ∷ calls) h = cc
+
+-- what follows a call that stays or ends
+follows : (stays ends script none : Bool) → (none ≡ true → script ≡ true) → ((stays && script) || (ends && none)) ≡ true → script ≡ true
+follows stays ends true none of_none h = refl
+follows stays true false true of_none h = of_none refl
+follows true true false false of_none h = cc
+follows false true false false of_none h = cc
+follows true false false none of_none h = cc
+follows false false false none of_none h = cc
 
 abbrev pub becomes_future : Option Call → Bool
 becomes_future None = false
@@ -110,21 +120,14 @@ becomes_future (Some call) = makes_future call
 
 receiver_goes : (calls : List Call) → is_receiver_script calls ≡ true → has_script (becomes_future (first calls)) (rest calls) ≡ true
 receiver_goes [] h = refl
-receiver_goes (Of_receiver RC.Recv ∷ calls) h = none_is_script calls h
-receiver_goes (Of_receiver RC.Drop ∷ calls) h = none_is_script calls h
 receiver_goes (Of_receiver RC.IntoFuture ∷ calls) h = h
-receiver_goes (Of_receiver RC.Poll ∷ calls) h = cc
-receiver_goes (Of_receiver RC.DropAsync ∷ calls) h = cc
-receiver_goes (Of_receiver _ ∷ calls) h = left_of_or _ h
-receiver_goes (_ ∷ calls) h = cc
+receiver_goes (call ∷ calls) h =
+    follows (stays_receiver call) (ends_receiver call) (is_receiver_script calls) (is_none_left calls) (none_is_receiver calls) h
 
 async_goes : (calls : List Call) → is_async_script calls ≡ true → is_async_script (rest calls) ≡ true
 async_goes [] h = refl
-async_goes (Poll number ∷ calls) h = left_of_or _ h
-async_goes (Of_receiver RC.HasMessage ∷ calls) h = left_of_or _ h
-async_goes (Of_receiver RC.IsClosed ∷ calls) h = left_of_or _ h
-async_goes (Of_receiver RC.DropAsync ∷ calls) h = none_is_async calls h
-async_goes (_ ∷ calls) h = cc
+async_goes (call ∷ calls) h =
+    follows (stays_async call) (ends_async call) (is_async_script calls) (is_none_left calls) (none_is_script stays_async ends_async calls) h
 
 pub receiver_goes_on : (future : Bool) (calls : List Call) → has_script future calls ≡ true → has_script (future || becomes_future (first calls)) (rest calls) ≡ true
 receiver_goes_on false calls h = receiver_goes calls h
