@@ -1,6 +1,6 @@
 -- Each waker, by its name, is always in one place. This follows the moves that the trace shows.
 use Rattle.std.specs.Prelude.{◌≡◌, ℕ, Bool, true, false, not, ◌&&◌, ◌==◌, List, [], ◌∷◌, Option, Some, None, if◌then◌else◌}
-use Rattle.std.specs.List.{list_all, filter_map}
+use Rattle.std.specs.List.{filter_map}
 use Rattle.oneshot_world.specs.Wakers.{WakerMove, is_same_waker}
 use Rattle.oneshot_world.specs.declared.trace.Entry.{Entry}
 use Rattle.oneshot_world.specs.declared.trace.WakerName.{WakerName}
