@@ -1,5 +1,5 @@
 -- A pair of scripts as lists of calls: the sender's, those of the error of a refused send, the receiver's.
-use Rattle.std.specs.Prelude.{◌+◌, List, [], ◌∷◌, ◌++◌, map, replicate}
+use Rattle.std.specs.Prelude.{List, [], ◌∷◌, ◌++◌, map, replicate}
 use Rattle.oneshot_machine.specs.declared.machine.receiver.ReceiverStart.TheVariants as RC
 use Rattle.oneshot_machine.specs.declared.machine.sender.SenderCall.TheVariants as SC
 use Rattle.oneshot_world.specs.Calls.{Call, Of_sender, Of_receiver, Poll, Calls}
