@@ -11,11 +11,11 @@ use Rattle.oneshot_world.specs.declared.trace.Entry.TheVariants as E
 use Rattle.oneshot_world.specs.declared.trace.Place.TheVariants as P
 use Rattle.oneshot_world.specs.declared.trace.WakerName.TheVariants.{Parker, Copy}
 use Rattle.oneshot_world.specs.declared.trace.WakerPlace.TheVariants as W
-use Rattle.oneshot_laws.specs.WakerPlaces.{are_wakers_right, is_cell_kept}
+use Rattle.oneshot_laws.specs.WakerPlaces.{is_cell_kept}
 use Rattle.oneshot_laws.specs.Replies.{is_gone_after_got, is_got_after_full, is_gone_after_closed, is_nothing_only_if_open, is_dropped_once}
 use Rattle.oneshot_law_examples.specs.Notation.{Example, receiver, frees, without_block, carrying, replying, up_to, without, twice, put_behind, answered_by, unmoved_by, uncarried_by, carried_by}
 use Rattle.oneshot_law_examples.specs.HistoryExamples.{acting_in, is_legal_trace}
-use Rattle.oneshot_law_examples.specs.LawExamples.{marks_in, is_block_right, are_lone_replies_right, fails_at, is_right}
+use Rattle.oneshot_law_examples.specs.LawExamples.{are_wakers_right, marks_in, is_block_right, are_lone_replies_right, fails_at, is_right}
 use Rattle.oneshot_law_examples.specs.WaitExamples.{told_by}
 use Rattle.oneshot_law_examples.specs.TimedExamples.{received_by}
 use Rattle.oneshot_law_examples.specs.UnwokenExamples.{up, aheads_by}

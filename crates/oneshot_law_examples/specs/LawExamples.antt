@@ -6,11 +6,15 @@ use Rattle.oneshot_machine.specs.declared.machine.Reply.TheVariants as R
 use Rattle.oneshot_machine.specs.declared.machine.Step.TheVariants as T
 use Rattle.oneshot_machine.specs.declared.states.Op.TheVariants as O
 use Rattle.oneshot_world.specs.declared.trace.Entry.TheVariants as E
+use Rattle.oneshot_world.specs.Wakers.{WakerMove}
+use Rattle.oneshot_world.specs.declared.trace.Entry.{Entry}
+use Rattle.oneshot_world.specs.declared.trace.WakerName.{WakerName}
+use Rattle.oneshot_world.specs.declared.trace.WakerName.TheVariants.{Parker}
 use Rattle.oneshot_world.specs.declared.trace.Place.TheVariants as P
 use Rattle.oneshot_laws.specs.Marks.{Mark, marks}
 use Rattle.oneshot_laws.specs.History.{has_legal_history}
 use Rattle.oneshot_laws.specs.MessagePlaces.{is_message_followed, is_message_ended, is_message_put}
-use Rattle.oneshot_laws.specs.WakerPlaces.{are_wakers_right, is_cell_kept}
+use Rattle.oneshot_laws.specs.WakerPlaces.{waker_moves, is_waker_followed, is_waker_ended, is_cell_kept}
 use Rattle.oneshot_laws.specs.Holders.{is_freed_right}
 use Rattle.oneshot_laws.specs.Replies.{is_gone_after_got, is_got_after_full, is_gone_after_closed, is_refused_after_closed, is_nothing_only_if_open, is_dropped_once}
 use Rattle.oneshot_laws.specs.Alone.{are_lone_calls_right}
@@ -137,6 +141,15 @@ WrongAlone =
     ∷ operating_at 3 O.Load 2 2 sent_to_nobody
     ∷ []
     ))
+
+-- `AreWakersRight`, computed: for the parker's half, and for each waker that the trace moves
+abbrev pub is_waker_right : List Entry → List Mark → WakerName → Bool
+is_waker_right entries ms name = is_waker_followed entries name && is_waker_ended entries ms name
+
+abbrev pub are_wakers_right : List Entry → List Mark → Bool
+are_wakers_right entries ms =
+    is_waker_right entries ms Parker
+    && list_all (λ (move : WakerMove). is_waker_right entries ms move.0) (waker_moves entries)
 
 -- WORKED TRACES
 abbrev pub are_wakers_kept : Example → Bool

@@ -6,10 +6,10 @@ use Rattle.oneshot_world.specs.declared.trace.Entry.TheVariants as E
 use Rattle.oneshot_world.specs.declared.trace.WakerName.TheVariants.{Parker, Copy}
 use Rattle.oneshot_world.specs.declared.trace.WakerPlace.{WakerPlace}
 use Rattle.oneshot_world.specs.declared.trace.WakerPlace.TheVariants as W
-use Rattle.oneshot_laws.specs.WakerPlaces.{are_wakers_right, is_cell_kept}
+use Rattle.oneshot_laws.specs.WakerPlaces.{is_cell_kept}
 use Rattle.oneshot_law_examples.specs.Notation.{Example, receiver, carrying, up_to, put_behind, twice, uncarried_by, carried_by}
 use Rattle.oneshot_law_examples.specs.Traces.{waited_for_message, sent_before_waiting, dropped_before_waiting, still_waiting}
-use Rattle.oneshot_law_examples.specs.LawExamples.{marks_in, are_wakers_kept}
+use Rattle.oneshot_law_examples.specs.LawExamples.{are_wakers_right, marks_in, are_wakers_kept}
 
 -- THE PLACES
 -- a task's waker comes into the receiver's hand and from there into the cell

@@ -9,7 +9,7 @@ use Rattle.oneshot_laws.specs.Marks.{Mark, side, ends}
 use Rattle.oneshot_laws.specs.History.{agrees}
 use Rattle.oneshot_laws.specs.Alone.{lone_reply, is_lone_call, are_lone_calls_right}
 use Rattle.oneshot_laws.proofs.Coding.{pairs, by_parts, or_none, both_ends}
-use Rattle.oneshot_laws.proofs.Glanced.{Law, Passes, Nameless, of_call, LawExplored, all_glanced, holds_by}
+use Rattle.oneshot_laws.proofs.Glanced.{Law, Passes, Nameless, nameless_of, LawExplored, all_glanced, holds_by}
 use Rattle.oneshot_laws.proofs.HistoryAccepted.{Glance, glance_of}
 use Rattle.oneshot_laws.proofs.HistoryReader.{objects}
 use Rattle.oneshot_laws.proofs.Watched.{no_names, EachRun}
@@ -99,12 +99,7 @@ lone_calls (m ∷ ms) lone p =
     (lone_calls ms _ p.1)
 
 nameless : Nameless lone_law
-nameless =
-    record {
-      none = refl;
-      passes_same = λ k n g. of_call k (λ call. answers_alone n (record g { call = call })) (λ a b. refl) g.call;
-      sees_same = λ k n g. of_call k (λ call. lone_then n (record g { call = call })) (λ a b. refl) g.call;
-    }
+nameless = nameless_of lone_law refl (λ k n g. (refl, refl)) (λ n g a b. (refl, refl))
 
 explored : LawExplored lone_law
 explored = record { found = all_glanced lone_law; all = refl }

@@ -65,6 +65,23 @@ pub record Nameless {N : Type 0} (law : Law N) : Type 0 where
   pub passes_same : (k : Classes) (n : N) (g : Glance) → law.passes n (as_glance k g) ≡ law.passes n g
   pub sees_same : (k : Classes) (n : N) (g : Glance) → law.sees n (as_glance k g) ≡ law.sees n g
 
+abbrev pub entry_as : Classes → Glance → Glance
+entry_as k g = record g { entry = as_made k g.entry }
+
+abbrev pub with_poll : ℕ → Glance → Glance
+with_poll number g = record g { call = Poll number }
+
+-- so it is where no name in an entry counts, and no number of a poll
+pub nameless_of : {N : Type 0} (law : Law N) → law.names ≡ no_names → ((k : Classes) (n : N) (g : Glance) → (law.passes n (entry_as k g) ≡ law.passes n g) × (law.sees n (entry_as k g) ≡ law.sees n g)) → ((n : N) (g : Glance) (a b : ℕ) → (law.passes n (with_poll a g) ≡ law.passes n (with_poll b g)) × (law.sees n (with_poll a g) ≡ law.sees n (with_poll b g))) → Nameless law
+nameless_of law none entries polls =
+    record {
+      none = none;
+      passes_same = λ k n g.
+          of_call k (λ call. law.passes n (record (entry_as k g) { call = call })) (λ a b. (polls n (entry_as k g) a b).0) g.call ∙ (entries k n g).0;
+      sees_same = λ k n g.
+          of_call k (λ call. law.sees n (record (entry_as k g) { call = call })) (λ a b. (polls n (entry_as k g) a b).1) g.call ∙ (entries k n g).1;
+    }
+
 -- names by what the law knows
 abbrev pub of_pairs : {N : Type 0} → Names N → Names (Pair N)
 of_pairs names = record { polls = names.polls; copies = λ x. names.copies x.state }

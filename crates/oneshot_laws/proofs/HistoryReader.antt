@@ -3,15 +3,13 @@ use Rattle.std.proofs.Common.{◌≡◌, ℕ, Bool, true, false, not, ◌&&◌, 
 use Rattle.oneshot_machine.specs.declared.machine.End.{End}
 use Rattle.oneshot_machine.specs.declared.machine.End.TheVariants.{Sender, Receiver}
 use Rattle.oneshot_machine.specs.declared.machine.Reply.{Reply}
-use Rattle.oneshot_machine.specs.declared.machine.receiver.ReceiverStart.{ReceiverStart}
 use Rattle.oneshot_machine.specs.declared.machine.receiver.ReceiverStart.TheVariants as RC
-use Rattle.oneshot_machine.specs.declared.machine.sender.SenderCall.{SenderCall}
 use Rattle.oneshot_machine.specs.declared.machine.sender.SenderCall.TheVariants as SC
 use Rattle.oneshot_world.specs.Calls.{Call, Of_sender, Of_receiver, Poll, Stray}
 use Rattle.oneshot_world.specs.Classes.{Classes, as_call, as_made}
 use Rattle.oneshot_world.specs.declared.trace.Made.{Made}
 use Rattle.oneshot_laws.specs.Entries.{is_same_reply, says_nothing_yet}
-use Rattle.oneshot_laws.specs.Object.{Object, Content, new_object, is_open}
+use Rattle.oneshot_laws.specs.Object.{Action, Send, Sender_gone, Take, Take_and_go, Look_full, Look_closed, Look_receiver_gone, Receiver_gone, Object, Content, new_object, is_open}
 use Rattle.oneshot_laws.specs.Actions.{action_of, nothing_yet_of, reply_on, stepped, fixed_reply_of}
 use Rattle.oneshot_laws.specs.Marks.{loads, finishes, swaps_closed_in, works_on_word, finds_full_or_closed, until_reply}
 use Rattle.oneshot_laws.specs.History.{agrees}
@@ -25,32 +23,19 @@ pub data Kind : Type 0 where
   Answers_always : Kind
   Is_none : Kind
 
-abbrev pub sender_kind : SenderCall → Kind
-sender_kind SC.IsClosed = Acts_first loads
-sender_kind SC.Send = Acts_first finishes
-sender_kind SC.Drop = Acts_first finishes
-sender_kind SC.AsInner = Answers_always
-sender_kind SC.IntoInner = Answers_always
-sender_kind SC.DropError = Answers_always
-
-abbrev pub receiver_kind : ReceiverStart → Kind
-receiver_kind RC.TryRecv = Receives
-receiver_kind RC.RecvRef = Receives
-receiver_kind RC.RecvDeadline = Receives
-receiver_kind (RC.RecvTimeout representable) = Receives
-receiver_kind RC.Recv = Receives
-receiver_kind RC.HasMessage = Acts_first loads
-receiver_kind RC.IsClosed = Acts_first loads
-receiver_kind RC.Drop = Acts_first swaps_closed_in
-receiver_kind RC.IntoFuture = Answers_always
-receiver_kind RC.Poll = Receives
-receiver_kind RC.DropAsync = Acts_first swaps_closed_in
+abbrev pub kind_of : Action → Kind
+kind_of Send = Acts_first finishes
+kind_of Sender_gone = Acts_first finishes
+kind_of Take = Receives
+kind_of Take_and_go = Receives
+kind_of Look_full = Acts_first loads
+kind_of Look_closed = Acts_first loads
+kind_of Look_receiver_gone = Acts_first loads
+kind_of Receiver_gone = Acts_first swaps_closed_in
 
 abbrev pub kind : Call → Kind
-kind (Of_sender call) = sender_kind call
-kind (Of_receiver call) = receiver_kind call
-kind (Poll number) = receiver_kind RC.Poll
 kind Stray = Is_none
+kind call = elim (action_of call) [ None ↦ Answers_always | Some action ↦ kind_of action ]
 
 -- the entry at which a call acts that does not answer "nothing yet"
 abbrev pub hit : Kind → Made → Bool

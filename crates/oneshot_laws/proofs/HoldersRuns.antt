@@ -1,17 +1,18 @@
 -- Only holders use the block, its last holder frees it, nothing uses it afterwards, and once all have ended it is freed.
 use Rattle.std.proofs.Common.{◌≡◌, Bool, true, false, not, ◌&&◌, ◌||◌, List, [], ◌∷◌, map, refl, subst}
-use Rattle.std.specs.List.{list_any}
+use Rattle.std.specs.List.{list_any, list_all}
 use Rattle.oneshot_world.specs.Scripts.{calls_of}
 use Rattle.oneshot_world.specs.World.{by_end}
-use Rattle.oneshot_world.proofs.Bools.{both}
+use Rattle.oneshot_world.proofs.Bools.{and_left, and_right, both}
 use Rattle.oneshot_laws.specs.Entries.{only_if, is_word, is_on_a_cell, is_free}
-use Rattle.oneshot_laws.specs.Marks.{Mark, marks}
+use Rattle.oneshot_laws.specs.Marks.{Mark, marks, after_each}
 use Rattle.oneshot_laws.specs.Ended.{all_ended}
 use Rattle.oneshot_laws.specs.Holders.{Holders, both_hold, holds, other, is_here, uses_block, frees, is_held, is_free_last, is_freed, is_freed_at_end, is_freed_right}
 use Rattle.oneshot_laws.proofs.Coding.{Coding, pairs, by_parts, flags}
 use Rattle.oneshot_laws.proofs.EndedRuns.{Ending, EndingExplored, kept, own_after, nothing_asked, at_the_end, or_more}
-use Rattle.oneshot_laws.proofs.Glanced.{Law, Passes, Nameless, of_call, LawExplored, all_glanced, holds_by}
+use Rattle.oneshot_laws.proofs.Glanced.{Law, Passes, Nameless, nameless_of, LawExplored, all_glanced, holds_by}
 use Rattle.oneshot_laws.proofs.HistoryAccepted.{Glance, glance_of}
+use Rattle.oneshot_laws.proofs.MarksAfterEach.{ever_law, ever_after}
 use Rattle.oneshot_laws.proofs.Watched.{no_names, EachRun}
 
 abbrev uses : Glance → Bool
@@ -48,12 +49,7 @@ held [] h p = refl
 held (m ∷ ms) h p = both _ _ p.0 (held ms _ p.1)
 
 held_nameless : Nameless held_law
-held_nameless =
-    record {
-      none = refl;
-      passes_same = λ k n g. of_call k (λ call. is_used_by_holder n (record g { call = call })) (λ a b. refl) g.call;
-      sees_same = λ k n g. of_call k (λ call. then_held n (record g { call = call })) (λ a b. refl) g.call;
-    }
+held_nameless = nameless_of held_law refl (λ k n g. (refl, refl)) (λ n g a b. (refl, refl))
 
 held_explored : LawExplored held_law
 held_explored = record { found = all_glanced held_law; all = refl }
@@ -61,59 +57,39 @@ held_explored = record { found = all_glanced held_law; all = refl }
 held_run : {T : Type 0} → EachRun T (is_held both_hold)
 held_run = holds_by held_law held_nameless held_explored (is_held both_hold) (λ place ms. held ms both_hold)
 
--- nothing uses the block after a free; the flag is whether it was freed
-abbrev is_unused : Bool → Glance → Bool
-is_unused freed g = not (freed && uses g)
+-- nothing uses the block after a free
+abbrev leaves_alone : Glance → Bool
+leaves_alone g = not (uses g)
 
+free_nameless : Nameless (ever_law is_freeing leaves_alone)
+free_nameless = nameless_of (ever_law is_freeing leaves_alone) refl (λ k n g. (refl, refl)) (λ n g a b. (refl, refl))
+
+free_explored : LawExplored (ever_law is_freeing leaves_alone)
+free_explored = record { found = all_glanced (ever_law is_freeing leaves_alone); all = refl }
+
+none_uses : (ms : List Mark) → list_all (λ m. leaves_alone (glance_of m)) ms ≡ not (list_any uses_block ms)
+none_uses [] = refl
+none_uses (m ∷ ms) =
+    elim (uses_block m) as (λ b. (not b && list_all (λ m. leaves_alone (glance_of m)) ms) ≡ not (b || list_any uses_block ms)) [
+      | true ↦ refl
+      | false ↦ none_uses ms
+    ]
+
+free_last : (ms : List Mark) → after_each (λ m. is_freeing (glance_of m)) (list_all (λ m. leaves_alone (glance_of m))) ms ≡ true → is_free_last ms ≡ true
+free_last [] h = refl
+free_last (m ∷ ms) h =
+    both _ _
+    (subst (λ unused. only_if (frees m) unused ≡ true) (none_uses ms) (and_left _ _ h))
+    (free_last ms (and_right (only_if (frees m) (list_all (λ m. leaves_alone (glance_of m)) ms)) _ h))
+
+free_last_run : {T : Type 0} → EachRun T is_free_last
+free_last_run s r worlds moves entries tells =
+    free_last (marks (calls_of s r) entries) (ever_after is_freeing leaves_alone free_nameless free_explored s r worlds moves entries tells)
+
+-- once all have ended the block is freed
 abbrev freed_then : Bool → Glance → Bool
 freed_then freed g = freed || is_freeing g
 
-abbrev unused_law : Law Bool
-unused_law = record { coding = flags; passes = is_unused; sees = freed_then; names = no_names; first = λ place. false }
-
-unused_later : (freed used later : Bool) → not (freed && used) ≡ true → only_if freed (not later) ≡ true → only_if freed (not (used || later)) ≡ true
-unused_later false used later h k = refl
-unused_later true true later h k = cc
-unused_later true false later h k = k
-
-freed_before : (freed free later : Bool) → only_if (freed || free) later ≡ true → only_if freed later ≡ true
-freed_before true free later h = h
-freed_before false free later h = refl
-
-freed_here : (freed free later : Bool) → only_if (freed || free) later ≡ true → only_if free later ≡ true
-freed_here freed false later h = refl
-freed_here true true later h = h
-freed_here false true later h = h
-
-never_freed : (freed : Bool) → only_if freed true ≡ true
-never_freed true = refl
-never_freed false = refl
-
-unused : (ms : List Mark) (freed : Bool) → Passes unused_law freed (map glance_of ms) → only_if freed (not (list_any uses_block ms)) ≡ true
-unused [] freed p = never_freed freed
-unused (m ∷ ms) freed p =
-    unused_later freed (uses (glance_of m)) _ p.0 (freed_before freed (is_freeing (glance_of m)) _ (unused ms _ p.1))
-
-free_last : (ms : List Mark) (freed : Bool) → Passes unused_law freed (map glance_of ms) → is_free_last ms ≡ true
-free_last [] freed p = refl
-free_last (m ∷ ms) freed p =
-    both _ _ (freed_here freed (is_freeing (glance_of m)) _ (unused ms _ p.1)) (free_last ms _ p.1)
-
-unused_nameless : Nameless unused_law
-unused_nameless =
-    record {
-      none = refl;
-      passes_same = λ k n g. of_call k (λ call. is_unused n (record g { call = call })) (λ a b. refl) g.call;
-      sees_same = λ k n g. of_call k (λ call. freed_then n (record g { call = call })) (λ a b. refl) g.call;
-    }
-
-unused_explored : LawExplored unused_law
-unused_explored = record { found = all_glanced unused_law; all = refl }
-
-free_last_run : {T : Type 0} → EachRun T is_free_last
-free_last_run = holds_by unused_law unused_nameless unused_explored is_free_last (λ place ms. free_last ms false)
-
--- once all have ended the block is freed
 abbrev freed_ending : Ending Bool
 freed_ending =
     record {

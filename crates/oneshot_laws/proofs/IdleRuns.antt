@@ -5,9 +5,7 @@ use Rattle.oneshot_machine.specs.Receiver.{receiver_step}
 use Rattle.oneshot_machine.specs.Sender.{sender_step}
 use Rattle.oneshot_machine.specs.declared.machine.End.{End}
 use Rattle.oneshot_machine.specs.declared.machine.End.TheVariants.{Sender, Receiver}
-use Rattle.oneshot_machine.specs.declared.machine.receiver.ReceiverStart.TheVariants as RC
-use Rattle.oneshot_machine.specs.declared.machine.sender.SenderCall.TheVariants as SC
-use Rattle.oneshot_world.specs.Calls.{Call, Of_sender, Of_receiver, Poll, first, is_none_left, left_by, as_sender_call, as_receiver_call}
+use Rattle.oneshot_world.specs.Calls.{Call, Of_sender, Of_receiver, first, is_none_left, left_by, as_sender_call, as_receiver_call}
 use Rattle.oneshot_world.specs.Scripts.{calls_of}
 use Rattle.oneshot_world.specs.ScriptsLeft.{sender_has, receiver_has}
 use Rattle.oneshot_world.specs.Reached.{IsReached}

@@ -6,6 +6,7 @@ pub mod HistoryOwed
 pub mod HistoryAccepted
 pub mod HistoryRuns
 pub mod Glanced
+pub mod MarksAfterEach
 pub mod EndedRuns
 pub mod IdleRuns
 pub mod MessagePlacesRuns

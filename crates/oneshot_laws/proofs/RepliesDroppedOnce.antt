@@ -9,7 +9,7 @@ use Rattle.oneshot_laws.specs.Ended.{has_answered}
 use Rattle.oneshot_laws.specs.Replies.{answers, is_dropped, is_dropping, is_one_by_receiver, is_dropped_once}
 use Rattle.oneshot_laws.proofs.RepliesAfterwards.{told}
 use Rattle.oneshot_laws.proofs.Coding.{Coding, listed, pairs, by_parts, flags}
-use Rattle.oneshot_laws.proofs.Glanced.{Law, Passes, Nameless, of_call, LawExplored, all_glanced, holds_by}
+use Rattle.oneshot_laws.proofs.Glanced.{Law, Passes, Nameless, nameless_of, LawExplored, all_glanced, holds_by}
 use Rattle.oneshot_laws.proofs.HistoryAccepted.{Glance, glance_of}
 use Rattle.oneshot_laws.proofs.Watched.{no_names, EachRun}
 
@@ -135,12 +135,7 @@ ends_well (m ∷ ms) story well p =
     (ends_well ms (story_then story (glance_of m)) p.0 p.1))
 
 nameless : Nameless story_law
-nameless =
-    record {
-      none = refl;
-      passes_same = λ k n g. of_call k (λ call. goes_well n (record g { call = call })) (λ a b. refl) g.call;
-      sees_same = λ k n g. of_call k (λ call. story_then n (record g { call = call })) (λ a b. refl) g.call;
-    }
+nameless = nameless_of story_law refl (λ k n g. (refl, refl)) (λ n g a b. (refl, refl))
 
 explored : LawExplored story_law
 explored = record { found = all_glanced story_law; all = refl }

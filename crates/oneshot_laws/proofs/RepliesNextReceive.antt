@@ -8,7 +8,7 @@ use Rattle.oneshot_laws.specs.Marks.{Mark}
 use Rattle.oneshot_laws.specs.Replies.{next_receive_gets, is_got_after_full}
 use Rattle.oneshot_laws.proofs.RepliesAfterwards.{told}
 use Rattle.oneshot_laws.proofs.Coding.{flags}
-use Rattle.oneshot_laws.proofs.Glanced.{Law, Passes, Nameless, of_call, LawExplored, all_glanced, holds_by}
+use Rattle.oneshot_laws.proofs.Glanced.{Law, Passes, Nameless, nameless_of, LawExplored, all_glanced, holds_by}
 use Rattle.oneshot_laws.proofs.HistoryAccepted.{Glance, glance_of}
 use Rattle.oneshot_laws.proofs.Watched.{no_names, EachRun}
 
@@ -55,12 +55,7 @@ got (m ∷ ms) seen p =
     both _ _ (full_now seen (answers_receive (glance_of m)) (full (glance_of m)) _ (next_gets ms _ p.1)) (got ms _ p.1)
 
 nameless : Nameless next_law
-nameless =
-    record {
-      none = refl;
-      passes_same = λ k n g. of_call k (λ call. gets n (record g { call = call })) (λ a b. refl) g.call;
-      sees_same = λ k n g. of_call k (λ call. seen_then n (record g { call = call })) (λ a b. refl) g.call;
-    }
+nameless = nameless_of next_law refl (λ k n g. (refl, refl)) (λ n g a b. (refl, refl))
 
 explored : LawExplored next_law
 explored = record { found = all_glanced next_law; all = refl }

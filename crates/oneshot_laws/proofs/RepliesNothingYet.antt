@@ -10,7 +10,7 @@ use Rattle.oneshot_laws.specs.Object.{is_open}
 use Rattle.oneshot_laws.specs.Marks.{Mark, side, call_marks, until_reply}
 use Rattle.oneshot_laws.specs.Replies.{is_nothing_only_if_open}
 use Rattle.oneshot_laws.proofs.Coding.{Coding, pairs, by_parts, flags}
-use Rattle.oneshot_laws.proofs.Glanced.{Law, Passes, Nameless, of_call, LawExplored, all_glanced, holds_by}
+use Rattle.oneshot_laws.proofs.Glanced.{Law, Passes, Nameless, nameless_of, LawExplored, all_glanced, holds_by}
 use Rattle.oneshot_laws.proofs.HistoryAccepted.{Glance, glance_of}
 use Rattle.oneshot_laws.proofs.Watched.{no_names, EachRun}
 
@@ -108,12 +108,7 @@ each (m ∷ ms) met p =
     (each ms _ p.1)
 
 nameless : Nameless met_law
-nameless =
-    record {
-      none = refl;
-      passes_same = λ k n g. of_call k (λ call. says_nothing_rightly n (record g { call = call })) (λ a b. refl) g.call;
-      sees_same = λ k n g. of_call k (λ call. met_then n (record g { call = call })) (λ a b. refl) g.call;
-    }
+nameless = nameless_of met_law refl (λ k n g. (refl, refl)) (λ n g a b. (refl, refl))
 
 explored : LawExplored met_law
 explored = record { found = all_glanced met_law; all = refl }

@@ -3,17 +3,13 @@ use Rattle.std.specs.Prelude.{ℕ, ◌+◌, Bool, true, false, not, ◌&&◌, �
 use Rattle.std.specs.List.{list_any}
 use Rattle.oneshot_machine.specs.declared.machine.End.{End}
 use Rattle.oneshot_machine.specs.declared.machine.Reply.{Reply}
-use Rattle.oneshot_machine.specs.declared.machine.receiver.ReceiverStart.{ReceiverStart}
-use Rattle.oneshot_machine.specs.declared.machine.receiver.ReceiverStart.TheVariants as RC
-use Rattle.oneshot_machine.specs.declared.machine.sender.SenderCall.{SenderCall}
-use Rattle.oneshot_machine.specs.declared.machine.sender.SenderCall.TheVariants as SC
-use Rattle.oneshot_world.specs.Calls.{Call, Of_sender, Of_receiver, Poll, Stray, Calls, Unanswered, first, is_none_left, left_by}
+use Rattle.oneshot_world.specs.Calls.{Call, Stray, Calls, Unanswered, first, is_none_left, left_by}
 use Rattle.oneshot_world.specs.World.{by_end}
 use Rattle.oneshot_world.specs.declared.trace.Entry.{Entry}
 use Rattle.oneshot_world.specs.declared.trace.Entry.TheVariants.{Idle, Made as Made_entry}
 use Rattle.oneshot_world.specs.declared.trace.Made.{Made}
 use Rattle.oneshot_laws.specs.Entries.{is_same_end, is_nothing_yet, is_word, is_load, is_add_or_xor, is_swap, is_swap_of, found}
-use Rattle.oneshot_laws.specs.Object.{Object, new_object}
+use Rattle.oneshot_laws.specs.Object.{Action, Send, Sender_gone, Take, Take_and_go, Look_full, Look_closed, Look_receiver_gone, Receiver_gone, Object, new_object}
 use Rattle.oneshot_laws.specs.Actions.{action_of, stepped}
 
 -- The acting entry of a call is the first, or the last, of its entries that pass a test; a call that is no step of the object has none.
@@ -42,33 +38,19 @@ swaps_closed_in e = is_swap_of 2 e.step
 abbrev pub receive_rule : Option Reply → Rule
 receive_rule answer = elim (is_nothing_yet answer) [ true ↦ Last works_on_word | false ↦ First finds_full_or_closed ]
 
--- by the call, and its answer if the trace has it
-abbrev pub sender_rule : SenderCall → Option Reply → Rule
-sender_rule SC.IsClosed answer = First loads
-sender_rule SC.Send answer = First finishes
-sender_rule SC.Drop answer = First finishes
-sender_rule SC.AsInner answer = Never
-sender_rule SC.IntoInner answer = Never
-sender_rule SC.DropError answer = Never
-
-abbrev pub receiver_rule : ReceiverStart → Option Reply → Rule
-receiver_rule RC.TryRecv answer = receive_rule answer
-receiver_rule RC.RecvRef answer = receive_rule answer
-receiver_rule RC.RecvDeadline answer = receive_rule answer
-receiver_rule (RC.RecvTimeout representable) answer = receive_rule answer
-receiver_rule RC.Recv answer = receive_rule answer
-receiver_rule RC.HasMessage answer = First loads
-receiver_rule RC.IsClosed answer = First loads
-receiver_rule RC.Drop answer = First swaps_closed_in
-receiver_rule RC.IntoFuture answer = Never
-receiver_rule RC.Poll answer = receive_rule answer
-receiver_rule RC.DropAsync answer = First swaps_closed_in
+-- by the object's step that the call is, and its answer if the trace has it
+abbrev pub rule_of : Action → Option Reply → Rule
+rule_of Send answer = First finishes
+rule_of Sender_gone answer = First finishes
+rule_of Take answer = receive_rule answer
+rule_of Take_and_go answer = receive_rule answer
+rule_of Look_full answer = First loads
+rule_of Look_closed answer = First loads
+rule_of Look_receiver_gone answer = First loads
+rule_of Receiver_gone answer = First swaps_closed_in
 
 abbrev pub rule : Call → Option Reply → Rule
-rule (Of_sender call) answer = sender_rule call answer
-rule (Of_receiver call) answer = receiver_rule call answer
-rule (Poll number) answer = receiver_rule RC.Poll answer
-rule Stray answer = Never
+rule call answer = elim (action_of call) [ None ↦ Never | Some action ↦ rule_of action answer ]
 
 -- whether an entry is the acting one of a call with these entries before it and these after it
 abbrev pub acts : Rule → List Made → Made → List Made → Bool
@@ -102,10 +84,6 @@ abbrev pub reply_among : List Made → Option Reply
 reply_among [] = None
 reply_among (e ∷ entries) = until_reply e.reply (reply_among entries) e.reply
 
--- the entries of an entry's call after it
-abbrev pub later_than : Made → List Entry → List Made
-later_than e entries = until_reply e.reply (to_reply e.side entries) []
-
 -- where a reading of the trace stands at one end: what its script has left, and the entries so far of the call under way
 pub record Reading : Type 0 where
   pub left : Unanswered
@@ -132,19 +110,6 @@ pub record Mark : Type 0 where
   pub acted : Bool
   pub object : Object
 
-abbrev pub mark_of : ℕ → Object → Call → Option Reply → List Made → Made → List Made → Mark
-mark_of number o call answer earlier e later =
-    record {
-      number = number;
-      entry = e;
-      call = call;
-      answer = answer;
-      begins = is_none_left earlier;
-      acting = acts (rule call answer) earlier e later;
-      acted = has_acted (rule call answer) (earlier ++ e ∷ []) later;
-      object = o;
-    }
-
 -- the call that an entry belongs to: the first that its end has left
 abbrev pub or_stray : Option Call → Call
 or_stray None = Stray
@@ -153,9 +118,19 @@ or_stray (Some call) = call
 abbrev pub call_under_way : Unanswered → Call
 call_under_way left = or_stray (first left.calls)
 
+-- the mark of an entry, with the later ones of its call
 abbrev pub mark_at : ℕ → Object → Reading → Made → List Made → Mark
 mark_at number o at e later =
-    mark_of number o (call_under_way at.left) (reply_among (e ∷ later)) at.earlier e later
+    record {
+      number = number;
+      entry = e;
+      call = call_under_way at.left;
+      answer = reply_among (e ∷ later);
+      begins = is_none_left at.earlier;
+      acting = acts (rule (call_under_way at.left) (reply_among (e ∷ later))) at.earlier e later;
+      acted = has_acted (rule (call_under_way at.left) (reply_among (e ∷ later))) (at.earlier ++ e ∷ []) later;
+      object = o;
+    }
 
 -- the object after a mark
 abbrev pub object_then : Mark → Object
@@ -166,7 +141,7 @@ abbrev pub marks_from : Reading → Reading → ℕ → Object → List Entry �
 marks_from s r number o [] = []
 marks_from s r number o (Idle side ∷ entries) = marks_from s r (number + 1) o entries
 marks_from s r number o (Made_entry e ∷ entries) =
-    let mark : Mark = mark_at number o (by_end e.side s r) e (later_than e entries)
+    let mark : Mark = mark_at number o (by_end e.side s r) e (until_reply e.reply (to_reply e.side entries) [])
     in mark
     ∷ marks_from (by_end e.side (read s e) s) (by_end e.side r (read r e)) (number + 1) (object_then mark) entries
 

@@ -1,8 +1,9 @@
 -- The message is always in one place. This follows the moves that the trace shows.
-use Rattle.std.specs.Prelude.{ℕ, Bool, true, false, ◌&&◌, ◌||◌, ◌==◌, List, [], ◌∷◌, Some, None}
+use Rattle.std.specs.Prelude.{ℕ, Bool, true, false, ◌&&◌, ◌||◌, ◌==◌, List, [], ◌∷◌, Option, Some, None}
 use Rattle.std.specs.List.{list_any, list_all, filter_map}
+use Rattle.oneshot_machine.specs.declared.machine.Reply.{Reply}
 use Rattle.oneshot_machine.specs.declared.machine.Reply.TheVariants as R
-use Rattle.oneshot_world.specs.Calls.{Calls}
+use Rattle.oneshot_world.specs.Calls.{Call, Calls}
 use Rattle.oneshot_world.specs.declared.trace.Entry.{Entry}
 use Rattle.oneshot_world.specs.declared.trace.Entry.TheVariants.{Idle, Made as Made_entry}
 use Rattle.oneshot_world.specs.declared.trace.Made.{Made}
@@ -75,19 +76,14 @@ abbrev pub is_message_ended : List Entry → List Mark → Bool
 is_message_ended entries ms =
     only_if (all_ended ms && list_any (λ m. is_send m.call) ms) (is_message_end (last_message_place entries))
 
--- Each move of the message belongs to the call that makes it: into the cell and into the error only a
--- `send` puts it, the latter only if it is refused; it is delivered by a receive alone, given out of the
--- error by `into_inner`, and dropped by a drop of the receiver or of the error.
-abbrev pub may_put : Mark → Place → Bool
-may_put m NotSent = false
-may_put m InCell = is_send m.call
-may_put m InError = is_send m.call && is_reply R.Refused m.entry.reply
-may_put m Delivered = is_receive m.call
-may_put m FromError = is_into_inner m.call
-may_put m Dropped = is_drop_of_receiver m.call || is_drop_of_error m.call
-
-abbrev pub is_put_by_its_call : Mark → Bool
-is_put_by_its_call m = elim m.entry.message [ None ↦ true | Some move ↦ may_put m move.1 ]
+-- each move of the message belongs to the call that makes it, and into the error it goes only if its send is refused
+abbrev pub may_put : Call → Option Reply → Place → Bool
+may_put call reply NotSent = false
+may_put call reply InCell = is_send call
+may_put call reply InError = is_send call && is_reply R.Refused reply
+may_put call reply Delivered = is_receive call
+may_put call reply FromError = is_into_inner call
+may_put call reply Dropped = is_drop_of_receiver call || is_drop_of_error call
 
 abbrev pub is_message_put : List Mark → Bool
-is_message_put ms = list_all is_put_by_its_call ms
+is_message_put ms = list_all (λ m. elim m.entry.message [ None ↦ true | Some move ↦ may_put m.call m.entry.reply move.1 ]) ms

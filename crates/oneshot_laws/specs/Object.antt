@@ -17,18 +17,15 @@ new_object = record { content = Open; sender_here = true; receiver_here = true }
 
 abbrev pub is_open : Content → Bool
 is_open Open = true
-is_open Full = false
-is_open Closed = false
+is_open _ = false
 
 abbrev pub is_full : Content → Bool
-is_full Open = false
 is_full Full = true
-is_full Closed = false
+is_full _ = false
 
 abbrev pub is_closed : Content → Bool
-is_closed Open = false
-is_closed Full = false
 is_closed Closed = true
+is_closed _ = false
 
 -- the object's steps
 pub data Action : Type 0 where
@@ -53,12 +50,9 @@ without_sender Open = Closed
 without_sender Full = Full
 without_sender Closed = Closed
 
--- a refused send leaves the content as it is
-abbrev pub sent_to : Object → Content
-sent_to o = if o.receiver_here then Full else o.content
-
+-- a send that is refused leaves the content as it is
 abbrev pub object_after : Action → Object → Object
-object_after Send o = record o { content = sent_to o; sender_here = false }
+object_after Send o = record o { content = if o.receiver_here then Full else o.content; sender_here = false }
 object_after Sender_gone o = record o { content = without_sender o.content; sender_here = false }
 object_after Take o = record o { content = without_message o.content }
 object_after Take_and_go o = record o { content = without_message o.content; receiver_here = false }

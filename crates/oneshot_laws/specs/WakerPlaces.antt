@@ -1,6 +1,6 @@
 -- Each waker, by its name, is always in one place. This follows the moves that the trace shows.
 use Rattle.std.specs.Prelude.{◌≡◌, ℕ, Bool, true, false, not, ◌&&◌, ◌==◌, List, [], ◌∷◌, Option, Some, None, if◌then◌else◌}
-use Rattle.std.specs.List.{list_all, filter_map}
+use Rattle.std.specs.List.{filter_map}
 use Rattle.oneshot_world.specs.Wakers.{WakerMove, is_same_waker}
 use Rattle.oneshot_world.specs.declared.trace.Entry.{Entry}
 use Rattle.oneshot_world.specs.declared.trace.WakerName.{WakerName}
@@ -54,9 +54,6 @@ abbrev pub is_waker_followed : List Entry → WakerName → Bool
 is_waker_followed entries name =
     is_path is_same_waker_place (is_waker_move name) (first_waker_place name) (moves_of name (waker_moves entries))
 
-abbrev pub last_waker_place : List Entry → WakerName → WakerPlace
-last_waker_place entries name = last_place (first_waker_place name) (moves_of name (waker_moves entries))
-
 -- where a waker is once all have ended; a copy that was never made is still new
 abbrev pub is_waker_end : WakerName → WakerPlace → Bool
 is_waker_end Parker Used = true
@@ -67,21 +64,12 @@ is_waker_end (Copy number entry) New = true
 is_waker_end _ _ = false
 
 abbrev pub is_waker_ended : List Entry → List Mark → WakerName → Bool
-is_waker_ended entries ms name = only_if (all_ended ms) (is_waker_end name (last_waker_place entries name))
+is_waker_ended entries ms name = only_if (all_ended ms) (is_waker_end name (last_place (first_waker_place name) (moves_of name (waker_moves entries))))
 
 -- each waker follows its path, and has ended once all have
 abbrev pub AreWakersRight : List Entry → List Mark → Type 0
 AreWakersRight entries ms =
     (name : WakerName) → (is_waker_followed entries name ≡ true) × (is_waker_ended entries ms name ≡ true)
-
--- the same, computed: for the parker's half, and for each waker that the trace moves
-abbrev pub is_waker_right : List Entry → List Mark → WakerName → Bool
-is_waker_right entries ms name = is_waker_followed entries name && is_waker_ended entries ms name
-
-abbrev pub are_wakers_right : List Entry → List Mark → Bool
-are_wakers_right entries ms =
-    is_waker_right entries ms Parker
-    && list_all (λ (move : WakerMove). is_waker_right entries ms move.0) (waker_moves entries)
 
 abbrev pub is_cell : WakerPlace → Bool
 is_cell Cell = true

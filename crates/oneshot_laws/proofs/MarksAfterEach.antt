@@ -1,0 +1,48 @@
+-- What every mark passes after each mark that passes a test, for any two tests: the law keeps one flag.
+use Rattle.std.proofs.Common.{◌≡◌, Bool, true, false, ◌&&◌, ◌||◌, List, [], ◌∷◌, map, refl}
+use Rattle.std.specs.List.{list_all}
+use Rattle.oneshot_world.proofs.Bools.{both}
+use Rattle.oneshot_laws.specs.Entries.{only_if}
+use Rattle.oneshot_laws.specs.Marks.{Mark, after_each}
+use Rattle.oneshot_laws.proofs.Coding.{flags}
+use Rattle.oneshot_laws.proofs.Glanced.{Law, Passes, Nameless, LawExplored, holds_by}
+use Rattle.oneshot_laws.proofs.HistoryAccepted.{Glance, glance_of}
+use Rattle.oneshot_laws.proofs.Watched.{no_names, EachRun}
+
+-- what was asked of this and of all that follows
+ever : (after test good later : Bool) → only_if after good ≡ true → only_if (after || test) later ≡ true → only_if after (good && later) ≡ true
+ever false test good later h k = refl
+ever true test good later h k = both good later h k
+
+from_here : (after test later : Bool) → only_if (after || test) later ≡ true → only_if test later ≡ true
+from_here after false later h = refl
+from_here true true later h = h
+from_here false true later h = h
+
+always : (after : Bool) → only_if after true ≡ true
+always true = refl
+always false = refl
+
+-- the flag is whether `test` was passed already, after which all must be good
+module _ (test good : Glance → Bool) where
+  abbrev pub ever_law : Law Bool
+  ever_law =
+      record {
+        coding = flags;
+        passes = λ after g. only_if after (good g);
+        sees = λ after g. after || test g;
+        names = no_names;
+        first = λ place. false;
+      }
+
+  all_good : (ms : List Mark) (after : Bool) → Passes ever_law after (map glance_of ms) → only_if after (list_all (λ m. good (glance_of m)) ms) ≡ true
+  all_good [] after p = always after
+  all_good (m ∷ ms) after p = ever after (test (glance_of m)) (good (glance_of m)) _ p.0 (all_good ms _ p.1)
+
+  good_after : (ms : List Mark) (after : Bool) → Passes ever_law after (map glance_of ms) → after_each (λ m. test (glance_of m)) (list_all (λ m. good (glance_of m))) ms ≡ true
+  good_after [] after p = refl
+  good_after (m ∷ ms) after p =
+      both _ _ (from_here after (test (glance_of m)) _ (all_good ms _ p.1)) (good_after ms _ p.1)
+
+  pub ever_after : {T : Type 0} → Nameless ever_law → LawExplored ever_law → EachRun T (after_each (λ m. test (glance_of m)) (list_all (λ m. good (glance_of m))))
+  ever_after nameless explored = holds_by ever_law nameless explored _ (λ place ms. good_after ms false)
