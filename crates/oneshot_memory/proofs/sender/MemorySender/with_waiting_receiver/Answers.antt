@@ -1,6 +1,5 @@
-use Rattle.std.proofs.Common.{◌≡◌, [], rules}
-use Rattle.oneshot_memory.specs.Sender.{receiver_waits}
+use Rattle.std.proofs.Common.{◌≡◌, [], rules, refl}
 use Rattle.oneshot_memory.proofs.sender.MemorySender.with_waiting_receiver.Goals as goal
 
 pub invariant_of-result : goal.invariant_of-result
-invariant_of-result g c = let none : c.new.result.items ≡ [] = search rules in rw none (receiver_waits c.args.waker)
+invariant_of-result g c = let none : c.new.result.items ≡ [] = search rules in rw none refl

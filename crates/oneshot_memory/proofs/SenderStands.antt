@@ -1,0 +1,104 @@
+-- How a sender's ground in memory stands after each of its steps.
+use Rattle.std.proofs.Common.{◌≡◌, ℕ, Bool, true, false, List, [], ◌∷◌, ◌++◌, Option, Some, None, refl, sym, ap, subst}
+use Rattle.std.specs.Prelude.{is_some}
+use Rattle.oneshot_machine.specs.declared.states.Op.{Op}
+use Rattle.oneshot_machine.specs.Logs.{Grows, words, sender_of, worded}
+use Rattle.oneshot_machine.specs.Phases.{sending, dropping, SenderAt, fresh, owes, finished, late, no_sender, sender_moves, sender_owns, sender_next, sender_at}
+use Rattle.oneshot_machine.specs.Slots.{Held, vacant, held, In, head, tail, SenderMay}
+use Rattle.oneshot_machine.specs.States.{word_after}
+use Rattle.oneshot_machine.proofs.GrownLists.{sender_moved}
+use Rattle.oneshot_memory.specs.declared.Event.{Event}
+use Rattle.oneshot_memory.specs.Cells.{Cells, cells_of}
+use Rattle.oneshot_memory.specs.Events.{slot_of, event_of, logged}
+use Rattle.oneshot_memory.specs.Sender.{sender_has, sender_stands, SenderStands, keeps_both, word_then}
+use Rattle.oneshot_memory.proofs.Cells.{IsSteady, comes_about, Operated, operates, slot_vacant, slot_held}
+use Rattle.oneshot_memory.proofs.Events.{words_same}
+
+-- which cells a sender has, and which slots an operation leaves it
+abbrev has : SenderAt → Cells → Bool
+has p = sender_has (sender_owns p) (sender_moves p)
+
+abbrev keeps : Op → Cells → Bool × Bool
+keeps op c = (keeps_both c.word, keeps_both c.word)
+
+-- what comes about between its operations
+pub data Change : Type 0 where
+  -- a message is put into its cell, or taken out of it
+  message_put : Bool → Change
+  -- the waker is taken out of its cell
+  taken : Change
+  -- both slots are freed
+  freed : Change
+  -- the deadline of the receiver may be over
+  outlasts : Bool → Change
+
+abbrev changes : List Change
+changes = message_put true ∷ message_put false ∷ taken ∷ freed ∷ outlasts true ∷ outlasts false ∷ []
+
+abbrev may_come : Change → Cells → Bool
+may_come (message_put there) c = true
+may_come taken c = c.owns_waker
+may_come freed c = c.owns_waker
+may_come (outlasts stops) c = true
+
+abbrev changed : Change → Cells → Cells
+changed (message_put there) c = record c { has_message = there }
+changed taken c = record c { has_waker = false }
+changed freed c = record c { owns_message = false; owns_waker = false }
+changed (outlasts stops) c = record c { word = word_then stops c.word }
+
+steady : IsSteady sender_next sender_moves has keeps changes may_come changed
+steady fresh = refl
+steady (owes sending) = refl
+steady (owes dropping) = refl
+steady (finished by) = refl
+steady (late by) = refl
+steady no_sender = refl
+
+is_change : (change : Change) → In change changes
+is_change (message_put true) = head
+is_change (message_put false) = tail head
+is_change taken = tail (tail head)
+is_change freed = tail (tail (tail head))
+is_change (outlasts true) = tail (tail (tail (tail head)))
+is_change (outlasts false) = tail (tail (tail (tail (tail head))))
+
+changes_to : {p : SenderAt} (change : Change) (c : Cells) → sender_stands p c ≡ true → may_come change c ≡ true → sender_stands p (changed change c) ≡ true
+changes_to {p} change c = comes_about sender_next sender_moves has keeps changes may_come changed steady p c (is_change change)
+
+module _ {T W : Type 0} where
+  -- a step that is no operation on the word
+  pub sender_stays : (xs ys : List (Event T W)) (e : Event T W) {word : ℕ} {own own_waker : Bool} {cell : Option T} {waker : Option W} → ys ≡ xs ++ e ∷ [] → words (event_of e ∷ []) ≡ []
+      → SenderStands (sender_of (logged xs)) word own own_waker cell waker → SenderStands (sender_of (logged ys)) word own own_waker cell waker
+  sender_stays xs ys e {word} {own} {own_waker} {cell} {waker} is none = subst (λ p. SenderStands p word own own_waker cell waker) (ap sender_at (sym (words_same xs ys e is none)))
+
+  -- an operation
+  abbrev pub SenderOperated : SenderAt → Op → ℕ → Bool → Bool → Option T → Option W → Type 0
+  SenderOperated = Operated sender_next sender_moves has keeps changes may_come changed steady
+
+  pub sender_operates : {p : SenderAt} {op : Op} (word : ℕ) (own own_waker : Bool) (cell : Option T) (waker : Option W) → SenderStands p word own own_waker cell waker → SenderMay p op (slot_of own cell) (slot_of own_waker waker) → SenderOperated p op word own own_waker cell waker
+  sender_operates {p} = operates sender_next sender_moves has keeps changes may_come changed steady p
+
+  pub sender_worded : (xs ys : List (Event T W)) (op : Op) (word left : ℕ) (was own_was own own_waker : Bool) {cell : Option T} {waker : Option W} → Grows (logged xs) (logged ys) (worded op word ∷ []) → SenderOperated (sender_of (logged xs)) op word was own_was cell waker → left ≡ word_after op word → own ≡ keeps_both word → own_waker ≡ keeps_both word
+      → SenderStands (sender_of (logged ys)) left own own_waker cell waker
+  sender_worded xs ys op word left was own_was own own_waker grows found is kept kept_too = rw (sender_moved op word grows, is, kept, kept_too) found.goes_on
+
+  module _ {p : SenderAt} {word : ℕ} {own own_waker : Bool} {cell : Option T} {waker : Option W} (stands : SenderStands p word own own_waker cell waker) where
+    abbrev cells : Cells
+    cells = cells_of word own own_waker cell waker
+
+    -- what is put into the message's cell, or taken out of it
+    pub sender_messages : (after : Option T) → SenderStands p word own own_waker after waker
+    sender_messages after = changes_to (message_put (is_some after)) cells stands refl
+
+    -- the waker that is taken leaves its cell empty
+    pub sender_emptied : (k : W) → slot_of own_waker waker ≡ held k → SenderStands {W = W} p word own own_waker cell None
+    sender_emptied k e = changes_to taken cells stands (slot_held own_waker waker k e)
+
+    -- a free gives up both slots
+    pub sender_freed : slot_of own_waker waker ≡ vacant → SenderStands p word false false cell waker
+    sender_freed e = changes_to freed cells stands (slot_vacant own_waker waker e)
+
+    -- the deadline of a receiver whose waker the sender took may be over
+    pub sender_outlasts : (stops : Bool) → SenderStands p (word_then stops word) own own_waker cell waker
+    sender_outlasts stops = changes_to (outlasts stops) cells stands refl
