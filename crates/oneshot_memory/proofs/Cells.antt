@@ -59,6 +59,14 @@ share_of true true = filled
 abbrev pub shares_of : Cells → Slots
 shares_of c = (share_of c.owns_message c.has_message, share_of c.owns_waker c.has_waker)
 
+abbrev is_same_slots : Slots → Slots → Bool
+is_same_slots a b = is_same_share a.0 b.0 && is_same_share a.1 b.1
+
+slots_are_same : (a b : Slots) → is_same_slots a b ≡ true → a ≡ b
+slots_are_same a b e =
+    let parts = and_parts (is_same_share a.0 b.0) (is_same_share a.1 b.1) e in
+    λ i. (shares_are_same a.0 b.0 parts.0 i, shares_are_same a.1 b.1 parts.1 i)
+
 module _ {X : Type 0} where
   share_is : {s : Share} (own : Bool) (cell : Option X) → IsSlot s (slot_of own cell) → is_same_share s (share_of own (is_some cell)) ≡ true
   share_is false cell is_away = refl
@@ -101,20 +109,18 @@ module _ {At : Type 0} (next : At → Op → Seen → At) (rows : At → List (R
         has_waker = c.has_waker;
       }
 
-  -- a row of this operation finds the word, with the slots as they are, and leaves the end those
+  -- A row is of this operation, and finds this word with the slots as they are. It leaves the end those
+  -- that it keeps.
+  abbrev is_such : Op → Cells → Row At → Bool
+  is_such op c row = (is_same_op row.0 op && row.2 == c.word) && is_same_slots (shares_of c) row.1
+
   abbrev is_found : Op → Cells → Row At → Bool
-  is_found op c row =
-      is_same_op row.0 op
-      && row.2 == c.word
-      && is_same_share (share_of c.owns_message c.has_message) row.1.0
-      && is_same_share (share_of c.owns_waker c.has_waker) row.1.1
-      && is_same_share (share_of (keeps op c).0 c.has_message) row.4.0
-      && is_same_share (share_of (keeps op c).1 c.has_waker) row.4.1
+  is_found op c row = is_such op c row && is_same_slots (shares_of (after op c)) row.4
 
   -- where the row's operation may be made
   abbrev is_met : At → Cells → Row At → Bool
   is_met at c row =
-      implies (is_same_share row.1.0 (shares_of c).0 && is_same_share row.1.1 (shares_of c).1) (list_any (is_found row.0 c) (rows at) && stands (next at row.0 (saw row.0 c.word)) (after row.0 c))
+      implies (is_same_slots row.1 (shares_of c)) (list_any (is_found row.0 c) (rows at) && stands (next at row.0 (saw row.0 c.word)) (after row.0 c))
 
   module _ {Change : Type 0} (changes : List Change) (may_come : Change → Cells → Bool) (changed : Change → Cells → Cells) where
     abbrev comes : At → Cells → Change → Bool
@@ -146,24 +152,24 @@ module _ {At : Type 0} (next : At → Op → Seen → At) (rows : At → List (R
             → Finds rows at op word (slot_of own cell) (slot_of own_waker waker) (slot_of (keeps op (cells_of word own own_waker cell waker)).0 cell) (slot_of (keeps op (cells_of word own own_waker cell waker)).1 waker)
         row_finds at op word own own_waker cell waker {row} among found =
             let c : Cells = cells_of word own own_waker cell waker in
-            let of_op = and_parts (is_same_op row.0 op) _ found in
-            let of_word = and_parts (row.2 == word) _ of_op.1 in
-            let message = and_parts (is_same_share (share_of own (is_some cell)) row.1.0) _ of_word.1 in
-            let waker_was = and_parts (is_same_share (share_of own_waker (is_some waker)) row.1.1) _ message.1 in
-            let then = and_parts (is_same_share (share_of (keeps op c).0 (is_some cell)) row.4.0) _ waker_was.1 in
-            let first : Turns row.1.0 row.4.0 (slot_of own cell) (slot_of (keeps op c).0 cell) = subst (λ s. Turns s.0 s.1 (slot_of own cell) (slot_of (keeps op c).0 cell)) (λ i. (shares_are_same _ _ message.0 i, shares_are_same _ _ then.0 i)) (turns own (keeps op c).0 cell) in
-            let second : Turns row.1.1 row.4.1 (slot_of own_waker waker) (slot_of (keeps op c).1 waker) = subst (λ s. Turns s.0 s.1 (slot_of own_waker waker) (slot_of (keeps op c).1 waker)) (λ i. (shares_are_same _ _ waker_was.0 i, shares_are_same _ _ then.1 i)) (turns own_waker (keeps op c).1 waker) in
-            subst (λ (z : Op × ℕ). Finds rows at z.0 z.1 (slot_of own cell) (slot_of own_waker waker) (slot_of (keeps op c).0 cell) (slot_of (keeps op c).1 waker)) (λ i. (ops_are_same row.0 op of_op.0 i, eqb-true row.2 word of_word.0 i)) (finds among first second)
+            let left = and_parts (is_such op c row) (is_same_slots (shares_of (after op c)) row.4) found in
+            let such = and_parts (is_same_op row.0 op && row.2 == word) (is_same_slots (shares_of c) row.1) left.0 in
+            let same = and_parts (is_same_op row.0 op) (row.2 == word) such.0 in
+            let slots : (shares_of c ≡ row.1) × (shares_of (after op c) ≡ row.4) = (slots_are_same _ _ such.1, slots_are_same _ _ left.1) in
+            let message : Turns row.1.0 row.4.0 (slot_of own cell) (slot_of (keeps op c).0 cell) = subst (λ (z : Slots × Slots). Turns z.0.0 z.1.0 (slot_of own cell) (slot_of (keeps op c).0 cell)) (λ i. (slots.0 i, slots.1 i)) (turns own (keeps op c).0 cell) in
+            let also : Turns row.1.1 row.4.1 (slot_of own_waker waker) (slot_of (keeps op c).1 waker) = subst (λ (z : Slots × Slots). Turns z.0.1 z.1.1 (slot_of own_waker waker) (slot_of (keeps op c).1 waker)) (λ i. (slots.0 i, slots.1 i)) (turns own_waker (keeps op c).1 waker) in
+            subst (λ (z : Op × ℕ). Finds rows at z.0 z.1 (slot_of own cell) (slot_of own_waker waker) (slot_of (keeps op c).0 cell) (slot_of (keeps op c).1 waker)) (λ i. (ops_are_same row.0 op same.0 i, eqb-true row.2 word same.1 i)) (finds among message also)
 
         pub operates : (at : At) {op : Op} (word : ℕ) (own own_waker : Bool) (cell : Option T) (waker : Option W) → stands at (cells_of word own own_waker cell waker) ≡ true → May rows at op (slot_of own cell) (slot_of own_waker waker) → Operated at op word own own_waker cell waker
-        operates at {op} word own own_waker cell waker is (may {before} {word = other} {next = to} {after = left} among message was) =
+        operates at {op} word own own_waker cell waker is (may {before} among message was) =
             let c : Cells = cells_of word own own_waker cell waker in
-            let both_are = and_from (is_same_share before.0 (shares_of c).0) (is_same_share before.1 (shares_of c).1) (share_is own cell message) (share_is own_waker waker was) in
-            let met = implied _ _ (each_passes (is_met at c) (rows at) (at_cells at c is).0 among) both_are in
-            let parts = and_parts (list_any (is_found op c) (rows at)) _ met in
-            let found : Passing (is_found op c) (rows at) = some_passes (is_found op c) (rows at) parts.0 in
+            let fits : is_same_slots before (shares_of c) ≡ true = and_from (is_same_share before.0 (shares_of c).0) (is_same_share before.1 (shares_of c).1) (share_is own cell message) (share_is own_waker waker was) in
+            let goes = stands (next at op (saw op word)) (after op c) in
+            let met : (list_any (is_found op c) (rows at) && goes) ≡ true = implied (is_same_slots before (shares_of c)) (list_any (is_found op c) (rows at) && goes) (each_passes (is_met at c) (rows at) (at_cells at c is).0 among) fits in
+            let parts = and_parts (list_any (is_found op c) (rows at)) goes met in
+            let some : Passing (is_found op c) (rows at) = some_passes (is_found op c) (rows at) parts.0 in
             record {
               code = is_at_most_4 word (and_parts (is_code word) (has at c) is).0;
-              found = row_finds at op word own own_waker cell waker found.among found.passes;
+              found = row_finds at op word own own_waker cell waker some.among some.passes;
               goes_on = parts.1;
             }

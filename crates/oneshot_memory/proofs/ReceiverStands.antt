@@ -17,10 +17,10 @@ use Rattle.oneshot_memory.proofs.Cells.{IsSteady, comes_about, Operated, operate
 use Rattle.oneshot_memory.proofs.Events.{words_same}
 
 -- which cells a receiver has, and which slots an operation leaves it
-abbrev has : ReceiverAt → Cells → Bool
+abbrev pub has : ReceiverAt → Cells → Bool
 has q = receiver_has (receiver_owns q) (receiver_moves q)
 
-abbrev keeps : Op → Cells → Bool × Bool
+abbrev pub keeps : Op → Cells → Bool × Bool
 keeps op c = (keeps_message op c.word, keeps_waker op c.word (lies_in c))
 
 -- what comes about between its operations
@@ -37,10 +37,10 @@ pub data Change : Type 0 where
   -- the sender is about to finish
   lingers : Change
 
-abbrev changes : List Change
+abbrev pub changes : List Change
 changes = taken ∷ waker_put true ∷ waker_put false ∷ freed ∷ acted true ∷ acted false ∷ woke true ∷ woke false ∷ lingers ∷ []
 
-abbrev may_come : Change → Cells → Bool
+abbrev pub may_come : Change → Cells → Bool
 may_come taken c = c.owns_message
 may_come (waker_put there) c = c.owns_waker
 may_come freed c = c.owns_message && c.owns_waker && not c.has_message && not c.has_waker
@@ -48,11 +48,11 @@ may_come (acted sent) c = is_quiet c.word && not c.owns_message && not (lies_in 
 may_come (woke sent) c = lies_in c
 may_come lingers c = (c.word == 0) && lies_in c
 
-abbrev word_by_act : Bool → ℕ
+abbrev pub word_by_act : Bool → ℕ
 word_by_act true = 4
 word_by_act false = 2
 
-abbrev changed : Change → Cells → Cells
+abbrev pub changed : Change → Cells → Cells
 changed taken c = record c { has_message = false }
 changed (waker_put there) c = record c { has_waker = there }
 changed freed c = record c { owns_message = false; owns_waker = false }
@@ -60,7 +60,7 @@ changed (acted sent) c = record c { word = word_by_act sent; has_message = sent 
 changed (woke sent) c = record c { word = word_by_act sent; has_message = sent; has_waker = false }
 changed lingers c = record c { word = 1 }
 
-steady : IsSteady receiver_next receiver_moves has keeps changes may_come changed
+pub steady : IsSteady receiver_next receiver_moves has keeps changes may_come changed
 steady first = refl
 steady (here looked) = refl
 steady (here between) = refl
@@ -95,8 +95,8 @@ is_change (woke true) = tail (tail (tail (tail (tail (tail head)))))
 is_change (woke false) = tail (tail (tail (tail (tail (tail (tail head))))))
 is_change lingers = tail (tail (tail (tail (tail (tail (tail (tail head)))))))
 
-changes_to : {q : ReceiverAt} (change : Change) (c : Cells) → receiver_stands q c ≡ true → may_come change c ≡ true → receiver_stands q (changed change c) ≡ true
-changes_to {q} change c = comes_about receiver_next receiver_moves has keeps changes may_come changed steady q c (is_change change)
+changes_to : (q : ReceiverAt) (change : Change) (c : Cells) → receiver_stands q c ≡ true → may_come change c ≡ true → receiver_stands q (changed change c) ≡ true
+changes_to q change c = comes_about receiver_next receiver_moves has keeps changes may_come changed steady q c (is_change change)
 
 module _ {T W : Type 0} where
   -- a step that is no operation on the word
@@ -109,27 +109,24 @@ module _ {T W : Type 0} where
   ReceiverOperated = Operated receiver_next receiver_moves has keeps changes may_come changed steady
 
   pub receiver_operates : {q : ReceiverAt} {op : Op} (word : ℕ) (own own_waker : Bool) (cell : Option T) (waker : Option W) → ReceiverStands q word own own_waker cell waker → ReceiverMay q op (slot_of own cell) (slot_of own_waker waker) → ReceiverOperated q op word own own_waker cell waker
-  receiver_operates {q} = operates receiver_next receiver_moves has keeps changes may_come changed steady q
+  receiver_operates {q} word own own_waker cell waker stands = operates receiver_next receiver_moves has keeps changes may_come changed steady q word own own_waker cell waker stands.is_so
 
   pub receiver_worded : (xs ys : List (Event T W)) (op : Op) (word left : ℕ) (was own_was own own_waker : Bool) {cell : Option T} {waker : Option W} → Grows (logged xs) (logged ys) (worded op word ∷ []) → ReceiverOperated (receiver_of (logged xs)) op word was own_was cell waker → left ≡ word_after op word → own ≡ keeps_message op word → own_waker ≡ keeps_waker op word (lies own_was waker)
       → ReceiverStands (receiver_of (logged ys)) left own own_waker cell waker
-  receiver_worded xs ys op word left was own_was own own_waker grows found is kept kept_too = rw (receiver_moved op word grows, is, kept, kept_too) found.goes_on
+  receiver_worded xs ys op word left was own_was own own_waker grows found is kept kept_too = rw (receiver_moved op word grows, is, kept, kept_too) (record { is_so = found.goes_on })
 
   module _ {q : ReceiverAt} {word : ℕ} {own own_waker : Bool} {cell : Option T} {waker : Option W} (stands : ReceiverStands q word own own_waker cell waker) where
-    abbrev cells : Cells
-    cells = cells_of word own own_waker cell waker
-
     -- what is taken out of the message's slot, or dropped there, leaves it empty
     pub receiver_emptied : (x : T) → slot_of own cell ≡ held x → ReceiverStands {T = T} q word own own_waker None waker
-    receiver_emptied x e = changes_to taken cells stands (slot_held own cell x e)
+    receiver_emptied x e = record { is_so = changes_to q taken (cells_of word own own_waker cell waker) stands.is_so (slot_held own cell x e) }
 
     -- what is put into the waker's cell, or taken out of it
     pub receiver_wakers : (after : Option W) → own_waker ≡ true → ReceiverStands q word own own_waker cell after
-    receiver_wakers after e = changes_to (waker_put (is_some after)) cells stands e
+    receiver_wakers after e = record { is_so = changes_to q (waker_put (is_some after)) (cells_of word own own_waker cell waker) stands.is_so e }
 
     -- a free gives up both slots
     pub receiver_freed : slot_of own cell ≡ vacant → slot_of own_waker waker ≡ vacant → ReceiverStands q word false false cell waker
-    receiver_freed e f = changes_to freed cells stands (both_empty own own_waker cell waker e f)
+    receiver_freed e f = record { is_so = changes_to q freed (cells_of word own own_waker cell waker) stands.is_so (both_empty own own_waker cell waker e f) }
       where
         both_empty : (own own_waker : Bool) (cell : Option T) (waker : Option W) → slot_of own cell ≡ vacant → slot_of own_waker waker ≡ vacant → (own && own_waker && not (is_some cell) && not (is_some waker)) ≡ true
         both_empty true true None None e f = refl
@@ -137,17 +134,17 @@ module _ {T W : Type 0} where
 
     -- the sender acts there, unless a waker lies in the cell
     pub left_open : (act : Act T) → is_quiet word ≡ true → own ≡ false → lies own_waker waker ≡ false → ReceiverStands q (word_left act) own own_waker (message_left act) waker
-    left_open (A.Send x) e f none = changes_to (acted true) cells stands (rw (e, f, none) refl)
-    left_open A.Drop e f none = changes_to (acted false) cells stands (rw (e, f, none) refl)
+    left_open (A.Send x) e f none = record { is_so = changes_to q (acted true) (cells_of word own own_waker cell waker) stands.is_so (rw (e, f, none) refl) }
+    left_open A.Drop e f none = record { is_so = changes_to q (acted false) (cells_of word own own_waker cell waker) stands.is_so (rw (e, f, none) refl) }
 
     -- and where one lies there
     pub left_waiting : (act : Act T) → lies own_waker waker ≡ true → ReceiverStands {T = T} {W = W} q (word_left act) own own_waker (message_left act) None
-    left_waiting (A.Send x) lying = changes_to (woke true) cells stands lying
-    left_waiting A.Drop lying = changes_to (woke false) cells stands lying
+    left_waiting (A.Send x) lying = record { is_so = changes_to q (woke true) (cells_of word own own_waker cell waker) stands.is_so lying }
+    left_waiting A.Drop lying = record { is_so = changes_to q (woke false) (cells_of word own own_waker cell waker) stands.is_so lying }
 
     -- or it lingers there
     pub lingering : word ≡ 0 → lies own_waker waker ≡ true → ReceiverStands q 1 own own_waker cell waker
-    lingering e lying = changes_to lingers cells stands (rw (e, lying) refl)
+    lingering e lying = record { is_so = changes_to q lingers (cells_of word own own_waker cell waker) stands.is_so (rw (e, lying) refl) }
 
 -- both ends are here, by the ground's own fields
 pub record IsOpen (word : ℕ) (own : Bool) : Type 0 where

@@ -15,10 +15,10 @@ use Rattle.oneshot_memory.proofs.Cells.{IsSteady, comes_about, Operated, operate
 use Rattle.oneshot_memory.proofs.Events.{words_same}
 
 -- which cells a sender has, and which slots an operation leaves it
-abbrev has : SenderAt → Cells → Bool
+abbrev pub has : SenderAt → Cells → Bool
 has p = sender_has (sender_owns p) (sender_moves p)
 
-abbrev keeps : Op → Cells → Bool × Bool
+abbrev pub keeps : Op → Cells → Bool × Bool
 keeps op c = (keeps_both c.word, keeps_both c.word)
 
 -- what comes about between its operations
@@ -32,22 +32,22 @@ pub data Change : Type 0 where
   -- the deadline of the receiver may be over
   outlasts : Bool → Change
 
-abbrev changes : List Change
+abbrev pub changes : List Change
 changes = message_put true ∷ message_put false ∷ taken ∷ freed ∷ outlasts true ∷ outlasts false ∷ []
 
-abbrev may_come : Change → Cells → Bool
+abbrev pub may_come : Change → Cells → Bool
 may_come (message_put there) c = true
 may_come taken c = c.owns_waker
 may_come freed c = c.owns_waker
 may_come (outlasts stops) c = true
 
-abbrev changed : Change → Cells → Cells
+abbrev pub changed : Change → Cells → Cells
 changed (message_put there) c = record c { has_message = there }
 changed taken c = record c { has_waker = false }
 changed freed c = record c { owns_message = false; owns_waker = false }
 changed (outlasts stops) c = record c { word = word_then stops c.word }
 
-steady : IsSteady sender_next sender_moves has keeps changes may_come changed
+pub steady : IsSteady sender_next sender_moves has keeps changes may_come changed
 steady fresh = refl
 steady (owes sending) = refl
 steady (owes dropping) = refl
@@ -63,8 +63,8 @@ is_change freed = tail (tail (tail head))
 is_change (outlasts true) = tail (tail (tail (tail head)))
 is_change (outlasts false) = tail (tail (tail (tail (tail head))))
 
-changes_to : {p : SenderAt} (change : Change) (c : Cells) → sender_stands p c ≡ true → may_come change c ≡ true → sender_stands p (changed change c) ≡ true
-changes_to {p} change c = comes_about sender_next sender_moves has keeps changes may_come changed steady p c (is_change change)
+changes_to : (p : SenderAt) (change : Change) (c : Cells) → sender_stands p c ≡ true → may_come change c ≡ true → sender_stands p (changed change c) ≡ true
+changes_to p change c = comes_about sender_next sender_moves has keeps changes may_come changed steady p c (is_change change)
 
 module _ {T W : Type 0} where
   -- a step that is no operation on the word
@@ -77,28 +77,25 @@ module _ {T W : Type 0} where
   SenderOperated = Operated sender_next sender_moves has keeps changes may_come changed steady
 
   pub sender_operates : {p : SenderAt} {op : Op} (word : ℕ) (own own_waker : Bool) (cell : Option T) (waker : Option W) → SenderStands p word own own_waker cell waker → SenderMay p op (slot_of own cell) (slot_of own_waker waker) → SenderOperated p op word own own_waker cell waker
-  sender_operates {p} = operates sender_next sender_moves has keeps changes may_come changed steady p
+  sender_operates {p} word own own_waker cell waker stands = operates sender_next sender_moves has keeps changes may_come changed steady p word own own_waker cell waker stands.is_so
 
   pub sender_worded : (xs ys : List (Event T W)) (op : Op) (word left : ℕ) (was own_was own own_waker : Bool) {cell : Option T} {waker : Option W} → Grows (logged xs) (logged ys) (worded op word ∷ []) → SenderOperated (sender_of (logged xs)) op word was own_was cell waker → left ≡ word_after op word → own ≡ keeps_both word → own_waker ≡ keeps_both word
       → SenderStands (sender_of (logged ys)) left own own_waker cell waker
-  sender_worded xs ys op word left was own_was own own_waker grows found is kept kept_too = rw (sender_moved op word grows, is, kept, kept_too) found.goes_on
+  sender_worded xs ys op word left was own_was own own_waker grows found is kept kept_too = rw (sender_moved op word grows, is, kept, kept_too) (record { is_so = found.goes_on })
 
   module _ {p : SenderAt} {word : ℕ} {own own_waker : Bool} {cell : Option T} {waker : Option W} (stands : SenderStands p word own own_waker cell waker) where
-    abbrev cells : Cells
-    cells = cells_of word own own_waker cell waker
-
     -- what is put into the message's cell, or taken out of it
     pub sender_messages : (after : Option T) → SenderStands p word own own_waker after waker
-    sender_messages after = changes_to (message_put (is_some after)) cells stands refl
+    sender_messages after = record { is_so = changes_to p (message_put (is_some after)) (cells_of word own own_waker cell waker) stands.is_so refl }
 
     -- the waker that is taken leaves its cell empty
     pub sender_emptied : (k : W) → slot_of own_waker waker ≡ held k → SenderStands {W = W} p word own own_waker cell None
-    sender_emptied k e = changes_to taken cells stands (slot_held own_waker waker k e)
+    sender_emptied k e = record { is_so = changes_to p taken (cells_of word own own_waker cell waker) stands.is_so (slot_held own_waker waker k e) }
 
     -- a free gives up both slots
     pub sender_freed : slot_of own_waker waker ≡ vacant → SenderStands p word false false cell waker
-    sender_freed e = changes_to freed cells stands (slot_vacant own_waker waker e)
+    sender_freed e = record { is_so = changes_to p freed (cells_of word own own_waker cell waker) stands.is_so (slot_vacant own_waker waker e) }
 
     -- the deadline of a receiver whose waker the sender took may be over
     pub sender_outlasts : (stops : Bool) → SenderStands p (word_then stops word) own own_waker cell waker
-    sender_outlasts stops = changes_to (outlasts stops) cells stands refl
+    sender_outlasts stops = record { is_so = changes_to p (outlasts stops) (cells_of word own own_waker cell waker) stands.is_so refl }

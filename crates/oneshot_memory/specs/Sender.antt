@@ -43,9 +43,8 @@ abbrev pub sender_stands : SenderAt → Cells → Bool
 sender_stands p c = is_code c.word && sender_has (sender_owns p) (sender_moves p) c
 
 -- how far a sender is, its word, which slots are its own, the message in its slot and the waker in its cell
-abbrev pub SenderStands : {T W : Type 0} → SenderAt → ℕ → Bool → Bool → Option T → Option W → Type 0
-SenderStands p word owns_message owns_waker message waker =
-    sender_stands p (cells_of word owns_message owns_waker message waker) ≡ true
+pub record SenderStands {T W : Type 0} (p : SenderAt) (word : ℕ) (owns_message owns_waker : Bool) (message : Option T) (waker : Option W) : Type 0 where
+  pub is_so : sender_stands p (cells_of word owns_message owns_waker message waker) ≡ true
 
 -- whether both slots are the sender's after an operation that found this word
 abbrev pub keeps_both : ℕ → Bool

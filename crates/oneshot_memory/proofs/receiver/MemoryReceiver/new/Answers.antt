@@ -4,7 +4,7 @@ use Rattle.oneshot_drive.specs.BetweenCalls.{rests_new}
 use Rattle.oneshot_memory.proofs.receiver.MemoryReceiver.new.Goals as goal
 
 pub invariant_of-result : goal.invariant_of-result
-invariant_of-result g c = let none : c.new.result.items ≡ [] = search rules in rw none refl
+invariant_of-result g c = let none : c.new.result.items ≡ [] = search rules in rw none record { is_so = refl }
 
 pub returns-clause-rests : goal.returns-clause-rests
 returns-clause-rests g c =
