@@ -122,12 +122,18 @@ module _ {At : Type 0} (next : At → Op → Seen → At) (rows : At → List (R
   is_met at c row =
       implies (is_same_slots row.1 (shares_of c)) (list_any (is_found row.0 c) (rows at) && stands (next at row.0 (saw row.0 c.word)) (after row.0 c))
 
-  module _ {Change : Type 0} (changes : List Change) (may_come : Change → Cells → Bool) (changed : Change → Cells → Cells) where
-    abbrev comes : At → Cells → Change → Bool
-    comes at c change = implies (may_come change c) (stands at (changed change c))
+  -- A change is a table's row: where it may come about, by a truth that its maker chooses, and the cells
+  -- then.
+  module _ (changes : List (Bool → Cells → Bool × Cells)) where
+    abbrev comes : At → Cells → (Bool → Cells → Bool × Cells) → Bool
+    comes at c change = both (λ b. implies (change b c).0 (stands at (change b c).1))
+
+    -- what is computed for each phase
+    abbrev is_steady_with : At → Cells → Bool
+    is_steady_with at c = list_all (is_met at c) (rows at) && list_all (comes at c) changes
 
     abbrev pub is_steady : At → Bool
-    is_steady at = each_cells (λ c. implies (stands at c) (list_all (is_met at c) (rows at) && list_all (comes at c) changes))
+    is_steady at = each_cells (λ c. implies (stands at c) (is_steady_with at c))
 
     abbrev pub IsSteady : Type 0
     IsSteady = (at : At) → is_steady at ≡ true
@@ -135,11 +141,13 @@ module _ {At : Type 0} (next : At → Op → Seen → At) (rows : At → List (R
     module _ (steady : IsSteady) where
       at_cells : (at : At) (c : Cells) → stands at c ≡ true → (list_all (is_met at c) (rows at) ≡ true) × (list_all (comes at c) changes ≡ true)
       at_cells at c is =
-          and_parts (list_all (is_met at c) (rows at)) (list_all (comes at c) changes) (implied (stands at c) (list_all (is_met at c) (rows at) && list_all (comes at c) changes) (cells_pass (λ c. implies (stands at c) (list_all (is_met at c) (rows at) && list_all (comes at c) changes)) (steady at) c (and_parts (is_code c.word) (has at c) is).0) is)
+          let all : implies (stands at c) (is_steady_with at c) ≡ true = cells_pass (λ c. implies (stands at c) (is_steady_with at c)) (steady at) c (and_parts (is_code c.word) (has at c) is).0 in
+          and_parts (list_all (is_met at c) (rows at)) (list_all (comes at c) changes) (implied (stands at c) (is_steady_with at c) all is)
 
-      pub comes_about : (at : At) (c : Cells) {change : Change} → In change changes → stands at c ≡ true → may_come change c ≡ true → stands at (changed change c) ≡ true
-      comes_about at c {change} among is come =
-          implied (may_come change c) (stands at (changed change c)) (each_passes (comes at c) changes (at_cells at c is).1 among) come
+      pub comes_about : (at : At) (c : Cells) {change : Bool → Cells → Bool × Cells} (b : Bool) → In change changes → stands at c ≡ true → (change b c).0 ≡ true → stands at (change b c).1 ≡ true
+      comes_about at c {change} b among is come =
+          let each : comes at c change ≡ true = each_passes (comes at c) changes (at_cells at c is).1 among in
+          implied (change b c).0 (stands at (change b c).1) (both_pass (λ b. implies (change b c).0 (stands at (change b c).1)) each b) come
 
       module _ {T W : Type 0} where
         -- an operation: its word is a code, it finds what it may, and the ground stands on

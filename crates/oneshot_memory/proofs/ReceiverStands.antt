@@ -23,44 +23,24 @@ has q = receiver_has (receiver_owns q) (receiver_moves q)
 abbrev pub keeps : Op → Cells → Bool × Bool
 keeps op c = (keeps_message op c.word, keeps_waker op c.word (lies_in c))
 
--- what comes about between its operations
-pub data Change : Type 0 where
-  -- the message is taken out of its cell or dropped there
-  taken : Change
-  -- a waker is put into its cell, or taken out of it
-  waker_put : Bool → Change
-  -- both slots are freed
-  freed : Change
-  -- the sender sent or was dropped: nobody waits, or the waker that lies in its cell is used up
-  acted : Bool → Change
-  woke : Bool → Change
-  -- the sender is about to finish
-  lingers : Change
-
-abbrev pub changes : List Change
-changes = taken ∷ waker_put true ∷ waker_put false ∷ freed ∷ acted true ∷ acted false ∷ woke true ∷ woke false ∷ lingers ∷ []
-
-abbrev pub may_come : Change → Cells → Bool
-may_come taken c = c.owns_message
-may_come (waker_put there) c = c.owns_waker
-may_come freed c = c.owns_message && c.owns_waker && not c.has_message && not c.has_waker
-may_come (acted sent) c = is_quiet c.word && not c.owns_message && not (lies_in c)
-may_come (woke sent) c = lies_in c
-may_come lingers c = (c.word == 0) && lies_in c
-
-abbrev pub word_by_act : Bool → ℕ
+abbrev word_by_act : Bool → ℕ
 word_by_act true = 4
 word_by_act false = 2
 
-abbrev pub changed : Change → Cells → Cells
-changed taken c = record c { has_message = false }
-changed (waker_put there) c = record c { has_waker = there }
-changed freed c = record c { owns_message = false; owns_waker = false }
-changed (acted sent) c = record c { word = word_by_act sent; has_message = sent }
-changed (woke sent) c = record c { word = word_by_act sent; has_message = sent; has_waker = false }
-changed lingers c = record c { word = 1 }
+-- What comes about between its operations, in this order: the message is taken or dropped; a waker is put
+-- into its cell or taken out; both slots are freed; the sender sends or is dropped, where nobody waits,
+-- and where a waker lies in its cell, which it uses up; and it is about to do so.
+abbrev pub changes : List (Bool → Cells → Bool × Cells)
+changes =
+    (λ b c. (c.owns_message, record c { has_message = false }))
+    ∷ (λ there c. (c.owns_waker, record c { has_waker = there }))
+    ∷ (λ b c. (c.owns_message && c.owns_waker && not c.has_message && not c.has_waker, record c { owns_message = false; owns_waker = false }))
+    ∷ (λ sent c. (is_quiet c.word && not c.owns_message && not (lies_in c), record c { word = word_by_act sent; has_message = sent }))
+    ∷ (λ sent c. (lies_in c, record c { word = word_by_act sent; has_message = sent; has_waker = false }))
+    ∷ (λ b c. ((c.word == 0) && lies_in c, record c { word = 1 }))
+    ∷ []
 
-pub steady : IsSteady receiver_next receiver_moves has keeps changes may_come changed
+pub steady : IsSteady receiver_next receiver_moves has keeps changes
 steady first = refl
 steady (here looked) = refl
 steady (here between) = refl
@@ -84,19 +64,8 @@ steady gone = refl
 steady ended = refl
 steady no_receiver = refl
 
-is_change : (change : Change) → In change changes
-is_change taken = head
-is_change (waker_put true) = tail head
-is_change (waker_put false) = tail (tail head)
-is_change freed = tail (tail (tail head))
-is_change (acted true) = tail (tail (tail (tail head)))
-is_change (acted false) = tail (tail (tail (tail (tail head))))
-is_change (woke true) = tail (tail (tail (tail (tail (tail head)))))
-is_change (woke false) = tail (tail (tail (tail (tail (tail (tail head))))))
-is_change lingers = tail (tail (tail (tail (tail (tail (tail (tail head)))))))
-
-changes_to : (q : ReceiverAt) (change : Change) (c : Cells) → receiver_stands q c ≡ true → may_come change c ≡ true → receiver_stands q (changed change c) ≡ true
-changes_to q change c = comes_about receiver_next receiver_moves has keeps changes may_come changed steady q c (is_change change)
+changes_to : (q : ReceiverAt) (c : Cells) {change : Bool → Cells → Bool × Cells} (b : Bool) → In change changes → receiver_stands q c ≡ true → (change b c).0 ≡ true → receiver_stands q (change b c).1 ≡ true
+changes_to = comes_about receiver_next receiver_moves has keeps changes steady
 
 module _ {T W : Type 0} where
   -- a step that is no operation on the word
@@ -106,10 +75,10 @@ module _ {T W : Type 0} where
 
   -- an operation
   abbrev pub ReceiverOperated : ReceiverAt → Op → ℕ → Bool → Bool → Option T → Option W → Type 0
-  ReceiverOperated = Operated receiver_next receiver_moves has keeps changes may_come changed steady
+  ReceiverOperated = Operated receiver_next receiver_moves has keeps changes steady
 
   pub receiver_operates : {q : ReceiverAt} {op : Op} (word : ℕ) (own own_waker : Bool) (cell : Option T) (waker : Option W) → ReceiverStands q word own own_waker cell waker → ReceiverMay q op (slot_of own cell) (slot_of own_waker waker) → ReceiverOperated q op word own own_waker cell waker
-  receiver_operates {q} word own own_waker cell waker stands = operates receiver_next receiver_moves has keeps changes may_come changed steady q word own own_waker cell waker stands.is_so
+  receiver_operates {q} word own own_waker cell waker stands = operates receiver_next receiver_moves has keeps changes steady q word own own_waker cell waker stands.is_so
 
   pub receiver_worded : (xs ys : List (Event T W)) (op : Op) (word left : ℕ) (was own_was own own_waker : Bool) {cell : Option T} {waker : Option W} → Grows (logged xs) (logged ys) (worded op word ∷ []) → ReceiverOperated (receiver_of (logged xs)) op word was own_was cell waker → left ≡ word_after op word → own ≡ keeps_message op word → own_waker ≡ keeps_waker op word (lies own_was waker)
       → ReceiverStands (receiver_of (logged ys)) left own own_waker cell waker
@@ -118,15 +87,15 @@ module _ {T W : Type 0} where
   module _ {q : ReceiverAt} {word : ℕ} {own own_waker : Bool} {cell : Option T} {waker : Option W} (stands : ReceiverStands q word own own_waker cell waker) where
     -- what is taken out of the message's slot, or dropped there, leaves it empty
     pub receiver_emptied : (x : T) → slot_of own cell ≡ held x → ReceiverStands {T = T} q word own own_waker None waker
-    receiver_emptied x e = record { is_so = changes_to q taken (cells_of word own own_waker cell waker) stands.is_so (slot_held own cell x e) }
+    receiver_emptied x e = record { is_so = changes_to q (cells_of word own own_waker cell waker) true head stands.is_so (slot_held own cell x e) }
 
     -- what is put into the waker's cell, or taken out of it
     pub receiver_wakers : (after : Option W) → own_waker ≡ true → ReceiverStands q word own own_waker cell after
-    receiver_wakers after e = record { is_so = changes_to q (waker_put (is_some after)) (cells_of word own own_waker cell waker) stands.is_so e }
+    receiver_wakers after e = record { is_so = changes_to q (cells_of word own own_waker cell waker) (is_some after) (tail head) stands.is_so e }
 
     -- a free gives up both slots
     pub receiver_freed : slot_of own cell ≡ vacant → slot_of own_waker waker ≡ vacant → ReceiverStands q word false false cell waker
-    receiver_freed e f = record { is_so = changes_to q freed (cells_of word own own_waker cell waker) stands.is_so (both_empty own own_waker cell waker e f) }
+    receiver_freed e f = record { is_so = changes_to q (cells_of word own own_waker cell waker) true (tail (tail head)) stands.is_so (both_empty own own_waker cell waker e f) }
       where
         both_empty : (own own_waker : Bool) (cell : Option T) (waker : Option W) → slot_of own cell ≡ vacant → slot_of own_waker waker ≡ vacant → (own && own_waker && not (is_some cell) && not (is_some waker)) ≡ true
         both_empty true true None None e f = refl
@@ -134,17 +103,17 @@ module _ {T W : Type 0} where
 
     -- the sender acts there, unless a waker lies in the cell
     pub left_open : (act : Act T) → is_quiet word ≡ true → own ≡ false → lies own_waker waker ≡ false → ReceiverStands q (word_left act) own own_waker (message_left act) waker
-    left_open (A.Send x) e f none = record { is_so = changes_to q (acted true) (cells_of word own own_waker cell waker) stands.is_so (rw (e, f, none) refl) }
-    left_open A.Drop e f none = record { is_so = changes_to q (acted false) (cells_of word own own_waker cell waker) stands.is_so (rw (e, f, none) refl) }
+    left_open (A.Send x) e f none = record { is_so = changes_to q (cells_of word own own_waker cell waker) true (tail (tail (tail head))) stands.is_so (rw (e, f, none) refl) }
+    left_open A.Drop e f none = record { is_so = changes_to q (cells_of word own own_waker cell waker) false (tail (tail (tail head))) stands.is_so (rw (e, f, none) refl) }
 
     -- and where one lies there
     pub left_waiting : (act : Act T) → lies own_waker waker ≡ true → ReceiverStands {T = T} {W = W} q (word_left act) own own_waker (message_left act) None
-    left_waiting (A.Send x) lying = record { is_so = changes_to q (woke true) (cells_of word own own_waker cell waker) stands.is_so lying }
-    left_waiting A.Drop lying = record { is_so = changes_to q (woke false) (cells_of word own own_waker cell waker) stands.is_so lying }
+    left_waiting (A.Send x) lying = record { is_so = changes_to q (cells_of word own own_waker cell waker) true (tail (tail (tail (tail head)))) stands.is_so lying }
+    left_waiting A.Drop lying = record { is_so = changes_to q (cells_of word own own_waker cell waker) false (tail (tail (tail (tail head)))) stands.is_so lying }
 
     -- or it lingers there
     pub lingering : word ≡ 0 → lies own_waker waker ≡ true → ReceiverStands q 1 own own_waker cell waker
-    lingering e lying = record { is_so = changes_to q lingers (cells_of word own own_waker cell waker) stands.is_so (rw (e, lying) refl) }
+    lingering e lying = record { is_so = changes_to q (cells_of word own own_waker cell waker) true (tail (tail (tail (tail (tail head))))) stands.is_so (rw (e, lying) refl) }
 
 -- both ends are here, by the ground's own fields
 pub record IsOpen (word : ℕ) (own : Bool) : Type 0 where

@@ -21,33 +21,17 @@ has p = sender_has (sender_owns p) (sender_moves p)
 abbrev pub keeps : Op → Cells → Bool × Bool
 keeps op c = (keeps_both c.word, keeps_both c.word)
 
--- what comes about between its operations
-pub data Change : Type 0 where
-  -- a message is put into its cell, or taken out of it
-  message_put : Bool → Change
-  -- the waker is taken out of its cell
-  taken : Change
-  -- both slots are freed
-  freed : Change
-  -- the deadline of the receiver may be over
-  outlasts : Bool → Change
+-- What comes about between its operations, in this order: a message is put into its cell or taken out; the
+-- waker is taken out of its own; both slots are freed; and the deadline of the receiver may be over.
+abbrev pub changes : List (Bool → Cells → Bool × Cells)
+changes =
+    (λ there c. (true, record c { has_message = there }))
+    ∷ (λ b c. (c.owns_waker, record c { has_waker = false }))
+    ∷ (λ b c. (c.owns_waker, record c { owns_message = false; owns_waker = false }))
+    ∷ (λ stops c. (true, record c { word = word_then stops c.word }))
+    ∷ []
 
-abbrev pub changes : List Change
-changes = message_put true ∷ message_put false ∷ taken ∷ freed ∷ outlasts true ∷ outlasts false ∷ []
-
-abbrev pub may_come : Change → Cells → Bool
-may_come (message_put there) c = true
-may_come taken c = c.owns_waker
-may_come freed c = c.owns_waker
-may_come (outlasts stops) c = true
-
-abbrev pub changed : Change → Cells → Cells
-changed (message_put there) c = record c { has_message = there }
-changed taken c = record c { has_waker = false }
-changed freed c = record c { owns_message = false; owns_waker = false }
-changed (outlasts stops) c = record c { word = word_then stops c.word }
-
-pub steady : IsSteady sender_next sender_moves has keeps changes may_come changed
+pub steady : IsSteady sender_next sender_moves has keeps changes
 steady fresh = refl
 steady (owes sending) = refl
 steady (owes dropping) = refl
@@ -55,16 +39,8 @@ steady (finished by) = refl
 steady (late by) = refl
 steady no_sender = refl
 
-is_change : (change : Change) → In change changes
-is_change (message_put true) = head
-is_change (message_put false) = tail head
-is_change taken = tail (tail head)
-is_change freed = tail (tail (tail head))
-is_change (outlasts true) = tail (tail (tail (tail head)))
-is_change (outlasts false) = tail (tail (tail (tail (tail head))))
-
-changes_to : (p : SenderAt) (change : Change) (c : Cells) → sender_stands p c ≡ true → may_come change c ≡ true → sender_stands p (changed change c) ≡ true
-changes_to p change c = comes_about sender_next sender_moves has keeps changes may_come changed steady p c (is_change change)
+changes_to : (p : SenderAt) (c : Cells) {change : Bool → Cells → Bool × Cells} (b : Bool) → In change changes → sender_stands p c ≡ true → (change b c).0 ≡ true → sender_stands p (change b c).1 ≡ true
+changes_to = comes_about sender_next sender_moves has keeps changes steady
 
 module _ {T W : Type 0} where
   -- a step that is no operation on the word
@@ -74,10 +50,10 @@ module _ {T W : Type 0} where
 
   -- an operation
   abbrev pub SenderOperated : SenderAt → Op → ℕ → Bool → Bool → Option T → Option W → Type 0
-  SenderOperated = Operated sender_next sender_moves has keeps changes may_come changed steady
+  SenderOperated = Operated sender_next sender_moves has keeps changes steady
 
   pub sender_operates : {p : SenderAt} {op : Op} (word : ℕ) (own own_waker : Bool) (cell : Option T) (waker : Option W) → SenderStands p word own own_waker cell waker → SenderMay p op (slot_of own cell) (slot_of own_waker waker) → SenderOperated p op word own own_waker cell waker
-  sender_operates {p} word own own_waker cell waker stands = operates sender_next sender_moves has keeps changes may_come changed steady p word own own_waker cell waker stands.is_so
+  sender_operates {p} word own own_waker cell waker stands = operates sender_next sender_moves has keeps changes steady p word own own_waker cell waker stands.is_so
 
   pub sender_worded : (xs ys : List (Event T W)) (op : Op) (word left : ℕ) (was own_was own own_waker : Bool) {cell : Option T} {waker : Option W} → Grows (logged xs) (logged ys) (worded op word ∷ []) → SenderOperated (sender_of (logged xs)) op word was own_was cell waker → left ≡ word_after op word → own ≡ keeps_both word → own_waker ≡ keeps_both word
       → SenderStands (sender_of (logged ys)) left own own_waker cell waker
@@ -86,16 +62,16 @@ module _ {T W : Type 0} where
   module _ {p : SenderAt} {word : ℕ} {own own_waker : Bool} {cell : Option T} {waker : Option W} (stands : SenderStands p word own own_waker cell waker) where
     -- what is put into the message's cell, or taken out of it
     pub sender_messages : (after : Option T) → SenderStands p word own own_waker after waker
-    sender_messages after = record { is_so = changes_to p (message_put (is_some after)) (cells_of word own own_waker cell waker) stands.is_so refl }
+    sender_messages after = record { is_so = changes_to p (cells_of word own own_waker cell waker) (is_some after) head stands.is_so refl }
 
     -- the waker that is taken leaves its cell empty
     pub sender_emptied : (k : W) → slot_of own_waker waker ≡ held k → SenderStands {W = W} p word own own_waker cell None
-    sender_emptied k e = record { is_so = changes_to p taken (cells_of word own own_waker cell waker) stands.is_so (slot_held own_waker waker k e) }
+    sender_emptied k e = record { is_so = changes_to p (cells_of word own own_waker cell waker) true (tail head) stands.is_so (slot_held own_waker waker k e) }
 
     -- a free gives up both slots
     pub sender_freed : slot_of own_waker waker ≡ vacant → SenderStands p word false false cell waker
-    sender_freed e = record { is_so = changes_to p freed (cells_of word own own_waker cell waker) stands.is_so (slot_vacant own_waker waker e) }
+    sender_freed e = record { is_so = changes_to p (cells_of word own own_waker cell waker) true (tail (tail head)) stands.is_so (slot_vacant own_waker waker e) }
 
     -- the deadline of a receiver whose waker the sender took may be over
     pub sender_outlasts : (stops : Bool) → SenderStands p (word_then stops word) own own_waker cell waker
-    sender_outlasts stops = record { is_so = changes_to p (outlasts stops) (cells_of word own own_waker cell waker) stands.is_so refl }
+    sender_outlasts stops = record { is_so = changes_to p (cells_of word own own_waker cell waker) stops (tail (tail (tail head))) stands.is_so refl }
