@@ -1,5 +1,5 @@
 -- What is computed for each phase of an end: a ground in memory finds what the table says, and its cells stand as they may after each operation and after each other change.
-use Rattle.std.proofs.Common.{◌≡◌, ℕ, ◌≤◌, Bool, true, false, not, ◌&&◌, ◌||◌, List, [], ◌∷◌, Option, Some, None, refl, sym, ap, subst}
+use Rattle.std.proofs.Common.{◌≡◌, ℕ, ◌≤◌, Bool, true, false, ◌&&◌, List, Option, Some, None, refl, subst}
 use Rattle.std.specs.Prelude.{◌==◌, is_some, leb}
 use Rattle.std.specs.List.{list_all, list_any}
 use Rattle.std.proofs.lemmas.Bool.{and_parts, and_from, eqb-true, leb-true}
@@ -7,7 +7,7 @@ use Rattle.oneshot_machine.specs.declared.machine.Seen.{Seen}
 use Rattle.oneshot_machine.specs.declared.states.Op.{Op}
 use Rattle.oneshot_machine.specs.Words.{saw, is_same_op}
 use Rattle.oneshot_machine.specs.Phases.{Share, none, empty, filled, Slots, Row}
-use Rattle.oneshot_machine.specs.Slots.{Held, away, vacant, held, IsSlot, is_away, is_vacant, is_held, Turns, stays_away, stays_vacant, stays_held, gives_room, gives_thing, gets_room, gets_thing, In, head, tail, May, may, Finds, finds}
+use Rattle.oneshot_machine.specs.Slots.{vacant, held, IsSlot, is_away, is_vacant, is_held, Turns, stays_away, stays_vacant, stays_held, gives_room, gives_thing, gets_room, gets_thing, In, May, may, Finds, finds}
 use Rattle.oneshot_machine.specs.States.{word_after}
 use Rattle.oneshot_machine.proofs.Exactness.{each_passes, Passing, some_passes, ops_are_same, is_same_share, shares_are_same}
 use Rattle.oneshot_memory.specs.Cells.{Cells, cells_of, codes, is_code}

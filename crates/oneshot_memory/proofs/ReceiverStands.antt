@@ -4,7 +4,7 @@ use Rattle.std.specs.Prelude.{is_some}
 use Rattle.oneshot_machine.specs.declared.states.Op.{Op}
 use Rattle.oneshot_machine.specs.Logs.{Grows, words, receiver_of, worded}
 use Rattle.oneshot_machine.specs.Phases.{looked, between, blocked, polled, again, storing, stopping, at_once, waited, swapped, by_future, by_poll, ReceiverAt, first, here, waits, claimed, withdrew, overdue, full, unclosed, over, resolved, gone, ended, no_receiver, receiver_moves, receiver_owns, receiver_next, receiver_at}
-use Rattle.oneshot_machine.specs.Slots.{Held, away, vacant, held, In, head, tail, ReceiverMay}
+use Rattle.oneshot_machine.specs.Slots.{vacant, held, In, head, tail, ReceiverMay}
 use Rattle.oneshot_machine.specs.States.{word_after}
 use Rattle.oneshot_machine.proofs.GrownLists.{receiver_moved}
 use Rattle.oneshot_memory.specs.declared.Event.{Event}
@@ -13,7 +13,7 @@ use Rattle.oneshot_memory.specs.declared.receiver.Act.TheVariants as A
 use Rattle.oneshot_memory.specs.Cells.{Cells, cells_of, lies_in}
 use Rattle.oneshot_memory.specs.Events.{slot_of, event_of, logged}
 use Rattle.oneshot_memory.specs.Receiver.{receiver_has, receiver_stands, ReceiverStands, keeps_message, keeps_waker, lies, is_quiet, is_open, word_left, message_left}
-use Rattle.oneshot_memory.proofs.Cells.{IsSteady, comes_about, Operated, operates, slot_vacant, slot_held}
+use Rattle.oneshot_memory.proofs.Cells.{IsSteady, comes_about, Operated, operates, slot_held}
 use Rattle.oneshot_memory.proofs.Events.{words_same}
 
 -- which cells a receiver has, and which slots an operation leaves it

@@ -1,10 +1,10 @@
 -- How a sender's ground in memory stands after each of its steps.
-use Rattle.std.proofs.Common.{◌≡◌, ℕ, Bool, true, false, List, [], ◌∷◌, ◌++◌, Option, Some, None, refl, sym, ap, subst}
+use Rattle.std.proofs.Common.{◌≡◌, ℕ, Bool, true, false, List, [], ◌∷◌, ◌++◌, Option, None, refl, sym, ap, subst}
 use Rattle.std.specs.Prelude.{is_some}
 use Rattle.oneshot_machine.specs.declared.states.Op.{Op}
 use Rattle.oneshot_machine.specs.Logs.{Grows, words, sender_of, worded}
 use Rattle.oneshot_machine.specs.Phases.{sending, dropping, SenderAt, fresh, owes, finished, late, no_sender, sender_moves, sender_owns, sender_next, sender_at}
-use Rattle.oneshot_machine.specs.Slots.{Held, vacant, held, In, head, tail, SenderMay}
+use Rattle.oneshot_machine.specs.Slots.{vacant, held, In, head, tail, SenderMay}
 use Rattle.oneshot_machine.specs.States.{word_after}
 use Rattle.oneshot_machine.proofs.GrownLists.{sender_moved}
 use Rattle.oneshot_memory.specs.declared.Event.{Event}
