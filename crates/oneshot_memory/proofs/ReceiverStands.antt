@@ -40,6 +40,7 @@ changes =
     ∷ (λ b c. ((c.word == 0) && lies_in c, record c { word = 1 }))
     ∷ []
 
+-- the law, computed for each phase
 pub steady : IsSteady receiver_next receiver_moves has keeps changes
 steady first = refl
 steady (here looked) = refl
@@ -64,6 +65,7 @@ steady gone = refl
 steady ended = refl
 steady no_receiver = refl
 
+-- so each of the changes, by its row, leaves the ground as it may stand
 changes_to : (q : ReceiverAt) (c : Cells) {change : Bool → Cells → Bool × Cells} (b : Bool) → In change changes → receiver_stands q c ≡ true → (change b c).0 ≡ true → receiver_stands q (change b c).1 ≡ true
 changes_to = comes_about receiver_next receiver_moves has keeps changes steady
 

@@ -31,6 +31,7 @@ changes =
     ∷ (λ stops c. (true, record c { word = word_then stops c.word }))
     ∷ []
 
+-- the law, computed for each phase
 pub steady : IsSteady sender_next sender_moves has keeps changes
 steady fresh = refl
 steady (owes sending) = refl
@@ -39,6 +40,7 @@ steady (finished by) = refl
 steady (late by) = refl
 steady no_sender = refl
 
+-- so each of the changes, by its row, leaves the ground as it may stand
 changes_to : (p : SenderAt) (c : Cells) {change : Bool → Cells → Bool × Cells} (b : Bool) → In change changes → sender_stands p c ≡ true → (change b c).0 ≡ true → sender_stands p (change b c).1 ≡ true
 changes_to = comes_about sender_next sender_moves has keeps changes steady
 
