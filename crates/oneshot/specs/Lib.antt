@@ -15,6 +15,7 @@ pub use Rattle.oneshot_machine.specs.Phases
 pub use Rattle.oneshot_machine.specs.Runs
 pub use Rattle.oneshot_machine.specs.Slots
 pub use Rattle.oneshot_machine.specs.Words
+pub use Rattle.oneshot_memory.specs.Cells
 pub use Rattle.oneshot_memory.specs.Events
 pub use Rattle.oneshot_memory.specs.Receiver as ReceiverMemory
 pub use Rattle.oneshot_memory.specs.Sender as SenderMemory

@@ -36,12 +36,12 @@ five true true false d e h = absurd (cc)
 five true false c d e h = absurd (cc)
 five false b c d e h = absurd (cc)
 
-record Passing {X : Type 0} (p : X → Bool) (xs : List X) : Type 0 where
-  one : X
-  among : In one xs
-  passes : p one ≡ true
+pub record Passing {X : Type 0} (p : X → Bool) (xs : List X) : Type 0 where
+  pub one : X
+  pub among : In one xs
+  pub passes : p one ≡ true
 
-some_passes : {X : Type 0} (p : X → Bool) (xs : List X) → list_any p xs ≡ true → Passing p xs
+pub some_passes : {X : Type 0} (p : X → Bool) (xs : List X) → list_any p xs ≡ true → Passing p xs
 some_passes p [] any = absurd (true≢false (sym any))
 some_passes p (x ∷ xs) any = by (p x) refl any (some_passes p xs)
   where
@@ -78,13 +78,13 @@ same_sight (Exchange expected new) word = eq-eqb word word refl
 same_sight Add word = eq-eqb word word refl
 same_sight Xor word = eq-eqb word word refl
 
-abbrev is_same_share : Share → Share → Bool
+abbrev pub is_same_share : Share → Share → Bool
 is_same_share none none = true
 is_same_share empty empty = true
 is_same_share filled filled = true
 is_same_share _ _ = false
 
-shares_are_same : (a b : Share) → is_same_share a b ≡ true → a ≡ b
+pub shares_are_same : (a b : Share) → is_same_share a b ≡ true → a ≡ b
 shares_are_same none none e = refl
 shares_are_same empty empty e = refl
 shares_are_same filled filled e = refl

@@ -1,3 +1,4 @@
-pub mod Logs
-pub mod Senders
-pub mod Receivers
+pub mod Events
+pub mod Cells
+pub mod SenderStands
+pub mod ReceiverStands

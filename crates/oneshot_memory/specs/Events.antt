@@ -3,6 +3,7 @@ use Rattle.std.specs.Prelude.{Bool, true, false, List, [], map, Option, Some, No
 use Rattle.std.specs.Option.{option_map}
 use Rattle.oneshot_machine.specs.Logs as logs
 use Rattle.oneshot_machine.specs.Slots.{Held, away, vacant, held}
+use Rattle.oneshot_drive.specs.Grounds.{State}
 use Rattle.oneshot_memory.specs.declared.Event.{Event}
 
 -- a slot with this in it, if it is the end's
@@ -19,3 +20,8 @@ module _ {T W : Type 0} where
   -- a ground in memory is whole, and stands at no place
   abbrev pub logged : List (Event T W) → logs.Log T W
   logged events = record { whole = true; place = []; list = map event_of events }
+
+  -- with both slots as the end sees them
+  abbrev pub state_of : List (Event T W) → Option T → Option W → Bool → Bool → State T W
+  state_of events message waker owns_message owns_waker =
+      record { log = logged events; message = slot_of owns_message message; waker = slot_of owns_waker waker }

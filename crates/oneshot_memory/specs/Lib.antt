@@ -1,3 +1,4 @@
 pub mod Events
+pub mod Cells
 pub mod Sender
 pub mod Receiver

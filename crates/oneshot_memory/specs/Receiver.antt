@@ -1,14 +1,17 @@
--- What a contract sees of a receiver's ground in memory, and how its word and its slots stand with its list.
-use Rattle.std.specs.Prelude.{ℕ, Bool, true, false, not, ◌||◌, ◌==◌, if◌then◌else◌, List, Option, Some, None}
-use Rattle.oneshot_machine.specs.Logs as logs
+-- What a contract sees of a receiver's ground in memory, and how its word and its cells stand with its log.
+use Rattle.std.specs.Prelude.{◌≡◌, ℕ, Bool, true, false, not, ◌&&◌, ◌||◌, ◌==◌, if◌then◌else◌, List, Option, Some, None, is_some}
+use Rattle.std.specs.List.{list_any}
+use Rattle.oneshot_machine.specs.declared.machine.Seen.TheVariants as S
 use Rattle.oneshot_machine.specs.declared.states.Op.{Op}
 use Rattle.oneshot_machine.specs.declared.states.Op.TheVariants.{Load, Store, Swap, Exchange}
-use Rattle.oneshot_machine.specs.Phases.{Open, Waiting, Got, waited, Closing, ReceiverAt, first, here, waits, claimed, withdrew, overdue, full, unclosed, over, resolved, gone, ended}
+use Rattle.oneshot_machine.specs.Phases.{ReceiverAt, receiver_moves, receiver_owns, Share, none, empty, filled, Row, is_row_for}
 use Rattle.oneshot_machine.specs.Slots.{Held, away}
+use Rattle.oneshot_drive.specs.Grounds.{State}
 use Rattle.oneshot_memory.specs.declared.Event.{Event}
 use Rattle.oneshot_memory.specs.declared.receiver.Act.{Act}
 use Rattle.oneshot_memory.specs.declared.receiver.Act.TheVariants as A
-use Rattle.oneshot_memory.specs.Events.{slot_of, logged}
+use Rattle.oneshot_memory.specs.Cells.{Cells, cells_of, is_code, is_same, owns_just, is_word}
+use Rattle.oneshot_memory.specs.Events.{state_of}
 
 -- What a test told a receiver's ground. The sender acts once the receiver made so many pauses; where
 -- it finds then that the receiver waits, it lingers for so many more. The deadline is over once the
@@ -19,71 +22,46 @@ pub record Plan (T : Type 0) : Type 0 where
   pub lingers : ℕ
   pub reads : ℕ
 
--- what a receiver's ground has done, its word, both slots as the receiver sees them, and its plan
+-- what a receiver's ground has done, with both slots as the receiver sees them, its word, and its plan
 pub record Receiving (T W : Type 0) : Type 0 where
-  pub log : logs.Log T W
+  pub state : State T W
   pub word : ℕ
-  pub message : Held T
-  pub waker : Held W
   pub plan : Plan T
 
 module _ {T W : Type 0} where
   abbrev pub receiving_of : List (Event T W) → ℕ → Option T → Option W → Bool → Bool → Plan T → Receiving T W
   receiving_of events word message waker owns_message owns_waker plan =
-      record {
-        log = logged events;
-        word = word;
-        message = slot_of owns_message message;
-        waker = slot_of owns_waker waker;
-        plan = plan;
-      }
+      record { state = state_of events message waker owns_message owns_waker; word = word; plan = plan }
 
--- a receiver to which both slots belong, with its word
-pub data ReceiverOwns : ReceiverAt → ℕ → Type 0 where
-  found_it : (g : Got) → ReceiverOwns (full g 4) 4
-  swapped_it : ReceiverOwns (full waited 0) 0
-  swapped_end : ReceiverOwns (unclosed 0) 0
-  stopped_it : ReceiverOwns (full waited 3) 3
-  stopped_end : ReceiverOwns (unclosed 3) 3
-  closed : (c : Closing) → ReceiverOwns (over c) 2
-  closed_future : (c : Closing) → ReceiverOwns (resolved c) 2
-  dropped : ReceiverOwns ended 2
+abbrev pub is_away : Share → Bool
+is_away none = true
+is_away empty = false
+is_away filled = false
+
+-- The waker of a receiver lies in a cell that is not the receiver's just where a load that finds this
+-- word leaves it there: the receiver waits, and the sender has not acted yet.
+abbrev pub leaves_waker : List (Row ReceiverAt) → ℕ → Bool
+leaves_waker rows word = list_any (λ row. is_row_for Load (S.Word word) row && is_away row.4.1) rows
+
+-- The cells of a receiver at a phase with these rows, where these slots are its own. It may have freed
+-- both. Where the message's is not its own, there is a message just where the sender sent one.
+abbrev pub receiver_has : Option (Bool × Bool) → List (Row ReceiverAt) → Cells → Bool
+receiver_has None rows c = false
+receiver_has (Some (true, waker)) rows c =
+    owns_just true waker c && is_word 2 rows c.word || owns_just false false c
+receiver_has (Some (false, waker)) rows c =
+    owns_just false waker c
+    && is_word 2 rows c.word
+    && is_same (c.word == 4) c.has_message
+    && (waker || is_same (leaves_waker rows c.word) c.has_waker)
+
+abbrev pub receiver_stands : ReceiverAt → Cells → Bool
+receiver_stands q c = is_code c.word && receiver_has (receiver_owns q) (receiver_moves q) c
 
 -- How far a receiver is, its word, which slots are its own, the message in its slot and the waker in
 -- its cell.
-pub data ReceiverStands {T W : Type 0} : ReceiverAt → ℕ → Bool → Bool → Option T → Option W → Type 0 where
-  -- it has made no operation; the sender has not acted, sent or was dropped
-  new_open : ReceiverStands first 3 false false None None
-  new_sent : (x : T) → ReceiverStands first 4 false false (Some x) None
-  new_dropped : ReceiverStands first 2 false false None None
-  -- its last operation found nothing
-  looked_open : (o : Open) (cell : Option W) → ReceiverStands (here o) 3 false true None cell
-  looked_sent : (o : Open) (x : T) (cell : Option W) → ReceiverStands (here o) 4 false true (Some x) cell
-  looked_dropped : (o : Open) (cell : Option W) → ReceiverStands (here o) 2 false true None cell
-  -- it waits; the sender may be about to finish
-  waiting : (a : Waiting) (k : W) → ReceiverStands (waits a) 0 false false None (Some k)
-  waiting_claimed : (a : Waiting) (k : W) → ReceiverStands (waits a) 1 false false None (Some k)
-  waiting_sent : (a : Waiting) (x : T) → ReceiverStands (waits a) 4 false false (Some x) None
-  waiting_dropped : (a : Waiting) → ReceiverStands (waits a) 2 false false None None
-  -- its poll or its drop found that the sender is about to finish
-  spinning : (k : W) → ReceiverStands claimed 1 false false None (Some k)
-  spinning_sent : (x : T) → ReceiverStands claimed 4 false false (Some x) None
-  spinning_dropped : ReceiverStands claimed 2 false false None None
-  -- its poll or its drop has the cell with the stored copy
-  withdrawn_open : (cell : Option W) → ReceiverStands withdrew 3 false true None cell
-  withdrawn_sent : (x : T) (cell : Option W) → ReceiverStands withdrew 4 false true (Some x) cell
-  withdrawn_dropped : (cell : Option W) → ReceiverStands withdrew 2 false true None cell
-  -- its deadline was over while the sender was about to finish
-  late_claimed : (k : W) → ReceiverStands overdue 3 false false None (Some k)
-  late_sent : (x : T) → ReceiverStands overdue 4 false false (Some x) None
-  late_dropped : ReceiverStands overdue 2 false false None None
-  -- it has both slots, or freed them
-  owns : {q : ReceiverAt} {word : ℕ} (message : Option T) (cell : Option W)
-      → ReceiverOwns q word → ReceiverStands q word true true message cell
-  freed : {q : ReceiverAt} {was : ℕ} (word : ℕ) (message : Option T) (cell : Option W)
-      → ReceiverOwns q was → ReceiverStands q word false false message cell
-  -- it was dropped first
-  went : ReceiverStands gone 2 false false None None
+pub record ReceiverStands {T W : Type 0} (q : ReceiverAt) (word : ℕ) (owns_message owns_waker : Bool) (message : Option T) (waker : Option W) : Type 0 where
+  pub is_so : receiver_stands q (cells_of word owns_message owns_waker message waker) ≡ true
 
 -- whether the message's slot is the receiver's after an operation that found this word
 abbrev pub keeps_message : Op → ℕ → Bool
@@ -92,8 +70,7 @@ keeps_message _ word = (word == 4) || (word == 2)
 
 -- the waker of a receiver that waits lies in its cell, and the cell is not the receiver's
 abbrev pub lies : {W : Type 0} → Bool → Option W → Bool
-lies false (Some k) = true
-lies _ _ = false
+lies owns_waker waker = not owns_waker && is_some waker
 
 -- whether the waker's slot is the receiver's after it, where the waker of one that waits lies there, or not
 abbrev pub keeps_waker : Op → ℕ → Bool → Bool

@@ -1,46 +1,50 @@
--- What a contract sees of a sender's ground in memory, and how its word and its slots stand with its list.
-use Rattle.std.specs.Prelude.{ℕ, Bool, true, false, ◌&&◌, ◌||◌, ◌==◌, if◌then◌else◌, List, Option, Some, None}
-use Rattle.oneshot_machine.specs.Logs as logs
-use Rattle.oneshot_machine.specs.Phases.{By, SenderAt, fresh, owes, finished, late}
-use Rattle.oneshot_machine.specs.Slots.{Held}
+-- What a contract sees of a sender's ground in memory, and how its word and its cells stand with its log.
+use Rattle.std.specs.Prelude.{◌≡◌, ℕ, Bool, true, false, ◌&&◌, ◌||◌, ◌==◌, if◌then◌else◌, List, [], ◌∷◌, Option, Some, None}
+use Rattle.std.specs.List.{list_any}
+use Rattle.oneshot_machine.specs.Phases.{SenderAt, sender_moves, sender_owns, Share, none, empty, filled, Row}
+use Rattle.oneshot_drive.specs.Grounds.{State}
 use Rattle.oneshot_memory.specs.declared.Event.{Event}
-use Rattle.oneshot_memory.specs.Events.{slot_of, logged}
+use Rattle.oneshot_memory.specs.Cells.{Cells, cells_of, is_code, is_same, owns_just, is_word}
+use Rattle.oneshot_memory.specs.Events.{state_of}
 
--- what it has done, its word, both slots as the sender sees them, and whether the deadline of a receiver
--- that waits is to be over before the sender finishes
+-- what it has done, with both slots as the sender sees them, its word, and whether the deadline of a
+-- receiver that waits is to be over before the sender finishes
 pub record Sending (T W : Type 0) : Type 0 where
-  pub log : logs.Log T W
+  pub state : State T W
   pub word : ℕ
-  pub message : Held T
-  pub waker : Held W
   pub stops : Bool
 
 module _ {T W : Type 0} where
   abbrev pub sending_of : List (Event T W) → ℕ → Option T → Option W → Bool → Bool → Bool → Sending T W
   sending_of events word message waker owns_message owns_waker stops =
-      record {
-        log = logged events;
-        word = word;
-        message = slot_of owns_message message;
-        waker = slot_of owns_waker waker;
-        stops = stops;
-      }
+      record { state = state_of events message waker owns_message owns_waker; word = word; stops = stops }
 
--- a sender to which both slots belong, with its word
-pub data SenderOwns : SenderAt → ℕ → Type 0 where
-  found_waker : (by : By) → SenderOwns (owes by) 1
-  found_late : (by : By) → SenderOwns (owes by) 3
-  has_all : (by : By) → SenderOwns (late by 3) 3
+abbrev pub is_filled : Share → Bool
+is_filled none = false
+is_filled empty = false
+is_filled filled = true
 
--- how far a sender is, its word, which slots are its own, and the waker in its cell
-pub data SenderStands {W : Type 0} : SenderAt → ℕ → Bool → Bool → Option W → Type 0 where
-  receiver_here : SenderStands fresh 3 true false None
-  receiver_waits : (k : W) → SenderStands fresh 0 true false (Some k)
-  receiver_gone : SenderStands fresh 2 true false None
-  -- it has both slots, gave them up, or freed them
-  has_both : {p : SenderAt} {word : ℕ} (cell : Option W) → SenderOwns p word → SenderStands p word true true cell
-  gave_all : (by : By) (word : ℕ) (cell : Option W) → SenderStands (finished by) word false false cell
-  freed_both : {p : SenderAt} {word : ℕ} (cell : Option W) → SenderOwns p word → SenderStands p word false false cell
+-- A word that these rows find, with the waker in its cell just where the operation that finds it gets
+-- one. A sender that gave all up makes no operation any more.
+abbrev pub finds_waker : List (Row SenderAt) → Cells → Bool
+finds_waker [] c = true
+finds_waker (row ∷ rows) c =
+    list_any (λ (row : Row SenderAt). (row.2 == c.word) && is_same (is_filled row.4.1) c.has_waker) (row ∷ rows)
+
+-- The cells of a sender at a phase with these rows, where these slots are its own. One that has both may
+-- have freed them.
+abbrev pub sender_has : Option (Bool × Bool) → List (Row SenderAt) → Cells → Bool
+sender_has None rows c = false
+sender_has (Some (message, true)) rows c =
+    is_word 3 rows c.word && (owns_just message true c || owns_just false false c)
+sender_has (Some (message, false)) rows c = owns_just message false c && finds_waker rows c
+
+abbrev pub sender_stands : SenderAt → Cells → Bool
+sender_stands p c = is_code c.word && sender_has (sender_owns p) (sender_moves p) c
+
+-- how far a sender is, its word, which slots are its own, the message in its slot and the waker in its cell
+pub record SenderStands {T W : Type 0} (p : SenderAt) (word : ℕ) (owns_message owns_waker : Bool) (message : Option T) (waker : Option W) : Type 0 where
+  pub is_so : sender_stands p (cells_of word owns_message owns_waker message waker) ≡ true
 
 -- whether both slots are the sender's after an operation that found this word
 abbrev pub keeps_both : ℕ → Bool

@@ -1,7 +1,6 @@
 //! The ground in memory of a receiver that is a future, with the task that polls it.
 
 ghost use Rattle.std.specs.Prelude.{◌≡◌, ⊤, false};
-ghost use Rattle.oneshot_machine.specs.Logs.{receiver_of};
 ghost use Rattle.oneshot_drive.specs.Polls.{IsPolled};
 
 use crate::receiver::MemoryReceiver;
@@ -26,7 +25,7 @@ impl<'a, 't, T, R: Wait> MemoryFuture<'a, 't, T, R> {
     /// The ground of a new future, whose sender is here, with the task of its first poll; no copy is
     /// refused.
     pub fn new(rt: &'a R, alloc: Global, task: &'t MemoryTask) -> MemoryFuture<'a, 't, T, R>
-        ensures rests { IsPolled (receiver_of result.receiver.log) result.receiver.message result.receiver.waker }
+        ensures rests { IsPolled result.receiver.state }
         ensures copies { result.refuses ≡ false }
     {
         MemoryFuture {
@@ -38,11 +37,7 @@ impl<'a, 't, T, R: Wait> MemoryFuture<'a, 't, T, R> {
 }
 
 impl<'a, 't, T: Drop, R: Wait> ReceiverGround<T, TaskWaker<'t>> for MemoryFuture<'a, 't, T, R> {
-    ghost log = { λ s. s.receiver.log };
-
-    ghost message_slot = { λ s. s.receiver.message };
-
-    ghost waker_slot = { λ s. s.receiver.waker };
+    ghost state = { λ s. s.receiver.state };
 
     // It has nothing beside the channel of which a contract speaks.
     ghost keeps = { λ a b. ⊤ };

@@ -2,9 +2,9 @@
 
 ghost use Rattle.std.specs.Prelude.{◌≡◌, ⊤, true, map, Some, None, [], ◌∷◌};
 ghost use Rattle.oneshot_machine.specs.declared.machine.Step.TheVariants.{WakeOwn};
-ghost use Rattle.oneshot_machine.specs.Logs.{receiver_of, Grows, copied, did, worded};
-ghost use Rattle.oneshot_machine.specs.Slots.{ReceiverMay, ReceiverFinds};
-ghost use Rattle.oneshot_drive.specs.Calls.{AtRest};
+ghost use Rattle.oneshot_machine.specs.Logs.{Grows, copied, did, worded};
+ghost use Rattle.oneshot_drive.specs.BetweenCalls.{AtRest};
+ghost use Rattle.oneshot_drive.specs.Grounds.{ReceiverAsks, ReceiverMakes};
 ghost use Rattle.oneshot_memory.specs.declared.receiver.Act.TheVariants.{Send, Drop};
 ghost use Rattle.oneshot_memory.specs.Events.{event_of};
 ghost use Rattle.oneshot_memory.specs.Receiver.{keeps_message, keeps_waker, is_open, word_by, word_left, message_left, lies};
@@ -83,7 +83,7 @@ impl<'a, T, W, R: Wait> Model for MemoryReceiver<'a, T, W, R> {
 impl<'a, T, W, R: Wait> MemoryReceiver<'a, T, W, R> {
     /// The ground of a new receiver, whose sender is here.
     pub fn new(rt: &'a R, alloc: Global) -> MemoryReceiver<'a, T, W, R>
-        ensures rests { AtRest (receiver_of result.log) result.message result.waker }
+        ensures rests { AtRest result.state }
         ensures word { result.word ≡ 3 }
         ensures plan { result.plan ≡ record { act = None; pauses = 0; lingers = 0; reads = 0 } }
     {
@@ -106,7 +106,7 @@ impl<'a, T, W, R: Wait> MemoryReceiver<'a, T, W, R> {
 
     /// The steps so far.
     pub fn events(&self) -> &[Event<T, W>]
-        ensures { map event_of result.now ≡ self.now.log.list }
+        ensures { map event_of result.now ≡ self.now.state.log.list }
     {
         &self.events
     }
@@ -115,7 +115,7 @@ impl<'a, T, W, R: Wait> MemoryReceiver<'a, T, W, R> {
 impl<'a, T: Drop, W: Drop + Wakes, R: Wait> MemoryReceiver<'a, T, W, R> {
     /// The sender sends, if both ends are still here, and wakes a receiver that waits.
     pub fn sender_sends(&mut self, message: T)
-        ensures { self.new ≡ record self.old { word = word_by 4 self.old.word self.old.message } }
+        ensures { self.new ≡ record self.old { word = word_by 4 self.old.word self.old.state.message } }
     {
         if self.is_open() {
             self.act(Act::Send(message));
@@ -124,7 +124,7 @@ impl<'a, T: Drop, W: Drop + Wakes, R: Wait> MemoryReceiver<'a, T, W, R> {
 
     /// The sender is dropped, if both ends are still here, and wakes a receiver that waits.
     pub fn sender_drops(&mut self)
-        ensures { self.new ≡ record self.old { word = word_by 2 self.old.word self.old.message } }
+        ensures { self.new ≡ record self.old { word = word_by 2 self.old.word self.old.state.message } }
     {
         if self.is_open() {
             self.act(Act::Drop);
@@ -170,10 +170,9 @@ impl<'a, T: Drop, W: Drop + Wakes, R: Wait> MemoryReceiver<'a, T, W, R> {
 
     // Makes an operation on the word, and gives the word before.
     fn operate(&mut self, op: Op) -> u8
-        requires { ReceiverMay (receiver_of self.old.log) op self.old.message self.old.waker }
-        ensures list { Grows self.old.log self.new.log (worded op result ∷ []) }
-        ensures finds { ReceiverFinds (receiver_of self.old.log) op result
-            self.old.message self.old.waker self.new.message self.new.waker }
+        requires { ReceiverAsks op self.old.state }
+        ensures list { Grows self.old.state.log self.new.state.log (worded op result ∷ []) }
+        ensures finds { ReceiverMakes op result self.old.state self.new.state }
     {
         let before = self.word;
         self.word = op.after(before);
@@ -186,8 +185,9 @@ impl<'a, T: Drop, W: Drop + Wakes, R: Wait> MemoryReceiver<'a, T, W, R> {
 
     // Notes a copy of a waker, or its refusal.
     pub(crate) fn note_copy(&mut self, copy: &Option<W>)
-        ensures list { Grows self.old.log self.new.log (copied copy.now ∷ []) }
-        ensures slots { (self.new.message ≡ self.old.message) × (self.new.waker ≡ self.old.waker) }
+        ensures list { Grows self.old.state.log self.new.state.log (copied copy.now ∷ []) }
+        ensures message { self.new.state.message ≡ self.old.state.message }
+        ensures waker { self.new.state.waker ≡ self.old.state.waker }
     {
         let event = Event::copied(copy);
         record(self.rt, &mut self.events, event);
@@ -196,8 +196,9 @@ impl<'a, T: Drop, W: Drop + Wakes, R: Wait> MemoryReceiver<'a, T, W, R> {
 
     // Notes that the poll woke its own task.
     pub(crate) fn note_own_wake(&mut self)
-        ensures list { Grows self.old.log self.new.log (did WakeOwn ∷ []) }
-        ensures slots { (self.new.message ≡ self.old.message) × (self.new.waker ≡ self.old.waker) }
+        ensures list { Grows self.old.state.log self.new.state.log (did WakeOwn ∷ []) }
+        ensures message { self.new.state.message ≡ self.old.state.message }
+        ensures waker { self.new.state.waker ≡ self.old.state.waker }
     {
         let event = Event::of(Step::WakeOwn, Seen::Done);
         record(self.rt, &mut self.events, event);
@@ -234,7 +235,7 @@ impl<'a, T: Drop, W: Drop + Wakes, R: Wait> MemoryReceiver<'a, T, W, R> {
     // The sender acts, if both ends are here or the receiver waits: whether it woke the receiver.
     fn act(&mut self, act: Act<T>) -> bool
         ensures keeps { self.new ≡ record self.old { word = self.new.word } }
-        ensures leaves { is_open self.old.word self.old.message ≡ true → self.new.word ≡ word_left act }
+        ensures leaves { is_open self.old.word self.old.state.message ≡ true → self.new.word ≡ word_left act }
     {
         let (word, message) = act.left();
         if is_waiting(self.owns_waker, &self.waker) {
@@ -254,18 +255,14 @@ impl<'a, T: Drop, W: Drop + Wakes, R: Wait> MemoryReceiver<'a, T, W, R> {
 
     // Whether both ends are here.
     fn is_open(&self) -> bool
-        ensures { result ≡ is_open self.now.word self.now.message }
+        ensures { result ≡ is_open self.now.word self.now.state.message }
     {
         (self.word == EMPTY || self.word == RECEIVING) && !self.owns_message
     }
 }
 
 impl<'a, T: Drop, W: Drop + Wakes, R: Wait> ReceiverGround<T, W> for MemoryReceiver<'a, T, W, R> {
-    ghost log = { λ s. s.log };
-
-    ghost message_slot = { λ s. s.message };
-
-    ghost waker_slot = { λ s. s.waker };
+    ghost state = { λ s. s.state };
 
     // It has nothing beside the channel.
     ghost keeps = { λ a b. ⊤ };

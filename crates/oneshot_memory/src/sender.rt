@@ -1,7 +1,7 @@
 //! A sender's ground in memory.
 
 ghost use Rattle.std.specs.Prelude.{◌≡◌, true, false, map, if◌then◌else◌};
-ghost use Rattle.oneshot_drive.specs.Calls.{IsFresh};
+ghost use Rattle.oneshot_drive.specs.BetweenCalls.{IsFresh};
 ghost use Rattle.oneshot_memory.specs.Events.{event_of};
 ghost use Rattle.oneshot_memory.specs.Sender.{keeps_both, word_then};
 
@@ -39,13 +39,13 @@ impl<'a, T, W, R: Wait> Model for MemorySender<'a, T, W, R> {
 
     ghost invariant = { λ s.
         SenderStands (sender_of (logged s.events.items)) s.word
-        s.owns_message s.owns_waker s.waker };
+        s.owns_message s.owns_waker s.message s.waker };
 }
 
 impl<'a, T, W, R: Wait> MemorySender<'a, T, W, R> {
     /// The ground of a new sender.
     pub fn new(rt: &'a R, alloc: Global, receiver_is_here: bool) -> MemorySender<'a, T, W, R>
-        ensures fresh { IsFresh result.log result.message result.waker }
+        ensures fresh { IsFresh result.state }
         ensures word { result.word ≡ (if receiver_is_here then 3 else 2) }
         ensures stays { result.stops ≡ false }
     {
@@ -67,7 +67,7 @@ impl<'a, T, W, R: Wait> MemorySender<'a, T, W, R> {
 
     /// The ground of a new sender, whose receiver waits with this waker.
     pub fn with_waiting_receiver(rt: &'a R, alloc: Global, waker: W) -> MemorySender<'a, T, W, R>
-        ensures fresh { IsFresh result.log result.message result.waker }
+        ensures fresh { IsFresh result.state }
         ensures word { result.word ≡ 0 }
         ensures stays { result.stops ≡ false }
     {
@@ -92,18 +92,14 @@ impl<'a, T, W, R: Wait> MemorySender<'a, T, W, R> {
 
     /// The steps so far.
     pub fn events(&self) -> &[Event<T, W>]
-        ensures { map event_of result.now ≡ self.now.log.list }
+        ensures { map event_of result.now ≡ self.now.state.log.list }
     {
         &self.events
     }
 }
 
 impl<'a, T: Drop, W: Drop, R: Wait> SenderGround<T, W> for MemorySender<'a, T, W, R> {
-    ghost log = { λ s. s.log };
-
-    ghost message_slot = { λ s. s.message };
-
-    ghost waker_slot = { λ s. s.waker };
+    ghost state = { λ s. s.state };
 
     fn word(&mut self, op: Op) -> u8 {
         let before = self.word;

@@ -1,7 +1,7 @@
 //! A receiver over a ground in memory, as a list of what it and its sender do.
 
 ghost use Rattle.oneshot_machine.specs.Logs.{receiver_of};
-ghost use Rattle.oneshot_drive.specs.Calls.{AtRest, IsReady};
+ghost use Rattle.oneshot_drive.specs.BetweenCalls.{AtRest, IsReady};
 
 use crate::drive::steps::steps_of;
 use oneshot_drive::{drop_receiver, recv, recv_deadline, recv_ref, recv_timeout, try_recv};
@@ -90,10 +90,10 @@ fn perform<R: Wait>(
     hand: &mut Option<u8>,
     deed: Deed,
 ) -> Answer
-    requires rests { AtRest (receiver_of g.old.log) g.old.message g.old.waker }
-    requires ready { IsReady hand.old (receiver_of g.old.log) }
-    ensures rests { AtRest (receiver_of g.new.log) g.new.message g.new.waker }
-    ensures ready { IsReady hand.new (receiver_of g.new.log) }
+    requires rests { AtRest g.old.state }
+    requires ready { IsReady hand.old (receiver_of g.old.state.log) }
+    ensures rests { AtRest g.new.state }
+    ensures ready { IsReady hand.new (receiver_of g.new.state.log) }
 {
     match deed {
         Deed::Sends => g.sender_sends(7),

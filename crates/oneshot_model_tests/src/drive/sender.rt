@@ -1,6 +1,6 @@
 //! The sender's drivers, by whether its receiver is here, waits or is gone.
 
-ghost use Rattle.oneshot_drive.specs.Calls.{IsFresh};
+ghost use Rattle.oneshot_drive.specs.BetweenCalls.{IsFresh};
 
 use crate::drive::steps::steps_of;
 use oneshot_drive::{drop_sender, into_inner, send};
@@ -22,7 +22,7 @@ enum Receiver {
 type Ground<'a, R> = MemorySender<'a, u64, u8, R>;
 
 fn ground<R: Wait>(rt: &R, alloc: Global, receiver: Receiver) -> Ground<'_, R>
-    ensures { IsFresh result.log result.message result.waker }
+    ensures { IsFresh result.state }
 {
     match receiver {
         Receiver::Here => Ground::new(rt, alloc, true),

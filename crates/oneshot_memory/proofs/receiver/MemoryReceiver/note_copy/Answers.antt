@@ -1,7 +1,7 @@
 use Rattle.std.proofs.Common.{[], ◌∷◌, ap}
 use Rattle.oneshot_machine.specs.Logs.{words, copied}
-use Rattle.oneshot_memory.proofs.Logs.{step_grows}
-use Rattle.oneshot_memory.proofs.Receivers.{receiver_stays}
+use Rattle.oneshot_memory.proofs.Events.{step_grows}
+use Rattle.oneshot_memory.proofs.ReceiverStands.{receiver_stays}
 use Rattle.oneshot_memory.proofs.receiver.MemoryReceiver.note_copy.Goals as goal
 
 pub invariant_of-self : goal.invariant_of-self
@@ -10,5 +10,5 @@ invariant_of-self g c =
 
 pub returns-clause-list : goal.returns-clause-list
 returns-clause-list g c =
-    let noted = step_grows c.self.inside.events.items c.record.new.events.items c.copied-event.result (copied c.args.copy.now) c.record.ensures c.copied-event.ensures (ap (λ s. s.log) c.self.view_is) in
-    rw (ap (λ s. s.log) c.pause.ensures) noted
+    let noted = step_grows c.self.inside.events.items c.record.new.events.items c.copied-event.result (copied c.args.copy.now) c.record.ensures c.copied-event.ensures (ap (λ s. s.state.log) c.self.view_is) in
+    rw (ap (λ s. s.state.log) c.pause.ensures) noted

@@ -1,5 +1,5 @@
 use Rattle.std.proofs.Common.{[], ◌∷◌, ◌++◌, refl, ap, ◌∙◌}
-use Rattle.oneshot_memory.proofs.Receivers.{receiver_stays}
+use Rattle.oneshot_memory.proofs.ReceiverStands.{receiver_stays}
 use Rattle.oneshot_memory.proofs.receiver.MemoryReceiver.note_own_wake.Goals as goal
 
 pub invariant_of-self : goal.invariant_of-self

@@ -1,8 +1,8 @@
 use Rattle.std.proofs.Common.{[], ◌∷◌, ◌++◌, refl, ap, ◌∙◌}
 use Rattle.oneshot_machine.specs.Logs.{parked}
 use Rattle.oneshot_memory.specs.Events.{event_of}
-use Rattle.oneshot_memory.proofs.Logs.{step_grows}
-use Rattle.oneshot_memory.proofs.Receivers.{receiver_stays}
+use Rattle.oneshot_memory.proofs.Events.{step_grows}
+use Rattle.oneshot_memory.proofs.ReceiverStands.{receiver_stays}
 use Rattle.oneshot_memory.proofs.receiver.MemoryReceiverBlockGround.park.Goals as goal
 
 pub invariant_of-self : goal.invariant_of-self
@@ -11,4 +11,4 @@ invariant_of-self g c =
 
 pub returns-clause-list : goal.returns-clause-list
 returns-clause-list g c =
-    (c.self.inside.token, step_grows c.self.inside.events.items c.record.new.events.items c.of-event.result (parked c.self.inside.token) c.record.ensures (ap event_of c.of-event.ensures) (ap (λ s. s.log) (c.self.view_is ∙ c.pause.ensures)))
+    (c.self.inside.token, step_grows c.self.inside.events.items c.record.new.events.items c.of-event.result (parked c.self.inside.token) c.record.ensures (ap event_of c.of-event.ensures) (ap (λ s. s.state.log) (c.self.view_is ∙ c.pause.ensures)))

@@ -1,9 +1,10 @@
 use Rattle.std.proofs.Common.{Some, refl, ap, ◌∙◌}
-use Rattle.oneshot_memory.proofs.Logs.{no_word}
-use Rattle.oneshot_memory.proofs.Receivers.{receiver_stays, receiver_wakers, slot_vacant}
+use Rattle.oneshot_memory.proofs.Events.{no_word}
+use Rattle.oneshot_memory.proofs.Cells.{slot_vacant}
+use Rattle.oneshot_memory.proofs.ReceiverStands.{receiver_stays, receiver_wakers}
 use Rattle.oneshot_memory.proofs.receiver.MemoryReceiverReceiverGround.write_waker.Goals as goal
 
 pub invariant_of-self : goal.invariant_of-self
 invariant_of-self g c =
-    let own = slot_vacant c.self.inside.owns_waker c.self.inside.waker (ap (λ s. s.waker) c.self.view_is ∙ c.requires) in
-    receiver_stays c.self.inside.events.items c.record.new.events.items c.handing-event.result c.record.ensures (no_word c.handing-event.result _ _ c.handing-event.ensures refl) (receiver_wakers (Some c.args.waker) c.self.invariant own)
+    let own = slot_vacant c.self.inside.owns_waker c.self.inside.waker (ap (λ s. s.state.waker) c.self.view_is ∙ c.requires) in
+    receiver_stays c.self.inside.events.items c.record.new.events.items c.handing-event.result c.record.ensures (no_word c.handing-event.result _ _ c.handing-event.ensures refl) (receiver_wakers c.self.invariant (Some c.args.waker) own)

@@ -1,6 +1,6 @@
 use Rattle.std.proofs.Common.{refl}
-use Rattle.oneshot_memory.proofs.Logs.{no_word}
-use Rattle.oneshot_memory.proofs.Senders.{sender_stays}
+use Rattle.oneshot_memory.proofs.Events.{no_word}
+use Rattle.oneshot_memory.proofs.SenderStands.{sender_stays}
 use Rattle.oneshot_memory.proofs.sender.MemorySenderSenderGround.wake.Goals as goal
 
 pub invariant_of-self : goal.invariant_of-self

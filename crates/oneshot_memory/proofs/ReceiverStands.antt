@@ -1,0 +1,128 @@
+-- How a receiver's ground in memory stands after each of its steps, and after its sender's.
+use Rattle.std.proofs.Common.{◌≡◌, ℕ, Bool, true, false, not, ◌&&◌, ◌==◌, List, [], ◌∷◌, ◌++◌, Option, Some, None, refl, sym, ap, subst}
+use Rattle.std.specs.Prelude.{is_some}
+use Rattle.oneshot_machine.specs.declared.states.Op.{Op}
+use Rattle.oneshot_machine.specs.Logs.{Grows, words, receiver_of, worded}
+use Rattle.oneshot_machine.specs.Phases.{looked, between, blocked, polled, again, storing, stopping, at_once, waited, swapped, by_future, by_poll, ReceiverAt, first, here, waits, claimed, withdrew, overdue, full, unclosed, over, resolved, gone, ended, no_receiver, receiver_moves, receiver_owns, receiver_next, receiver_at}
+use Rattle.oneshot_machine.specs.Slots.{vacant, held, In, head, tail, ReceiverMay}
+use Rattle.oneshot_machine.specs.States.{word_after}
+use Rattle.oneshot_machine.proofs.GrownLists.{receiver_moved}
+use Rattle.oneshot_memory.specs.declared.Event.{Event}
+use Rattle.oneshot_memory.specs.declared.receiver.Act.{Act}
+use Rattle.oneshot_memory.specs.declared.receiver.Act.TheVariants as A
+use Rattle.oneshot_memory.specs.Cells.{Cells, cells_of, lies_in}
+use Rattle.oneshot_memory.specs.Events.{slot_of, event_of, logged}
+use Rattle.oneshot_memory.specs.Receiver.{receiver_has, receiver_stands, ReceiverStands, keeps_message, keeps_waker, lies, is_quiet, is_open, word_left, message_left}
+use Rattle.oneshot_memory.proofs.Cells.{IsSteady, comes_about, Operated, operates, slot_held}
+use Rattle.oneshot_memory.proofs.Events.{words_same}
+
+-- which cells a receiver has, and which slots an operation leaves it
+abbrev pub has : ReceiverAt → Cells → Bool
+has q = receiver_has (receiver_owns q) (receiver_moves q)
+
+abbrev pub keeps : Op → Cells → Bool × Bool
+keeps op c = (keeps_message op c.word, keeps_waker op c.word (lies_in c))
+
+abbrev word_by_act : Bool → ℕ
+word_by_act true = 4
+word_by_act false = 2
+
+-- What comes about between its operations, in this order: the message is taken or dropped; a waker is put
+-- into its cell or taken out; both slots are freed; the sender sends or is dropped, where nobody waits,
+-- and where a waker lies in its cell, which it uses up; and it is about to do so.
+abbrev pub changes : List (Bool → Cells → Bool × Cells)
+changes =
+    (λ b c. (c.owns_message, record c { has_message = false }))
+    ∷ (λ there c. (c.owns_waker, record c { has_waker = there }))
+    ∷ (λ b c. (c.owns_message && c.owns_waker && not c.has_message && not c.has_waker, record c { owns_message = false; owns_waker = false }))
+    ∷ (λ sent c. (is_quiet c.word && not c.owns_message && not (lies_in c), record c { word = word_by_act sent; has_message = sent }))
+    ∷ (λ sent c. (lies_in c, record c { word = word_by_act sent; has_message = sent; has_waker = false }))
+    ∷ (λ b c. ((c.word == 0) && lies_in c, record c { word = 1 }))
+    ∷ []
+
+-- the law, computed for each phase
+pub steady : IsSteady receiver_next receiver_moves has keeps changes
+steady first = refl
+steady (here looked) = refl
+steady (here between) = refl
+steady (waits blocked) = refl
+steady (waits polled) = refl
+steady (waits again) = refl
+steady claimed = refl
+steady withdrew = refl
+steady overdue = refl
+steady (full at_once) = refl
+steady (full waited) = refl
+steady (full (swapped storing)) = refl
+steady (full (swapped stopping)) = refl
+steady (full by_future) = refl
+steady (full by_poll) = refl
+steady (unclosed storing) = refl
+steady (unclosed stopping) = refl
+steady (over closing) = refl
+steady (resolved closing) = refl
+steady gone = refl
+steady ended = refl
+steady no_receiver = refl
+
+-- so each of the changes, by its row, leaves the ground as it may stand
+changes_to : (q : ReceiverAt) (c : Cells) {change : Bool → Cells → Bool × Cells} (b : Bool) → In change changes → receiver_stands q c ≡ true → (change b c).0 ≡ true → receiver_stands q (change b c).1 ≡ true
+changes_to = comes_about receiver_next receiver_moves has keeps changes steady
+
+module _ {T W : Type 0} where
+  -- a step that is no operation on the word
+  pub receiver_stays : (xs ys : List (Event T W)) (e : Event T W) {word : ℕ} {own own_waker : Bool} {cell : Option T} {waker : Option W} → ys ≡ xs ++ e ∷ [] → words (event_of e ∷ []) ≡ []
+      → ReceiverStands (receiver_of (logged xs)) word own own_waker cell waker → ReceiverStands (receiver_of (logged ys)) word own own_waker cell waker
+  receiver_stays xs ys e {word} {own} {own_waker} {cell} {waker} is none = subst (λ q. ReceiverStands q word own own_waker cell waker) (ap receiver_at (sym (words_same xs ys e is none)))
+
+  -- an operation
+  abbrev pub ReceiverOperated : ReceiverAt → Op → ℕ → Bool → Bool → Option T → Option W → Type 0
+  ReceiverOperated = Operated receiver_next receiver_moves has keeps changes steady
+
+  pub receiver_operates : {q : ReceiverAt} {op : Op} (word : ℕ) (own own_waker : Bool) (cell : Option T) (waker : Option W) → ReceiverStands q word own own_waker cell waker → ReceiverMay q op (slot_of own cell) (slot_of own_waker waker) → ReceiverOperated q op word own own_waker cell waker
+  receiver_operates {q} word own own_waker cell waker stands = operates receiver_next receiver_moves has keeps changes steady q word own own_waker cell waker stands.is_so
+
+  pub receiver_worded : (xs ys : List (Event T W)) (op : Op) (word left : ℕ) (was own_was own own_waker : Bool) {cell : Option T} {waker : Option W} → Grows (logged xs) (logged ys) (worded op word ∷ []) → ReceiverOperated (receiver_of (logged xs)) op word was own_was cell waker → left ≡ word_after op word → own ≡ keeps_message op word → own_waker ≡ keeps_waker op word (lies own_was waker)
+      → ReceiverStands (receiver_of (logged ys)) left own own_waker cell waker
+  receiver_worded xs ys op word left was own_was own own_waker grows found is kept kept_too = rw (receiver_moved op word grows, is, kept, kept_too) (record { is_so = found.goes_on })
+
+  module _ {q : ReceiverAt} {word : ℕ} {own own_waker : Bool} {cell : Option T} {waker : Option W} (stands : ReceiverStands q word own own_waker cell waker) where
+    -- what is taken out of the message's slot, or dropped there, leaves it empty
+    pub receiver_emptied : (x : T) → slot_of own cell ≡ held x → ReceiverStands {T = T} q word own own_waker None waker
+    receiver_emptied x e = record { is_so = changes_to q (cells_of word own own_waker cell waker) true head stands.is_so (slot_held own cell x e) }
+
+    -- what is put into the waker's cell, or taken out of it
+    pub receiver_wakers : (after : Option W) → own_waker ≡ true → ReceiverStands q word own own_waker cell after
+    receiver_wakers after e = record { is_so = changes_to q (cells_of word own own_waker cell waker) (is_some after) (tail head) stands.is_so e }
+
+    -- a free gives up both slots
+    pub receiver_freed : slot_of own cell ≡ vacant → slot_of own_waker waker ≡ vacant → ReceiverStands q word false false cell waker
+    receiver_freed e f = record { is_so = changes_to q (cells_of word own own_waker cell waker) true (tail (tail head)) stands.is_so (both_empty own own_waker cell waker e f) }
+      where
+        both_empty : (own own_waker : Bool) (cell : Option T) (waker : Option W) → slot_of own cell ≡ vacant → slot_of own_waker waker ≡ vacant → (own && own_waker && not (is_some cell) && not (is_some waker)) ≡ true
+        both_empty true true None None e f = refl
+        both_empty _ _ _ _ e f = absurd (cc)
+
+    -- the sender acts there, unless a waker lies in the cell
+    pub left_open : (act : Act T) → is_quiet word ≡ true → own ≡ false → lies own_waker waker ≡ false → ReceiverStands q (word_left act) own own_waker (message_left act) waker
+    left_open (A.Send x) e f none = record { is_so = changes_to q (cells_of word own own_waker cell waker) true (tail (tail (tail head))) stands.is_so (rw (e, f, none) refl) }
+    left_open A.Drop e f none = record { is_so = changes_to q (cells_of word own own_waker cell waker) false (tail (tail (tail head))) stands.is_so (rw (e, f, none) refl) }
+
+    -- and where one lies there
+    pub left_waiting : (act : Act T) → lies own_waker waker ≡ true → ReceiverStands {T = T} {W = W} q (word_left act) own own_waker (message_left act) None
+    left_waiting (A.Send x) lying = record { is_so = changes_to q (cells_of word own own_waker cell waker) true (tail (tail (tail (tail head)))) stands.is_so lying }
+    left_waiting A.Drop lying = record { is_so = changes_to q (cells_of word own own_waker cell waker) false (tail (tail (tail (tail head)))) stands.is_so lying }
+
+    -- or it lingers there
+    pub lingering : word ≡ 0 → lies own_waker waker ≡ true → ReceiverStands q 1 own own_waker cell waker
+    lingering e lying = record { is_so = changes_to q (cells_of word own own_waker cell waker) true (tail (tail (tail (tail (tail head))))) stands.is_so (rw (e, lying) refl) }
+
+-- both ends are here, by the ground's own fields
+pub record IsOpen (word : ℕ) (own : Bool) : Type 0 where
+  pub quiet : is_quiet word ≡ true
+  pub away : own ≡ false
+
+pub is_open_by : {X : Type 0} (word : ℕ) (own : Bool) (cell : Option X) → is_open word (slot_of own cell) ≡ true → IsOpen word own
+is_open_by word false cell e = record { quiet = e; away = refl }
+is_open_by word true None e = absurd (cc)
+is_open_by word true (Some x) e = absurd (cc)
