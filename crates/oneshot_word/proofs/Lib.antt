@@ -1,9 +1,10 @@
+pub mod Alike
 pub mod Says
-pub mod Turns
+pub mod RuleKept
 pub mod Found
-pub mod Steps
+pub mod EachStep
 pub mod Opens
 pub mod Trades
-pub mod RowReads
+pub mod RuleRead
 mod Crosses
 mod RuleExamples
