@@ -1,5 +1,5 @@
 -- Each operation of an end keeps the rule: computed for each pair of phases, and carried out on the slots.
-use Rattle.std.proofs.Common.{◌≡◌, ◌≤◌, ℕ, Bool, true, false, ◌&&◌, List, [], ◌∷◌, ◌+◌, ◌%◌, ◌^◌, bit_xor, Option, Some, None, refl, sym, ap, subst}
+use Rattle.std.proofs.Common.{◌≡◌, ◌≤◌, ℕ, Bool, true, false, ◌&&◌, List, [], ◌∷◌, ◌+◌, ◌%◌, ◌^◌, bit_xor, Option, Some, None, refl, sym, subst}
 use Rattle.std.specs.Prelude.{leb, ◌==◌, if◌then◌else◌}
 use Rattle.std.specs.List.{list_all}
 use Rattle.std.proofs.lemmas.Bool.{and_parts, eqb-true, leb-true}
@@ -10,13 +10,13 @@ use Rattle.oneshot_machine.specs.declared.machine.Seen.{Seen}
 use Rattle.oneshot_machine.specs.declared.states.Op.{Op}
 use Rattle.oneshot_machine.specs.declared.states.Op.TheVariants.{Load, Store, Swap, Exchange, Add, Xor}
 use Rattle.oneshot_machine.specs.Words.{saw, is_same_op}
-use Rattle.oneshot_machine.specs.Phases.{Share, none, empty, filled, Slots, Row, sending, dropping, SenderAt, fresh, owes, finished, late, no_sender, sender_moves, sender_owns, sender_next, looked, blocked, polled, again, at_once, waited, by_future, by_poll, storing, stopping, swapped, found_closed, closed_itself, ReceiverAt, first, here, waits, claimed, withdrew, overdue, full, unclosed, over, resolved, gone, ended, no_receiver, receiver_moves, receiver_owns, receiver_next}
+use Rattle.oneshot_machine.specs.Phases.{Share, none, empty, filled, Slots, Row, sending, dropping, SenderAt, fresh, owes, finished, late, no_sender, sender_moves, sender_owns, sender_next, looked, blocked, storing, swapped, found_closed, ReceiverAt, first, here, waits, full, unclosed, over, resolved, receiver_moves, receiver_owns, receiver_next}
 use Rattle.oneshot_machine.specs.Slots.{Held, away, vacant, held, IsSlot, is_away, is_vacant, is_held, Turns, stays_away, stays_vacant, stays_held, gives_room, gives_thing, gets_room, gets_thing, In, head, tail, May, may, SenderMay, ReceiverMay, Finds, finds}
 use Rattle.oneshot_machine.proofs.Exactness.{each_passes, ops_are_same}
 use Rattle.oneshot_word.specs.declared.rouse.Rouse.{Rouse}
 use Rattle.oneshot_word.specs.declared.rule.Slot.{Slot}
 use Rattle.oneshot_word.specs.declared.rule.Slot.TheVariants.{Empty, Message}
-use Rattle.oneshot_word.specs.Seats.{with_waker, Carried, SlotOf, slot_vacant, slot_held, Part, not_carried, carried, Front, message_first, waker_first, carried_as, SeatOf, seat_of}
+use Rattle.oneshot_word.specs.Seats.{with_waker, Carried, slot_vacant, slot_held, Part, not_carried, carried, Front, message_first, waker_first, carried_as, SeatOf, seat_of}
 use Rattle.oneshot_word.proofs.Alike.{is_share, shares_are, is_bool, bools_are, is_word, words_are}
 use Rattle.oneshot_word.specs.Rule.{Home, out, word_between, message_home, waker_home, Lies, lies_out, lies_bare, lies_filled, Is, is, Meet, meet}
 
