@@ -10,7 +10,11 @@ use Rattle.oneshot_machine.specs.declared.machine.Reply.TheVariants as R
 use Rattle.oneshot_machine.specs.declared.machine.Seen.TheVariants as S
 use Rattle.oneshot_machine.specs.declared.machine.Step.TheVariants as Steps
 use Rattle.oneshot_machine.specs.declared.machine.receiver.ReceiverPos.{ReceiverPos}
-use Rattle.oneshot_machine.specs.declared.machine.receiver.ReceiverPos.TheVariants.{Close, Take, CloseOnly, SumClock, StartLoad, RecvLoad, RecvTake, RecvFreeGot, RecvFreeGone}
+use Rattle.oneshot_machine.specs.declared.machine.receiver.ReceiverPos.TheVariants.{Look, Ref, Timed, Value}
+use Rattle.oneshot_machine.specs.declared.machine.look.LookPos.TheVariants.{Close, Take, CloseOnly}
+use Rattle.oneshot_machine.specs.declared.machine.by_ref.RefPos.TheVariants.{StartLoad}
+use Rattle.oneshot_machine.specs.declared.machine.timed.TimedPos.TheVariants.{SumClock}
+use Rattle.oneshot_machine.specs.declared.machine.value.ValuePos.TheVariants.{RecvLoad, RecvTake, RecvFreeGot, RecvFreeGone}
 use Rattle.oneshot_machine.specs.declared.machine.receiver.ReceiverStart.TheVariants.{Recv, RecvTimeout}
 use Rattle.oneshot_machine.specs.declared.states.Op.TheVariants.{Store}
 use Rattle.oneshot_machine.specs.Logs.{Log, Grows, receiver_of, did, took, clocked, worded}
@@ -39,8 +43,8 @@ module _ {T W : Type 0} where
   pub ended_full : {t : Bool} {k j : Log T W} {m m' : Held T} {w w' : Held W} (n : ℕ) → EndsAt t F.Message (receiver_of k) m w → ReceiverFinds (receiver_of k) (Store 2) n m w m' w' → Grows k j (worded (Store 2) n ∷ []) → HasClosed (receiver_of j) m' w'
   ended_full {m'} {w'} n at finds grows = subst (λ q. HasClosed q m' w') (sym (receiver_moved (Store 2) n grows)) (ends n at finds)
 
-  pub full_ran : {p : ReceiverPos} {l k j z : Log T W} (n : ℕ) (x : T) → Went p (Goes Close) l k → Grows k j (worded (Store 2) n ∷ []) → Grows j z (took x ∷ []) → Ran receiver_step receiver_row p l z R.Message [] (x ∷ [])
-  full_ran n x went s t = ran went (worded (Store 2) n ∷ took x ∷ []) (more Take _ _ refl refl (last _ refl refl)) (and_then (worded (Store 2) n ∷ []) _ s t) refl refl
+  pub full_ran : {p : ReceiverPos} {l k j z : Log T W} (n : ℕ) (x : T) → Went p (Goes (Look Close)) l k → Grows k j (worded (Store 2) n ∷ []) → Grows j z (took x ∷ []) → Ran receiver_step receiver_row p l z R.Message [] (x ∷ [])
+  full_ran n x went s t = ran went (worded (Store 2) n ∷ took x ∷ []) (more (Look Take) _ _ refl refl (last _ refl refl)) (and_then (worded (Store 2) n ∷ []) _ s t) refl refl
 
   -- or where the sender is gone
   pub end_asks : {t : Bool} {q : ReceiverAt} {m : Held T} {w : Held W} → EndsAt t F.Unclosed q m w → ReceiverMay q (Store 2) m w
@@ -68,7 +72,7 @@ module _ {T W : Type 0} where
   pub over_leaves : {q : ReceiverAt} {m : Held T} {w : Held W} → IsOver q m w → LeavesTimed {T = T} (Err Timed.Disconnected) q
   over_leaves is = subst (λ q. LeavesTimed {T = T} (Err Timed.Disconnected) q) (sym is.at) (timed_closed is.closing)
 
-  pub shut_ran : {p : ReceiverPos} {l k j : Log T W} (n : ℕ) → Went p (Goes CloseOnly) l k → Grows k j (worded (Store 2) n ∷ []) → Ran receiver_step receiver_row p l j R.Disconnected [] []
+  pub shut_ran : {p : ReceiverPos} {l k j : Log T W} (n : ℕ) → Went p (Goes (Look CloseOnly)) l k → Grows k j (worded (Store 2) n ∷ []) → Ran receiver_step receiver_row p l j R.Disconnected [] []
   shut_ran n went s = ran went (worded (Store 2) n ∷ []) (last _ refl refl) s refl refl
 
   -- or its deadline is over
@@ -90,11 +94,11 @@ module _ {T W : Type 0} where
   pub clock_closed : {l k : Log T W} (past : Bool) → Grows l k (clocked past ∷ []) → IsClosed (receiver_of l) → IsClosed (receiver_of k)
   clock_closed past s is = subst IsClosed (sym (clocked_at past s)) is
 
-  sums : {representable : Bool} {l k : Log T W} (past : Bool) → Grows l k (clocked past ∷ []) → Went (SumClock representable) (Goes (StartLoad representable)) l k
+  sums : {representable : Bool} {l k : Log T W} (past : Bool) → Grows l k (clocked past ∷ []) → Went (Timed (SumClock representable)) (Goes (Ref (StartLoad representable))) l k
   sums true s = by_clock _ true s refl refl
   sums false s = by_clock _ false s refl refl
 
-  pub sum_ran : {representable : Bool} {reply : Reply} {got : List T} {l k z : Log T W} (past : Bool) → Grows l k (clocked past ∷ []) → Ran receiver_step receiver_row (StartLoad representable) k z reply [] got → ReceiverRan (RecvTimeout representable) l z reply [] got
+  pub sum_ran : {representable : Bool} {reply : Reply} {got : List T} {l k z : Log T W} (past : Bool) → Grows l k (clocked past ∷ []) → Ran receiver_step receiver_row (Ref (StartLoad representable)) k z reply [] got → ReceiverRan (RecvTimeout representable) l z reply [] got
   sum_ran past s run = before (sums past s) run
 
   -- `recv`
@@ -106,13 +110,13 @@ module _ {T W : Type 0} where
   full_waker (ends_at_once t x) = refl
   full_waker (ends_waited t left x) = refl
 
-  pub full_freed : {l k j z : Log T W} (x : T) → Went RecvLoad (Goes RecvTake) l k → Grows k j (took x ∷ []) → Grows j z (did Steps.Free ∷ []) → ReceiverRan Recv l z R.Message [] (x ∷ [])
-  full_freed x went s t = ran went (took x ∷ did Steps.Free ∷ []) (more RecvFreeGot _ _ refl refl (last _ refl refl)) (and_then (took x ∷ []) _ s t) refl refl
+  pub full_freed : {l k j z : Log T W} (x : T) → Went (Value RecvLoad) (Goes (Value RecvTake)) l k → Grows k j (took x ∷ []) → Grows j z (did Steps.Free ∷ []) → ReceiverRan Recv l z R.Message [] (x ∷ [])
+  full_freed x went s t = ran went (took x ∷ did Steps.Free ∷ []) (more (Value RecvFreeGot) _ _ refl refl (last _ refl refl)) (and_then (took x ∷ []) _ s t) refl refl
 
-  over_freed : {l k j : Log T W} → Went RecvLoad (Goes RecvFreeGone) l k → Grows k j (did Steps.Free ∷ []) → ReceiverRan Recv l j R.Disconnected [] []
+  over_freed : {l k j : Log T W} → Went (Value RecvLoad) (Goes (Value RecvFreeGone)) l k → Grows k j (did Steps.Free ∷ []) → ReceiverRan Recv l j R.Disconnected [] []
   over_freed went s = ran went (did Steps.Free ∷ []) (last _ refl refl) s refl refl
 
-  pub gone_freed : {l k j : Log T W} (f : Found) → ¬ (f ≡ F.Message) → Went RecvLoad (value_end f) l k → Grows k j (did Steps.Free ∷ []) → ReceiverRan Recv l j R.Disconnected [] []
+  pub gone_freed : {l k j : Log T W} (f : Found) → ¬ (f ≡ F.Message) → Went (Value RecvLoad) (value_end f) l k → Grows k j (did Steps.Free ∷ []) → ReceiverRan Recv l j R.Disconnected [] []
   gone_freed F.Message a went s = absurd (a refl)
   gone_freed F.Closed a went s = over_freed went s
   gone_freed F.Unclosed a went s = over_freed went s

@@ -4,8 +4,9 @@ use Rattle.oneshot_machine.specs.declared.machine.Reply.TheVariants as R
 use Rattle.oneshot_machine.specs.declared.machine.Seen.TheVariants as S
 use Rattle.oneshot_machine.specs.declared.machine.Step.TheVariants as Steps
 use Rattle.oneshot_machine.specs.declared.machine.receiver.ReceiverPos.{ReceiverPos}
-use Rattle.oneshot_machine.specs.declared.machine.receiver.ReceiverPos.TheVariants.{DropSwap, Future}
-use Rattle.oneshot_machine.specs.declared.machine.future.FuturePos.TheVariants.{AsyncLoad, AsyncExchange, AsyncBack, AsyncSpin}
+use Rattle.oneshot_machine.specs.declared.machine.receiver.ReceiverPos.TheVariants.{AsyncDrop, Drop}
+use Rattle.oneshot_machine.specs.declared.machine.async_drop.AsyncDropPos.TheVariants.{AsyncLoad, AsyncExchange, AsyncBack, AsyncSpin}
+use Rattle.oneshot_machine.specs.declared.machine.drop.DropPos.TheVariants.{DropSwap}
 use Rattle.oneshot_machine.specs.declared.machine.receiver.ReceiverStart.TheVariants as C
 use Rattle.oneshot_machine.specs.declared.states.Op.TheVariants.{Load, Swap, Exchange}
 use Rattle.oneshot_machine.specs.Logs.{Log, Grows, receiver_of, handed, worded}
@@ -40,23 +41,23 @@ module _ {T W : Type 0} where
   -- its load found nothing that keeps it
   pub record MetEnd (p : ReceiverPos) (n : ℕ) (q : ReceiverAt) (m : Held T) (w : Held W) : Type 0 where
     pub ends : MayEnd q m w
-    pub went : {l k : Log T W} → Grows l k (worded Load n ∷ []) → Went p (Goes DropSwap) l k
+    pub went : {l k : Log T W} → Grows l k (worded Load n ∷ []) → Went p (Goes (Drop DropSwap)) l k
 
-  pub met_end : {n : ℕ} {q : ReceiverAt} {m : Held T} {w : Held W} → Met n q m w → ¬ (n ≡ 0) → ¬ (n ≡ 1) → MetEnd (Future AsyncLoad) n q m w
+  pub met_end : {n : ℕ} {q : ReceiverAt} {m : Held T} {w : Held W} → Met n q m w → ¬ (n ≡ 0) → ¬ (n ≡ 1) → MetEnd (AsyncDrop AsyncLoad) n q m w
   met_end (met_message drops x) a b = record { ends = ends_full drops x; went = λ s. loaded_to _ 4 4 refl refl refl s }
   met_end met_empty a b = record { ends = ends_resting (rests_open looked); went = λ s. loaded_to _ 3 3 refl refl refl s }
   met_end (met_closed c) a b = record { ends = ends_resting (rests_closed c); went = λ s. loaded_to _ 2 2 refl refl refl s }
   met_end met_copy a b = absurd (a refl)
   met_end met_sender a b = absurd (b refl)
 
-  pub spun_end : {n : ℕ} {q : ReceiverAt} {m : Held T} {w : Held W} → Spun n q m w → ¬ (n ≡ 1) → MetEnd (Future AsyncSpin) n q m w
+  pub spun_end : {n : ℕ} {q : ReceiverAt} {m : Held T} {w : Held W} → Spun n q m w → ¬ (n ≡ 1) → MetEnd (AsyncDrop AsyncSpin) n q m w
   spun_end spun_longer a = absurd (a refl)
   spun_end (spun_message x) a = record { ends = ends_full drops_as_future x; went = λ s. loaded_to _ 4 4 refl refl refl s }
   spun_end spun_closed a = record { ends = ends_resting (rests_closed _); went = λ s. loaded_to _ 2 2 refl refl refl s }
 
   pub record BackedEnd (n : ℕ) (q : ReceiverAt) (m : Held T) (w : Held W) : Type 0 where
     pub ends : MayEnd q m w
-    pub went : {l k : Log T W} → Grows l k (worded (Exchange 0 3) n ∷ []) → Went (Future AsyncExchange) (Goes DropSwap) l k
+    pub went : {l k : Log T W} → Grows l k (worded (Exchange 0 3) n ∷ []) → Went (AsyncDrop AsyncExchange) (Goes (Drop DropSwap)) l k
 
   pub backed_end : {n : ℕ} {q : ReceiverAt} {m : Held T} {w : Held W} → Backed n q m w → ¬ (n ≡ 0) → ¬ (n ≡ 1) → BackedEnd n q m w
   backed_end (backed_copy k) a b = absurd (a refl)
@@ -73,11 +74,11 @@ module _ {T W : Type 0} where
   pub withdrawn_ends : {l k : Log T W} {n : ℕ} {m m' : Held T} {w w' : Held W} (z : W) → Backed n (receiver_of l) m w → n ≡ 0 → Grows l k (handed Steps.Withdraw z ∷ []) → m' ≡ m → w' ≡ vacant → MayEnd (receiver_of k) m' w'
   withdrawn_ends z found e s message waker = unmoved MayEnd (withdrawn_room found e) (withdrew_at z s) message waker
 
-  pub withdrawn_went : {l k j : Log T W} (z : W) (n : ℕ) → n ≡ 0 → Grows l k (worded (Exchange 0 3) n ∷ []) → Grows k j (handed Steps.Withdraw z ∷ []) → Went (Future AsyncExchange) (Goes DropSwap) l j
-  withdrawn_went z n e s t = on (exchanged_to 0 3 (Goes (Future AsyncBack)) n 0 refl refl e s) (by_withdraw _ z t refl refl)
+  pub withdrawn_went : {l k j : Log T W} (z : W) (n : ℕ) → n ≡ 0 → Grows l k (worded (Exchange 0 3) n ∷ []) → Grows k j (handed Steps.Withdraw z ∷ []) → Went (AsyncDrop AsyncExchange) (Goes (Drop DropSwap)) l j
+  withdrawn_went z n e s t = on (exchanged_to 0 3 (Goes (AsyncDrop AsyncBack)) n 0 refl refl e s) (by_withdraw _ z t refl refl)
 
-  pub claimed_went : {l k j : Log T W} (n : ℕ) → n ≡ 1 → Grows l k (worded (Exchange 0 3) n ∷ []) → Went (Future AsyncSpin) (Goes DropSwap) k j → Went (Future AsyncExchange) (Goes DropSwap) l j
-  claimed_went n e s went = on (exchanged_to 0 3 (Goes (Future AsyncSpin)) n 1 refl refl e s) went
+  pub claimed_went : {l k j : Log T W} (n : ℕ) → n ≡ 1 → Grows l k (worded (Exchange 0 3) n ∷ []) → Went (AsyncDrop AsyncSpin) (Goes (Drop DropSwap)) k j → Went (AsyncDrop AsyncExchange) (Goes (Drop DropSwap)) l j
+  claimed_went n e s went = on (exchanged_to 0 3 (Goes (AsyncDrop AsyncSpin)) n 1 refl refl e s) went
 
   pub backed_spins : {n : ℕ} {q : ReceiverAt} {m : Held T} {w : Held W} → Backed n q m w → n ≡ 1 → Spins q m w
   backed_spins (backed_copy k) e = absurd (cc)
@@ -85,10 +86,10 @@ module _ {T W : Type 0} where
   backed_spins (backed_message x) e = absurd (cc)
   backed_spins backed_over e = absurd (cc)
 
-  pub drop_to : {l k j z : Log T W} {p : ReceiverPos} (n found : ℕ) → receiver_row (Future AsyncLoad) (S.Word found) ≡ Some (Goes p) → n ≡ found → Grows l k (worded Load n ∷ []) → Went p (Goes DropSwap) k j → Ran receiver_step receiver_row DropSwap j z R.Done [] [] → ReceiverRan C.DropAsync l z R.Done [] []
+  pub drop_to : {l k j z : Log T W} {p : ReceiverPos} (n found : ℕ) → receiver_row (AsyncDrop AsyncLoad) (S.Word found) ≡ Some (Goes p) → n ≡ found → Grows l k (worded Load n ∷ []) → Went p (Goes (Drop DropSwap)) k j → Ran receiver_step receiver_row (Drop DropSwap) j z R.Done [] [] → ReceiverRan C.DropAsync l z R.Done [] []
   drop_to {p} n found leads e s went run = before (on (loaded_to (Goes p) n found refl leads e s) went) run
 
-  pub drop_at_once : {l k z : Log T W} {n : ℕ} {q : ReceiverAt} {m : Held T} {w : Held W} → MetEnd (Future AsyncLoad) n q m w → Grows l k (worded Load n ∷ []) → Ran receiver_step receiver_row DropSwap k z R.Done [] [] → ReceiverRan C.DropAsync l z R.Done [] []
+  pub drop_at_once : {l k z : Log T W} {n : ℕ} {q : ReceiverAt} {m : Held T} {w : Held W} → MetEnd (AsyncDrop AsyncLoad) n q m w → Grows l k (worded Load n ∷ []) → Ran receiver_step receiver_row (Drop DropSwap) k z R.Done [] [] → ReceiverRan C.DropAsync l z R.Done [] []
   drop_at_once is s run = before (is.went s) run
 
   -- what its swap found, as the drop of a receiver
@@ -107,7 +108,7 @@ module _ {T W : Type 0} where
   swap_over swapped_empty a b = absurd (b refl)
   swap_over swapped_closed a b = record { word = refl; message = refl; waker = refl }
 
-  pub spun_on : {l k j : Log T W} (n : ℕ) → n ≡ 1 → Went (Future AsyncSpin) (Goes (Future AsyncSpin)) l k → Grows k j (worded Load n ∷ []) → Went (Future AsyncSpin) (Goes (Future AsyncSpin)) l j
+  pub spun_on : {l k j : Log T W} (n : ℕ) → n ≡ 1 → Went (AsyncDrop AsyncSpin) (Goes (AsyncDrop AsyncSpin)) l k → Grows k j (worded Load n ∷ []) → Went (AsyncDrop AsyncSpin) (Goes (AsyncDrop AsyncSpin)) l j
   spun_on n e went s = on went (loaded_to _ n 1 refl refl e s)
 
   pub spun_stays : {n : ℕ} {q : ReceiverAt} {m : Held T} {w : Held W} → Spun n q m w → n ≡ 1 → Spins q m w

@@ -5,7 +5,8 @@ use Rattle.oneshot_drive.specs.declared.waiting.Found.TheVariants as F
 use Rattle.oneshot_machine.specs.declared.machine.Seen.TheVariants as S
 use Rattle.oneshot_machine.specs.declared.machine.Step.TheVariants as Steps
 use Rattle.oneshot_machine.specs.declared.machine.receiver.ReceiverPos.{ReceiverPos}
-use Rattle.oneshot_machine.specs.declared.machine.receiver.ReceiverPos.TheVariants.{EndSwap, EndBack, LatePark, LateLoad}
+use Rattle.oneshot_machine.specs.declared.machine.receiver.ReceiverPos.TheVariants.{Timed}
+use Rattle.oneshot_machine.specs.declared.machine.timed.TimedPos.TheVariants.{EndSwap, EndBack, LatePark, LateLoad}
 use Rattle.oneshot_machine.specs.declared.states.Op.TheVariants.{Load, Swap}
 use Rattle.oneshot_machine.specs.Logs.{Log, Grows, receiver_of, handed, parked, worded}
 use Rattle.oneshot_machine.specs.Phases.{ReceiverAt, here, between, overdue, full, waited, unclosed, found_closed, over, receiver_next}
@@ -54,8 +55,8 @@ module _ {T W : Type 0} where
   pub withdrew_nothing : {l k : Log T W} {n : ℕ} {m m' : Held T} {w w' : Held W} (z : W) → Stopped n (receiver_of l) m w → n ≡ 0 → Grows l k (handed Steps.Withdraw z ∷ []) → m' ≡ m → w' ≡ vacant → EndsAt true F.Nothing (receiver_of k) m' w'
   withdrew_nothing z found e s message waker = unmoved (EndsAt true F.Nothing) (stopped_nothing found e) (withdrew_at z s) message waker
 
-  pub nothing_went : {l k j : Log T W} (z : W) (n : ℕ) → n ≡ 0 → Grows l k (worded (Swap 3) n ∷ []) → Grows k j (handed Steps.Withdraw z ∷ []) → Went EndSwap (ref_end F.Nothing) l j
-  nothing_went z n e s t = on (by_word (Goes EndBack) (Swap 3) n s refl (rw e)) (by_withdraw _ z t refl refl)
+  pub nothing_went : {l k j : Log T W} (z : W) (n : ℕ) → n ≡ 0 → Grows l k (worded (Swap 3) n ∷ []) → Grows k j (handed Steps.Withdraw z ∷ []) → Went (Timed EndSwap) (ref_end F.Nothing) l j
+  nothing_went z n e s t = on (by_word (Goes (Timed EndBack)) (Swap 3) n s refl (rw e)) (by_withdraw _ z t refl refl)
 
   -- the message is there
   pub stopped_full : {n : ℕ} {q : ReceiverAt} {m : Held T} {w : Held W} → Stopped n q m w → n ≡ 4 → EndsAt true F.Message q m w
@@ -64,7 +65,7 @@ module _ {T W : Type 0} where
   stopped_full (stopped_message x) e = ends_waited true 3 x
   stopped_full stopped_closed e = absurd (cc)
 
-  pub stops_full : {l k : Log T W} (n : ℕ) → n ≡ 4 → Grows l k (worded (Swap 3) n ∷ []) → Went EndSwap (ref_end F.Message) l k
+  pub stops_full : {l k : Log T W} (n : ℕ) → n ≡ 4 → Grows l k (worded (Swap 3) n ∷ []) → Went (Timed EndSwap) (ref_end F.Message) l k
   stops_full n e s = by_word _ (Swap 3) n s refl (rw e)
 
   -- the sender is gone
@@ -74,7 +75,7 @@ module _ {T W : Type 0} where
   stopped_over (stopped_message x) e = absurd (cc)
   stopped_over stopped_closed e = ends_unclosed true 3
 
-  pub stops_over : {l k : Log T W} (n : ℕ) → n ≡ 2 → Grows l k (worded (Swap 3) n ∷ []) → Went EndSwap (ref_end F.Unclosed) l k
+  pub stops_over : {l k : Log T W} (n : ℕ) → n ≡ 2 → Grows l k (worded (Swap 3) n ∷ []) → Went (Timed EndSwap) (ref_end F.Unclosed) l k
   stops_over n e s = by_word _ (Swap 3) n s refl (rw e)
 
   -- the sender is about to finish
@@ -88,8 +89,8 @@ module _ {T W : Type 0} where
   stopped_late (stopped_message x) a b c = absurd (b refl)
   stopped_late stopped_closed a b c = absurd (c refl)
 
-  pub late_went : {l k z : Log T W} (f : Found) (n : ℕ) → n ≡ 1 → Grows l k (worded (Swap 3) n ∷ []) → Went LatePark (ref_end f) k z → Went EndSwap (ref_end f) l z
-  late_went f n e s went = on (by_word (Goes LatePark) (Swap 3) n s refl (rw e)) went
+  pub late_went : {l k z : Log T W} (f : Found) (n : ℕ) → n ≡ 1 → Grows l k (worded (Swap 3) n ∷ []) → Went (Timed LatePark) (ref_end f) k z → Went (Timed EndSwap) (ref_end f) l z
+  late_went f n e s went = on (by_word (Goes (Timed LatePark)) (Swap 3) n s refl (rw e)) went
 
   -- `wait_late`: a park, and what its load found
   pub still_overdue : {l k : Log T W} {m m' : Held T} {w w' : Held W} → IsOverdue (receiver_of l) m w → (woken : Bool) → Grows l k (parked woken ∷ []) → m' ≡ m → w' ≡ w → IsOverdue (receiver_of k) m' w'
@@ -131,17 +132,17 @@ module _ {T W : Type 0} where
   ended_again (ended_message x) a b = absurd (a refl)
   ended_again ended_closed a b = absurd (b refl)
 
-  module _ {l k j z : Log T W} (went : Went LatePark (Goes LatePark) l k) (woken : Bool) (s : Grows k j (parked woken ∷ [])) (n : ℕ) (t : Grows j z (worded Load n ∷ [])) where
-    late_to : (o : Outcome ReceiverPos) (found : ℕ) → receiver_row LateLoad (saw Load found) ≡ Some o → n ≡ found → Went LatePark o l z
-    late_to o found leads e = on went (on (by_park (Goes LateLoad) woken s refl refl refl) (by_word o Load n t refl (ap (λ v. receiver_row LateLoad (saw Load v)) e ∙ leads)))
+  module _ {l k j z : Log T W} (went : Went (Timed LatePark) (Goes (Timed LatePark)) l k) (woken : Bool) (s : Grows k j (parked woken ∷ [])) (n : ℕ) (t : Grows j z (worded Load n ∷ [])) where
+    late_to : (o : Outcome ReceiverPos) (found : ℕ) → receiver_row (Timed LateLoad) (saw Load found) ≡ Some o → n ≡ found → Went (Timed LatePark) o l z
+    late_to o found leads e = on went (on (by_park (Goes (Timed LateLoad)) woken s refl refl refl) (by_word o Load n t refl (ap (λ v. receiver_row (Timed LateLoad) (saw Load v)) e ∙ leads)))
 
-    pub late_again : n ≡ 3 → Went LatePark (Goes LatePark) l z
+    pub late_again : n ≡ 3 → Went (Timed LatePark) (Goes (Timed LatePark)) l z
     late_again = late_to _ 3 refl
 
-    pub late_full : n ≡ 4 → Went LatePark (ref_end F.Message) l z
+    pub late_full : n ≡ 4 → Went (Timed LatePark) (ref_end F.Message) l z
     late_full = late_to _ 4 refl
 
-    pub late_over : n ≡ 2 → Went LatePark (ref_end F.Closed) l z
+    pub late_over : n ≡ 2 → Went (Timed LatePark) (ref_end F.Closed) l z
     late_over = late_to _ 2 refl
 
 -- one that is overdue parks without its deadline

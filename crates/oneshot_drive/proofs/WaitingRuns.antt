@@ -5,7 +5,10 @@ use Rattle.oneshot_drive.specs.declared.waiting.Found.TheVariants as F
 use Rattle.oneshot_machine.specs.declared.machine.Seen.TheVariants as S
 use Rattle.oneshot_machine.specs.declared.machine.Step.TheVariants as Steps
 use Rattle.oneshot_machine.specs.declared.machine.receiver.ReceiverPos.{ReceiverPos}
-use Rattle.oneshot_machine.specs.declared.machine.receiver.ReceiverPos.TheVariants.{StartSwap, BackFull, BackClosed, Park, ParkLoad, Clock, TimedLoad, EndSwap, RecvSwap, RecvBackFull, RecvBackClosed, RecvPark, RecvParkLoad}
+use Rattle.oneshot_machine.specs.declared.machine.receiver.ReceiverPos.TheVariants.{Ref, Timed, Value}
+use Rattle.oneshot_machine.specs.declared.machine.by_ref.RefPos.TheVariants.{StartSwap, BackFull, BackClosed, Park, ParkLoad}
+use Rattle.oneshot_machine.specs.declared.machine.timed.TimedPos.TheVariants.{Clock, TimedLoad, EndSwap}
+use Rattle.oneshot_machine.specs.declared.machine.value.ValuePos.TheVariants.{RecvSwap, RecvBackFull, RecvBackClosed, RecvPark, RecvParkLoad}
 use Rattle.oneshot_machine.specs.declared.states.Op.TheVariants.{Load, Swap}
 use Rattle.oneshot_machine.specs.Logs.{Log, Grows, receiver_of, handed, parked, clocked, worded}
 use Rattle.oneshot_machine.specs.Phases.{ReceiverAt, here, looked, waits, blocked, full, waited, unclosed, found_closed, over, receiver_next, receiver_at}
@@ -19,13 +22,13 @@ use Rattle.oneshot_drive.proofs.Stretches.{on, begun, by_word, by_write, by_with
 
 -- where the swap, and the load after a park, of each way stand
 abbrev swap_of : {timed : Bool} → Way timed → ReceiverPos
-swap_of (by_ref timed) = StartSwap timed
-swap_of by_value = RecvSwap
+swap_of (by_ref timed) = Ref (StartSwap timed)
+swap_of by_value = Value RecvSwap
 
 abbrev woken_of : {timed : Bool} → Way timed → ReceiverPos
-woken_of (by_ref false) = ParkLoad
-woken_of (by_ref true) = TimedLoad
-woken_of by_value = RecvParkLoad
+woken_of (by_ref false) = Ref ParkLoad
+woken_of (by_ref true) = Timed TimedLoad
+woken_of by_value = Value RecvParkLoad
 
 module _ {T W : Type 0} where
   -- steps that are no operation leave the receiver where it was
@@ -53,8 +56,8 @@ module _ {T W : Type 0} where
 
   pub not_asked : {timed : Bool} (way : Way timed) (l : Log T W) → timed ≡ false → Went (wait_of way) (Goes (asked_of way false)) l l
   not_asked (by_ref true) l e = absurd (cc)
-  not_asked (by_ref false) l e = begun Park l
-  not_asked by_value l e = begun RecvPark l
+  not_asked (by_ref false) l e = begun (Ref Park) l
+  not_asked by_value l e = begun (Value RecvPark) l
 
   pub clock_waits : {l k : Log T W} {m m' : Held T} {w w' : Held W} → IsWaiting (receiver_of l) m w → (past : Bool) → Grows l k (clocked past ∷ []) → m' ≡ m → w' ≡ w → IsWaiting (receiver_of k) m' w'
   clock_waits is past s = unmoved IsWaiting is (clocked_at past s)
@@ -146,8 +149,8 @@ module _ {T W : Type 0} where
     parks_over e = on (on_time way went asks no) (on (parks way woken s) (wakes_over way n e t))
 
   -- or that it is over
-  pub stops_went : {timed past : Bool} {l i k z : Log T W} (f : Found) (way : Way timed) → Went (wait_of way) (Goes (wait_of way)) l i → Went (wait_of way) (Goes (asked_of way past)) i k → past ≡ true → timed ≡ true → Went EndSwap (ref_end f) k z → Went (wait_of way) (end_of way f) l z
-  stops_went {i} {k} f (by_ref true) went asks e is stops = on went (on (subst (λ past. Went Clock (Goes (asked_of (by_ref true) past)) i k) e asks) stops)
+  pub stops_went : {timed past : Bool} {l i k z : Log T W} (f : Found) (way : Way timed) → Went (wait_of way) (Goes (wait_of way)) l i → Went (wait_of way) (Goes (asked_of way past)) i k → past ≡ true → timed ≡ true → Went (Timed EndSwap) (ref_end f) k z → Went (wait_of way) (end_of way f) l z
+  stops_went {i} {k} f (by_ref true) went asks e is stops = on went (on (subst (λ past. Went (Timed Clock) (Goes (asked_of (by_ref true) past)) i k) e asks) stops)
   stops_went f (by_ref false) went asks e is stops = absurd (cc)
   stops_went f by_value went asks e is stops = absurd (cc)
 
@@ -221,14 +224,14 @@ module _ {T W : Type 0} where
   swaps_open by_value n e s = by_word _ (Swap 0) n s refl (rw e)
 
   swaps_full : {timed : Bool} {k j z : Log T W} (way : Way timed) (u : W) (n : ℕ) → n ≡ 4 → Grows k j (worded (Swap 0) n ∷ []) → Grows j z (handed Steps.Withdraw u ∷ []) → Went (swap_of way) (end_of way F.Message) k z
-  swaps_full (by_ref false) u n e s t = on (by_word (Goes BackFull) (Swap 0) n s refl (rw e)) (by_withdraw _ u t refl refl)
-  swaps_full (by_ref true) u n e s t = on (by_word (Goes BackFull) (Swap 0) n s refl (rw e)) (by_withdraw _ u t refl refl)
-  swaps_full by_value u n e s t = on (by_word (Goes RecvBackFull) (Swap 0) n s refl (rw e)) (by_withdraw _ u t refl refl)
+  swaps_full (by_ref false) u n e s t = on (by_word (Goes (Ref BackFull)) (Swap 0) n s refl (rw e)) (by_withdraw _ u t refl refl)
+  swaps_full (by_ref true) u n e s t = on (by_word (Goes (Ref BackFull)) (Swap 0) n s refl (rw e)) (by_withdraw _ u t refl refl)
+  swaps_full by_value u n e s t = on (by_word (Goes (Value RecvBackFull)) (Swap 0) n s refl (rw e)) (by_withdraw _ u t refl refl)
 
   swaps_over : {timed : Bool} {k j z : Log T W} (way : Way timed) (u : W) (n : ℕ) → n ≡ 2 → Grows k j (worded (Swap 0) n ∷ []) → Grows j z (handed Steps.Withdraw u ∷ []) → Went (swap_of way) (end_of way F.Unclosed) k z
-  swaps_over (by_ref false) u n e s t = on (by_word (Goes BackClosed) (Swap 0) n s refl (rw e)) (by_withdraw _ u t refl refl)
-  swaps_over (by_ref true) u n e s t = on (by_word (Goes BackClosed) (Swap 0) n s refl (rw e)) (by_withdraw _ u t refl refl)
-  swaps_over by_value u n e s t = on (by_word (Goes RecvBackClosed) (Swap 0) n s refl (rw e)) (by_withdraw _ u t refl refl)
+  swaps_over (by_ref false) u n e s t = on (by_word (Goes (Ref BackClosed)) (Swap 0) n s refl (rw e)) (by_withdraw _ u t refl refl)
+  swaps_over (by_ref true) u n e s t = on (by_word (Goes (Ref BackClosed)) (Swap 0) n s refl (rw e)) (by_withdraw _ u t refl refl)
+  swaps_over by_value u n e s t = on (by_word (Goes (Value RecvBackClosed)) (Swap 0) n s refl (rw e)) (by_withdraw _ u t refl refl)
 
   pub stored_went : {timed : Bool} {o : Outcome ReceiverPos} {l k j z : Log T W} (way : Way timed) (y : W) (n : ℕ) → n ≡ 3 → Grows l k (handed Steps.WriteWaker y ∷ []) → Grows k j (worded (Swap 0) n ∷ []) → Went (wait_of way) o j z → Went (write_of way) o l z
   stored_went way y n e s t went = on (writes way y s) (on (swaps_open way n e t) went)

@@ -3,8 +3,10 @@
 ghost use Rattle.std.specs.Prelude.{◌≡◌, [], Some};
 ghost use Rattle.futures.specs.Poll.{OnPending};
 ghost use Rattle.oneshot_machine.specs.declared.machine.Reply.TheVariants as R;
-ghost use Rattle.oneshot_machine.specs.declared.machine.receiver.ReceiverPos.TheVariants.{DropSwap, Future};
-ghost use Rattle.oneshot_machine.specs.declared.machine.future.FuturePos.TheVariants.{PollLoad, PollCopy, PollWrite, AgainCopy, PollSpin, AsyncExchange, AsyncSpin};
+ghost use Rattle.oneshot_machine.specs.declared.machine.receiver.ReceiverPos.TheVariants.{Future, AsyncDrop, Drop};
+ghost use Rattle.oneshot_machine.specs.declared.machine.future.FuturePos.TheVariants.{PollLoad, PollCopy, PollWrite, AgainCopy, PollSpin};
+ghost use Rattle.oneshot_machine.specs.declared.machine.async_drop.AsyncDropPos.TheVariants.{AsyncExchange, AsyncSpin};
+ghost use Rattle.oneshot_machine.specs.declared.machine.drop.DropPos.TheVariants.{DropSwap};
 ghost use Rattle.oneshot_machine.specs.declared.machine.receiver.ReceiverStart.TheVariants as C;
 ghost use Rattle.oneshot_machine.specs.Logs.{receiver_of};
 ghost use Rattle.oneshot_machine.specs.Runs.{Ran, ReceiverRan};
@@ -179,7 +181,7 @@ pub fn drop_async<T, W: Drop, G: ReceiverGround<T, W>>(g: &mut G, rt: &impl Wait
 // Takes the copy back, unless the sender has acted before.
 fn take_back<T, W: Drop, G: ReceiverGround<T, W>>(g: &mut G, rt: &impl Wait)
     requires { FindsCopy (receiver_of (G.log g.old)) (G.message_slot g.old) (G.waker_slot g.old) }
-    ensures went { Went (Future AsyncExchange) (Goes DropSwap) (G.log g.old) (G.log g.new) }
+    ensures went { Went (AsyncDrop AsyncExchange) (Goes (Drop DropSwap)) (G.log g.old) (G.log g.new) }
     ensures ends { MayEnd (receiver_of (G.log g.new)) (G.message_slot g.new) (G.waker_slot g.new) }
 {
     match g.word(Op::Exchange(RECEIVING, EMPTY)) {
@@ -192,7 +194,7 @@ fn take_back<T, W: Drop, G: ReceiverGround<T, W>>(g: &mut G, rt: &impl Wait)
 // Reads the word until the sender has finished.
 fn wait_out<T, W: Drop, G: ReceiverGround<T, W>>(g: &mut G, rt: &impl Wait)
     requires { Spins (receiver_of (G.log g.old)) (G.message_slot g.old) (G.waker_slot g.old) }
-    ensures went { Went (Future AsyncSpin) (Goes DropSwap) (G.log g.old) (G.log g.new) }
+    ensures went { Went (AsyncDrop AsyncSpin) (Goes (Drop DropSwap)) (G.log g.old) (G.log g.new) }
     ensures ends { MayEnd (receiver_of (G.log g.new)) (G.message_slot g.new) (G.waker_slot g.new) }
 {
     for _ in rt.forever() {
@@ -206,7 +208,7 @@ fn wait_out<T, W: Drop, G: ReceiverGround<T, W>>(g: &mut G, rt: &impl Wait)
 // Closes the channel, and drops the message that it finds.
 fn end<T, W: Drop, G: ReceiverGround<T, W>>(g: &mut G)
     requires { MayEnd (receiver_of (G.log g.old)) (G.message_slot g.old) (G.waker_slot g.old) }
-    ensures { Ran receiver_step receiver_row DropSwap (G.log g.old) (G.log g.new) R.Done [] [] }
+    ensures { Ran receiver_step receiver_row (Drop DropSwap) (G.log g.old) (G.log g.new) R.Done [] [] }
 {
     match g.word(Op::Swap(DISCONNECTED)) {
         MESSAGE => {

@@ -1,7 +1,8 @@
 //! How a receive that blocks comes to the word that decides it.
 
 ghost use Rattle.std.specs.Prelude.{◌≡◌, true, Some};
-ghost use Rattle.oneshot_machine.specs.declared.machine.receiver.ReceiverPos.TheVariants.{EndSwap, LatePark};
+ghost use Rattle.oneshot_machine.specs.declared.machine.receiver.ReceiverPos.TheVariants.{Timed};
+ghost use Rattle.oneshot_machine.specs.declared.machine.timed.TimedPos.TheVariants.{EndSwap, LatePark};
 ghost use Rattle.oneshot_machine.specs.Logs.{receiver_of};
 ghost use Rattle.oneshot_machine.specs.Rows.{Goes};
 ghost use Rattle.oneshot_drive.specs.declared.waiting.Found.TheVariants as F;
@@ -114,7 +115,7 @@ fn is_over<T, W, G: BlockGround<T, W>>(g: &mut G, timed: bool) -> bool
 // Ends the wait of a receiver whose deadline is over, unless the sender has acted before.
 fn stop<T, W: Drop, G: BlockGround<T, W>>(g: &mut G, rt: &impl Wait, hand: &mut Option<W>) -> Found
     requires { IsWaiting (receiver_of (G.log g.old)) (G.message_slot g.old) (G.waker_slot g.old) }
-    ensures went { Went EndSwap (ref_end result) (G.log g.old) (G.log g.new) }
+    ensures went { Went (Timed EndSwap) (ref_end result) (G.log g.old) (G.log g.new) }
     ensures ends { EndsAt true result (receiver_of (G.log g.new)) (G.message_slot g.new) (G.waker_slot g.new) }
     ensures hand { WaitedHand result hand.old hand.new }
 {
@@ -132,7 +133,7 @@ fn stop<T, W: Drop, G: BlockGround<T, W>>(g: &mut G, rt: &impl Wait, hand: &mut 
 // Parks, past the deadline, until the sender has finished.
 fn wait_late<T, W, G: BlockGround<T, W>>(g: &mut G, rt: &impl Wait) -> Found
     requires { IsOverdue (receiver_of (G.log g.old)) (G.message_slot g.old) (G.waker_slot g.old) }
-    ensures went { Went LatePark (ref_end result) (G.log g.old) (G.log g.new) }
+    ensures went { Went (Timed LatePark) (ref_end result) (G.log g.old) (G.log g.new) }
     ensures ends { EndsAt true result (receiver_of (G.log g.new)) (G.message_slot g.new) (G.waker_slot g.new) }
     ensures sent { ¬ (result ≡ F.Nothing) }
 {

@@ -1,13 +1,13 @@
 use Rattle.std.proofs.Common.{rules}
-use Rattle.oneshot_machine.specs.declared.machine.receiver.ReceiverPos.TheVariants.{Future}
-use Rattle.oneshot_machine.specs.declared.machine.future.FuturePos.TheVariants.{AsyncSpin}
+use Rattle.oneshot_machine.specs.declared.machine.receiver.ReceiverPos.TheVariants.{AsyncDrop}
+use Rattle.oneshot_machine.specs.declared.machine.async_drop.AsyncDropPos.TheVariants.{AsyncSpin}
 use Rattle.oneshot_drive.proofs.Stretches.{begun, on}
 use Rattle.oneshot_drive.proofs.PollRuns.{spin_asks, spun}
 use Rattle.oneshot_drive.proofs.EndRuns.{spun_end, spun_on, spun_stays}
 use Rattle.oneshot_drive.proofs.polling.wait_out.Goals as goal
 
 pub loop-init : goal.loop-init
-loop-init g c = record { can_next = tt; is_finite = tt; went = begun (Future AsyncSpin) (g.G.ReceiverGround.log c.args.g.now); spins = c.requires }
+loop-init g c = record { can_next = tt; is_finite = tt; went = begun (AsyncDrop AsyncSpin) (g.G.ReceiverGround.log c.args.g.now); spins = c.requires }
 
 pub word-requires : goal.word-requires
 word-requires g c = spin_asks c.loop.invariant.spins

@@ -1,5 +1,5 @@
-use Rattle.oneshot_machine.specs.declared.machine.receiver.ReceiverPos.TheVariants.{Future}
-use Rattle.oneshot_machine.specs.declared.machine.future.FuturePos.TheVariants.{AsyncSpin}
+use Rattle.oneshot_machine.specs.declared.machine.receiver.ReceiverPos.TheVariants.{AsyncDrop}
+use Rattle.oneshot_machine.specs.declared.machine.async_drop.AsyncDropPos.TheVariants.{AsyncSpin}
 use Rattle.oneshot_machine.specs.Logs.{receiver_of}
 use Rattle.oneshot_machine.specs.Rows.{Goes}
 use Rattle.oneshot_drive.specs.Blocking.{Went}
@@ -11,6 +11,6 @@ invariant-loop g l =
     record {
       can_next : (goal.iterator-loop g).can_next l.iterator';
       is_finite : (goal.iterator-loop g).is_finite l.iterator';
-      went : Went (Future AsyncSpin) (Goes (Future AsyncSpin)) (g.G.ReceiverGround.log l.fn.g) (g.G.ReceiverGround.log l.g);
+      went : Went (AsyncDrop AsyncSpin) (Goes (AsyncDrop AsyncSpin)) (g.G.ReceiverGround.log l.fn.g) (g.G.ReceiverGround.log l.g);
       spins : Spins (receiver_of (g.G.ReceiverGround.log l.g)) (g.G.ReceiverGround.message_slot l.g) (g.G.ReceiverGround.waker_slot l.g);
     }

@@ -1,11 +1,12 @@
 use Rattle.std.proofs.Common.{rules}
-use Rattle.oneshot_machine.specs.declared.machine.receiver.ReceiverPos.TheVariants.{LatePark}
+use Rattle.oneshot_machine.specs.declared.machine.receiver.ReceiverPos.TheVariants.{Timed}
+use Rattle.oneshot_machine.specs.declared.machine.timed.TimedPos.TheVariants.{LatePark}
 use Rattle.oneshot_drive.proofs.Stretches.{begun}
 use Rattle.oneshot_drive.proofs.LateRuns.{may_park_late, still_overdue, late_asks, ended, ended_full, ended_over, ended_again, late_again, late_full, late_over}
 use Rattle.oneshot_drive.proofs.waiting.wait_late.Goals as goal
 
 pub loop-init : goal.loop-init
-loop-init g c = record { can_next = tt; is_finite = tt; went = begun LatePark (g.G.ReceiverGround.log c.args.g.now); overdue = c.requires }
+loop-init g c = record { can_next = tt; is_finite = tt; went = begun (Timed LatePark) (g.G.ReceiverGround.log c.args.g.now); overdue = c.requires }
 
 pub park-requires : goal.park-requires
 park-requires g c = may_park_late c.loop.invariant.overdue

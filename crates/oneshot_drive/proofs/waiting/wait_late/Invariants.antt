@@ -1,4 +1,5 @@
-use Rattle.oneshot_machine.specs.declared.machine.receiver.ReceiverPos.TheVariants.{LatePark}
+use Rattle.oneshot_machine.specs.declared.machine.receiver.ReceiverPos.TheVariants.{Timed}
+use Rattle.oneshot_machine.specs.declared.machine.timed.TimedPos.TheVariants.{LatePark}
 use Rattle.oneshot_machine.specs.Logs.{receiver_of}
 use Rattle.oneshot_machine.specs.Rows.{Goes}
 use Rattle.oneshot_drive.specs.Blocking.{Went, IsOverdue}
@@ -9,6 +10,6 @@ invariant-loop g l =
     record {
       can_next : (goal.iterator-loop g).can_next l.iterator';
       is_finite : (goal.iterator-loop g).is_finite l.iterator';
-      went : Went LatePark (Goes LatePark) (g.G.ReceiverGround.log l.fn.g) (g.G.ReceiverGround.log l.g);
+      went : Went (Timed LatePark) (Goes (Timed LatePark)) (g.G.ReceiverGround.log l.fn.g) (g.G.ReceiverGround.log l.g);
       overdue : IsOverdue (receiver_of (g.G.ReceiverGround.log l.g)) (g.G.ReceiverGround.message_slot l.g) (g.G.ReceiverGround.waker_slot l.g);
     }
