@@ -12,7 +12,7 @@ use Rattle.oneshot_word.specs.declared.rule.Slot.{Slot}
 use Rattle.oneshot_word.specs.declared.rule.View.{View}
 use Rattle.oneshot_word.specs.Rule.{Home, Meet, meet, SenderSays, ReceiverSays, Tied, runs}
 use Rattle.oneshot_word.specs.Seats.{view, message_in, waker_in, waker_first, message_first, SeatOf, SenderSeat, ReceiverSeat, SenderStepped, ReceiverStepped}
-use Rattle.oneshot_word.proofs.Found.{Sits, sender_sits, receiver_sits, sits}
+use Rattle.oneshot_word.proofs.Sits.{Sits, sender_sits, receiver_sits, sits}
 use Rattle.oneshot_word.proofs.RuleKept.{stepped, turn, sender_turns, receiver_turns}
 use Rattle.oneshot_word.proofs.Says.{sender_says, receiver_says}
 use Rattle.oneshot_word.proofs.Trades.{as_read, as_seat, reads}

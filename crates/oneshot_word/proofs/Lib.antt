@@ -1,7 +1,9 @@
 pub mod Alike
 pub mod Says
+pub mod FoundRow
+pub mod SlotMoves
 pub mod RuleKept
-pub mod Found
+pub mod Sits
 pub mod EachStep
 pub mod Opens
 pub mod Trades

@@ -8,7 +8,7 @@ use Rattle.oneshot_word.specs.declared.rule.Slot.TheVariants.{Empty}
 use Rattle.oneshot_word.specs.declared.rule.View.{View}
 use Rattle.oneshot_word.specs.Rule.{Home, is, lies_out, lies_bare, meet, says_none, Tied, dealt, runs}
 use Rattle.oneshot_word.specs.Seats.{view, slot_vacant, carried, not_carried, seat_of, SenderSeat, ReceiverSeat}
-use Rattle.oneshot_word.proofs.Found.{Sits, maker_sits, dealer_sits, sits}
+use Rattle.oneshot_word.proofs.Sits.{Sits, maker_sits, dealer_sits, sits}
 use Rattle.oneshot_word.proofs.EachStep.{Holds}
 
 module _ {T H K : Type 0} where

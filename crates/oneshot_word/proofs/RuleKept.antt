@@ -1,24 +1,25 @@
--- Each operation of an end keeps the rule: computed for each pair of phases, and carried out on the slots.
+-- Each operation of an end keeps the rule: computed for each pair of phases.
 use Rattle.std.proofs.Common.{◌≡◌, ◌≤◌, ℕ, Bool, true, false, ◌&&◌, List, [], ◌∷◌, ◌+◌, ◌%◌, ◌^◌, bit_xor, Option, Some, None, refl, sym, subst}
-use Rattle.std.specs.Prelude.{leb, ◌==◌, if◌then◌else◌}
+use Rattle.std.specs.Prelude.{leb, ◌==◌}
 use Rattle.std.specs.List.{list_all}
-use Rattle.std.proofs.lemmas.Bool.{and_parts, eqb-true, leb-true}
+use Rattle.std.proofs.lemmas.Bool.{and_parts, leb-true}
 use prog.Atomic.{either}
-use mathlib.Core.Option as maybe
-use Rattle.atomic_table.specs.Table.{Act, keeps, takes, gives, chain, Valid, homes_after, carried_after}
+use Rattle.atomic_table.specs.Table.{Act, Valid, homes_after, carried_after}
 use Rattle.oneshot_machine.specs.declared.machine.Seen.{Seen}
 use Rattle.oneshot_machine.specs.declared.states.Op.{Op}
 use Rattle.oneshot_machine.specs.declared.states.Op.TheVariants.{Load, Store, Swap, Exchange, Add, Xor}
-use Rattle.oneshot_machine.specs.Words.{saw, is_same_op}
-use Rattle.oneshot_machine.specs.Phases.{Share, none, empty, filled, Slots, Row, sending, dropping, SenderAt, fresh, owes, finished, late, no_sender, sender_moves, sender_owns, sender_next, looked, blocked, storing, swapped, found_closed, ReceiverAt, first, here, waits, full, unclosed, over, resolved, receiver_moves, receiver_owns, receiver_next}
-use Rattle.oneshot_machine.specs.Slots.{Held, away, vacant, held, IsSlot, is_away, is_vacant, is_held, Turns, stays_away, stays_vacant, stays_held, gives_room, gives_thing, gets_room, gets_thing, In, head, tail, May, may, SenderMay, ReceiverMay, Finds, finds}
-use Rattle.oneshot_machine.proofs.Exactness.{each_passes, ops_are_same}
+use Rattle.oneshot_machine.specs.Words.{saw}
+use Rattle.oneshot_machine.specs.Phases.{Share, Slots, Row, sending, dropping, SenderAt, fresh, owes, finished, late, no_sender, sender_moves, sender_owns, sender_next, looked, blocked, storing, swapped, found_closed, ReceiverAt, first, here, waits, full, unclosed, over, resolved, receiver_moves, receiver_owns, receiver_next}
+use Rattle.oneshot_machine.specs.Slots.{Held, IsSlot, In, head, tail, May, may, SenderMay, ReceiverMay, Finds, finds}
+use Rattle.oneshot_machine.proofs.Exactness.{each_passes}
 use Rattle.oneshot_word.specs.declared.rouse.Rouse.{Rouse}
 use Rattle.oneshot_word.specs.declared.rule.Slot.{Slot}
-use Rattle.oneshot_word.specs.declared.rule.Slot.TheVariants.{Empty, Message}
-use Rattle.oneshot_word.specs.Seats.{with_waker, Carried, slot_vacant, slot_held, Part, not_carried, carried, Front, message_first, waker_first, carried_as, SeatOf, seat_of}
-use Rattle.oneshot_word.proofs.Alike.{is_share, shares_are, is_bool, bools_are, is_word, words_are}
-use Rattle.oneshot_word.specs.Rule.{Home, out, word_between, message_home, waker_home, Lies, lies_out, lies_bare, lies_filled, Is, is, Meet, meet}
+use Rattle.oneshot_word.specs.declared.rule.Slot.TheVariants.{Message}
+use Rattle.oneshot_word.specs.Seats.{with_waker, Carried, Part, Front, message_first, waker_first, carried_as, SeatOf, seat_of}
+use Rattle.oneshot_word.specs.Rule.{Home, word_between, message_home, waker_home, Lies, Is, is, Meet, meet}
+use Rattle.oneshot_word.proofs.Alike.{is_bool, bools_are, is_word, words_are}
+use Rattle.oneshot_word.proofs.FoundRow.{row_of, Found, found_none, found_row, found}
+use Rattle.oneshot_word.proofs.SlotMoves.{is_owned, is_turn, Carries, carries, Went, went, goes, is_act, acts, both}
 
 -- the word that a step on the table leaves
 abbrev pub stepped : Op → ℕ → ℕ
@@ -29,123 +30,10 @@ stepped (Exchange expected new) n = either (n == expected) new n
 stepped Add n = (n + 1) % 2 ^ 64
 stepped Xor n = bit_xor n 1
 
--- whether an end has such a slot
-abbrev is_owned : Share → Bool
-is_owned none = false
-is_owned empty = true
-is_owned filled = true
-
+-- whether these are the slots of an end after a row
 abbrev is_slots : Option (Bool × Bool) → Slots → Bool
 is_slots None after = false
 is_slots (Some slots) after = is_bool slots.0 (is_owned after.0) && is_bool slots.1 (is_owned after.1)
-
--- the row of an operation, for such slots and this word
-module _ {At : Type 0} where
-  abbrev is_row : Op → Slots → ℕ → Row At → Bool
-  is_row op before word row =
-      is_same_op row.0 op && is_share row.1.0 before.0 && is_share row.1.1 before.1 && row.2 == word
-
-  abbrev row_of : List (Row At) → Op → Slots → ℕ → Option Slots
-  row_of [] op before word = None
-  row_of (row ∷ rows) op before word = if is_row op before word row then Some row.4 else row_of rows op before word
-
-  data Found (rows : List (Row At)) (op : Op) (before : Slots) (word : ℕ) : Option Slots → Type 0 where
-    found_none : Found rows op before word None
-    found_row : {next : At} {after : Slots} → In (op, before, word, next, after) rows → Found rows op before word (Some after)
-
-  found_behind : {row : Row At} {rows : List (Row At)} {op : Op} {before : Slots} {word : ℕ} {o : Option Slots} → Found rows op before word o → Found (row ∷ rows) op before word o
-  found_behind found_none = found_none
-  found_behind (found_row there) = found_row (tail there)
-
-  found : (rows : List (Row At)) (op : Op) (before : Slots) (word : ℕ) → Found rows op before word (row_of rows op before word)
-  found [] op before word = found_none
-  found (row ∷ rows) op before word = by (is_row op before word row) refl (found rows op before word)
-    where
-      by : (b : Bool) → is_row op before word row ≡ b → Found rows op before word (row_of rows op before word) → Found (row ∷ rows) op before word (if b then Some row.4 else row_of rows op before word)
-      by false e rest = found_behind rest
-      by true e rest =
-          let words = and_parts (is_same_op row.0 op && is_share row.1.0 before.0 && is_share row.1.1 before.1) (row.2 == word) e in
-          let wakers = and_parts (is_same_op row.0 op && is_share row.1.0 before.0) (is_share row.1.1 before.1) words.0 in
-          let parts = and_parts (is_same_op row.0 op) (is_share row.1.0 before.0) wakers.0 in
-          found_row (subst (λ (r : Row At). In r (row ∷ rows)) (λ i. (ops_are_same row.0 op parts.0 i, (shares_are row.1.0 before.0 parts.1 i, shares_are row.1.1 before.1 wakers.1 i), eqb-true row.2 word words.1 i, row.3, row.4)) head)
-
--- A slot while an end makes a step: where the end has it and where not, before and after. It stays at
--- home or with the seat, or it goes from one to the other.
-data Goes {T H K : Type 0} (place : ℕ) : Bool → Bool → Home T H K → Home T H K → Carried T H K → Carried T H K → Type 0 where
-  stays_there : {h : Home T H K} → Goes place false false h h [] []
-  stays_here : {h : Home T H K} {s : Slot T H K} → Goes place true true h h ((place, s) ∷ []) ((place, s) ∷ [])
-  goes_home : {s : Slot T H K} → Goes place true false out (maybe.some s) ((place, s) ∷ []) []
-  comes : {s : Slot T H K} → Goes place false true (maybe.some s) out [] ((place, s) ∷ [])
-
--- which share of it the seat has before and after, and the table after and before
-abbrev is_turn : Share → Share → Share → Share → Bool
-is_turn none none there' there = is_share there there'
-is_turn empty empty none none = true
-is_turn filled filled none none = true
-is_turn empty none empty none = true
-is_turn filled none filled none = true
-is_turn none empty none empty = true
-is_turn none filled none filled = true
-is_turn _ _ _ _ = false
-
-module _ {T H K X : Type 0} (place : ℕ) (put : X → Slot T H K) where
-  -- what a seat carries of a slot of this share
-  data Carries : Share → Carried T H K → Held X → Type 0 where
-    carries_none : Carries none [] away
-    carries_empty : Carries empty ((place, Empty) ∷ []) vacant
-    carries_filled : (x : X) → Carries filled ((place, put x) ∷ []) (held x)
-
-  carries : {s : Share} {b : Bool} {c : Carried T H K} {x : Held X} → IsSlot s x → Part place put b c x → Carries s c x
-  carries is_away not_carried = carries_none
-  carries is_away (carried slot) = elim slot [ ]
-  carries is_vacant (carried slot_vacant) = carries_empty
-  carries (is_held x) (carried (slot_held _)) = carries_filled x
-
-  data Went (s s' there' : Share) (h : Home T H K) (c : Carried T H K) (x : Held X) : Type 0 where
-    went : {h' : Home T H K} {c' : Carried T H K} {x' : Held X} → Turns s s' x x' → Goes place (is_owned s) (is_owned s') h h' c c' → Part place put (is_owned s') c' x' → Lies put there' h' → Went s s' there' h c x
-
-  goes : {s there : Share} {h : Home T H K} {c : Carried T H K} {x : Held X} → Carries s c x → (s' there' : Share) → Lies put there h → is_turn s s' there' there ≡ true → Went s s' there' h c x
-  goes carries_none none none lies_out e = went stays_away stays_there not_carried lies_out
-  goes carries_none none empty lies_bare e = went stays_away stays_there not_carried lies_bare
-  goes carries_none none filled (lies_filled x) e = went stays_away stays_there not_carried (lies_filled x)
-  goes carries_empty empty none lies_out e = went stays_vacant stays_here (carried slot_vacant) lies_out
-  goes (carries_filled x) filled none lies_out e = went (stays_held x) stays_here (carried (slot_held x)) lies_out
-  goes carries_empty none empty lies_out e = went gives_room goes_home not_carried lies_bare
-  goes (carries_filled x) none filled lies_out e = went (gives_thing x) goes_home not_carried (lies_filled x)
-  goes carries_none empty none lies_bare e = went gets_room comes (carried slot_vacant) lies_out
-  goes carries_none filled none (lies_filled x) e = went (gets_thing x) comes (carried (slot_held x)) lies_out
-  goes _ _ _ _ e = absurd (cc)
-
--- the turns of the message's slot and of the waker's for which a seat has an act
-abbrev is_act : Front → Bool → Bool → Bool → Bool → Bool
-is_act waker_first true false false false = true
-is_act waker_first true true false true = true
-is_act waker_first true false true false = true
-is_act message_first false false false false = true
-is_act message_first false false true true = true
-is_act message_first true true true true = true
-is_act message_first false false false true = true
-is_act message_first false true false true = true
-is_act message_first false true true true = true
-is_act message_first false false true false = true
-is_act _ _ _ _ _ = false
-
-module _ {T H K : Type 0} where
-  data Acts (h h' k k' : Home T H K) (c c' : Carried T H K) : Type 0 where
-    acts : (act : Act (Slot T H K)) → Valid (h ∷ k ∷ []) c act → homes_after (h ∷ k ∷ []) c act ≡ h' ∷ k' ∷ [] → carried_after c act ≡ c' → Acts h h' k k' c c'
-
-  both : (front : Front) {m m' w w' : Bool} {h h' k k' : Home T H K} {cm cm' cw cw' : Carried T H K} → is_act front m m' w w' ≡ true → Goes 0 m m' h h' cm cm' → Goes 1 w w' k k' cw cw' → Acts h h' k k' (carried_as front cm cw) (carried_as front cm' cw')
-  both waker_first e goes_home stays_there = acts gives tt refl refl
-  both waker_first e stays_here (comes {s}) = acts (takes 1 s) refl refl refl
-  both waker_first e goes_home goes_home = acts (chain gives gives) (tt, tt) refl refl
-  both message_first e stays_there stays_there = acts keeps tt refl refl
-  both message_first e stays_there stays_here = acts keeps tt refl refl
-  both message_first e stays_here stays_here = acts keeps tt refl refl
-  both message_first e stays_there (comes {s}) = acts (takes 1 s) refl refl refl
-  both message_first e (comes {s}) (comes {s = t}) = acts (chain (takes 1 t) (takes 0 s)) (refl, refl) refl refl
-  both message_first e (comes {s}) stays_here = acts (takes 0 s) refl refl refl
-  both message_first e stays_there goes_home = acts gives tt refl refl
-  both _ e _ _ = absurd (cc)
 
 -- One end while the other is at some phase: its table, its seat, and the rule at each phase of its own,
 -- which is the word and what is at home of both slots.
