@@ -1,7 +1,8 @@
 -- Values that are compared by their codes are the same where their codes are.
 use Rattle.std.proofs.Common.{◌≡◌, ℕ, Bool, true, false, List, [], ◌∷◌, Option, Some, None, refl, sym, ◌∙◌, ap, ◌==◌, ◌&&◌, get_or, map, if◌then◌else◌}
 use Rattle.std.proofs.lemmas.Bool.{eqb-true}
-use Rattle.oneshot_machine.specs.Standing.{sender_positions, receiver_positions}
+use Rattle.oneshot_machine.specs.Sender.{sender_positions}
+use Rattle.oneshot_machine.specs.Receiver.{receiver_positions}
 use Rattle.oneshot_machine.specs.declared.machine.future.FuturePos.TheVariants as F
 use Rattle.oneshot_machine.specs.declared.machine.receiver.ReceiverPos.TheVariants as R
 use Rattle.oneshot_machine.specs.declared.machine.look.LookPos.TheVariants.{LookFull}
@@ -15,7 +16,9 @@ use Rattle.oneshot_machine.specs.declared.machine.receiver.ReceiverStart.{Receiv
 use Rattle.oneshot_machine.specs.declared.machine.receiver.ReceiverStart.TheVariants as RC
 use Rattle.oneshot_machine.specs.declared.machine.sender.SenderCall.{SenderCall}
 use Rattle.oneshot_machine.specs.declared.machine.sender.SenderCall.TheVariants as SC
-use Rattle.oneshot_world.specs.Calls.{Call, Of_sender, Of_receiver, Poll, Stray, all_sender_calls, all_receiver_calls}
+use Rattle.oneshot_world.specs.Calls.{Call, Of_sender, Of_receiver, Poll, Stray}
+use Rattle.oneshot_machine.specs.Sender.{all_sender_calls}
+use Rattle.oneshot_machine.specs.Receiver.{all_receiver_calls}
 use Rattle.oneshot_world.specs.Control.{Control}
 use Rattle.oneshot_world.specs.ControlCodes.{sender_code, receiver_code, sender_call_code, receiver_call_code, is_same_call, is_same_under_way, place_code, bool_code, is_same_wakers, is_same_state, is_same_control, is_same_name}
 use Rattle.oneshot_world.specs.Wakers.{is_same_waker}

@@ -5,10 +5,13 @@ use Rattle.std.specs.Option.{option_map, option_and_then}
 use Rattle.oneshot_machine.specs.declared.machine.End.TheVariants.{Sender, Receiver}
 use Rattle.oneshot_machine.specs.declared.machine.receiver.ReceiverPos.{ReceiverPos}
 use Rattle.oneshot_machine.specs.declared.machine.sender.SenderPos.{SenderPos}
-use Rattle.oneshot_world.specs.Calls.{Call, Of_sender, Of_receiver, Poll, number_of, first, as_sender_call, as_receiver_call, all_sender_calls, all_receiver_calls}
+use Rattle.oneshot_world.specs.Calls.{Call, Of_sender, Of_receiver, Poll, number_of, first, as_sender_call, as_receiver_call}
+use Rattle.oneshot_machine.specs.Sender.{all_sender_calls}
+use Rattle.oneshot_machine.specs.Receiver.{all_receiver_calls}
 use Rattle.oneshot_world.specs.Classes.{Classes, as_call}
 use Rattle.oneshot_world.specs.Control.{Begin, begins_poll, poll_begin, plain_told, as_begin, sender_begins, receiver_begins_at, receiver_begins, sender_under_way, receiver_under_way, begins_with}
-use Rattle.oneshot_world.specs.ScriptsLeft.{stays_sender, ends_sender, stays_error, ends_error, sender_has, receiver_has, begins_sender, begins_error, begins_receiver, begins_async, stays_async, ends_async}
+use Rattle.oneshot_world.specs.Scripts.{stays_sender, ends_sender, stays_error, ends_error, begins_sender, begins_error, begins_receiver, begins_async, stays_async, ends_async}
+use Rattle.oneshot_world.specs.ScriptsLeft.{sender_has, receiver_has}
 use Rattle.oneshot_world.specs.State.{sender_position, receiver_position}
 use Rattle.oneshot_world.specs.World.{nothing_told, told_with}
 use Rattle.oneshot_world.specs.declared.state.ReceiverState.{ReceiverState}

@@ -17,7 +17,8 @@ use Rattle.oneshot_world.specs.Classes.{Classes, all_alike, as_call}
 use Rattle.oneshot_world.specs.Control.{Control, control_of, Begin, begins, as_begin, as_control, as_control_turned, sender_begins, sender_under_way, receiver_under_way, control_then, control_turn}
 use Rattle.oneshot_world.specs.Reached.{one_poll, one_copy, reached, is_reached, IsReached}
 use Rattle.oneshot_world.specs.ControlCodes.{bool_code, control_code, is_same_control}
-use Rattle.oneshot_world.specs.ScriptsLeft.{is_sender_script, is_error_script, has_script, stays_sender, ends_sender, stays_error, ends_error, sender_has, receiver_has}
+use Rattle.oneshot_world.specs.ScriptsLeft.{is_sender_script, is_error_script, has_script, sender_has, receiver_has}
+use Rattle.oneshot_world.specs.Scripts.{stays_sender, ends_sender, stays_error, ends_error}
 use Rattle.oneshot_world.specs.Explore.{all_in}
 use Rattle.oneshot_world.specs.State.{sender_turns_at, receiver_turns_at, sender_stands, receiver_stands, sender_steps, receiver_steps, sender_moved, sender_stepped, receiver_moved, receiver_stepped, made_entry, sender_fits, receiver_fits}
 use Rattle.oneshot_world.specs.Effects.{place_left, reply_of, sender_goes, receiver_goes, is_plain, is_free, is_future, seen_by, sender_puts, receiver_puts}

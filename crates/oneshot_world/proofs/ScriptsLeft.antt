@@ -6,9 +6,10 @@ use Rattle.oneshot_machine.specs.declared.machine.sender.SenderCall.{SenderCall}
 use Rattle.oneshot_machine.specs.declared.machine.sender.SenderPos.{SenderPos}
 use Rattle.oneshot_machine.specs.declared.machine.receiver.ReceiverStart.TheVariants as RC
 use Rattle.oneshot_machine.specs.declared.machine.sender.SenderCall.TheVariants as SC
-use Rattle.oneshot_world.specs.Calls.{Call, Of_sender, Of_receiver, Poll, first, rest, is_none_left}
+use Rattle.oneshot_world.specs.Calls.{Call, Of_sender, Of_receiver, first, rest, is_none_left}
 use Rattle.oneshot_world.specs.Scripts.{sender_last, error_last, receiver_calls, async_calls}
-use Rattle.oneshot_world.specs.ScriptsLeft.{is_script, stays_sender, ends_sender, stays_error, ends_error, ends_receiver, is_sender_script, is_error_script, is_receiver_script, is_async_script, has_script, ends_async, makes_future, begins_receiver, sender_has, receiver_has, stays_receiver, stays_async}
+use Rattle.oneshot_world.specs.ScriptsLeft.{is_script, is_sender_script, is_error_script, is_receiver_script, is_async_script, has_script, sender_has, receiver_has}
+use Rattle.oneshot_world.specs.Scripts.{stays_sender, ends_sender, stays_error, ends_error, ends_receiver, ends_async, makes_future, begins_receiver, stays_receiver, stays_async}
 use Rattle.oneshot_world.specs.State.{sender_position, receiver_position}
 use Rattle.oneshot_world.specs.Effects.{place_left}
 use Rattle.oneshot_world.specs.World.{opening_place}

@@ -16,26 +16,6 @@ pub data Call : Type 0 where
   Poll : (number : ℕ) → Call
   Stray : Call
 
--- every call of each machine
-abbrev pub all_sender_calls : List SenderCall
-all_sender_calls = SC.IsClosed ∷ SC.Send ∷ SC.Drop ∷ SC.AsInner ∷ SC.IntoInner ∷ SC.DropError ∷ []
-
-abbrev pub all_receiver_calls : List ReceiverStart
-all_receiver_calls =
-    RC.TryRecv
-    ∷ RC.RecvRef
-    ∷ RC.RecvDeadline
-    ∷ RC.RecvTimeout false
-    ∷ RC.RecvTimeout true
-    ∷ RC.Recv
-    ∷ RC.HasMessage
-    ∷ RC.IsClosed
-    ∷ RC.Drop
-    ∷ RC.IntoFuture
-    ∷ RC.Poll
-    ∷ RC.DropAsync
-    ∷ []
-
 -- the call as the machine of each end begins it; a call of the other end is none of its own
 abbrev pub as_sender_call : Call → Option SenderCall
 as_sender_call (Of_sender call) = Some call

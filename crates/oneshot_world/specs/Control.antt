@@ -1,12 +1,14 @@
 -- What of a world is finite, all but the calls that the scripts have left, and the moves from there.
-use Rattle.std.specs.Prelude.{ℕ, ◌+◌, Bool, true, false, List, [], ◌∷◌, ◌++◌, map, filter, Option, Some, None}
+use Rattle.std.specs.Prelude.{ℕ, Bool, true, false, List, [], ◌∷◌, ◌++◌, map, filter, Option, Some, None}
 use Rattle.std.specs.Option.{option_map}
 use Rattle.std.specs.List.{filter_map, flat_map}
 use Rattle.oneshot_machine.specs.declared.machine.End.TheVariants.{Sender, Receiver}
 use Rattle.oneshot_machine.specs.declared.machine.End.{End}
-use Rattle.oneshot_world.specs.Calls.{Call, Of_sender, Of_receiver, Poll, all_sender_calls, all_receiver_calls, first}
+use Rattle.oneshot_world.specs.Calls.{Call, Of_sender, Of_receiver, Poll, first}
+use Rattle.oneshot_machine.specs.Sender.{all_sender_calls}
+use Rattle.oneshot_machine.specs.Receiver.{all_receiver_calls}
 use Rattle.oneshot_world.specs.Classes.{Classes, as_told, as_state, as_call, as_entry}
-use Rattle.oneshot_world.specs.ScriptsLeft.{begins_sender, begins_error, begins_receiver, begins_async}
+use Rattle.oneshot_world.specs.Scripts.{begins_sender, begins_error, begins_receiver, begins_async}
 use Rattle.oneshot_world.specs.State.{turns}
 use Rattle.oneshot_world.specs.World.{World, nothing_told}
 use Rattle.oneshot_world.specs.declared.state.ReceiverState.TheVariants as RS

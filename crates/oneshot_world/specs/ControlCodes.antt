@@ -2,7 +2,8 @@
 use Rattle.std.specs.Prelude.{ℕ, ◌+◌, ◌*◌, Bool, true, false, ◌&&◌, ◌==◌, Option, Some, None}
 use Rattle.oneshot_machine.specs.Receiver.{receiver_start}
 use Rattle.oneshot_machine.specs.Sender.{sender_start}
-use Rattle.oneshot_machine.specs.Standing.{sender_number, receiver_number}
+use Rattle.oneshot_machine.specs.Sender.{sender_number}
+use Rattle.oneshot_machine.specs.Receiver.{receiver_number}
 use Rattle.oneshot_machine.specs.declared.machine.receiver.ReceiverStart.{ReceiverStart}
 use Rattle.oneshot_machine.specs.declared.machine.sender.SenderCall.{SenderCall}
 use Rattle.oneshot_world.specs.Calls.{Call, Of_sender, Of_receiver, Poll, Stray}

@@ -1,5 +1,5 @@
--- A pair of scripts as lists of calls: the sender's, those of the error of a refused send, the receiver's.
-use Rattle.std.specs.Prelude.{◌+◌, List, [], ◌∷◌, ◌++◌, map, replicate}
+-- The calls of a script, and a pair of scripts as lists of calls: the sender's, those of the error of a refused send, the receiver's.
+use Rattle.std.specs.Prelude.{Bool, true, false, ◌||◌, List, [], ◌∷◌, ◌++◌, map, replicate, Option, is_some}
 use Rattle.oneshot_machine.specs.declared.machine.receiver.ReceiverStart.TheVariants as RC
 use Rattle.oneshot_machine.specs.declared.machine.sender.SenderCall.TheVariants as SC
 use Rattle.oneshot_world.specs.Calls.{Call, Of_sender, Of_receiver, Poll, Calls}
@@ -18,6 +18,7 @@ use Rattle.oneshot_world.specs.declared.script.ReceiverScript.{ReceiverScript}
 use Rattle.oneshot_world.specs.declared.script.SenderLast.TheVariants as SL
 use Rattle.oneshot_world.specs.declared.script.SenderLast.{SenderLast}
 use Rattle.oneshot_world.specs.declared.script.SenderScript.{SenderScript}
+use Rattle.oneshot_world.specs.declared.trace.Place.{Place}
 
 abbrev pub sender_last : {T : Type 0} → SenderLast T → List Call
 sender_last (SL.Send message error) = Of_sender SC.Send ∷ []
@@ -76,3 +77,66 @@ calls_of s r =
       error = error_calls s.last;
       receiver = receiver_calls r.calls r.last;
     }
+
+-- Which calls leave the end in place, and which end it.
+
+abbrev pub stays_sender : Call → Bool
+stays_sender (Of_sender SC.IsClosed) = true
+stays_sender _ = false
+
+-- a send is there where there is a message
+abbrev pub ends_sender : Option Place → Call → Bool
+ends_sender message (Of_sender SC.Send) = is_some message
+ends_sender message (Of_sender SC.Drop) = true
+ends_sender message _ = false
+
+abbrev pub stays_error : Call → Bool
+stays_error (Of_sender SC.AsInner) = true
+stays_error _ = false
+
+abbrev pub ends_error : Call → Bool
+ends_error (Of_sender SC.IntoInner) = true
+ends_error (Of_sender SC.DropError) = true
+ends_error _ = false
+
+abbrev pub stays_receiver : Call → Bool
+stays_receiver (Of_receiver RC.TryRecv) = true
+stays_receiver (Of_receiver RC.RecvRef) = true
+stays_receiver (Of_receiver RC.RecvDeadline) = true
+stays_receiver (Of_receiver (RC.RecvTimeout representable)) = true
+stays_receiver (Of_receiver RC.HasMessage) = true
+stays_receiver (Of_receiver RC.IsClosed) = true
+stays_receiver _ = false
+
+abbrev pub ends_receiver : Call → Bool
+ends_receiver (Of_receiver RC.Recv) = true
+ends_receiver (Of_receiver RC.Drop) = true
+ends_receiver _ = false
+
+abbrev pub stays_async : Call → Bool
+stays_async (Poll number) = true
+stays_async (Of_receiver RC.HasMessage) = true
+stays_async (Of_receiver RC.IsClosed) = true
+stays_async _ = false
+
+abbrev pub ends_async : Call → Bool
+ends_async (Of_receiver RC.DropAsync) = true
+ends_async _ = false
+
+-- the call that makes the receiver a future
+abbrev pub makes_future : Call → Bool
+makes_future (Of_receiver RC.IntoFuture) = true
+makes_future _ = false
+
+-- the calls that each may begin
+abbrev pub begins_sender : Option Place → Call → Bool
+begins_sender message call = stays_sender call || ends_sender message call
+
+abbrev pub begins_error : Call → Bool
+begins_error call = stays_error call || ends_error call
+
+abbrev pub begins_receiver : Call → Bool
+begins_receiver call = stays_receiver call || (ends_receiver call || makes_future call)
+
+abbrev pub begins_async : Call → Bool
+begins_async call = stays_async call || ends_async call
