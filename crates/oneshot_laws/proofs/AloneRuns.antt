@@ -10,7 +10,7 @@ use Rattle.oneshot_laws.specs.History.{agrees}
 use Rattle.oneshot_laws.specs.Alone.{lone_reply, is_lone_call, are_lone_calls_right}
 use Rattle.oneshot_laws.proofs.Coding.{pairs, by_parts, or_none, both_ends}
 use Rattle.oneshot_laws.proofs.Glanced.{Law, Passes, Nameless, nameless_of, LawExplored, all_glanced, holds_by}
-use Rattle.oneshot_laws.proofs.HistoryAccepted.{Glance, glance_of}
+use Rattle.oneshot_laws.proofs.Glances.{Glance, glance_of}
 use Rattle.oneshot_laws.proofs.HistoryReader.{objects}
 use Rattle.oneshot_laws.proofs.Watched.{no_names, EachRun}
 

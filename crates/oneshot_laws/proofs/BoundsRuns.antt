@@ -14,7 +14,7 @@ use Rattle.oneshot_laws.specs.Marks.{Mark, side, call_marks, until_reply}
 use Rattle.oneshot_laws.specs.Bounds.{at_most, is_within_its_bound, is_bounded, are_calls_bounded}
 use Rattle.oneshot_laws.proofs.Coding.{Coding, pairs, by_parts, or_none, flags, numbers_below}
 use Rattle.oneshot_laws.proofs.Glanced.{Law, Passes, Nameless, of_call, LawExplored, all_glanced, holds_by}
-use Rattle.oneshot_laws.proofs.HistoryAccepted.{Glance, glance_of}
+use Rattle.oneshot_laws.proofs.Glances.{Glance, glance_of}
 use Rattle.oneshot_laws.proofs.Watched.{no_names, EachRun}
 
 -- what is counted of a call: its operations on the word, or those alone that did not find 1

@@ -11,7 +11,7 @@ use Rattle.oneshot_laws.specs.Bounds.{at_most, operates, is_senders_last, each_m
 use Rattle.oneshot_laws.proofs.BoundsRuns.{can, spend, pay, no_more}
 use Rattle.oneshot_laws.proofs.Coding.{pairs, by_parts, flags, numbers_below}
 use Rattle.oneshot_laws.proofs.Glanced.{Law, Passes, Nameless, LawExplored, all_glanced, holds_by}
-use Rattle.oneshot_laws.proofs.HistoryAccepted.{Glance, glance_of}
+use Rattle.oneshot_laws.proofs.Glances.{Glance, glance_of}
 use Rattle.oneshot_laws.proofs.Watched.{no_names, EachRun}
 
 -- whether the sender is done with the word, and what the receiver's call has left since

@@ -17,7 +17,7 @@ use Rattle.oneshot_laws.specs.Marks.{Mark, marks}
 use Rattle.oneshot_laws.specs.Ended.{has_answered, is_refused, all_ended}
 use Rattle.oneshot_laws.proofs.Coding.{Coding, pairs, by_parts, flags}
 use Rattle.oneshot_laws.proofs.Glanced.{Law, Passes, as_glance, of_call, with_history, LawExplored, nameless_classed, passes_by}
-use Rattle.oneshot_laws.proofs.HistoryAccepted.{Glance, glance_of}
+use Rattle.oneshot_laws.proofs.Glances.{Glance, glance_of}
 use Rattle.oneshot_laws.proofs.Watched.{Names, no_names, Classed}
 
 -- which calls have answered that end something, and what is kept besides

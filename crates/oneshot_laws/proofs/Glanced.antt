@@ -20,7 +20,7 @@ use Rattle.oneshot_world.proofs.Bools.{and_right}
 use Rattle.oneshot_laws.specs.Marks.{Mark, marks, call_under_way}
 use Rattle.oneshot_laws.specs.Object.{Object}
 use Rattle.oneshot_laws.proofs.Coding.{Coding, pairs, by_parts}
-use Rattle.oneshot_laws.proofs.HistoryAccepted.{Glance, glance_of, glance_at, glances}
+use Rattle.oneshot_laws.proofs.Glances.{Glance, glance_of, glance_at, glances}
 use Rattle.oneshot_laws.proofs.HistoryReader.{Receives, hits, object_as, Reader, Watch, new_reader, watch_at, accepts, reads, readers, histories, histories_nameless}
 use Rattle.oneshot_laws.proofs.HistoryRuns.{marks_run}
 use Rattle.oneshot_laws.proofs.Watched.{Watched, all_watched, Names, no_names, Automaton, Explored, class_under_way, class_is, reads_alike, Accepts_by, left_after, Classed, all_classed, accepted_run, EachRun}

@@ -18,6 +18,7 @@ use Rattle.oneshot_laws.specs.Actions.{action_of, nothing_yet_of, reply_on, step
 use Rattle.oneshot_laws.specs.Marks.{Rule, First, Last, Never, rule, acts, has_acted, receive_rule, works_on_word, finds_full_or_closed, until_reply, to_reply, reply_among, Reading, read_by, Mark, loads, finishes, swaps_closed_in, mark_at, marks_from, call_under_way, object_then, ends}
 use Rattle.oneshot_laws.specs.History.{agrees, object_reply, is_object_step, is_legal, is_complete, is_right_outside, is_covered, history, has_legal_history}
 use Rattle.oneshot_laws.specs.Holders.{acts_last}
+use Rattle.oneshot_laws.proofs.Glances.{Glance, glance_of, glance_at, glances}
 use Rattle.oneshot_laws.proofs.HistoryReader.{Receives, kind, Watch, Reader, due, hit, hits, owed, owes_then, object_if, object_by, watch_at, pays, may_say, pays_receive, may_owe, has_reply, accepts_call, reads}
 use Rattle.oneshot_laws.proofs.HistoryOwed.{Accepted, Goes_on, answer_from, answer_pays, pays_in, answer_says, says_in, fine_as, not_owed}
 use Rattle.oneshot_laws.proofs.Watched.{left_after}
@@ -295,45 +296,6 @@ pub record MarkRight (m : Mark) : Type 0 where
 abbrev pub AllRight : List Mark → Type 0
 AllRight [] = Unit {0}
 AllRight (m ∷ ms) = MarkRight m × AllRight ms
-
--- What the other laws look at in a mark. All of it looks back: `last` is whether the call that ends its end acts here, and `next` is the object afterwards.
-pub record Glance : Type 0 where
-  pub entry : Made
-  pub call : Call
-  pub begins : Bool
-  pub last : Bool
-  pub object : Object
-  pub next : Object
-
-abbrev pub glance_of : Mark → Glance
-glance_of m =
-    record {
-      entry = m.entry;
-      call = m.call;
-      begins = m.begins;
-      last = acts_last m;
-      object = m.object;
-      next = object_then m;
-    }
-
--- the same, as the reader sees it
-abbrev pub glance_at : Call → Made → Object → Watch → Glance
-glance_at call e o x =
-    record {
-      entry = e;
-      call = call;
-      begins = not x.begun;
-      last = hits (kind call) e x && (is_end_of_sender call || is_end_of_receiver call);
-      object = o;
-      next = object_by call e o x;
-    }
-
-abbrev pub glances : Reader → Unanswered → Unanswered → List Entry → List Glance
-glances m s r [] = []
-glances m s r (Idle side ∷ es) = glances m s r es
-glances m s r (Made_entry e ∷ es) =
-    glance_at (call_under_way (by_end e.side s r)) e m.object (watch_at e.side m)
-    ∷ glances (reads e.side (call_under_way (by_end e.side s r)) e m) (left_after e.side Sender e.reply s) (left_after e.side Receiver e.reply r) es
 
 -- a call that ends its end has no word for "nothing yet"
 no_word : (call : Call) → (is_end_of_sender call || is_end_of_receiver call) ≡ true → nothing_yet_of call ≡ None

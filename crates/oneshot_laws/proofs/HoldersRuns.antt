@@ -11,7 +11,7 @@ use Rattle.oneshot_laws.specs.Holders.{Holders, both_hold, holds, other, is_here
 use Rattle.oneshot_laws.proofs.Coding.{Coding, pairs, by_parts, flags}
 use Rattle.oneshot_laws.proofs.EndedRuns.{Ending, EndingExplored, kept, own_after, nothing_asked, at_the_end, or_more}
 use Rattle.oneshot_laws.proofs.Glanced.{Law, Passes, Nameless, nameless_of, LawExplored, all_glanced, holds_by}
-use Rattle.oneshot_laws.proofs.HistoryAccepted.{Glance, glance_of}
+use Rattle.oneshot_laws.proofs.Glances.{Glance, glance_of}
 use Rattle.oneshot_laws.proofs.MarksAfterEach.{ever_law, ever_after}
 use Rattle.oneshot_laws.proofs.Watched.{no_names, EachRun}
 

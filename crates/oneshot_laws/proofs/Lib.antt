@@ -2,6 +2,7 @@
 pub mod Coding
 pub mod Watched
 pub mod HistoryReader
+pub mod Glances
 pub mod HistoryOwed
 pub mod HistoryAccepted
 pub mod HistoryRuns

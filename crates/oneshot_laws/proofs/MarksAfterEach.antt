@@ -6,7 +6,7 @@ use Rattle.oneshot_laws.specs.Entries.{only_if}
 use Rattle.oneshot_laws.specs.Marks.{Mark, after_each}
 use Rattle.oneshot_laws.proofs.Coding.{flags}
 use Rattle.oneshot_laws.proofs.Glanced.{Law, Passes, Nameless, LawExplored, holds_by}
-use Rattle.oneshot_laws.proofs.HistoryAccepted.{Glance, glance_of}
+use Rattle.oneshot_laws.proofs.Glances.{Glance, glance_of}
 use Rattle.oneshot_laws.proofs.Watched.{no_names, EachRun}
 
 -- what was asked of this and of all that follows

@@ -5,7 +5,7 @@ use Rattle.oneshot_laws.specs.Marks.{Mark}
 use Rattle.oneshot_laws.specs.MessagePlaces.{may_put, is_message_put}
 use Rattle.oneshot_laws.proofs.Coding.{flags}
 use Rattle.oneshot_laws.proofs.Glanced.{Law, Passes, Nameless, nameless_of, LawExplored, all_glanced, holds_by}
-use Rattle.oneshot_laws.proofs.HistoryAccepted.{Glance, glance_of}
+use Rattle.oneshot_laws.proofs.Glances.{Glance, glance_of}
 use Rattle.oneshot_laws.proofs.Watched.{no_names, EachRun}
 
 -- a law that looks at each mark alone: its state says nothing

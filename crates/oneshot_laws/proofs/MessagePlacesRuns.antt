@@ -25,7 +25,7 @@ use Rattle.oneshot_laws.specs.MessagePlaces.{is_path, last_place, is_same_place,
 use Rattle.oneshot_laws.proofs.Coding.{pairs, by_parts, or_none, flags, places}
 use Rattle.oneshot_laws.proofs.EndedRuns.{Ending, EndingExplored, EndingNameless, kept, own_after, nothing_asked, at_the_end, or_more, or_false}
 use Rattle.oneshot_laws.proofs.Glanced.{Law, Passes, Nameless, as_glance, of_call, LawExplored, all_glanced, passes_run}
-use Rattle.oneshot_laws.proofs.HistoryAccepted.{Glance, glance_of}
+use Rattle.oneshot_laws.proofs.Glances.{Glance, glance_of}
 use Rattle.oneshot_laws.proofs.Watched.{no_names}
 
 -- the moves that marks show

@@ -8,7 +8,7 @@ use Rattle.oneshot_laws.specs.Actions.{is_receive, is_send, is_sender_look, is_c
 use Rattle.oneshot_laws.specs.History.{agrees}
 use Rattle.oneshot_laws.specs.Replies.{is_gone_after_got, is_gone_after_closed, is_refused_after_closed}
 use Rattle.oneshot_laws.proofs.Glanced.{Nameless, nameless_of, LawExplored, all_glanced}
-use Rattle.oneshot_laws.proofs.HistoryAccepted.{Glance}
+use Rattle.oneshot_laws.proofs.Glances.{Glance}
 use Rattle.oneshot_laws.proofs.MarksAfterEach.{ever_law, ever_after}
 use Rattle.oneshot_laws.proofs.Watched.{EachRun}
 

@@ -10,7 +10,7 @@ use Rattle.oneshot_laws.specs.Replies.{answers, is_dropped, is_dropping, is_one_
 use Rattle.oneshot_laws.proofs.RepliesAfterwards.{told}
 use Rattle.oneshot_laws.proofs.Coding.{Coding, listed, pairs, by_parts, flags}
 use Rattle.oneshot_laws.proofs.Glanced.{Law, Passes, Nameless, nameless_of, LawExplored, all_glanced, holds_by}
-use Rattle.oneshot_laws.proofs.HistoryAccepted.{Glance, glance_of}
+use Rattle.oneshot_laws.proofs.Glances.{Glance, glance_of}
 use Rattle.oneshot_laws.proofs.Watched.{no_names, EachRun}
 
 -- how the message was dropped so far

@@ -9,7 +9,7 @@ use Rattle.oneshot_laws.specs.Replies.{next_receive_gets, is_got_after_full}
 use Rattle.oneshot_laws.proofs.RepliesAfterwards.{told}
 use Rattle.oneshot_laws.proofs.Coding.{flags}
 use Rattle.oneshot_laws.proofs.Glanced.{Law, Passes, Nameless, nameless_of, LawExplored, all_glanced, holds_by}
-use Rattle.oneshot_laws.proofs.HistoryAccepted.{Glance, glance_of}
+use Rattle.oneshot_laws.proofs.Glances.{Glance, glance_of}
 use Rattle.oneshot_laws.proofs.Watched.{no_names, EachRun}
 
 abbrev full : Glance → Bool

@@ -26,7 +26,7 @@ use Rattle.oneshot_machine.specs.declared.machine.Reply.TheVariants as R
 use Rattle.oneshot_laws.proofs.Coding.{listed, pairs, by_parts, flags}
 use Rattle.oneshot_laws.proofs.EndedRuns.{own_after, or_more, or_false}
 use Rattle.oneshot_laws.proofs.Glanced.{Law, Passes, as_glance, of_call, with_history, LawExplored, all_glanced, passes_by}
-use Rattle.oneshot_laws.proofs.HistoryAccepted.{Glance, glance_of}
+use Rattle.oneshot_laws.proofs.Glances.{Glance, glance_of}
 use Rattle.oneshot_laws.proofs.Watched.{Names, Classed}
 
 -- of the last poll: none of the number that waits, one under way, or one that left its task; nothing woke it since it began

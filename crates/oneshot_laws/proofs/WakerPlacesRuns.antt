@@ -30,7 +30,7 @@ use Rattle.oneshot_laws.specs.WakerPlaces.{waker_place_code, is_same_waker_place
 use Rattle.oneshot_laws.proofs.Coding.{listed, flags}
 use Rattle.oneshot_laws.proofs.EndedRuns.{Ending, EndingExplored, EndingClassed, Asked, kept, own_after, asked_run, ended_run}
 use Rattle.oneshot_laws.proofs.Glanced.{Law, Passes, Nameless, as_glance, LawExplored, all_glanced, nameless_classed, passes_run}
-use Rattle.oneshot_laws.proofs.HistoryAccepted.{Glance, glance_of}
+use Rattle.oneshot_laws.proofs.Glances.{Glance, glance_of}
 use Rattle.oneshot_laws.proofs.Watched.{Names, no_names, is_fresh}
 
 -- the moves that marks show

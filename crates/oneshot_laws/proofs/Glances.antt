@@ -1,0 +1,53 @@
+-- What the other laws look at in a mark: the part of it that looks only back, as a mark shows it and as the reader of histories sees it.
+use Rattle.std.proofs.Common.{Bool, not, ◌&&◌, ◌||◌, List, [], ◌∷◌}
+use Rattle.oneshot_machine.specs.declared.machine.End.TheVariants.{Sender, Receiver}
+use Rattle.oneshot_world.specs.Calls.{Call, Unanswered}
+use Rattle.oneshot_world.specs.World.{by_end}
+use Rattle.oneshot_world.specs.declared.trace.Entry.{Entry}
+use Rattle.oneshot_world.specs.declared.trace.Entry.TheVariants.{Idle, Made as Made_entry}
+use Rattle.oneshot_world.specs.declared.trace.Made.{Made}
+use Rattle.oneshot_laws.specs.Object.{Object}
+use Rattle.oneshot_laws.specs.Actions.{is_end_of_sender, is_end_of_receiver}
+use Rattle.oneshot_laws.specs.Marks.{Mark, call_under_way, object_then}
+use Rattle.oneshot_laws.specs.Holders.{acts_last}
+use Rattle.oneshot_laws.proofs.HistoryReader.{kind, Watch, Reader, hits, object_by, watch_at, reads}
+use Rattle.oneshot_laws.proofs.Watched.{left_after}
+
+-- `last` is whether the call that ends its end acts here, and `next` is the object afterwards.
+pub record Glance : Type 0 where
+  pub entry : Made
+  pub call : Call
+  pub begins : Bool
+  pub last : Bool
+  pub object : Object
+  pub next : Object
+
+abbrev pub glance_of : Mark → Glance
+glance_of m =
+    record {
+      entry = m.entry;
+      call = m.call;
+      begins = m.begins;
+      last = acts_last m;
+      object = m.object;
+      next = object_then m;
+    }
+
+-- the same, as the reader sees it
+abbrev pub glance_at : Call → Made → Object → Watch → Glance
+glance_at call e o x =
+    record {
+      entry = e;
+      call = call;
+      begins = not x.begun;
+      last = hits (kind call) e x && (is_end_of_sender call || is_end_of_receiver call);
+      object = o;
+      next = object_by call e o x;
+    }
+
+abbrev pub glances : Reader → Unanswered → Unanswered → List Entry → List Glance
+glances m s r [] = []
+glances m s r (Idle side ∷ es) = glances m s r es
+glances m s r (Made_entry e ∷ es) =
+    glance_at (call_under_way (by_end e.side s r)) e m.object (watch_at e.side m)
+    ∷ glances (reads e.side (call_under_way (by_end e.side s r)) e m) (left_after e.side Sender e.reply s) (left_after e.side Receiver e.reply r) es
