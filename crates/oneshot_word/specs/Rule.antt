@@ -1,4 +1,4 @@
--- The rule of the table as its steps keep it: the word for each pair of phases in which the ends can be, and where each slot is.
+-- The rule of the table as its steps keep it: the word for each pair of phases, and where each slot is.
 use Rattle.std.specs.Prelude.{◌≡◌, ℕ, Bool, true, false, ◌||◌, if◌then◌else◌, List, [], ◌∷◌, Option, Some, None}
 use mathlib.Core.Option as maybe
 use Rattle.oneshot_machine.specs.Words.{Noted}
@@ -82,10 +82,12 @@ has_slots None = (false, false)
 
 -- what is at home of a slot: nothing while it is an end's
 abbrev pub message_home : SenderAt → ReceiverAt → Share
-message_home p q = if (has_slots (sender_owns p)).0 || (has_slots (receiver_owns q)).0 then none else message_left p
+message_home p q =
+    if (has_slots (sender_owns p)).0 || (has_slots (receiver_owns q)).0 then none else message_left p
 
 abbrev pub waker_home : SenderAt → ReceiverAt → Share
-waker_home p q = if (has_slots (sender_owns p)).1 || (has_slots (receiver_owns q)).1 then none else waker_left p q
+waker_home p q =
+    if (has_slots (sender_owns p)).1 || (has_slots (receiver_owns q)).1 then none else waker_left p q
 
 -- a home of which the table has this share
 pub data Lies {T H K X : Type 0} (put : X → Slot T H K) : Share → Home T H K → Type 0 where
@@ -98,9 +100,11 @@ pub data Is : Option ℕ → ℕ → Type 0 where
   is : {word : ℕ} → Is (Some word) word
 
 -- the sender, the receiver, the word, and what is at home of the message's slot and of the waker's
-pub data Meet (T H K : Type 0) (p : SenderAt) (q : ReceiverAt) : ℕ → Home T H K → Home T H K → Type 0 where
+pub data Meet (T H K : Type 0) (p : SenderAt) (q : ReceiverAt)
+    : ℕ → Home T H K → Home T H K → Type 0 where
   meet : {word : ℕ} {h k : Home T H K} → Is (word_between p q) word
-      → Lies Message (message_home p q) h → Lies with_waker (waker_home p q) k → Meet T H K p q word h k
+      → Lies Message (message_home p q) h → Lies with_waker (waker_home p q) k
+      → Meet T H K p q word h k
 
 -- what a list says that is so far
 abbrev pub stores_of : ReceiverAt → Bool

@@ -68,7 +68,8 @@ module _ {T H K : Type 0} where
   WakerSlot = SlotOf with_waker
 
 -- what a seat carries of the slot with this number, where it is its end's, and where it is not
-pub data Part {T H K X : Type 0} (place : ℕ) (put : X → Slot T H K) : Bool → Carried T H K → Held X → Type 0 where
+pub data Part {T H K X : Type 0} (place : ℕ) (put : X → Slot T H K)
+    : Bool → Carried T H K → Held X → Type 0 where
   not_carried : Part place put false [] away
   carried : {s : Slot T H K} {x : Held X} → SlotOf put s x → Part place put true ((place, s) ∷ []) x
 
@@ -84,7 +85,8 @@ module _ {T H K : Type 0} where
   carried_as waker_first message waker = waker ++ message
 
   -- what a seat carries whose end has these slots
-  pub data SeatOf (front : Front) : Option (Bool × Bool) → Carried T H K → Held T → Held (Rouse H K) → Type 0 where
+  pub data SeatOf (front : Front)
+      : Option (Bool × Bool) → Carried T H K → Held T → Held (Rouse H K) → Type 0 where
     seat_of : {message waker : Bool} {cm cw : Carried T H K} {m : Held T} {w : Held (Rouse H K)}
         → Part 0 Message message cm m → Part 1 with_waker waker cw w
         → SeatOf front (Some (message, waker)) (carried_as front cm cw) m w
@@ -109,7 +111,8 @@ module _ {T H K : Type 0} where
   ReceiverSeat = SeatIs Receiver message_first (λ ys. receiver_owns (receiver_at ys))
 
 -- a seat before and after an operation that found this word
-pub record Stepped {T H K At : Type 0} (Seat : Me (Slot T H K) View → Type 0) (at : List Noted → At) (moves : At → List (Row At))
+pub record Stepped {T H K At : Type 0} (Seat : Me (Slot T H K) View → Type 0)
+    (at : List Noted → At) (moves : At → List (Row At))
     (before : Me (Slot T H K) View) (op : Op) (word : ℕ) (after : Me (Slot T H K) View) : Type 0 where
   pub list : after.0.steps ≡ before.0.steps ++ (op, saw op word) ∷ []
   pub seat : Seat after
