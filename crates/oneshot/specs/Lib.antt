@@ -14,14 +14,14 @@ pub use Rattle.oneshot_machine.specs.Logs
 pub use Rattle.oneshot_machine.specs.Phases
 pub use Rattle.oneshot_machine.specs.Runs
 pub use Rattle.oneshot_machine.specs.Slots
-pub use Rattle.oneshot_machine.specs.Words
+pub use Rattle.oneshot_machine.specs.Noted
 pub use Rattle.oneshot_memory.specs.Cells
 pub use Rattle.oneshot_memory.specs.Events
 pub use Rattle.oneshot_memory.specs.Receiver as ReceiverMemory
 pub use Rattle.oneshot_memory.specs.Sender as SenderMemory
 -- what those of the machines name
 pub use Rattle.oneshot_machine.specs.Receiver
-pub use Rattle.oneshot_machine.specs.Rows
+pub use Rattle.oneshot_machine.specs.TableRows
 pub use Rattle.oneshot_machine.specs.Sender
 pub use Rattle.oneshot_machine.specs.States
 pub use Rattle.oneshot_machine.specs.declared.machine.Reply
@@ -29,7 +29,7 @@ pub use Rattle.oneshot_machine.specs.declared.machine.receiver.ReceiverStart
 pub use Rattle.oneshot_machine.specs.declared.machine.sender.SenderCall
 -- what those of `replay` name
 pub use Rattle.oneshot_replay.specs.Rest
-pub use Rattle.oneshot_replay.specs.Told
+pub use Rattle.oneshot_replay.specs.TraceView
 pub use Rattle.oneshot_replay.specs.declared.rest.Rest as RestOf
 pub use Rattle.oneshot_world.specs.Calls as ScriptCalls
 pub use Rattle.oneshot_world.specs.Scripts

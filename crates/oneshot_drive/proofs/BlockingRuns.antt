@@ -18,9 +18,9 @@ use Rattle.oneshot_machine.specs.declared.machine.value.ValuePos.TheVariants.{Re
 use Rattle.oneshot_machine.specs.declared.machine.receiver.ReceiverStart.TheVariants.{Recv, RecvTimeout}
 use Rattle.oneshot_machine.specs.declared.states.Op.TheVariants.{Store}
 use Rattle.oneshot_machine.specs.Logs.{Log, Grows, receiver_of, did, took, clocked, worded}
-use Rattle.oneshot_machine.specs.Phases.{between, ReceiverAt, here, at_once, waited, Closing, closed_itself, over, receiver_next}
+use Rattle.oneshot_machine.specs.Phases.{between, ReceiverAt, here, at_once, waited, Closing, closed_itself, disconnected, receiver_next}
 use Rattle.oneshot_machine.specs.Receiver.{receiver_step, receiver_row}
-use Rattle.oneshot_machine.specs.Rows.{Goes}
+use Rattle.oneshot_machine.specs.TableRows.{Goes}
 use Rattle.oneshot_machine.specs.Runs.{last, more, Ran, ReceiverRan}
 use Rattle.oneshot_machine.specs.Slots.{Held, vacant, held, ReceiverMay, may_close, may_close_only, ReceiverFinds, close, close_only}
 use Rattle.oneshot_machine.proofs.GrownLists.{receiver_moved, and_then}
@@ -53,7 +53,7 @@ module _ {T W : Type 0} where
   -- it is closed, with empty slots
   pub record IsOver (q : ReceiverAt) (m : Held T) (w : Held W) : Type 0 where
     pub closing : Closing
-    pub at : q ≡ over closing
+    pub at : q ≡ disconnected closing
     pub message : m ≡ vacant
     pub waker : w ≡ vacant
 
@@ -130,14 +130,14 @@ module _ {T W : Type 0} where
   hand_back F.Nothing at hand = elim at [ ]
 
 -- the hand after the call
-pub hands : {W : Type 0} {hand after : Option W} {q : ReceiverAt} → Returns hand after → (c : Closing) → q ≡ over c → Hands hand after q
+pub hands : {W : Type 0} {hand after : Option W} {q : ReceiverAt} → Returns hand after → (c : Closing) → q ≡ disconnected c → Hands hand after q
 hands {q} (returned hand) c at = as_it_was hand q
 hands (taken k) c at = rw at (sender_took k c)
 
 pub out_hands : {W : Type 0} {hand after : Option W} {q : ReceiverAt} → Refills hand after → q ≡ here between → Hands hand after q
 out_hands (refilled k back) at = rw at (came_back k back)
 
-pub full_leaves : {T : Type 0} {q : ReceiverAt} (x : T) → q ≡ over closed_itself → LeavesTimed (Ok x) q
+pub full_leaves : {T : Type 0} {q : ReceiverAt} (x : T) → q ≡ disconnected closed_itself → LeavesTimed (Ok x) q
 full_leaves x at = subst (λ q. LeavesTimed (Ok x) q) (sym at) (timed_received x)
 
 pub out_leaves : {T : Type 0} {q : ReceiverAt} → q ≡ here between → LeavesTimed {T = T} (Err Timed.Timeout) q

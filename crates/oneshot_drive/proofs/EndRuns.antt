@@ -12,7 +12,7 @@ use Rattle.oneshot_machine.specs.declared.states.Op.TheVariants.{Load, Swap, Exc
 use Rattle.oneshot_machine.specs.Logs.{Log, Grows, receiver_of, handed, worded}
 use Rattle.oneshot_machine.specs.Phases.{ReceiverAt, looked}
 use Rattle.oneshot_machine.specs.Receiver.{receiver_step, receiver_row}
-use Rattle.oneshot_machine.specs.Rows.{Goes}
+use Rattle.oneshot_machine.specs.TableRows.{Goes}
 use Rattle.oneshot_machine.specs.Runs.{Ran, ReceiverRan}
 use Rattle.oneshot_machine.specs.Slots.{Held, vacant, ReceiverMay, may_drop_full, may_drop_future, may_drop_withdrew, ReceiverFinds, drop_full, drop_future, drop_withdrew_empty, drop_withdrew_message, drop_withdrew_closed}
 use Rattle.oneshot_drive.specs.Blocking.{Went}

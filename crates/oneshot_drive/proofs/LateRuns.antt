@@ -9,11 +9,11 @@ use Rattle.oneshot_machine.specs.declared.machine.receiver.ReceiverPos.TheVarian
 use Rattle.oneshot_machine.specs.declared.machine.timed.TimedPos.TheVariants.{EndSwap, EndBack, LatePark, LateLoad}
 use Rattle.oneshot_machine.specs.declared.states.Op.TheVariants.{Load, Swap}
 use Rattle.oneshot_machine.specs.Logs.{Log, Grows, receiver_of, handed, parked, worded}
-use Rattle.oneshot_machine.specs.Phases.{ReceiverAt, here, between, overdue, full, waited, unclosed, found_closed, over, receiver_next}
+use Rattle.oneshot_machine.specs.Phases.{ReceiverAt, here, between, overdue, full, waited, unclosed, found_closed, disconnected, receiver_next}
 use Rattle.oneshot_machine.specs.Receiver.{receiver_row}
-use Rattle.oneshot_machine.specs.Rows.{Outcome, Goes}
+use Rattle.oneshot_machine.specs.TableRows.{Outcome, Goes}
 use Rattle.oneshot_machine.specs.Slots.{Held, away, vacant, held, ReceiverMay, may_stop, may_wait_on, ReceiverFinds, stop_waiting, stop_claimed, stop_message, stop_closed, overdue_longer, overdue_message, overdue_closed}
-use Rattle.oneshot_machine.specs.Words.{saw}
+use Rattle.oneshot_machine.specs.Noted.{saw}
 use Rattle.oneshot_machine.proofs.GrownLists.{receiver_moved}
 use Rattle.oneshot_drive.specs.Blocking.{Went, ref_end, EndsAt, ends_waited, ends_closed, ends_unclosed, ends_nothing, IsWaiting, is_waiting, IsOverdue, is_overdue, Parks, parks_overdue}
 use Rattle.oneshot_drive.proofs.Stretches.{on, by_word, by_withdraw, by_park}
@@ -102,7 +102,7 @@ module _ {T W : Type 0} where
   pub data Ended : ℕ → ReceiverAt → Held T → Held W → Type 0 where
     ended_early : Ended 3 overdue away away
     ended_message : (x : T) → Ended 4 (full waited 4) (held x) vacant
-    ended_closed : Ended 2 (over found_closed) vacant vacant
+    ended_closed : Ended 2 (disconnected found_closed) vacant vacant
 
   ends : {q : ReceiverAt} {m m' : Held T} {w w' : Held W} (n : ℕ) → IsOverdue q m w → ReceiverFinds q Load n m w m' w' → Ended n (receiver_next q Load (S.Word n)) m' w'
   ends _ is_overdue overdue_longer = ended_early

@@ -14,12 +14,12 @@ use Rattle.oneshot_machine.specs.declared.machine.future.FuturePos.TheVariants.{
 use Rattle.oneshot_machine.specs.declared.machine.receiver.ReceiverStart.TheVariants as C
 use Rattle.oneshot_machine.specs.declared.states.Op.TheVariants.{Load, Store, Exchange}
 use Rattle.oneshot_machine.specs.Logs.{Log, Grows, receiver_of, did, took, handed, copied, worded}
-use Rattle.oneshot_machine.specs.Phases.{ReceiverAt, here, looked, waits, polled, again, claimed, withdrew, full, Got, at_once, waited, by_future, by_poll, Closing, found_closed, closed_itself, over, resolved, receiver_next, receiver_at}
+use Rattle.oneshot_machine.specs.Phases.{ReceiverAt, here, looked, waits, polled, again, claimed, withdrew, full, Got, at_once, waited, by_future, by_poll, Closing, found_closed, closed_itself, disconnected, resolved, receiver_next, receiver_at}
 use Rattle.oneshot_machine.specs.Receiver.{receiver_step, receiver_row}
-use Rattle.oneshot_machine.specs.Rows.{Outcome, Goes, Answers}
+use Rattle.oneshot_machine.specs.TableRows.{Outcome, Goes, Answers}
 use Rattle.oneshot_machine.specs.Runs.{last, more, ReceiverRan}
 use Rattle.oneshot_machine.specs.Slots.{Held, away, vacant, held, ReceiverMay, may_load_first, may_load, may_load_closed, may_load_resolved, may_wait, may_store_if, may_store_again, may_stop_if, may_spin, may_close, ReceiverFinds, first_empty, first_message, first_closed, load_empty, load_message, load_closed, load_over, load_resolved, wait_longer, wait_claimed, wait_message, wait_closed, if_empty, if_message, if_closed, again_empty, again_message, again_closed, back_waiting, back_claimed, back_message, back_closed, spin_longer, spin_message, spin_closed, close}
-use Rattle.oneshot_machine.specs.Words.{saw}
+use Rattle.oneshot_machine.specs.Noted.{saw}
 use Rattle.oneshot_machine.proofs.GrownLists.{words_stay, receiver_moved, and_then}
 use Rattle.oneshot_drive.specs.Blocking.{Went, HasLooked, has_looked}
 use Rattle.oneshot_drive.specs.Calls.{rests_new, rests_open, rests_closed}
@@ -29,7 +29,7 @@ use Rattle.oneshot_drive.proofs.WaitingRuns.{unmoved, withdrew_at}
 
 -- one that its own store closed
 pub data ClosedItself : ReceiverAt → Type 0 where
-  closed_over : ClosedItself (over closed_itself)
+  closed_over : ClosedItself (disconnected closed_itself)
   closed_resolved : ClosedItself (resolved closed_itself)
 
 pub resolved_leaves : {T : Type 0} {q : ReceiverAt} (x : T) → ClosedItself q → LeavesPolled (Ready (Ok x)) q
@@ -50,7 +50,7 @@ module _ {T W : Type 0} where
   pub data Met : ℕ → ReceiverAt → Held T → Held W → Type 0 where
     met_message : {g : Got} → MayDrop g → (x : T) → Met 4 (full g 4) (held x) vacant
     met_empty : Met 3 (here looked) away vacant
-    met_closed : (c : Closing) → Met 2 (over c) vacant vacant
+    met_closed : (c : Closing) → Met 2 (disconnected c) vacant vacant
     met_copy : Met 0 (waits again) away away
     met_sender : Met 1 claimed away away
 
@@ -230,7 +230,7 @@ module _ {T W : Type 0} where
     backed_copy : (k : W) → Backed 0 withdrew away (held k)
     backed_sender : Backed 1 claimed away away
     backed_message : (x : T) → Backed 4 (full by_future 4) (held x) vacant
-    backed_over : Backed 2 (over found_closed) vacant vacant
+    backed_over : Backed 2 (disconnected found_closed) vacant vacant
 
   backs : {q : ReceiverAt} {m m' : Held T} {w w' : Held W} (n : ℕ) → FindsCopy q m w → ReceiverFinds q (Exchange 0 3) n m w m' w' → Backed n (receiver_next q (Exchange 0 3) (S.Word n)) m' w'
   backs _ finds_copy (back_waiting k) = backed_copy k
@@ -316,7 +316,7 @@ module _ {T W : Type 0} where
   pub data Spun : ℕ → ReceiverAt → Held T → Held W → Type 0 where
     spun_longer : Spun 1 claimed away away
     spun_message : (x : T) → Spun 4 (full by_future 4) (held x) vacant
-    spun_closed : Spun 2 (over found_closed) vacant vacant
+    spun_closed : Spun 2 (disconnected found_closed) vacant vacant
 
   spin_finds : {q : ReceiverAt} {m m' : Held T} {w w' : Held W} (n : ℕ) → Spins q m w → ReceiverFinds q Load n m w m' w' → Spun n (receiver_next q Load (S.Word n)) m' w'
   spin_finds _ spins spin_longer = spun_longer

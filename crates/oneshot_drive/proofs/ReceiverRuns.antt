@@ -10,7 +10,7 @@ use Rattle.oneshot_machine.specs.declared.machine.drop.DropPos.TheVariants.{Drop
 use Rattle.oneshot_machine.specs.declared.machine.receiver.ReceiverStart.TheVariants.{TryRecv, Drop}
 use Rattle.oneshot_machine.specs.declared.states.Op.TheVariants.{Load, Store, Swap}
 use Rattle.oneshot_machine.specs.Logs.{Log, Grows, receiver_of, did, took, worded}
-use Rattle.oneshot_machine.specs.Phases.{ReceiverAt, here, looked, full, at_once, Closing, found_closed, closed_itself, over, receiver_next, receiver_at}
+use Rattle.oneshot_machine.specs.Phases.{ReceiverAt, here, looked, full, at_once, Closing, found_closed, closed_itself, disconnected, receiver_next, receiver_at}
 use Rattle.oneshot_machine.specs.Runs.{last, more, ReceiverRan}
 use Rattle.oneshot_machine.specs.Slots.{Held, away, vacant, held, ReceiverMay, may_load_first, may_load, may_load_closed, may_close, may_drop_first, may_drop, may_drop_closed, ReceiverFinds, first_empty, first_message, first_closed, load_empty, load_message, load_closed, load_over, load_resolved, close, drop_first_empty, drop_first_message, drop_first_closed, drop_empty, drop_message, drop_closed, drop_over}
 use Rattle.oneshot_machine.proofs.GrownLists.{words_stay, receiver_moved, and_then}
@@ -27,7 +27,7 @@ module _ {T W : Type 0} where
   pub data Loaded : ℕ → ReceiverAt → Held T → Held W → Type 0 where
     loaded_message : (x : T) → Loaded 4 (full at_once 4) (held x) vacant
     loaded_empty : Loaded 3 (here looked) away vacant
-    loaded_closed : (c : Closing) → Loaded 2 (over c) vacant vacant
+    loaded_closed : (c : Closing) → Loaded 2 (disconnected c) vacant vacant
 
   loads : {q : ReceiverAt} {m m' : Held T} {w w' : Held W} (n : ℕ) → AtRest q m w → ReceiverFinds q Load n m w m' w' → Loaded n (receiver_next q Load (S.Word n)) m' w'
   loads _ rests_new first_empty = loaded_empty
@@ -48,7 +48,7 @@ module _ {T W : Type 0} where
 
   -- it closed, and has its message
   pub record HasClosed (q : ReceiverAt) (m : Held T) (w : Held W) : Type 0 where
-    pub at : q ≡ over closed_itself
+    pub at : q ≡ disconnected closed_itself
     pub message : (x : T) × (m ≡ held x)
     pub waker : w ≡ vacant
 
@@ -61,7 +61,7 @@ module _ {T W : Type 0} where
   closed {m'} {w'} r found e finds grows = subst (λ q. HasClosed q m' w') (sym (receiver_moved (Store 2) r grows)) (closes found e finds)
 
   -- and took it
-  pub took_at : {j z : Log T W} {m : Held T} {w : Held W} (x : T) → HasClosed (receiver_of j) m w → Grows j z (took x ∷ []) → receiver_of z ≡ over closed_itself
+  pub took_at : {j z : Log T W} {m : Held T} {w : Held W} (x : T) → HasClosed (receiver_of j) m w → Grows j z (took x ∷ []) → receiver_of z ≡ disconnected closed_itself
   took_at x has grows = ap receiver_at (words_stay (took x ∷ []) refl grows) ∙ has.at
 
   pub took_rests : {j z : Log T W} {m m' : Held T} {w w' : Held W} (x : T) → HasClosed (receiver_of j) m w → Grows j z (took x ∷ []) → m' ≡ vacant → w' ≡ w → AtRest (receiver_of z) m' w'

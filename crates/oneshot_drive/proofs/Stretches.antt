@@ -9,9 +9,9 @@ use Rattle.oneshot_machine.specs.declared.machine.receiver.ReceiverPos.{Receiver
 use Rattle.oneshot_machine.specs.declared.states.Op.{Op}
 use Rattle.oneshot_machine.specs.Logs.{Event, Log, Grows, kept, did, handed, parked, clocked, copied, worded, when_written, when_taken, messages_given, messages_got}
 use Rattle.oneshot_machine.specs.Receiver.{receiver_step, receiver_row}
-use Rattle.oneshot_machine.specs.Rows.{Outcome, Goes, Answers}
+use Rattle.oneshot_machine.specs.TableRows.{Outcome, Goes, Answers}
 use Rattle.oneshot_machine.specs.Runs.{Run, last, more, Ran}
-use Rattle.oneshot_machine.specs.Words.{saw}
+use Rattle.oneshot_machine.specs.Noted.{saw}
 use Rattle.oneshot_machine.proofs.GrownLists.{and_then}
 use Rattle.oneshot_drive.specs.Blocking.{Stretch, nothing, answers, onward, Went}
 
@@ -56,7 +56,7 @@ module _ {T W : Type 0} where
 
   -- no step
   pub stays : (a : Log T W) → Grows a a []
-  stays a = record { whole = refl; place = refl; list = sym (append-nil a.list) ∙ ap (λ l. a.list ++ l) (sym (kept_none a.whole)) }
+  stays a = record { whole = refl; channel = refl; list = sym (append-nil a.list) ∙ ap (λ l. a.list ++ l) (sym (kept_none a.whole)) }
 
   pub begun : (p : ReceiverPos) (a : Log T W) → Went p (Goes p) a a
   begun p a = record { steps = []; grows = stays a; gives = refl; gets = refl; leads = nothing }

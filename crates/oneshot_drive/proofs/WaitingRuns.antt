@@ -11,8 +11,8 @@ use Rattle.oneshot_machine.specs.declared.machine.timed.TimedPos.TheVariants.{Cl
 use Rattle.oneshot_machine.specs.declared.machine.value.ValuePos.TheVariants.{RecvSwap, RecvBackFull, RecvBackClosed, RecvPark, RecvParkLoad}
 use Rattle.oneshot_machine.specs.declared.states.Op.TheVariants.{Load, Swap}
 use Rattle.oneshot_machine.specs.Logs.{Log, Grows, receiver_of, handed, parked, clocked, worded}
-use Rattle.oneshot_machine.specs.Phases.{ReceiverAt, here, looked, waits, blocked, full, waited, unclosed, found_closed, over, receiver_next, receiver_at}
-use Rattle.oneshot_machine.specs.Rows.{Outcome, Goes}
+use Rattle.oneshot_machine.specs.Phases.{ReceiverAt, here, looked, waits, blocked, full, waited, unclosed, found_closed, disconnected, receiver_next, receiver_at}
+use Rattle.oneshot_machine.specs.TableRows.{Outcome, Goes}
 use Rattle.oneshot_machine.specs.Slots.{Held, away, vacant, held, ReceiverMay, may_store, may_wait, ReceiverFinds, store_empty, store_message, store_closed, wait_longer, wait_claimed, wait_message, wait_closed}
 use Rattle.oneshot_machine.proofs.GrownLists.{words_stay, receiver_moved}
 use Rattle.oneshot_drive.specs.Blocking.{Went, Way, by_ref, by_value, load_of, write_of, wait_of, asked_of, ref_end, end_of, EndsAt, ends_at_once, ends_waited, ends_closed, ends_unclosed, HasLooked, has_looked, IsWaiting, is_waiting, Returns, returned, taken, refilled, HandAt, WaitedHand, Parks, parks_waiting}
@@ -73,7 +73,7 @@ module _ {T W : Type 0} where
     woke_early : Woke 0 (waits blocked) away away
     woke_claimed : Woke 1 (waits blocked) away away
     woke_message : (x : T) → Woke 4 (full waited 4) (held x) vacant
-    woke_closed : Woke 2 (over found_closed) vacant vacant
+    woke_closed : Woke 2 (disconnected found_closed) vacant vacant
 
   wakes : {q : ReceiverAt} {m m' : Held T} {w w' : Held W} (n : ℕ) → IsWaiting q m w → ReceiverFinds q Load n m w m' w' → Woke n (receiver_next q Load (S.Word n)) m' w'
   wakes _ is_waiting (wait_longer _) = woke_early

@@ -10,7 +10,7 @@ use Rattle.oneshot_machine.specs.declared.machine.Reply.TheVariants.{Sent, Refus
 use Rattle.oneshot_machine.specs.declared.machine.Step.TheVariants.{TakeWaker, Wake}
 use Rattle.oneshot_machine.specs.declared.states.Op.TheVariants.{Swap}
 use Rattle.oneshot_machine.specs.Logs.{Event, Log, Grows, sender_of, handed, worded}
-use Rattle.oneshot_machine.specs.Phases.{By, SenderAt, fresh, late, Closing, closed_itself, Open, looked, between, Waiting, ReceiverAt, first, here, waits, claimed, over, resolved}
+use Rattle.oneshot_machine.specs.Phases.{By, SenderAt, fresh, late, Closing, closed_itself, Open, looked, between, Waiting, ReceiverAt, first, here, waits, claimed, disconnected, resolved}
 use Rattle.oneshot_machine.specs.Slots.{Held, vacant, held, SenderMay}
 use Rattle.oneshot_drive.specs.Grounds.{State, SenderStands, StandsIn}
 
@@ -54,14 +54,14 @@ pub record Finishes {T W : Type 0} (last : ℕ) (before after : Log T W) : Type 
 pub data Rests : ReceiverAt → Type 0 where
   rests_new : Rests first
   rests_open : (o : Open) → Rests (here o)
-  rests_closed : (c : Closing) → Rests (over c)
+  rests_closed : (c : Closing) → Rests (disconnected c)
 
 -- a receiver between two calls
 abbrev pub AtRest : {T W : Type 0} → State T W → Type 0
 AtRest = StandsIn Rests
 
 pub data IsClosed : ReceiverAt → Type 0 where
-  is_over : (c : Closing) → IsClosed (over c)
+  is_over : (c : Closing) → IsClosed (disconnected c)
   is_resolved : (c : Closing) → IsClosed (resolved c)
 
 pub data IsOpen : ReceiverAt → Type 0 where
@@ -73,20 +73,20 @@ pub data IsOpen : ReceiverAt → Type 0 where
 
 -- The message and the disconnected error leave a receiver closed, and `Empty` leaves it open.
 pub data Leaves {T : Type 0} : Result T TryRecvError → ReceiverAt → Type 0 where
-  leaves_received : (x : T) → Leaves (Ok x) (over closed_itself)
+  leaves_received : (x : T) → Leaves (Ok x) (disconnected closed_itself)
   leaves_open : Leaves (Err E.Empty) (here looked)
-  leaves_closed : (c : Closing) → Leaves (Err E.Disconnected) (over c)
+  leaves_closed : (c : Closing) → Leaves (Err E.Disconnected) (disconnected c)
 
 -- So does a receive that blocks, but for `Empty`.
 pub data LeavesClosed {T : Type 0} : Result T RecvError → ReceiverAt → Type 0 where
-  left_received : (x : T) → LeavesClosed (Ok x) (over closed_itself)
-  left_closed : (e : RecvError) (c : Closing) → LeavesClosed (Err e) (over c)
+  left_received : (x : T) → LeavesClosed (Ok x) (disconnected closed_itself)
+  left_closed : (e : RecvError) (c : Closing) → LeavesClosed (Err e) (disconnected c)
 
 -- One with a deadline leaves it open where the deadline was over first.
 pub data LeavesTimed {T : Type 0} : Result T RecvTimeoutError → ReceiverAt → Type 0 where
-  timed_received : (x : T) → LeavesTimed (Ok x) (over closed_itself)
+  timed_received : (x : T) → LeavesTimed (Ok x) (disconnected closed_itself)
   timed_out : LeavesTimed (Err Timed.Timeout) (here between)
-  timed_closed : (c : Closing) → LeavesTimed (Err Timed.Disconnected) (over c)
+  timed_closed : (c : Closing) → LeavesTimed (Err Timed.Disconnected) (disconnected c)
 
 -- The hand of a receiver that may block: its waker is in it, unless the receiver is closed.
 abbrev pub IsReady : {W : Type 0} → Option W → ReceiverAt → Type 0
@@ -97,7 +97,7 @@ IsReady hand q = hand ≡ None → IsClosed q
 -- the hand again, which may be another.
 pub data Hands {W : Type 0} : Option W → Option W → ReceiverAt → Type 0 where
   as_it_was : (hand : Option W) (q : ReceiverAt) → Hands hand hand q
-  sender_took : (k : W) (c : Closing) → Hands (Some k) None (over c)
+  sender_took : (k : W) (c : Closing) → Hands (Some k) None (disconnected c)
   came_back : (k back : W) → Hands (Some k) (Some back) (here between)
 
 abbrev pub send_reply : Bool → Reply

@@ -13,9 +13,9 @@ use Rattle.oneshot_machine.specs.declared.machine.value.ValuePos.TheVariants.{Re
 use Rattle.oneshot_machine.specs.declared.machine.Seen.TheVariants.{Done}
 use Rattle.oneshot_machine.specs.declared.states.Op.TheVariants.{Store}
 use Rattle.oneshot_machine.specs.Logs.{Event, Log, Grows, messages_given, messages_got}
-use Rattle.oneshot_machine.specs.Phases.{Closing, closed_itself, Got, Swapping, Waiting, between, ReceiverAt, here, waits, overdue, full, unclosed, over, receiver_next}
+use Rattle.oneshot_machine.specs.Phases.{Closing, closed_itself, Got, Swapping, Waiting, between, ReceiverAt, here, waits, overdue, full, unclosed, disconnected, receiver_next}
 use Rattle.oneshot_machine.specs.Receiver.{receiver_step, receiver_row}
-use Rattle.oneshot_machine.specs.Rows.{Outcome, Goes, Answers}
+use Rattle.oneshot_machine.specs.TableRows.{Outcome, Goes, Answers}
 use Rattle.oneshot_drive.specs.Grounds.{State, Stands}
 
 -- From this position these steps lead on: to another position, or to a reply.
@@ -80,8 +80,8 @@ end_of by_value = value_end
 -- how the receiver stands then: only a deadline ends a receive with nothing found
 abbrev pub EndsAt : {T W : Type 0} → Bool → Found → State T W → Type 0
 EndsAt timed F.Message s =
-    (g : Got) × (receiver_next (full g) (Store 2) Done ≡ over closed_itself) × Stands (full g) s
-EndsAt timed F.Closed s = (c : Closing) × Stands (over c) s
+    (g : Got) × (receiver_next (full g) (Store 2) Done ≡ disconnected closed_itself) × Stands (full g) s
+EndsAt timed F.Closed s = (c : Closing) × Stands (disconnected c) s
 EndsAt timed F.Unclosed s = (by : Swapping) × Stands (unclosed by) s
 EndsAt timed F.Nothing s = (timed ≡ true) × Stands (here between) s
 

@@ -10,12 +10,12 @@ use Rattle.oneshot_machine.specs.declared.machine.Reply.TheVariants as R
 use Rattle.oneshot_machine.specs.declared.machine.receiver.ReceiverPos.{ReceiverPos}
 use Rattle.oneshot_machine.specs.declared.machine.receiver.ReceiverPos.TheVariants.{Look}
 use Rattle.oneshot_machine.specs.declared.machine.look.LookPos.TheVariants.{Close}
-use Rattle.oneshot_machine.specs.Phases.{Closing, closed_itself, Got, looked, polled, again, ReceiverAt, here, waits, claimed, full, over, resolved}
+use Rattle.oneshot_machine.specs.Phases.{Closing, closed_itself, Got, looked, polled, again, ReceiverAt, here, waits, claimed, full, disconnected, resolved}
 use Rattle.oneshot_machine.specs.declared.machine.Step.{Step}
 use Rattle.oneshot_machine.specs.declared.machine.Step.TheVariants.{WriteWaker, Copy}
 use Rattle.oneshot_machine.specs.declared.states.Op.TheVariants.{Exchange}
 use Rattle.oneshot_machine.specs.Logs.{Event, Log, Grows, receiver_of}
-use Rattle.oneshot_machine.specs.Rows.{Outcome, Goes, Answers}
+use Rattle.oneshot_machine.specs.TableRows.{Outcome, Goes, Answers}
 use Rattle.oneshot_machine.specs.Slots.{vacant, held, ReceiverMay}
 use Rattle.oneshot_drive.specs.Grounds.{State, Stands, StandsIn}
 use Rattle.oneshot_drive.specs.BetweenCalls.{Rests, IsClosed, received}
@@ -39,9 +39,9 @@ IsPolled = StandsIn Polled
 
 -- The message and the disconnected error leave it closed, and `Pending` leaves it open.
 pub data LeavesPolled {T : Type 0} : Poll (Result T RecvError) → ReceiverAt → Type 0 where
-  leaves_received : (x : T) → LeavesPolled (Ready (Ok x)) (over closed_itself)
+  leaves_received : (x : T) → LeavesPolled (Ready (Ok x)) (disconnected closed_itself)
   leaves_resolved : (x : T) → LeavesPolled (Ready (Ok x)) (resolved closed_itself)
-  leaves_over : (e : RecvError) (c : Closing) → LeavesPolled (Ready (Err e)) (over c)
+  leaves_over : (e : RecvError) (c : Closing) → LeavesPolled (Ready (Err e)) (disconnected c)
   leaves_gone : (e : RecvError) (c : Closing) → LeavesPolled (Ready (Err e)) (resolved c)
   leaves_uncopied : LeavesPolled Pending (here looked)
   leaves_waiting : LeavesPolled Pending (waits polled)

@@ -12,7 +12,7 @@ ghost use Rattle.oneshot_machine.specs.declared.states.Op.TheVariants.{Swap};
 ghost use Rattle.oneshot_machine.specs.Logs.{receiver_of};
 ghost use Rattle.oneshot_machine.specs.Phases.{here, looked, waits, again, claimed};
 ghost use Rattle.oneshot_machine.specs.Runs.{ReceiverRan};
-ghost use Rattle.oneshot_machine.specs.Rows.{Goes};
+ghost use Rattle.oneshot_machine.specs.TableRows.{Goes};
 ghost use Rattle.oneshot_drive.specs.declared.waiting.Found.TheVariants as F;
 ghost use Rattle.oneshot_drive.specs.Blocking.{Went};
 ghost use Rattle.oneshot_drive.specs.BetweenCalls.{IsClosed};

@@ -5,7 +5,7 @@ ghost use Rattle.oneshot_machine.specs.declared.machine.receiver.ReceiverPos.The
 ghost use Rattle.oneshot_machine.specs.declared.machine.timed.TimedPos.TheVariants.{EndSwap, LatePark};
 ghost use Rattle.oneshot_machine.specs.Logs.{receiver_of};
 ghost use Rattle.oneshot_machine.specs.Phases.{here, looked, waits, blocked, overdue};
-ghost use Rattle.oneshot_machine.specs.Rows.{Goes};
+ghost use Rattle.oneshot_machine.specs.TableRows.{Goes};
 ghost use Rattle.oneshot_drive.specs.declared.waiting.Found.TheVariants as F;
 ghost use Rattle.oneshot_drive.specs.Blocking.{Went, Way, load_of, write_of, wait_of, asked_of, ref_end, end_of, EndsAt, HandAt, WaitedHand};
 ghost use Rattle.oneshot_drive.specs.BetweenCalls.{AtRest, IsClosed, IsReady};

@@ -12,7 +12,7 @@ use Rattle.oneshot_machine.specs.Phases.{ReceiverAt, receiver_at}
 use Rattle.oneshot_machine.specs.Receiver.{receiver_start, receiver_step, receiver_row}
 use Rattle.oneshot_machine.specs.Runs.{ReceiverRan}
 use Rattle.oneshot_machine.specs.Slots.{Held, away, vacant, held}
-use Rattle.oneshot_machine.specs.Words.{Noted}
+use Rattle.oneshot_machine.specs.Noted.{Noted}
 use Rattle.oneshot_machine.proofs.GrownLists.{words_after}
 use Rattle.oneshot_word.specs.Sides.{Side}
 use Rattle.oneshot_ends.specs.declared.task.Copied.{Copied}

@@ -3,7 +3,7 @@ use Rattle.std.proofs.Common.{◌≡◌, ℕ, Bool, true, false, List, [], ◌�
 use Rattle.std.proofs.Common.{map}
 use Rattle.std.specs.List.{cons_option}
 use Rattle.std.specs.Option.{option_map}
-use Rattle.oneshot_machine.specs.Rows.{Outcome}
+use Rattle.oneshot_machine.specs.TableRows.{Outcome}
 use Rattle.oneshot_machine.specs.Runs.{Run, last, more}
 use Rattle.oneshot_machine.specs.declared.machine.Reply.{Reply}
 use Rattle.oneshot_machine.specs.declared.machine.Seen.{Seen}
@@ -13,7 +13,7 @@ use Rattle.oneshot_machine.specs.declared.states.Op.{Op}
 use Rattle.oneshot_machine.specs.Logs.{Event, Grows, noted, words, sender_of, receiver_of}
 use Rattle.oneshot_machine.specs.Phases.{SenderAt, sender_at, ReceiverAt, receiver_at}
 use Rattle.oneshot_machine.specs.Slots.{Held, vacant, held, SenderMay, SenderFinds, ReceiverMay, ReceiverFinds}
-use Rattle.oneshot_machine.specs.Words.{Noted}
+use Rattle.oneshot_machine.specs.Noted.{Noted}
 use Rattle.oneshot_machine.proofs.GrownLists.{words_after}
 use Rattle.oneshot_drive.specs.Calls.{AtRest, rests_new, IsLate, is_late}
 use Rattle.oneshot_word.specs.Sides.{Side, SenderCan, ReceiverCan, ReceiverOwns, none_yet, owns_waker, gave_waker, gave_claimed, owns_withdrawn, lost_waker, owns_full, owns_unclosed, owns_closed, owns_resolved, gave_all, owns_all}

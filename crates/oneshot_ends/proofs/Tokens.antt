@@ -90,7 +90,7 @@ module _ {T W : Type 0} where
   told names before after run ys same grows =
       record {
         whole = refl;
-        place = ap (λ p. names ++ p) grows.place;
+        channel = ap (λ p. names ++ p) grows.channel;
         list = ap (λ xs. events_of {T = T} {W = Copied} xs) (grown before after run grows) ∙ map-append (event_of {T = T} {W = Copied}) before.steps (words run)
             ∙ ap (λ ys. events_of {T = T} {W = Copied} before.steps ++ ys) same;
       }

@@ -13,7 +13,7 @@ use Rattle.oneshot_machine.specs.Phases.{receiver_at}
 use Rattle.oneshot_machine.specs.Receiver.{receiver_start, receiver_step, receiver_row}
 use Rattle.oneshot_machine.specs.Runs.{Run}
 use Rattle.oneshot_machine.specs.Sender.{sender_start, sender_step, sender_row}
-use Rattle.oneshot_machine.specs.Words.{Noted}
+use Rattle.oneshot_machine.specs.Noted.{Noted}
 use Rattle.oneshot_drive.specs.Calls.{IsClosed as Closed, IsOpen as Open}
 use Rattle.oneshot_ends.specs.Deadlines.{HasEnd}
 

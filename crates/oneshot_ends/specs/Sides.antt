@@ -3,14 +3,14 @@ use Rattle.std.specs.Prelude.{◌≡◌, ℕ, Bool, true, false, List, [], ◌�
 use Rattle.atomic_table.specs.Seated.{TableId}
 use Rattle.oneshot_machine.specs.declared.machine.Step.TheVariants.{Word}
 use Rattle.oneshot_machine.specs.Logs.{Event, Log}
-use Rattle.oneshot_machine.specs.Phases.{ReceiverAt, Got, Closing, full, unclosed, over, resolved, ended}
+use Rattle.oneshot_machine.specs.Phases.{ReceiverAt, Got, Closing, full, unclosed, disconnected, resolved, ended}
 use Rattle.oneshot_machine.specs.Slots.{Held, away, vacant, held}
-use Rattle.oneshot_machine.specs.Words.{Noted}
+use Rattle.oneshot_machine.specs.Noted.{Noted}
 use Rattle.oneshot_word.specs.Sides.{Side}
 
 -- a table as a list of numbers, which tell it from any other
-abbrev pub place_of : TableId → List ℕ
-place_of table =
+abbrev pub channel_of : TableId → List ℕ
+channel_of table =
     table.words
     ∷ table.slots
     ∷ table.views_name
@@ -37,11 +37,11 @@ module _ {T W : Type 0} where
   events_of = map event_of
 
   abbrev pub logged : Side T W → Log T W
-  logged s = record { whole = false; place = place_of s.table; list = events_of s.steps }
+  logged s = record { whole = false; channel = channel_of s.table; list = events_of s.steps }
 
   -- the same of a seat that was lent under this name
   abbrev pub lent : ℕ → Side T W → Log T W
-  lent name s = record { whole = false; place = name ∷ place_of s.table; list = events_of s.steps }
+  lent name s = record { whole = false; channel = name ∷ channel_of s.table; list = events_of s.steps }
 
   -- an end's side, with the slots that it has left
   abbrev pub left_of : Bool → Side T W → Side T W
@@ -53,7 +53,7 @@ pub data MayBeFreed : Bool → ReceiverAt → Type 0 where
   not_freed : (at : ReceiverAt) → MayBeFreed false at
   freed_full : (got : Got) (word : ℕ) → MayBeFreed true (full got word)
   freed_unclosed : (word : ℕ) → MayBeFreed true (unclosed word)
-  freed_closed : (closing : Closing) → MayBeFreed true (over closing)
+  freed_closed : (closing : Closing) → MayBeFreed true (disconnected closing)
   freed_resolved : (closing : Closing) → MayBeFreed true (resolved closing)
   freed_ended : MayBeFreed true ended
 
@@ -72,4 +72,4 @@ module _ {T W : Type 0} where
 -- a seat that was lent beside something else, under these names, to one whose wakers are others
 abbrev pub lent_beside : {T W V : Type 0} → List ℕ → Side T W → Log T V
 lent_beside {T} {W} {V} names s =
-    record { whole = false; place = names ++ place_of s.table; list = events_of {T = T} {W = V} s.steps }
+    record { whole = false; channel = names ++ channel_of s.table; list = events_of {T = T} {W = V} s.steps }

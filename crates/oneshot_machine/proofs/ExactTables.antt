@@ -11,7 +11,7 @@ use Rattle.oneshot_machine.specs.declared.machine.future.FuturePos.TheVariants a
 use Rattle.oneshot_machine.specs.declared.machine.sender.SenderPos.{SenderPos}
 use Rattle.oneshot_machine.specs.declared.machine.sender.SenderPos.TheVariants.{SendAdd, SendFinal, DropXor, DropFinal}
 use Rattle.std.specs.Prelude.{true, false}
-use Rattle.oneshot_machine.specs.Phases.{sending, dropping, SenderAt, fresh, owes, finished, late, no_sender, sender_moves, ReceiverAt, first, here, looked, between, blocked, polled, again, waits, claimed, withdrew, overdue, storing, stopping, at_once, waited, swapped, by_future, by_poll, full, unclosed, over, resolved, gone, ended, no_receiver, receiver_moves}
+use Rattle.oneshot_machine.specs.Phases.{sending, dropping, SenderAt, fresh, owes, finished, late, no_sender, sender_moves, ReceiverAt, first, here, looked, between, blocked, polled, again, waits, claimed, withdrew, overdue, storing, stopping, at_once, waited, swapped, by_future, by_poll, full, unclosed, disconnected, resolved, gone, ended, no_receiver, receiver_moves}
 use Rattle.oneshot_machine.specs.Standing.{Standpoint, plainly, as_future, sender_table, receiver_table}
 use Rattle.oneshot_machine.specs.Exact.{SenderIsExact, ReceiverIsExact}
 use Rattle.oneshot_machine.proofs.Exactness.{IsExactAt, is_exact}
@@ -64,7 +64,7 @@ receiver_stands (full (swapped by)) = (plainly (Look Close) ∷ []) ∷ []
 receiver_stands (full by_future) = (as_future (Look Close) ∷ as_future (Drop DropSwap) ∷ []) ∷ []
 receiver_stands (full by_poll) = (as_future (Look Close) ∷ []) ∷ []
 receiver_stands (unclosed by) = (plainly (Look CloseOnly) ∷ []) ∷ []
-receiver_stands (over closing) =
+receiver_stands (disconnected closing) =
     (calls ++ polls)
     ∷ (as_future (Drop DropSwap) ∷ calls ++ polls)
     ∷ (as_future (Drop DropSwap) ∷ polls)
@@ -100,7 +100,7 @@ receiver_exact_at (full by_future) = refl
 receiver_exact_at (full by_poll) = refl
 receiver_exact_at (unclosed storing) = refl
 receiver_exact_at (unclosed stopping) = refl
-receiver_exact_at (over closing) = refl
+receiver_exact_at (disconnected closing) = refl
 receiver_exact_at (resolved closing) = refl
 receiver_exact_at gone = refl
 receiver_exact_at ended = refl

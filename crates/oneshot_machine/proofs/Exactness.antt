@@ -9,8 +9,8 @@ use Rattle.oneshot_machine.specs.declared.machine.Seen.{Seen}
 use Rattle.oneshot_machine.specs.declared.machine.Seen.TheVariants as S
 use Rattle.oneshot_machine.specs.declared.states.Op.{Op}
 use Rattle.oneshot_machine.specs.declared.states.Op.TheVariants.{Load, Store, Swap, Exchange, Add, Xor}
-use Rattle.oneshot_machine.specs.Rows.{Goes, is_same_seen}
-use Rattle.oneshot_machine.specs.Words.{Noted, saw, op_of, is_same_op}
+use Rattle.oneshot_machine.specs.TableRows.{Goes, is_same_seen}
+use Rattle.oneshot_machine.specs.Noted.{Noted, saw, op_of, is_same_op}
 use Rattle.oneshot_machine.specs.Phases.{Share, none, empty, filled, Slots, Row, is_row_for, next_by, phase_from}
 use Rattle.oneshot_machine.specs.Slots.{Held, away, vacant, held, IsSlot, is_away, is_vacant, is_held, Turns, stays_away, stays_vacant, stays_held, gives_room, gives_thing, gets_room, gets_thing, In, head, tail, May, may, Finds, finds}
 use Rattle.oneshot_machine.specs.Standing.{Table, is_op, onward, onward_all, in_order, moved, standing_from, standing, made_at, operations}

@@ -12,7 +12,7 @@ use Rattle.oneshot_machine.specs.declared.machine.drop.DropPos.TheVariants.{Drop
 use Rattle.oneshot_machine.specs.declared.machine.sender.SenderPos.TheVariants.{SendAdd, SendTakeWaker, SendFinal, SendWake, DropTakeWaker, DropFinal, DropWake, IntoFree, ErrorFree}
 use Rattle.oneshot_machine.specs.declared.machine.sender.SenderPos.TheVariants as SP
 use Rattle.oneshot_machine.specs.Logs.{Event, clocked}
-use Rattle.oneshot_machine.specs.Rows.{Outcome, Goes, Answers}
+use Rattle.oneshot_machine.specs.TableRows.{Outcome, Goes, Answers}
 use Rattle.oneshot_machine.specs.Runs.{Run, last, more}
 use Rattle.oneshot_machine.specs.Examples.{SenderLists, ReceiverLists, ReceiverRun, waited_once, running_out, RunsThatAre, RunsThatAreNot}
 

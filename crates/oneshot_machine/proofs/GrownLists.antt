@@ -7,7 +7,7 @@ use Rattle.std.specs.List.{cons_option}
 use Rattle.std.specs.Option.{option_map}
 use Rattle.oneshot_machine.specs.declared.machine.Seen.{Seen}
 use Rattle.oneshot_machine.specs.declared.states.Op.{Op}
-use Rattle.oneshot_machine.specs.Words.{Noted, saw, op_of}
+use Rattle.oneshot_machine.specs.Noted.{Noted, saw, op_of}
 use Rattle.oneshot_machine.specs.Phases.{fresh, sender_next, sender_at, first, receiver_next, receiver_at, phase_from}
 use Rattle.oneshot_machine.specs.Logs.{Event, worded, noted, words, kept, Log, Grows, sender_of, receiver_of}
 
@@ -58,7 +58,7 @@ module _ {T W : Type 0} where
     and_then xs ys s t =
         record {
           whole = t.whole ∙ s.whole;
-          place = t.place ∙ s.place;
+          channel = t.channel ∙ s.channel;
           list = t.list ∙ ap (λ l. l ++ kept after.whole ys) s.list ∙ append_assoc before.list (kept before.whole xs) (kept after.whole ys)
               ∙ ap (λ whole. before.list ++ (kept before.whole xs ++ kept whole ys)) s.whole ∙ ap (λ l. before.list ++ l) (sym (kept-append before.whole xs ys));
         }

@@ -9,7 +9,7 @@ use Rattle.oneshot_machine.specs.declared.machine.Seen.TheVariants.{Done, Word}
 use Rattle.oneshot_machine.specs.declared.machine.Step.{Step}
 use Rattle.oneshot_machine.specs.declared.machine.Step.TheVariants as T
 use Rattle.oneshot_machine.specs.declared.states.Op.TheVariants as O
-use Rattle.oneshot_machine.specs.Rows.{Goes, Rows}
+use Rattle.oneshot_machine.specs.TableRows.{Goes, Rows}
 
 abbrev pub async_drop_step : AsyncDropPos → Step
 async_drop_step AsyncLoad = T.Word O.Load

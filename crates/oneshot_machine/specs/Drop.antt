@@ -9,7 +9,7 @@ use Rattle.oneshot_machine.specs.declared.machine.Seen.TheVariants.{Done, Word}
 use Rattle.oneshot_machine.specs.declared.machine.Step.{Step}
 use Rattle.oneshot_machine.specs.declared.machine.Step.TheVariants as T
 use Rattle.oneshot_machine.specs.declared.states.Op.TheVariants as O
-use Rattle.oneshot_machine.specs.Rows.{Goes, Answers, Rows}
+use Rattle.oneshot_machine.specs.TableRows.{Goes, Answers, Rows}
 
 abbrev pub drop_step : DropPos → Step
 drop_step DropSwap = T.Word (O.Swap 2)

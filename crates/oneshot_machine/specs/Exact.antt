@@ -2,7 +2,7 @@
 use Rattle.std.specs.Prelude.{◌≡◌, ℕ, List, [], ◌∷◌, ◌++◌, All, Contains, IsSome}
 use Rattle.oneshot_machine.specs.declared.machine.Step.TheVariants.{Word}
 use Rattle.oneshot_machine.specs.declared.states.Op.{Op}
-use Rattle.oneshot_machine.specs.Words.{Noted, saw}
+use Rattle.oneshot_machine.specs.Noted.{Noted, saw}
 use Rattle.oneshot_machine.specs.Phases.{sender_at, receiver_at}
 use Rattle.oneshot_machine.specs.Slots.{Held, SenderMay, SenderFinds, ReceiverMay, ReceiverFinds}
 use Rattle.oneshot_machine.specs.Standing.{Table, standing, operations, sender_table, receiver_table}

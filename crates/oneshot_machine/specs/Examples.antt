@@ -17,7 +17,7 @@ use Rattle.oneshot_machine.specs.declared.machine.sender.SenderPos.TheVariants.{
 use Rattle.oneshot_machine.specs.declared.states.Op.TheVariants.{Load, Store, Swap, Add, Xor}
 use Rattle.oneshot_machine.specs.Sender.{sender_step, sender_row}
 use Rattle.oneshot_machine.specs.Receiver.{receiver_step, receiver_row}
-use Rattle.oneshot_machine.specs.Phases.{sending, dropping, fresh, owes, finished, late, no_sender, sender_at, first, here, looked, between, waits, blocked, overdue, full, at_once, waited, swapped, storing, stopping, unclosed, over, found_closed, closed_itself, gone, ended, no_receiver, receiver_at}
+use Rattle.oneshot_machine.specs.Phases.{sending, dropping, fresh, owes, finished, late, no_sender, sender_at, first, here, looked, between, waits, blocked, overdue, full, at_once, waited, swapped, storing, stopping, unclosed, disconnected, found_closed, closed_itself, gone, ended, no_receiver, receiver_at}
 use Rattle.oneshot_machine.specs.Logs.{Event, did, wrote, took, handed, parked, clocked, worded, words, kept, messages_given, messages_got}
 use Rattle.oneshot_machine.specs.Runs.{Run}
 
@@ -47,9 +47,9 @@ pub record ReceiverLists : Type 0 where
   pub nothing_yet : receiver_at [] ≡ first
   pub looked_in_vain : receiver_at ((Load, Word 3) ∷ (Load, Word 3) ∷ []) ≡ here looked
   pub found_it : receiver_at ((Load, Word 3) ∷ (Load, Word 4) ∷ []) ≡ full at_once
-  pub received : receiver_at ((Load, Word 4) ∷ (Store 2, Done) ∷ []) ≡ over closed_itself
-  pub tried_again : receiver_at ((Load, Word 4) ∷ (Store 2, Done) ∷ (Load, Word 2) ∷ []) ≡ over closed_itself
-  pub found_no_sender : receiver_at ((Load, Word 2) ∷ (Load, Word 2) ∷ []) ≡ over found_closed
+  pub received : receiver_at ((Load, Word 4) ∷ (Store 2, Done) ∷ []) ≡ disconnected closed_itself
+  pub tried_again : receiver_at ((Load, Word 4) ∷ (Store 2, Done) ∷ (Load, Word 2) ∷ []) ≡ disconnected closed_itself
+  pub found_no_sender : receiver_at ((Load, Word 2) ∷ (Load, Word 2) ∷ []) ≡ disconnected found_closed
   pub began_to_wait : receiver_at ((Load, Word 3) ∷ (Swap 0, Word 3) ∷ []) ≡ waits blocked
   pub woke_too_early :
       receiver_at ((Load, Word 3) ∷ (Swap 0, Word 3) ∷ (Load, Word 0) ∷ (Load, Word 1) ∷ []) ≡ waits blocked
@@ -69,7 +69,7 @@ pub record ReceiverLists : Type 0 where
       receiver_at ((Load, Word 3) ∷ (Swap 0, Word 3) ∷ (Swap 3, Word 1) ∷ (Load, Word 3) ∷ (Load, Word 4) ∷ [])
       ≡ full waited
   pub put_it_back :
-      receiver_at ((Load, Word 3) ∷ (Swap 0, Word 2) ∷ (Store 2, Done) ∷ []) ≡ over closed_itself
+      receiver_at ((Load, Word 3) ∷ (Swap 0, Word 2) ∷ (Store 2, Done) ∷ []) ≡ disconnected closed_itself
   pub dropped_early : receiver_at ((Load, Word 3) ∷ (Swap 2, Word 3) ∷ []) ≡ gone
   pub dropped_over_a_message : receiver_at ((Swap 2, Word 4) ∷ []) ≡ ended
   pub dropped_after_all : receiver_at ((Load, Word 2) ∷ (Swap 2, Word 2) ∷ []) ≡ ended

@@ -8,8 +8,8 @@ use Rattle.oneshot_machine.specs.declared.machine.receiver.ReceiverPos.TheVarian
 use Rattle.oneshot_machine.specs.declared.machine.future.FuturePos.TheVariants.{IntoFuture, PollLoad}
 use Rattle.oneshot_machine.specs.declared.machine.async_drop.AsyncDropPos.TheVariants.{AsyncLoad}
 use Rattle.oneshot_machine.specs.declared.states.Op.TheVariants.{Load, Store, Swap, Exchange}
-use Rattle.oneshot_machine.specs.Words.{Noted}
-use Rattle.oneshot_machine.specs.Phases.{waits, polled, again, claimed, withdrew, full, by_future, by_poll, over, resolved, found_closed, closed_itself, gone, ended, no_receiver, receiver_at}
+use Rattle.oneshot_machine.specs.Noted.{Noted}
+use Rattle.oneshot_machine.specs.Phases.{waits, polled, again, claimed, withdrew, full, by_future, by_poll, disconnected, resolved, found_closed, closed_itself, gone, ended, no_receiver, receiver_at}
 use Rattle.oneshot_machine.specs.Logs.{Event, did, took, handed, copied, worded}
 use Rattle.oneshot_machine.specs.Examples.{ReceiverRun}
 
@@ -36,7 +36,7 @@ pub record FutureLists : Type 0 where
   pub finds_nobody_by_its_exchange :
       receiver_at ((Load, Word 3) ∷ (Exchange 3 0, Word 2) ∷ []) ≡ resolved found_closed
   pub polls_after_the_end :
-      receiver_at (once_polled ++ (Load, Word 4) ∷ (Store 2, Done) ∷ (Load, Word 2) ∷ []) ≡ over closed_itself
+      receiver_at (once_polled ++ (Load, Word 4) ∷ (Store 2, Done) ∷ (Load, Word 2) ∷ []) ≡ disconnected closed_itself
   pub is_dropped_with_its_copy :
       receiver_at (once_polled ++ (Load, Word 0) ∷ (Exchange 0 3, Word 0) ∷ (Swap 2, Word 3) ∷ []) ≡ gone
   pub is_dropped_over_a_message : receiver_at ((Load, Word 4) ∷ (Swap 2, Word 4) ∷ []) ≡ ended

@@ -7,7 +7,7 @@ use Rattle.oneshot_machine.specs.declared.machine.Seen.TheVariants.{Done, Over, 
 use Rattle.oneshot_machine.specs.declared.machine.Step.{Step}
 use Rattle.oneshot_machine.specs.declared.machine.Step.TheVariants.{Word, WriteMessage, TakeMessage, Park, Clock, Copy}
 use Rattle.oneshot_machine.specs.declared.states.Op.{Op}
-use Rattle.oneshot_machine.specs.Words.{Noted, saw, op_of}
+use Rattle.oneshot_machine.specs.Noted.{Noted, saw, op_of}
 use Rattle.oneshot_machine.specs.Phases.{SenderAt, sender_at, ReceiverAt, receiver_at}
 
 -- a step, what it saw, and the message or the waker that it handed in or out
@@ -78,16 +78,16 @@ module _ {T W : Type 0} where
   abbrev pub messages_got : List (Event T W) → List T
   messages_got = filter_map (λ x. when_taken x.step x.message)
 
--- whether a ground is whole, the place that it stands on, and its list
+-- whether a ground is whole, the channel whose end it is, and its list
 pub record Log (T W : Type 0) : Type 0 where
   pub whole : Bool
-  pub place : List ℕ
+  pub channel : List ℕ
   pub list : List (Event T W)
 
 -- between the two a ground made these steps
 pub record Grows {T W : Type 0} (before after : Log T W) (steps : List (Event T W)) : Type 0 where
   pub whole : after.whole ≡ before.whole
-  pub place : after.place ≡ before.place
+  pub channel : after.channel ≡ before.channel
   pub list : after.list ≡ before.list ++ kept before.whole steps
 
 module _ {T W : Type 0} where

@@ -3,8 +3,8 @@ use Rattle.std.specs.Prelude.{ℕ, Bool, true, false, List, [], ◌∷◌, ◌&&
 use Rattle.oneshot_machine.specs.declared.machine.Seen.{Seen}
 use Rattle.oneshot_machine.specs.declared.states.Op.{Op}
 use Rattle.oneshot_machine.specs.declared.states.Op.TheVariants.{Load, Store, Swap, Exchange, Add, Xor}
-use Rattle.oneshot_machine.specs.Rows.{is_same_seen}
-use Rattle.oneshot_machine.specs.Words.{Noted, saw, is_same_op}
+use Rattle.oneshot_machine.specs.TableRows.{is_same_seen}
+use Rattle.oneshot_machine.specs.Noted.{Noted, saw, is_same_op}
 
 -- a sender's end, by its `send` or by its drop
 pub data By : Type 0 where
@@ -81,7 +81,7 @@ pub data ReceiverAt : Type 0 where
   -- it found 2 by a swap that left another word
   unclosed : Swapping → ReceiverAt
   -- it is closed, and the word is 2
-  over : Closing → ReceiverAt
+  disconnected : Closing → ReceiverAt
   -- it is a future that is closed: its poll has answered, and it has not looked at the 2 since
   resolved : Closing → ReceiverAt
   -- it was dropped before the sender's last operation
@@ -143,7 +143,7 @@ abbrev pub receiver_moves : ReceiverAt → List (Row ReceiverAt)
 receiver_moves first =
     (Load, (none, none), 3, here looked, (none, empty))
     ∷ (Load, (none, none), 4, full at_once, (filled, empty))
-    ∷ (Load, (none, none), 2, over found_closed, (empty, empty))
+    ∷ (Load, (none, none), 2, disconnected found_closed, (empty, empty))
     ∷ (Swap 2, (none, none), 3, gone, (none, none))
     ∷ (Swap 2, (none, none), 4, ended, (filled, empty))
     ∷ (Swap 2, (none, none), 2, ended, (empty, empty))
@@ -151,7 +151,7 @@ receiver_moves first =
 receiver_moves (here looked) =
     (Load, (none, empty), 3, here looked, (none, empty))
     ∷ (Load, (none, empty), 4, full at_once, (filled, empty))
-    ∷ (Load, (none, empty), 2, over found_closed, (empty, empty))
+    ∷ (Load, (none, empty), 2, disconnected found_closed, (empty, empty))
     ∷ (Swap 0, (none, filled), 3, waits blocked, (none, none))
     ∷ (Swap 0, (none, filled), 4, full (swapped storing), (filled, filled))
     ∷ (Swap 0, (none, filled), 2, unclosed storing, (empty, filled))
@@ -165,7 +165,7 @@ receiver_moves (here looked) =
 receiver_moves (here between) =
     (Load, (none, empty), 3, here looked, (none, empty))
     ∷ (Load, (none, empty), 4, full at_once, (filled, empty))
-    ∷ (Load, (none, empty), 2, over found_closed, (empty, empty))
+    ∷ (Load, (none, empty), 2, disconnected found_closed, (empty, empty))
     ∷ (Swap 2, (none, empty), 3, gone, (none, none))
     ∷ (Swap 2, (none, empty), 4, ended, (filled, empty))
     ∷ (Swap 2, (none, empty), 2, ended, (empty, empty))
@@ -174,7 +174,7 @@ receiver_moves (waits blocked) =
     (Load, (none, none), 0, waits blocked, (none, none))
     ∷ (Load, (none, none), 1, waits blocked, (none, none))
     ∷ (Load, (none, none), 4, full waited, (filled, empty))
-    ∷ (Load, (none, none), 2, over found_closed, (empty, empty))
+    ∷ (Load, (none, none), 2, disconnected found_closed, (empty, empty))
     ∷ (Swap 3, (none, none), 0, here between, (none, filled))
     ∷ (Swap 3, (none, none), 1, overdue, (none, none))
     ∷ (Swap 3, (none, none), 4, full (swapped stopping), (filled, empty))
@@ -184,22 +184,22 @@ receiver_moves (waits polled) =
     (Load, (none, none), 0, waits again, (none, none))
     ∷ (Load, (none, none), 1, claimed, (none, none))
     ∷ (Load, (none, none), 4, full by_future, (filled, empty))
-    ∷ (Load, (none, none), 2, over found_closed, (empty, empty))
+    ∷ (Load, (none, none), 2, disconnected found_closed, (empty, empty))
     ∷ []
 receiver_moves (waits again) =
     (Load, (none, none), 0, waits again, (none, none))
     ∷ (Load, (none, none), 1, claimed, (none, none))
     ∷ (Load, (none, none), 4, full by_future, (filled, empty))
-    ∷ (Load, (none, none), 2, over found_closed, (empty, empty))
+    ∷ (Load, (none, none), 2, disconnected found_closed, (empty, empty))
     ∷ (Exchange 0 3, (none, none), 0, withdrew, (none, filled))
     ∷ (Exchange 0 3, (none, none), 1, claimed, (none, none))
     ∷ (Exchange 0 3, (none, none), 4, full by_future, (filled, empty))
-    ∷ (Exchange 0 3, (none, none), 2, over found_closed, (empty, empty))
+    ∷ (Exchange 0 3, (none, none), 2, disconnected found_closed, (empty, empty))
     ∷ []
 receiver_moves claimed =
     (Load, (none, none), 1, claimed, (none, none))
     ∷ (Load, (none, none), 4, full by_future, (filled, empty))
-    ∷ (Load, (none, none), 2, over found_closed, (empty, empty))
+    ∷ (Load, (none, none), 2, disconnected found_closed, (empty, empty))
     ∷ []
 receiver_moves withdrew =
     (Exchange 3 0, (none, filled), 3, waits polled, (none, none))
@@ -212,15 +212,15 @@ receiver_moves withdrew =
 receiver_moves overdue =
     (Load, (none, none), 3, overdue, (none, none))
     ∷ (Load, (none, none), 4, full waited, (filled, empty))
-    ∷ (Load, (none, none), 2, over found_closed, (empty, empty))
+    ∷ (Load, (none, none), 2, disconnected found_closed, (empty, empty))
     ∷ []
 receiver_moves (full at_once) =
-    (Store 2, (filled, empty), 4, over closed_itself, (filled, empty))
+    (Store 2, (filled, empty), 4, disconnected closed_itself, (filled, empty))
     ∷ (Swap 2, (filled, empty), 4, ended, (filled, empty))
     ∷ []
-receiver_moves (full waited) = (Store 2, (filled, empty), 4, over closed_itself, (filled, empty)) ∷ []
+receiver_moves (full waited) = (Store 2, (filled, empty), 4, disconnected closed_itself, (filled, empty)) ∷ []
 receiver_moves (full (swapped by)) =
-    (Store 2, (filled, empty), swapped_in by, over closed_itself, (filled, empty)) ∷ []
+    (Store 2, (filled, empty), swapped_in by, disconnected closed_itself, (filled, empty)) ∷ []
 receiver_moves (full by_future) =
     (Store 2, (filled, empty), 4, resolved closed_itself, (filled, empty))
     ∷ (Swap 2, (filled, empty), 4, ended, (filled, empty))
@@ -228,12 +228,12 @@ receiver_moves (full by_future) =
 receiver_moves (full by_poll) =
     (Store 2, (filled, empty), 4, resolved closed_itself, (filled, empty)) ∷ []
 receiver_moves (unclosed by) =
-    (Store 2, (empty, empty), swapped_in by, over closed_itself, (empty, empty)) ∷ []
-receiver_moves (over closing) =
-    (Load, (empty, empty), 2, over closing, (empty, empty))
+    (Store 2, (empty, empty), swapped_in by, disconnected closed_itself, (empty, empty)) ∷ []
+receiver_moves (disconnected closing) =
+    (Load, (empty, empty), 2, disconnected closing, (empty, empty))
     ∷ (Swap 2, (empty, empty), 2, ended, (empty, empty))
     ∷ []
-receiver_moves (resolved closing) = (Load, (empty, empty), 2, over closing, (empty, empty)) ∷ []
+receiver_moves (resolved closing) = (Load, (empty, empty), 2, disconnected closing, (empty, empty)) ∷ []
 receiver_moves gone = []
 receiver_moves ended = []
 receiver_moves no_receiver = []
@@ -255,7 +255,7 @@ receiver_owns withdrew = Some (false, true)
 receiver_owns overdue = Some (false, false)
 receiver_owns (full got) = Some (true, true)
 receiver_owns (unclosed by) = Some (true, true)
-receiver_owns (over closing) = Some (true, true)
+receiver_owns (disconnected closing) = Some (true, true)
 receiver_owns (resolved closing) = Some (true, true)
 receiver_owns gone = Some (false, false)
 receiver_owns ended = Some (true, true)

@@ -13,7 +13,7 @@ use Rattle.oneshot_machine.specs.declared.machine.async_drop.AsyncDropPos.TheVar
 use Rattle.oneshot_machine.specs.declared.machine.drop.DropPos.TheVariants.{DropSwap}
 use Rattle.oneshot_machine.specs.declared.machine.Seen.{Seen}
 use Rattle.oneshot_machine.specs.declared.machine.Step.{Step}
-use Rattle.oneshot_machine.specs.Rows.{Outcome, Rows, row_for}
+use Rattle.oneshot_machine.specs.TableRows.{Outcome, Rows, row_for}
 use Rattle.oneshot_machine.specs.Look.{look_step, look_rows, look_positions, look_number}
 use Rattle.oneshot_machine.specs.ByRef.{ref_step, ref_rows, ref_positions, ref_number}
 use Rattle.oneshot_machine.specs.Timed.{timed_step, timed_rows, timed_positions, timed_number}

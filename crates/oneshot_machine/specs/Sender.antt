@@ -10,7 +10,7 @@ use Rattle.oneshot_machine.specs.declared.machine.Seen.TheVariants.{Done, Word}
 use Rattle.oneshot_machine.specs.declared.machine.Step.{Step}
 use Rattle.oneshot_machine.specs.declared.machine.Step.TheVariants as T
 use Rattle.oneshot_machine.specs.declared.states.Op.TheVariants as O
-use Rattle.oneshot_machine.specs.Rows.{Outcome, Goes, Answers, Rows, row_for}
+use Rattle.oneshot_machine.specs.TableRows.{Outcome, Goes, Answers, Rows, row_for}
 
 abbrev pub sender_start : SenderCall → SenderPos
 sender_start IsClosed = LookClosed

@@ -19,10 +19,10 @@ use Rattle.oneshot_machine.specs.declared.machine.sender.SenderPos.TheVariants a
 use Rattle.oneshot_machine.specs.declared.machine.sender.SenderCall.TheVariants as SC
 use Rattle.oneshot_machine.specs.declared.states.Op.{Op}
 use Rattle.oneshot_machine.specs.declared.states.Op.TheVariants as O
-use Rattle.oneshot_machine.specs.Rows.{Outcome, Goes, Answers}
+use Rattle.oneshot_machine.specs.TableRows.{Outcome, Goes, Answers}
 use Rattle.oneshot_machine.specs.Sender.{sender_start, sender_step, sender_row, sender_positions, sender_number}
 use Rattle.oneshot_machine.specs.Receiver.{receiver_step, receiver_row, receiver_opens, future_opens, receiver_positions, receiver_number, receiver_count}
-use Rattle.oneshot_machine.specs.Words.{Noted, op_of, is_same_op}
+use Rattle.oneshot_machine.specs.Noted.{Noted, op_of, is_same_op}
 
 -- An end's table, with all its positions and a number for each. `opens` are those at which a new
 -- end's calls begin, and `follows` those at which a call may begin where another has answered; looks

@@ -11,7 +11,7 @@ use Rattle.oneshot_memory.specs.Events.{event_of, logged}
 
 module _ {T W : Type 0} where
   logged_grows : (xs ys : List (Event T W)) (e : Event T W) → ys ≡ xs ++ e ∷ [] → Grows (logged xs) (logged ys) (event_of e ∷ [])
-  logged_grows xs ys e is = record { whole = refl; place = refl; list = ap (map event_of) is ∙ map-append event_of xs (e ∷ []) }
+  logged_grows xs ys e is = record { whole = refl; channel = refl; list = ap (map event_of) is ∙ map-append event_of xs (e ∷ []) }
 
   -- that is no operation on the word
   pub words_same : (xs ys : List (Event T W)) (e : Event T W) → ys ≡ xs ++ e ∷ [] → words (event_of e ∷ []) ≡ [] → words (logged ys).list ≡ words (logged xs).list

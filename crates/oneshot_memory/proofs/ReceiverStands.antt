@@ -3,7 +3,7 @@ use Rattle.std.proofs.Common.{◌≡◌, ℕ, Bool, true, false, not, ◌&&◌, 
 use Rattle.std.specs.Prelude.{is_some}
 use Rattle.oneshot_machine.specs.declared.states.Op.{Op}
 use Rattle.oneshot_machine.specs.Logs.{Grows, words, receiver_of, worded}
-use Rattle.oneshot_machine.specs.Phases.{looked, between, blocked, polled, again, storing, stopping, at_once, waited, swapped, by_future, by_poll, ReceiverAt, first, here, waits, claimed, withdrew, overdue, full, unclosed, over, resolved, gone, ended, no_receiver, receiver_moves, receiver_owns, receiver_next, receiver_at}
+use Rattle.oneshot_machine.specs.Phases.{looked, between, blocked, polled, again, storing, stopping, at_once, waited, swapped, by_future, by_poll, ReceiverAt, first, here, waits, claimed, withdrew, overdue, full, unclosed, disconnected, resolved, gone, ended, no_receiver, receiver_moves, receiver_owns, receiver_next, receiver_at}
 use Rattle.oneshot_machine.specs.Slots.{vacant, held, In, head, tail, ReceiverMay}
 use Rattle.oneshot_machine.specs.States.{word_after}
 use Rattle.oneshot_machine.proofs.GrownLists.{receiver_moved}
@@ -59,7 +59,7 @@ steady (full by_future) = refl
 steady (full by_poll) = refl
 steady (unclosed storing) = refl
 steady (unclosed stopping) = refl
-steady (over closing) = refl
+steady (disconnected closing) = refl
 steady (resolved closing) = refl
 steady gone = refl
 steady ended = refl

@@ -19,7 +19,7 @@ module _ {T W : Type 0} where
 
   -- a ground in memory is whole, and stands at no place
   abbrev pub logged : List (Event T W) → logs.Log T W
-  logged events = record { whole = true; place = []; list = map event_of events }
+  logged events = record { whole = true; channel = []; list = map event_of events }
 
   -- with both slots as the end sees them
   abbrev pub state_of : List (Event T W) → Option T → Option W → Bool → Bool → State T W

@@ -9,7 +9,7 @@ mod wakes;
 
 ghost use Rattle.std.specs.Prelude.{◌≡◌, ◌++◌, ◌∷◌, [], None};
 ghost use Rattle.oneshot_machine.specs.Logs.{handed, copied};
-ghost use Rattle.oneshot_machine.specs.Words.{saw};
+ghost use Rattle.oneshot_machine.specs.Noted.{saw};
 ghost use Rattle.oneshot_memory.specs.Events.{event_of};
 
 pub use future::MemoryFuture;

@@ -7,7 +7,7 @@ use Rattle.oneshot_world.specs.declared.script.SenderScript.{SenderScript}
 use Rattle.oneshot_world.specs.declared.trace.Entry.{Entry}
 use Rattle.oneshot_world.proofs.WorldDetermined.{run_is}
 use Rattle.oneshot_replay.specs.Rest.{message_of, rest_at}
-use Rattle.oneshot_replay.specs.Told.{Told, IsReplayed, last_of}
+use Rattle.oneshot_replay.specs.TraceView.{Told, IsReplayed, last_of}
 use Rattle.oneshot_replay.specs.declared.rest.Rest.{Rest}
 
 same_value : {X : Type 0} {a b : X} → Some a ≡ Some b → a ≡ b

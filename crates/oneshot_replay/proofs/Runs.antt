@@ -3,7 +3,7 @@ use Rattle.std.proofs.Common.{arith, ◌≡◌, ℕ, ◌+◌, suc, List, [], ◌
 use Rattle.oneshot_world.specs.World.{World, turn, Tells_from, Tells}
 use Rattle.oneshot_world.specs.declared.script.Move.{Move}
 use Rattle.oneshot_world.specs.declared.trace.Entry.{Entry}
-use Rattle.oneshot_replay.specs.Told.{last_of}
+use Rattle.oneshot_replay.specs.TraceView.{last_of}
 
 -- the run so far, from the first world to the one that is there now
 pub record IsRunTo (start : World) (moves : List Move) (entries : List Entry) (now : World) : Type 0 where

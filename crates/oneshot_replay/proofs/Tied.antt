@@ -27,7 +27,7 @@ use Rattle.oneshot_laws.specs.Marks.{Reading, marks, marks_from}
 use Rattle.oneshot_laws.specs.Holders.{frees, is_freed}
 use Rattle.oneshot_laws.specs.MessagePlaces.{made_entries, last_place, message_moves, last_message_place}
 use Rattle.oneshot_replay.specs.Rest.{message_of, rest_of, rest_at}
-use Rattle.oneshot_replay.specs.Told.{last_of}
+use Rattle.oneshot_replay.specs.TraceView.{last_of}
 
 or_more : (a b c : Bool) → ((a || b) || c) ≡ (a || (b || c))
 or_more true b c = refl

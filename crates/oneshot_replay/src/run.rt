@@ -14,7 +14,7 @@ ghost use Rattle.oneshot_laws.specs.Replies.{is_gone_after_got, is_got_after_ful
 ghost use Rattle.oneshot_laws.specs.Alone.{are_lone_calls_right};
 ghost use Rattle.oneshot_laws.specs.Bounds.{are_calls_bounded, is_soon_answered};
 ghost use Rattle.oneshot_replay.specs.Rest.{message_of, rest_of};
-ghost use Rattle.oneshot_replay.specs.Told.{IsReplayed};
+ghost use Rattle.oneshot_replay.specs.TraceView.{IsReplayed};
 
 use crate::refused::Refused;
 use crate::replayer::Replayer;

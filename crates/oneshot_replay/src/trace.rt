@@ -16,7 +16,7 @@ pub struct Trace<T> {
 
 impl<T> Model for Trace<T> {
     ghost use Rattle.oneshot_replay.specs.Rest.{rest_at};
-    ghost use Rattle.oneshot_replay.specs.Told.{Told};
+    ghost use Rattle.oneshot_replay.specs.TraceView.{Told};
 
     ghost Value = { Told T };
 

@@ -3,7 +3,7 @@ use Rattle.std.proofs.Common.{ℕ, List, [], ◌∷◌, ◌++◌, get_or, set, r
 use mathlib.Core.Option as maybe
 use Rattle.atomic_table.specs.Table.{State, Me, Act, Valid, Allows, homes_after, carried_after}
 use Rattle.oneshot_machine.specs.declared.states.Op.{Op}
-use Rattle.oneshot_machine.specs.Words.{Noted, saw}
+use Rattle.oneshot_machine.specs.Noted.{Noted, saw}
 use Rattle.oneshot_machine.specs.Phases.{fresh, sender_at, sender_owns, sender_next, sender_moves, first, receiver_at, receiver_owns, receiver_next, receiver_moves}
 use Rattle.oneshot_machine.specs.Slots.{SenderMay, ReceiverMay, Finds}
 use Rattle.oneshot_machine.proofs.GrownLists.{phase_from-snoc}

@@ -8,8 +8,8 @@ use Rattle.atomic_table.specs.Table.{Act, Valid, homes_after, carried_after}
 use Rattle.oneshot_machine.specs.declared.machine.Seen.{Seen}
 use Rattle.oneshot_machine.specs.declared.states.Op.{Op}
 use Rattle.oneshot_machine.specs.declared.states.Op.TheVariants.{Load, Store, Swap, Exchange, Add, Xor}
-use Rattle.oneshot_machine.specs.Words.{saw}
-use Rattle.oneshot_machine.specs.Phases.{Share, Slots, Row, sending, dropping, SenderAt, fresh, owes, finished, late, no_sender, sender_moves, sender_owns, sender_next, looked, blocked, storing, swapped, found_closed, ReceiverAt, first, here, waits, full, unclosed, over, resolved, receiver_moves, receiver_owns, receiver_next}
+use Rattle.oneshot_machine.specs.Noted.{saw}
+use Rattle.oneshot_machine.specs.Phases.{Share, Slots, Row, sending, dropping, SenderAt, fresh, owes, finished, late, no_sender, sender_moves, sender_owns, sender_next, looked, blocked, storing, swapped, found_closed, ReceiverAt, first, here, waits, full, unclosed, disconnected, resolved, receiver_moves, receiver_owns, receiver_next}
 use Rattle.oneshot_machine.specs.Slots.{Held, IsSlot, In, head, tail, May, may, SenderMay, ReceiverMay, Finds, finds}
 use Rattle.oneshot_machine.proofs.Exactness.{each_passes}
 use Rattle.oneshot_word.specs.declared.rouse.Rouse.{Rouse}
@@ -191,7 +191,7 @@ receiver_keeps (here looked) = refl
 receiver_keeps (waits blocked) = refl
 receiver_keeps (full (swapped storing)) = refl
 receiver_keeps (unclosed storing) = refl
-receiver_keeps (over found_closed) = refl
+receiver_keeps (disconnected found_closed) = refl
 receiver_keeps (resolved found_closed) = refl
 receiver_keeps _ = refl
 

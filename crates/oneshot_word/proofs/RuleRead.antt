@@ -1,7 +1,7 @@
 -- The rule of the table reads as its public rows.
 use Rattle.std.proofs.Common.{ℕ, List, Bool, Option, refl}
-use Rattle.oneshot_machine.specs.Words.{Noted}
-use Rattle.oneshot_machine.specs.Phases.{sending, dropping, SenderAt, at_once, waited, swapped, by_future, by_poll, found_closed, closed_itself, ReceiverAt, first, here, waits, claimed, withdrew, overdue, full, unclosed, over, resolved, gone, ended}
+use Rattle.oneshot_machine.specs.Noted.{Noted}
+use Rattle.oneshot_machine.specs.Phases.{sending, dropping, SenderAt, at_once, waited, swapped, by_future, by_poll, found_closed, closed_itself, ReceiverAt, first, here, waits, claimed, withdrew, overdue, full, unclosed, disconnected, resolved, gone, ended}
 use Rattle.oneshot_machine.specs.Slots.{Held, IsOwned, not_its_own, own_vacant, own_held, Owns, owns}
 use Rattle.oneshot_word.specs.declared.rouse.Rouse.{Rouse}
 use Rattle.oneshot_word.specs.declared.rule.Slot.{Slot}
@@ -39,9 +39,9 @@ module _ {T H K : Type 0} where
   pair_reads (says_last sending made) (full by_poll) r (meet is lies_out lies_out) = sent made r.wrote receiver_found_it receiver_has_it
   pair_reads (says_last sending made) (full (swapped by)) r (meet is lies_out lies_out) = written sending made r.wrote receiver_has_it receiver_has_it
   pair_reads (says_last dropping made) (unclosed by) r (meet is lies_out lies_out) = written dropping made r.wrote receiver_has_it receiver_has_it
-  pair_reads (says_last dropping made) (over found_closed) r (meet is lies_out lies_out) = dropped made r.wrote receiver_has_it receiver_has_it
-  pair_reads (says_last sending made) (over closed_itself) r (meet is lies_out lies_out) = written sending made r.wrote receiver_has_it receiver_has_it
-  pair_reads (says_last dropping made) (over closed_itself) r (meet is lies_out lies_out) = written dropping made r.wrote receiver_has_it receiver_has_it
+  pair_reads (says_last dropping made) (disconnected found_closed) r (meet is lies_out lies_out) = dropped made r.wrote receiver_has_it receiver_has_it
+  pair_reads (says_last sending made) (disconnected closed_itself) r (meet is lies_out lies_out) = written sending made r.wrote receiver_has_it receiver_has_it
+  pair_reads (says_last dropping made) (disconnected closed_itself) r (meet is lies_out lies_out) = written dropping made r.wrote receiver_has_it receiver_has_it
   pair_reads (says_last dropping made) (resolved found_closed) r (meet is lies_out lies_out) = dropped made r.wrote receiver_has_it receiver_has_it
   pair_reads (says_last sending made) (resolved closed_itself) r (meet is lies_out lies_out) = written sending made r.wrote receiver_has_it receiver_has_it
   pair_reads (says_last dropping made) (resolved closed_itself) r (meet is lies_out lies_out) = written dropping made r.wrote receiver_has_it receiver_has_it

@@ -4,8 +4,8 @@ use Rattle.std.specs.List.{list_all}
 use Rattle.std.proofs.lemmas.Bool.{and_parts}
 use Rattle.oneshot_machine.specs.declared.machine.Seen.{Seen}
 use Rattle.oneshot_machine.specs.declared.states.Op.{Op}
-use Rattle.oneshot_machine.specs.Words.{Noted, saw}
-use Rattle.oneshot_machine.specs.Phases.{sending, dropping, SenderAt, sender_next, Row, looked, blocked, storing, swapped, found_closed, ReceiverAt, here, waits, full, unclosed, over, resolved, receiver_moves, receiver_next}
+use Rattle.oneshot_machine.specs.Noted.{Noted, saw}
+use Rattle.oneshot_machine.specs.Phases.{sending, dropping, SenderAt, sender_next, Row, looked, blocked, storing, swapped, found_closed, ReceiverAt, here, waits, full, unclosed, disconnected, resolved, receiver_moves, receiver_next}
 use Rattle.oneshot_machine.specs.Slots.{Held, head, tail, finds, SenderFinds, ReceiverFinds}
 use Rattle.oneshot_machine.proofs.Exactness.{each_passes}
 use Rattle.oneshot_word.specs.declared.rouse.Rouse.{Rouse}
@@ -58,7 +58,7 @@ told (here looked) = refl
 told (waits blocked) = refl
 told (full (swapped storing)) = refl
 told (unclosed storing) = refl
-told (over found_closed) = refl
+told (disconnected found_closed) = refl
 told (resolved found_closed) = refl
 told _ = refl
 

@@ -1,6 +1,6 @@
 -- The rule of the table as its reader wants it: both lists, the word, and whether each slot is out, empty, or holds what.
 use Rattle.std.specs.Prelude.{◌≡◌, ℕ, true, false, List, [], ◌∷◌, Some, None}
-use Rattle.oneshot_machine.specs.Words.{Noted}
+use Rattle.oneshot_machine.specs.Noted.{Noted}
 use Rattle.oneshot_machine.specs.Phases.{By, sending, dropping}
 use Rattle.oneshot_word.specs.declared.rouse.Rouse.{Rouse}
 use Rattle.oneshot_word.specs.declared.rule.Role.TheVariants.{Maker, Dealer, Sender, Receiver}

@@ -1,8 +1,8 @@
 -- The rule of the table as its steps keep it: the word for each pair of phases, and where each slot is.
 use Rattle.std.specs.Prelude.{◌≡◌, ℕ, Bool, true, false, ◌||◌, if◌then◌else◌, List, [], ◌∷◌, Option, Some, None}
 use mathlib.Core.Option as maybe
-use Rattle.oneshot_machine.specs.Words.{Noted}
-use Rattle.oneshot_machine.specs.Phases.{By, sending, dropping, SenderAt, fresh, owes, finished, late, sender_at, sender_owns, swapped, found_closed, closed_itself, ReceiverAt, first, here, waits, claimed, withdrew, overdue, full, unclosed, over, resolved, gone, ended, receiver_at, receiver_owns, swapped_in, word_of, Share, none, empty, filled}
+use Rattle.oneshot_machine.specs.Noted.{Noted}
+use Rattle.oneshot_machine.specs.Phases.{By, sending, dropping, SenderAt, fresh, owes, finished, late, sender_at, sender_owns, swapped, found_closed, closed_itself, ReceiverAt, first, here, waits, claimed, withdrew, overdue, full, unclosed, disconnected, resolved, gone, ended, receiver_at, receiver_owns, swapped_in, word_of, Share, none, empty, filled}
 use Rattle.oneshot_word.specs.declared.rule.Role.TheVariants.{Maker, Dealer, Sender, Receiver}
 use Rattle.oneshot_word.specs.declared.rouse.Rouse.{Rouse}
 use Rattle.oneshot_word.specs.declared.rule.Slot.{Slot}
@@ -57,9 +57,9 @@ word_between (finished by) overdue = Some (final_word by)
 -- the receiver has made one since
 word_between (finished sending) (full got) = Some (word_of got)
 word_between (finished dropping) (unclosed swapping) = Some (swapped_in swapping)
-word_between (finished dropping) (over found_closed) = Some 2
+word_between (finished dropping) (disconnected found_closed) = Some 2
 word_between (finished dropping) (resolved found_closed) = Some 2
-word_between (finished by) (over closed_itself) = Some 2
+word_between (finished by) (disconnected closed_itself) = Some 2
 word_between (finished by) (resolved closed_itself) = Some 2
 word_between (finished by) ended = Some 2
 -- never
@@ -124,7 +124,7 @@ gone_of _ = false
 abbrev pub wrote_of : ReceiverAt → Option ℕ
 wrote_of (full (swapped by)) = Some (swapped_in by)
 wrote_of (unclosed by) = Some (swapped_in by)
-wrote_of (over closed_itself) = Some 2
+wrote_of (disconnected closed_itself) = Some 2
 wrote_of (resolved closed_itself) = Some 2
 wrote_of ended = Some 2
 wrote_of _ = None

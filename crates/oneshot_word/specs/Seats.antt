@@ -3,7 +3,7 @@ use Rattle.std.specs.Prelude.{◌≡◌, ◌≤◌, ℕ, zero, suc, Bool, true, 
 use Rattle.atomic_table.specs.Seated.{TableId}
 use Rattle.atomic_table.specs.Table.{Me}
 use Rattle.oneshot_machine.specs.declared.states.Op.{Op}
-use Rattle.oneshot_machine.specs.Words.{Noted, saw}
+use Rattle.oneshot_machine.specs.Noted.{Noted, saw}
 use Rattle.oneshot_machine.specs.Phases.{sender_at, sender_moves, sender_owns, receiver_at, receiver_moves, receiver_owns, Row}
 use Rattle.oneshot_machine.specs.Slots.{Held, away, vacant, held, Finds}
 use Rattle.oneshot_word.specs.declared.rule.Role.{Role}

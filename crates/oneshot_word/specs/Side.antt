@@ -3,7 +3,7 @@ use Rattle.std.specs.Prelude.{◌≡◌, ℕ, List, [], ◌∷◌, ◌++◌}
 use Rattle.atomic_table.specs.Seated.{TableId}
 use Rattle.atomic_table.specs.Table.{Me}
 use Rattle.oneshot_machine.specs.declared.states.Op.{Op}
-use Rattle.oneshot_machine.specs.Words.{Noted, saw}
+use Rattle.oneshot_machine.specs.Noted.{Noted, saw}
 use Rattle.oneshot_machine.specs.Phases.{sender_at, sender_moves, receiver_at, receiver_moves, Row}
 use Rattle.oneshot_machine.specs.Slots.{Held, away, vacant, SenderMay, ReceiverMay, Finds}
 use Rattle.oneshot_word.specs.declared.rouse.Rouse.{Rouse}

@@ -4,7 +4,7 @@ use Rattle.std.proofs.lemmas.Bool.{leb-true}
 use Rattle.std.specs.List.{list_all}
 use Rattle.std.specs.Option.{option_map, IsSome}
 use Rattle.oneshot_machine.specs.Receiver.{receiver_step, receiver_row}
-use Rattle.oneshot_machine.specs.Rows.{Outcome, Goes, Answers}
+use Rattle.oneshot_machine.specs.TableRows.{Outcome, Goes, Answers}
 use Rattle.oneshot_machine.specs.Sender.{sender_step, sender_row}
 use Rattle.oneshot_machine.specs.declared.machine.End.TheVariants.{Sender, Receiver}
 use Rattle.oneshot_machine.specs.declared.machine.Reply.{Reply}

@@ -2,7 +2,7 @@
 use Rattle.std.proofs.Common.{◌≡◌, ℕ, Bool, Option, Some, None, refl, sym, ◌∙◌, ap, subst}
 use Rattle.std.specs.Option.{option_map}
 use Rattle.oneshot_machine.specs.Receiver.{receiver_step}
-use Rattle.oneshot_machine.specs.Rows.{Outcome}
+use Rattle.oneshot_machine.specs.TableRows.{Outcome}
 use Rattle.oneshot_machine.specs.Sender.{sender_step}
 use Rattle.oneshot_machine.specs.declared.machine.End.{End}
 use Rattle.oneshot_machine.specs.declared.machine.End.TheVariants.{Sender, Receiver}

@@ -1,7 +1,7 @@
 //! What a step sees, and what it leaves of the word, of the message's place and of where its end stands.
 
 ghost use Rattle.std.specs.Prelude.{◌≡◌, ◌≤◌, ◌||◌};
-ghost use Rattle.oneshot_machine.specs.Rows.{outcome};
+ghost use Rattle.oneshot_machine.specs.TableRows.{outcome};
 ghost use Rattle.oneshot_world.specs.Effects.{is_future, seen_by, word_left, shown, sender_goes, receiver_goes, sender_puts, receiver_puts, place_left, move_of};
 ghost use Rattle.oneshot_world.specs.Wakers.{own_of};
 

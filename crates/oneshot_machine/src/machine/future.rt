@@ -2,7 +2,7 @@
 
 ghost use Rattle.std.specs.Prelude.{◌≡◌, Some, None, IfSome};
 ghost use Rattle.std.specs.Option.{option_map};
-ghost use Rattle.oneshot_machine.specs.Rows.{outcome, row_for};
+ghost use Rattle.oneshot_machine.specs.TableRows.{outcome, row_for};
 ghost use Rattle.oneshot_machine.specs.Future.{future_step, future_rows};
 ghost use Rattle.oneshot_machine.specs.declared.machine.receiver.ReceiverPos.TheVariants.{Future};
 

@@ -2,7 +2,7 @@
 
 ghost use Rattle.std.specs.Prelude.{◌≡◌, Some, IsTrue, IfSome, is_some};
 ghost use Rattle.std.specs.Option.{option_map};
-ghost use Rattle.oneshot_machine.specs.Rows.{outcome};
+ghost use Rattle.oneshot_machine.specs.TableRows.{outcome};
 ghost use Rattle.oneshot_machine.specs.Receiver.{receiver_start, receiver_step, receiver_row};
 
 use crate::machine::async_drop::AsyncDropPos;

@@ -2,7 +2,7 @@
 
 ghost use Rattle.std.specs.Prelude.{◌≡◌, Some, IsTrue, IfSome, is_some};
 ghost use Rattle.std.specs.Option.{option_map};
-ghost use Rattle.oneshot_machine.specs.Rows.{outcome};
+ghost use Rattle.oneshot_machine.specs.TableRows.{outcome};
 ghost use Rattle.oneshot_machine.specs.Sender.{sender_start, sender_step, sender_row};
 
 use crate::machine::{Reply, Seen, Step};

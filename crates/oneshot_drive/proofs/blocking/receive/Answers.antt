@@ -1,3 +1,4 @@
+-- The goals that `receive` leaves.
 use Rattle.std.proofs.Common.{sym, ◌∙◌}
 use Rattle.oneshot_machine.specs.Phases.{closed_itself}
 use Rattle.oneshot_drive.specs.Blocking.{by_ref}

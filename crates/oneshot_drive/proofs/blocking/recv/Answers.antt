@@ -1,3 +1,4 @@
+-- The goals that `recv` leaves.
 use Rattle.std.proofs.Common.{refl, ◌∙◌}
 use Rattle.oneshot_drive.specs.Blocking.{by_value}
 use Rattle.oneshot_drive.proofs.BlockingRuns.{full_message, full_waker, full_freed, gone_freed, hand_back}

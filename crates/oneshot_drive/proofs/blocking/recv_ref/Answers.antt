@@ -1,3 +1,4 @@
+-- The goals that `recv_ref` leaves.
 use Rattle.std.proofs.Common.{refl}
 use Rattle.oneshot_drive.proofs.BlockingRuns.{untimed_full, untimed_gone}
 use Rattle.oneshot_drive.proofs.blocking.recv_ref.Goals as goal

@@ -1,3 +1,4 @@
+-- The goals that `drop_async` leaves.
 use Rattle.std.proofs.Common.{rules, refl}
 use Rattle.oneshot_drive.proofs.PollRuns.{meet_asks, met, met_again, met_spin}
 use Rattle.oneshot_drive.proofs.EndRuns.{met_end, drop_to, drop_at_once}

@@ -1,3 +1,4 @@
+-- The goals that `end` leaves.
 use Rattle.std.proofs.Common.{rules, ◌∙◌}
 use Rattle.oneshot_drive.proofs.ReceiverRuns.{swap_holds, dropped_message, dropped_open, dropped_last}
 use Rattle.oneshot_drive.proofs.EndRuns.{end_asks, end_swaps, swap_message, swap_over}

@@ -1,3 +1,4 @@
+-- The goals that `leave` leaves.
 use Rattle.oneshot_drive.proofs.PollRuns.{left, left_asks, stored, stored_waits, stored_holds, stored_message, stored_none, withdrew_ends, leave_waits, leave_full, leave_over}
 use Rattle.oneshot_drive.proofs.OwnCopies.{wrote_none, on_word, on_withdraw, on_write}
 use Rattle.oneshot_drive.proofs.polling.leave.Goals as goal

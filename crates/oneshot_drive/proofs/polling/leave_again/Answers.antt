@@ -1,3 +1,4 @@
+-- The goals that `leave_again` leaves.
 use Rattle.std.proofs.Common.{rules, refl}
 use Rattle.oneshot_drive.specs.Polls.{FindsCopy}
 use Rattle.oneshot_drive.proofs.WaitingRuns.{unmoved}

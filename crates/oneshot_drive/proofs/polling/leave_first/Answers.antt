@@ -1,3 +1,4 @@
+-- The goals that `leave_first` leaves.
 use Rattle.std.proofs.Common.{rules, refl}
 use Rattle.oneshot_drive.specs.Blocking.{HasLooked}
 use Rattle.oneshot_drive.proofs.WaitingRuns.{unmoved}

@@ -1,3 +1,4 @@
+-- The goals that `meet` leaves.
 use Rattle.std.proofs.Common.{rules, refl, sym, ◌∙◌}
 use Rattle.oneshot_drive.proofs.ReceiverRuns.{closed_finds}
 use Rattle.oneshot_drive.proofs.PollRuns.{meet_asks, met, met_first, met_again, met_spin, met_full, met_none, met_went, loaded_to}

@@ -1,3 +1,4 @@
+-- The goals that `poll` leaves.
 use Rattle.std.proofs.Common.{◌∙◌}
 use Rattle.oneshot_drive.specs.Polls.{is_disconnected}
 use Rattle.oneshot_drive.proofs.Stretches.{whole}

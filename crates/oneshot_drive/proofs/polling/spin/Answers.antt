@@ -1,3 +1,4 @@
+-- The goals that `spin` leaves.
 use Rattle.std.proofs.Common.{rules, refl}
 use Rattle.oneshot_machine.specs.declared.machine.receiver.ReceiverPos.TheVariants.{Future}
 use Rattle.oneshot_machine.specs.declared.machine.future.FuturePos.TheVariants.{PollSpin}

@@ -1,7 +1,8 @@
+-- What holds on each round of the loop in `spin`.
 use Rattle.oneshot_machine.specs.declared.machine.receiver.ReceiverPos.TheVariants.{Future}
 use Rattle.oneshot_machine.specs.declared.machine.future.FuturePos.TheVariants.{PollSpin}
 use Rattle.oneshot_machine.specs.Logs.{receiver_of}
-use Rattle.oneshot_machine.specs.Rows.{Goes}
+use Rattle.oneshot_machine.specs.TableRows.{Goes}
 use Rattle.oneshot_drive.specs.Blocking.{Went}
 use Rattle.oneshot_drive.specs.Polls.{Spins, WritesItsCopy}
 use Rattle.oneshot_drive.proofs.polling.spin.Given as goal

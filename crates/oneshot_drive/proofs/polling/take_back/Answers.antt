@@ -1,3 +1,4 @@
+-- The goals that `take_back` leaves.
 use Rattle.std.proofs.Common.{rules}
 use Rattle.oneshot_drive.proofs.PollRuns.{again_asks, backed, backed_waker}
 use Rattle.oneshot_drive.proofs.EndRuns.{backed_end, withdrawn_ends, withdrawn_went, claimed_went, backed_spins}

@@ -1,3 +1,4 @@
+-- The goals that `wait_out` leaves.
 use Rattle.std.proofs.Common.{rules}
 use Rattle.oneshot_machine.specs.declared.machine.receiver.ReceiverPos.TheVariants.{AsyncDrop}
 use Rattle.oneshot_machine.specs.declared.machine.async_drop.AsyncDropPos.TheVariants.{AsyncSpin}

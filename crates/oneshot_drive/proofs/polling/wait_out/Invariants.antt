@@ -1,7 +1,8 @@
+-- What holds on each round of the loop in `wait_out`.
 use Rattle.oneshot_machine.specs.declared.machine.receiver.ReceiverPos.TheVariants.{AsyncDrop}
 use Rattle.oneshot_machine.specs.declared.machine.async_drop.AsyncDropPos.TheVariants.{AsyncSpin}
 use Rattle.oneshot_machine.specs.Logs.{receiver_of}
-use Rattle.oneshot_machine.specs.Rows.{Goes}
+use Rattle.oneshot_machine.specs.TableRows.{Goes}
 use Rattle.oneshot_drive.specs.Blocking.{Went}
 use Rattle.oneshot_drive.specs.Polls.{Spins}
 use Rattle.oneshot_drive.proofs.polling.wait_out.Given as goal

@@ -1,3 +1,4 @@
+-- The goals that `drop_receiver` leaves.
 use Rattle.std.proofs.Common.{rules}
 use Rattle.oneshot_drive.proofs.ReceiverRuns.{swap_asks, swaps, swap_holds, swap_last, dropped_message, dropped_open, dropped_last}
 use Rattle.oneshot_drive.proofs.receiver.drop_receiver.Goals as goal

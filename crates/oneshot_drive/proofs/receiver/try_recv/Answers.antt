@@ -1,3 +1,4 @@
+-- The goals that `try_recv` leaves.
 use Rattle.std.proofs.Common.{rules, sym, ◌∙◌}
 use Rattle.oneshot_drive.proofs.ReceiverRuns.{load_asks, loaded, close_asks, closed, took_rests, took_leaves, took_ran, empty_ran, gone_ran, none_rests, empty_leaves, gone_leaves, closed_finds}
 use Rattle.oneshot_drive.proofs.receiver.try_recv.Goals as goal

@@ -1,3 +1,4 @@
+-- The goals that `finish` leaves.
 use Rattle.oneshot_drive.proofs.SenderRuns.{finish_asks, finished_as}
 use Rattle.oneshot_drive.proofs.sender.finish.Goals as goal
 

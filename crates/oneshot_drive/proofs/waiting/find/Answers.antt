@@ -1,3 +1,4 @@
+-- The goals that `find` leaves.
 use Rattle.std.proofs.Common.{rules, sym, ◌∙◌}
 use Rattle.oneshot_drive.specs.Blocking.{returned}
 use Rattle.oneshot_drive.proofs.ReceiverRuns.{load_asks, loaded, gone_answers, closed_finds}

@@ -1,3 +1,4 @@
+-- The goals that `is_over` leaves.
 use Rattle.oneshot_drive.proofs.WaitingRuns.{asked, not_asked, clock_waits}
 use Rattle.oneshot_drive.proofs.waiting.is_over.Goals as goal
 

@@ -1,3 +1,4 @@
+-- The goals that `stop` leaves.
 use Rattle.std.proofs.Common.{rules, refl}
 use Rattle.oneshot_drive.proofs.LateRuns.{stop_asks, stopped, stopped_waker, withdrew_nothing, nothing_went, stopped_full, stops_full, stopped_over, stops_over, stopped_late, late_went}
 use Rattle.oneshot_drive.proofs.waiting.stop.Goals as goal

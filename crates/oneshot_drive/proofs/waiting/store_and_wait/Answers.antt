@@ -1,3 +1,4 @@
+-- The goals that `store_and_wait` leaves.
 use Rattle.std.proofs.Common.{◌≡◌, Some, rules}
 use Rattle.oneshot_drive.proofs.WaitingRuns.{open_waker, written, store_asks, stored, stored_waits, stored_waker, stored_went, full_went, over_went, withdrew_full, withdrew_over, back, waited_hand}
 use Rattle.oneshot_drive.proofs.waiting.store_and_wait.Goals as goal

@@ -1,3 +1,4 @@
+-- The goals that `wait` leaves.
 use Rattle.std.proofs.Common.{refl, rules}
 use Rattle.oneshot_drive.specs.Blocking.{wait_of}
 use Rattle.oneshot_drive.proofs.Stretches.{begun}

@@ -1,6 +1,7 @@
+-- What holds on each round of the loop in `wait`.
 use Rattle.std.proofs.Common.{◌≡◌}
 use Rattle.oneshot_machine.specs.Logs.{receiver_of}
-use Rattle.oneshot_machine.specs.Rows.{Goes}
+use Rattle.oneshot_machine.specs.TableRows.{Goes}
 use Rattle.oneshot_drive.specs.Blocking.{Went, Way, wait_of, IsWaiting}
 use Rattle.oneshot_drive.proofs.waiting.wait.Given as goal
 

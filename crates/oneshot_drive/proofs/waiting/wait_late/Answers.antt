@@ -1,3 +1,4 @@
+-- The goals that `wait_late` leaves.
 use Rattle.std.proofs.Common.{rules}
 use Rattle.oneshot_machine.specs.declared.machine.receiver.ReceiverPos.TheVariants.{Timed}
 use Rattle.oneshot_machine.specs.declared.machine.timed.TimedPos.TheVariants.{LatePark}

@@ -1,7 +1,8 @@
+-- What holds on each round of the loop in `wait_late`.
 use Rattle.oneshot_machine.specs.declared.machine.receiver.ReceiverPos.TheVariants.{Timed}
 use Rattle.oneshot_machine.specs.declared.machine.timed.TimedPos.TheVariants.{LatePark}
 use Rattle.oneshot_machine.specs.Logs.{receiver_of}
-use Rattle.oneshot_machine.specs.Rows.{Goes}
+use Rattle.oneshot_machine.specs.TableRows.{Goes}
 use Rattle.oneshot_drive.specs.Blocking.{Went, IsOverdue}
 use Rattle.oneshot_drive.proofs.waiting.wait_late.Given as goal
 

@@ -1,3 +1,4 @@
+-- The goals that `examples_are_so` leaves.
 use Rattle.oneshot_machine.proofs.ExampleRuns.{sender_lists, receiver_lists, runs_that_are, runs_that_are_not}
 use Rattle.oneshot_machine.proofs.FutureExampleRuns.{future_lists, future_runs, future_runs_that_are_not}
 use Rattle.oneshot_machine.proofs.laws.examples_are_so.Goals as goal

@@ -1,7 +1,8 @@
+-- The goals that `begin_drop` leaves.
 use Rattle.std.proofs.Common.{rules}
 use Rattle.oneshot_machine.specs.declared.states.Op.TheVariants.{Swap, Xor}
 use Rattle.oneshot_machine.specs.Slots.{vacant, is_away, is_vacant, head, tail, may}
-use Rattle.oneshot_model_tests.proofs.Told.{sender_can, sender_changed, begins_fresh, finds_waker}
+use Rattle.oneshot_model_tests.proofs.Shown.{sender_can, sender_changed, begins_fresh, finds_waker}
 use Rattle.oneshot_model_tests.proofs.word.begin_drop.Goals as goal
 
 pub flip-found-requires : goal.flip-found-requires

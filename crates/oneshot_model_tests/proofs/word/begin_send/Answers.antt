@@ -1,9 +1,10 @@
+-- The goals that `begin_send` leaves.
 use Rattle.std.proofs.Common.{rules, ◌≡◌, ap, ◌∙◌}
 use Rattle.oneshot_machine.specs.declared.states.Op.TheVariants.{Swap, Add}
 use Rattle.oneshot_machine.specs.Phases.{fresh, sender_at}
 use Rattle.oneshot_machine.specs.Slots.{away, vacant, held, is_away, is_vacant, is_held, head, may, SenderOwns}
 use Rattle.oneshot_word.specs.Side.{Side}
-use Rattle.oneshot_model_tests.proofs.Told.{SenderIs, sender_can, sender_changed, begins_fresh, finds_waker}
+use Rattle.oneshot_model_tests.proofs.Shown.{SenderIs, sender_can, sender_changed, begins_fresh, finds_waker}
 use Rattle.oneshot_model_tests.proofs.word.begin_send.Goals as goal
 
 module _ {T W : Type 0} where

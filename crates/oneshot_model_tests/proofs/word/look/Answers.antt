@@ -1,9 +1,10 @@
+-- The goals that `look` leaves.
 use Rattle.std.proofs.Common.{rules, ◌≡◌, refl, subst}
 use Rattle.oneshot_machine.specs.declared.states.Op.TheVariants.{Load}
 use Rattle.oneshot_machine.specs.Phases.{first, receiver_at}
 use Rattle.oneshot_machine.specs.Slots.{Held, away, vacant, is_away, stays_away, gets_room, head, tail, may, finds, ReceiverFinds, not_its_own, owns, ReceiverOwns}
 use Rattle.oneshot_word.specs.Side.{Side}
-use Rattle.oneshot_model_tests.proofs.Told.{ReceiverIs, receiver_can, receiver_told, receiver_went}
+use Rattle.oneshot_model_tests.proofs.Shown.{ReceiverIs, receiver_can, receiver_told, receiver_went}
 use Rattle.oneshot_model_tests.proofs.word.look.Goals as goal
 
 module _ {T W : Type 0} where

@@ -1,15 +1,16 @@
+-- The goals that `receive` leaves.
 use Rattle.std.proofs.Common.{rules, ◌≡◌, ℕ, Bool, true, false, ◌&&◌, refl, ◌∙◌}
 use Rattle.std.specs.Prelude.{◌==◌, if◌then◌else◌}
 use Rattle.std.specs.List.{list_all}
 use Rattle.std.proofs.lemmas.Bool.{and_parts}
 use Rattle.oneshot_machine.specs.declared.machine.Seen.TheVariants.{Word}
 use Rattle.oneshot_machine.specs.declared.states.Op.TheVariants.{Load, Store}
-use Rattle.oneshot_machine.specs.Words.{is_same_op}
-use Rattle.oneshot_machine.specs.Phases.{Share, empty, Row, Got, full, looked, here, blocked, waits, storing, swapped, unclosed, found_closed, over, resolved, ReceiverAt, receiver_moves, receiver_next, receiver_at}
+use Rattle.oneshot_machine.specs.Noted.{is_same_op}
+use Rattle.oneshot_machine.specs.Phases.{Share, empty, Row, Got, full, looked, here, blocked, waits, storing, swapped, unclosed, found_closed, disconnected, resolved, ReceiverAt, receiver_moves, receiver_next, receiver_at}
 use Rattle.oneshot_machine.specs.Slots.{Held, vacant, held, Turns, stays_vacant, stays_held, gets_room, gets_thing, finds, ReceiverFinds}
 use Rattle.oneshot_machine.proofs.Exactness.{each_passes}
 use Rattle.oneshot_word.specs.Side.{Side, ReceiverDid}
-use Rattle.oneshot_model_tests.proofs.Told.{ReceiverIs, receiver_can, receiver_told, receiver_went, receiver_is, is_filled, closes, keeps_message}
+use Rattle.oneshot_model_tests.proofs.Shown.{ReceiverIs, receiver_can, receiver_told, receiver_went, receiver_is, is_filled, closes, keeps_message}
 use Rattle.oneshot_model_tests.proofs.word.receive.Goals as goal
 
 -- a load that finds 4 leaves the receiver with the message, and with no waker: computed for each phase
@@ -30,7 +31,7 @@ each_has_it (here looked) = refl
 each_has_it (waits blocked) = refl
 each_has_it (full (swapped storing)) = refl
 each_has_it (unclosed storing) = refl
-each_has_it (over found_closed) = refl
+each_has_it (disconnected found_closed) = refl
 each_has_it (resolved found_closed) = refl
 each_has_it _ = refl
 

@@ -1,9 +1,10 @@
+-- The goals that `stop` leaves.
 use Rattle.std.proofs.Common.{rules, ◌≡◌, ℕ, refl}
 use Rattle.oneshot_machine.specs.declared.states.Op.TheVariants.{Load, Swap}
 use Rattle.oneshot_machine.specs.Phases.{blocked, waits, here, between, receiver_at}
 use Rattle.oneshot_machine.specs.Slots.{Held, away, vacant, held, is_away, is_vacant, stays_away, stays_vacant, gets_thing, head, tail, may, finds, ReceiverFinds}
 use Rattle.oneshot_word.specs.Side.{Side, ReceiverDid}
-use Rattle.oneshot_model_tests.proofs.Told.{ReceiverIs, receiver_can, receiver_told, receiver_went, receiver_is, receiver_changed}
+use Rattle.oneshot_model_tests.proofs.Shown.{ReceiverIs, receiver_can, receiver_told, receiver_went, receiver_is, receiver_changed}
 use Rattle.oneshot_model_tests.proofs.word.stop.Goals as goal
 
 module _ {T W : Type 0} where

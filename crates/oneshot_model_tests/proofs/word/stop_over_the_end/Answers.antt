@@ -1,9 +1,10 @@
+-- The goals that `stop_over_the_end` leaves.
 use Rattle.std.proofs.Common.{rules, ◌≡◌, ℕ, refl}
 use Rattle.oneshot_machine.specs.declared.states.Op.TheVariants.{Store, Swap}
 use Rattle.oneshot_machine.specs.Phases.{blocked, waits, stopping, unclosed, receiver_at}
 use Rattle.oneshot_machine.specs.Slots.{Held, vacant, is_vacant, gets_room, head, tail, may, finds, ReceiverFinds}
 use Rattle.oneshot_word.specs.Side.{Side, ReceiverDid}
-use Rattle.oneshot_model_tests.proofs.Told.{ReceiverIs, receiver_can, receiver_told, receiver_went, receiver_is}
+use Rattle.oneshot_model_tests.proofs.Shown.{ReceiverIs, receiver_can, receiver_told, receiver_went, receiver_is}
 use Rattle.oneshot_model_tests.proofs.word.stop_over_the_end.Goals as goal
 
 module _ {T W : Type 0} where

@@ -1,9 +1,10 @@
+-- The goals that `stop_over_the_message` leaves.
 use Rattle.std.proofs.Common.{rules, ◌≡◌, ℕ, refl}
 use Rattle.oneshot_machine.specs.declared.states.Op.TheVariants.{Store, Swap}
 use Rattle.oneshot_machine.specs.Phases.{blocked, waits, stopping, swapped, full, receiver_at}
 use Rattle.oneshot_machine.specs.Slots.{Held, vacant, held, gets_thing, gets_room, head, tail, finds, ReceiverFinds}
 use Rattle.oneshot_word.specs.Side.{Side, ReceiverDid}
-use Rattle.oneshot_model_tests.proofs.Told.{ReceiverIs, receiver_can, receiver_told, receiver_went, receiver_is, closes, keeps_message}
+use Rattle.oneshot_model_tests.proofs.Shown.{ReceiverIs, receiver_can, receiver_told, receiver_went, receiver_is, closes, keeps_message}
 use Rattle.oneshot_model_tests.proofs.word.stop_over_the_message.Goals as goal
 
 module _ {T W : Type 0} where

@@ -1,9 +1,10 @@
+-- The goals that `store_waker` leaves.
 use Rattle.std.proofs.Common.{rules, ◌≡◌, ℕ, refl, subst}
 use Rattle.oneshot_machine.specs.declared.states.Op.TheVariants.{Load, Swap}
 use Rattle.oneshot_machine.specs.Phases.{here, looked, blocked, waits, receiver_at}
 use Rattle.oneshot_machine.specs.Slots.{Held, away, vacant, held, is_away, is_held, stays_away, gives_thing, head, tail, may, finds, ReceiverFinds, not_its_own, owns, ReceiverOwns}
 use Rattle.oneshot_word.specs.Side.{Side, ReceiverDid}
-use Rattle.oneshot_model_tests.proofs.Told.{ReceiverIs, receiver_can, receiver_told, receiver_went, receiver_changed}
+use Rattle.oneshot_model_tests.proofs.Shown.{ReceiverIs, receiver_can, receiver_told, receiver_went, receiver_changed}
 use Rattle.oneshot_model_tests.proofs.word.store_waker.Goals as goal
 
 module _ {T W : Type 0} where

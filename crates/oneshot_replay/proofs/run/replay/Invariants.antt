@@ -1,3 +1,4 @@
+-- What holds on each round of the loop in `replay`.
 use Rattle.std.proofs.Common.{◌≡◌, ◌+◌, ◌-◌, ◌≤◌, length, take, vec_len, vec_capacity}
 use Rattle.oneshot_world.specs.World.{opening}
 use Rattle.oneshot_replay.specs.Rest.{message_of}

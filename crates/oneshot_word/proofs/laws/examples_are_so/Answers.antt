@@ -1,3 +1,4 @@
+-- The goals that `examples_are_so` leaves.
 use Rattle.oneshot_word.proofs.RuleExamples.{states_that_are, states_that_are_not}
 use Rattle.oneshot_word.proofs.laws.examples_are_so.Goals as goal
 

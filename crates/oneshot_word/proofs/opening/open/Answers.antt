@@ -1,3 +1,4 @@
+-- The goals that `open` leaves.
 use Rattle.std.proofs.Common.{rules, sym, subst}
 use Rattle.oneshot_word.specs.Rule.{opened}
 use Rattle.oneshot_word.specs.Seats.{SenderSeat, ReceiverSeat}

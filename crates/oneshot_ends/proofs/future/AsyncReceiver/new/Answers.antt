@@ -1,3 +1,4 @@
+-- The goals that `new` of `AsyncReceiver` leaves.
 use Rattle.oneshot_drive.specs.Polls.{unpolled}
 use Rattle.oneshot_ends.proofs.future.AsyncReceiver.new.Goals as goal
 

@@ -1,3 +1,4 @@
+-- The goals that `poll` of `AsyncReceiver` as a `Future` leaves.
 use Rattle.std.proofs.Common.{[], ap, ◌∙◌}
 use Rattle.oneshot_machine.specs.declared.machine.receiver.ReceiverStart.TheVariants as C
 use Rattle.oneshot_drive.specs.Calls.{IsClosed, IsOpen}

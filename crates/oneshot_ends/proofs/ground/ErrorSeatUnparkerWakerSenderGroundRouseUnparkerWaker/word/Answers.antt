@@ -1,3 +1,4 @@
+-- The goals that `word` of `ErrorSeatUnparkerWakerSenderGroundRouseUnparkerWaker` leaves.
 use Rattle.oneshot_ends.proofs.Standing.{late_never}
 use Rattle.oneshot_ends.proofs.ground.ErrorSeatUnparkerWakerSenderGroundRouseUnparkerWaker.word.Goals as goal
 

@@ -1,3 +1,4 @@
+-- The goals that `new` of `Receiver` leaves.
 use Rattle.oneshot_ends.proofs.Standing.{stays_unfreed}
 use Rattle.oneshot_ends.proofs.ground.ReceiverSeat.new.Goals as goal
 

@@ -1,3 +1,4 @@
+-- The goals that `word` of `Receiver` as a `ReceiverGround` leaves.
 use Rattle.oneshot_ends.proofs.Standing.{receiver_can, receiver_found, stays_unfreed}
 use Rattle.oneshot_ends.proofs.ground.ReceiverSeatReceiverGroundRouse.word.Goals as goal
 

@@ -1,3 +1,4 @@
+-- The goals that `take_waker` of `Sender` as a `SenderGround` leaves.
 use Rattle.std.proofs.Common.{ap, ◌∙◌}
 use Rattle.oneshot_ends.proofs.Standing.{own_slot}
 use Rattle.oneshot_ends.proofs.ground.SenderSeatUnparkerWakerSenderGroundRouseUnparkerWaker.take_waker.Goals as goal

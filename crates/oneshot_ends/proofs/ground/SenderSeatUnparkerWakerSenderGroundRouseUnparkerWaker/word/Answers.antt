@@ -1,3 +1,4 @@
+-- The goals that `word` of `Sender` as a `SenderGround` leaves.
 use Rattle.oneshot_ends.proofs.Standing.{sender_can, sender_found}
 use Rattle.oneshot_ends.proofs.ground.SenderSeatUnparkerWakerSenderGroundRouseUnparkerWaker.word.Goals as goal
 

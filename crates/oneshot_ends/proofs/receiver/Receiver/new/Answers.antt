@@ -1,3 +1,4 @@
+-- The goals that `new` of `Receiver` leaves.
 use Rattle.oneshot_ends.proofs.Standing.{rests_at_new}
 use Rattle.oneshot_ends.proofs.receiver.Receiver.new.Goals as goal
 

@@ -1,3 +1,4 @@
+-- The goals that `recv_after` of `Receiver` leaves.
 use Rattle.std.proofs.Common.{sym, subst}
 use Rattle.std.specs.Prelude.{◌↔◌, IsTrue}
 use Rattle.oneshot_machine.specs.Phases.{receiver_at}

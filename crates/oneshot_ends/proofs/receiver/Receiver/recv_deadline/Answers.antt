@@ -1,3 +1,4 @@
+-- The goals that `recv_deadline` of `Receiver` leaves.
 use Rattle.std.proofs.Common.{subst}
 use Rattle.oneshot_machine.specs.Phases.{receiver_at}
 use Rattle.oneshot_machine.specs.declared.machine.receiver.ReceiverStart.TheVariants.{RecvDeadline}

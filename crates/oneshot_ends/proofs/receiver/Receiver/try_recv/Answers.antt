@@ -1,3 +1,4 @@
+-- The goals that `try_recv` of `Receiver` leaves.
 use Rattle.std.proofs.Common.{◌++◌, map, sym, ap, ◌∙◌, subst}
 use Rattle.oneshot_machine.specs.Logs.{words}
 use Rattle.oneshot_machine.specs.Phases.{receiver_at}

@@ -1,3 +1,4 @@
+-- The goals that `send` of `Sender` leaves.
 use Rattle.std.proofs.Common.{◌++◌, map, sym, ap, ◌∙◌, subst}
 use Rattle.oneshot_machine.specs.declared.machine.sender.SenderCall.TheVariants.{Send}
 use Rattle.oneshot_machine.specs.Logs.{words}

@@ -1,3 +1,4 @@
+-- The goals that `drop_message` of `TaskSeatReceiverGroundCopied` leaves.
 use Rattle.std.proofs.Common.{refl, [], ◌∷◌}
 use Rattle.oneshot_ends.proofs.Tokens.{told}
 use Rattle.oneshot_ends.proofs.task.TaskSeatReceiverGroundCopied.drop_message.Goals as goal

@@ -1,3 +1,4 @@
+-- The goals that `take_message` of `TaskSeatReceiverGroundCopied` leaves.
 use Rattle.std.proofs.Common.{refl, [], ◌∷◌}
 use Rattle.oneshot_ends.proofs.Tokens.{told}
 use Rattle.oneshot_ends.proofs.task.TaskSeatReceiverGroundCopied.take_message.Goals as goal

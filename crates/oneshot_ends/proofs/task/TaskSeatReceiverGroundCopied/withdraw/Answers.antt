@@ -1,3 +1,4 @@
+-- The goals that `withdraw` of `TaskSeatReceiverGroundCopied` leaves.
 use Rattle.std.proofs.Common.{refl, [], ◌∷◌}
 use Rattle.oneshot_ends.proofs.Tokens.{told}
 use Rattle.oneshot_ends.proofs.task.TaskSeatReceiverGroundCopied.withdraw.Goals as goal

@@ -1,3 +1,4 @@
+-- The goals that `word` of `TaskSeatReceiverGroundCopied` leaves.
 use Rattle.std.proofs.Common.{refl, [], ◌∷◌}
 use Rattle.oneshot_ends.proofs.Tokens.{told, token_can, token_found}
 use Rattle.oneshot_ends.proofs.task.TaskSeatReceiverGroundCopied.word.Goals as goal

@@ -1,3 +1,4 @@
+-- The goals that `write_waker` of `TaskSeatReceiverGroundCopied` leaves.
 use Rattle.std.proofs.Common.{refl, [], ◌∷◌}
 use Rattle.oneshot_ends.proofs.Tokens.{told}
 use Rattle.oneshot_ends.proofs.task.TaskSeatReceiverGroundCopied.write_waker.Goals as goal

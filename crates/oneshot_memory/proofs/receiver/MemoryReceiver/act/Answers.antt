@@ -1,3 +1,4 @@
+-- The goals that `act` of `MemoryReceiver` leaves.
 use Rattle.std.proofs.Common.{◌≡◌, None, rules, sym, ap, ◌∙◌}
 use Rattle.oneshot_memory.specs.Receiver.{is_open}
 use Rattle.oneshot_memory.proofs.ReceiverStands.{IsOpen, is_open_by, left_open, left_waiting}

@@ -1,3 +1,4 @@
+-- The goals that `operate` of `MemoryReceiver` leaves.
 use Rattle.std.proofs.Common.{◌∷◌, [], sym, ap, ◌∙◌, subst}
 use Rattle.oneshot_machine.specs.Logs.{Grows, receiver_of, worded}
 use Rattle.oneshot_machine.specs.Slots.{ReceiverFinds}

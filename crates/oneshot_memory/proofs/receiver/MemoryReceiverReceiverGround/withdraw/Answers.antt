@@ -1,3 +1,4 @@
+-- The goals that `withdraw` of `MemoryReceiver` as a `ReceiverGround` leaves.
 use Rattle.std.proofs.Common.{◌≡◌, None, rules, refl, ap, ◌∙◌}
 use Rattle.oneshot_memory.proofs.Events.{no_word}
 use Rattle.oneshot_memory.proofs.Cells.{slot_held}

@@ -1,3 +1,4 @@
+-- The goals that `free` of `MemorySender` as a `SenderGround` leaves.
 use Rattle.std.proofs.Common.{[], ◌∷◌, ◌++◌, refl, ap, ◌∙◌}
 use Rattle.oneshot_memory.proofs.SenderStands.{sender_stays, sender_freed}
 use Rattle.oneshot_memory.proofs.sender.MemorySenderSenderGround.free.Goals as goal

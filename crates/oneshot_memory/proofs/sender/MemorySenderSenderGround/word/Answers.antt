@@ -1,3 +1,4 @@
+-- The goals that `word` of `MemorySender` as a `SenderGround` leaves.
 use Rattle.std.proofs.Common.{◌∷◌, [], sym, ap, subst}
 use Rattle.oneshot_machine.specs.Logs.{Grows, sender_of, worded}
 use Rattle.oneshot_machine.specs.Slots.{SenderFinds}

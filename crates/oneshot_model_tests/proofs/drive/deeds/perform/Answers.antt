@@ -1,3 +1,4 @@
+-- The goals that `perform` leaves.
 use Rattle.oneshot_drive.proofs.ReadyHands.{ready_still, ready_closed, ready_timed}
 use Rattle.oneshot_model_tests.proofs.drive.deeds.perform.Goals as goal
 

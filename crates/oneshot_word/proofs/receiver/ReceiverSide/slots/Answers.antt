@@ -1,3 +1,4 @@
+-- The goals that `slots` of `ReceiverSide` leaves.
 use Rattle.std.proofs.Common.{subst}
 use Rattle.oneshot_machine.specs.Phases.{receiver_at}
 use Rattle.oneshot_machine.specs.Slots.{ReceiverOwns}

@@ -1,3 +1,4 @@
+-- The goals that `swap` of `ReceiverSide` leaves.
 use Rattle.std.proofs.Common.{rules, sym, subst}
 use Rattle.oneshot_machine.specs.declared.states.Op.TheVariants.{Swap}
 use Rattle.oneshot_word.specs.Side.{ReceiverCan}

@@ -1,3 +1,4 @@
+-- The goals that `trade_waker` of `ReceiverSide` leaves.
 use Rattle.std.proofs.Common.{◌≢◌, rules, sym, ap, subst}
 use Rattle.oneshot_machine.specs.Slots.{away}
 use Rattle.oneshot_word.specs.Seats.{waker_of, message_in, waker_in, WakerSlot, ReceiverSeat}

@@ -1,3 +1,4 @@
+-- The goals that `add` of `SenderSide` leaves.
 use Rattle.std.proofs.Common.{rules, sym, subst}
 use Rattle.oneshot_machine.specs.declared.states.Op.TheVariants.{Add}
 use Rattle.oneshot_word.specs.Side.{SenderCan}

@@ -1,3 +1,4 @@
+-- The goals that `peek` of `SenderSide` leaves.
 use Rattle.std.proofs.Common.{subst}
 use Rattle.oneshot_machine.specs.Phases.{sender_at}
 use Rattle.oneshot_machine.specs.Slots.{SenderOwns}

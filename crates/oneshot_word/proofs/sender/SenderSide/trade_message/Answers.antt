@@ -1,3 +1,4 @@
+-- The goals that `trade_message` of `SenderSide` leaves.
 use Rattle.std.proofs.Common.{◌≢◌, rules, refl, sym, ap, subst}
 use Rattle.oneshot_machine.specs.Slots.{away}
 use Rattle.oneshot_word.specs.Seats.{message_of, message_in, waker_in, MessageSlot, SenderSeat}

@@ -1,6 +1,6 @@
 -- The step is the one of the row that `next` gives.
 use Rattle.std.proofs.Common.{◌≡◌, Some}
-use Rattle.oneshot_machine.specs.Rows.{outcome}
+use Rattle.oneshot_machine.specs.TableRows.{outcome}
 use Rattle.oneshot_machine.specs.Sender.{sender_step, sender_row}
 use Rattle.oneshot_world.specs.Effects.{seen_by}
 use Rattle.oneshot_world.proofs.StateSteps.{sender_made_of}

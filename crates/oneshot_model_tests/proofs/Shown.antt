@@ -3,7 +3,7 @@ use Rattle.std.proofs.Common.{◌≡◌, ℕ, Bool, true, false, refl, sym, ap, 
 use Rattle.std.specs.List.{list_all}
 use Rattle.oneshot_machine.specs.declared.states.Op.{Op}
 use Rattle.oneshot_machine.specs.declared.states.Op.TheVariants.{Store}
-use Rattle.oneshot_machine.specs.Words.{saw}
+use Rattle.oneshot_machine.specs.Noted.{saw}
 use Rattle.oneshot_machine.specs.Phases.{Share, filled, Got, at_once, full, SenderAt, fresh, sender_next, sender_at, ReceiverAt, first, receiver_moves, receiver_next, receiver_at}
 use Rattle.oneshot_machine.specs.Slots.{Held, away, vacant, held, is_held, is_vacant, Turns, stays_vacant, stays_held, gets_thing, head, tail, may, finds, SenderMay, SenderFinds, ReceiverMay, ReceiverFinds, not_its_own, owns, SenderOwns}
 use Rattle.oneshot_machine.proofs.Exactness.{each_passes}
