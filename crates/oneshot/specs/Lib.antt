@@ -7,8 +7,9 @@ pub use Rattle.oneshot_errors.specs.declared.recv.RecvError
 pub use Rattle.oneshot_errors.specs.declared.recv_timeout.RecvTimeoutError
 pub use Rattle.oneshot_errors.specs.declared.try_recv.TryRecvError
 -- what those of the drivers and of the grounds in memory name
+pub use Rattle.oneshot_drive.specs.BetweenCalls
 pub use Rattle.oneshot_drive.specs.Blocking
-pub use Rattle.oneshot_drive.specs.Calls
+pub use Rattle.oneshot_drive.specs.Grounds
 pub use Rattle.oneshot_drive.specs.Polls
 pub use Rattle.oneshot_machine.specs.Logs
 pub use Rattle.oneshot_machine.specs.Phases
@@ -31,7 +32,7 @@ pub use Rattle.oneshot_machine.specs.declared.machine.sender.SenderCall
 pub use Rattle.oneshot_replay.specs.Rest
 pub use Rattle.oneshot_replay.specs.TraceView
 pub use Rattle.oneshot_replay.specs.declared.rest.Rest as RestOf
-pub use Rattle.oneshot_world.specs.Calls as ScriptCalls
+pub use Rattle.oneshot_world.specs.Calls
 pub use Rattle.oneshot_world.specs.Scripts
 pub use Rattle.oneshot_world.specs.Ahead
 pub use Rattle.oneshot_world.specs.Effects
