@@ -52,7 +52,7 @@ some_passes p (x ∷ xs) any = by (p x) refl any (some_passes p xs)
         record { one = found.one; among = tail found.among; passes = found.passes }
 
 -- an operation, what was seen, and the shares of slots, told apart by their tests
-same_op : (op : Op) → is_same_op op op ≡ true
+pub same_op : (op : Op) → is_same_op op op ≡ true
 same_op Load = refl
 same_op (Store new) = eq-eqb new new refl
 same_op (Swap new) = eq-eqb new new refl
@@ -70,7 +70,7 @@ ops_are_same Add Add e = refl
 ops_are_same Xor Xor e = refl
 ops_are_same _ _ e = absurd (cc)
 
-same_sight : (op : Op) (word : ℕ) → is_same_seen (saw op word) (saw op word) ≡ true
+pub same_sight : (op : Op) (word : ℕ) → is_same_seen (saw op word) (saw op word) ≡ true
 same_sight (Store new) word = refl
 same_sight Load word = eq-eqb word word refl
 same_sight (Swap new) word = eq-eqb word word refl

@@ -2,19 +2,6 @@
 use Rattle.std.proofs.Common.{◌≡◌, ℕ, Bool, true, false, Option, Some, None, refl, ap}
 use Rattle.std.specs.Prelude.{◌==◌}
 use Rattle.std.proofs.lemmas.Bool.{eqb-true}
-use Rattle.oneshot_machine.specs.Phases.{Share, none, empty, filled}
-
-abbrev pub is_share : Share → Share → Bool
-is_share none none = true
-is_share empty empty = true
-is_share filled filled = true
-is_share _ _ = false
-
-pub shares_are : (a b : Share) → is_share a b ≡ true → a ≡ b
-shares_are none none e = refl
-shares_are empty empty e = refl
-shares_are filled filled e = refl
-shares_are _ _ e = absurd (cc)
 
 abbrev pub is_bool : Bool → Bool → Bool
 is_bool true true = true

@@ -7,12 +7,12 @@ use Rattle.oneshot_machine.specs.Noted.{is_same_op}
 use Rattle.oneshot_machine.specs.Phases.{Slots, Row}
 use Rattle.oneshot_machine.specs.Slots.{In, head, tail}
 use Rattle.oneshot_machine.proofs.Exactness.{ops_are_same}
-use Rattle.oneshot_word.proofs.Alike.{is_share, shares_are}
+use Rattle.oneshot_machine.proofs.Exactness.{is_same_share, shares_are_same}
 
 module _ {At : Type 0} where
   abbrev pub is_row : Op → Slots → ℕ → Row At → Bool
   is_row op before word row =
-      is_same_op row.0 op && is_share row.1.0 before.0 && is_share row.1.1 before.1 && row.2 == word
+      is_same_op row.0 op && is_same_share row.1.0 before.0 && is_same_share row.1.1 before.1 && row.2 == word
 
   abbrev pub row_of : List (Row At) → Op → Slots → ℕ → Option Slots
   row_of [] op before word = None
@@ -33,7 +33,7 @@ module _ {At : Type 0} where
       by : (b : Bool) → is_row op before word row ≡ b → Found rows op before word (row_of rows op before word) → Found (row ∷ rows) op before word (if b then Some row.4 else row_of rows op before word)
       by false e rest = found_behind rest
       by true e rest =
-          let words = and_parts (is_same_op row.0 op && is_share row.1.0 before.0 && is_share row.1.1 before.1) (row.2 == word) e in
-          let wakers = and_parts (is_same_op row.0 op && is_share row.1.0 before.0) (is_share row.1.1 before.1) words.0 in
-          let parts = and_parts (is_same_op row.0 op) (is_share row.1.0 before.0) wakers.0 in
-          found_row (subst (λ (r : Row At). In r (row ∷ rows)) (λ i. (ops_are_same row.0 op parts.0 i, (shares_are row.1.0 before.0 parts.1 i, shares_are row.1.1 before.1 wakers.1 i), eqb-true row.2 word words.1 i, row.3, row.4)) head)
+          let words = and_parts (is_same_op row.0 op && is_same_share row.1.0 before.0 && is_same_share row.1.1 before.1) (row.2 == word) e in
+          let wakers = and_parts (is_same_op row.0 op && is_same_share row.1.0 before.0) (is_same_share row.1.1 before.1) words.0 in
+          let parts = and_parts (is_same_op row.0 op) (is_same_share row.1.0 before.0) wakers.0 in
+          found_row (subst (λ (r : Row At). In r (row ∷ rows)) (λ i. (ops_are_same row.0 op parts.0 i, (shares_are_same row.1.0 before.0 parts.1 i, shares_are_same row.1.1 before.1 wakers.1 i), eqb-true row.2 word words.1 i, row.3, row.4)) head)

@@ -8,7 +8,7 @@ use Rattle.oneshot_word.specs.declared.rule.Slot.{Slot}
 use Rattle.oneshot_word.specs.declared.rule.Slot.TheVariants.{Empty}
 use Rattle.oneshot_word.specs.Seats.{Carried, slot_vacant, slot_held, Part, not_carried, carried, Front, message_first, waker_first, carried_as}
 use Rattle.oneshot_word.specs.Rule.{Home, out, Lies, lies_out, lies_bare, lies_filled}
-use Rattle.oneshot_word.proofs.Alike.{is_share}
+use Rattle.oneshot_machine.proofs.Exactness.{is_same_share}
 
 -- whether an end has such a slot
 abbrev pub is_owned : Share → Bool
@@ -26,7 +26,7 @@ pub data Goes {T H K : Type 0} (place : ℕ) : Bool → Bool → Home T H K → 
 
 -- which share of it the seat has before and after, and the table after and before
 abbrev pub is_turn : Share → Share → Share → Share → Bool
-is_turn none none there' there = is_share there there'
+is_turn none none there' there = is_same_share there there'
 is_turn empty empty none none = true
 is_turn filled filled none none = true
 is_turn empty none empty none = true
