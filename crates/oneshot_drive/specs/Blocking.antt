@@ -1,16 +1,18 @@
 -- How a receive that blocks comes to its end, in each call that does.
-use Rattle.std.specs.Prelude.{◌≡◌, ℕ, Bool, true, false, List, [], ◌∷◌, Option, Some, None}
+use Rattle.std.specs.Prelude.{◌≡◌, Bool, true, false, List, [], ◌∷◌, Option, Some, None}
 use Rattle.oneshot_drive.specs.declared.waiting.Found.{Found}
 use Rattle.oneshot_drive.specs.declared.waiting.Found.TheVariants as F
 use Rattle.oneshot_machine.specs.declared.machine.Reply.{Reply}
 use Rattle.oneshot_machine.specs.declared.machine.Reply.TheVariants as R
 use Rattle.oneshot_machine.specs.declared.machine.receiver.ReceiverPos.{ReceiverPos}
 use Rattle.oneshot_machine.specs.declared.machine.receiver.ReceiverPos.TheVariants.{Close, CloseOnly, StartLoad, StartWrite, Park, Clock, TimedPark, EndSwap, RecvLoad, RecvWrite, RecvPark, RecvTake, RecvFreeGone}
+use Rattle.oneshot_machine.specs.declared.machine.Seen.TheVariants.{Done}
+use Rattle.oneshot_machine.specs.declared.states.Op.TheVariants.{Store}
 use Rattle.oneshot_machine.specs.Logs.{Event, Log, Grows, messages_given, messages_got}
-use Rattle.oneshot_machine.specs.Phases.{Closing, at_once, waited, Waiting, looked, between, blocked, ReceiverAt, here, waits, overdue, full, unclosed, over}
+use Rattle.oneshot_machine.specs.Phases.{Closing, closed_itself, Got, Swapping, Waiting, between, ReceiverAt, here, waits, overdue, full, unclosed, over, receiver_next}
 use Rattle.oneshot_machine.specs.Receiver.{receiver_step, receiver_row}
 use Rattle.oneshot_machine.specs.Rows.{Outcome, Goes, Answers}
-use Rattle.oneshot_machine.specs.Slots.{Held, away, vacant, held}
+use Rattle.oneshot_drive.specs.Grounds.{State, Stands}
 
 -- From this position these steps lead on: to another position, or to a reply.
 pub data Stretch {T W : Type 0} : ReceiverPos → List (Event T W) → Outcome ReceiverPos → Type 0 where
@@ -71,25 +73,13 @@ abbrev pub end_of : {timed : Bool} → Way timed → Found → Outcome ReceiverP
 end_of (by_ref timed) = ref_end
 end_of by_value = value_end
 
--- how far the receiver is then, with its slots: only a deadline ends a receive with nothing found
-pub data EndsAt {T W : Type 0} : Bool → Found → ReceiverAt → Held T → Held W → Type 0 where
-  ends_at_once : (timed : Bool) (x : T) → EndsAt timed F.Message (full at_once 4) (held x) vacant
-  ends_waited : (timed : Bool) (left : ℕ) (x : T) → EndsAt timed F.Message (full waited left) (held x) vacant
-  ends_closed : (timed : Bool) (c : Closing) → EndsAt timed F.Closed (over c) vacant vacant
-  ends_unclosed : (timed : Bool) (left : ℕ) → EndsAt timed F.Unclosed (unclosed left) vacant vacant
-  ends_nothing : EndsAt true F.Nothing (here between) away vacant
-
--- a receiver whose last load found 3, and that may store its waker
-pub data HasLooked {T W : Type 0} : ReceiverAt → Held T → Held W → Type 0 where
-  has_looked : HasLooked (here looked) away vacant
-
--- one that stored it
-pub data IsWaiting {T W : Type 0} : ReceiverAt → Held T → Held W → Type 0 where
-  is_waiting : IsWaiting (waits blocked) away away
-
--- one whose deadline is over while the sender is about to finish
-pub data IsOverdue {T W : Type 0} : ReceiverAt → Held T → Held W → Type 0 where
-  is_overdue : IsOverdue overdue away away
+-- how the receiver stands then: only a deadline ends a receive with nothing found
+abbrev pub EndsAt : {T W : Type 0} → Bool → Found → State T W → Type 0
+EndsAt timed F.Message s =
+    (g : Got) × (receiver_next (full g) (Store 2) Done ≡ over closed_itself) × Stands (full g) s
+EndsAt timed F.Closed s = (c : Closing) × Stands (over c) s
+EndsAt timed F.Unclosed s = (by : Swapping) × Stands (unclosed by) s
+EndsAt timed F.Nothing s = (timed ≡ true) × Stands (here between) s
 
 -- How it may park: until its deadline only while it waits. One whose deadline is over parks without.
 pub data Parks : Bool → ReceiverAt → Type 0 where

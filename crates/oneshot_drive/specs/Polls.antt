@@ -9,26 +9,32 @@ use Rattle.oneshot_machine.specs.declared.machine.Reply.{Reply}
 use Rattle.oneshot_machine.specs.declared.machine.Reply.TheVariants as R
 use Rattle.oneshot_machine.specs.declared.machine.receiver.ReceiverPos.{ReceiverPos}
 use Rattle.oneshot_machine.specs.declared.machine.receiver.ReceiverPos.TheVariants.{Close}
-use Rattle.oneshot_machine.specs.Phases.{Closing, closed_itself, Got, at_once, by_future, looked, polled, again, ReceiverAt, here, waits, claimed, withdrew, full, over, resolved}
+use Rattle.oneshot_machine.specs.Phases.{Closing, closed_itself, Got, looked, polled, again, ReceiverAt, here, waits, claimed, full, over, resolved}
 use Rattle.oneshot_machine.specs.declared.machine.Step.{Step}
 use Rattle.oneshot_machine.specs.declared.machine.Step.TheVariants.{WriteWaker, Copy}
-use Rattle.oneshot_machine.specs.Logs.{Event, Log, Grows}
+use Rattle.oneshot_machine.specs.declared.states.Op.TheVariants.{Exchange}
+use Rattle.oneshot_machine.specs.Logs.{Event, Log, Grows, receiver_of}
 use Rattle.oneshot_machine.specs.Rows.{Outcome, Goes, Answers}
-use Rattle.oneshot_machine.specs.Slots.{Held, away, vacant, held}
-use Rattle.oneshot_drive.specs.Calls.{AtRest, received}
+use Rattle.oneshot_machine.specs.Slots.{vacant, held, ReceiverMay}
+use Rattle.oneshot_drive.specs.Grounds.{State, Stands, StandsIn}
+use Rattle.oneshot_drive.specs.BetweenCalls.{Rests, IsClosed, received}
+
+-- the phases of a future between two calls
+pub data Polled : ReceiverAt → Type 0 where
+  -- as a receiver between two calls
+  unpolled : {q : ReceiverAt} → Rests q → Polled q
+  -- its last poll left a copy of its waker
+  left_copy : Polled (waits polled)
+  -- and a later one could make no other
+  kept_copy : Polled (waits again)
+  -- its last poll found a sender about to finish
+  found_sender : Polled claimed
+  -- its last poll ended the channel, and it has made no operation since
+  has_resolved : (c : Closing) → Polled (resolved c)
 
 -- a future between two calls
-pub data IsPolled {T W : Type 0} : ReceiverAt → Held T → Held W → Type 0 where
-  -- as a receiver between two calls
-  unpolled : {q : ReceiverAt} {m : Held T} {w : Held W} → AtRest q m w → IsPolled q m w
-  -- its last poll left a copy of its waker
-  left_copy : IsPolled (waits polled) away away
-  -- and a later one could make no other
-  kept_copy : IsPolled (waits again) away away
-  -- its last poll found a sender about to finish
-  found_sender : IsPolled claimed away away
-  -- its last poll ended the channel, and it has made no operation since
-  has_resolved : (c : Closing) → IsPolled (resolved c) vacant vacant
+abbrev pub IsPolled : {T W : Type 0} → State T W → Type 0
+IsPolled = StandsIn Polled
 
 -- The message and the disconnected error leave it closed, and `Pending` leaves it open.
 pub data LeavesPolled {T : Type 0} : Poll (Result T RecvError) → ReceiverAt → Type 0 where
@@ -57,39 +63,17 @@ poll_end F.Message = Goes Close
 poll_end F.Nothing = Answers R.Pending
 poll_end _ = Answers R.Disconnected
 
--- how far the receiver is then, with its slots
-pub data EndsPoll {T W : Type 0} : Found → ReceiverAt → Held T → Held W → Type 0 where
-  poll_message : (g : Got) (x : T) → EndsPoll F.Message (full g 4) (held x) vacant
-  poll_closed : (c : Closing) → EndsPoll F.Closed (over c) vacant vacant
-  poll_resolved : (c : Closing) → EndsPoll F.Closed (resolved c) vacant vacant
-  poll_refused : EndsPoll F.Nothing (here looked) away vacant
-  poll_waits : EndsPoll F.Nothing (waits polled) away away
-  poll_kept : EndsPoll F.Nothing (waits again) away away
-  poll_claimed : EndsPoll F.Nothing claimed away away
+-- how the receiver stands then
+abbrev pub EndsPoll : {T W : Type 0} → Found → State T W → Type 0
+EndsPoll F.Message s = (g : Got) × Stands (full g) s
+EndsPoll F.Closed s = StandsIn IsClosed s
+EndsPoll F.Unclosed s = ⊥
+EndsPoll {T} F.Nothing s = StandsIn (LeavesPolled {T = T} Pending) s
 
--- one that may store its copy
-pub data MayLeave {T W : Type 0} : ReceiverAt → Held T → Held W → Type 0 where
-  leaves_first : MayLeave (here looked) away vacant
-  leaves_again : MayLeave withdrew away vacant
-
--- one that found its earlier copy in the cell
-pub data FindsCopy {T W : Type 0} : ReceiverAt → Held T → Held W → Type 0 where
-  finds_copy : FindsCopy (waits again) away away
-
--- one that found a sender about to finish
-pub data Spins {T W : Type 0} : ReceiverAt → Held T → Held W → Type 0 where
-  spins : Spins claimed away away
-
--- how one came to the message that may be dropped in place of taking it
-pub data MayDrop : Got → Type 0 where
-  drops_at_once : MayDrop at_once
-  drops_as_future : MayDrop by_future
-
--- one that is about to be dropped
-pub data MayEnd {T W : Type 0} : ReceiverAt → Held T → Held W → Type 0 where
-  ends_resting : {q : ReceiverAt} {m : Held T} {w : Held W} → AtRest q m w → MayEnd q m w
-  ends_full : {g : Got} → MayDrop g → (x : T) → MayEnd (full g 4) (held x) vacant
-  ends_withdrawn : MayEnd withdrew away vacant
+-- one that may store a copy of its waker, once that is in its slot
+pub record MayLeave {T W : Type 0} (s : State T W) : Type 0 where
+  pub room : s.waker ≡ vacant
+  pub asks : (copy : W) → ReceiverMay (receiver_of s.log) (Exchange 3 0) s.message (held copy)
 
 -- the disconnected error
 pub data IsDisconnected {T : Type 0} : Poll (Result T RecvError) → Type 0 where

@@ -8,7 +8,7 @@ ghost use Rattle.oneshot_machine.specs.Logs.{receiver_of};
 ghost use Rattle.oneshot_machine.specs.Receiver.{receiver_step, receiver_row};
 ghost use Rattle.oneshot_machine.specs.Runs.{Ran, ReceiverRan};
 ghost use Rattle.oneshot_drive.specs.Blocking.{Returns};
-ghost use Rattle.oneshot_drive.specs.Calls.{AtRest, IsClosed, LeavesClosed, LeavesTimed, IsReady, Hands, recv_reply, timed_reply, received};
+ghost use Rattle.oneshot_drive.specs.BetweenCalls.{AtRest, IsClosed, LeavesClosed, LeavesTimed, IsReady, Hands, recv_reply, timed_reply, received};
 
 use crate::ground::BlockGround;
 use crate::waiting::{Found, find};
@@ -28,14 +28,14 @@ pub fn recv_ref<T, W: Drop, G: BlockGround<T, W>>(
     rt: &impl Wait,
     hand: &mut Option<W>,
 ) -> Result<T, RecvError>
-    requires rests { AtRest (receiver_of (G.log g.old)) (G.message_slot g.old) (G.waker_slot g.old) }
-    requires ready { IsReady hand.old (receiver_of (G.log g.old)) }
-    ensures run { ReceiverRan RecvRef (G.log g.old) (G.log g.new)
+    requires rests { AtRest (G.state g.old) }
+    requires ready { IsReady hand.old (receiver_of (G.state g.old).log) }
+    ensures run { ReceiverRan RecvRef (G.state g.old).log (G.state g.new).log
         (recv_reply result) [] (received result) }
-    ensures rests { AtRest (receiver_of (G.log g.new)) (G.message_slot g.new) (G.waker_slot g.new) }
-    ensures leaves { LeavesClosed result (receiver_of (G.log g.new)) }
-    ensures stays { IsClosed (receiver_of (G.log g.old)) → IsErr result }
-    ensures hand { Hands hand.old hand.new (receiver_of (G.log g.new)) }
+    ensures rests { AtRest (G.state g.new) }
+    ensures leaves { LeavesClosed result (receiver_of (G.state g.new).log) }
+    ensures stays { IsClosed (receiver_of (G.state g.old).log) → IsErr result }
+    ensures hand { Hands hand.old hand.new (receiver_of (G.state g.new).log) }
 {
     match receive(g, rt, hand, false) {
         Ok(message) => Ok(message),
@@ -59,14 +59,14 @@ pub fn recv_deadline<T, W: Drop, G: BlockGround<T, W>>(
     rt: &impl Wait,
     hand: &mut Option<W>,
 ) -> Result<T, RecvTimeoutError>
-    requires rests { AtRest (receiver_of (G.log g.old)) (G.message_slot g.old) (G.waker_slot g.old) }
-    requires ready { IsReady hand.old (receiver_of (G.log g.old)) }
-    ensures run { ReceiverRan RecvDeadline (G.log g.old) (G.log g.new)
+    requires rests { AtRest (G.state g.old) }
+    requires ready { IsReady hand.old (receiver_of (G.state g.old).log) }
+    ensures run { ReceiverRan RecvDeadline (G.state g.old).log (G.state g.new).log
         (timed_reply result) [] (received result) }
-    ensures rests { AtRest (receiver_of (G.log g.new)) (G.message_slot g.new) (G.waker_slot g.new) }
-    ensures leaves { LeavesTimed result (receiver_of (G.log g.new)) }
-    ensures stays { IsClosed (receiver_of (G.log g.old)) → result ≡ Err Disconnected }
-    ensures hand { Hands hand.old hand.new (receiver_of (G.log g.new)) }
+    ensures rests { AtRest (G.state g.new) }
+    ensures leaves { LeavesTimed result (receiver_of (G.state g.new).log) }
+    ensures stays { IsClosed (receiver_of (G.state g.old).log) → result ≡ Err Disconnected }
+    ensures hand { Hands hand.old hand.new (receiver_of (G.state g.new).log) }
 {
     receive(g, rt, hand, true)
 }
@@ -83,14 +83,14 @@ pub fn recv_timeout<T, W: Drop, G: BlockGround<T, W>>(
     hand: &mut Option<W>,
     representable: bool,
 ) -> Result<T, RecvTimeoutError>
-    requires rests { AtRest (receiver_of (G.log g.old)) (G.message_slot g.old) (G.waker_slot g.old) }
-    requires ready { IsReady hand.old (receiver_of (G.log g.old)) }
-    ensures run { ReceiverRan (RecvTimeout representable) (G.log g.old) (G.log g.new)
+    requires rests { AtRest (G.state g.old) }
+    requires ready { IsReady hand.old (receiver_of (G.state g.old).log) }
+    ensures run { ReceiverRan (RecvTimeout representable) (G.state g.old).log (G.state g.new).log
         (timed_reply result) [] (received result) }
-    ensures rests { AtRest (receiver_of (G.log g.new)) (G.message_slot g.new) (G.waker_slot g.new) }
-    ensures leaves { LeavesTimed result (receiver_of (G.log g.new)) }
-    ensures stays { IsClosed (receiver_of (G.log g.old)) → result ≡ Err Disconnected }
-    ensures hand { Hands hand.old hand.new (receiver_of (G.log g.new)) }
+    ensures rests { AtRest (G.state g.new) }
+    ensures leaves { LeavesTimed result (receiver_of (G.state g.new).log) }
+    ensures stays { IsClosed (receiver_of (G.state g.old).log) → result ≡ Err Disconnected }
+    ensures hand { Hands hand.old hand.new (receiver_of (G.state g.new).log) }
     ensures endless { representable ≡ false → ¬ (result ≡ Err Timeout) }
 {
     g.over();
@@ -104,14 +104,14 @@ fn receive<T, W: Drop, G: BlockGround<T, W>>(
     hand: &mut Option<W>,
     timed: bool,
 ) -> Result<T, RecvTimeoutError>
-    requires rests { AtRest (receiver_of (G.log g.old)) (G.message_slot g.old) (G.waker_slot g.old) }
-    requires ready { IsReady hand.old (receiver_of (G.log g.old)) }
-    ensures run { Ran receiver_step receiver_row (StartLoad timed) (G.log g.old) (G.log g.new)
+    requires rests { AtRest (G.state g.old) }
+    requires ready { IsReady hand.old (receiver_of (G.state g.old).log) }
+    ensures run { Ran receiver_step receiver_row (StartLoad timed) (G.state g.old).log (G.state g.new).log
         (timed_reply result) [] (received result) }
-    ensures rests { AtRest (receiver_of (G.log g.new)) (G.message_slot g.new) (G.waker_slot g.new) }
-    ensures leaves { LeavesTimed result (receiver_of (G.log g.new)) }
-    ensures stays { IsClosed (receiver_of (G.log g.old)) → result ≡ Err Disconnected }
-    ensures hand { Hands hand.old hand.new (receiver_of (G.log g.new)) }
+    ensures rests { AtRest (G.state g.new) }
+    ensures leaves { LeavesTimed result (receiver_of (G.state g.new).log) }
+    ensures stays { IsClosed (receiver_of (G.state g.old).log) → result ≡ Err Disconnected }
+    ensures hand { Hands hand.old hand.new (receiver_of (G.state g.new).log) }
     ensures endless { timed ≡ false → ¬ (result ≡ Err Timeout) }
 {
     match find(g, rt, hand, timed) {
@@ -140,11 +140,11 @@ pub fn recv<T, W: Drop, G: BlockGround<T, W>>(
     rt: &impl Wait,
     hand: &mut Option<W>,
 ) -> Result<T, RecvError>
-    requires rests { AtRest (receiver_of (G.log g.old)) (G.message_slot g.old) (G.waker_slot g.old) }
-    requires ready { IsReady hand.old (receiver_of (G.log g.old)) }
-    ensures run { ReceiverRan Recv (G.log g.old) (G.log g.new)
+    requires rests { AtRest (G.state g.old) }
+    requires ready { IsReady hand.old (receiver_of (G.state g.old).log) }
+    ensures run { ReceiverRan Recv (G.state g.old).log (G.state g.new).log
         (recv_reply result) [] (received result) }
-    ensures stays { IsClosed (receiver_of (G.log g.old)) → IsErr result }
+    ensures stays { IsClosed (receiver_of (G.state g.old).log) → IsErr result }
     ensures hand { Returns hand.old hand.new }
 {
     let Found::Message = find(g, rt, hand, false) else {

@@ -2,85 +2,73 @@
 
 ghost use Rattle.std.specs.Prelude.{◌≡◌, Bool, ◌∷◌, [], IfSome};
 ghost use Rattle.oneshot_machine.specs.declared.machine.Step.TheVariants.{DropMessage, WriteWaker, TakeWaker, Withdraw, Wake, WakeOwn, Free};
-ghost use Rattle.oneshot_machine.specs.Logs.{Log, Grows, sender_of, receiver_of, did, wrote, took, handed, parked, clocked, copied, worded};
-ghost use Rattle.oneshot_machine.specs.Slots.{Held, away, vacant, held, SenderMay, SenderFinds, ReceiverMay, ReceiverFinds};
+ghost use Rattle.oneshot_machine.specs.Logs.{Grows, receiver_of, did, wrote, took, handed, parked, clocked, copied, worded};
+ghost use Rattle.oneshot_machine.specs.Slots.{away, vacant, held};
 ghost use Rattle.oneshot_drive.specs.Blocking.{Parks};
+ghost use Rattle.oneshot_drive.specs.Grounds.{State, SenderAsks, SenderMakes, ReceiverAsks, ReceiverMakes};
 
 use oneshot_machine::states::Op;
 
 /// What the sender, or the error of its refused `send`, does to the world.
 pub trait SenderGround<T, W> {
-    // What the ground has done.
-    ghost log: { Self → Log T W };
-
-    // The message's slot and the waker's, as the end sees them.
-    ghost message_slot: { Self → Held T };
-
-    ghost waker_slot: { Self → Held W };
+    // What the ground has done, with the message's slot and the waker's as the end sees them.
+    ghost state: { Self → State T W };
 
     /// Makes an operation on the word, and gives the word before.
     fn word(&mut self, op: Op) -> u8
-        requires { SenderMay (sender_of (log self.old)) op
-            (message_slot self.old) (waker_slot self.old) }
-        ensures list { Grows (log self.old) (log self.new) (worded op result ∷ []) }
-        ensures finds { SenderFinds (sender_of (log self.old)) op result
-            (message_slot self.old) (waker_slot self.old)
-            (message_slot self.new) (waker_slot self.new) };
+        requires { SenderAsks op (state self.old) }
+        ensures list { Grows (state self.old).log (state self.new).log (worded op result ∷ []) }
+        ensures finds { SenderMakes op result (state self.old) (state self.new) };
 
     /// Puts the message into its slot, which is the end's and empty.
     fn write_message(&mut self, message: T)
-        requires { message_slot self.old ≡ vacant }
-        ensures list { Grows (log self.old) (log self.new) (wrote message ∷ []) }
-        ensures message { message_slot self.new ≡ held message }
-        ensures waker { waker_slot self.new ≡ waker_slot self.old };
+        requires { (state self.old).message ≡ vacant }
+        ensures list { Grows (state self.old).log (state self.new).log (wrote message ∷ []) }
+        ensures message { (state self.new).message ≡ held message }
+        ensures waker { (state self.new).waker ≡ (state self.old).waker };
 
     /// Takes the message out of its slot.
     fn take_message(&mut self) -> T
-        requires { (x : T) × (message_slot self.old ≡ held x) }
-        ensures list { Grows (log self.old) (log self.new) (took result ∷ []) }
-        ensures was { message_slot self.old ≡ held result }
-        ensures message { message_slot self.new ≡ vacant }
-        ensures waker { waker_slot self.new ≡ waker_slot self.old };
+        requires { (x : T) × ((state self.old).message ≡ held x) }
+        ensures list { Grows (state self.old).log (state self.new).log (took result ∷ []) }
+        ensures was { (state self.old).message ≡ held result }
+        ensures message { (state self.new).message ≡ vacant }
+        ensures waker { (state self.new).waker ≡ (state self.old).waker };
 
     /// Drops the message in its slot.
     fn drop_message(&mut self)
-        requires { (x : T) × (message_slot self.old ≡ held x) }
-        ensures list { Grows (log self.old) (log self.new) (did DropMessage ∷ []) }
-        ensures message { message_slot self.new ≡ vacant }
-        ensures waker { waker_slot self.new ≡ waker_slot self.old };
+        requires { (x : T) × ((state self.old).message ≡ held x) }
+        ensures list { Grows (state self.old).log (state self.new).log (did DropMessage ∷ []) }
+        ensures message { (state self.new).message ≡ vacant }
+        ensures waker { (state self.new).waker ≡ (state self.old).waker };
 
     /// Takes the waker of the receiver that waits out of its slot, and gives it.
     fn take_waker(&mut self) -> W
-        requires { (k : W) × (waker_slot self.old ≡ held k) }
-        ensures list { Grows (log self.old) (log self.new) (handed TakeWaker result ∷ []) }
-        ensures was { waker_slot self.old ≡ held result }
-        ensures message { message_slot self.new ≡ message_slot self.old }
-        ensures waker { waker_slot self.new ≡ vacant };
+        requires { (k : W) × ((state self.old).waker ≡ held k) }
+        ensures list { Grows (state self.old).log (state self.new).log (handed TakeWaker result ∷ []) }
+        ensures was { (state self.old).waker ≡ held result }
+        ensures message { (state self.new).message ≡ (state self.old).message }
+        ensures waker { (state self.new).waker ≡ vacant };
 
     /// Wakes the receiver by its waker, which is used up.
     fn wake(&mut self, waker: W)
-        ensures list { Grows (log self.old) (log self.new) (handed Wake waker ∷ []) }
-        ensures message { message_slot self.new ≡ message_slot self.old }
-        ensures waker { waker_slot self.new ≡ waker_slot self.old };
+        ensures list { Grows (state self.old).log (state self.new).log (handed Wake waker ∷ []) }
+        ensures message { (state self.new).message ≡ (state self.old).message }
+        ensures waker { (state self.new).waker ≡ (state self.old).waker };
 
     /// Frees the block, whose slots are the end's and empty. Then neither is, so nothing follows.
     fn free(&mut self)
-        requires message { message_slot self.old ≡ vacant }
-        requires waker { waker_slot self.old ≡ vacant }
-        ensures list { Grows (log self.old) (log self.new) (did Free ∷ []) }
-        ensures message { message_slot self.new ≡ away }
-        ensures waker { waker_slot self.new ≡ away };
+        requires message { (state self.old).message ≡ vacant }
+        requires waker { (state self.old).waker ≡ vacant }
+        ensures list { Grows (state self.old).log (state self.new).log (did Free ∷ []) }
+        ensures message { (state self.new).message ≡ away }
+        ensures waker { (state self.new).waker ≡ away };
 }
 
 /// What the receiver does to the world.
 pub trait ReceiverGround<T, W> {
-    // What the ground has done.
-    ghost log: { Self → Log T W };
-
-    // The message's slot and the waker's, as the end sees them.
-    ghost message_slot: { Self → Held T };
-
-    ghost waker_slot: { Self → Held W };
+    // What the ground has done, with the message's slot and the waker's as the end sees them.
+    ghost state: { Self → State T W };
 
     // What the ground has beside the channel stays so, from one state to a later one.
     ghost keeps: { Self → Self → Type 0 };
@@ -91,55 +79,52 @@ pub trait ReceiverGround<T, W> {
 
     /// Makes an operation on the word, and gives the word before.
     fn word(&mut self, op: Op) -> u8
-        requires { ReceiverMay (receiver_of (log self.old)) op
-            (message_slot self.old) (waker_slot self.old) }
-        ensures list { Grows (log self.old) (log self.new) (worded op result ∷ []) }
-        ensures finds { ReceiverFinds (receiver_of (log self.old)) op result
-            (message_slot self.old) (waker_slot self.old)
-            (message_slot self.new) (waker_slot self.new) }
+        requires { ReceiverAsks op (state self.old) }
+        ensures list { Grows (state self.old).log (state self.new).log (worded op result ∷ []) }
+        ensures finds { ReceiverMakes op result (state self.old) (state self.new) }
         ensures keeps { keeps self.old self.new };
 
     /// Takes the message out of its slot.
     fn take_message(&mut self) -> T
-        requires { (x : T) × (message_slot self.old ≡ held x) }
-        ensures list { Grows (log self.old) (log self.new) (took result ∷ []) }
-        ensures was { message_slot self.old ≡ held result }
-        ensures message { message_slot self.new ≡ vacant }
-        ensures waker { waker_slot self.new ≡ waker_slot self.old }
+        requires { (x : T) × ((state self.old).message ≡ held x) }
+        ensures list { Grows (state self.old).log (state self.new).log (took result ∷ []) }
+        ensures was { (state self.old).message ≡ held result }
+        ensures message { (state self.new).message ≡ vacant }
+        ensures waker { (state self.new).waker ≡ (state self.old).waker }
         ensures keeps { keeps self.old self.new };
 
     /// Drops the message in its slot.
     fn drop_message(&mut self)
-        requires { (x : T) × (message_slot self.old ≡ held x) }
-        ensures list { Grows (log self.old) (log self.new) (did DropMessage ∷ []) }
-        ensures message { message_slot self.new ≡ vacant }
-        ensures waker { waker_slot self.new ≡ waker_slot self.old }
+        requires { (x : T) × ((state self.old).message ≡ held x) }
+        ensures list { Grows (state self.old).log (state self.new).log (did DropMessage ∷ []) }
+        ensures message { (state self.new).message ≡ vacant }
+        ensures waker { (state self.new).waker ≡ (state self.old).waker }
         ensures keeps { keeps self.old self.new };
 
     /// Puts the waker into its slot, which is the end's and empty.
     fn write_waker(&mut self, waker: W)
-        requires { waker_slot self.old ≡ vacant }
-        ensures list { Grows (log self.old) (log self.new) (handed WriteWaker waker ∷ []) }
-        ensures message { message_slot self.new ≡ message_slot self.old }
-        ensures waker { waker_slot self.new ≡ held waker }
+        requires { (state self.old).waker ≡ vacant }
+        ensures list { Grows (state self.old).log (state self.new).log (handed WriteWaker waker ∷ []) }
+        ensures message { (state self.new).message ≡ (state self.old).message }
+        ensures waker { (state self.new).waker ≡ held waker }
         ensures keeps { keeps self.old self.new };
 
     /// Takes the waker back out of its slot, and gives it.
     fn withdraw(&mut self) -> W
-        requires { (k : W) × (waker_slot self.old ≡ held k) }
-        ensures list { Grows (log self.old) (log self.new) (handed Withdraw result ∷ []) }
-        ensures was { waker_slot self.old ≡ held result }
-        ensures message { message_slot self.new ≡ message_slot self.old }
-        ensures waker { waker_slot self.new ≡ vacant }
+        requires { (k : W) × ((state self.old).waker ≡ held k) }
+        ensures list { Grows (state self.old).log (state self.new).log (handed Withdraw result ∷ []) }
+        ensures was { (state self.old).waker ≡ held result }
+        ensures message { (state self.new).message ≡ (state self.old).message }
+        ensures waker { (state self.new).waker ≡ vacant }
         ensures keeps { keeps self.old self.new };
 
     /// Frees the block, whose slots are the end's and empty. Then neither is, so nothing follows.
     fn free(&mut self)
-        requires message { message_slot self.old ≡ vacant }
-        requires waker { waker_slot self.old ≡ vacant }
-        ensures list { Grows (log self.old) (log self.new) (did Free ∷ []) }
-        ensures message { message_slot self.new ≡ away }
-        ensures waker { waker_slot self.new ≡ away }
+        requires message { (state self.old).message ≡ vacant }
+        requires waker { (state self.old).waker ≡ vacant }
+        ensures list { Grows (state self.old).log (state self.new).log (did Free ∷ []) }
+        ensures message { (state self.new).message ≡ away }
+        ensures waker { (state self.new).waker ≡ away }
         ensures keeps { keeps self.old self.new };
 }
 
@@ -149,17 +134,17 @@ pub trait BlockGround<T, W>: ReceiverGround<T, W> {
     /// also go on before (a spurious wakeup). Whether it was woken is in the log alone. A receiver whose
     /// deadline is over parks without it, or it would not block at all.
     fn park(&mut self, timed: bool)
-        requires { Parks timed (receiver_of (Self.log self.old)) }
-        ensures list { (woken : Bool) × Grows (Self.log self.old) (Self.log self.new) (parked woken ∷ []) }
-        ensures message { Self.message_slot self.new ≡ Self.message_slot self.old }
-        ensures waker { Self.waker_slot self.new ≡ Self.waker_slot self.old };
+        requires { Parks timed (receiver_of (Self.state self.old).log) }
+        ensures list { (woken : Bool) × Grows (Self.state self.old).log (Self.state self.new).log (parked woken ∷ []) }
+        ensures message { (Self.state self.new).message ≡ (Self.state self.old).message }
+        ensures waker { (Self.state self.new).waker ≡ (Self.state self.old).waker };
 
     /// Whether the deadline is over, by a reading of the clock. A reading that fails counts as past every
     /// deadline. The first answer of a timeout may rest on the reading that its sum was made from.
     fn over(&mut self) -> bool
-        ensures list { Grows (Self.log self.old) (Self.log self.new) (clocked result ∷ []) }
-        ensures message { Self.message_slot self.new ≡ Self.message_slot self.old }
-        ensures waker { Self.waker_slot self.new ≡ Self.waker_slot self.old };
+        ensures list { Grows (Self.state self.old).log (Self.state self.new).log (clocked result ∷ []) }
+        ensures message { (Self.state self.new).message ≡ (Self.state self.old).message }
+        ensures waker { (Self.state self.new).waker ≡ (Self.state self.old).waker };
 }
 
 /// What the receiver does to the world in a poll.
@@ -169,17 +154,17 @@ pub trait TaskGround<T, W>: ReceiverGround<T, W> {
 
     /// Copies the waker of the task, and gives the copy. `None` where it is refused.
     fn copy(&mut self) -> Option<W>
-        ensures list { Grows (Self.log self.old) (Self.log self.new) (copied result ∷ []) }
-        ensures message { Self.message_slot self.new ≡ Self.message_slot self.old }
-        ensures waker { Self.waker_slot self.new ≡ Self.waker_slot self.old }
+        ensures list { Grows (Self.state self.old).log (Self.state self.new).log (copied result ∷ []) }
+        ensures message { (Self.state self.new).message ≡ (Self.state self.old).message }
+        ensures waker { (Self.state self.new).waker ≡ (Self.state self.old).waker }
         ensures heard { IfSome result (λ _. heard self.new) }
         ensures keeps { Self.keeps self.old self.new };
 
     /// Wakes the task of the poll by its own waker.
     fn wake_own(&mut self)
-        ensures list { Grows (Self.log self.old) (Self.log self.new) (did WakeOwn ∷ []) }
-        ensures message { Self.message_slot self.new ≡ Self.message_slot self.old }
-        ensures waker { Self.waker_slot self.new ≡ Self.waker_slot self.old }
+        ensures list { Grows (Self.state self.old).log (Self.state self.new).log (did WakeOwn ∷ []) }
+        ensures message { (Self.state self.new).message ≡ (Self.state self.old).message }
+        ensures waker { (Self.state self.new).waker ≡ (Self.state self.old).waker }
         ensures heard { heard self.new }
         ensures keeps { Self.keeps self.old self.new };
 

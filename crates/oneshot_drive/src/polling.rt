@@ -6,16 +6,19 @@ ghost use Rattle.oneshot_machine.specs.declared.machine.Reply.TheVariants as R;
 ghost use Rattle.oneshot_machine.specs.declared.machine.receiver.ReceiverPos.TheVariants.{DropSwap, Future};
 ghost use Rattle.oneshot_machine.specs.declared.machine.future.FuturePos.TheVariants.{PollLoad, PollCopy, PollWrite, AgainCopy, PollSpin, AsyncExchange, AsyncSpin};
 ghost use Rattle.oneshot_machine.specs.declared.machine.receiver.ReceiverStart.TheVariants as C;
+ghost use Rattle.oneshot_machine.specs.declared.states.Op.TheVariants.{Swap};
 ghost use Rattle.oneshot_machine.specs.Logs.{receiver_of};
-ghost use Rattle.oneshot_machine.specs.Runs.{Ran, ReceiverRan};
-ghost use Rattle.oneshot_machine.specs.Receiver.{receiver_step, receiver_row};
+ghost use Rattle.oneshot_machine.specs.Phases.{here, looked, waits, again, claimed};
+ghost use Rattle.oneshot_machine.specs.Runs.{ReceiverRan};
 ghost use Rattle.oneshot_machine.specs.Rows.{Goes};
 ghost use Rattle.oneshot_drive.specs.declared.waiting.Found.TheVariants as F;
-ghost use Rattle.oneshot_drive.specs.Blocking.{Went, HasLooked};
-ghost use Rattle.oneshot_drive.specs.Calls.{IsClosed};
-ghost use Rattle.oneshot_drive.specs.Polls.{IsPolled, LeavesPolled, poll_reply, poll_received, poll_end, EndsPoll, MayLeave, FindsCopy, Spins, IsDisconnected, MayEnd, WroteCopies, WritesItsCopy};
+ghost use Rattle.oneshot_drive.specs.Blocking.{Went};
+ghost use Rattle.oneshot_drive.specs.BetweenCalls.{IsClosed};
+ghost use Rattle.oneshot_drive.specs.Grounds.{Stands, ReceiverAsks};
+ghost use Rattle.oneshot_drive.specs.Polls.{IsPolled, LeavesPolled, poll_reply, poll_received, poll_end, EndsPoll, MayLeave, IsDisconnected, WroteCopies, WritesItsCopy};
 
 use crate::ground::{ReceiverGround, TaskGround};
+use crate::receiver::end;
 use crate::waiting::Found;
 use futures::task::Poll;
 use oneshot_errors::RecvError;
@@ -33,12 +36,12 @@ pub fn poll<T, W: Drop, G: TaskGround<T, W>>(
     g: &mut G,
     rt: &impl Wait,
 ) -> Poll<Result<T, RecvError>>
-    requires { IsPolled (receiver_of (G.log g.old)) (G.message_slot g.old) (G.waker_slot g.old) }
-    ensures run { ReceiverRan C.Poll (G.log g.old) (G.log g.new) (poll_reply result) [] (poll_received result) }
-    ensures rests { IsPolled (receiver_of (G.log g.new)) (G.message_slot g.new) (G.waker_slot g.new) }
-    ensures leaves { LeavesPolled result (receiver_of (G.log g.new)) }
-    ensures stays { IsClosed (receiver_of (G.log g.old)) → IsDisconnected result }
-    ensures own_copy { WritesItsCopy (G.log g.old) (G.log g.new) }
+    requires { IsPolled (G.state g.old) }
+    ensures run { ReceiverRan C.Poll (G.state g.old).log (G.state g.new).log (poll_reply result) [] (poll_received result) }
+    ensures rests { IsPolled (G.state g.new) }
+    ensures leaves { LeavesPolled result (receiver_of (G.state g.new).log) }
+    ensures stays { IsClosed (receiver_of (G.state g.old).log) → IsDisconnected result }
+    ensures own_copy { WritesItsCopy (G.state g.old).log (G.state g.new).log }
     ensures heard { OnPending result (G.heard g.new) }
     ensures keeps { G.keeps g.old g.new }
 {
@@ -54,12 +57,12 @@ pub fn poll<T, W: Drop, G: TaskGround<T, W>>(
 
 // Reads the word, and leaves a copy where nothing is there yet.
 fn meet<T, W: Drop, G: TaskGround<T, W>>(g: &mut G, rt: &impl Wait) -> Found
-    requires { IsPolled (receiver_of (G.log g.old)) (G.message_slot g.old) (G.waker_slot g.old) }
-    ensures went { Went (Future PollLoad) (poll_end result) (G.log g.old) (G.log g.new) }
-    ensures ends { EndsPoll result (receiver_of (G.log g.new)) (G.message_slot g.new) (G.waker_slot g.new) }
-    ensures stays { IsClosed (receiver_of (G.log g.old)) → result ≡ F.Closed }
+    requires { IsPolled (G.state g.old) }
+    ensures went { Went (Future PollLoad) (poll_end result) (G.state g.old).log (G.state g.new).log }
+    ensures ends { EndsPoll result (G.state g.new) }
+    ensures stays { IsClosed (receiver_of (G.state g.old).log) → result ≡ F.Closed }
     ensures heard { result ≡ F.Nothing → G.heard g.new }
-    ensures own { WritesItsCopy (G.log g.old) (G.log g.new) }
+    ensures own { WritesItsCopy (G.state g.old).log (G.state g.new).log }
     ensures keeps { G.keeps g.old g.new }
 {
     match g.word(Op::Load) {
@@ -73,11 +76,11 @@ fn meet<T, W: Drop, G: TaskGround<T, W>>(g: &mut G, rt: &impl Wait) -> Found
 
 // Leaves a copy where there is none.
 fn leave_first<T, W: Drop, G: TaskGround<T, W>>(g: &mut G) -> Found
-    requires { HasLooked (receiver_of (G.log g.old)) (G.message_slot g.old) (G.waker_slot g.old) }
-    ensures went { Went (Future PollCopy) (poll_end result) (G.log g.old) (G.log g.new) }
-    ensures ends { EndsPoll result (receiver_of (G.log g.new)) (G.message_slot g.new) (G.waker_slot g.new) }
+    requires { Stands (here looked) (G.state g.old) }
+    ensures went { Went (Future PollCopy) (poll_end result) (G.state g.old).log (G.state g.new).log }
+    ensures ends { EndsPoll result (G.state g.new) }
     ensures heard { result ≡ F.Nothing → G.heard g.new }
-    ensures own { WritesItsCopy (G.log g.old) (G.log g.new) }
+    ensures own { WritesItsCopy (G.state g.old).log (G.state g.new).log }
     ensures keeps { G.keeps g.old g.new }
 {
     let Some(copy) = g.copy() else {
@@ -89,12 +92,12 @@ fn leave_first<T, W: Drop, G: TaskGround<T, W>>(g: &mut G) -> Found
 
 // Leaves this copy, unless the sender has acted before.
 fn leave<T, W: Drop, G: TaskGround<T, W>>(g: &mut G, copy: W) -> Found
-    requires open { MayLeave (receiver_of (G.log g.old)) (G.message_slot g.old) (G.waker_slot g.old) }
+    requires open { MayLeave (G.state g.old) }
     requires heard { G.heard g.old }
-    ensures went { Went (Future PollWrite) (poll_end result) (G.log g.old) (G.log g.new) }
-    ensures ends { EndsPoll result (receiver_of (G.log g.new)) (G.message_slot g.new) (G.waker_slot g.new) }
+    ensures went { Went (Future PollWrite) (poll_end result) (G.state g.old).log (G.state g.new).log }
+    ensures ends { EndsPoll result (G.state g.new) }
     ensures heard { result ≡ F.Nothing → G.heard g.new }
-    ensures own { WroteCopies (Some copy) (G.log g.old) (G.log g.new) }
+    ensures own { WroteCopies (Some copy) (G.state g.old).log (G.state g.new).log }
     ensures keeps { G.keeps g.old g.new }
 {
     g.write_waker(copy);
@@ -112,11 +115,11 @@ fn leave<T, W: Drop, G: TaskGround<T, W>>(g: &mut G, copy: W) -> Found
 
 // Leaves a copy in place of that of an earlier poll.
 fn leave_again<T, W: Drop, G: TaskGround<T, W>>(g: &mut G) -> Found
-    requires { FindsCopy (receiver_of (G.log g.old)) (G.message_slot g.old) (G.waker_slot g.old) }
-    ensures went { Went (Future AgainCopy) (poll_end result) (G.log g.old) (G.log g.new) }
-    ensures ends { EndsPoll result (receiver_of (G.log g.new)) (G.message_slot g.new) (G.waker_slot g.new) }
+    requires { Stands (waits again) (G.state g.old) }
+    ensures went { Went (Future AgainCopy) (poll_end result) (G.state g.old).log (G.state g.new).log }
+    ensures ends { EndsPoll result (G.state g.new) }
     ensures heard { result ≡ F.Nothing → G.heard g.new }
-    ensures own { WritesItsCopy (G.log g.old) (G.log g.new) }
+    ensures own { WritesItsCopy (G.state g.old).log (G.state g.new).log }
     ensures keeps { G.keeps g.old g.new }
 {
     let Some(copy) = g.copy() else {
@@ -140,11 +143,11 @@ fn leave_again<T, W: Drop, G: TaskGround<T, W>>(g: &mut G) -> Found
 
 // Reads the word until the sender has finished.
 fn spin<T, W: Drop, G: TaskGround<T, W>>(g: &mut G, rt: &impl Wait) -> Found
-    requires { Spins (receiver_of (G.log g.old)) (G.message_slot g.old) (G.waker_slot g.old) }
-    ensures went { Went (Future PollSpin) (poll_end result) (G.log g.old) (G.log g.new) }
-    ensures ends { EndsPoll result (receiver_of (G.log g.new)) (G.message_slot g.new) (G.waker_slot g.new) }
+    requires { Stands claimed (G.state g.old) }
+    ensures went { Went (Future PollSpin) (poll_end result) (G.state g.old).log (G.state g.new).log }
+    ensures ends { EndsPoll result (G.state g.new) }
     ensures sent { ¬ (result ≡ F.Nothing) }
-    ensures own { WritesItsCopy (G.log g.old) (G.log g.new) }
+    ensures own { WritesItsCopy (G.state g.old).log (G.state g.new).log }
     ensures keeps { G.keeps g.old g.new }
 {
     for _ in rt.forever() {
@@ -160,8 +163,8 @@ fn spin<T, W: Drop, G: TaskGround<T, W>>(g: &mut G, rt: &impl Wait) -> Found
 /// Drops the future, with the copy of a waker that it left with the channel and the message that it
 /// finds. It blocks for a sender that is about to finish, and for nothing else.
 pub fn drop_async<T, W: Drop, G: ReceiverGround<T, W>>(g: &mut G, rt: &impl Wait)
-    requires { IsPolled (receiver_of (G.log g.old)) (G.message_slot g.old) (G.waker_slot g.old) }
-    ensures { ReceiverRan C.DropAsync (G.log g.old) (G.log g.new) R.Done [] [] }
+    requires { IsPolled (G.state g.old) }
+    ensures { ReceiverRan C.DropAsync (G.state g.old).log (G.state g.new).log R.Done [] [] }
 {
     match g.word(Op::Load) {
         RECEIVING => {
@@ -178,9 +181,9 @@ pub fn drop_async<T, W: Drop, G: ReceiverGround<T, W>>(g: &mut G, rt: &impl Wait
 
 // Takes the copy back, unless the sender has acted before.
 fn take_back<T, W: Drop, G: ReceiverGround<T, W>>(g: &mut G, rt: &impl Wait)
-    requires { FindsCopy (receiver_of (G.log g.old)) (G.message_slot g.old) (G.waker_slot g.old) }
-    ensures went { Went (Future AsyncExchange) (Goes DropSwap) (G.log g.old) (G.log g.new) }
-    ensures ends { MayEnd (receiver_of (G.log g.new)) (G.message_slot g.new) (G.waker_slot g.new) }
+    requires { Stands (waits again) (G.state g.old) }
+    ensures went { Went (Future AsyncExchange) (Goes DropSwap) (G.state g.old).log (G.state g.new).log }
+    ensures ends { ReceiverAsks (Swap 2) (G.state g.new) }
 {
     match g.word(Op::Exchange(RECEIVING, EMPTY)) {
         RECEIVING => drop(g.withdraw()),
@@ -191,9 +194,9 @@ fn take_back<T, W: Drop, G: ReceiverGround<T, W>>(g: &mut G, rt: &impl Wait)
 
 // Reads the word until the sender has finished.
 fn wait_out<T, W: Drop, G: ReceiverGround<T, W>>(g: &mut G, rt: &impl Wait)
-    requires { Spins (receiver_of (G.log g.old)) (G.message_slot g.old) (G.waker_slot g.old) }
-    ensures went { Went (Future AsyncSpin) (Goes DropSwap) (G.log g.old) (G.log g.new) }
-    ensures ends { MayEnd (receiver_of (G.log g.new)) (G.message_slot g.new) (G.waker_slot g.new) }
+    requires { Stands claimed (G.state g.old) }
+    ensures went { Went (Future AsyncSpin) (Goes DropSwap) (G.state g.old).log (G.state g.new).log }
+    ensures ends { ReceiverAsks (Swap 2) (G.state g.new) }
 {
     for _ in rt.forever() {
         if g.word(Op::Load) != UNPARKING {
@@ -201,19 +204,4 @@ fn wait_out<T, W: Drop, G: ReceiverGround<T, W>>(g: &mut G, rt: &impl Wait)
         }
     }
     unreachable!()
-}
-
-// Closes the channel, and drops the message that it finds.
-fn end<T, W: Drop, G: ReceiverGround<T, W>>(g: &mut G)
-    requires { MayEnd (receiver_of (G.log g.old)) (G.message_slot g.old) (G.waker_slot g.old) }
-    ensures { Ran receiver_step receiver_row DropSwap (G.log g.old) (G.log g.new) R.Done [] [] }
-{
-    match g.word(Op::Swap(DISCONNECTED)) {
-        MESSAGE => {
-            g.drop_message();
-            g.free();
-        }
-        EMPTY => {}
-        _ => g.free(),
-    }
 }

@@ -4,9 +4,11 @@ ghost use Rattle.std.specs.Prelude.{◌≡◌, Err, []};
 ghost use Rattle.oneshot_errors.specs.declared.try_recv.TryRecvError.TheVariants.{Disconnected};
 ghost use Rattle.oneshot_machine.specs.declared.machine.Reply.TheVariants as R;
 ghost use Rattle.oneshot_machine.specs.declared.machine.receiver.ReceiverStart.TheVariants.{TryRecv, Drop};
+ghost use Rattle.oneshot_machine.specs.declared.states.Op.TheVariants.{Swap};
 ghost use Rattle.oneshot_machine.specs.Logs.{receiver_of};
 ghost use Rattle.oneshot_machine.specs.Runs.{ReceiverRan};
-ghost use Rattle.oneshot_drive.specs.Calls.{AtRest, IsClosed, Leaves, try_recv_reply, received};
+ghost use Rattle.oneshot_drive.specs.BetweenCalls.{AtRest, IsClosed, Leaves, try_recv_reply, received};
+ghost use Rattle.oneshot_drive.specs.Grounds.{ReceiverAsks};
 
 use crate::ground::ReceiverGround;
 use oneshot_errors::TryRecvError;
@@ -19,12 +21,12 @@ use oneshot_machine::states::{DISCONNECTED, EMPTY, MESSAGE, Op};
 /// - `Err(Empty)`: nothing was sent yet, and the sender is there.
 /// - `Err(Disconnected)`: the sender is gone without a message, or the message was received before.
 pub fn try_recv<T, W, G: ReceiverGround<T, W>>(g: &mut G) -> Result<T, TryRecvError>
-    requires { AtRest (receiver_of (G.log g.old)) (G.message_slot g.old) (G.waker_slot g.old) }
-    ensures run { ReceiverRan TryRecv (G.log g.old) (G.log g.new)
+    requires { AtRest (G.state g.old) }
+    ensures run { ReceiverRan TryRecv (G.state g.old).log (G.state g.new).log
         (try_recv_reply result) [] (received result) }
-    ensures rests { AtRest (receiver_of (G.log g.new)) (G.message_slot g.new) (G.waker_slot g.new) }
-    ensures leaves { Leaves result (receiver_of (G.log g.new)) }
-    ensures stays { IsClosed (receiver_of (G.log g.old)) → result ≡ Err Disconnected }
+    ensures rests { AtRest (G.state g.new) }
+    ensures leaves { Leaves result (receiver_of (G.state g.new).log) }
+    ensures stays { IsClosed (receiver_of (G.state g.old).log) → result ≡ Err Disconnected }
 {
     match g.word(Op::Load) {
         MESSAGE => {
@@ -41,8 +43,16 @@ pub fn try_recv<T, W, G: ReceiverGround<T, W>>(g: &mut G) -> Result<T, TryRecvEr
 ///
 /// It frees the block if the sender was gone or had sent. Otherwise the sender's side frees it.
 pub fn drop_receiver<T, W, G: ReceiverGround<T, W>>(g: &mut G)
-    requires { AtRest (receiver_of (G.log g.old)) (G.message_slot g.old) (G.waker_slot g.old) }
-    ensures { ReceiverRan Drop (G.log g.old) (G.log g.new) R.Done [] [] }
+    requires { AtRest (G.state g.old) }
+    ensures { ReceiverRan Drop (G.state g.old).log (G.state g.new).log R.Done [] [] }
+{
+    end(g);
+}
+
+// Closes the channel, and drops the message that it finds.
+pub(crate) fn end<T, W, G: ReceiverGround<T, W>>(g: &mut G)
+    requires { ReceiverAsks (Swap 2) (G.state g.old) }
+    ensures { ReceiverRan Drop (G.state g.old).log (G.state g.new).log R.Done [] [] }
 {
     match g.word(Op::Swap(DISCONNECTED)) {
         MESSAGE => {

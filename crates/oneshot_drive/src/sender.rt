@@ -6,7 +6,7 @@ ghost use Rattle.oneshot_machine.specs.declared.machine.sender.SenderCall.TheVar
 ghost use Rattle.oneshot_machine.specs.Logs.{sender_of, Grows};
 ghost use Rattle.oneshot_machine.specs.Runs.{SenderRan};
 ghost use Rattle.oneshot_machine.specs.Slots.{held};
-ghost use Rattle.oneshot_drive.specs.Calls.{IsFresh, IsError, IsLate, Owes, Finishes, send_reply};
+ghost use Rattle.oneshot_drive.specs.BetweenCalls.{IsFresh, IsError, IsLate, Owes, Finishes, send_reply};
 
 use crate::ground::SenderGround;
 use oneshot_machine::states::{DISCONNECTED, EMPTY, MESSAGE, Op, RECEIVING};
@@ -18,11 +18,11 @@ use oneshot_machine::states::{DISCONNECTED, EMPTY, MESSAGE, Op, RECEIVING};
 /// - `false`: the receiver was gone. The message is in its slot, and `g` owns the block: `into_inner` or
 ///   `drop_error` ends it.
 pub fn send<T, W, G: SenderGround<T, W>>(g: &mut G, message: T) -> bool
-    requires { IsFresh (G.log g.old) (G.message_slot g.old) (G.waker_slot g.old) }
-    ensures run { SenderRan Send (G.log g.old) (G.log g.new) (send_reply result) (message ∷ []) [] }
+    requires { IsFresh (G.state g.old) }
+    ensures run { SenderRan Send (G.state g.old).log (G.state g.new).log (send_reply result) (message ∷ []) [] }
     ensures refused { result ≡ false →
-        IsError (held message) (G.message_slot g.new) (G.waker_slot g.new) }
-    ensures late { result ≡ false → IsLate (sender_of (G.log g.new)) }
+        IsError (held message) (G.state g.new) }
+    ensures late { result ≡ false → IsLate (sender_of (G.state g.new).log) }
 {
     g.write_message(message);
     match g.word(Op::Add) {
@@ -40,8 +40,8 @@ pub fn send<T, W, G: SenderGround<T, W>>(g: &mut G, message: T) -> bool
 ///
 /// It frees the block if the receiver was gone. Otherwise the receiver's side frees it.
 pub fn drop_sender<T, W, G: SenderGround<T, W>>(g: &mut G)
-    requires { IsFresh (G.log g.old) (G.message_slot g.old) (G.waker_slot g.old) }
-    ensures { SenderRan Drop (G.log g.old) (G.log g.new) Done [] [] }
+    requires { IsFresh (G.state g.old) }
+    ensures { SenderRan Drop (G.state g.old).log (G.state g.new).log Done [] [] }
 {
     match g.word(Op::Xor) {
         EMPTY => {}
@@ -52,8 +52,8 @@ pub fn drop_sender<T, W, G: SenderGround<T, W>>(g: &mut G)
 
 // Leaves this last word to a receiver that waits, and wakes it.
 fn finish<T, W, G: SenderGround<T, W>>(g: &mut G, last: u8)
-    requires { Owes (sender_of (G.log g.old)) last (G.message_slot g.old) (G.waker_slot g.old) }
-    ensures { Finishes last (G.log g.old) (G.log g.new) }
+    requires { Owes last (G.state g.old) }
+    ensures { Finishes last (G.state g.old).log (G.state g.new).log }
 {
     let waker = g.take_waker();
     g.word(Op::Swap(last));
@@ -62,9 +62,9 @@ fn finish<T, W, G: SenderGround<T, W>>(g: &mut G, last: u8)
 
 /// Gives the message of a refused `send` back, and frees the block. It never blocks and cannot fail.
 pub fn into_inner<T, W, G: SenderGround<T, W>>(g: &mut G) -> T
-    requires { (x : T) × IsError (held x) (G.message_slot g.old) (G.waker_slot g.old) }
-    ensures run { SenderRan IntoInner (G.log g.old) (G.log g.new) Message [] (result ∷ []) }
-    ensures message { G.message_slot g.old ≡ held result }
+    requires { (x : T) × IsError (held x) (G.state g.old) }
+    ensures run { SenderRan IntoInner (G.state g.old).log (G.state g.new).log Message [] (result ∷ []) }
+    ensures message { (G.state g.old).message ≡ held result }
 {
     let message = g.take_message();
     g.free();
@@ -73,8 +73,8 @@ pub fn into_inner<T, W, G: SenderGround<T, W>>(g: &mut G) -> T
 
 /// Drops the message of a refused `send`, and frees the block. It never blocks and cannot fail.
 pub fn drop_error<T, W, G: SenderGround<T, W>>(g: &mut G)
-    requires { (x : T) × IsError (held x) (G.message_slot g.old) (G.waker_slot g.old) }
-    ensures { SenderRan DropError (G.log g.old) (G.log g.new) Done [] [] }
+    requires { (x : T) × IsError (held x) (G.state g.old) }
+    ensures { SenderRan DropError (G.state g.old).log (G.state g.new).log Done [] [] }
 {
     g.drop_message();
     g.free();

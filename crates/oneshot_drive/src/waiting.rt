@@ -3,10 +3,12 @@
 ghost use Rattle.std.specs.Prelude.{◌≡◌, true, Some};
 ghost use Rattle.oneshot_machine.specs.declared.machine.receiver.ReceiverPos.TheVariants.{EndSwap, LatePark};
 ghost use Rattle.oneshot_machine.specs.Logs.{receiver_of};
+ghost use Rattle.oneshot_machine.specs.Phases.{here, looked, waits, blocked, overdue};
 ghost use Rattle.oneshot_machine.specs.Rows.{Goes};
 ghost use Rattle.oneshot_drive.specs.declared.waiting.Found.TheVariants as F;
-ghost use Rattle.oneshot_drive.specs.Blocking.{Went, Way, load_of, write_of, wait_of, asked_of, ref_end, end_of, EndsAt, HasLooked, IsWaiting, IsOverdue, HandAt, WaitedHand};
-ghost use Rattle.oneshot_drive.specs.Calls.{AtRest, IsClosed, IsReady};
+ghost use Rattle.oneshot_drive.specs.Blocking.{Went, Way, load_of, write_of, wait_of, asked_of, ref_end, end_of, EndsAt, HandAt, WaitedHand};
+ghost use Rattle.oneshot_drive.specs.BetweenCalls.{AtRest, IsClosed, IsReady};
+ghost use Rattle.oneshot_drive.specs.Grounds.{Stands};
 
 use crate::ground::BlockGround;
 use oneshot_machine::states::{DISCONNECTED, EMPTY, MESSAGE, Op, RECEIVING};
@@ -32,11 +34,11 @@ pub(crate) fn find<T, W: Drop, G: BlockGround<T, W>>(
     hand: &mut Option<W>,
     timed: bool,
 ) -> Found
-    requires rests { AtRest (receiver_of (G.log g.old)) (G.message_slot g.old) (G.waker_slot g.old) }
-    requires ready { IsReady hand.old (receiver_of (G.log g.old)) }
-    ensures went { (way : Way timed) → Went (load_of way) (end_of way result) (G.log g.old) (G.log g.new) }
-    ensures ends { EndsAt timed result (receiver_of (G.log g.new)) (G.message_slot g.new) (G.waker_slot g.new) }
-    ensures stays { IsClosed (receiver_of (G.log g.old)) → result ≡ F.Closed }
+    requires rests { AtRest (G.state g.old) }
+    requires ready { IsReady hand.old (receiver_of (G.state g.old).log) }
+    ensures went { (way : Way timed) → Went (load_of way) (end_of way result) (G.state g.old).log (G.state g.new).log }
+    ensures ends { EndsAt timed result (G.state g.new) }
+    ensures stays { IsClosed (receiver_of (G.state g.old).log) → result ≡ F.Closed }
     ensures hand { HandAt result hand.old hand.new }
 {
     match g.word(Op::Load) {
@@ -53,10 +55,10 @@ fn store_and_wait<T, W: Drop, G: BlockGround<T, W>>(
     hand: &mut Option<W>,
     timed: bool,
 ) -> Found
-    requires open { HasLooked (receiver_of (G.log g.old)) (G.message_slot g.old) (G.waker_slot g.old) }
+    requires open { Stands (here looked) (G.state g.old) }
     requires ready { (k : W) × (hand.old ≡ Some k) }
-    ensures went { (way : Way timed) → Went (write_of way) (end_of way result) (G.log g.old) (G.log g.new) }
-    ensures ends { EndsAt timed result (receiver_of (G.log g.new)) (G.message_slot g.new) (G.waker_slot g.new) }
+    ensures went { (way : Way timed) → Went (write_of way) (end_of way result) (G.state g.old).log (G.state g.new).log }
+    ensures ends { EndsAt timed result (G.state g.new) }
     ensures hand { HandAt result hand.old hand.new }
 {
     let Some(waker) = hand.take() else {
@@ -82,9 +84,9 @@ fn wait<T, W: Drop, G: BlockGround<T, W>>(
     hand: &mut Option<W>,
     timed: bool,
 ) -> Found
-    requires { IsWaiting (receiver_of (G.log g.old)) (G.message_slot g.old) (G.waker_slot g.old) }
-    ensures went { (way : Way timed) → Went (wait_of way) (end_of way result) (G.log g.old) (G.log g.new) }
-    ensures ends { EndsAt timed result (receiver_of (G.log g.new)) (G.message_slot g.new) (G.waker_slot g.new) }
+    requires { Stands (waits blocked) (G.state g.old) }
+    ensures went { (way : Way timed) → Went (wait_of way) (end_of way result) (G.state g.old).log (G.state g.new).log }
+    ensures ends { EndsAt timed result (G.state g.new) }
     ensures hand { WaitedHand result hand.old hand.new }
 {
     for _ in rt.forever() {
@@ -103,9 +105,9 @@ fn wait<T, W: Drop, G: BlockGround<T, W>>(
 
 // Whether there is a deadline that is over. Only where there is one, the clock is read.
 fn is_over<T, W, G: BlockGround<T, W>>(g: &mut G, timed: bool) -> bool
-    requires { IsWaiting (receiver_of (G.log g.old)) (G.message_slot g.old) (G.waker_slot g.old) }
-    ensures went { (way : Way timed) → Went (wait_of way) (Goes (asked_of way result)) (G.log g.old) (G.log g.new) }
-    ensures waits { IsWaiting (receiver_of (G.log g.new)) (G.message_slot g.new) (G.waker_slot g.new) }
+    requires { Stands (waits blocked) (G.state g.old) }
+    ensures went { (way : Way timed) → Went (wait_of way) (Goes (asked_of way result)) (G.state g.old).log (G.state g.new).log }
+    ensures waits { Stands (waits blocked) (G.state g.new) }
     ensures deadline { result ≡ true → timed ≡ true }
 {
     if timed { g.over() } else { false }
@@ -113,9 +115,9 @@ fn is_over<T, W, G: BlockGround<T, W>>(g: &mut G, timed: bool) -> bool
 
 // Ends the wait of a receiver whose deadline is over, unless the sender has acted before.
 fn stop<T, W: Drop, G: BlockGround<T, W>>(g: &mut G, rt: &impl Wait, hand: &mut Option<W>) -> Found
-    requires { IsWaiting (receiver_of (G.log g.old)) (G.message_slot g.old) (G.waker_slot g.old) }
-    ensures went { Went EndSwap (ref_end result) (G.log g.old) (G.log g.new) }
-    ensures ends { EndsAt true result (receiver_of (G.log g.new)) (G.message_slot g.new) (G.waker_slot g.new) }
+    requires { Stands (waits blocked) (G.state g.old) }
+    ensures went { Went EndSwap (ref_end result) (G.state g.old).log (G.state g.new).log }
+    ensures ends { EndsAt true result (G.state g.new) }
     ensures hand { WaitedHand result hand.old hand.new }
 {
     match g.word(Op::Swap(EMPTY)) {
@@ -131,9 +133,9 @@ fn stop<T, W: Drop, G: BlockGround<T, W>>(g: &mut G, rt: &impl Wait, hand: &mut 
 
 // Parks, past the deadline, until the sender has finished.
 fn wait_late<T, W, G: BlockGround<T, W>>(g: &mut G, rt: &impl Wait) -> Found
-    requires { IsOverdue (receiver_of (G.log g.old)) (G.message_slot g.old) (G.waker_slot g.old) }
-    ensures went { Went LatePark (ref_end result) (G.log g.old) (G.log g.new) }
-    ensures ends { EndsAt true result (receiver_of (G.log g.new)) (G.message_slot g.new) (G.waker_slot g.new) }
+    requires { Stands overdue (G.state g.old) }
+    ensures went { Went LatePark (ref_end result) (G.state g.old).log (G.state g.new).log }
+    ensures ends { EndsAt true result (G.state g.new) }
     ensures sent { ¬ (result ≡ F.Nothing) }
 {
     for _ in rt.forever() {

@@ -10,28 +10,29 @@ use Rattle.oneshot_machine.specs.declared.machine.Reply.TheVariants.{Sent, Refus
 use Rattle.oneshot_machine.specs.declared.machine.Step.TheVariants.{TakeWaker, Wake}
 use Rattle.oneshot_machine.specs.declared.states.Op.TheVariants.{Swap}
 use Rattle.oneshot_machine.specs.Logs.{Event, Log, Grows, sender_of, handed, worded}
-use Rattle.oneshot_machine.specs.Phases.{By, sending, dropping, SenderAt, fresh, owes, late, Closing, closed_itself, Open, looked, between, Waiting, ReceiverAt, first, here, waits, claimed, over, resolved}
-use Rattle.oneshot_machine.specs.Slots.{Held, away, vacant, held}
+use Rattle.oneshot_machine.specs.Phases.{By, SenderAt, fresh, late, Closing, closed_itself, Open, looked, between, Waiting, ReceiverAt, first, here, waits, claimed, over, resolved}
+use Rattle.oneshot_machine.specs.Slots.{Held, vacant, held, SenderMay}
+use Rattle.oneshot_drive.specs.Grounds.{State, SenderStands, StandsIn}
 
 -- a sender that has made no operation: the message's slot is its own and empty
-pub record IsFresh {T W : Type 0} (log : Log T W) (message : Held T) (waker : Held W) : Type 0 where
-  pub at : sender_of log ≡ fresh
-  pub no_message : message ≡ vacant
-  pub no_waker : waker ≡ away
+abbrev pub IsFresh : {T W : Type 0} → State T W → Type 0
+IsFresh = SenderStands fresh
 
 -- The end of a refused `send`: both slots are its own, with this in the message's.
-pub record IsError {T W : Type 0} (refused message : Held T) (waker : Held W) : Type 0 where
-  pub keeps : message ≡ refused
-  pub no_waker : waker ≡ vacant
+pub record IsError {T W : Type 0} (refused : Held T) (s : State T W) : Type 0 where
+  pub keeps : s.message ≡ refused
+  pub no_waker : s.waker ≡ vacant
 
 -- a sender whose last operation found the receiver gone
 pub data IsLate : SenderAt → Type 0 where
-  is_late : (by : By) (word : ℕ) → IsLate (late by word)
+  is_late : (by : By) → IsLate (late by)
 
--- A sender that found a receiver that waits: it owes it this last word, and has its waker.
-pub data Owes {T W : Type 0} : SenderAt → ℕ → Held T → Held W → Type 0 where
-  owes_message : (x : T) (k : W) → Owes (owes sending) 4 (held x) (held k)
-  owes_end : (k : W) → Owes (owes dropping) 2 vacant (held k)
+-- A sender that found a receiver that waits: it has its waker, and owes it this last word once it has
+-- taken that out of its slot.
+pub record Owes {T W : Type 0} (last : ℕ) (s : State T W) : Type 0 where
+  pub waker : W
+  pub has_waker : s.waker ≡ held waker
+  pub asks : SenderMay {W = W} (sender_of s.log) (Swap last) s.message vacant
 
 -- what it does then
 abbrev pub finishing : {T W : Type 0} → ℕ → ℕ → W → List (Event T W)
@@ -49,11 +50,15 @@ pub record Finishes {T W : Type 0} (last : ℕ) (before after : Log T W) : Type 
   pub waker : W
   pub grows : Grows before after (finishing last found waker)
 
+-- the phases of a receiver between two calls
+pub data Rests : ReceiverAt → Type 0 where
+  rests_new : Rests first
+  rests_open : (o : Open) → Rests (here o)
+  rests_closed : (c : Closing) → Rests (over c)
+
 -- a receiver between two calls
-pub data AtRest {T W : Type 0} : ReceiverAt → Held T → Held W → Type 0 where
-  rests_new : AtRest first away away
-  rests_open : (o : Open) → AtRest (here o) away vacant
-  rests_closed : (c : Closing) → AtRest (over c) vacant vacant
+abbrev pub AtRest : {T W : Type 0} → State T W → Type 0
+AtRest = StandsIn Rests
 
 pub data IsClosed : ReceiverAt → Type 0 where
   is_over : (c : Closing) → IsClosed (over c)
