@@ -1,10 +1,8 @@
-pub mod SenderRuns
-pub mod ReceiverRuns
+pub mod AfterOperations
 pub mod Stretches
-pub mod WaitingRuns
-pub mod LateRuns
-pub mod BlockingRuns
-pub mod ReadyHands
-pub mod PollRuns
-pub mod OwnCopies
-pub mod EndRuns
+pub mod SenderCalls
+pub mod RestLoads
+pub mod LastSwap
+pub mod StoredWaker
+pub mod Waits
+pub mod Receives

@@ -1,5 +1,5 @@
 -- What each receive that blocks owes its ground once it is decided, and that its steps make a run.
-use Rattle.std.proofs.Common.{◌≡◌, ℕ, Bool, true, false, List, [], ◌∷◌, Option, Result, Ok, Err, refl, sym, subst}
+use Rattle.std.proofs.Common.{◌≡◌, ℕ, Bool, true, false, List, [], ◌∷◌, Option, Result, Ok, Err, refl, sym, ◌∙◌, subst}
 use Rattle.oneshot_errors.specs.declared.recv.RecvError.{RecvError}
 use Rattle.oneshot_errors.specs.declared.recv_timeout.RecvTimeoutError.{RecvTimeoutError}
 use Rattle.oneshot_errors.specs.declared.recv_timeout.RecvTimeoutError.TheVariants as Timed
@@ -14,81 +14,82 @@ use Rattle.oneshot_machine.specs.declared.machine.receiver.ReceiverPos.TheVarian
 use Rattle.oneshot_machine.specs.declared.machine.receiver.ReceiverStart.TheVariants.{Recv, RecvTimeout}
 use Rattle.oneshot_machine.specs.declared.states.Op.TheVariants.{Store}
 use Rattle.oneshot_machine.specs.Logs.{Log, Grows, receiver_of, did, took, clocked, worded}
-use Rattle.oneshot_machine.specs.Phases.{between, ReceiverAt, here, at_once, waited, Closing, closed_itself, over, receiver_next}
+use Rattle.oneshot_machine.specs.Phases.{between, ReceiverAt, here, full, Got, at_once, waited, swapped, by_future, by_poll, unclosed, Swapping, Closing, closed_itself, over, receiver_moves, receiver_next, empty, filled}
 use Rattle.oneshot_machine.specs.Receiver.{receiver_step, receiver_row}
 use Rattle.oneshot_machine.specs.Rows.{Goes}
 use Rattle.oneshot_machine.specs.Runs.{last, more, Ran, ReceiverRan}
-use Rattle.oneshot_machine.specs.Slots.{Held, vacant, held, ReceiverMay, may_close, may_close_only, ReceiverFinds, close, close_only}
 use Rattle.oneshot_machine.proofs.GrownLists.{receiver_moved, and_then}
-use Rattle.oneshot_drive.specs.Blocking.{Went, value_end, EndsAt, ends_at_once, ends_waited, ends_closed, ends_unclosed, ends_nothing, Returns, returned, taken, Refills, refilled, HandAt}
-use Rattle.oneshot_drive.specs.Calls.{AtRest, rests_open, rests_closed, IsClosed, LeavesClosed, left_received, left_closed, LeavesTimed, timed_received, timed_out, timed_closed, IsReady, Hands, as_it_was, sender_took, came_back}
-use Rattle.oneshot_drive.proofs.ReceiverRuns.{HasClosed}
+use Rattle.oneshot_drive.specs.Grounds.{State, StandsWith, Stands, receiver_slots, ReceiverAsks, ReceiverMakes}
+use Rattle.oneshot_drive.specs.Blocking.{Went, value_end, EndsAt, Returns, returned, taken, Refills, refilled, HandAt}
+use Rattle.oneshot_drive.specs.BetweenCalls.{AtRest, rests_open, IsClosed, LeavesClosed, left_received, left_closed, LeavesTimed, timed_received, timed_out, timed_closed, IsReady, Hands, as_it_was, sender_took, came_back}
+use Rattle.oneshot_drive.proofs.AfterOperations.{has_row, Each, landings, lone, asks, lands, one_of, stands_on, still}
 use Rattle.oneshot_drive.proofs.Stretches.{by_clock, ran, before}
-use Rattle.oneshot_drive.proofs.WaitingRuns.{unmoved, clocked_at}
+
+-- one that has the message may close over it, however it came to it, and then it has it still
+stores_full : (g : Got) → has_row (Store 2) (receiver_slots (full g)) (receiver_moves (full g)) ≡ true
+stores_full at_once = refl
+stores_full waited = refl
+stores_full (swapped by) = refl
+stores_full by_future = refl
+stores_full by_poll = refl
+
+keeps_full : (g : Got) → Each (λ n next after. after ≡ (filled, empty)) (landings (Store 2) (receiver_moves (full g)))
+keeps_full at_once = (refl, tt)
+keeps_full waited = (refl, tt)
+keeps_full (swapped by) = (refl, tt)
+keeps_full by_future = (refl, tt)
+keeps_full by_poll = (refl, tt)
+
+slots_full : (g : Got) → receiver_slots (full g) ≡ (filled, empty)
+slots_full at_once = refl
+slots_full waited = refl
+slots_full (swapped by) = refl
+slots_full by_future = refl
+slots_full by_poll = refl
 
 module _ {T W : Type 0} where
+  pub full_asks : {g : Got} {s : State T W} → Stands (full g) s → ReceiverAsks (Store 2) s
+  full_asks {g} is = asks (Store 2) is (stores_full g)
+
+  pub has_message : {g : Got} {s : State T W} → Stands (full g) s → StandsWith receiver_of (full g) (filled, empty) s
+  has_message {g} {s} is = subst (λ slots. StandsWith receiver_of (full g) slots s) (slots_full g) is
+
+  pub closed_over : {g : Got} {b a : State T W} (n : ℕ) → Stands (full g) b → ReceiverMakes (Store 2) n b a → Grows b.log a.log (worded (Store 2) n ∷ []) → StandsWith receiver_of (receiver_next (full g) (Store 2) S.Done) (filled, empty) a
+  closed_over {g} {b} {a} n is made grows =
+      let found = one_of (λ n next after. after ≡ (filled, empty)) (keeps_full g) (lands b (Store 2) n is.phase made grows) in
+      let has : StandsWith receiver_of found.next (filled, empty) a = subst (λ slots. StandsWith receiver_of found.next slots a) found.is_so found.stands in
+      record { phase = subst (λ at. receiver_of a.log ≡ receiver_next at (Store 2) S.Done) is.phase (receiver_moved (Store 2) n grows); message = has.message; waker = has.waker }
+
   -- `receive`: it closes over the message
-  pub ends_asks : {t : Bool} {q : ReceiverAt} {m : Held T} {w : Held W} → EndsAt t F.Message q m w → ReceiverMay q (Store 2) m w
-  ends_asks (ends_at_once t x) = may_close at_once 4 x
-  ends_asks (ends_waited t left x) = may_close waited left x
-
-  ends : {t : Bool} {q : ReceiverAt} {m m' : Held T} {w w' : Held W} (n : ℕ) → EndsAt t F.Message q m w → ReceiverFinds q (Store 2) n m w m' w' → HasClosed (receiver_next q (Store 2) S.Done) m' w'
-  ends _ (ends_at_once _ x) (close _ _ _) = record { at = refl; message = (x, refl); waker = refl }
-  ends _ (ends_waited _ _ x) (close _ _ _) = record { at = refl; message = (x, refl); waker = refl }
-
-  pub ended_full : {t : Bool} {k j : Log T W} {m m' : Held T} {w w' : Held W} (n : ℕ) → EndsAt t F.Message (receiver_of k) m w → ReceiverFinds (receiver_of k) (Store 2) n m w m' w' → Grows k j (worded (Store 2) n ∷ []) → HasClosed (receiver_of j) m' w'
-  ended_full {m'} {w'} n at finds grows = subst (λ q. HasClosed q m' w') (sym (receiver_moved (Store 2) n grows)) (ends n at finds)
+  pub ended_full : {t : Bool} {b a : State T W} (n : ℕ) → EndsAt t F.Message b → ReceiverMakes (Store 2) n b a → Grows b.log a.log (worded (Store 2) n ∷ []) → StandsWith receiver_of (over closed_itself) (filled, empty) a
+  ended_full {a} n ends made grows = subst (λ at. StandsWith receiver_of at (filled, empty) a) ends.1 (closed_over n ends.2 made grows)
 
   pub full_ran : {p : ReceiverPos} {l k j z : Log T W} (n : ℕ) (x : T) → Went p (Goes Close) l k → Grows k j (worded (Store 2) n ∷ []) → Grows j z (took x ∷ []) → Ran receiver_step receiver_row p l z R.Message [] (x ∷ [])
   full_ran n x went s t = ran went (worded (Store 2) n ∷ took x ∷ []) (more Take _ _ refl refl (last _ refl refl)) (and_then (worded (Store 2) n ∷ []) _ s t) refl refl
 
   -- or where the sender is gone
-  pub end_asks : {t : Bool} {q : ReceiverAt} {m : Held T} {w : Held W} → EndsAt t F.Unclosed q m w → ReceiverMay q (Store 2) m w
-  end_asks (ends_unclosed t left) = may_close_only left
+  pub shut : {by : Swapping} {b a : State T W} (n : ℕ) → Stands (unclosed by) b → ReceiverMakes (Store 2) n b a → Grows b.log a.log (worded (Store 2) n ∷ []) → Stands (over closed_itself) a
+  shut {b} n is made grows = (lone (lands b (Store 2) n is.phase made grows)).stands
 
-  -- it is closed, with empty slots
-  pub record IsOver (q : ReceiverAt) (m : Held T) (w : Held W) : Type 0 where
-    pub closing : Closing
-    pub at : q ≡ over closing
-    pub message : m ≡ vacant
-    pub waker : w ≡ vacant
-
-  shuts : {t : Bool} {q : ReceiverAt} {m m' : Held T} {w w' : Held W} (n : ℕ) → EndsAt t F.Unclosed q m w → ReceiverFinds q (Store 2) n m w m' w' → IsOver (receiver_next q (Store 2) S.Done) m' w'
-  shuts _ (ends_unclosed _ _) (close_only _) = record { closing = closed_itself; at = refl; message = refl; waker = refl }
-
-  pub shut : {t : Bool} {k j : Log T W} {m m' : Held T} {w w' : Held W} (n : ℕ) → EndsAt t F.Unclosed (receiver_of k) m w → ReceiverFinds (receiver_of k) (Store 2) n m w m' w' → Grows k j (worded (Store 2) n ∷ []) → IsOver (receiver_of j) m' w'
-  shut {m'} {w'} n at finds grows = subst (λ q. IsOver q m' w') (sym (receiver_moved (Store 2) n grows)) (shuts n at finds)
-
-  pub is_shut : {t : Bool} {q : ReceiverAt} {m : Held T} {w : Held W} → EndsAt t F.Closed q m w → IsOver q m w
-  is_shut (ends_closed t c) = record { closing = c; at = refl; message = refl; waker = refl }
-
-  pub over_rests : {q : ReceiverAt} {m : Held T} {w : Held W} → IsOver q m w → AtRest q m w
-  over_rests is = unmoved AtRest (rests_closed is.closing) is.at is.message is.waker
-
-  pub over_leaves : {q : ReceiverAt} {m : Held T} {w : Held W} → IsOver q m w → LeavesTimed {T = T} (Err Timed.Disconnected) q
-  over_leaves is = subst (λ q. LeavesTimed {T = T} (Err Timed.Disconnected) q) (sym is.at) (timed_closed is.closing)
+  pub over_leaves : {c : Closing} {s : State T W} → Stands (over c) s → LeavesTimed {T = T} (Err Timed.Disconnected) (receiver_of s.log)
+  over_leaves {c} is = subst (λ at. LeavesTimed {T = T} (Err Timed.Disconnected) at) (sym is.phase) (timed_closed c)
 
   pub shut_ran : {p : ReceiverPos} {l k j : Log T W} (n : ℕ) → Went p (Goes CloseOnly) l k → Grows k j (worded (Store 2) n ∷ []) → Ran receiver_step receiver_row p l j R.Disconnected [] []
   shut_ran n went s = ran went (worded (Store 2) n ∷ []) (last _ refl refl) s refl refl
 
   -- or its deadline is over
-  pub record IsOut (timed : Bool) (q : ReceiverAt) (m : Held T) (w : Held W) : Type 0 where
-    pub deadline : timed ≡ true
-    pub at : q ≡ here between
-    pub rests : AtRest q m w
-
-  pub is_out : {t : Bool} {q : ReceiverAt} {m : Held T} {w : Held W} → EndsAt t F.Nothing q m w → IsOut t q m w
-  is_out ends_nothing = record { deadline = refl; at = refl; rests = rests_open between }
+  pub out_rests : {s : State T W} → Stands (here between) s → AtRest s
+  out_rests is = record { at = here between; is_one = rests_open between; stands = is }
 
   -- `recv_timeout`: its read of the clock leaves it where it was
-  pub clock_rests : {l k : Log T W} {m m' : Held T} {w w' : Held W} → AtRest (receiver_of l) m w → (past : Bool) → Grows l k (clocked past ∷ []) → m' ≡ m → w' ≡ w → AtRest (receiver_of k) m' w'
-  clock_rests is past s = unmoved AtRest is (clocked_at past s)
+  pub clock_rests : {b a : State T W} → AtRest b → (past : Bool) → Grows b.log a.log (clocked past ∷ []) → a.message ≡ b.message → a.waker ≡ b.waker → AtRest a
+  clock_rests rests past s message waker = record { at = rests.at; is_one = rests.is_one; stands = stands_on (clocked past ∷ []) refl rests.stands s message waker }
 
   pub clock_ready : {l k : Log T W} {hand : Option W} → IsReady hand (receiver_of l) → (past : Bool) → Grows l k (clocked past ∷ []) → IsReady hand (receiver_of k)
-  clock_ready is past s none = subst IsClosed (sym (clocked_at past s)) (is none)
+  clock_ready is past s none = subst IsClosed (sym (still (clocked past ∷ []) refl s)) (is none)
 
   pub clock_closed : {l k : Log T W} (past : Bool) → Grows l k (clocked past ∷ []) → IsClosed (receiver_of l) → IsClosed (receiver_of k)
-  clock_closed past s is = subst IsClosed (sym (clocked_at past s)) is
+  clock_closed past s is = subst IsClosed (sym (still (clocked past ∷ []) refl s)) is
 
   sums : {representable : Bool} {l k : Log T W} (past : Bool) → Grows l k (clocked past ∷ []) → Went (SumClock representable) (Goes (StartLoad representable)) l k
   sums true s = by_clock _ true s refl refl
@@ -98,14 +99,6 @@ module _ {T W : Type 0} where
   sum_ran past s run = before (sums past s) run
 
   -- `recv`
-  pub full_message : {t : Bool} {q : ReceiverAt} {m : Held T} {w : Held W} → EndsAt t F.Message q m w → (x : T) × (m ≡ held x)
-  full_message (ends_at_once t x) = (x, refl)
-  full_message (ends_waited t left x) = (x, refl)
-
-  pub full_waker : {t : Bool} {q : ReceiverAt} {m : Held T} {w : Held W} → EndsAt t F.Message q m w → w ≡ vacant
-  full_waker (ends_at_once t x) = refl
-  full_waker (ends_waited t left x) = refl
-
   pub full_freed : {l k j z : Log T W} (x : T) → Went RecvLoad (Goes RecvTake) l k → Grows k j (took x ∷ []) → Grows j z (did Steps.Free ∷ []) → ReceiverRan Recv l z R.Message [] (x ∷ [])
   full_freed x went s t = ran went (took x ∷ did Steps.Free ∷ []) (more RecvFreeGot _ _ refl refl (last _ refl refl)) (and_then (took x ∷ []) _ s t) refl refl
 
@@ -119,11 +112,11 @@ module _ {T W : Type 0} where
   gone_freed F.Nothing a went s = over_freed went s
 
   -- its hand: without a deadline no waker comes back from the wait
-  pub hand_back : {q : ReceiverAt} {m : Held T} {w : Held W} {hand after : Option W} (f : Found) → EndsAt false f q m w → HandAt f hand after → Returns hand after
-  hand_back F.Message at hand = hand
-  hand_back F.Closed at hand = hand
-  hand_back F.Unclosed at hand = hand
-  hand_back F.Nothing at hand = elim at [ ]
+  pub hand_back : (s : State T W) {hand after : Option W} (f : Found) → EndsAt false f s → HandAt f hand after → Returns hand after
+  hand_back s F.Message at hand = hand
+  hand_back s F.Closed at hand = hand
+  hand_back s F.Unclosed at hand = hand
+  hand_back s F.Nothing at hand = let timed = at.0 in absurd (cc)
 
 -- the hand after the call
 pub hands : {W : Type 0} {hand after : Option W} {q : ReceiverAt} → Returns hand after → (c : Closing) → q ≡ over c → Hands hand after q
@@ -142,8 +135,7 @@ out_leaves at = rw at timed_out
 -- `recv_ref`: without a deadline the receiver is closed then
 pub untimed_full : {T : Type 0} {r : Result T RecvTimeoutError} {q : ReceiverAt} (x : T) → r ≡ Ok x → LeavesTimed r q → LeavesClosed (Ok x) q
 untimed_full x is (timed_received y) = left_received x
-untimed_full x is timed_out = absurd (cc)
-untimed_full x is (timed_closed c) = absurd (cc)
+untimed_full x is _ = absurd (cc)
 
 pub untimed_gone : {T : Type 0} {r : Result T RecvTimeoutError} {q : ReceiverAt} (e : RecvError) (d : RecvTimeoutError) → r ≡ Err d → ¬ (r ≡ Err Timed.Timeout) → LeavesTimed r q → LeavesClosed {T = T} (Err e) q
 untimed_gone e d is endless (timed_received y) = absurd (cc)
