@@ -188,7 +188,7 @@ pub record OneOf {At T W : Type 0} (of : Log T W → At) (n : ℕ) (s : State T 
   pub stands : StandsWith of next after s
 
 module _ {At T W : Type 0} {of : Log T W → At} where
-  the_lone : {n : ℕ} {next : At} {after : Slots} {s : State T W} (word : ℕ) (at : At) (slots : Slots) → In (n, next, after) ((word, at, slots) ∷ []) → StandsWith of next after s → Lone of n s (word, at, slots)
+  the_lone : {n : ℕ} {next : At} {after : Slots} {s : State T W} (word : ℕ) (at : At) (slots : Slots) → In {X = Landing At} (n, next, after) ((word, at, slots) ∷ []) → StandsWith of next after s → Lone of n s (word, at, slots)
   the_lone word at slots head stands = record { word = refl; stands = stands }
   the_lone word at slots (tail there) stands = elim there [ ]
 

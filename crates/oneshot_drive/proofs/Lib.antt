@@ -6,3 +6,8 @@ pub mod LastSwap
 pub mod StoredWaker
 pub mod Waits
 pub mod Receives
+pub mod ReadyHands
+pub mod PollLoads
+pub mod LeftCopies
+pub mod Spins
+pub mod OwnCopies

@@ -61,7 +61,7 @@ module _ {T W : Type 0} where
       record { phase = subst (λ at. receiver_of a.log ≡ receiver_next at (Store 2) S.Done) is.phase (receiver_moved (Store 2) n grows); message = has.message; waker = has.waker }
 
   -- `receive`: it closes over the message
-  pub ended_full : {t : Bool} {b a : State T W} (n : ℕ) → EndsAt t F.Message b → ReceiverMakes (Store 2) n b a → Grows b.log a.log (worded (Store 2) n ∷ []) → StandsWith receiver_of (over closed_itself) (filled, empty) a
+  pub ended_full : {b a : State T W} (n : ℕ) → (g : Got) × (receiver_next (full g) (Store 2) S.Done ≡ over closed_itself) × Stands (full g) b → ReceiverMakes (Store 2) n b a → Grows b.log a.log (worded (Store 2) n ∷ []) → StandsWith receiver_of (over closed_itself) (filled, empty) a
   ended_full {a} n ends made grows = subst (λ at. StandsWith receiver_of at (filled, empty) a) ends.1 (closed_over n ends.2 made grows)
 
   pub full_ran : {p : ReceiverPos} {l k j z : Log T W} (n : ℕ) (x : T) → Went p (Goes Close) l k → Grows k j (worded (Store 2) n ∷ []) → Grows j z (took x ∷ []) → Ran receiver_step receiver_row p l z R.Message [] (x ∷ [])

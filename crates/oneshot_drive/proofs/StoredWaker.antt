@@ -102,7 +102,7 @@ pub back : {W : Type 0} {hand : Option W} {w : Held W} (y z : W) → hand ≡ So
 back {hand} y z is has was = let same : Some z ≡ hand = cc in subst (λ h. Returns hand h) (sym same) (returned hand)
 
 pub waited_hand : {W : Type 0} {hand before : Option W} (after : Option W) (f : Found) (y : W) → hand ≡ Some y → before ≡ None → WaitedHand f before after → HandAt f hand after
-waited_hand _ F.Message y is none hand = rw (is, hand, none) (taken y)
-waited_hand _ F.Closed y is none hand = rw (is, hand, none) (taken y)
-waited_hand _ F.Unclosed y is none hand = rw (is, hand, none) (taken y)
-waited_hand _ F.Nothing y is none hand = rw (is, hand.1) (refilled y hand.0)
+waited_hand _ F.Message y is empty_hand hand = rw (is, hand, empty_hand) (taken y)
+waited_hand _ F.Closed y is empty_hand hand = rw (is, hand, empty_hand) (taken y)
+waited_hand _ F.Unclosed y is empty_hand hand = rw (is, hand, empty_hand) (taken y)
+waited_hand _ F.Nothing y is empty_hand hand = rw (is, hand.1) (refilled y hand.0)
