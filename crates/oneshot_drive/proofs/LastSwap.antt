@@ -6,7 +6,7 @@ use Rattle.oneshot_machine.specs.declared.machine.receiver.ReceiverPos.TheVarian
 use Rattle.oneshot_machine.specs.declared.machine.receiver.ReceiverStart.TheVariants.{Drop}
 use Rattle.oneshot_machine.specs.declared.states.Op.TheVariants.{Swap}
 use Rattle.oneshot_machine.specs.Logs.{Log, Grows, did, worded}
-use Rattle.oneshot_machine.specs.Phases.{ReceiverAt, first, here, looked, between, withdrew, full, at_once, by_future, over, receiver_moves, none, empty, filled, Slots}
+use Rattle.oneshot_machine.specs.Phases.{ReceiverAt, first, here, looked, between, waits, blocked, withdrew, full, at_once, by_future, over, receiver_moves, none, empty, filled, Slots}
 use Rattle.oneshot_machine.specs.Runs.{last, more, ReceiverRan}
 use Rattle.oneshot_machine.proofs.GrownLists.{and_then}
 use Rattle.oneshot_machine.specs.Slots.{Held, IsSlot, ReceiverFinds}
@@ -27,6 +27,7 @@ swaps withdrew = (swapped_empty, (swapped_message, (swapped_closed, tt)))
 swaps (full at_once) = (swapped_message, tt)
 swaps (full by_future) = (swapped_message, tt)
 swaps (over c) = (swapped_closed, tt)
+swaps (waits blocked) = tt
 swaps _ = tt
 
 slots_full : {slots : Slots} → Swapped 4 slots → slots ≡ (filled, empty)

@@ -31,6 +31,8 @@ pub data Left : ℕ → ReceiverAt → Slots → Type 0 where
 leaves : (at : ReceiverAt) → Each Left (landings (Exchange 3 0) (receiver_moves at))
 leaves (here looked) = (left_copy, (left_full, (left_over, tt)))
 leaves withdrew = (left_copy, (left_full, (left_over, tt)))
+leaves (waits polled) = tt
+leaves (full by_poll) = tt
 leaves _ = tt
 
 module _ {T W : Type 0} where

@@ -18,11 +18,12 @@ use Rattle.oneshot_machine.specs.Phases.{between, ReceiverAt, here, full, Got, a
 use Rattle.oneshot_machine.specs.Receiver.{receiver_step, receiver_row}
 use Rattle.oneshot_machine.specs.Rows.{Goes}
 use Rattle.oneshot_machine.specs.Runs.{last, more, Ran, ReceiverRan}
+use Rattle.oneshot_machine.specs.Slots.{vacant}
 use Rattle.oneshot_machine.proofs.GrownLists.{receiver_moved, and_then}
 use Rattle.oneshot_drive.specs.Grounds.{State, StandsWith, Stands, receiver_slots, ReceiverAsks, ReceiverMakes}
 use Rattle.oneshot_drive.specs.Blocking.{Went, value_end, EndsAt, Returns, returned, taken, Refills, refilled, HandAt}
 use Rattle.oneshot_drive.specs.BetweenCalls.{AtRest, rests_open, IsClosed, LeavesClosed, left_received, left_closed, LeavesTimed, timed_received, timed_out, timed_closed, IsReady, Hands, as_it_was, sender_took, came_back}
-use Rattle.oneshot_drive.proofs.AfterOperations.{has_row, Each, landings, lone, asks, lands, one_of, stands_on, still}
+use Rattle.oneshot_drive.proofs.AfterOperations.{is_room, has_row, Each, landings, lone, asks, lands, one_of, stands_on, still}
 use Rattle.oneshot_drive.proofs.Stretches.{by_clock, ran, before}
 
 -- one that has the message may close over it, however it came to it, and then it has it still
@@ -102,14 +103,20 @@ module _ {T W : Type 0} where
   pub full_freed : {l k j z : Log T W} (x : T) → Went RecvLoad (Goes RecvTake) l k → Grows k j (took x ∷ []) → Grows j z (did Steps.Free ∷ []) → ReceiverRan Recv l z R.Message [] (x ∷ [])
   full_freed x went s t = ran went (took x ∷ did Steps.Free ∷ []) (more RecvFreeGot _ _ refl refl (last _ refl refl)) (and_then (took x ∷ []) _ s t) refl refl
 
-  over_freed : {l k j : Log T W} → Went RecvLoad (Goes RecvFreeGone) l k → Grows k j (did Steps.Free ∷ []) → ReceiverRan Recv l j R.Disconnected [] []
-  over_freed went s = ran went (did Steps.Free ∷ []) (last _ refl refl) s refl refl
+  -- without a message the sender is gone: both slots are empty, and the block is to be freed
+  pub record Gone (f : Found) (s : State T W) : Type 0 where
+    pub message : s.message ≡ vacant
+    pub waker : s.waker ≡ vacant
+    pub leads : value_end f ≡ Goes RecvFreeGone
 
-  pub gone_freed : {l k j : Log T W} (f : Found) → ¬ (f ≡ F.Message) → Went RecvLoad (value_end f) l k → Grows k j (did Steps.Free ∷ []) → ReceiverRan Recv l j R.Disconnected [] []
-  gone_freed F.Message a went s = absurd (a refl)
-  gone_freed F.Closed a went s = over_freed went s
-  gone_freed F.Unclosed a went s = over_freed went s
-  gone_freed F.Nothing a went s = over_freed went s
+  pub gone : (s : State T W) (f : Found) → ¬ (f ≡ F.Message) → EndsAt false f s → Gone f s
+  gone s F.Message a ends = absurd (a refl)
+  gone s F.Closed a ends = record { message = is_room ends.1.message; waker = is_room ends.1.waker; leads = refl }
+  gone s F.Unclosed a ends = record { message = is_room ends.1.message; waker = is_room ends.1.waker; leads = refl }
+  gone s F.Nothing a ends = let timed = ends.0 in absurd (cc)
+
+  pub gone_freed : {l k j : Log T W} {f : Found} {s : State T W} → Gone f s → Went RecvLoad (value_end f) l k → Grows k j (did Steps.Free ∷ []) → ReceiverRan Recv l j R.Disconnected [] []
+  gone_freed {l} {k} is went s = ran (subst (λ o. Went RecvLoad o l k) is.leads went) (did Steps.Free ∷ []) (last _ refl refl) s refl refl
 
   -- its hand: without a deadline no waker comes back from the wait
   pub hand_back : (s : State T W) {hand after : Option W} (f : Found) → EndsAt false f s → HandAt f hand after → Returns hand after

@@ -53,8 +53,7 @@ module _ {T W : Type 0} where
   pub asked : {l k : Log T W} {timed : Bool} (way : Way timed) (past : Bool) → timed ≡ true → Grows l k (clocked past ∷ []) → Went (wait_of way) (Goes (asked_of way past)) l k
   asked (by_ref true) true e s = by_clock _ true s refl refl
   asked (by_ref true) false e s = by_clock _ false s refl refl
-  asked (by_ref false) past e s = absurd (cc)
-  asked by_value past e s = absurd (cc)
+  asked _ past e s = absurd (cc)
 
   pub not_asked : {timed : Bool} (way : Way timed) (l : Log T W) → timed ≡ false → Went (wait_of way) (Goes (asked_of way false)) l l
   not_asked (by_ref true) l e = absurd (cc)
@@ -111,8 +110,7 @@ module _ {T W : Type 0} where
   -- or that it is over
   pub stops_went : {timed past : Bool} {l i k z : Log T W} (f : Found) (way : Way timed) → Went (wait_of way) (Goes (wait_of way)) l i → Went (wait_of way) (Goes (asked_of way past)) i k → past ≡ true → timed ≡ true → Went EndSwap (ref_end f) k z → Went (wait_of way) (end_of way f) l z
   stops_went {i} {k} f (by_ref true) went asks e is stops = on went (on (subst (λ past. Went Clock (Goes (asked_of (by_ref true) past)) i k) e asks) stops)
-  stops_went f (by_ref false) went asks e is stops = absurd (cc)
-  stops_went f by_value went asks e is stops = absurd (cc)
+  stops_went f _ went asks e is stops = absurd (cc)
 
   -- `stop`: where its swap landed
   pub stopped : {b a : State T W} (n : ℕ) → Stands (waits blocked) b → ReceiverMakes (Swap 3) n b a → Grows b.log a.log (worded (Swap 3) n ∷ []) → Lands receiver_of n a (landings (Swap 3) (receiver_moves (waits blocked)))

@@ -1,11 +1,16 @@
 use Rattle.std.proofs.Common.{refl, ◌∙◌}
 use Rattle.oneshot_drive.specs.Blocking.{by_value}
 use Rattle.oneshot_drive.proofs.AfterOperations.{is_in, is_room}
-use Rattle.oneshot_drive.proofs.Receives.{has_message, full_freed, gone_freed, hand_back}
+use Rattle.oneshot_drive.proofs.Receives.{has_message, full_freed, gone, gone_freed, hand_back}
 use Rattle.oneshot_drive.proofs.blocking.recv.Goals as goal
 
+pub free-requires : goal.free-requires
+free-requires g c =
+    let none = gone (g.G.ReceiverGround.state c.find.new.g) c.find.result c.in_default.not-Message c.find.ensures.ends in
+    record { message = none.message; waker = none.waker }
+
 pub returns-in_default : goal.returns-in_default
-returns-in_default g c = record { run = gone_freed c.find.result c.in_default.not-Message (c.find.ensures.went by_value) c.free.ensures.list; stays = λ _. refl; hand = hand_back _ c.find.result c.find.ensures.ends c.find.ensures.hand }
+returns-in_default g c = record { run = gone_freed (gone _ c.find.result c.in_default.not-Message c.find.ensures.ends) (c.find.ensures.went by_value) c.free.ensures.list; stays = λ _. refl; hand = hand_back _ c.find.result c.find.ensures.ends c.find.ensures.hand }
 
 pub take_message-message-requires : goal.take_message-message-requires
 take_message-message-requires g c = (let ends = rw c.in-Message.is at c.find.ensures.ends in is_in (has_message ends.2).message)
