@@ -41,7 +41,7 @@ module _ {T W : Type 0} where
   refuses at leads s t = on (by_refusal (Goes (Future PollOwn)) s at leads) (by_own _ t refl refl)
 
   pub refused : {p : ReceiverPos} {l k z : Log T W} (c : Option W) → c ≡ None → Steps.Copy ≡ receiver_step p → receiver_row p (S.Refused true) ≡ Some (Goes (Future PollOwn)) → Grows l k (copied c ∷ []) → Grows k z (did Steps.WakeOwn ∷ []) → Went p (Answers R.Pending) l z
-  refused {l} {k} c none at leads s t = refuses at leads (subst (λ c. Grows l k (copied c ∷ [])) none s) t
+  refused {l} {k} c no_copy at leads s t = refuses at leads (subst (λ c. Grows l k (copied c ∷ [])) no_copy s) t
 
   pub copies : {p r : ReceiverPos} {l k : Log T W} (c : Option W) (y : W) → c ≡ Some y → Steps.Copy ≡ receiver_step p → receiver_row p (S.Refused false) ≡ Some (Goes r) → Grows l k (copied c ∷ []) → Went p (Goes r) l k
   copies {r} {l} {k} c y made at leads s = by_copy (Goes r) y (subst (λ c. Grows l k (copied c ∷ [])) made s) at leads
@@ -65,22 +65,21 @@ module _ {T W : Type 0} where
   pub left : {l k : Log T W} {m m' : Held T} {w w' : Held W} (n : ℕ) → ReceiverFinds (receiver_of l) (Exchange 3 0) n m w m' w' → Grows l k (worded (Exchange 3 0) n ∷ []) → OneOf receiver_of n (record { log = k; message = m'; waker = w' }) Left
   left {l} {m} {w} n made grows = one_of Left (leaves (receiver_of l)) (lands (record { log = l; message = m; waker = w }) (Exchange 3 0) n refl made grows)
 
-  module _ {s : State T W} {at : ReceiverAt} {slots : Slots} where
-    waits_with : Left 3 at slots → StandsWith receiver_of at slots s → EndsPoll F.Nothing s
-    waits_with left_copy is = record { at = waits polled; is_one = leaves_waiting; stands = is }
+  waits_with : {at : ReceiverAt} {slots : Slots} {s : State T W} → Left 3 at slots → StandsWith receiver_of at slots s → EndsPoll F.Nothing s
+  waits_with left_copy is = record { at = waits polled; is_one = leaves_waiting; stands = is }
 
-    full_with : Left 4 at slots → StandsWith receiver_of at slots s → StandsWith receiver_of (full by_poll) (filled, filled) s
-    full_with left_full is = is
+  full_with : {at : ReceiverAt} {slots : Slots} {s : State T W} → Left 4 at slots → StandsWith receiver_of at slots s → StandsWith receiver_of (full by_poll) (filled, filled) s
+  full_with left_full is = is
 
-    over_with : {n : ℕ} → Left n at slots → StandsWith receiver_of at slots s → ¬ (n ≡ 3) → ¬ (n ≡ 4) → Lone receiver_of n s (2, resolved found_closed, (empty, filled))
-    over_with left_copy is a b = absurd (a refl)
-    over_with left_full is a b = absurd (b refl)
-    over_with left_over is a b = record { word = refl; stands = is }
+  over_with : {n : ℕ} {at : ReceiverAt} {slots : Slots} {s : State T W} → Left n at slots → StandsWith receiver_of at slots s → ¬ (n ≡ 3) → ¬ (n ≡ 4) → Lone receiver_of n s (2, resolved found_closed, (empty, filled))
+  over_with left_copy is a b = absurd (a refl)
+  over_with left_full is a b = absurd (b refl)
+  over_with left_over is a b = record { word = refl; stands = is }
 
-    there_with : {n : ℕ} → Left n at slots → StandsWith receiver_of at slots s → ¬ (n ≡ 3) → IsSlot filled s.waker
-    there_with left_copy is a = absurd (a refl)
-    there_with left_full is a = is.waker
-    there_with left_over is a = is.waker
+  there_with : {n : ℕ} {at : ReceiverAt} {slots : Slots} {s : State T W} → Left n at slots → StandsWith receiver_of at slots s → ¬ (n ≡ 3) → IsSlot filled s.waker
+  there_with left_copy is a = absurd (a refl)
+  there_with left_full is a = is.waker
+  there_with left_over is a = is.waker
 
   module _ {n : ℕ} {s : State T W} (found : OneOf receiver_of n s Left) where
     left_with : (word : ℕ) → n ≡ word → Left word found.next found.after

@@ -58,6 +58,39 @@ meets kept_copy = ((met_copy, refl), ((met_sender, refl), ((met_message refl, re
 meets found_sender = ((met_sender, refl), ((met_message refl, refl), ((met_closed found_closed, refl), tt)))
 meets (has_resolved c) = ((met_closed c, refl), tt)
 
+-- the drop's load keeps it only where its copy is there, or the sender is about to finish
+ends_met : {n : ℕ} {at : ReceiverAt} → Met n at → ¬ (n ≡ 0) → ¬ (n ≡ 1) → Drops at × (receiver_row (Future AsyncLoad) (S.Word n) ≡ Some (Goes DropSwap))
+ends_met met_empty a b = (refl, refl)
+ends_met (met_message drops) a b = (drops, refl)
+ends_met (met_closed c) a b = (refl, refl)
+ends_met met_copy a b = absurd (a refl)
+ends_met met_sender a b = absurd (b refl)
+
+-- how a poll leaves the future
+leaves_taken : {T : Type 0} (g : Got) (x : T) → LeavesPolled (Ready (Ok x)) (receiver_next (full g) (Store 2) S.Done)
+leaves_taken at_once x = leaves_received x
+leaves_taken waited x = leaves_received x
+leaves_taken (swapped by) x = leaves_received x
+leaves_taken by_future x = leaves_resolved x
+leaves_taken by_poll x = leaves_resolved x
+
+pub taken_leaves : {T : Type 0} {at : ReceiverAt} (g : Got) (x : T) → at ≡ receiver_next (full g) (Store 2) S.Done → LeavesPolled (Ready (Ok x)) at
+taken_leaves g x is = subst (λ at. LeavesPolled (Ready (Ok x)) at) (sym is) (leaves_taken g x)
+
+pending_polled : {T : Type 0} {at : ReceiverAt} → LeavesPolled {T = T} Pending at → Polled at
+pending_polled leaves_uncopied = unpolled (rests_open looked)
+pending_polled leaves_waiting = left_copy
+pending_polled leaves_its_copy = kept_copy
+pending_polled leaves_claimed = found_sender
+
+closed_polled : {at : ReceiverAt} → IsClosed at → Polled at
+closed_polled (is_over c) = unpolled (rests_closed c)
+closed_polled (is_resolved c) = has_resolved c
+
+closed_leaves : {T : Type 0} {at : ReceiverAt} (e : RecvError) → IsClosed at → LeavesPolled {T = T} (Ready (Err e)) at
+closed_leaves e (is_over c) = leaves_over e c
+closed_leaves e (is_resolved c) = leaves_gone e c
+
 module _ {T W : Type 0} where
   open_met : {at : ReceiverAt} {s : State T W} → Met 3 at → Stands at s → Stands (here looked) s
   open_met met_empty stands = stands
@@ -77,14 +110,6 @@ module _ {T W : Type 0} where
   closed_met (met_message drops) stands a b c d = absurd (c refl)
   closed_met met_sender stands a b c d = absurd (d refl)
   closed_met (met_closed k) stands a b c d = (refl, record { at = over k; is_one = is_over k; stands = stands })
-
-  -- the drop's load keeps it only where its copy is there, or the sender is about to finish
-  ends_met : {n : ℕ} {at : ReceiverAt} → Met n at → ¬ (n ≡ 0) → ¬ (n ≡ 1) → Drops at × (receiver_row (Future AsyncLoad) (S.Word n) ≡ Some (Goes DropSwap))
-  ends_met met_empty a b = (refl, refl)
-  ends_met (met_message drops) a b = (drops, refl)
-  ends_met (met_closed c) a b = (refl, refl)
-  ends_met met_copy a b = absurd (a refl)
-  ends_met met_sender a b = absurd (b refl)
 
   pub meet_asks : {s : State T W} → IsPolled s → ReceiverAsks Load s
   meet_asks is = asks Load is.stands (polled_loads is.is_one)
@@ -128,26 +153,10 @@ module _ {T W : Type 0} where
   taken_rests by_future is = record { at = resolved closed_itself; is_one = has_resolved closed_itself; stands = is }
   taken_rests by_poll is = record { at = resolved closed_itself; is_one = has_resolved closed_itself; stands = is }
 
-  leaves_taken : (g : Got) (x : T) → LeavesPolled (Ready (Ok x)) (receiver_next (full g) (Store 2) S.Done)
-  leaves_taken at_once x = leaves_received x
-  leaves_taken waited x = leaves_received x
-  leaves_taken (swapped by) x = leaves_received x
-  leaves_taken by_future x = leaves_resolved x
-  leaves_taken by_poll x = leaves_resolved x
-
-  pub taken_leaves : {at : ReceiverAt} (g : Got) (x : T) → at ≡ receiver_next (full g) (Store 2) S.Done → LeavesPolled (Ready (Ok x)) at
-  taken_leaves g x is = subst (λ at. LeavesPolled (Ready (Ok x)) at) (sym is) (leaves_taken g x)
-
   pub poll_ran : {l k j z : Log T W} (n : ℕ) (x : T) → Went (Future PollLoad) (Goes Close) l k → Grows k j (worded (Store 2) n ∷ []) → Grows j z (took x ∷ []) → ReceiverRan C.Poll l z R.Message [] (x ∷ [])
   poll_ran n x went s t = ran went (worded (Store 2) n ∷ took x ∷ []) (more Take _ _ refl refl (last _ refl refl)) (and_then (worded (Store 2) n ∷ []) _ s t) refl refl
 
   -- or leaves the future open
-  pending_polled : {at : ReceiverAt} → LeavesPolled {T = T} Pending at → Polled at
-  pending_polled leaves_uncopied = unpolled (rests_open looked)
-  pending_polled leaves_waiting = left_copy
-  pending_polled leaves_its_copy = kept_copy
-  pending_polled leaves_claimed = found_sender
-
   pub pending_rests : {s : State T W} → EndsPoll F.Nothing s → IsPolled s
   pending_rests ends = record { at = ends.at; is_one = pending_polled ends.is_one; stands = ends.stands }
 
@@ -155,16 +164,8 @@ module _ {T W : Type 0} where
   pending_leaves ends = subst (λ at. LeavesPolled {T = T} Pending at) (sym ends.stands.phase) ends.is_one
 
   -- or finds it closed
-  closed_polled : {at : ReceiverAt} → IsClosed at → Polled at
-  closed_polled (is_over c) = unpolled (rests_closed c)
-  closed_polled (is_resolved c) = has_resolved c
-
   pub gone_rests : {s : State T W} → StandsIn IsClosed s → IsPolled s
   gone_rests is = record { at = is.at; is_one = closed_polled is.is_one; stands = is.stands }
-
-  closed_leaves : {at : ReceiverAt} (e : RecvError) → IsClosed at → LeavesPolled {T = T} (Ready (Err e)) at
-  closed_leaves e (is_over c) = leaves_over e c
-  closed_leaves e (is_resolved c) = leaves_gone e c
 
   pub gone_leaves : {s : State T W} (e : RecvError) → StandsIn IsClosed s → LeavesPolled {T = T} (Ready (Err e)) (receiver_of s.log)
   gone_leaves e is = subst (λ at. LeavesPolled {T = T} (Ready (Err e)) at) (sym is.stands.phase) (closed_leaves e is.is_one)

@@ -29,8 +29,8 @@ abbrev pub Ends : ReceiverPos → ℕ → ReceiverAt → Slots → Type 0
 Ends p n next after = (has_row (Swap 2) after (receiver_moves next) ≡ true) × (receiver_row p (S.Word n) ≡ Some (Goes DropSwap))
 
 module _ {T W : Type 0} where
-  pub end_asks : {p : ReceiverPos} {n : ℕ} {s : State T W} → OneOf receiver_of n s (Ends p) → ReceiverAsks (Swap 2) s
-  end_asks found = asks (Swap 2) found.stands found.is_so.0
+  pub end_asks : (p : ReceiverPos) {n : ℕ} {s : State T W} → OneOf receiver_of n s (Ends p) → ReceiverAsks (Swap 2) s
+  end_asks p found = asks (Swap 2) found.stands found.is_so.0
 
   -- a load while the sender is about to finish
   pub spun : {b a : State T W} (n : ℕ) → Stands claimed b → ReceiverMakes Load n b a → Grows b.log a.log (worded Load n ∷ []) → Lands receiver_of n a (landings Load (receiver_moves claimed))

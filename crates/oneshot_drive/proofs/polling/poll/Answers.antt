@@ -40,13 +40,13 @@ pub returns-in-Nothing-clause-leaves : goal.returns-in-Nothing-clause-leaves
 returns-in-Nothing-clause-leaves g c = pending_leaves (rw c.in-Nothing.is at c.meet.ensures.ends)
 
 pub returns-in_default-clause-run : goal.returns-in_default-clause-run
-returns-in_default-clause-run g c = whole (rw (gone _ c.meet.result c.meet.ensures.ends c.in_default.not-Message c.in_default.not-Nothing).0 at c.meet.ensures.went)
+returns-in_default-clause-run g c = whole (rw (gone (g.G.ReceiverGround.state c.meet.new.g) c.meet.result c.meet.ensures.ends c.in_default.not-Message c.in_default.not-Nothing).0 at c.meet.ensures.went)
 
 pub returns-in_default-clause-rests : goal.returns-in_default-clause-rests
-returns-in_default-clause-rests g c = gone_rests (gone _ c.meet.result c.meet.ensures.ends c.in_default.not-Message c.in_default.not-Nothing).1
+returns-in_default-clause-rests g c = gone_rests (gone (g.G.ReceiverGround.state c.meet.new.g) c.meet.result c.meet.ensures.ends c.in_default.not-Message c.in_default.not-Nothing).1
 
 pub returns-in_default-clause-leaves : goal.returns-in_default-clause-leaves
-returns-in_default-clause-leaves g c = gone_leaves _ (gone _ c.meet.result c.meet.ensures.ends c.in_default.not-Message c.in_default.not-Nothing).1
+returns-in_default-clause-leaves g c = gone_leaves _ (gone (g.G.ReceiverGround.state c.meet.new.g) c.meet.result c.meet.ensures.ends c.in_default.not-Message c.in_default.not-Nothing).1
 
 pub returns-in_default-clause-stays : goal.returns-in_default-clause-stays
 returns-in_default-clause-stays g c is_closed = is_disconnected _

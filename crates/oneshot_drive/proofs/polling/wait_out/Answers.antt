@@ -17,7 +17,7 @@ pub returns-then-word-ne-UNPARKING-clause-went : goal.returns-then-word-ne-UNPAR
 returns-then-word-ne-UNPARKING-clause-went g c = spun_out c.word.result (spun_end (spun c.word.result c.loop.invariant.spins c.word.ensures.finds c.word.ensures.list) c.if-word-ne-UNPARKING.true) c.loop.invariant.went c.word.ensures.list
 
 pub returns-then-word-ne-UNPARKING-clause-ends : goal.returns-then-word-ne-UNPARKING-clause-ends
-returns-then-word-ne-UNPARKING-clause-ends g c = end_asks (spun_end (spun c.word.result c.loop.invariant.spins c.word.ensures.finds c.word.ensures.list) c.if-word-ne-UNPARKING.true)
+returns-then-word-ne-UNPARKING-clause-ends g c = end_asks (Future AsyncSpin) (spun_end (spun c.word.result c.loop.invariant.spins c.word.ensures.finds c.word.ensures.list) c.if-word-ne-UNPARKING.true)
 
 pub loop-preserved : goal.loop-preserved
 loop-preserved g c =
