@@ -97,7 +97,7 @@ module _ {T W : Type 0} where
     -- once the copy is taken back
     module _ {z : State T W} {k : W} (back : Grows s.log z.log (handed Steps.Withdraw k ∷ [])) (message : z.message ≡ s.message) (waker : z.waker ≡ vacant) where
       pub withdrew_full : n ≡ 4 → EndsPoll F.Message z
-      withdrew_full e = (by_poll, withdrew_waker (full_with (left_with 4 e) found.stands) back message waker)
+      withdrew_full e = (by_poll, refl, withdrew_waker (full_with (left_with 4 e) found.stands) back message waker)
 
       pub withdrew_over : ¬ (n ≡ 3) → ¬ (n ≡ 4) → EndsPoll F.Closed z
       withdrew_over a b = record { at = resolved found_closed; is_one = is_resolved found_closed; stands = withdrew_waker (over_with found.is_so found.stands a b).stands back message waker }
@@ -129,7 +129,7 @@ module _ {T W : Type 0} where
     backed_sender e = (lone (at_word 1 e found)).stands
 
     pub backed_full : n ≡ 4 → EndsPoll F.Message s
-    backed_full e = (by_future, (lone (at_word 4 e found)).stands)
+    backed_full e = (by_future, refl, (lone (at_word 4 e found)).stands)
 
     pub backed_none : n ≡ 2 → EndsPoll F.Closed s
     backed_none e = record { at = over found_closed; is_one = is_over found_closed; stands = (lone (at_word 2 e found)).stands }

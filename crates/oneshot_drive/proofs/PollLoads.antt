@@ -13,7 +13,7 @@ use Rattle.oneshot_machine.specs.declared.machine.future.FuturePos.TheVariants.{
 use Rattle.oneshot_machine.specs.declared.machine.receiver.ReceiverStart.TheVariants as C
 use Rattle.oneshot_machine.specs.declared.states.Op.TheVariants.{Load, Store, Swap}
 use Rattle.oneshot_machine.specs.Logs.{Log, Grows, receiver_of, took, worded}
-use Rattle.oneshot_machine.specs.Phases.{ReceiverAt, here, looked, between, first, waits, polled, again, claimed, full, Got, at_once, waited, swapped, by_future, by_poll, Closing, found_closed, closed_itself, over, resolved, receiver_next, receiver_moves, empty}
+use Rattle.oneshot_machine.specs.Phases.{ReceiverAt, here, looked, between, first, waits, polled, again, claimed, full, Got, at_once, waited, swapped, by_future, by_poll, Closing, found_closed, closed_itself, over, resolved, receiver_next, receiver_moves, empty, word_of}
 use Rattle.oneshot_machine.specs.Receiver.{receiver_step, receiver_row}
 use Rattle.oneshot_machine.specs.Rows.{Outcome, Goes}
 use Rattle.oneshot_machine.specs.Runs.{last, more, ReceiverRan}
@@ -43,25 +43,25 @@ Drops at = has_row (Swap 2) (receiver_slots at) (receiver_moves at) ≡ true
 -- the word that its load finds, and where that leads
 pub data Met : ℕ → ReceiverAt → Type 0 where
   met_empty : Met 3 (here looked)
-  met_message : {g : Got} → Drops (full g) → Met 4 (full g)
+  met_message : {g : Got} → word_of g ≡ 4 → Drops (full g) → Met 4 (full g)
   met_closed : (c : Closing) → Met 2 (over c)
   met_copy : Met 0 (waits again)
   met_sender : Met 1 claimed
 
 meets : {at : ReceiverAt} → Polled at → Each (λ n next after. Met n next × (after ≡ receiver_slots next)) (landings Load (receiver_moves at))
-meets (unpolled rests_new) = ((met_empty, refl), ((met_message refl, refl), ((met_closed found_closed, refl), tt)))
-meets (unpolled (rests_open looked)) = ((met_empty, refl), ((met_message refl, refl), ((met_closed found_closed, refl), tt)))
-meets (unpolled (rests_open between)) = ((met_empty, refl), ((met_message refl, refl), ((met_closed found_closed, refl), tt)))
+meets (unpolled rests_new) = ((met_empty, refl), ((met_message refl refl, refl), ((met_closed found_closed, refl), tt)))
+meets (unpolled (rests_open looked)) = ((met_empty, refl), ((met_message refl refl, refl), ((met_closed found_closed, refl), tt)))
+meets (unpolled (rests_open between)) = ((met_empty, refl), ((met_message refl refl, refl), ((met_closed found_closed, refl), tt)))
 meets (unpolled (rests_closed c)) = ((met_closed c, refl), tt)
-meets left_copy = ((met_copy, refl), ((met_sender, refl), ((met_message refl, refl), ((met_closed found_closed, refl), tt))))
-meets kept_copy = ((met_copy, refl), ((met_sender, refl), ((met_message refl, refl), ((met_closed found_closed, refl), tt))))
-meets found_sender = ((met_sender, refl), ((met_message refl, refl), ((met_closed found_closed, refl), tt)))
+meets left_copy = ((met_copy, refl), ((met_sender, refl), ((met_message refl refl, refl), ((met_closed found_closed, refl), tt))))
+meets kept_copy = ((met_copy, refl), ((met_sender, refl), ((met_message refl refl, refl), ((met_closed found_closed, refl), tt))))
+meets found_sender = ((met_sender, refl), ((met_message refl refl, refl), ((met_closed found_closed, refl), tt)))
 meets (has_resolved c) = ((met_closed c, refl), tt)
 
 -- the drop's load keeps it only where its copy is there, or the sender is about to finish
 ends_met : {n : ℕ} {at : ReceiverAt} → Met n at → ¬ (n ≡ 0) → ¬ (n ≡ 1) → Drops at × (receiver_row (Future AsyncLoad) (S.Word n) ≡ Some (Goes DropSwap))
 ends_met met_empty a b = (refl, refl)
-ends_met (met_message drops) a b = (drops, refl)
+ends_met (met_message word drops) a b = (drops, refl)
 ends_met (met_closed c) a b = (refl, refl)
 ends_met met_copy a b = absurd (a refl)
 ends_met met_sender a b = absurd (b refl)
@@ -102,12 +102,12 @@ module _ {T W : Type 0} where
   sender_met met_sender stands = stands
 
   full_met : {at : ReceiverAt} {s : State T W} → Met 4 at → Stands at s → EndsPoll F.Message s
-  full_met (met_message {g} drops) stands = (g, stands)
+  full_met (met_message {g} word drops) stands = (g, word, stands)
 
   closed_met : {n : ℕ} {at : ReceiverAt} {s : State T W} → Met n at → Stands at s → ¬ (n ≡ 3) → ¬ (n ≡ 0) → ¬ (n ≡ 4) → ¬ (n ≡ 1) → (n ≡ 2) × EndsPoll F.Closed s
   closed_met met_empty stands a b c d = absurd (a refl)
   closed_met met_copy stands a b c d = absurd (b refl)
-  closed_met (met_message drops) stands a b c d = absurd (c refl)
+  closed_met (met_message word drops) stands a b c d = absurd (c refl)
   closed_met met_sender stands a b c d = absurd (d refl)
   closed_met (met_closed k) stands a b c d = (refl, record { at = over k; is_one = is_over k; stands = stands })
 

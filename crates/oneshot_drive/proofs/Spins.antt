@@ -38,7 +38,7 @@ module _ {T W : Type 0} where
 
   module _ {n : ℕ} {s : State T W} (found : Lands receiver_of n s (landings Load (receiver_moves claimed))) where
     pub spun_full : n ≡ 4 → EndsPoll F.Message s
-    spun_full e = (by_future, (lone (at_word 4 e found)).stands)
+    spun_full e = (by_future, refl, (lone (at_word 4 e found)).stands)
 
     pub spun_over : n ≡ 2 → EndsPoll F.Closed s
     spun_over e = record { at = over found_closed; is_one = is_over found_closed; stands = (lone (at_word 2 e found)).stands }

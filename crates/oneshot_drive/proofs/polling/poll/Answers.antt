@@ -7,10 +7,10 @@ use Rattle.oneshot_drive.proofs.OwnCopies.{then_word, then_took}
 use Rattle.oneshot_drive.proofs.polling.poll.Goals as goal
 
 pub word-requires : goal.word-requires
-word-requires g c = let ends = rw c.in-Message.is at c.meet.ensures.ends in full_asks ends.1
+word-requires g c = let ends = rw c.in-Message.is at c.meet.ensures.ends in full_asks ends.2
 
 pub take_message-requires : goal.take_message-requires
-take_message-requires g c = let ends = rw c.in-Message.is at c.meet.ensures.ends in is_in (closed_over c.word.result ends.1 c.word.ensures.finds c.word.ensures.list).message
+take_message-requires g c = let ends = rw c.in-Message.is at c.meet.ensures.ends in is_in (closed_over c.word.result ends.2 c.word.ensures.finds c.word.ensures.list).message
 
 pub returns-in-Message-clause-run : goal.returns-in-Message-clause-run
 returns-in-Message-clause-run g c = poll_ran c.word.result c.take_message.result (rw c.in-Message.is at c.meet.ensures.went) c.word.ensures.list c.take_message.ensures.list
@@ -18,12 +18,12 @@ returns-in-Message-clause-run g c = poll_ran c.word.result c.take_message.result
 pub returns-in-Message-clause-rests : goal.returns-in-Message-clause-rests
 returns-in-Message-clause-rests g c =
     let ends = rw c.in-Message.is at c.meet.ensures.ends in
-    taken_rests ends.0 (took_message (closed_over c.word.result ends.1 c.word.ensures.finds c.word.ensures.list) c.take_message.ensures.list c.take_message.ensures.message c.take_message.ensures.waker)
+    taken_rests ends.0 (took_message (closed_over c.word.result ends.2 c.word.ensures.finds c.word.ensures.list) c.take_message.ensures.list c.take_message.ensures.message c.take_message.ensures.waker)
 
 pub returns-in-Message-clause-leaves : goal.returns-in-Message-clause-leaves
 returns-in-Message-clause-leaves g c =
     let ends = rw c.in-Message.is at c.meet.ensures.ends in
-    taken_leaves ends.0 c.take_message.result (took_message (closed_over c.word.result ends.1 c.word.ensures.finds c.word.ensures.list) c.take_message.ensures.list c.take_message.ensures.message c.take_message.ensures.waker).phase
+    taken_leaves ends.0 c.take_message.result (took_message (closed_over c.word.result ends.2 c.word.ensures.finds c.word.ensures.list) c.take_message.ensures.list c.take_message.ensures.message c.take_message.ensures.waker).phase
 
 pub returns-in-Message-clause-keeps : goal.returns-in-Message-clause-keeps
 returns-in-Message-clause-keeps g c =
