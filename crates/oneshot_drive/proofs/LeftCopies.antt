@@ -1,5 +1,5 @@
 -- What a poll does to leave a copy of its waker: the copy in the slot, its exchange, and that of an earlier copy.
-use Rattle.std.proofs.Common.{◌≡◌, ℕ, Bool, true, false, [], ◌∷◌, Option, Some, None, refl, sym, ap, ◌∙◌, subst}
+use Rattle.std.proofs.Common.{◌≡◌, ℕ, true, false, [], ◌∷◌, Option, Some, None, refl, sym, ap, ◌∙◌, subst}
 use Rattle.futures.specs.declared.task.Poll.TheVariants.{Pending}
 use Rattle.oneshot_drive.specs.declared.waiting.Found.{Found}
 use Rattle.oneshot_drive.specs.declared.waiting.Found.TheVariants as F
@@ -18,7 +18,7 @@ use Rattle.oneshot_machine.specs.Slots.{Held, vacant, held, IsSlot, is_held, Rec
 use Rattle.oneshot_drive.specs.Grounds.{State, StandsWith, Stands, ReceiverMakes}
 use Rattle.oneshot_drive.specs.Blocking.{Went}
 use Rattle.oneshot_drive.specs.BetweenCalls.{is_over, is_resolved}
-use Rattle.oneshot_drive.specs.Polls.{LeavesPolled, leaves_uncopied, leaves_waiting, leaves_its_copy, leaves_claimed, poll_end, EndsPoll, MayLeave}
+use Rattle.oneshot_drive.specs.Polls.{LeavesPolled, leaves_waiting, poll_end, EndsPoll, MayLeave}
 use Rattle.oneshot_drive.proofs.AfterOperations.{is_room, has_row, Each, landings, Lands, Lone, lone, OneOf, one_of, at_word, not_at, asks, lands, still, stands_on, withdrew_waker}
 use Rattle.oneshot_drive.proofs.Stretches.{on, by_word, by_write, by_withdraw, by_copy, by_refusal, by_own}
 

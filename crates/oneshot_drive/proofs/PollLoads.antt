@@ -1,5 +1,5 @@
 -- What a future between two calls finds by its load, and the run of a poll.
-use Rattle.std.proofs.Common.{◌≡◌, ℕ, Bool, true, false, [], ◌∷◌, Some, Ok, Err, refl, sym, ap, ◌∙◌, subst}
+use Rattle.std.proofs.Common.{◌≡◌, ℕ, true, [], ◌∷◌, Some, Ok, Err, refl, sym, ap, ◌∙◌, subst}
 use Rattle.futures.specs.declared.task.Poll.TheVariants.{Ready, Pending}
 use Rattle.oneshot_errors.specs.declared.recv.RecvError.{RecvError}
 use Rattle.oneshot_drive.specs.declared.waiting.Found.{Found}
@@ -13,7 +13,7 @@ use Rattle.oneshot_machine.specs.declared.machine.future.FuturePos.TheVariants.{
 use Rattle.oneshot_machine.specs.declared.machine.receiver.ReceiverStart.TheVariants as C
 use Rattle.oneshot_machine.specs.declared.states.Op.TheVariants.{Load, Store, Swap}
 use Rattle.oneshot_machine.specs.Logs.{Log, Grows, receiver_of, took, worded}
-use Rattle.oneshot_machine.specs.Phases.{ReceiverAt, here, looked, between, first, waits, polled, again, claimed, full, Got, at_once, waited, swapped, by_future, by_poll, Closing, found_closed, closed_itself, over, resolved, receiver_next, receiver_moves, empty, word_of}
+use Rattle.oneshot_machine.specs.Phases.{ReceiverAt, here, looked, between, waits, again, claimed, full, Got, at_once, waited, swapped, by_future, by_poll, Closing, found_closed, closed_itself, over, resolved, receiver_next, receiver_moves, empty, word_of}
 use Rattle.oneshot_machine.specs.Receiver.{receiver_step, receiver_row}
 use Rattle.oneshot_machine.specs.Rows.{Outcome, Goes}
 use Rattle.oneshot_machine.specs.Runs.{last, more, ReceiverRan}

@@ -1,5 +1,5 @@
 -- What a receiver between two calls finds by its load, and the runs of `try_recv`.
-use Rattle.std.proofs.Common.{◌≡◌, ℕ, Bool, true, false, [], ◌∷◌, Some, Ok, Err, refl, sym, ◌∙◌, subst}
+use Rattle.std.proofs.Common.{◌≡◌, ℕ, true, false, [], ◌∷◌, Ok, Err, refl, sym, ◌∙◌, subst}
 use Rattle.std.specs.Prelude.{◌==◌}
 use Rattle.std.proofs.lemmas.Bool.{eq-eqb}
 use Rattle.oneshot_errors.specs.declared.try_recv.TryRecvError.TheVariants as E
@@ -8,14 +8,14 @@ use Rattle.oneshot_machine.specs.declared.machine.receiver.ReceiverPos.TheVarian
 use Rattle.oneshot_machine.specs.declared.machine.receiver.ReceiverStart.TheVariants.{TryRecv}
 use Rattle.oneshot_machine.specs.declared.states.Op.TheVariants.{Load, Store, Swap}
 use Rattle.oneshot_machine.specs.Logs.{Log, Grows, receiver_of, took, worded}
-use Rattle.oneshot_machine.specs.Phases.{ReceiverAt, first, here, looked, between, full, at_once, Closing, found_closed, closed_itself, over, receiver_moves, empty, filled}
+use Rattle.oneshot_machine.specs.Phases.{ReceiverAt, here, looked, between, full, at_once, Closing, found_closed, closed_itself, over, receiver_moves, empty, filled}
 use Rattle.oneshot_machine.specs.Runs.{last, more, ReceiverRan}
 use Rattle.oneshot_machine.specs.Slots.{Held, ReceiverFinds}
 use Rattle.oneshot_machine.specs.Words.{is_same_op}
 use Rattle.oneshot_machine.proofs.GrownLists.{and_then}
 use Rattle.oneshot_drive.specs.Grounds.{State, StandsWith, Stands, receiver_slots, ReceiverAsks, ReceiverMakes}
 use Rattle.oneshot_drive.specs.BetweenCalls.{Rests, rests_new, rests_open, rests_closed, AtRest, IsClosed, is_over, is_resolved, Leaves, leaves_received, leaves_open, leaves_closed}
-use Rattle.oneshot_drive.proofs.AfterOperations.{has_row, Each, landings, found_so, Lone, lone, Came, came, asks, lands}
+use Rattle.oneshot_drive.proofs.AfterOperations.{has_row, Each, landings, found_so, lone, Came, came, asks, lands}
 
 -- it may load, and may be dropped
 rests_load : {at : ReceiverAt} → Rests at → has_row Load (receiver_slots at) (receiver_moves at) ≡ true

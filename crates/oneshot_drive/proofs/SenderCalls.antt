@@ -8,7 +8,7 @@ use Rattle.oneshot_machine.specs.declared.machine.sender.SenderPos.TheVariants.{
 use Rattle.oneshot_machine.specs.declared.states.Op.{Op}
 use Rattle.oneshot_machine.specs.declared.states.Op.TheVariants.{Swap, Add, Xor}
 use Rattle.oneshot_machine.specs.Logs.{Log, Grows, sender_of, did, wrote, took, handed, worded}
-use Rattle.oneshot_machine.specs.Phases.{By, sending, dropping, SenderAt, fresh, owes, finished, late, no_sender, sender_moves, Share, none, empty, filled, Slots}
+use Rattle.oneshot_machine.specs.Phases.{By, sending, dropping, SenderAt, fresh, owes, late, sender_moves, Share, none, empty, filled, Slots}
 use Rattle.oneshot_machine.specs.Rows.{Goes}
 use Rattle.oneshot_machine.specs.Runs.{last, more, SenderRan}
 use Rattle.oneshot_machine.specs.Sender.{sender_row}
@@ -16,7 +16,7 @@ use Rattle.oneshot_machine.specs.Slots.{Held, vacant, held, is_vacant, SenderMay
 use Rattle.oneshot_machine.proofs.GrownLists.{and_then}
 use Rattle.oneshot_drive.specs.Grounds.{State, StandsWith, SenderMakes}
 use Rattle.oneshot_drive.specs.BetweenCalls.{IsFresh, IsError, IsLate, is_late, Owes, finishing, LastFinds, finds_waiting, finds_overdue, Finishes}
-use Rattle.oneshot_drive.proofs.AfterOperations.{is_in, is_room, put_in, as_before, has_row, Landing, landings_of, Each, found_so, Lone, lone, at_word, not_at, sender_asks, sender_lands, sender_still}
+use Rattle.oneshot_drive.proofs.AfterOperations.{is_in, is_room, put_in, as_before, has_row, landings_of, Each, found_so, Lone, lone, at_word, not_at, sender_asks, sender_lands, sender_still}
 
 -- after its last operation a sender wakes
 send_final : {n : ℕ} → LastFinds n → sender_row SendFinal (S.Word n) ≡ Some (Goes SendWake)

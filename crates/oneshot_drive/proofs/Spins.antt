@@ -1,5 +1,5 @@
 -- How a poll and the drop of a future wait for a sender that is about to finish, and how the drop takes a copy back.
-use Rattle.std.proofs.Common.{◌≡◌, ℕ, Bool, true, false, [], ◌∷◌, Some, refl, sym, ap, ◌∙◌, subst}
+use Rattle.std.proofs.Common.{◌≡◌, ℕ, true, [], ◌∷◌, Some, refl}
 use Rattle.oneshot_drive.specs.declared.waiting.Found.TheVariants as F
 use Rattle.oneshot_machine.specs.declared.machine.Reply.TheVariants as R
 use Rattle.oneshot_machine.specs.declared.machine.Seen.TheVariants as S
@@ -10,12 +10,12 @@ use Rattle.oneshot_machine.specs.declared.machine.future.FuturePos.TheVariants.{
 use Rattle.oneshot_machine.specs.declared.machine.receiver.ReceiverStart.TheVariants as C
 use Rattle.oneshot_machine.specs.declared.states.Op.TheVariants.{Load, Swap, Exchange}
 use Rattle.oneshot_machine.specs.Logs.{Log, Grows, receiver_of, handed, worded}
-use Rattle.oneshot_machine.specs.Phases.{ReceiverAt, waits, again, claimed, withdrew, by_future, found_closed, over, receiver_moves, none, filled, Slots}
+use Rattle.oneshot_machine.specs.Phases.{ReceiverAt, waits, again, claimed, withdrew, by_future, found_closed, over, receiver_moves, none, Slots}
 use Rattle.oneshot_machine.specs.Receiver.{receiver_step, receiver_row}
 use Rattle.oneshot_machine.specs.Rows.{Outcome, Goes}
 use Rattle.oneshot_machine.specs.Runs.{Ran, ReceiverRan}
 use Rattle.oneshot_machine.specs.Slots.{vacant}
-use Rattle.oneshot_drive.specs.Grounds.{State, StandsWith, Stands, ReceiverAsks, ReceiverMakes}
+use Rattle.oneshot_drive.specs.Grounds.{State, Stands, ReceiverAsks, ReceiverMakes}
 use Rattle.oneshot_drive.specs.Blocking.{Went}
 use Rattle.oneshot_drive.specs.BetweenCalls.{is_over}
 use Rattle.oneshot_drive.specs.Polls.{EndsPoll}

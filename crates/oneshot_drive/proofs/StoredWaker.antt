@@ -7,7 +7,7 @@ use Rattle.oneshot_machine.specs.declared.machine.receiver.ReceiverPos.{Receiver
 use Rattle.oneshot_machine.specs.declared.machine.receiver.ReceiverPos.TheVariants.{StartSwap, BackFull, BackClosed, RecvSwap, RecvBackFull, RecvBackClosed}
 use Rattle.oneshot_machine.specs.declared.states.Op.TheVariants.{Load, Swap}
 use Rattle.oneshot_machine.specs.Logs.{Log, Grows, receiver_of, handed, worded}
-use Rattle.oneshot_machine.specs.Phases.{ReceiverAt, here, looked, waits, blocked, full, swapped, storing, unclosed, receiver_moves, none, empty, filled}
+use Rattle.oneshot_machine.specs.Phases.{ReceiverAt, here, looked, waits, blocked, swapped, storing, unclosed, receiver_moves, none, empty, filled}
 use Rattle.oneshot_machine.specs.Rows.{Outcome, Goes}
 use Rattle.oneshot_machine.specs.Slots.{Held, vacant, held, IsSlot, ReceiverFinds}
 use Rattle.oneshot_drive.specs.Grounds.{State, StandsWith, Stands, ReceiverMakes}

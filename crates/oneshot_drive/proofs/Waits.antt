@@ -8,12 +8,11 @@ use Rattle.oneshot_machine.specs.declared.machine.receiver.ReceiverPos.{Receiver
 use Rattle.oneshot_machine.specs.declared.machine.receiver.ReceiverPos.TheVariants.{Park, ParkLoad, Clock, TimedLoad, EndSwap, EndBack, LatePark, LateLoad, RecvPark, RecvParkLoad}
 use Rattle.oneshot_machine.specs.declared.states.Op.TheVariants.{Load, Swap}
 use Rattle.oneshot_machine.specs.Logs.{Log, Grows, receiver_of, handed, parked, clocked, worded}
-use Rattle.oneshot_machine.specs.Phases.{ReceiverAt, here, between, waits, blocked, overdue, full, waited, swapped, stopping, unclosed, found_closed, over, receiver_moves, none, filled}
+use Rattle.oneshot_machine.specs.Phases.{ReceiverAt, here, between, waits, blocked, overdue, waited, swapped, stopping, found_closed, receiver_moves, none, filled}
 use Rattle.oneshot_machine.specs.Receiver.{receiver_row, receiver_rows, receiver_step}
 use Rattle.oneshot_machine.specs.Rows.{Outcome, Goes, row_for}
 use Rattle.oneshot_machine.specs.Slots.{vacant}
-use Rattle.oneshot_machine.specs.Words.{saw}
-use Rattle.oneshot_drive.specs.Grounds.{State, StandsWith, Stands, receiver_slots, ReceiverMakes}
+use Rattle.oneshot_drive.specs.Grounds.{State, StandsWith, Stands, ReceiverMakes}
 use Rattle.oneshot_drive.specs.Blocking.{Went, Way, by_ref, by_value, wait_of, asked_of, ref_end, end_of, EndsAt, Parks, parks_waiting, parks_overdue}
 use Rattle.oneshot_drive.proofs.AfterOperations.{landings, Lands, Lone, lone, at_word, not_at, Came, came, lands, withdrew_waker}
 use Rattle.oneshot_drive.proofs.Stretches.{on, begun, by_word, by_withdraw, by_park, by_clock}
