@@ -30,19 +30,21 @@ pub use Rattle.oneshot_machine.specs.declared.machine.sender.SenderCall
 pub use Rattle.oneshot_replay.specs.Rest
 pub use Rattle.oneshot_replay.specs.Told
 pub use Rattle.oneshot_replay.specs.declared.rest.Rest as RestOf
-pub use Rattle.oneshot_world.specs.Calls as Scripts
+pub use Rattle.oneshot_world.specs.Calls as ScriptCalls
+pub use Rattle.oneshot_world.specs.Scripts
 pub use Rattle.oneshot_world.specs.Ahead
+pub use Rattle.oneshot_world.specs.Effects
 pub use Rattle.oneshot_world.specs.State
 pub use Rattle.oneshot_world.specs.World
+pub use Rattle.oneshot_laws.specs.Actions
 pub use Rattle.oneshot_laws.specs.Alone
 pub use Rattle.oneshot_laws.specs.Ended
 pub use Rattle.oneshot_laws.specs.History
 pub use Rattle.oneshot_laws.specs.Holders
 pub use Rattle.oneshot_laws.specs.Idle
-pub use Rattle.oneshot_laws.specs.Laws
 pub use Rattle.oneshot_laws.specs.Marks
+pub use Rattle.oneshot_laws.specs.MessagePlaces
 pub use Rattle.oneshot_laws.specs.Object
-pub use Rattle.oneshot_laws.specs.Places
-pub use Rattle.oneshot_laws.specs.Steps
+pub use Rattle.oneshot_laws.specs.Replies
 pub use Rattle.oneshot_laws.specs.Unwoken
-pub use Rattle.oneshot_laws.specs.Wakers
+pub use Rattle.oneshot_laws.specs.WakerPlaces

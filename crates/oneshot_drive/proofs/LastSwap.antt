@@ -2,7 +2,8 @@
 use Rattle.std.proofs.Common.{◌≡◌, ℕ, [], ◌∷◌, refl, subst}
 use Rattle.oneshot_machine.specs.declared.machine.Reply.TheVariants as R
 use Rattle.oneshot_machine.specs.declared.machine.Step.TheVariants as Steps
-use Rattle.oneshot_machine.specs.declared.machine.receiver.ReceiverPos.TheVariants.{DropMessage, DropFree}
+use Rattle.oneshot_machine.specs.declared.machine.receiver.ReceiverPos.TheVariants.{Drop as Drop_at}
+use Rattle.oneshot_machine.specs.declared.machine.drop.DropPos.TheVariants.{DropMessage, DropFree}
 use Rattle.oneshot_machine.specs.declared.machine.receiver.ReceiverStart.TheVariants.{Drop}
 use Rattle.oneshot_machine.specs.declared.states.Op.TheVariants.{Swap}
 use Rattle.oneshot_machine.specs.Logs.{Log, Grows, did, worded}
@@ -58,7 +59,7 @@ module _ {T W : Type 0} where
   dropped_message n e s t u =
       record {
         run = worded (Swap 2) n ∷ did Steps.DropMessage ∷ did Steps.Free ∷ [];
-        is_run = more DropMessage _ _ refl (rw e) (more DropFree _ _ refl refl (last _ refl refl));
+        is_run = more (Drop_at DropMessage) _ _ refl (rw e) (more (Drop_at DropFree) _ _ refl refl (last _ refl refl));
         grows = and_then (worded (Swap 2) n ∷ []) _ s (and_then (did Steps.DropMessage ∷ []) _ t u);
         gives = refl;
         gets = refl;
@@ -68,4 +69,4 @@ module _ {T W : Type 0} where
   dropped_open n e s = record { run = worded (Swap 2) n ∷ []; is_run = last _ refl (rw e); grows = s; gives = refl; gets = refl }
 
   pub dropped_last : {l k j : Log T W} (n : ℕ) → n ≡ 2 → Grows l k (worded (Swap 2) n ∷ []) → Grows k j (did Steps.Free ∷ []) → ReceiverRan Drop l j R.Done [] []
-  dropped_last n e s t = record { run = worded (Swap 2) n ∷ did Steps.Free ∷ []; is_run = more DropFree _ _ refl (rw e) (last _ refl refl); grows = and_then _ _ s t; gives = refl; gets = refl }
+  dropped_last n e s t = record { run = worded (Swap 2) n ∷ did Steps.Free ∷ []; is_run = more (Drop_at DropFree) _ _ refl (rw e) (last _ refl refl); grows = and_then _ _ s t; gives = refl; gets = refl }

@@ -8,8 +8,11 @@ use Rattle.oneshot_machine.specs.declared.machine.Reply.TheVariants as R
 use Rattle.oneshot_machine.specs.declared.machine.Seen.TheVariants as S
 use Rattle.oneshot_machine.specs.declared.machine.Step.TheVariants as Steps
 use Rattle.oneshot_machine.specs.declared.machine.receiver.ReceiverPos.{ReceiverPos}
-use Rattle.oneshot_machine.specs.declared.machine.receiver.ReceiverPos.TheVariants.{Close, Take, Future, DropSwap}
-use Rattle.oneshot_machine.specs.declared.machine.future.FuturePos.TheVariants.{PollLoad, AsyncLoad}
+use Rattle.oneshot_machine.specs.declared.machine.receiver.ReceiverPos.TheVariants.{Look, Future, AsyncDrop, Drop}
+use Rattle.oneshot_machine.specs.declared.machine.look.LookPos.TheVariants.{Close, Take}
+use Rattle.oneshot_machine.specs.declared.machine.future.FuturePos.TheVariants.{PollLoad}
+use Rattle.oneshot_machine.specs.declared.machine.async_drop.AsyncDropPos.TheVariants.{AsyncLoad}
+use Rattle.oneshot_machine.specs.declared.machine.drop.DropPos.TheVariants.{DropSwap}
 use Rattle.oneshot_machine.specs.declared.machine.receiver.ReceiverStart.TheVariants as C
 use Rattle.oneshot_machine.specs.declared.states.Op.TheVariants.{Load, Store, Swap}
 use Rattle.oneshot_machine.specs.Logs.{Log, Grows, receiver_of, took, worded}
@@ -59,7 +62,7 @@ meets found_sender = ((met_sender, refl), ((met_message refl refl, refl), ((met_
 meets (has_resolved c) = ((met_closed c, refl), tt)
 
 -- the drop's load keeps it only where its copy is there, or the sender is about to finish
-ends_met : {n : ℕ} {at : ReceiverAt} → Met n at → ¬ (n ≡ 0) → ¬ (n ≡ 1) → Drops at × (receiver_row (Future AsyncLoad) (S.Word n) ≡ Some (Goes DropSwap))
+ends_met : {n : ℕ} {at : ReceiverAt} → Met n at → ¬ (n ≡ 0) → ¬ (n ≡ 1) → Drops at × (receiver_row (AsyncDrop AsyncLoad) (S.Word n) ≡ Some (Goes (Drop DropSwap)))
 ends_met met_empty a b = (refl, refl)
 ends_met (met_message word drops) a b = (drops, refl)
 ends_met (met_closed c) a b = (refl, refl)
@@ -136,7 +139,7 @@ module _ {T W : Type 0} where
     pub met_none : ¬ (n ≡ 3) → ¬ (n ≡ 0) → ¬ (n ≡ 4) → ¬ (n ≡ 1) → (n ≡ 2) × EndsPoll F.Closed s
     met_none a b c d = closed_met found.is_so found.stands a b c d
 
-    pub met_end : ¬ (n ≡ 0) → ¬ (n ≡ 1) → ReceiverAsks (Swap 2) s × (receiver_row (Future AsyncLoad) (S.Word n) ≡ Some (Goes DropSwap))
+    pub met_end : ¬ (n ≡ 0) → ¬ (n ≡ 1) → ReceiverAsks (Swap 2) s × (receiver_row (AsyncDrop AsyncLoad) (S.Word n) ≡ Some (Goes (Drop DropSwap)))
     met_end a b = let ends = ends_met found.is_so a b in (asks (Swap 2) found.stands ends.0, ends.1)
 
   pub loaded_to : {l k : Log T W} {p : ReceiverPos} (o : Outcome ReceiverPos) (n found : ℕ) → Steps.Word Load ≡ receiver_step p → receiver_row p (S.Word found) ≡ Some o → n ≡ found → Grows l k (worded Load n ∷ []) → Went p o l k
@@ -153,8 +156,8 @@ module _ {T W : Type 0} where
   taken_rests by_future is = record { at = resolved closed_itself; is_one = has_resolved closed_itself; stands = is }
   taken_rests by_poll is = record { at = resolved closed_itself; is_one = has_resolved closed_itself; stands = is }
 
-  pub poll_ran : {l k j z : Log T W} (n : ℕ) (x : T) → Went (Future PollLoad) (Goes Close) l k → Grows k j (worded (Store 2) n ∷ []) → Grows j z (took x ∷ []) → ReceiverRan C.Poll l z R.Message [] (x ∷ [])
-  poll_ran n x went s t = ran went (worded (Store 2) n ∷ took x ∷ []) (more Take _ _ refl refl (last _ refl refl)) (and_then (worded (Store 2) n ∷ []) _ s t) refl refl
+  pub poll_ran : {l k j z : Log T W} (n : ℕ) (x : T) → Went (Future PollLoad) (Goes (Look Close)) l k → Grows k j (worded (Store 2) n ∷ []) → Grows j z (took x ∷ []) → ReceiverRan C.Poll l z R.Message [] (x ∷ [])
+  poll_ran n x went s t = ran went (worded (Store 2) n ∷ took x ∷ []) (more (Look Take) _ _ refl refl (last _ refl refl)) (and_then (worded (Store 2) n ∷ []) _ s t) refl refl
 
   -- or leaves the future open
   pub pending_rests : {s : State T W} → EndsPoll F.Nothing s → IsPolled s

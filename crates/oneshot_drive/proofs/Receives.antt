@@ -10,7 +10,11 @@ use Rattle.oneshot_machine.specs.declared.machine.Reply.TheVariants as R
 use Rattle.oneshot_machine.specs.declared.machine.Seen.TheVariants as S
 use Rattle.oneshot_machine.specs.declared.machine.Step.TheVariants as Steps
 use Rattle.oneshot_machine.specs.declared.machine.receiver.ReceiverPos.{ReceiverPos}
-use Rattle.oneshot_machine.specs.declared.machine.receiver.ReceiverPos.TheVariants.{Close, Take, CloseOnly, SumClock, StartLoad, RecvLoad, RecvTake, RecvFreeGot, RecvFreeGone}
+use Rattle.oneshot_machine.specs.declared.machine.receiver.ReceiverPos.TheVariants.{Look, Ref, Timed, Value}
+use Rattle.oneshot_machine.specs.declared.machine.look.LookPos.TheVariants.{Close, Take, CloseOnly}
+use Rattle.oneshot_machine.specs.declared.machine.by_ref.RefPos.TheVariants.{StartLoad}
+use Rattle.oneshot_machine.specs.declared.machine.timed.TimedPos.TheVariants.{SumClock}
+use Rattle.oneshot_machine.specs.declared.machine.value.ValuePos.TheVariants.{RecvLoad, RecvTake, RecvFreeGot, RecvFreeGone}
 use Rattle.oneshot_machine.specs.declared.machine.receiver.ReceiverStart.TheVariants.{Recv, RecvTimeout}
 use Rattle.oneshot_machine.specs.declared.states.Op.TheVariants.{Store}
 use Rattle.oneshot_machine.specs.Logs.{Log, Grows, receiver_of, did, took, clocked, worded}
@@ -65,8 +69,8 @@ module _ {T W : Type 0} where
   pub ended_full : {b a : State T W} (n : ℕ) → (g : Got) × (receiver_next (full g) (Store 2) S.Done ≡ over closed_itself) × Stands (full g) b → ReceiverMakes (Store 2) n b a → Grows b.log a.log (worded (Store 2) n ∷ []) → StandsWith receiver_of (over closed_itself) (filled, empty) a
   ended_full {a} n ends made grows = subst (λ at. StandsWith receiver_of at (filled, empty) a) ends.1 (closed_over n ends.2 made grows)
 
-  pub full_ran : {p : ReceiverPos} {l k j z : Log T W} (n : ℕ) (x : T) → Went p (Goes Close) l k → Grows k j (worded (Store 2) n ∷ []) → Grows j z (took x ∷ []) → Ran receiver_step receiver_row p l z R.Message [] (x ∷ [])
-  full_ran n x went s t = ran went (worded (Store 2) n ∷ took x ∷ []) (more Take _ _ refl refl (last _ refl refl)) (and_then (worded (Store 2) n ∷ []) _ s t) refl refl
+  pub full_ran : {p : ReceiverPos} {l k j z : Log T W} (n : ℕ) (x : T) → Went p (Goes (Look Close)) l k → Grows k j (worded (Store 2) n ∷ []) → Grows j z (took x ∷ []) → Ran receiver_step receiver_row p l z R.Message [] (x ∷ [])
+  full_ran n x went s t = ran went (worded (Store 2) n ∷ took x ∷ []) (more (Look Take) _ _ refl refl (last _ refl refl)) (and_then (worded (Store 2) n ∷ []) _ s t) refl refl
 
   -- or where the sender is gone
   pub shut : {by : Swapping} {b a : State T W} (n : ℕ) → Stands (unclosed by) b → ReceiverMakes (Store 2) n b a → Grows b.log a.log (worded (Store 2) n ∷ []) → Stands (over closed_itself) a
@@ -75,7 +79,7 @@ module _ {T W : Type 0} where
   pub over_leaves : {c : Closing} {s : State T W} → Stands (over c) s → LeavesTimed {T = T} (Err Timed.Disconnected) (receiver_of s.log)
   over_leaves {c} is = subst (λ at. LeavesTimed {T = T} (Err Timed.Disconnected) at) (sym is.phase) (timed_closed c)
 
-  pub shut_ran : {p : ReceiverPos} {l k j : Log T W} (n : ℕ) → Went p (Goes CloseOnly) l k → Grows k j (worded (Store 2) n ∷ []) → Ran receiver_step receiver_row p l j R.Disconnected [] []
+  pub shut_ran : {p : ReceiverPos} {l k j : Log T W} (n : ℕ) → Went p (Goes (Look CloseOnly)) l k → Grows k j (worded (Store 2) n ∷ []) → Ran receiver_step receiver_row p l j R.Disconnected [] []
   shut_ran n went s = ran went (worded (Store 2) n ∷ []) (last _ refl refl) s refl refl
 
   -- or its deadline is over
@@ -92,22 +96,22 @@ module _ {T W : Type 0} where
   pub clock_closed : {l k : Log T W} (past : Bool) → Grows l k (clocked past ∷ []) → IsClosed (receiver_of l) → IsClosed (receiver_of k)
   clock_closed past s is = subst IsClosed (sym (still (clocked past ∷ []) refl s)) is
 
-  sums : {representable : Bool} {l k : Log T W} (past : Bool) → Grows l k (clocked past ∷ []) → Went (SumClock representable) (Goes (StartLoad representable)) l k
+  sums : {representable : Bool} {l k : Log T W} (past : Bool) → Grows l k (clocked past ∷ []) → Went (Timed (SumClock representable)) (Goes (Ref (StartLoad representable))) l k
   sums true s = by_clock _ true s refl refl
   sums false s = by_clock _ false s refl refl
 
-  pub sum_ran : {representable : Bool} {reply : Reply} {got : List T} {l k z : Log T W} (past : Bool) → Grows l k (clocked past ∷ []) → Ran receiver_step receiver_row (StartLoad representable) k z reply [] got → ReceiverRan (RecvTimeout representable) l z reply [] got
+  pub sum_ran : {representable : Bool} {reply : Reply} {got : List T} {l k z : Log T W} (past : Bool) → Grows l k (clocked past ∷ []) → Ran receiver_step receiver_row (Ref (StartLoad representable)) k z reply [] got → ReceiverRan (RecvTimeout representable) l z reply [] got
   sum_ran past s run = before (sums past s) run
 
   -- `recv`
-  pub full_freed : {l k j z : Log T W} (x : T) → Went RecvLoad (Goes RecvTake) l k → Grows k j (took x ∷ []) → Grows j z (did Steps.Free ∷ []) → ReceiverRan Recv l z R.Message [] (x ∷ [])
-  full_freed x went s t = ran went (took x ∷ did Steps.Free ∷ []) (more RecvFreeGot _ _ refl refl (last _ refl refl)) (and_then (took x ∷ []) _ s t) refl refl
+  pub full_freed : {l k j z : Log T W} (x : T) → Went (Value RecvLoad) (Goes (Value RecvTake)) l k → Grows k j (took x ∷ []) → Grows j z (did Steps.Free ∷ []) → ReceiverRan Recv l z R.Message [] (x ∷ [])
+  full_freed x went s t = ran went (took x ∷ did Steps.Free ∷ []) (more (Value RecvFreeGot) _ _ refl refl (last _ refl refl)) (and_then (took x ∷ []) _ s t) refl refl
 
   -- without a message the sender is gone: both slots are empty, and the block is to be freed
   pub record Gone (f : Found) (s : State T W) : Type 0 where
     pub message : s.message ≡ vacant
     pub waker : s.waker ≡ vacant
-    pub leads : value_end f ≡ Goes RecvFreeGone
+    pub leads : value_end f ≡ Goes (Value RecvFreeGone)
 
   pub gone : (s : State T W) (f : Found) → ¬ (f ≡ F.Message) → EndsAt false f s → Gone f s
   gone s F.Message a ends = absurd (a refl)
@@ -115,8 +119,8 @@ module _ {T W : Type 0} where
   gone s F.Unclosed a ends = record { message = is_room ends.1.message; waker = is_room ends.1.waker; leads = refl }
   gone s F.Nothing a ends = let timed = ends.0 in absurd (cc)
 
-  pub gone_freed : {l k j : Log T W} {f : Found} {s : State T W} → Gone f s → Went RecvLoad (value_end f) l k → Grows k j (did Steps.Free ∷ []) → ReceiverRan Recv l j R.Disconnected [] []
-  gone_freed {l} {k} is went s = ran (subst (λ o. Went RecvLoad o l k) is.leads went) (did Steps.Free ∷ []) (last _ refl refl) s refl refl
+  pub gone_freed : {l k j : Log T W} {f : Found} {s : State T W} → Gone f s → Went (Value RecvLoad) (value_end f) l k → Grows k j (did Steps.Free ∷ []) → ReceiverRan Recv l j R.Disconnected [] []
+  gone_freed {l} {k} is went s = ran (subst (λ o. Went (Value RecvLoad) o l k) is.leads went) (did Steps.Free ∷ []) (last _ refl refl) s refl refl
 
   -- its hand: without a deadline no waker comes back from the wait
   pub hand_back : (s : State T W) {hand after : Option W} (f : Found) → EndsAt false f s → HandAt f hand after → Returns hand after

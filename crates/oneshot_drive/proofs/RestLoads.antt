@@ -4,7 +4,8 @@ use Rattle.std.specs.Prelude.{◌==◌}
 use Rattle.std.proofs.lemmas.Bool.{eq-eqb}
 use Rattle.oneshot_errors.specs.declared.try_recv.TryRecvError.TheVariants as E
 use Rattle.oneshot_machine.specs.declared.machine.Reply.TheVariants as R
-use Rattle.oneshot_machine.specs.declared.machine.receiver.ReceiverPos.TheVariants.{Close, Take}
+use Rattle.oneshot_machine.specs.declared.machine.receiver.ReceiverPos.TheVariants.{Look}
+use Rattle.oneshot_machine.specs.declared.machine.look.LookPos.TheVariants.{Close, Take}
 use Rattle.oneshot_machine.specs.declared.machine.receiver.ReceiverStart.TheVariants.{TryRecv}
 use Rattle.oneshot_machine.specs.declared.states.Op.TheVariants.{Load, Store, Swap}
 use Rattle.oneshot_machine.specs.Logs.{Log, Grows, receiver_of, took, worded}
@@ -109,7 +110,7 @@ module _ {T W : Type 0} where
   took_ran n r x e s t u =
       record {
         run = worded Load n ∷ worded (Store 2) r ∷ took x ∷ [];
-        is_run = more Close _ _ refl (rw e) (more Take _ _ refl refl (last _ refl refl));
+        is_run = more (Look Close) _ _ refl (rw e) (more (Look Take) _ _ refl refl (last _ refl refl));
         grows = and_then (worded Load n ∷ []) _ s (and_then (worded (Store 2) r ∷ []) _ t u);
         gives = refl;
         gets = refl;

@@ -4,7 +4,9 @@ use Rattle.oneshot_drive.specs.declared.waiting.Found.{Found}
 use Rattle.oneshot_drive.specs.declared.waiting.Found.TheVariants as F
 use Rattle.oneshot_machine.specs.declared.machine.Step.TheVariants as Steps
 use Rattle.oneshot_machine.specs.declared.machine.receiver.ReceiverPos.{ReceiverPos}
-use Rattle.oneshot_machine.specs.declared.machine.receiver.ReceiverPos.TheVariants.{StartSwap, BackFull, BackClosed, RecvSwap, RecvBackFull, RecvBackClosed}
+use Rattle.oneshot_machine.specs.declared.machine.receiver.ReceiverPos.TheVariants.{Ref, Value}
+use Rattle.oneshot_machine.specs.declared.machine.by_ref.RefPos.TheVariants.{StartSwap, BackFull, BackClosed}
+use Rattle.oneshot_machine.specs.declared.machine.value.ValuePos.TheVariants.{RecvSwap, RecvBackFull, RecvBackClosed}
 use Rattle.oneshot_machine.specs.declared.states.Op.TheVariants.{Load, Swap}
 use Rattle.oneshot_machine.specs.Logs.{Log, Grows, receiver_of, handed, worded}
 use Rattle.oneshot_machine.specs.Phases.{ReceiverAt, here, looked, waits, blocked, swapped, storing, unclosed, receiver_moves, none, empty, filled}
@@ -18,8 +20,8 @@ use Rattle.oneshot_drive.proofs.RestLoads.{never}
 use Rattle.oneshot_drive.proofs.Stretches.{on, by_word, by_write, by_withdraw}
 
 abbrev swap_of : {timed : Bool} → Way timed → ReceiverPos
-swap_of (by_ref timed) = StartSwap timed
-swap_of by_value = RecvSwap
+swap_of (by_ref timed) = Ref (StartSwap timed)
+swap_of by_value = Value RecvSwap
 
 module _ {T W : Type 0} where
   -- `find`: its load
@@ -79,14 +81,14 @@ module _ {T W : Type 0} where
   swaps_open by_value n e s = by_word _ (Swap 0) n s refl (rw e)
 
   swaps_full : {timed : Bool} {k j z : Log T W} (way : Way timed) (u : W) (n : ℕ) → n ≡ 4 → Grows k j (worded (Swap 0) n ∷ []) → Grows j z (handed Steps.Withdraw u ∷ []) → Went (swap_of way) (end_of way F.Message) k z
-  swaps_full (by_ref false) u n e s t = on (by_word (Goes BackFull) (Swap 0) n s refl (rw e)) (by_withdraw _ u t refl refl)
-  swaps_full (by_ref true) u n e s t = on (by_word (Goes BackFull) (Swap 0) n s refl (rw e)) (by_withdraw _ u t refl refl)
-  swaps_full by_value u n e s t = on (by_word (Goes RecvBackFull) (Swap 0) n s refl (rw e)) (by_withdraw _ u t refl refl)
+  swaps_full (by_ref false) u n e s t = on (by_word (Goes (Ref BackFull)) (Swap 0) n s refl (rw e)) (by_withdraw _ u t refl refl)
+  swaps_full (by_ref true) u n e s t = on (by_word (Goes (Ref BackFull)) (Swap 0) n s refl (rw e)) (by_withdraw _ u t refl refl)
+  swaps_full by_value u n e s t = on (by_word (Goes (Value RecvBackFull)) (Swap 0) n s refl (rw e)) (by_withdraw _ u t refl refl)
 
   swaps_over : {timed : Bool} {k j z : Log T W} (way : Way timed) (u : W) (n : ℕ) → n ≡ 2 → Grows k j (worded (Swap 0) n ∷ []) → Grows j z (handed Steps.Withdraw u ∷ []) → Went (swap_of way) (end_of way F.Unclosed) k z
-  swaps_over (by_ref false) u n e s t = on (by_word (Goes BackClosed) (Swap 0) n s refl (rw e)) (by_withdraw _ u t refl refl)
-  swaps_over (by_ref true) u n e s t = on (by_word (Goes BackClosed) (Swap 0) n s refl (rw e)) (by_withdraw _ u t refl refl)
-  swaps_over by_value u n e s t = on (by_word (Goes RecvBackClosed) (Swap 0) n s refl (rw e)) (by_withdraw _ u t refl refl)
+  swaps_over (by_ref false) u n e s t = on (by_word (Goes (Ref BackClosed)) (Swap 0) n s refl (rw e)) (by_withdraw _ u t refl refl)
+  swaps_over (by_ref true) u n e s t = on (by_word (Goes (Ref BackClosed)) (Swap 0) n s refl (rw e)) (by_withdraw _ u t refl refl)
+  swaps_over by_value u n e s t = on (by_word (Goes (Value RecvBackClosed)) (Swap 0) n s refl (rw e)) (by_withdraw _ u t refl refl)
 
   pub stored_went : {timed : Bool} {o : Outcome ReceiverPos} {l k j z : Log T W} (way : Way timed) (y : W) (n : ℕ) → n ≡ 3 → Grows l k (handed Steps.WriteWaker y ∷ []) → Grows k j (worded (Swap 0) n ∷ []) → Went (wait_of way) o j z → Went (write_of way) o l z
   stored_went way y n e s t went = on (writes way y s) (on (swaps_open way n e t) went)

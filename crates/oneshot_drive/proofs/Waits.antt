@@ -5,7 +5,10 @@ use Rattle.oneshot_drive.specs.declared.waiting.Found.TheVariants as F
 use Rattle.oneshot_machine.specs.declared.machine.Seen.TheVariants as S
 use Rattle.oneshot_machine.specs.declared.machine.Step.TheVariants as Steps
 use Rattle.oneshot_machine.specs.declared.machine.receiver.ReceiverPos.{ReceiverPos}
-use Rattle.oneshot_machine.specs.declared.machine.receiver.ReceiverPos.TheVariants.{Park, ParkLoad, Clock, TimedLoad, EndSwap, EndBack, LatePark, LateLoad, RecvPark, RecvParkLoad}
+use Rattle.oneshot_machine.specs.declared.machine.receiver.ReceiverPos.TheVariants.{Ref, Timed, Value}
+use Rattle.oneshot_machine.specs.declared.machine.by_ref.RefPos.TheVariants.{Park, ParkLoad}
+use Rattle.oneshot_machine.specs.declared.machine.timed.TimedPos.TheVariants.{Clock, TimedLoad, EndSwap, EndBack, LatePark, LateLoad}
+use Rattle.oneshot_machine.specs.declared.machine.value.ValuePos.TheVariants.{RecvPark, RecvParkLoad}
 use Rattle.oneshot_machine.specs.declared.states.Op.TheVariants.{Load, Swap}
 use Rattle.oneshot_machine.specs.Logs.{Log, Grows, receiver_of, handed, parked, clocked, worded}
 use Rattle.oneshot_machine.specs.Phases.{ReceiverAt, here, between, waits, blocked, overdue, waited, swapped, stopping, found_closed, receiver_moves, none, filled}
@@ -19,9 +22,9 @@ use Rattle.oneshot_drive.proofs.Stretches.{on, begun, by_word, by_withdraw, by_p
 
 -- where the load after a park stands, of each way
 abbrev woken_of : {timed : Bool} → Way timed → ReceiverPos
-woken_of (by_ref false) = ParkLoad
-woken_of (by_ref true) = TimedLoad
-woken_of by_value = RecvParkLoad
+woken_of (by_ref false) = Ref ParkLoad
+woken_of (by_ref true) = Timed TimedLoad
+woken_of by_value = Value RecvParkLoad
 
 -- it loads, and each word leads on alike
 woken_loads : {timed : Bool} (way : Way timed) → Steps.Word Load ≡ receiver_step (woken_of way)
@@ -56,8 +59,8 @@ module _ {T W : Type 0} where
 
   pub not_asked : {timed : Bool} (way : Way timed) (l : Log T W) → timed ≡ false → Went (wait_of way) (Goes (asked_of way false)) l l
   not_asked (by_ref true) l e = absurd (cc)
-  not_asked (by_ref false) l e = begun Park l
-  not_asked by_value l e = begun RecvPark l
+  not_asked (by_ref false) l e = begun (Ref Park) l
+  not_asked by_value l e = begun (Value RecvPark) l
 
   -- one that waits may park, until its deadline or without; one that is overdue parks without
   pub may_park : {s : State T W} (timed : Bool) → Stands (waits blocked) s → Parks timed (receiver_of s.log)
@@ -107,8 +110,8 @@ module _ {T W : Type 0} where
     parks_over e = parks_to _ (ap (λ n. receiver_row (woken_of way) (S.Word n)) e ∙ ap (row_for (S.Word 2)) (woken_rows way))
 
   -- or that it is over
-  pub stops_went : {timed past : Bool} {l i k z : Log T W} (f : Found) (way : Way timed) → Went (wait_of way) (Goes (wait_of way)) l i → Went (wait_of way) (Goes (asked_of way past)) i k → past ≡ true → timed ≡ true → Went EndSwap (ref_end f) k z → Went (wait_of way) (end_of way f) l z
-  stops_went {i} {k} f (by_ref true) went asks e is stops = on went (on (subst (λ past. Went Clock (Goes (asked_of (by_ref true) past)) i k) e asks) stops)
+  pub stops_went : {timed past : Bool} {l i k z : Log T W} (f : Found) (way : Way timed) → Went (wait_of way) (Goes (wait_of way)) l i → Went (wait_of way) (Goes (asked_of way past)) i k → past ≡ true → timed ≡ true → Went (Timed EndSwap) (ref_end f) k z → Went (wait_of way) (end_of way f) l z
+  stops_went {i} {k} f (by_ref true) went asks e is stops = on went (on (subst (λ past. Went (Timed Clock) (Goes (asked_of (by_ref true) past)) i k) e asks) stops)
   stops_went f _ went asks e is stops = absurd (cc)
 
   -- `stop`: where its swap landed
@@ -132,14 +135,14 @@ module _ {T W : Type 0} where
     pub withdrew_nothing : {z : State T W} {k : W} → n ≡ 0 → Grows s.log z.log (handed Steps.Withdraw k ∷ []) → z.message ≡ s.message → z.waker ≡ vacant → EndsAt true F.Nothing z
     withdrew_nothing e back message waker = (refl, withdrew_waker (stopped_open e) back message waker)
 
-  pub stops_to : {l k : Log T W} (o : Outcome ReceiverPos) (n found : ℕ) → receiver_row EndSwap (S.Word found) ≡ Some o → n ≡ found → Grows l k (worded (Swap 3) n ∷ []) → Went EndSwap o l k
-  stops_to o n found leads e s = by_word o (Swap 3) n s refl (ap (λ n. receiver_row EndSwap (S.Word n)) e ∙ leads)
+  pub stops_to : {l k : Log T W} (o : Outcome ReceiverPos) (n found : ℕ) → receiver_row (Timed EndSwap) (S.Word found) ≡ Some o → n ≡ found → Grows l k (worded (Swap 3) n ∷ []) → Went (Timed EndSwap) o l k
+  stops_to o n found leads e s = by_word o (Swap 3) n s refl (ap (λ n. receiver_row (Timed EndSwap) (S.Word n)) e ∙ leads)
 
-  pub nothing_went : {l k j : Log T W} (z : W) (n : ℕ) → n ≡ 0 → Grows l k (worded (Swap 3) n ∷ []) → Grows k j (handed Steps.Withdraw z ∷ []) → Went EndSwap (ref_end F.Nothing) l j
-  nothing_went z n e s t = on (stops_to (Goes EndBack) n 0 refl e s) (by_withdraw _ z t refl refl)
+  pub nothing_went : {l k j : Log T W} (z : W) (n : ℕ) → n ≡ 0 → Grows l k (worded (Swap 3) n ∷ []) → Grows k j (handed Steps.Withdraw z ∷ []) → Went (Timed EndSwap) (ref_end F.Nothing) l j
+  nothing_went z n e s t = on (stops_to (Goes (Timed EndBack)) n 0 refl e s) (by_withdraw _ z t refl refl)
 
-  pub late_went : {l k z : Log T W} (f : Found) (n : ℕ) → n ≡ 1 → Grows l k (worded (Swap 3) n ∷ []) → Went LatePark (ref_end f) k z → Went EndSwap (ref_end f) l z
-  late_went f n e s went = on (stops_to (Goes LatePark) n 1 refl e s) went
+  pub late_went : {l k z : Log T W} (f : Found) (n : ℕ) → n ≡ 1 → Grows l k (worded (Swap 3) n ∷ []) → Went (Timed LatePark) (ref_end f) k z → Went (Timed EndSwap) (ref_end f) l z
+  late_went f n e s went = on (stops_to (Goes (Timed LatePark)) n 1 refl e s) went
 
   -- `wait_late`: where its load landed
   pub ended : {b a : State T W} (n : ℕ) → Stands overdue b → ReceiverMakes Load n b a → Grows b.log a.log (worded Load n ∷ []) → Lands receiver_of n a (landings Load (receiver_moves overdue))
@@ -155,5 +158,5 @@ module _ {T W : Type 0} where
     pub ended_again : ¬ (n ≡ 4) → ¬ (n ≡ 2) → Lone receiver_of n s (3, overdue, (none, none))
     ended_again no_message not_closed = lone (not_at 2 not_closed (not_at 4 no_message found))
 
-  pub late_to : {l k j z : Log T W} (o : Outcome ReceiverPos) (n found : ℕ) → receiver_row LateLoad (S.Word found) ≡ Some o → n ≡ found → Went LatePark (Goes LatePark) l k → (woken : Bool) → Grows k j (parked woken ∷ []) → Grows j z (worded Load n ∷ []) → Went LatePark o l z
-  late_to o n found leads e went woken s t = on went (on (by_park (Goes LateLoad) woken s refl refl refl) (by_word o Load n t refl (ap (λ n. receiver_row LateLoad (S.Word n)) e ∙ leads)))
+  pub late_to : {l k j z : Log T W} (o : Outcome ReceiverPos) (n found : ℕ) → receiver_row (Timed LateLoad) (S.Word found) ≡ Some o → n ≡ found → Went (Timed LatePark) (Goes (Timed LatePark)) l k → (woken : Bool) → Grows k j (parked woken ∷ []) → Grows j z (worded Load n ∷ []) → Went (Timed LatePark) o l z
+  late_to o n found leads e went woken s t = on went (on (by_park (Goes (Timed LateLoad)) woken s refl refl refl) (by_word o Load n t refl (ap (λ n. receiver_row (Timed LateLoad) (S.Word n)) e ∙ leads)))

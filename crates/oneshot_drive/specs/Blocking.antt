@@ -5,7 +5,11 @@ use Rattle.oneshot_drive.specs.declared.waiting.Found.TheVariants as F
 use Rattle.oneshot_machine.specs.declared.machine.Reply.{Reply}
 use Rattle.oneshot_machine.specs.declared.machine.Reply.TheVariants as R
 use Rattle.oneshot_machine.specs.declared.machine.receiver.ReceiverPos.{ReceiverPos}
-use Rattle.oneshot_machine.specs.declared.machine.receiver.ReceiverPos.TheVariants.{Close, CloseOnly, StartLoad, StartWrite, Park, Clock, TimedPark, EndSwap, RecvLoad, RecvWrite, RecvPark, RecvTake, RecvFreeGone}
+use Rattle.oneshot_machine.specs.declared.machine.receiver.ReceiverPos.TheVariants.{Look, Ref, Timed, Value}
+use Rattle.oneshot_machine.specs.declared.machine.look.LookPos.TheVariants.{Close, CloseOnly}
+use Rattle.oneshot_machine.specs.declared.machine.by_ref.RefPos.TheVariants.{StartLoad, StartWrite, Park}
+use Rattle.oneshot_machine.specs.declared.machine.timed.TimedPos.TheVariants.{Clock, TimedPark, EndSwap}
+use Rattle.oneshot_machine.specs.declared.machine.value.ValuePos.TheVariants.{RecvLoad, RecvWrite, RecvPark, RecvTake, RecvFreeGone}
 use Rattle.oneshot_machine.specs.declared.machine.Seen.TheVariants.{Done}
 use Rattle.oneshot_machine.specs.declared.states.Op.TheVariants.{Store}
 use Rattle.oneshot_machine.specs.Logs.{Event, Log, Grows, messages_given, messages_got}
@@ -39,35 +43,35 @@ pub data Way : Bool → Type 0 where
 
 -- where it loads, where it stores its waker, and where it begins to wait
 abbrev pub load_of : {timed : Bool} → Way timed → ReceiverPos
-load_of (by_ref timed) = StartLoad timed
-load_of by_value = RecvLoad
+load_of (by_ref timed) = Ref (StartLoad timed)
+load_of by_value = Value RecvLoad
 
 abbrev pub write_of : {timed : Bool} → Way timed → ReceiverPos
-write_of (by_ref timed) = StartWrite timed
-write_of by_value = RecvWrite
+write_of (by_ref timed) = Ref (StartWrite timed)
+write_of by_value = Value RecvWrite
 
 abbrev pub wait_of : {timed : Bool} → Way timed → ReceiverPos
-wait_of (by_ref false) = Park
-wait_of (by_ref true) = Clock
-wait_of by_value = RecvPark
+wait_of (by_ref false) = Ref Park
+wait_of (by_ref true) = Timed Clock
+wait_of by_value = Value RecvPark
 
 -- where it is once it knows whether its deadline is over
 abbrev pub asked_of : {timed : Bool} → Way timed → Bool → ReceiverPos
-asked_of (by_ref false) is_over = Park
-asked_of (by_ref true) false = TimedPark
-asked_of (by_ref true) true = EndSwap
-asked_of by_value is_over = RecvPark
+asked_of (by_ref false) is_over = Ref Park
+asked_of (by_ref true) false = Timed TimedPark
+asked_of (by_ref true) true = Timed EndSwap
+asked_of by_value is_over = Value RecvPark
 
 -- where the word that decides it leads it
 abbrev pub ref_end : Found → Outcome ReceiverPos
-ref_end F.Message = Goes Close
+ref_end F.Message = Goes (Look Close)
 ref_end F.Closed = Answers R.Disconnected
-ref_end F.Unclosed = Goes CloseOnly
+ref_end F.Unclosed = Goes (Look CloseOnly)
 ref_end F.Nothing = Answers R.Timeout
 
 abbrev pub value_end : Found → Outcome ReceiverPos
-value_end F.Message = Goes RecvTake
-value_end _ = Goes RecvFreeGone
+value_end F.Message = Goes (Value RecvTake)
+value_end _ = Goes (Value RecvFreeGone)
 
 abbrev pub end_of : {timed : Bool} → Way timed → Found → Outcome ReceiverPos
 end_of (by_ref timed) = ref_end

@@ -8,7 +8,8 @@ use Rattle.oneshot_drive.specs.declared.waiting.Found.TheVariants as F
 use Rattle.oneshot_machine.specs.declared.machine.Reply.{Reply}
 use Rattle.oneshot_machine.specs.declared.machine.Reply.TheVariants as R
 use Rattle.oneshot_machine.specs.declared.machine.receiver.ReceiverPos.{ReceiverPos}
-use Rattle.oneshot_machine.specs.declared.machine.receiver.ReceiverPos.TheVariants.{Close}
+use Rattle.oneshot_machine.specs.declared.machine.receiver.ReceiverPos.TheVariants.{Look}
+use Rattle.oneshot_machine.specs.declared.machine.look.LookPos.TheVariants.{Close}
 use Rattle.oneshot_machine.specs.Phases.{Closing, closed_itself, Got, looked, polled, again, ReceiverAt, here, waits, claimed, full, over, resolved, word_of}
 use Rattle.oneshot_machine.specs.declared.machine.Step.{Step}
 use Rattle.oneshot_machine.specs.declared.machine.Step.TheVariants.{WriteWaker, Copy}
@@ -59,7 +60,7 @@ poll_received Pending = []
 
 -- where the word that decides a poll leads it
 abbrev pub poll_end : Found → Outcome ReceiverPos
-poll_end F.Message = Goes Close
+poll_end F.Message = Goes (Look Close)
 poll_end F.Nothing = Answers R.Pending
 poll_end _ = Answers R.Disconnected
 

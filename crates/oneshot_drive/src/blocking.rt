@@ -2,7 +2,8 @@
 
 ghost use Rattle.std.specs.Prelude.{◌≡◌, Err, IsErr, false, []};
 ghost use Rattle.oneshot_errors.specs.declared.recv_timeout.RecvTimeoutError.TheVariants.{Timeout, Disconnected};
-ghost use Rattle.oneshot_machine.specs.declared.machine.receiver.ReceiverPos.TheVariants.{StartLoad};
+ghost use Rattle.oneshot_machine.specs.declared.machine.receiver.ReceiverPos.TheVariants.{Ref};
+ghost use Rattle.oneshot_machine.specs.declared.machine.by_ref.RefPos.TheVariants.{StartLoad};
 ghost use Rattle.oneshot_machine.specs.declared.machine.receiver.ReceiverStart.TheVariants.{Recv, RecvRef, RecvDeadline, RecvTimeout};
 ghost use Rattle.oneshot_machine.specs.Logs.{receiver_of};
 ghost use Rattle.oneshot_machine.specs.Receiver.{receiver_step, receiver_row};
@@ -106,7 +107,7 @@ fn receive<T, W: Drop, G: BlockGround<T, W>>(
 ) -> Result<T, RecvTimeoutError>
     requires rests { AtRest (G.state g.old) }
     requires ready { IsReady hand.old (receiver_of (G.state g.old).log) }
-    ensures run { Ran receiver_step receiver_row (StartLoad timed) (G.state g.old).log (G.state g.new).log
+    ensures run { Ran receiver_step receiver_row (Ref (StartLoad timed)) (G.state g.old).log (G.state g.new).log
         (timed_reply result) [] (received result) }
     ensures rests { AtRest (G.state g.new) }
     ensures leaves { LeavesTimed result (receiver_of (G.state g.new).log) }

@@ -3,8 +3,10 @@
 ghost use Rattle.std.specs.Prelude.{◌≡◌, [], Some};
 ghost use Rattle.futures.specs.Poll.{OnPending};
 ghost use Rattle.oneshot_machine.specs.declared.machine.Reply.TheVariants as R;
-ghost use Rattle.oneshot_machine.specs.declared.machine.receiver.ReceiverPos.TheVariants.{DropSwap, Future};
-ghost use Rattle.oneshot_machine.specs.declared.machine.future.FuturePos.TheVariants.{PollLoad, PollCopy, PollWrite, AgainCopy, PollSpin, AsyncExchange, AsyncSpin};
+ghost use Rattle.oneshot_machine.specs.declared.machine.receiver.ReceiverPos.TheVariants.{Future, AsyncDrop, Drop};
+ghost use Rattle.oneshot_machine.specs.declared.machine.future.FuturePos.TheVariants.{PollLoad, PollCopy, PollWrite, AgainCopy, PollSpin};
+ghost use Rattle.oneshot_machine.specs.declared.machine.async_drop.AsyncDropPos.TheVariants.{AsyncExchange, AsyncSpin};
+ghost use Rattle.oneshot_machine.specs.declared.machine.drop.DropPos.TheVariants.{DropSwap};
 ghost use Rattle.oneshot_machine.specs.declared.machine.receiver.ReceiverStart.TheVariants as C;
 ghost use Rattle.oneshot_machine.specs.declared.states.Op.TheVariants.{Swap};
 ghost use Rattle.oneshot_machine.specs.Logs.{receiver_of};
@@ -182,7 +184,7 @@ pub fn drop_async<T, W: Drop, G: ReceiverGround<T, W>>(g: &mut G, rt: &impl Wait
 // Takes the copy back, unless the sender has acted before.
 fn take_back<T, W: Drop, G: ReceiverGround<T, W>>(g: &mut G, rt: &impl Wait)
     requires { Stands (waits again) (G.state g.old) }
-    ensures went { Went (Future AsyncExchange) (Goes DropSwap) (G.state g.old).log (G.state g.new).log }
+    ensures went { Went (AsyncDrop AsyncExchange) (Goes (Drop DropSwap)) (G.state g.old).log (G.state g.new).log }
     ensures ends { ReceiverAsks (Swap 2) (G.state g.new) }
 {
     match g.word(Op::Exchange(RECEIVING, EMPTY)) {
@@ -195,7 +197,7 @@ fn take_back<T, W: Drop, G: ReceiverGround<T, W>>(g: &mut G, rt: &impl Wait)
 // Reads the word until the sender has finished.
 fn wait_out<T, W: Drop, G: ReceiverGround<T, W>>(g: &mut G, rt: &impl Wait)
     requires { Stands claimed (G.state g.old) }
-    ensures went { Went (Future AsyncSpin) (Goes DropSwap) (G.state g.old).log (G.state g.new).log }
+    ensures went { Went (AsyncDrop AsyncSpin) (Goes (Drop DropSwap)) (G.state g.old).log (G.state g.new).log }
     ensures ends { ReceiverAsks (Swap 2) (G.state g.new) }
 {
     for _ in rt.forever() {

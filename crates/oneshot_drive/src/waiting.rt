@@ -1,7 +1,8 @@
 //! How a receive that blocks comes to the word that decides it.
 
 ghost use Rattle.std.specs.Prelude.{◌≡◌, true, Some};
-ghost use Rattle.oneshot_machine.specs.declared.machine.receiver.ReceiverPos.TheVariants.{EndSwap, LatePark};
+ghost use Rattle.oneshot_machine.specs.declared.machine.receiver.ReceiverPos.TheVariants.{Timed};
+ghost use Rattle.oneshot_machine.specs.declared.machine.timed.TimedPos.TheVariants.{EndSwap, LatePark};
 ghost use Rattle.oneshot_machine.specs.Logs.{receiver_of};
 ghost use Rattle.oneshot_machine.specs.Phases.{here, looked, waits, blocked, overdue};
 ghost use Rattle.oneshot_machine.specs.Rows.{Goes};
@@ -116,7 +117,7 @@ fn is_over<T, W, G: BlockGround<T, W>>(g: &mut G, timed: bool) -> bool
 // Ends the wait of a receiver whose deadline is over, unless the sender has acted before.
 fn stop<T, W: Drop, G: BlockGround<T, W>>(g: &mut G, rt: &impl Wait, hand: &mut Option<W>) -> Found
     requires { Stands (waits blocked) (G.state g.old) }
-    ensures went { Went EndSwap (ref_end result) (G.state g.old).log (G.state g.new).log }
+    ensures went { Went (Timed EndSwap) (ref_end result) (G.state g.old).log (G.state g.new).log }
     ensures ends { EndsAt true result (G.state g.new) }
     ensures hand { WaitedHand result hand.old hand.new }
 {
@@ -134,7 +135,7 @@ fn stop<T, W: Drop, G: BlockGround<T, W>>(g: &mut G, rt: &impl Wait, hand: &mut 
 // Parks, past the deadline, until the sender has finished.
 fn wait_late<T, W, G: BlockGround<T, W>>(g: &mut G, rt: &impl Wait) -> Found
     requires { Stands overdue (G.state g.old) }
-    ensures went { Went LatePark (ref_end result) (G.state g.old).log (G.state g.new).log }
+    ensures went { Went (Timed LatePark) (ref_end result) (G.state g.old).log (G.state g.new).log }
     ensures ends { EndsAt true result (G.state g.new) }
     ensures sent { ¬ (result ≡ F.Nothing) }
 {

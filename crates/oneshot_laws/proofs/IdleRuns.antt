@@ -5,9 +5,14 @@ use Rattle.oneshot_machine.specs.Receiver.{receiver_step}
 use Rattle.oneshot_machine.specs.Sender.{sender_step}
 use Rattle.oneshot_machine.specs.declared.machine.End.{End}
 use Rattle.oneshot_machine.specs.declared.machine.End.TheVariants.{Sender, Receiver}
-use Rattle.oneshot_world.specs.Calls.{Call, Sender_is_closed, Send, Drop_sender, As_inner, Into_inner, Drop_error, Try_recv, Recv_ref, Recv_deadline, Recv_timeout, Recv, Has_message, Is_closed, Drop_receiver, Into_future, Poll, Drop_async, calls_of, first, is_none_left, left_by, as_sender_call, as_receiver_call}
-use Rattle.oneshot_world.specs.Control.{sender_has, receiver_has, IsReached}
-use Rattle.oneshot_world.specs.State.{sender_position, receiver_position, reply_of}
+use Rattle.oneshot_machine.specs.declared.machine.receiver.ReceiverStart.TheVariants as RC
+use Rattle.oneshot_machine.specs.declared.machine.sender.SenderCall.TheVariants as SC
+use Rattle.oneshot_world.specs.Calls.{Call, Of_sender, Of_receiver, Poll, first, is_none_left, left_by, as_sender_call, as_receiver_call}
+use Rattle.oneshot_world.specs.Scripts.{calls_of}
+use Rattle.oneshot_world.specs.ScriptsLeft.{sender_has, receiver_has}
+use Rattle.oneshot_world.specs.Reached.{IsReached}
+use Rattle.oneshot_world.specs.State.{sender_position, receiver_position}
+use Rattle.oneshot_world.specs.Effects.{reply_of}
 use Rattle.oneshot_world.specs.World.{World, Tells_from, Tells, opening, side_of, receiver_told}
 use Rattle.oneshot_world.specs.declared.script.Move.{Move}
 use Rattle.oneshot_world.specs.declared.script.ReceiverScript.{ReceiverScript}
@@ -19,43 +24,29 @@ use Rattle.oneshot_world.specs.declared.state.SenderState.TheVariants as SS
 use Rattle.oneshot_world.specs.declared.trace.Entry.{Entry}
 use Rattle.oneshot_world.specs.declared.trace.Place.{Place}
 use Rattle.oneshot_world.proofs.Bools.{both}
-use Rattle.oneshot_world.proofs.Reached.{sender_world, receiver_world, opening_reached}
-use Rattle.oneshot_world.proofs.Turned.{Turned, sender_idle, sender_made, receiver_idle, receiver_made, turned, turned_reaches}
+use Rattle.oneshot_world.proofs.ReachedMoves.{sender_world, receiver_world}
+use Rattle.oneshot_world.proofs.ReachedOpening.{opening_reached}
+use Rattle.oneshot_world.proofs.WorldTurns.{Turned, sender_idle, sender_made, receiver_idle, receiver_made, turned, turned_reaches}
 use Rattle.oneshot_laws.specs.Idle.{is_idle_right_from, is_idle_right}
 use Rattle.oneshot_laws.specs.Marks.{Reading, sender_reading, receiver_reading}
 
 -- an end without a position has no call left
 sender_none : (message : Option Place) (s : SenderState) (calls : List Call) → sender_has message s calls ≡ true → sender_position s (option_and_then as_sender_call (first calls)) ≡ None → is_none_left calls ≡ true
 sender_none message SS.Ready [] h at = refl
-sender_none message SS.Ready (Sender_is_closed ∷ calls) h at = cc
-sender_none message SS.Ready (Send ∷ calls) h at = cc
-sender_none message SS.Ready (Drop_sender ∷ calls) h at = cc
+sender_none message SS.Ready (Of_sender call ∷ calls) h at = cc
 sender_none message SS.Ready (_ ∷ calls) h at = cc
 sender_none message (SS.At position) calls h at = cc
 sender_none message SS.Failed [] h at = refl
-sender_none message SS.Failed (As_inner ∷ calls) h at = cc
-sender_none message SS.Failed (Into_inner ∷ calls) h at = cc
-sender_none message SS.Failed (Drop_error ∷ calls) h at = cc
+sender_none message SS.Failed (Of_sender call ∷ calls) h at = cc
 sender_none message SS.Failed (_ ∷ calls) h at = cc
 sender_none message SS.Ended calls h at = h
 
 receiver_none : (s : ReceiverState) (future : Bool) (calls : List Call) → receiver_has s future calls ≡ true → receiver_position s (option_and_then as_receiver_call (first calls)) ≡ None → is_none_left calls ≡ true
 receiver_none RS.Ready false [] h at = refl
-receiver_none RS.Ready false (Try_recv ∷ calls) h at = cc
-receiver_none RS.Ready false (Recv_ref ∷ calls) h at = cc
-receiver_none RS.Ready false (Recv_deadline ∷ calls) h at = cc
-receiver_none RS.Ready false (Recv_timeout representable ∷ calls) h at = cc
-receiver_none RS.Ready false (Recv ∷ calls) h at = cc
-receiver_none RS.Ready false (Has_message ∷ calls) h at = cc
-receiver_none RS.Ready false (Is_closed ∷ calls) h at = cc
-receiver_none RS.Ready false (Drop_receiver ∷ calls) h at = cc
-receiver_none RS.Ready false (Into_future ∷ calls) h at = cc
+receiver_none RS.Ready false (Of_receiver call ∷ calls) h at = cc
 receiver_none RS.Ready false (_ ∷ calls) h at = cc
 receiver_none RS.Ready true [] h at = refl
-receiver_none RS.Ready true (Has_message ∷ calls) h at = cc
-receiver_none RS.Ready true (Is_closed ∷ calls) h at = cc
-receiver_none RS.Ready true (Poll number ∷ calls) h at = cc
-receiver_none RS.Ready true (Drop_async ∷ calls) h at = cc
+receiver_none RS.Ready true (Of_receiver call ∷ calls) h at = cc
 receiver_none RS.Ready true (_ ∷ calls) h at = cc
 receiver_none (RS.At position) future calls h at = cc
 receiver_none RS.Ended future calls h at = h

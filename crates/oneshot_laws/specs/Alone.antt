@@ -1,9 +1,9 @@
 -- A call between whose first entry and whose answer the other end makes no step does just what the object does.
 use Rattle.std.specs.Prelude.{Bool, true, false, not, ◌&&◌, ◌||◌, List, [], ◌∷◌, Option, if◌then◌else◌}
 use Rattle.oneshot_world.specs.Calls.{Call}
-use Rattle.oneshot_laws.specs.Words.{only_if, is_same_end}
+use Rattle.oneshot_laws.specs.Entries.{only_if, is_same_end}
 use Rattle.oneshot_laws.specs.Object.{Object, is_same_object}
-use Rattle.oneshot_laws.specs.Steps.{action_of, fixed_reply_of, reply_on, stepped}
+use Rattle.oneshot_laws.specs.Actions.{action_of, fixed_reply_of, reply_on, stepped}
 use Rattle.oneshot_laws.specs.Marks.{Mark, ends, side, object_then}
 use Rattle.oneshot_laws.specs.History.{agrees, is_object_step}
 use Rattle.oneshot_machine.specs.declared.machine.End.{End}

@@ -3,8 +3,8 @@ use Rattle.std.specs.Prelude.{Bool, ◌&&◌, List}
 use Rattle.std.specs.List.{list_any}
 use Rattle.oneshot_machine.specs.declared.machine.Reply.TheVariants as R
 use Rattle.oneshot_world.specs.Calls.{Call}
-use Rattle.oneshot_laws.specs.Words.{only_if, is_reply}
-use Rattle.oneshot_laws.specs.Steps.{is_end_of_sender, is_end_of_receiver, is_end_of_error}
+use Rattle.oneshot_laws.specs.Entries.{only_if, is_reply}
+use Rattle.oneshot_laws.specs.Actions.{is_end_of_sender, is_end_of_receiver, is_end_of_error}
 use Rattle.oneshot_laws.specs.Marks.{Mark, ends}
 
 abbrev pub has_answered : (Call → Bool) → List Mark → Bool

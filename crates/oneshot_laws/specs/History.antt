@@ -3,8 +3,8 @@ use Rattle.std.specs.Prelude.{Bool, true, false, not, ◌&&◌, List, Option, So
 use Rattle.std.specs.List.{list_all}
 use Rattle.oneshot_machine.specs.declared.machine.Reply.{Reply}
 use Rattle.oneshot_world.specs.Calls.{Call}
-use Rattle.oneshot_laws.specs.Words.{only_if, is_same_reply}
-use Rattle.oneshot_laws.specs.Steps.{action_of, reply_on, fixed_reply_of, is_stray}
+use Rattle.oneshot_laws.specs.Entries.{only_if, is_same_reply}
+use Rattle.oneshot_laws.specs.Actions.{action_of, reply_on, fixed_reply_of, is_stray}
 use Rattle.oneshot_laws.specs.Marks.{Mark, ends}
 
 -- the calls in the order of their acting entries, with those that have acted and not answered

@@ -4,9 +4,9 @@ use Rattle.std.specs.List.{list_any}
 use Rattle.oneshot_machine.specs.declared.machine.End.{End}
 use Rattle.oneshot_machine.specs.declared.machine.End.TheVariants.{Sender, Receiver}
 use Rattle.oneshot_world.specs.World.{by_end}
-use Rattle.oneshot_laws.specs.Words.{only_if, is_word, is_on_a_cell, is_free}
+use Rattle.oneshot_laws.specs.Entries.{only_if, is_word, is_on_a_cell, is_free}
 use Rattle.oneshot_laws.specs.Object.{Object}
-use Rattle.oneshot_laws.specs.Steps.{is_end_of_sender, is_end_of_receiver}
+use Rattle.oneshot_laws.specs.Actions.{is_end_of_sender, is_end_of_receiver}
 use Rattle.oneshot_laws.specs.Marks.{Mark, side}
 use Rattle.oneshot_laws.specs.Ended.{all_ended}
 

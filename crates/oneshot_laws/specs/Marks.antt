@@ -3,14 +3,18 @@ use Rattle.std.specs.Prelude.{ℕ, ◌+◌, Bool, true, false, not, ◌&&◌, �
 use Rattle.std.specs.List.{list_any}
 use Rattle.oneshot_machine.specs.declared.machine.End.{End}
 use Rattle.oneshot_machine.specs.declared.machine.Reply.{Reply}
-use Rattle.oneshot_world.specs.Calls.{Call, Sender_is_closed, Send, Drop_sender, As_inner, Into_inner, Drop_error, Try_recv, Recv_ref, Recv_deadline, Recv_timeout, Recv, Has_message, Is_closed, Drop_receiver, Into_future, Poll, Drop_async, Stray, Calls, Unanswered, first, is_none_left, left_by}
+use Rattle.oneshot_machine.specs.declared.machine.receiver.ReceiverStart.{ReceiverStart}
+use Rattle.oneshot_machine.specs.declared.machine.receiver.ReceiverStart.TheVariants as RC
+use Rattle.oneshot_machine.specs.declared.machine.sender.SenderCall.{SenderCall}
+use Rattle.oneshot_machine.specs.declared.machine.sender.SenderCall.TheVariants as SC
+use Rattle.oneshot_world.specs.Calls.{Call, Of_sender, Of_receiver, Poll, Stray, Calls, Unanswered, first, is_none_left, left_by}
 use Rattle.oneshot_world.specs.World.{by_end}
 use Rattle.oneshot_world.specs.declared.trace.Entry.{Entry}
 use Rattle.oneshot_world.specs.declared.trace.Entry.TheVariants.{Idle, Made as Made_entry}
 use Rattle.oneshot_world.specs.declared.trace.Made.{Made}
-use Rattle.oneshot_laws.specs.Words.{is_same_end, is_nothing_yet, is_word, is_load, is_add_or_xor, is_swap, is_swap_of, found}
+use Rattle.oneshot_laws.specs.Entries.{is_same_end, is_nothing_yet, is_word, is_load, is_add_or_xor, is_swap, is_swap_of, found}
 use Rattle.oneshot_laws.specs.Object.{Object, new_object}
-use Rattle.oneshot_laws.specs.Steps.{action_of, stepped}
+use Rattle.oneshot_laws.specs.Actions.{action_of, stepped}
 
 -- The acting entry of a call is the first, or the last, of its entries that pass a test; a call that is no step of the object has none.
 pub data Rule : Type 0 where
@@ -39,24 +43,31 @@ abbrev pub receive_rule : Option Reply → Rule
 receive_rule answer = elim (is_nothing_yet answer) [ true ↦ Last works_on_word | false ↦ First finds_full_or_closed ]
 
 -- by the call, and its answer if the trace has it
+abbrev pub sender_rule : SenderCall → Option Reply → Rule
+sender_rule SC.IsClosed answer = First loads
+sender_rule SC.Send answer = First finishes
+sender_rule SC.Drop answer = First finishes
+sender_rule SC.AsInner answer = Never
+sender_rule SC.IntoInner answer = Never
+sender_rule SC.DropError answer = Never
+
+abbrev pub receiver_rule : ReceiverStart → Option Reply → Rule
+receiver_rule RC.TryRecv answer = receive_rule answer
+receiver_rule RC.RecvRef answer = receive_rule answer
+receiver_rule RC.RecvDeadline answer = receive_rule answer
+receiver_rule (RC.RecvTimeout representable) answer = receive_rule answer
+receiver_rule RC.Recv answer = receive_rule answer
+receiver_rule RC.HasMessage answer = First loads
+receiver_rule RC.IsClosed answer = First loads
+receiver_rule RC.Drop answer = First swaps_closed_in
+receiver_rule RC.IntoFuture answer = Never
+receiver_rule RC.Poll answer = receive_rule answer
+receiver_rule RC.DropAsync answer = First swaps_closed_in
+
 abbrev pub rule : Call → Option Reply → Rule
-rule Sender_is_closed answer = First loads
-rule Send answer = First finishes
-rule Drop_sender answer = First finishes
-rule As_inner answer = Never
-rule Into_inner answer = Never
-rule Drop_error answer = Never
-rule Try_recv answer = receive_rule answer
-rule Recv_ref answer = receive_rule answer
-rule Recv_deadline answer = receive_rule answer
-rule (Recv_timeout representable) answer = receive_rule answer
-rule Recv answer = receive_rule answer
-rule Has_message answer = First loads
-rule Is_closed answer = First loads
-rule Drop_receiver answer = First swaps_closed_in
-rule Into_future answer = Never
-rule (Poll number) answer = receive_rule answer
-rule Drop_async answer = First swaps_closed_in
+rule (Of_sender call) answer = sender_rule call answer
+rule (Of_receiver call) answer = receiver_rule call answer
+rule (Poll number) answer = receiver_rule RC.Poll answer
 rule Stray answer = Never
 
 -- whether an entry is the acting one of a call with these entries before it and these after it

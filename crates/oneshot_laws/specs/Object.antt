@@ -53,43 +53,19 @@ without_sender Open = Closed
 without_sender Full = Full
 without_sender Closed = Closed
 
-abbrev pub content_after : Action → Object → Content
-content_after Send o = if o.receiver_here then Full else o.content
-content_after Sender_gone o = without_sender o.content
-content_after Take o = without_message o.content
-content_after Take_and_go o = without_message o.content
-content_after Look_full o = o.content
-content_after Look_closed o = o.content
-content_after Look_receiver_gone o = o.content
-content_after Receiver_gone o = without_message o.content
-
-abbrev pub sender_stays : Action → Bool
-sender_stays Send = false
-sender_stays Sender_gone = false
-sender_stays Take = true
-sender_stays Take_and_go = true
-sender_stays Look_full = true
-sender_stays Look_closed = true
-sender_stays Look_receiver_gone = true
-sender_stays Receiver_gone = true
-
-abbrev pub receiver_stays : Action → Bool
-receiver_stays Send = true
-receiver_stays Sender_gone = true
-receiver_stays Take = true
-receiver_stays Take_and_go = false
-receiver_stays Look_full = true
-receiver_stays Look_closed = true
-receiver_stays Look_receiver_gone = true
-receiver_stays Receiver_gone = false
+-- a refused send leaves the content as it is
+abbrev pub sent_to : Object → Content
+sent_to o = if o.receiver_here then Full else o.content
 
 abbrev pub object_after : Action → Object → Object
-object_after action o =
-    record {
-      content = content_after action o;
-      sender_here = if sender_stays action then o.sender_here else false;
-      receiver_here = if receiver_stays action then o.receiver_here else false;
-    }
+object_after Send o = record o { content = sent_to o; sender_here = false }
+object_after Sender_gone o = record o { content = without_sender o.content; sender_here = false }
+object_after Take o = record o { content = without_message o.content }
+object_after Take_and_go o = record o { content = without_message o.content; receiver_here = false }
+object_after Look_full o = o
+object_after Look_closed o = o
+object_after Look_receiver_gone o = o
+object_after Receiver_gone o = record o { content = without_message o.content; receiver_here = false }
 
 pub data Answer : Type 0 where
   Accepted : Answer

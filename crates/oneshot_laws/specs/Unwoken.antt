@@ -3,7 +3,8 @@ use Rattle.std.specs.Prelude.{ℕ, ◌==◌, Bool, false, not, ◌&&◌, ◌||�
 use Rattle.std.specs.List.{list_any}
 use Rattle.oneshot_machine.specs.declared.machine.Reply.TheVariants as R
 use Rattle.oneshot_world.specs.Ahead.{Ahead, ahead_of}
-use Rattle.oneshot_world.specs.Calls.{Call, calls_of, number_of}
+use Rattle.oneshot_world.specs.Calls.{Call, number_of}
+use Rattle.oneshot_world.specs.Scripts.{calls_of}
 use Rattle.oneshot_world.specs.Wakers.{WakerMove}
 use Rattle.oneshot_world.specs.World.{World, opening, Tells}
 use Rattle.oneshot_world.specs.declared.script.Move.{Move}
@@ -12,8 +13,8 @@ use Rattle.oneshot_world.specs.declared.script.SenderScript.{SenderScript}
 use Rattle.oneshot_world.specs.declared.trace.Entry.{Entry}
 use Rattle.oneshot_world.specs.declared.trace.WakerName.TheVariants.{Copy}
 use Rattle.oneshot_world.specs.declared.trace.WakerPlace.TheVariants.{Used}
-use Rattle.oneshot_laws.specs.Words.{is_reply}
-use Rattle.oneshot_laws.specs.Steps.{is_end_of_sender, is_drop_of_receiver}
+use Rattle.oneshot_laws.specs.Entries.{is_reply}
+use Rattle.oneshot_laws.specs.Actions.{is_end_of_sender, is_drop_of_receiver}
 use Rattle.oneshot_laws.specs.Marks.{Mark, marks}
 use Rattle.oneshot_laws.specs.Ended.{has_answered}
 

@@ -1,5 +1,5 @@
 -- The law that ties the phases' table of an end to its positions, from what is computed for each phase.
-use Rattle.std.proofs.Common.{◌≡◌, ℕ, Bool, true, false, not, ◌&&◌, List, [], ◌∷◌, ◌++◌, Option, Some, None, refl, sym, ap, ◌∙◌, subst, All, Contains, true≢false, cond}
+use Rattle.std.proofs.Common.{◌≡◌, ℕ, Bool, true, false, not, ◌&&◌, ◌||◌, List, [], ◌∷◌, ◌++◌, Option, Some, None, refl, sym, ap, ◌∙◌, subst, All, Contains, true≢false, cond, arith}
 use Rattle.std.specs.Prelude.{◌==◌, if◌then◌else◌, is_some, filter}
 use Rattle.std.specs.List.{list_all, list_any, flat_map}
 use Rattle.std.proofs.lemmas.Bool.{and_parts, eq-eqb, eqb-true}
@@ -23,6 +23,19 @@ each_passes p [] all there = elim there [ ]
 each_passes p (x ∷ xs) all head = (and_parts (p x) _ all).0
 each_passes p (x ∷ xs) all (tail there) = each_passes p xs (and_parts (p x) _ all).1 there
 
+-- what a test of three parts tells of each
+thrice : (a b c : Bool) → (a && b && c) ≡ true → (a ≡ true) × (b ≡ true) × (c ≡ true)
+thrice true true c e = (refl, refl, e)
+thrice true false c e = absurd (cc)
+thrice false b c e = absurd (cc)
+
+five : (a b c d e : Bool) → (a && b && c && d && e) ≡ true → (a ≡ true) × (b ≡ true) × (c ≡ true) × (d ≡ true) × (e ≡ true)
+five true true true true e h = (refl, refl, refl, refl, h)
+five true true true false e h = absurd (cc)
+five true true false d e h = absurd (cc)
+five true false c d e h = absurd (cc)
+five false b c d e h = absurd (cc)
+
 record Passing {X : Type 0} (p : X → Bool) (xs : List X) : Type 0 where
   one : X
   among : In one xs
@@ -32,7 +45,7 @@ some_passes : {X : Type 0} (p : X → Bool) (xs : List X) → list_any p xs ≡ 
 some_passes p [] any = absurd (true≢false (sym any))
 some_passes p (x ∷ xs) any = by (p x) refl any (some_passes p xs)
   where
-    by : (b : Bool) → p x ≡ b → cond b true (list_any p xs) ≡ true → (list_any p xs ≡ true → Passing p xs) → Passing p (x ∷ xs)
+    by : (b : Bool) → p x ≡ b → (b || list_any p xs) ≡ true → (list_any p xs ≡ true → Passing p xs) → Passing p (x ∷ xs)
     by true is any rest = record { one = x; among = head; passes = is }
     by false is any rest =
         let found = rest any in
@@ -147,6 +160,19 @@ module _ {P At : Type 0} (t : Table P) (nowhere : At) (rows : At → List (Row A
   reached ps op word =
       flat_map (λ p. onward t 6 p (if is_op op (op_of (t.step p)) then t.row p (saw op word) else None)) ps
 
+  -- a position that makes the operation has a row for what it saw
+  abbrev is_ready : Op → ℕ → P → Bool
+  is_ready op word p = if is_op op (op_of (t.step p)) then is_some (t.row p (saw op word)) else true
+
+  accepts_there : (op : Op) (word : ℕ) (p : P) → is_ready op word p ≡ true → Accepts t op word p
+  accepts_there op word p ready step = sym (ap (λ b. if b then is_some (t.row p (saw op word)) else true) (ap (λ s. is_op op (op_of s)) step ∙ same_op op)) ∙ ready
+
+  accept : (op : Op) (word : ℕ) (ps : List P) → list_all (is_ready op word) ps ≡ true → All (Accepts t op word) ps
+  accept op word [] ready = λ n d below. absurd (omega arith)
+  accept op word (p ∷ ps) ready =
+      let parts = and_parts (is_ready op word p) _ ready in
+      All-cons (Accepts t op word) p ps (accepts_there op word p parts.0) (accept op word ps parts.1)
+
   -- two lists of the same positions
   abbrev is_in : List P → P → Bool
   is_in ps p = list_any (λ q. t.number q == t.number p) ps
@@ -158,23 +184,14 @@ module _ {P At : Type 0} (t : Table P) (nowhere : At) (rows : At → List (Row A
   abbrev agree : List P → List P → Bool
   agree ps qs = list_all (λ p. is_same (is_in ps p) (is_in qs p)) t.positions
 
-  -- a position that makes the operation has a row for what it saw
-  abbrev is_ready : Op → ℕ → P → Bool
-  is_ready op word p = if is_op op (op_of (t.step p)) then is_some (t.row p (saw op word)) else true
+  -- some row, of the same operation and slots, finds a word with which nothing new comes
+  abbrev is_such : At → Op → Slots → Row At → Bool
+  is_such at op before row =
+      is_same_op op row.0 && is_same_share before.0 row.1.0 && is_same_share before.1 row.1.1 && is_plain before.0 row.4.0 && is_plain before.1 row.4.1
 
-  -- another row, or the same, finds a word with which nothing new comes
   abbrev is_findable : At → Row At → Bool
-  is_findable at row =
-      list_any
-        (λ (other : Row At).
-          is_same_op row.0 other.0
-          && is_same_share row.1.0 other.1.0
-          && is_same_share row.1.1 other.1.1
-          && is_plain row.1.0 other.4.0
-          && is_plain row.1.1 other.4.1)
-        (rows at)
+  is_findable at row = list_any (is_such at row.0 row.1) (rows at)
 
-  -- a row of a phase at which an end stands there
   abbrev is_row_made : At → List P → Row At → Bool
   is_row_made at ps row =
       list_any (is_same_op row.0) (made_at t ps)
@@ -216,39 +233,38 @@ module _ {P At : Type 0} (t : Table P) (nowhere : At) (rows : At → List (Row A
       let found = some_passes (agree ps) (stands at) any in
       subst (λ l. StandsAt at l) (sym (in_one_order ps found.one found.passes)) (stands_at found.one found.among)
 
-  module _ (start : At) (exact : (at : At) → is_exact_at at ≡ true) (starts : list_any (agree (onward_all t t.opens)) (stands start) ≡ true) where
+  abbrev pub IsExactAt : Type 0
+  IsExactAt = (at : At) → is_exact_at at ≡ true
+
+  module _ (exact : IsExactAt) where
+    distinct : (at : At) → differ nowhere (rows at) ≡ true
+    distinct at = (thrice (differ nowhere (rows at)) (list_all (is_findable at) (rows at)) _ (exact at)).0
+
+    findable : (at : At) {row : Row At} → In row (rows at) → is_findable at row ≡ true
+    findable at row =
+        each_passes (is_findable at) (rows at) (thrice (differ nowhere (rows at)) (list_all (is_findable at) (rows at)) _ (exact at)).1 row
+
     fits : (at : At) {ps : List P} → StandsAt at ps → is_fit at ps ≡ true
     fits at (stands_at ps among) =
-        each_passes (λ ps. is_fit at (in_order t ps)) (stands at) (and_parts (list_all (is_findable at) (rows at)) _ (and_parts (differ nowhere (rows at)) _ (exact at)).1).1 among
+        each_passes (λ ps. is_fit at (in_order t ps)) (stands at) (thrice (differ nowhere (rows at)) (list_all (is_findable at) (rows at)) _ (exact at)).2 among
 
-    made : (at : At) {ps : List P} {row : Row At} → StandsAt at ps → In row (rows at) → is_row_made at ps row ≡ true
-    made at {ps} there row = each_passes (is_row_made at ps) (rows at) (and_parts (list_all (is_row_made at ps) (rows at)) _ (fits at there)).0 row
+    -- what a row tells of the positions: one makes it, each has a row for what it finds, and it leads on
+    made : (at : At) {ps : List P} {op : Op} {before after : Slots} {word : ℕ} {next : At} → StandsAt at ps → In (op, before, word, next, after) (rows at)
+        → (list_any (is_same_op op) (made_at t ps) ≡ true) × (list_all (is_ready op word) ps ≡ true) × (list_any (agree (reached ps op word)) (stands next) ≡ true)
+    made at {ps} {op} {word} {next} there row =
+        thrice (list_any (is_same_op op) (made_at t ps)) (list_all (is_ready op word) ps) (list_any (agree (reached ps op word)) (stands next)) (each_passes (is_row_made at ps) (rows at) (and_parts (list_all (is_row_made at ps) (rows at)) _ (fits at there)).0 row)
 
-    -- one operation more
     module _ {T W : Type 0} where
-      abbrev at_after : List Noted → At
-      at_after = phase_from next_at start
-
-      abbrev Found : List Noted → Type 0
-      Found xs = IsFound {T = T} {W = W} at_after (Finds rows) xs
-
       goes_on : (at : At) {ps : List P} {op : Op} {m m' : Held T} {w w' : Held W} (word : ℕ) → StandsAt at ps → Finds rows at op word m w m' w' → StandsAt (next_at at op (saw op word)) (moved t ps (op, saw op word))
       goes_on at {ps} {op} word there (finds {next} row _ _) =
-          let at_row = and_parts (list_all (is_ready op word) ps) _ (and_parts (list_any (is_same_op op) (made_at t ps)) _ (made at there row)).1 in
-          subst (λ at. StandsAt at (moved t ps (op, saw op word))) (sym (leads nowhere (rows at) (and_parts (differ nowhere (rows at)) _ (exact at)).0 row)) (lands next (reached ps op word) at_row.1)
-
-      -- and so along each log
-      stands_after : {xs : List Noted} → Found xs → StandsAt (at_after xs) (standing t xs)
-      stands_after none_yet = lands start (onward_all t t.opens) starts
-      stands_after (one_more {xs} {op} word before found) =
-          subst (λ (z : At × List P). StandsAt z.0 z.1) (λ i. (sym (phase_from-snoc next_at start xs (op, saw op word)) i, sym (standing-snoc t xs (op, saw op word)) i)) (goes_on (at_after xs) word (stands_after before) found)
+          subst (λ at. StandsAt at (moved t ps (op, saw op word))) (sym (leads nowhere (rows at) (distinct at) row)) (lands next (reached ps op word) (made at there row).2)
 
       -- the operations made there are allowed
       allowed : (x : T) (k : W) (at : At) (op : Op) → list_any (λ (row : Row At). is_same_op op row.0) (rows at) ≡ true → IsAllowed (May {T = T} {W = W} rows) at op
       allowed x k at op any =
           let found = some_passes (λ (row : Row At). is_same_op op row.0) (rows at) any in
           let row = found.one in
-          subst (λ op. IsAllowed (May rows) at op) (sym (ops_are_same op row.0 found.passes)) (fill x row.1.0, fill k row.1.1, may found.among (fills x row.1.0) (fills k row.1.1))
+          subst (λ op. IsAllowed (May {T = T} {W = W} rows) at op) (sym (ops_are_same op row.0 found.passes)) (fill x row.1.0, fill k row.1.1, may found.among (fills x row.1.0) (fills k row.1.1))
 
       each_allowed : (x : T) (k : W) (at : At) (ops : List Op) → list_all (λ op. list_any (λ (row : Row At). is_same_op op row.0) (rows at)) ops ≡ true → All (IsAllowed (May {T = T} {W = W} rows) at) ops
       each_allowed x k at [] all = λ n d below. absurd (omega arith)
@@ -258,35 +274,39 @@ module _ {P At : Type 0} (t : Table P) (nowhere : At) (rows : At → List (Row A
 
       -- what is allowed is made there
       is_made : (at : At) {op : Op} {m : Held T} {w : Held W} {ps : List P} → StandsAt at ps → May rows at op m w → Contains (made_at t ps) op
-      is_made at {op} {ps} there (may row _ _) =
-          Contains-from_any ops_are_same op (made_at t ps) (and_parts (list_any (is_same_op op) (made_at t ps)) _ (made at there row)).0
+      is_made at {op} {ps} there (may row _ _) = Contains-from_any ops_are_same op (made_at t ps) (made at there row).0
 
       -- what is allowed may find some word
+      finds_such : (at : At) {row : Row At} {op : Op} {before : Slots} {m : Held T} {w : Held W} → In row (rows at) → is_such at op before row ≡ true → IsSlot before.0 m → IsSlot before.1 w → (word : ℕ) × (m' : Held T) × (w' : Held W) × Finds rows at op word m w m' w'
+      finds_such at {row} {op} {before} {m} {w} among such message waker =
+          let is = five (is_same_op op row.0) (is_same_share before.0 row.1.0) (is_same_share before.1 row.1.1) (is_plain before.0 row.4.0) (is_plain before.1 row.4.1) such in
+          let to = turns_plainly is.3 message in
+          let also = turns_plainly is.4 waker in
+          let message_turns : Turns row.1.0 row.4.0 m to.0 = subst (λ s. Turns s row.4.0 m to.0) (shares_are_same before.0 row.1.0 is.1) to.1 in
+          let waker_turns : Turns row.1.1 row.4.1 w also.0 = subst (λ s. Turns s row.4.1 w also.0) (shares_are_same before.1 row.1.1 is.2) also.1 in
+          (row.2, to.0, also.0, subst (λ op. Finds rows at op row.2 m w to.0 also.0) (sym (ops_are_same op row.0 is.0)) (finds among message_turns waker_turns))
+
       some_word : (at : At) {op : Op} {m : Held T} {w : Held W} → May rows at op m w → (word : ℕ) × (m' : Held T) × (w' : Held W) × Finds rows at op word m w m' w'
-      some_word at {op} (may row message waker) =
-          finds_other at (each_passes (is_findable at) (rows at) (and_parts (list_all (is_findable at) (rows at)) _ (and_parts (differ nowhere (rows at)) _ (exact at)).1).0 row) message waker
-        where
-          finds_other : (at : At) {op : Op} {before after : Slots} {word : ℕ} {next : At} {m : Held T} {w : Held W} → is_findable at (op, before, word, next, after) ≡ true → IsSlot before.0 m → IsSlot before.1 w → (word : ℕ) × (m' : Held T) × (w' : Held W) × Finds rows at op word m w m' w'
-          finds_other = ?
+      some_word at {op} (may {before} row message waker) =
+          let found = some_passes (is_such at op before) (rows at) (findable at row) in
+          finds_such at found.among found.passes message waker
 
       -- and only words that are accepted
-      accepts_there : (op : Op) (word : ℕ) (p : P) → is_ready op word p ≡ true → Accepts t op word p
-      accepts_there op word p ready step = sym (ap (λ b. if b then is_some (t.row p (saw op word)) else true) (ap (λ s. is_op op (op_of s)) step ∙ same_op op)) ∙ ready
-
-      accept : (op : Op) (word : ℕ) (ps : List P) → list_all (is_ready op word) ps ≡ true → All (Accepts t op word) ps
-      accept op word [] ready = λ n d below. absurd (omega arith)
-      accept op word (p ∷ ps) ready =
-          let parts = and_parts (is_ready op word p) _ ready in All-cons (Accepts t op word) p ps (accepts_there op word p parts.0) (accept op word ps parts.1)
-
       accepted_there : (at : At) {op : Op} {m m' : Held T} {w w' : Held W} {ps : List P} (word : ℕ) → StandsAt at ps → Finds rows at op word m w m' w' → All (Accepts t op word) ps
-      accepted_there at {op} {ps} word there (finds row _ _) =
-          accept op word ps (and_parts (list_all (is_ready op word) ps) _ (and_parts (list_any (is_same_op op) (made_at t ps)) _ (made at there row)).1).0
+      accepted_there at {op} {ps} word there (finds row _ _) = accept op word ps (made at there row).1
 
-    pub is_exact : (T W : Type 0) → IsExact {T = T} {W = W} t (phase_from next_at start) (May rows) (Finds rows)
-    is_exact T W =
-        record {
-          no_less = λ x k {xs} found. each_allowed x k _ (operations t xs) (and_parts (list_all (is_row_made _ (standing t xs)) (rows _)) _ (fits _ (stands_after found))).1;
-          no_more = λ found. is_made _ (stands_after found);
-          finds = some_word _;
-          accepted = λ word found. accepted_there _ word (stands_after found);
-        }
+    module _ (start : At) (starts : list_any (agree (onward_all t t.opens)) (stands start) ≡ true) where
+      -- along each log
+      stands_after : {T W : Type 0} {xs : List Noted} → IsFound {T = T} {W = W} (phase_from next_at start) (Finds rows) xs → StandsAt (phase_from next_at start xs) (standing t xs)
+      stands_after none_yet = lands start (onward_all t t.opens) starts
+      stands_after (one_more {xs} {op} word before found) =
+          subst (λ (z : At × List P). StandsAt z.0 z.1) (λ i. (sym (phase_from-snoc next_at start xs (op, saw op word)) i, sym (standing-snoc t xs (op, saw op word)) i)) (goes_on (phase_from next_at start xs) word (stands_after before) found)
+
+      pub is_exact : (T W : Type 0) → IsExact {T = T} {W = W} t (phase_from next_at start) (May rows) (Finds rows)
+      is_exact T W =
+          record {
+            no_less = λ x k {xs} found. each_allowed x k (phase_from next_at start xs) (operations t xs) (and_parts (list_all (is_row_made (phase_from next_at start xs) (standing t xs)) (rows (phase_from next_at start xs))) _ (fits (phase_from next_at start xs) (stands_after found))).1;
+            no_more = λ {xs} found allowed. is_made (phase_from next_at start xs) (stands_after found) allowed;
+            finds = λ {xs} allowed. some_word (phase_from next_at start xs) allowed;
+            accepted = λ {xs} word found finds. accepted_there (phase_from next_at start xs) word (stands_after found) finds;
+          }

@@ -3,7 +3,12 @@ use Rattle.std.proofs.Common.{◌≡◌, ℕ, List, [], ◌∷◌, ◌++◌, Opt
 use Rattle.oneshot_machine.specs.declared.machine.Reply.{Reply}
 use Rattle.oneshot_machine.specs.declared.machine.Seen.{Seen}
 use Rattle.oneshot_machine.specs.declared.machine.Step.{Step}
-use Rattle.oneshot_machine.specs.declared.machine.receiver.ReceiverPos.TheVariants.{Close, Take, CloseOnly, StartLoad, StartWrite, StartSwap, BackFull, BackClosed, Park, ParkLoad, Clock, TimedPark, TimedLoad, EndSwap, EndBack, LatePark, LateLoad, RecvWrite, RecvSwap, RecvBackClosed, RecvPark, RecvParkLoad, RecvTake, RecvFreeGot, RecvFreeGone, DropMessage, DropFree}
+use Rattle.oneshot_machine.specs.declared.machine.receiver.ReceiverPos.TheVariants.{Look, Ref, Timed, Value, Drop}
+use Rattle.oneshot_machine.specs.declared.machine.look.LookPos.TheVariants.{Close, Take, CloseOnly}
+use Rattle.oneshot_machine.specs.declared.machine.by_ref.RefPos.TheVariants.{StartLoad, StartWrite, StartSwap, BackFull, BackClosed, Park, ParkLoad}
+use Rattle.oneshot_machine.specs.declared.machine.timed.TimedPos.TheVariants.{Clock, TimedPark, TimedLoad, EndSwap, EndBack, LatePark, LateLoad}
+use Rattle.oneshot_machine.specs.declared.machine.value.ValuePos.TheVariants.{RecvWrite, RecvSwap, RecvBackClosed, RecvPark, RecvParkLoad, RecvTake, RecvFreeGot, RecvFreeGone}
+use Rattle.oneshot_machine.specs.declared.machine.drop.DropPos.TheVariants.{DropMessage, DropFree}
 use Rattle.oneshot_machine.specs.declared.machine.sender.SenderPos.TheVariants.{SendAdd, SendTakeWaker, SendFinal, SendWake, DropTakeWaker, DropFinal, DropWake, IntoFree, ErrorFree}
 use Rattle.oneshot_machine.specs.declared.machine.sender.SenderPos.TheVariants as SP
 use Rattle.oneshot_machine.specs.Logs.{Event, clocked}
@@ -82,105 +87,105 @@ runs_that_are =
       gives_it_back = more IntoFree _ _ refl refl (last _ refl refl);
       drops_the_error = more ErrorFree _ _ refl refl (last _ refl refl);
       drops_the_sender = more SP.DropFree _ _ refl refl (last _ refl refl);
-      receives = more Close _ _ refl refl (more Take _ _ refl refl (last _ refl refl));
+      receives = more (Look Close) _ _ refl refl (more (Look Take) _ _ refl refl (last _ refl refl));
       finds_nothing = last _ refl refl;
       finds_no_sender = last _ refl refl;
       waits_for_it =
-          more (StartWrite false) _ _ refl refl
-          (more (StartSwap false) _ _ refl refl
-          (more Park _ _ refl refl
-          (more ParkLoad _ _ refl refl
-          (more Park _ _ refl refl
-          (more ParkLoad _ _ refl refl
-          (more Close _ _ refl refl
-          (more Take _ _ refl refl
+          more (Ref (StartWrite false)) _ _ refl refl
+          (more (Ref (StartSwap false)) _ _ refl refl
+          (more (Ref Park) _ _ refl refl
+          (more (Ref ParkLoad) _ _ refl refl
+          (more (Ref Park) _ _ refl refl
+          (more (Ref ParkLoad) _ _ refl refl
+          (more (Look Close) _ _ refl refl
+          (more (Look Take) _ _ refl refl
           (last _ refl refl))))))));
       need_not_wait =
-          more (StartWrite false) _ _ refl refl
-          (more (StartSwap false) _ _ refl refl
-          (more BackFull _ _ refl refl
-          (more Close _ _ refl refl
-          (more Take _ _ refl refl
+          more (Ref (StartWrite false)) _ _ refl refl
+          (more (Ref (StartSwap false)) _ _ refl refl
+          (more (Ref BackFull) _ _ refl refl
+          (more (Look Close) _ _ refl refl
+          (more (Look Take) _ _ refl refl
           (last _ refl refl)))));
       waits_for_nobody =
-          more (StartWrite false) _ _ refl refl
-          (more (StartSwap false) _ _ refl refl
-          (more BackClosed _ _ refl refl
-          (more CloseOnly _ _ refl refl
+          more (Ref (StartWrite false)) _ _ refl refl
+          (more (Ref (StartSwap false)) _ _ refl refl
+          (more (Ref BackClosed) _ _ refl refl
+          (more (Look CloseOnly) _ _ refl refl
           (last _ refl refl))));
       runs_out =
-          more (StartWrite true) _ _ refl refl
-          (more (StartSwap true) _ _ refl refl
-          (more Clock _ _ refl refl
-          (more TimedPark _ _ refl refl
-          (more TimedLoad _ _ refl refl
-          (more Clock _ _ refl refl
-          (more EndSwap _ _ refl refl
-          (more EndBack _ _ refl refl
+          more (Ref (StartWrite true)) _ _ refl refl
+          (more (Ref (StartSwap true)) _ _ refl refl
+          (more (Timed Clock) _ _ refl refl
+          (more (Timed TimedPark) _ _ refl refl
+          (more (Timed TimedLoad) _ _ refl refl
+          (more (Timed Clock) _ _ refl refl
+          (more (Timed EndSwap) _ _ refl refl
+          (more (Timed EndBack) _ _ refl refl
           (last _ refl refl))))))));
       runs_out_after_its_sum =
-          more (StartLoad true) _ _ refl refl
-          (more (StartWrite true) _ _ refl refl
-          (more (StartSwap true) _ _ refl refl
-          (more Clock _ _ refl refl
-          (more TimedPark _ _ refl refl
-          (more TimedLoad _ _ refl refl
-          (more Clock _ _ refl refl
-          (more EndSwap _ _ refl refl
-          (more EndBack _ _ refl refl
+          more (Ref (StartLoad true)) _ _ refl refl
+          (more (Ref (StartWrite true)) _ _ refl refl
+          (more (Ref (StartSwap true)) _ _ refl refl
+          (more (Timed Clock) _ _ refl refl
+          (more (Timed TimedPark) _ _ refl refl
+          (more (Timed TimedLoad) _ _ refl refl
+          (more (Timed Clock) _ _ refl refl
+          (more (Timed EndSwap) _ _ refl refl
+          (more (Timed EndBack) _ _ refl refl
           (last _ refl refl)))))))));
       runs_out_over_a_message =
-          more (StartWrite true) _ _ refl refl
-          (more (StartSwap true) _ _ refl refl
-          (more Clock _ _ refl refl
-          (more TimedPark _ _ refl refl
-          (more TimedLoad _ _ refl refl
-          (more Clock _ _ refl refl
-          (more EndSwap _ _ refl refl
-          (more Close _ _ refl refl
-          (more Take _ _ refl refl
+          more (Ref (StartWrite true)) _ _ refl refl
+          (more (Ref (StartSwap true)) _ _ refl refl
+          (more (Timed Clock) _ _ refl refl
+          (more (Timed TimedPark) _ _ refl refl
+          (more (Timed TimedLoad) _ _ refl refl
+          (more (Timed Clock) _ _ refl refl
+          (more (Timed EndSwap) _ _ refl refl
+          (more (Look Close) _ _ refl refl
+          (more (Look Take) _ _ refl refl
           (last _ refl refl)))))))));
       runs_out_over_a_drop =
-          more (StartWrite true) _ _ refl refl
-          (more (StartSwap true) _ _ refl refl
-          (more Clock _ _ refl refl
-          (more TimedPark _ _ refl refl
-          (more TimedLoad _ _ refl refl
-          (more Clock _ _ refl refl
-          (more EndSwap _ _ refl refl
-          (more CloseOnly _ _ refl refl
+          more (Ref (StartWrite true)) _ _ refl refl
+          (more (Ref (StartSwap true)) _ _ refl refl
+          (more (Timed Clock) _ _ refl refl
+          (more (Timed TimedPark) _ _ refl refl
+          (more (Timed TimedLoad) _ _ refl refl
+          (more (Timed Clock) _ _ refl refl
+          (more (Timed EndSwap) _ _ refl refl
+          (more (Look CloseOnly) _ _ refl refl
           (last _ refl refl))))))));
       waits_for_the_sender =
-          more (StartWrite true) _ _ refl refl
-          (more (StartSwap true) _ _ refl refl
-          (more Clock _ _ refl refl
-          (more TimedPark _ _ refl refl
-          (more TimedLoad _ _ refl refl
-          (more Clock _ _ refl refl
-          (more EndSwap _ _ refl refl
-          (more LatePark _ _ refl refl
-          (more LateLoad _ _ refl refl
-          (more LatePark _ _ refl refl
-          (more LateLoad _ _ refl refl
+          more (Ref (StartWrite true)) _ _ refl refl
+          (more (Ref (StartSwap true)) _ _ refl refl
+          (more (Timed Clock) _ _ refl refl
+          (more (Timed TimedPark) _ _ refl refl
+          (more (Timed TimedLoad) _ _ refl refl
+          (more (Timed Clock) _ _ refl refl
+          (more (Timed EndSwap) _ _ refl refl
+          (more (Timed LatePark) _ _ refl refl
+          (more (Timed LateLoad) _ _ refl refl
+          (more (Timed LatePark) _ _ refl refl
+          (more (Timed LateLoad) _ _ refl refl
           (last _ refl refl)))))))))));
-      never_runs_out = more (StartLoad false) _ _ refl refl (last _ refl refl);
+      never_runs_out = more (Ref (StartLoad false)) _ _ refl refl (last _ refl refl);
       waits_and_frees =
-          more RecvWrite _ _ refl refl
-          (more RecvSwap _ _ refl refl
-          (more RecvPark _ _ refl refl
-          (more RecvParkLoad _ _ refl refl
-          (more RecvPark _ _ refl refl
-          (more RecvParkLoad _ _ refl refl
-          (more RecvTake _ _ refl refl
-          (more RecvFreeGot _ _ refl refl
+          more (Value RecvWrite) _ _ refl refl
+          (more (Value RecvSwap) _ _ refl refl
+          (more (Value RecvPark) _ _ refl refl
+          (more (Value RecvParkLoad) _ _ refl refl
+          (more (Value RecvPark) _ _ refl refl
+          (more (Value RecvParkLoad) _ _ refl refl
+          (more (Value RecvTake) _ _ refl refl
+          (more (Value RecvFreeGot) _ _ refl refl
           (last _ refl refl))))))));
       waits_for_nobody_and_frees =
-          more RecvWrite _ _ refl refl
-          (more RecvSwap _ _ refl refl
-          (more RecvBackClosed _ _ refl refl
-          (more RecvFreeGone _ _ refl refl
+          more (Value RecvWrite) _ _ refl refl
+          (more (Value RecvSwap) _ _ refl refl
+          (more (Value RecvBackClosed) _ _ refl refl
+          (more (Value RecvFreeGone) _ _ refl refl
           (last _ refl refl))));
-      drops_the_message = more DropMessage _ _ refl refl (more DropFree _ _ refl refl (last _ refl refl));
+      drops_the_message = more (Drop DropMessage) _ _ refl refl (more (Drop DropFree) _ _ refl refl (last _ refl refl));
       handed_in = refl;
       handed_out = refl;
       hands_nothing_out = refl;
@@ -215,13 +220,13 @@ module _ {P : Type 0} {step : P → Step} {row : P → Seen → Option (Outcome 
       subst (λ p. Run step row p (y ∷ ys) r) same on.2
 
 -- a receive with a deadline that waited once asks its clock again
-asks_again : {ys : List (Event ℕ ℕ)} {r : Reply} → ReceiverRun (StartLoad true) (waited_once ++ clocked true ∷ ys) r → ReceiverRun Clock (clocked true ∷ ys) r
+asks_again : {ys : List (Event ℕ ℕ)} {r : Reply} → ReceiverRun (Ref (StartLoad true)) (waited_once ++ clocked true ∷ ys) r → ReceiverRun (Timed Clock) (clocked true ∷ ys) r
 asks_again run =
-    goes_on Clock refl (goes_on TimedLoad refl (goes_on TimedPark refl (goes_on Clock refl (goes_on (StartSwap true) refl (goes_on (StartWrite true) refl run)))))
+    goes_on (Timed Clock) refl (goes_on (Timed TimedLoad) refl (goes_on (Timed TimedPark) refl (goes_on (Timed Clock) refl (goes_on (Ref (StartSwap true)) refl (goes_on (Ref (StartWrite true)) refl run)))))
 
 -- and swaps where it is over
-ends_its_wait : {y : Event ℕ ℕ} {ys : List (Event ℕ ℕ)} {r : Reply} → ReceiverRun (StartLoad true) (running_out ++ y ∷ ys) r → ReceiverRun EndSwap (y ∷ ys) r
-ends_its_wait run = goes_on EndSwap refl (asks_again run)
+ends_its_wait : {y : Event ℕ ℕ} {ys : List (Event ℕ ℕ)} {r : Reply} → ReceiverRun (Ref (StartLoad true)) (running_out ++ y ∷ ys) r → ReceiverRun (Timed EndSwap) (y ∷ ys) r
+ends_its_wait run = goes_on (Timed EndSwap) refl (asks_again run)
 
 pub runs_that_are_not : RunsThatAreNot
 runs_that_are_not =
@@ -231,16 +236,16 @@ runs_that_are_not =
       stops_halfway = λ r run. let e = answers run in cc;
       does_not_free = λ r run. let e = answers run in cc;
       frees_unasked = λ r run. let e = (does_go_on run).1 in cc;
-      takes_and_leaves_4 = λ r run. let e = begins (goes_on Close refl run) in cc;
+      takes_and_leaves_4 = λ r run. let e = begins (goes_on (Look Close) refl run) in cc;
       says_that_all_are_gone = λ run. let e = answers run in cc;
       wakes_before_its_swap = λ r run. let e = begins (goes_on SendFinal refl (goes_on SendTakeWaker refl (goes_on SendAdd refl run))) in cc;
       answers_unwoken =
           λ r run. let e =
-          answers (goes_on ParkLoad refl (goes_on Park refl (goes_on ParkLoad refl (goes_on Park refl (goes_on (StartSwap false) refl (goes_on (StartWrite false) refl run))))))
+          answers (goes_on (Ref ParkLoad) refl (goes_on (Ref Park) refl (goes_on (Ref ParkLoad) refl (goes_on (Ref Park) refl (goes_on (Ref (StartSwap false)) refl (goes_on (Ref (StartWrite false)) refl run))))))
           in cc;
-      parks_before_it_swaps = λ r run. let e = begins (goes_on (StartSwap false) refl (goes_on (StartWrite false) refl run)) in cc;
+      parks_before_it_swaps = λ r run. let e = begins (goes_on (Ref (StartSwap false)) refl (goes_on (Ref (StartWrite false)) refl run)) in cc;
       runs_out_over_4 = λ run. let e = answers (ends_its_wait run) in cc;
       runs_out_over_1 = λ run. let e = answers (ends_its_wait run) in cc;
       runs_out_by_the_clock_alone = λ r run. let e = answers (asks_again run) in cc;
-      loses_the_message = λ r run. let e = begins (goes_on DropMessage refl run) in cc;
+      loses_the_message = λ r run. let e = begins (goes_on (Drop DropMessage) refl run) in cc;
     }

@@ -1,7 +1,10 @@
 -- The examples of a future, computed.
 use Rattle.std.proofs.Common.{refl}
-use Rattle.oneshot_machine.specs.declared.machine.receiver.ReceiverPos.TheVariants.{Close, Take, Future, DropSwap, DropFree}
-use Rattle.oneshot_machine.specs.declared.machine.future.FuturePos.TheVariants.{PollCopy, PollWrite, PollExchange, PollBackFull, PollBackClosed, AgainCopy, AgainExchange, AgainBack, PollOwn, PollSpin, AsyncExchange, AsyncBack, AsyncSpin}
+use Rattle.oneshot_machine.specs.declared.machine.receiver.ReceiverPos.TheVariants.{Look, Future, AsyncDrop, Drop}
+use Rattle.oneshot_machine.specs.declared.machine.look.LookPos.TheVariants.{Close, Take}
+use Rattle.oneshot_machine.specs.declared.machine.future.FuturePos.TheVariants.{PollCopy, PollWrite, PollExchange, PollBackFull, PollBackClosed, AgainCopy, AgainExchange, AgainBack, PollOwn, PollSpin}
+use Rattle.oneshot_machine.specs.declared.machine.async_drop.AsyncDropPos.TheVariants.{AsyncExchange, AsyncBack, AsyncSpin}
+use Rattle.oneshot_machine.specs.declared.machine.drop.DropPos.TheVariants.{DropSwap, DropFree}
 use Rattle.oneshot_machine.specs.Runs.{last, more}
 use Rattle.oneshot_machine.specs.FutureExamples.{FutureLists, FutureRuns, FutureRunsThatAreNot}
 use Rattle.oneshot_machine.proofs.ExampleRuns.{begins, answers, goes_on}
@@ -48,8 +51,8 @@ future_runs =
           (more (Future PollWrite) _ _ refl refl
           (more (Future PollExchange) _ _ refl refl
           (more (Future PollBackFull) _ _ refl refl
-          (more Close _ _ refl refl
-          (more Take _ _ refl refl
+          (more (Look Close) _ _ refl refl
+          (more (Look Take) _ _ refl refl
           (last _ refl refl))))));
       finds_no_sender_by_its_exchange =
           more (Future PollCopy) _ _ refl refl
@@ -72,19 +75,19 @@ future_runs =
       spins =
           more (Future PollSpin) _ _ refl refl
           (more (Future PollSpin) _ _ refl refl
-          (more Close _ _ refl refl
-          (more Take _ _ refl refl
+          (more (Look Close) _ _ refl refl
+          (more (Look Take) _ _ refl refl
           (last _ refl refl))));
       drops_its_copy =
-          more (Future AsyncExchange) _ _ refl refl
-          (more (Future AsyncBack) _ _ refl refl
-          (more DropSwap _ _ refl refl
+          more (AsyncDrop AsyncExchange) _ _ refl refl
+          (more (AsyncDrop AsyncBack) _ _ refl refl
+          (more (Drop DropSwap) _ _ refl refl
           (last _ refl refl)));
       waits_for_the_sender_to_finish =
-          more (Future AsyncExchange) _ _ refl refl
-          (more (Future AsyncSpin) _ _ refl refl
-          (more DropSwap _ _ refl refl
-          (more DropFree _ _ refl refl
+          more (AsyncDrop AsyncExchange) _ _ refl refl
+          (more (AsyncDrop AsyncSpin) _ _ refl refl
+          (more (Drop DropSwap) _ _ refl refl
+          (more (Drop DropFree) _ _ refl refl
           (last _ refl refl))));
     }
 
@@ -98,6 +101,6 @@ future_runs_that_are_not =
           begins (goes_on (Future PollBackFull) refl (goes_on (Future PollExchange) refl (goes_on (Future PollWrite) refl (goes_on (Future PollCopy) refl run))))
           in cc;
       spins_in_vain = λ run. let e = answers (goes_on (Future PollSpin) refl run) in cc;
-      drops_over_1 = λ run. let e = begins (goes_on (Future AsyncSpin) refl run) in cc;
-      drops_its_copy_too_early = λ run. let e = begins (goes_on (Future AsyncExchange) refl run) in cc;
+      drops_over_1 = λ run. let e = begins (goes_on (AsyncDrop AsyncSpin) refl run) in cc;
+      drops_its_copy_too_early = λ run. let e = begins (goes_on (AsyncDrop AsyncExchange) refl run) in cc;
     }

@@ -6,13 +6,18 @@ use Rattle.oneshot_machine.specs.declared.machine.Reply.TheVariants as R
 use Rattle.oneshot_machine.specs.declared.machine.Seen.TheVariants.{Done, Word}
 use Rattle.oneshot_machine.specs.declared.machine.Step.TheVariants.{DropMessage, WriteWaker, TakeWaker, Withdraw, Wake, Free}
 use Rattle.oneshot_machine.specs.declared.machine.receiver.ReceiverPos.{ReceiverPos}
-use Rattle.oneshot_machine.specs.declared.machine.receiver.ReceiverPos.TheVariants.{TryLoad, SumClock, StartLoad, RecvLoad, DropSwap}
+use Rattle.oneshot_machine.specs.declared.machine.receiver.ReceiverPos.TheVariants.{Look, Ref, Timed, Value, Drop}
+use Rattle.oneshot_machine.specs.declared.machine.look.LookPos.TheVariants.{TryLoad}
+use Rattle.oneshot_machine.specs.declared.machine.by_ref.RefPos.TheVariants.{StartLoad}
+use Rattle.oneshot_machine.specs.declared.machine.timed.TimedPos.TheVariants.{SumClock}
+use Rattle.oneshot_machine.specs.declared.machine.value.ValuePos.TheVariants.{RecvLoad}
+use Rattle.oneshot_machine.specs.declared.machine.drop.DropPos.TheVariants.{DropSwap}
 use Rattle.oneshot_machine.specs.declared.machine.sender.SenderPos.{SenderPos}
 use Rattle.oneshot_machine.specs.declared.machine.sender.SenderPos.TheVariants.{SendWrite, DropXor, IntoTake, ErrorDrop}
 use Rattle.oneshot_machine.specs.declared.states.Op.TheVariants.{Load, Store, Swap, Add, Xor}
 use Rattle.oneshot_machine.specs.Sender.{sender_step, sender_row}
 use Rattle.oneshot_machine.specs.Receiver.{receiver_step, receiver_row}
-use Rattle.oneshot_machine.specs.Phases.{sending, dropping, fresh, owes, finished, late, no_sender, sender_at, first, here, looked, between, waits, blocked, overdue, full, at_once, waited, unclosed, over, found_closed, closed_itself, gone, ended, no_receiver, receiver_at}
+use Rattle.oneshot_machine.specs.Phases.{sending, dropping, fresh, owes, finished, late, no_sender, sender_at, first, here, looked, between, waits, blocked, overdue, full, at_once, waited, swapped, storing, stopping, unclosed, over, found_closed, closed_itself, gone, ended, no_receiver, receiver_at}
 use Rattle.oneshot_machine.specs.Logs.{Event, did, wrote, took, handed, parked, clocked, worded, words, kept, messages_given, messages_got}
 use Rattle.oneshot_machine.specs.Runs.{Run}
 
@@ -20,13 +25,13 @@ use Rattle.oneshot_machine.specs.Runs.{Run}
 pub record SenderLists : Type 0 where
   pub nothing_yet : sender_at [] ≡ fresh
   pub sent : sender_at ((Add, Word 3) ∷ []) ≡ finished sending
-  pub sent_too_late : sender_at ((Add, Word 2) ∷ []) ≡ late sending 3
+  pub sent_too_late : sender_at ((Add, Word 2) ∷ []) ≡ late sending
   pub found_a_waker : sender_at ((Add, Word 0) ∷ []) ≡ owes sending
   pub sent_to_it : sender_at ((Add, Word 0) ∷ (Swap 4, Word 1) ∷ []) ≡ finished sending
   pub sent_to_one_that_stopped : sender_at ((Add, Word 0) ∷ (Swap 4, Word 3) ∷ []) ≡ finished sending
   pub dropped : sender_at ((Xor, Word 3) ∷ []) ≡ finished dropping
   pub dropped_before_it : sender_at ((Xor, Word 0) ∷ (Swap 2, Word 1) ∷ []) ≡ finished dropping
-  pub dropped_too_late : sender_at ((Xor, Word 2) ∷ []) ≡ late dropping 3
+  pub dropped_too_late : sender_at ((Xor, Word 2) ∷ []) ≡ late dropping
   -- and lists that no sender makes
   pub sends_over_a_message : sender_at ((Add, Word 4) ∷ []) ≡ no_sender
   pub sends_twice : sender_at ((Add, Word 3) ∷ (Add, Word 3) ∷ []) ≡ no_sender
@@ -41,7 +46,7 @@ pub record SenderLists : Type 0 where
 pub record ReceiverLists : Type 0 where
   pub nothing_yet : receiver_at [] ≡ first
   pub looked_in_vain : receiver_at ((Load, Word 3) ∷ (Load, Word 3) ∷ []) ≡ here looked
-  pub found_it : receiver_at ((Load, Word 3) ∷ (Load, Word 4) ∷ []) ≡ full at_once 4
+  pub found_it : receiver_at ((Load, Word 3) ∷ (Load, Word 4) ∷ []) ≡ full at_once
   pub received : receiver_at ((Load, Word 4) ∷ (Store 2, Done) ∷ []) ≡ over closed_itself
   pub tried_again : receiver_at ((Load, Word 4) ∷ (Store 2, Done) ∷ (Load, Word 2) ∷ []) ≡ over closed_itself
   pub found_no_sender : receiver_at ((Load, Word 2) ∷ (Load, Word 2) ∷ []) ≡ over found_closed
@@ -49,20 +54,20 @@ pub record ReceiverLists : Type 0 where
   pub woke_too_early :
       receiver_at ((Load, Word 3) ∷ (Swap 0, Word 3) ∷ (Load, Word 0) ∷ (Load, Word 1) ∷ []) ≡ waits blocked
   pub waited_for_it :
-      receiver_at ((Load, Word 3) ∷ (Swap 0, Word 3) ∷ (Load, Word 4) ∷ []) ≡ full waited 4
-  pub found_it_by_its_swap : receiver_at ((Load, Word 3) ∷ (Swap 0, Word 4) ∷ []) ≡ full waited 0
-  pub found_nobody_by_its_swap : receiver_at ((Load, Word 3) ∷ (Swap 0, Word 2) ∷ []) ≡ unclosed 0
+      receiver_at ((Load, Word 3) ∷ (Swap 0, Word 3) ∷ (Load, Word 4) ∷ []) ≡ full waited
+  pub found_it_by_its_swap : receiver_at ((Load, Word 3) ∷ (Swap 0, Word 4) ∷ []) ≡ full (swapped storing)
+  pub found_nobody_by_its_swap : receiver_at ((Load, Word 3) ∷ (Swap 0, Word 2) ∷ []) ≡ unclosed storing
   pub ran_out : receiver_at ((Load, Word 3) ∷ (Swap 0, Word 3) ∷ (Swap 3, Word 0) ∷ []) ≡ here between
   pub ran_out_and_tried_again :
       receiver_at ((Load, Word 3) ∷ (Swap 0, Word 3) ∷ (Swap 3, Word 0) ∷ (Load, Word 3) ∷ []) ≡ here looked
   pub ran_out_over_a_message :
-      receiver_at ((Load, Word 3) ∷ (Swap 0, Word 3) ∷ (Swap 3, Word 4) ∷ []) ≡ full waited 3
+      receiver_at ((Load, Word 3) ∷ (Swap 0, Word 3) ∷ (Swap 3, Word 4) ∷ []) ≡ full (swapped stopping)
   pub ran_out_over_a_drop :
-      receiver_at ((Load, Word 3) ∷ (Swap 0, Word 3) ∷ (Swap 3, Word 2) ∷ []) ≡ unclosed 3
+      receiver_at ((Load, Word 3) ∷ (Swap 0, Word 3) ∷ (Swap 3, Word 2) ∷ []) ≡ unclosed stopping
   pub ran_out_too_late : receiver_at ((Load, Word 3) ∷ (Swap 0, Word 3) ∷ (Swap 3, Word 1) ∷ []) ≡ overdue
   pub waited_for_the_sender :
       receiver_at ((Load, Word 3) ∷ (Swap 0, Word 3) ∷ (Swap 3, Word 1) ∷ (Load, Word 3) ∷ (Load, Word 4) ∷ [])
-      ≡ full waited 4
+      ≡ full waited
   pub put_it_back :
       receiver_at ((Load, Word 3) ∷ (Swap 0, Word 2) ∷ (Store 2, Done) ∷ []) ≡ over closed_itself
   pub dropped_early : receiver_at ((Load, Word 3) ∷ (Swap 2, Word 3) ∷ []) ≡ gone
@@ -138,32 +143,32 @@ pub record RunsThatAre : Type 0 where
   pub gives_it_back : SenderRun IntoTake (took 7 ∷ did Free ∷ []) Message
   pub drops_the_error : SenderRun ErrorDrop (did DropMessage ∷ did Free ∷ []) R.Done
   pub drops_the_sender : SenderRun DropXor (worded Xor 2 ∷ did Free ∷ []) R.Done
-  pub receives : ReceiverRun TryLoad receiving_7 Message
-  pub finds_nothing : ReceiverRun TryLoad (worded Load 3 ∷ []) Empty
-  pub finds_no_sender : ReceiverRun TryLoad (worded Load 2 ∷ []) Disconnected
+  pub receives : ReceiverRun (Look TryLoad) receiving_7 Message
+  pub finds_nothing : ReceiverRun (Look TryLoad) (worded Load 3 ∷ []) Empty
+  pub finds_no_sender : ReceiverRun (Look TryLoad) (worded Load 2 ∷ []) Disconnected
   pub waits_for_it :
-      ReceiverRun (StartLoad false) (waiting ++ worded (Store 2) 4 ∷ took 7 ∷ []) Message
+      ReceiverRun (Ref (StartLoad false)) (waiting ++ worded (Store 2) 4 ∷ took 7 ∷ []) Message
   pub need_not_wait :
-      ReceiverRun (StartLoad false) (withdrawing 4 ++ worded (Store 2) 0 ∷ took 7 ∷ []) Message
+      ReceiverRun (Ref (StartLoad false)) (withdrawing 4 ++ worded (Store 2) 0 ∷ took 7 ∷ []) Message
   pub waits_for_nobody :
-      ReceiverRun (StartLoad false) (withdrawing 2 ++ worded (Store 2) 0 ∷ []) Disconnected
+      ReceiverRun (Ref (StartLoad false)) (withdrawing 2 ++ worded (Store 2) 0 ∷ []) Disconnected
   pub runs_out :
-      ReceiverRun (StartLoad true) (running_out ++ worded (Swap 3) 0 ∷ handed Withdraw 1 ∷ []) Timeout
+      ReceiverRun (Ref (StartLoad true)) (running_out ++ worded (Swap 3) 0 ∷ handed Withdraw 1 ∷ []) Timeout
   pub runs_out_after_its_sum :
-      ReceiverRun (SumClock true) (clocked true ∷ running_out ++ worded (Swap 3) 0 ∷ handed Withdraw 1 ∷ []) Timeout
+      ReceiverRun (Timed (SumClock true)) (clocked true ∷ running_out ++ worded (Swap 3) 0 ∷ handed Withdraw 1 ∷ []) Timeout
   pub runs_out_over_a_message :
-      ReceiverRun (StartLoad true) (running_out ++ worded (Swap 3) 4 ∷ worded (Store 2) 3 ∷ took 7 ∷ []) Message
+      ReceiverRun (Ref (StartLoad true)) (running_out ++ worded (Swap 3) 4 ∷ worded (Store 2) 3 ∷ took 7 ∷ []) Message
   pub runs_out_over_a_drop :
-      ReceiverRun (StartLoad true) (running_out ++ worded (Swap 3) 2 ∷ worded (Store 2) 3 ∷ []) Disconnected
+      ReceiverRun (Ref (StartLoad true)) (running_out ++ worded (Swap 3) 2 ∷ worded (Store 2) 3 ∷ []) Disconnected
   pub waits_for_the_sender :
       ReceiverRun
-      (StartLoad true)
+      (Ref (StartLoad true))
       (running_out ++ worded (Swap 3) 1 ∷ parked false ∷ worded Load 3 ∷ parked true ∷ worded Load 2 ∷ [])
       Disconnected
-  pub never_runs_out : ReceiverRun (SumClock false) (clocked false ∷ worded Load 2 ∷ []) Disconnected
-  pub waits_and_frees : ReceiverRun RecvLoad (waiting ++ took 7 ∷ did Free ∷ []) Message
-  pub waits_for_nobody_and_frees : ReceiverRun RecvLoad (withdrawing 2 ++ did Free ∷ []) Disconnected
-  pub drops_the_message : ReceiverRun DropSwap (worded (Swap 2) 4 ∷ did DropMessage ∷ did Free ∷ []) R.Done
+  pub never_runs_out : ReceiverRun (Timed (SumClock false)) (clocked false ∷ worded Load 2 ∷ []) Disconnected
+  pub waits_and_frees : ReceiverRun (Value RecvLoad) (waiting ++ took 7 ∷ did Free ∷ []) Message
+  pub waits_for_nobody_and_frees : ReceiverRun (Value RecvLoad) (withdrawing 2 ++ did Free ∷ []) Disconnected
+  pub drops_the_message : ReceiverRun (Drop DropSwap) (worded (Swap 2) 4 ∷ did DropMessage ∷ did Free ∷ []) R.Done
   -- what they hand in and out, and what of them a real ground keeps
   pub handed_in : messages_given sending_7 ≡ 7 ∷ []
   pub handed_out : messages_got receiving_7 ≡ 7 ∷ []
@@ -180,16 +185,16 @@ pub record RunsThatAreNot : Type 0 where
   pub stops_halfway : (r : Reply) → SenderRun SendWrite (wrote 7 ∷ []) r → ⊥
   pub does_not_free : (r : Reply) → SenderRun DropXor (worded Xor 2 ∷ []) r → ⊥
   pub frees_unasked : (r : Reply) → SenderRun DropXor (worded Xor 3 ∷ did Free ∷ []) r → ⊥
-  pub takes_and_leaves_4 : (r : Reply) → ReceiverRun TryLoad (worded Load 4 ∷ took 7 ∷ []) r → ⊥
-  pub says_that_all_are_gone : ReceiverRun TryLoad (worded Load 3 ∷ []) Disconnected → ⊥
+  pub takes_and_leaves_4 : (r : Reply) → ReceiverRun (Look TryLoad) (worded Load 4 ∷ took 7 ∷ []) r → ⊥
+  pub says_that_all_are_gone : ReceiverRun (Look TryLoad) (worded Load 3 ∷ []) Disconnected → ⊥
   pub wakes_before_its_swap :
       (r : Reply) → SenderRun SendWrite (wrote 7 ∷ worded Add 0 ∷ handed TakeWaker 1 ∷ handed Wake 1 ∷ []) r → ⊥
-  pub answers_unwoken : (r : Reply) → ReceiverRun (StartLoad false) waiting r → ⊥
+  pub answers_unwoken : (r : Reply) → ReceiverRun (Ref (StartLoad false)) waiting r → ⊥
   pub parks_before_it_swaps :
-      (r : Reply) → ReceiverRun (StartLoad false) (worded Load 3 ∷ handed WriteWaker 1 ∷ parked true ∷ []) r → ⊥
+      (r : Reply) → ReceiverRun (Ref (StartLoad false)) (worded Load 3 ∷ handed WriteWaker 1 ∷ parked true ∷ []) r → ⊥
   pub runs_out_over_4 :
-      ReceiverRun (StartLoad true) (running_out ++ worded (Swap 3) 4 ∷ []) Timeout → ⊥
+      ReceiverRun (Ref (StartLoad true)) (running_out ++ worded (Swap 3) 4 ∷ []) Timeout → ⊥
   pub runs_out_over_1 :
-      ReceiverRun (StartLoad true) (running_out ++ worded (Swap 3) 1 ∷ []) Timeout → ⊥
-  pub runs_out_by_the_clock_alone : (r : Reply) → ReceiverRun (StartLoad true) running_out r → ⊥
-  pub loses_the_message : (r : Reply) → ReceiverRun DropSwap (worded (Swap 2) 4 ∷ did Free ∷ []) r → ⊥
+      ReceiverRun (Ref (StartLoad true)) (running_out ++ worded (Swap 3) 1 ∷ []) Timeout → ⊥
+  pub runs_out_by_the_clock_alone : (r : Reply) → ReceiverRun (Ref (StartLoad true)) running_out r → ⊥
+  pub loses_the_message : (r : Reply) → ReceiverRun (Drop DropSwap) (worded (Swap 2) 4 ∷ did Free ∷ []) r → ⊥

@@ -4,8 +4,9 @@ use Rattle.oneshot_machine.specs.declared.machine.Reply.TheVariants.{Message, Di
 use Rattle.oneshot_machine.specs.declared.machine.Reply.TheVariants as R
 use Rattle.oneshot_machine.specs.declared.machine.Seen.TheVariants.{Done, Word}
 use Rattle.oneshot_machine.specs.declared.machine.Step.TheVariants.{WriteWaker, Withdraw, WakeOwn, Plain, Free}
-use Rattle.oneshot_machine.specs.declared.machine.receiver.ReceiverPos.TheVariants.{Future}
-use Rattle.oneshot_machine.specs.declared.machine.future.FuturePos.TheVariants.{IntoFuture, PollLoad, AsyncLoad}
+use Rattle.oneshot_machine.specs.declared.machine.receiver.ReceiverPos.TheVariants.{Future, AsyncDrop}
+use Rattle.oneshot_machine.specs.declared.machine.future.FuturePos.TheVariants.{IntoFuture, PollLoad}
+use Rattle.oneshot_machine.specs.declared.machine.async_drop.AsyncDropPos.TheVariants.{AsyncLoad}
 use Rattle.oneshot_machine.specs.declared.states.Op.TheVariants.{Load, Store, Swap, Exchange}
 use Rattle.oneshot_machine.specs.Words.{Noted}
 use Rattle.oneshot_machine.specs.Phases.{waits, polled, again, claimed, withdrew, full, by_future, by_poll, over, resolved, found_closed, closed_itself, gone, ended, no_receiver, receiver_at}
@@ -28,8 +29,8 @@ pub record FutureLists : Type 0 where
   pub sees_the_sender_finish : receiver_at (once_polled ++ (Load, Word 1) ∷ []) ≡ claimed
   pub exchanges_too_late :
       receiver_at (once_polled ++ (Load, Word 0) ∷ (Exchange 0 3, Word 1) ∷ (Load, Word 1) ∷ []) ≡ claimed
-  pub finds_it_by_its_load : receiver_at (once_polled ++ (Load, Word 4) ∷ []) ≡ full by_future 4
-  pub finds_it_by_its_exchange : receiver_at ((Load, Word 3) ∷ (Exchange 3 0, Word 4) ∷ []) ≡ full by_poll 4
+  pub finds_it_by_its_load : receiver_at (once_polled ++ (Load, Word 4) ∷ []) ≡ full by_future
+  pub finds_it_by_its_exchange : receiver_at ((Load, Word 3) ∷ (Exchange 3 0, Word 4) ∷ []) ≡ full by_poll
   pub receives :
       receiver_at (once_polled ++ (Load, Word 4) ∷ (Store 2, Done) ∷ []) ≡ resolved closed_itself
   pub finds_nobody_by_its_exchange :
@@ -88,12 +89,12 @@ pub record FutureRuns : Type 0 where
       Message
   pub drops_its_copy :
       ReceiverRun
-      (Future AsyncLoad)
+      (AsyncDrop AsyncLoad)
       (worded Load 0 ∷ worded (Exchange 0 3) 0 ∷ handed Withdraw 1 ∷ worded (Swap 2) 3 ∷ [])
       R.Done
   pub waits_for_the_sender_to_finish :
       ReceiverRun
-      (Future AsyncLoad)
+      (AsyncDrop AsyncLoad)
       (worded Load 0 ∷ worded (Exchange 0 3) 1 ∷ worded Load 2 ∷ worded (Swap 2) 2 ∷ did Free ∷ [])
       R.Done
 
@@ -106,6 +107,6 @@ pub record FutureRunsThatAreNot : Type 0 where
       ReceiverRun (Future PollLoad) (polling 4 ++ worded (Store 2) 4 ∷ took 7 ∷ []) Message → ⊥
   pub spins_in_vain : ReceiverRun (Future PollLoad) (worded Load 1 ∷ worded Load 1 ∷ []) Pending → ⊥
   pub drops_over_1 :
-      ReceiverRun (Future AsyncLoad) (worded Load 1 ∷ worded (Swap 2) 1 ∷ []) R.Done → ⊥
+      ReceiverRun (AsyncDrop AsyncLoad) (worded Load 1 ∷ worded (Swap 2) 1 ∷ []) R.Done → ⊥
   pub drops_its_copy_too_early :
-      ReceiverRun (Future AsyncLoad) (worded Load 0 ∷ handed Withdraw 1 ∷ worded (Swap 2) 0 ∷ []) R.Done → ⊥
+      ReceiverRun (AsyncDrop AsyncLoad) (worded Load 0 ∷ handed Withdraw 1 ∷ worded (Swap 2) 0 ∷ []) R.Done → ⊥

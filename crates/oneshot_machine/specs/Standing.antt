@@ -10,16 +10,18 @@ use Rattle.oneshot_machine.specs.declared.machine.Seen.TheVariants.{Done, Over, 
 use Rattle.oneshot_machine.specs.declared.machine.Step.{Step}
 use Rattle.oneshot_machine.specs.declared.machine.receiver.ReceiverPos.{ReceiverPos}
 use Rattle.oneshot_machine.specs.declared.machine.receiver.ReceiverPos.TheVariants as RP
-use Rattle.oneshot_machine.specs.declared.machine.future.FuturePos.TheVariants as F
-use Rattle.oneshot_machine.specs.declared.machine.receiver.ReceiverStart.TheVariants as RC
+use Rattle.oneshot_machine.specs.declared.machine.look.LookPos.TheVariants.{TryLoad, Take, CloseOnly}
+use Rattle.oneshot_machine.specs.declared.machine.by_ref.RefPos.TheVariants.{StartLoad, ParkLoad}
+use Rattle.oneshot_machine.specs.declared.machine.timed.TimedPos.TheVariants.{TimedLoad, EndBack, LateLoad}
+use Rattle.oneshot_machine.specs.declared.machine.future.FuturePos.TheVariants.{IntoFuture}
 use Rattle.oneshot_machine.specs.declared.machine.sender.SenderPos.{SenderPos}
 use Rattle.oneshot_machine.specs.declared.machine.sender.SenderPos.TheVariants as SP
 use Rattle.oneshot_machine.specs.declared.machine.sender.SenderCall.TheVariants as SC
 use Rattle.oneshot_machine.specs.declared.states.Op.{Op}
 use Rattle.oneshot_machine.specs.declared.states.Op.TheVariants as O
 use Rattle.oneshot_machine.specs.Rows.{Outcome, Goes, Answers}
-use Rattle.oneshot_machine.specs.Sender.{sender_start, sender_step, sender_row}
-use Rattle.oneshot_machine.specs.Receiver.{receiver_start, receiver_step, receiver_row}
+use Rattle.oneshot_machine.specs.Sender.{sender_start, sender_step, sender_row, sender_positions, sender_number}
+use Rattle.oneshot_machine.specs.Receiver.{receiver_step, receiver_row, receiver_opens, future_opens, receiver_positions, receiver_number, receiver_count}
 use Rattle.oneshot_machine.specs.Words.{Noted, op_of, is_same_op}
 
 -- An end's table, with all its positions and a number for each. `opens` are those at which a new
@@ -80,44 +82,6 @@ module _ {P : Type 0} (t : Table P) where
   abbrev pub operations : List Noted → List Op
   operations xs = made_at (standing xs)
 
-abbrev pub sender_positions : List SenderPos
-sender_positions =
-    SP.LookClosed
-    ∷ SP.SendWrite
-    ∷ SP.SendAdd
-    ∷ SP.SendTakeWaker
-    ∷ SP.SendFinal
-    ∷ SP.SendWake
-    ∷ SP.DropXor
-    ∷ SP.DropTakeWaker
-    ∷ SP.DropFinal
-    ∷ SP.DropWake
-    ∷ SP.DropFree
-    ∷ SP.ErrorLook
-    ∷ SP.IntoTake
-    ∷ SP.IntoFree
-    ∷ SP.ErrorDrop
-    ∷ SP.ErrorFree
-    ∷ []
-
-abbrev pub sender_number : SenderPos → ℕ
-sender_number SP.LookClosed = 0
-sender_number SP.SendWrite = 1
-sender_number SP.SendAdd = 2
-sender_number SP.SendTakeWaker = 3
-sender_number SP.SendFinal = 4
-sender_number SP.SendWake = 5
-sender_number SP.DropXor = 6
-sender_number SP.DropTakeWaker = 7
-sender_number SP.DropFinal = 8
-sender_number SP.DropWake = 9
-sender_number SP.DropFree = 10
-sender_number SP.ErrorLook = 11
-sender_number SP.IntoTake = 12
-sender_number SP.IntoFree = 13
-sender_number SP.ErrorDrop = 14
-sender_number SP.ErrorFree = 15
-
 -- a refused `send` leaves an error, and its calls
 abbrev pub sender_follows : SenderPos → Reply → List SenderPos
 sender_follows p R.Refused = sender_start SC.IntoInner ∷ sender_start SC.DropError ∷ []
@@ -133,135 +97,6 @@ sender_table =
       opens = sender_start SC.Send ∷ sender_start SC.Drop ∷ [];
       follows = sender_follows;
     }
-
-abbrev pub receiver_positions : List ReceiverPos
-receiver_positions =
-    RP.LookFull
-    ∷ RP.LookClosed
-    ∷ RP.TryLoad
-    ∷ RP.Close
-    ∷ RP.Take
-    ∷ RP.CloseOnly
-    ∷ RP.SumClock false
-    ∷ RP.SumClock true
-    ∷ RP.StartLoad false
-    ∷ RP.StartLoad true
-    ∷ RP.StartWrite false
-    ∷ RP.StartWrite true
-    ∷ RP.StartSwap false
-    ∷ RP.StartSwap true
-    ∷ RP.BackFull
-    ∷ RP.BackClosed
-    ∷ RP.Park
-    ∷ RP.ParkLoad
-    ∷ RP.Clock
-    ∷ RP.TimedPark
-    ∷ RP.TimedLoad
-    ∷ RP.EndSwap
-    ∷ RP.EndBack
-    ∷ RP.LatePark
-    ∷ RP.LateLoad
-    ∷ RP.RecvLoad
-    ∷ RP.RecvWrite
-    ∷ RP.RecvSwap
-    ∷ RP.RecvBackFull
-    ∷ RP.RecvBackClosed
-    ∷ RP.RecvPark
-    ∷ RP.RecvParkLoad
-    ∷ RP.RecvTake
-    ∷ RP.RecvFreeGot
-    ∷ RP.RecvFreeGone
-    ∷ RP.Future F.IntoFuture
-    ∷ RP.Future F.PollLoad
-    ∷ RP.Future F.PollCopy
-    ∷ RP.Future F.PollWrite
-    ∷ RP.Future F.PollExchange
-    ∷ RP.Future F.PollBackFull
-    ∷ RP.Future F.PollBackClosed
-    ∷ RP.Future F.AgainCopy
-    ∷ RP.Future F.AgainExchange
-    ∷ RP.Future F.AgainBack
-    ∷ RP.Future F.PollOwn
-    ∷ RP.Future F.PollSpin
-    ∷ RP.Future F.AsyncLoad
-    ∷ RP.Future F.AsyncExchange
-    ∷ RP.Future F.AsyncBack
-    ∷ RP.Future F.AsyncSpin
-    ∷ RP.DropSwap
-    ∷ RP.DropMessage
-    ∷ RP.DropFree
-    ∷ []
-
-abbrev pub receiver_number : ReceiverPos → ℕ
-receiver_number RP.LookFull = 0
-receiver_number RP.LookClosed = 1
-receiver_number RP.TryLoad = 2
-receiver_number RP.Close = 3
-receiver_number RP.Take = 4
-receiver_number RP.CloseOnly = 5
-receiver_number (RP.SumClock false) = 6
-receiver_number (RP.SumClock true) = 7
-receiver_number (RP.StartLoad false) = 8
-receiver_number (RP.StartLoad true) = 9
-receiver_number (RP.StartWrite false) = 10
-receiver_number (RP.StartWrite true) = 11
-receiver_number (RP.StartSwap false) = 12
-receiver_number (RP.StartSwap true) = 13
-receiver_number RP.BackFull = 14
-receiver_number RP.BackClosed = 15
-receiver_number RP.Park = 16
-receiver_number RP.ParkLoad = 17
-receiver_number RP.Clock = 18
-receiver_number RP.TimedPark = 19
-receiver_number RP.TimedLoad = 20
-receiver_number RP.EndSwap = 21
-receiver_number RP.EndBack = 22
-receiver_number RP.LatePark = 23
-receiver_number RP.LateLoad = 24
-receiver_number RP.RecvLoad = 25
-receiver_number RP.RecvWrite = 26
-receiver_number RP.RecvSwap = 27
-receiver_number RP.RecvBackFull = 28
-receiver_number RP.RecvBackClosed = 29
-receiver_number RP.RecvPark = 30
-receiver_number RP.RecvParkLoad = 31
-receiver_number RP.RecvTake = 32
-receiver_number RP.RecvFreeGot = 33
-receiver_number RP.RecvFreeGone = 34
-receiver_number (RP.Future F.IntoFuture) = 35
-receiver_number (RP.Future F.PollLoad) = 36
-receiver_number (RP.Future F.PollCopy) = 37
-receiver_number (RP.Future F.PollWrite) = 38
-receiver_number (RP.Future F.PollExchange) = 39
-receiver_number (RP.Future F.PollBackFull) = 40
-receiver_number (RP.Future F.PollBackClosed) = 41
-receiver_number (RP.Future F.AgainCopy) = 42
-receiver_number (RP.Future F.AgainExchange) = 43
-receiver_number (RP.Future F.AgainBack) = 44
-receiver_number (RP.Future F.PollOwn) = 45
-receiver_number (RP.Future F.PollSpin) = 46
-receiver_number (RP.Future F.AsyncLoad) = 47
-receiver_number (RP.Future F.AsyncExchange) = 48
-receiver_number (RP.Future F.AsyncBack) = 49
-receiver_number (RP.Future F.AsyncSpin) = 50
-receiver_number RP.DropSwap = 51
-receiver_number RP.DropMessage = 52
-receiver_number RP.DropFree = 53
-
-abbrev pub receiver_opens : List ReceiverPos
-receiver_opens =
-    receiver_start RC.TryRecv
-    ∷ receiver_start RC.RecvRef
-    ∷ receiver_start RC.RecvDeadline
-    ∷ receiver_start (RC.RecvTimeout true)
-    ∷ receiver_start (RC.RecvTimeout false)
-    ∷ receiver_start RC.Recv
-    ∷ receiver_start RC.IntoFuture
-    ∷ receiver_start RC.Drop
-    ∷ []
-
-abbrev pub future_opens : List ReceiverPos
-future_opens = receiver_start RC.Poll ∷ receiver_start RC.DropAsync ∷ []
 
 -- where a receiver stands, which is a future from its `into_future` on: some positions have both
 pub data Standpoint : Type 0 where
@@ -282,19 +117,19 @@ standpoint_row (as_future p) seen = option_map (outcome_at as_future) (receiver_
 
 abbrev pub standpoint_number : Standpoint → ℕ
 standpoint_number (plainly p) = receiver_number p
-standpoint_number (as_future p) = 54 + receiver_number p
+standpoint_number (as_future p) = receiver_count + receiver_number p
 
 -- after `recv` and a drop no call, after `into_future` those of a future, after any other each
 abbrev pub receiver_follows : ReceiverPos → Reply → List Standpoint
-receiver_follows RP.TryLoad reply = map plainly receiver_opens
-receiver_follows RP.Take reply = map plainly receiver_opens
-receiver_follows RP.CloseOnly reply = map plainly receiver_opens
-receiver_follows (RP.StartLoad timed) reply = map plainly receiver_opens
-receiver_follows RP.ParkLoad reply = map plainly receiver_opens
-receiver_follows RP.TimedLoad reply = map plainly receiver_opens
-receiver_follows RP.EndBack reply = map plainly receiver_opens
-receiver_follows RP.LateLoad reply = map plainly receiver_opens
-receiver_follows (RP.Future F.IntoFuture) reply = map as_future future_opens
+receiver_follows (RP.Look TryLoad) reply = map plainly receiver_opens
+receiver_follows (RP.Look Take) reply = map plainly receiver_opens
+receiver_follows (RP.Look CloseOnly) reply = map plainly receiver_opens
+receiver_follows (RP.Ref (StartLoad timed)) reply = map plainly receiver_opens
+receiver_follows (RP.Ref ParkLoad) reply = map plainly receiver_opens
+receiver_follows (RP.Timed TimedLoad) reply = map plainly receiver_opens
+receiver_follows (RP.Timed EndBack) reply = map plainly receiver_opens
+receiver_follows (RP.Timed LateLoad) reply = map plainly receiver_opens
+receiver_follows (RP.Future IntoFuture) reply = map as_future future_opens
 receiver_follows _ reply = []
 
 -- after a poll each call of a future, after its drop none

@@ -1,13 +1,25 @@
 //! The words in which both machines speak: ends, steps, what a step saw, calls and replies.
 
+mod async_drop;
+mod by_ref;
+mod drop;
 mod future;
+mod look;
 mod receiver;
 mod sender;
+mod timed;
+mod value;
 
 use crate::states::Op;
+pub use async_drop::AsyncDropPos;
+pub use by_ref::RefPos;
+pub use drop::DropPos;
 pub use future::FuturePos;
+pub use look::LookPos;
 pub use receiver::{ReceiverPos, ReceiverStart};
 pub use sender::{SenderCall, SenderPos};
+pub use timed::TimedPos;
+pub use value::ValuePos;
 
 /// An end of the channel.
 #[derive(Clone, Copy, Debug, Eq, PartialEq)]

@@ -7,8 +7,8 @@ use Rattle.oneshot_machine.specs.Sender.{sender_step}
 use Rattle.oneshot_machine.specs.declared.machine.End.{End}
 use Rattle.oneshot_machine.specs.declared.machine.Step.{Step}
 use Rattle.oneshot_machine.specs.declared.machine.Step.TheVariants as T
-use Rattle.oneshot_world.specs.Calls.{calls_of}
-use Rattle.oneshot_world.specs.State.{freed_by, place_left, move_of, sender_puts, receiver_puts, reply_of}
+use Rattle.oneshot_world.specs.Scripts.{calls_of}
+use Rattle.oneshot_world.specs.Effects.{freed_by, place_left, move_of, sender_puts, receiver_puts, reply_of}
 use Rattle.oneshot_world.specs.World.{World, Tells_from, Tells, opening, opening_place, side_of, receiver_told}
 use Rattle.oneshot_world.specs.declared.script.Move.{Move}
 use Rattle.oneshot_world.specs.declared.script.ReceiverScript.{ReceiverScript}
@@ -19,13 +19,13 @@ use Rattle.oneshot_world.specs.declared.trace.Entry.{Entry}
 use Rattle.oneshot_world.specs.declared.trace.Entry.TheVariants.{Idle, Made as Made_entry}
 use Rattle.oneshot_world.specs.declared.trace.Place.{Place}
 use Rattle.oneshot_world.specs.declared.trace.Place.TheVariants.{NotSent}
-use Rattle.oneshot_world.proofs.Reached.{sender_world, receiver_world}
-use Rattle.oneshot_world.proofs.Turned.{Turned, sender_idle, sender_made, receiver_idle, receiver_made, turned}
-use Rattle.oneshot_laws.specs.Words.{is_free}
+use Rattle.oneshot_world.proofs.ReachedMoves.{sender_world, receiver_world}
+use Rattle.oneshot_world.proofs.WorldTurns.{Turned, sender_idle, sender_made, receiver_idle, receiver_made, turned}
+use Rattle.oneshot_laws.specs.Entries.{is_free}
 use Rattle.oneshot_laws.specs.Object.{Object}
 use Rattle.oneshot_laws.specs.Marks.{Reading, marks, marks_from}
 use Rattle.oneshot_laws.specs.Holders.{frees, is_freed}
-use Rattle.oneshot_laws.specs.Places.{steps, last_place, message_moves, last_message_place}
+use Rattle.oneshot_laws.specs.MessagePlaces.{made_entries, last_place, message_moves, last_message_place}
 use Rattle.oneshot_replay.specs.Rest.{message_of, rest_of, rest_at}
 use Rattle.oneshot_replay.specs.Told.{last_of}
 
@@ -48,12 +48,12 @@ freed_at freed _ = or_false freed
 
 -- the block is freed where an entry freed it
 abbrev FreedClaim : List Entry → Type 0
-FreedClaim entries = (n : ℕ) (w : World) (worlds : List World) (moves : List Move) → Tells_from n w worlds moves entries → (last_of w worlds).state.freed ≡ (w.state.freed || list_any (λ e. is_free e.step) (steps entries))
+FreedClaim entries = (n : ℕ) (w : World) (worlds : List World) (moves : List Move) → Tells_from n w worlds moves entries → (last_of w worlds).state.freed ≡ (w.state.freed || list_any (λ e. is_free e.step) (made_entries entries))
 
 freed_on : (freed : Bool) (step : Step) (later : Bool) (last : Bool) → last ≡ (freed_by freed step || later) → last ≡ (freed || (is_free step || later))
 freed_on freed step later last h = h ∙ ap (λ now. now || later) (freed_at freed step) ∙ or_more freed (is_free step) later
 
-freed_turn : (entries : List Entry) → FreedClaim entries → (n : ℕ) (side : End) (w : World) (entry : Entry) (next : World) (worlds : List World) (moves : List Move) → Turned n w side entry next → Tells_from (n + 1) next worlds moves entries → (last_of next worlds).state.freed ≡ (w.state.freed || list_any (λ e. is_free e.step) (steps (entry ∷ entries)))
+freed_turn : (entries : List Entry) → FreedClaim entries → (n : ℕ) (side : End) (w : World) (entry : Entry) (next : World) (worlds : List World) (moves : List Move) → Turned n w side entry next → Tells_from (n + 1) next worlds moves entries → (last_of next worlds).state.freed ≡ (w.state.freed || list_any (λ e. is_free e.step) (made_entries (entry ∷ entries)))
 freed_turn entries later n _ w _ _ worlds moves (sender_idle at) told = later (n + 1) w worlds moves told
 freed_turn entries later n _ w _ _ worlds moves (receiver_idle at) told = later (n + 1) w worlds moves told
 freed_turn entries later n _ w _ _ worlds moves (sender_made position row at by) told =
@@ -72,7 +72,7 @@ freed_steps (entry ∷ entries) n w [] [] told = elim told [ ]
 freed_steps (entry ∷ entries) n w [] (move ∷ moves) told = elim told [ ]
 freed_steps (entry ∷ entries) n w (next ∷ worlds) [] told = elim told [ ]
 
-freed_marks : (es : List Entry) (s r : Reading) (n : ℕ) (o : Object) → list_any (λ e. is_free e.step) (steps es) ≡ list_any frees (marks_from s r n o es)
+freed_marks : (es : List Entry) (s r : Reading) (n : ℕ) (o : Object) → list_any (λ e. is_free e.step) (made_entries es) ≡ list_any frees (marks_from s r n o es)
 freed_marks [] s r n o = refl
 freed_marks (Idle side ∷ es) s r n o = freed_marks es s r (n + 1) o
 freed_marks (Made_entry e ∷ es) s r n o = ap (λ later. is_free e.step || later) (freed_marks es _ _ _ _)

@@ -2,15 +2,15 @@
 
 ghost use Rattle.std.specs.Prelude.{◌≡◌, IfOk, IfErr, IsTrue, length};
 ghost use Rattle.std.specs.Option.{option_map};
-ghost use Rattle.oneshot_world.specs.Calls.{calls_of};
+ghost use Rattle.oneshot_world.specs.Scripts.{calls_of};
 ghost use Rattle.oneshot_laws.specs.Marks.{marks};
 ghost use Rattle.oneshot_laws.specs.History.{has_legal_history};
 ghost use Rattle.oneshot_laws.specs.Idle.{is_idle_right};
-ghost use Rattle.oneshot_laws.specs.Places.{is_message_followed, is_message_put, is_message_ended, last_message_place};
-ghost use Rattle.oneshot_laws.specs.Wakers.{AreWakersRight, is_cell_kept};
+ghost use Rattle.oneshot_laws.specs.MessagePlaces.{is_message_followed, is_message_put, is_message_ended, last_message_place};
+ghost use Rattle.oneshot_laws.specs.WakerPlaces.{AreWakersRight, is_cell_kept};
 ghost use Rattle.oneshot_laws.specs.Unwoken.{NeverUnwoken};
 ghost use Rattle.oneshot_laws.specs.Holders.{is_freed, is_freed_right};
-ghost use Rattle.oneshot_laws.specs.Laws.{is_gone_after_got, is_got_after_full, is_gone_after_closed, is_refused_after_closed, is_nothing_only_if_open, is_dropped_once};
+ghost use Rattle.oneshot_laws.specs.Replies.{is_gone_after_got, is_got_after_full, is_gone_after_closed, is_refused_after_closed, is_nothing_only_if_open, is_dropped_once};
 ghost use Rattle.oneshot_laws.specs.Alone.{are_lone_calls_right};
 ghost use Rattle.oneshot_laws.specs.Bounds.{are_calls_bounded, is_soon_answered};
 ghost use Rattle.oneshot_replay.specs.Rest.{message_of, rest_of};

@@ -1,27 +1,25 @@
--- What of a world is finite, all but the calls that the scripts have left, and which of it a run can reach: the checker computes that.
-use Rattle.std.specs.Prelude.{◌≡◌, ℕ, ◌+◌, ◌*◌, Bool, true, false, ◌&&◌, ◌||◌, ◌==◌, is_some, List, [], ◌∷◌, ◌++◌, map, Option, Some, None}
+-- What of a world is finite, all but the calls that the scripts have left, and the moves from there.
+use Rattle.std.specs.Prelude.{ℕ, Bool, true, false, List, [], ◌∷◌, ◌++◌, map, filter, Option, Some, None}
 use Rattle.std.specs.Option.{option_map}
 use Rattle.std.specs.List.{filter_map, flat_map}
-use Rattle.oneshot_machine.specs.declared.machine.End.{End}
 use Rattle.oneshot_machine.specs.declared.machine.End.TheVariants.{Sender, Receiver}
-use Rattle.oneshot_machine.specs.Standing.{sender_number, receiver_number}
-use Rattle.oneshot_world.specs.Calls.{Call, Sender_is_closed, Send, Drop_sender, As_inner, Into_inner, Drop_error, Try_recv, Recv_ref, Recv_deadline, Recv_timeout, Recv, Has_message, Is_closed, Drop_receiver, Into_future, Poll, Drop_async, Stray, first, is_none_left}
-use Rattle.oneshot_world.specs.Classes.{Classes, all_alike, as_told, as_state, as_call, as_entry}
-use Rattle.oneshot_world.specs.Explore.{Tree, reach, is_in}
-use Rattle.oneshot_world.specs.State.{opening_state, turns}
-use Rattle.oneshot_world.specs.Wakers.{name_code, is_same_name}
+use Rattle.oneshot_machine.specs.declared.machine.End.{End}
+use Rattle.oneshot_world.specs.Calls.{Call, Of_sender, Of_receiver, Poll, first}
+use Rattle.oneshot_machine.specs.Sender.{all_sender_calls}
+use Rattle.oneshot_machine.specs.Receiver.{all_receiver_calls}
+use Rattle.oneshot_world.specs.Classes.{Classes, as_told, as_state, as_call, as_entry}
+use Rattle.oneshot_world.specs.Scripts.{begins_sender, begins_error, begins_receiver, begins_async}
+use Rattle.oneshot_world.specs.State.{turns}
 use Rattle.oneshot_world.specs.World.{World, nothing_told}
-use Rattle.oneshot_world.specs.declared.state.ReceiverState.{ReceiverState}
 use Rattle.oneshot_world.specs.declared.state.ReceiverState.TheVariants as RS
-use Rattle.oneshot_world.specs.declared.state.SenderState.{SenderState}
+use Rattle.oneshot_world.specs.declared.state.ReceiverState.{ReceiverState}
 use Rattle.oneshot_world.specs.declared.state.SenderState.TheVariants as SS
+use Rattle.oneshot_world.specs.declared.state.SenderState.{SenderState}
 use Rattle.oneshot_world.specs.declared.state.State.{State}
 use Rattle.oneshot_world.specs.declared.trace.Entry.{Entry}
 use Rattle.oneshot_world.specs.declared.trace.Place.{Place}
-use Rattle.oneshot_world.specs.declared.trace.Place.TheVariants.{NotSent, InCell, InError, Delivered, FromError, Dropped}
 use Rattle.oneshot_world.specs.declared.trace.WakerName.TheVariants.{Copy}
 use Rattle.oneshot_world.specs.declared.wakers.Told.{Told}
-use Rattle.oneshot_world.specs.declared.wakers.Wakers.{Wakers}
 
 -- the state, and each end's call under way
 pub record Control : Type 0 where
@@ -55,37 +53,16 @@ pub record Begin : Type 0 where
   pub told : Told
   pub call : Option Call
 
-abbrev pub begins_with : End → Told → List Call → List Begin
-begins_with side t calls = map (λ call. record { side = side; told = t; call = Some call }) calls
-
--- a send is there where there is a message
-abbrev pub sends_begins : Option Place → List Begin
-sends_begins None = []
-sends_begins (Some place) = record { side = Sender; told = nothing_told; call = Some Send } ∷ []
+-- one for each of these calls that the end may begin
+abbrev pub begins_with : End → Told → (Call → Bool) → List Call → List Begin
+begins_with side t may calls = map (λ call. record { side = side; told = t; call = Some call }) (filter may calls)
 
 -- the moves of an end: it goes on with the call under way, or begins any call
 abbrev pub sender_begins : Option Place → SenderState → Option Call → List Begin
-sender_begins message SS.Ready call = begins_with Sender nothing_told (Sender_is_closed ∷ Drop_sender ∷ []) ++ sends_begins message
+sender_begins message SS.Ready call = begins_with Sender nothing_told (begins_sender message) (map Of_sender all_sender_calls)
 sender_begins message (SS.At position) call = record { side = Sender; told = nothing_told; call = call } ∷ []
-sender_begins message SS.Failed call = begins_with Sender nothing_told (As_inner ∷ Into_inner ∷ Drop_error ∷ [])
+sender_begins message SS.Failed call = begins_with Sender nothing_told begins_error (map Of_sender all_sender_calls)
 sender_begins message SS.Ended call = []
-
-abbrev pub of_receiver : List Call
-of_receiver =
-    Try_recv
-    ∷ Recv_ref
-    ∷ Recv_deadline
-    ∷ Recv_timeout false
-    ∷ Recv_timeout true
-    ∷ Recv
-    ∷ Has_message
-    ∷ Is_closed
-    ∷ Drop_receiver
-    ∷ Into_future
-    ∷ []
-
-abbrev pub of_future : List Call
-of_future = Has_message ∷ Is_closed ∷ Drop_async ∷ []
 
 abbrev pub plain_told : Bool → Told
 plain_told answer = record { answer = answer; copy = None; own = None }
@@ -106,9 +83,11 @@ goes_on_with copies answer (Some (Poll number)) = begins_poll copies answer numb
 goes_on_with copies answer call = record { side = Receiver; told = plain_told answer; call = call } ∷ []
 
 abbrev pub receiver_begins_at : List ℕ → (ℕ → List ℕ) → Bool → ReceiverState → Bool → Option Call → List Begin
-receiver_begins_at polls copies answer RS.Ready false call = begins_with Receiver (plain_told answer) of_receiver
+receiver_begins_at polls copies answer RS.Ready false call =
+    begins_with Receiver (plain_told answer) begins_receiver (map Of_receiver all_receiver_calls)
 receiver_begins_at polls copies answer RS.Ready true call =
-    begins_with Receiver (plain_told answer) of_future ++ flat_map (begins_poll copies answer) polls
+    begins_with Receiver (plain_told answer) begins_async (map Of_receiver all_receiver_calls)
+    ++ flat_map (begins_poll copies answer) polls
 receiver_begins_at polls copies answer (RS.At position) future call = goes_on_with copies answer call
 receiver_begins_at polls copies answer RS.Ended future call = []
 
@@ -149,202 +128,3 @@ as_control k c =
 
 abbrev pub as_control_turned : Classes → Entry × Control → Entry × Control
 as_control_turned k turned = (as_entry k turned.0, as_control k turned.1)
-
--- codes, by which values are told apart
-abbrev pub sender_code : SenderState → ℕ
-sender_code SS.Ready = 0
-sender_code SS.Failed = 1
-sender_code SS.Ended = 2
-sender_code (SS.At position) = 3 + sender_number position
-
-abbrev pub receiver_code : ReceiverState → ℕ
-receiver_code RS.Ready = 0
-receiver_code RS.Ended = 1
-receiver_code (RS.At position) = 2 + receiver_number position
-
-abbrev pub call_code : Call → ℕ
-call_code Sender_is_closed = 1
-call_code Send = 2
-call_code Drop_sender = 3
-call_code As_inner = 4
-call_code Into_inner = 5
-call_code Drop_error = 6
-call_code Try_recv = 7
-call_code Recv_ref = 8
-call_code Recv_deadline = 9
-call_code (Recv_timeout false) = 10
-call_code (Recv_timeout true) = 11
-call_code Recv = 12
-call_code Has_message = 13
-call_code Is_closed = 14
-call_code Drop_receiver = 15
-call_code Stray = 16
-call_code Into_future = 17
-call_code Drop_async = 18
-call_code (Poll number) = 19
-
--- the number of a poll
-abbrev pub poll_code : Call → ℕ
-poll_code (Poll number) = number
-poll_code _ = 0
-
-abbrev pub under_way_code : Option Call → ℕ
-under_way_code None = 0
-under_way_code (Some call) = call_code call + poll_code call
-
-abbrev pub is_same_call : Option Call → Option Call → Bool
-is_same_call None None = true
-is_same_call (Some a) (Some b) = call_code a == call_code b && poll_code a == poll_code b
-is_same_call _ _ = false
-
-abbrev pub place_code : Option Place → ℕ
-place_code None = 0
-place_code (Some NotSent) = 1
-place_code (Some InCell) = 2
-place_code (Some InError) = 3
-place_code (Some Delivered) = 4
-place_code (Some FromError) = 5
-place_code (Some Dropped) = 6
-
-abbrev pub bool_code : Bool → ℕ
-bool_code true = 1
-bool_code false = 0
-
-abbrev pub is_same_wakers : Wakers → Wakers → Bool
-is_same_wakers v w =
-    is_same_name v.cell w.cell
-    && (is_same_name v.hand w.hand && (is_same_name v.taken w.taken && bool_code v.token == bool_code w.token))
-
-abbrev pub is_same_state : State → State → Bool
-is_same_state s t =
-    sender_code s.sender == sender_code t.sender
-    && (receiver_code s.receiver == receiver_code t.receiver
-    && (s.word == t.word
-    && (bool_code s.freed == bool_code t.freed
-    && (bool_code s.future == bool_code t.future
-    && (place_code s.message == place_code t.message && is_same_wakers s.wakers t.wakers)))))
-
-abbrev pub is_same_control : Control → Control → Bool
-is_same_control c d =
-    is_same_state c.state d.state
-    && (is_same_call c.sender d.sender && is_same_call c.receiver d.receiver)
-
--- the order in which the search keeps them; two values that a run can reach never have one code, or the search would leave one of them out
-abbrev pub wakers_code : Wakers → ℕ
-wakers_code w = ((name_code w.cell * 4 + name_code w.hand) * 4 + name_code w.taken) * 2 + bool_code w.token
-
-abbrev pub state_code : State → ℕ
-state_code s =
-    (((((sender_code s.sender * 64 + receiver_code s.receiver) * 8 + s.word) * 8 + place_code s.message) * 128
-    + wakers_code s.wakers) * 2
-    + bool_code s.freed) * 2
-    + bool_code s.future
-
-abbrev pub control_code : Control → ℕ
-control_code c = (state_code c.state * 32 + under_way_code c.sender) * 32 + under_way_code c.receiver
-
-abbrev pub opening_control : Option Place → Control
-opening_control message = record { state = opening_state message; sender = None; receiver = None }
-
--- one class for all polls, and one for all copies
-abbrev pub one_poll : List ℕ
-one_poll = 0 ∷ []
-
-abbrev pub one_copy : ℕ → List ℕ
-one_copy number = 0 ∷ []
-
--- all that a run can reach, with all copies and all polls alike
-unfoldable pub reached : Tree Control
-reached =
-    reach control_code is_same_control (successors one_poll one_copy) 4000
-    (opening_control None ∷ opening_control (Some NotSent) ∷ [])
-
-abbrev pub is_reached : Control → Bool
-is_reached c = is_in control_code is_same_control c reached
-
--- What is left of a script is a script: calls that leave the end in place, and at the end perhaps one that ends it.
-abbrev pub is_script : (Call → Bool) → (Call → Bool) → List Call → Bool
-is_script stays ends [] = true
-is_script stays ends (call ∷ calls) = (stays call && is_script stays ends calls) || (ends call && is_none_left calls)
-
-abbrev pub stays_sender : Call → Bool
-stays_sender Sender_is_closed = true
-stays_sender _ = false
-
--- a send is there where there is a message
-abbrev pub ends_sender : Option Place → Call → Bool
-ends_sender message Send = is_some message
-ends_sender message Drop_sender = true
-ends_sender message _ = false
-
-abbrev pub stays_error : Call → Bool
-stays_error As_inner = true
-stays_error _ = false
-
-abbrev pub ends_error : Call → Bool
-ends_error Into_inner = true
-ends_error Drop_error = true
-ends_error _ = false
-
-abbrev pub stays_receiver : Call → Bool
-stays_receiver Try_recv = true
-stays_receiver Recv_ref = true
-stays_receiver Recv_deadline = true
-stays_receiver (Recv_timeout representable) = true
-stays_receiver Has_message = true
-stays_receiver Is_closed = true
-stays_receiver _ = false
-
-abbrev pub ends_receiver : Call → Bool
-ends_receiver Recv = true
-ends_receiver Drop_receiver = true
-ends_receiver _ = false
-
-abbrev pub stays_async : Call → Bool
-stays_async (Poll number) = true
-stays_async Has_message = true
-stays_async Is_closed = true
-stays_async _ = false
-
-abbrev pub ends_async : Call → Bool
-ends_async Drop_async = true
-ends_async _ = false
-
-abbrev pub is_sender_script : Option Place → List Call → Bool
-is_sender_script message calls = is_script stays_sender (ends_sender message) calls
-
-abbrev pub is_error_script : List Call → Bool
-is_error_script calls = is_script stays_error ends_error calls
-
-abbrev pub is_async_script : List Call → Bool
-is_async_script calls = is_script stays_async ends_async calls
-
--- a receiver becomes a future at the most once
-abbrev pub is_receiver_script : List Call → Bool
-is_receiver_script [] = true
-is_receiver_script (Into_future ∷ calls) = is_async_script calls
-is_receiver_script (call ∷ calls) =
-    (stays_receiver call && is_receiver_script calls) || (ends_receiver call && is_none_left calls)
-
-abbrev pub has_script : Bool → List Call → Bool
-has_script false calls = is_receiver_script calls
-has_script true calls = is_async_script calls
-
--- while a call is under way, what is left is a script of the sender or of the error
-abbrev pub sender_has : Option Place → SenderState → List Call → Bool
-sender_has message SS.Ready calls = is_sender_script message calls
-sender_has message (SS.At position) calls = is_sender_script message calls || is_error_script calls
-sender_has message SS.Failed calls = is_error_script calls
-sender_has message SS.Ended calls = is_none_left calls
-
-abbrev pub receiver_has : ReceiverState → Bool → List Call → Bool
-receiver_has RS.Ready future calls = has_script future calls
-receiver_has (RS.At position) future calls = has_script future calls
-receiver_has RS.Ended future calls = is_none_left calls
-
--- what holds of the world before each move of each run
-pub record IsReached (w : World) : Type 0 where
-  pub control : is_reached (as_control all_alike (control_of w)) ≡ true
-  pub sender : sender_has w.state.message w.state.sender w.sender.calls ≡ true
-  pub error : is_error_script w.sender.error ≡ true
-  pub receiver : receiver_has w.state.receiver w.state.future w.receiver.calls ≡ true

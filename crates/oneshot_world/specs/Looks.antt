@@ -1,8 +1,8 @@
 -- What is left of a script that looks so many times and then makes its last call.
 use Rattle.std.specs.Prelude.{List, ◌++◌, map, replicate}
 use Rattle.std.specs.Option.{option_to_list}
-use Rattle.oneshot_world.specs.Calls.{Call, of_sender}
-use Rattle.oneshot_world.specs.declared.calls.Looks.{Looks}
+use Rattle.oneshot_world.specs.Calls.{Call, Of_sender}
+use Rattle.oneshot_world.specs.declared.calls.sender.Looks.{Looks}
 
 abbrev pub looks_left : Looks → List Call
-looks_left left = replicate left.looks (of_sender left.look) ++ map of_sender (option_to_list left.last)
+looks_left left = replicate left.looks (Of_sender left.look) ++ map Of_sender (option_to_list left.last)

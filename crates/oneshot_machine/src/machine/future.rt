@@ -1,11 +1,12 @@
-//! The machine of a receiver that is a future: `into_future`, `poll`, and the future's drop.
+//! The receiver as a future: `into_future` and `poll`.
 
 ghost use Rattle.std.specs.Prelude.{◌≡◌, Some, None, IfSome};
 ghost use Rattle.std.specs.Option.{option_map};
 ghost use Rattle.oneshot_machine.specs.Rows.{outcome, row_for};
-ghost use Rattle.oneshot_machine.specs.Receiver.{future_step, future_rows};
+ghost use Rattle.oneshot_machine.specs.Future.{future_step, future_rows};
 ghost use Rattle.oneshot_machine.specs.declared.machine.receiver.ReceiverPos.TheVariants.{Future};
 
+use crate::machine::look::{self, LookPos};
 use crate::machine::receiver::ReceiverPos;
 use crate::machine::{Reply, Seen, Step};
 use crate::states::{DISCONNECTED, EMPTY, MESSAGE, Op, RECEIVING, UNPARKING};
@@ -37,14 +38,6 @@ pub enum FuturePos {
     PollOwn,
     /// `poll` found a sender that is about to finish, and is about to read the word again.
     PollSpin,
-    /// The future's drop is about to read the word.
-    AsyncLoad,
-    /// The future's drop is about to put the word of a receiver that does not wait.
-    AsyncExchange,
-    /// The future's drop is about to take the stored copy back.
-    AsyncBack,
-    /// The future's drop found a sender that is about to finish, and is about to read the word again.
-    AsyncSpin,
 }
 
 impl FuturePos {
@@ -65,10 +58,6 @@ impl FuturePos {
             FuturePos::AgainBack => Step::Withdraw,
             FuturePos::PollOwn => Step::WakeOwn,
             FuturePos::PollSpin => Step::Word(Op::Load),
-            FuturePos::AsyncLoad => Step::Word(Op::Load),
-            FuturePos::AsyncExchange => Step::Word(Op::Exchange(RECEIVING, EMPTY)),
-            FuturePos::AsyncBack => Step::Withdraw,
-            FuturePos::AsyncSpin => Step::Word(Op::Load),
         }
     }
 
@@ -81,7 +70,7 @@ impl FuturePos {
             (FuturePos::IntoFuture, Seen::Done) => self.answers(Reply::Future),
             (FuturePos::PollLoad, Seen::Word(EMPTY)) => goes(FuturePos::PollCopy),
             (FuturePos::PollLoad, Seen::Word(RECEIVING)) => goes(FuturePos::AgainCopy),
-            (FuturePos::PollLoad, Seen::Word(MESSAGE)) => (ReceiverPos::Close, None),
+            (FuturePos::PollLoad, Seen::Word(MESSAGE)) => look::goes(LookPos::Close),
             (FuturePos::PollLoad, Seen::Word(DISCONNECTED)) => self.answers(Reply::Disconnected),
             (FuturePos::PollLoad, Seen::Word(UNPARKING)) => goes(FuturePos::PollSpin),
             (FuturePos::PollCopy, Seen::Refused(false)) => goes(FuturePos::PollWrite),
@@ -90,34 +79,21 @@ impl FuturePos {
             (FuturePos::PollExchange, Seen::Word(EMPTY)) => self.answers(Reply::Pending),
             (FuturePos::PollExchange, Seen::Word(MESSAGE)) => goes(FuturePos::PollBackFull),
             (FuturePos::PollExchange, Seen::Word(DISCONNECTED)) => goes(FuturePos::PollBackClosed),
-            (FuturePos::PollBackFull, Seen::Done) => (ReceiverPos::Close, None),
+            (FuturePos::PollBackFull, Seen::Done) => look::goes(LookPos::Close),
             (FuturePos::PollBackClosed, Seen::Done) => self.answers(Reply::Disconnected),
             (FuturePos::AgainCopy, Seen::Refused(false)) => goes(FuturePos::AgainExchange),
             (FuturePos::AgainCopy, Seen::Refused(true)) => goes(FuturePos::PollOwn),
             (FuturePos::AgainExchange, Seen::Word(RECEIVING)) => goes(FuturePos::AgainBack),
-            (FuturePos::AgainExchange, Seen::Word(MESSAGE)) => (ReceiverPos::Close, None),
+            (FuturePos::AgainExchange, Seen::Word(MESSAGE)) => look::goes(LookPos::Close),
             (FuturePos::AgainExchange, Seen::Word(DISCONNECTED)) => self.answers(
                 Reply::Disconnected,
             ),
             (FuturePos::AgainExchange, Seen::Word(UNPARKING)) => goes(FuturePos::PollOwn),
             (FuturePos::AgainBack, Seen::Done) => goes(FuturePos::PollWrite),
             (FuturePos::PollOwn, Seen::Done) => self.answers(Reply::Pending),
-            (FuturePos::PollSpin, Seen::Word(MESSAGE)) => (ReceiverPos::Close, None),
+            (FuturePos::PollSpin, Seen::Word(MESSAGE)) => look::goes(LookPos::Close),
             (FuturePos::PollSpin, Seen::Word(DISCONNECTED)) => self.answers(Reply::Disconnected),
             (FuturePos::PollSpin, Seen::Word(UNPARKING)) => goes(FuturePos::PollSpin),
-            (FuturePos::AsyncLoad, Seen::Word(RECEIVING)) => goes(FuturePos::AsyncExchange),
-            (FuturePos::AsyncLoad, Seen::Word(UNPARKING)) => goes(FuturePos::AsyncSpin),
-            (FuturePos::AsyncLoad, Seen::Word(DISCONNECTED)) => (ReceiverPos::DropSwap, None),
-            (FuturePos::AsyncLoad, Seen::Word(EMPTY)) => (ReceiverPos::DropSwap, None),
-            (FuturePos::AsyncLoad, Seen::Word(MESSAGE)) => (ReceiverPos::DropSwap, None),
-            (FuturePos::AsyncExchange, Seen::Word(RECEIVING)) => goes(FuturePos::AsyncBack),
-            (FuturePos::AsyncExchange, Seen::Word(UNPARKING)) => goes(FuturePos::AsyncSpin),
-            (FuturePos::AsyncExchange, Seen::Word(DISCONNECTED)) => (ReceiverPos::DropSwap, None),
-            (FuturePos::AsyncExchange, Seen::Word(MESSAGE)) => (ReceiverPos::DropSwap, None),
-            (FuturePos::AsyncBack, Seen::Done) => (ReceiverPos::DropSwap, None),
-            (FuturePos::AsyncSpin, Seen::Word(UNPARKING)) => goes(FuturePos::AsyncSpin),
-            (FuturePos::AsyncSpin, Seen::Word(DISCONNECTED)) => (ReceiverPos::DropSwap, None),
-            (FuturePos::AsyncSpin, Seen::Word(MESSAGE)) => (ReceiverPos::DropSwap, None),
             _ => return None,
         };
         Some(found)
@@ -131,7 +107,7 @@ impl FuturePos {
     }
 }
 
-// The row that leads to another position of a future.
+// The row that leads here.
 fn goes(next: FuturePos) -> (ReceiverPos, Option<Reply>)
     ensures { result ≡ (Future next, None) }
 {

@@ -1,6 +1,6 @@
 use Rattle.std.proofs.Common.{rules, refl}
-use Rattle.oneshot_machine.specs.declared.machine.receiver.ReceiverPos.TheVariants.{Future}
-use Rattle.oneshot_machine.specs.declared.machine.future.FuturePos.TheVariants.{AsyncExchange}
+use Rattle.oneshot_machine.specs.declared.machine.receiver.ReceiverPos.TheVariants.{AsyncDrop}
+use Rattle.oneshot_machine.specs.declared.machine.async_drop.AsyncDropPos.TheVariants.{AsyncExchange}
 use Rattle.oneshot_machine.specs.declared.states.Op.TheVariants.{Swap, Exchange}
 use Rattle.oneshot_drive.proofs.AfterOperations.{is_in, asks}
 use Rattle.oneshot_drive.proofs.LeftCopies.{backed, backed_copy, backed_sender}
@@ -29,4 +29,4 @@ pub returns-in_default-clause-went : goal.returns-in_default-clause-went
 returns-in_default-clause-went g c = backed_out c.word.result (backed_end (backed c.word.result c.requires c.word.ensures.finds c.word.ensures.list) (search rules) (search rules)) c.word.ensures.list
 
 pub returns-in_default-clause-ends : goal.returns-in_default-clause-ends
-returns-in_default-clause-ends g c = end_asks (Future AsyncExchange) (backed_end (backed c.word.result c.requires c.word.ensures.finds c.word.ensures.list) (search rules) (search rules))
+returns-in_default-clause-ends g c = end_asks (AsyncDrop AsyncExchange) (backed_end (backed c.word.result c.requires c.word.ensures.finds c.word.ensures.list) (search rules) (search rules))

@@ -1,6 +1,6 @@
 use Rattle.std.proofs.Common.{rules, refl}
-use Rattle.oneshot_machine.specs.declared.machine.receiver.ReceiverPos.TheVariants.{Future}
-use Rattle.oneshot_machine.specs.declared.machine.future.FuturePos.TheVariants.{AsyncSpin}
+use Rattle.oneshot_machine.specs.declared.machine.receiver.ReceiverPos.TheVariants.{AsyncDrop}
+use Rattle.oneshot_machine.specs.declared.machine.async_drop.AsyncDropPos.TheVariants.{AsyncSpin}
 use Rattle.oneshot_machine.specs.declared.states.Op.TheVariants.{Load}
 use Rattle.oneshot_drive.proofs.AfterOperations.{asks}
 use Rattle.oneshot_drive.proofs.Stretches.{begun}
@@ -8,7 +8,7 @@ use Rattle.oneshot_drive.proofs.Spins.{end_asks, spun, spun_end, spun_longer, sp
 use Rattle.oneshot_drive.proofs.polling.wait_out.Goals as goal
 
 pub loop-init : goal.loop-init
-loop-init g c = record { can_next = tt; is_finite = tt; went = begun (Future AsyncSpin) (g.G.ReceiverGround.state c.args.g.now).log; spins = c.requires }
+loop-init g c = record { can_next = tt; is_finite = tt; went = begun (AsyncDrop AsyncSpin) (g.G.ReceiverGround.state c.args.g.now).log; spins = c.requires }
 
 pub word-requires : goal.word-requires
 word-requires g c = asks Load c.loop.invariant.spins refl
@@ -17,7 +17,7 @@ pub returns-then-word-ne-UNPARKING-clause-went : goal.returns-then-word-ne-UNPAR
 returns-then-word-ne-UNPARKING-clause-went g c = spun_out c.word.result (spun_end (spun c.word.result c.loop.invariant.spins c.word.ensures.finds c.word.ensures.list) c.if-word-ne-UNPARKING.true) c.loop.invariant.went c.word.ensures.list
 
 pub returns-then-word-ne-UNPARKING-clause-ends : goal.returns-then-word-ne-UNPARKING-clause-ends
-returns-then-word-ne-UNPARKING-clause-ends g c = end_asks (Future AsyncSpin) (spun_end (spun c.word.result c.loop.invariant.spins c.word.ensures.finds c.word.ensures.list) c.if-word-ne-UNPARKING.true)
+returns-then-word-ne-UNPARKING-clause-ends g c = end_asks (AsyncDrop AsyncSpin) (spun_end (spun c.word.result c.loop.invariant.spins c.word.ensures.finds c.word.ensures.list) c.if-word-ne-UNPARKING.true)
 
 pub loop-preserved : goal.loop-preserved
 loop-preserved g c =

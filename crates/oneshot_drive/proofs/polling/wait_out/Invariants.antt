@@ -1,5 +1,5 @@
-use Rattle.oneshot_machine.specs.declared.machine.receiver.ReceiverPos.TheVariants.{Future}
-use Rattle.oneshot_machine.specs.declared.machine.future.FuturePos.TheVariants.{AsyncSpin}
+use Rattle.oneshot_machine.specs.declared.machine.receiver.ReceiverPos.TheVariants.{AsyncDrop}
+use Rattle.oneshot_machine.specs.declared.machine.async_drop.AsyncDropPos.TheVariants.{AsyncSpin}
 use Rattle.oneshot_machine.specs.Phases.{claimed}
 use Rattle.oneshot_machine.specs.Rows.{Goes}
 use Rattle.oneshot_drive.specs.Grounds.{Stands}
@@ -11,6 +11,6 @@ invariant-loop g l =
     record {
       can_next : (goal.iterator-loop g).can_next l.iterator';
       is_finite : (goal.iterator-loop g).is_finite l.iterator';
-      went : Went (Future AsyncSpin) (Goes (Future AsyncSpin)) (g.G.ReceiverGround.state l.fn.g).log (g.G.ReceiverGround.state l.g).log;
+      went : Went (AsyncDrop AsyncSpin) (Goes (AsyncDrop AsyncSpin)) (g.G.ReceiverGround.state l.fn.g).log (g.G.ReceiverGround.state l.g).log;
       spins : Stands claimed (g.G.ReceiverGround.state l.g);
     }

@@ -1,5 +1,6 @@
 use Rattle.std.proofs.Common.{[], ◌∷◌, refl, rules}
-use Rattle.oneshot_machine.specs.declared.machine.receiver.ReceiverPos.TheVariants.{LatePark}
+use Rattle.oneshot_machine.specs.declared.machine.receiver.ReceiverPos.TheVariants.{Timed}
+use Rattle.oneshot_machine.specs.declared.machine.timed.TimedPos.TheVariants.{LatePark}
 use Rattle.oneshot_machine.specs.declared.states.Op.TheVariants.{Load}
 use Rattle.oneshot_machine.specs.Logs.{parked}
 use Rattle.oneshot_drive.proofs.AfterOperations.{asks, stands_on}
@@ -8,7 +9,7 @@ use Rattle.oneshot_drive.proofs.Waits.{may_park_late, ended, ended_full, ended_o
 use Rattle.oneshot_drive.proofs.waiting.wait_late.Goals as goal
 
 pub loop-init : goal.loop-init
-loop-init g c = record { can_next = tt; is_finite = tt; went = begun LatePark (g.G.ReceiverGround.state c.args.g.now).log; overdue = c.requires }
+loop-init g c = record { can_next = tt; is_finite = tt; went = begun (Timed LatePark) (g.G.ReceiverGround.state c.args.g.now).log; overdue = c.requires }
 
 pub park-requires : goal.park-requires
 park-requires g c = may_park_late c.loop.invariant.overdue

@@ -1,4 +1,5 @@
-use Rattle.oneshot_machine.specs.declared.machine.receiver.ReceiverPos.TheVariants.{LatePark}
+use Rattle.oneshot_machine.specs.declared.machine.receiver.ReceiverPos.TheVariants.{Timed}
+use Rattle.oneshot_machine.specs.declared.machine.timed.TimedPos.TheVariants.{LatePark}
 use Rattle.oneshot_machine.specs.Phases.{overdue}
 use Rattle.oneshot_machine.specs.Rows.{Goes}
 use Rattle.oneshot_drive.specs.Grounds.{Stands}
@@ -10,6 +11,6 @@ invariant-loop g l =
     record {
       can_next : (goal.iterator-loop g).can_next l.iterator';
       is_finite : (goal.iterator-loop g).is_finite l.iterator';
-      went : Went LatePark (Goes LatePark) (g.G.ReceiverGround.state l.fn.g).log (g.G.ReceiverGround.state l.g).log;
+      went : Went (Timed LatePark) (Goes (Timed LatePark)) (g.G.ReceiverGround.state l.fn.g).log (g.G.ReceiverGround.state l.g).log;
       overdue : Stands overdue (g.G.ReceiverGround.state l.g);
     }

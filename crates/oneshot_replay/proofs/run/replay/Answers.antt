@@ -4,19 +4,19 @@ use Rattle.std.proofs.lemmas.List.{take_more, take_all}
 use Rattle.oneshot_world.specs.World.{World, turn}
 use Rattle.oneshot_world.specs.declared.script.Move.TheVariants.{Sender}
 use Rattle.oneshot_laws.proofs.IdleRuns.{idle_run}
-use Rattle.oneshot_laws.proofs.LegalRuns.{legal_run}
-use Rattle.oneshot_laws.proofs.MessagePath.{message_followed, message_ended}
-use Rattle.oneshot_laws.proofs.PutByCall.{message_put}
-use Rattle.oneshot_laws.proofs.WakerPath.{wakers_right, cell_kept}
-use Rattle.oneshot_laws.proofs.Woken.{never_unwoken}
-use Rattle.oneshot_laws.proofs.BlockHeld.{freed_right}
-use Rattle.oneshot_laws.proofs.Afterwards.{gone_after_got, gone_after_closed, refused_after_closed}
-use Rattle.oneshot_laws.proofs.NextReceive.{got_after_full}
-use Rattle.oneshot_laws.proofs.NothingYet.{nothing_only_if_open}
-use Rattle.oneshot_laws.proofs.DroppedOnce.{dropped_once}
-use Rattle.oneshot_laws.proofs.LoneCalls.{lone_calls_right}
-use Rattle.oneshot_laws.proofs.CallBounds.{calls_bounded}
-use Rattle.oneshot_laws.proofs.SoonAnswered.{soon_answered}
+use Rattle.oneshot_laws.proofs.HistoryRuns.{legal_run}
+use Rattle.oneshot_laws.proofs.MessagePlacesRuns.{message_followed, message_ended}
+use Rattle.oneshot_laws.proofs.MessagePlacesPut.{message_put}
+use Rattle.oneshot_laws.proofs.WakerPlacesRuns.{wakers_right, cell_kept}
+use Rattle.oneshot_laws.proofs.UnwokenRuns.{never_unwoken}
+use Rattle.oneshot_laws.proofs.HoldersRuns.{freed_right}
+use Rattle.oneshot_laws.proofs.RepliesAfterwards.{gone_after_got, gone_after_closed, refused_after_closed}
+use Rattle.oneshot_laws.proofs.RepliesNextReceive.{got_after_full}
+use Rattle.oneshot_laws.proofs.RepliesNothingYet.{nothing_only_if_open}
+use Rattle.oneshot_laws.proofs.RepliesDroppedOnce.{dropped_once}
+use Rattle.oneshot_laws.proofs.AloneRuns.{lone_calls_right}
+use Rattle.oneshot_laws.proofs.BoundsRuns.{calls_bounded}
+use Rattle.oneshot_laws.proofs.BoundsSoon.{soon_answered}
 use Rattle.oneshot_replay.specs.Rest.{message_of, rest_at}
 use Rattle.oneshot_replay.proofs.Runs.{grows, length-tells}
 use Rattle.oneshot_replay.proofs.Tied.{freed_shown, rest_shown}

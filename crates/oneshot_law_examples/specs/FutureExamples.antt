@@ -1,0 +1,210 @@
+-- What the definitions say of worked traces of a future, and of the same traces damaged. The checker computes all of it.
+use Rattle.std.specs.Prelude.{◌≡◌, not, ◌&&◌, [], ◌∷◌, ◌++◌, take, replicate, Some, None, IsTrue}
+use Rattle.std.specs.List.{list_all}
+use Rattle.oneshot_machine.specs.declared.machine.End.TheVariants.{Sender, Receiver}
+use Rattle.oneshot_machine.specs.declared.machine.Reply.TheVariants as R
+use Rattle.oneshot_machine.specs.declared.machine.Step.TheVariants as T
+use Rattle.oneshot_machine.specs.declared.states.Op.TheVariants as O
+use Rattle.oneshot_machine.specs.declared.machine.receiver.ReceiverStart.TheVariants as RC
+use Rattle.oneshot_world.specs.Calls as C
+use Rattle.oneshot_world.specs.declared.trace.Entry.TheVariants as E
+use Rattle.oneshot_world.specs.declared.trace.Place.TheVariants as P
+use Rattle.oneshot_world.specs.declared.trace.WakerName.TheVariants.{Parker, Copy}
+use Rattle.oneshot_world.specs.declared.trace.WakerPlace.TheVariants as W
+use Rattle.oneshot_laws.specs.WakerPlaces.{are_wakers_right, is_cell_kept}
+use Rattle.oneshot_laws.specs.Replies.{is_gone_after_got, is_got_after_full, is_gone_after_closed, is_nothing_only_if_open, is_dropped_once}
+use Rattle.oneshot_law_examples.specs.Notation.{Example, receiver, frees, without_block, carrying, replying, up_to, without, twice, put_behind, answered_by, unmoved_by, uncarried_by, carried_by}
+use Rattle.oneshot_law_examples.specs.HistoryExamples.{acting_in, is_legal_trace}
+use Rattle.oneshot_law_examples.specs.LawExamples.{marks_in, is_block_right, are_lone_replies_right, fails_at, is_right}
+use Rattle.oneshot_law_examples.specs.WaitExamples.{told_by}
+use Rattle.oneshot_law_examples.specs.TimedExamples.{received_by}
+use Rattle.oneshot_law_examples.specs.UnwokenExamples.{up, aheads_by}
+use Rattle.oneshot_law_examples.specs.FutureTraces.{dropped_while_finishing, polled_while_finishing, copy_refused, polled_by_another_task, sent_before_pending, sent_while_polling, sent_while_replacing, dropped_while_pending, woken_then_ready, both_dropped_while_pending}
+
+-- THE RUNS: each trace is what its scripts tell under its moves
+abbrev pub FuturesAreTold : Type 0
+FuturesAreTold =
+    (told_by (Some P.NotSent) dropped_while_finishing ≡ dropped_while_finishing.entries)
+    × (told_by (Some P.NotSent) polled_while_finishing ≡ polled_while_finishing.entries)
+    × (told_by (Some P.NotSent) copy_refused ≡ copy_refused.entries)
+    × (told_by (Some P.NotSent) polled_by_another_task ≡ polled_by_another_task.entries)
+    × (told_by (Some P.NotSent) sent_before_pending ≡ sent_before_pending.entries)
+    × (told_by (Some P.NotSent) sent_while_polling ≡ sent_while_polling.entries)
+    × (told_by (Some P.NotSent) sent_while_replacing ≡ sent_while_replacing.entries)
+    × (told_by (Some P.NotSent) dropped_while_pending ≡ dropped_while_pending.entries)
+    × (told_by (Some P.NotSent) woken_then_ready ≡ woken_then_ready.entries)
+    × (told_by None both_dropped_while_pending ≡ both_dropped_while_pending.entries)
+    -- a future parks nowhere
+    × (aheads_by (Some P.NotSent) polled_while_finishing ≡ replicate 19 up)
+
+abbrev pub FuturesAreRight : Type 0
+FuturesAreRight =
+    IsTrue (list_all is_right
+    (dropped_while_finishing
+    ∷ polled_while_finishing
+    ∷ copy_refused
+    ∷ polled_by_another_task
+    ∷ sent_before_pending
+    ∷ sent_while_polling
+    ∷ sent_while_replacing
+    ∷ dropped_while_pending
+    ∷ woken_then_ready
+    ∷ both_dropped_while_pending
+    -- a poll that has not answered
+    ∷ up_to 10 polled_while_finishing
+    ∷ up_to 8 polled_by_another_task
+    ∷ up_to 7 sent_before_pending
+    ∷ []
+    ))
+
+-- A poll that says "pending" at once where another waker is stored, or where its own copy is refused,
+-- and wakes nobody. Until the sender ends, every definition of this crate lets it pass; `TaskExamples`
+-- has it with a sender that ends. No run tells it.
+abbrev pub kept_the_old_waker : Example
+kept_the_old_waker = answered_by 6 R.Pending (up_to 6 polled_by_another_task)
+
+abbrev pub refused_and_silent : Example
+refused_and_silent = answered_by 3 R.Pending (up_to 3 copy_refused)
+
+abbrev pub NotTold : Type 0
+NotTold =
+    IsTrue (is_right kept_the_old_waker && is_right refused_and_silent)
+    × (told_by (Some P.NotSent) kept_the_old_waker ≡ (up_to 6 polled_by_another_task).entries)
+    × (told_by (Some P.NotSent) refused_and_silent ≡ (up_to 3 copy_refused).entries)
+
+-- THE HISTORY: the numbers of the acting entries, in their order
+abbrev pub PollsAct : Type 0
+PollsAct =
+    -- a poll that says "pending" acts at its last operation on the word
+    (acting_in dropped_while_finishing ≡ 5 ∷ 11 ∷ 13 ∷ [])
+    × (acting_in polled_while_finishing ≡ 5 ∷ 10 ∷ 13 ∷ 16 ∷ [])
+    × (acting_in copy_refused ≡ 2 ∷ [])
+    × (acting_in polled_by_another_task ≡ 5 ∷ 11 ∷ 15 ∷ [])
+    -- any other where it finds what the sender left, as a poll does that has not answered
+    × (acting_in sent_before_pending ≡ 6 ∷ 7 ∷ [])
+    × (acting_in (up_to 7 sent_before_pending) ≡ 6 ∷ 7 ∷ [])
+    × (acting_in (up_to 8 polled_by_another_task) ≡ 5 ∷ [])
+    × (acting_in dropped_while_pending ≡ 5 ∷ 9 ∷ 11 ∷ [])
+    × (acting_in woken_then_ready ≡ 5 ∷ 9 ∷ 11 ∷ 12 ∷ 15 ∷ 16 ∷ 18 ∷ [])
+    × (acting_in both_dropped_while_pending ≡ 5 ∷ 9 ∷ 11 ∷ [])
+
+abbrev pub IllegalPolls : Type 0
+IllegalPolls =
+    IsTrue (list_all (λ x. not (is_legal_trace x))
+    -- "pending" over the message, which the exchange or the first load finds
+    (answered_by 7 R.Pending (up_to 7 sent_before_pending)
+    ∷ answered_by 10 R.Pending sent_before_pending
+    ∷ answered_by 14 R.Pending woken_then_ready
+    -- over a channel that is closed
+    ∷ answered_by 15 R.Pending woken_then_ready
+    -- nothing was there, and the poll says that the sender is gone, or has a message
+    ∷ answered_by 5 R.Disconnected dropped_while_finishing
+    ∷ answered_by 5 R.Message dropped_while_finishing
+    ∷ answered_by 4 R.Disconnected copy_refused
+    -- a poll answers with another receive's word for nothing
+    ∷ answered_by 5 R.Empty dropped_while_finishing
+    ∷ answered_by 11 R.Timeout polled_while_finishing
+    -- a message that comes is denied
+    ∷ answered_by 10 R.Disconnected sent_before_pending
+    -- the making of a future answers otherwise
+    ∷ answered_by 1 R.Done dropped_while_finishing
+    ∷ answered_by 1 R.Pending copy_refused
+    -- the sender's last swap comes only after the poll found it
+    ∷ without 9 woken_then_ready
+    ∷ []
+    ))
+
+-- THE WAKERS: each of these is refused by the path of one name, or by where that name is once all have ended
+abbrev pub MisplacedCopies : Type 0
+MisplacedCopies =
+    IsTrue (list_all (λ x. not (are_wakers_right x.entries (marks_in x)))
+    -- a copy is in two places: made twice, written twice, made under another's name
+    (twice 3 dropped_while_finishing
+    ∷ twice 4 dropped_while_finishing
+    ∷ twice 10 polled_by_another_task
+    ∷ carried_by 7 (Copy 1 3) W.New W.Hand polled_while_finishing
+    -- the receiver drops it, and the sender takes it
+    ∷ carried_by 10 (Copy 1 3) W.Cell W.Dropped polled_while_finishing
+    ∷ carried_by 8 (Copy 1 3) W.Cell W.Dropped dropped_while_finishing
+    -- it is forgotten: by an exchange that failed, by a drop, in a withdrawal, by the sender
+    ∷ uncarried_by 10 polled_while_finishing
+    ∷ uncarried_by 8 dropped_while_pending
+    ∷ uncarried_by 16 dropped_while_finishing
+    ∷ uncarried_by 10 woken_then_ready
+    -- it is used twice, used by the receiver, or used after it was dropped
+    ∷ twice 14 polled_while_finishing
+    ∷ carried_by 9 (Copy 1 3) W.Cell W.Used polled_by_another_task
+    ∷ carried_by 11 (Copy 2 7) W.SenderHand W.Used polled_while_finishing
+    ∷ carried_by 16 (Copy 1 3) W.SenderHand W.Used polled_by_another_task
+    -- it is never made, or comes back into the hand
+    ∷ uncarried_by 3 dropped_while_finishing
+    ∷ carried_by 9 (Copy 1 3) W.Cell W.Hand (carried_by 10 (Copy 1 3) W.Cell W.Dropped polled_by_another_task)
+    -- it is dropped by the sender, which wakes nobody
+    ∷ carried_by 14 (Copy 1 3) W.SenderHand W.Dropped polled_while_finishing
+    -- the parker's half is written in its place
+    ∷ carried_by 4 Parker W.Hand W.Cell dropped_while_finishing
+    -- the sender wakes it before it has it
+    ∷ put_behind 16 10 dropped_while_finishing
+    ∷ []
+    ))
+    -- the first task's waker stays where the second's is written: each follows its path, and only the cell tells
+    × IsTrue (list_all (λ x. are_wakers_right x.entries (marks_in x) && not (is_cell_kept x.entries))
+    (uncarried_by 9 (up_to 10 polled_by_another_task) ∷ uncarried_by 9 polled_by_another_task ∷ []))
+
+-- THE FREEING
+-- the future's drop swaps over the sender that is about to finish, and takes what it reads then for the sender's end
+abbrev pub swapped_over_the_sender : Example
+swapped_over_the_sender =
+    record dropped_while_finishing {
+      entries =
+          take 8 dropped_while_finishing.entries
+          ++ E.Made (receiver (T.Word (O.Swap 2)) 1 2)
+          ∷ E.Made (receiver (T.Word O.Load) 2 2)
+          ∷ E.Made (replying R.Done (frees Receiver 2))
+          ∷ E.Made (carrying (Copy 1 3) W.Cell W.SenderHand (without_block Sender T.TakeWaker))
+          ∷ E.Made (without_block Sender (T.Word (O.Swap 4)))
+          ∷ E.Made (replying R.Sent (carrying (Copy 1 3) W.SenderHand W.Used (without_block Sender T.Wake)))
+          ∷ [];
+    }
+
+abbrev pub MisfreedFutures : Type 0
+MisfreedFutures =
+    IsTrue (list_all (λ x. not (is_block_right x))
+    (swapped_over_the_sender
+    -- up to the sender's next step, and up to the free
+    ∷ up_to 12 swapped_over_the_sender
+    ∷ up_to 11 swapped_over_the_sender
+    -- the drop does not wait, or does not free
+    ∷ put_behind 15 11 dropped_while_finishing
+    ∷ without 15 (answered_by 14 R.Done dropped_while_finishing)
+    -- the block is freed twice, or by the end that has gone
+    ∷ twice 15 dropped_while_finishing
+    ∷ twice 13 dropped_while_pending
+    ∷ []
+    ))
+
+-- THE REPLIES
+abbrev pub WrongPolls : Type 0
+WrongPolls =
+    -- "pending" where the object was never open in the call
+    IsTrue (list_all (fails_at is_nothing_only_if_open)
+    (answered_by 14 R.Pending woken_then_ready ∷ answered_by 15 R.Pending woken_then_ready ∷ []))
+    -- a poll that has the message is followed by one that waits, or has it again
+    × IsTrue (list_all (fails_at is_gone_after_got)
+    (answered_by 15 R.Pending woken_then_ready ∷ answered_by 15 R.Message woken_then_ready ∷ []))
+    -- the message was seen, and the next poll does not give it
+    × IsTrue (list_all (fails_at is_got_after_full)
+    (answered_by 14 R.Pending woken_then_ready ∷ answered_by 14 R.Disconnected woken_then_ready ∷ []))
+    -- the channel was closed, and a poll waits
+    × IsTrue (fails_at is_gone_after_closed (received_by (C.Of_receiver RC.IntoFuture ∷ C.Poll 1 ∷ C.Of_receiver RC.IsClosed ∷ C.Poll 1 ∷ C.Poll 1 ∷ []) (answered_by 15 R.Pending (up_to 15 woken_then_ready))))
+    -- a message that nobody took is not dropped, or dropped twice
+    × IsTrue (list_all (fails_at is_dropped_once)
+    (unmoved_by 14 dropped_while_finishing ∷ twice 14 dropped_while_finishing ∷ []))
+    -- a call that was alone answers otherwise
+    × IsTrue (list_all (λ x. not (are_lone_replies_right x))
+    (answered_by 5 R.Disconnected (up_to 5 dropped_while_finishing)
+    ∷ answered_by 4 R.Disconnected copy_refused
+    ∷ answered_by 14 R.Pending woken_then_ready
+    ∷ answered_by 1 R.Done copy_refused
+    ∷ []
+    ))

@@ -1,0 +1,56 @@
+//! What the definitions of `oneshot_laws` say of worked traces, and of the same traces damaged.
+#![tactic(auto)]
+
+ghost use Rattle.oneshot_law_examples.specs.HistoryExamples.{ObjectAnswers, ActingEntries, LegalTraces, IllegalTraces, IdleTraces, NotIdleTraces};
+ghost use Rattle.oneshot_law_examples.specs.LawExamples.{RightTraces, MisplacedMessages, WronglyPut, MisfreedBlocks, WrongReplies, WrongAlone};
+ghost use Rattle.oneshot_law_examples.specs.WaitExamples.{WaitsAreTold, WaitsAct, IllegalWaits, MisfreedWaits, WrongReceives};
+ghost use Rattle.oneshot_law_examples.specs.TimedExamples.{TimedAreTold, TimedAreRight, TimedAct, IllegalTimeouts, WrongTimeouts};
+ghost use Rattle.oneshot_law_examples.specs.WakerExamples.{MisplacedWakers, FullCells};
+ghost use Rattle.oneshot_law_examples.specs.TaskExamples.{WokenTasks, UnwokenTasks};
+ghost use Rattle.oneshot_law_examples.specs.UnwokenExamples.{AheadsOfRuns, UnwokenWaits};
+ghost use Rattle.oneshot_law_examples.specs.BoundExamples.{WithinBounds, OneOperationMore, OneMoveMore};
+ghost use Rattle.oneshot_law_examples.specs.FutureExamples.{FuturesAreTold, FuturesAreRight, NotTold, PollsAct, IllegalPolls, MisplacedCopies, MisfreedFutures, WrongPolls};
+
+/// Says nothing at run time. Its contract is what the definitions say of worked traces, and of the same
+/// traces damaged, so that a definition that is changed by mistake is refused here.
+pub fn examples()
+    ensures object { ObjectAnswers }
+    ensures acting { ActingEntries }
+    ensures legal { LegalTraces }
+    ensures illegal { IllegalTraces }
+    ensures idle { IdleTraces }
+    ensures not_idle { NotIdleTraces }
+    ensures right { RightTraces }
+    ensures misplaced { MisplacedMessages }
+    ensures wrongly_put { WronglyPut }
+    ensures misfreed { MisfreedBlocks }
+    ensures wrong_replies { WrongReplies }
+    ensures wrong_alone { WrongAlone }
+    ensures waits_told { WaitsAreTold }
+    ensures waits_act { WaitsAct }
+    ensures illegal_waits { IllegalWaits }
+    ensures misfreed_waits { MisfreedWaits }
+    ensures wrong_receives { WrongReceives }
+    ensures timed_told { TimedAreTold }
+    ensures timed_right { TimedAreRight }
+    ensures timed_act { TimedAct }
+    ensures illegal_timeouts { IllegalTimeouts }
+    ensures wrong_timeouts { WrongTimeouts }
+    ensures misplaced_wakers { MisplacedWakers }
+    ensures full_cells { FullCells }
+    ensures aheads { AheadsOfRuns }
+    ensures unwoken { UnwokenWaits }
+    ensures woken_tasks { WokenTasks }
+    ensures unwoken_tasks { UnwokenTasks }
+    ensures within_bounds { WithinBounds }
+    ensures one_operation_more { OneOperationMore }
+    ensures one_move_more { OneMoveMore }
+    ensures futures_told { FuturesAreTold }
+    ensures futures_right { FuturesAreRight }
+    ensures not_told { NotTold }
+    ensures polls_act { PollsAct }
+    ensures illegal_polls { IllegalPolls }
+    ensures misplaced_copies { MisplacedCopies }
+    ensures misfreed_futures { MisfreedFutures }
+    ensures wrong_polls { WrongPolls }
+{}

@@ -1,0 +1,113 @@
+-- A call between whose first entry and whose answer the other end makes no step does just what the object does.
+use Rattle.std.proofs.Common.{◌≡◌, Bool, true, false, not, ◌&&◌, ◌||◌, List, [], ◌∷◌, Option, Some, None, is_some, map, refl, if◌then◌else◌}
+use Rattle.oneshot_machine.specs.declared.machine.End.{End}
+use Rattle.oneshot_world.proofs.Bools.{and_right, both}
+use Rattle.oneshot_laws.specs.Entries.{only_if, is_same_end}
+use Rattle.oneshot_laws.specs.Object.{Object, is_same_object}
+use Rattle.oneshot_laws.specs.Actions.{action_of, stepped}
+use Rattle.oneshot_laws.specs.Marks.{Mark, side, ends}
+use Rattle.oneshot_laws.specs.History.{agrees}
+use Rattle.oneshot_laws.specs.Alone.{lone_reply, is_lone_call, are_lone_calls_right}
+use Rattle.oneshot_laws.proofs.Coding.{pairs, by_parts, or_none, both_ends}
+use Rattle.oneshot_laws.proofs.Glanced.{Law, Passes, Nameless, of_call, LawExplored, all_glanced, holds_by}
+use Rattle.oneshot_laws.proofs.HistoryAccepted.{Glance, glance_of}
+use Rattle.oneshot_laws.proofs.HistoryReader.{objects}
+use Rattle.oneshot_laws.proofs.Watched.{no_names, EachRun}
+
+-- the call beside which the other end has made no step, and the object on which it began
+pub data Lone : Type 0 where
+  Nobody : Lone
+  Of : (end : End) (object : Object) → Lone
+
+abbrev is_of : End → Lone → Bool
+is_of mover Nobody = false
+is_of mover (Of end o) = is_same_end mover end
+
+abbrev still : End → Lone → Lone
+still mover Nobody = Nobody
+still mover (Of end o) = if is_same_end mover end then Of end o else Nobody
+
+abbrev lone_at : Lone → Glance → Lone
+lone_at lone g = if g.begins then Of g.entry.side g.object else still g.entry.side lone
+
+abbrev answers_as : Glance → Lone → Bool
+answers_as g Nobody = true
+answers_as g (Of end o) =
+    agrees g.entry.reply (lone_reply g.call o) && is_same_object g.next (stepped (action_of g.call) o)
+
+-- a call does not begin again, and answers as the object where it ran alone
+abbrev answers_alone : Lone → Glance → Bool
+answers_alone lone g =
+    not (g.begins && is_of g.entry.side lone) && only_if (is_some g.entry.reply) (answers_as g (lone_at lone g))
+
+abbrev lone_then : Lone → Glance → Lone
+lone_then lone g = if is_some g.entry.reply then Nobody else lone_at lone g
+
+abbrev lone_parts : Lone → Option (End × Object)
+lone_parts Nobody = None
+lone_parts (Of end o) = Some (end, o)
+
+abbrev lone_of : Option (End × Object) → Lone
+lone_of None = Nobody
+lone_of (Some p) = Of p.0 p.1
+
+lone_back : (lone : Lone) → lone_of (lone_parts lone) ≡ lone
+lone_back Nobody = refl
+lone_back (Of end o) = refl
+
+abbrev lone_law : Law Lone
+lone_law =
+    record {
+      coding = by_parts lone_parts lone_of lone_back (or_none (pairs both_ends objects));
+      passes = answers_alone;
+      sees = lone_then;
+      names = no_names;
+      first = λ place. Nobody;
+    }
+
+abbrev claim : List Mark → Lone → Bool
+claim ms Nobody = true
+claim ms (Of end o) = is_lone_call o end ms
+
+-- a mark beside a call that began before
+going_on : (same begins ended : Bool) (own new : Lone) (right later : Lone → Bool) → (not (begins && same) && only_if ended (right (if begins then new else (if same then own else Nobody)))) ≡ true → later (if ended then Nobody else (if begins then new else (if same then own else Nobody))) ≡ true → (not same || (if ended then right own else later own)) ≡ true
+going_on false begins ended own new right later h k = refl
+going_on true true ended own new right later h k = cc
+going_on true false true own new right later h k = h
+going_on true false false own new right later h k = k
+
+-- the mark with which a call begins
+beginning : (begins again ended x : Bool) (old new : Lone) (right later : Lone → Bool) → (not again && only_if ended (right (if begins then new else old))) ≡ true → later (if ended then Nobody else (if begins then new else old)) ≡ true → only_if begins (x || (if ended then right new else later new)) ≡ true
+beginning false again ended x old new right later h k = refl
+beginning true again ended true old new right later h k = refl
+beginning true again true false old new right later h k = and_right (not again) (right new) h
+beginning true again false false old new right later h k = k
+
+lone_claim : (ms : List Mark) (lone : Lone) → Passes lone_law lone (map glance_of ms) → claim ms lone ≡ true
+lone_claim ms Nobody p = refl
+lone_claim [] (Of end o) p = refl
+lone_claim (m ∷ ms) (Of end o) p =
+    going_on (is_same_end (side m) end) m.begins (ends m) (Of end o) (Of (side m) m.object) (answers_as (glance_of m)) (claim ms) p.0
+    (lone_claim ms (lone_then (Of end o) (glance_of m)) p.1)
+
+lone_calls : (ms : List Mark) (lone : Lone) → Passes lone_law lone (map glance_of ms) → are_lone_calls_right ms ≡ true
+lone_calls [] lone p = refl
+lone_calls (m ∷ ms) lone p =
+    both _ _
+    (beginning m.begins (m.begins && is_of (side m) lone) (ends m) (not (is_same_end (side m) (side m))) (still (side m) lone) (Of (side m) m.object) (answers_as (glance_of m)) (claim ms) p.0
+    (lone_claim ms (lone_then lone (glance_of m)) p.1))
+    (lone_calls ms _ p.1)
+
+nameless : Nameless lone_law
+nameless =
+    record {
+      none = refl;
+      passes_same = λ k n g. of_call k (λ call. answers_alone n (record g { call = call })) (λ a b. refl) g.call;
+      sees_same = λ k n g. of_call k (λ call. lone_then n (record g { call = call })) (λ a b. refl) g.call;
+    }
+
+explored : LawExplored lone_law
+explored = record { found = all_glanced lone_law; all = refl }
+
+pub lone_calls_right : {T : Type 0} → EachRun T are_lone_calls_right
+lone_calls_right = holds_by lone_law nameless explored are_lone_calls_right (λ place ms. lone_calls ms Nobody)

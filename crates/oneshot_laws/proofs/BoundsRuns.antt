@@ -1,0 +1,255 @@
+-- Each call makes no more operations on the word than its bound: the reader counts down, for each end, what its call has left.
+use Rattle.std.proofs.Common.{◌≡◌, ℕ, zero, suc, Bool, true, false, not, ◌&&◌, ◌||◌, List, [], ◌∷◌, map, Option, Some, None, refl, ◌∙◌, ap, if◌then◌else◌}
+use Rattle.oneshot_machine.specs.declared.machine.End.{End}
+use Rattle.oneshot_machine.specs.declared.machine.End.TheVariants.{Sender, Receiver}
+use Rattle.oneshot_machine.specs.declared.machine.receiver.ReceiverStart.TheVariants as RC
+use Rattle.oneshot_machine.specs.declared.machine.sender.SenderCall.TheVariants as SC
+use Rattle.oneshot_world.specs.Calls.{Call, Of_sender, Of_receiver, Poll, Stray}
+use Rattle.oneshot_world.specs.Classes.{Classes, as_call, as_made}
+use Rattle.oneshot_world.specs.declared.trace.Made.{Made}
+use Rattle.oneshot_world.proofs.Bools.{and_left, and_right, both}
+use Rattle.oneshot_laws.specs.Entries.{is_same_end, is_word, found}
+use Rattle.oneshot_laws.specs.Object.{is_same_flag}
+use Rattle.oneshot_laws.specs.Marks.{Mark, side, call_marks, until_reply}
+use Rattle.oneshot_laws.specs.Bounds.{at_most, is_within_its_bound, is_bounded, are_calls_bounded}
+use Rattle.oneshot_laws.proofs.Coding.{Coding, pairs, by_parts, or_none, flags, numbers_below}
+use Rattle.oneshot_laws.proofs.Glanced.{Law, Passes, Nameless, of_call, LawExplored, all_glanced, holds_by}
+use Rattle.oneshot_laws.proofs.HistoryAccepted.{Glance, glance_of}
+use Rattle.oneshot_laws.proofs.Watched.{no_names, EachRun}
+
+-- what is counted of a call: its operations on the word, or those alone that did not find 1
+abbrev is_counted : Bool → Made → Bool
+is_counted false e = is_word e.step
+is_counted true e = is_word e.step && not (found 1 e.before)
+
+abbrev counts : Bool → Mark → Bool
+counts past m = is_counted past m.entry
+
+-- what an end's call has left: no call is under way, or it has no bound, or so many operations
+pub data Left : Type 0 where
+  Resting : Left
+  Unbounded : Left
+  Counted : Bool → ℕ → Left
+
+-- what a call has that begins
+abbrev begun : Call → Left
+begun (Of_sender SC.Send) = Counted false 2
+begun (Of_sender SC.Drop) = Counted false 2
+begun (Of_receiver RC.TryRecv) = Counted false 2
+begun (Poll number) = Counted true 4
+begun (Of_receiver RC.DropAsync) = Counted true 3
+begun _ = Unbounded
+
+abbrev under_way : Call → Left → Left
+under_way call Resting = begun call
+under_way call left = left
+
+abbrev is_resting : Left → Bool
+is_resting Resting = true
+is_resting _ = false
+
+abbrev pub can : ℕ → Bool → Bool
+can (suc n) b = true
+can zero b = not b
+
+abbrev pub spend : ℕ → Bool → ℕ
+spend zero b = zero
+spend (suc n) b = if b then n else suc n
+
+abbrev may_make : Left → Made → Bool
+may_make (Counted past n) e = can n (is_counted past e)
+may_make _ e = true
+
+abbrev spent : Left → Made → Left
+spent (Counted past n) e = Counted past (spend n (is_counted past e))
+spent left e = left
+
+abbrev left_then : Left → Call → Made → Left
+left_then left call e = until_reply e.reply (spent (under_way call left) e) Resting
+
+-- what both ends have left
+pub record Budget : Type 0 where
+  pub sender : Left
+  pub receiver : Left
+
+abbrev left_by : End → Budget → Left
+left_by Sender x = x.sender
+left_by Receiver x = x.receiver
+
+abbrev left_at : End → Left → Budget → Budget
+left_at Sender left x = record { sender = left; receiver = x.receiver }
+left_at Receiver left x = record { sender = x.sender; receiver = left }
+
+-- a call begins just where none is under way, and makes what it may
+abbrev fits : Left → Bool → Call → Made → Bool
+fits left begins call e = is_same_flag begins (is_resting left) && may_make (under_way call left) e
+
+abbrev goes_on_within : Budget → Glance → Bool
+goes_on_within x g = fits (left_by g.entry.side x) g.begins g.call g.entry
+
+abbrev budget_then : Budget → Glance → Budget
+budget_then x g = left_at g.entry.side (left_then (left_by g.entry.side x) g.call g.entry) x
+
+abbrev left_parts : Left → Option (Option (Bool × ℕ))
+left_parts Resting = None
+left_parts Unbounded = Some None
+left_parts (Counted past n) = Some (Some (past, n))
+
+abbrev left_of : Option (Option (Bool × ℕ)) → Left
+left_of None = Resting
+left_of (Some None) = Unbounded
+left_of (Some (Some p)) = Counted p.0 p.1
+
+left_back : (left : Left) → left_of (left_parts left) ≡ left
+left_back Resting = refl
+left_back Unbounded = refl
+left_back (Counted past n) = refl
+
+abbrev lefts : Coding Left
+lefts = by_parts left_parts left_of left_back (or_none (or_none (pairs flags (numbers_below 5))))
+
+abbrev at_rest : Budget
+at_rest = record { sender = Resting; receiver = Resting }
+
+abbrev budget_law : Law Budget
+budget_law =
+    record {
+      coding =
+          by_parts (λ x. (x.sender, x.receiver)) (λ p. record { sender = p.0; receiver = p.1 }) (λ x. refl) (pairs lefts lefts);
+      passes = goes_on_within;
+      sees = budget_then;
+      names = no_names;
+      first = λ place. at_rest;
+    }
+
+-- one more mark of a call
+pub pay : (test : Mark → Bool) (n : ℕ) (m : Mark) (later : List Mark) → can n (test m) ≡ true → at_most (spend n (test m)) test later ≡ true → at_most n test (m ∷ later) ≡ true
+pay test zero m later h k = both (not (test m)) _ h k
+pay test (suc n) m later h k =
+    elim (test m) as (λ b. at_most (if b then n else suc n) test later ≡ true → (if b then at_most n test later else at_most (suc n) test later) ≡ true) [
+      | true ↦ λ k. k
+      | false ↦ λ k. k
+    ] k
+
+-- what is left of a call covers the call's marks from here on
+abbrev covers : Left → List Mark → Bool
+covers (Counted past n) own = at_most n (counts past) own
+covers _ own = true
+
+abbrev stands : Left → List Mark → Bool
+stands Resting [] = true
+stands Resting (m ∷ later) = covers (begun m.call) (m ∷ later)
+stands Unbounded own = true
+stands (Counted past n) own = at_most n (counts past) own
+
+pub no_more : (n : ℕ) (test : Mark → Bool) → at_most n test [] ≡ true
+no_more n test = refl
+
+covered : (left : Left) (m : Mark) (later : List Mark) → may_make left m.entry ≡ true → stands (until_reply m.entry.reply (spent left m.entry) Resting) later ≡ true → covers left (m ∷ until_reply m.entry.reply later []) ≡ true
+covered Resting m later h k = refl
+covered Unbounded m later h k = refl
+covered (Counted past n) m later h k =
+    elim m.entry.reply as (λ a. stands (until_reply a (Counted past (spend n (counts past m))) Resting) later ≡ true → at_most n (counts past) (m ∷ until_reply a later []) ≡ true) [
+      | None ↦ λ k. pay (counts past) n m later h k
+      | Some r ↦ λ k. pay (counts past) n m [] h (no_more (spend n (counts past m)) (counts past))
+    ] k
+
+stood : (left : Left) (m : Mark) (later : List Mark) → covers (under_way m.call left) (m ∷ later) ≡ true → stands left (m ∷ later) ≡ true
+stood Resting m later h = h
+stood Unbounded m later h = refl
+stood (Counted past n) m later h = h
+
+-- a mark of this end's call
+here : (end : End) (m : Mark) (ms : List Mark) (x : Budget) → fits (left_by end x) m.begins m.call m.entry ≡ true → stands (left_by end (left_at end (left_then (left_by end x) m.call m.entry) x)) (call_marks end ms) ≡ true → covers (under_way m.call (left_by end x)) (elim (is_same_end end end) as (λ _. List Mark) [ true ↦ m ∷ until_reply m.entry.reply (call_marks end ms) [] | false ↦ call_marks end ms ]) ≡ true
+here Sender m ms x h k = covered (under_way m.call x.sender) m (call_marks Sender ms) (and_right (is_same_flag m.begins (is_resting x.sender)) _ h) k
+here Receiver m ms x h k = covered (under_way m.call x.receiver) m (call_marks Receiver ms) (and_right (is_same_flag m.begins (is_resting x.receiver)) _ h) k
+
+-- a mark of either end, for the call of this one
+either : (mover end : End) (m : Mark) (ms : List Mark) (x : Budget) → fits (left_by mover x) m.begins m.call m.entry ≡ true → stands (left_by end (left_at mover (left_then (left_by mover x) m.call m.entry) x)) (call_marks end ms) ≡ true → stands (left_by end x) (elim (is_same_end mover end) as (λ _. List Mark) [ true ↦ m ∷ until_reply m.entry.reply (call_marks end ms) [] | false ↦ call_marks end ms ]) ≡ true
+either Sender Sender m ms x h k = stood x.sender m (until_reply m.entry.reply (call_marks Sender ms) []) (here Sender m ms x h k)
+either Sender Receiver m ms x h k = k
+either Receiver Sender m ms x h k = k
+either Receiver Receiver m ms x h k = stood x.receiver m (until_reply m.entry.reply (call_marks Receiver ms) []) (here Receiver m ms x h k)
+
+nothing_left : (left : Left) → stands left [] ≡ true
+nothing_left Resting = refl
+nothing_left Unbounded = refl
+nothing_left (Counted past n) = refl
+
+claims : (ms : List Mark) (x : Budget) (end : End) → Passes budget_law x (map glance_of ms) → stands (left_by end x) (call_marks end ms) ≡ true
+claims [] x Sender p = nothing_left x.sender
+claims [] x Receiver p = nothing_left x.receiver
+claims (m ∷ ms) x end p = either m.entry.side end m ms x p.0 (claims ms (budget_then x (glance_of m)) end p.1)
+
+-- the bound of the call that begins
+within : (call : Call) (own : List Mark) → covers (begun call) own ≡ true → is_within_its_bound call own ≡ true
+within (Of_sender SC.Send) own h = h
+within (Of_sender SC.Drop) own h = h
+within (Of_receiver RC.TryRecv) own h = h
+within (Of_receiver RC.DropAsync) own h = h
+within (Poll number) own h = h
+within _ own h = refl
+
+begins_at_rest : (begins : Bool) (call : Call) (left : Left) (own : List Mark) → is_same_flag begins (is_resting left) ≡ true → covers (under_way call left) own ≡ true → (not begins || is_within_its_bound call own) ≡ true
+begins_at_rest false call left own h k = refl
+begins_at_rest true call Resting own h k = within call own k
+begins_at_rest true call Unbounded own h k = cc
+begins_at_rest true call (Counted past n) own h k = cc
+
+first_mark : (end : End) (m : Mark) (ms : List Mark) (x : Budget) → fits (left_by end x) m.begins m.call m.entry ≡ true → stands (left_by end (left_at end (left_then (left_by end x) m.call m.entry) x)) (call_marks end ms) ≡ true → (not m.begins || is_bounded (elim (is_same_end end end) as (λ _. List Mark) [ true ↦ m ∷ until_reply m.entry.reply (call_marks end ms) [] | false ↦ call_marks end ms ])) ≡ true
+first_mark Sender m ms x h k =
+    begins_at_rest m.begins m.call x.sender (m ∷ until_reply m.entry.reply (call_marks Sender ms) []) (and_left _ _ h) (here Sender m ms x h k)
+first_mark Receiver m ms x h k =
+    begins_at_rest m.begins m.call x.receiver (m ∷ until_reply m.entry.reply (call_marks Receiver ms) []) (and_left _ _ h) (here Receiver m ms x h k)
+
+each : (ms : List Mark) (x : Budget) → Passes budget_law x (map glance_of ms) → are_calls_bounded ms ≡ true
+each [] x p = refl
+each (m ∷ ms) x p =
+    both _ _
+    (first_mark (side m) m ms x p.0 (claims ms (budget_then x (glance_of m)) (side m) p.1))
+    (each ms (budget_then x (glance_of m)) p.1)
+
+-- no name and no number is looked at
+module _ (k : Classes) where
+  counted_as : (past : Bool) (e : Made) → is_counted past (as_made k e) ≡ is_counted past e
+  counted_as true e = refl
+  counted_as false e = refl
+
+  may_as : (left : Left) (e : Made) → may_make left (as_made k e) ≡ may_make left e
+  may_as Resting e = refl
+  may_as Unbounded e = refl
+  may_as (Counted past n) e = ap (can n) (counted_as past e)
+
+  spent_as : (left : Left) (e : Made) → spent left (as_made k e) ≡ spent left e
+  spent_as Resting e = refl
+  spent_as Unbounded e = refl
+  spent_as (Counted past n) e = ap (λ b. Counted past (spend n b)) (counted_as past e)
+
+  under_as : (call : Call) (left : Left) → under_way (as_call k call) left ≡ under_way call left
+  under_as call Resting = of_call k begun (λ a b. refl) call
+  under_as call Unbounded = refl
+  under_as call (Counted past n) = refl
+
+  fits_as : (left : Left) (begins : Bool) (call : Call) (e : Made) → fits left begins (as_call k call) (as_made k e) ≡ fits left begins call e
+  fits_as left begins call e =
+      ap (λ l. is_same_flag begins (is_resting left) && may_make l (as_made k e)) (under_as call left)
+      ∙ ap (λ b. is_same_flag begins (is_resting left) && b) (may_as (under_way call left) e)
+
+  then_as : (left : Left) (call : Call) (e : Made) → left_then left (as_call k call) (as_made k e) ≡ left_then left call e
+  then_as left call e =
+      ap (λ l. until_reply e.reply (spent l (as_made k e)) Resting) (under_as call left)
+      ∙ ap (λ l. until_reply e.reply l Resting) (spent_as (under_way call left) e)
+
+nameless : Nameless budget_law
+nameless =
+    record {
+      none = refl;
+      passes_same = λ k n g. fits_as k (left_by g.entry.side n) g.begins g.call g.entry;
+      sees_same = λ k n g. ap (λ left. left_at g.entry.side left n) (then_as k (left_by g.entry.side n) g.call g.entry);
+    }
+
+explored : LawExplored budget_law
+explored = record { found = all_glanced budget_law; all = refl }
+
+pub calls_bounded : {T : Type 0} → EachRun T are_calls_bounded
+calls_bounded = holds_by budget_law nameless explored are_calls_bounded (λ place ms. each ms at_rest)

@@ -1,0 +1,69 @@
+-- After `has_message` was true the receiver's next receive that answers, gives the message.
+use Rattle.std.proofs.Common.{◌≡◌, Bool, true, false, ◌&&◌, ◌||◌, List, [], ◌∷◌, is_some, map, refl}
+use Rattle.oneshot_machine.specs.declared.machine.Reply.TheVariants as R
+use Rattle.oneshot_world.proofs.Bools.{both}
+use Rattle.oneshot_laws.specs.Entries.{only_if, is_reply}
+use Rattle.oneshot_laws.specs.Actions.{is_receive, is_full_look}
+use Rattle.oneshot_laws.specs.Marks.{Mark}
+use Rattle.oneshot_laws.specs.Replies.{next_receive_gets, is_got_after_full}
+use Rattle.oneshot_laws.proofs.RepliesAfterwards.{told}
+use Rattle.oneshot_laws.proofs.Coding.{flags}
+use Rattle.oneshot_laws.proofs.Glanced.{Law, Passes, Nameless, of_call, LawExplored, all_glanced, holds_by}
+use Rattle.oneshot_laws.proofs.HistoryAccepted.{Glance, glance_of}
+use Rattle.oneshot_laws.proofs.Watched.{no_names, EachRun}
+
+abbrev full : Glance → Bool
+full = told is_full_look R.Yes
+
+abbrev answers_receive : Glance → Bool
+answers_receive g = is_receive g.call && is_some g.entry.reply
+
+-- The flag is whether the message was seen, and no receive has answered since.
+abbrev gets : Bool → Glance → Bool
+gets seen g = only_if (seen && answers_receive g) (is_reply R.Message g.entry.reply)
+
+abbrev seen_then : Bool → Glance → Bool
+seen_then seen g = elim (answers_receive g) [ true ↦ full g | false ↦ seen || full g ]
+
+abbrev next_law : Law Bool
+next_law = record { coding = flags; passes = gets; sees = seen_then; names = no_names; first = λ place. false }
+
+-- with the next receive here, or later
+next_at : (seen receives is_full gets later : Bool) → only_if (seen && receives) gets ≡ true → only_if (elim receives as (λ _. Bool) [ true ↦ is_full | false ↦ seen || is_full ]) later ≡ true → only_if seen (elim receives as (λ _. Bool) [ true ↦ gets | false ↦ later ]) ≡ true
+next_at false receives is_full gets later h k = refl
+next_at true true is_full gets later h k = h
+next_at true false is_full gets later h k = k
+
+full_now : (seen receives is_full later : Bool) → only_if (elim receives as (λ _. Bool) [ true ↦ is_full | false ↦ seen || is_full ]) later ≡ true → only_if is_full later ≡ true
+full_now seen receives false later h = refl
+full_now seen true true later h = h
+full_now true false true later h = h
+full_now false false true later h = h
+
+never_asked : (seen : Bool) → only_if seen true ≡ true
+never_asked true = refl
+never_asked false = refl
+
+next_gets : (ms : List Mark) (seen : Bool) → Passes next_law seen (map glance_of ms) → only_if seen (next_receive_gets ms) ≡ true
+next_gets [] seen p = never_asked seen
+next_gets (m ∷ ms) seen p =
+    next_at seen (answers_receive (glance_of m)) (full (glance_of m)) _ _ p.0 (next_gets ms _ p.1)
+
+got : (ms : List Mark) (seen : Bool) → Passes next_law seen (map glance_of ms) → is_got_after_full ms ≡ true
+got [] seen p = refl
+got (m ∷ ms) seen p =
+    both _ _ (full_now seen (answers_receive (glance_of m)) (full (glance_of m)) _ (next_gets ms _ p.1)) (got ms _ p.1)
+
+nameless : Nameless next_law
+nameless =
+    record {
+      none = refl;
+      passes_same = λ k n g. of_call k (λ call. gets n (record g { call = call })) (λ a b. refl) g.call;
+      sees_same = λ k n g. of_call k (λ call. seen_then n (record g { call = call })) (λ a b. refl) g.call;
+    }
+
+explored : LawExplored next_law
+explored = record { found = all_glanced next_law; all = refl }
+
+pub got_after_full : {T : Type 0} → EachRun T is_got_after_full
+got_after_full = holds_by next_law nameless explored is_got_after_full (λ place ms. got ms false)

@@ -1,0 +1,93 @@
+-- The message is always in one place. This follows the moves that the trace shows.
+use Rattle.std.specs.Prelude.{ℕ, Bool, true, false, ◌&&◌, ◌||◌, ◌==◌, List, [], ◌∷◌, Some, None}
+use Rattle.std.specs.List.{list_any, list_all, filter_map}
+use Rattle.oneshot_machine.specs.declared.machine.Reply.TheVariants as R
+use Rattle.oneshot_world.specs.Calls.{Calls}
+use Rattle.oneshot_world.specs.declared.trace.Entry.{Entry}
+use Rattle.oneshot_world.specs.declared.trace.Entry.TheVariants.{Idle, Made as Made_entry}
+use Rattle.oneshot_world.specs.declared.trace.Made.{Made}
+use Rattle.oneshot_world.specs.declared.trace.Place.{Place}
+use Rattle.oneshot_world.specs.declared.trace.Place.TheVariants.{NotSent, InCell, InError, Delivered, FromError, Dropped}
+use Rattle.oneshot_laws.specs.Entries.{only_if, is_reply}
+use Rattle.oneshot_laws.specs.Actions.{is_send, is_receive, is_into_inner, is_drop_of_receiver, is_drop_of_error}
+use Rattle.oneshot_laws.specs.Marks.{Mark}
+use Rattle.oneshot_laws.specs.Ended.{all_ended}
+
+-- the trace without its idle entries
+abbrev pub made_entries : List Entry → List Made
+made_entries [] = []
+made_entries (Idle side ∷ entries) = made_entries entries
+made_entries (Made_entry e ∷ entries) = e ∷ made_entries entries
+
+-- A path: each move leaves the place where the thing is, and is allowed.
+abbrev pub is_path : {P : Type 0} → (P → P → Bool) → (P → P → Bool) → P → List (P × P) → Bool
+is_path is_same is_allowed place [] = true
+is_path is_same is_allowed place (move ∷ moves) =
+    is_same move.0 place && is_allowed move.0 move.1 && is_path is_same is_allowed move.1 moves
+
+abbrev pub last_place : {P : Type 0} → P → List (P × P) → P
+last_place place [] = place
+last_place place (move ∷ moves) = last_place move.1 moves
+
+abbrev pub place_code : Place → ℕ
+place_code NotSent = 0
+place_code InCell = 1
+place_code InError = 2
+place_code Delivered = 3
+place_code FromError = 4
+place_code Dropped = 5
+
+abbrev pub is_same_place : Place → Place → Bool
+is_same_place a b = place_code a == place_code b
+
+abbrev pub is_message_move : Place → Place → Bool
+is_message_move NotSent InCell = true
+is_message_move InCell InError = true
+is_message_move InCell Delivered = true
+is_message_move InCell Dropped = true
+is_message_move InError FromError = true
+is_message_move InError Dropped = true
+is_message_move _ _ = false
+
+abbrev pub message_moves : List Entry → List (Place × Place)
+message_moves entries = filter_map (λ e. e.message) (made_entries entries)
+
+-- whether the scripts have a message
+abbrev pub has_message : Calls → Bool
+has_message c = list_any is_send c.sender
+
+-- the message begins as not sent, and follows a path; without a message nothing moves
+abbrev pub is_message_followed : Calls → List Entry → Bool
+is_message_followed c entries =
+    is_path is_same_place (λ from to. has_message c && is_message_move from to) NotSent (message_moves entries)
+
+abbrev pub last_message_place : List Entry → Place
+last_message_place entries = last_place NotSent (message_moves entries)
+
+-- where a message whose send was made is once all have ended
+abbrev pub is_message_end : Place → Bool
+is_message_end Delivered = true
+is_message_end FromError = true
+is_message_end Dropped = true
+is_message_end _ = false
+
+abbrev pub is_message_ended : List Entry → List Mark → Bool
+is_message_ended entries ms =
+    only_if (all_ended ms && list_any (λ m. is_send m.call) ms) (is_message_end (last_message_place entries))
+
+-- Each move of the message belongs to the call that makes it: into the cell and into the error only a
+-- `send` puts it, the latter only if it is refused; it is delivered by a receive alone, given out of the
+-- error by `into_inner`, and dropped by a drop of the receiver or of the error.
+abbrev pub may_put : Mark → Place → Bool
+may_put m NotSent = false
+may_put m InCell = is_send m.call
+may_put m InError = is_send m.call && is_reply R.Refused m.entry.reply
+may_put m Delivered = is_receive m.call
+may_put m FromError = is_into_inner m.call
+may_put m Dropped = is_drop_of_receiver m.call || is_drop_of_error m.call
+
+abbrev pub is_put_by_its_call : Mark → Bool
+is_put_by_its_call m = elim m.entry.message [ None ↦ true | Some move ↦ may_put m move.1 ]
+
+abbrev pub is_message_put : List Mark → Bool
+is_message_put ms = list_all is_put_by_its_call ms

@@ -1,0 +1,34 @@
+-- A receiver's script that is answered call by call.
+use Rattle.std.proofs.Common.{◌≡◌, ℕ, ◌+◌, ◌<◌, List, [], ◌∷◌, Option, Some, None, true, is_some, refl, length, drop, get_or, add-one, drop-cons}
+use Rattle.oneshot_machine.specs.declared.machine.End.TheVariants.{Receiver}
+use Rattle.oneshot_machine.specs.declared.machine.Reply.{Reply}
+use Rattle.oneshot_world.specs.Calls.{Unanswered, first, number_of, rest, left_by}
+use Rattle.oneshot_world.specs.Scripts.{receiver_call, receiver_calls, async_call, async_calls}
+use Rattle.oneshot_world.specs.declared.script.AsyncCall.{AsyncCall}
+use Rattle.oneshot_world.specs.declared.script.AsyncCall.TheVariants as AC
+use Rattle.oneshot_world.specs.declared.script.AsyncLast.{AsyncLast}
+use Rattle.oneshot_world.specs.declared.script.ReceiverCall.{ReceiverCall}
+use Rattle.oneshot_world.specs.declared.script.ReceiverCall.TheVariants as Script
+use Rattle.oneshot_world.specs.declared.script.ReceiverLast.{ReceiverLast}
+use Rattle.oneshot_world.specs.declared.script.ReceiverLast.TheVariants as RL
+use Rattle.std.specs.Option.{option_and_then}
+
+-- the calls from the n-th on are that call and those after it
+pub from_here : (calls : List ReceiverCall) (n : ℕ) (last : ReceiverLast) → n < length calls → receiver_calls (drop n calls) last ≡ receiver_call (get_or calls n Script.TryRecv) ∷ receiver_calls (drop (n + 1) calls) last
+from_here calls n last h = rw (add-one, drop-cons calls n Script.TryRecv) refl
+
+-- a reply answers the first call that is left
+pub answers : (reply : Option Reply) (left : Unanswered) → is_some reply ≡ true → left_by Receiver reply left ≡ record { calls = rest left.calls; error = left.error }
+answers None left h = cc
+answers (Some reply) left h = refl
+
+-- and a future's
+pub future_from_here : (calls : List AsyncCall) (n : ℕ) (last : AsyncLast) → n < length calls → async_calls (drop n calls) last ≡ async_call (get_or calls n AC.HasMessage) ∷ async_calls (drop (n + 1) calls) last
+future_from_here calls n last h = rw (add-one, drop-cons calls n AC.HasMessage) refl
+
+-- a receiver that is no future polls nothing
+pub not_polled : (calls : List ReceiverCall) (last : ReceiverLast) → option_and_then number_of (first (receiver_calls calls last)) ≡ None
+not_polled [] RL.Recv = refl
+not_polled [] _ = refl
+not_polled (Script.TryRecv ∷ calls) last = refl
+not_polled (_ ∷ calls) last = refl

@@ -1,0 +1,42 @@
+-- A step by a row, put together from its parts.
+use Rattle.std.proofs.Common.{◌≡◌, Bool, true, false, Option, Some, None, refl, if◌then◌else◌, ◌||◌}
+use Rattle.std.specs.Option.{option_map, IsSome}
+use Rattle.oneshot_machine.specs.Receiver.{receiver_step, receiver_row}
+use Rattle.oneshot_machine.specs.Rows.{outcome}
+use Rattle.oneshot_machine.specs.Sender.{sender_step, sender_row}
+use Rattle.oneshot_machine.specs.declared.machine.End.TheVariants.{Sender, Receiver}
+use Rattle.oneshot_machine.specs.declared.machine.Reply.{Reply}
+use Rattle.oneshot_machine.specs.declared.machine.receiver.ReceiverPos.{ReceiverPos}
+use Rattle.oneshot_machine.specs.declared.machine.sender.SenderPos.{SenderPos}
+use Rattle.oneshot_world.specs.State.{made, moved, hand_kept, sender_fits, receiver_fits, sender_stepped, receiver_stepped, sender_steps, receiver_steps}
+use Rattle.oneshot_world.specs.Effects.{is_future, seen_by, sender_puts, receiver_puts, sender_goes, receiver_goes}
+use Rattle.oneshot_world.specs.declared.state.State.{State}
+use Rattle.oneshot_world.specs.declared.trace.Made.{Made}
+use Rattle.oneshot_machine.specs.declared.machine.Step.{Step}
+use Rattle.oneshot_world.specs.declared.wakers.Told.{Told}
+
+made_where_it_fits : {P : Type 0} (fits : Bool) (f : P → Made × State) (row : Option P) (r : P) → IsSome (if fits then option_map f row else None) → row ≡ Some r → (if fits then option_map f row else None) ≡ Some (f r)
+made_where_it_fits true f row r there at = rw at refl
+made_where_it_fits false f row r there at = cc
+
+-- the sender's step, by the row that `next` gives
+pub sender_made_of : (t : Told) (s : State) (position : SenderPos) (n : SenderPos × Option Reply) → IsSome (sender_steps t s position) → sender_row position (seen_by t.answer s (sender_step position)) ≡ Some (outcome n) → sender_steps t s position ≡ Some (made Sender t s (sender_step position) n.1 (sender_puts (sender_step position) n.1), record (moved t s (sender_step position) (sender_puts (sender_step position) n.1)) { sender = sender_goes (sender_step position) (outcome n) })
+sender_made_of t s position (next, None) there at =
+    made_where_it_fits (sender_fits s (sender_step position)) (sender_stepped t s (sender_step position)) (sender_row position (seen_by t.answer s (sender_step position))) (outcome (next, None)) there at
+sender_made_of t s position (next, Some reply) there at =
+    made_where_it_fits (sender_fits s (sender_step position)) (sender_stepped t s (sender_step position)) (sender_row position (seen_by t.answer s (sender_step position))) (outcome (next, Some reply)) there at
+
+abbrev pub receiver_left_by_row : Told → State → Step → ReceiverPos × Option Reply → State
+receiver_left_by_row t s step n =
+    record (moved t s step (receiver_puts step)) {
+      receiver = receiver_goes step (outcome n);
+      future = s.future || is_future n.1;
+      wakers = hand_kept (is_future n.1) (moved t s step (receiver_puts step)).wakers;
+    }
+
+-- the receiver's
+pub receiver_made_of : (t : Told) (s : State) (position : ReceiverPos) (n : ReceiverPos × Option Reply) → IsSome (receiver_steps t s position) → receiver_row position (seen_by t.answer s (receiver_step position)) ≡ Some (outcome n) → receiver_steps t s position ≡ Some (made Receiver t s (receiver_step position) n.1 (receiver_puts (receiver_step position)), receiver_left_by_row t s (receiver_step position) n)
+receiver_made_of t s position (next, None) there at =
+    made_where_it_fits (receiver_fits s (receiver_step position)) (receiver_stepped t s (receiver_step position)) (receiver_row position (seen_by t.answer s (receiver_step position))) (outcome (next, None)) there at
+receiver_made_of t s position (next, Some reply) there at =
+    made_where_it_fits (receiver_fits s (receiver_step position)) (receiver_stepped t s (receiver_step position)) (receiver_row position (seen_by t.answer s (receiver_step position))) (outcome (next, Some reply)) there at
