@@ -12,7 +12,7 @@ use Rattle.oneshot_machine.specs.Runs.{last, more, ReceiverRan}
 use Rattle.oneshot_machine.proofs.GrownLists.{and_then}
 use Rattle.oneshot_machine.specs.Slots.{Held, IsSlot, ReceiverFinds}
 use Rattle.oneshot_machine.specs.Words.{is_same_op}
-use Rattle.oneshot_drive.proofs.AfterOperations.{Each, landings, FoundSo, found_so}
+use Rattle.oneshot_machine.proofs.Landings.{Each, landings, FoundSo, found_so}
 
 -- the word that it finds, with the slots then
 pub data Swapped : ℕ → Slots → Type 0 where

@@ -19,7 +19,8 @@ use Rattle.oneshot_drive.specs.Grounds.{State, StandsWith, Stands, ReceiverMakes
 use Rattle.oneshot_drive.specs.Blocking.{Went}
 use Rattle.oneshot_drive.specs.BetweenCalls.{is_over, is_resolved}
 use Rattle.oneshot_drive.specs.Polls.{LeavesPolled, leaves_waiting, poll_end, EndsPoll, MayLeave}
-use Rattle.oneshot_drive.proofs.AfterOperations.{is_room, has_row, Each, landings, Lands, Lone, lone, OneOf, one_of, at_word, not_at, asks, lands, still, stands_on, withdrew_waker}
+use Rattle.oneshot_machine.proofs.Landings.{is_room, has_row, Each, landings}
+use Rattle.oneshot_drive.proofs.AfterOperations.{Lands, Lone, lone, OneOf, one_of, at_word, not_at, asks, lands, still, stands_on, withdrew_waker}
 use Rattle.oneshot_drive.proofs.Stretches.{on, by_word, by_write, by_withdraw, by_copy, by_refusal, by_own}
 
 -- where the exchange of a copy leads, with the copy in the slot

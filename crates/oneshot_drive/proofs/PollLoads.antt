@@ -25,7 +25,8 @@ use Rattle.oneshot_drive.specs.Grounds.{State, StandsWith, Stands, StandsIn, rec
 use Rattle.oneshot_drive.specs.Blocking.{Went}
 use Rattle.oneshot_drive.specs.BetweenCalls.{rests_new, rests_open, rests_closed, IsClosed, is_over, is_resolved}
 use Rattle.oneshot_drive.specs.Polls.{Polled, unpolled, left_copy, kept_copy, found_sender, has_resolved, IsPolled, LeavesPolled, leaves_received, leaves_resolved, leaves_over, leaves_gone, leaves_uncopied, leaves_waiting, leaves_its_copy, leaves_claimed, EndsPoll}
-use Rattle.oneshot_drive.proofs.AfterOperations.{has_row, Each, landings, Came, came, asks, lands}
+use Rattle.oneshot_machine.proofs.Landings.{has_row, Each, landings}
+use Rattle.oneshot_drive.proofs.AfterOperations.{Came, came, asks, lands}
 use Rattle.oneshot_drive.proofs.Stretches.{on, by_word, ran}
 
 -- it may load

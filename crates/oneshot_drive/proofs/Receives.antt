@@ -27,7 +27,8 @@ use Rattle.oneshot_machine.proofs.GrownLists.{receiver_moved, and_then}
 use Rattle.oneshot_drive.specs.Grounds.{State, StandsWith, Stands, receiver_slots, ReceiverAsks, ReceiverMakes}
 use Rattle.oneshot_drive.specs.Blocking.{Went, value_end, EndsAt, Returns, returned, taken, Refills, refilled, HandAt}
 use Rattle.oneshot_drive.specs.BetweenCalls.{AtRest, rests_open, IsClosed, LeavesClosed, left_received, left_closed, LeavesTimed, timed_received, timed_out, timed_closed, IsReady, Hands, as_it_was, sender_took, came_back}
-use Rattle.oneshot_drive.proofs.AfterOperations.{is_room, has_row, Each, landings, lone, asks, lands, one_of, stands_on, still}
+use Rattle.oneshot_machine.proofs.Landings.{is_room, has_row, Each, landings}
+use Rattle.oneshot_drive.proofs.AfterOperations.{lone, asks, lands, one_of, stands_on, still}
 use Rattle.oneshot_drive.proofs.Stretches.{by_clock, ran, before}
 
 -- one that has the message may close over it, however it came to it, and then it has it still

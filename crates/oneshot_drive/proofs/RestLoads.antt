@@ -16,7 +16,8 @@ use Rattle.oneshot_machine.specs.Words.{is_same_op}
 use Rattle.oneshot_machine.proofs.GrownLists.{and_then}
 use Rattle.oneshot_drive.specs.Grounds.{State, StandsWith, Stands, receiver_slots, ReceiverAsks, ReceiverMakes}
 use Rattle.oneshot_drive.specs.BetweenCalls.{Rests, rests_new, rests_open, rests_closed, AtRest, IsClosed, is_over, is_resolved, Leaves, leaves_received, leaves_open, leaves_closed}
-use Rattle.oneshot_drive.proofs.AfterOperations.{has_row, Each, landings, found_so, lone, Came, came, asks, lands}
+use Rattle.oneshot_machine.proofs.Landings.{has_row, Each, landings, found_so}
+use Rattle.oneshot_drive.proofs.AfterOperations.{lone, Came, came, asks, lands}
 
 -- it may load, and may be dropped
 rests_load : {at : ReceiverAt} → Rests at → has_row Load (receiver_slots at) (receiver_moves at) ≡ true

@@ -16,7 +16,8 @@ use Rattle.oneshot_machine.specs.Slots.{Held, vacant, held, is_vacant, SenderMay
 use Rattle.oneshot_machine.proofs.GrownLists.{and_then}
 use Rattle.oneshot_drive.specs.Grounds.{State, StandsWith, SenderMakes}
 use Rattle.oneshot_drive.specs.BetweenCalls.{IsFresh, IsError, IsLate, is_late, Owes, finishing, LastFinds, finds_waiting, finds_overdue, Finishes}
-use Rattle.oneshot_drive.proofs.AfterOperations.{is_in, is_room, put_in, as_before, has_row, landings_of, Each, found_so, Lone, lone, at_word, not_at, sender_asks, sender_lands, sender_still}
+use Rattle.oneshot_machine.proofs.Landings.{is_in, is_room, put_in, as_before, has_row, landings_of, Each, found_so}
+use Rattle.oneshot_drive.proofs.AfterOperations.{Lone, lone, at_word, not_at, sender_asks, sender_lands, sender_still}
 
 -- after its last operation a sender wakes
 send_final : {n : ℕ} → LastFinds n → sender_row SendFinal (S.Word n) ≡ Some (Goes SendWake)

@@ -21,7 +21,8 @@ use Rattle.oneshot_drive.specs.Grounds.{State, Stands, ReceiverAsks, ReceiverMak
 use Rattle.oneshot_drive.specs.Blocking.{Went}
 use Rattle.oneshot_drive.specs.BetweenCalls.{is_over}
 use Rattle.oneshot_drive.specs.Polls.{EndsPoll}
-use Rattle.oneshot_drive.proofs.AfterOperations.{has_row, landings, Lands, Lone, lone, OneOf, one_of, at_word, not_at, asks, lands, withdrew_waker}
+use Rattle.oneshot_machine.proofs.Landings.{has_row, landings}
+use Rattle.oneshot_drive.proofs.AfterOperations.{Lands, Lone, lone, OneOf, one_of, at_word, not_at, asks, lands, withdrew_waker}
 use Rattle.oneshot_drive.proofs.LeftCopies.{backed_copy, exchanged_to}
 use Rattle.oneshot_drive.proofs.PollLoads.{loaded_to}
 use Rattle.oneshot_drive.proofs.Stretches.{on, by_word, by_withdraw, before}

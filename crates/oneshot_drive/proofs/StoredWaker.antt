@@ -15,7 +15,8 @@ use Rattle.oneshot_machine.specs.Slots.{Held, vacant, held, IsSlot, ReceiverFind
 use Rattle.oneshot_drive.specs.Grounds.{State, StandsWith, Stands, ReceiverMakes}
 use Rattle.oneshot_drive.specs.BetweenCalls.{IsReady}
 use Rattle.oneshot_drive.specs.Blocking.{Went, Way, by_ref, by_value, load_of, write_of, wait_of, end_of, EndsAt, Returns, returned, taken, refilled, HandAt, WaitedHand}
-use Rattle.oneshot_drive.proofs.AfterOperations.{landings, Lands, Lone, lone, at_word, not_at, one_of, lands, withdrew_waker}
+use Rattle.oneshot_machine.proofs.Landings.{landings}
+use Rattle.oneshot_drive.proofs.AfterOperations.{Lands, Lone, lone, at_word, not_at, one_of, lands, withdrew_waker}
 use Rattle.oneshot_drive.proofs.RestLoads.{never}
 use Rattle.oneshot_drive.proofs.Stretches.{on, by_word, by_write, by_withdraw}
 

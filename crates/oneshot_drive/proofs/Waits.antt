@@ -17,7 +17,8 @@ use Rattle.oneshot_machine.specs.Rows.{Outcome, Goes, row_for}
 use Rattle.oneshot_machine.specs.Slots.{vacant}
 use Rattle.oneshot_drive.specs.Grounds.{State, StandsWith, Stands, ReceiverMakes}
 use Rattle.oneshot_drive.specs.Blocking.{Went, Way, by_ref, by_value, wait_of, asked_of, ref_end, end_of, EndsAt, Parks, parks_waiting, parks_overdue}
-use Rattle.oneshot_drive.proofs.AfterOperations.{landings, Lands, Lone, lone, at_word, not_at, Came, came, lands, withdrew_waker}
+use Rattle.oneshot_machine.proofs.Landings.{landings}
+use Rattle.oneshot_drive.proofs.AfterOperations.{Lands, Lone, lone, at_word, not_at, Came, came, lands, withdrew_waker}
 use Rattle.oneshot_drive.proofs.Stretches.{on, begun, by_word, by_withdraw, by_park, by_clock}
 
 -- where the load after a park stands, of each way

@@ -1,5 +1,6 @@
 use Rattle.oneshot_drive.specs.Polls.{is_disconnected}
-use Rattle.oneshot_drive.proofs.AfterOperations.{is_in, took_message}
+use Rattle.oneshot_machine.proofs.Landings.{is_in}
+use Rattle.oneshot_drive.proofs.AfterOperations.{took_message}
 use Rattle.oneshot_drive.proofs.Stretches.{whole}
 use Rattle.oneshot_drive.proofs.Receives.{full_asks, closed_over}
 use Rattle.oneshot_drive.proofs.PollLoads.{taken_rests, taken_leaves, poll_ran, pending_rests, pending_leaves, gone, gone_rests, gone_leaves}

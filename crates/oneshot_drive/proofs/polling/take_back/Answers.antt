@@ -2,7 +2,8 @@ use Rattle.std.proofs.Common.{rules, refl}
 use Rattle.oneshot_machine.specs.declared.machine.receiver.ReceiverPos.TheVariants.{AsyncDrop}
 use Rattle.oneshot_machine.specs.declared.machine.async_drop.AsyncDropPos.TheVariants.{AsyncExchange}
 use Rattle.oneshot_machine.specs.declared.states.Op.TheVariants.{Swap, Exchange}
-use Rattle.oneshot_drive.proofs.AfterOperations.{is_in, asks}
+use Rattle.oneshot_machine.proofs.Landings.{is_in}
+use Rattle.oneshot_drive.proofs.AfterOperations.{asks}
 use Rattle.oneshot_drive.proofs.LeftCopies.{backed, backed_copy, backed_sender}
 use Rattle.oneshot_drive.proofs.Spins.{end_asks, backed_end, backed_out, withdrawn_ends, withdrawn_went, claimed_went}
 use Rattle.oneshot_drive.proofs.polling.take_back.Goals as goal

@@ -1,5 +1,5 @@
 use Rattle.std.proofs.Common.{rules, ◌∙◌}
-use Rattle.oneshot_drive.proofs.AfterOperations.{is_in, is_room}
+use Rattle.oneshot_machine.proofs.Landings.{is_in, is_room}
 use Rattle.oneshot_drive.proofs.LastSwap.{swapped_full, swapped_last, dropped_message, dropped_open, dropped_last}
 use Rattle.oneshot_drive.proofs.receiver.end.Goals as goal
 

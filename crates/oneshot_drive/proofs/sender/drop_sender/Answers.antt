@@ -1,6 +1,7 @@
 use Rattle.std.proofs.Common.{rules, refl}
 use Rattle.oneshot_machine.specs.declared.states.Op.TheVariants.{Xor}
-use Rattle.oneshot_drive.proofs.AfterOperations.{is_room, sender_asks}
+use Rattle.oneshot_machine.proofs.Landings.{is_room}
+use Rattle.oneshot_drive.proofs.AfterOperations.{sender_asks}
 use Rattle.oneshot_drive.proofs.SenderCalls.{drop_owes, flipped, drop_ran, drop_woke, drop_freed}
 use Rattle.oneshot_drive.proofs.sender.drop_sender.Goals as goal
 

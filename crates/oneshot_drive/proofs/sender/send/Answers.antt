@@ -1,5 +1,6 @@
 use Rattle.std.proofs.Common.{rules, refl}
-use Rattle.oneshot_drive.proofs.AfterOperations.{sender_asks, message_kept}
+use Rattle.oneshot_machine.proofs.Landings.{message_kept}
+use Rattle.oneshot_drive.proofs.AfterOperations.{sender_asks}
 use Rattle.oneshot_machine.specs.declared.states.Op.TheVariants.{Add}
 use Rattle.oneshot_drive.proofs.SenderCalls.{written, send_owes, added, refused, is_too_late, send_ran, send_refused, send_woke}
 use Rattle.oneshot_drive.proofs.sender.send.Goals as goal

@@ -1,6 +1,7 @@
 use Rattle.std.proofs.Common.{◌≡◌, Some, refl, rules}
 use Rattle.oneshot_machine.specs.declared.states.Op.TheVariants.{Swap}
-use Rattle.oneshot_drive.proofs.AfterOperations.{is_room, asks, waker_kept, wrote_waker}
+use Rattle.oneshot_machine.proofs.Landings.{is_room, waker_kept}
+use Rattle.oneshot_drive.proofs.AfterOperations.{asks, wrote_waker}
 use Rattle.oneshot_drive.proofs.StoredWaker.{stored, stored_waits, stored_there, over_word, stored_went, full_went, over_went, withdrew_full, withdrew_over, back, waited_hand}
 use Rattle.oneshot_drive.proofs.waiting.store_and_wait.Goals as goal
 
