@@ -1,6 +1,6 @@
 -- The goals that `recv_ref` leaves.
 use Rattle.std.proofs.Common.{refl}
-use Rattle.oneshot_drive.proofs.BlockingRuns.{untimed_full, untimed_gone}
+use Rattle.oneshot_drive.proofs.Receives.{untimed_full, untimed_gone}
 use Rattle.oneshot_drive.proofs.blocking.recv_ref.Goals as goal
 
 pub returns-in-Ok-clause-leaves : goal.returns-in-Ok-clause-leaves
