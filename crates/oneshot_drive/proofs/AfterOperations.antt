@@ -8,9 +8,9 @@ use Rattle.oneshot_machine.specs.Logs.{Event, Log, Grows, words, sender_of, rece
 use Rattle.oneshot_machine.specs.Phases.{SenderAt, no_sender, sender_moves, sender_at, ReceiverAt, no_receiver, receiver_moves, receiver_at, Share, empty, filled, Slots, Row, next_by}
 use Rattle.oneshot_machine.specs.Slots.{vacant, held, In, head, tail, May, may, Finds, finds}
 use Rattle.oneshot_machine.specs.Noted.{saw, is_same_op}
-use Rattle.oneshot_machine.proofs.Exactness.{differ, leads}
+use Rattle.oneshot_machine.proofs.Exactness.{same_op, differ, leads}
 use Rattle.oneshot_machine.proofs.GrownLists.{words_stay, sender_moved, receiver_moved}
-use Rattle.oneshot_machine.proofs.Landings.{put_in, emptied, as_before, turned, same_op, has_row, row_of, Landing, landings, landed, Each, each, among, is_among, differs, sender_apart, receiver_apart}
+use Rattle.oneshot_machine.proofs.Landings.{put_in, emptied, as_before, turned, has_row, row_of, Landing, landings, landed, Each, each, among, is_among, differs, sender_apart, receiver_apart}
 use Rattle.oneshot_drive.specs.Grounds.{State, StandsWith, Stands, receiver_slots, SenderAsks, SenderMakes, ReceiverAsks, ReceiverMakes}
 
 -- an operation that found this word landed at one of these

@@ -113,7 +113,7 @@ module _ {T W : Type 0} where
   closed_met met_copy stands a b c d = absurd (b refl)
   closed_met (met_message word drops) stands a b c d = absurd (c refl)
   closed_met met_sender stands a b c d = absurd (d refl)
-  closed_met (met_closed k) stands a b c d = (refl, record { at = over k; is_one = is_over k; stands = stands })
+  closed_met (met_closed k) stands a b c d = (refl, record { at = disconnected k; is_one = is_over k; stands = stands })
 
   pub meet_asks : {s : State T W} → IsPolled s → ReceiverAsks Load s
   meet_asks is = asks Load is.stands (polled_loads is.is_one)

@@ -7,7 +7,7 @@ use Rattle.oneshot_machine.specs.declared.states.Op.TheVariants.{Load, Store, Sw
 use Rattle.oneshot_machine.specs.Phases.{SenderAt, fresh, owes, finished, late, sending, dropping, no_sender, sender_moves, ReceiverAt, first, here, looked, between, waits, blocked, polled, again, claimed, withdrew, overdue, full, at_once, waited, swapped, by_future, by_poll, unclosed, disconnected, resolved, gone, ended, no_receiver, receiver_moves, Share, none, empty, filled, Slots, Row}
 use Rattle.oneshot_machine.specs.Slots.{Held, vacant, held, IsSlot, is_away, is_vacant, is_held, Turns, stays_away, stays_vacant, stays_held, gives_room, gives_thing, gets_room, gets_thing, In, head, tail, Finds, finds}
 use Rattle.oneshot_machine.specs.Noted.{is_same_op}
-use Rattle.oneshot_machine.proofs.Exactness.{differ, ops_are_same}
+use Rattle.oneshot_machine.proofs.Exactness.{differ, ops_are_same, is_same_share, shares_are_same}
 
 -- slots: what is in them, and what is put there
 pub is_in : {X : Type 0} {h : Held X} → IsSlot filled h → (x : X) × (h ≡ held x)
@@ -33,26 +33,6 @@ turned gives_room = is_away
 turned (gives_thing x) = is_away
 turned gets_room = is_vacant
 turned (gets_thing x) = is_held x
-
-pub same_op : (op : Op) → is_same_op op op ≡ true
-same_op Load = refl
-same_op (Store new) = eq-eqb new new refl
-same_op (Swap new) = eq-eqb new new refl
-same_op (Exchange expected new) = rw (eq-eqb expected expected refl, eq-eqb new new refl) refl
-same_op Add = refl
-same_op Xor = refl
-
-abbrev is_same_share : Share → Share → Bool
-is_same_share none none = true
-is_same_share empty empty = true
-is_same_share filled filled = true
-is_same_share _ _ = false
-
-shares_are_same : (a b : Share) → is_same_share a b ≡ true → a ≡ b
-shares_are_same none none e = refl
-shares_are_same empty empty e = refl
-shares_are_same filled filled e = refl
-shares_are_same _ _ e = absurd (cc)
 
 -- whether a row is of this operation and needs these slots
 abbrev pub is_row_of : {At : Type 0} → Op → Slots → Row At → Bool
