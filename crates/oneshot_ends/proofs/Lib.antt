@@ -1,4 +1,6 @@
-pub mod Standing
-pub mod Lent
-mod Tokens
-mod Polled
+mod GrewByRuns
+mod GroundSlots
+mod LentGrounds
+mod TimeoutEnds
+mod PollingTokens
+mod PolledEnds

@@ -3,7 +3,7 @@
 ghost use Rattle.std.specs.Prelude.{⊤};
 
 use crate::deadline::{Deadline, read};
-use crate::ground::ReceiverSeat;
+use crate::ground::ReceiverOnWord;
 use crate::rouse::Rouse;
 use crossbeam_utils::sync::{Parker, Unparker};
 use futures::task::Waker;
@@ -14,24 +14,20 @@ use std::time::Clock;
 
 /// The ground of a receiver, lent for one call, with what it parks by.
 #[derive(Drop)]
-pub(crate) struct BlockSeat<'s, 'p, 'r, T, Rt> {
-    pub(crate) seat: &'s mut ReceiverSeat<T, Unparker, Waker>,
+pub(crate) struct Blocking<'s, 'p, 'r, T, Rt> {
+    pub(crate) ground: &'s mut ReceiverOnWord<T, Unparker, Waker>,
     pub(crate) parker: &'p Parker,
     pub(crate) rt: &'r Rt,
     pub(crate) deadline: Deadline,
-    /// What the first read of the clock tells, where the call made it before it lent its seat.
+    /// What the first read of the clock tells, where the call made it before it lent its ground.
     pub(crate) told: Option<bool>,
 }
 
-impl<'s, 'p, 'r, T: Drop, Rt> ReceiverGround<T, Rouse> for BlockSeat<'s, 'p, 'r, T, Rt> {
-    ghost use Rattle.oneshot_ends.specs.Sides.{lent};
+impl<'s, 'p, 'r, T: Drop, Rt> ReceiverGround<T, Rouse> for Blocking<'s, 'p, 'r, T, Rt> {
+    ghost use Rattle.oneshot_ends.specs.Grounds.{lent};
 
-    // The place names the seat that was lent too, so that a caller knows it again.
-    ghost log = { λ b. lent b.seat.ghost_name b.seat.now };
-
-    ghost message_slot = { λ b. b.seat.now.message };
-
-    ghost waker_slot = { λ b. b.seat.now.waker };
+    // The place names the ground that was lent too, so that a caller knows it again.
+    ghost state = { λ b. lent b.ground.ghost_name b.ground.now };
 
     // It has nothing beside the channel.
     ghost keeps = { λ _ _. ⊤ };
@@ -41,31 +37,31 @@ impl<'s, 'p, 'r, T: Drop, Rt> ReceiverGround<T, Rouse> for BlockSeat<'s, 'p, 'r,
     ghost keeps_on = { λ _ _ _ _ _. tt };
 
     fn word(&mut self, op: Op) -> u8 {
-        self.seat.word(op)
+        self.ground.word(op)
     }
 
     fn take_message(&mut self) -> T {
-        self.seat.take_message()
+        self.ground.take_message()
     }
 
     fn drop_message(&mut self) {
-        self.seat.drop_message();
+        self.ground.drop_message();
     }
 
     fn write_waker(&mut self, waker: Rouse) {
-        self.seat.write_waker(waker);
+        self.ground.write_waker(waker);
     }
 
     fn withdraw(&mut self) -> Rouse {
-        self.seat.withdraw()
+        self.ground.withdraw()
     }
 
     fn free(&mut self) {
-        self.seat.free();
+        self.ground.free();
     }
 }
 
-impl<'s, 'p, 'r, T: Drop, Rt: Wait + Clock> BlockGround<T, Rouse> for BlockSeat<'s, 'p, 'r, T, Rt> {
+impl<'s, 'p, 'r, T: Drop, Rt: Wait + Clock> BlockGround<T, Rouse> for Blocking<'s, 'p, 'r, T, Rt> {
     fn park(&mut self, timed: bool) {
         if !timed {
             return self.parker.park(self.rt);

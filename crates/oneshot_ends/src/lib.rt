@@ -12,7 +12,7 @@ mod raw;
 mod receiver;
 mod rouse;
 mod sender;
-mod task;
+mod polling;
 
 pub use error::SendError;
 pub use future::AsyncReceiver;

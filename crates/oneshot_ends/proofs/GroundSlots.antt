@@ -1,0 +1,130 @@
+-- What a ground may do and finds by its end's side: one that freed the block makes no operation, and any other shows its side as it is.
+use Rattle.std.proofs.Common.{◌≡◌, ℕ, Bool, true, false, List, [], ◌∷◌, Option, Some, None, refl, sym, ap, subst, true≢false}
+use Rattle.std.specs.List.{list_all}
+use Rattle.oneshot_machine.specs.declared.states.Op.{Op}
+use Rattle.oneshot_machine.specs.Logs.{Log, words}
+use Rattle.oneshot_machine.specs.Phases.{SenderAt, fresh, owes, finished, late, no_sender, sending, dropping, sender_moves, sender_at, ReceiverAt, first, here, waits, claimed, withdrew, overdue, full, at_once, waited, swapped, by_future, by_poll, unclosed, over, resolved, gone, ended, no_receiver, receiver_moves, receiver_owns, receiver_at, Share, none, empty, filled, Slots, Row}
+use Rattle.oneshot_machine.specs.Slots.{Held, away, vacant, held, IsSlot, is_away, May, may, Finds, Owns, owns, own_vacant, SenderMay}
+use Rattle.oneshot_machine.specs.Words.{Noted}
+use Rattle.oneshot_machine.proofs.Exactness.{each_passes}
+use Rattle.oneshot_drive.specs.BetweenCalls.{IsLate, is_late, AtRest, rests_new}
+use Rattle.oneshot_drive.specs.Grounds.{StandsWith, SenderAsks}
+use Rattle.oneshot_word.specs.Side.{Side}
+use Rattle.oneshot_ends.specs.Grounds.{MayBeFreed, unless_freed, left_of, events_of, state_of, IsNew, IsNewReceiver}
+use Rattle.oneshot_ends.proofs.GrewByRuns.{words_of}
+
+-- a slot that an end shows as its own is so
+pub own_slot : {X : Type 0} (freed : Bool) (slot : Held X) {shown : Held X} → unless_freed freed slot ≡ shown → (away ≡ shown → ⊥) → slot ≡ shown
+own_slot false slot is own = is
+own_slot true slot is own = absurd (own is)
+
+-- a row that needs the message's slot
+abbrev is_own : Share → Bool
+is_own none = false
+is_own empty = true
+is_own filled = true
+
+abbrev needs_message : {At : Type 0} → Row At → Bool
+needs_message row = is_own row.1.0
+
+-- of each end whose block is freed there is none else
+sender_needs : (at : SenderAt) → list_all needs_message (sender_moves at) ≡ true
+sender_needs fresh = refl
+sender_needs (owes sending) = refl
+sender_needs (owes dropping) = refl
+sender_needs (finished by) = refl
+sender_needs (late by) = refl
+sender_needs no_sender = refl
+
+abbrev where_own : Option (Bool × Bool) → Bool → Bool
+where_own (Some (true, waker)) needs = needs
+where_own _ needs = true
+
+needs_where_own : (at : ReceiverAt) → where_own (receiver_owns at) (list_all needs_message (receiver_moves at)) ≡ true
+needs_where_own first = refl
+needs_where_own (here open_at) = refl
+needs_where_own (waits waiting) = refl
+needs_where_own claimed = refl
+needs_where_own withdrew = refl
+needs_where_own overdue = refl
+needs_where_own (full at_once) = refl
+needs_where_own (full waited) = refl
+needs_where_own (full (swapped by)) = refl
+needs_where_own (full by_future) = refl
+needs_where_own (full by_poll) = refl
+needs_where_own (unclosed by) = refl
+needs_where_own (over closing) = refl
+needs_where_own (resolved closing) = refl
+needs_where_own gone = refl
+needs_where_own ended = refl
+needs_where_own no_receiver = refl
+
+receiver_needs : (at : ReceiverAt) → MayBeFreed true at → list_all needs_message (receiver_moves at) ≡ true
+receiver_needs at both = subst (λ own. where_own own (list_all needs_message (receiver_moves at)) ≡ true) both (needs_where_own at)
+
+not_away : {X : Type 0} {share : Share} → IsSlot {X = X} share away → is_own share ≡ true → ⊥
+not_away is_away own = true≢false (sym own)
+
+module _ {At : Type 0} (moves : At → List (Row At)) (at : List Noted → At) {T W : Type 0} where
+  -- an end whose ground may make an operation has not freed, and may make it
+  unfreed : (freed : Bool) (q : At) (op : Op) (m : Held T) (w : Held W) → (freed ≡ true → list_all needs_message (moves q) ≡ true) → May moves q op (unless_freed freed m) (unless_freed freed w) → (freed ≡ false) × May moves q op m w
+  unfreed false q op m w needs asks = (refl, asks)
+  unfreed true q op m w needs (may there message waker) = absurd (not_away message (each_passes needs_message (moves q) (needs refl) there))
+
+  can : (freed : Bool) (s now : Side T W) (op asked : Op) → (freed ≡ true → list_all needs_message (moves (at s.steps)) ≡ true) → left_of freed s ≡ now → asked ≡ op → May moves (at (words (events_of {T = T} {W = W} now.steps))) asked now.message now.waker → (freed ≡ false) × May moves (at s.steps) op s.message s.waker
+  can freed s now op asked needs is same asks =
+      unfreed freed (at s.steps) op s.message s.waker needs
+      (subst (λ xs. May moves (at xs) op (unless_freed freed s.message) (unless_freed freed s.waker)) (words_of T W s.steps)
+      (subst (λ now. May moves (at (words (events_of {T = T} {W = W} now.steps))) op now.message now.waker) (sym is)
+      (subst (λ op. May moves (at (words (events_of {T = T} {W = W} now.steps))) op now.message now.waker) same asks)))
+
+  -- what it found, as its ground shows it
+  pub found : (freed : Bool) (s now next : Side T W) (op asked : Op) (word : ℕ) → left_of freed s ≡ now → asked ≡ op → freed ≡ false → Finds moves (at s.steps) op word s.message s.waker next.message next.waker → Finds moves (at (words (events_of {T = T} {W = W} now.steps))) asked word now.message now.waker (unless_freed freed next.message) (unless_freed freed next.waker)
+  found freed s now next op asked word is same unfreed finds =
+      subst (λ op. Finds moves (at (words (events_of {T = T} {W = W} now.steps))) op word now.message now.waker (unless_freed freed next.message) (unless_freed freed next.waker)) (sym same)
+      (subst (λ now. Finds moves (at (words (events_of {T = T} {W = W} now.steps))) op word now.message now.waker (unless_freed freed next.message) (unless_freed freed next.waker)) is
+      (subst (λ f. Finds moves (at (words (events_of {T = T} {W = W} s.steps))) op word (unless_freed f s.message) (unless_freed f s.waker) (unless_freed f next.message) (unless_freed f next.waker)) (sym unfreed)
+      (subst (λ xs. Finds moves (at xs) op word s.message s.waker next.message next.waker) (sym (words_of T W s.steps)) finds)))
+
+module _ {T W : Type 0} where
+  pub sender_can : (freed : Bool) (s now : Side T W) (op asked : Op) → left_of freed s ≡ now → asked ≡ op → May sender_moves (sender_at (words (events_of {T = T} {W = W} now.steps))) asked now.message now.waker → (freed ≡ false) × May sender_moves (sender_at s.steps) op s.message s.waker
+  sender_can freed s now op asked = can sender_moves sender_at freed s now op asked (λ is. sender_needs (sender_at s.steps))
+
+  pub receiver_can : (freed : Bool) (s now : Side T W) (op asked : Op) → MayBeFreed freed (receiver_at s.steps) → left_of freed s ≡ now → asked ≡ op → May receiver_moves (receiver_at (words (events_of {T = T} {W = W} now.steps))) asked now.message now.waker → (freed ≡ false) × May receiver_moves (receiver_at s.steps) op s.message s.waker
+  receiver_can freed s now op asked stands = can receiver_moves receiver_at freed s now op asked (λ is. receiver_needs (receiver_at s.steps) (subst (λ f. MayBeFreed f (receiver_at s.steps)) is stands))
+
+  -- a sender that came late makes none
+  never_late : {at : SenderAt} {op : Op} {m : Held T} {w : Held W} → IsLate at → SenderMay at op m w → ⊥
+  never_late (is_late by) (may there message waker) = elim there [ ]
+
+  pub late_never : (s now : Side T W) (op : Op) {m : Held T} {w : Held W} → IsLate (sender_at s.steps) → record s { message = m; waker = w } ≡ now → SenderAsks op (state_of now) → ⊥
+  late_never s now op {m} {w} late is asks =
+      never_late late
+      (subst (λ xs. SenderMay (sender_at xs) op m w) (words_of T W s.steps)
+      (subst (λ now. SenderAsks op (state_of now)) (sym is) asks))
+
+  -- what it frees by
+  both_own : {own : Option (Bool × Bool)} → Owns {T = T} {W = W} own vacant vacant → own ≡ Some (true, true)
+  both_own (owns own_vacant own_vacant) = refl
+
+  pub may_free : (freed : Bool) (at : ReceiverAt) (m : Held T) (w : Held W) → Owns (receiver_owns at) m w → unless_freed freed m ≡ vacant → unless_freed freed w ≡ vacant → MayBeFreed true at
+  may_free freed at m w own message waker =
+      both_own
+      (subst (λ m. Owns (receiver_owns at) m vacant) (own_slot freed m message (λ e. cc e))
+      (subst (λ w. Owns (receiver_owns at) m w) (own_slot freed w waker (λ e. cc e)) own))
+
+  -- how the ground of a new end stands
+  new_stands : {At : Type 0} (at : List Noted → At) {slots : Slots} (s : Side T W) → IsNew slots s → StandsWith (λ (l : Log T W). at (words l.list)) (at []) slots (state_of s)
+  new_stands at s new =
+      record {
+        phase = ap (λ xs. at (words (events_of {T = T} {W = W} xs))) new.steps;
+        message = new.message;
+        waker = new.waker;
+      }
+
+  pub rests_at_new : (s now : Side T W) → now ≡ s → IsNewReceiver s → AtRest (state_of now)
+  rests_at_new s now is new =
+      subst (λ now. AtRest (state_of now)) (sym is) (record { at = first; is_one = rests_new; stands = new_stands receiver_at s new })
+
+pub stays_unfreed : (freed : Bool) (at : ReceiverAt) → freed ≡ false → MayBeFreed freed at
+stays_unfreed freed at unfreed = subst (λ f. MayBeFreed f at) (sym unfreed) tt
