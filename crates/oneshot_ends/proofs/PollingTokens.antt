@@ -62,7 +62,7 @@ module _ {T W : Type 0} where
 
   -- and it stands as that does
   pub stands_by_tokens : {Phases : ReceiverAt → Type 0} (names : List ℕ) (s : Side T W) → StandsIn Phases (state_of s) → StandsIn Phases (polled_state names s)
-  stands_by_tokens names s = stands_again (ap receiver_at (words_of T Copied s.steps ∙ sym (words_of T W s.steps))) (λ m. m) token_slot
+  stands_by_tokens names s = stands_again (ap receiver_at (words_of T Copied s.steps ∙ sym (words_of T W s.steps))) (λ share m. m) (λ share. token_slot)
 
   pub stands_as_told : {Phases : ReceiverAt → Type 0} (names : List ℕ) (s : Side T W) → StandsIn Phases (polled_state names s) → StandsIn Phases (state_of s)
-  stands_as_told names s = stands_again (ap receiver_at (words_of T W s.steps ∙ sym (words_of T Copied s.steps))) (λ m. m) (slot_of_token s.waker)
+  stands_as_told names s = stands_again (ap receiver_at (words_of T W s.steps ∙ sym (words_of T Copied s.steps))) (λ share m. m) (λ share. slot_of_token s.waker)

@@ -1,4 +1,4 @@
-use Rattle.std.proofs.Common.{[], ap, sym, ◌∙◌, subst}
+use Rattle.std.proofs.Common.{[], ◌∷◌, ap, sym, ◌∙◌, subst}
 use Rattle.oneshot_machine.specs.declared.machine.receiver.ReceiverStart.TheVariants as C
 use Rattle.oneshot_machine.specs.Phases.{receiver_at}
 use Rattle.oneshot_drive.specs.BetweenCalls.{IsClosed}
@@ -10,10 +10,10 @@ use Rattle.oneshot_ends.proofs.PollingTokens.{stands_by_tokens, stands_as_told}
 use Rattle.oneshot_ends.proofs.future.AsyncReceiverFuture.poll.Goals as goal
 
 pub poll-requires : goal.poll-requires
-poll-requires g c = stands_by_tokens _ c.self.inside.ground c.self.invariant
+poll-requires g c = stands_by_tokens (_ ∷ _ ∷ _ ∷ []) c.self.inside.ground c.self.invariant
 
 pub invariant_of-self : goal.invariant_of-self
-invariant_of-self g c = stands_as_told _ c.poll.new.g.ground.now c.poll.ensures.rests
+invariant_of-self g c = stands_as_told (_ ∷ _ ∷ _ ∷ []) c.poll.new.g.ground.now c.poll.ensures.rests
 
 pub returns-clause-run : goal.returns-clause-run
 returns-clause-run g c =

@@ -1,5 +1,5 @@
 use Rattle.oneshot_machine.specs.Phases.{receiver_at, receiver_moves}
-use Rattle.oneshot_ends.proofs.GroundSlots.{receiver_can, found, stays_unfreed}
+use Rattle.oneshot_ends.proofs.GroundSlots.{receiver_can, found, receiver_makes_no_other, stays_unfreed}
 use Rattle.oneshot_ends.proofs.ground.ReceiverOnWordReceiverGroundRouse.word.Goals as goal
 
 pub load-requires : goal.load-requires
@@ -61,3 +61,6 @@ returns-in-Exchange-clause-finds g c =
     found receiver_moves receiver_at c.self.inside.freed.value c.self.inside.side c.args.self.now c.exchange.new.self _ c.args.op c.exchange.result c.self.view_is c.in-Exchange.is
     (receiver_can c.self.inside.freed.value c.self.inside.side c.args.self.now _ c.args.op c.self.invariant c.self.view_is c.in-Exchange.is c.requires).0
     c.exchange.ensures.finds
+
+pub unreachable-requires : goal.unreachable-requires
+unreachable-requires g c = receiver_makes_no_other c.requires c.in_default.not-Load c.in_default.not-Store c.in_default.not-Swap c.in_default.not-Exchange

@@ -1,5 +1,5 @@
 use Rattle.oneshot_machine.specs.Phases.{sender_at, sender_moves}
-use Rattle.oneshot_ends.proofs.GroundSlots.{sender_can, found}
+use Rattle.oneshot_ends.proofs.GroundSlots.{sender_can, found, sender_makes_no_other}
 use Rattle.oneshot_ends.proofs.ground.SenderOnWordUnparkerWakerSenderGroundRouseUnparkerWaker.word.Goals as goal
 
 pub add-requires : goal.add-requires
@@ -31,3 +31,6 @@ returns-in-Swap-clause-finds g c =
     found sender_moves sender_at c.self.inside.freed.value c.self.inside.side c.args.self.now c.swap.new.self _ c.args.op c.swap.result c.self.view_is c.in-Swap.is
     (sender_can c.self.inside.freed.value c.self.inside.side c.args.self.now _ c.args.op c.self.view_is c.in-Swap.is c.requires).0
     c.swap.ensures.finds
+
+pub unreachable-requires : goal.unreachable-requires
+unreachable-requires g c = sender_makes_no_other c.requires c.in_default.not-Add c.in_default.not-Xor c.in_default.not-Swap

@@ -6,8 +6,8 @@ use Rattle.oneshot_ends.proofs.GrewByRuns.{words_of}
 use Rattle.oneshot_ends.proofs.LentGrounds.{as_lent}
 use Rattle.oneshot_ends.proofs.receiver.Receiver.recv.Goals as goal
 
-pub recv-requires-rests : goal.recv-requires-rests
-recv-requires-rests g c = as_lent _ c.self.inside.ground c.self.invariant.0
+pub recv-requires-clause-rests : goal.recv-requires-clause-rests
+recv-requires-clause-rests g c = as_lent _ c.self.inside.ground c.self.invariant.0
 
 pub returns : goal.returns
 returns g c =

@@ -11,8 +11,8 @@ use Rattle.oneshot_ends.proofs.LentGrounds.{as_lent, given_back}
 use Rattle.oneshot_ends.proofs.TimeoutEnds.{ends_where_held}
 use Rattle.oneshot_ends.proofs.receiver.Receiver.recv_after.Goals as goal
 
-pub recv_timeout-requires-rests : goal.recv_timeout-requires-rests
-recv_timeout-requires-rests g c = as_lent _ c.self.inside.ground c.self.invariant.0
+pub recv_timeout-requires-clause-rests : goal.recv_timeout-requires-clause-rests
+recv_timeout-requires-clause-rests g c = as_lent _ c.self.inside.ground c.self.invariant.0
 
 pub invariant_of-self : goal.invariant_of-self
 invariant_of-self g c = (

@@ -8,8 +8,8 @@ use Rattle.oneshot_ends.proofs.GrewByRuns.{words_of, receiver_grew}
 use Rattle.oneshot_ends.proofs.LentGrounds.{as_lent, given_back}
 use Rattle.oneshot_ends.proofs.receiver.Receiver.recv_deadline.Goals as goal
 
-pub recv_deadline-requires-rests : goal.recv_deadline-requires-rests
-recv_deadline-requires-rests g c = as_lent _ c.self.inside.ground c.self.invariant.0
+pub recv_deadline-requires-clause-rests : goal.recv_deadline-requires-clause-rests
+recv_deadline-requires-clause-rests g c = as_lent _ c.self.inside.ground c.self.invariant.0
 
 pub invariant_of-self : goal.invariant_of-self
 invariant_of-self g c = (

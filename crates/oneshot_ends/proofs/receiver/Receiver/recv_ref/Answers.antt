@@ -8,8 +8,8 @@ use Rattle.oneshot_ends.proofs.GrewByRuns.{words_of, receiver_grew}
 use Rattle.oneshot_ends.proofs.LentGrounds.{as_lent, given_back}
 use Rattle.oneshot_ends.proofs.receiver.Receiver.recv_ref.Goals as goal
 
-pub recv_ref-requires-rests : goal.recv_ref-requires-rests
-recv_ref-requires-rests g c = as_lent _ c.self.inside.ground c.self.invariant.0
+pub recv_ref-requires-clause-rests : goal.recv_ref-requires-clause-rests
+recv_ref-requires-clause-rests g c = as_lent _ c.self.inside.ground c.self.invariant.0
 
 pub invariant_of-self : goal.invariant_of-self
 invariant_of-self g c =
