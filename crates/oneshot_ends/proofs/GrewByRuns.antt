@@ -14,6 +14,7 @@ use Rattle.oneshot_machine.specs.Receiver.{receiver_start, receiver_step, receiv
 use Rattle.oneshot_machine.specs.Sender.{sender_start, sender_step, sender_row}
 use Rattle.oneshot_machine.specs.Words.{Noted}
 use Rattle.oneshot_machine.proofs.GrownLists.{words_after}
+use Rattle.oneshot_word.specs.Side.{Side}
 use Rattle.oneshot_ends.specs.Ends.{Waking, SenderGrew, ReceiverGrew}
 use Rattle.oneshot_ends.specs.Grounds.{events_of}
 
@@ -21,6 +22,9 @@ use Rattle.oneshot_ends.specs.Grounds.{events_of}
 pub words_of : (T W : Type 0) (xs : List Noted) → words (events_of {T = T} {W = W} xs) ≡ xs
 words_of T W [] = refl
 words_of T W (x ∷ xs) = ap (λ noted. x ∷ noted) (words_of T W xs)
+
+pub began_at : {T W : Type 0} {own s : Side T W} {steps : List Noted} → s ≡ own → own.steps ≡ steps → words (events_of {T = T} {W = W} s.steps) ≡ steps
+began_at {T} {W} {s} is has = words_of T W s.steps ∙ ap (λ s. s.steps) is ∙ has
 
 module _ {T W : Type 0} where
   -- a run, whichever wakers it hands in and out

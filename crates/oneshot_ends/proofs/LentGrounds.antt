@@ -1,8 +1,9 @@
 -- How a ground that was lent stands is how the receiver's own does.
-use Rattle.std.proofs.Common.{◌≡◌, ℕ, refl, ◌∙◌}
+use Rattle.std.proofs.Common.{◌≡◌, ℕ, Option, refl, sym, ◌∙◌, subst}
 use Rattle.oneshot_machine.specs.Logs.{receiver_of}
 use Rattle.oneshot_machine.specs.Phases.{ReceiverAt, Share}
 use Rattle.oneshot_machine.specs.Slots.{IsSlot}
+use Rattle.oneshot_drive.specs.BetweenCalls.{IsReady}
 use Rattle.oneshot_drive.specs.Grounds.{State, StandsIn}
 use Rattle.oneshot_word.specs.Side.{Side}
 use Rattle.oneshot_ends.specs.Grounds.{state_of, lent}
@@ -17,8 +18,13 @@ stands_again as_far message waker is =
     }
 
 module _ {T W : Type 0} {Phases : ReceiverAt → Type 0} where
-  pub as_lent : (name : ℕ) (s : Side T W) → StandsIn Phases (state_of s) → StandsIn Phases (lent name s)
-  as_lent name s = stands_again refl (λ share m. m) (λ share w. w)
+  pub as_lent : (name : ℕ) {own s : Side T W} → s ≡ own → StandsIn Phases (state_of own) → StandsIn Phases (lent name s)
+  as_lent name is stands =
+      subst (λ s. StandsIn Phases (lent name s)) (sym is) (stands_again refl (λ share m. m) (λ share w. w) stands)
 
   pub given_back : (name : ℕ) (s : Side T W) → StandsIn Phases (lent name s) → StandsIn Phases (state_of s)
   given_back name s = stands_again refl (λ share m. m) (λ share w. w)
+
+-- and its hand is as ready
+pub hand_lent : {T W V : Type 0} {own s : Side T W} (hand : Option V) → s ≡ own → IsReady hand (receiver_of (state_of own).log) → IsReady hand (receiver_of (state_of s).log)
+hand_lent hand is ready = subst (λ s. IsReady hand (receiver_of (state_of s).log)) (sym is) ready

@@ -1,5 +1,7 @@
 mod GrewByRuns
+mod EndRows
 mod GroundSlots
+mod NewEnds
 mod LentGrounds
 mod TimeoutEnds
 mod PollingTokens

@@ -1,6 +1,6 @@
 //! What a receiver does to the world in a call that blocks: its ground, with its parker beside it.
 
-ghost use Rattle.std.specs.Prelude.{⊤};
+ghost use Rattle.std.specs.Prelude.{◌≡◌, ⊤};
 
 use crate::deadline::{Deadline, read};
 use crate::ground::ReceiverOnWord;
@@ -15,12 +15,33 @@ use std::time::Clock;
 /// The ground of a receiver, lent for one call, with what it parks by.
 #[derive(Drop)]
 pub(crate) struct Blocking<'s, 'p, 'r, T, Rt> {
-    pub(crate) ground: &'s mut ReceiverOnWord<T, Unparker, Waker>,
-    pub(crate) parker: &'p Parker,
-    pub(crate) rt: &'r Rt,
-    pub(crate) deadline: Deadline,
+    ground: &'s mut ReceiverOnWord<T, Unparker, Waker>,
+    parker: &'p Parker,
+    rt: &'r Rt,
+    deadline: Deadline,
     /// What the first read of the clock tells, where the call made it before it lent its ground.
-    pub(crate) told: Option<bool>,
+    told: Option<bool>,
+}
+
+impl<'s, 'p, 'r, T, Rt> Blocking<'s, 'p, 'r, T, Rt> {
+    /// Lends the ground, with this deadline, and what a first read of the clock told of it.
+    pub(crate) fn lend(
+        ground: &'s mut ReceiverOnWord<T, Unparker, Waker>,
+        parker: &'p Parker,
+        rt: &'r Rt,
+        deadline: Deadline,
+        told: Option<bool>,
+    ) -> Blocking<'s, 'p, 'r, T, Rt>
+        ensures { result.ground ≡ ground.entry }
+    {
+        Blocking {
+            ground,
+            parker,
+            rt,
+            deadline,
+            told,
+        }
+    }
 }
 
 impl<'s, 'p, 'r, T: Drop, Rt> ReceiverGround<T, Rouse> for Blocking<'s, 'p, 'r, T, Rt> {

@@ -133,13 +133,8 @@ impl<T: Drop, Rt: Wait + Clock + Drop> Receiver<T, Rt> {
         ensures closes { IsClosed self.new }
         ensures stays_closed { IsClosed self.old → IsErr result }
     {
-        let mut lent = Blocking {
-            ground: &mut self.ground,
-            parker: &self.parker,
-            rt: &self.rt,
-            deadline: Deadline::Never,
-            told: None,
-        };
+        let deadline = Deadline::Never;
+        let mut lent = Blocking::lend(&mut self.ground, &self.parker, &self.rt, deadline, None);
         recv_ref(&mut lent, &self.rt, &mut self.hand)
     }
 
@@ -163,13 +158,8 @@ impl<T: Drop, Rt: Wait + Clock + Drop> Receiver<T, Rt> {
         ensures stays_open { result ≡ Err Timed.Timeout → IsOpen self.new }
         ensures stays_closed { IsClosed self.old → result ≡ Err Timed.Disconnected }
     {
-        let mut lent = Blocking {
-            ground: &mut self.ground,
-            parker: &self.parker,
-            rt: &self.rt,
-            deadline: Deadline::At(deadline),
-            told: None,
-        };
+        let deadline = Deadline::At(deadline);
+        let mut lent = Blocking::lend(&mut self.ground, &self.parker, &self.rt, deadline, None);
         recv_deadline(&mut lent, &self.rt, &mut self.hand)
     }
 
@@ -208,13 +198,7 @@ impl<T: Drop, Rt: Wait + Clock + Drop> Receiver<T, Rt> {
             source: _,
             rt,
         } = self;
-        let mut lent = Blocking {
-            ground: &mut ground,
-            parker: &parker,
-            rt: &rt,
-            deadline: Deadline::Never,
-            told: None,
-        };
+        let mut lent = Blocking::lend(&mut ground, &parker, &rt, Deadline::Never, None);
         recv(&mut lent, &rt, &mut hand)
     }
 }
@@ -234,13 +218,8 @@ impl<T: Drop, Rt: Wait + Clock + Drop> Receiver<T, Rt> {
         ensures stays_closed { IsClosed self.old → result ≡ Err Timed.Disconnected }
     {
         let deadline = Deadline::after(reading, timeout);
-        let mut lent = Blocking {
-            ground: &mut self.ground,
-            parker: &self.parker,
-            rt: &self.rt,
-            deadline,
-            told: Some(deadline.is_over(reading)),
-        };
+        let told = Some(deadline.is_over(reading));
+        let mut lent = Blocking::lend(&mut self.ground, &self.parker, &self.rt, deadline, told);
         recv_timeout(&mut lent, &self.rt, &mut self.hand, deadline.has_end())
     }
 }

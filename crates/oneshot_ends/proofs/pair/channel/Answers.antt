@@ -1,4 +1,4 @@
-use Rattle.oneshot_ends.proofs.GroundSlots.{new_sender, new_receiver}
+use Rattle.oneshot_ends.proofs.NewEnds.{new_sender, new_receiver}
 use Rattle.oneshot_ends.proofs.pair.channel.Goals as goal
 
 pub new-requires-2 : goal.new-requires-2

@@ -1,4 +1,4 @@
-use Rattle.oneshot_ends.proofs.GroundSlots.{rests_at_new}
+use Rattle.oneshot_ends.proofs.NewEnds.{rests_at_new}
 use Rattle.oneshot_ends.proofs.receiver.Receiver.new.Goals as goal
 
 pub invariant_of-result : goal.invariant_of-result

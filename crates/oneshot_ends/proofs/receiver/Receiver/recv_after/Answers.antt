@@ -1,4 +1,4 @@
-use Rattle.std.proofs.Common.{sym, ap, ◌∙◌, subst}
+use Rattle.std.proofs.Common.{sym, ap, subst}
 use Rattle.oneshot_machine.specs.Phases.{receiver_at}
 use Rattle.std.specs.Prelude.{◌↔◌, IsTrue}
 use Rattle.oneshot_machine.specs.declared.machine.receiver.ReceiverStart.TheVariants.{RecvTimeout}
@@ -6,18 +6,18 @@ use Rattle.oneshot_drive.specs.BetweenCalls.{IsClosed, LeavesTimed}
 use Rattle.oneshot_drive.proofs.ReadyHands.{ready_timed}
 use Rattle.oneshot_ends.specs.Deadlines.{HasEnd}
 use Rattle.oneshot_ends.specs.Ends.{End}
-use Rattle.oneshot_ends.proofs.GrewByRuns.{words_of, receiver_grew}
-use Rattle.oneshot_ends.proofs.LentGrounds.{as_lent, given_back}
+use Rattle.oneshot_ends.proofs.GrewByRuns.{words_of, began_at, receiver_grew}
+use Rattle.oneshot_ends.proofs.LentGrounds.{as_lent, given_back, hand_lent}
 use Rattle.oneshot_ends.proofs.TimeoutEnds.{ends_where_held}
 use Rattle.oneshot_ends.proofs.receiver.Receiver.recv_after.Goals as goal
 
 pub recv_timeout-requires-clause-rests : goal.recv_timeout-requires-clause-rests
-recv_timeout-requires-clause-rests g c = as_lent _ c.self.inside.ground c.self.invariant.0
+recv_timeout-requires-clause-rests g c = as_lent _ (ap (λ r. r.now) c.lend-lent.ensures) c.self.invariant.0
 
 pub invariant_of-self : goal.invariant_of-self
 invariant_of-self g c = (
   given_back _ c.recv_timeout.new.g.ground.now c.recv_timeout.ensures.rests,
-  ready_timed c.recv_timeout.result c.self.inside.hand c.recv_timeout.new.hand _ _ c.self.invariant.1 c.recv_timeout.ensures.stays c.recv_timeout.ensures.leaves c.recv_timeout.ensures.hand,
+  ready_timed c.recv_timeout.result c.self.inside.hand c.recv_timeout.new.hand _ _ (hand_lent c.self.inside.hand (ap (λ r. r.now) c.lend-lent.ensures) c.self.invariant.1) c.recv_timeout.ensures.stays c.recv_timeout.ensures.leaves c.recv_timeout.ensures.hand,
 )
 
 pub returns-clause-run : goal.returns-clause-run
@@ -25,7 +25,7 @@ returns-clause-run g c =
     record {
       has_end = c.has_end.result;
       held = subst (λ ends. IsTrue ends ↔ HasEnd c.args.timeout c.args.reading) (sym c.has_end.ensures) (ends_where_held c.args.timeout c.args.reading c.after-deadline.result c.after-deadline.ensures);
-      grew = receiver_grew (words_of _ _ c.self.inside.ground.steps ∙ ap (λ (e : End). e.steps) c.self.view_is) (words_of _ _ c.recv_timeout.new.g.ground.now.steps) (RecvTimeout c.has_end.result) c.recv_timeout.ensures.run;
+      grew = receiver_grew (began_at (ap (λ r. r.now) c.lend-lent.ensures) (ap (λ (e : End). e.steps) c.self.view_is)) (words_of _ _ c.recv_timeout.new.g.ground.now.steps) (RecvTimeout c.has_end.result) c.recv_timeout.ensures.run;
     }
 
 pub returns-clause-leaves : goal.returns-clause-leaves
@@ -35,4 +35,4 @@ returns-clause-leaves g c =
 pub returns-clause-stays_closed : goal.returns-clause-stays_closed
 returns-clause-stays_closed g c = λ closed.
     c.recv_timeout.ensures.stays
-    (subst (λ xs. IsClosed (receiver_at xs)) (ap (λ (e : End). e.steps) (sym c.self.view_is) ∙ sym (words_of _ _ c.self.inside.ground.steps)) closed)
+    (subst (λ xs. IsClosed (receiver_at xs)) (sym (began_at (ap (λ r. r.now) c.lend-lent.ensures) (ap (λ (e : End). e.steps) c.self.view_is))) closed)

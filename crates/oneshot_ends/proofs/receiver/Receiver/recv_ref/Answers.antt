@@ -1,15 +1,15 @@
-use Rattle.std.proofs.Common.{sym, ap, ◌∙◌, subst}
+use Rattle.std.proofs.Common.{sym, ap, subst}
 use Rattle.oneshot_machine.specs.Phases.{receiver_at}
 use Rattle.oneshot_machine.specs.declared.machine.receiver.ReceiverStart.TheVariants.{RecvRef}
 use Rattle.oneshot_drive.specs.BetweenCalls.{IsClosed, LeavesClosed}
 use Rattle.oneshot_drive.proofs.ReadyHands.{closed_by, ready_closed}
 use Rattle.oneshot_ends.specs.Ends.{End}
-use Rattle.oneshot_ends.proofs.GrewByRuns.{words_of, receiver_grew}
+use Rattle.oneshot_ends.proofs.GrewByRuns.{words_of, began_at, receiver_grew}
 use Rattle.oneshot_ends.proofs.LentGrounds.{as_lent, given_back}
 use Rattle.oneshot_ends.proofs.receiver.Receiver.recv_ref.Goals as goal
 
 pub recv_ref-requires-clause-rests : goal.recv_ref-requires-clause-rests
-recv_ref-requires-clause-rests g c = as_lent _ c.self.inside.ground c.self.invariant.0
+recv_ref-requires-clause-rests g c = as_lent _ (ap (λ r. r.now) c.lend-lent.ensures) c.self.invariant.0
 
 pub invariant_of-self : goal.invariant_of-self
 invariant_of-self g c =
@@ -17,7 +17,7 @@ invariant_of-self g c =
 
 pub returns-clause-run : goal.returns-clause-run
 returns-clause-run g c =
-    receiver_grew (words_of _ _ c.self.inside.ground.steps ∙ ap (λ (e : End). e.steps) c.self.view_is) (words_of _ _ c.recv_ref.new.g.ground.now.steps) RecvRef c.recv_ref.ensures.run
+    receiver_grew (began_at (ap (λ r. r.now) c.lend-lent.ensures) (ap (λ (e : End). e.steps) c.self.view_is)) (words_of _ _ c.recv_ref.new.g.ground.now.steps) RecvRef c.recv_ref.ensures.run
 
 pub returns-clause-leaves : goal.returns-clause-leaves
 returns-clause-leaves g c =
@@ -26,7 +26,7 @@ returns-clause-leaves g c =
 pub returns-clause-stays_closed : goal.returns-clause-stays_closed
 returns-clause-stays_closed g c = λ closed.
     c.recv_ref.ensures.stays
-    (subst (λ xs. IsClosed (receiver_at xs)) (ap (λ (e : End). e.steps) (sym c.self.view_is) ∙ sym (words_of _ _ c.self.inside.ground.steps)) closed)
+    (subst (λ xs. IsClosed (receiver_at xs)) (sym (began_at (ap (λ r. r.now) c.lend-lent.ensures) (ap (λ (e : End). e.steps) c.self.view_is))) closed)
 
 pub returns-clause-closes : goal.returns-clause-closes
 returns-clause-closes g c = closed_by _ _ (returns-clause-leaves g c)
