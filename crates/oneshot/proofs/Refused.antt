@@ -9,7 +9,7 @@ use Rattle.oneshot_world.specs.declared.script.ReceiverScript.{ReceiverScript}
 use Rattle.oneshot_world.specs.declared.script.SenderLast.TheVariants as SL
 use Rattle.oneshot_world.specs.declared.script.SenderScript.{SenderScript}
 use Rattle.oneshot_world.specs.declared.trace.Entry.{Entry}
-use Rattle.oneshot_world.proofs.Determined.{run_is}
+use Rattle.oneshot_world.proofs.WorldDetermined.{run_is}
 use Rattle.oneshot_replay.specs.Told.{Told, IsReplayed}
 use Rattle.oneshot_replay.specs.declared.rest.Rest.TheVariants as Rest
 

@@ -30,8 +30,10 @@ pub use Rattle.oneshot_machine.specs.declared.machine.sender.SenderCall
 pub use Rattle.oneshot_replay.specs.Rest
 pub use Rattle.oneshot_replay.specs.Told
 pub use Rattle.oneshot_replay.specs.declared.rest.Rest as RestOf
-pub use Rattle.oneshot_world.specs.Calls as Scripts
+pub use Rattle.oneshot_world.specs.Calls as ScriptCalls
+pub use Rattle.oneshot_world.specs.Scripts
 pub use Rattle.oneshot_world.specs.Ahead
+pub use Rattle.oneshot_world.specs.Effects
 pub use Rattle.oneshot_world.specs.State
 pub use Rattle.oneshot_world.specs.World
 pub use Rattle.oneshot_laws.specs.Actions

@@ -1,25 +1,18 @@
 -- A call between whose first entry and whose answer the other end makes no step does just what the object does.
-use Rattle.std.proofs.Common.{◌≡◌, ℕ, ◌+◌, ◌*◌, Bool, true, false, not, ◌&&◌, ◌||◌, List, [], ◌∷◌, is_some, map, refl, if◌then◌else◌}
+use Rattle.std.proofs.Common.{◌≡◌, Bool, true, false, not, ◌&&◌, ◌||◌, List, [], ◌∷◌, Option, Some, None, is_some, map, refl, if◌then◌else◌}
 use Rattle.oneshot_machine.specs.declared.machine.End.{End}
-use Rattle.oneshot_machine.specs.declared.machine.End.TheVariants.{Sender, Receiver}
-use Rattle.oneshot_world.specs.Calls.{calls_of}
-use Rattle.oneshot_world.specs.Explore.{Tree}
-use Rattle.oneshot_world.specs.World.{World, Tells, opening}
-use Rattle.oneshot_world.specs.declared.script.Move.{Move}
-use Rattle.oneshot_world.specs.declared.script.ReceiverScript.{ReceiverScript}
-use Rattle.oneshot_world.specs.declared.script.SenderScript.{SenderScript}
-use Rattle.oneshot_world.specs.declared.trace.Entry.{Entry}
-use Rattle.oneshot_world.proofs.Bools.{and_left, and_right, both}
+use Rattle.oneshot_world.proofs.Bools.{and_right, both}
 use Rattle.oneshot_laws.specs.Entries.{only_if, is_same_end}
 use Rattle.oneshot_laws.specs.Object.{Object, is_same_object}
 use Rattle.oneshot_laws.specs.Actions.{action_of, stepped}
-use Rattle.oneshot_laws.specs.Marks.{Mark, marks, side, ends}
+use Rattle.oneshot_laws.specs.Marks.{Mark, side, ends}
 use Rattle.oneshot_laws.specs.History.{agrees}
 use Rattle.oneshot_laws.specs.Alone.{lone_reply, is_lone_call, are_lone_calls_right}
-use Rattle.oneshot_laws.proofs.Glanced.{Pair, Passes, Nameless, of_call, glanced_from, all_glanced, passes_run}
+use Rattle.oneshot_laws.proofs.Coding.{pairs, by_parts, or_none, both_ends}
+use Rattle.oneshot_laws.proofs.Glanced.{Law, Passes, Nameless, of_call, LawExplored, all_glanced, holds_by}
 use Rattle.oneshot_laws.proofs.HistoryAccepted.{Glance, glance_of}
-use Rattle.oneshot_laws.proofs.HistoryReader.{object_code, object_is}
-use Rattle.oneshot_laws.proofs.Watched.{Watched, no_names}
+use Rattle.oneshot_laws.proofs.HistoryReader.{objects}
+use Rattle.oneshot_laws.proofs.Watched.{no_names, EachRun}
 
 -- the call beside which the other end has made no step, and the object on which it began
 pub data Lone : Type 0 where
@@ -50,34 +43,27 @@ answers_alone lone g =
 abbrev lone_then : Lone → Glance → Lone
 lone_then lone g = if is_some g.entry.reply then Nobody else lone_at lone g
 
-abbrev end_code : End → ℕ
-end_code Sender = 1
-end_code Receiver = 2
+abbrev lone_parts : Lone → Option (End × Object)
+lone_parts Nobody = None
+lone_parts (Of end o) = Some (end, o)
 
-abbrev lone_code : Lone → ℕ
-lone_code Nobody = 0
-lone_code (Of end o) = object_code o * 2 + end_code end
+abbrev lone_of : Option (End × Object) → Lone
+lone_of None = Nobody
+lone_of (Some p) = Of p.0 p.1
 
-abbrev is_same_lone : Lone → Lone → Bool
-is_same_lone Nobody Nobody = true
-is_same_lone Nobody (Of end o) = false
-is_same_lone (Of end o) Nobody = false
-is_same_lone (Of end o) (Of other p) = is_same_end end other && is_same_object o p
+lone_back : (lone : Lone) → lone_of (lone_parts lone) ≡ lone
+lone_back Nobody = refl
+lone_back (Of end o) = refl
 
-end_is : (a b : End) → is_same_end a b ≡ true → a ≡ b
-end_is Sender Sender h = refl
-end_is Sender Receiver h = cc
-end_is Receiver Sender h = cc
-end_is Receiver Receiver h = refl
-
-lone_is : (a b : Lone) → is_same_lone a b ≡ true → a ≡ b
-lone_is Nobody Nobody h = refl
-lone_is Nobody (Of end o) h = cc
-lone_is (Of end o) Nobody h = cc
-lone_is (Of end o) (Of other p) h =
-    let e : end ≡ other = end_is end other (and_left _ _ h) in
-    let s : o ≡ p = object_is o p (and_right (is_same_end end other) _ h) in
-    cc
+abbrev lone_law : Law Lone
+lone_law =
+    record {
+      coding = by_parts lone_parts lone_of lone_back (or_none (pairs both_ends objects));
+      passes = answers_alone;
+      sees = lone_then;
+      names = no_names;
+      first = λ place. Nobody;
+    }
 
 abbrev claim : List Mark → Lone → Bool
 claim ms Nobody = true
@@ -97,14 +83,14 @@ beginning true again ended true old new right later h k = refl
 beginning true again true false old new right later h k = and_right (not again) (right new) h
 beginning true again false false old new right later h k = k
 
-lone_claim : (ms : List Mark) (lone : Lone) → Passes answers_alone lone_then lone (map glance_of ms) → claim ms lone ≡ true
+lone_claim : (ms : List Mark) (lone : Lone) → Passes lone_law lone (map glance_of ms) → claim ms lone ≡ true
 lone_claim ms Nobody p = refl
 lone_claim [] (Of end o) p = refl
 lone_claim (m ∷ ms) (Of end o) p =
     going_on (is_same_end (side m) end) m.begins (ends m) (Of end o) (Of (side m) m.object) (answers_as (glance_of m)) (claim ms) p.0
     (lone_claim ms (lone_then (Of end o) (glance_of m)) p.1)
 
-lone_calls : (ms : List Mark) (lone : Lone) → Passes answers_alone lone_then lone (map glance_of ms) → are_lone_calls_right ms ≡ true
+lone_calls : (ms : List Mark) (lone : Lone) → Passes lone_law lone (map glance_of ms) → are_lone_calls_right ms ≡ true
 lone_calls [] lone p = refl
 lone_calls (m ∷ ms) lone p =
     both _ _
@@ -112,21 +98,16 @@ lone_calls (m ∷ ms) lone p =
     (lone_claim ms (lone_then lone (glance_of m)) p.1))
     (lone_calls ms _ p.1)
 
-nameless : Nameless answers_alone lone_then
+nameless : Nameless lone_law
 nameless =
     record {
+      none = refl;
       passes_same = λ k n g. of_call k (λ call. answers_alone n (record g { call = call })) (λ a b. refl) g.call;
       sees_same = λ k n g. of_call k (λ call. lone_then n (record g { call = call })) (λ a b. refl) g.call;
     }
 
-found : Tree (Watched (Pair Lone))
-found = glanced_from 64 lone_code is_same_lone answers_alone lone_then no_names (λ place. Nobody)
+explored : LawExplored lone_law
+explored = record { found = all_glanced lone_law; all = refl }
 
-all_found : all_glanced 64 lone_code is_same_lone answers_alone lone_then no_names (λ place. Nobody) found ≡ true
-unfolding found
-all_found = refl
-
-pub lone_calls_right : {T : Type 0} (s : SenderScript T) (r : ReceiverScript) (worlds : List World) (moves : List Move) (entries : List Entry) → Tells (opening s r) worlds moves entries → are_lone_calls_right (marks (calls_of s r) entries) ≡ true
-lone_calls_right s r worlds moves entries tells =
-    lone_calls (marks (calls_of s r) entries) Nobody
-    (passes_run 64 lone_code is_same_lone answers_alone lone_then nameless lone_is (λ place. Nobody) found all_found s r worlds moves entries tells)
+pub lone_calls_right : {T : Type 0} → EachRun T are_lone_calls_right
+lone_calls_right = holds_by lone_law nameless explored are_lone_calls_right (λ place ms. lone_calls ms Nobody)

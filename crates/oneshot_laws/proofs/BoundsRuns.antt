@@ -1,28 +1,21 @@
 -- Each call makes no more operations on the word than its bound: the reader counts down, for each end, what its call has left.
-use Rattle.std.proofs.Common.{◌≡◌, ℕ, zero, suc, ◌+◌, ◌*◌, ◌==◌, Bool, true, false, not, ◌&&◌, ◌||◌, List, [], ◌∷◌, map, Some, None, refl, ◌∙◌, ap, if◌then◌else◌}
-use Rattle.std.proofs.lemmas.Bool.{eqb-true}
+use Rattle.std.proofs.Common.{◌≡◌, ℕ, zero, suc, Bool, true, false, not, ◌&&◌, ◌||◌, List, [], ◌∷◌, map, Option, Some, None, refl, ◌∙◌, ap, if◌then◌else◌}
 use Rattle.oneshot_machine.specs.declared.machine.End.{End}
 use Rattle.oneshot_machine.specs.declared.machine.End.TheVariants.{Sender, Receiver}
 use Rattle.oneshot_machine.specs.declared.machine.receiver.ReceiverStart.TheVariants as RC
 use Rattle.oneshot_machine.specs.declared.machine.sender.SenderCall.TheVariants as SC
-use Rattle.oneshot_world.specs.Calls.{Call, Of_sender, Of_receiver, Poll, Stray, calls_of}
+use Rattle.oneshot_world.specs.Calls.{Call, Of_sender, Of_receiver, Poll, Stray}
 use Rattle.oneshot_world.specs.Classes.{Classes, as_call, as_made}
-use Rattle.oneshot_world.specs.Control.{bool_code}
-use Rattle.oneshot_world.specs.Explore.{Tree}
-use Rattle.oneshot_world.specs.World.{World, Tells, opening}
-use Rattle.oneshot_world.specs.declared.script.Move.{Move}
-use Rattle.oneshot_world.specs.declared.script.ReceiverScript.{ReceiverScript}
-use Rattle.oneshot_world.specs.declared.script.SenderScript.{SenderScript}
-use Rattle.oneshot_world.specs.declared.trace.Entry.{Entry}
 use Rattle.oneshot_world.specs.declared.trace.Made.{Made}
 use Rattle.oneshot_world.proofs.Bools.{and_left, and_right, both}
-use Rattle.oneshot_world.proofs.Coded.{bool_is}
 use Rattle.oneshot_laws.specs.Entries.{is_same_end, is_word, found}
-use Rattle.oneshot_laws.specs.Marks.{Mark, marks, side, call_marks, until_reply}
+use Rattle.oneshot_laws.specs.Object.{is_same_flag}
+use Rattle.oneshot_laws.specs.Marks.{Mark, side, call_marks, until_reply}
 use Rattle.oneshot_laws.specs.Bounds.{at_most, is_within_its_bound, is_bounded, are_calls_bounded}
-use Rattle.oneshot_laws.proofs.Glanced.{Pair, Passes, Nameless, of_call, glanced_from, all_glanced, passes_run}
+use Rattle.oneshot_laws.proofs.Coding.{Coding, pairs, by_parts, or_none, flags, numbers_below}
+use Rattle.oneshot_laws.proofs.Glanced.{Law, Passes, Nameless, of_call, LawExplored, all_glanced, holds_by}
 use Rattle.oneshot_laws.proofs.HistoryAccepted.{Glance, glance_of}
-use Rattle.oneshot_laws.proofs.Watched.{Watched, no_names}
+use Rattle.oneshot_laws.proofs.Watched.{no_names, EachRun}
 
 -- what is counted of a call: its operations on the word, or those alone that did not find 1
 abbrev is_counted : Bool → Made → Bool
@@ -87,13 +80,9 @@ abbrev left_at : End → Left → Budget → Budget
 left_at Sender left x = record { sender = left; receiver = x.receiver }
 left_at Receiver left x = record { sender = x.sender; receiver = left }
 
-abbrev same_flag : Bool → Bool → Bool
-same_flag true b = b
-same_flag false b = not b
-
 -- a call begins just where none is under way, and makes what it may
 abbrev fits : Left → Bool → Call → Made → Bool
-fits left begins call e = same_flag begins (is_resting left) && may_make (under_way call left) e
+fits left begins call e = is_same_flag begins (is_resting left) && may_make (under_way call left) e
 
 abbrev goes_on_within : Budget → Glance → Bool
 goes_on_within x g = fits (left_by g.entry.side x) g.begins g.call g.entry
@@ -101,49 +90,37 @@ goes_on_within x g = fits (left_by g.entry.side x) g.begins g.call g.entry
 abbrev budget_then : Budget → Glance → Budget
 budget_then x g = left_at g.entry.side (left_then (left_by g.entry.side x) g.call g.entry) x
 
-abbrev left_code : Left → ℕ
-left_code Resting = 0
-left_code Unbounded = 1
-left_code (Counted past n) = 2 + bool_code past * 5 + n
+abbrev left_parts : Left → Option (Option (Bool × ℕ))
+left_parts Resting = None
+left_parts Unbounded = Some None
+left_parts (Counted past n) = Some (Some (past, n))
 
-abbrev is_same_left : Left → Left → Bool
-is_same_left Resting Resting = true
-is_same_left Unbounded Unbounded = true
-is_same_left (Counted p n) (Counted q k) = bool_code p == bool_code q && n == k
-is_same_left _ _ = false
+abbrev left_of : Option (Option (Bool × ℕ)) → Left
+left_of None = Resting
+left_of (Some None) = Unbounded
+left_of (Some (Some p)) = Counted p.0 p.1
 
-abbrev budget_code : Budget → ℕ
-budget_code x = left_code x.sender * 12 + left_code x.receiver
+left_back : (left : Left) → left_of (left_parts left) ≡ left
+left_back Resting = refl
+left_back Unbounded = refl
+left_back (Counted past n) = refl
 
-abbrev is_same_budget : Budget → Budget → Bool
-is_same_budget a b = is_same_left a.sender b.sender && is_same_left a.receiver b.receiver
+abbrev lefts : Coding Left
+lefts = by_parts left_parts left_of left_back (or_none (or_none (pairs flags (numbers_below 5))))
 
-left_is : (a b : Left) → is_same_left a b ≡ true → a ≡ b
-left_is Resting Resting h = refl
-left_is Unbounded Unbounded h = refl
-left_is (Counted p n) (Counted q k) h =
-    let past : p ≡ q = bool_is p q (and_left _ _ h) in
-    let many : n ≡ k = eqb-true n k (and_right (bool_code p == bool_code q) _ h) in
-    cc
-left_is Resting Unbounded h = cc
-left_is Resting (Counted q k) h = cc
-left_is Unbounded Resting h = cc
-left_is Unbounded (Counted q k) h = cc
-left_is (Counted p n) Resting h = cc
-left_is (Counted p n) Unbounded h = cc
+abbrev at_rest : Budget
+at_rest = record { sender = Resting; receiver = Resting }
 
-budget_with : Left → Left → Budget
-budget_with s r = record { sender = s; receiver = r }
-
-its_parts : (x : Budget) → budget_with x.sender x.receiver ≡ x
-unfolding budget_with
-its_parts x = refl
-
-budget_is : (a b : Budget) → is_same_budget a b ≡ true → a ≡ b
-budget_is a b h =
-    let s : a.sender ≡ b.sender = left_is a.sender b.sender (and_left _ _ h) in
-    let r : a.receiver ≡ b.receiver = left_is a.receiver b.receiver (and_right (is_same_left a.sender b.sender) _ h) in
-    cc (its_parts a, its_parts b)
+abbrev budget_law : Law Budget
+budget_law =
+    record {
+      coding =
+          by_parts (λ x. (x.sender, x.receiver)) (λ p. record { sender = p.0; receiver = p.1 }) (λ x. refl) (pairs lefts lefts);
+      passes = goes_on_within;
+      sees = budget_then;
+      names = no_names;
+      first = λ place. at_rest;
+    }
 
 -- one more mark of a call
 pub pay : (test : Mark → Bool) (n : ℕ) (m : Mark) (later : List Mark) → can n (test m) ≡ true → at_most (spend n (test m)) test later ≡ true → at_most n test (m ∷ later) ≡ true
@@ -184,8 +161,8 @@ stood (Counted past n) m later h = h
 
 -- a mark of this end's call
 here : (end : End) (m : Mark) (ms : List Mark) (x : Budget) → fits (left_by end x) m.begins m.call m.entry ≡ true → stands (left_by end (left_at end (left_then (left_by end x) m.call m.entry) x)) (call_marks end ms) ≡ true → covers (under_way m.call (left_by end x)) (elim (is_same_end end end) as (λ _. List Mark) [ true ↦ m ∷ until_reply m.entry.reply (call_marks end ms) [] | false ↦ call_marks end ms ]) ≡ true
-here Sender m ms x h k = covered (under_way m.call x.sender) m (call_marks Sender ms) (and_right (same_flag m.begins (is_resting x.sender)) _ h) k
-here Receiver m ms x h k = covered (under_way m.call x.receiver) m (call_marks Receiver ms) (and_right (same_flag m.begins (is_resting x.receiver)) _ h) k
+here Sender m ms x h k = covered (under_way m.call x.sender) m (call_marks Sender ms) (and_right (is_same_flag m.begins (is_resting x.sender)) _ h) k
+here Receiver m ms x h k = covered (under_way m.call x.receiver) m (call_marks Receiver ms) (and_right (is_same_flag m.begins (is_resting x.receiver)) _ h) k
 
 -- a mark of either end, for the call of this one
 either : (mover end : End) (m : Mark) (ms : List Mark) (x : Budget) → fits (left_by mover x) m.begins m.call m.entry ≡ true → stands (left_by end (left_at mover (left_then (left_by mover x) m.call m.entry) x)) (call_marks end ms) ≡ true → stands (left_by end x) (elim (is_same_end mover end) as (λ _. List Mark) [ true ↦ m ∷ until_reply m.entry.reply (call_marks end ms) [] | false ↦ call_marks end ms ]) ≡ true
@@ -199,7 +176,7 @@ nothing_left Resting = refl
 nothing_left Unbounded = refl
 nothing_left (Counted past n) = refl
 
-claims : (ms : List Mark) (x : Budget) (end : End) → Passes goes_on_within budget_then x (map glance_of ms) → stands (left_by end x) (call_marks end ms) ≡ true
+claims : (ms : List Mark) (x : Budget) (end : End) → Passes budget_law x (map glance_of ms) → stands (left_by end x) (call_marks end ms) ≡ true
 claims [] x Sender p = nothing_left x.sender
 claims [] x Receiver p = nothing_left x.receiver
 claims (m ∷ ms) x end p = either m.entry.side end m ms x p.0 (claims ms (budget_then x (glance_of m)) end p.1)
@@ -213,7 +190,7 @@ within (Of_receiver RC.DropAsync) own h = h
 within (Poll number) own h = h
 within _ own h = refl
 
-begins_at_rest : (begins : Bool) (call : Call) (left : Left) (own : List Mark) → same_flag begins (is_resting left) ≡ true → covers (under_way call left) own ≡ true → (not begins || is_within_its_bound call own) ≡ true
+begins_at_rest : (begins : Bool) (call : Call) (left : Left) (own : List Mark) → is_same_flag begins (is_resting left) ≡ true → covers (under_way call left) own ≡ true → (not begins || is_within_its_bound call own) ≡ true
 begins_at_rest false call left own h k = refl
 begins_at_rest true call Resting own h k = within call own k
 begins_at_rest true call Unbounded own h k = cc
@@ -225,15 +202,12 @@ first_mark Sender m ms x h k =
 first_mark Receiver m ms x h k =
     begins_at_rest m.begins m.call x.receiver (m ∷ until_reply m.entry.reply (call_marks Receiver ms) []) (and_left _ _ h) (here Receiver m ms x h k)
 
-each : (ms : List Mark) (x : Budget) → Passes goes_on_within budget_then x (map glance_of ms) → are_calls_bounded ms ≡ true
+each : (ms : List Mark) (x : Budget) → Passes budget_law x (map glance_of ms) → are_calls_bounded ms ≡ true
 each [] x p = refl
 each (m ∷ ms) x p =
     both _ _
     (first_mark (side m) m ms x p.0 (claims ms (budget_then x (glance_of m)) (side m) p.1))
     (each ms (budget_then x (glance_of m)) p.1)
-
-abbrev at_rest : Budget
-at_rest = record { sender = Resting; receiver = Resting }
 
 -- no name and no number is looked at
 module _ (k : Classes) where
@@ -258,29 +232,24 @@ module _ (k : Classes) where
 
   fits_as : (left : Left) (begins : Bool) (call : Call) (e : Made) → fits left begins (as_call k call) (as_made k e) ≡ fits left begins call e
   fits_as left begins call e =
-      ap (λ l. same_flag begins (is_resting left) && may_make l (as_made k e)) (under_as call left)
-      ∙ ap (λ b. same_flag begins (is_resting left) && b) (may_as (under_way call left) e)
+      ap (λ l. is_same_flag begins (is_resting left) && may_make l (as_made k e)) (under_as call left)
+      ∙ ap (λ b. is_same_flag begins (is_resting left) && b) (may_as (under_way call left) e)
 
   then_as : (left : Left) (call : Call) (e : Made) → left_then left (as_call k call) (as_made k e) ≡ left_then left call e
   then_as left call e =
       ap (λ l. until_reply e.reply (spent l (as_made k e)) Resting) (under_as call left)
       ∙ ap (λ l. until_reply e.reply l Resting) (spent_as (under_way call left) e)
 
-nameless : Nameless goes_on_within budget_then
+nameless : Nameless budget_law
 nameless =
     record {
+      none = refl;
       passes_same = λ k n g. fits_as k (left_by g.entry.side n) g.begins g.call g.entry;
       sees_same = λ k n g. ap (λ left. left_at g.entry.side left n) (then_as k (left_by g.entry.side n) g.call g.entry);
     }
 
-bounds_found : Tree (Watched (Pair Budget))
-bounds_found = glanced_from 144 budget_code is_same_budget goes_on_within budget_then no_names (λ place. at_rest)
+explored : LawExplored budget_law
+explored = record { found = all_glanced budget_law; all = refl }
 
-all_bounded : all_glanced 144 budget_code is_same_budget goes_on_within budget_then no_names (λ place. at_rest) bounds_found ≡ true
-unfolding bounds_found
-all_bounded = refl
-
-pub calls_bounded : {T : Type 0} (s : SenderScript T) (r : ReceiverScript) (worlds : List World) (moves : List Move) (entries : List Entry) → Tells (opening s r) worlds moves entries → are_calls_bounded (marks (calls_of s r) entries) ≡ true
-calls_bounded s r worlds moves entries tells =
-    each (marks (calls_of s r) entries) at_rest
-    (passes_run 144 budget_code is_same_budget goes_on_within budget_then nameless budget_is (λ place. at_rest) bounds_found all_bounded s r worlds moves entries tells)
+pub calls_bounded : {T : Type 0} → EachRun T are_calls_bounded
+calls_bounded = holds_by budget_law nameless explored are_calls_bounded (λ place ms. each ms at_rest)

@@ -1,27 +1,18 @@
 -- Once the sender made its last operation on the word, each call of the receiver answers soon: the reader counts down what the receiver's call has left.
-use Rattle.std.proofs.Common.{◌≡◌, ℕ, zero, suc, ◌+◌, ◌*◌, ◌==◌, Bool, true, false, not, ◌&&◌, ◌||◌, List, [], ◌∷◌, map, Some, None, refl, ap, subst, if◌then◌else◌}
-use Rattle.std.proofs.lemmas.Bool.{eqb-true}
+use Rattle.std.proofs.Common.{◌≡◌, ℕ, zero, suc, Bool, true, false, not, ◌&&◌, ◌||◌, List, [], ◌∷◌, map, Some, None, refl, ap, subst, if◌then◌else◌}
 use Rattle.oneshot_machine.specs.declared.machine.End.{End}
 use Rattle.oneshot_machine.specs.declared.machine.End.TheVariants.{Sender, Receiver}
-use Rattle.oneshot_world.specs.Calls.{calls_of}
 use Rattle.oneshot_world.specs.Classes.{Classes, as_made}
-use Rattle.oneshot_world.specs.Control.{bool_code}
-use Rattle.oneshot_world.specs.Explore.{Tree}
-use Rattle.oneshot_world.specs.World.{World, Tells, opening}
-use Rattle.oneshot_world.specs.declared.script.Move.{Move}
-use Rattle.oneshot_world.specs.declared.script.ReceiverScript.{ReceiverScript}
-use Rattle.oneshot_world.specs.declared.script.SenderScript.{SenderScript}
-use Rattle.oneshot_world.specs.declared.trace.Entry.{Entry}
 use Rattle.oneshot_world.specs.declared.trace.Made.{Made}
 use Rattle.oneshot_world.proofs.Bools.{and_left, and_right, both}
-use Rattle.oneshot_world.proofs.Coded.{bool_is}
 use Rattle.oneshot_laws.specs.Entries.{is_same_end, is_word}
-use Rattle.oneshot_laws.specs.Marks.{Mark, marks, finishes, call_marks, until_reply}
+use Rattle.oneshot_laws.specs.Marks.{Mark, finishes, call_marks, until_reply}
 use Rattle.oneshot_laws.specs.Bounds.{at_most, operates, is_senders_last, each_move, answers_soon, is_soon_answered}
 use Rattle.oneshot_laws.proofs.BoundsRuns.{can, spend, pay, no_more}
-use Rattle.oneshot_laws.proofs.Glanced.{Pair, Passes, Nameless, glanced_from, all_glanced, passes_run}
+use Rattle.oneshot_laws.proofs.Coding.{pairs, by_parts, flags, numbers_below}
+use Rattle.oneshot_laws.proofs.Glanced.{Law, Passes, Nameless, LawExplored, all_glanced, holds_by}
 use Rattle.oneshot_laws.proofs.HistoryAccepted.{Glance, glance_of}
-use Rattle.oneshot_laws.proofs.Watched.{Watched, no_names}
+use Rattle.oneshot_laws.proofs.Watched.{no_names, EachRun}
 
 -- whether the sender is done with the word, and what the receiver's call has left since
 pub record Rest : Type 0 where
@@ -56,26 +47,17 @@ less (suc n) (suc k) = less n k
 abbrev goes_on_soon : Rest → Glance → Bool
 goes_on_soon x g = less x.operations 2 && less x.moves 6 && fits_at g.entry.side g.entry x
 
-abbrev rest_code : Rest → ℕ
-rest_code x = (bool_code x.over * 3 + x.operations) * 7 + x.moves
-
-abbrev is_same_rest : Rest → Rest → Bool
-is_same_rest a b = bool_code a.over == bool_code b.over && (a.operations == b.operations && a.moves == b.moves)
-
-rest_with : Bool → ℕ → ℕ → Rest
-rest_with over operations moves = record { over = over; operations = operations; moves = moves }
-
-its_parts : (x : Rest) → rest_with x.over x.operations x.moves ≡ x
-unfolding rest_with
-its_parts x = refl
-
-rest_is : (a b : Rest) → is_same_rest a b ≡ true → a ≡ b
-rest_is a b h =
-    let counts = and_right (bool_code a.over == bool_code b.over) _ h in
-    let over : a.over ≡ b.over = bool_is a.over b.over (and_left _ _ h) in
-    let operations : a.operations ≡ b.operations = eqb-true a.operations b.operations (and_left _ _ counts) in
-    let moves : a.moves ≡ b.moves = eqb-true a.moves b.moves (and_right (a.operations == b.operations) _ counts) in
-    cc (its_parts a, its_parts b)
+abbrev rest_law : Law Rest
+rest_law =
+    record {
+      coding =
+          by_parts (λ x. (x.over, (x.operations, x.moves))) (λ p. record { over = p.0; operations = p.1.0; moves = p.1.1 }) (λ x. refl)
+          (pairs flags (pairs (numbers_below 3) (numbers_below 7)));
+      passes = goes_on_soon;
+      sees = rest_then;
+      names = no_names;
+      first = λ place. whole false;
+    }
 
 -- at most so many, and so at most more
 more : (test : Mark → Bool) (n k : ℕ) (ms : List Mark) → less n k ≡ true → at_most n test ms ≡ true → at_most k test ms ≡ true
@@ -101,14 +83,14 @@ abbrev Within : ℕ → ℕ → List Mark → Type 0
 Within n k own = (at_most n operates own ≡ true) × (at_most k each_move own ≡ true)
 
 abbrev Later : List Mark → Type 0
-Later ms = (n k : ℕ) → Passes goes_on_soon rest_then (left n k) (map glance_of ms) → Within n k (call_marks Receiver ms)
+Later ms = (n k : ℕ) → Passes rest_law (left n k) (map glance_of ms) → Within n k (call_marks Receiver ms)
 
-one_move : (end : End) (m : Mark) (ms : List Mark) (n k : ℕ) → Later ms → fits_at end m.entry (left n k) ≡ true → Passes goes_on_soon rest_then (rest_at end m.entry (left n k)) (map glance_of ms) → Within n k (elim (is_same_end end Receiver) as (λ _. List Mark) [ true ↦ m ∷ until_reply m.entry.reply (call_marks Receiver ms) [] | false ↦ call_marks Receiver ms ])
+one_move : (end : End) (m : Mark) (ms : List Mark) (n k : ℕ) → Later ms → fits_at end m.entry (left n k) ≡ true → Passes rest_law (rest_at end m.entry (left n k)) (map glance_of ms) → Within n k (elim (is_same_end end Receiver) as (λ _. List Mark) [ true ↦ m ∷ until_reply m.entry.reply (call_marks Receiver ms) [] | false ↦ call_marks Receiver ms ])
 one_move Sender m ms n k later h p = later n k p
 one_move Receiver m ms n k later h p =
     let operation = and_left _ _ h in
     let move = and_right (can n (operates m)) _ h in
-    elim m.entry.reply as (λ a. Passes goes_on_soon rest_then (until_reply a (left (spend n (operates m)) (spend k true)) (whole true)) (map glance_of ms) → Within n k (m ∷ until_reply a (call_marks Receiver ms) [])) [
+    elim m.entry.reply as (λ a. Passes rest_law (until_reply a (left (spend n (operates m)) (spend k true)) (whole true)) (map glance_of ms) → Within n k (m ∷ until_reply a (call_marks Receiver ms) [])) [
       | None ↦ λ p.
           let it = later (spend n (operates m)) (spend k true) p in
           (pay operates n m (call_marks Receiver ms) operation it.0, pay each_move k m (call_marks Receiver ms) move it.1)
@@ -131,7 +113,7 @@ goes_to Receiver e n k =
       | Some r ↦ ((2, 6), refl)
     ]
 
-soon : (ms : List Mark) (n k : ℕ) → Passes goes_on_soon rest_then (left n k) (map glance_of ms) → answers_soon ms ≡ true
+soon : (ms : List Mark) (n k : ℕ) → Passes rest_law (left n k) (map glance_of ms) → answers_soon ms ≡ true
 soon [] n k p = refl
 soon (m ∷ ms) n k p =
     let limits = and_left _ _ p.0 in
@@ -141,22 +123,22 @@ soon (m ∷ ms) n k p =
     (both _ _
     (more operates n 2 (call_marks Receiver (m ∷ ms)) (and_left _ _ limits) own.0)
     (more each_move k 6 (call_marks Receiver (m ∷ ms)) (and_right (less n 2) _ limits) own.1))
-    (soon ms next.0.0 next.0.1 (subst (λ x. Passes goes_on_soon rest_then x (map glance_of ms)) next.1 p.1))
+    (soon ms next.0.0 next.0.1 (subst (λ x. Passes rest_law x (map glance_of ms)) next.1 p.1))
 
 -- the sender's last operation
-last : (end : End) (e : Made) (x : Rest) (ms : List Mark) → (is_same_end end Sender && finishes e) ≡ true → fits_at end e x ≡ true → Passes goes_on_soon rest_then (rest_at end e x) (map glance_of ms) → answers_soon ms ≡ true
+last : (end : End) (e : Made) (x : Rest) (ms : List Mark) → (is_same_end end Sender && finishes e) ≡ true → fits_at end e x ≡ true → Passes rest_law (rest_at end e x) (map glance_of ms) → answers_soon ms ≡ true
 last Receiver e x ms l h p = cc
 last Sender e x ms l h p =
-    elim x.over as (λ o. not (o && finishes e) ≡ true → Passes goes_on_soon rest_then (elim o as (λ _. Rest) [ true ↦ x | false ↦ whole (finishes e) ]) (map glance_of ms) → answers_soon ms ≡ true) [
+    elim x.over as (λ o. not (o && finishes e) ≡ true → Passes rest_law (elim o as (λ _. Rest) [ true ↦ x | false ↦ whole (finishes e) ]) (map glance_of ms) → answers_soon ms ≡ true) [
       | true ↦ λ h p. cc (l, h)
-      | false ↦ λ h p. soon ms 2 6 (subst (λ o. Passes goes_on_soon rest_then (whole o) (map glance_of ms)) l p)
+      | false ↦ λ h p. soon ms 2 6 (subst (λ o. Passes rest_law (whole o) (map glance_of ms)) l p)
     ] h p
 
 if_last : (now soon : Bool) → (now ≡ true → soon ≡ true) → (not now || soon) ≡ true
 if_last true soon h = h refl
 if_last false soon h = refl
 
-soon_after_last : (ms : List Mark) (x : Rest) → Passes goes_on_soon rest_then x (map glance_of ms) → is_soon_answered ms ≡ true
+soon_after_last : (ms : List Mark) (x : Rest) → Passes rest_law x (map glance_of ms) → is_soon_answered ms ≡ true
 soon_after_last [] x p = refl
 soon_after_last (m ∷ ms) x p =
     both _ _
@@ -173,21 +155,16 @@ module _ (k : Classes) where
   fits_as Sender e x = refl
   fits_as Receiver e x = refl
 
-nameless : Nameless goes_on_soon rest_then
+nameless : Nameless rest_law
 nameless =
     record {
+      none = refl;
       passes_same = λ k x g. ap (λ fits. less x.operations 2 && less x.moves 6 && fits) (fits_as k g.entry.side g.entry x);
       sees_same = λ k x g. rest_as k g.entry.side g.entry x;
     }
 
-soon_found : Tree (Watched (Pair Rest))
-soon_found = glanced_from 42 rest_code is_same_rest goes_on_soon rest_then no_names (λ place. whole false)
+explored : LawExplored rest_law
+explored = record { found = all_glanced rest_law; all = refl }
 
-all_soon : all_glanced 42 rest_code is_same_rest goes_on_soon rest_then no_names (λ place. whole false) soon_found ≡ true
-unfolding soon_found
-all_soon = refl
-
-pub soon_answered : {T : Type 0} (s : SenderScript T) (r : ReceiverScript) (worlds : List World) (moves : List Move) (entries : List Entry) → Tells (opening s r) worlds moves entries → is_soon_answered (marks (calls_of s r) entries) ≡ true
-soon_answered s r worlds moves entries tells =
-    soon_after_last (marks (calls_of s r) entries) (whole false)
-    (passes_run 42 rest_code is_same_rest goes_on_soon rest_then nameless rest_is (λ place. whole false) soon_found all_soon s r worlds moves entries tells)
+pub soon_answered : {T : Type 0} → EachRun T is_soon_answered
+soon_answered = holds_by rest_law nameless explored is_soon_answered (λ place ms. soon_after_last ms (whole false))

@@ -1,18 +1,101 @@
--- Values that are compared by their codes are the same where their codes are.
-use Rattle.std.proofs.Common.{◌≡◌, ℕ, Bool, true, false, List, [], ◌∷◌, Option, Some, None, refl, ◌==◌, get_or, sym}
+-- How the values of a type are told apart while the checker explores: by a code that sorts them, and a test which the same values alone pass.
+use Rattle.std.proofs.Common.{◌≡◌, ℕ, ◌+◌, ◌*◌, ◌==◌, Bool, true, false, ◌&&◌, List, [], ◌∷◌, Option, Some, None, refl, sym, ◌∙◌, ap, get_or}
+use Rattle.std.proofs.lemmas.Bool.{eqb-true}
+use Rattle.oneshot_machine.specs.declared.machine.End.{End}
+use Rattle.oneshot_machine.specs.declared.machine.End.TheVariants.{Sender, Receiver}
 use Rattle.oneshot_machine.specs.declared.machine.Reply.{Reply}
 use Rattle.oneshot_machine.specs.declared.machine.Reply.TheVariants as R
+use Rattle.oneshot_world.specs.ControlCodes.{bool_code}
 use Rattle.oneshot_world.specs.declared.trace.Place.{Place}
 use Rattle.oneshot_world.specs.declared.trace.Place.TheVariants.{NotSent, InCell, InError, Delivered, FromError, Dropped}
-use Rattle.oneshot_world.proofs.Coded.{same_by}
-use Rattle.oneshot_laws.specs.MessagePlaces.{place_code, is_same_place}
+use Rattle.oneshot_world.proofs.Bools.{and_left, and_right}
+use Rattle.oneshot_world.proofs.ControlCodes.{same_by}
+use Rattle.oneshot_laws.specs.Entries.{reply_code}
+use Rattle.oneshot_laws.specs.MessagePlaces.{place_code}
 use Rattle.oneshot_laws.specs.Object.{Content, Open, Full, Closed, content_code, is_same_flag}
-use Rattle.oneshot_laws.specs.Entries.{reply_code, is_same_reply}
 
-abbrev replies : List Reply
-replies = R.Sent ∷ R.Refused ∷ R.Yes ∷ R.No ∷ R.Message ∷ R.Empty ∷ R.Timeout ∷ R.Disconnected ∷ R.Pending ∷ R.Future ∷ R.Done ∷ []
+-- `width` is above each code
+pub record Coding (X : Type 0) : Type 0 where
+  pub width : ℕ
+  pub code : X → ℕ
+  pub is_same : X → X → Bool
+  pub sound : (a b : X) → is_same a b ≡ true → a ≡ b
 
-reply_back : (x : Reply) → get_or replies (reply_code x) R.Done ≡ x
+-- values that stand in a list at their codes
+abbrev pub listed : {X : Type 0} (width : ℕ) (code : X → ℕ) (values : List X) (d : X) → ((x : X) → get_or values (code x) d ≡ x) → Coding X
+listed width code values d back =
+    record { width = width; code = code; is_same = λ a b. code a == code b; sound = same_by code values d back }
+
+abbrev pub numbers_below : ℕ → Coding ℕ
+numbers_below width = record { width = width; code = λ n. n; is_same = λ n k. n == k; sound = eqb-true }
+
+pub flag_is : (a b : Bool) → is_same_flag a b ≡ true → a ≡ b
+flag_is true b h = sym h
+flag_is false true h = h
+flag_is false false h = refl
+
+abbrev pub flags : Coding Bool
+flags = record { width = 2; code = bool_code; is_same = is_same_flag; sound = flag_is }
+
+-- two values, one after the other
+abbrev pub pairs : {X Y : Type 0} → Coding X → Coding Y → Coding (X × Y)
+pairs c d =
+    record {
+      width = c.width * d.width;
+      code = λ p. c.code p.0 * d.width + d.code p.1;
+      is_same = λ p q. c.is_same p.0 q.0 && d.is_same p.1 q.1;
+      sound = λ p q h.
+          let first : p.0 ≡ q.0 = c.sound p.0 q.0 (and_left _ _ h) in
+          let second : p.1 ≡ q.1 = d.sound p.1 q.1 (and_right (c.is_same p.0 q.0) _ h) in
+          ap (λ x. (x, p.1)) first ∙ ap (λ y. (q.0, y)) second;
+    }
+
+-- a value by its parts, of which it is made again
+abbrev pub by_parts : {X Y : Type 0} (parts : X → Y) (whole : Y → X) → ((x : X) → whole (parts x) ≡ x) → Coding Y → Coding X
+by_parts parts whole back c =
+    record {
+      width = c.width;
+      code = λ x. c.code (parts x);
+      is_same = λ a b. c.is_same (parts a) (parts b);
+      sound = λ a b h. sym (back a) ∙ ap whole (c.sound (parts a) (parts b) h) ∙ back b;
+    }
+
+module _ {X : Type 0} (c : Coding X) where
+  abbrev code_or_none : Option X → ℕ
+  code_or_none None = 0
+  code_or_none (Some x) = 1 + c.code x
+
+  abbrev is_same_or_none : Option X → Option X → Bool
+  is_same_or_none None None = true
+  is_same_or_none None (Some b) = false
+  is_same_or_none (Some a) None = false
+  is_same_or_none (Some a) (Some b) = c.is_same a b
+
+  pub same_or_none : (a b : Option X) → is_same_or_none a b ≡ true → a ≡ b
+  same_or_none None None h = refl
+  same_or_none None (Some b) h = cc
+  same_or_none (Some a) None h = cc
+  same_or_none (Some a) (Some b) h = ap (λ x. Some x) (c.sound a b h)
+
+  abbrev pub or_none : Coding (Option X)
+  or_none = record { width = 1 + c.width; code = code_or_none; is_same = is_same_or_none; sound = same_or_none }
+
+-- WHAT ENTRIES SHOW
+abbrev end_code : End → ℕ
+end_code Sender = 0
+end_code Receiver = 1
+
+pub end_back : (x : End) → get_or (Sender ∷ Receiver ∷ []) (end_code x) Sender ≡ x
+end_back Sender = refl
+end_back Receiver = refl
+
+abbrev pub both_ends : Coding End
+both_ends = listed 2 end_code (Sender ∷ Receiver ∷ []) Sender end_back
+
+abbrev all_replies : List Reply
+all_replies = R.Sent ∷ R.Refused ∷ R.Yes ∷ R.No ∷ R.Message ∷ R.Empty ∷ R.Timeout ∷ R.Disconnected ∷ R.Pending ∷ R.Future ∷ R.Done ∷ []
+
+pub reply_back : (x : Reply) → get_or all_replies (reply_code x) R.Done ≡ x
 reply_back R.Sent = refl
 reply_back R.Refused = refl
 reply_back R.Yes = refl
@@ -25,63 +108,21 @@ reply_back R.Pending = refl
 reply_back R.Future = refl
 reply_back R.Done = refl
 
-pub reply_is : (a b : Reply) → is_same_reply a b ≡ true → a ≡ b
-reply_is = same_by reply_code replies R.Done reply_back
+abbrev pub replies : Coding Reply
+replies = listed 11 reply_code all_replies R.Done reply_back
 
-abbrev pub answer_code : Option Reply → ℕ
-answer_code None = 0
-answer_code (Some R.Sent) = 1
-answer_code (Some R.Refused) = 2
-answer_code (Some R.Yes) = 3
-answer_code (Some R.No) = 4
-answer_code (Some R.Message) = 5
-answer_code (Some R.Empty) = 6
-answer_code (Some R.Timeout) = 7
-answer_code (Some R.Disconnected) = 8
-answer_code (Some R.Pending) = 9
-answer_code (Some R.Future) = 10
-answer_code (Some R.Done) = 11
-
-abbrev answers : List (Option Reply)
-answers = None ∷ Some R.Sent ∷ Some R.Refused ∷ Some R.Yes ∷ Some R.No ∷ Some R.Message ∷ Some R.Empty ∷ Some R.Timeout ∷ Some R.Disconnected ∷ Some R.Pending ∷ Some R.Future ∷ Some R.Done ∷ []
-
-answer_back : (x : Option Reply) → get_or answers (answer_code x) None ≡ x
-answer_back None = refl
-answer_back (Some R.Sent) = refl
-answer_back (Some R.Refused) = refl
-answer_back (Some R.Yes) = refl
-answer_back (Some R.No) = refl
-answer_back (Some R.Message) = refl
-answer_back (Some R.Empty) = refl
-answer_back (Some R.Timeout) = refl
-answer_back (Some R.Disconnected) = refl
-answer_back (Some R.Pending) = refl
-answer_back (Some R.Future) = refl
-answer_back (Some R.Done) = refl
-
-pub answer_is : (a b : Option Reply) → (answer_code a == answer_code b) ≡ true → a ≡ b
-answer_is = same_by answer_code answers None answer_back
-
-pub flag_is : (a b : Bool) → is_same_flag a b ≡ true → a ≡ b
-flag_is true b h = sym h
-flag_is false true h = h
-flag_is false false h = refl
-
-abbrev contents : List Content
-contents = Open ∷ Full ∷ Closed ∷ []
-
-content_back : (x : Content) → get_or contents (content_code x) Open ≡ x
+pub content_back : (x : Content) → get_or (Open ∷ Full ∷ Closed ∷ []) (content_code x) Open ≡ x
 content_back Open = refl
 content_back Full = refl
 content_back Closed = refl
 
-pub content_is : (a b : Content) → (content_code a == content_code b) ≡ true → a ≡ b
-content_is = same_by content_code contents Open content_back
+abbrev pub contents : Coding Content
+contents = listed 3 content_code (Open ∷ Full ∷ Closed ∷ []) Open content_back
 
-abbrev places : List Place
-places = NotSent ∷ InCell ∷ InError ∷ Delivered ∷ FromError ∷ Dropped ∷ []
+abbrev all_places : List Place
+all_places = NotSent ∷ InCell ∷ InError ∷ Delivered ∷ FromError ∷ Dropped ∷ []
 
-place_back : (x : Place) → get_or places (place_code x) NotSent ≡ x
+pub place_back : (x : Place) → get_or all_places (place_code x) NotSent ≡ x
 place_back NotSent = refl
 place_back InCell = refl
 place_back InError = refl
@@ -89,34 +130,5 @@ place_back Delivered = refl
 place_back FromError = refl
 place_back Dropped = refl
 
-pub place_is : (a b : Place) → is_same_place a b ≡ true → a ≡ b
-place_is = same_by place_code places NotSent place_back
-
--- a place, or none
-abbrev pub some_place_code : Option Place → ℕ
-some_place_code None = 0
-some_place_code (Some NotSent) = 1
-some_place_code (Some InCell) = 2
-some_place_code (Some InError) = 3
-some_place_code (Some Delivered) = 4
-some_place_code (Some FromError) = 5
-some_place_code (Some Dropped) = 6
-
-abbrev some_places : List (Option Place)
-some_places =
-    None ∷ Some NotSent ∷ Some InCell ∷ Some InError ∷ Some Delivered ∷ Some FromError ∷ Some Dropped ∷ []
-
-some_place_back : (x : Option Place) → get_or some_places (some_place_code x) None ≡ x
-some_place_back None = refl
-some_place_back (Some NotSent) = refl
-some_place_back (Some InCell) = refl
-some_place_back (Some InError) = refl
-some_place_back (Some Delivered) = refl
-some_place_back (Some FromError) = refl
-some_place_back (Some Dropped) = refl
-
-abbrev pub is_same_some_place : Option Place → Option Place → Bool
-is_same_some_place a b = some_place_code a == some_place_code b
-
-pub some_place_is : (a b : Option Place) → is_same_some_place a b ≡ true → a ≡ b
-some_place_is = same_by some_place_code some_places None some_place_back
+abbrev pub places : Coding Place
+places = listed 6 place_code all_places NotSent place_back

@@ -14,12 +14,12 @@ use Rattle.oneshot_laws.specs.Object.{Object, Content}
 use Rattle.oneshot_laws.specs.Actions.{nothing_yet_of}
 use Rattle.oneshot_laws.specs.Marks.{until_reply, to_reply, reply_among, call_under_way, works_on_word, finds_full_or_closed}
 use Rattle.oneshot_laws.specs.History.{agrees}
-use Rattle.oneshot_laws.proofs.Coding.{reply_is}
-use Rattle.oneshot_laws.proofs.HistoryReader.{Kind, Acts_first, Receives, Answers_always, Is_none, kind, Watch, Reader, due, hit, owed, owes_then, watch_at, pays, may_say, pays_receive, may_owe, has_reply, accepts_as, accepts_call, accepts, reads, hits}
+use Rattle.oneshot_laws.proofs.Coding.{replies}
+use Rattle.oneshot_laws.proofs.HistoryReader.{histories, Kind, Acts_first, Receives, Answers_always, Is_none, kind, Watch, Reader, due, hit, owed, owes_then, watch_at, pays, may_say, pays_receive, may_owe, has_reply, accepts_as, accepts_call, accepts, reads, hits}
 use Rattle.oneshot_laws.proofs.Watched.{Accepts, left_after}
 
 abbrev pub Accepted : Reader → Unanswered → Unanswered → List Entry → Type 0
-Accepted m s r entries = Accepts accepts reads m s r entries
+Accepted m s r entries = Accepts histories m s r entries
 
 -- an entry of this end is accepted, and so are those after it
 abbrev pub Goes_on : End → Made → List Entry → Reader → Unanswered → Unanswered → Type 0
@@ -94,7 +94,7 @@ fine_as works c (Some y) h = elim (says_nothing_yet y) as (λ b. not b ≡ true 
 -- a reply that says "nothing yet" is not one that was owed
 pub not_owed : (y : Reply) (a : Option Reply) → is_nothing_yet (Some y) ≡ false → agrees a (Some y) ≡ true → is_nothing_yet a ≡ false
 not_owed y None fine h = refl
-not_owed y (Some r) fine h = ap (λ x. says_nothing_yet x) (reply_is r y h) ∙ fine
+not_owed y (Some r) fine h = ap (λ x. says_nothing_yet x) (replies.sound r y h) ∙ fine
 
 says_own : (call : Call) (worked : Bool) (owes : Option Reply) (works : Bool) (c : Content) (r : Reply) → pays_receive call worked owes (Some r) ≡ true → may_owe works c owes ≡ true → says_nothing_yet r ≡ true → agrees (Some r) (nothing_yet_of call) ≡ true
 says_own call worked None works c r h fine says =

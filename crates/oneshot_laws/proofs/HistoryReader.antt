@@ -1,5 +1,5 @@
 -- A reader of the trace, entry by entry, with finitely many states: the object, and what the call under way at each end owes since it acted.
-use Rattle.std.proofs.Common.{◌≡◌, ℕ, ◌+◌, ◌*◌, Bool, true, false, not, ◌&&◌, ◌||◌, ◌==◌, Option, Some, None, is_some, refl, ap}
+use Rattle.std.proofs.Common.{◌≡◌, ℕ, Bool, true, false, not, ◌&&◌, ◌||◌, Option, Some, None, is_some, refl, ap}
 use Rattle.oneshot_machine.specs.declared.machine.End.{End}
 use Rattle.oneshot_machine.specs.declared.machine.End.TheVariants.{Sender, Receiver}
 use Rattle.oneshot_machine.specs.declared.machine.Reply.{Reply}
@@ -9,16 +9,14 @@ use Rattle.oneshot_machine.specs.declared.machine.sender.SenderCall.{SenderCall}
 use Rattle.oneshot_machine.specs.declared.machine.sender.SenderCall.TheVariants as SC
 use Rattle.oneshot_world.specs.Calls.{Call, Of_sender, Of_receiver, Poll, Stray}
 use Rattle.oneshot_world.specs.Classes.{Classes, as_call, as_made}
-use Rattle.oneshot_world.specs.Control.{bool_code}
 use Rattle.oneshot_world.specs.declared.trace.Made.{Made}
-use Rattle.oneshot_world.proofs.Bools.{and_left, and_right}
-use Rattle.oneshot_world.proofs.Coded.{bool_is}
 use Rattle.oneshot_laws.specs.Entries.{is_same_reply, says_nothing_yet}
-use Rattle.oneshot_laws.specs.Object.{Object, Content, new_object, is_open, content_code, is_same_flag, is_same_object}
+use Rattle.oneshot_laws.specs.Object.{Object, Content, new_object, is_open}
 use Rattle.oneshot_laws.specs.Actions.{action_of, nothing_yet_of, reply_on, stepped, fixed_reply_of}
 use Rattle.oneshot_laws.specs.Marks.{loads, finishes, swaps_closed_in, works_on_word, finds_full_or_closed, until_reply}
 use Rattle.oneshot_laws.specs.History.{agrees}
-use Rattle.oneshot_laws.proofs.Coding.{content_is, flag_is, answer_code, answer_is}
+use Rattle.oneshot_laws.proofs.Coding.{Coding, pairs, by_parts, or_none, flags, replies, contents}
+use Rattle.oneshot_laws.proofs.Watched.{Automaton, NamelessReader, no_names}
 
 -- how a call acts: at its first entry that passes a test, as a receive does, or never, with a reply that is always the same
 pub data Kind : Type 0 where
@@ -167,72 +165,28 @@ new_watch = record { begun = false; owes = None; worked = false }
 abbrev pub new_reader : Reader
 new_reader = record { object = new_object; sender = new_watch; receiver = new_watch }
 
--- two readers are told apart by codes
-abbrev pub watch_code : Watch → ℕ
-watch_code x = (answer_code x.owes * 2 + bool_code x.worked) * 2 + bool_code x.begun
+-- two readers are told apart by their parts
+abbrev pub watches : Coding Watch
+watches =
+    by_parts (λ x. (x.owes, (x.worked, x.begun))) (λ p. record { begun = p.1.1; owes = p.0; worked = p.1.0 }) (λ x. refl)
+    (pairs (or_none replies) (pairs flags flags))
 
-abbrev pub object_code : Object → ℕ
-object_code o = (content_code o.content * 2 + bool_code o.sender_here) * 2 + bool_code o.receiver_here
+abbrev pub objects : Coding Object
+objects =
+    by_parts (λ o. (o.content, (o.sender_here, o.receiver_here))) (λ p. record { content = p.0; sender_here = p.1.0; receiver_here = p.1.1 }) (λ o. refl)
+    (pairs contents (pairs flags flags))
 
-abbrev pub reader_code : Reader → ℕ
-reader_code m = (object_code m.object * 64 + watch_code m.sender) * 64 + watch_code m.receiver
+abbrev pub readers : Coding Reader
+readers =
+    by_parts (λ m. (m.object, (m.sender, m.receiver))) (λ p. record { object = p.0; sender = p.1.0; receiver = p.1.1 }) (λ m. refl)
+    (pairs objects (pairs watches watches))
 
-abbrev pub is_same_watch : Watch → Watch → Bool
-is_same_watch x y =
-    bool_code x.begun == bool_code y.begun
-    && (answer_code x.owes == answer_code y.owes && bool_code x.worked == bool_code y.worked)
-
-abbrev pub is_same_reader : Reader → Reader → Bool
-is_same_reader m n =
-    is_same_object m.object n.object && (is_same_watch m.sender n.sender && is_same_watch m.receiver n.receiver)
-
-object_with : Content → Bool → Bool → Object
-object_with c s r = record { content = c; sender_here = s; receiver_here = r }
-
-object_parts : (o : Object) → object_with o.content o.sender_here o.receiver_here ≡ o
-unfolding object_with
-object_parts o = refl
-
-watch_with : Bool → Option Reply → Bool → Watch
-watch_with b o w = record { begun = b; owes = o; worked = w }
-
-watch_parts : (x : Watch) → watch_with x.begun x.owes x.worked ≡ x
-unfolding watch_with
-watch_parts x = refl
-
-reader_with : Object → Watch → Watch → Reader
-reader_with o s r = record { object = o; sender = s; receiver = r }
-
-reader_parts : (m : Reader) → reader_with m.object m.sender m.receiver ≡ m
-unfolding reader_with
-reader_parts m = refl
-
-pub object_is : (o p : Object) → is_same_object o p ≡ true → o ≡ p
-object_is o p h =
-    let h1 : (is_same_flag o.sender_here p.sender_here && is_same_flag o.receiver_here p.receiver_here) ≡ true = and_right (content_code o.content == content_code p.content) _ h in
-    let c : o.content ≡ p.content = content_is o.content p.content (and_left _ _ h) in
-    let s : o.sender_here ≡ p.sender_here = flag_is o.sender_here p.sender_here (and_left _ _ h1) in
-    let r : o.receiver_here ≡ p.receiver_here = flag_is o.receiver_here p.receiver_here (and_right (is_same_flag o.sender_here p.sender_here) _ h1) in
-    cc (object_parts o, object_parts p)
-
-watch_is : (x y : Watch) → is_same_watch x y ≡ true → x ≡ y
-watch_is x y h =
-    let h1 : (answer_code x.owes == answer_code y.owes && bool_code x.worked == bool_code y.worked) ≡ true = and_right (bool_code x.begun == bool_code y.begun) _ h in
-    let b : x.begun ≡ y.begun = bool_is x.begun y.begun (and_left _ _ h) in
-    let o : x.owes ≡ y.owes = answer_is x.owes y.owes (and_left _ _ h1) in
-    let w : x.worked ≡ y.worked = bool_is x.worked y.worked (and_right (answer_code x.owes == answer_code y.owes) _ h1) in
-    cc (watch_parts x, watch_parts y)
-
-pub reader_is : (m n : Reader) → is_same_reader m n ≡ true → m ≡ n
-reader_is m n h =
-    let h1 = and_right (is_same_object m.object n.object) _ h in
-    let o : m.object ≡ n.object = object_is m.object n.object (and_left _ _ h) in
-    let s : m.sender ≡ n.sender = watch_is m.sender n.sender (and_left _ _ h1) in
-    let r : m.receiver ≡ n.receiver = watch_is m.receiver n.receiver (and_right (is_same_watch m.sender n.sender) _ h1) in
-    cc (reader_parts m, reader_parts n)
+abbrev pub histories : Automaton Reader
+histories =
+    record { coding = readers; accepts = accepts; reads = reads; names = no_names; first = λ place. new_reader }
 
 -- the reader looks at no name and at no number
-pub accepts_alike : (k : Classes) (side : End) (call : Call) (e : Made) (m : Reader) → accepts side (as_call k call) (as_made k e) m ≡ accepts side call e m
+accepts_alike : (k : Classes) (side : End) (call : Call) (e : Made) (m : Reader) → accepts side (as_call k call) (as_made k e) m ≡ accepts side call e m
 accepts_alike k side (Of_sender SC.Send) e m = refl
 accepts_alike k side (Of_receiver RC.Recv) e m = refl
 accepts_alike k side _ e m = refl
@@ -245,7 +199,7 @@ abbrev read_to : End → Object → Watch → Reader → Reader
 read_to Sender o x m = record { object = o; sender = x; receiver = m.receiver }
 read_to Receiver o x m = record { object = o; sender = m.sender; receiver = x }
 
-pub reads_alike : (k : Classes) (side : End) (call : Call) (e : Made) (m : Reader) → reads side (as_call k call) (as_made k e) m ≡ reads side call e m
+reads_alike : (k : Classes) (side : End) (call : Call) (e : Made) (m : Reader) → reads side (as_call k call) (as_made k e) m ≡ reads side call e m
 reads_alike k Sender (Poll number) e m =
     ap (λ o. read_to Sender o (watch_then (Poll number) e m.object m.sender) m) (object_as k (hits Receives e m.sender) number m.object)
 reads_alike k Sender (Of_sender SC.Send) e m = refl
@@ -256,3 +210,6 @@ reads_alike k Receiver (Poll number) e m =
 reads_alike k Receiver (Of_sender SC.Send) e m = refl
 reads_alike k Receiver (Of_receiver RC.Recv) e m = refl
 reads_alike k Receiver _ e m = refl
+
+pub histories_nameless : NamelessReader histories
+histories_nameless = record { accepts_same = accepts_alike; reads_same = reads_alike }

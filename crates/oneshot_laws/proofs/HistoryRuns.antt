@@ -1,8 +1,8 @@
 -- Each run of two scripts has a legal history: the reader accepts it, as the checker computes over machines and reader together.
 use Rattle.std.proofs.Common.{◌≡◌, true, List, [], refl}
-use Rattle.oneshot_world.specs.Calls.{Unanswered, calls_of}
+use Rattle.oneshot_world.specs.Calls.{Unanswered}
+use Rattle.oneshot_world.specs.Scripts.{calls_of}
 use Rattle.oneshot_world.specs.Classes.{all_alike}
-use Rattle.oneshot_world.specs.Explore.{Tree}
 use Rattle.oneshot_world.specs.World.{World, Tells, opening}
 use Rattle.oneshot_world.specs.declared.script.Move.{Move}
 use Rattle.oneshot_world.specs.declared.script.ReceiverScript.{ReceiverScript}
@@ -10,25 +10,21 @@ use Rattle.oneshot_world.specs.declared.script.SenderScript.{SenderScript}
 use Rattle.oneshot_world.specs.declared.trace.Entry.{Entry}
 use Rattle.oneshot_laws.specs.Marks.{marks, sender_reading, receiver_reading, call_under_way}
 use Rattle.oneshot_laws.specs.History.{has_legal_history}
-use Rattle.oneshot_laws.proofs.HistoryReader.{Reader, new_reader, new_watch, accepts, reads, reader_code, is_same_reader, reader_is, accepts_alike, reads_alike}
+use Rattle.oneshot_laws.proofs.HistoryReader.{new_reader, new_watch, histories, histories_nameless}
 use Rattle.oneshot_laws.proofs.HistoryAccepted.{FollowsAt, MarksRight, glances, all_right, legal}
 use Rattle.oneshot_laws.proofs.HistoryOwed.{Accepted}
-use Rattle.oneshot_laws.proofs.Watched.{Watched, no_names, watched_from, all_pass, alike, all_classed, accepted_run}
+use Rattle.oneshot_laws.proofs.Watched.{Explored, all_watched, alike, all_classed, accepted_run}
 
-found : Tree (Watched Reader)
-found = watched_from 65536 reader_code is_same_reader accepts reads no_names (λ place. new_reader)
-
-all_found : all_pass 65536 reader_code is_same_reader accepts reads no_names (λ place. new_reader) found ≡ true
-unfolding found
-all_found = refl
+explored : Explored histories
+explored = record { found = all_watched histories; all = refl }
 
 new_follows : (left : Unanswered) → FollowsAt (call_under_way left) new_watch []
 new_follows left = record { begun = refl; acted = refl; worked = refl }
 
 run_accepted : {T : Type 0} (s : SenderScript T) (r : ReceiverScript) (worlds : List World) (moves : List Move) (entries : List Entry) → Tells (opening s r) worlds moves entries → Accepted new_reader (opening s r).sender (opening s r).receiver entries
 run_accepted s r worlds moves entries told =
-    alike accepts reads all_alike (accepts_alike all_alike) (reads_alike all_alike) entries new_reader (opening s r).sender (opening s r).receiver
-    (accepted_run 65536 reader_code is_same_reader accepts reads no_names all_alike (all_classed accepts reads) reader_is (λ place. new_reader) found all_found s r worlds moves entries refl told)
+    alike histories histories_nameless all_alike entries new_reader (opening s r).sender (opening s r).receiver
+    (accepted_run histories all_alike (all_classed histories refl) explored s r worlds moves entries refl told)
 
 -- the marks of a run are right, and the other laws see what the reader sees
 pub marks_run : {T : Type 0} (s : SenderScript T) (r : ReceiverScript) (worlds : List World) (moves : List Move) (entries : List Entry) → Tells (opening s r) worlds moves entries → MarksRight (marks (calls_of s r) entries) (glances new_reader (opening s r).sender (opening s r).receiver entries)

@@ -7,9 +7,12 @@ use Rattle.oneshot_machine.specs.declared.machine.End.{End}
 use Rattle.oneshot_machine.specs.declared.machine.End.TheVariants.{Sender, Receiver}
 use Rattle.oneshot_machine.specs.declared.machine.receiver.ReceiverStart.TheVariants as RC
 use Rattle.oneshot_machine.specs.declared.machine.sender.SenderCall.TheVariants as SC
-use Rattle.oneshot_world.specs.Calls.{Call, Of_sender, Of_receiver, Poll, calls_of, first, is_none_left, left_by, as_sender_call, as_receiver_call}
-use Rattle.oneshot_world.specs.Control.{sender_has, receiver_has, IsReached}
-use Rattle.oneshot_world.specs.State.{sender_position, receiver_position, reply_of}
+use Rattle.oneshot_world.specs.Calls.{Call, Of_sender, Of_receiver, Poll, first, is_none_left, left_by, as_sender_call, as_receiver_call}
+use Rattle.oneshot_world.specs.Scripts.{calls_of}
+use Rattle.oneshot_world.specs.ScriptsLeft.{sender_has, receiver_has}
+use Rattle.oneshot_world.specs.Reached.{IsReached}
+use Rattle.oneshot_world.specs.State.{sender_position, receiver_position}
+use Rattle.oneshot_world.specs.Effects.{reply_of}
 use Rattle.oneshot_world.specs.World.{World, Tells_from, Tells, opening, side_of, receiver_told}
 use Rattle.oneshot_world.specs.declared.script.Move.{Move}
 use Rattle.oneshot_world.specs.declared.script.ReceiverScript.{ReceiverScript}
@@ -21,8 +24,9 @@ use Rattle.oneshot_world.specs.declared.state.SenderState.TheVariants as SS
 use Rattle.oneshot_world.specs.declared.trace.Entry.{Entry}
 use Rattle.oneshot_world.specs.declared.trace.Place.{Place}
 use Rattle.oneshot_world.proofs.Bools.{both}
-use Rattle.oneshot_world.proofs.Reached.{sender_world, receiver_world, opening_reached}
-use Rattle.oneshot_world.proofs.Turned.{Turned, sender_idle, sender_made, receiver_idle, receiver_made, turned, turned_reaches}
+use Rattle.oneshot_world.proofs.ReachedMoves.{sender_world, receiver_world}
+use Rattle.oneshot_world.proofs.ReachedOpening.{opening_reached}
+use Rattle.oneshot_world.proofs.WorldTurns.{Turned, sender_idle, sender_made, receiver_idle, receiver_made, turned, turned_reaches}
 use Rattle.oneshot_laws.specs.Idle.{is_idle_right_from, is_idle_right}
 use Rattle.oneshot_laws.specs.Marks.{Reading, sender_reading, receiver_reading}
 

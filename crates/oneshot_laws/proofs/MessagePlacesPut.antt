@@ -1,26 +1,17 @@
 -- Each move of the message belongs to the call that makes it.
 use Rattle.std.proofs.Common.{◌≡◌, Bool, true, false, ◌&&◌, ◌||◌, List, [], ◌∷◌, Some, None, map, refl}
 use Rattle.oneshot_machine.specs.declared.machine.Reply.TheVariants as R
-use Rattle.oneshot_world.specs.Calls.{calls_of}
-use Rattle.oneshot_world.specs.Control.{bool_code}
-use Rattle.oneshot_world.specs.Explore.{Tree}
-use Rattle.oneshot_world.specs.World.{World, Tells, opening}
-use Rattle.oneshot_world.specs.declared.script.Move.{Move}
-use Rattle.oneshot_world.specs.declared.script.ReceiverScript.{ReceiverScript}
-use Rattle.oneshot_world.specs.declared.script.SenderScript.{SenderScript}
-use Rattle.oneshot_world.specs.declared.trace.Entry.{Entry}
 use Rattle.oneshot_world.specs.declared.trace.Place.{Place}
 use Rattle.oneshot_world.specs.declared.trace.Place.TheVariants.{NotSent, InCell, InError, Delivered, FromError, Dropped}
 use Rattle.oneshot_world.proofs.Bools.{both}
 use Rattle.oneshot_laws.specs.Entries.{is_reply}
-use Rattle.oneshot_laws.specs.Object.{is_same_flag}
 use Rattle.oneshot_laws.specs.Actions.{is_send, is_receive, is_into_inner, is_drop_of_receiver, is_drop_of_error}
-use Rattle.oneshot_laws.specs.Marks.{Mark, marks}
+use Rattle.oneshot_laws.specs.Marks.{Mark}
 use Rattle.oneshot_laws.specs.MessagePlaces.{is_message_put}
-use Rattle.oneshot_laws.proofs.Coding.{flag_is}
-use Rattle.oneshot_laws.proofs.Glanced.{Pair, Passes, Nameless, of_call, glanced_from, all_glanced, passes_run}
+use Rattle.oneshot_laws.proofs.Coding.{flags}
+use Rattle.oneshot_laws.proofs.Glanced.{Law, Passes, Nameless, of_call, LawExplored, all_glanced, holds_by}
 use Rattle.oneshot_laws.proofs.HistoryAccepted.{Glance, glance_of}
-use Rattle.oneshot_laws.proofs.Watched.{Watched, no_names}
+use Rattle.oneshot_laws.proofs.Watched.{no_names, EachRun}
 
 abbrev may_put : Glance → Place → Bool
 may_put g NotSent = false
@@ -37,25 +28,23 @@ puts state g = elim g.entry.message [ None ↦ true | Some move ↦ may_put g mo
 abbrev stays : Bool → Glance → Bool
 stays state g = false
 
-put : (ms : List Mark) (state : Bool) → Passes puts stays state (map glance_of ms) → is_message_put ms ≡ true
+abbrev put_law : Law Bool
+put_law = record { coding = flags; passes = puts; sees = stays; names = no_names; first = λ place. false }
+
+put : (ms : List Mark) (state : Bool) → Passes put_law state (map glance_of ms) → is_message_put ms ≡ true
 put [] state p = refl
 put (m ∷ ms) state p = both _ _ p.0 (put ms false p.1)
 
-nameless : Nameless puts stays
+nameless : Nameless put_law
 nameless =
     record {
+      none = refl;
       passes_same = λ k n g. of_call k (λ call. puts n (record g { call = call })) (λ a b. refl) g.call;
-      sees_same = λ k n g. of_call k (λ call. stays n (record g { call = call })) (λ a b. refl) g.call;
+      sees_same = λ k n g. refl;
     }
 
-found : Tree (Watched (Pair Bool))
-found = glanced_from 2 bool_code is_same_flag puts stays no_names (λ place. false)
+explored : LawExplored put_law
+explored = record { found = all_glanced put_law; all = refl }
 
-all_found : all_glanced 2 bool_code is_same_flag puts stays no_names (λ place. false) found ≡ true
-unfolding found
-all_found = refl
-
-pub message_put : {T : Type 0} (s : SenderScript T) (r : ReceiverScript) (worlds : List World) (moves : List Move) (entries : List Entry) → Tells (opening s r) worlds moves entries → is_message_put (marks (calls_of s r) entries) ≡ true
-message_put s r worlds moves entries tells =
-    put (marks (calls_of s r) entries) false
-    (passes_run 2 bool_code is_same_flag puts stays nameless flag_is (λ place. false) found all_found s r worlds moves entries tells)
+pub message_put : {T : Type 0} → EachRun T is_message_put
+message_put = holds_by put_law nameless explored is_message_put (λ place ms. put ms false)

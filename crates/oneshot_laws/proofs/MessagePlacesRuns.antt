@@ -1,11 +1,10 @@
 -- The message is always in one place: it begins as not sent, moves as it may, and ends with somebody once all have ended.
-use Rattle.std.proofs.Common.{◌≡◌, ℕ, zero, suc, ◌+◌, ◌*◌, Bool, true, false, ◌&&◌, ◌||◌, ◌==◌, List, [], ◌∷◌, ◌++◌, Option, Some, None, is_some, map, replicate, refl, sym, ◌∙◌, ap, subst}
+use Rattle.std.proofs.Common.{◌≡◌, ℕ, zero, suc, ◌+◌, Bool, true, false, ◌&&◌, ◌||◌, List, [], ◌∷◌, ◌++◌, Option, Some, None, is_some, map, replicate, refl, sym, ◌∙◌, ap, subst}
 use Rattle.std.specs.List.{list_any, filter_map, cons_option}
 use Rattle.oneshot_machine.specs.declared.machine.sender.SenderCall.TheVariants as SC
-use Rattle.oneshot_world.specs.Calls.{Call, Of_sender, calls_of, sender_last}
+use Rattle.oneshot_world.specs.Calls.{Call, Of_sender}
+use Rattle.oneshot_world.specs.Scripts.{calls_of, sender_last}
 use Rattle.oneshot_world.specs.Classes.{Classes}
-use Rattle.oneshot_world.specs.Control.{bool_code}
-use Rattle.oneshot_world.specs.Explore.{Tree}
 use Rattle.oneshot_world.specs.World.{World, Tells, opening, opening_place}
 use Rattle.oneshot_world.specs.declared.script.Move.{Move}
 use Rattle.oneshot_world.specs.declared.script.ReceiverScript.{ReceiverScript}
@@ -16,19 +15,18 @@ use Rattle.oneshot_world.specs.declared.trace.Entry.{Entry}
 use Rattle.oneshot_world.specs.declared.trace.Entry.TheVariants.{Idle, Made as Made_entry}
 use Rattle.oneshot_world.specs.declared.trace.Place.{Place}
 use Rattle.oneshot_world.specs.declared.trace.Place.TheVariants.{NotSent}
-use Rattle.oneshot_world.proofs.Bools.{and_left, and_right, both}
-use Rattle.oneshot_world.proofs.Coded.{bool_is}
+use Rattle.oneshot_world.proofs.Bools.{both}
 use Rattle.oneshot_laws.specs.Entries.{only_if}
 use Rattle.oneshot_laws.specs.Object.{Object}
 use Rattle.oneshot_laws.specs.Actions.{is_send}
 use Rattle.oneshot_laws.specs.Marks.{Reading, Mark, marks, marks_from}
 use Rattle.oneshot_laws.specs.Ended.{all_ended}
-use Rattle.oneshot_laws.specs.MessagePlaces.{is_path, last_place, place_code, is_same_place, is_message_move, message_moves, is_message_followed, last_message_place, is_message_end, is_message_ended}
-use Rattle.oneshot_laws.proofs.EndedRuns.{Kept, own_after, nothing_asked, kept_from, all_kept, at_the_end, or_more, or_false}
-use Rattle.oneshot_laws.proofs.Coding.{place_is, some_place_code, is_same_some_place, some_place_is}
-use Rattle.oneshot_laws.proofs.Glanced.{Pair, Passes, Nameless, as_glance, of_call, glanced_from, all_glanced, passes_run}
+use Rattle.oneshot_laws.specs.MessagePlaces.{is_path, last_place, is_same_place, is_message_move, message_moves, is_message_followed, last_message_place, is_message_end, is_message_ended}
+use Rattle.oneshot_laws.proofs.Coding.{pairs, by_parts, or_none, flags, places}
+use Rattle.oneshot_laws.proofs.EndedRuns.{Ending, EndingExplored, EndingNameless, kept, own_after, nothing_asked, at_the_end, or_more, or_false}
+use Rattle.oneshot_laws.proofs.Glanced.{Law, Passes, Nameless, as_glance, of_call, LawExplored, all_glanced, passes_run}
 use Rattle.oneshot_laws.proofs.HistoryAccepted.{Glance, glance_of}
-use Rattle.oneshot_laws.proofs.Watched.{Watched, no_names}
+use Rattle.oneshot_laws.proofs.Watched.{no_names}
 
 -- the moves that marks show
 abbrev moves_of : List Mark → List (Place × Place)
@@ -56,6 +54,10 @@ abbrev place_then : Option Place → Glance → Option Place
 place_then None g = None
 place_then (Some place) g = Some (goes_to place g.entry.message)
 
+abbrev path_law : Law (Option Place)
+path_law =
+    record { coding = or_none places; passes = moves_rightly; sees = place_then; names = no_names; first = λ place. place }
+
 abbrev or_not_sent : Option Place → Place
 or_not_sent None = NotSent
 or_not_sent (Some place) = place
@@ -71,7 +73,7 @@ one_move : (x : Option (Place × Place)) (place : Place) (later : List (Place ×
 one_move None place later h k = k
 one_move (Some move) place later h k = both _ _ h k
 
-path : (ms : List Mark) (place : Option Place) → Passes moves_rightly place_then place (map glance_of ms) → IsPath (is_some place) (or_not_sent place) (moves_of ms)
+path : (ms : List Mark) (place : Option Place) → Passes path_law place (map glance_of ms) → IsPath (is_some place) (or_not_sent place) (moves_of ms)
 path [] place p = refl
 path (m ∷ ms) None p = no_move m.entry.message (moves_of ms) p.0 (path ms None p.1)
 path (m ∷ ms) (Some place) p = one_move m.entry.message place (moves_of ms) p.0 (path ms _ p.1)
@@ -95,20 +97,16 @@ place_as : (k : Classes) (place : Option Place) (g : Glance) → place_then plac
 place_as k None g = refl
 place_as k (Some place) g = refl
 
-path_nameless : Nameless moves_rightly place_then
-path_nameless = record { passes_same = λ k place g. refl; sees_same = place_as }
+path_nameless : Nameless path_law
+path_nameless = record { none = refl; passes_same = λ k place g. refl; sees_same = place_as }
 
-path_found : Tree (Watched (Pair (Option Place)))
-path_found = glanced_from 8 some_place_code is_same_some_place moves_rightly place_then no_names (λ place. place)
-
-all_on_path : all_glanced 8 some_place_code is_same_some_place moves_rightly place_then no_names (λ place. place) path_found ≡ true
-unfolding path_found
-all_on_path = refl
+path_explored : LawExplored path_law
+path_explored = record { found = all_glanced path_law; all = refl }
 
 pub message_followed : {T : Type 0} (s : SenderScript T) (r : ReceiverScript) (worlds : List World) (moves : List Move) (entries : List Entry) → Tells (opening s r) worlds moves entries → is_message_followed (calls_of s r) entries ≡ true
 message_followed s r worlds moves entries tells =
     let at_marks = path (marks (calls_of s r) entries) (opening_place s.last)
-    (passes_run 8 some_place_code is_same_some_place moves_rightly place_then path_nameless some_place_is (λ place. place) path_found all_on_path s r worlds moves entries tells) in
+    (passes_run path_law path_nameless path_explored s r worlds moves entries tells) in
     let at_entries : IsPath (is_some (opening_place s.last)) (or_not_sent (opening_place s.last)) (message_moves entries) =
     subst (IsPath _ _) (sym (shown entries _ _ 1 _)) at_marks in
     let from_start : IsPath (is_some (opening_place s.last)) NotSent (message_moves entries) =
@@ -123,27 +121,20 @@ pub record Sending : Type 0 where
 abbrev sending_then : Sending → Glance → Sending
 sending_then x g = record { begun = x.begun || is_send g.call; place = goes_to x.place g.entry.message }
 
-abbrev is_with_somebody : Sending → Bool
-is_with_somebody x = only_if x.begun (is_message_end x.place)
+abbrev not_sent_yet : Sending
+not_sent_yet = record { begun = false; place = NotSent }
 
-abbrev sending_code : Sending → ℕ
-sending_code x = bool_code x.begun * 8 + place_code x.place
-
-abbrev is_same_sending : Sending → Sending → Bool
-is_same_sending a b = bool_code a.begun == bool_code b.begun && is_same_place a.place b.place
-
-sending_with : Bool → Place → Sending
-sending_with begun place = record { begun = begun; place = place }
-
-its_parts : (x : Sending) → sending_with x.begun x.place ≡ x
-unfolding sending_with
-its_parts x = refl
-
-sending_is : (a b : Sending) → is_same_sending a b ≡ true → a ≡ b
-sending_is a b h =
-    let begun : a.begun ≡ b.begun = bool_is a.begun b.begun (and_left _ _ h) in
-    let place : a.place ≡ b.place = place_is a.place b.place (and_right (bool_code a.begun == bool_code b.begun) _ h) in
-    cc (its_parts a, its_parts b)
+abbrev sending_ending : Ending Sending
+sending_ending =
+    record {
+      coding =
+          by_parts (λ x. (x.begun, x.place)) (λ p. record { begun = p.0; place = p.1 }) (λ x. refl) (pairs flags places);
+      own_then = sending_then;
+      asks = nothing_asked;
+      good = λ x. only_if x.begun (is_message_end x.place);
+      names = no_names;
+      first = λ place. not_sent_yet;
+    }
 
 begun_after : (ms : List Mark) (x : Sending) → (own_after sending_then x (map glance_of ms)).begun ≡ (x.begun || list_any (λ m. is_send m.call) ms)
 begun_after [] x = sym (or_false x.begun)
@@ -159,18 +150,15 @@ place_after [] x = refl
 place_after (m ∷ ms) x =
     place_after ms (sending_then x (glance_of m)) ∙ last_after m.entry.message x.place (moves_of ms)
 
-abbrev not_sent_yet : Sending
-not_sent_yet = record { begun = false; place = NotSent }
+sending_nameless : EndingNameless sending_ending
+sending_nameless =
+    record {
+      none = refl;
+      own_same = λ k x g. of_call k (λ call. sending_then x (record g { call = call })) (λ a b. refl) g.call;
+    }
 
-sending_same : (k : Classes) (x : Sending) (g : Glance) → sending_then x (as_glance k g) ≡ sending_then x g
-sending_same k x g = of_call k (λ call. sending_then x (record g { call = call })) (λ a b. refl) g.call
-
-end_found : Tree (Watched (Pair (Kept Sending)))
-end_found = kept_from 16 sending_code is_same_sending sending_then nothing_asked is_with_somebody no_names (λ place. not_sent_yet)
-
-all_at_end : all_kept 16 sending_code is_same_sending sending_then nothing_asked is_with_somebody no_names (λ place. not_sent_yet) end_found ≡ true
-unfolding end_found
-all_at_end = refl
+end_explored : EndingExplored sending_ending
+end_explored = record { found = all_glanced (kept sending_ending); all = refl }
 
 if_both : (a b c : Bool) → only_if a (only_if b c) ≡ true → only_if (a && b) c ≡ true
 if_both true b c h = h
@@ -182,4 +170,4 @@ message_ended s r worlds moves entries tells =
     if_both (all_ended (marks (calls_of s r) entries)) (list_any (λ m. is_send m.call) (marks (calls_of s r) entries)) (is_message_end (last_message_place entries))
     (subst (λ begun. only_if (all_ended (marks (calls_of s r) entries)) (only_if begun (is_message_end (last_message_place entries))) ≡ true) (begun_after (marks (calls_of s r) entries) not_sent_yet)
     (subst (λ place. only_if (all_ended (marks (calls_of s r) entries)) (only_if (own_after sending_then not_sent_yet (map glance_of (marks (calls_of s r) entries))).begun (is_message_end place)) ≡ true) last
-    (at_the_end 16 sending_code is_same_sending sending_then is_with_somebody sending_same (λ place. not_sent_yet) sending_is end_found all_at_end s r worlds moves entries tells)))
+    (at_the_end sending_ending sending_nameless end_explored s r worlds moves entries tells)))

@@ -1,26 +1,17 @@
 -- A message that was sent and never taken is dropped once, by the receiver's drop.
-use Rattle.std.proofs.Common.{◌≡◌, ℕ, ◌+◌, ◌*◌, Bool, true, false, not, ◌&&◌, ◌||◌, ◌==◌, List, [], ◌∷◌, Some, None, map, filter, get_or, is_some, refl, subst, if◌then◌else◌}
+use Rattle.std.proofs.Common.{◌≡◌, ℕ, Bool, true, false, not, ◌&&◌, ◌||◌, List, [], ◌∷◌, Some, None, map, filter, get_or, is_some, refl, subst, if◌then◌else◌}
 use Rattle.std.specs.List.{list_any}
 use Rattle.oneshot_machine.specs.declared.machine.Reply.TheVariants as R
-use Rattle.oneshot_world.specs.Calls.{calls_of}
-use Rattle.oneshot_world.specs.Control.{bool_code}
-use Rattle.oneshot_world.specs.Explore.{Tree}
-use Rattle.oneshot_world.specs.World.{World, Tells, opening}
-use Rattle.oneshot_world.specs.declared.script.Move.{Move}
-use Rattle.oneshot_world.specs.declared.script.ReceiverScript.{ReceiverScript}
-use Rattle.oneshot_world.specs.declared.script.SenderScript.{SenderScript}
-use Rattle.oneshot_world.specs.declared.trace.Entry.{Entry}
-use Rattle.oneshot_world.proofs.Bools.{and_left, and_right}
-use Rattle.oneshot_world.proofs.Coded.{bool_is, same_by}
 use Rattle.oneshot_laws.specs.Entries.{only_if}
 use Rattle.oneshot_laws.specs.Actions.{is_receive, is_send, is_drop_of_receiver}
-use Rattle.oneshot_laws.specs.Marks.{Mark, marks}
+use Rattle.oneshot_laws.specs.Marks.{Mark}
 use Rattle.oneshot_laws.specs.Ended.{has_answered}
 use Rattle.oneshot_laws.specs.Replies.{answers, is_dropped, is_dropping, is_one_by_receiver, is_dropped_once}
 use Rattle.oneshot_laws.proofs.RepliesAfterwards.{told}
-use Rattle.oneshot_laws.proofs.Glanced.{Pair, Passes, Nameless, of_call, glanced_from, all_glanced, passes_run}
+use Rattle.oneshot_laws.proofs.Coding.{Coding, listed, pairs, by_parts, flags}
+use Rattle.oneshot_laws.proofs.Glanced.{Law, Passes, Nameless, of_call, LawExplored, all_glanced, holds_by}
 use Rattle.oneshot_laws.proofs.HistoryAccepted.{Glance, glance_of}
-use Rattle.oneshot_laws.proofs.Watched.{Watched, no_names}
+use Rattle.oneshot_laws.proofs.Watched.{no_names, EachRun}
 
 -- how the message was dropped so far
 pub data Drops : Type 0 where
@@ -72,42 +63,22 @@ drops_code Never = 0
 drops_code By_receiver = 1
 drops_code Wrongly = 2
 
-abbrev all_drops : List Drops
-all_drops = Never ∷ By_receiver ∷ Wrongly ∷ []
-
-drops_back : (d : Drops) → get_or all_drops (drops_code d) Never ≡ d
+drops_back : (d : Drops) → get_or (Never ∷ By_receiver ∷ Wrongly ∷ []) (drops_code d) Never ≡ d
 drops_back Never = refl
 drops_back By_receiver = refl
 drops_back Wrongly = refl
 
-drops_is : (a b : Drops) → (drops_code a == drops_code b) ≡ true → a ≡ b
-drops_is = same_by drops_code all_drops Never drops_back
+abbrev stories : Coding Story
+stories =
+    by_parts (λ x. (x.sent, (x.got, (x.done, x.drops)))) (λ p. record { sent = p.0; got = p.1.0; done = p.1.1.0; drops = p.1.1.1 }) (λ x. refl)
+    (pairs flags (pairs flags (pairs flags (listed 3 drops_code (Never ∷ By_receiver ∷ Wrongly ∷ []) Never drops_back))))
 
-abbrev story_code : Story → ℕ
-story_code story =
-    (drops_code story.drops * 4 + bool_code story.sent * 2 + bool_code story.got) * 2 + bool_code story.done
+abbrev nothing_told : Story
+nothing_told = record { sent = false; got = false; done = false; drops = Never }
 
-abbrev is_same_story : Story → Story → Bool
-is_same_story a b =
-    (bool_code a.sent == bool_code b.sent && bool_code a.got == bool_code b.got)
-    && (bool_code a.done == bool_code b.done && drops_code a.drops == drops_code b.drops)
-
-story_with : Bool → Bool → Bool → Drops → Story
-story_with sent got done drops = record { sent = sent; got = got; done = done; drops = drops }
-
-its_parts : (x : Story) → story_with x.sent x.got x.done x.drops ≡ x
-unfolding story_with
-its_parts x = refl
-
-story_is : (a b : Story) → is_same_story a b ≡ true → a ≡ b
-story_is a b h =
-    let h1 : (bool_code a.sent == bool_code b.sent && bool_code a.got == bool_code b.got) ≡ true = and_left _ _ h in
-    let h2 : (bool_code a.done == bool_code b.done && drops_code a.drops == drops_code b.drops) ≡ true = and_right (bool_code a.sent == bool_code b.sent && bool_code a.got == bool_code b.got) _ h in
-    let sent : a.sent ≡ b.sent = bool_is a.sent b.sent (and_left _ _ h1) in
-    let got : a.got ≡ b.got = bool_is a.got b.got (and_right (bool_code a.sent == bool_code b.sent) _ h1) in
-    let done : a.done ≡ b.done = bool_is a.done b.done (and_left _ _ h2) in
-    let drops : a.drops ≡ b.drops = drops_is a.drops b.drops (and_right (bool_code a.done == bool_code b.done) _ h2) in
-    cc (its_parts a, its_parts b)
+abbrev story_law : Law Story
+story_law =
+    record { coding = stories; passes = goes_well; sees = story_then; names = no_names; first = λ place. nothing_told }
 
 -- the drops of marks after these
 abbrev drops_of : Drops → List Mark → Drops
@@ -155,7 +126,7 @@ dropped_here : (here : Bool) (m : Mark) (drops : Drops) (later : List Mark) → 
 dropped_here true m drops later = refl
 dropped_here false m drops later = refl
 
-ends_well : (ms : List Mark) (story : Story) → is_well story ≡ true → Passes goes_well story_then story (map glance_of ms) → IsWell story ms
+ends_well : (ms : List Mark) (story : Story) → is_well story ≡ true → Passes story_law story (map glance_of ms) → IsWell story ms
 ends_well [] story well p = nothing_more story.sent story.got story.done _ well
 ends_well (m ∷ ms) story well p =
     subst (λ drops. only_if ((story.sent || list_any (answers is_send R.Sent) (m ∷ ms)) && not (story.got || list_any (answers is_receive R.Message) (m ∷ ms)) && (story.done || has_answered is_drop_of_receiver (m ∷ ms))) (is_by_receiver drops) ≡ true)
@@ -163,29 +134,22 @@ ends_well (m ∷ ms) story well p =
     (more_told story.sent _ (list_any (answers is_send R.Sent) ms) story.got _ (list_any (answers is_receive R.Message) ms) story.done _ (has_answered is_drop_of_receiver ms) _
     (ends_well ms (story_then story (glance_of m)) p.0 p.1))
 
-abbrev nothing_told : Story
-nothing_told = record { sent = false; got = false; done = false; drops = Never }
-
-nameless : Nameless goes_well story_then
+nameless : Nameless story_law
 nameless =
     record {
+      none = refl;
       passes_same = λ k n g. of_call k (λ call. goes_well n (record g { call = call })) (λ a b. refl) g.call;
       sees_same = λ k n g. of_call k (λ call. story_then n (record g { call = call })) (λ a b. refl) g.call;
     }
 
-found : Tree (Watched (Pair Story))
-found = glanced_from 24 story_code is_same_story goes_well story_then no_names (λ place. nothing_told)
-
-all_found : all_glanced 24 story_code is_same_story goes_well story_then no_names (λ place. nothing_told) found ≡ true
-unfolding found
-all_found = refl
+explored : LawExplored story_law
+explored = record { found = all_glanced story_law; all = refl }
 
 with_drops : (told : Bool) (ms : List Mark) → only_if told (is_by_receiver (drops_of Never ms)) ≡ true → only_if told (is_one_by_receiver ms) ≡ true
 with_drops true ms h = one_by_receiver ms h
 with_drops false ms h = refl
 
-pub dropped_once : {T : Type 0} (s : SenderScript T) (r : ReceiverScript) (worlds : List World) (moves : List Move) (entries : List Entry) → Tells (opening s r) worlds moves entries → is_dropped_once (marks (calls_of s r) entries) ≡ true
-dropped_once s r worlds moves entries tells =
-    with_drops _ (filter is_dropping (marks (calls_of s r) entries))
-    (ends_well (marks (calls_of s r) entries) nothing_told refl
-    (passes_run 24 story_code is_same_story goes_well story_then nameless story_is (λ place. nothing_told) found all_found s r worlds moves entries tells))
+pub dropped_once : {T : Type 0} → EachRun T is_dropped_once
+dropped_once =
+    holds_by story_law nameless explored is_dropped_once
+    (λ place ms p. with_drops _ (filter is_dropping ms) (ends_well ms nothing_told refl p))

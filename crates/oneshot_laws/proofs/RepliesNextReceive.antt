@@ -1,25 +1,16 @@
 -- After `has_message` was true the receiver's next receive that answers, gives the message.
 use Rattle.std.proofs.Common.{◌≡◌, Bool, true, false, ◌&&◌, ◌||◌, List, [], ◌∷◌, is_some, map, refl}
 use Rattle.oneshot_machine.specs.declared.machine.Reply.TheVariants as R
-use Rattle.oneshot_world.specs.Calls.{calls_of}
-use Rattle.oneshot_world.specs.Control.{bool_code}
-use Rattle.oneshot_world.specs.Explore.{Tree}
-use Rattle.oneshot_world.specs.World.{World, Tells, opening}
-use Rattle.oneshot_world.specs.declared.script.Move.{Move}
-use Rattle.oneshot_world.specs.declared.script.ReceiverScript.{ReceiverScript}
-use Rattle.oneshot_world.specs.declared.script.SenderScript.{SenderScript}
-use Rattle.oneshot_world.specs.declared.trace.Entry.{Entry}
 use Rattle.oneshot_world.proofs.Bools.{both}
 use Rattle.oneshot_laws.specs.Entries.{only_if, is_reply}
 use Rattle.oneshot_laws.specs.Actions.{is_receive, is_full_look}
-use Rattle.oneshot_laws.specs.Marks.{Mark, marks}
+use Rattle.oneshot_laws.specs.Marks.{Mark}
 use Rattle.oneshot_laws.specs.Replies.{next_receive_gets, is_got_after_full}
-use Rattle.oneshot_laws.specs.Object.{is_same_flag}
-use Rattle.oneshot_laws.proofs.Coding.{flag_is}
 use Rattle.oneshot_laws.proofs.RepliesAfterwards.{told}
-use Rattle.oneshot_laws.proofs.Glanced.{Pair, Passes, Nameless, of_call, glanced_from, all_glanced, passes_run}
+use Rattle.oneshot_laws.proofs.Coding.{flags}
+use Rattle.oneshot_laws.proofs.Glanced.{Law, Passes, Nameless, of_call, LawExplored, all_glanced, holds_by}
 use Rattle.oneshot_laws.proofs.HistoryAccepted.{Glance, glance_of}
-use Rattle.oneshot_laws.proofs.Watched.{Watched, no_names}
+use Rattle.oneshot_laws.proofs.Watched.{no_names, EachRun}
 
 abbrev full : Glance → Bool
 full = told is_full_look R.Yes
@@ -33,6 +24,9 @@ gets seen g = only_if (seen && answers_receive g) (is_reply R.Message g.entry.re
 
 abbrev seen_then : Bool → Glance → Bool
 seen_then seen g = elim (answers_receive g) [ true ↦ full g | false ↦ seen || full g ]
+
+abbrev next_law : Law Bool
+next_law = record { coding = flags; passes = gets; sees = seen_then; names = no_names; first = λ place. false }
 
 -- with the next receive here, or later
 next_at : (seen receives is_full gets later : Bool) → only_if (seen && receives) gets ≡ true → only_if (elim receives as (λ _. Bool) [ true ↦ is_full | false ↦ seen || is_full ]) later ≡ true → only_if seen (elim receives as (λ _. Bool) [ true ↦ gets | false ↦ later ]) ≡ true
@@ -50,31 +44,26 @@ never_asked : (seen : Bool) → only_if seen true ≡ true
 never_asked true = refl
 never_asked false = refl
 
-next_gets : (ms : List Mark) (seen : Bool) → Passes gets seen_then seen (map glance_of ms) → only_if seen (next_receive_gets ms) ≡ true
+next_gets : (ms : List Mark) (seen : Bool) → Passes next_law seen (map glance_of ms) → only_if seen (next_receive_gets ms) ≡ true
 next_gets [] seen p = never_asked seen
 next_gets (m ∷ ms) seen p =
     next_at seen (answers_receive (glance_of m)) (full (glance_of m)) _ _ p.0 (next_gets ms _ p.1)
 
-got : (ms : List Mark) (seen : Bool) → Passes gets seen_then seen (map glance_of ms) → is_got_after_full ms ≡ true
+got : (ms : List Mark) (seen : Bool) → Passes next_law seen (map glance_of ms) → is_got_after_full ms ≡ true
 got [] seen p = refl
 got (m ∷ ms) seen p =
     both _ _ (full_now seen (answers_receive (glance_of m)) (full (glance_of m)) _ (next_gets ms _ p.1)) (got ms _ p.1)
 
-nameless : Nameless gets seen_then
+nameless : Nameless next_law
 nameless =
     record {
+      none = refl;
       passes_same = λ k n g. of_call k (λ call. gets n (record g { call = call })) (λ a b. refl) g.call;
       sees_same = λ k n g. of_call k (λ call. seen_then n (record g { call = call })) (λ a b. refl) g.call;
     }
 
-found : Tree (Watched (Pair Bool))
-found = glanced_from 2 bool_code is_same_flag gets seen_then no_names (λ place. false)
+explored : LawExplored next_law
+explored = record { found = all_glanced next_law; all = refl }
 
-all_found : all_glanced 2 bool_code is_same_flag gets seen_then no_names (λ place. false) found ≡ true
-unfolding found
-all_found = refl
-
-pub got_after_full : {T : Type 0} (s : SenderScript T) (r : ReceiverScript) (worlds : List World) (moves : List Move) (entries : List Entry) → Tells (opening s r) worlds moves entries → is_got_after_full (marks (calls_of s r) entries) ≡ true
-got_after_full s r worlds moves entries tells =
-    got (marks (calls_of s r) entries) false
-    (passes_run 2 bool_code is_same_flag gets seen_then nameless flag_is (λ place. false) found all_found s r worlds moves entries tells)
+pub got_after_full : {T : Type 0} → EachRun T is_got_after_full
+got_after_full = holds_by next_law nameless explored is_got_after_full (λ place ms. got ms false)

@@ -1,26 +1,18 @@
 -- "Nothing yet" is answered only where the object was open at one of that call's entries.
-use Rattle.std.proofs.Common.{◌≡◌, ℕ, ◌+◌, ◌*◌, Bool, true, false, not, ◌&&◌, ◌||◌, ◌==◌, List, [], ◌∷◌, Some, None, map, refl}
+use Rattle.std.proofs.Common.{◌≡◌, Bool, true, false, not, ◌&&◌, ◌||◌, List, [], ◌∷◌, Some, None, map, refl}
 use Rattle.std.specs.List.{list_any}
 use Rattle.oneshot_machine.specs.declared.machine.End.{End}
 use Rattle.oneshot_machine.specs.declared.machine.End.TheVariants.{Sender, Receiver}
 use Rattle.oneshot_machine.specs.declared.machine.Reply.{Reply}
-use Rattle.oneshot_world.specs.Calls.{calls_of}
-use Rattle.oneshot_world.specs.Control.{bool_code}
-use Rattle.oneshot_world.specs.Explore.{Tree}
-use Rattle.oneshot_world.specs.World.{World, Tells, opening}
-use Rattle.oneshot_world.specs.declared.script.Move.{Move}
-use Rattle.oneshot_world.specs.declared.script.ReceiverScript.{ReceiverScript}
-use Rattle.oneshot_world.specs.declared.script.SenderScript.{SenderScript}
-use Rattle.oneshot_world.specs.declared.trace.Entry.{Entry}
-use Rattle.oneshot_world.proofs.Bools.{and_left, and_right, both}
-use Rattle.oneshot_world.proofs.Coded.{bool_is}
+use Rattle.oneshot_world.proofs.Bools.{both}
 use Rattle.oneshot_laws.specs.Entries.{only_if, is_nothing_yet, is_same_end}
 use Rattle.oneshot_laws.specs.Object.{is_open}
-use Rattle.oneshot_laws.specs.Marks.{Mark, marks, side, call_marks, until_reply}
+use Rattle.oneshot_laws.specs.Marks.{Mark, side, call_marks, until_reply}
 use Rattle.oneshot_laws.specs.Replies.{is_nothing_only_if_open}
-use Rattle.oneshot_laws.proofs.Glanced.{Pair, Passes, Nameless, of_call, glanced_from, all_glanced, passes_run}
+use Rattle.oneshot_laws.proofs.Coding.{Coding, pairs, by_parts, flags}
+use Rattle.oneshot_laws.proofs.Glanced.{Law, Passes, Nameless, of_call, LawExplored, all_glanced, holds_by}
 use Rattle.oneshot_laws.proofs.HistoryAccepted.{Glance, glance_of}
-use Rattle.oneshot_laws.proofs.Watched.{Watched, no_names}
+use Rattle.oneshot_laws.proofs.Watched.{no_names, EachRun}
 
 -- whether each end's call under way has met an open object
 pub record Met : Type 0 where
@@ -48,24 +40,16 @@ met_at Receiver here met = record { sender = met.sender; receiver = here }
 abbrev met_then : Met → Glance → Met
 met_then met g = met_at g.entry.side (met_here met g) met
 
-abbrev met_code : Met → ℕ
-met_code met = bool_code met.sender * 2 + bool_code met.receiver
+abbrev mets : Coding Met
+mets =
+    by_parts (λ met. (met.sender, met.receiver)) (λ p. record { sender = p.0; receiver = p.1 }) (λ met. refl) (pairs flags flags)
 
-abbrev is_same_met : Met → Met → Bool
-is_same_met a b = bool_code a.sender == bool_code b.sender && bool_code a.receiver == bool_code b.receiver
+abbrev nothing_met : Met
+nothing_met = record { sender = false; receiver = false }
 
-met_with : Bool → Bool → Met
-met_with s r = record { sender = s; receiver = r }
-
-its_parts : (met : Met) → met_with met.sender met.receiver ≡ met
-unfolding met_with
-its_parts met = refl
-
-met_is : (a b : Met) → is_same_met a b ≡ true → a ≡ b
-met_is a b h =
-    let s : a.sender ≡ b.sender = bool_is a.sender b.sender (and_left _ _ h) in
-    let r : a.receiver ≡ b.receiver = bool_is a.receiver b.receiver (and_right (bool_code a.sender == bool_code b.sender) _ h) in
-    cc (its_parts a, its_parts b)
+abbrev met_law : Law Met
+met_law =
+    record { coding = mets; passes = says_nothing_rightly; sees = met_then; names = no_names; first = λ place. nothing_met }
 
 -- a call's marks from here on, where it has met so much
 abbrev Claim : Bool → List Mark → Type 0
@@ -107,7 +91,7 @@ either Sender Receiver m ms met h k = k
 either Receiver Sender m ms met h k = k
 either Receiver Receiver m ms met h k = met_more m.begins met.receiver (m ∷ until_reply m.entry.reply (call_marks Receiver ms) []) (here Receiver m ms met h k)
 
-claims : (ms : List Mark) (met : Met) (end : End) → Passes says_nothing_rightly met_then met (map glance_of ms) → Claim (met_by end met) (call_marks end ms)
+claims : (ms : List Mark) (met : Met) (end : End) → Passes met_law met (map glance_of ms) → Claim (met_by end met) (call_marks end ms)
 claims [] met end p = refl
 claims (m ∷ ms) met end p = either m.entry.side end m ms met p.0 (claims ms (met_then met (glance_of m)) end p.1)
 
@@ -116,31 +100,23 @@ begins_with : (begins met : Bool) (own : List Mark) → Claim (before begins met
 begins_with true met own h = h
 begins_with false met own h = refl
 
-each : (ms : List Mark) (met : Met) → Passes says_nothing_rightly met_then met (map glance_of ms) → is_nothing_only_if_open ms ≡ true
+each : (ms : List Mark) (met : Met) → Passes met_law met (map glance_of ms) → is_nothing_only_if_open ms ≡ true
 each [] met p = refl
 each (m ∷ ms) met p =
     both _ _
     (begins_with m.begins (met_by (side m) met) (call_marks (side m) (m ∷ ms)) (here (side m) m ms met p.0 (claims ms (met_then met (glance_of m)) (side m) p.1)))
     (each ms _ p.1)
 
-abbrev nothing_met : Met
-nothing_met = record { sender = false; receiver = false }
-
-nameless : Nameless says_nothing_rightly met_then
+nameless : Nameless met_law
 nameless =
     record {
+      none = refl;
       passes_same = λ k n g. of_call k (λ call. says_nothing_rightly n (record g { call = call })) (λ a b. refl) g.call;
       sees_same = λ k n g. of_call k (λ call. met_then n (record g { call = call })) (λ a b. refl) g.call;
     }
 
-found : Tree (Watched (Pair Met))
-found = glanced_from 4 met_code is_same_met says_nothing_rightly met_then no_names (λ place. nothing_met)
+explored : LawExplored met_law
+explored = record { found = all_glanced met_law; all = refl }
 
-all_found : all_glanced 4 met_code is_same_met says_nothing_rightly met_then no_names (λ place. nothing_met) found ≡ true
-unfolding found
-all_found = refl
-
-pub nothing_only_if_open : {T : Type 0} (s : SenderScript T) (r : ReceiverScript) (worlds : List World) (moves : List Move) (entries : List Entry) → Tells (opening s r) worlds moves entries → is_nothing_only_if_open (marks (calls_of s r) entries) ≡ true
-nothing_only_if_open s r worlds moves entries tells =
-    each (marks (calls_of s r) entries) nothing_met
-    (passes_run 4 met_code is_same_met says_nothing_rightly met_then nameless met_is (λ place. nothing_met) found all_found s r worlds moves entries tells)
+pub nothing_only_if_open : {T : Type 0} → EachRun T is_nothing_only_if_open
+nothing_only_if_open = holds_by met_law nameless explored is_nothing_only_if_open (λ place ms. each ms nothing_met)

@@ -6,12 +6,15 @@ use Rattle.oneshot_machine.specs.declared.machine.End.{End}
 use Rattle.oneshot_machine.specs.declared.machine.End.TheVariants.{Sender, Receiver}
 use Rattle.oneshot_machine.specs.declared.machine.receiver.ReceiverStart.{ReceiverStart}
 use Rattle.oneshot_machine.specs.declared.machine.receiver.ReceiverStart.TheVariants as RC
-use Rattle.oneshot_world.specs.Calls.{Call, Unanswered, calls_of, first, as_receiver_call, left_by}
+use Rattle.oneshot_world.specs.Calls.{Call, Unanswered, first, as_receiver_call, left_by}
+use Rattle.oneshot_world.specs.Scripts.{calls_of}
 use Rattle.oneshot_world.specs.Classes.{all_alike, as_made, as_entry}
-use Rattle.oneshot_world.specs.Control.{Control, control_of, as_control, bool_code, IsReached}
-use Rattle.oneshot_world.specs.Explore.{Tree, all_in}
+use Rattle.oneshot_world.specs.Control.{Control, control_of, as_control}
+use Rattle.oneshot_world.specs.Reached.{IsReached}
+use Rattle.oneshot_world.specs.Explore.{all_in}
 use Rattle.oneshot_machine.specs.Sender.{sender_step}
-use Rattle.oneshot_world.specs.State.{receiver_position, reply_of, sender_stepped, receiver_stepped}
+use Rattle.oneshot_world.specs.State.{receiver_position, sender_stepped, receiver_stepped}
+use Rattle.oneshot_world.specs.Effects.{reply_of}
 use Rattle.oneshot_world.specs.World.{World, Tells_from, Tells, opening, side_of, by_end, nothing_told, receiver_told}
 use Rattle.oneshot_world.specs.declared.script.Move.{Move}
 use Rattle.oneshot_world.specs.declared.script.ReceiverScript.{ReceiverScript}
@@ -21,19 +24,20 @@ use Rattle.oneshot_world.specs.declared.state.ReceiverState.TheVariants as RS
 use Rattle.oneshot_world.specs.declared.trace.Entry.{Entry}
 use Rattle.oneshot_world.specs.declared.trace.Entry.TheVariants.{Idle, Made as Made_entry}
 use Rattle.oneshot_world.specs.declared.trace.Made.{Made}
-use Rattle.oneshot_world.proofs.Bools.{and_right, both}
-use Rattle.oneshot_world.proofs.Explored.{passes_where_found}
-use Rattle.oneshot_world.proofs.Reached.{sender_world, receiver_world, opening_reached}
-use Rattle.oneshot_world.proofs.Turned.{Turned, sender_idle, sender_made, receiver_idle, receiver_made, turned, turned_reaches}
-use Rattle.oneshot_laws.specs.Object.{Object, is_same_flag}
+use Rattle.oneshot_world.proofs.Bools.{both}
+use Rattle.oneshot_world.proofs.ExploreFound.{passes_where_found}
+use Rattle.oneshot_world.proofs.ReachedMoves.{sender_world, receiver_world}
+use Rattle.oneshot_world.proofs.ReachedOpening.{opening_reached}
+use Rattle.oneshot_world.proofs.WorldTurns.{Turned, sender_idle, sender_made, receiver_idle, receiver_made, turned, turned_reaches}
+use Rattle.oneshot_laws.specs.Object.{Object}
 use Rattle.oneshot_laws.specs.Actions.{is_end_of_sender}
 use Rattle.oneshot_laws.specs.Marks.{Reading, read, Mark, marks, marks_from, sender_reading, receiver_reading, call_under_way}
 use Rattle.oneshot_laws.specs.Ended.{has_answered}
 use Rattle.oneshot_world.specs.Ahead.{Ahead, is_some_park, ahead_of}
 use Rattle.oneshot_laws.specs.Unwoken.{waits_in_park, waits_in_task, is_unwoken, is_never_unwoken, NeverUnwoken}
-use Rattle.oneshot_laws.proofs.Coding.{flag_is}
+use Rattle.oneshot_laws.proofs.Coding.{flags}
 use Rattle.oneshot_laws.proofs.EndedRuns.{or_more, or_false}
-use Rattle.oneshot_laws.proofs.Watched.{Watched, no_names, watched_from, watched_code, is_same_watched, all_pass, class_under_way, class_is, reads_entry, all_classed, IsFound, watched_is, found_next, opening_found}
+use Rattle.oneshot_laws.proofs.Watched.{Watched, Automaton, Explored, Classed, no_names, all_watched, watched_coding, class_under_way, class_is, reads_entry, all_classed, IsFound, found_next, opening_found}
 use Rattle.oneshot_laws.proofs.Glanced.{of_call}
 use Rattle.oneshot_laws.proofs.UnwokenTasks.{no_task_waits}
 
@@ -46,6 +50,10 @@ ends_sender_at call e = is_some e.reply && is_end_of_sender call
 
 abbrev ended_then : End → Call → Made → Bool → Bool
 ended_then side call e ended = ended || ends_sender_at call e
+
+abbrev ended_reader : Automaton Bool
+ended_reader =
+    record { coding = flags; accepts = all_are_fine; reads = ended_then; names = no_names; first = λ place. false }
 
 -- what lies ahead of a world, as its finite part shows it
 abbrev parks_at : ReceiverState → Bool
@@ -80,30 +88,28 @@ waits_as w = ap (λ parks. parks && not w.state.wakers.token) (parks_as w.state.
 abbrev is_awake : Watched Bool → Bool
 is_awake x = not (x.reader && waits_in_park (ahead_at x.control))
 
-found : Tree (Watched Bool)
-found = watched_from 2 bool_code is_same_flag all_are_fine ended_then no_names (λ place. false)
+-- all that a run can reach, and nobody in it waits in a park
+explored : Explored ended_reader
+explored = record { found = all_watched ended_reader; all = refl }
 
-all_found : all_pass 2 bool_code is_same_flag all_are_fine ended_then no_names (λ place. false) found ≡ true
-unfolding found
-all_found = refl
-
-all_awake : all_in is_awake found ≡ true
-unfolding found
+all_awake : all_in is_awake explored.found ≡ true
+unfolding explored
 all_awake = refl
 
+abbrev ended_classed : Classed ended_reader all_alike
+ended_classed = all_classed ended_reader refl
+
 abbrev Found : World → Bool → Type 0
-Found w ended = IsFound 2 bool_code is_same_flag all_are_fine ended_then no_names all_alike (all_classed all_are_fine ended_then) flag_is found (and_right _ _ (and_right _ _ all_found)) w ended
+Found w ended = IsFound ended_reader all_alike ended_classed explored w ended
 
 awake : (w : World) (ended : Bool) → Found w ended → not (ended && waits_in_park (ahead_of w)) ≡ true
 awake w ended f =
     rw (waits_as w)
-    (passes_where_found (watched_code 2 bool_code is_same_flag all_are_fine ended_then no_names) (is_same_watched 2 bool_code is_same_flag all_are_fine ended_then no_names)
-    (watched_is 2 bool_code is_same_flag all_are_fine ended_then no_names all_alike (all_classed all_are_fine ended_then) flag_is found (and_right _ _ (and_right _ _ all_found)))
-    is_awake found (record { control = as_control all_alike (control_of w); reader = ended }) all_awake f)
+    (passes_where_found (watched_coding ended_reader).code (watched_coding ended_reader).is_same (watched_coding ended_reader).sound is_awake explored.found (record { control = as_control all_alike (control_of w); reader = ended }) all_awake f)
 
 -- a turn leads on to what was found; the reader looks at no number
-next_found : (n : ℕ) (side : End) (w : World) (entry : Entry) (next : World) (ended : Bool) → Turned n w side entry next → IsReached w → Found w ended → true ≡ true → Found next (reads_entry 2 bool_code is_same_flag all_are_fine ended_then no_names (class_under_way all_alike (by_end side w.sender w.receiver)) (as_entry all_alike entry) ended)
-next_found = found_next 2 bool_code is_same_flag all_are_fine ended_then no_names all_alike (all_classed all_are_fine ended_then) flag_is found (and_right _ _ (and_right _ _ all_found))
+next_found : (n : ℕ) (side : End) (w : World) (entry : Entry) (next : World) (ended : Bool) → Turned n w side entry next → IsReached w → Found w ended → true ≡ true → Found next (reads_entry ended_reader (class_under_way all_alike (by_end side w.sender w.receiver)) (as_entry all_alike entry) ended)
+next_found = found_next ended_reader all_alike ended_classed explored
 
 same_answered : (left : Unanswered) (e : Made) → ends_sender_at (class_under_way all_alike left) (as_made all_alike e) ≡ ends_sender_at (call_under_way left) e
 same_answered left e =
@@ -188,6 +194,6 @@ never_unwoken s r worlds moves entries tells =
       tells = tells;
       woken =
           woken entries (marks (calls_of s r)) 1 (opening s r) (sender_reading (calls_of s r)) (receiver_reading (calls_of s r)) false worlds moves refl refl (opening_reached s r)
-          (opening_found 2 bool_code is_same_flag all_are_fine ended_then no_names all_alike (all_classed all_are_fine ended_then) flag_is (λ place. false) found all_found s.last)
+          (opening_found ended_reader all_alike ended_classed explored s.last)
           (λ front. answered_in front _ _ 1 _) (λ worlds moves front told. no_task_waits s r worlds moves front told) tells;
     }

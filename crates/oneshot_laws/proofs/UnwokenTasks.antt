@@ -1,23 +1,21 @@
 -- No task waits unwoken: in each run, once the sender's send or drop has answered, the last poll that left its task was woken.
-use Rattle.std.proofs.Common.{◌≡◌, ℕ, ◌+◌, ◌*◌, ◌==◌, Bool, true, false, not, ◌&&◌, ◌||◌, List, [], ◌∷◌, map, Option, Some, None, is_some, get_or, refl, sym, ◌∙◌, ap, if◌then◌else◌}
+use Rattle.std.proofs.Common.{◌≡◌, ℕ, ◌==◌, Bool, true, false, not, ◌&&◌, ◌||◌, List, [], ◌∷◌, map, Option, Some, None, is_some, get_or, refl, sym, ◌∙◌, ap, if◌then◌else◌}
 use Rattle.std.proofs.lemmas.Bool.{eq-eqb}
 use Rattle.std.specs.List.{list_any}
 use Rattle.std.specs.Option.{option_map}
-use Rattle.oneshot_world.specs.Calls.{Call, Poll, calls_of, number_of}
+use Rattle.oneshot_world.specs.Calls.{Call, Poll, number_of}
+use Rattle.oneshot_world.specs.Scripts.{calls_of}
 use Rattle.oneshot_world.specs.Classes.{Classes, as_call, as_move}
-use Rattle.oneshot_world.specs.Control.{bool_code}
-use Rattle.oneshot_world.specs.Explore.{Tree}
+use Rattle.oneshot_world.specs.ControlCodes.{bool_code}
 use Rattle.oneshot_world.specs.Wakers.{WakerMove}
 use Rattle.oneshot_world.specs.World.{World, Tells, opening}
 use Rattle.oneshot_world.specs.declared.script.Move.{Move}
 use Rattle.oneshot_world.specs.declared.script.ReceiverScript.{ReceiverScript}
 use Rattle.oneshot_world.specs.declared.script.SenderScript.{SenderScript}
 use Rattle.oneshot_world.specs.declared.trace.Entry.{Entry}
-use Rattle.oneshot_world.specs.declared.trace.Place.{Place}
 use Rattle.oneshot_world.specs.declared.trace.WakerName.TheVariants.{Parker, Copy}
 use Rattle.oneshot_world.specs.declared.trace.WakerPlace.TheVariants as W
 use Rattle.oneshot_world.proofs.Bools.{and_left, and_right, both}
-use Rattle.oneshot_world.proofs.Coded.{bool_is, same_by}
 use Rattle.oneshot_world.proofs.Listed.{is_listed}
 use Rattle.oneshot_laws.specs.Entries.{is_reply}
 use Rattle.oneshot_laws.specs.Actions.{is_end_of_sender, is_drop_of_receiver}
@@ -25,10 +23,11 @@ use Rattle.oneshot_laws.specs.Marks.{Mark, marks}
 use Rattle.oneshot_laws.specs.Ended.{has_answered}
 use Rattle.oneshot_laws.specs.Unwoken.{uses_copy_of, is_own, wakes, is_poll, begins_poll_or_drop, answers_pending, is_left_by, waits_in_task}
 use Rattle.oneshot_machine.specs.declared.machine.Reply.TheVariants as R
+use Rattle.oneshot_laws.proofs.Coding.{listed, pairs, by_parts, flags}
 use Rattle.oneshot_laws.proofs.EndedRuns.{own_after, or_more, or_false}
-use Rattle.oneshot_laws.proofs.Glanced.{Pair, Passes, as_glance, of_call, pair_accepts, pair_reads, pair_names, glanced_from, all_glanced, passes_by}
+use Rattle.oneshot_laws.proofs.Glanced.{Law, Passes, as_glance, of_call, with_history, LawExplored, all_glanced, passes_by}
 use Rattle.oneshot_laws.proofs.HistoryAccepted.{Glance, glance_of}
-use Rattle.oneshot_laws.proofs.Watched.{Watched, Names, Classed}
+use Rattle.oneshot_laws.proofs.Watched.{Names, Classed}
 
 -- of the last poll: none of the number that waits, one under way, or one that left its task; nothing woke it since it began
 pub data Nap : Type 0 where
@@ -239,38 +238,27 @@ nap_back Calm = refl
 nap_back Polling = refl
 nap_back Left = refl
 
-abbrev story_code : Story → ℕ
-story_code x = nap_code x.nap * 2 + bool_code x.ended
-
-abbrev is_same_story : Story → Story → Bool
-is_same_story a b = nap_code a.nap == nap_code b.nap && bool_code a.ended == bool_code b.ended
-
-story_with : Nap → Bool → Story
-story_with nap ended = record { nap = nap; ended = ended }
-
-its_parts : (x : Story) → story_with x.nap x.ended ≡ x
-unfolding story_with
-its_parts x = refl
-
-story_is : (a b : Story) → is_same_story a b ≡ true → a ≡ b
-story_is a b h =
-    let nap : a.nap ≡ b.nap = same_by nap_code (Calm ∷ Polling ∷ Left ∷ []) Calm nap_back a.nap b.nap (and_left _ _ h) in
-    let ended : a.ended ≡ b.ended = bool_is a.ended b.ended (and_right (nap_code a.nap == nap_code b.nap) _ h) in
-    cc (its_parts a, its_parts b)
-
 -- a copy has the class of the poll that makes it
 abbrev two_polls : Names Story
 two_polls = record { polls = 0 ∷ 1 ∷ []; copies = λ x number. number ∷ [] }
 
-abbrev at_first : Option Place → Story
-at_first place = record { nap = Calm; ended = false }
+abbrev at_first : Story
+at_first = record { nap = Calm; ended = false }
 
-tasks_found : Tree (Watched (Pair Story))
-tasks_found = glanced_from 6 story_code is_same_story goes_well story_then two_polls at_first
+abbrev task_law : Law Story
+task_law =
+    record {
+      coding =
+          by_parts (λ x. (x.nap, x.ended)) (λ p. record { nap = p.0; ended = p.1 }) (λ x. refl)
+          (pairs (listed 3 nap_code (Calm ∷ Polling ∷ Left ∷ []) Calm nap_back) flags);
+      passes = goes_well;
+      sees = story_then;
+      names = two_polls;
+      first = λ place. at_first;
+    }
 
-all_tasks : all_glanced 6 story_code is_same_story goes_well story_then two_polls at_first tasks_found ≡ true
-unfolding tasks_found
-all_tasks = refl
+task_explored : LawExplored task_law
+task_explored = record { found = all_glanced task_law; all = refl }
 
 either : (b : Bool) → is_listed (bool_code b) (0 ∷ 1 ∷ []) ≡ true
 either true = refl
@@ -280,7 +268,7 @@ itself : (b : Bool) → is_listed (bool_code b) (bool_code b ∷ []) ≡ true
 itself true = refl
 itself false = refl
 
-abbrev classed : (number : ℕ) → Classed (pair_accepts 6 story_code is_same_story goes_well story_then two_polls) (pair_reads 6 story_code is_same_story goes_well story_then two_polls) (pair_names 6 story_code is_same_story goes_well story_then two_polls) (of_number number)
+abbrev classed : (number : ℕ) → Classed (with_history task_law) (of_number number)
 classed number =
     record {
       apt = λ n x. true;
@@ -291,7 +279,7 @@ classed number =
     }
 
 -- what the reader accepts ends well
-well_after : (gs : List Glance) (x : Story) → is_well x ≡ true → Passes goes_well story_then x gs → is_well (own_after story_then x gs) ≡ true
+well_after : (gs : List Glance) (x : Story) → is_well x ≡ true → Passes task_law x gs → is_well (own_after story_then x gs) ≡ true
 well_after [] x well p = well
 well_after (g ∷ gs) x well p = well_after gs (story_then x g) p.0 p.1
 
@@ -321,9 +309,9 @@ no_task_waits s r worlds moves entries tells =
     let ms : List Mark = marks (calls_of s r) entries in
     not_both _ _ (λ ended waits.
     let it = left_by_number ms waits in
-    let x : Story = own_after story_then (at_first None) (map (as_glance (of_number it.0)) (map glance_of ms)) in
-    let well : is_well x ≡ true = well_after _ (at_first None) refl
-    (passes_by 6 story_code is_same_story goes_well story_then two_polls (of_number it.0) (classed it.0) story_is at_first tasks_found all_tasks s r worlds moves entries refl tells) in
-    let nap : x.nap ≡ Left = nap_of it.0 ms (at_first None) ∙ left_after it.0 ms Calm it.1 in
-    let over : x.ended ≡ true = ended_of it.0 ms (at_first None) ∙ ended in
+    let x : Story = own_after story_then at_first (map (as_glance (of_number it.0)) (map glance_of ms)) in
+    let well : is_well x ≡ true = well_after _ at_first refl
+    (passes_by task_law (of_number it.0) (classed it.0) task_explored s r worlds moves entries refl tells) in
+    let nap : x.nap ≡ Left = nap_of it.0 ms at_first ∙ left_after it.0 ms Calm it.1 in
+    let over : x.ended ≡ true = ended_of it.0 ms at_first ∙ ended in
     sym (ap (λ nap. not (x.ended && is_left nap)) nap ∙ ap (λ b. not (b && true)) over) ∙ well)

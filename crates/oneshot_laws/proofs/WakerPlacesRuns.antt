@@ -3,10 +3,10 @@ use Rattle.std.proofs.Common.{arith, ◌≡◌, ℕ, ◌+◌, ◌==◌, Bool, tr
 use Rattle.std.proofs.lemmas.Bool.{eqb-true, ne_eqb, ltb-true, lt-ltb}
 use Rattle.std.specs.List.{filter_map, cons_option}
 use Rattle.std.specs.Option.{option_map}
-use Rattle.oneshot_world.specs.Calls.{calls_of}
+use Rattle.oneshot_world.specs.Scripts.{calls_of}
 use Rattle.oneshot_world.specs.Classes.{Classes, all_alike, as_name, as_move}
-use Rattle.oneshot_world.specs.Control.{bool_code, one_poll}
-use Rattle.oneshot_world.specs.Explore.{Tree}
+use Rattle.oneshot_world.specs.ControlCodes.{bool_code}
+use Rattle.oneshot_world.specs.Reached.{one_poll}
 use Rattle.oneshot_world.specs.Wakers.{WakerMove, is_same_waker}
 use Rattle.oneshot_world.specs.World.{World, Tells, opening}
 use Rattle.oneshot_world.specs.declared.script.Move.{Move}
@@ -19,20 +19,19 @@ use Rattle.oneshot_world.specs.declared.trace.WakerName.TheVariants.{Parker, Cop
 use Rattle.oneshot_world.specs.declared.trace.WakerPlace.{WakerPlace}
 use Rattle.oneshot_world.specs.declared.trace.WakerPlace.TheVariants.{New, Hand, Cell, SenderHand, Used, Dropped}
 use Rattle.oneshot_world.proofs.Bools.{and_left, and_right, both}
-use Rattle.oneshot_world.proofs.Coded.{same_by}
-use Rattle.oneshot_world.proofs.Left.{or_right}
+use Rattle.oneshot_world.proofs.ScriptsLeft.{or_right}
 use Rattle.oneshot_world.proofs.Listed.{is_listed}
 use Rattle.oneshot_laws.specs.Entries.{only_if}
-use Rattle.oneshot_laws.specs.Object.{Object, is_same_flag}
+use Rattle.oneshot_laws.specs.Object.{Object}
 use Rattle.oneshot_laws.specs.Marks.{Reading, Mark, marks, marks_from}
 use Rattle.oneshot_laws.specs.Ended.{all_ended}
 use Rattle.oneshot_laws.specs.MessagePlaces.{is_path, last_place}
 use Rattle.oneshot_laws.specs.WakerPlaces.{waker_place_code, is_same_waker_place, is_waker_move, first_waker_place, waker_moves, moves_of, is_waker_followed, is_waker_end, is_waker_ended, AreWakersRight, is_cell, cell_then, is_cell_right, is_cell_kept}
-use Rattle.oneshot_laws.proofs.Coding.{flag_is}
-use Rattle.oneshot_laws.proofs.EndedRuns.{Kept, own_after, kept_from, all_kept, KeptClassed, asked_run, ended_run}
-use Rattle.oneshot_laws.proofs.Glanced.{Pair, Passes, Nameless, as_glance, glanced_from, all_glanced, passes_run}
+use Rattle.oneshot_laws.proofs.Coding.{listed, flags}
+use Rattle.oneshot_laws.proofs.EndedRuns.{Ending, EndingExplored, EndingClassed, Asked, kept, own_after, asked_run, ended_run}
+use Rattle.oneshot_laws.proofs.Glanced.{Law, Passes, Nameless, as_glance, LawExplored, all_glanced, nameless_classed, passes_run}
 use Rattle.oneshot_laws.proofs.HistoryAccepted.{Glance, glance_of}
-use Rattle.oneshot_laws.proofs.Watched.{Watched, Names, no_names, is_fresh, all_classed}
+use Rattle.oneshot_laws.proofs.Watched.{Names, no_names, is_fresh}
 
 -- the moves that marks show
 abbrev shown_by : List Mark → List WakerMove
@@ -53,9 +52,6 @@ abbrev goes_to : WakerName → WakerPlace → Option WakerMove → WakerPlace
 goes_to this place None = place
 goes_to this place (Some move) = if is_same_waker move.0 this then move.2 else place
 
-abbrev moves_rightly : WakerName → WakerPlace → Glance → Bool
-moves_rightly this place g = may_move this place g.entry.waker
-
 abbrev place_then : WakerName → WakerPlace → Glance → WakerPlace
 place_then this place g = goes_to this place g.entry.waker
 
@@ -70,8 +66,17 @@ place_back SenderHand = refl
 place_back Used = refl
 place_back Dropped = refl
 
-waker_place_is : (a b : WakerPlace) → is_same_waker_place a b ≡ true → a ≡ b
-waker_place_is = same_by waker_place_code waker_places New place_back
+-- a waker that begins there moves as it may, and is at an end once all have ended
+abbrev moves_of_one : WakerName → Names WakerPlace → Ending WakerPlace
+moves_of_one this names =
+    record {
+      coding = listed 6 waker_place_code waker_places New place_back;
+      own_then = place_then this;
+      asks = λ place g. may_move this place g.entry.waker;
+      good = is_waker_end this;
+      names = names;
+      first = λ place. first_waker_place this;
+    }
 
 abbrev IsPath : WakerName → WakerPlace → List WakerMove → Type 0
 IsPath name place moves = is_path is_same_waker_place (is_waker_move name) place (moves_of name moves) ≡ true
@@ -83,7 +88,7 @@ pub record IsFollowed (k : Classes) (name this : WakerName) : Type 0 where
   pub same_end : (place : WakerPlace) → is_waker_end this place ≡ is_waker_end name place
 
 -- what is seen of it by its class, holds of it by its name
-module _ (k : Classes) (name this : WakerName) (followed : IsFollowed k name this) where
+module _ (k : Classes) (name this : WakerName) (names : Names WakerPlace) (followed : IsFollowed k name this) where
   if_this : (same : Bool) (from to place : WakerPlace) (later : List WakerMove) → (if same then is_same_waker_place from place && is_waker_move this from to else true) ≡ true → IsPath name (if same then to else place) later → is_path is_same_waker_place (is_waker_move name) place (cons_option (if same then Some (from, to) else None) (moves_of name later)) ≡ true
   if_this true from to place later h p = both (is_same_waker_place from place && is_waker_move name from to) _ (rw (followed.same_move from to) at h) p
   if_this false from to place later h p = p
@@ -95,7 +100,7 @@ module _ (k : Classes) (name this : WakerName) (followed : IsFollowed k name thi
       (subst (λ same. (if same then is_same_waker_place from place && is_waker_move this from to else true) ≡ true) (followed.same_name other) h)
       (subst (λ same. IsPath name (if same then to else place) later) (followed.same_name other) p)
 
-  path : (ms : List Mark) (place : WakerPlace) → Passes (moves_rightly this) (place_then this) place (map (as_glance k) (map glance_of ms)) → IsPath name place (shown_by ms)
+  path : (ms : List Mark) (place : WakerPlace) → Asked (moves_of_one this names) place (map (as_glance k) (map glance_of ms)) → IsPath name place (shown_by ms)
   path [] place p = refl
   path (m ∷ ms) place p =
       one_move m.entry.waker place (shown_by ms) p.0 (path ms (place_then this place (as_glance k (glance_of m))) p.1)
@@ -124,34 +129,27 @@ module _ {T : Type 0} (s : SenderScript T) (r : ReceiverScript) (entries : List 
   same_moves : waker_moves entries ≡ shown_by MarksOfRun
   same_moves = shown entries _ _ 1 _
 
-  module _ (k : Classes) (name this : WakerName) (followed : IsFollowed k name this) where
-    name_followed : Passes (moves_rightly this) (place_then this) (first_waker_place name) (map (as_glance k) (map glance_of MarksOfRun)) → is_waker_followed entries name ≡ true
+  module _ (k : Classes) (name this : WakerName) (names : Names WakerPlace) (followed : IsFollowed k name this) where
+    name_followed : Asked (moves_of_one this names) (first_waker_place name) (map (as_glance k) (map glance_of MarksOfRun)) → is_waker_followed entries name ≡ true
     name_followed p =
-        subst (λ ms. IsPath name (first_waker_place name) ms) (sym same_moves) (path k name this followed MarksOfRun (first_waker_place name) p)
+        subst (λ ms. IsPath name (first_waker_place name) ms) (sym same_moves) (path k name this names followed MarksOfRun (first_waker_place name) p)
 
     name_ended : only_if (all_ended MarksOfRun) (is_waker_end this (own_after (place_then this) (first_waker_place name) (map (as_glance k) (map glance_of MarksOfRun)))) ≡ true → is_waker_ended entries MarksOfRun name ≡ true
     name_ended h =
         subst (λ good. only_if (all_ended MarksOfRun) good ≡ true)
         (followed.same_end _
-        ∙ ap (is_waker_end name) (place_after k name this followed MarksOfRun (first_waker_place name) ∙ ap (λ ms. last_place (first_waker_place name) (moves_of name ms)) (sym same_moves)))
+        ∙ ap (is_waker_end name) (place_after k name this names followed MarksOfRun (first_waker_place name) ∙ ap (λ ms. last_place (first_waker_place name) (moves_of name ms)) (sym same_moves)))
         h
 
 -- THE PARKER'S HALF, which is in the hand at first
-abbrev follows_parker : WakerPlace → Glance → WakerPlace
-follows_parker = place_then Parker
+abbrev parker_moves : Ending WakerPlace
+parker_moves = moves_of_one Parker no_names
 
-abbrev parker_moves : WakerPlace → Glance → Bool
-parker_moves = moves_rightly Parker
+parker_explored : EndingExplored parker_moves
+parker_explored = record { found = all_glanced (kept parker_moves); all = refl }
 
-abbrev parker_end : WakerPlace → Bool
-parker_end = is_waker_end Parker
-
-parker_found : Tree (Watched (Pair (Kept WakerPlace)))
-parker_found = kept_from 8 waker_place_code is_same_waker_place follows_parker parker_moves parker_end no_names (λ place. Hand)
-
-all_parker : all_kept 8 waker_place_code is_same_waker_place follows_parker parker_moves parker_end no_names (λ place. Hand) parker_found ≡ true
-unfolding parker_found
-all_parker = refl
+abbrev parker_classed : EndingClassed parker_moves all_alike
+parker_classed = nameless_classed (kept parker_moves) refl
 
 same_as_parker : (x : WakerName) → is_same_waker (as_name all_alike x) Parker ≡ is_same_waker x Parker
 same_as_parker Parker = refl
@@ -164,15 +162,6 @@ parker_is_followed = record { same_name = same_as_parker; same_move = λ from to
 abbrev this_copy : WakerName
 this_copy = Copy 1 0
 
-abbrev follows_copy : WakerPlace → Glance → WakerPlace
-follows_copy = place_then this_copy
-
-abbrev copy_moves : WakerPlace → Glance → Bool
-copy_moves = moves_rightly this_copy
-
-abbrev copy_end : WakerPlace → Bool
-copy_end = is_waker_end this_copy
-
 -- it may be made while it is new, and no copy has its name afterwards
 abbrev copies_at : WakerPlace → List ℕ
 copies_at New = 0 ∷ 1 ∷ []
@@ -181,12 +170,11 @@ copies_at _ = 0 ∷ []
 abbrev of_one_copy : Names WakerPlace
 of_one_copy = record { polls = one_poll; copies = λ place number. copies_at place }
 
-copy_found : Tree (Watched (Pair (Kept WakerPlace)))
-copy_found = kept_from 8 waker_place_code is_same_waker_place follows_copy copy_moves copy_end of_one_copy (λ place. New)
+abbrev copy_moves : Ending WakerPlace
+copy_moves = moves_of_one this_copy of_one_copy
 
-all_copies : all_kept 8 waker_place_code is_same_waker_place follows_copy copy_moves copy_end of_one_copy (λ place. New) copy_found ≡ true
-unfolding copy_found
-all_copies = refl
+copy_explored : EndingExplored copy_moves
+copy_explored = record { found = all_glanced (kept copy_moves); all = refl }
 
 copy_move : (a i b j : ℕ) (from to : WakerPlace) → is_waker_move (Copy a i) from to ≡ is_waker_move (Copy b j) from to
 copy_move a i b j New to = refl
@@ -274,7 +262,7 @@ module _ (number entry : ℕ) where
   goes_at n place (Some (Parker, from, to)) past may fresh = later n (is_new place) past
   goes_at n place (Some (Copy a i, from, to)) past may fresh = goes_by n a i from to place (a == number && i == entry) refl past may fresh
 
-  abbrev copy_classed : KeptClassed 8 waker_place_code is_same_waker_place follows_copy copy_moves copy_end of_one_copy following
+  abbrev copy_classed : EndingClassed copy_moves following
   copy_classed =
       record {
         apt = λ n x. is_new_or_past n x.state.own;
@@ -287,16 +275,16 @@ module _ (number entry : ℕ) where
 module _ {T : Type 0} (s : SenderScript T) (r : ReceiverScript) (worlds : List World) (moves : List Move) (entries : List Entry) (tells : Tells (opening s r) worlds moves entries) where
   pub wakers_right : AreWakersRight entries (marks (calls_of s r) entries)
   wakers_right Parker = (
-    name_followed s r entries all_alike Parker Parker parker_is_followed
-        (asked_run 8 waker_place_code is_same_waker_place follows_parker parker_moves parker_end no_names all_alike (all_classed _ _) (λ place. Hand) waker_place_is parker_found all_parker s r worlds moves entries refl tells),
-    name_ended s r entries all_alike Parker Parker parker_is_followed
-        (ended_run 8 waker_place_code is_same_waker_place follows_parker parker_moves parker_end no_names all_alike (all_classed _ _) (λ place. Hand) waker_place_is parker_found all_parker s r worlds moves entries refl tells),
+    name_followed s r entries all_alike Parker Parker no_names parker_is_followed
+        (asked_run parker_moves all_alike parker_classed parker_explored s r worlds moves entries refl tells),
+    name_ended s r entries all_alike Parker Parker no_names parker_is_followed
+        (ended_run parker_moves all_alike parker_classed parker_explored s r worlds moves entries refl tells),
   )
   wakers_right (Copy number entry) = (
-    name_followed s r entries (following number entry) (Copy number entry) this_copy (copy_is_followed number entry)
-        (asked_run 8 waker_place_code is_same_waker_place follows_copy copy_moves copy_end of_one_copy (following number entry) (copy_classed number entry) (λ place. New) waker_place_is copy_found all_copies s r worlds moves entries refl tells),
-    name_ended s r entries (following number entry) (Copy number entry) this_copy (copy_is_followed number entry)
-        (ended_run 8 waker_place_code is_same_waker_place follows_copy copy_moves copy_end of_one_copy (following number entry) (copy_classed number entry) (λ place. New) waker_place_is copy_found all_copies s r worlds moves entries refl tells),
+    name_followed s r entries (following number entry) (Copy number entry) this_copy of_one_copy (copy_is_followed number entry)
+        (asked_run copy_moves (following number entry) (copy_classed number entry) copy_explored s r worlds moves entries refl tells),
+    name_ended s r entries (following number entry) (Copy number entry) this_copy of_one_copy (copy_is_followed number entry)
+        (ended_run copy_moves (following number entry) (copy_classed number entry) copy_explored s r worlds moves entries refl tells),
   )
 
 -- a waker is written where none is
@@ -314,11 +302,15 @@ writes_rightly full g = may_write full g.entry.waker
 abbrev full_then : Bool → Glance → Bool
 full_then full g = cell_by full g.entry.waker
 
+abbrev write_law : Law Bool
+write_law =
+    record { coding = flags; passes = writes_rightly; sees = full_then; names = no_names; first = λ place. false }
+
 one_write : (x : Option WakerMove) (full : Bool) (later : List WakerMove) → may_write full x ≡ true → is_cell_right (cell_by full x) later ≡ true → is_cell_right full (cons_option x later) ≡ true
 one_write None full later h k = k
 one_write (Some move) full later h k = both (only_if (is_cell move.2) (not full)) _ h k
 
-written : (ms : List Mark) (full : Bool) → Passes writes_rightly full_then full (map glance_of ms) → is_cell_right full (shown_by ms) ≡ true
+written : (ms : List Mark) (full : Bool) → Passes write_law full (map glance_of ms) → is_cell_right full (shown_by ms) ≡ true
 written [] full p = refl
 written (m ∷ ms) full p = one_write m.entry.waker full (shown_by ms) p.0 (written ms (full_then full (glance_of m)) p.1)
 
@@ -330,19 +322,19 @@ full_as : (k : Classes) (full : Bool) (x : Option WakerMove) → cell_by full (o
 full_as k full None = refl
 full_as k full (Some move) = refl
 
-cell_nameless : Nameless writes_rightly full_then
-cell_nameless =
-    record { passes_same = λ k full g. write_as k full g.entry.waker; sees_same = λ k full g. full_as k full g.entry.waker }
+write_nameless : Nameless write_law
+write_nameless =
+    record {
+      none = refl;
+      passes_same = λ k full g. write_as k full g.entry.waker;
+      sees_same = λ k full g. full_as k full g.entry.waker;
+    }
 
-cell_found : Tree (Watched (Pair Bool))
-cell_found = glanced_from 2 bool_code is_same_flag writes_rightly full_then no_names (λ place. false)
-
-all_written : all_glanced 2 bool_code is_same_flag writes_rightly full_then no_names (λ place. false) cell_found ≡ true
-unfolding cell_found
-all_written = refl
+write_explored : LawExplored write_law
+write_explored = record { found = all_glanced write_law; all = refl }
 
 pub cell_kept : {T : Type 0} (s : SenderScript T) (r : ReceiverScript) (worlds : List World) (moves : List Move) (entries : List Entry) → Tells (opening s r) worlds moves entries → is_cell_kept entries ≡ true
 cell_kept s r worlds moves entries tells =
     subst (λ ms. is_cell_right false ms ≡ true) (sym (shown entries _ _ 1 _))
     (written (marks (calls_of s r) entries) false
-    (passes_run 2 bool_code is_same_flag writes_rightly full_then cell_nameless flag_is (λ place. false) cell_found all_written s r worlds moves entries tells))
+    (passes_run write_law write_nameless write_explored s r worlds moves entries tells))

@@ -3,7 +3,8 @@ use Rattle.std.specs.Prelude.{ℕ, ◌==◌, Bool, false, not, ◌&&◌, ◌||�
 use Rattle.std.specs.List.{list_any}
 use Rattle.oneshot_machine.specs.declared.machine.Reply.TheVariants as R
 use Rattle.oneshot_world.specs.Ahead.{Ahead, ahead_of}
-use Rattle.oneshot_world.specs.Calls.{Call, calls_of, number_of}
+use Rattle.oneshot_world.specs.Calls.{Call, number_of}
+use Rattle.oneshot_world.specs.Scripts.{calls_of}
 use Rattle.oneshot_world.specs.Wakers.{WakerMove}
 use Rattle.oneshot_world.specs.World.{World, opening, Tells}
 use Rattle.oneshot_world.specs.declared.script.Move.{Move}

@@ -1,5 +1,5 @@
 -- The receiver's table: where each call begins, and the table of each family of positions.
-use Rattle.std.specs.Prelude.{true, false, Option}
+use Rattle.std.specs.Prelude.{ℕ, ◌+◌, true, false, List, [], ◌∷◌, ◌++◌, map, Option}
 use Rattle.oneshot_machine.specs.declared.machine.receiver.ReceiverStart.{ReceiverStart}
 use Rattle.oneshot_machine.specs.declared.machine.receiver.ReceiverStart.TheVariants as RS
 use Rattle.oneshot_machine.specs.declared.machine.receiver.ReceiverPos.{ReceiverPos}
@@ -14,13 +14,13 @@ use Rattle.oneshot_machine.specs.declared.machine.drop.DropPos.TheVariants.{Drop
 use Rattle.oneshot_machine.specs.declared.machine.Seen.{Seen}
 use Rattle.oneshot_machine.specs.declared.machine.Step.{Step}
 use Rattle.oneshot_machine.specs.Rows.{Outcome, Rows, row_for}
-use Rattle.oneshot_machine.specs.Look.{look_step, look_rows}
-use Rattle.oneshot_machine.specs.ByRef.{ref_step, ref_rows}
-use Rattle.oneshot_machine.specs.Timed.{timed_step, timed_rows}
-use Rattle.oneshot_machine.specs.Value.{value_step, value_rows}
-use Rattle.oneshot_machine.specs.Future.{future_step, future_rows}
-use Rattle.oneshot_machine.specs.AsyncDrop.{async_drop_step, async_drop_rows}
-use Rattle.oneshot_machine.specs.Drop.{drop_step, drop_rows}
+use Rattle.oneshot_machine.specs.Look.{look_step, look_rows, look_positions, look_number}
+use Rattle.oneshot_machine.specs.ByRef.{ref_step, ref_rows, ref_positions, ref_number}
+use Rattle.oneshot_machine.specs.Timed.{timed_step, timed_rows, timed_positions, timed_number}
+use Rattle.oneshot_machine.specs.Value.{value_step, value_rows, value_positions, value_number}
+use Rattle.oneshot_machine.specs.Future.{future_step, future_rows, future_positions, future_number}
+use Rattle.oneshot_machine.specs.AsyncDrop.{async_drop_step, async_drop_rows, async_drop_positions, async_drop_number}
+use Rattle.oneshot_machine.specs.Drop.{drop_step, drop_rows, drop_positions, drop_number}
 
 abbrev pub receiver_start : ReceiverStart → ReceiverPos
 receiver_start RS.TryRecv = Look TryLoad
@@ -34,6 +34,40 @@ receiver_start RS.IntoFuture = Future IntoFuture
 receiver_start RS.Poll = Future PollLoad
 receiver_start RS.Drop = Drop DropSwap
 receiver_start RS.DropAsync = AsyncDrop AsyncLoad
+
+-- every call
+abbrev pub all_receiver_calls : List ReceiverStart
+all_receiver_calls =
+    RS.TryRecv
+    ∷ RS.RecvRef
+    ∷ RS.RecvDeadline
+    ∷ RS.RecvTimeout false
+    ∷ RS.RecvTimeout true
+    ∷ RS.Recv
+    ∷ RS.HasMessage
+    ∷ RS.IsClosed
+    ∷ RS.Drop
+    ∷ RS.IntoFuture
+    ∷ RS.Poll
+    ∷ RS.DropAsync
+    ∷ []
+
+-- where the calls of a receiver begin that are no looks, and those of a future
+abbrev pub receiver_opens : List ReceiverPos
+receiver_opens =
+    map receiver_start
+    (RS.TryRecv
+    ∷ RS.RecvRef
+    ∷ RS.RecvDeadline
+    ∷ RS.RecvTimeout true
+    ∷ RS.RecvTimeout false
+    ∷ RS.Recv
+    ∷ RS.IntoFuture
+    ∷ RS.Drop
+    ∷ [])
+
+abbrev pub future_opens : List ReceiverPos
+future_opens = map receiver_start (RS.Poll ∷ RS.DropAsync ∷ [])
 
 abbrev pub receiver_step : ReceiverPos → Step
 receiver_step (Look at) = look_step at
@@ -55,3 +89,27 @@ receiver_rows (Drop at) = drop_rows at
 
 abbrev pub receiver_row : ReceiverPos → Seen → Option (Outcome ReceiverPos)
 receiver_row position seen = row_for seen (receiver_rows position)
+
+-- every position, and a number for each
+abbrev pub receiver_positions : List ReceiverPos
+receiver_positions =
+    map Look look_positions
+    ++ map Ref ref_positions
+    ++ map Timed timed_positions
+    ++ map Value value_positions
+    ++ map Future future_positions
+    ++ map AsyncDrop async_drop_positions
+    ++ map Drop drop_positions
+
+abbrev pub receiver_number : ReceiverPos → ℕ
+receiver_number (Look at) = look_number at
+receiver_number (Ref at) = 6 + ref_number at
+receiver_number (Timed at) = 16 + timed_number at
+receiver_number (Value at) = 25 + value_number at
+receiver_number (Future at) = 35 + future_number at
+receiver_number (AsyncDrop at) = 47 + async_drop_number at
+receiver_number (Drop at) = 51 + drop_number at
+
+-- how many positions there are
+abbrev pub receiver_count : ℕ
+receiver_count = 54

@@ -1,5 +1,5 @@
 -- The sender's table.
-use Rattle.std.specs.Prelude.{Option, [], ◌∷◌}
+use Rattle.std.specs.Prelude.{ℕ, List, Option, [], ◌∷◌}
 use Rattle.oneshot_machine.specs.declared.machine.sender.SenderCall.{SenderCall}
 use Rattle.oneshot_machine.specs.declared.machine.sender.SenderCall.TheVariants.{IsClosed, Send, Drop, AsInner, IntoInner, DropError}
 use Rattle.oneshot_machine.specs.declared.machine.sender.SenderPos.{SenderPos}
@@ -60,3 +60,46 @@ sender_rows ErrorFree = (Done, Answers R.Done) ∷ []
 
 abbrev pub sender_row : SenderPos → Seen → Option (Outcome SenderPos)
 sender_row position seen = row_for seen (sender_rows position)
+
+-- every position, and a number for each
+abbrev pub sender_positions : List SenderPos
+sender_positions =
+    LookClosed
+    ∷ SendWrite
+    ∷ SendAdd
+    ∷ SendTakeWaker
+    ∷ SendFinal
+    ∷ SendWake
+    ∷ DropXor
+    ∷ DropTakeWaker
+    ∷ DropFinal
+    ∷ DropWake
+    ∷ DropFree
+    ∷ ErrorLook
+    ∷ IntoTake
+    ∷ IntoFree
+    ∷ ErrorDrop
+    ∷ ErrorFree
+    ∷ []
+
+abbrev pub sender_number : SenderPos → ℕ
+sender_number LookClosed = 0
+sender_number SendWrite = 1
+sender_number SendAdd = 2
+sender_number SendTakeWaker = 3
+sender_number SendFinal = 4
+sender_number SendWake = 5
+sender_number DropXor = 6
+sender_number DropTakeWaker = 7
+sender_number DropFinal = 8
+sender_number DropWake = 9
+sender_number DropFree = 10
+sender_number ErrorLook = 11
+sender_number IntoTake = 12
+sender_number IntoFree = 13
+sender_number ErrorDrop = 14
+sender_number ErrorFree = 15
+
+-- every call
+abbrev pub all_sender_calls : List SenderCall
+all_sender_calls = IsClosed ∷ Send ∷ Drop ∷ AsInner ∷ IntoInner ∷ DropError ∷ []

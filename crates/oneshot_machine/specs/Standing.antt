@@ -14,22 +14,14 @@ use Rattle.oneshot_machine.specs.declared.machine.look.LookPos.TheVariants.{TryL
 use Rattle.oneshot_machine.specs.declared.machine.by_ref.RefPos.TheVariants.{StartLoad, ParkLoad}
 use Rattle.oneshot_machine.specs.declared.machine.timed.TimedPos.TheVariants.{TimedLoad, EndBack, LateLoad}
 use Rattle.oneshot_machine.specs.declared.machine.future.FuturePos.TheVariants.{IntoFuture}
-use Rattle.oneshot_machine.specs.declared.machine.receiver.ReceiverStart.TheVariants as RC
 use Rattle.oneshot_machine.specs.declared.machine.sender.SenderPos.{SenderPos}
 use Rattle.oneshot_machine.specs.declared.machine.sender.SenderPos.TheVariants as SP
 use Rattle.oneshot_machine.specs.declared.machine.sender.SenderCall.TheVariants as SC
 use Rattle.oneshot_machine.specs.declared.states.Op.{Op}
 use Rattle.oneshot_machine.specs.declared.states.Op.TheVariants as O
 use Rattle.oneshot_machine.specs.Rows.{Outcome, Goes, Answers}
-use Rattle.oneshot_machine.specs.Sender.{sender_start, sender_step, sender_row}
-use Rattle.oneshot_machine.specs.Receiver.{receiver_start, receiver_step, receiver_row}
-use Rattle.oneshot_machine.specs.Look.{look_positions, look_number}
-use Rattle.oneshot_machine.specs.ByRef.{ref_positions, ref_number}
-use Rattle.oneshot_machine.specs.Timed.{timed_positions, timed_number}
-use Rattle.oneshot_machine.specs.Value.{value_positions, value_number}
-use Rattle.oneshot_machine.specs.Future.{future_positions, future_number}
-use Rattle.oneshot_machine.specs.AsyncDrop.{async_drop_positions, async_drop_number}
-use Rattle.oneshot_machine.specs.Drop.{drop_positions, drop_number}
+use Rattle.oneshot_machine.specs.Sender.{sender_start, sender_step, sender_row, sender_positions, sender_number}
+use Rattle.oneshot_machine.specs.Receiver.{receiver_step, receiver_row, receiver_opens, future_opens, receiver_positions, receiver_number, receiver_count}
 use Rattle.oneshot_machine.specs.Words.{Noted, op_of, is_same_op}
 
 -- An end's table, with all its positions and a number for each. `opens` are those at which a new
@@ -90,44 +82,6 @@ module _ {P : Type 0} (t : Table P) where
   abbrev pub operations : List Noted → List Op
   operations xs = made_at (standing xs)
 
-abbrev pub sender_positions : List SenderPos
-sender_positions =
-    SP.LookClosed
-    ∷ SP.SendWrite
-    ∷ SP.SendAdd
-    ∷ SP.SendTakeWaker
-    ∷ SP.SendFinal
-    ∷ SP.SendWake
-    ∷ SP.DropXor
-    ∷ SP.DropTakeWaker
-    ∷ SP.DropFinal
-    ∷ SP.DropWake
-    ∷ SP.DropFree
-    ∷ SP.ErrorLook
-    ∷ SP.IntoTake
-    ∷ SP.IntoFree
-    ∷ SP.ErrorDrop
-    ∷ SP.ErrorFree
-    ∷ []
-
-abbrev pub sender_number : SenderPos → ℕ
-sender_number SP.LookClosed = 0
-sender_number SP.SendWrite = 1
-sender_number SP.SendAdd = 2
-sender_number SP.SendTakeWaker = 3
-sender_number SP.SendFinal = 4
-sender_number SP.SendWake = 5
-sender_number SP.DropXor = 6
-sender_number SP.DropTakeWaker = 7
-sender_number SP.DropFinal = 8
-sender_number SP.DropWake = 9
-sender_number SP.DropFree = 10
-sender_number SP.ErrorLook = 11
-sender_number SP.IntoTake = 12
-sender_number SP.IntoFree = 13
-sender_number SP.ErrorDrop = 14
-sender_number SP.ErrorFree = 15
-
 -- a refused `send` leaves an error, and its calls
 abbrev pub sender_follows : SenderPos → Reply → List SenderPos
 sender_follows p R.Refused = sender_start SC.IntoInner ∷ sender_start SC.DropError ∷ []
@@ -143,40 +97,6 @@ sender_table =
       opens = sender_start SC.Send ∷ sender_start SC.Drop ∷ [];
       follows = sender_follows;
     }
-
-abbrev pub receiver_positions : List ReceiverPos
-receiver_positions =
-    map RP.Look look_positions
-    ++ map RP.Ref ref_positions
-    ++ map RP.Timed timed_positions
-    ++ map RP.Value value_positions
-    ++ map RP.Future future_positions
-    ++ map RP.AsyncDrop async_drop_positions
-    ++ map RP.Drop drop_positions
-
-abbrev pub receiver_number : ReceiverPos → ℕ
-receiver_number (RP.Look at) = look_number at
-receiver_number (RP.Ref at) = 6 + ref_number at
-receiver_number (RP.Timed at) = 16 + timed_number at
-receiver_number (RP.Value at) = 25 + value_number at
-receiver_number (RP.Future at) = 35 + future_number at
-receiver_number (RP.AsyncDrop at) = 47 + async_drop_number at
-receiver_number (RP.Drop at) = 51 + drop_number at
-
-abbrev pub receiver_opens : List ReceiverPos
-receiver_opens =
-    receiver_start RC.TryRecv
-    ∷ receiver_start RC.RecvRef
-    ∷ receiver_start RC.RecvDeadline
-    ∷ receiver_start (RC.RecvTimeout true)
-    ∷ receiver_start (RC.RecvTimeout false)
-    ∷ receiver_start RC.Recv
-    ∷ receiver_start RC.IntoFuture
-    ∷ receiver_start RC.Drop
-    ∷ []
-
-abbrev pub future_opens : List ReceiverPos
-future_opens = receiver_start RC.Poll ∷ receiver_start RC.DropAsync ∷ []
 
 -- where a receiver stands, which is a future from its `into_future` on: some positions have both
 pub data Standpoint : Type 0 where
@@ -197,7 +117,7 @@ standpoint_row (as_future p) seen = option_map (outcome_at as_future) (receiver_
 
 abbrev pub standpoint_number : Standpoint → ℕ
 standpoint_number (plainly p) = receiver_number p
-standpoint_number (as_future p) = 54 + receiver_number p
+standpoint_number (as_future p) = receiver_count + receiver_number p
 
 -- after `recv` and a drop no call, after `into_future` those of a future, after any other each
 abbrev pub receiver_follows : ReceiverPos → Reply → List Standpoint

@@ -1,12 +1,27 @@
 -- What an operation tells of an end whose phase and slots are known.
-use Rattle.std.proofs.Common.{◌≡◌, ℕ, refl, sym, ap, ◌∙◌, subst}
+use Rattle.std.proofs.Common.{◌≡◌, ℕ, Bool, true, false, refl, sym, ap, ◌∙◌, subst}
+use Rattle.std.specs.List.{list_all}
 use Rattle.oneshot_machine.specs.declared.states.Op.{Op}
 use Rattle.oneshot_machine.specs.declared.states.Op.TheVariants.{Store}
 use Rattle.oneshot_machine.specs.Words.{saw}
-use Rattle.oneshot_machine.specs.Phases.{Got, full, SenderAt, fresh, sender_next, sender_at, ReceiverAt, first, receiver_next, receiver_at}
-use Rattle.oneshot_machine.specs.Slots.{Held, away, vacant, held, SenderMay, SenderFinds, add_waker, flip_waker, ReceiverMay, ReceiverFinds, close}
-use Rattle.oneshot_machine.proofs.GrownLists.{sender_from-snoc, receiver_from-snoc}
-use Rattle.oneshot_word.specs.Sides.{Side, SenderOwns, owns_message, SenderCan, SenderDid, ReceiverCan, ReceiverDid}
+use Rattle.oneshot_machine.specs.Phases.{Share, filled, Got, at_once, full, SenderAt, fresh, sender_next, sender_at, ReceiverAt, first, receiver_moves, receiver_next, receiver_at}
+use Rattle.oneshot_machine.specs.Slots.{Held, away, vacant, held, is_held, is_vacant, Turns, stays_vacant, stays_held, gets_thing, head, tail, may, finds, SenderMay, SenderFinds, ReceiverMay, ReceiverFinds, not_its_own, owns, SenderOwns}
+use Rattle.oneshot_machine.proofs.Exactness.{each_passes}
+use Rattle.oneshot_machine.proofs.GrownLists.{phase_from-snoc}
+use Rattle.oneshot_word.specs.Side.{Side, SenderCan, SenderDid, ReceiverCan, ReceiverDid}
+
+-- what each row of a receiver that has the message leaves in the message's slot
+abbrev pub is_filled : Share → Bool
+is_filled filled = true
+is_filled _ = false
+
+stays_full : (g : Got) → list_all (λ row. is_filled row.4.0) (receiver_moves (full g)) ≡ true
+stays_full at_once = refl
+stays_full _ = refl
+
+kept : {T : Type 0} {s t : Share} {x : T} {m : Held T} → is_filled t ≡ true → Turns s t (held x) m → m ≡ held x
+kept e (stays_held x) = refl
+kept e _ = absurd (cc)
 
 module _ {T W : Type 0} where
   -- how far the end is, and its slots
@@ -21,10 +36,10 @@ module _ {T W : Type 0} where
     pub waker : s.waker ≡ w
 
   pub sender_can : {s : Side T W} {p : SenderAt} {m : Held T} {w : Held W} (op : Op) → SenderIs s p m w → SenderMay p op m w → SenderCan s op
-  sender_can op is may = subst (λ (z : SenderAt × Held T × Held W). SenderMay z.0 op z.1 z.2) (λ i. (sym is.at i, sym is.message i, sym is.waker i)) may
+  sender_can op is asks = subst (λ (z : SenderAt × Held T × Held W). SenderMay z.0 op z.1 z.2) (λ i. (sym is.at i, sym is.message i, sym is.waker i)) asks
 
   pub receiver_can : {s : Side T W} {q : ReceiverAt} {m : Held T} {w : Held W} (op : Op) → ReceiverIs s q m w → ReceiverMay q op m w → ReceiverCan s op
-  receiver_can op is may = subst (λ (z : ReceiverAt × Held T × Held W). ReceiverMay z.0 op z.1 z.2) (λ i. (sym is.at i, sym is.message i, sym is.waker i)) may
+  receiver_can op is asks = subst (λ (z : ReceiverAt × Held T × Held W). ReceiverMay z.0 op z.1 z.2) (λ i. (sym is.at i, sym is.message i, sym is.waker i)) asks
 
   -- what it found
   pub sender_told : {s t : Side T W} {p : SenderAt} {m : Held T} {w : Held W} (op : Op) (word : ℕ) {found : ℕ} → SenderIs s p m w → SenderDid s op found t → found ≡ word → SenderFinds p op word m w t.message t.waker
@@ -38,15 +53,15 @@ module _ {T W : Type 0} where
   -- and how far it is then
   pub sender_went : {s t : Side T W} {p : SenderAt} {m : Held T} {w : Held W} (op : Op) (word : ℕ) {found : ℕ} → SenderIs s p m w → SenderDid s op found t → found ≡ word → sender_at t.steps ≡ sender_next p op (saw op word)
   sender_went {s} op word {found} is did same =
-      ap sender_at did.list ∙ sender_from-snoc fresh s.steps (op, saw op found) ∙ (λ i. sender_next (is.at i) op (saw op (same i)))
+      ap sender_at did.list ∙ phase_from-snoc sender_next fresh s.steps (op, saw op found) ∙ (λ i. sender_next (is.at i) op (saw op (same i)))
 
   pub receiver_went : {s t : Side T W} {q : ReceiverAt} {m : Held T} {w : Held W} (op : Op) (word : ℕ) {found : ℕ} → ReceiverIs s q m w → ReceiverDid s op found t → found ≡ word → receiver_at t.steps ≡ receiver_next q op (saw op word)
   receiver_went {s} op word {found} is did same =
-      ap receiver_at did.list ∙ receiver_from-snoc first s.steps (op, saw op found) ∙ (λ i. receiver_next (is.at i) op (saw op (same i)))
+      ap receiver_at did.list ∙ phase_from-snoc receiver_next first s.steps (op, saw op found) ∙ (λ i. receiver_next (is.at i) op (saw op (same i)))
 
   -- where it is, as it stands
-  pub receiver_is : (s : Side T W) → ReceiverIs s (receiver_at s.steps) s.message s.waker
-  receiver_is s = record { at = refl; message = refl; waker = refl }
+  pub receiver_is : {q : ReceiverAt} (s : Side T W) → receiver_at s.steps ≡ q → ReceiverIs s q s.message s.waker
+  receiver_is s at = record { at = at; message = refl; waker = refl }
 
   -- and with something else in the waker's slot
   pub sender_changed : {p : SenderAt} {m : Held T} {w : Held W} (s t : Side T W) (w' : Held W) → SenderIs s p m w → t ≡ record s { waker = w' } → SenderIs t p m w'
@@ -67,22 +82,27 @@ module _ {T W : Type 0} where
 
   -- a sender that has made no operation has no waker
   no_waker_yet : {m : Held T} {w : Held W} → SenderOwns fresh m w → w ≡ away
-  no_waker_yet (owns_message own) = refl
+  no_waker_yet (owns own not_its_own) = refl
 
   pub begins_fresh : (s : Side T W) {m : Held T} → sender_at s.steps ≡ fresh → s.message ≡ m → SenderOwns (sender_at s.steps) s.message s.waker → SenderIs s fresh m away
-  begins_fresh s at message owns =
-      record { at = at; message = message; waker = no_waker_yet (subst (λ p. SenderOwns p s.message s.waker) at owns) }
+  begins_fresh s at message its =
+      record { at = at; message = message; waker = no_waker_yet (subst (λ p. SenderOwns p s.message s.waker) at its) }
 
   -- where it finds 0 it has the receiver's
   found_waker : {op : Op} {m m' : Held T} {w : Held W} → SenderFinds fresh op 0 m away m' w → (m' ≡ m) × (k : W) × (w ≡ held k)
-  found_waker (add_waker x k) = (refl, k, refl)
-  found_waker (flip_waker k) = (refl, k, refl)
+  found_waker (finds (tail head) (stays_held x) (gets_thing k)) = (refl, k, refl)
+  found_waker (finds (tail (tail (tail (tail head)))) stays_vacant (gets_thing k)) = (refl, k, refl)
+  found_waker (finds (tail (tail (tail (tail (tail (tail there)))))) _ _) = elim there [ ]
 
   pub finds_waker : {s t : Side T W} {m : Held T} {found : ℕ} (op : Op) → SenderIs s fresh m away → SenderDid s op found t → found ≡ 0 → (k : W) × SenderIs t (sender_next fresh op (saw op 0)) m (held k)
   finds_waker op is did same =
       let it = found_waker (sender_told op 0 is did same) in
       (it.1, record { at = sender_went op 0 is did same; message = it.0; waker = it.2 })
 
-  -- a receiver that closes keeps the message
-  pub keeps_message : {g : Got} {left found : ℕ} {x : T} {m : Held T} {w : Held W} → ReceiverFinds (full g left) (Store 2) found (held x) vacant m w → m ≡ held x
-  keeps_message (close _ _ x) = refl
+  -- a receiver that has the message may close, and keeps it
+  pub closes : (g : Got) (x : T) → ReceiverMay {W = W} (full g) (Store 2) (held x) vacant
+  closes at_once x = may head (is_held x) is_vacant
+  closes _ x = may head (is_held x) is_vacant
+
+  pub keeps_message : {g : Got} {found : ℕ} {x : T} {m : Held T} {w : Held W} → ReceiverFinds (full g) (Store 2) found (held x) vacant m w → m ≡ held x
+  keeps_message {g} (finds row turns _) = kept (each_passes (λ row. is_filled row.4.0) (receiver_moves (full g)) (stays_full g) row) turns

@@ -2,9 +2,9 @@
 
 ghost use Rattle.std.specs.Prelude.{◌≡◌};
 ghost use Rattle.oneshot_machine.specs.declared.states.Op.TheVariants.{Load, Swap};
-ghost use Rattle.oneshot_machine.specs.Phases.{fresh, sender_at, looked, first, here, receiver_at};
+ghost use Rattle.oneshot_machine.specs.Phases.{fresh, sender_at, looked, first, here, blocked, waits, receiver_at};
 ghost use Rattle.oneshot_machine.specs.Slots.{vacant};
-ghost use Rattle.oneshot_word.specs.Sides.{SenderCan, ReceiverCan};
+ghost use Rattle.oneshot_word.specs.Side.{SenderCan, ReceiverCan};
 
 use oneshot_word::{ReceiverSide, Rouse, SenderSide, Slot, open};
 use std::mem::size_of;
@@ -112,6 +112,7 @@ fn look(rt: &impl Abort, receiver: &mut ReceiverSide<u8, u8, u8>)
 fn store_waker(rt: &impl Abort, receiver: &mut ReceiverSide<u8, u8, u8>, waker: Rouse<u8, u8>)
     requires at { receiver_at receiver.old.steps ≡ here looked }
     requires waker { receiver.old.waker ≡ vacant }
+    ensures at { receiver_at receiver.new.steps ≡ waits blocked }
     ensures loads { ReceiverCan receiver.new Load }
     ensures stops { ReceiverCan receiver.new (Swap 3) }
 {
@@ -123,7 +124,8 @@ fn store_waker(rt: &impl Abort, receiver: &mut ReceiverSide<u8, u8, u8>, waker: 
 
 // It gives its waker.
 fn stop(rt: &impl Abort, receiver: &mut ReceiverSide<u8, u8, u8>) -> Rouse<u8, u8>
-    requires { ReceiverCan receiver.old (Swap 3) }
+    requires at { receiver_at receiver.old.steps ≡ waits blocked }
+    requires stops { ReceiverCan receiver.old (Swap 3) }
     ensures at { receiver_at receiver.new.steps ≡ here looked }
     ensures waker { receiver.new.waker ≡ vacant }
 {
@@ -136,7 +138,8 @@ fn stop(rt: &impl Abort, receiver: &mut ReceiverSide<u8, u8, u8>) -> Rouse<u8, u
 }
 
 fn stop_too_late(rt: &impl Abort, receiver: &mut ReceiverSide<u8, u8, u8>)
-    requires { ReceiverCan receiver.old (Swap 3) }
+    requires at { receiver_at receiver.old.steps ≡ waits blocked }
+    requires stops { ReceiverCan receiver.old (Swap 3) }
     ensures { ReceiverCan receiver.new Load }
 {
     let found = receiver.swap(3);
@@ -146,7 +149,8 @@ fn stop_too_late(rt: &impl Abort, receiver: &mut ReceiverSide<u8, u8, u8>)
 }
 
 fn stop_over_the_message(rt: &impl Abort, receiver: &mut ReceiverSide<u8, u8, u8>) -> u8
-    requires { ReceiverCan receiver.old (Swap 3) }
+    requires at { receiver_at receiver.old.steps ≡ waits blocked }
+    requires stops { ReceiverCan receiver.old (Swap 3) }
 {
     let found = receiver.swap(3);
     assert!(rt; found == 4);
@@ -156,7 +160,8 @@ fn stop_over_the_message(rt: &impl Abort, receiver: &mut ReceiverSide<u8, u8, u8
 }
 
 fn stop_over_the_end(rt: &impl Abort, receiver: &mut ReceiverSide<u8, u8, u8>)
-    requires { ReceiverCan receiver.old (Swap 3) }
+    requires at { receiver_at receiver.old.steps ≡ waits blocked }
+    requires stops { ReceiverCan receiver.old (Swap 3) }
 {
     let found = receiver.swap(3);
     assert!(rt; found == 2);

@@ -5,7 +5,7 @@ use Rattle.oneshot_world.specs.declared.script.Move.{Move}
 use Rattle.oneshot_world.specs.declared.script.ReceiverScript.{ReceiverScript}
 use Rattle.oneshot_world.specs.declared.script.SenderScript.{SenderScript}
 use Rattle.oneshot_world.specs.declared.trace.Entry.{Entry}
-use Rattle.oneshot_world.proofs.Determined.{run_is}
+use Rattle.oneshot_world.proofs.WorldDetermined.{run_is}
 use Rattle.oneshot_replay.specs.Rest.{message_of, rest_at}
 use Rattle.oneshot_replay.specs.Told.{Told, IsReplayed, last_of}
 use Rattle.oneshot_replay.specs.declared.rest.Rest.{Rest}

@@ -7,8 +7,8 @@ use Rattle.oneshot_machine.specs.Sender.{sender_step}
 use Rattle.oneshot_machine.specs.declared.machine.End.{End}
 use Rattle.oneshot_machine.specs.declared.machine.Step.{Step}
 use Rattle.oneshot_machine.specs.declared.machine.Step.TheVariants as T
-use Rattle.oneshot_world.specs.Calls.{calls_of}
-use Rattle.oneshot_world.specs.State.{freed_by, place_left, move_of, sender_puts, receiver_puts, reply_of}
+use Rattle.oneshot_world.specs.Scripts.{calls_of}
+use Rattle.oneshot_world.specs.Effects.{freed_by, place_left, move_of, sender_puts, receiver_puts, reply_of}
 use Rattle.oneshot_world.specs.World.{World, Tells_from, Tells, opening, opening_place, side_of, receiver_told}
 use Rattle.oneshot_world.specs.declared.script.Move.{Move}
 use Rattle.oneshot_world.specs.declared.script.ReceiverScript.{ReceiverScript}
@@ -19,8 +19,8 @@ use Rattle.oneshot_world.specs.declared.trace.Entry.{Entry}
 use Rattle.oneshot_world.specs.declared.trace.Entry.TheVariants.{Idle, Made as Made_entry}
 use Rattle.oneshot_world.specs.declared.trace.Place.{Place}
 use Rattle.oneshot_world.specs.declared.trace.Place.TheVariants.{NotSent}
-use Rattle.oneshot_world.proofs.Reached.{sender_world, receiver_world}
-use Rattle.oneshot_world.proofs.Turned.{Turned, sender_idle, sender_made, receiver_idle, receiver_made, turned}
+use Rattle.oneshot_world.proofs.ReachedMoves.{sender_world, receiver_world}
+use Rattle.oneshot_world.proofs.WorldTurns.{Turned, sender_idle, sender_made, receiver_idle, receiver_made, turned}
 use Rattle.oneshot_laws.specs.Entries.{is_free}
 use Rattle.oneshot_laws.specs.Object.{Object}
 use Rattle.oneshot_laws.specs.Marks.{Reading, marks, marks_from}

@@ -2,7 +2,7 @@
 
 ghost use Rattle.std.specs.Prelude.{◌≡◌, IfOk, IfErr, IsTrue, length};
 ghost use Rattle.std.specs.Option.{option_map};
-ghost use Rattle.oneshot_world.specs.Calls.{calls_of};
+ghost use Rattle.oneshot_world.specs.Scripts.{calls_of};
 ghost use Rattle.oneshot_laws.specs.Marks.{marks};
 ghost use Rattle.oneshot_laws.specs.History.{has_legal_history};
 ghost use Rattle.oneshot_laws.specs.Idle.{is_idle_right};

@@ -25,32 +25,32 @@ seat_sync : (S V : RattleType) → IsSend S → IsSync (Seat.the_row S V)
 seat_sync S V s = record { shared = λ d b o κ q. part_keyless (Seat.the_row S V) (seat.the_send S V s) q d b o }
 
 module _ (T H K : RattleType) where
-  abbrev Board : RattleType
-  Board = Table.the_row (Slot.the_row T H K) View.the_row unit WordRule.the_row Global.the_row (rule.ghosts T H K) heap.ghosts
+  abbrev WordTable : RattleType
+  WordTable = Table.the_row (Slot.the_row T H K) View.the_row unit WordRule.the_row Global.the_row (rule.ghosts T H K) heap.ghosts
 
   abbrev pub Shared : RattleType
-  Shared = Arc.the_row Board Global.the_row heap.ghosts
+  Shared = Arc.the_row WordTable Global.the_row heap.ghosts
 
-  abbrev pub Chair : RattleType
-  Chair = Seat.the_row (Slot.the_row T H K) View.the_row
+  abbrev pub WordSeat : RattleType
+  WordSeat = Seat.the_row (Slot.the_row T H K) View.the_row
 
 module _ (T H K : RattleType) (s : IsSend T) (u : IsSend H) (v : IsSend K) where
   slot_send : IsSend (Slot.the_row T H K)
   slot_send = slot.the_send T H K s u v
 
-  board_send : IsSend (Board T H K)
-  board_send =
+  table_send : IsSend (WordTable T H K)
+  table_send =
       table.the_send (Slot.the_row T H K) View.the_row unit WordRule.the_row Global.the_row (rule.ghosts T H K) heap.ghosts slot_send global.the_send frees
 
-  board_sync : IsSync (Board T H K)
-  board_sync =
+  table_sync : IsSync (WordTable T H K)
+  table_sync =
       table.the_sync (Slot.the_row T H K) View.the_row unit WordRule.the_row Global.the_row (rule.ghosts T H K) heap.ghosts slot_send global.the_send global.the_sync frees
 
   shared_send : IsSend (Shared T H K)
-  shared_send = arc.the_send (Board T H K) Global.the_row heap.ghosts board_send global.the_send board_sync global.the_sync frees
+  shared_send = arc.the_send (WordTable T H K) Global.the_row heap.ghosts table_send global.the_send table_sync global.the_sync frees
 
   shared_sync : IsSync (Shared T H K)
-  shared_sync = arc.the_sync (Board T H K) Global.the_row heap.ghosts board_send global.the_send board_sync global.the_sync frees
+  shared_sync = arc.the_sync (WordTable T H K) Global.the_row heap.ghosts table_send global.the_send table_sync global.the_sync frees
 
   pub parts_send : AllSend (fields (the_type T H K))
   parts_send = (shared_send, (seat.the_send (Slot.the_row T H K) View.the_row slot_send, tt))

@@ -1,9 +1,12 @@
+pub mod Alike
 pub mod Says
-pub mod Turns
-pub mod Found
-pub mod Steps
+pub mod FoundRow
+pub mod SlotMoves
+pub mod RuleKept
+pub mod Sits
+pub mod EachStep
 pub mod Opens
 pub mod Trades
-pub mod RowReads
+pub mod RuleRead
 mod Crosses
 mod RuleExamples

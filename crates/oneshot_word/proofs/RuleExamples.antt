@@ -8,7 +8,7 @@ use Rattle.oneshot_word.specs.declared.rouse.Rouse.TheVariants as R
 use Rattle.oneshot_word.specs.Examples.{waits, stopped_over, polled, polled_over, exchanged_back, claims, sent_over, dropped_over, StatesThatAre, StatesThatAreNot}
 use Rattle.oneshot_word.specs.Lists.{send_found, sent as sent_alone, sent_to_it, sent_to_overdue, dropped_before_overdue}
 use Rattle.oneshot_word.specs.Rule.{Home, out, bare, has_waker}
-use Rattle.oneshot_word.specs.Rows.{IsSenders, IsReceivers, IsWords, Owned, both_open, waker_stored, waker_claimed, claimed_overdue, receiver_gone, sender_after, sent, dropped, written, sender_has_it, left_for_sender, left_for_receiver, receiver_has_it, receiver_found_it, waits_for_receiver, waker_at_home}
+use Rattle.oneshot_word.specs.ReadRule.{IsSenders, IsReceivers, IsWords, Owned, both_open, waker_stored, waker_claimed, claimed_overdue, receiver_gone, sender_after, sent, dropped, written, sender_has_it, left_for_sender, left_for_receiver, receiver_has_it, receiver_found_it, waits_for_receiver, waker_at_home}
 
 module _ {T H K : Type 0} where
   pub states_that_are : StatesThatAre T H K
@@ -41,56 +41,56 @@ module _ {T H K : Type 0} where
   waker_not_receivers R.Nobody is = elim is [ ]
 
   bare_has_no_waker : (k : Rouse H K) → has_waker {T = T} k ≢ bare
-  bare_has_no_waker (R.Thread half) e = absurd (cc)
-  bare_has_no_waker (R.Task copy) e = absurd (cc)
-  bare_has_no_waker R.Nobody e = absurd (cc)
+  bare_has_no_waker (R.Thread half) e = cc
+  bare_has_no_waker (R.Task copy) e = cc
+  bare_has_no_waker R.Nobody e = cc
 
   bare_not_words : {k : Home T H K} → IsWords k → k ≢ bare
   bare_not_words (waker_at_home k) = bare_has_no_waker k
 
   overdue_leaves_1 : {h k : Home T H K} → Owned claims (stopped_over 1) 1 h k → ⊥
-  overdue_leaves_1 (waker_claimed by found stores here m w) = absurd (cc)
+  overdue_leaves_1 (waker_claimed by found stores here m w) = cc
   overdue_leaves_1 (sender_after by made is m w) = elim made [ ]
   overdue_leaves_1 (written by made is m w) = elim made [ ]
 
   overdue_has_its_waker : {h : Home T H K} (k : Rouse H K) → Owned claims (stopped_over 1) 3 h (has_waker k) → ⊥
-  overdue_has_its_waker k (both_open none stores here m w) = absurd (cc)
+  overdue_has_its_waker k (both_open none stores here m w) = cc
   overdue_has_its_waker k (claimed_overdue by found late here m w) = waker_not_senders k w
   overdue_has_its_waker k (sender_after by made is m w) = elim made [ ]
   overdue_has_its_waker k (written by made is m w) = elim made [ ]
 
   waits_at_3 : {h k : Home T H K} → Owned claims waits 3 h k → ⊥
-  waits_at_3 (both_open none stores here m w) = absurd (cc)
-  waits_at_3 (claimed_overdue by found late here m w) = absurd (cc)
+  waits_at_3 (both_open none stores here m w) = cc
+  waits_at_3 (claimed_overdue by found late here m w) = cc
   waits_at_3 (sender_after by made is m w) = elim made [ ]
   waits_at_3 (written by made is m w) = elim made [ ]
 
   send_leaves_3 : {h k : Home T H K} → Owned (sent_over 3) (stopped_over 1) 3 h k → ⊥
-  send_leaves_3 (both_open none stores here m w) = absurd (cc)
+  send_leaves_3 (both_open none stores here m w) = cc
   send_leaves_3 (claimed_overdue by found late here m w) = elim found [ ]
   send_leaves_3 (sender_after by made is m w) = elim made [ ]
-  send_leaves_3 (written by made is m w) = absurd (cc)
+  send_leaves_3 (written by made is m w) = cc
 
   drop_leaves_3 : {h k : Home T H K} → Owned (dropped_over 3) (stopped_over 1) 3 h k → ⊥
-  drop_leaves_3 (both_open none stores here m w) = absurd (cc)
+  drop_leaves_3 (both_open none stores here m w) = cc
   drop_leaves_3 (claimed_overdue by found late here m w) = elim found [ ]
   drop_leaves_3 (sender_after by made is m w) = elim made [ ]
-  drop_leaves_3 (written by made is m w) = absurd (cc)
+  drop_leaves_3 (written by made is m w) = cc
 
   stop_leaves_0_over_the_message : {h k : Home T H K} → Owned (sent_over 1) (stopped_over 4) 0 h k → ⊥
-  stop_leaves_0_over_the_message (waker_stored none stores here m w) = absurd (cc)
+  stop_leaves_0_over_the_message (waker_stored none stores here m w) = cc
   stop_leaves_0_over_the_message (sender_after by made is m w) = elim made [ ]
-  stop_leaves_0_over_the_message (written by made is m w) = absurd (cc)
+  stop_leaves_0_over_the_message (written by made is m w) = cc
 
   stop_leaves_0_over_the_end : {h k : Home T H K} → Owned (dropped_over 1) (stopped_over 2) 0 h k → ⊥
-  stop_leaves_0_over_the_end (waker_stored none stores here m w) = absurd (cc)
+  stop_leaves_0_over_the_end (waker_stored none stores here m w) = cc
   stop_leaves_0_over_the_end (sender_after by made is m w) = elim made [ ]
-  stop_leaves_0_over_the_end (written by made is m w) = absurd (cc)
+  stop_leaves_0_over_the_end (written by made is m w) = cc
 
   message_lies_with_nobody : {k : Home T H K} → Owned (sent_over 1) waits 4 bare k → ⊥
   message_lies_with_nobody (sender_after by made is m w) = elim made [ ]
   message_lies_with_nobody (sent made is m w) = elim m [ ]
-  message_lies_with_nobody (written by made is m w) = absurd (cc)
+  message_lies_with_nobody (written by made is m w) = cc
 
   waker_is_gone : {h : Home T H K} → Owned [] waits 0 h bare → ⊥
   waker_is_gone (waker_stored none stores here m w) = bare_not_words w refl
@@ -98,7 +98,7 @@ module _ {T H K : Type 0} where
   waker_is_gone (written by made is m w) = elim made [ ]
 
   poll_leaves_3 : {h k : Home T H K} → Owned [] polled 3 h k → ⊥
-  poll_leaves_3 (both_open none stores here m w) = absurd (cc)
+  poll_leaves_3 (both_open none stores here m w) = cc
   poll_leaves_3 (claimed_overdue by found late here m w) = elim found [ ]
   poll_leaves_3 (sender_after by made is m w) = elim made [ ]
   poll_leaves_3 (written by made is m w) = elim made [ ]
@@ -109,7 +109,7 @@ module _ {T H K : Type 0} where
   poll_has_its_copy (written by made is m w) = elim made [ ]
 
   takes_back_and_leaves_0 : {h k : Home T H K} → Owned [] (exchanged_back 0) 0 h k → ⊥
-  takes_back_and_leaves_0 (waker_stored none stores here m w) = absurd (cc)
+  takes_back_and_leaves_0 (waker_stored none stores here m w) = cc
   takes_back_and_leaves_0 (sender_after by made is m w) = elim made [ ]
   takes_back_and_leaves_0 (written by made is m w) = elim made [ ]
 
@@ -120,13 +120,13 @@ module _ {T H K : Type 0} where
   takes_nothing_back k (written by made is m w) = elim made [ ]
 
   late_poll_leaves_0 : {h k : Home T H K} → Owned ((Add, Word 3) ∷ []) (polled_over 4) 0 h k → ⊥
-  late_poll_leaves_0 (waker_stored none stores here m w) = absurd (cc)
+  late_poll_leaves_0 (waker_stored none stores here m w) = cc
   late_poll_leaves_0 (sender_after by made is m w) = elim made [ ]
-  late_poll_leaves_0 (written by made is m w) = absurd (cc)
+  late_poll_leaves_0 (written by made is m w) = cc
 
   takes_back_over_1 : {h k : Home T H K} → Owned claims (exchanged_back 1) 3 h k → ⊥
-  takes_back_over_1 (both_open none stores here m w) = absurd (cc)
-  takes_back_over_1 (claimed_overdue by found late here m w) = absurd (cc)
+  takes_back_over_1 (both_open none stores here m w) = cc
+  takes_back_over_1 (claimed_overdue by found late here m w) = cc
   takes_back_over_1 (sender_after by made is m w) = elim made [ ]
   takes_back_over_1 (written by made is m w) = elim made [ ]
 

@@ -1,109 +1,91 @@
 -- What a list says after one more operation.
-use Rattle.std.proofs.Common.{◌≡◌, ℕ, List, [], ◌∷◌, ◌++◌, refl, ap, ◌∙◌}
+use Rattle.std.proofs.Common.{◌≡◌, ℕ, Bool, true, ◌&&◌, List, [], ◌∷◌, ◌++◌, Option, refl, ap, ◌∙◌}
+use Rattle.std.specs.List.{list_all}
+use Rattle.std.proofs.lemmas.Bool.{and_parts}
 use Rattle.oneshot_machine.specs.declared.machine.Seen.{Seen}
 use Rattle.oneshot_machine.specs.declared.states.Op.{Op}
 use Rattle.oneshot_machine.specs.Words.{Noted, saw}
-use Rattle.oneshot_machine.specs.Phases.{sending, dropping, SenderAt, sender_next, looked, between, blocked, polled, again, at_once, waited, by_future, by_poll, found_closed, closed_itself, ReceiverAt, receiver_next}
-use Rattle.oneshot_machine.specs.Slots.{Held, SenderFinds, add_empty, add_waker, add_gone, flip_empty, flip_waker, flip_gone, finish_send, finish_drop, finish_overdue_send, finish_overdue_drop, ReceiverFinds, first_empty, first_message, first_closed, load_empty, load_message, load_closed, load_over, load_resolved, store_empty, store_message, store_closed, wait_longer, wait_claimed, wait_message, wait_closed, stop_waiting, stop_claimed, stop_message, stop_closed, overdue_longer, overdue_message, overdue_closed, if_empty, if_message, if_closed, again_empty, again_message, again_closed, back_waiting, back_claimed, back_message, back_closed, spin_longer, spin_message, spin_closed, drop_withdrew_empty, drop_withdrew_message, drop_withdrew_closed, drop_full, drop_future, close, close_only, drop_first_empty, drop_first_message, drop_first_closed, drop_empty, drop_message, drop_closed, drop_over}
+use Rattle.oneshot_machine.specs.Phases.{sending, dropping, SenderAt, sender_next, Row, looked, blocked, storing, swapped, found_closed, ReceiverAt, here, waits, full, unclosed, over, resolved, receiver_moves, receiver_next}
+use Rattle.oneshot_machine.specs.Slots.{Held, head, tail, finds, SenderFinds, ReceiverFinds}
+use Rattle.oneshot_machine.proofs.Exactness.{each_passes}
 use Rattle.oneshot_word.specs.declared.rouse.Rouse.{Rouse}
 use Rattle.oneshot_word.specs.Lists.{send_found, drop_found, sent, sent_to_it, sent_to_overdue, dropped, dropped_before_it, dropped_before_overdue, sent_late, dropped_late, along, stores_next, overdue_next, gone_next, wrote_next}
 use Rattle.oneshot_word.specs.Rule.{stores_of, overdue_of, gone_of, wrote_of, SenderSays, says_none, says_owes, says_last, says_late, ReceiverSays}
+use Rattle.oneshot_word.proofs.Alike.{is_bool, bools_are, is_word, words_are}
 
 along-snoc : {A : Type 0} (next : A → Op → Seen → A) (a : A) (xs : List Noted) (x : Noted) → along next a (xs ++ x ∷ []) ≡ next (along next a xs) x.0 x.1
 along-snoc next a [] x = refl
 along-snoc next a (y ∷ xs) x = along-snoc next (next a y.0 y.1) xs x
 
--- what such an operation adds to what the receiver's list says
-record Adds (q : ReceiverAt) (op : Op) (seen : Seen) : Type 0 where
-  stores : stores_next (stores_of q) op seen ≡ stores_of (receiver_next q op seen)
-  overdue : overdue_next (overdue_of q) op seen ≡ overdue_of (receiver_next q op seen)
-  gone : gone_next (gone_of q) op seen ≡ gone_of (receiver_next q op seen)
-  wrote : wrote_next (wrote_of q) op seen ≡ wrote_of (receiver_next q op seen)
+-- all that is told by a receiver's list, so far and after one operation more
+abbrev Told : Type 0
+Told = Bool × Bool × Bool × Option ℕ
+
+abbrev told_at : ReceiverAt → Told
+told_at q = (stores_of q, overdue_of q, gone_of q, wrote_of q)
+
+abbrev told_next : Told → Op → Seen → Told
+told_next t op seen = (stores_next t.0 op seen, overdue_next t.1 op seen, gone_next t.2 op seen, wrote_next t.3 op seen)
+
+abbrev is_told : Told → Told → Bool
+is_told s t = is_bool s.0 t.0 && is_bool s.1 t.1 && is_bool s.2 t.2 && is_word s.3 t.3
+
+record Tells (s t : Told) : Type 0 where
+  stores : s.0 ≡ t.0
+  overdue : s.1 ≡ t.1
+  gone : s.2 ≡ t.2
+  wrote : s.3 ≡ t.3
+
+tells : (s t : Told) → is_told s t ≡ true → Tells s t
+tells s t all =
+    let wrote = and_parts (is_bool s.0 t.0 && is_bool s.1 t.1 && is_bool s.2 t.2) (is_word s.3 t.3) all in
+    let gone = and_parts (is_bool s.0 t.0 && is_bool s.1 t.1) (is_bool s.2 t.2) wrote.0 in
+    let first = and_parts (is_bool s.0 t.0) (is_bool s.1 t.1) gone.0 in
+    record {
+      stores = bools_are s.0 t.0 first.0;
+      overdue = bools_are s.1 t.1 first.1;
+      gone = bools_are s.2 t.2 gone.1;
+      wrote = words_are s.3 t.3 wrote.1;
+    }
+
+-- which is computed for each row of the receiver's table
+abbrev is_told_by : ReceiverAt → Row ReceiverAt → Bool
+is_told_by q row =
+    let seen = saw row.0 row.2 in is_told (told_next (told_at q) row.0 seen) (told_at (receiver_next q row.0 seen))
+
+told : (q : ReceiverAt) → list_all (is_told_by q) (receiver_moves q) ≡ true
+told (here looked) = refl
+told (waits blocked) = refl
+told (full (swapped storing)) = refl
+told (unclosed storing) = refl
+told (over found_closed) = refl
+told (resolved found_closed) = refl
+told _ = refl
 
 module _ {T H K : Type 0} where
-  pub sender_says : {xs : List Noted} {p : SenderAt} {op : Op} {m m' : Held T} {w w' : Held (Rouse H K)} (word : ℕ) → SenderFinds p op word m w m' w' → SenderSays xs p → SenderSays (xs ++ (op, saw op word) ∷ []) (sender_next p op (saw op word))
-  sender_says _ (add_empty x) says_none = says_last sending sent
-  sender_says _ (add_waker x k) says_none = says_owes sending send_found
-  sender_says _ (add_gone x) says_none = says_late sending 3 sent_late
-  sender_says _ flip_empty says_none = says_last dropping dropped
-  sender_says _ (flip_waker k) says_none = says_owes dropping drop_found
-  sender_says _ flip_gone says_none = says_late dropping 3 dropped_late
-  sender_says _ (finish_send x) (says_owes _ send_found) = says_last sending sent_to_it
-  sender_says _ finish_drop (says_owes _ drop_found) = says_last dropping dropped_before_it
-  sender_says _ (finish_overdue_send x) (says_owes _ send_found) = says_last sending sent_to_overdue
-  sender_says _ finish_overdue_drop (says_owes _ drop_found) = says_last dropping dropped_before_overdue
+  pub sender_says : {xs : List Noted} {p : SenderAt} {op : Op} {m m' : Held T} {w w' : Held (Rouse H K)} (word : ℕ) → SenderSays xs p → SenderFinds p op word m w m' w' → SenderSays (xs ++ (op, saw op word) ∷ []) (sender_next p op (saw op word))
+  sender_says _ says_none (finds head _ _) = says_last sending sent
+  sender_says _ says_none (finds (tail head) _ _) = says_owes sending send_found
+  sender_says _ says_none (finds (tail (tail head)) _ _) = says_late sending sent_late
+  sender_says _ says_none (finds (tail (tail (tail head))) _ _) = says_last dropping dropped
+  sender_says _ says_none (finds (tail (tail (tail (tail head)))) _ _) = says_owes dropping drop_found
+  sender_says _ says_none (finds (tail (tail (tail (tail (tail head))))) _ _) = says_late dropping dropped_late
+  sender_says _ (says_owes _ send_found) (finds head _ _) = says_last sending sent_to_it
+  sender_says _ (says_owes _ send_found) (finds (tail head) _ _) = says_last sending sent_to_overdue
+  sender_says _ (says_owes _ drop_found) (finds head _ _) = says_last dropping dropped_before_it
+  sender_says _ (says_owes _ drop_found) (finds (tail head) _ _) = says_last dropping dropped_before_overdue
+  sender_says _ says_none (finds (tail (tail (tail (tail (tail (tail there)))))) _ _) = elim there [ ]
+  sender_says _ (says_owes _ send_found) (finds (tail (tail there)) _ _) = elim there [ ]
+  sender_says _ (says_owes _ drop_found) (finds (tail (tail there)) _ _) = elim there [ ]
+  sender_says _ (says_last _ _) (finds there _ _) = elim there [ ]
+  sender_says _ (says_late _ _) (finds there _ _) = elim there [ ]
 
-  adds : {q : ReceiverAt} {op : Op} {m m' : Held T} {w w' : Held (Rouse H K)} (word : ℕ) → ReceiverFinds q op word m w m' w' → Adds q op (saw op word)
-  adds _ first_empty = record { stores = refl; overdue = refl; gone = refl; wrote = refl }
-  adds _ (first_message x) = record { stores = refl; overdue = refl; gone = refl; wrote = refl }
-  adds _ first_closed = record { stores = refl; overdue = refl; gone = refl; wrote = refl }
-  adds _ (load_empty o) = record { stores = refl; overdue = refl; gone = refl; wrote = refl }
-  adds _ (load_message o x) = record { stores = refl; overdue = refl; gone = refl; wrote = refl }
-  adds _ (load_closed o) = record { stores = refl; overdue = refl; gone = refl; wrote = refl }
-  adds _ (load_over found_closed) = record { stores = refl; overdue = refl; gone = refl; wrote = refl }
-  adds _ (load_over closed_itself) = record { stores = refl; overdue = refl; gone = refl; wrote = refl }
-  adds _ (load_resolved found_closed) = record { stores = refl; overdue = refl; gone = refl; wrote = refl }
-  adds _ (load_resolved closed_itself) = record { stores = refl; overdue = refl; gone = refl; wrote = refl }
-  adds _ (store_empty k) = record { stores = refl; overdue = refl; gone = refl; wrote = refl }
-  adds _ (store_message x k) = record { stores = refl; overdue = refl; gone = refl; wrote = refl }
-  adds _ (store_closed k) = record { stores = refl; overdue = refl; gone = refl; wrote = refl }
-  adds _ (wait_longer blocked) = record { stores = refl; overdue = refl; gone = refl; wrote = refl }
-  adds _ (wait_longer polled) = record { stores = refl; overdue = refl; gone = refl; wrote = refl }
-  adds _ (wait_longer again) = record { stores = refl; overdue = refl; gone = refl; wrote = refl }
-  adds _ (wait_claimed blocked) = record { stores = refl; overdue = refl; gone = refl; wrote = refl }
-  adds _ (wait_claimed polled) = record { stores = refl; overdue = refl; gone = refl; wrote = refl }
-  adds _ (wait_claimed again) = record { stores = refl; overdue = refl; gone = refl; wrote = refl }
-  adds _ (wait_message blocked x) = record { stores = refl; overdue = refl; gone = refl; wrote = refl }
-  adds _ (wait_message polled x) = record { stores = refl; overdue = refl; gone = refl; wrote = refl }
-  adds _ (wait_message again x) = record { stores = refl; overdue = refl; gone = refl; wrote = refl }
-  adds _ (wait_closed blocked) = record { stores = refl; overdue = refl; gone = refl; wrote = refl }
-  adds _ (wait_closed polled) = record { stores = refl; overdue = refl; gone = refl; wrote = refl }
-  adds _ (wait_closed again) = record { stores = refl; overdue = refl; gone = refl; wrote = refl }
-  adds _ (stop_waiting k) = record { stores = refl; overdue = refl; gone = refl; wrote = refl }
-  adds _ stop_claimed = record { stores = refl; overdue = refl; gone = refl; wrote = refl }
-  adds _ (stop_message x) = record { stores = refl; overdue = refl; gone = refl; wrote = refl }
-  adds _ stop_closed = record { stores = refl; overdue = refl; gone = refl; wrote = refl }
-  adds _ overdue_longer = record { stores = refl; overdue = refl; gone = refl; wrote = refl }
-  adds _ (overdue_message x) = record { stores = refl; overdue = refl; gone = refl; wrote = refl }
-  adds _ overdue_closed = record { stores = refl; overdue = refl; gone = refl; wrote = refl }
-  adds _ (if_empty k) = record { stores = refl; overdue = refl; gone = refl; wrote = refl }
-  adds _ (if_message x k) = record { stores = refl; overdue = refl; gone = refl; wrote = refl }
-  adds _ (if_closed k) = record { stores = refl; overdue = refl; gone = refl; wrote = refl }
-  adds _ (again_empty k) = record { stores = refl; overdue = refl; gone = refl; wrote = refl }
-  adds _ (again_message x k) = record { stores = refl; overdue = refl; gone = refl; wrote = refl }
-  adds _ (again_closed k) = record { stores = refl; overdue = refl; gone = refl; wrote = refl }
-  adds _ (back_waiting k) = record { stores = refl; overdue = refl; gone = refl; wrote = refl }
-  adds _ back_claimed = record { stores = refl; overdue = refl; gone = refl; wrote = refl }
-  adds _ (back_message x) = record { stores = refl; overdue = refl; gone = refl; wrote = refl }
-  adds _ back_closed = record { stores = refl; overdue = refl; gone = refl; wrote = refl }
-  adds _ spin_longer = record { stores = refl; overdue = refl; gone = refl; wrote = refl }
-  adds _ (spin_message x) = record { stores = refl; overdue = refl; gone = refl; wrote = refl }
-  adds _ spin_closed = record { stores = refl; overdue = refl; gone = refl; wrote = refl }
-  adds _ drop_withdrew_empty = record { stores = refl; overdue = refl; gone = refl; wrote = refl }
-  adds _ (drop_withdrew_message x) = record { stores = refl; overdue = refl; gone = refl; wrote = refl }
-  adds _ drop_withdrew_closed = record { stores = refl; overdue = refl; gone = refl; wrote = refl }
-  adds _ (drop_full x) = record { stores = refl; overdue = refl; gone = refl; wrote = refl }
-  adds _ (drop_future x) = record { stores = refl; overdue = refl; gone = refl; wrote = refl }
-  adds _ (close at_once n x) = record { stores = refl; overdue = refl; gone = refl; wrote = refl }
-  adds _ (close waited n x) = record { stores = refl; overdue = refl; gone = refl; wrote = refl }
-  adds _ (close by_future n x) = record { stores = refl; overdue = refl; gone = refl; wrote = refl }
-  adds _ (close by_poll n x) = record { stores = refl; overdue = refl; gone = refl; wrote = refl }
-  adds _ (close_only n) = record { stores = refl; overdue = refl; gone = refl; wrote = refl }
-  adds _ drop_first_empty = record { stores = refl; overdue = refl; gone = refl; wrote = refl }
-  adds _ (drop_first_message x) = record { stores = refl; overdue = refl; gone = refl; wrote = refl }
-  adds _ drop_first_closed = record { stores = refl; overdue = refl; gone = refl; wrote = refl }
-  adds _ (drop_empty looked) = record { stores = refl; overdue = refl; gone = refl; wrote = refl }
-  adds _ (drop_empty between) = record { stores = refl; overdue = refl; gone = refl; wrote = refl }
-  adds _ (drop_message looked x) = record { stores = refl; overdue = refl; gone = refl; wrote = refl }
-  adds _ (drop_message between x) = record { stores = refl; overdue = refl; gone = refl; wrote = refl }
-  adds _ (drop_closed looked) = record { stores = refl; overdue = refl; gone = refl; wrote = refl }
-  adds _ (drop_closed between) = record { stores = refl; overdue = refl; gone = refl; wrote = refl }
-  adds _ (drop_over found_closed) = record { stores = refl; overdue = refl; gone = refl; wrote = refl }
-  adds _ (drop_over closed_itself) = record { stores = refl; overdue = refl; gone = refl; wrote = refl }
+  adds : {q : ReceiverAt} {op : Op} {m m' : Held T} {w w' : Held (Rouse H K)} (word : ℕ) → ReceiverFinds q op word m w m' w' → Tells (told_next (told_at q) op (saw op word)) (told_at (receiver_next q op (saw op word)))
+  adds {q} word (finds row _ _) = tells _ _ (each_passes (is_told_by q) (receiver_moves q) (told q) row)
 
   pub receiver_says : {ys : List Noted} {q : ReceiverAt} {op : Op} {m m' : Held T} {w w' : Held (Rouse H K)} (word : ℕ) → ReceiverFinds q op word m w m' w' → ReceiverSays ys q → ReceiverSays (ys ++ (op, saw op word) ∷ []) (receiver_next q op (saw op word))
-  receiver_says {ys} {op} word finds says =
-      let more = adds word finds in
+  receiver_says {ys} {op} word found says =
+      let more = adds word found in
       record {
         stores = along-snoc stores_next _ ys (op, saw op word) ∙ ap (λ s. stores_next s op (saw op word)) says.stores ∙ more.stores;
         overdue = along-snoc overdue_next _ ys (op, saw op word) ∙ ap (λ s. overdue_next s op (saw op word)) says.overdue ∙ more.overdue;

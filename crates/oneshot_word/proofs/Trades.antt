@@ -1,16 +1,17 @@
 -- What is put into a slot of an end's is what the end has there then, and what it carries else stays.
-use Rattle.std.proofs.Common.{◌≡◌, ◌≢◌, ℕ, [], ◌∷◌, refl, sym, ap, ◌∙◌, subst}
+use Rattle.std.proofs.Common.{◌≡◌, ◌≢◌, ℕ, Bool, List, [], ◌∷◌, Option, refl, sym, ap, ◌∙◌, subst}
 use Rattle.atomic_table.specs.Seated.{TableId}
 use Rattle.atomic_table.specs.Table.{Me, rest, turned}
-use Rattle.oneshot_machine.specs.Phases.{SenderAt, sender_at, ReceiverAt, receiver_at}
+use Rattle.oneshot_machine.specs.Words.{Noted}
 use Rattle.oneshot_machine.specs.Slots.{Held, away, vacant, held}
 use Rattle.oneshot_word.specs.declared.rouse.Rouse.{Rouse}
 use Rattle.oneshot_word.specs.declared.rule.Slot.{Slot}
 use Rattle.oneshot_word.specs.declared.rouse.Rouse.TheVariants as R
 use Rattle.oneshot_word.specs.declared.rule.Slot.TheVariants.{Empty, Message, Thread, Task, Nobody}
 use Rattle.oneshot_word.specs.declared.rule.View.{View}
-use Rattle.oneshot_word.specs.Seats.{with_waker, Carried, message_of, waker_of, message_in, waker_in, MessageSlot, no_message, the_message, WakerSlot, no_waker, the_waker, SenderHas, has_fresh, has_owes, has_finished, has_late, ReceiverHas, has_first, has_here, has_waits, has_claimed, has_withdrew, has_overdue, has_full, has_unclosed, has_over, has_resolved, has_gone, has_ended, SenderSeat, ReceiverSeat}
-use Rattle.oneshot_word.specs.Sides.{Side, side_of}
+use Rattle.oneshot_word.specs.declared.rule.Role.{Role}
+use Rattle.oneshot_word.specs.Seats.{with_waker, Carried, message_of, waker_of, message_in, waker_in, MessageSlot, WakerSlot, slot_vacant, slot_held, not_carried, carried, Front, message_first, waker_first, SeatOf, seat_of, SeatIs, SenderSeat, ReceiverSeat}
+use Rattle.oneshot_word.specs.Side.{Side, side_of}
 
 reads_back : (T : Type 0) {H K : Type 0} (k : Rouse H K) → waker_of (with_waker {T = T} k) ≡ held k
 reads_back T (R.Thread half) = refl
@@ -19,54 +20,47 @@ reads_back T R.Nobody = refl
 
 module _ {T H K : Type 0} where
   message_reads : {s : Slot T H K} {m : Held T} → MessageSlot s m → message_of s ≡ m
-  message_reads no_message = refl
-  message_reads (the_message x) = refl
+  message_reads slot_vacant = refl
+  message_reads (slot_held x) = refl
 
   waker_reads : {t : Slot T H K} {w : Held (Rouse H K)} → WakerSlot t w → waker_of t ≡ w
-  waker_reads no_waker = refl
-  waker_reads (the_waker k) = reads_back T k
+  waker_reads slot_vacant = refl
+  waker_reads (slot_held k) = reads_back T k
 
   -- what is no waker may lie in a message's slot, and what is no message in a waker's
   pub fits_message : (s : Slot T H K) → waker_of s ≡ vacant → MessageSlot s (message_of s)
-  fits_message Empty e = no_message
-  fits_message (Message x) e = the_message x
-  fits_message (Thread half) e = absurd (cc)
-  fits_message (Task copy) e = absurd (cc)
-  fits_message Nobody e = absurd (cc)
+  fits_message Empty e = slot_vacant
+  fits_message (Message x) e = slot_held x
+  fits_message _ e = absurd (cc)
 
   pub fits_waker : (s : Slot T H K) → message_of s ≡ vacant → WakerSlot s (waker_of s)
-  fits_waker Empty e = no_waker
+  fits_waker Empty e = slot_vacant
   fits_waker (Message x) e = absurd (cc)
-  fits_waker (Thread half) e = the_waker (R.Thread half)
-  fits_waker (Task copy) e = the_waker (R.Task copy)
-  fits_waker Nobody e = the_waker R.Nobody
+  fits_waker (Thread half) e = slot_held (R.Thread half)
+  fits_waker (Task copy) e = slot_held (R.Task copy)
+  fits_waker Nobody e = slot_held R.Nobody
 
   -- what a seat carries reads as what its end has
   abbrev pub Reads : Carried T H K → Held T → Held (Rouse H K) → Type 0
   Reads c m w = (message_in c ≡ m) × (waker_in c ≡ w)
 
-  pub sender_reads : {p : SenderAt} {c : Carried T H K} {m : Held T} {w : Held (Rouse H K)} → SenderHas p c m w → Reads c m w
-  sender_reads (has_fresh slot) = (message_reads slot, refl)
-  sender_reads (has_owes by slot other) = (message_reads slot, waker_reads other)
-  sender_reads (has_finished by) = (refl, refl)
-  sender_reads (has_late by n slot other) = (message_reads slot, waker_reads other)
-
-  pub receiver_reads : {q : ReceiverAt} {c : Carried T H K} {m : Held T} {w : Held (Rouse H K)} → ReceiverHas q c m w → Reads c m w
-  receiver_reads has_first = (refl, refl)
-  receiver_reads (has_here f other) = (refl, waker_reads other)
-  receiver_reads (has_waits a) = (refl, refl)
-  receiver_reads has_claimed = (refl, refl)
-  receiver_reads (has_withdrew other) = (refl, waker_reads other)
-  receiver_reads has_overdue = (refl, refl)
-  receiver_reads (has_full g n slot other) = (message_reads slot, waker_reads other)
-  receiver_reads (has_unclosed n slot other) = (message_reads slot, waker_reads other)
-  receiver_reads (has_over c slot other) = (message_reads slot, waker_reads other)
-  receiver_reads (has_resolved c slot other) = (message_reads slot, waker_reads other)
-  receiver_reads has_gone = (refl, refl)
-  receiver_reads (has_ended slot other) = (message_reads slot, waker_reads other)
+  pub reads : {front : Front} {o : Option (Bool × Bool)} {c : Carried T H K} {m : Held T} {w : Held (Rouse H K)} → SeatOf front o c m w → Reads c m w
+  reads {front = message_first} (seat_of not_carried not_carried) = (refl, refl)
+  reads {front = message_first} (seat_of not_carried (carried other)) = (refl, waker_reads other)
+  reads {front = message_first} (seat_of (carried slot) not_carried) = (message_reads slot, refl)
+  reads {front = message_first} (seat_of (carried slot) (carried other)) = (message_reads slot, waker_reads other)
+  reads {front = waker_first} (seat_of not_carried not_carried) = (refl, refl)
+  reads {front = waker_first} (seat_of not_carried (carried other)) = (refl, waker_reads other)
+  reads {front = waker_first} (seat_of (carried slot) not_carried) = (message_reads slot, refl)
+  reads {front = waker_first} (seat_of (carried slot) (carried other)) = (message_reads slot, waker_reads other)
 
   pub as_read : (c : Carried T H K) {m : Held T} {w : Held (Rouse H K)} (P : Held T → Held (Rouse H K) → Type 0) → Reads c m w → P m w → P (message_in c) (waker_in c)
   as_read c {m} P reads p = subst (λ m. P m (waker_in c)) (sym reads.0) (subst (λ w. P m w) (sym reads.1) p)
+
+  -- the seat that an end has then
+  pub as_seat : {whose : Role} {front : Front} {owns : List Noted → Option (Bool × Bool)} {me : Me (Slot T H K) View} {m : Held T} {w : Held (Rouse H K)} → me.0.role ≡ whose → SeatOf front (owns me.0.steps) me.1 m w → SeatIs whose front owns me
+  as_seat {front} {owns} {me} role has =
+      record { role = role; has = as_read me.1 (λ m w. SeatOf front (owns me.0.steps) me.1 m w) (reads has) has }
 
   -- with something else in front
   abbrev pub renewed : ℕ → Carried T H K → Slot T H K → Carried T H K
@@ -87,46 +81,24 @@ module _ {T H K : Type 0} where
   TradeBehind place Fits Has c new = Trade place Fits Has (turned c) (turned (renewed place (turned c) new))
 
   -- in the sender's seat the waker's slot is in front, wherever it has both
-  sender_trades_message : {p : SenderAt} {c : Carried T H K} {m m' : Held T} {w : Held (Rouse H K)} {new : Slot T H K} → SenderHas p c m w → m ≢ away → MessageSlot new m' → TradeBehind 0 (λ s. MessageSlot s m) (λ c. SenderHas p c m' w) c new
-  sender_trades_message (has_fresh {s} slot) its new = record { was = s; fits = slot; in_front = refl; has = has_fresh new }
-  sender_trades_message (has_owes by {s} slot other) its new = record { was = s; fits = slot; in_front = refl; has = has_owes by new other }
-  sender_trades_message (has_finished by) its new = absurd (its refl)
-  sender_trades_message (has_late by n {s} slot other) its new = record { was = s; fits = slot; in_front = refl; has = has_late by n new other }
+  sender_trades_message : {o : Option (Bool × Bool)} {c : Carried T H K} {new : Slot T H K} {m m' : Held T} {w : Held (Rouse H K)} → SeatOf waker_first o c m w → m ≢ away → MessageSlot new m' → TradeBehind 0 (λ s. MessageSlot s m) (λ c. SeatOf waker_first o c m' w) c new
+  sender_trades_message (seat_of (carried {s} slot) not_carried) its new = record { was = s; fits = slot; in_front = refl; has = seat_of (carried new) not_carried }
+  sender_trades_message (seat_of (carried {s} slot) (carried other)) its new = record { was = s; fits = slot; in_front = refl; has = seat_of (carried new) (carried other) }
+  sender_trades_message _ its new = absurd (its refl)
 
-  sender_trades_waker : {p : SenderAt} {c : Carried T H K} {m : Held T} {w w' : Held (Rouse H K)} {new : Slot T H K} → SenderHas p c m w → w ≢ away → WakerSlot new w' → TradeHere 1 (λ s. WakerSlot s w) (λ c. SenderHas p c m w') c new
-  sender_trades_waker (has_fresh slot) its new = absurd (its refl)
-  sender_trades_waker (has_owes by {t} slot other) its new = record { was = t; fits = other; in_front = refl; has = has_owes by slot new }
-  sender_trades_waker (has_finished by) its new = absurd (its refl)
-  sender_trades_waker (has_late by n {t} slot other) its new = record { was = t; fits = other; in_front = refl; has = has_late by n slot new }
+  sender_trades_waker : {o : Option (Bool × Bool)} {c : Carried T H K} {new : Slot T H K} {m : Held T} {w w' : Held (Rouse H K)} → SeatOf waker_first o c m w → w ≢ away → WakerSlot new w' → TradeHere 1 (λ s. WakerSlot s w) (λ c. SeatOf waker_first o c m w') c new
+  sender_trades_waker (seat_of slot (carried {s = t} other)) its new = record { was = t; fits = other; in_front = refl; has = seat_of slot (carried new) }
+  sender_trades_waker _ its new = absurd (its refl)
 
   -- in the receiver's the message's
-  receiver_trades_message : {q : ReceiverAt} {c : Carried T H K} {m m' : Held T} {w : Held (Rouse H K)} {new : Slot T H K} → ReceiverHas q c m w → m ≢ away → MessageSlot new m' → TradeHere 0 (λ s. MessageSlot s m) (λ c. ReceiverHas q c m' w) c new
-  receiver_trades_message has_first its new = absurd (its refl)
-  receiver_trades_message (has_here f other) its new = absurd (its refl)
-  receiver_trades_message (has_waits a) its new = absurd (its refl)
-  receiver_trades_message has_claimed its new = absurd (its refl)
-  receiver_trades_message (has_withdrew other) its new = absurd (its refl)
-  receiver_trades_message has_overdue its new = absurd (its refl)
-  receiver_trades_message (has_full g n {s} slot other) its new = record { was = s; fits = slot; in_front = refl; has = has_full g n new other }
-  receiver_trades_message (has_unclosed n {s} slot other) its new = record { was = s; fits = slot; in_front = refl; has = has_unclosed n new other }
-  receiver_trades_message (has_over c {s} slot other) its new = record { was = s; fits = slot; in_front = refl; has = has_over c new other }
-  receiver_trades_message (has_resolved c {s} slot other) its new = record { was = s; fits = slot; in_front = refl; has = has_resolved c new other }
-  receiver_trades_message has_gone its new = absurd (its refl)
-  receiver_trades_message (has_ended {s} slot other) its new = record { was = s; fits = slot; in_front = refl; has = has_ended new other }
+  receiver_trades_message : {o : Option (Bool × Bool)} {c : Carried T H K} {new : Slot T H K} {m m' : Held T} {w : Held (Rouse H K)} → SeatOf message_first o c m w → m ≢ away → MessageSlot new m' → TradeHere 0 (λ s. MessageSlot s m) (λ c. SeatOf message_first o c m' w) c new
+  receiver_trades_message (seat_of (carried {s} slot) other) its new = record { was = s; fits = slot; in_front = refl; has = seat_of (carried new) other }
+  receiver_trades_message _ its new = absurd (its refl)
 
-  receiver_trades_waker : {q : ReceiverAt} {c : Carried T H K} {m : Held T} {w w' : Held (Rouse H K)} {new : Slot T H K} → ReceiverHas q c m w → w ≢ away → WakerSlot new w' → TradeBehind 1 (λ s. WakerSlot s w) (λ c. ReceiverHas q c m w') c new
-  receiver_trades_waker has_first its new = absurd (its refl)
-  receiver_trades_waker (has_here f {t} other) its new = record { was = t; fits = other; in_front = refl; has = has_here f new }
-  receiver_trades_waker (has_waits a) its new = absurd (its refl)
-  receiver_trades_waker has_claimed its new = absurd (its refl)
-  receiver_trades_waker (has_withdrew {t} other) its new = record { was = t; fits = other; in_front = refl; has = has_withdrew new }
-  receiver_trades_waker has_overdue its new = absurd (its refl)
-  receiver_trades_waker (has_full g n {t} slot other) its new = record { was = t; fits = other; in_front = refl; has = has_full g n slot new }
-  receiver_trades_waker (has_unclosed n {t} slot other) its new = record { was = t; fits = other; in_front = refl; has = has_unclosed n slot new }
-  receiver_trades_waker (has_over c {t} slot other) its new = record { was = t; fits = other; in_front = refl; has = has_over c slot new }
-  receiver_trades_waker (has_resolved c {t} slot other) its new = record { was = t; fits = other; in_front = refl; has = has_resolved c slot new }
-  receiver_trades_waker has_gone its new = absurd (its refl)
-  receiver_trades_waker (has_ended {t} slot other) its new = record { was = t; fits = other; in_front = refl; has = has_ended slot new }
+  receiver_trades_waker : {o : Option (Bool × Bool)} {c : Carried T H K} {new : Slot T H K} {m : Held T} {w w' : Held (Rouse H K)} → SeatOf message_first o c m w → w ≢ away → WakerSlot new w' → TradeBehind 1 (λ s. WakerSlot s w) (λ c. SeatOf message_first o c m w') c new
+  receiver_trades_waker (seat_of not_carried (carried {s = t} other)) its new = record { was = t; fits = other; in_front = refl; has = seat_of not_carried (carried new) }
+  receiver_trades_waker (seat_of (carried slot) (carried {s = t} other)) its new = record { was = t; fits = other; in_front = refl; has = seat_of (carried slot) (carried new) }
+  receiver_trades_waker _ its new = absurd (its refl)
 
   -- one slot alone can be in front
   slot_in_front : Slot T H K → Carried T H K → Slot T H K
@@ -150,21 +122,8 @@ module _ {T H K : Type 0} where
     seat : Seat (v, c)
     reads : Reads c m w
 
-  sender_seated : (before : Me (Slot T H K) View) (c : Carried T H K) {m : Held T} {w : Held (Rouse H K)} → SenderSeat before → SenderHas (sender_at before.0.steps) c m w → Seated SenderSeat before.0 c m w
-  sender_seated before c before_it has =
-      let reads = sender_reads has in
-      record {
-        seat = record { role = before_it.role; has = subst (λ (z : Held T × Held (Rouse H K)). SenderHas (sender_at before.0.steps) c z.0 z.1) (λ i. (sym reads.0 i, sym reads.1 i)) has };
-        reads = reads;
-      }
-
-  receiver_seated : (before : Me (Slot T H K) View) (c : Carried T H K) {m : Held T} {w : Held (Rouse H K)} → ReceiverSeat before → ReceiverHas (receiver_at before.0.steps) c m w → Seated ReceiverSeat before.0 c m w
-  receiver_seated before c before_it has =
-      let reads = receiver_reads has in
-      record {
-        seat = record { role = before_it.role; has = subst (λ (z : Held T × Held (Rouse H K)). ReceiverHas (receiver_at before.0.steps) c z.0 z.1) (λ i. (sym reads.0 i, sym reads.1 i)) has };
-        reads = reads;
-      }
+  seated : {whose : Role} {front : Front} {owns : List Noted → Option (Bool × Bool)} (before : Me (Slot T H K) View) (c : Carried T H K) {m : Held T} {w : Held (Rouse H K)} → SeatIs whose front owns before → SeatOf front (owns before.0.steps) c m w → Seated (SeatIs whose front owns) before.0 c m w
+  seated {owns} before c seat has = record { seat = as_seat {owns = owns} {me = (before.0, c)} seat.role has; reads = reads has }
 
   trade_done : {place : ℕ} {Fits : Slot T H K → Type 0} {Seat : Me (Slot T H K) View → Type 0} {Has : Carried T H K → Type 0} {front c : Carried T H K} {old : Slot T H K} {m : Held T} {w : Held (Rouse H K)} (before after : Me (Slot T H K) View) → Trade place Fits Has front c → Seated Seat before.0 c m w → front ≡ renewed place front old → after ≡ (before.0, c) → Traded Fits Seat before after old m w
   trade_done {Fits} {Seat} before after t s here is =
@@ -196,36 +155,36 @@ module _ {T H K : Type 0} where
       (t.was, subst (λ (l : Carried T H K). l ≡ renewed place l t.was) (sym (ap (λ (m : Me (Slot T H K) View). m.1) turn)) t.in_front)
 
   pub sender_message_front : (before there : Me (Slot T H K) View) → SenderSeat before → message_in before.1 ≢ away → there ≡ (before.0, turned before.1) → (old : Slot T H K) × (there.1 ≡ renewed 0 there.1 old)
-  sender_message_front before there seat its turn = front_there before there (sender_trades_message seat.has its no_message) turn
+  sender_message_front before there seat its turn = front_there before there (sender_trades_message seat.has its slot_vacant) turn
 
   pub sender_message_traded : (before there traded after : Me (Slot T H K) View) {old new : Slot T H K} {m : Held T} → SenderSeat before → message_in before.1 ≢ away → MessageSlot new m → Turned 0 before there traded after old new
       → Traded (λ s. MessageSlot s (message_in before.1)) SenderSeat before after old m (waker_in before.1)
   sender_message_traded before there traded after seat its fits turns =
-      let t = sender_trades_message seat.has its fits in trade_done before after t (sender_seated before _ seat t.has) (turned_front turns) (turned_back turns)
+      let t = sender_trades_message seat.has its fits in trade_done before after t (seated before _ seat t.has) (turned_front turns) (turned_back turns)
 
   pub sender_waker_front : (before : Me (Slot T H K) View) → SenderSeat before → waker_in before.1 ≢ away → (old : Slot T H K) × (before.1 ≡ renewed 1 before.1 old)
-  sender_waker_front before seat its = let t = sender_trades_waker seat.has its no_waker in (t.was, t.in_front)
+  sender_waker_front before seat its = let t = sender_trades_waker seat.has its slot_vacant in (t.was, t.in_front)
 
   pub sender_waker_traded : (before after : Me (Slot T H K) View) {old new : Slot T H K} {w : Held (Rouse H K)} → SenderSeat before → waker_in before.1 ≢ away → WakerSlot new w → before.1 ≡ renewed 1 before.1 old → after ≡ (before.0, renewed 1 before.1 new)
       → Traded (λ s. WakerSlot s (waker_in before.1)) SenderSeat before after old (message_in before.1) w
   sender_waker_traded before after seat its fits front is =
-      let t = sender_trades_waker seat.has its fits in trade_done before after t (sender_seated before _ seat t.has) front is
+      let t = sender_trades_waker seat.has its fits in trade_done before after t (seated before _ seat t.has) front is
 
   pub receiver_message_front : (before : Me (Slot T H K) View) → ReceiverSeat before → message_in before.1 ≢ away → (old : Slot T H K) × (before.1 ≡ renewed 0 before.1 old)
-  receiver_message_front before seat its = let t = receiver_trades_message seat.has its no_message in (t.was, t.in_front)
+  receiver_message_front before seat its = let t = receiver_trades_message seat.has its slot_vacant in (t.was, t.in_front)
 
   pub receiver_message_traded : (before after : Me (Slot T H K) View) {old new : Slot T H K} {m : Held T} → ReceiverSeat before → message_in before.1 ≢ away → MessageSlot new m → before.1 ≡ renewed 0 before.1 old → after ≡ (before.0, renewed 0 before.1 new)
       → Traded (λ s. MessageSlot s (message_in before.1)) ReceiverSeat before after old m (waker_in before.1)
   receiver_message_traded before after seat its fits front is =
-      let t = receiver_trades_message seat.has its fits in trade_done before after t (receiver_seated before _ seat t.has) front is
+      let t = receiver_trades_message seat.has its fits in trade_done before after t (seated before _ seat t.has) front is
 
   pub receiver_waker_front : (before there : Me (Slot T H K) View) → ReceiverSeat before → waker_in before.1 ≢ away → there ≡ (before.0, turned before.1) → (old : Slot T H K) × (there.1 ≡ renewed 1 there.1 old)
-  receiver_waker_front before there seat its turn = front_there before there (receiver_trades_waker seat.has its no_waker) turn
+  receiver_waker_front before there seat its turn = front_there before there (receiver_trades_waker seat.has its slot_vacant) turn
 
   pub receiver_waker_traded : (before there traded after : Me (Slot T H K) View) {old new : Slot T H K} {w : Held (Rouse H K)} → ReceiverSeat before → waker_in before.1 ≢ away → WakerSlot new w → Turned 1 before there traded after old new
       → Traded (λ s. WakerSlot s (waker_in before.1)) ReceiverSeat before after old (message_in before.1) w
   receiver_waker_traded before there traded after seat its fits turns =
-      let t = receiver_trades_waker seat.has its fits in trade_done before after t (receiver_seated before _ seat t.has) (turned_front turns) (turned_back turns)
+      let t = receiver_trades_waker seat.has its fits in trade_done before after t (seated before _ seat t.has) (turned_front turns) (turned_back turns)
 
   -- and what their ends' sides show then
   pub message_side : {Fits : Slot T H K → Type 0} {Seat : Me (Slot T H K) View → Type 0} (table table' : TableId) (before after : Me (Slot T H K) View) {old : Slot T H K} {m : Held T} (now : Side T (Rouse H K)) → side_of table before ≡ now → table' ≡ table → Traded Fits Seat before after old m (waker_in before.1) → side_of table' after ≡ record now { message = m }

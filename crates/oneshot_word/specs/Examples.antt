@@ -5,7 +5,7 @@ use Rattle.oneshot_machine.specs.declared.states.Op.TheVariants.{Load, Store, Sw
 use Rattle.oneshot_machine.specs.Words.{Noted}
 use Rattle.oneshot_word.specs.declared.rouse.Rouse.{Rouse}
 use Rattle.oneshot_word.specs.Lists.{stores_waker, is_overdue, is_gone, wrote_since}
-use Rattle.oneshot_word.specs.Rows.{Owned}
+use Rattle.oneshot_word.specs.ReadRule.{Owned}
 use Rattle.oneshot_word.specs.Rule.{Home, out, bare, has_message, has_waker}
 
 -- A receiver that waits; that stopped in time, too late, over the message, or over the sender's end; and

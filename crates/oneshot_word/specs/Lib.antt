@@ -1,7 +1,7 @@
 pub mod Lists
 pub mod Seats
 pub mod Rule
-pub mod Rows
-pub mod Sides
+pub mod ReadRule
+pub mod Side
 pub mod Plays
 pub mod Examples

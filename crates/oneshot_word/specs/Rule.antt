@@ -1,8 +1,8 @@
--- The rule of the table as its steps keep it: a row for each pair of phases in which the ends can be.
-use Rattle.std.specs.Prelude.{◌≡◌, ℕ, Bool, true, false, ◌==◌, if◌then◌else◌, List, [], ◌∷◌, Option, Some, None}
+-- The rule of the table as its steps keep it: the word for each pair of phases, and where each slot is.
+use Rattle.std.specs.Prelude.{◌≡◌, ℕ, Bool, true, false, ◌||◌, if◌then◌else◌, List, [], ◌∷◌, Option, Some, None}
 use mathlib.Core.Option as maybe
 use Rattle.oneshot_machine.specs.Words.{Noted}
-use Rattle.oneshot_machine.specs.Phases.{By, sending, dropping, SenderAt, fresh, owes, finished, late, sender_at, Open, Waiting, Got, waited, found_closed, closed_itself, ReceiverAt, first, here, waits, claimed, withdrew, overdue, full, unclosed, over, resolved, gone, ended, receiver_at}
+use Rattle.oneshot_machine.specs.Phases.{By, sending, dropping, SenderAt, fresh, owes, finished, late, sender_at, sender_owns, swapped, found_closed, closed_itself, ReceiverAt, first, here, waits, claimed, withdrew, overdue, full, unclosed, over, resolved, gone, ended, receiver_at, receiver_owns, swapped_in, word_of, Share, none, empty, filled}
 use Rattle.oneshot_word.specs.declared.rule.Role.TheVariants.{Maker, Dealer, Sender, Receiver}
 use Rattle.oneshot_word.specs.declared.rouse.Rouse.{Rouse}
 use Rattle.oneshot_word.specs.declared.rule.Slot.{Slot}
@@ -28,45 +28,83 @@ module _ {T H K : Type 0} where
   abbrev pub has_waker : Rouse H K → Home T H K
   has_waker k = maybe.some (with_waker k)
 
+-- the sender's last word, where the receiver was here
+abbrev pub final_word : By → ℕ
+final_word sending = 4
+final_word dropping = 2
+
+-- The word while both ends are so far. There is none where they never are.
+abbrev pub word_between : SenderAt → ReceiverAt → Option ℕ
+-- the sender has made no operation
+word_between fresh first = Some 3
+word_between fresh (here open_at) = Some 3
+word_between fresh (waits waiting) = Some 0
+word_between fresh withdrew = Some 3
+word_between fresh gone = Some 2
+-- it found 0, and its final swap is to come
+word_between (owes by) (waits waiting) = Some 1
+word_between (owes by) claimed = Some 1
+word_between (owes by) overdue = Some 3
+-- its last operation found 2
+word_between (late by) gone = Some 3
+-- its last operation is made, and the receiver has made none since
+word_between (finished by) first = Some (final_word by)
+word_between (finished by) (here open_at) = Some (final_word by)
+word_between (finished by) (waits waiting) = Some (final_word by)
+word_between (finished by) claimed = Some (final_word by)
+word_between (finished by) withdrew = Some (final_word by)
+word_between (finished by) overdue = Some (final_word by)
+-- the receiver has made one since
+word_between (finished sending) (full got) = Some (word_of got)
+word_between (finished dropping) (unclosed swapping) = Some (swapped_in swapping)
+word_between (finished dropping) (over found_closed) = Some 2
+word_between (finished dropping) (resolved found_closed) = Some 2
+word_between (finished by) (over closed_itself) = Some 2
+word_between (finished by) (resolved closed_itself) = Some 2
+word_between (finished by) ended = Some 2
+-- never
+word_between _ _ = None
+
+-- A slot that is neither end's is at home. The message's is filled once the sender has sent, and the
+-- waker's while the receiver waits and the sender has made no operation.
+abbrev pub message_left : SenderAt → Share
+message_left (finished sending) = filled
+message_left _ = empty
+
+abbrev pub waker_left : SenderAt → ReceiverAt → Share
+waker_left fresh (waits waiting) = filled
+waker_left _ _ = empty
+
+-- what of both slots is an end's
+abbrev pub has_slots : Option (Bool × Bool) → Bool × Bool
+has_slots (Some slots) = slots
+has_slots None = (false, false)
+
+-- what is at home of a slot: nothing while it is an end's
+abbrev pub message_home : SenderAt → ReceiverAt → Share
+message_home p q =
+    if (has_slots (sender_owns p)).0 || (has_slots (receiver_owns q)).0 then none else message_left p
+
+abbrev pub waker_home : SenderAt → ReceiverAt → Share
+waker_home p q =
+    if (has_slots (sender_owns p)).1 || (has_slots (receiver_owns q)).1 then none else waker_left p q
+
+-- a home of which the table has this share
+pub data Lies {T H K X : Type 0} (put : X → Slot T H K) : Share → Home T H K → Type 0 where
+  lies_out : Lies put none out
+  lies_bare : Lies put empty bare
+  lies_filled : (x : X) → Lies put filled (maybe.some (put x))
+
+-- the number that is there
+pub data Is : Option ℕ → ℕ → Type 0 where
+  is : {word : ℕ} → Is (Some word) word
+
 -- the sender, the receiver, the word, and what is at home of the message's slot and of the waker's
-pub data Row (T H K : Type 0) : SenderAt → ReceiverAt → ℕ → Home T H K → Home T H K → Type 0 where
-  -- the sender has made no operation
-  both_new : Row T H K fresh first 3 out bare
-  both_here : (f : Open) → Row T H K fresh (here f) 3 out out
-  receiver_waits : (k : Rouse H K) (a : Waiting) → Row T H K fresh (waits a) 0 out (has_waker k)
-  both_withdrew : Row T H K fresh withdrew 3 out out
-  receiver_went : Row T H K fresh gone 2 out bare
-  -- it found 0, and its final swap is to come
-  sender_owes : (by : By) (a : Waiting) → Row T H K (owes by) (waits a) 1 out out
-  owes_claimed : (by : By) → Row T H K (owes by) claimed 1 out out
-  owes_overdue : (by : By) → Row T H K (owes by) overdue 3 out out
-  -- its last operation found 2
-  sender_late : (by : By) → Row T H K (late by 3) gone 3 out out
-  -- it sent, and the receiver has made no operation since
-  message_new : (m : T) → Row T H K (finished sending) first 4 (has_message m) bare
-  message_left : (m : T) (f : Open) → Row T H K (finished sending) (here f) 4 (has_message m) out
-  message_waited : (m : T) (a : Waiting) → Row T H K (finished sending) (waits a) 4 (has_message m) bare
-  message_claimed : (m : T) → Row T H K (finished sending) claimed 4 (has_message m) bare
-  message_withdrew : (m : T) → Row T H K (finished sending) withdrew 4 (has_message m) out
-  message_overdue : (m : T) → Row T H K (finished sending) overdue 4 (has_message m) bare
-  -- it dropped, and the receiver has made no operation since
-  nothing_new : Row T H K (finished dropping) first 2 bare bare
-  nothing_left : (f : Open) → Row T H K (finished dropping) (here f) 2 bare out
-  nothing_waited : (a : Waiting) → Row T H K (finished dropping) (waits a) 2 bare bare
-  nothing_claimed : Row T H K (finished dropping) claimed 2 bare bare
-  nothing_withdrew : Row T H K (finished dropping) withdrew 2 bare out
-  nothing_overdue : Row T H K (finished dropping) overdue 2 bare bare
-  -- the receiver has made one since
-  message_found : (g : Got) → Row T H K (finished sending) (full g 4) 4 out out
-  message_swapped : Row T H K (finished sending) (full waited 0) 0 out out
-  message_stopped : Row T H K (finished sending) (full waited 3) 3 out out
-  nothing_found : Row T H K (finished dropping) (over found_closed) 2 out out
-  nothing_resolved : Row T H K (finished dropping) (resolved found_closed) 2 out out
-  nothing_swapped : Row T H K (finished dropping) (unclosed 0) 0 out out
-  nothing_stopped : Row T H K (finished dropping) (unclosed 3) 3 out out
-  receiver_closed : (by : By) → Row T H K (finished by) (over closed_itself) 2 out out
-  receiver_resolved : (by : By) → Row T H K (finished by) (resolved closed_itself) 2 out out
-  both_went : (by : By) → Row T H K (finished by) ended 2 out out
+pub data Meet (T H K : Type 0) (p : SenderAt) (q : ReceiverAt)
+    : ℕ → Home T H K → Home T H K → Type 0 where
+  meet : {word : ℕ} {h k : Home T H K} → Is (word_between p q) word
+      → Lies Message (message_home p q) h → Lies with_waker (waker_home p q) k
+      → Meet T H K p q word h k
 
 -- what a list says that is so far
 abbrev pub stores_of : ReceiverAt → Bool
@@ -84,8 +122,8 @@ gone_of ended = true
 gone_of _ = false
 
 abbrev pub wrote_of : ReceiverAt → Option ℕ
-wrote_of (full g n) = if n == 4 then None else Some n
-wrote_of (unclosed n) = Some n
+wrote_of (full (swapped by)) = Some (swapped_in by)
+wrote_of (unclosed by) = Some (swapped_in by)
 wrote_of (over closed_itself) = Some 2
 wrote_of (resolved closed_itself) = Some 2
 wrote_of ended = Some 2
@@ -95,7 +133,7 @@ pub data SenderSays : List Noted → SenderAt → Type 0 where
   says_none : SenderSays [] fresh
   says_owes : {xs : List Noted} (by : By) → FoundZero by xs → SenderSays xs (owes by)
   says_last : {xs : List Noted} (by : By) → MadeLast by xs → SenderSays xs (finished by)
-  says_late : {xs : List Noted} (by : By) (w : ℕ) → MadeLate by w xs → SenderSays xs (late by w)
+  says_late : {xs : List Noted} (by : By) → MadeLate by 3 xs → SenderSays xs (late by)
 
 pub record ReceiverSays (ys : List Noted) (q : ReceiverAt) : Type 0 where
   pub stores : stores_waker ys ≡ stores_of q
@@ -109,8 +147,8 @@ pub data Tied {T H K : Type 0} : List ℕ → List (Home T H K) → List View �
   opened : Tied (3 ∷ []) (bare ∷ bare ∷ []) (view Maker [] ∷ [])
   -- its maker has the message's slot
   dealt : Tied (3 ∷ []) (out ∷ bare ∷ []) (view Dealer [] ∷ [])
-  -- both ends are there, and then as the rows say
+  -- both ends are there, and then as the table above says
   runs : {w : ℕ} {h k : Home T H K} (xs ys : List Noted)
       → SenderSays xs (sender_at xs) → ReceiverSays ys (receiver_at ys)
-      → Row T H K (sender_at xs) (receiver_at ys) w h k
+      → Meet T H K (sender_at xs) (receiver_at ys) w h k
       → Tied (w ∷ []) (h ∷ k ∷ []) (view Sender xs ∷ view Receiver ys ∷ [])

@@ -1,11 +1,11 @@
 -- What a seat of the table knows and carries, and what a step does to it.
-use Rattle.std.specs.Prelude.{◌≡◌, ◌≤◌, ℕ, zero, suc, List, [], ◌∷◌, ◌++◌}
+use Rattle.std.specs.Prelude.{◌≡◌, ◌≤◌, ℕ, zero, suc, Bool, true, false, List, [], ◌∷◌, ◌++◌, Option, Some}
 use Rattle.atomic_table.specs.Seated.{TableId}
 use Rattle.atomic_table.specs.Table.{Me}
 use Rattle.oneshot_machine.specs.declared.states.Op.{Op}
 use Rattle.oneshot_machine.specs.Words.{Noted, saw}
-use Rattle.oneshot_machine.specs.Phases.{By, SenderAt, fresh, owes, finished, late, sender_at, Open, Waiting, Got, Closing, ReceiverAt, first, here, waits, claimed, withdrew, overdue, full, unclosed, over, resolved, gone, ended, receiver_at}
-use Rattle.oneshot_machine.specs.Slots.{Held, away, vacant, held, SenderFinds, ReceiverFinds}
+use Rattle.oneshot_machine.specs.Phases.{sender_at, sender_moves, sender_owns, receiver_at, receiver_moves, receiver_owns, Row}
+use Rattle.oneshot_machine.specs.Slots.{Held, away, vacant, held, Finds}
 use Rattle.oneshot_word.specs.declared.rule.Role.{Role}
 use Rattle.oneshot_word.specs.declared.rule.Role.TheVariants.{Sender, Receiver}
 use Rattle.oneshot_word.specs.declared.rouse.Rouse.{Rouse}
@@ -53,75 +53,77 @@ module _ {T H K : Type 0} where
   waker_in ((zero, s) ∷ c) = waker_in c
   waker_in ((suc n, s) ∷ c) = waker_of s
 
--- a message's slot never holds a waker
-pub data MessageSlot {T H K : Type 0} : Slot T H K → Held T → Type 0 where
-  no_message : MessageSlot Empty vacant
-  the_message : (m : T) → MessageSlot (Message m) (held m)
+-- a slot as its end sees it: empty, or with a value that was put in so
+pub data SlotOf {T H K X : Type 0} (put : X → Slot T H K) : Slot T H K → Held X → Type 0 where
+  slot_vacant : SlotOf put Empty vacant
+  slot_held : (x : X) → SlotOf put (put x) (held x)
 
--- nor a waker's slot a message
-pub data WakerSlot {T H K : Type 0} : Slot T H K → Held (Rouse H K) → Type 0 where
-  no_waker : WakerSlot Empty vacant
-  the_waker : (k : Rouse H K) → WakerSlot (with_waker k) (held k)
+module _ {T H K : Type 0} where
+  -- a message's slot never holds a waker
+  abbrev pub MessageSlot : Slot T H K → Held T → Type 0
+  MessageSlot = SlotOf Message
 
--- what an end carries by how far it is, the slot in front first
-pub data SenderHas {T H K : Type 0} : SenderAt → Carried T H K → Held T → Held (Rouse H K) → Type 0 where
-  has_fresh : {s : Slot T H K} {m : Held T} → MessageSlot s m → SenderHas fresh ((0, s) ∷ []) m away
-  has_owes : (by : By) {s t : Slot T H K} {m : Held T} {w : Held (Rouse H K)}
-      → MessageSlot s m → WakerSlot t w → SenderHas (owes by) ((1, t) ∷ (0, s) ∷ []) m w
-  has_finished : (by : By) → SenderHas (finished by) [] away away
-  has_late : (by : By) (n : ℕ) {s t : Slot T H K} {m : Held T} {w : Held (Rouse H K)}
-      → MessageSlot s m → WakerSlot t w → SenderHas (late by n) ((1, t) ∷ (0, s) ∷ []) m w
+  -- nor a waker's slot a message
+  abbrev pub WakerSlot : Slot T H K → Held (Rouse H K) → Type 0
+  WakerSlot = SlotOf with_waker
 
-pub data ReceiverHas {T H K : Type 0} : ReceiverAt → Carried T H K → Held T → Held (Rouse H K) → Type 0 where
-  has_first : ReceiverHas first [] away away
-  has_here : (f : Open) {t : Slot T H K} {w : Held (Rouse H K)}
-      → WakerSlot t w → ReceiverHas (here f) ((1, t) ∷ []) away w
-  has_waits : (a : Waiting) → ReceiverHas (waits a) [] away away
-  has_claimed : ReceiverHas claimed [] away away
-  has_withdrew : {t : Slot T H K} {w : Held (Rouse H K)}
-      → WakerSlot t w → ReceiverHas withdrew ((1, t) ∷ []) away w
-  has_overdue : ReceiverHas overdue [] away away
-  has_full : (g : Got) (n : ℕ) {s t : Slot T H K} {m : Held T} {w : Held (Rouse H K)}
-      → MessageSlot s m → WakerSlot t w → ReceiverHas (full g n) ((0, s) ∷ (1, t) ∷ []) m w
-  has_unclosed : (n : ℕ) {s t : Slot T H K} {m : Held T} {w : Held (Rouse H K)}
-      → MessageSlot s m → WakerSlot t w → ReceiverHas (unclosed n) ((0, s) ∷ (1, t) ∷ []) m w
-  has_over : (c : Closing) {s t : Slot T H K} {m : Held T} {w : Held (Rouse H K)}
-      → MessageSlot s m → WakerSlot t w → ReceiverHas (over c) ((0, s) ∷ (1, t) ∷ []) m w
-  has_resolved : (c : Closing) {s t : Slot T H K} {m : Held T} {w : Held (Rouse H K)}
-      → MessageSlot s m → WakerSlot t w → ReceiverHas (resolved c) ((0, s) ∷ (1, t) ∷ []) m w
-  has_gone : ReceiverHas gone [] away away
-  has_ended : {s t : Slot T H K} {m : Held T} {w : Held (Rouse H K)}
-      → MessageSlot s m → WakerSlot t w → ReceiverHas ended ((0, s) ∷ (1, t) ∷ []) m w
+-- what a seat carries of the slot with this number, where it is its end's, and where it is not
+pub data Part {T H K X : Type 0} (place : ℕ) (put : X → Slot T H K)
+    : Bool → Carried T H K → Held X → Type 0 where
+  not_carried : Part place put false [] away
+  carried : {s : Slot T H K} {x : Held X} → SlotOf put s x → Part place put true ((place, s) ∷ []) x
+
+-- which slot a seat that carries both has in front: the one that it took last
+pub data Front : Type 0 where
+  message_first : Front
+  waker_first : Front
+
+module _ {T H K : Type 0} where
+  -- both parts together
+  abbrev pub carried_as : Front → Carried T H K → Carried T H K → Carried T H K
+  carried_as message_first message waker = message ++ waker
+  carried_as waker_first message waker = waker ++ message
+
+  -- what a seat carries whose end has these slots
+  pub data SeatOf (front : Front)
+      : Option (Bool × Bool) → Carried T H K → Held T → Held (Rouse H K) → Type 0 where
+    seat_of : {message waker : Bool} {cm cw : Carried T H K} {m : Held T} {w : Held (Rouse H K)}
+        → Part 0 Message message cm m → Part 1 with_waker waker cw w
+        → SeatOf front (Some (message, waker)) (carried_as front cm cw) m w
 
 -- a seat at a table of one word and two slots
-pub record IsAt (board seat : TableId) : Type 0 where
-  pub table : seat ≡ board
+pub record IsAt (shared seat : TableId) : Type 0 where
+  pub table : seat ≡ shared
   pub words : seat.words ≡ 1
   pub slots : seat.slots ≡ 2
 
+-- an end's seat: whose it is, and what it carries by how far its end is
+pub record SeatIs {T H K : Type 0} (whose : Role) (front : Front) (owns : List Noted → Option (Bool × Bool))
+    (me : Me (Slot T H K) View) : Type 0 where
+  pub role : me.0.role ≡ whose
+  pub has : SeatOf front (owns me.0.steps) me.1 (message_in me.1) (waker_in me.1)
+
 module _ {T H K : Type 0} where
-  -- an end's seat: whose it is, and what it carries
-  pub record SenderSeat (me : Me (Slot T H K) View) : Type 0 where
-    pub role : me.0.role ≡ Sender
-    pub has : SenderHas (sender_at me.0.steps) me.1 (message_in me.1) (waker_in me.1)
+  abbrev pub SenderSeat : Me (Slot T H K) View → Type 0
+  SenderSeat = SeatIs Sender waker_first (λ xs. sender_owns (sender_at xs))
 
-  pub record ReceiverSeat (me : Me (Slot T H K) View) : Type 0 where
-    pub role : me.0.role ≡ Receiver
-    pub has : ReceiverHas (receiver_at me.0.steps) me.1 (message_in me.1) (waker_in me.1)
+  abbrev pub ReceiverSeat : Me (Slot T H K) View → Type 0
+  ReceiverSeat = SeatIs Receiver message_first (λ ys. receiver_owns (receiver_at ys))
 
-  -- a seat before and after an operation that found this word
-  pub record SenderStepped
-      (before : Me (Slot T H K) View) (op : Op) (word : ℕ) (after : Me (Slot T H K) View) : Type 0 where
-    pub list : after.0.steps ≡ before.0.steps ++ (op, saw op word) ∷ []
-    pub seat : SenderSeat after
-    pub finds : SenderFinds (sender_at before.0.steps) op word
-        (message_in before.1) (waker_in before.1) (message_in after.1) (waker_in after.1)
+-- a seat before and after an operation that found this word
+pub record Stepped {T H K At : Type 0} (Seat : Me (Slot T H K) View → Type 0)
+    (at : List Noted → At) (moves : At → List (Row At))
+    (before : Me (Slot T H K) View) (op : Op) (word : ℕ) (after : Me (Slot T H K) View) : Type 0 where
+  pub list : after.0.steps ≡ before.0.steps ++ (op, saw op word) ∷ []
+  pub seat : Seat after
+  -- a store's list does not tell the word
+  pub code : word ≤ 4
+  pub finds : Finds moves (at before.0.steps) op word
+      (message_in before.1) (waker_in before.1) (message_in after.1) (waker_in after.1)
 
-  pub record ReceiverStepped
-      (before : Me (Slot T H K) View) (op : Op) (word : ℕ) (after : Me (Slot T H K) View) : Type 0 where
-    pub list : after.0.steps ≡ before.0.steps ++ (op, saw op word) ∷ []
-    pub seat : ReceiverSeat after
-    -- a store's list does not tell the word
-    pub code : word ≤ 4
-    pub finds : ReceiverFinds (receiver_at before.0.steps) op word
-        (message_in before.1) (waker_in before.1) (message_in after.1) (waker_in after.1)
+module _ {T H K : Type 0} where
+  abbrev pub SenderStepped : Me (Slot T H K) View → Op → ℕ → Me (Slot T H K) View → Type 0
+  SenderStepped = Stepped SenderSeat sender_at sender_moves
+
+  abbrev pub ReceiverStepped : Me (Slot T H K) View → Op → ℕ → Me (Slot T H K) View → Type 0
+  ReceiverStepped = Stepped ReceiverSeat receiver_at receiver_moves

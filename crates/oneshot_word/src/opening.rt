@@ -1,7 +1,7 @@
 //! How a channel's table is made.
 
 ghost use Rattle.std.specs.Prelude.{◌≡◌, [], ◌∷◌, IfOk};
-ghost use Rattle.oneshot_word.specs.Sides.{AreEnds};
+ghost use Rattle.oneshot_word.specs.Side.{AreEnds};
 ghost use Rattle.oneshot_word.specs.declared.rule.Slot.TheVariants.{Empty};
 
 use crate::plays::{Deals, Halves};
@@ -19,17 +19,17 @@ pub fn open<T: Send + Drop, H: Send + Drop, K: Send + Drop>(
 ) -> Result<(SenderSide<T, H, K>, ReceiverSide<T, H, K>), AllocError>
     ensures { IfOk result (λ sides. AreEnds sides.0 sides.1) }
 {
-    let Ok((table, mut chair)) = Table::new(alloc, &[EMPTY as u64], empty_slots(alloc)?, &()) else {
+    let Ok((made, mut seat)) = Table::new(alloc, &[EMPTY as u64], empty_slots(alloc)?, &()) else {
         return Err(AllocError);
     };
-    table.shared.load::<Deals>(&mut chair, 0);
-    let other = table.shared.split_seat::<Halves>(&mut chair);
-    let board = Arc::new(alloc, table)?;
-    let shared = Arc::try_clone(&board)?;
-    let sender = SenderSide::new(board, chair);
+    made.shared.load::<Deals>(&mut seat, 0);
+    let other = made.shared.split_seat::<Halves>(&mut seat);
+    let table = Arc::new(alloc, made)?;
+    let shared = Arc::try_clone(&table)?;
+    let sender = SenderSide::new(table, seat);
     let receiver = ReceiverSide {
-        board: shared,
-        chair: other,
+        table: shared,
+        seat: other,
     };
     Ok((sender, receiver))
 }

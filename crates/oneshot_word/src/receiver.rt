@@ -3,16 +3,16 @@
 ghost use Rattle.std.specs.Prelude.{◌≡◌, ◌≢◌};
 ghost use Rattle.oneshot_machine.specs.declared.states.Op.TheVariants.{Load, Store, Swap, Exchange};
 ghost use Rattle.oneshot_machine.specs.Phases.{receiver_at};
-ghost use Rattle.oneshot_machine.specs.Slots.{away, vacant, held};
+ghost use Rattle.oneshot_machine.specs.Slots.{ReceiverOwns, away, vacant, held};
 ghost use Rattle.oneshot_word.specs.declared.rouse.Rouse.{Rouse};
-ghost use Rattle.oneshot_word.specs.Rows.{RuleReads};
+ghost use Rattle.oneshot_word.specs.ReadRule.{RuleReads};
 ghost use Rattle.oneshot_word.specs.Seats.{MessageSlot, WakerSlot, message_of, waker_of};
-ghost use Rattle.oneshot_word.specs.Sides.{ReceiverCan, ReceiverDid, ReceiverOwns};
+ghost use Rattle.oneshot_word.specs.Side.{ReceiverCan, ReceiverDid};
 
 use crate::plays::{Exchanges, Loads, Stores, Swaps};
 use crate::rouse::Rouse;
 use crate::rule::Slot;
-use crate::table::{Board, Chair, look};
+use crate::table::{WordSeat, WordTable, peek};
 use std::alloc::Global;
 use std::marker::Model;
 use std::sync::Arc;
@@ -20,22 +20,22 @@ use std::sync::Arc;
 /// The receiver's share of the table, with its seat.
 #[derive(Drop)]
 pub struct ReceiverSide<T, H, K> {
-    pub(crate) board: Arc<Board<T, H, K>, Global>,
-    pub(crate) chair: Chair<T, H, K>,
+    pub(crate) table: Arc<WordTable<T, H, K>, Global>,
+    pub(crate) seat: WordSeat<T, H, K>,
 }
 
 impl<T, H, K> Model for ReceiverSide<T, H, K> {
     ghost use Rattle.std.specs.Arc.{arc_value};
     ghost use Rattle.oneshot_word.specs.Seats.{IsAt, ReceiverSeat};
-    ghost use Rattle.oneshot_word.specs.Sides.{Side, side_of};
+    ghost use Rattle.oneshot_word.specs.Side.{Side, side_of};
     ghost use Rattle.oneshot_word.specs.declared.rouse.Rouse.{Rouse};
 
     ghost Value = { Side T (Rouse H K) };
 
-    ghost view = { λ s. side_of s.chair.table_id s.chair.me };
+    ghost view = { λ s. side_of s.seat.table_id s.seat.me };
 
     ghost invariant = { λ s.
-        ReceiverSeat s.chair.me × IsAt (arc_value s.board).shared.table_id s.chair.table_id };
+        ReceiverSeat s.seat.me × IsAt (arc_value s.table).shared.table_id s.seat.table_id };
 }
 
 impl<T, H, K> ReceiverSide<T, H, K> {
@@ -44,7 +44,7 @@ impl<T, H, K> ReceiverSide<T, H, K> {
         requires { ReceiverCan self.old Load }
         ensures { ReceiverDid self.old Load result self.new }
     {
-        self.board.shared.load::<Loads>(&mut self.chair, 0) as u8
+        self.table.shared.load::<Loads>(&mut self.seat, 0) as u8
     }
 
     /// Puts `new` into the word, and gives the word before, for which it swaps.
@@ -52,9 +52,9 @@ impl<T, H, K> ReceiverSide<T, H, K> {
         requires { ReceiverCan self.old (Store new) }
         ensures { ReceiverDid self.old (Store new) result self.new }
     {
-        self.board
+        self.table
             .shared
-            .swap::<Stores>(&mut self.chair, 0, new as u64) as u8
+            .swap::<Stores>(&mut self.seat, 0, new as u64) as u8
     }
 
     /// Puts `new` into the word, and gives the word before.
@@ -62,9 +62,9 @@ impl<T, H, K> ReceiverSide<T, H, K> {
         requires { ReceiverCan self.old (Swap new) }
         ensures { ReceiverDid self.old (Swap new) result self.new }
     {
-        self.board
+        self.table
             .shared
-            .swap::<Swaps>(&mut self.chair, 0, new as u64) as u8
+            .swap::<Swaps>(&mut self.seat, 0, new as u64) as u8
     }
 
     /// Puts `new` into the word where it is `expected`, and gives the word before.
@@ -72,16 +72,16 @@ impl<T, H, K> ReceiverSide<T, H, K> {
         requires { ReceiverCan self.old (Exchange expected new) }
         ensures { ReceiverDid self.old (Exchange expected new) result self.new }
     {
-        self.board
+        self.table
             .shared
-            .compare_exchange::<Exchanges>(&mut self.chair, 0, expected as u64, new as u64) as u8
+            .compare_exchange::<Exchanges>(&mut self.seat, 0, expected as u64, new as u64) as u8
     }
 
     /// Does nothing. Its contract tells which slots are the receiver's by what it did.
     pub fn slots(&self)
         ensures { ReceiverOwns (receiver_at self.now.steps) self.now.message self.now.waker }
     {
-        let _seat = &self.chair;
+        let _seat = &self.seat;
     }
 
     /// Reads the word as a look does, which lengthens no list and tells nothing of what it found.
@@ -89,7 +89,7 @@ impl<T, H, K> ReceiverSide<T, H, K> {
         ensures rule { RuleReads T H K }
         ensures slots { ReceiverOwns (receiver_at self.now.steps) self.now.message self.now.waker }
     {
-        look(&self.board)
+        peek(&self.table)
     }
 }
 
@@ -129,7 +129,7 @@ impl<T, H, K> ReceiverSide<T, H, K> {
         ensures was { MessageSlot result self.old.message }
         ensures has { self.new ≡ record self.old { message = message_of new } }
     {
-        self.board.shared.exchange(&mut self.chair, 0, new)
+        self.table.shared.exchange(&mut self.seat, 0, new)
     }
 
     // Only the slot in front can be read, so the waker's is turned there, and then back.
@@ -139,9 +139,9 @@ impl<T, H, K> ReceiverSide<T, H, K> {
         ensures was { WakerSlot result self.old.waker }
         ensures has { self.new ≡ record self.old { waker = waker_of new } }
     {
-        self.chair.turn();
-        let old = self.board.shared.exchange(&mut self.chair, 1, new);
-        self.chair.turn();
+        self.seat.turn();
+        let old = self.table.shared.exchange(&mut self.seat, 1, new);
+        self.seat.turn();
         old
     }
 }

@@ -4,16 +4,16 @@ ghost use Rattle.std.specs.Prelude.{◌≡◌, ◌≢◌};
 ghost use Rattle.std.specs.Arc.{arc_value};
 ghost use Rattle.oneshot_machine.specs.declared.states.Op.TheVariants.{Swap, Add, Xor};
 ghost use Rattle.oneshot_machine.specs.Phases.{sender_at};
-ghost use Rattle.oneshot_machine.specs.Slots.{away, vacant, held};
+ghost use Rattle.oneshot_machine.specs.Slots.{SenderOwns, away, vacant, held};
 ghost use Rattle.oneshot_word.specs.declared.rouse.Rouse.{Rouse};
-ghost use Rattle.oneshot_word.specs.Rows.{RuleReads};
+ghost use Rattle.oneshot_word.specs.ReadRule.{RuleReads};
 ghost use Rattle.oneshot_word.specs.Seats.{IsAt, MessageSlot, SenderSeat, WakerSlot, message_of, waker_of};
-ghost use Rattle.oneshot_word.specs.Sides.{SenderCan, SenderDid, SenderOwns, side_of};
+ghost use Rattle.oneshot_word.specs.Side.{SenderCan, SenderDid, side_of};
 
 use crate::plays::{Adds, Finishes, Flips};
 use crate::rouse::Rouse;
 use crate::rule::Slot;
-use crate::table::{Board, Chair, look};
+use crate::table::{WordSeat, WordTable, peek};
 use std::alloc::Global;
 use std::marker::Model;
 use std::sync::Arc;
@@ -21,23 +21,23 @@ use std::sync::Arc;
 /// The sender's share of the table, with its seat.
 #[derive(Drop)]
 pub struct SenderSide<T, H, K> {
-    pub(crate) board: Arc<Board<T, H, K>, Global>,
-    pub(crate) chair: Chair<T, H, K>,
+    pub(crate) table: Arc<WordTable<T, H, K>, Global>,
+    pub(crate) seat: WordSeat<T, H, K>,
 }
 
 impl<T, H, K> Model for SenderSide<T, H, K> {
     ghost use base.Fml.{ftrue};
     ghost use Rattle.std.specs.Arc.{arc_value};
     ghost use Rattle.oneshot_word.specs.Seats.{IsAt, SenderSeat};
-    ghost use Rattle.oneshot_word.specs.Sides.{Side, side_of};
+    ghost use Rattle.oneshot_word.specs.Side.{Side, side_of};
     ghost use Rattle.oneshot_word.specs.declared.rouse.Rouse.{Rouse};
 
     ghost Value = { Side T (Rouse H K) };
 
-    ghost view = { λ s. side_of s.chair.table_id s.chair.me };
+    ghost view = { λ s. side_of s.seat.table_id s.seat.me };
 
     ghost invariant = { λ s.
-        SenderSeat s.chair.me × IsAt (arc_value s.board).shared.table_id s.chair.table_id };
+        SenderSeat s.seat.me × IsAt (arc_value s.table).shared.table_id s.seat.table_id };
 
     // Both say nothing. Only of a struct with `also_owns` can `Sync` be proved by hand, and `peek`
     // reads such a struct where it has `also_shares`.
@@ -55,13 +55,13 @@ unsafe impl<T: Send + Sync, H: Send + Sync, K: Send + Sync> Sync for SenderSide<
 impl<T, H, K> SenderSide<T, H, K> {
     // A side is made here alone, since its `also_owns` wants a proof by hand of what makes one.
     pub(crate) fn new(
-        board: Arc<Board<T, H, K>, Global>,
-        chair: Chair<T, H, K>,
+        table: Arc<WordTable<T, H, K>, Global>,
+        seat: WordSeat<T, H, K>,
     ) -> SenderSide<T, H, K>
-        requires { SenderSeat chair.me × IsAt (arc_value board).shared.table_id chair.table_id }
-        ensures { result ≡ side_of chair.table_id chair.me }
+        requires { SenderSeat seat.me × IsAt (arc_value table).shared.table_id seat.table_id }
+        ensures { result ≡ side_of seat.table_id seat.me }
     {
-        SenderSide { board, chair }
+        SenderSide { table, seat }
     }
 
     /// Adds one to the word, and gives the word before.
@@ -69,7 +69,7 @@ impl<T, H, K> SenderSide<T, H, K> {
         requires { SenderCan self.old Add }
         ensures { SenderDid self.old Add result self.new }
     {
-        self.board.shared.fetch_add::<Adds>(&mut self.chair, 0, 1) as u8
+        self.table.shared.fetch_add::<Adds>(&mut self.seat, 0, 1) as u8
     }
 
     /// Flips the word's lowest bit, and gives the word before.
@@ -77,7 +77,7 @@ impl<T, H, K> SenderSide<T, H, K> {
         requires { SenderCan self.old Xor }
         ensures { SenderDid self.old Xor result self.new }
     {
-        self.board.shared.fetch_xor::<Flips>(&mut self.chair, 0, 1) as u8
+        self.table.shared.fetch_xor::<Flips>(&mut self.seat, 0, 1) as u8
     }
 
     /// Puts `new` into the word, the last that it does with it, and gives the word before.
@@ -85,9 +85,9 @@ impl<T, H, K> SenderSide<T, H, K> {
         requires { SenderCan self.old (Swap new) }
         ensures { SenderDid self.old (Swap new) result self.new }
     {
-        self.board
+        self.table
             .shared
-            .swap::<Finishes>(&mut self.chair, 0, new as u64) as u8
+            .swap::<Finishes>(&mut self.seat, 0, new as u64) as u8
     }
 
     /// Reads the word as a look does, which lengthens no list and tells nothing of what it found.
@@ -95,7 +95,7 @@ impl<T, H, K> SenderSide<T, H, K> {
         ensures rule { RuleReads T H K }
         ensures slots { SenderOwns (sender_at self.now.steps) self.now.message self.now.waker }
     {
-        look(&self.board)
+        peek(&self.table)
     }
 }
 
@@ -135,9 +135,9 @@ impl<T, H, K> SenderSide<T, H, K> {
         ensures was { MessageSlot result self.old.message }
         ensures has { self.new ≡ record self.old { message = message_of new } }
     {
-        self.chair.turn();
-        let old = self.board.shared.exchange(&mut self.chair, 0, new);
-        self.chair.turn();
+        self.seat.turn();
+        let old = self.table.shared.exchange(&mut self.seat, 0, new);
+        self.seat.turn();
         old
     }
 
@@ -148,6 +148,6 @@ impl<T, H, K> SenderSide<T, H, K> {
         ensures was { WakerSlot result self.old.waker }
         ensures has { self.new ≡ record self.old { waker = waker_of new } }
     {
-        self.board.shared.exchange(&mut self.chair, 1, new)
+        self.table.shared.exchange(&mut self.seat, 1, new)
     }
 }

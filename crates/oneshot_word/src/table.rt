@@ -9,15 +9,15 @@ use std::alloc::Global;
 use std::sync::Arc;
 
 /// One word, the message's slot and the waker's, in this order.
-pub(crate) type Board<T, H, K> = Table<Slot<T, H, K>, View, (), WordRule, Global>;
+pub(crate) type WordTable<T, H, K> = Table<Slot<T, H, K>, View, (), WordRule, Global>;
 
 /// A seat of it.
-pub(crate) type Chair<T, H, K> = Seat<Slot<T, H, K>, View>;
+pub(crate) type WordSeat<T, H, K> = Seat<Slot<T, H, K>, View>;
 
 // No proof knows what a load without a seat finds. By the rule it is below 5, so the low byte is
 // all of it.
-pub(crate) fn look<T, H, K>(board: &Arc<Board<T, H, K>, Global>) -> u8
-    requires { 0 < (arc_value board.now).shared.table_id.words }
+pub(crate) fn peek<T, H, K>(table: &Arc<WordTable<T, H, K>, Global>) -> u8
+    requires { 0 < (arc_value table.now).shared.table_id.words }
 {
-    (board.shared.peek(0) & 0xff) as u8
+    (table.shared.peek(0) & 0xff) as u8
 }

@@ -1,11 +1,14 @@
+-- The proof that each move of each run has its row, and leads to a world that a run reaches.
 pub mod Bools
-pub mod Explored
+pub mod ExploreFound
 pub mod Listed
-pub mod Coded
-pub mod Classed
-pub mod Stepped
-pub mod Left
-pub mod Reached
-pub mod Scripted
-pub mod Turned
-pub mod Determined
+pub mod ControlCodes
+pub mod CommutesTurns
+pub mod StateSteps
+pub mod ScriptsLeft
+pub mod ReachedBegins
+pub mod ReachedMoves
+pub mod ReachedOpening
+pub mod ScriptsAnswered
+pub mod WorldTurns
+pub mod WorldDetermined

@@ -1,28 +1,13 @@
--- The calls of a pair of scripts, as lists, and what is left of them as they are answered.
-use Rattle.std.specs.Prelude.{ℕ, Bool, true, false, List, [], ◌∷◌, ◌++◌, map, replicate, Option, Some, None}
-use Rattle.oneshot_machine.specs.declared.machine.End.{End}
+-- The calls of both ends, as lists, and what is left of them as they are answered.
+use Rattle.std.specs.Prelude.{ℕ, Bool, true, false, List, [], ◌∷◌, Option, Some, None}
 use Rattle.oneshot_machine.specs.declared.machine.End.TheVariants.{Sender, Receiver}
-use Rattle.oneshot_machine.specs.declared.machine.Reply.{Reply}
+use Rattle.oneshot_machine.specs.declared.machine.End.{End}
 use Rattle.oneshot_machine.specs.declared.machine.Reply.TheVariants as R
-use Rattle.oneshot_machine.specs.declared.machine.receiver.ReceiverStart.{ReceiverStart}
+use Rattle.oneshot_machine.specs.declared.machine.Reply.{Reply}
 use Rattle.oneshot_machine.specs.declared.machine.receiver.ReceiverStart.TheVariants as RC
+use Rattle.oneshot_machine.specs.declared.machine.receiver.ReceiverStart.{ReceiverStart}
 use Rattle.oneshot_machine.specs.declared.machine.sender.SenderCall.{SenderCall}
 use Rattle.oneshot_machine.specs.declared.machine.sender.SenderCall.TheVariants as SC
-use Rattle.oneshot_world.specs.declared.script.AsyncCall.{AsyncCall}
-use Rattle.oneshot_world.specs.declared.script.AsyncCall.TheVariants as AC
-use Rattle.oneshot_world.specs.declared.script.AsyncLast.{AsyncLast}
-use Rattle.oneshot_world.specs.declared.script.AsyncLast.TheVariants as AL
-use Rattle.oneshot_world.specs.declared.script.ErrorLast.{ErrorLast}
-use Rattle.oneshot_world.specs.declared.script.ErrorLast.TheVariants as EL
-use Rattle.oneshot_world.specs.declared.script.ErrorScript.{ErrorScript}
-use Rattle.oneshot_world.specs.declared.script.ReceiverCall.{ReceiverCall}
-use Rattle.oneshot_world.specs.declared.script.ReceiverCall.TheVariants as Script
-use Rattle.oneshot_world.specs.declared.script.ReceiverLast.{ReceiverLast}
-use Rattle.oneshot_world.specs.declared.script.ReceiverLast.TheVariants as RL
-use Rattle.oneshot_world.specs.declared.script.ReceiverScript.{ReceiverScript}
-use Rattle.oneshot_world.specs.declared.script.SenderLast.{SenderLast}
-use Rattle.oneshot_world.specs.declared.script.SenderLast.TheVariants as SL
-use Rattle.oneshot_world.specs.declared.script.SenderScript.{SenderScript}
 
 -- A call by the name that the machine of its end has for it, and a poll with its number, of which the machine knows nothing. `Stray` stands for no call: what an end does that has no call left.
 pub data Call : Type 0 where
@@ -51,64 +36,6 @@ pub record Calls : Type 0 where
   pub sender : List Call
   pub error : List Call
   pub receiver : List Call
-
-abbrev pub sender_last : {T : Type 0} → SenderLast T → List Call
-sender_last (SL.Send message error) = Of_sender SC.Send ∷ []
-sender_last SL.Drop = Of_sender SC.Drop ∷ []
-sender_last SL.Stop = []
-
-abbrev pub error_last : ErrorLast → List Call
-error_last EL.IntoInner = Of_sender SC.IntoInner ∷ []
-error_last EL.Drop = Of_sender SC.DropError ∷ []
-error_last EL.Stop = []
-
-abbrev pub error_script : ErrorScript → List Call
-error_script error = replicate error.looks (Of_sender SC.AsInner) ++ error_last error.last
-
-abbrev pub error_calls : {T : Type 0} → SenderLast T → List Call
-error_calls (SL.Send message error) = error_script error
-error_calls SL.Drop = []
-error_calls SL.Stop = []
-
-abbrev pub receiver_call : ReceiverCall → Call
-receiver_call Script.TryRecv = Of_receiver RC.TryRecv
-receiver_call Script.RecvRef = Of_receiver RC.RecvRef
-receiver_call Script.RecvDeadline = Of_receiver RC.RecvDeadline
-receiver_call (Script.RecvTimeout representable) = Of_receiver (RC.RecvTimeout representable)
-receiver_call Script.HasMessage = Of_receiver RC.HasMessage
-receiver_call Script.IsClosed = Of_receiver RC.IsClosed
-
-abbrev pub async_call : AsyncCall → Call
-async_call (AC.Poll number) = Poll number
-async_call AC.HasMessage = Of_receiver RC.HasMessage
-async_call AC.IsClosed = Of_receiver RC.IsClosed
-
-abbrev pub async_last : AsyncLast → List Call
-async_last AL.Drop = Of_receiver RC.DropAsync ∷ []
-async_last AL.Stop = []
-
-abbrev pub async_calls : List AsyncCall → AsyncLast → List Call
-async_calls calls last = map async_call calls ++ async_last last
-
-abbrev pub receiver_last : ReceiverLast → List Call
-receiver_last RL.Recv = Of_receiver RC.Recv ∷ []
-receiver_last RL.Drop = Of_receiver RC.Drop ∷ []
-receiver_last (RL.IntoFuture script) = Of_receiver RC.IntoFuture ∷ async_calls script.calls script.last
-receiver_last RL.Stop = []
-
-abbrev pub receiver_calls : List ReceiverCall → ReceiverLast → List Call
-receiver_calls calls last = map receiver_call calls ++ receiver_last last
-
-abbrev pub sender_calls : {T : Type 0} → SenderScript T → List Call
-sender_calls s = replicate s.looks (Of_sender SC.IsClosed) ++ sender_last s.last
-
-abbrev pub calls_of : {T : Type 0} → SenderScript T → ReceiverScript → Calls
-calls_of s r =
-    record {
-      sender = sender_calls s;
-      error = error_calls s.last;
-      receiver = receiver_calls r.calls r.last;
-    }
 
 -- What an end has left: the calls that are not answered, the first of them the one under way, and those that follow if a send is refused.
 pub record Unanswered : Type 0 where

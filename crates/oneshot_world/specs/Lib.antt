@@ -1,10 +1,16 @@
+-- The definitions of scripts, of the world and its moves, and of what a run can reach, in the order in which to read them.
 pub mod Calls
+pub mod Scripts
 pub mod Looks
 pub mod Wakers
+pub mod Effects
 pub mod State
 pub mod World
 pub mod Ahead
-pub mod Explore
 pub mod Classes
-pub mod Control
 pub mod Commutes
+pub mod ScriptsLeft
+pub mod Control
+pub mod ControlCodes
+pub mod Explore
+pub mod Reached

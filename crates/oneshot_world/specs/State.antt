@@ -1,25 +1,21 @@
 -- One step of one end: what it tells, and the state that it leaves.
-use Rattle.std.specs.Prelude.{ℕ, Bool, true, false, ◌&&◌, ◌||◌, is_some, is_none, Option, Some, None, if◌then◌else◌}
+use Rattle.std.specs.Prelude.{Bool, true, false, ◌&&◌, ◌||◌, is_some, is_none, Option, Some, None, if◌then◌else◌}
 use Rattle.std.specs.Option.{option_map, option_and_then}
-use Rattle.oneshot_machine.specs.States.{word_after}
-use Rattle.oneshot_machine.specs.Rows.{Outcome, Goes, Answers}
+use Rattle.oneshot_machine.specs.Rows.{Outcome}
 use Rattle.oneshot_machine.specs.Sender.{sender_start, sender_step, sender_row}
 use Rattle.oneshot_machine.specs.Receiver.{receiver_start, receiver_step, receiver_row}
 use Rattle.oneshot_machine.specs.declared.machine.End.{End}
 use Rattle.oneshot_machine.specs.declared.machine.End.TheVariants.{Sender, Receiver}
 use Rattle.oneshot_machine.specs.declared.machine.Reply.{Reply}
-use Rattle.oneshot_machine.specs.declared.machine.Reply.TheVariants as R
-use Rattle.oneshot_machine.specs.declared.machine.Seen.{Seen}
-use Rattle.oneshot_machine.specs.declared.machine.Seen.TheVariants as S
 use Rattle.oneshot_machine.specs.declared.machine.Step.{Step}
 use Rattle.oneshot_machine.specs.declared.machine.Step.TheVariants as T
-use Rattle.oneshot_machine.specs.declared.machine.Step.TheVariants.{Word, WriteMessage, TakeMessage, DropMessage, WriteWaker, TakeWaker, Withdraw, Park, Clock, Wake, WakeOwn, Free, Plain}
+use Rattle.oneshot_machine.specs.declared.machine.Step.TheVariants.{WriteMessage, TakeMessage, DropMessage, WriteWaker, TakeWaker, Withdraw, Park, Clock, Wake, WakeOwn}
 use Rattle.oneshot_machine.specs.declared.machine.receiver.ReceiverPos.{ReceiverPos}
 use Rattle.oneshot_machine.specs.declared.machine.receiver.ReceiverStart.{ReceiverStart}
 use Rattle.oneshot_machine.specs.declared.machine.sender.SenderCall.{SenderCall}
 use Rattle.oneshot_machine.specs.declared.machine.sender.SenderPos.{SenderPos}
-use Rattle.oneshot_machine.specs.declared.states.Op.TheVariants.{Store}
 use Rattle.oneshot_world.specs.Calls.{Call, as_sender_call, as_receiver_call}
+use Rattle.oneshot_world.specs.Effects.{seen_by, word_left, freed_by, shown, sender_puts, receiver_puts, place_left, move_of, reply_of, sender_goes, receiver_goes, is_future}
 use Rattle.oneshot_world.specs.Wakers.{opening_wakers, wakers_left, waker_move, sets_token, own_of, is_copy}
 use Rattle.oneshot_world.specs.declared.state.ReceiverState.{ReceiverState}
 use Rattle.oneshot_world.specs.declared.state.ReceiverState.TheVariants as RS
@@ -30,7 +26,7 @@ use Rattle.oneshot_world.specs.declared.trace.Entry.{Entry}
 use Rattle.oneshot_world.specs.declared.trace.Entry.TheVariants.{Idle, Made as Made_entry}
 use Rattle.oneshot_world.specs.declared.trace.Made.{Made}
 use Rattle.oneshot_world.specs.declared.trace.Place.{Place}
-use Rattle.oneshot_world.specs.declared.trace.Place.TheVariants.{NotSent, InCell, InError, Delivered, FromError, Dropped}
+use Rattle.oneshot_world.specs.declared.trace.Place.TheVariants.{NotSent, InCell, InError}
 use Rattle.oneshot_world.specs.declared.wakers.Told.{Told}
 use Rattle.oneshot_world.specs.declared.wakers.Wakers.{Wakers}
 
@@ -46,28 +42,6 @@ opening_state message =
       message = message;
       wakers = opening_wakers;
     }
-
--- what a step sees: an operation on the word sees the word before it, but a store sees nothing; a park sees its token, and a clock or a copy what the move is told
-abbrev pub seen_by : Bool → State → Step → Seen
-seen_by answer s (Word (Store new)) = S.Done
-seen_by answer s (Word op) = S.Word s.word
-seen_by answer s Park = S.Token s.wakers.token
-seen_by answer s Clock = S.Over answer
-seen_by answer s T.Copy = S.Refused answer
-seen_by answer s _ = S.Done
-
-abbrev pub word_left : ℕ → Step → ℕ
-word_left word (Word op) = word_after op word
-word_left word _ = word
-
-abbrev pub freed_by : Bool → Step → Bool
-freed_by freed Free = true
-freed_by freed _ = freed
-
--- the word that an entry shows: none once the block is freed
-abbrev pub shown : Bool → ℕ → Option ℕ
-shown true word = None
-shown false word = Some word
 
 -- A cell is written where it is empty and read where it is full, and so is a hand.
 -- The message is read by the receiver in its cell, and by the sender's side in its error.
@@ -108,59 +82,6 @@ receiver_fits s TakeWaker = false
 receiver_fits s Wake = false
 receiver_fits s _ = true
 
--- where a step puts the message, if it moves it; a send that is refused leaves the message with the error
-abbrev pub sender_puts : Step → Option Reply → Option Place
-sender_puts WriteMessage reply = Some InCell
-sender_puts (Word op) (Some R.Refused) = Some InError
-sender_puts (Word op) _ = None
-sender_puts TakeMessage reply = Some FromError
-sender_puts DropMessage reply = Some Dropped
-sender_puts _ reply = None
-
-abbrev pub receiver_puts : Step → Option Place
-receiver_puts TakeMessage = Some Delivered
-receiver_puts DropMessage = Some Dropped
-receiver_puts _ = None
-
--- the message's place after that, where there is a message
-abbrev pub place_left : Option Place → Option Place → Option Place
-place_left None to = None
-place_left (Some from) None = Some from
-place_left (Some from) (Some to) = Some to
-
--- the message's move, where it moves
-abbrev pub move_of : Option Place → Option Place → Option (Place × Place)
-move_of (Some from) (Some to) = Some (from, to)
-move_of (Some from) None = None
-move_of None to = None
-
-abbrev pub reply_of : {P : Type 0} → Outcome P → Option Reply
-reply_of (Goes next) = None
-reply_of (Answers reply) = Some reply
-
--- Where an end stands after a row. A look leaves it ready, a refused send leaves the error, a look at the error leaves the error, and any other answer of the sender's side ends it.
--- A drop and a call that frees end the receiver, and any other answer leaves it ready.
-abbrev pub is_plain : Step → Bool
-is_plain Plain = true
-is_plain _ = false
-
-abbrev pub sender_goes : Step → Outcome SenderPos → SenderState
-sender_goes step (Goes next) = SS.At next
-sender_goes step (Answers R.Yes) = SS.Ready
-sender_goes step (Answers R.No) = SS.Ready
-sender_goes step (Answers R.Refused) = SS.Failed
-sender_goes step (Answers R.Message) = if is_plain step then SS.Failed else SS.Ended
-sender_goes step (Answers _) = SS.Ended
-
-abbrev pub is_free : Step → Bool
-is_free Free = true
-is_free _ = false
-
-abbrev pub receiver_goes : Step → Outcome ReceiverPos → ReceiverState
-receiver_goes step (Goes next) = RS.At next
-receiver_goes step (Answers R.Done) = RS.Ended
-receiver_goes step (Answers _) = if is_free step then RS.Ended else RS.Ready
-
 -- what an end's step tells, with its reply if it ends the call, and the place where it puts the message
 abbrev pub made : End → Told → State → Step → Option Reply → Option Place → Made
 made side t s step reply to =
@@ -197,11 +118,7 @@ sender_stepped t s step row = (
   sender_moved t s step row,
 )
 
--- the receiver becomes a future, and its hand gives up the parker's half
-abbrev pub is_future : Option Reply → Bool
-is_future (Some R.Future) = true
-is_future _ = false
-
+-- a receiver that becomes a future gives up the parker's half in its hand
 abbrev pub hand_kept : Bool → Wakers → Wakers
 hand_kept future w = record w { hand = if future then None else w.hand }
 

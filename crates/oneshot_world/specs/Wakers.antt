@@ -1,5 +1,5 @@
 -- The wakers of the world: where each lies, and what a step does to them.
-use Rattle.std.specs.Prelude.{ℕ, Bool, true, false, ◌&&◌, ◌||◌, ◌==◌, ◌+◌, if◌then◌else◌, Option, Some, None}
+use Rattle.std.specs.Prelude.{ℕ, Bool, true, false, ◌&&◌, ◌||◌, ◌==◌, if◌then◌else◌, Option, Some, None}
 use Rattle.std.specs.Option.{option_map}
 use Rattle.oneshot_machine.specs.declared.machine.Step.{Step}
 use Rattle.oneshot_machine.specs.declared.machine.Step.TheVariants as T
@@ -67,18 +67,7 @@ abbrev pub own_of : Told → Step → Option ℕ
 own_of t WakeOwn = t.own
 own_of t _ = None
 
--- a number for a place with what lies there; the copies that are explored are told apart by their number
-abbrev pub name_code : Option WakerName → ℕ
-name_code None = 0
-name_code (Some Parker) = 1
-name_code (Some (Copy number entry)) = 2 + number
-
 abbrev pub is_same_waker : WakerName → WakerName → Bool
 is_same_waker Parker Parker = true
 is_same_waker (Copy a i) (Copy b j) = a == b && i == j
 is_same_waker _ _ = false
-
-abbrev pub is_same_name : Option WakerName → Option WakerName → Bool
-is_same_name None None = true
-is_same_name (Some a) (Some b) = is_same_waker a b
-is_same_name _ _ = false

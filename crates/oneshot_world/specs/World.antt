@@ -8,7 +8,8 @@ use Rattle.oneshot_machine.specs.declared.machine.Step.{Step}
 use Rattle.oneshot_machine.specs.declared.machine.Step.TheVariants as T
 use Rattle.oneshot_machine.specs.declared.machine.receiver.ReceiverPos.{ReceiverPos}
 use Rattle.oneshot_machine.specs.Receiver.{receiver_step}
-use Rattle.oneshot_world.specs.Calls.{Unanswered, Calls, calls_of, first, left_by, number_of}
+use Rattle.oneshot_world.specs.Calls.{Unanswered, Calls, first, left_by, number_of}
+use Rattle.oneshot_world.specs.Scripts.{calls_of}
 use Rattle.oneshot_world.specs.State.{opening_state, receiver_stands, turns}
 use Rattle.oneshot_world.specs.declared.script.Move.{Move}
 use Rattle.oneshot_world.specs.declared.script.Move.TheVariants as M

@@ -2,6 +2,7 @@
 #![tactic(auto)]
 
 mod calls;
+mod effects;
 mod laws;
 mod script;
 mod state;

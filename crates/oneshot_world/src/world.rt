@@ -5,7 +5,8 @@ ghost use Rattle.oneshot_machine.specs.declared.machine.End.TheVariants as Ends;
 ghost use Rattle.oneshot_world.specs.World.{opening, opening_place, turn, turn_of, nothing_told, answer_of, told_with};
 ghost use Rattle.oneshot_world.specs.declared.script.Move.TheVariants as Moves;
 
-use crate::calls::{ReceiverCalls, SenderCalls};
+use crate::calls::receiver::ReceiverCalls;
+use crate::calls::sender::SenderCalls;
 use crate::script::{Move, ReceiverScript, SenderLast, SenderScript};
 use crate::state::State;
 use crate::trace::{Entry, Place, WakerName};
@@ -23,7 +24,7 @@ pub struct World {
 
 impl Model for World {
     ghost use Rattle.oneshot_world.specs.World.{World};
-    ghost use Rattle.oneshot_world.specs.Control.{IsReached};
+    ghost use Rattle.oneshot_world.specs.Reached.{IsReached};
 
     ghost Value = { World };
 

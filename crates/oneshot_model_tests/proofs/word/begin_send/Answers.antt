@@ -1,8 +1,8 @@
 use Rattle.std.proofs.Common.{rules, ◌≡◌, ap, ◌∙◌}
 use Rattle.oneshot_machine.specs.declared.states.Op.TheVariants.{Swap, Add}
 use Rattle.oneshot_machine.specs.Phases.{fresh, sender_at}
-use Rattle.oneshot_machine.specs.Slots.{away, vacant, held, may_add, may_finish_send}
-use Rattle.oneshot_word.specs.Sides.{Side, SenderOwns}
+use Rattle.oneshot_machine.specs.Slots.{away, vacant, held, is_away, is_vacant, is_held, head, may, SenderOwns}
+use Rattle.oneshot_word.specs.Side.{Side}
 use Rattle.oneshot_model_tests.proofs.Told.{SenderIs, sender_can, sender_changed, begins_fresh, finds_waker}
 use Rattle.oneshot_model_tests.proofs.word.begin_send.Goals as goal
 
@@ -16,7 +16,7 @@ write_message-requires g c = c.requires.1
 
 pub add-found-requires : goal.add-found-requires
 add-found-requires g c =
-    sender_can Add (writes c.args.sender.now c.write_message.new.self c.args.message c.requires.0 c.write_message.ensures c.peek.ensures.slots) (may_add c.args.message)
+    sender_can Add (writes c.args.sender.now c.write_message.new.self c.args.message c.requires.0 c.write_message.ensures c.peek.ensures.slots) (may head (is_held c.args.message) is_away)
 
 pub take_waker-requires : goal.take_waker-requires
 take_waker-requires g c =
@@ -28,4 +28,4 @@ pub returns : goal.returns
 returns g c =
     let is = writes c.args.sender.now c.write_message.new.self c.args.message c.requires.0 c.write_message.ensures c.peek.ensures.slots in
     let it = finds_waker Add is c.add-found.ensures (search rules) in
-    sender_can (Swap 4) (sender_changed _ c.take_waker.new.self vacant it.1 c.take_waker.ensures.rest) (may_finish_send c.args.message)
+    sender_can (Swap 4) (sender_changed _ c.take_waker.new.self vacant it.1 c.take_waker.ensures.rest) (may head (is_held c.args.message) is_vacant)

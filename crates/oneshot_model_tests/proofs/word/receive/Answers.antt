@@ -1,41 +1,83 @@
-use Rattle.std.proofs.Common.{rules, ◌≡◌, ℕ, refl, ◌∙◌}
+use Rattle.std.proofs.Common.{rules, ◌≡◌, ℕ, Bool, true, false, ◌&&◌, refl, ◌∙◌}
+use Rattle.std.specs.Prelude.{◌==◌, if◌then◌else◌}
+use Rattle.std.specs.List.{list_all}
+use Rattle.std.proofs.lemmas.Bool.{and_parts}
 use Rattle.oneshot_machine.specs.declared.machine.Seen.TheVariants.{Word}
 use Rattle.oneshot_machine.specs.declared.states.Op.TheVariants.{Load, Store}
-use Rattle.oneshot_machine.specs.Phases.{Got, at_once, waited, by_future, got_by, full, ReceiverAt, receiver_next}
-use Rattle.oneshot_machine.specs.Slots.{Held, vacant, held, may_close, ReceiverFinds, first_message, load_message, wait_message, spin_message, overdue_message}
-use Rattle.oneshot_word.specs.Sides.{Side, ReceiverDid}
-use Rattle.oneshot_model_tests.proofs.Told.{ReceiverIs, receiver_can, receiver_told, receiver_went, receiver_is, keeps_message}
+use Rattle.oneshot_machine.specs.Words.{is_same_op}
+use Rattle.oneshot_machine.specs.Phases.{Share, empty, Row, Got, full, looked, here, blocked, waits, storing, swapped, unclosed, found_closed, over, resolved, ReceiverAt, receiver_moves, receiver_next, receiver_at}
+use Rattle.oneshot_machine.specs.Slots.{Held, vacant, held, Turns, stays_vacant, stays_held, gets_room, gets_thing, finds, ReceiverFinds}
+use Rattle.oneshot_machine.proofs.Exactness.{each_passes}
+use Rattle.oneshot_word.specs.Side.{Side, ReceiverDid}
+use Rattle.oneshot_model_tests.proofs.Told.{ReceiverIs, receiver_can, receiver_told, receiver_went, receiver_is, is_filled, closes, keeps_message}
 use Rattle.oneshot_model_tests.proofs.word.receive.Goals as goal
+
+-- a load that finds 4 leaves the receiver with the message, and with no waker: computed for each phase
+abbrev is_empty : Share → Bool
+is_empty empty = true
+is_empty _ = false
+
+abbrev is_full : ReceiverAt → Bool
+is_full (full g) = true
+is_full _ = false
+
+abbrev has_it : ReceiverAt → Row ReceiverAt → Bool
+has_it q row =
+    if is_same_op row.0 Load && row.2 == 4 then is_full (receiver_next q Load (Word 4)) && is_filled row.4.0 && is_empty row.4.1 else true
+
+each_has_it : (q : ReceiverAt) → list_all (has_it q) (receiver_moves q) ≡ true
+each_has_it (here looked) = refl
+each_has_it (waits blocked) = refl
+each_has_it (full (swapped storing)) = refl
+each_has_it (unclosed storing) = refl
+each_has_it (over found_closed) = refl
+each_has_it (resolved found_closed) = refl
+each_has_it _ = refl
+
+full_is : (q : ReceiverAt) → is_full q ≡ true → (g : Got) × (q ≡ full g)
+full_is (full g) e = (g, refl)
+full_is _ e = absurd (cc)
+
+message_is : {X : Type 0} {s t : Share} {h h' : Held X} → is_filled t ≡ true → Turns s t h h' → (x : X) × (h' ≡ held x)
+message_is e (stays_held x) = (x, refl)
+message_is e (gets_thing x) = (x, refl)
+message_is e _ = absurd (cc)
+
+waker_is : {X : Type 0} {s t : Share} {h h' : Held X} → is_empty t ≡ true → Turns s t h h' → h' ≡ vacant
+waker_is e stays_vacant = refl
+waker_is e gets_room = refl
+waker_is e _ = absurd (cc)
 
 module _ {T W : Type 0} where
   record HasIt (q : ReceiverAt) (m : Held T) (w : Held W) : Type 0 where
     got : Got
     message : T
-    at : receiver_next q Load (Word 4) ≡ full got 4
+    at : receiver_next q Load (Word 4) ≡ full got
     holds : m ≡ held message
     no_waker : w ≡ vacant
 
-  found_message : {q : ReceiverAt} {m m' : Held T} {w w' : Held W} → ReceiverFinds q Load 4 m w m' w' → HasIt q m' w'
-  found_message (first_message x) = record { got = at_once; message = x; at = refl; holds = refl; no_waker = refl }
-  found_message (load_message o x) = record { got = at_once; message = x; at = refl; holds = refl; no_waker = refl }
-  found_message (wait_message a x) = record { got = got_by a; message = x; at = refl; holds = refl; no_waker = refl }
-  found_message (spin_message x) = record { got = by_future; message = x; at = refl; holds = refl; no_waker = refl }
-  found_message (overdue_message x) = record { got = waited; message = x; at = refl; holds = refl; no_waker = refl }
+  found_message : (q : ReceiverAt) {m m' : Held T} {w w' : Held W} → ReceiverFinds q Load 4 m w m' w' → HasIt q m' w'
+  found_message q (finds {after} row message waker) =
+      let wakers = and_parts (is_full (receiver_next q Load (Word 4)) && is_filled after.0) (is_empty after.1) (each_passes (has_it q) (receiver_moves q) (each_has_it q) row) in
+      let parts = and_parts (is_full (receiver_next q Load (Word 4))) (is_filled after.0) wakers.0 in
+      let got = full_is (receiver_next q Load (Word 4)) parts.0 in
+      let it = message_is parts.1 message in
+      record { got = got.0; message = it.0; at = got.1; holds = it.1; no_waker = waker_is wakers.1 waker }
 
-  finds : {s t : Side T W} {found : ℕ} → ReceiverDid s Load found t → found ≡ 4 → (g : Got) × (x : T) × ReceiverIs t (full g 4) (held x) vacant
-  finds {s} did same =
-      let it = found_message (receiver_told Load 4 (receiver_is s) did same) in
-      (it.got, it.message, record { at = receiver_went Load 4 (receiver_is s) did same ∙ it.at; message = it.holds; waker = it.no_waker })
+  gets : {s t : Side T W} {found : ℕ} → ReceiverDid s Load found t → found ≡ 4 → (g : Got) × (x : T) × ReceiverIs t (full g) (held x) vacant
+  gets {s} did same =
+      let it = found_message (receiver_at s.steps) (receiver_told Load 4 (receiver_is s refl) did same) in
+      (it.got, it.message, record { at = receiver_went Load 4 (receiver_is s refl) did same ∙ it.at; message = it.holds; waker = it.no_waker })
 
 pub load-found-requires : goal.load-found-requires
 load-found-requires g c = c.requires
 
 pub store-found-requires : goal.store-found-requires
 store-found-requires g c =
-    let it = finds c.load-found.ensures (search rules) in
-    receiver_can (Store 2) it.2 (may_close it.0 4 it.1)
+    let it = gets c.load-found.ensures (search rules) in
+    receiver_can (Store 2) it.2 (closes it.0 it.1)
 
 pub take_message-requires : goal.take_message-requires
 take_message-requires g c =
-    let it = finds c.load-found.ensures (search rules) in
+    let it = gets c.load-found.ensures (search rules) in
     (it.1, keeps_message (receiver_told (Store 2) 4 it.2 c.store-found.ensures (search rules)))

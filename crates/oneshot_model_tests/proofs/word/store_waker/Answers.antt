@@ -1,21 +1,22 @@
 use Rattle.std.proofs.Common.{rules, ◌≡◌, ℕ, refl, subst}
 use Rattle.oneshot_machine.specs.declared.states.Op.TheVariants.{Load, Swap}
 use Rattle.oneshot_machine.specs.Phases.{here, looked, blocked, waits, receiver_at}
-use Rattle.oneshot_machine.specs.Slots.{Held, away, vacant, held, may_store, may_wait, may_stop, ReceiverFinds, store_empty}
-use Rattle.oneshot_word.specs.Sides.{Side, ReceiverDid, ReceiverOwns, owns_waker}
+use Rattle.oneshot_machine.specs.Slots.{Held, away, vacant, held, is_away, is_held, stays_away, gives_thing, head, tail, may, finds, ReceiverFinds, not_its_own, owns, ReceiverOwns}
+use Rattle.oneshot_word.specs.Side.{Side, ReceiverDid}
 use Rattle.oneshot_model_tests.proofs.Told.{ReceiverIs, receiver_can, receiver_told, receiver_went, receiver_changed}
 use Rattle.oneshot_model_tests.proofs.word.store_waker.Goals as goal
 
 module _ {T W : Type 0} where
   owns_no_message : {m : Held T} {w : Held W} → ReceiverOwns (here looked) m w → m ≡ away
-  owns_no_message (owns_waker f own) = refl
+  owns_no_message (owns not_its_own own) = refl
 
   gave_both : {k : W} {m : Held T} {w : Held W} → ReceiverFinds (here looked) (Swap 0) 3 away (held k) m w → (m ≡ away) × (w ≡ away)
-  gave_both (store_empty k) = (refl, refl)
+  gave_both (finds (tail (tail (tail head))) stays_away (gives_thing k)) = (refl, refl)
+  gave_both (finds (tail (tail (tail (tail (tail (tail (tail (tail (tail (tail (tail (tail there)))))))))))) _ _) = elim there [ ]
 
   begins : (s : Side T W) → receiver_at s.steps ≡ here looked → s.waker ≡ vacant → ReceiverOwns (receiver_at s.steps) s.message s.waker → ReceiverIs s (here looked) away vacant
-  begins s at waker owns =
-      record { at = at; message = owns_no_message (subst (λ q. ReceiverOwns q s.message s.waker) at owns); waker = waker }
+  begins s at waker its =
+      record { at = at; message = owns_no_message (subst (λ q. ReceiverOwns q s.message s.waker) at its); waker = waker }
 
   stores : {s t u : Side T W} {k : W} {found : ℕ} → ReceiverIs s (here looked) away vacant → t ≡ record s { waker = held k } → ReceiverDid t (Swap 0) found u → found ≡ 3 → ReceiverIs u (waits blocked) away away
   stores {s} {t} {k} is e did same =
@@ -26,14 +27,19 @@ module _ {T W : Type 0} where
 pub swap-found-requires : goal.swap-found-requires
 swap-found-requires g c =
     let is = begins c.args.receiver.now c.requires.at c.requires.waker c.slots.ensures in
-    receiver_can (Swap 0) (receiver_changed _ c.write_waker.new.self (held c.args.waker) is c.write_waker.ensures) (may_store c.args.waker)
+    receiver_can (Swap 0) (receiver_changed _ c.write_waker.new.self (held c.args.waker) is c.write_waker.ensures) (may (tail (tail (tail head))) is_away (is_held c.args.waker))
+
+pub returns-clause-at : goal.returns-clause-at
+returns-clause-at g c =
+    let is = begins c.args.receiver.now c.requires.at c.requires.waker c.slots.ensures in
+    (stores is c.write_waker.ensures c.swap-found.ensures (search rules)).at
 
 pub returns-clause-loads : goal.returns-clause-loads
 returns-clause-loads g c =
     let is = begins c.args.receiver.now c.requires.at c.requires.waker c.slots.ensures in
-    receiver_can Load (stores is c.write_waker.ensures c.swap-found.ensures (search rules)) (may_wait blocked)
+    receiver_can Load (stores is c.write_waker.ensures c.swap-found.ensures (search rules)) (may head is_away is_away)
 
 pub returns-clause-stops : goal.returns-clause-stops
 returns-clause-stops g c =
     let is = begins c.args.receiver.now c.requires.at c.requires.waker c.slots.ensures in
-    receiver_can (Swap 3) (stores is c.write_waker.ensures c.swap-found.ensures (search rules)) may_stop
+    receiver_can (Swap 3) (stores is c.write_waker.ensures c.swap-found.ensures (search rules)) (may (tail (tail (tail (tail head)))) is_away is_away)

@@ -1,4 +1,5 @@
-use Rattle.oneshot_world.proofs.Classed.{turns_as}
+-- A turn by classes is the turn's classes.
+use Rattle.oneshot_world.proofs.CommutesTurns.{turns_as}
 use Rattle.oneshot_world.proofs.laws.turns_commute.Goals as goal
 
 pub returns : goal.returns

@@ -1,9 +1,9 @@
 use Rattle.std.proofs.Common.{rules, sym, subst}
 use Rattle.oneshot_machine.specs.declared.states.Op.TheVariants.{Exchange}
-use Rattle.oneshot_word.specs.Sides.{ReceiverCan}
-use Rattle.oneshot_word.proofs.Steps.{exchange_allowed}
+use Rattle.oneshot_word.specs.Side.{ReceiverCan}
+use Rattle.oneshot_word.proofs.EachStep.{receiver_allowed}
 use Rattle.oneshot_word.proofs.receiver.ReceiverSide.exchange.Goals as goal
 
 pub compare_exchange-requires : goal.compare_exchange-requires
 compare_exchange-requires g c =
-    (search rules, search rules, exchange_allowed _ _ _ c.args.expected c.args.new c.self.invariant.0 (subst (λ s. ReceiverCan s (Exchange c.args.expected c.args.new)) (sym c.self.view_is) c.requires))
+    (search rules, search rules, receiver_allowed _ (Exchange c.args.expected c.args.new) _ _ c.self.invariant.0 (subst (λ s. ReceiverCan s (Exchange c.args.expected c.args.new)) (sym c.self.view_is) c.requires))

@@ -1,9 +1,9 @@
 use Rattle.std.proofs.Common.{rules, sym, subst}
 use Rattle.oneshot_machine.specs.declared.states.Op.TheVariants.{Load}
-use Rattle.oneshot_word.specs.Sides.{ReceiverCan}
-use Rattle.oneshot_word.proofs.Steps.{load_allowed}
+use Rattle.oneshot_word.specs.Side.{ReceiverCan}
+use Rattle.oneshot_word.proofs.EachStep.{receiver_allowed}
 use Rattle.oneshot_word.proofs.receiver.ReceiverSide.load.Goals as goal
 
 pub load-requires : goal.load-requires
 load-requires g c =
-    (search rules, search rules, load_allowed _ _ _ c.self.invariant.0 (subst (λ s. ReceiverCan s Load) (sym c.self.view_is) c.requires))
+    (search rules, search rules, receiver_allowed _ Load _ _ c.self.invariant.0 (subst (λ s. ReceiverCan s Load) (sym c.self.view_is) c.requires))

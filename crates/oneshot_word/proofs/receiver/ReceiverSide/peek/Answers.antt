@@ -1,11 +1,11 @@
 use Rattle.std.proofs.Common.{subst}
 use Rattle.oneshot_machine.specs.Phases.{receiver_at}
-use Rattle.oneshot_word.specs.Sides.{ReceiverOwns}
-use Rattle.oneshot_word.proofs.RowReads.{rule_reads, receiver_owns}
+use Rattle.oneshot_machine.specs.Slots.{ReceiverOwns}
+use Rattle.oneshot_word.proofs.RuleRead.{rule_reads, seat_owns}
 use Rattle.oneshot_word.proofs.receiver.ReceiverSide.peek.Goals as goal
 
 pub returns-clause-rule : goal.returns-clause-rule
 returns-clause-rule g c = rule_reads
 
 pub returns-clause-slots : goal.returns-clause-slots
-returns-clause-slots g c = subst (λ s. ReceiverOwns (receiver_at s.steps) s.message s.waker) c.self.view_is (receiver_owns c.self.invariant.0.has)
+returns-clause-slots g c = subst (λ s. ReceiverOwns (receiver_at s.steps) s.message s.waker) c.self.view_is (seat_owns c.self.invariant.0.has)

@@ -1,8 +1,8 @@
 use Rattle.std.proofs.Common.{subst}
 use Rattle.oneshot_machine.specs.Phases.{receiver_at}
-use Rattle.oneshot_word.specs.Sides.{ReceiverOwns}
-use Rattle.oneshot_word.proofs.RowReads.{receiver_owns}
+use Rattle.oneshot_machine.specs.Slots.{ReceiverOwns}
+use Rattle.oneshot_word.proofs.RuleRead.{seat_owns}
 use Rattle.oneshot_word.proofs.receiver.ReceiverSide.slots.Goals as goal
 
 pub returns : goal.returns
-returns g c = subst (λ s. ReceiverOwns (receiver_at s.steps) s.message s.waker) c.self.view_is (receiver_owns c.self.invariant.0.has)
+returns g c = subst (λ s. ReceiverOwns (receiver_at s.steps) s.message s.waker) c.self.view_is (seat_owns c.self.invariant.0.has)

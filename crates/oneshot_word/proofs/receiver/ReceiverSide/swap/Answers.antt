@@ -1,9 +1,9 @@
 use Rattle.std.proofs.Common.{rules, sym, subst}
 use Rattle.oneshot_machine.specs.declared.states.Op.TheVariants.{Swap}
-use Rattle.oneshot_word.specs.Sides.{ReceiverCan}
-use Rattle.oneshot_word.proofs.Steps.{swap_allowed}
+use Rattle.oneshot_word.specs.Side.{ReceiverCan}
+use Rattle.oneshot_word.proofs.EachStep.{receiver_allowed}
 use Rattle.oneshot_word.proofs.receiver.ReceiverSide.swap.Goals as goal
 
 pub swap-requires : goal.swap-requires
 swap-requires g c =
-    (search rules, search rules, swap_allowed _ _ _ c.args.new c.self.invariant.0 (subst (λ s. ReceiverCan s (Swap c.args.new)) (sym c.self.view_is) c.requires))
+    (search rules, search rules, receiver_allowed _ (Swap c.args.new) _ _ c.self.invariant.0 (subst (λ s. ReceiverCan s (Swap c.args.new)) (sym c.self.view_is) c.requires))

@@ -1,9 +1,9 @@
 use Rattle.std.proofs.Common.{rules, sym, subst}
 use Rattle.oneshot_machine.specs.declared.states.Op.TheVariants.{Add}
-use Rattle.oneshot_word.specs.Sides.{SenderCan}
-use Rattle.oneshot_word.proofs.Steps.{add_allowed}
+use Rattle.oneshot_word.specs.Side.{SenderCan}
+use Rattle.oneshot_word.proofs.EachStep.{sender_allowed}
 use Rattle.oneshot_word.proofs.sender.SenderSide.add.Goals as goal
 
 pub fetch_add-requires : goal.fetch_add-requires
 fetch_add-requires g c =
-    (search rules, search rules, add_allowed _ _ _ c.self.invariant.0 (subst (λ s. SenderCan s Add) (sym c.self.view_is) c.requires))
+    (search rules, search rules, sender_allowed _ Add _ _ c.self.invariant.0 (subst (λ s. SenderCan s Add) (sym c.self.view_is) c.requires))

@@ -10,11 +10,11 @@ use denote.Struct.Struct.{within}
 use Rattle.atomic_table.proofs.Walks.{proved, leaves}
 use Rattle.std.specs.Arc.{arc_value}
 use Rattle.oneshot_word.specs.Seats.{IsAt, SenderSeat}
-use Rattle.oneshot_word.specs.Sides.{side_of}
+use Rattle.oneshot_word.specs.Side.{side_of}
 use Rattle.oneshot_word.specs.contracts.sender.SenderSide as side
 use Rattle.oneshot_word.specs.contracts.sender.SenderSide.TheInside as Inside
 use Rattle.oneshot_word.proofs.sender.SenderSide.TheInside.TheFields.TheLaws as fields
-use Rattle.oneshot_word.proofs.Crosses.{Shared, Chair}
+use Rattle.oneshot_word.proofs.Crosses.{Shared, WordSeat}
 use Rattle.oneshot_word.specs.contracts.sender.SenderSide.new.{ended, clauses}
 use Rattle.oneshot_word.specs.contracts.sender.SenderSide.new.Key.{name as #self}
 use Rattle.oneshot_word.proofs.sender.SenderSide.new.Statement.{statement}
@@ -29,7 +29,7 @@ pub new_spec : {M : Type 1} → statement M
 new_spec 𝓤 𝓛 𝓜 𝓡 wired X Y W L K N =
     let H = 𝓛.H in let 𝓣 = tables 𝓤 H 𝓜 𝓡 𝓡.env in let R : RattleType = param 0 X in let Z : RattleType = param 1 Y in let V : RattleType = param 2 W in let En = ended X Y W in let c = clauses X Y W 𝓛 𝓜.mem 𝓡.returns in
     let inst = layouts (a_type ∷ a_type ∷ a_type ∷ []) (X, (Y, (W, tt))) in let fn = inst_fn inst code.function in let closed = code.unfolded 𝓤 H 𝓜 𝓡 wired (X, (Y, (W, tt))) in
-    let Br : RattleType = Shared R Z V in let Sr : RattleType = Chair R Z V in let F : RattleType = Inside.the_row R Z V in
+    let Br : RattleType = Shared R Z V in let Sr : RattleType = WordSeat R Z V in let F : RattleType = Inside.the_row R Z V in
     let laws = fields.the_laws R Z V (param_laws 0 X L) (param_laws 1 Y K) (param_laws 2 W N) in
     let hs : Stays En.signature.params En.kept = (stay_dropped (plain (λ _. Br)) no, (stay_dropped (plain (λ _. Sr)) no, tt)) in
     proved 𝓛 En hs c 𝓜 𝓡 (Goes-dropped 𝓛 3 (plain (λ _. Br)) no (λ κs x f. refl), (Goes-dropped 𝓛 3 (plain (λ _. Sr)) no (λ κs x f. refl), tt)) (#self inst) fn closed
@@ -42,7 +42,7 @@ new_spec 𝓤 𝓛 𝓜 𝓡 wired X Y W L K N =
     keep ! (4 ∷ 0 ∷ []) $ heard ! Ok (λ ok. split ! $ move ! (1 ∷ 0 ∷ []) $
     feq_i ! (List Val) (u ∷ []) (u ∷ []) refl $ fjoin ! $ fpack ! (Valss (Br ∷ Sr ∷ [])) (within (shape (Inside.the_type R Z V)) (x, (s, tt)) (u ∷ [])) (v ∷ [], (w ∷ [], tt)) $
     nothing ! $ move ! (1 ∷ 0 ∷ []) $ fjoin ! $ nothing ! $ move ! (1 ∷ 0 ∷ []) $ fjoin ! $
-    fpack ! ((i : F.Denot) × ((side.the_view R Z V i ≡ r) × side.the_invariant R Z V i)) (λ z. fsep (F.own_val z.0 (u ∷ [])) ftrue) (record { board = x; chair = s }, (refl, ok)) $
+    fpack ! ((i : F.Denot) × ((side.the_view R Z V i ≡ r) × side.the_invariant R Z V i)) (λ z. fsep (F.own_val z.0 (u ∷ [])) ftrue) (record { table = x; seat = s }, (refl, ok)) $
     enter ! 𝓣.C 𝓣.Λ fn (v ∷ w ∷ []) Post $ alloc_all ! (λ l. pass_all ! refl (fv, (fw, tt)) $
     sets ! (of_opd ! (get ! refl)) refl fv $ sets ! (of_opd ! (get ! refl)) refl fw $
     sets ! (agg ! (and_then ! (get ! refl) (and_then ! (get ! refl) (no_more !)))) refl (both_true (has_ty (layout Br) v) (has_ty (layout Sr) w) fv.0 fw.0, (fv.1, (fw.1, tt))) $

@@ -7,11 +7,11 @@ use Rattle.oneshot_word.proofs.sender.SenderSide.trade_message.Goals as goal
 
 pub exchange-old-requires : goal.exchange-old-requires
 exchange-old-requires g c =
-    (search rules, sender_message_front c.self.inside.chair.me c.turn.new.self.me c.self.invariant.0 (subst (λ s. s.message ≢ away) (sym c.self.view_is) c.requires.its_own) c.turn.ensures.2)
+    (search rules, sender_message_front c.self.inside.seat.me c.turn.new.self.me c.self.invariant.0 (subst (λ s. s.message ≢ away) (sym c.self.view_is) c.requires.its_own) c.turn.ensures.2)
 
-traded : (g : given.Over) (c : goal.After-turn-2 g) → Traded (λ s. MessageSlot s (message_in c.self.inside.chair.me.1)) SenderSeat c.self.inside.chair.me c.turn-2.new.self.me c.exchange-old.result (message_of c.args.new) (waker_in c.self.inside.chair.me.1)
+traded : (g : given.Over) (c : goal.After-turn-2 g) → Traded (λ s. MessageSlot s (message_in c.self.inside.seat.me.1)) SenderSeat c.self.inside.seat.me c.turn-2.new.self.me c.exchange-old.result (message_of c.args.new) (waker_in c.self.inside.seat.me.1)
 traded g c =
-    sender_message_traded c.self.inside.chair.me c.turn.new.self.me c.exchange-old.new.seat.me c.turn-2.new.self.me c.self.invariant.0 (subst (λ s. s.message ≢ away) (sym c.self.view_is) c.requires.its_own) (fits_message c.args.new c.requires.no_waker)
+    sender_message_traded c.self.inside.seat.me c.turn.new.self.me c.exchange-old.new.seat.me c.turn-2.new.self.me c.self.invariant.0 (subst (λ s. s.message ≢ away) (sym c.self.view_is) c.requires.its_own) (fits_message c.args.new c.requires.no_waker)
     record { turn = c.turn.ensures.2; front = c.exchange-old.ensures.2; trade = c.exchange-old.ensures.3; back = c.turn-2.ensures.2 }
 
 pub invariant_of-self : goal.invariant_of-self
@@ -22,4 +22,4 @@ returns-clause-was g c = rw (ap (λ s. s.message) (sym c.self.view_is)) (traded 
 
 pub returns-clause-has : goal.returns-clause-has
 returns-clause-has g c =
-    message_side c.self.inside.chair.table_id c.turn-2.new.self.table_id c.self.inside.chair.me c.turn-2.new.self.me c.args.self.now c.self.view_is (search rules) (traded g c)
+    message_side c.self.inside.seat.table_id c.turn-2.new.self.table_id c.self.inside.seat.me c.turn-2.new.self.me c.args.self.now c.self.view_is (search rules) (traded g c)

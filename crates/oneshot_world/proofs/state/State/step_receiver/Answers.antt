@@ -2,8 +2,8 @@
 use Rattle.std.proofs.Common.{◌≡◌, Some}
 use Rattle.oneshot_machine.specs.Receiver.{receiver_step, receiver_row}
 use Rattle.oneshot_machine.specs.Rows.{outcome}
-use Rattle.oneshot_world.specs.State.{seen_by}
-use Rattle.oneshot_world.proofs.Stepped.{receiver_made_of}
+use Rattle.oneshot_world.specs.Effects.{seen_by}
+use Rattle.oneshot_world.proofs.StateSteps.{receiver_made_of}
 use Rattle.oneshot_world.proofs.state.State.step_receiver.Goals as goal
 
 pub returns : goal.returns

@@ -1,8 +1,8 @@
 -- The world before the first move is one that a run reaches.
 use Rattle.std.proofs.Common.{rules, ◌≡◌, sym, subst}
-use Rattle.oneshot_world.specs.Control.{IsReached}
+use Rattle.oneshot_world.specs.Reached.{IsReached}
 use Rattle.oneshot_world.specs.World.{World, opening}
-use Rattle.oneshot_world.proofs.Reached.{opening_reached}
+use Rattle.oneshot_world.proofs.ReachedOpening.{opening_reached}
 use Rattle.oneshot_world.proofs.world.World.new.Goals as goal
 
 pub invariant_of-result : goal.invariant_of-result

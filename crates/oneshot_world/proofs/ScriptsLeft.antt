@@ -1,14 +1,17 @@
 -- What is left of a script is a script, call by call.
-use Rattle.std.proofs.Common.{◌≡◌, ℕ, suc, zero, Bool, true, false, List, [], ◌∷◌, ◌++◌, replicate, Option, Some, None, refl, ◌||◌, is_some}
+use Rattle.std.proofs.Common.{◌≡◌, ℕ, suc, zero, Bool, true, false, List, [], ◌∷◌, ◌++◌, replicate, Option, Some, None, refl, ◌||◌, ◌&&◌, is_some}
 use Rattle.oneshot_machine.specs.declared.machine.receiver.ReceiverPos.{ReceiverPos}
 use Rattle.oneshot_machine.specs.declared.machine.receiver.ReceiverStart.{ReceiverStart}
 use Rattle.oneshot_machine.specs.declared.machine.sender.SenderCall.{SenderCall}
 use Rattle.oneshot_machine.specs.declared.machine.sender.SenderPos.{SenderPos}
 use Rattle.oneshot_machine.specs.declared.machine.receiver.ReceiverStart.TheVariants as RC
 use Rattle.oneshot_machine.specs.declared.machine.sender.SenderCall.TheVariants as SC
-use Rattle.oneshot_world.specs.Calls.{Call, Of_sender, Of_receiver, Poll, first, rest, is_none_left, sender_last, error_last, receiver_calls, async_calls}
-use Rattle.oneshot_world.specs.Control.{is_script, stays_sender, ends_sender, stays_error, ends_error, ends_receiver, is_sender_script, is_error_script, is_receiver_script, is_async_script, has_script, ends_async, sender_has, receiver_has}
-use Rattle.oneshot_world.specs.State.{sender_position, receiver_position, place_left}
+use Rattle.oneshot_world.specs.Calls.{Call, Of_sender, Of_receiver, first, rest, is_none_left}
+use Rattle.oneshot_world.specs.Scripts.{sender_last, error_last, receiver_calls, async_calls}
+use Rattle.oneshot_world.specs.ScriptsLeft.{is_script, is_sender_script, is_error_script, is_receiver_script, is_async_script, has_script, sender_has, receiver_has}
+use Rattle.oneshot_world.specs.Scripts.{stays_sender, ends_sender, stays_error, ends_error, ends_receiver, ends_async, makes_future, begins_receiver, stays_receiver, stays_async}
+use Rattle.oneshot_world.specs.State.{sender_position, receiver_position}
+use Rattle.oneshot_world.specs.Effects.{place_left}
 use Rattle.oneshot_world.specs.World.{opening_place}
 use Rattle.oneshot_world.specs.declared.script.AsyncCall.{AsyncCall}
 use Rattle.oneshot_world.specs.declared.script.AsyncCall.TheVariants as AC
@@ -95,41 +98,39 @@ sender_ends message calls (Of_sender SC.IntoInner) ends h = h
 sender_ends message calls (Of_sender SC.DropError) ends h = h
 sender_ends message calls _ ends h = cc
 
-none_is_script : (calls : List Call) → is_none_left calls ≡ true → is_receiver_script calls ≡ true
-none_is_script [] h = refl
-none_is_script (call ∷ calls) h = cc
+none_is_script : (stays ends : Call → Bool) (calls : List Call) → is_none_left calls ≡ true → is_script stays ends calls ≡ true
+none_is_script stays ends [] h = refl
+none_is_script stays ends (call ∷ calls) h = cc
 
-none_is_async : (calls : List Call) → is_none_left calls ≡ true → is_async_script calls ≡ true
-none_is_async [] h = refl
-none_is_async (call ∷ calls) h = cc
+none_is_receiver : (calls : List Call) → is_none_left calls ≡ true → is_receiver_script calls ≡ true
+none_is_receiver [] h = refl
+none_is_receiver (call ∷ calls) h = cc
 
--- the call that makes the receiver a future
-abbrev pub makes_future : Option Call → Bool
-makes_future (Some (Of_receiver RC.IntoFuture)) = true
-makes_future _ = false
+-- what follows a call that stays or ends
+follows : (stays ends script none : Bool) → (none ≡ true → script ≡ true) → ((stays && script) || (ends && none)) ≡ true → script ≡ true
+follows stays ends true none of_none h = refl
+follows stays true false true of_none h = of_none refl
+follows true true false false of_none h = cc
+follows false true false false of_none h = cc
+follows true false false none of_none h = cc
+follows false false false none of_none h = cc
 
-receiver_goes : (calls : List Call) → is_receiver_script calls ≡ true → has_script (makes_future (first calls)) (rest calls) ≡ true
+abbrev pub becomes_future : Option Call → Bool
+becomes_future None = false
+becomes_future (Some call) = makes_future call
+
+receiver_goes : (calls : List Call) → is_receiver_script calls ≡ true → has_script (becomes_future (first calls)) (rest calls) ≡ true
 receiver_goes [] h = refl
-receiver_goes (Of_receiver RC.TryRecv ∷ calls) h = left_of_or _ h
-receiver_goes (Of_receiver RC.RecvRef ∷ calls) h = left_of_or _ h
-receiver_goes (Of_receiver RC.RecvDeadline ∷ calls) h = left_of_or _ h
-receiver_goes (Of_receiver (RC.RecvTimeout representable) ∷ calls) h = left_of_or _ h
-receiver_goes (Of_receiver RC.Recv ∷ calls) h = none_is_script calls h
-receiver_goes (Of_receiver RC.HasMessage ∷ calls) h = left_of_or _ h
-receiver_goes (Of_receiver RC.IsClosed ∷ calls) h = left_of_or _ h
-receiver_goes (Of_receiver RC.Drop ∷ calls) h = none_is_script calls h
 receiver_goes (Of_receiver RC.IntoFuture ∷ calls) h = h
-receiver_goes (_ ∷ calls) h = cc
+receiver_goes (call ∷ calls) h =
+    follows (stays_receiver call) (ends_receiver call) (is_receiver_script calls) (is_none_left calls) (none_is_receiver calls) h
 
 async_goes : (calls : List Call) → is_async_script calls ≡ true → is_async_script (rest calls) ≡ true
 async_goes [] h = refl
-async_goes (Poll number ∷ calls) h = left_of_or _ h
-async_goes (Of_receiver RC.HasMessage ∷ calls) h = left_of_or _ h
-async_goes (Of_receiver RC.IsClosed ∷ calls) h = left_of_or _ h
-async_goes (Of_receiver RC.DropAsync ∷ calls) h = none_is_async calls h
-async_goes (_ ∷ calls) h = cc
+async_goes (call ∷ calls) h =
+    follows (stays_async call) (ends_async call) (is_async_script calls) (is_none_left calls) (none_is_script stays_async ends_async calls) h
 
-pub receiver_goes_on : (future : Bool) (calls : List Call) → has_script future calls ≡ true → has_script (future || makes_future (first calls)) (rest calls) ≡ true
+pub receiver_goes_on : (future : Bool) (calls : List Call) → has_script future calls ≡ true → has_script (future || becomes_future (first calls)) (rest calls) ≡ true
 receiver_goes_on false calls h = receiver_goes calls h
 receiver_goes_on true calls h = async_goes calls h
 
@@ -139,11 +140,21 @@ ends_either call = ends_receiver call || ends_async call
 pub receiver_ends : (future : Bool) (calls : List Call) (call : Call) → ends_either call ≡ true → has_script future (call ∷ calls) ≡ true → is_none_left calls ≡ true
 receiver_ends false calls (Of_receiver RC.Recv) ends h = h
 receiver_ends false calls (Of_receiver RC.Drop) ends h = h
-receiver_ends false calls (Of_receiver RC.DropAsync) ends h = cc
 receiver_ends true calls (Of_receiver RC.DropAsync) ends h = h
-receiver_ends true calls (Of_receiver RC.Recv) ends h = cc
-receiver_ends true calls (Of_receiver RC.Drop) ends h = cc
-receiver_ends future calls _ ends h = cc
+receiver_ends _ calls _ ends h = cc
+
+-- the first call of a script is one that may begin
+either_of : (a b c d : Bool) → ((a && c) || (b && d)) ≡ true → (a || b) ≡ true
+either_of true b c d h = refl
+either_of false true c d h = refl
+either_of false false c d h = h
+
+pub script_begins : (stays ends : Call → Bool) (call : Call) (calls : List Call) → is_script stays ends (call ∷ calls) ≡ true → (stays call || ends call) ≡ true
+script_begins stays ends call calls h = either_of (stays call) (ends call) _ _ h
+
+pub receiver_script_begins : (call : ReceiverStart) (calls : List Call) → is_receiver_script (Of_receiver call ∷ calls) ≡ true → begins_receiver (Of_receiver call) ≡ true
+receiver_script_begins RC.IntoFuture calls h = refl
+receiver_script_begins _ calls h = cc
 
 -- the calls of a script are a script
 looked : (stays ends : Call → Bool) (call : Call) (n : ℕ) (calls : List Call) → stays call ≡ true → is_script stays ends calls ≡ true → is_script stays ends (replicate n call ++ calls) ≡ true
@@ -164,8 +175,7 @@ async_scripted : (calls : List AsyncCall) (last : AsyncLast) → is_async_script
 async_scripted [] AL.Drop = refl
 async_scripted [] AL.Stop = refl
 async_scripted (AC.Poll number ∷ calls) last = rw (async_scripted calls last) refl
-async_scripted (AC.HasMessage ∷ calls) last = rw (async_scripted calls last) refl
-async_scripted (AC.IsClosed ∷ calls) last = rw (async_scripted calls last) refl
+async_scripted (_ ∷ calls) last = rw (async_scripted calls last) refl
 
 pub receiver_scripted : (calls : List ReceiverCall) (last : ReceiverLast) → is_receiver_script (receiver_calls calls last) ≡ true
 receiver_scripted [] RL.Recv = refl
@@ -173,8 +183,4 @@ receiver_scripted [] RL.Drop = refl
 receiver_scripted [] (RL.IntoFuture script) = async_scripted script.calls script.last
 receiver_scripted [] RL.Stop = refl
 receiver_scripted (Script.TryRecv ∷ calls) last = rw (receiver_scripted calls last) refl
-receiver_scripted (Script.RecvRef ∷ calls) last = rw (receiver_scripted calls last) refl
-receiver_scripted (Script.RecvDeadline ∷ calls) last = rw (receiver_scripted calls last) refl
-receiver_scripted (Script.RecvTimeout representable ∷ calls) last = rw (receiver_scripted calls last) refl
-receiver_scripted (Script.HasMessage ∷ calls) last = rw (receiver_scripted calls last) refl
-receiver_scripted (Script.IsClosed ∷ calls) last = rw (receiver_scripted calls last) refl
+receiver_scripted (_ ∷ calls) last = rw (receiver_scripted calls last) refl

@@ -1,7 +1,7 @@
 -- Once a call is answered, those after it are left.
 use Rattle.std.proofs.Common.{◌≡◌, ◌<◌, None, length, refl}
-use Rattle.oneshot_world.proofs.Scripted.{from_here, answers}
-use Rattle.oneshot_world.proofs.calls.ReceiverCalls.advance.Goals as goal
+use Rattle.oneshot_world.proofs.ScriptsAnswered.{from_here, answers}
+use Rattle.oneshot_world.proofs.calls.receiver.ReceiverCalls.advance.Goals as goal
 
 pub returns-then-self-as_slice : goal.returns-then-self-as_slice
 returns-then-self-as_slice c =

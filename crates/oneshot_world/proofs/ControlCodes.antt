@@ -1,23 +1,27 @@
 -- Values that are compared by their codes are the same where their codes are.
 use Rattle.std.proofs.Common.{◌≡◌, ℕ, Bool, true, false, List, [], ◌∷◌, Option, Some, None, refl, sym, ◌∙◌, ap, ◌==◌, ◌&&◌, get_or, map, if◌then◌else◌}
 use Rattle.std.proofs.lemmas.Bool.{eqb-true}
-use Rattle.oneshot_machine.specs.Standing.{sender_positions, receiver_positions}
+use Rattle.oneshot_machine.specs.Sender.{sender_positions}
+use Rattle.oneshot_machine.specs.Receiver.{receiver_positions}
 use Rattle.oneshot_machine.specs.declared.machine.future.FuturePos.TheVariants as F
 use Rattle.oneshot_machine.specs.declared.machine.receiver.ReceiverPos.TheVariants as R
-use Rattle.oneshot_machine.specs.declared.machine.look.LookPos.TheVariants.{LookFull, LookClosed, TryLoad, Close, Take, CloseOnly}
-use Rattle.oneshot_machine.specs.declared.machine.by_ref.RefPos.TheVariants.{StartLoad, StartWrite, StartSwap, BackFull, BackClosed, Park, ParkLoad}
-use Rattle.oneshot_machine.specs.declared.machine.timed.TimedPos.TheVariants.{SumClock, Clock, TimedPark, TimedLoad, EndSwap, EndBack, LatePark, LateLoad}
-use Rattle.oneshot_machine.specs.declared.machine.value.ValuePos.TheVariants.{RecvLoad, RecvWrite, RecvSwap, RecvBackFull, RecvBackClosed, RecvPark, RecvParkLoad, RecvTake, RecvFreeGot, RecvFreeGone}
-use Rattle.oneshot_machine.specs.declared.machine.async_drop.AsyncDropPos.TheVariants.{AsyncLoad, AsyncExchange, AsyncBack, AsyncSpin}
-use Rattle.oneshot_machine.specs.declared.machine.drop.DropPos.TheVariants.{DropSwap, DropMessage, DropFree}
+use Rattle.oneshot_machine.specs.declared.machine.look.LookPos.TheVariants.{LookFull}
+use Rattle.oneshot_machine.specs.declared.machine.by_ref.RefPos.TheVariants.{StartLoad, StartWrite, StartSwap}
+use Rattle.oneshot_machine.specs.declared.machine.timed.TimedPos.TheVariants.{SumClock}
+use Rattle.oneshot_machine.specs.declared.machine.value.ValuePos.TheVariants.{RecvLoad}
+use Rattle.oneshot_machine.specs.declared.machine.async_drop.AsyncDropPos.TheVariants.{AsyncLoad}
+use Rattle.oneshot_machine.specs.declared.machine.drop.DropPos.TheVariants.{DropSwap}
 use Rattle.oneshot_machine.specs.declared.machine.sender.SenderPos.TheVariants as S
 use Rattle.oneshot_machine.specs.declared.machine.receiver.ReceiverStart.{ReceiverStart}
 use Rattle.oneshot_machine.specs.declared.machine.receiver.ReceiverStart.TheVariants as RC
 use Rattle.oneshot_machine.specs.declared.machine.sender.SenderCall.{SenderCall}
 use Rattle.oneshot_machine.specs.declared.machine.sender.SenderCall.TheVariants as SC
 use Rattle.oneshot_world.specs.Calls.{Call, Of_sender, Of_receiver, Poll, Stray}
-use Rattle.oneshot_world.specs.Control.{Control, sender_code, receiver_code, sender_call_code, receiver_call_code, is_same_call, is_same_under_way, place_code, bool_code, is_same_wakers, is_same_state, is_same_control}
-use Rattle.oneshot_world.specs.Wakers.{is_same_waker, is_same_name}
+use Rattle.oneshot_machine.specs.Sender.{all_sender_calls}
+use Rattle.oneshot_machine.specs.Receiver.{all_receiver_calls}
+use Rattle.oneshot_world.specs.Control.{Control}
+use Rattle.oneshot_world.specs.ControlCodes.{sender_code, receiver_code, sender_call_code, receiver_call_code, is_same_call, is_same_under_way, place_code, bool_code, is_same_wakers, is_same_state, is_same_control, is_same_name}
+use Rattle.oneshot_world.specs.Wakers.{is_same_waker}
 use Rattle.oneshot_world.specs.declared.state.ReceiverState.{ReceiverState}
 use Rattle.oneshot_world.specs.declared.state.ReceiverState.TheVariants as RS
 use Rattle.oneshot_world.specs.declared.state.SenderState.{SenderState}
@@ -42,21 +46,7 @@ sender_back SS.Ready = refl
 sender_back SS.Failed = refl
 sender_back SS.Ended = refl
 sender_back (SS.At S.LookClosed) = refl
-sender_back (SS.At S.SendWrite) = refl
-sender_back (SS.At S.SendAdd) = refl
-sender_back (SS.At S.SendTakeWaker) = refl
-sender_back (SS.At S.SendFinal) = refl
-sender_back (SS.At S.SendWake) = refl
-sender_back (SS.At S.DropXor) = refl
-sender_back (SS.At S.DropTakeWaker) = refl
-sender_back (SS.At S.DropFinal) = refl
-sender_back (SS.At S.DropWake) = refl
-sender_back (SS.At S.DropFree) = refl
-sender_back (SS.At S.ErrorLook) = refl
-sender_back (SS.At S.IntoTake) = refl
-sender_back (SS.At S.IntoFree) = refl
-sender_back (SS.At S.ErrorDrop) = refl
-sender_back (SS.At S.ErrorFree) = refl
+sender_back (SS.At _) = refl
 
 abbrev receivers : List ReceiverState
 receivers = RS.Ready ∷ RS.Ended ∷ map RS.At receiver_positions
@@ -65,62 +55,28 @@ receiver_back : (s : ReceiverState) → get_or receivers (receiver_code s) RS.En
 receiver_back RS.Ready = refl
 receiver_back RS.Ended = refl
 receiver_back (RS.At (R.Look LookFull)) = refl
-receiver_back (RS.At (R.Look LookClosed)) = refl
-receiver_back (RS.At (R.Look TryLoad)) = refl
-receiver_back (RS.At (R.Look Close)) = refl
-receiver_back (RS.At (R.Look Take)) = refl
-receiver_back (RS.At (R.Look CloseOnly)) = refl
+receiver_back (RS.At (R.Look _)) = refl
 receiver_back (RS.At (R.Ref (StartLoad false))) = refl
 receiver_back (RS.At (R.Ref (StartLoad true))) = refl
 receiver_back (RS.At (R.Ref (StartWrite false))) = refl
 receiver_back (RS.At (R.Ref (StartWrite true))) = refl
 receiver_back (RS.At (R.Ref (StartSwap false))) = refl
 receiver_back (RS.At (R.Ref (StartSwap true))) = refl
-receiver_back (RS.At (R.Ref BackFull)) = refl
-receiver_back (RS.At (R.Ref BackClosed)) = refl
-receiver_back (RS.At (R.Ref Park)) = refl
-receiver_back (RS.At (R.Ref ParkLoad)) = refl
+receiver_back (RS.At (R.Ref _)) = refl
 receiver_back (RS.At (R.Timed (SumClock false))) = refl
 receiver_back (RS.At (R.Timed (SumClock true))) = refl
-receiver_back (RS.At (R.Timed Clock)) = refl
-receiver_back (RS.At (R.Timed TimedPark)) = refl
-receiver_back (RS.At (R.Timed TimedLoad)) = refl
-receiver_back (RS.At (R.Timed EndSwap)) = refl
-receiver_back (RS.At (R.Timed EndBack)) = refl
-receiver_back (RS.At (R.Timed LatePark)) = refl
-receiver_back (RS.At (R.Timed LateLoad)) = refl
+receiver_back (RS.At (R.Timed _)) = refl
 receiver_back (RS.At (R.Value RecvLoad)) = refl
-receiver_back (RS.At (R.Value RecvWrite)) = refl
-receiver_back (RS.At (R.Value RecvSwap)) = refl
-receiver_back (RS.At (R.Value RecvBackFull)) = refl
-receiver_back (RS.At (R.Value RecvBackClosed)) = refl
-receiver_back (RS.At (R.Value RecvPark)) = refl
-receiver_back (RS.At (R.Value RecvParkLoad)) = refl
-receiver_back (RS.At (R.Value RecvTake)) = refl
-receiver_back (RS.At (R.Value RecvFreeGot)) = refl
-receiver_back (RS.At (R.Value RecvFreeGone)) = refl
+receiver_back (RS.At (R.Value _)) = refl
 receiver_back (RS.At (R.Future F.IntoFuture)) = refl
-receiver_back (RS.At (R.Future F.PollLoad)) = refl
-receiver_back (RS.At (R.Future F.PollCopy)) = refl
-receiver_back (RS.At (R.Future F.PollWrite)) = refl
-receiver_back (RS.At (R.Future F.PollExchange)) = refl
-receiver_back (RS.At (R.Future F.PollBackFull)) = refl
-receiver_back (RS.At (R.Future F.PollBackClosed)) = refl
-receiver_back (RS.At (R.Future F.AgainCopy)) = refl
-receiver_back (RS.At (R.Future F.AgainExchange)) = refl
-receiver_back (RS.At (R.Future F.AgainBack)) = refl
-receiver_back (RS.At (R.Future F.PollOwn)) = refl
-receiver_back (RS.At (R.Future F.PollSpin)) = refl
+receiver_back (RS.At (R.Future _)) = refl
 receiver_back (RS.At (R.AsyncDrop AsyncLoad)) = refl
-receiver_back (RS.At (R.AsyncDrop AsyncExchange)) = refl
-receiver_back (RS.At (R.AsyncDrop AsyncBack)) = refl
-receiver_back (RS.At (R.AsyncDrop AsyncSpin)) = refl
+receiver_back (RS.At (R.AsyncDrop _)) = refl
 receiver_back (RS.At (R.Drop DropSwap)) = refl
-receiver_back (RS.At (R.Drop DropMessage)) = refl
-receiver_back (RS.At (R.Drop DropFree)) = refl
+receiver_back (RS.At (R.Drop _)) = refl
 
 -- the value of a list that has a code
-abbrev with_code : {X : Type 0} → (X → ℕ) → ℕ → List X → Option X
+abbrev pub with_code : {X : Type 0} → (X → ℕ) → ℕ → List X → Option X
 with_code code n [] = None
 with_code code n (x ∷ xs) = if code x == n then Some x else with_code code n xs
 
@@ -129,39 +85,20 @@ same_with code values back x y h =
     let same : Some x ≡ Some y = sym (back x) ∙ ap (λ k. with_code code k values) (eqb-true (code x) (code y) h) ∙ back y in
     cc same
 
-abbrev sender_calls : List SenderCall
-sender_calls = SC.IsClosed ∷ SC.Send ∷ SC.Drop ∷ SC.AsInner ∷ SC.IntoInner ∷ SC.DropError ∷ []
-
-sender_call_back : (c : SenderCall) → with_code sender_call_code (sender_call_code c) sender_calls ≡ Some c
+pub sender_call_back : (c : SenderCall) → with_code sender_call_code (sender_call_code c) all_sender_calls ≡ Some c
 sender_call_back SC.IsClosed = refl
 sender_call_back _ = refl
 
-abbrev receiver_calls : List ReceiverStart
-receiver_calls =
-    RC.TryRecv
-    ∷ RC.Recv
-    ∷ RC.RecvRef
-    ∷ RC.RecvDeadline
-    ∷ RC.RecvTimeout false
-    ∷ RC.RecvTimeout true
-    ∷ RC.HasMessage
-    ∷ RC.IsClosed
-    ∷ RC.IntoFuture
-    ∷ RC.Poll
-    ∷ RC.Drop
-    ∷ RC.DropAsync
-    ∷ []
-
-receiver_call_back : (c : ReceiverStart) → with_code receiver_call_code (receiver_call_code c) receiver_calls ≡ Some c
+pub receiver_call_back : (c : ReceiverStart) → with_code receiver_call_code (receiver_call_code c) all_receiver_calls ≡ Some c
 receiver_call_back (RC.RecvTimeout false) = refl
 receiver_call_back (RC.RecvTimeout true) = refl
 receiver_call_back _ = refl
 
 pub call_is : (a b : Call) → is_same_call a b ≡ true → a ≡ b
 call_is (Of_sender a) (Of_sender b) h =
-    ap (λ (c : SenderCall). Of_sender c) (same_with sender_call_code sender_calls sender_call_back a b h)
+    ap (λ (c : SenderCall). Of_sender c) (same_with sender_call_code all_sender_calls sender_call_back a b h)
 call_is (Of_receiver a) (Of_receiver b) h =
-    ap (λ (c : ReceiverStart). Of_receiver c) (same_with receiver_call_code receiver_calls receiver_call_back a b h)
+    ap (λ (c : ReceiverStart). Of_receiver c) (same_with receiver_call_code all_receiver_calls receiver_call_back a b h)
 call_is (Poll a) (Poll b) h = ap (λ (n : ℕ). Poll n) (eqb-true a b h)
 call_is Stray Stray h = refl
 call_is _ _ h = cc

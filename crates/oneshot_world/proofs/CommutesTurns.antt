@@ -15,7 +15,8 @@ use Rattle.oneshot_machine.specs.declared.states.Op.TheVariants as O
 use Rattle.oneshot_world.specs.Calls.{Call, Poll, as_sender_call, as_receiver_call}
 use Rattle.oneshot_world.specs.Classes.{Classes, as_name, as_wakers, as_told, as_state, as_call, as_move, as_made, as_turned}
 use Rattle.oneshot_world.specs.Control.{Control, Begin, control_then, control_turn, sender_under_way, receiver_under_way, as_begin, as_control, as_control_turned}
-use Rattle.oneshot_world.specs.State.{turns, sender_turns_at, receiver_turns_at, sender_stands, receiver_stands, sender_stepped, sender_moved, receiver_moved, receiver_stepped, made, made_entry, sender_fits, receiver_fits, seen_by, hand_kept, reply_of, is_future, sender_puts, receiver_puts}
+use Rattle.oneshot_world.specs.State.{turns, sender_turns_at, receiver_turns_at, sender_stands, receiver_stands, sender_stepped, sender_moved, receiver_moved, receiver_stepped, made, made_entry, sender_fits, receiver_fits, hand_kept}
+use Rattle.oneshot_world.specs.Effects.{seen_by, reply_of, is_future, sender_puts, receiver_puts}
 use Rattle.oneshot_world.specs.Wakers.{is_parker, is_copy, withdrawn, back_to, wakers_left, waker_move, sets_token, own_of}
 use Rattle.oneshot_world.specs.declared.state.ReceiverState.{ReceiverState}
 use Rattle.oneshot_world.specs.declared.state.ReceiverState.TheVariants as RS

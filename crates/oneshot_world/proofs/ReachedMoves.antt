@@ -2,7 +2,7 @@
 use Rattle.std.proofs.Common.{◌≡◌, ◌≤◌, ◌==◌, ℕ, Bool, true, false, List, [], ◌∷◌, Option, Some, None, refl, sym, ◌∙◌, ap, subst, ◌&&◌, ◌||◌, nat_le, if◌then◌else◌}
 use Rattle.std.proofs.lemmas.Bool.{leb-true}
 use Rattle.std.specs.List.{list_all}
-use Rattle.std.specs.Option.{option_map, option_and_then, IsSome}
+use Rattle.std.specs.Option.{option_map, IsSome}
 use Rattle.oneshot_machine.specs.Receiver.{receiver_step, receiver_row}
 use Rattle.oneshot_machine.specs.Rows.{Outcome, Goes, Answers}
 use Rattle.oneshot_machine.specs.Sender.{sender_step, sender_row}
@@ -12,18 +12,17 @@ use Rattle.oneshot_machine.specs.declared.machine.Reply.TheVariants as Replies
 use Rattle.oneshot_machine.specs.declared.machine.Step.{Step}
 use Rattle.oneshot_machine.specs.declared.machine.receiver.ReceiverPos.{ReceiverPos}
 use Rattle.oneshot_machine.specs.declared.machine.sender.SenderPos.{SenderPos}
-use Rattle.oneshot_machine.specs.declared.machine.receiver.ReceiverStart.TheVariants as RC
-use Rattle.oneshot_machine.specs.declared.machine.sender.SenderCall.TheVariants as SC
-use Rattle.oneshot_world.specs.Calls.{Call, Of_sender, Of_receiver, Poll, Unanswered, number_of, first, rest, is_none_left, left_by, error_calls, as_sender_call, as_receiver_call}
+use Rattle.oneshot_world.specs.Calls.{Call, Poll, Unanswered, first, rest, is_none_left, left_by}
 use Rattle.oneshot_world.specs.Classes.{Classes, all_alike, as_call}
-use Rattle.oneshot_world.specs.Control.{Control, control_of, Begin, begins, begins_poll, poll_begin, plain_told, one_poll, one_copy, as_begin, as_control, as_control_turned, bool_code, sender_begins, receiver_begins_at, receiver_begins, sender_under_way, receiver_under_way, control_then, control_turn, control_code, is_same_control, reached, is_reached, IsReached, opening_control, is_sender_script, is_error_script, has_script, stays_sender, ends_sender, stays_error, ends_error, sender_has, receiver_has}
+use Rattle.oneshot_world.specs.Control.{Control, control_of, Begin, begins, as_begin, as_control, as_control_turned, sender_begins, sender_under_way, receiver_under_way, control_then, control_turn}
+use Rattle.oneshot_world.specs.Reached.{one_poll, one_copy, reached, is_reached, IsReached}
+use Rattle.oneshot_world.specs.ControlCodes.{bool_code, control_code, is_same_control}
+use Rattle.oneshot_world.specs.ScriptsLeft.{is_sender_script, is_error_script, has_script, sender_has, receiver_has}
+use Rattle.oneshot_world.specs.Scripts.{stays_sender, ends_sender, stays_error, ends_error}
 use Rattle.oneshot_world.specs.Explore.{all_in}
-use Rattle.oneshot_world.specs.State.{sender_turns_at, receiver_turns_at, sender_stands, receiver_stands, sender_position, receiver_position, sender_steps, receiver_steps, sender_moved, sender_stepped, receiver_moved, receiver_stepped, made_entry, place_left, reply_of, sender_goes, receiver_goes, is_plain, is_free, is_future, sender_fits, receiver_fits, seen_by, sender_puts, receiver_puts}
-use Rattle.oneshot_world.specs.World.{World, by_end, reply_in, nothing_told, told_with, receiver_told, opening, opening_place}
-use Rattle.oneshot_world.specs.declared.script.ReceiverScript.{ReceiverScript}
-use Rattle.oneshot_world.specs.declared.script.SenderLast.{SenderLast}
-use Rattle.oneshot_world.specs.declared.script.SenderLast.TheVariants as SL
-use Rattle.oneshot_world.specs.declared.script.SenderScript.{SenderScript}
+use Rattle.oneshot_world.specs.State.{sender_turns_at, receiver_turns_at, sender_stands, receiver_stands, sender_steps, receiver_steps, sender_moved, sender_stepped, receiver_moved, receiver_stepped, made_entry, sender_fits, receiver_fits}
+use Rattle.oneshot_world.specs.Effects.{place_left, reply_of, sender_goes, receiver_goes, is_plain, is_free, is_future, seen_by, sender_puts, receiver_puts}
+use Rattle.oneshot_world.specs.World.{World, by_end, reply_in, nothing_told, receiver_told}
 use Rattle.oneshot_world.specs.declared.state.ReceiverState.{ReceiverState}
 use Rattle.oneshot_world.specs.declared.state.ReceiverState.TheVariants as RS
 use Rattle.oneshot_world.specs.declared.state.SenderState.{SenderState}
@@ -35,11 +34,12 @@ use Rattle.oneshot_world.specs.declared.trace.Place.{Place}
 use Rattle.oneshot_world.specs.declared.trace.Place.TheVariants.{NotSent}
 use Rattle.oneshot_world.proofs.Bools.{and_left, and_right, all_left, all_right}
 use Rattle.oneshot_world.specs.declared.wakers.Told.{Told}
-use Rattle.oneshot_world.proofs.Classed.{control_turn_as}
-use Rattle.oneshot_world.proofs.Coded.{bool_is, control_is}
-use Rattle.oneshot_world.proofs.Listed.{is_listed, all_mapped, all_flat}
-use Rattle.oneshot_world.proofs.Left.{either_stays, script_stays, sender_still_has, sender_has_script, receiver_has_script, sender_goes_on, error_goes_on, sender_ends, makes_future, ends_either, receiver_goes_on, receiver_ends, error_scripted, sender_scripted, receiver_scripted}
-use Rattle.oneshot_world.proofs.Explored.{passes_where_found}
+use Rattle.oneshot_world.proofs.CommutesTurns.{control_turn_as}
+use Rattle.oneshot_world.proofs.ControlCodes.{bool_is, control_is}
+use Rattle.oneshot_world.proofs.Listed.{is_listed}
+use Rattle.oneshot_world.proofs.ScriptsLeft.{either_stays, script_stays, sender_still_has, sender_has_script, receiver_has_script, sender_goes_on, error_goes_on, sender_ends, becomes_future, ends_either, receiver_goes_on, receiver_ends}
+use Rattle.oneshot_world.proofs.ExploreFound.{passes_where_found}
+use Rattle.oneshot_world.proofs.ReachedBegins.{at_sender, at_receiver, receives_at}
 
 -- a test that passes on all that is reached
 pub passes : (test : Control → Bool) → all_in test reached ≡ true → (c : Control) → is_reached c ≡ true → test c ≡ true
@@ -68,7 +68,7 @@ ends_right RS.Ended (Some call) = ends_either call
 receiver_left_by_its_call : Option Reply → ReceiverState → Option Call → Bool
 receiver_left_by_its_call None s call = true
 receiver_left_by_its_call (Some reply) s call =
-    bool_code (makes_future call) == bool_code (is_future (Some reply)) && ends_right s call
+    bool_code (becomes_future call) == bool_code (is_future (Some reply)) && ends_right s call
 
 abbrev left_right : Begin → Entry → State → Bool
 left_right b entry s =
@@ -88,80 +88,6 @@ is_closed = refl
 -- the word is one of the codes
 pub word_is_code : (w : World) → IsReached w → w.state.word ≤ 4
 word_is_code w h = leb-true w.state.word 4 (and_left _ _ (passes _ is_closed (as_control all_alike (control_of w)) h.control))
-
--- what passes at each move that may begin passes at the move that an end makes
-pub at_sender : (k : Classes) (test : Begin → Bool) (message : Option Place) (s : SenderState) (calls : List Call) (position : SenderPos) → sender_has message s calls ≡ true → sender_position s (option_and_then as_sender_call (first calls)) ≡ Some position → list_all test (sender_begins message s (option_map (as_call k) (sender_under_way s (first calls)))) ≡ true → test (record { side = Sender; told = nothing_told; call = option_map (as_call k) (first calls) }) ≡ true
-at_sender k test message SS.Ready [] position has at h = cc
-at_sender k test message SS.Ready (Of_sender SC.IsClosed ∷ calls) position has at h = and_left _ _ h
-at_sender k test message SS.Ready (Of_sender SC.Drop ∷ calls) position has at h = and_left _ _ (and_right _ _ h)
-at_sender k test None SS.Ready (Of_sender SC.Send ∷ calls) position has at h = cc
-at_sender k test (Some place) SS.Ready (Of_sender SC.Send ∷ calls) position has at h = and_left _ _ (and_right _ _ (and_right _ _ h))
-at_sender k test message SS.Ready (_ ∷ calls) position has at h = cc
-at_sender k test message (SS.At here) calls position has at h = and_left _ _ h
-at_sender k test message SS.Failed [] position has at h = cc
-at_sender k test message SS.Failed (Of_sender SC.AsInner ∷ calls) position has at h = and_left _ _ h
-at_sender k test message SS.Failed (Of_sender SC.IntoInner ∷ calls) position has at h = and_left _ _ (and_right _ _ h)
-at_sender k test message SS.Failed (Of_sender SC.DropError ∷ calls) position has at h = and_left _ _ (and_right _ _ (and_right _ _ h))
-at_sender k test message SS.Failed (_ ∷ calls) position has at h = cc
-at_sender k test message SS.Ended calls position has at h = cc
-
-abbrev receives : Bool → Call → Begin
-receives answer call = record { side = Receiver; told = plain_told answer; call = Some call }
-
-past : (test : Begin → Bool) (answer : Bool) (call : Call) {more : Bool} → (test (receives answer call) && more) ≡ true → more ≡ true
-past test answer call {more} h = and_right (test (receives answer call)) more h
-
--- the calls from the fourth on
-past_three : (test : Begin → Bool) (answer : Bool) {more : Bool} → (test (receives answer (Of_receiver RC.TryRecv)) && (test (receives answer (Of_receiver RC.RecvRef)) && (test (receives answer (Of_receiver RC.RecvDeadline)) && more))) ≡ true → more ≡ true
-past_three test answer h = past test answer (Of_receiver RC.RecvDeadline) (past test answer (Of_receiver RC.RecvRef) (past test answer (Of_receiver RC.TryRecv) h))
-
--- from the seventh on
-past_six : (test : Begin → Bool) (answer : Bool) {more : Bool} → (test (receives answer (Of_receiver RC.TryRecv)) && (test (receives answer (Of_receiver RC.RecvRef)) && (test (receives answer (Of_receiver RC.RecvDeadline)) && (test (receives answer (Of_receiver (RC.RecvTimeout false))) && (test (receives answer (Of_receiver (RC.RecvTimeout true))) && (test (receives answer (Of_receiver RC.Recv)) && more)))))) ≡ true → more ≡ true
-past_six test answer h = past test answer (Of_receiver RC.Recv) (past test answer (Of_receiver (RC.RecvTimeout true)) (past test answer (Of_receiver (RC.RecvTimeout false)) (past_three test answer h)))
-
--- the moves of a receiver, by the call under way or next and the entry that is made
-abbrev pub receives_at : Bool → ℕ → Option Call → Begin
-receives_at answer entry call =
-    record { side = Receiver; told = told_with answer entry (option_and_then number_of call); call = call }
-
--- Each poll's class is among `polls`, and the class of each copy made in this entry among those of its poll.
-module _ (k : Classes) (polls : List ℕ) (copies : ℕ → List ℕ) (entry : ℕ) (polled : (number : ℕ) → is_listed (k.polls number) polls ≡ true) (copied : (number : ℕ) → is_listed (k.copies number entry) (copies (k.polls number)) ≡ true) where
-  at_poll : (test : Begin → Bool) (answer : Bool) (number : ℕ) → list_all test (begins_poll copies answer (k.polls number)) ≡ true → test (as_begin k (receives_at answer entry (Some (Poll number)))) ≡ true
-  at_poll test answer number h = all_mapped test (λ copy. poll_begin answer (k.polls number) copy) (copies (k.polls number)) (k.copies number entry) h (copied number)
-
-  at_receiver_when : (test : Begin → Bool) (answer : Bool) (s : ReceiverState) (future : Bool) (calls : List Call) (position : ReceiverPos) → receiver_has s future calls ≡ true → receiver_position s (option_and_then as_receiver_call (first calls)) ≡ Some position → list_all test (receiver_begins_at polls copies answer s future (option_map (as_call k) (receiver_under_way s (first calls)))) ≡ true → test (as_begin k (receives_at answer entry (first calls))) ≡ true
-  at_receiver_when test answer RS.Ready false [] position has at h = cc
-  at_receiver_when test answer RS.Ready false (Of_receiver RC.TryRecv ∷ calls) position has at h = and_left _ _ h
-  at_receiver_when test answer RS.Ready false (Of_receiver RC.RecvRef ∷ calls) position has at h = and_left _ _ (past test answer (Of_receiver RC.TryRecv) h)
-  at_receiver_when test answer RS.Ready false (Of_receiver RC.RecvDeadline ∷ calls) position has at h = and_left _ _ (past test answer (Of_receiver RC.RecvRef) (past test answer (Of_receiver RC.TryRecv) h))
-  at_receiver_when test answer RS.Ready false (Of_receiver (RC.RecvTimeout false) ∷ calls) position has at h = and_left _ _ (past_three test answer h)
-  at_receiver_when test answer RS.Ready false (Of_receiver (RC.RecvTimeout true) ∷ calls) position has at h = and_left _ _ (past test answer (Of_receiver (RC.RecvTimeout false)) (past_three test answer h))
-  at_receiver_when test answer RS.Ready false (Of_receiver RC.Recv ∷ calls) position has at h = and_left _ _ (past test answer (Of_receiver (RC.RecvTimeout true)) (past test answer (Of_receiver (RC.RecvTimeout false)) (past_three test answer h)))
-  at_receiver_when test answer RS.Ready false (Of_receiver RC.HasMessage ∷ calls) position has at h = and_left _ _ (past_six test answer h)
-  at_receiver_when test answer RS.Ready false (Of_receiver RC.IsClosed ∷ calls) position has at h = and_left _ _ (past test answer (Of_receiver RC.HasMessage) (past_six test answer h))
-  at_receiver_when test answer RS.Ready false (Of_receiver RC.Drop ∷ calls) position has at h = and_left _ _ (past test answer (Of_receiver RC.IsClosed) (past test answer (Of_receiver RC.HasMessage) (past_six test answer h)))
-  at_receiver_when test answer RS.Ready false (Of_receiver RC.IntoFuture ∷ calls) position has at h = and_left _ true (past test answer (Of_receiver RC.Drop) (past test answer (Of_receiver RC.IsClosed) (past test answer (Of_receiver RC.HasMessage) (past_six test answer h))))
-  at_receiver_when test answer RS.Ready false (_ ∷ calls) position has at h = cc
-  at_receiver_when test answer RS.Ready true [] position has at h = cc
-  at_receiver_when test answer RS.Ready true (Of_receiver RC.HasMessage ∷ calls) position has at h = and_left _ _ h
-  at_receiver_when test answer RS.Ready true (Of_receiver RC.IsClosed ∷ calls) position has at h = and_left _ _ (past test answer (Of_receiver RC.HasMessage) h)
-  at_receiver_when test answer RS.Ready true (Of_receiver RC.DropAsync ∷ calls) position has at h = and_left _ _ (past test answer (Of_receiver RC.IsClosed) (past test answer (Of_receiver RC.HasMessage) h))
-  at_receiver_when test answer RS.Ready true (Poll number ∷ calls) position has at h =
-      at_poll test answer number
-      (all_flat test (begins_poll copies answer) polls (k.polls number) (past test answer (Of_receiver RC.DropAsync) (past test answer (Of_receiver RC.IsClosed) (past test answer (Of_receiver RC.HasMessage) h))) (polled number))
-  at_receiver_when test answer RS.Ready true (_ ∷ calls) position has at h = cc
-  at_receiver_when test answer (RS.At here) future [] position has at h = and_left _ _ h
-  at_receiver_when test answer (RS.At here) future (Poll number ∷ calls) position has at h = at_poll test answer number h
-  at_receiver_when test answer (RS.At here) future (_ ∷ calls) position has at h = and_left _ _ h
-  at_receiver_when test answer RS.Ended future calls position has at h = cc
-
-  -- whatever is answered then
-  when : (test : Begin → Bool) (answer : Bool) (s : ReceiverState) (future : Bool) (call : Option Call) → list_all test (receiver_begins polls copies s future call) ≡ true → list_all test (receiver_begins_at polls copies answer s future call) ≡ true
-  when test false s future call h = all_left test (receiver_begins_at polls copies false s future call) _ h
-  when test true s future call h = all_right test (receiver_begins_at polls copies false s future call) _ h
-
-  pub at_receiver : (test : Begin → Bool) (answer : Bool) (s : ReceiverState) (future : Bool) (calls : List Call) (position : ReceiverPos) → receiver_has s future calls ≡ true → receiver_position s (option_and_then as_receiver_call (first calls)) ≡ Some position → list_all test (receiver_begins polls copies s future (option_map (as_call k) (receiver_under_way s (first calls)))) ≡ true → test (as_begin k (receives_at answer entry (first calls))) ≡ true
-  at_receiver test answer s future calls position has at h = at_receiver_when test answer s future calls position has at (when test answer s future (option_map (as_call k) (receiver_under_way s (first calls))) h)
 
 -- where an end of a world is, and the move that it makes there
 abbrev pub sender_at : World → Option SenderPos
@@ -224,9 +150,8 @@ made_if b f (Some x) h = refl
 
 -- a step that is made, is made by a row
 from_row : {P : Type 0} (fits : Bool) (f : P → Made × State) (row : Option P) (t : Made × State) → (if fits then option_map f row else None) ≡ Some t → (r : P) × (f r ≡ t)
-from_row true f None t h = absurd (cc h)
 from_row true f (Some r) t h = (r, cc)
-from_row false f row t h = absurd (cc h)
+from_row _ f _ t h = absurd (cc h)
 
 -- the world after a step by a row is reached
 abbrev pub sender_world : World → Step → Outcome SenderPos → World
@@ -331,10 +256,10 @@ receiver_left : (reply : Reply) (s : ReceiverState) (future : Bool) (calls : Lis
 unfolding receiver_left_by_its_call ends_right
 receiver_left reply RS.Ready future calls h by =
     subst (λ f. has_script (future || f) (rest calls) ≡ true)
-    (bool_is (makes_future (first calls)) (is_future (Some reply)) (and_left _ true by))
+    (bool_is (becomes_future (first calls)) (is_future (Some reply)) (and_left _ true by))
     (receiver_goes_on future calls h)
-receiver_left reply (RS.At position) future calls h by = absurd (cc (and_right (bool_code (makes_future (first calls)) == bool_code (is_future (Some reply))) false by))
-receiver_left reply RS.Ended future calls h by = receiver_none_left future calls h (and_right (bool_code (makes_future (first calls)) == bool_code (is_future (Some reply))) (ends_right RS.Ended (first calls)) by)
+receiver_left reply (RS.At position) future calls h by = absurd (cc (and_right (bool_code (becomes_future (first calls)) == bool_code (is_future (Some reply))) false by))
+receiver_left reply RS.Ended future calls h by = receiver_none_left future calls h (and_right (bool_code (becomes_future (first calls)) == bool_code (is_future (Some reply))) (ends_right RS.Ended (first calls)) by)
 
 or_none : (b : Bool) → (b || false) ≡ b
 or_none true = refl
@@ -425,31 +350,3 @@ receiver_reaches answer entry w position e s h at steps =
     let same : receiver_stepped (receiver_told answer entry w) w.state (receiver_step position) made.0 ≡ (e, s) = made.1 in
     subst (λ (t : Made × State). IsReached (record { state = t.1; sender = w.sender; receiver = left_by Receiver t.0.reply w.receiver })) same
     (receiver_row_reaches answer entry w position made.0 h at (steps ∙ ap (λ (t : Made × State). Some t) (sym same)))
-
--- the world before the first move is reached
-nothing_sent : is_reached (as_control all_alike (opening_control None)) ≡ true
-unfolding reached
-nothing_sent = refl
-
-message_there : is_reached (as_control all_alike (opening_control (Some NotSent))) ≡ true
-unfolding reached
-message_there = refl
-
-opening_place_reached : {T : Type 0} (last : SenderLast T) → is_reached (as_control all_alike (opening_control (opening_place last))) ≡ true
-opening_place_reached (SL.Send message error) = message_there
-opening_place_reached SL.Drop = nothing_sent
-opening_place_reached SL.Stop = nothing_sent
-
-error_opens : {T : Type 0} (last : SenderLast T) → is_error_script (error_calls last) ≡ true
-error_opens (SL.Send message error) = error_scripted error.looks error.last
-error_opens SL.Drop = refl
-error_opens SL.Stop = refl
-
-pub opening_reached : {T : Type 0} (s : SenderScript T) (r : ReceiverScript) → IsReached (opening s r)
-opening_reached s r =
-    record {
-      control = opening_place_reached s.last;
-      sender = sender_scripted s.looks s.last;
-      error = error_opens s.last;
-      receiver = receiver_scripted r.calls r.last;
-    }

@@ -1,7 +1,7 @@
 -- A receiver that is no future polls nothing.
 use Rattle.std.proofs.Common.{◌≡◌, None, drop, sym}
-use Rattle.oneshot_world.proofs.Scripted.{not_polled}
-use Rattle.oneshot_world.proofs.calls.ReceiverCalls.number.Goals as goal
+use Rattle.oneshot_world.proofs.ScriptsAnswered.{not_polled}
+use Rattle.oneshot_world.proofs.calls.receiver.ReceiverCalls.number.Goals as goal
 
 pub returns-in-None : goal.returns-in-None
 returns-in-None c =

@@ -8,7 +8,8 @@ use Rattle.oneshot_machine.specs.declared.machine.End.TheVariants.{Sender, Recei
 use Rattle.oneshot_machine.specs.declared.machine.Reply.{Reply}
 use Rattle.oneshot_machine.specs.declared.machine.receiver.ReceiverPos.{ReceiverPos}
 use Rattle.oneshot_machine.specs.declared.machine.sender.SenderPos.{SenderPos}
-use Rattle.oneshot_world.specs.State.{made, moved, hand_kept, is_future, seen_by, sender_fits, receiver_fits, sender_puts, receiver_puts, sender_goes, receiver_goes, sender_stepped, receiver_stepped, sender_steps, receiver_steps}
+use Rattle.oneshot_world.specs.State.{made, moved, hand_kept, sender_fits, receiver_fits, sender_stepped, receiver_stepped, sender_steps, receiver_steps}
+use Rattle.oneshot_world.specs.Effects.{is_future, seen_by, sender_puts, receiver_puts, sender_goes, receiver_goes}
 use Rattle.oneshot_world.specs.declared.state.State.{State}
 use Rattle.oneshot_world.specs.declared.trace.Made.{Made}
 use Rattle.oneshot_machine.specs.declared.machine.Step.{Step}

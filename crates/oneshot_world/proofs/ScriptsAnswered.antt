@@ -2,7 +2,8 @@
 use Rattle.std.proofs.Common.{◌≡◌, ℕ, ◌+◌, ◌<◌, List, [], ◌∷◌, Option, Some, None, true, is_some, refl, length, drop, get_or, add-one, drop-cons}
 use Rattle.oneshot_machine.specs.declared.machine.End.TheVariants.{Receiver}
 use Rattle.oneshot_machine.specs.declared.machine.Reply.{Reply}
-use Rattle.oneshot_world.specs.Calls.{Unanswered, first, number_of, rest, left_by, receiver_call, receiver_calls, async_call, async_calls}
+use Rattle.oneshot_world.specs.Calls.{Unanswered, first, number_of, rest, left_by}
+use Rattle.oneshot_world.specs.Scripts.{receiver_call, receiver_calls, async_call, async_calls}
 use Rattle.oneshot_world.specs.declared.script.AsyncCall.{AsyncCall}
 use Rattle.oneshot_world.specs.declared.script.AsyncCall.TheVariants as AC
 use Rattle.oneshot_world.specs.declared.script.AsyncLast.{AsyncLast}
@@ -28,12 +29,6 @@ future_from_here calls n last h = rw (add-one, drop-cons calls n AC.HasMessage) 
 -- a receiver that is no future polls nothing
 pub not_polled : (calls : List ReceiverCall) (last : ReceiverLast) → option_and_then number_of (first (receiver_calls calls last)) ≡ None
 not_polled [] RL.Recv = refl
-not_polled [] RL.Drop = refl
-not_polled [] (RL.IntoFuture script) = refl
-not_polled [] RL.Stop = refl
+not_polled [] _ = refl
 not_polled (Script.TryRecv ∷ calls) last = refl
-not_polled (Script.RecvRef ∷ calls) last = refl
-not_polled (Script.RecvDeadline ∷ calls) last = refl
-not_polled (Script.RecvTimeout representable ∷ calls) last = refl
-not_polled (Script.HasMessage ∷ calls) last = refl
-not_polled (Script.IsClosed ∷ calls) last = refl
+not_polled (_ ∷ calls) last = refl

@@ -8,7 +8,7 @@ use Rattle.oneshot_machine.specs.declared.machine.End.{End}
 use Rattle.oneshot_machine.specs.declared.machine.End.TheVariants.{Sender, Receiver}
 use Rattle.oneshot_machine.specs.declared.machine.receiver.ReceiverPos.{ReceiverPos}
 use Rattle.oneshot_machine.specs.declared.machine.sender.SenderPos.{SenderPos}
-use Rattle.oneshot_world.specs.Control.{IsReached}
+use Rattle.oneshot_world.specs.Reached.{IsReached}
 use Rattle.oneshot_world.specs.State.{sender_turns_at, receiver_turns_at, sender_steps, receiver_steps, sender_stepped, receiver_stepped, made_entry}
 use Rattle.oneshot_world.specs.World.{World, turn, turn_of, side_of, answer_of, nothing_told, receiver_told, world_then}
 use Rattle.oneshot_world.specs.declared.script.Move.{Move}
@@ -19,7 +19,7 @@ use Rattle.oneshot_world.specs.declared.trace.Entry.TheVariants.{Idle, Made as M
 use Rattle.oneshot_world.specs.declared.trace.Made.{Made}
 use Rattle.oneshot_world.specs.Calls.{left_by}
 use Rattle.oneshot_world.specs.declared.wakers.Told.{Told}
-use Rattle.oneshot_world.proofs.Reached.{sender_at, receiver_at, sender_world, receiver_world, sender_made_by, receiver_made_by, sender_row_reaches, receiver_row_reaches}
+use Rattle.oneshot_world.proofs.ReachedMoves.{sender_at, receiver_at, sender_world, receiver_world, sender_made_by, receiver_made_by, sender_row_reaches, receiver_row_reaches}
 
 -- by the move that makes entry `k`
 pub data Turned (k : ℕ) (w : World) : End → Entry → World → Type 0 where

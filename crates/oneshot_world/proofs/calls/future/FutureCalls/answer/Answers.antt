@@ -1,7 +1,7 @@
 -- Once a call is answered, those after it are left.
 use Rattle.std.proofs.Common.{◌<◌, length, refl}
-use Rattle.oneshot_world.proofs.Scripted.{future_from_here}
-use Rattle.oneshot_world.proofs.calls.FutureCalls.answer.Goals as goal
+use Rattle.oneshot_world.proofs.ScriptsAnswered.{future_from_here}
+use Rattle.oneshot_world.proofs.calls.future.FutureCalls.answer.Goals as goal
 
 pub returns-then-self-as_slice : goal.returns-then-self-as_slice
 returns-then-self-as_slice c =

@@ -1,0 +1,37 @@
+-- Tests that two values are alike, and what they tell.
+use Rattle.std.proofs.Common.{◌≡◌, ℕ, Bool, true, false, Option, Some, None, refl, ap}
+use Rattle.std.specs.Prelude.{◌==◌}
+use Rattle.std.proofs.lemmas.Bool.{eqb-true}
+use Rattle.oneshot_machine.specs.Phases.{Share, none, empty, filled}
+
+abbrev pub is_share : Share → Share → Bool
+is_share none none = true
+is_share empty empty = true
+is_share filled filled = true
+is_share _ _ = false
+
+pub shares_are : (a b : Share) → is_share a b ≡ true → a ≡ b
+shares_are none none e = refl
+shares_are empty empty e = refl
+shares_are filled filled e = refl
+shares_are _ _ e = absurd (cc)
+
+abbrev pub is_bool : Bool → Bool → Bool
+is_bool true true = true
+is_bool false false = true
+is_bool _ _ = false
+
+pub bools_are : (a b : Bool) → is_bool a b ≡ true → a ≡ b
+bools_are true true e = refl
+bools_are false false e = refl
+bools_are _ _ e = absurd (cc)
+
+abbrev pub is_word : Option ℕ → Option ℕ → Bool
+is_word None None = true
+is_word (Some m) (Some n) = m == n
+is_word _ _ = false
+
+pub words_are : (a b : Option ℕ) → is_word a b ≡ true → a ≡ b
+words_are None None e = refl
+words_are (Some m) (Some n) e = ap Some (eqb-true m n e)
+words_are _ _ e = absurd (cc)

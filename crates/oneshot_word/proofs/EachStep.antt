@@ -1,0 +1,82 @@
+-- Each step of an end keeps the rule, and tells the end what it found.
+use Rattle.std.proofs.Common.{ℕ, List, [], ◌∷◌, ◌++◌, get_or, set, refl, sym, ap, ◌∙◌, subst}
+use mathlib.Core.Option as maybe
+use Rattle.atomic_table.specs.Table.{State, Me, Act, Valid, Allows, homes_after, carried_after}
+use Rattle.oneshot_machine.specs.declared.states.Op.{Op}
+use Rattle.oneshot_machine.specs.Words.{Noted, saw}
+use Rattle.oneshot_machine.specs.Phases.{fresh, sender_at, sender_owns, sender_next, sender_moves, first, receiver_at, receiver_owns, receiver_next, receiver_moves}
+use Rattle.oneshot_machine.specs.Slots.{SenderMay, ReceiverMay, Finds}
+use Rattle.oneshot_machine.proofs.GrownLists.{phase_from-snoc}
+use Rattle.oneshot_word.specs.declared.rule.Role.TheVariants.{Sender, Receiver}
+use Rattle.oneshot_word.specs.declared.rule.Slot.{Slot}
+use Rattle.oneshot_word.specs.declared.rule.View.{View}
+use Rattle.oneshot_word.specs.Rule.{Home, Meet, meet, SenderSays, ReceiverSays, Tied, runs}
+use Rattle.oneshot_word.specs.Seats.{view, message_in, waker_in, waker_first, message_first, SeatOf, SenderSeat, ReceiverSeat, SenderStepped, ReceiverStepped}
+use Rattle.oneshot_word.proofs.Sits.{Sits, sender_sits, receiver_sits, sits}
+use Rattle.oneshot_word.proofs.RuleKept.{stepped, turn, sender_turns, receiver_turns}
+use Rattle.oneshot_word.proofs.Says.{sender_says, receiver_says}
+use Rattle.oneshot_word.proofs.Trades.{as_read, as_seat, reads}
+
+module _ {T H K : Type 0} where
+  abbrev pub Holds : State (Slot T H K) View → Type 0
+  Holds s = Tied s.words s.homes s.views
+
+  -- a seat's end may make the operation
+  abbrev SenderAsks : Me (Slot T H K) View → Op → Type 0
+  SenderAsks me op = SenderMay (sender_at me.0.steps) op (message_in me.1) (waker_in me.1)
+
+  abbrev ReceiverAsks : Me (Slot T H K) View → Op → Type 0
+  ReceiverAsks me op = ReceiverMay (receiver_at me.0.steps) op (message_in me.1) (waker_in me.1)
+
+  module _ (me : Me (Slot T H K) View) (op : Op) where
+    -- what `Allows` asks of a state that was found
+    abbrev Goes : (ℕ → Me (Slot T H K) View → Type 0) → List ℕ → List (Home T H K) → List View → ℕ → Type 0
+    Goes then ws hs vs id = (v : View) × (a : Act (Slot T H K)) × Valid hs me.1 a × Tied (set ws 0 (stepped op (get_or ws 0 0))) (homes_after hs me.1 a) (set vs id v) × then (get_or ws 0 0) (v, carried_after me.1 a)
+
+    sender_goes : {ws : List ℕ} {hs : List (Home T H K)} {vs : List View} {id : ℕ} → SenderSeat me → SenderAsks me op → Sits ws hs vs id Sender me.0.steps → Goes (SenderStepped me op) ws hs vs id
+    sender_goes seat may (sender_sits {w = found} {h} {k} ys says others now) =
+        elim (sender_turns {word = found} may seat.has now) [
+          | turn {h'} {k'} {m'} {w'} act valid homes word lies lies' finds has code ↦
+              let x : Noted = (op, saw op found) in
+              let after = phase_from-snoc sender_next fresh me.0.steps x in
+              let xs : List Noted = me.0.steps ++ x ∷ [] in (
+                view Sender xs,
+                act,
+                valid,
+                subst (λ hs. Tied (stepped op found ∷ []) hs (view Sender xs ∷ view Receiver ys ∷ [])) (sym homes) (runs xs ys (subst (λ p. SenderSays xs p) (sym after) (sender_says found says finds)) others (subst (λ p. Meet T H K p (receiver_at ys) (stepped op found) h' k') (sym after) (meet word lies lies'))),
+                record {
+                  list = refl;
+                  seat = as_seat {owns = λ xs. sender_owns (sender_at xs)} refl (subst (λ p. SeatOf waker_first (sender_owns p) (carried_after me.1 act) m' w') (sym after) has);
+                  code = code;
+                  finds = as_read (carried_after me.1 act) (λ m w. Finds sender_moves (sender_at me.0.steps) op found (message_in me.1) (waker_in me.1) m w) (reads has) finds;
+                },
+              )
+        ]
+
+    receiver_goes : {ws : List ℕ} {hs : List (Home T H K)} {vs : List View} {id : ℕ} → ReceiverSeat me → ReceiverAsks me op → Sits ws hs vs id Receiver me.0.steps → Goes (ReceiverStepped me op) ws hs vs id
+    receiver_goes seat may (receiver_sits {w = found} {h} {k} xs others says now) =
+        elim (receiver_turns {word = found} may seat.has now) [
+          | turn {h'} {k'} {m'} {w'} act valid homes word lies lies' finds has code ↦
+              let x : Noted = (op, saw op found) in
+              let after = phase_from-snoc receiver_next first me.0.steps x in
+              let ys : List Noted = me.0.steps ++ x ∷ [] in (
+                view Receiver ys,
+                act,
+                valid,
+                subst (λ hs. Tied (stepped op found ∷ []) hs (view Sender xs ∷ view Receiver ys ∷ [])) (sym homes) (runs xs ys others (subst (λ q. ReceiverSays ys q) (sym after) (receiver_says found finds says)) (subst (λ q. Meet T H K (sender_at xs) q (stepped op found) h' k') (sym after) (meet word lies lies'))),
+                record {
+                  list = refl;
+                  seat = as_seat {owns = λ ys. receiver_owns (receiver_at ys)} refl (subst (λ q. SeatOf message_first (receiver_owns q) (carried_after me.1 act) m' w') (sym after) has);
+                  code = code;
+                  finds = as_read (carried_after me.1 act) (λ m w. Finds receiver_moves (receiver_at me.0.steps) op found (message_in me.1) (waker_in me.1) m w) (reads has) finds;
+                },
+              )
+        ]
+
+    pub sender_allowed : (slots id : ℕ) → SenderSeat me → SenderAsks me op → Allows Holds slots id me 0 (stepped op) (SenderStepped me op)
+    sender_allowed slots id seat may s tied _ at _ =
+        sender_goes seat may (sits tied id (at ∙ ap (λ r. maybe.some (view r me.0.steps)) seat.role))
+
+    pub receiver_allowed : (slots id : ℕ) → ReceiverSeat me → ReceiverAsks me op → Allows Holds slots id me 0 (stepped op) (ReceiverStepped me op)
+    receiver_allowed slots id seat may s tied _ at _ =
+        receiver_goes seat may (sits tied id (at ∙ ap (λ r. maybe.some (view r me.0.steps)) seat.role))

@@ -1,0 +1,203 @@
+-- Each operation of an end keeps the rule: computed for each pair of phases.
+use Rattle.std.proofs.Common.{◌≡◌, ◌≤◌, ℕ, Bool, true, false, ◌&&◌, List, [], ◌∷◌, ◌+◌, ◌%◌, ◌^◌, bit_xor, Option, Some, None, refl, sym, subst}
+use Rattle.std.specs.Prelude.{leb, ◌==◌}
+use Rattle.std.specs.List.{list_all}
+use Rattle.std.proofs.lemmas.Bool.{and_parts, leb-true}
+use prog.Atomic.{either}
+use Rattle.atomic_table.specs.Table.{Act, Valid, homes_after, carried_after}
+use Rattle.oneshot_machine.specs.declared.machine.Seen.{Seen}
+use Rattle.oneshot_machine.specs.declared.states.Op.{Op}
+use Rattle.oneshot_machine.specs.declared.states.Op.TheVariants.{Load, Store, Swap, Exchange, Add, Xor}
+use Rattle.oneshot_machine.specs.Words.{saw}
+use Rattle.oneshot_machine.specs.Phases.{Share, Slots, Row, sending, dropping, SenderAt, fresh, owes, finished, late, no_sender, sender_moves, sender_owns, sender_next, looked, blocked, storing, swapped, found_closed, ReceiverAt, first, here, waits, full, unclosed, over, resolved, receiver_moves, receiver_owns, receiver_next}
+use Rattle.oneshot_machine.specs.Slots.{Held, IsSlot, In, head, tail, May, may, SenderMay, ReceiverMay, Finds, finds}
+use Rattle.oneshot_machine.proofs.Exactness.{each_passes}
+use Rattle.oneshot_word.specs.declared.rouse.Rouse.{Rouse}
+use Rattle.oneshot_word.specs.declared.rule.Slot.{Slot}
+use Rattle.oneshot_word.specs.declared.rule.Slot.TheVariants.{Message}
+use Rattle.oneshot_word.specs.Seats.{with_waker, Carried, Part, Front, message_first, waker_first, carried_as, SeatOf, seat_of}
+use Rattle.oneshot_word.specs.Rule.{Home, word_between, message_home, waker_home, Lies, Is, is, Meet, meet}
+use Rattle.oneshot_word.proofs.Alike.{is_bool, bools_are, is_word, words_are}
+use Rattle.oneshot_word.proofs.FoundRow.{row_of, Found, found_none, found_row, found}
+use Rattle.oneshot_word.proofs.SlotMoves.{is_owned, is_turn, Carries, carries, Went, went, goes, is_act, acts, both}
+
+-- the word that a step on the table leaves
+abbrev pub stepped : Op → ℕ → ℕ
+stepped Load n = n
+stepped (Store new) n = new
+stepped (Swap new) n = new
+stepped (Exchange expected new) n = either (n == expected) new n
+stepped Add n = (n + 1) % 2 ^ 64
+stepped Xor n = bit_xor n 1
+
+-- whether these are the slots of an end after a row
+abbrev is_slots : Option (Bool × Bool) → Slots → Bool
+is_slots None after = false
+is_slots (Some slots) after = is_bool slots.0 (is_owned after.0) && is_bool slots.1 (is_owned after.1)
+
+-- One end while the other is at some phase: its table, its seat, and the rule at each phase of its own,
+-- which is the word and what is at home of both slots.
+pub record OneEnd (At : Type 0) : Type 0 where
+  pub front : Front
+  pub moves : At → List (Row At)
+  pub next : At → Op → Seen → At
+  pub owns : At → Option (Bool × Bool)
+  pub word : At → Option ℕ
+  pub message : At → Share
+  pub waker : At → Share
+
+-- the sender, whatever the receiver's phase, and the receiver, whatever the sender's
+abbrev pub sender_end : ReceiverAt → OneEnd SenderAt
+sender_end q =
+    record {
+      front = waker_first;
+      moves = sender_moves;
+      next = sender_next;
+      owns = sender_owns;
+      word = λ p. word_between p q;
+      message = λ p. message_home p q;
+      waker = λ p. waker_home p q;
+    }
+
+abbrev pub receiver_end : SenderAt → OneEnd ReceiverAt
+receiver_end p =
+    record {
+      front = message_first;
+      moves = receiver_moves;
+      next = receiver_next;
+      owns = receiver_owns;
+      word = λ q. word_between p q;
+      message = λ q. message_home p q;
+      waker = λ q. waker_home p q;
+    }
+
+module _ {At : Type 0} (e : OneEnd At) where
+  -- What is computed of an operation that finds this word, before which the end is so far and its
+  -- slots are so: that its table has a row, and the rule holds after that.
+  module _ (at : At) (op : Op) (before : Slots) (word : ℕ) where
+    abbrev after : At
+    after = e.next at op (saw op word)
+
+    abbrev leaves_word : Bool
+    leaves_word = is_word (e.word after) (Some (stepped op word))
+
+    abbrev turns_message : Slots → Bool
+    turns_message slots = is_turn before.0 slots.0 (e.message after) (e.message at)
+
+    abbrev turns_waker : Slots → Bool
+    turns_waker slots = is_turn before.1 slots.1 (e.waker after) (e.waker at)
+
+    abbrev has_act : Slots → Bool
+    has_act slots = is_act e.front (is_owned before.0) (is_owned slots.0) (is_owned before.1) (is_owned slots.1)
+
+    abbrev is_right : Option Slots → Bool
+    is_right None = false
+    is_right (Some slots) =
+        leaves_word && turns_message slots && turns_waker slots && is_slots (e.owns after) slots && has_act slots
+
+  abbrev is_kept : At → Op → Slots → Option ℕ → Bool
+  is_kept at op before None = true
+  is_kept at op before (Some word) =
+      leb word 4 && is_right at op before word (row_of (e.moves at) op before word)
+
+  abbrev keeps_rule : At → Bool
+  keeps_rule at = list_all (λ (row : Row At). is_kept at row.0 row.1 (e.word at)) (e.moves at)
+
+module _ {T H K At : Type 0} (e : OneEnd At) where
+  -- both parts of what its seat carries
+  seated : {o : Option (Bool × Bool)} (after : Slots) {cm cw : Carried T H K} {m : Held T} {w : Held (Rouse H K)} → is_slots o after ≡ true → Part 0 Message (is_owned after.0) cm m → Part 1 with_waker (is_owned after.1) cw w → SeatOf e.front o (carried_as e.front cm cw) m w
+  seated {o = None} after fits message waker = absurd (cc)
+  seated {o = Some slots} after {cm} {cw} {m} {w} fits message waker =
+      let parts = and_parts (is_bool slots.0 (is_owned after.0)) (is_bool slots.1 (is_owned after.1)) fits in
+      subst (λ o. SeatOf e.front (Some o) (carried_as e.front cm cw) m w) (λ i. (sym (bools_are slots.0 (is_owned after.0) parts.0) i, sym (bools_are slots.1 (is_owned after.1) parts.1) i)) (seat_of message waker)
+
+  -- the end's turn: its act on the slots, and the rule after it
+  pub data Turn (at : At) (op : Op) (word : ℕ) (h k : Home T H K) (c : Carried T H K) (m : Held T) (w : Held (Rouse H K)) : Type 0 where
+    turn : {h' k' : Home T H K} {m' : Held T} {w' : Held (Rouse H K)} (act : Act (Slot T H K)) → Valid (h ∷ k ∷ []) c act → homes_after (h ∷ k ∷ []) c act ≡ h' ∷ k' ∷ []
+        → Is (e.word (e.next at op (saw op word))) (stepped op word) → Lies Message (e.message (e.next at op (saw op word))) h' → Lies with_waker (e.waker (e.next at op (saw op word))) k'
+        → Finds e.moves at op word m w m' w' → SeatOf e.front (e.owns (e.next at op (saw op word))) (carried_after c act) m' w' → word ≤ 4 → Turn at op word h k c m w
+
+  module _ (at : At) (op : Op) (word : ℕ) {h k : Home T H K} where
+    turned : {before : Slots} (slots : Slots) {at' : At} {cm cw : Carried T H K} {m : Held T} {w : Held (Rouse H K)} → word ≤ 4 → In (op, before, word, at', slots) (e.moves at)
+        → leaves_word e at op before word ≡ true → is_slots (e.owns (after e at op before word)) slots ≡ true → has_act e at op before word slots ≡ true
+        → Went 0 Message before.0 slots.0 (e.message (after e at op before word)) h cm m → Went 1 with_waker before.1 slots.1 (e.waker (after e at op before word)) k cw w → Turn at op word h k (carried_as e.front cm cw) m w
+    turned slots code there leaves owned acted (went {x' = m'} turns moves part lies) (went {x' = w'} turns' moves' part' lies') =
+        let at' = e.next at op (saw op word) in
+        elim (both e.front acted moves moves') [
+          | acts act valid homes left ↦
+              turn act valid homes (subst (λ o. Is o (stepped op word)) (sym (words_are (e.word at') (Some (stepped op word)) leaves)) is) lies lies' (finds there turns turns') (subst (λ c. SeatOf e.front (e.owns at') c m' w') (sym left) (seated slots owned part part')) code
+        ]
+
+    right : {before : Slots} {o : Option Slots} {cm cw : Carried T H K} {m : Held T} {w : Held (Rouse H K)} → word ≤ 4 → Found (e.moves at) op before word o → is_right e at op before word o ≡ true
+        → Carries 0 Message before.0 cm m → Carries 1 with_waker before.1 cw w → Lies Message (e.message at) h → Lies with_waker (e.waker at) k → Turn at op word h k (carried_as e.front cm cw) m w
+    right code found_none fits message waker lies lies' = absurd (cc)
+    right {before} code (found_row {after = slots} there) fits message waker lies lies' =
+        let at' = e.next at op (saw op word) in
+        let of_message = turns_message e at op before word slots in
+        let of_waker = turns_waker e at op before word slots in
+        let owned = is_slots (e.owns at') slots in
+        let acted = has_act e at op before word slots in
+        let leaves = leaves_word e at op before word in
+        let acts_so = and_parts (leaves && of_message && of_waker && owned) acted fits in
+        let owns_so = and_parts (leaves && of_message && of_waker) owned acts_so.0 in
+        let waker_so = and_parts (leaves && of_message) of_waker owns_so.0 in
+        let message_so = and_parts leaves of_message waker_so.0 in
+        turned slots code there message_so.0 owns_so.1 acts_so.1 (goes 0 Message message slots.0 (e.message at') lies message_so.1) (goes 1 with_waker waker slots.1 (e.waker at') lies' waker_so.1)
+
+    turns_from : {before : Slots} {o : Option ℕ} {owns : Option (Bool × Bool)} {c : Carried T H K} {m : Held T} {w : Held (Rouse H K)} → Is o word → is_kept e at op before o ≡ true
+        → IsSlot before.0 m → IsSlot before.1 w → SeatOf e.front owns c m w → Lies Message (e.message at) h → Lies with_waker (e.waker at) k → Turn at op word h k c m w
+    turns_from {before} is kept message waker (seat_of part part') lies lies' =
+        let parts = and_parts (leb word 4) (is_right e at op before word (row_of (e.moves at) op before word)) kept in
+        right (leb-true word 4 parts.0) (found (e.moves at) op before word) parts.1 (carries 0 Message message part) (carries 1 with_waker waker part') lies lies'
+
+    keeps_turn : {c : Carried T H K} {m : Held T} {w : Held (Rouse H K)} → keeps_rule e at ≡ true → May e.moves at op m w → SeatOf e.front (e.owns at) c m w → Is (e.word at) word → Lies Message (e.message at) h → Lies with_waker (e.waker at) k → Turn at op word h k c m w
+    keeps_turn all (may row message waker) seat number lies lies' =
+        turns_from number (each_passes (λ (row : Row At). is_kept e at row.0 row.1 (e.word at)) (e.moves at) all row) message waker seat lies lies'
+
+-- every phase of a sender
+abbrev senders : List SenderAt
+senders =
+    fresh
+    ∷ owes sending
+    ∷ owes dropping
+    ∷ finished sending
+    ∷ finished dropping
+    ∷ late sending
+    ∷ late dropping
+    ∷ no_sender
+    ∷ []
+
+is_sender : (p : SenderAt) → In p senders
+is_sender fresh = head
+is_sender (owes sending) = tail head
+is_sender (owes dropping) = tail (tail head)
+is_sender (finished sending) = tail (tail (tail head))
+is_sender (finished dropping) = tail (tail (tail (tail head)))
+is_sender (late sending) = tail (tail (tail (tail (tail head))))
+is_sender (late dropping) = tail (tail (tail (tail (tail (tail head)))))
+is_sender no_sender = tail (tail (tail (tail (tail (tail (tail head))))))
+
+sender_keeps : (p : SenderAt) (q : ReceiverAt) → keeps_rule (sender_end q) p ≡ true
+sender_keeps fresh first = refl
+sender_keeps (owes sending) first = refl
+sender_keeps (owes dropping) first = refl
+sender_keeps (finished by) q = refl
+sender_keeps (late by) q = refl
+sender_keeps no_sender q = refl
+sender_keeps _ _ = refl
+
+receiver_keeps : (q : ReceiverAt) → list_all (λ p. keeps_rule (receiver_end p) q) senders ≡ true
+receiver_keeps (here looked) = refl
+receiver_keeps (waits blocked) = refl
+receiver_keeps (full (swapped storing)) = refl
+receiver_keeps (unclosed storing) = refl
+receiver_keeps (over found_closed) = refl
+receiver_keeps (resolved found_closed) = refl
+receiver_keeps _ = refl
+
+module _ {T H K : Type 0} {p : SenderAt} {q : ReceiverAt} {op : Op} {word : ℕ} {h k : Home T H K} {c : Carried T H K} {m : Held T} {w : Held (Rouse H K)} where
+  pub sender_turns : SenderMay p op m w → SeatOf waker_first (sender_owns p) c m w → Meet T H K p q word h k → Turn (sender_end q) p op word h k c m w
+  sender_turns asks seat (meet now lies lies') = keeps_turn (sender_end q) p op word (sender_keeps p q) asks seat now lies lies'
+
+  pub receiver_turns : ReceiverMay q op m w → SeatOf message_first (receiver_owns q) c m w → Meet T H K p q word h k → Turn (receiver_end p) q op word h k c m w
+  receiver_turns asks seat (meet now lies lies') = keeps_turn (receiver_end p) q op word (each_passes (λ p. keeps_rule (receiver_end p) q) senders (receiver_keeps q) (is_sender p)) asks seat now lies lies'

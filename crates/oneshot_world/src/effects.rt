@@ -1,0 +1,152 @@
+//! What a step sees, and what it leaves of the word, of the message's place and of where its end stands.
+
+ghost use Rattle.std.specs.Prelude.{◌≡◌, ◌≤◌, ◌||◌};
+ghost use Rattle.oneshot_machine.specs.Rows.{outcome};
+ghost use Rattle.oneshot_world.specs.Effects.{is_future, seen_by, word_left, shown, sender_goes, receiver_goes, sender_puts, receiver_puts, place_left, move_of};
+ghost use Rattle.oneshot_world.specs.Wakers.{own_of};
+
+use crate::state::{ReceiverState, SenderState, State};
+use crate::trace::Place;
+use crate::wakers::Told;
+use oneshot_machine::machine::{ReceiverPos, Reply, Seen, SenderPos, Step};
+use oneshot_machine::states::Op;
+
+/// The number of the poll's own waker, where the poll wakes it.
+pub(crate) fn own_of(told: Told, step: Step) -> Option<u64>
+    ensures { result ≡ own_of told step }
+{
+    match step {
+        Step::WakeOwn => told.own,
+        _ => None,
+    }
+}
+
+/// What a step sees: an operation the word, unless it only stores, a park its token, and a clock or a
+/// copy what the move is told.
+pub(crate) fn seen_by(answer: bool, state: State, step: Step) -> Seen
+    ensures { result ≡ seen_by answer state step }
+{
+    match step {
+        Step::Word(Op::Store(_)) => Seen::Done,
+        Step::Word(_) => Seen::Word(state.word),
+        Step::Park => Seen::Token(state.wakers.token),
+        Step::Clock => Seen::Over(answer),
+        Step::Copy => Seen::Refused(answer),
+        _ => Seen::Done,
+    }
+}
+
+/// The word after a step.
+pub(crate) fn word_left(word: u8, step: Step) -> u8
+    requires { word ≤ 4 }
+    ensures { result ≡ word_left word step }
+{
+    match step {
+        Step::Word(op) => op.after(word),
+        _ => word,
+    }
+}
+
+/// The word as an entry shows it.
+pub(crate) fn shown(freed: bool, word: u8) -> Option<u8>
+    ensures { result ≡ shown freed word }
+{
+    if freed { None } else { Some(word) }
+}
+
+/// Where a step of the sender puts the message.
+pub(crate) fn sender_puts(step: Step, reply: Option<Reply>) -> Option<Place>
+    ensures { result ≡ sender_puts step reply }
+{
+    match (step, reply) {
+        (Step::WriteMessage, _) => Some(Place::InCell),
+        (Step::Word(_), Some(Reply::Refused)) => Some(Place::InError),
+        (Step::TakeMessage, _) => Some(Place::FromError),
+        (Step::DropMessage, _) => Some(Place::Dropped),
+        _ => None,
+    }
+}
+
+/// Where a step of the receiver puts the message.
+pub(crate) fn receiver_puts(step: Step) -> Option<Place>
+    ensures { result ≡ receiver_puts step }
+{
+    match step {
+        Step::TakeMessage => Some(Place::Delivered),
+        Step::DropMessage => Some(Place::Dropped),
+        _ => None,
+    }
+}
+
+/// The message's place after a step.
+pub(crate) fn place_left(from: Option<Place>, to: Option<Place>) -> Option<Place>
+    ensures { result ≡ place_left from to }
+{
+    match (from, to) {
+        (Some(_), Some(to)) => Some(to),
+        _ => from,
+    }
+}
+
+/// The message's move.
+pub(crate) fn move_of(from: Option<Place>, to: Option<Place>) -> Option<(Place, Place)>
+    ensures { result ≡ move_of from to }
+{
+    match (from, to) {
+        (Some(from), Some(to)) => Some((from, to)),
+        _ => None,
+    }
+}
+
+/// Where the sender stands after a step that leads to `next`, or ends its call with `reply`.
+pub(crate) fn sender_goes(step: Step, next: SenderPos, reply: Option<Reply>) -> SenderState
+    ensures { result ≡ sender_goes step (outcome (next, reply)) }
+{
+    match reply {
+        None => SenderState::At(next),
+        Some(Reply::Yes | Reply::No) => SenderState::Ready,
+        Some(Reply::Refused) => SenderState::Failed,
+        Some(Reply::Message) => {
+            if step == Step::Plain {
+                SenderState::Failed
+            } else {
+                SenderState::Ended
+            }
+        }
+        Some(_) => SenderState::Ended,
+    }
+}
+
+/// Whether a reply gives the future.
+pub(crate) fn is_future(reply: Option<Reply>) -> bool
+    ensures { result ≡ is_future reply }
+{
+    match reply {
+        Some(Reply::Future) => true,
+        _ => false,
+    }
+}
+
+/// Whether the receiver is a future after that.
+pub(crate) fn future_left(future: bool, reply: Option<Reply>) -> bool
+    ensures { result ≡ (future || is_future reply) }
+{
+    future || is_future(reply)
+}
+
+/// Where the receiver stands after a step that leads to `next`, or ends its call with `reply`.
+pub(crate) fn receiver_goes(step: Step, next: ReceiverPos, reply: Option<Reply>) -> ReceiverState
+    ensures { result ≡ receiver_goes step (outcome (next, reply)) }
+{
+    match reply {
+        None => ReceiverState::At(next),
+        Some(Reply::Done) => ReceiverState::Ended,
+        Some(_) => {
+            if step == Step::Free {
+                ReceiverState::Ended
+            } else {
+                ReceiverState::Ready
+            }
+        }
+    }
+}
