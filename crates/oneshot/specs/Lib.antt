@@ -8,7 +8,8 @@ pub use Rattle.oneshot_errors.specs.declared.recv_timeout.RecvTimeoutError
 pub use Rattle.oneshot_errors.specs.declared.try_recv.TryRecvError
 -- what those of the drivers and of the grounds in memory name
 pub use Rattle.oneshot_drive.specs.Blocking
-pub use Rattle.oneshot_drive.specs.Calls
+pub use Rattle.oneshot_drive.specs.Grounds
+pub use Rattle.oneshot_drive.specs.BetweenCalls
 pub use Rattle.oneshot_drive.specs.Polls
 pub use Rattle.oneshot_machine.specs.Logs
 pub use Rattle.oneshot_machine.specs.Phases

@@ -1,6 +1,6 @@
 -- After a call that leaves the receiver in place its hand is ready again: the waker is in it, or the receiver is closed.
 use Rattle.std.proofs.Common.{◌≡◌, ◌≢◌, Option, Result, Err, refl}
-use Rattle.oneshot_drive.specs.Calls.{IsClosed, is_over, IsOpen, is_here, Leaves, leaves_received, leaves_open, leaves_closed, LeavesClosed, left_received, left_closed, LeavesTimed, timed_received, timed_out, timed_closed, Hands, as_it_was, sender_took, came_back, IsReady}
+use Rattle.oneshot_drive.specs.BetweenCalls.{IsClosed, is_over, IsOpen, is_here, Leaves, leaves_received, leaves_open, leaves_closed, LeavesClosed, left_received, left_closed, LeavesTimed, timed_received, timed_out, timed_closed, Hands, as_it_was, sender_took, came_back, IsReady}
 use Rattle.oneshot_errors.specs.declared.recv.RecvError.{RecvError}
 use Rattle.oneshot_errors.specs.declared.recv_timeout.RecvTimeoutError.{RecvTimeoutError}
 use Rattle.oneshot_errors.specs.declared.recv_timeout.RecvTimeoutError.TheVariants as Timed
@@ -9,9 +9,8 @@ use Rattle.oneshot_errors.specs.declared.try_recv.TryRecvError.TheVariants as Tr
 use Rattle.oneshot_machine.specs.Phases.{ReceiverAt, closed_itself, looked, between}
 
 closed_still : {T : Type 0} (result : Result T TryRecvError) (at : ReceiverAt) → result ≡ Err Tried.Disconnected → Leaves result at → IsClosed at
-closed_still _ _ is (leaves_received x) = absurd (cc is)
-closed_still _ _ is leaves_open = absurd (cc is)
 closed_still _ _ is (leaves_closed c) = is_over c
+closed_still _ _ is _ = absurd (cc is)
 
 -- `try_recv` leaves the receiver open where it found nothing, and else closed
 pub closed_tried : {T : Type 0} {result : Result T TryRecvError} {at : ReceiverAt} → Leaves result at → result ≢ Err Tried.Empty → IsClosed at
@@ -20,9 +19,8 @@ closed_tried leaves_open found = absurd (found refl)
 closed_tried (leaves_closed c) found = is_over c
 
 pub open_tried : {T : Type 0} {result : Result T TryRecvError} {at : ReceiverAt} → Leaves result at → result ≡ Err Tried.Empty → IsOpen at
-open_tried (leaves_received x) nothing = absurd (cc nothing)
 open_tried leaves_open nothing = is_here looked
-open_tried (leaves_closed c) nothing = absurd (cc nothing)
+open_tried _ nothing = absurd (cc nothing)
 
 -- after `try_recv`, which leaves the hand as it is
 pub ready_still : {T W : Type 0} (hand : Option W) (result : Result T TryRecvError) (before after : ReceiverAt) → IsReady hand before → (IsClosed before → result ≡ Err Tried.Disconnected) → Leaves result after → IsReady hand after
@@ -49,9 +47,8 @@ closed_in_time timed_out found = absurd (found refl)
 closed_in_time (timed_closed c) found = is_over c
 
 pub open_too_late : {T : Type 0} {result : Result T RecvTimeoutError} {at : ReceiverAt} → LeavesTimed result at → result ≡ Err Timed.Timeout → IsOpen at
-open_too_late (timed_received x) late = absurd (cc late)
 open_too_late timed_out late = is_here between
-open_too_late (timed_closed c) late = absurd (cc late)
+open_too_late _ late = absurd (cc late)
 
 -- after a receive with a deadline
 pub ready_timed : {T W : Type 0} (result : Result T RecvTimeoutError) (before after : Option W) (at at' : ReceiverAt) → IsReady before at → (IsClosed at → result ≡ Err Timed.Disconnected) → LeavesTimed result at' → Hands before after at' → IsReady after at'

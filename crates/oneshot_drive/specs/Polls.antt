@@ -10,7 +10,7 @@ use Rattle.oneshot_machine.specs.declared.machine.Reply.TheVariants as R
 use Rattle.oneshot_machine.specs.declared.machine.receiver.ReceiverPos.{ReceiverPos}
 use Rattle.oneshot_machine.specs.declared.machine.receiver.ReceiverPos.TheVariants.{Look}
 use Rattle.oneshot_machine.specs.declared.machine.look.LookPos.TheVariants.{Close}
-use Rattle.oneshot_machine.specs.Phases.{Closing, closed_itself, Got, looked, polled, again, ReceiverAt, here, waits, claimed, full, over, resolved}
+use Rattle.oneshot_machine.specs.Phases.{Closing, closed_itself, Got, looked, polled, again, ReceiverAt, here, waits, claimed, full, over, resolved, word_of}
 use Rattle.oneshot_machine.specs.declared.machine.Step.{Step}
 use Rattle.oneshot_machine.specs.declared.machine.Step.TheVariants.{WriteWaker, Copy}
 use Rattle.oneshot_machine.specs.declared.states.Op.TheVariants.{Exchange}
@@ -66,7 +66,7 @@ poll_end _ = Answers R.Disconnected
 
 -- how the receiver stands then
 abbrev pub EndsPoll : {T W : Type 0} → Found → State T W → Type 0
-EndsPoll F.Message s = (g : Got) × Stands (full g) s
+EndsPoll F.Message s = (g : Got) × (word_of g ≡ 4) × Stands (full g) s
 EndsPoll F.Closed s = StandsIn IsClosed s
 EndsPoll F.Unclosed s = ⊥
 EndsPoll {T} F.Nothing s = StandsIn (LeavesPolled {T = T} Pending) s

@@ -1,5 +1,5 @@
 use Rattle.std.proofs.Common.{refl}
-use Rattle.oneshot_drive.proofs.BlockingRuns.{untimed_full, untimed_gone}
+use Rattle.oneshot_drive.proofs.Receives.{untimed_full, untimed_gone}
 use Rattle.oneshot_drive.proofs.blocking.recv_ref.Goals as goal
 
 pub returns-in-Ok-clause-leaves : goal.returns-in-Ok-clause-leaves

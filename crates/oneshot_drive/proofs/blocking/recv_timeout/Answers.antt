@@ -1,4 +1,4 @@
-use Rattle.oneshot_drive.proofs.BlockingRuns.{clock_rests, clock_ready, clock_closed, sum_ran}
+use Rattle.oneshot_drive.proofs.Receives.{clock_rests, clock_ready, clock_closed, sum_ran}
 use Rattle.oneshot_drive.proofs.blocking.recv_timeout.Goals as goal
 
 pub receive-requires-clause-rests : goal.receive-requires-clause-rests

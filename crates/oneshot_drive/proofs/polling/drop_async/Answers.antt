@@ -1,19 +1,19 @@
 use Rattle.std.proofs.Common.{rules, refl}
-use Rattle.oneshot_drive.proofs.PollRuns.{meet_asks, met, met_again, met_spin}
-use Rattle.oneshot_drive.proofs.EndRuns.{met_end, drop_to, drop_at_once}
+use Rattle.oneshot_drive.proofs.PollLoads.{meet_asks, met, met_copied, met_claimed, met_end}
+use Rattle.oneshot_drive.proofs.Spins.{drop_to, drop_at_once}
 use Rattle.oneshot_drive.proofs.polling.drop_async.Goals as goal
 
 pub word-requires : goal.word-requires
 word-requires g c = meet_asks c.requires
 
 pub take_back-requires : goal.take_back-requires
-take_back-requires g c = met_again (met c.word.result c.requires c.word.ensures.finds c.word.ensures.list) c.in-0.is
+take_back-requires g c = met_copied (met c.word.result c.requires c.word.ensures.finds c.word.ensures.list) c.in-0.is
 
 pub wait_out-requires : goal.wait_out-requires
-wait_out-requires g c = met_spin (met c.word.result c.requires c.word.ensures.finds c.word.ensures.list) c.in-1.is
+wait_out-requires g c = met_claimed (met c.word.result c.requires c.word.ensures.finds c.word.ensures.list) c.in-1.is
 
 pub end-requires-in_default : goal.end-requires-in_default
-end-requires-in_default g c = (met_end (met c.word.result c.requires c.word.ensures.finds c.word.ensures.list) (search rules) (search rules)).ends
+end-requires-in_default g c = (met_end (met c.word.result c.requires c.word.ensures.finds c.word.ensures.list) (search rules) (search rules)).0
 
 pub returns-in-0 : goal.returns-in-0
 returns-in-0 g c = drop_to c.word.result 0 refl c.in-0.is c.word.ensures.list c.take_back.ensures.went c.end.ensures
@@ -22,4 +22,4 @@ pub returns-in-1 : goal.returns-in-1
 returns-in-1 g c = drop_to c.word.result 1 refl c.in-1.is c.word.ensures.list c.wait_out.ensures.went c.end-in-1.ensures
 
 pub returns-in_default : goal.returns-in_default
-returns-in_default g c = drop_at_once (met_end (met c.word.result c.requires c.word.ensures.finds c.word.ensures.list) (search rules) (search rules)) c.word.ensures.list c.end-in_default.ensures
+returns-in_default g c = drop_at_once c.word.result (met_end (met c.word.result c.requires c.word.ensures.finds c.word.ensures.list) (search rules) (search rules)).1 c.word.ensures.list c.end-in_default.ensures

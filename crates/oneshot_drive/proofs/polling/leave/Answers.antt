@@ -1,33 +1,34 @@
-use Rattle.oneshot_drive.proofs.PollRuns.{left, left_asks, stored, stored_waits, stored_holds, stored_message, stored_none, withdrew_ends, leave_waits, leave_full, leave_over}
+use Rattle.oneshot_machine.proofs.Landings.{is_in}
+use Rattle.oneshot_drive.proofs.LeftCopies.{leave_asks, left, left_waits, left_there, none_left, withdrew_full, withdrew_over, leave_waits, leave_full, leave_over}
 use Rattle.oneshot_drive.proofs.OwnCopies.{wrote_none, on_word, on_withdraw, on_write}
 use Rattle.oneshot_drive.proofs.polling.leave.Goals as goal
 
 pub word-word-requires : goal.word-word-requires
-word-word-requires g c = left_asks (left c.args.copy c.requires.open c.write_waker.ensures.list c.write_waker.ensures.message c.write_waker.ensures.waker)
+word-word-requires g c = leave_asks c.args.copy c.requires.open c.write_waker.ensures.list c.write_waker.ensures.message c.write_waker.ensures.waker
 
 pub returns-then-word-eq-EMPTY-clause-went : goal.returns-then-word-eq-EMPTY-clause-went
 returns-then-word-eq-EMPTY-clause-went g c = leave_waits c.args.copy c.word-word.result c.if-word-eq-EMPTY.true c.write_waker.ensures.list c.word-word.ensures.list
 
 pub returns-then-word-eq-EMPTY-clause-ends : goal.returns-then-word-eq-EMPTY-clause-ends
-returns-then-word-eq-EMPTY-clause-ends g c = stored_waits (stored c.word-word.result (left c.args.copy c.requires.open c.write_waker.ensures.list c.write_waker.ensures.message c.write_waker.ensures.waker) c.word-word.ensures.finds c.word-word.ensures.list) c.if-word-eq-EMPTY.true
+returns-then-word-eq-EMPTY-clause-ends g c = left_waits (left c.word-word.result c.word-word.ensures.finds c.word-word.ensures.list) c.if-word-eq-EMPTY.true
 
 pub withdraw-requires : goal.withdraw-requires
-withdraw-requires g c = stored_holds (stored c.word-word.result (left c.args.copy c.requires.open c.write_waker.ensures.list c.write_waker.ensures.message c.write_waker.ensures.waker) c.word-word.ensures.finds c.word-word.ensures.list) c.if-word-eq-EMPTY.false
+withdraw-requires g c = is_in (left_there (left c.word-word.result c.word-word.ensures.finds c.word-word.ensures.list) c.if-word-eq-EMPTY.false)
 
 pub returns-then-word-eq-MESSAGE-clause-went : goal.returns-then-word-eq-MESSAGE-clause-went
 returns-then-word-eq-MESSAGE-clause-went g c = leave_full c.args.copy c.withdraw.result c.word-word.result c.if-word-eq-MESSAGE.true c.write_waker.ensures.list c.word-word.ensures.list c.withdraw.ensures.list
 
 pub returns-then-word-eq-MESSAGE-clause-ends : goal.returns-then-word-eq-MESSAGE-clause-ends
-returns-then-word-eq-MESSAGE-clause-ends g c = withdrew_ends c.withdraw.result (stored_message (stored c.word-word.result (left c.args.copy c.requires.open c.write_waker.ensures.list c.write_waker.ensures.message c.write_waker.ensures.waker) c.word-word.ensures.finds c.word-word.ensures.list) c.if-word-eq-MESSAGE.true) c.withdraw.ensures.list c.withdraw.ensures.message c.withdraw.ensures.waker
+returns-then-word-eq-MESSAGE-clause-ends g c = withdrew_full (left c.word-word.result c.word-word.ensures.finds c.word-word.ensures.list) c.withdraw.ensures.list c.withdraw.ensures.message c.withdraw.ensures.waker c.if-word-eq-MESSAGE.true
 
 pub returns-then-word-eq-MESSAGE-clause-keeps : goal.returns-then-word-eq-MESSAGE-clause-keeps
 returns-then-word-eq-MESSAGE-clause-keeps g c = g.G.ReceiverGround.keeps_on _ _ _ c.write_waker.ensures.keeps (g.G.ReceiverGround.keeps_on _ _ _ c.word-word.ensures.keeps c.withdraw.ensures.keeps)
 
 pub returns-else-word-eq-MESSAGE-clause-went : goal.returns-else-word-eq-MESSAGE-clause-went
-returns-else-word-eq-MESSAGE-clause-went g c = leave_over c.args.copy c.withdraw.result c.word-word.result (stored_none (stored c.word-word.result (left c.args.copy c.requires.open c.write_waker.ensures.list c.write_waker.ensures.message c.write_waker.ensures.waker) c.word-word.ensures.finds c.word-word.ensures.list) c.if-word-eq-EMPTY.false c.if-word-eq-MESSAGE.false).word c.write_waker.ensures.list c.word-word.ensures.list c.withdraw.ensures.list
+returns-else-word-eq-MESSAGE-clause-went g c = leave_over c.args.copy c.withdraw.result c.word-word.result (none_left (left c.word-word.result c.word-word.ensures.finds c.word-word.ensures.list) c.if-word-eq-EMPTY.false c.if-word-eq-MESSAGE.false) c.write_waker.ensures.list c.word-word.ensures.list c.withdraw.ensures.list
 
 pub returns-else-word-eq-MESSAGE-clause-ends : goal.returns-else-word-eq-MESSAGE-clause-ends
-returns-else-word-eq-MESSAGE-clause-ends g c = withdrew_ends c.withdraw.result (stored_none (stored c.word-word.result (left c.args.copy c.requires.open c.write_waker.ensures.list c.write_waker.ensures.message c.write_waker.ensures.waker) c.word-word.ensures.finds c.word-word.ensures.list) c.if-word-eq-EMPTY.false c.if-word-eq-MESSAGE.false).ends c.withdraw.ensures.list c.withdraw.ensures.message c.withdraw.ensures.waker
+returns-else-word-eq-MESSAGE-clause-ends g c = withdrew_over (left c.word-word.result c.word-word.ensures.finds c.word-word.ensures.list) c.withdraw.ensures.list c.withdraw.ensures.message c.withdraw.ensures.waker c.if-word-eq-EMPTY.false c.if-word-eq-MESSAGE.false
 
 pub returns-else-word-eq-MESSAGE-clause-keeps : goal.returns-else-word-eq-MESSAGE-clause-keeps
 returns-else-word-eq-MESSAGE-clause-keeps g c = g.G.ReceiverGround.keeps_on _ _ _ c.write_waker.ensures.keeps (g.G.ReceiverGround.keeps_on _ _ _ c.word-word.ensures.keeps c.withdraw.ensures.keeps)

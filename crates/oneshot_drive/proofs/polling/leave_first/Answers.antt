@@ -1,7 +1,8 @@
-use Rattle.std.proofs.Common.{rules, refl}
-use Rattle.oneshot_drive.specs.Blocking.{HasLooked}
-use Rattle.oneshot_drive.proofs.WaitingRuns.{unmoved}
-use Rattle.oneshot_drive.proofs.PollRuns.{copied_at, owned_ends, refused_ends, open_leaves, refused, first_left}
+use Rattle.std.proofs.Common.{rules, refl, [], ◌∷◌}
+use Rattle.oneshot_machine.specs.Logs.{copied}
+use Rattle.oneshot_drive.specs.Polls.{leaves_uncopied}
+use Rattle.oneshot_drive.proofs.AfterOperations.{stands_on}
+use Rattle.oneshot_drive.proofs.LeftCopies.{refused, owned_ends, may_leave, first_left}
 use Rattle.oneshot_drive.proofs.OwnCopies.{wrote_none, on_own, on_copy, on_refusal}
 use Rattle.oneshot_drive.proofs.polling.leave_first.Goals as goal
 
@@ -9,10 +10,10 @@ pub returns-in_default-clause-went : goal.returns-in_default-clause-went
 returns-in_default-clause-went g c = refused c.copy.result (search rules) refl refl c.copy.ensures.list c.wake_own.ensures.list
 
 pub returns-in_default-clause-ends : goal.returns-in_default-clause-ends
-returns-in_default-clause-ends g c = owned_ends (refused_ends (unmoved HasLooked c.requires (copied_at c.copy.result c.copy.ensures.list) c.copy.ensures.message c.copy.ensures.waker)) c.wake_own.ensures.list c.wake_own.ensures.message c.wake_own.ensures.waker
+returns-in_default-clause-ends g c = owned_ends leaves_uncopied (stands_on (copied c.copy.result ∷ []) refl c.requires c.copy.ensures.list c.copy.ensures.message c.copy.ensures.waker) c.wake_own.ensures.list c.wake_own.ensures.message c.wake_own.ensures.waker
 
 pub leave-requires-clause-open : goal.leave-requires-clause-open
-leave-requires-clause-open g c = open_leaves (unmoved HasLooked c.requires (copied_at c.copy.result c.copy.ensures.list) c.copy.ensures.message c.copy.ensures.waker)
+leave-requires-clause-open g c = may_leave (stands_on (copied c.copy.result ∷ []) refl c.requires c.copy.ensures.list c.copy.ensures.message c.copy.ensures.waker) refl
 
 pub returns-clause-went : goal.returns-clause-went
 returns-clause-went g c = first_left c.copy.result c.in-Some.copy c.in-Some.is c.copy.ensures.list c.leave.result c.leave.ensures.went

@@ -1,6 +1,6 @@
-use Rattle.std.proofs.Common.{rules, refl, sym, ◌∙◌}
-use Rattle.oneshot_drive.proofs.ReceiverRuns.{closed_finds}
-use Rattle.oneshot_drive.proofs.PollRuns.{meet_asks, met, met_first, met_again, met_spin, met_full, met_none, met_went, loaded_to}
+use Rattle.std.proofs.Common.{rules, refl}
+use Rattle.oneshot_drive.proofs.RestLoads.{never}
+use Rattle.oneshot_drive.proofs.PollLoads.{meet_asks, met, met_open, met_copied, met_claimed, met_full, met_none, met_went, loaded_to}
 use Rattle.oneshot_drive.proofs.OwnCopies.{wrote_none, on_word}
 use Rattle.oneshot_drive.proofs.polling.meet.Goals as goal
 
@@ -8,22 +8,22 @@ pub word-requires : goal.word-requires
 word-requires g c = meet_asks c.requires
 
 pub leave_first-requires : goal.leave_first-requires
-leave_first-requires g c = met_first (met c.word.result c.requires c.word.ensures.finds c.word.ensures.list) c.in-3.is
+leave_first-requires g c = met_open (met c.word.result c.requires c.word.ensures.finds c.word.ensures.list) c.in-3.is
 
 pub returns-in-3-clause-went : goal.returns-in-3-clause-went
 returns-in-3-clause-went g c = met_went c.word.result 3 refl c.in-3.is c.word.ensures.list c.leave_first.ensures.went
 
 pub returns-in-3-clause-stays : goal.returns-in-3-clause-stays
-returns-in-3-clause-stays g c is_closed = let e = sym c.in-3.is ∙ closed_finds c.word.result is_closed c.word.ensures.finds in absurd (cc)
+returns-in-3-clause-stays g c is_closed = never 3 refl c.in-3.is is_closed c.word.ensures.finds
 
 pub leave_again-requires : goal.leave_again-requires
-leave_again-requires g c = met_again (met c.word.result c.requires c.word.ensures.finds c.word.ensures.list) c.in-0.is
+leave_again-requires g c = met_copied (met c.word.result c.requires c.word.ensures.finds c.word.ensures.list) c.in-0.is
 
 pub returns-in-0-clause-went : goal.returns-in-0-clause-went
 returns-in-0-clause-went g c = met_went c.word.result 0 refl c.in-0.is c.word.ensures.list c.leave_again.ensures.went
 
 pub returns-in-0-clause-stays : goal.returns-in-0-clause-stays
-returns-in-0-clause-stays g c is_closed = let e = sym c.in-0.is ∙ closed_finds c.word.result is_closed c.word.ensures.finds in absurd (cc)
+returns-in-0-clause-stays g c is_closed = never 0 refl c.in-0.is is_closed c.word.ensures.finds
 
 pub returns-in-4-clause-went : goal.returns-in-4-clause-went
 returns-in-4-clause-went g c = loaded_to _ c.word.result 4 refl refl c.in-4.is c.word.ensures.list
@@ -32,22 +32,22 @@ pub returns-in-4-clause-ends : goal.returns-in-4-clause-ends
 returns-in-4-clause-ends g c = met_full (met c.word.result c.requires c.word.ensures.finds c.word.ensures.list) c.in-4.is
 
 pub returns-in-4-clause-stays : goal.returns-in-4-clause-stays
-returns-in-4-clause-stays g c is_closed = let e = sym c.in-4.is ∙ closed_finds c.word.result is_closed c.word.ensures.finds in absurd (cc)
+returns-in-4-clause-stays g c is_closed = never 4 refl c.in-4.is is_closed c.word.ensures.finds
 
 pub spin-requires : goal.spin-requires
-spin-requires g c = met_spin (met c.word.result c.requires c.word.ensures.finds c.word.ensures.list) c.in-1.is
+spin-requires g c = met_claimed (met c.word.result c.requires c.word.ensures.finds c.word.ensures.list) c.in-1.is
 
 pub returns-in-1-clause-went : goal.returns-in-1-clause-went
 returns-in-1-clause-went g c = met_went c.word.result 1 refl c.in-1.is c.word.ensures.list c.spin.ensures.went
 
 pub returns-in-1-clause-stays : goal.returns-in-1-clause-stays
-returns-in-1-clause-stays g c is_closed = let e = sym c.in-1.is ∙ closed_finds c.word.result is_closed c.word.ensures.finds in absurd (cc)
+returns-in-1-clause-stays g c is_closed = never 1 refl c.in-1.is is_closed c.word.ensures.finds
 
 pub returns-in_default-clause-went : goal.returns-in_default-clause-went
-returns-in_default-clause-went g c = loaded_to _ c.word.result 2 refl refl (met_none (met c.word.result c.requires c.word.ensures.finds c.word.ensures.list) (search rules) (search rules) (search rules) (search rules)).word c.word.ensures.list
+returns-in_default-clause-went g c = loaded_to _ c.word.result 2 refl refl (met_none (met c.word.result c.requires c.word.ensures.finds c.word.ensures.list) (search rules) (search rules) (search rules) (search rules)).0 c.word.ensures.list
 
 pub returns-in_default-clause-ends : goal.returns-in_default-clause-ends
-returns-in_default-clause-ends g c = (met_none (met c.word.result c.requires c.word.ensures.finds c.word.ensures.list) (search rules) (search rules) (search rules) (search rules)).ends
+returns-in_default-clause-ends g c = (met_none (met c.word.result c.requires c.word.ensures.finds c.word.ensures.list) (search rules) (search rules) (search rules) (search rules)).1
 
 pub returns-in-3-clause-own : goal.returns-in-3-clause-own
 returns-in-3-clause-own g c = on_word _ c.word.result c.word.ensures.list c.leave_first.ensures.own

@@ -1,9 +1,9 @@
 use Rattle.oneshot_machine.specs.declared.machine.receiver.ReceiverPos.TheVariants.{AsyncDrop}
 use Rattle.oneshot_machine.specs.declared.machine.async_drop.AsyncDropPos.TheVariants.{AsyncSpin}
-use Rattle.oneshot_machine.specs.Logs.{receiver_of}
+use Rattle.oneshot_machine.specs.Phases.{claimed}
 use Rattle.oneshot_machine.specs.Rows.{Goes}
+use Rattle.oneshot_drive.specs.Grounds.{Stands}
 use Rattle.oneshot_drive.specs.Blocking.{Went}
-use Rattle.oneshot_drive.specs.Polls.{Spins}
 use Rattle.oneshot_drive.proofs.polling.wait_out.Given as goal
 
 abbrev pub invariant-loop : goal.invariant-loop
@@ -11,6 +11,6 @@ invariant-loop g l =
     record {
       can_next : (goal.iterator-loop g).can_next l.iterator';
       is_finite : (goal.iterator-loop g).is_finite l.iterator';
-      went : Went (AsyncDrop AsyncSpin) (Goes (AsyncDrop AsyncSpin)) (g.G.ReceiverGround.log l.fn.g) (g.G.ReceiverGround.log l.g);
-      spins : Spins (receiver_of (g.G.ReceiverGround.log l.g)) (g.G.ReceiverGround.message_slot l.g) (g.G.ReceiverGround.waker_slot l.g);
+      went : Went (AsyncDrop AsyncSpin) (Goes (AsyncDrop AsyncSpin)) (g.G.ReceiverGround.state l.fn.g).log (g.G.ReceiverGround.state l.g).log;
+      spins : Stands claimed (g.G.ReceiverGround.state l.g);
     }

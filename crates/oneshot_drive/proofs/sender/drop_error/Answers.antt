@@ -1,4 +1,4 @@
-use Rattle.oneshot_drive.proofs.SenderRuns.{error_ran}
+use Rattle.oneshot_drive.proofs.SenderCalls.{error_ran}
 use Rattle.oneshot_drive.proofs.sender.drop_error.Goals as goal
 
 pub returns : goal.returns

@@ -1,14 +1,16 @@
-use Rattle.std.proofs.Common.{rules}
-use Rattle.oneshot_drive.proofs.SenderRuns.{stands_written, send_asks, send_owes, send_last, send_ran, send_refused, send_refuses, send_late, send_woke}
+use Rattle.std.proofs.Common.{rules, refl}
+use Rattle.oneshot_machine.proofs.Landings.{message_kept}
+use Rattle.oneshot_drive.proofs.AfterOperations.{sender_asks}
+use Rattle.oneshot_machine.specs.declared.states.Op.TheVariants.{Add}
+use Rattle.oneshot_drive.proofs.SenderCalls.{written, send_owes, added, refused, is_too_late, send_ran, send_refused, send_woke}
 use Rattle.oneshot_drive.proofs.sender.send.Goals as goal
 
 pub word-requires : goal.word-requires
-word-requires g c =
-    send_asks (stands_written c.args.message c.requires c.write_message.ensures.list c.write_message.ensures.message c.write_message.ensures.waker)
+word-requires g c = sender_asks Add (written c.args.message c.requires c.write_message.ensures.list c.write_message.ensures.message c.write_message.ensures.waker) refl
 
 pub finish-requires : goal.finish-requires
 finish-requires g c =
-    send_owes c.word.result (stands_written c.args.message c.requires c.write_message.ensures.list c.write_message.ensures.message c.write_message.ensures.waker) c.word.ensures.finds c.in-0.is c.word.ensures.list
+    send_owes c.word.result (written c.args.message c.requires c.write_message.ensures.list c.write_message.ensures.message c.write_message.ensures.waker) c.in-0.is c.word.ensures.finds c.word.ensures.list
 
 pub returns-in-3-clause-run : goal.returns-in-3-clause-run
 returns-in-3-clause-run g c = send_ran c.word.result c.in-3.is c.write_message.ensures.list c.word.ensures.list
@@ -18,15 +20,18 @@ returns-in-0-clause-run g c = send_woke c.word.result c.in-0.is c.write_message.
 
 pub returns-in_default-clause-run : goal.returns-in_default-clause-run
 returns-in_default-clause-run g c =
-    let stands = (stands_written c.args.message c.requires c.write_message.ensures.list c.write_message.ensures.message c.write_message.ensures.waker) in
-    send_refused c.word.result (send_last c.word.result stands c.word.ensures.finds (search rules) (search rules)) c.write_message.ensures.list c.word.ensures.list
+    let fresh = written c.args.message c.requires c.write_message.ensures.list c.write_message.ensures.message c.write_message.ensures.waker in
+    let gone = added c.word.result fresh (search rules) (search rules) c.word.ensures.finds c.word.ensures.list in
+    send_refused c.word.result gone.word c.write_message.ensures.list c.word.ensures.list
 
 pub returns-in_default-clause-refused : goal.returns-in_default-clause-refused
 returns-in_default-clause-refused g c _ =
-    let stands = (stands_written c.args.message c.requires c.write_message.ensures.list c.write_message.ensures.message c.write_message.ensures.waker) in
-    send_refuses c.word.result stands c.word.ensures.finds (send_last c.word.result stands c.word.ensures.finds (search rules) (search rules))
+    let fresh = written c.args.message c.requires c.write_message.ensures.list c.write_message.ensures.message c.write_message.ensures.waker in
+    let gone = added c.word.result fresh (search rules) (search rules) c.word.ensures.finds c.word.ensures.list in
+    refused c.args.message gone.stands (message_kept c.word.ensures.finds c.write_message.ensures.message gone.stands.message)
 
 pub returns-in_default-clause-late : goal.returns-in_default-clause-late
 returns-in_default-clause-late g c _ =
-    let stands = (stands_written c.args.message c.requires c.write_message.ensures.list c.write_message.ensures.message c.write_message.ensures.waker) in
-    send_late c.word.result stands (send_last c.word.result stands c.word.ensures.finds (search rules) (search rules)) c.word.ensures.list
+    let fresh = written c.args.message c.requires c.write_message.ensures.list c.write_message.ensures.message c.write_message.ensures.waker in
+    let gone = added c.word.result fresh (search rules) (search rules) c.word.ensures.finds c.word.ensures.list in
+    is_too_late gone.stands

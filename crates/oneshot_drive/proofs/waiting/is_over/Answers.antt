@@ -1,11 +1,14 @@
-use Rattle.oneshot_drive.proofs.WaitingRuns.{asked, not_asked, clock_waits}
+use Rattle.std.proofs.Common.{[], ◌∷◌, refl}
+use Rattle.oneshot_machine.specs.Logs.{clocked}
+use Rattle.oneshot_drive.proofs.AfterOperations.{stands_on}
+use Rattle.oneshot_drive.proofs.Waits.{asked, not_asked}
 use Rattle.oneshot_drive.proofs.waiting.is_over.Goals as goal
 
 pub returns-then-timed-clause-went : goal.returns-then-timed-clause-went
 returns-then-timed-clause-went g c way = asked way c.over.result c.if-timed.true c.over.ensures.list
 
 pub returns-then-timed-clause-waits : goal.returns-then-timed-clause-waits
-returns-then-timed-clause-waits g c = clock_waits c.requires c.over.result c.over.ensures.list c.over.ensures.message c.over.ensures.waker
+returns-then-timed-clause-waits g c = stands_on (clocked c.over.result ∷ []) refl c.requires c.over.ensures.list c.over.ensures.message c.over.ensures.waker
 
 pub returns-else-timed-clause-went : goal.returns-else-timed-clause-went
-returns-else-timed-clause-went g c way = not_asked way (g.G.ReceiverGround.log c.args.g.now) c.if-timed.false
+returns-else-timed-clause-went g c way = not_asked way (g.G.ReceiverGround.state c.args.g.now).log c.if-timed.false

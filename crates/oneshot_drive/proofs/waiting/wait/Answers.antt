@@ -1,11 +1,14 @@
-use Rattle.std.proofs.Common.{refl, rules}
+use Rattle.std.proofs.Common.{[], ◌∷◌, refl, rules}
+use Rattle.oneshot_machine.specs.declared.states.Op.TheVariants.{Load}
+use Rattle.oneshot_machine.specs.Logs.{parked}
 use Rattle.oneshot_drive.specs.Blocking.{wait_of}
+use Rattle.oneshot_drive.proofs.AfterOperations.{asks, stands_on}
 use Rattle.oneshot_drive.proofs.Stretches.{begun}
-use Rattle.oneshot_drive.proofs.WaitingRuns.{may_park, still_waits, wait_asks, woke, woke_full, woke_over, woke_again, parks_again, parks_full, parks_over, stops_went}
+use Rattle.oneshot_drive.proofs.Waits.{may_park, woke, woke_full, woke_over, woke_again, parks_again, parks_full, parks_over, stops_went}
 use Rattle.oneshot_drive.proofs.waiting.wait.Goals as goal
 
 pub loop-init : goal.loop-init
-loop-init g c = record { can_next = tt; is_finite = tt; went = λ way. begun (wait_of way) (g.G.ReceiverGround.log c.args.g.now); waits = c.requires; hand = refl }
+loop-init g c = record { can_next = tt; is_finite = tt; went = λ way. begun (wait_of way) (g.G.ReceiverGround.state c.args.g.now).log; waits = c.requires; hand = refl }
 
 pub returns-then-is_over-clause-went : goal.returns-then-is_over-clause-went
 returns-then-is_over-clause-went g c way = stops_went c.stop.result way (c.loop.invariant.went way) (c.is_over.ensures.went way) c.if-is_over.true (c.is_over.ensures.deadline c.if-is_over.true) c.stop.ensures.went
@@ -14,23 +17,28 @@ pub park-requires : goal.park-requires
 park-requires g c = may_park c.args.timed c.is_over.ensures.waits
 
 pub word-requires : goal.word-requires
-word-requires g c = wait_asks (still_waits c.is_over.ensures.waits c.park.ensures.list.0 c.park.ensures.list.1 c.park.ensures.message c.park.ensures.waker)
+word-requires g c = asks Load (stands_on (parked c.park.ensures.list.0 ∷ []) refl c.is_over.ensures.waits c.park.ensures.list.1 c.park.ensures.message c.park.ensures.waker) refl
 
 pub returns-in-4-clause-went : goal.returns-in-4-clause-went
 returns-in-4-clause-went g c way = parks_full way (c.loop.invariant.went way) (c.is_over.ensures.went way) c.if-is_over.false c.park.ensures.list.0 c.park.ensures.list.1 c.word.result c.word.ensures.list c.in-4.is
 
 pub returns-in-4-clause-ends : goal.returns-in-4-clause-ends
-returns-in-4-clause-ends g c = woke_full c.args.timed (woke c.word.result (still_waits c.is_over.ensures.waits c.park.ensures.list.0 c.park.ensures.list.1 c.park.ensures.message c.park.ensures.waker) c.word.ensures.finds c.word.ensures.list) c.in-4.is
+returns-in-4-clause-ends g c =
+    let still = stands_on (parked c.park.ensures.list.0 ∷ []) refl c.is_over.ensures.waits c.park.ensures.list.1 c.park.ensures.message c.park.ensures.waker in
+    woke_full (woke c.word.result still c.word.ensures.finds c.word.ensures.list) c.args.timed c.in-4.is
 
 pub returns-in-2-clause-went : goal.returns-in-2-clause-went
 returns-in-2-clause-went g c way = parks_over way (c.loop.invariant.went way) (c.is_over.ensures.went way) c.if-is_over.false c.park.ensures.list.0 c.park.ensures.list.1 c.word.result c.word.ensures.list c.in-2.is
 
 pub returns-in-2-clause-ends : goal.returns-in-2-clause-ends
-returns-in-2-clause-ends g c = woke_over c.args.timed (woke c.word.result (still_waits c.is_over.ensures.waits c.park.ensures.list.0 c.park.ensures.list.1 c.park.ensures.message c.park.ensures.waker) c.word.ensures.finds c.word.ensures.list) c.in-2.is
+returns-in-2-clause-ends g c =
+    let still = stands_on (parked c.park.ensures.list.0 ∷ []) refl c.is_over.ensures.waits c.park.ensures.list.1 c.park.ensures.message c.park.ensures.waker in
+    woke_over (woke c.word.result still c.word.ensures.finds c.word.ensures.list) c.args.timed c.in-2.is
 
 pub loop-preserved : goal.loop-preserved
 loop-preserved g c =
-    let found = (woke c.word.result (still_waits c.is_over.ensures.waits c.park.ensures.list.0 c.park.ensures.list.1 c.park.ensures.message c.park.ensures.waker) c.word.ensures.finds c.word.ensures.list) in
+    let still = stands_on (parked c.park.ensures.list.0 ∷ []) refl c.is_over.ensures.waits c.park.ensures.list.1 c.park.ensures.message c.park.ensures.waker in
+    let found = woke c.word.result still c.word.ensures.finds c.word.ensures.list in
     record {
       can_next = tt;
       is_finite = tt;

@@ -1,7 +1,8 @@
 use Rattle.std.proofs.Common.{◌≡◌}
-use Rattle.oneshot_machine.specs.Logs.{receiver_of}
+use Rattle.oneshot_machine.specs.Phases.{waits, blocked}
 use Rattle.oneshot_machine.specs.Rows.{Goes}
-use Rattle.oneshot_drive.specs.Blocking.{Went, Way, wait_of, IsWaiting}
+use Rattle.oneshot_drive.specs.Grounds.{Stands}
+use Rattle.oneshot_drive.specs.Blocking.{Went, Way, wait_of}
 use Rattle.oneshot_drive.proofs.waiting.wait.Given as goal
 
 abbrev pub invariant-loop : goal.invariant-loop
@@ -9,7 +10,7 @@ invariant-loop g l =
     record {
       can_next : (goal.iterator-loop g).can_next l.iterator';
       is_finite : (goal.iterator-loop g).is_finite l.iterator';
-      went : (way : Way l.fn.timed) → Went (wait_of way) (Goes (wait_of way)) (g.G.ReceiverGround.log l.fn.g) (g.G.ReceiverGround.log l.g);
-      waits : IsWaiting (receiver_of (g.G.ReceiverGround.log l.g)) (g.G.ReceiverGround.message_slot l.g) (g.G.ReceiverGround.waker_slot l.g);
+      went : (way : Way l.fn.timed) → Went (wait_of way) (Goes (wait_of way)) (g.G.ReceiverGround.state l.fn.g).log (g.G.ReceiverGround.state l.g).log;
+      waits : Stands (waits blocked) (g.G.ReceiverGround.state l.g);
       hand : l.hand ≡ l.fn.hand;
     }

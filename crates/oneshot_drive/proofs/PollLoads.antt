@@ -1,0 +1,181 @@
+-- What a future between two calls finds by its load, and the run of a poll.
+use Rattle.std.proofs.Common.{◌≡◌, ℕ, true, [], ◌∷◌, Some, Ok, Err, refl, sym, ap, ◌∙◌, subst}
+use Rattle.futures.specs.declared.task.Poll.TheVariants.{Ready, Pending}
+use Rattle.oneshot_errors.specs.declared.recv.RecvError.{RecvError}
+use Rattle.oneshot_drive.specs.declared.waiting.Found.{Found}
+use Rattle.oneshot_drive.specs.declared.waiting.Found.TheVariants as F
+use Rattle.oneshot_machine.specs.declared.machine.Reply.TheVariants as R
+use Rattle.oneshot_machine.specs.declared.machine.Seen.TheVariants as S
+use Rattle.oneshot_machine.specs.declared.machine.Step.TheVariants as Steps
+use Rattle.oneshot_machine.specs.declared.machine.receiver.ReceiverPos.{ReceiverPos}
+use Rattle.oneshot_machine.specs.declared.machine.receiver.ReceiverPos.TheVariants.{Look, Future, AsyncDrop, Drop}
+use Rattle.oneshot_machine.specs.declared.machine.look.LookPos.TheVariants.{Close, Take}
+use Rattle.oneshot_machine.specs.declared.machine.future.FuturePos.TheVariants.{PollLoad}
+use Rattle.oneshot_machine.specs.declared.machine.async_drop.AsyncDropPos.TheVariants.{AsyncLoad}
+use Rattle.oneshot_machine.specs.declared.machine.drop.DropPos.TheVariants.{DropSwap}
+use Rattle.oneshot_machine.specs.declared.machine.receiver.ReceiverStart.TheVariants as C
+use Rattle.oneshot_machine.specs.declared.states.Op.TheVariants.{Load, Store, Swap}
+use Rattle.oneshot_machine.specs.Logs.{Log, Grows, receiver_of, took, worded}
+use Rattle.oneshot_machine.specs.Phases.{ReceiverAt, here, looked, between, waits, again, claimed, full, Got, at_once, waited, swapped, by_future, by_poll, Closing, found_closed, closed_itself, over, resolved, receiver_next, receiver_moves, empty, word_of}
+use Rattle.oneshot_machine.specs.Receiver.{receiver_step, receiver_row}
+use Rattle.oneshot_machine.specs.Rows.{Outcome, Goes}
+use Rattle.oneshot_machine.specs.Runs.{last, more, ReceiverRan}
+use Rattle.oneshot_machine.proofs.GrownLists.{and_then}
+use Rattle.oneshot_drive.specs.Grounds.{State, StandsWith, Stands, StandsIn, receiver_slots, ReceiverAsks, ReceiverMakes}
+use Rattle.oneshot_drive.specs.Blocking.{Went}
+use Rattle.oneshot_drive.specs.BetweenCalls.{rests_new, rests_open, rests_closed, IsClosed, is_over, is_resolved}
+use Rattle.oneshot_drive.specs.Polls.{Polled, unpolled, left_copy, kept_copy, found_sender, has_resolved, IsPolled, LeavesPolled, leaves_received, leaves_resolved, leaves_over, leaves_gone, leaves_uncopied, leaves_waiting, leaves_its_copy, leaves_claimed, EndsPoll}
+use Rattle.oneshot_machine.proofs.Landings.{has_row, Each, landings}
+use Rattle.oneshot_drive.proofs.AfterOperations.{Came, came, asks, lands}
+use Rattle.oneshot_drive.proofs.Stretches.{on, by_word, ran}
+
+-- it may load
+polled_loads : {at : ReceiverAt} → Polled at → has_row Load (receiver_slots at) (receiver_moves at) ≡ true
+polled_loads (unpolled rests_new) = refl
+polled_loads (unpolled (rests_open looked)) = refl
+polled_loads (unpolled (rests_open between)) = refl
+polled_loads (unpolled (rests_closed c)) = refl
+polled_loads left_copy = refl
+polled_loads kept_copy = refl
+polled_loads found_sender = refl
+polled_loads (has_resolved c) = refl
+
+-- one that stands at this phase may be dropped
+abbrev pub Drops : ReceiverAt → Type 0
+Drops at = has_row (Swap 2) (receiver_slots at) (receiver_moves at) ≡ true
+
+-- the word that its load finds, and where that leads
+pub data Met : ℕ → ReceiverAt → Type 0 where
+  met_empty : Met 3 (here looked)
+  met_message : {g : Got} → word_of g ≡ 4 → Drops (full g) → Met 4 (full g)
+  met_closed : (c : Closing) → Met 2 (over c)
+  met_copy : Met 0 (waits again)
+  met_sender : Met 1 claimed
+
+meets : {at : ReceiverAt} → Polled at → Each (λ n next after. Met n next × (after ≡ receiver_slots next)) (landings Load (receiver_moves at))
+meets (unpolled rests_new) = ((met_empty, refl), ((met_message refl refl, refl), ((met_closed found_closed, refl), tt)))
+meets (unpolled (rests_open looked)) = ((met_empty, refl), ((met_message refl refl, refl), ((met_closed found_closed, refl), tt)))
+meets (unpolled (rests_open between)) = ((met_empty, refl), ((met_message refl refl, refl), ((met_closed found_closed, refl), tt)))
+meets (unpolled (rests_closed c)) = ((met_closed c, refl), tt)
+meets left_copy = ((met_copy, refl), ((met_sender, refl), ((met_message refl refl, refl), ((met_closed found_closed, refl), tt))))
+meets kept_copy = ((met_copy, refl), ((met_sender, refl), ((met_message refl refl, refl), ((met_closed found_closed, refl), tt))))
+meets found_sender = ((met_sender, refl), ((met_message refl refl, refl), ((met_closed found_closed, refl), tt)))
+meets (has_resolved c) = ((met_closed c, refl), tt)
+
+-- the drop's load keeps it only where its copy is there, or the sender is about to finish
+ends_met : {n : ℕ} {at : ReceiverAt} → Met n at → ¬ (n ≡ 0) → ¬ (n ≡ 1) → Drops at × (receiver_row (AsyncDrop AsyncLoad) (S.Word n) ≡ Some (Goes (Drop DropSwap)))
+ends_met met_empty a b = (refl, refl)
+ends_met (met_message word drops) a b = (drops, refl)
+ends_met (met_closed c) a b = (refl, refl)
+ends_met met_copy a b = absurd (a refl)
+ends_met met_sender a b = absurd (b refl)
+
+-- how a poll leaves the future
+leaves_taken : {T : Type 0} (g : Got) (x : T) → LeavesPolled (Ready (Ok x)) (receiver_next (full g) (Store 2) S.Done)
+leaves_taken at_once x = leaves_received x
+leaves_taken waited x = leaves_received x
+leaves_taken (swapped by) x = leaves_received x
+leaves_taken by_future x = leaves_resolved x
+leaves_taken by_poll x = leaves_resolved x
+
+pub taken_leaves : {T : Type 0} {at : ReceiverAt} (g : Got) (x : T) → at ≡ receiver_next (full g) (Store 2) S.Done → LeavesPolled (Ready (Ok x)) at
+taken_leaves g x is = subst (λ at. LeavesPolled (Ready (Ok x)) at) (sym is) (leaves_taken g x)
+
+pending_polled : {T : Type 0} {at : ReceiverAt} → LeavesPolled {T = T} Pending at → Polled at
+pending_polled leaves_uncopied = unpolled (rests_open looked)
+pending_polled leaves_waiting = left_copy
+pending_polled leaves_its_copy = kept_copy
+pending_polled leaves_claimed = found_sender
+
+closed_polled : {at : ReceiverAt} → IsClosed at → Polled at
+closed_polled (is_over c) = unpolled (rests_closed c)
+closed_polled (is_resolved c) = has_resolved c
+
+closed_leaves : {T : Type 0} {at : ReceiverAt} (e : RecvError) → IsClosed at → LeavesPolled {T = T} (Ready (Err e)) at
+closed_leaves e (is_over c) = leaves_over e c
+closed_leaves e (is_resolved c) = leaves_gone e c
+
+module _ {T W : Type 0} where
+  open_met : {at : ReceiverAt} {s : State T W} → Met 3 at → Stands at s → Stands (here looked) s
+  open_met met_empty stands = stands
+
+  copy_met : {at : ReceiverAt} {s : State T W} → Met 0 at → Stands at s → Stands (waits again) s
+  copy_met met_copy stands = stands
+
+  sender_met : {at : ReceiverAt} {s : State T W} → Met 1 at → Stands at s → Stands claimed s
+  sender_met met_sender stands = stands
+
+  full_met : {at : ReceiverAt} {s : State T W} → Met 4 at → Stands at s → EndsPoll F.Message s
+  full_met (met_message {g} word drops) stands = (g, word, stands)
+
+  closed_met : {n : ℕ} {at : ReceiverAt} {s : State T W} → Met n at → Stands at s → ¬ (n ≡ 3) → ¬ (n ≡ 0) → ¬ (n ≡ 4) → ¬ (n ≡ 1) → (n ≡ 2) × EndsPoll F.Closed s
+  closed_met met_empty stands a b c d = absurd (a refl)
+  closed_met met_copy stands a b c d = absurd (b refl)
+  closed_met (met_message word drops) stands a b c d = absurd (c refl)
+  closed_met met_sender stands a b c d = absurd (d refl)
+  closed_met (met_closed k) stands a b c d = (refl, record { at = over k; is_one = is_over k; stands = stands })
+
+  pub meet_asks : {s : State T W} → IsPolled s → ReceiverAsks Load s
+  meet_asks is = asks Load is.stands (polled_loads is.is_one)
+
+  pub met : {b a : State T W} (n : ℕ) → IsPolled b → ReceiverMakes Load n b a → Grows b.log a.log (worded Load n ∷ []) → Came Met n a
+  met {b} n is made grows = came Met (meets is.is_one) (lands b Load n is.stands.phase made grows)
+
+  module _ {n : ℕ} {s : State T W} (found : Came Met n s) where
+    met_with : (word : ℕ) → n ≡ word → Met word found.at
+    met_with word e = subst (λ n. Met n found.at) e found.is_so
+
+    pub met_open : n ≡ 3 → Stands (here looked) s
+    met_open e = open_met (met_with 3 e) found.stands
+
+    pub met_copied : n ≡ 0 → Stands (waits again) s
+    met_copied e = copy_met (met_with 0 e) found.stands
+
+    pub met_claimed : n ≡ 1 → Stands claimed s
+    met_claimed e = sender_met (met_with 1 e) found.stands
+
+    pub met_full : n ≡ 4 → EndsPoll F.Message s
+    met_full e = full_met (met_with 4 e) found.stands
+
+    pub met_none : ¬ (n ≡ 3) → ¬ (n ≡ 0) → ¬ (n ≡ 4) → ¬ (n ≡ 1) → (n ≡ 2) × EndsPoll F.Closed s
+    met_none a b c d = closed_met found.is_so found.stands a b c d
+
+    pub met_end : ¬ (n ≡ 0) → ¬ (n ≡ 1) → ReceiverAsks (Swap 2) s × (receiver_row (AsyncDrop AsyncLoad) (S.Word n) ≡ Some (Goes (Drop DropSwap)))
+    met_end a b = let ends = ends_met found.is_so a b in (asks (Swap 2) found.stands ends.0, ends.1)
+
+  pub loaded_to : {l k : Log T W} {p : ReceiverPos} (o : Outcome ReceiverPos) (n found : ℕ) → Steps.Word Load ≡ receiver_step p → receiver_row p (S.Word found) ≡ Some o → n ≡ found → Grows l k (worded Load n ∷ []) → Went p o l k
+  loaded_to {p} o n found at leads e s = by_word o Load n s at (ap (λ n. receiver_row p (S.Word n)) e ∙ leads)
+
+  pub met_went : {l k z : Log T W} {p : ReceiverPos} {o : Outcome ReceiverPos} (n found : ℕ) → receiver_row (Future PollLoad) (S.Word found) ≡ Some (Goes p) → n ≡ found → Grows l k (worded Load n ∷ []) → Went p o k z → Went (Future PollLoad) o l z
+  met_went {p} n found leads e s went = on (loaded_to (Goes p) n found refl leads e s) went
+
+  -- `poll`: it closes over the message, and takes it
+  pub taken_rests : {s : State T W} (g : Got) → StandsWith receiver_of (receiver_next (full g) (Store 2) S.Done) (empty, empty) s → IsPolled s
+  taken_rests at_once is = record { at = over closed_itself; is_one = unpolled (rests_closed closed_itself); stands = is }
+  taken_rests waited is = record { at = over closed_itself; is_one = unpolled (rests_closed closed_itself); stands = is }
+  taken_rests (swapped by) is = record { at = over closed_itself; is_one = unpolled (rests_closed closed_itself); stands = is }
+  taken_rests by_future is = record { at = resolved closed_itself; is_one = has_resolved closed_itself; stands = is }
+  taken_rests by_poll is = record { at = resolved closed_itself; is_one = has_resolved closed_itself; stands = is }
+
+  pub poll_ran : {l k j z : Log T W} (n : ℕ) (x : T) → Went (Future PollLoad) (Goes (Look Close)) l k → Grows k j (worded (Store 2) n ∷ []) → Grows j z (took x ∷ []) → ReceiverRan C.Poll l z R.Message [] (x ∷ [])
+  poll_ran n x went s t = ran went (worded (Store 2) n ∷ took x ∷ []) (more (Look Take) _ _ refl refl (last _ refl refl)) (and_then (worded (Store 2) n ∷ []) _ s t) refl refl
+
+  -- or leaves the future open
+  pub pending_rests : {s : State T W} → EndsPoll F.Nothing s → IsPolled s
+  pending_rests ends = record { at = ends.at; is_one = pending_polled ends.is_one; stands = ends.stands }
+
+  pub pending_leaves : {s : State T W} → EndsPoll F.Nothing s → LeavesPolled {T = T} Pending (receiver_of s.log)
+  pending_leaves ends = subst (λ at. LeavesPolled {T = T} Pending at) (sym ends.stands.phase) ends.is_one
+
+  -- or finds it closed
+  pub gone_rests : {s : State T W} → StandsIn IsClosed s → IsPolled s
+  gone_rests is = record { at = is.at; is_one = closed_polled is.is_one; stands = is.stands }
+
+  pub gone_leaves : {s : State T W} (e : RecvError) → StandsIn IsClosed s → LeavesPolled {T = T} (Ready (Err e)) (receiver_of s.log)
+  gone_leaves e is = subst (λ at. LeavesPolled {T = T} (Ready (Err e)) at) (sym is.stands.phase) (closed_leaves e is.is_one)
+
+  pub gone : (s : State T W) (f : Found) → EndsPoll f s → ¬ (f ≡ F.Message) → ¬ (f ≡ F.Nothing) → (f ≡ F.Closed) × StandsIn IsClosed s
+  gone s F.Message ends a b = absurd (a refl)
+  gone s F.Closed ends a b = (refl, ends)
+  gone s F.Unclosed ends a b = absurd ends
+  gone s F.Nothing ends a b = absurd (b refl)

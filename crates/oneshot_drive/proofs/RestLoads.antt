@@ -1,0 +1,124 @@
+-- What a receiver between two calls finds by its load, and the runs of `try_recv`.
+use Rattle.std.proofs.Common.{◌≡◌, ℕ, true, false, [], ◌∷◌, Ok, Err, refl, sym, ◌∙◌, subst}
+use Rattle.std.specs.Prelude.{◌==◌}
+use Rattle.std.proofs.lemmas.Bool.{eq-eqb}
+use Rattle.oneshot_errors.specs.declared.try_recv.TryRecvError.TheVariants as E
+use Rattle.oneshot_machine.specs.declared.machine.Reply.TheVariants as R
+use Rattle.oneshot_machine.specs.declared.machine.receiver.ReceiverPos.TheVariants.{Look}
+use Rattle.oneshot_machine.specs.declared.machine.look.LookPos.TheVariants.{Close, Take}
+use Rattle.oneshot_machine.specs.declared.machine.receiver.ReceiverStart.TheVariants.{TryRecv}
+use Rattle.oneshot_machine.specs.declared.states.Op.TheVariants.{Load, Store, Swap}
+use Rattle.oneshot_machine.specs.Logs.{Log, Grows, receiver_of, took, worded}
+use Rattle.oneshot_machine.specs.Phases.{ReceiverAt, here, looked, between, full, at_once, Closing, found_closed, closed_itself, over, receiver_moves, empty, filled}
+use Rattle.oneshot_machine.specs.Runs.{last, more, ReceiverRan}
+use Rattle.oneshot_machine.specs.Slots.{Held, ReceiverFinds}
+use Rattle.oneshot_machine.specs.Words.{is_same_op}
+use Rattle.oneshot_machine.proofs.GrownLists.{and_then}
+use Rattle.oneshot_drive.specs.Grounds.{State, StandsWith, Stands, receiver_slots, ReceiverAsks, ReceiverMakes}
+use Rattle.oneshot_drive.specs.BetweenCalls.{Rests, rests_new, rests_open, rests_closed, AtRest, IsClosed, is_over, is_resolved, Leaves, leaves_received, leaves_open, leaves_closed}
+use Rattle.oneshot_machine.proofs.Landings.{has_row, Each, landings, found_so}
+use Rattle.oneshot_drive.proofs.AfterOperations.{lone, Came, came, asks, lands}
+
+-- it may load, and may be dropped
+rests_load : {at : ReceiverAt} → Rests at → has_row Load (receiver_slots at) (receiver_moves at) ≡ true
+rests_load rests_new = refl
+rests_load (rests_open looked) = refl
+rests_load (rests_open between) = refl
+rests_load (rests_closed c) = refl
+
+rests_swap : {at : ReceiverAt} → Rests at → has_row (Swap 2) (receiver_slots at) (receiver_moves at) ≡ true
+rests_swap rests_new = refl
+rests_swap (rests_open looked) = refl
+rests_swap (rests_open between) = refl
+rests_swap (rests_closed c) = refl
+
+-- the word that its load finds, and where that leads
+pub data Looked : ℕ → ReceiverAt → Type 0 where
+  looked_empty : Looked 3 (here looked)
+  looked_message : Looked 4 (full at_once)
+  looked_closed : (c : Closing) → Looked 2 (over c)
+
+rests_look : {at : ReceiverAt} → Rests at → Each (λ n next after. Looked n next × (after ≡ receiver_slots next)) (landings Load (receiver_moves at))
+rests_look rests_new = ((looked_empty, refl), ((looked_message, refl), ((looked_closed found_closed, refl), tt)))
+rests_look (rests_open looked) = ((looked_empty, refl), ((looked_message, refl), ((looked_closed found_closed, refl), tt)))
+rests_look (rests_open between) = ((looked_empty, refl), ((looked_message, refl), ((looked_closed found_closed, refl), tt)))
+rests_look (rests_closed c) = ((looked_closed c, refl), tt)
+
+at_message : {at : ReceiverAt} → Looked 4 at → at ≡ full at_once
+at_message looked_message = refl
+
+at_empty : {at : ReceiverAt} → Looked 3 at → at ≡ here looked
+at_empty looked_empty = refl
+
+at_closed : {n : ℕ} {at : ReceiverAt} → Looked n at → ¬ (n ≡ 4) → ¬ (n ≡ 3) → (n ≡ 2) × (c : Closing) × (at ≡ over c)
+at_closed looked_message a b = absurd (a refl)
+at_closed looked_empty a b = absurd (b refl)
+at_closed (looked_closed c) a b = (refl, c, refl)
+
+-- a closed receiver finds 2, and no other word
+closed_loads : {at : ReceiverAt} → IsClosed at → Each (λ n next after. n ≡ 2) (landings Load (receiver_moves at))
+closed_loads (is_over c) = (refl, tt)
+closed_loads (is_resolved c) = (refl, tt)
+
+module _ {T W : Type 0} where
+  pub load_asks : {s : State T W} → AtRest s → ReceiverAsks Load s
+  load_asks rests = asks Load rests.stands (rests_load rests.is_one)
+
+  pub swap_asks : {s : State T W} → AtRest s → ReceiverAsks (Swap 2) s
+  swap_asks rests = asks (Swap 2) rests.stands (rests_swap rests.is_one)
+
+  pub loaded : {b a : State T W} (n : ℕ) → AtRest b → ReceiverMakes Load n b a → Grows b.log a.log (worded Load n ∷ []) → Came Looked n a
+  loaded {b} n rests made grows = came Looked (rests_look rests.is_one) (lands b Load n rests.stands.phase made grows)
+
+  module _ {n : ℕ} {s : State T W} (found : Came Looked n s) where
+    pub loaded_full : n ≡ 4 → Stands (full at_once) s
+    loaded_full e = subst (λ at. Stands at s) (at_message (subst (λ n. Looked n found.at) e found.is_so)) found.stands
+
+    pub loaded_open : n ≡ 3 → Stands (here looked) s
+    loaded_open e = subst (λ at. Stands at s) (at_empty (subst (λ n. Looked n found.at) e found.is_so)) found.stands
+
+    pub loaded_none : ¬ (n ≡ 4) → ¬ (n ≡ 3) → (n ≡ 2) × (c : Closing) × Stands (over c) s
+    loaded_none a b = let is = at_closed found.is_so a b in (is.0, is.1, subst (λ at. Stands at s) is.2 found.stands)
+
+  pub never : {X : Type 0} {n : ℕ} {at : ReceiverAt} {m m' : Held T} {w w' : Held W} (word : ℕ) → (word == 2) ≡ false → n ≡ word → IsClosed at → ReceiverFinds at Load n m w m' w' → X
+  never word other e is_closed made =
+      let closed : word ≡ 2 = sym e ∙ (found_so (is_same_op Load) (λ n next after. n ≡ 2) refl (closed_loads is_closed) made).is_so in
+      let same : (word == 2) ≡ true = eq-eqb word 2 closed in
+      absurd (cc)
+
+  -- `try_recv`: it closes over the message
+  pub closed : {b a : State T W} (n : ℕ) → Stands (full at_once) b → ReceiverMakes (Store 2) n b a → Grows b.log a.log (worded (Store 2) n ∷ []) → StandsWith receiver_of (over closed_itself) (filled, empty) a
+  closed {b} n is made grows = (lone (lands b (Store 2) n is.phase made grows)).stands
+
+  pub rests_over : {c : Closing} {s : State T W} → Stands (over c) s → AtRest s
+  rests_over {c} stands = record { at = over c; is_one = rests_closed c; stands = stands }
+
+  pub took_leaves : {s : State T W} (x : T) → Stands (over closed_itself) s → Leaves (Ok x) (receiver_of s.log)
+  took_leaves x is = subst (λ at. Leaves (Ok x) at) (sym is.phase) (leaves_received x)
+
+  -- or finds none
+  pub rests_here : {s : State T W} → Stands (here looked) s → AtRest s
+  rests_here here_looked = record { at = here looked; is_one = rests_open looked; stands = here_looked }
+
+  pub open_leaves : {s : State T W} → Stands (here looked) s → Leaves {T = T} (Err E.Empty) (receiver_of s.log)
+  open_leaves here_looked = subst (λ at. Leaves {T = T} (Err E.Empty) at) (sym here_looked.phase) leaves_open
+
+  pub closed_leaves : {c : Closing} {s : State T W} → Stands (over c) s → Leaves {T = T} (Err E.Disconnected) (receiver_of s.log)
+  closed_leaves {c} is = subst (λ at. Leaves {T = T} (Err E.Disconnected) at) (sym is.phase) (leaves_closed c)
+
+  -- its runs
+  pub took_ran : {l k j z : Log T W} (n r : ℕ) (x : T) → n ≡ 4 → Grows l k (worded Load n ∷ []) → Grows k j (worded (Store 2) r ∷ []) → Grows j z (took x ∷ []) → ReceiverRan TryRecv l z R.Message [] (x ∷ [])
+  took_ran n r x e s t u =
+      record {
+        run = worded Load n ∷ worded (Store 2) r ∷ took x ∷ [];
+        is_run = more (Look Close) _ _ refl (rw e) (more (Look Take) _ _ refl refl (last _ refl refl));
+        grows = and_then (worded Load n ∷ []) _ s (and_then (worded (Store 2) r ∷ []) _ t u);
+        gives = refl;
+        gets = refl;
+      }
+
+  pub empty_ran : {l k : Log T W} (n : ℕ) → n ≡ 3 → Grows l k (worded Load n ∷ []) → ReceiverRan TryRecv l k R.Empty [] []
+  empty_ran n e s = record { run = worded Load n ∷ []; is_run = last _ refl (rw e); grows = s; gives = refl; gets = refl }
+
+  pub gone_ran : {l k : Log T W} (n : ℕ) → n ≡ 2 → Grows l k (worded Load n ∷ []) → ReceiverRan TryRecv l k R.Disconnected [] []
+  gone_ran n e s = record { run = worded Load n ∷ []; is_run = last _ refl (rw e); grows = s; gives = refl; gets = refl }
