@@ -6,8 +6,8 @@ use Rattle.oneshot_machine.specs.Phases.{SenderAt, sender_moves, sender_at, Rece
 use Rattle.oneshot_machine.specs.Slots.{Held, away, vacant, IsSlot, is_away, May, may, Finds, Owns, owns, own_vacant, SenderMay}
 use Rattle.oneshot_machine.specs.Words.{Noted}
 use Rattle.oneshot_drive.specs.BetweenCalls.{IsLate, is_late}
-use Rattle.oneshot_drive.specs.Grounds.{SenderAsks}
-use Rattle.oneshot_word.specs.Side.{Side}
+use Rattle.oneshot_drive.specs.Grounds.{SenderAsks, ReceiverAsks}
+use Rattle.oneshot_word.specs.Side.{Side, SenderCan, ReceiverCan}
 use Rattle.oneshot_ends.specs.Grounds.{MayBeFreed, unless_freed, left_of, events_of, state_of}
 use Rattle.oneshot_ends.proofs.EndRows.{is_own, Need, sender_needs, receiver_needs}
 use Rattle.oneshot_ends.proofs.GrewByRuns.{words_of}
@@ -42,10 +42,10 @@ module _ {At : Type 0} (moves : At → List (Row At)) (at : List Noted → At) {
       (subst (λ xs. Finds moves (at xs) op word s.message s.waker next.message next.waker) (sym (words_of T W s.steps)) makes)))
 
 module _ {T W : Type 0} where
-  pub sender_can : (freed : Bool) (s : Side T W) {now : Side T W} {op asked : Op} → left_of freed s ≡ now → asked ≡ op → May sender_moves (sender_at (words (events_of {T = T} {W = W} now.steps))) asked now.message now.waker → (freed ≡ false) × May sender_moves (sender_at s.steps) op s.message s.waker
+  pub sender_can : (freed : Bool) (s : Side T W) {now : Side T W} {op asked : Op} → left_of freed s ≡ now → asked ≡ op → SenderAsks asked (state_of now) → (freed ≡ false) × SenderCan s op
   sender_can freed s = can sender_moves sender_at freed s (λ is. sender_needs (sender_at s.steps))
 
-  pub receiver_can : (freed : Bool) (s : Side T W) {now : Side T W} {op asked : Op} → MayBeFreed freed (receiver_at s.steps) → left_of freed s ≡ now → asked ≡ op → May receiver_moves (receiver_at (words (events_of {T = T} {W = W} now.steps))) asked now.message now.waker → (freed ≡ false) × May receiver_moves (receiver_at s.steps) op s.message s.waker
+  pub receiver_can : (freed : Bool) (s : Side T W) {now : Side T W} {op asked : Op} → MayBeFreed freed (receiver_at s.steps) → left_of freed s ≡ now → asked ≡ op → ReceiverAsks asked (state_of now) → (freed ≡ false) × ReceiverCan s op
   receiver_can freed s stands = can receiver_moves receiver_at freed s (λ is. receiver_needs (receiver_at s.steps) (subst (λ f. MayBeFreed f (receiver_at s.steps)) is stands))
 
   -- a sender that came late makes none

@@ -14,8 +14,8 @@ use std::time::Clock;
 
 /// The ground of a receiver, lent for one call, with what it parks by.
 #[derive(Drop)]
-pub(crate) struct Blocking<'s, 'p, 'r, T, Rt> {
-    ground: &'s mut ReceiverOnWord<T, Unparker, Waker>,
+pub(crate) struct Blocking<'g, 'p, 'r, T, Rt> {
+    ground: &'g mut ReceiverOnWord<T, Unparker, Waker>,
     parker: &'p Parker,
     rt: &'r Rt,
     deadline: Deadline,
@@ -23,15 +23,15 @@ pub(crate) struct Blocking<'s, 'p, 'r, T, Rt> {
     told: Option<bool>,
 }
 
-impl<'s, 'p, 'r, T, Rt> Blocking<'s, 'p, 'r, T, Rt> {
+impl<'g, 'p, 'r, T, Rt> Blocking<'g, 'p, 'r, T, Rt> {
     /// Lends the ground, with this deadline, and what a first read of the clock told of it.
     pub(crate) fn lend(
-        ground: &'s mut ReceiverOnWord<T, Unparker, Waker>,
+        ground: &'g mut ReceiverOnWord<T, Unparker, Waker>,
         parker: &'p Parker,
         rt: &'r Rt,
         deadline: Deadline,
         told: Option<bool>,
-    ) -> Blocking<'s, 'p, 'r, T, Rt>
+    ) -> Blocking<'g, 'p, 'r, T, Rt>
         ensures { result.ground ≡ ground.entry }
     {
         Blocking {
@@ -44,7 +44,7 @@ impl<'s, 'p, 'r, T, Rt> Blocking<'s, 'p, 'r, T, Rt> {
     }
 }
 
-impl<'s, 'p, 'r, T: Drop, Rt> ReceiverGround<T, Rouse> for Blocking<'s, 'p, 'r, T, Rt> {
+impl<'g, 'p, 'r, T: Drop, Rt> ReceiverGround<T, Rouse> for Blocking<'g, 'p, 'r, T, Rt> {
     ghost use Rattle.oneshot_ends.specs.Grounds.{lent};
 
     // The place names the ground that was lent too, so that a caller knows it again.
@@ -82,7 +82,7 @@ impl<'s, 'p, 'r, T: Drop, Rt> ReceiverGround<T, Rouse> for Blocking<'s, 'p, 'r, 
     }
 }
 
-impl<'s, 'p, 'r, T: Drop, Rt: Wait + Clock> BlockGround<T, Rouse> for Blocking<'s, 'p, 'r, T, Rt> {
+impl<'g, 'p, 'r, T: Drop, Rt: Wait + Clock> BlockGround<T, Rouse> for Blocking<'g, 'p, 'r, T, Rt> {
     fn park(&mut self, timed: bool) {
         if !timed {
             return self.parker.park(self.rt);

@@ -89,7 +89,7 @@ impl<T: Drop> SenderGround<T, Rouse<Unparker, Waker>> for SenderOnWord<T, Unpark
     }
 
     fn wake(&mut self, waker: Rouse<Unparker, Waker>) {
-        // A body that reads nothing of itself tells its proof nothing of itself.
+        // Mentions `self`, so that the prover may use its invariant here.
         let _side = &self.side;
         wake(waker);
     }
@@ -144,7 +144,7 @@ impl<T: Drop> SenderGround<T, Rouse<Unparker, Waker>> for ErrorOffWord<T, Unpark
 
     // No operation on the word follows a refused `send`.
     fn word(&mut self, _: Op) -> u8 {
-        // A body that reads nothing of itself tells its proof nothing of itself.
+        // Mentions `self`, so that the prover may use its invariant here.
         let _side = &self.side;
         unreachable!()
     }
@@ -163,13 +163,13 @@ impl<T: Drop> SenderGround<T, Rouse<Unparker, Waker>> for ErrorOffWord<T, Unpark
 
     // No receiver waits for a sender that found it gone.
     fn take_waker(&mut self) -> Rouse<Unparker, Waker> {
-        // A body that reads nothing of itself tells its proof nothing of itself.
+        // Mentions `self`, so that the prover may use its invariant here.
         let _side = &self.side;
         unreachable!()
     }
 
     fn wake(&mut self, waker: Rouse<Unparker, Waker>) {
-        // A body that reads nothing of itself tells its proof nothing of itself.
+        // Mentions `self`, so that the prover may use its invariant here.
         let _side = &self.side;
         wake(waker);
     }

@@ -25,16 +25,16 @@ pub(crate) struct Copies {
 
 // A waker wakes its task when it is dropped. So the drivers have a token for each copy, and a copy whose
 // token they drop stays here as a spare, so that no task is polled more often than it asked.
-/// The ground of a receiver, lent for one poll, with the poll's task.
+/// The ground of a receiver, lent for one poll, with the poll'g task.
 #[derive(Drop)]
-pub(crate) struct Polling<'s, 'c, 'x, 'o, 'k, T> {
-    pub(crate) ground: &'s mut ReceiverOnWord<T, Unparker, Waker>,
+pub(crate) struct Polling<'g, 'c, 'x, 'o, 'k, T> {
+    pub(crate) ground: &'g mut ReceiverOnWord<T, Unparker, Waker>,
     pub(crate) cx: &'c mut Context<'x>,
     pub(crate) source: &'o Source,
     pub(crate) copies: &'k mut Copies,
 }
 
-impl<'s, 'c, 'x, 'o, 'k, T: Drop> ReceiverGround<T, Copied> for Polling<'s, 'c, 'x, 'o, 'k, T> {
+impl<'g, 'c, 'x, 'o, 'k, T: Drop> ReceiverGround<T, Copied> for Polling<'g, 'c, 'x, 'o, 'k, T> {
     ghost use Rattle.oneshot_ends.specs.Polling.{polled_state};
     ghost use Rattle.std.proofs.Common.{◌∙◌};
 
@@ -76,7 +76,7 @@ impl<'s, 'c, 'x, 'o, 'k, T: Drop> ReceiverGround<T, Copied> for Polling<'s, 'c, 
     }
 }
 
-impl<'s, 'c, 'x, 'o, 'k, T: Drop> TaskGround<T, Copied> for Polling<'s, 'c, 'x, 'o, 'k, T> {
+impl<'g, 'c, 'x, 'o, 'k, T: Drop> TaskGround<T, Copied> for Polling<'g, 'c, 'x, 'o, 'k, T> {
     ghost use Rattle.std.proofs.Common.{subst};
 
     ghost heard = { λ b. IsArmed b.cx.now × Hears b.cx.now b.source.now.id };
