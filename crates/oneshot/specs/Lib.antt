@@ -1,8 +1,8 @@
 -- what the contracts of the ends name
 pub use Rattle.oneshot_ends.specs.Deadlines
 pub use Rattle.oneshot_ends.specs.Ends
-pub use Rattle.oneshot_ends.specs.Sides
-pub use Rattle.oneshot_ends.specs.Tasks
+pub use Rattle.oneshot_ends.specs.Grounds as EndGrounds
+pub use Rattle.oneshot_ends.specs.Polling
 pub use Rattle.oneshot_errors.specs.declared.recv.RecvError
 pub use Rattle.oneshot_errors.specs.declared.recv_timeout.RecvTimeoutError
 pub use Rattle.oneshot_errors.specs.declared.try_recv.TryRecvError

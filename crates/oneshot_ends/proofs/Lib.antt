@@ -1,4 +1,8 @@
-pub mod Standing
-pub mod Lent
-mod Tokens
-mod Polled
+mod GrewByRuns
+mod EndRows
+mod GroundSlots
+mod NewEnds
+mod LentGrounds
+mod TimeoutEnds
+mod PollingTokens
+mod PolledEnds

@@ -1,4 +1,4 @@
--- What a contract sees of an end: the table that it shares, and the list of its operations on the word.
+-- What a contract sees of an end: the channel that it belongs to, and the log of its operations on the word.
 use Rattle.std.specs.Prelude.{◌≡◌, ◌↔◌, ℕ, Bool, List, ◌++◌, Option, IfSome, IsTrue}
 use Rattle.std.specs.Time.{instant_nanos, FitsClock}
 use Rattle.std.specs.declared.time.Duration.{Duration}
@@ -14,7 +14,7 @@ use Rattle.oneshot_machine.specs.Receiver.{receiver_start, receiver_step, receiv
 use Rattle.oneshot_machine.specs.Runs.{Run}
 use Rattle.oneshot_machine.specs.Sender.{sender_start, sender_step, sender_row}
 use Rattle.oneshot_machine.specs.Noted.{Noted}
-use Rattle.oneshot_drive.specs.Calls.{IsClosed as Closed, IsOpen as Open}
+use Rattle.oneshot_drive.specs.BetweenCalls.{IsClosed as Closed, IsOpen as Open}
 use Rattle.oneshot_ends.specs.Deadlines.{HasEnd}
 
 -- a waker of a run: which one it is, no contract says
@@ -22,22 +22,22 @@ abbrev pub Waking : Type 0
 Waking = Unit {0}
 
 pub record End : Type 0 where
-  pub table : TableId
+  pub channel : TableId
   pub steps : List Noted
 
 -- the same of a future, with the source at which its polls register
 pub record FutureEnd : Type 0 where
-  pub table : TableId
+  pub channel : TableId
   pub steps : List Noted
   pub source : ℕ
 
 -- the same of an error, with the message that was refused
 pub record Failed (T : Type 0) : Type 0 where
   pub message : T
-  pub table : TableId
+  pub channel : TableId
   pub steps : List Noted
 
--- the list grew by the operations of one run of this call, which answers this reply
+-- the log grew by the operations of one run of this call, which answers this reply
 pub record SenderGrew (T : Type 0) (call : SenderCall) (before after : List Noted) (reply : Reply) : Type 0 where
   pub run : List (Event T Waking)
   pub is_run : Run sender_step sender_row (sender_start call) run reply

@@ -1,4 +1,4 @@
-pub mod Sides
+pub mod Grounds
+pub mod Polling
 pub mod Ends
 pub mod Deadlines
-pub mod Tasks

@@ -1,9 +1,9 @@
 //! What a receiver does to the world in a call that blocks: its ground, with its parker beside it.
 
-ghost use Rattle.std.specs.Prelude.{⊤};
+ghost use Rattle.std.specs.Prelude.{◌≡◌, ⊤};
 
 use crate::deadline::{Deadline, read};
-use crate::ground::ReceiverSeat;
+use crate::ground::ReceiverOnWord;
 use crate::rouse::Rouse;
 use crossbeam_utils::sync::{Parker, Unparker};
 use futures::task::Waker;
@@ -14,24 +14,41 @@ use std::time::Clock;
 
 /// The ground of a receiver, lent for one call, with what it parks by.
 #[derive(Drop)]
-pub(crate) struct BlockSeat<'s, 'p, 'r, T, Rt> {
-    pub(crate) seat: &'s mut ReceiverSeat<T, Unparker, Waker>,
-    pub(crate) parker: &'p Parker,
-    pub(crate) rt: &'r Rt,
-    pub(crate) deadline: Deadline,
-    /// What the first read of the clock tells, where the call made it before it lent its seat.
-    pub(crate) told: Option<bool>,
+pub(crate) struct Blocking<'g, 'p, 'r, T, Rt> {
+    ground: &'g mut ReceiverOnWord<T, Unparker, Waker>,
+    parker: &'p Parker,
+    rt: &'r Rt,
+    deadline: Deadline,
+    /// What the first read of the clock tells, where the call made it before it lent its ground.
+    told: Option<bool>,
 }
 
-impl<'s, 'p, 'r, T: Drop, Rt> ReceiverGround<T, Rouse> for BlockSeat<'s, 'p, 'r, T, Rt> {
-    ghost use Rattle.oneshot_ends.specs.Sides.{lent};
+impl<'g, 'p, 'r, T, Rt> Blocking<'g, 'p, 'r, T, Rt> {
+    /// Lends the ground, with this deadline, and what a first read of the clock told of it.
+    pub(crate) fn lend(
+        ground: &'g mut ReceiverOnWord<T, Unparker, Waker>,
+        parker: &'p Parker,
+        rt: &'r Rt,
+        deadline: Deadline,
+        told: Option<bool>,
+    ) -> Blocking<'g, 'p, 'r, T, Rt>
+        ensures { result.ground ≡ ground.entry }
+    {
+        Blocking {
+            ground,
+            parker,
+            rt,
+            deadline,
+            told,
+        }
+    }
+}
 
-    // The place names the seat that was lent too, so that a caller knows it again.
-    ghost log = { λ b. lent b.seat.ghost_name b.seat.now };
+impl<'g, 'p, 'r, T: Drop, Rt> ReceiverGround<T, Rouse> for Blocking<'g, 'p, 'r, T, Rt> {
+    ghost use Rattle.oneshot_ends.specs.Grounds.{lent};
 
-    ghost message_slot = { λ b. b.seat.now.message };
-
-    ghost waker_slot = { λ b. b.seat.now.waker };
+    // The place names the ground that was lent too, so that a caller knows it again.
+    ghost state = { λ b. lent b.ground.ghost_name b.ground.now };
 
     // It has nothing beside the channel.
     ghost keeps = { λ _ _. ⊤ };
@@ -41,31 +58,31 @@ impl<'s, 'p, 'r, T: Drop, Rt> ReceiverGround<T, Rouse> for BlockSeat<'s, 'p, 'r,
     ghost keeps_on = { λ _ _ _ _ _. tt };
 
     fn word(&mut self, op: Op) -> u8 {
-        self.seat.word(op)
+        self.ground.word(op)
     }
 
     fn take_message(&mut self) -> T {
-        self.seat.take_message()
+        self.ground.take_message()
     }
 
     fn drop_message(&mut self) {
-        self.seat.drop_message();
+        self.ground.drop_message();
     }
 
     fn write_waker(&mut self, waker: Rouse) {
-        self.seat.write_waker(waker);
+        self.ground.write_waker(waker);
     }
 
     fn withdraw(&mut self) -> Rouse {
-        self.seat.withdraw()
+        self.ground.withdraw()
     }
 
     fn free(&mut self) {
-        self.seat.free();
+        self.ground.free();
     }
 }
 
-impl<'s, 'p, 'r, T: Drop, Rt: Wait + Clock> BlockGround<T, Rouse> for BlockSeat<'s, 'p, 'r, T, Rt> {
+impl<'g, 'p, 'r, T: Drop, Rt: Wait + Clock> BlockGround<T, Rouse> for Blocking<'g, 'p, 'r, T, Rt> {
     fn park(&mut self, timed: bool) {
         if !timed {
             return self.parker.park(self.rt);

@@ -2,9 +2,9 @@
 
 ghost use Rattle.std.specs.Prelude.{◌≡◌};
 ghost use Rattle.oneshot_machine.specs.Phases.{sender_at};
-ghost use Rattle.oneshot_drive.specs.Calls.{IsLate};
+ghost use Rattle.oneshot_drive.specs.BetweenCalls.{IsLate};
 
-use crate::ground::ErrorSeat;
+use crate::ground::ErrorOffWord;
 use crossbeam_utils::sync::Unparker;
 use futures::task::Waker;
 use oneshot_drive::{drop_error, into_inner};
@@ -19,7 +19,7 @@ use std::marker::Model;
 /// The error owns the message, and the channel's memory in the sender's place. Dropping it drops both;
 /// `into_inner` gives the message back and gives up the memory.
 ///
-/// A contract sees the message, the table, and the sender's log of operations on the word.
+/// A contract sees the message, the channel, and the sender's log of operations on the word.
 pub struct SendError<T> {
     message: T,
     side: SenderSide<T, Unparker, Waker>,
@@ -27,12 +27,12 @@ pub struct SendError<T> {
 
 impl<T> Model for SendError<T> {
     ghost use Rattle.oneshot_machine.specs.Phases.{sender_at};
-    ghost use Rattle.oneshot_drive.specs.Calls.{IsLate};
+    ghost use Rattle.oneshot_drive.specs.BetweenCalls.{IsLate};
     ghost use Rattle.oneshot_ends.specs.Ends.{Failed};
 
     ghost Value = { Failed T };
 
-    ghost view = { λ e. record { message = e.message; table = e.side.table; steps = e.side.steps } };
+    ghost view = { λ e. record { message = e.message; channel = e.side.table; steps = e.side.steps } };
 
     ghost invariant = { λ e. IsLate (sender_at e.side.steps) };
 }
@@ -40,7 +40,7 @@ impl<T> Model for SendError<T> {
 impl<T> SendError<T> {
     pub(crate) fn new(message: T, side: SenderSide<T, Unparker, Waker>) -> SendError<T>
         requires { IsLate (sender_at side.steps) }
-        ensures { result ≡ record { message = message; table = side.table; steps = side.steps } }
+        ensures { result ≡ record { message = message; channel = side.table; steps = side.steps } }
     {
         SendError { message, side }
     }
@@ -59,14 +59,14 @@ impl<T: Drop> SendError<T> {
         ensures { result ≡ self.message }
     {
         let SendError { message, side } = self;
-        into_inner(&mut ErrorSeat::new(message, side))
+        into_inner(&mut ErrorOffWord::new(message, side))
     }
 }
 
 impl<T: Drop> Drop for SendError<T> {
     fn drop(self) {
         let SendError { message, side } = self;
-        drop_error(&mut ErrorSeat::new(message, side));
+        drop_error(&mut ErrorOffWord::new(message, side));
     }
 }
 

@@ -6,15 +6,14 @@ ghost use Rattle.futures.specs.declared.task.Poll.TheVariants.{Pending};
 ghost use Rattle.futures.specs.Poll.{IfReady, OnPending};
 ghost use Rattle.futures.specs.Task.{Covers, Keeps};
 ghost use Rattle.oneshot_machine.specs.declared.machine.receiver.ReceiverStart.TheVariants as C;
-ghost use Rattle.oneshot_machine.specs.Logs.{receiver_of};
 ghost use Rattle.oneshot_machine.specs.Phases.{receiver_at};
-ghost use Rattle.oneshot_drive.specs.Calls.{AtRest};
+ghost use Rattle.oneshot_drive.specs.BetweenCalls.{AtRest};
 ghost use Rattle.oneshot_drive.specs.Polls.{LeavesPolled, IsDisconnected, poll_reply};
 ghost use Rattle.oneshot_ends.specs.Ends.{ReceiverGrew, IsDone, IsPending};
-ghost use Rattle.oneshot_ends.specs.Sides.{logged};
+ghost use Rattle.oneshot_ends.specs.Grounds.{state_of};
 
-use crate::ground::ReceiverSeat;
-use crate::task::{Copies, TaskSeat};
+use crate::ground::ReceiverOnWord;
+use crate::polling::{Copies, Polling};
 use crossbeam_utils::sync::Unparker;
 use futures::Future;
 use futures::task::{Context, Poll, Source, Waker};
@@ -27,12 +26,12 @@ use std::sync::Wait;
 /// Receives one message from its sender, as a future: `Ok` with the message, or `Err` where the sender
 /// was dropped without a message or the message was received before.
 ///
-/// A contract sees the table that it shares with the sender, the list of its operations on the word,
-/// from which it reads whether the future is done, and the source at which its polls register.
+/// A contract sees the channel that it belongs to, the log of its operations on the word, from which it
+/// reads whether the future is done, and the source at which its polls register.
 ///
 /// Where `T` and `Rt` are `Send` it may go to another thread between two polls.
 pub struct AsyncReceiver<T, Rt: Wait> {
-    seat: ReceiverSeat<T, Unparker, Waker>,
+    ground: ReceiverOnWord<T, Unparker, Waker>,
     source: Source,
     // Copies of wakers that are not in the channel.
     copies: Copies,
@@ -40,30 +39,29 @@ pub struct AsyncReceiver<T, Rt: Wait> {
 }
 
 impl<T, Rt: Wait> Model for AsyncReceiver<T, Rt> {
-    ghost use Rattle.oneshot_machine.specs.Logs.{receiver_of};
     ghost use Rattle.oneshot_drive.specs.Polls.{IsPolled};
     ghost use Rattle.oneshot_ends.specs.Ends.{FutureEnd};
-    ghost use Rattle.oneshot_ends.specs.Sides.{logged};
+    ghost use Rattle.oneshot_ends.specs.Grounds.{state_of};
 
     ghost Value = { FutureEnd };
 
-    ghost view = { λ r. record { table = r.seat.table; steps = r.seat.steps; source = r.source.id } };
+    ghost view = { λ r. record { channel = r.ground.table; steps = r.ground.steps; source = r.source.id } };
 
-    ghost invariant = { λ r. IsPolled (receiver_of (logged r.seat)) r.seat.message r.seat.waker };
+    ghost invariant = { λ r. IsPolled (state_of r.ground) };
 }
 
 impl<T, Rt: Wait> AsyncReceiver<T, Rt> {
     pub(crate) fn new(
-        seat: ReceiverSeat<T, Unparker, Waker>,
+        ground: ReceiverOnWord<T, Unparker, Waker>,
         source: Source,
         rt: Rt,
     ) -> AsyncReceiver<T, Rt>
-        requires { AtRest (receiver_of (logged seat)) seat.message seat.waker }
-        ensures table { result.table ≡ seat.table }
-        ensures steps { result.steps ≡ seat.steps }
+        requires { AtRest (state_of ground) }
+        ensures channel { result.channel ≡ ground.table }
+        ensures steps { result.steps ≡ ground.steps }
     {
         AsyncReceiver {
-            seat,
+            ground,
             source,
             copies: Copies::new(),
             rt,
@@ -74,12 +72,12 @@ impl<T, Rt: Wait> AsyncReceiver<T, Rt> {
 impl<T, Rt: Wait> AsyncReceiver<T, Rt> {
     /// Whether the sender is gone without a message, or the message was received, by one load.
     pub fn is_closed(&self) -> bool {
-        self.seat.peek() == DISCONNECTED
+        self.ground.peek() == DISCONNECTED
     }
 
     /// Whether the message is there, by one load; the next poll gives it then.
     pub fn has_message(&self) -> bool {
-        self.seat.peek() == MESSAGE
+        self.ground.peek() == MESSAGE
     }
 }
 
@@ -101,7 +99,7 @@ impl<T: Drop, Rt: Wait + Drop> Future for AsyncReceiver<T, Rt> {
         ensures same { OnPending result (Result T RecvError → ⊤ → ⊤) }
         ensures registered { OnPending result (Covers cx.new (λ s. s ≡ self.new.source)) }
         ensures kept { Keeps cx.old cx.new }
-        ensures table { self.new.table ≡ self.old.table }
+        ensures channel { self.new.channel ≡ self.old.channel }
         ensures source { self.new.source ≡ self.old.source }
         ensures run { ReceiverGrew T C.Poll self.old.steps self.new.steps (poll_reply result) }
         ensures leaves { LeavesPolled result (receiver_at self.new.steps) }
@@ -109,8 +107,8 @@ impl<T: Drop, Rt: Wait + Drop> Future for AsyncReceiver<T, Rt> {
         ensures stays_open { result ≡ Pending → IsPending self.new }
         ensures stays_closed { IsDone self.old → IsDisconnected result }
     {
-        let mut lent = TaskSeat {
-            seat: &mut self.seat,
+        let mut lent = Polling {
+            ground: &mut self.ground,
             cx: &mut *cx,
             source: &self.source,
             copies: &mut self.copies,
@@ -122,11 +120,11 @@ impl<T: Drop, Rt: Wait + Drop> Future for AsyncReceiver<T, Rt> {
 impl<T: Drop, Rt: Wait + Drop> Drop for AsyncReceiver<T, Rt> {
     fn drop(self) {
         let AsyncReceiver {
-            mut seat,
+            mut ground,
             source: _,
             copies: _,
             rt,
         } = self;
-        drop_async(&mut seat, &rt);
+        drop_async(&mut ground, &rt);
     }
 }

@@ -1,11 +1,11 @@
-//! What a real end does to the world: its ground over the shared word.
+//! What a real end does to the world: its ground on the shared word, and that of an error off it.
 
 ghost use Rattle.std.specs.Prelude.{◌≡◌, false, true, ⊤};
 ghost use Rattle.oneshot_machine.specs.Slots.{held};
 ghost use Rattle.oneshot_machine.specs.Phases.{sender_at};
-ghost use Rattle.oneshot_drive.specs.Calls.{IsError, IsLate};
-ghost use Rattle.oneshot_word.specs.Sides.{Side};
-ghost use Rattle.oneshot_ends.specs.Sides.{left_of};
+ghost use Rattle.oneshot_drive.specs.BetweenCalls.{IsError, IsLate};
+ghost use Rattle.oneshot_word.specs.Side.{Side};
+ghost use Rattle.oneshot_ends.specs.Grounds.{left_of, state_of};
 
 use crate::freed::Freed;
 use crate::rouse::wake;
@@ -18,33 +18,33 @@ use std::marker::Model;
 
 /// The sender's ground.
 #[derive(Drop)]
-pub(crate) struct SenderSeat<T, H, K> {
+pub(crate) struct SenderOnWord<T, H, K> {
     side: SenderSide<T, H, K>,
     // The block goes with the last of both shares, so that nothing is left to do; only proofs read this.
     freed: Freed,
 }
 
-impl<T, H, K> Model for SenderSeat<T, H, K> {
-    ghost use Rattle.oneshot_word.specs.Sides.{Side};
+impl<T, H, K> Model for SenderOnWord<T, H, K> {
+    ghost use Rattle.oneshot_word.specs.Side.{Side};
     ghost use Rattle.oneshot_word.specs.declared.rouse.Rouse.{Rouse};
-    ghost use Rattle.oneshot_ends.specs.Sides.{left_of};
+    ghost use Rattle.oneshot_ends.specs.Grounds.{left_of};
 
     ghost Value = { Side T (Rouse H K) };
 
     ghost view = { λ s. left_of s.freed.value s.side };
 }
 
-impl<T, H, K> SenderSeat<T, H, K> {
+impl<T, H, K> SenderOnWord<T, H, K> {
     /// The ground of a sender that has freed nothing.
-    pub(crate) fn new(side: SenderSide<T, H, K>) -> SenderSeat<T, H, K>
+    pub(crate) fn new(side: SenderSide<T, H, K>) -> SenderOnWord<T, H, K>
         ensures { result ≡ side }
     {
         let freed = Freed::of(false);
-        SenderSeat { side, freed }
+        SenderOnWord { side, freed }
     }
 }
 
-impl<T: Drop, H: Drop, K: Drop> SenderSeat<T, H, K> {
+impl<T: Drop, H: Drop, K: Drop> SenderOnWord<T, H, K> {
     /// Takes the message out of its slot, with the side that it lay in.
     pub(crate) fn into_refused(self) -> (T, SenderSide<T, H, K>)
         requires { (x : T) × (self.message ≡ held x) }
@@ -52,20 +52,16 @@ impl<T: Drop, H: Drop, K: Drop> SenderSeat<T, H, K> {
         ensures table { result.1.table ≡ self.table }
         ensures steps { result.1.steps ≡ self.steps }
     {
-        let SenderSeat { mut side, freed: _ } = self;
+        let SenderOnWord { mut side, freed: _ } = self;
         let message = side.take_message();
         (message, side)
     }
 }
 
-impl<T: Drop> SenderGround<T, Rouse<Unparker, Waker>> for SenderSeat<T, Unparker, Waker> {
-    ghost use Rattle.oneshot_ends.specs.Sides.{logged};
+impl<T: Drop> SenderGround<T, Rouse<Unparker, Waker>> for SenderOnWord<T, Unparker, Waker> {
+    ghost use Rattle.oneshot_ends.specs.Grounds.{state_of};
 
-    ghost log = { logged };
-
-    ghost message_slot = { λ s. s.message };
-
-    ghost waker_slot = { λ s. s.waker };
+    ghost state = { state_of };
 
     fn word(&mut self, op: Op) -> u8 {
         match op {
@@ -93,7 +89,7 @@ impl<T: Drop> SenderGround<T, Rouse<Unparker, Waker>> for SenderSeat<T, Unparker
     }
 
     fn wake(&mut self, waker: Rouse<Unparker, Waker>) {
-        // A body that reads nothing of itself tells its proof nothing of itself.
+        // Mentions `self`, so that the prover may use its invariant here.
         let _side = &self.side;
         wake(waker);
     }
@@ -105,19 +101,19 @@ impl<T: Drop> SenderGround<T, Rouse<Unparker, Waker>> for SenderSeat<T, Unparker
 
 /// The ground of an error, which has the refused message in its own hands.
 #[derive(Drop)]
-pub(crate) struct ErrorSeat<T, H, K> {
+pub(crate) struct ErrorOffWord<T, H, K> {
     message: Option<T>,
     side: SenderSide<T, H, K>,
     freed: Freed,
 }
 
-impl<T, H, K> Model for ErrorSeat<T, H, K> {
+impl<T, H, K> Model for ErrorOffWord<T, H, K> {
     ghost use Rattle.oneshot_machine.specs.Phases.{sender_at};
     ghost use Rattle.oneshot_machine.specs.Slots.{vacant};
-    ghost use Rattle.oneshot_drive.specs.Calls.{IsLate};
-    ghost use Rattle.oneshot_word.specs.Sides.{Side};
+    ghost use Rattle.oneshot_drive.specs.BetweenCalls.{IsLate};
+    ghost use Rattle.oneshot_word.specs.Side.{Side};
     ghost use Rattle.oneshot_word.specs.declared.rouse.Rouse.{Rouse};
-    ghost use Rattle.oneshot_ends.specs.Sides.{unless_freed, slot_of};
+    ghost use Rattle.oneshot_ends.specs.Grounds.{unless_freed, slot_of};
 
     ghost Value = { Side T (Rouse H K) };
 
@@ -126,14 +122,14 @@ impl<T, H, K> Model for ErrorSeat<T, H, K> {
     ghost invariant = { λ e. IsLate (sender_at e.side.steps) };
 }
 
-impl<T, H, K> ErrorSeat<T, H, K> {
+impl<T, H, K> ErrorOffWord<T, H, K> {
     /// The ground of an error that has freed nothing.
-    pub(crate) fn new(message: T, side: SenderSide<T, H, K>) -> ErrorSeat<T, H, K>
+    pub(crate) fn new(message: T, side: SenderSide<T, H, K>) -> ErrorOffWord<T, H, K>
         requires { IsLate (sender_at side.steps) }
-        ensures { IsError (held message) result.message result.waker }
+        ensures { IsError (held message) (state_of result) }
     {
         let freed = Freed::of(false);
-        ErrorSeat {
+        ErrorOffWord {
             message: Some(message),
             side,
             freed,
@@ -141,18 +137,14 @@ impl<T, H, K> ErrorSeat<T, H, K> {
     }
 }
 
-impl<T: Drop> SenderGround<T, Rouse<Unparker, Waker>> for ErrorSeat<T, Unparker, Waker> {
-    ghost use Rattle.oneshot_ends.specs.Sides.{logged};
+impl<T: Drop> SenderGround<T, Rouse<Unparker, Waker>> for ErrorOffWord<T, Unparker, Waker> {
+    ghost use Rattle.oneshot_ends.specs.Grounds.{state_of};
 
-    ghost log = { logged };
-
-    ghost message_slot = { λ e. e.message };
-
-    ghost waker_slot = { λ e. e.waker };
+    ghost state = { state_of };
 
     // No operation on the word follows a refused `send`.
     fn word(&mut self, _: Op) -> u8 {
-        // A body that reads nothing of itself tells its proof nothing of itself.
+        // Mentions `self`, so that the prover may use its invariant here.
         let _side = &self.side;
         unreachable!()
     }
@@ -171,13 +163,13 @@ impl<T: Drop> SenderGround<T, Rouse<Unparker, Waker>> for ErrorSeat<T, Unparker,
 
     // No receiver waits for a sender that found it gone.
     fn take_waker(&mut self) -> Rouse<Unparker, Waker> {
-        // A body that reads nothing of itself tells its proof nothing of itself.
+        // Mentions `self`, so that the prover may use its invariant here.
         let _side = &self.side;
         unreachable!()
     }
 
     fn wake(&mut self, waker: Rouse<Unparker, Waker>) {
-        // A body that reads nothing of itself tells its proof nothing of itself.
+        // Mentions `self`, so that the prover may use its invariant here.
         let _side = &self.side;
         wake(waker);
     }
@@ -189,15 +181,15 @@ impl<T: Drop> SenderGround<T, Rouse<Unparker, Waker>> for ErrorSeat<T, Unparker,
 
 /// The receiver's ground.
 #[derive(Drop)]
-pub(crate) struct ReceiverSeat<T, H, K> {
+pub(crate) struct ReceiverOnWord<T, H, K> {
     side: ReceiverSide<T, H, K>,
     freed: Freed,
 }
 
-impl<T, H, K> Model for ReceiverSeat<T, H, K> {
-    ghost use Rattle.oneshot_word.specs.Sides.{Side};
+impl<T, H, K> Model for ReceiverOnWord<T, H, K> {
+    ghost use Rattle.oneshot_word.specs.Side.{Side};
     ghost use Rattle.oneshot_word.specs.declared.rouse.Rouse.{Rouse};
-    ghost use Rattle.oneshot_ends.specs.Sides.{left_of, MayBeFreed};
+    ghost use Rattle.oneshot_ends.specs.Grounds.{left_of, MayBeFreed};
     ghost use Rattle.oneshot_machine.specs.Phases.{receiver_at};
 
     ghost Value = { Side T (Rouse H K) };
@@ -207,31 +199,27 @@ impl<T, H, K> Model for ReceiverSeat<T, H, K> {
     ghost invariant = { λ s. MayBeFreed s.freed.value (receiver_at s.side.steps) };
 }
 
-impl<T, H, K> ReceiverSeat<T, H, K> {
+impl<T, H, K> ReceiverOnWord<T, H, K> {
     /// The ground of a receiver that has freed nothing.
-    pub(crate) fn new(side: ReceiverSide<T, H, K>) -> ReceiverSeat<T, H, K>
+    pub(crate) fn new(side: ReceiverSide<T, H, K>) -> ReceiverOnWord<T, H, K>
         ensures { result ≡ side }
     {
         let freed = Freed::of(false);
-        ReceiverSeat { side, freed }
+        ReceiverOnWord { side, freed }
     }
 }
 
-impl<T, H, K> ReceiverSeat<T, H, K> {
+impl<T, H, K> ReceiverOnWord<T, H, K> {
     /// Reads the word as a look does.
     pub(crate) fn peek(&self) -> u8 {
         self.side.peek()
     }
 }
 
-impl<T: Drop, H: Drop, K: Drop> ReceiverGround<T, Rouse<H, K>> for ReceiverSeat<T, H, K> {
-    ghost use Rattle.oneshot_ends.specs.Sides.{logged};
+impl<T: Drop, H: Drop, K: Drop> ReceiverGround<T, Rouse<H, K>> for ReceiverOnWord<T, H, K> {
+    ghost use Rattle.oneshot_ends.specs.Grounds.{state_of};
 
-    ghost log = { logged };
-
-    ghost message_slot = { λ s. s.message };
-
-    ghost waker_slot = { λ s. s.waker };
+    ghost state = { state_of };
 
     // It has nothing beside the channel.
     ghost keeps = { λ _ _. ⊤ };

@@ -8,11 +8,11 @@ mod freed;
 mod future;
 mod ground;
 mod pair;
+mod polling;
 mod raw;
 mod receiver;
 mod rouse;
 mod sender;
-mod task;
 
 pub use error::SendError;
 pub use future::AsyncReceiver;

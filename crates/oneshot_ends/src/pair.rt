@@ -22,7 +22,7 @@ pub fn channel<T: Send + Drop, Rt: Drop>(
     rt: Rt,
     alloc: Global,
 ) -> Result<(Sender<T>, Receiver<T, Rt>), AllocError>
-    ensures one_table { IfOk result (λ ends. ends.0.table ≡ ends.1.table) }
+    ensures one_channel { IfOk result (λ ends. ends.0.channel ≡ ends.1.channel) }
     ensures new_sender { IfOk result (λ ends. ends.0.steps ≡ []) }
     ensures new_receiver { IfOk result (λ ends. ends.1.steps ≡ []) }
 {
@@ -40,7 +40,7 @@ pub fn async_channel<T: Send + Drop, Rt: Wait + Drop>(
     rt: Rt,
     alloc: Global,
 ) -> Result<(Sender<T>, AsyncReceiver<T, Rt>), AllocError>
-    ensures one_table { IfOk result (λ ends. ends.0.table ≡ ends.1.table) }
+    ensures one_channel { IfOk result (λ ends. ends.0.channel ≡ ends.1.channel) }
     ensures new_sender { IfOk result (λ ends. ends.0.steps ≡ []) }
     ensures new_receiver { IfOk result (λ ends. ends.1.steps ≡ []) }
 {

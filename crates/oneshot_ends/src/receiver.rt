@@ -6,14 +6,14 @@ ghost use Rattle.oneshot_errors.specs.declared.recv_timeout.RecvTimeoutError.The
 ghost use Rattle.oneshot_errors.specs.declared.try_recv.TryRecvError.TheVariants as Tried;
 ghost use Rattle.oneshot_machine.specs.declared.machine.receiver.ReceiverStart.TheVariants.{TryRecv, RecvRef, RecvDeadline};
 ghost use Rattle.oneshot_machine.specs.Phases.{receiver_at};
-ghost use Rattle.oneshot_drive.specs.Calls.{Leaves, LeavesClosed, LeavesTimed, try_recv_reply, recv_reply, timed_reply};
+ghost use Rattle.oneshot_drive.specs.BetweenCalls.{Leaves, LeavesClosed, LeavesTimed, try_recv_reply, recv_reply, timed_reply};
 ghost use Rattle.oneshot_ends.specs.Ends.{ReceiverGrew, TimeoutGrew, TimeoutRan, IsClosed, IsOpen};
-ghost use Rattle.oneshot_ends.specs.Sides.{IsNewReceiver};
+ghost use Rattle.oneshot_ends.specs.Grounds.{IsNewReceiver};
 
-use crate::blocking::BlockSeat;
+use crate::blocking::Blocking;
 use crate::deadline::{Deadline, read};
 use crate::future::AsyncReceiver;
-use crate::ground::ReceiverSeat;
+use crate::ground::ReceiverOnWord;
 use crate::rouse::Rouse;
 use crossbeam_utils::sync::{Parker, Unparker};
 use futures::task::{Source, Waker};
@@ -33,12 +33,12 @@ use std::time::{Clock, Duration, Instant};
 /// The receives that block (`recv`, `recv_ref`, `recv_deadline`, `recv_timeout`) want `Rt: Wait + Clock`.
 /// The others want nothing of `Rt`, which may be `()` then.
 ///
-/// A contract sees the table that the receiver shares with its sender, and the log of its operations on
-/// the word. Whether the receiver is closed is read off that log.
+/// A contract sees the channel that the receiver belongs to, and the log of its operations on the word.
+/// Whether the receiver is closed is read off that log.
 ///
 /// It may go to another thread where `T` and `Rt` are `Send`. Two threads may not share it.
 pub struct Receiver<T, Rt> {
-    seat: ReceiverSeat<T, Unparker, Waker>,
+    ground: ReceiverOnWord<T, Unparker, Waker>,
     // The parker's waking half, unless the sender took it to wake the receiver.
     hand: Option<Rouse>,
     // A parker may not be shared, so that one thread at a time has the receiver.
@@ -50,17 +50,16 @@ pub struct Receiver<T, Rt> {
 
 impl<T, Rt> Model for Receiver<T, Rt> {
     ghost use Rattle.oneshot_machine.specs.Logs.{receiver_of};
-    ghost use Rattle.oneshot_drive.specs.Calls.{AtRest, IsReady};
+    ghost use Rattle.oneshot_drive.specs.BetweenCalls.{AtRest, IsReady};
     ghost use Rattle.oneshot_ends.specs.Ends.{End};
-    ghost use Rattle.oneshot_ends.specs.Sides.{logged};
+    ghost use Rattle.oneshot_ends.specs.Grounds.{state_of};
 
     ghost Value = { End };
 
-    ghost view = { λ r. record { table = r.seat.table; steps = r.seat.steps } };
+    ghost view = { λ r. record { channel = r.ground.table; steps = r.ground.steps } };
 
     ghost invariant = { λ r.
-        AtRest (receiver_of (logged r.seat)) r.seat.message r.seat.waker
-        × IsReady r.hand (receiver_of (logged r.seat)) };
+        AtRest (state_of r.ground) × IsReady r.hand (receiver_of (state_of r.ground).log) };
 }
 
 impl<T, Rt> Receiver<T, Rt> {
@@ -71,11 +70,11 @@ impl<T, Rt> Receiver<T, Rt> {
         rt: Rt,
     ) -> Receiver<T, Rt>
         requires { IsNewReceiver side }
-        ensures table { result.table ≡ side.table }
+        ensures channel { result.channel ≡ side.table }
         ensures steps { result.steps ≡ side.steps }
     {
         Receiver {
-            seat: ReceiverSeat::new(side),
+            ground: ReceiverOnWord::new(side),
             hand: Some(half),
             parker,
             source: Source::new(),
@@ -88,12 +87,12 @@ impl<T, Rt> Receiver<T, Rt> {
     /// Whether the sender is gone without a message, or the message was received. Every later receive
     /// says `Disconnected` then. It is one load and never blocks.
     pub fn is_closed(&self) -> bool {
-        self.seat.peek() == DISCONNECTED
+        self.ground.peek() == DISCONNECTED
     }
 
     /// Whether the message is there. The next receive gives it then. It is one load and never blocks.
     pub fn has_message(&self) -> bool {
-        self.seat.peek() == MESSAGE
+        self.ground.peek() == MESSAGE
     }
 }
 
@@ -106,14 +105,14 @@ impl<T: Drop, Rt: Drop> Receiver<T, Rt> {
     /// - `Err(Disconnected)`: the sender is gone without a message, or the message was received before.
     ///   Every later receive says the same.
     pub fn try_recv(&mut self) -> Result<T, TryRecvError>
-        ensures table { self.new.table ≡ self.old.table }
+        ensures channel { self.new.channel ≡ self.old.channel }
         ensures run { ReceiverGrew T TryRecv self.old.steps self.new.steps (try_recv_reply result) }
         ensures leaves { Leaves result (receiver_at self.new.steps) }
         ensures closes { result ≢ Err Tried.Empty → IsClosed self.new }
         ensures stays_open { result ≡ Err Tried.Empty → IsOpen self.new }
         ensures stays_closed { IsClosed self.old → result ≡ Err Tried.Disconnected }
     {
-        try_recv(&mut self.seat)
+        try_recv(&mut self.ground)
     }
 }
 
@@ -128,19 +127,14 @@ impl<T: Drop, Rt: Wait + Clock + Drop> Receiver<T, Rt> {
     ///
     /// Either way the receiver is closed, and every later receive says that no message will come.
     pub fn recv_ref(&mut self) -> Result<T, RecvError>
-        ensures table { self.new.table ≡ self.old.table }
+        ensures channel { self.new.channel ≡ self.old.channel }
         ensures run { ReceiverGrew T RecvRef self.old.steps self.new.steps (recv_reply result) }
         ensures leaves { LeavesClosed result (receiver_at self.new.steps) }
         ensures closes { IsClosed self.new }
         ensures stays_closed { IsClosed self.old → IsErr result }
     {
-        let mut lent = BlockSeat {
-            seat: &mut self.seat,
-            parker: &self.parker,
-            rt: &self.rt,
-            deadline: Deadline::Never,
-            told: None,
-        };
+        let deadline = Deadline::Never;
+        let mut lent = Blocking::lend(&mut self.ground, &self.parker, &self.rt, deadline, None);
         recv_ref(&mut lent, &self.rt, &mut self.hand)
     }
 
@@ -157,20 +151,15 @@ impl<T: Drop, Rt: Wait + Clock + Drop> Receiver<T, Rt> {
     /// deadline, which is a rule of this port. A sender that has found this receiver parked and is in its
     /// `send` or its drop is waited for, also past the deadline, as in the Rust crate.
     pub fn recv_deadline(&mut self, deadline: Instant) -> Result<T, RecvTimeoutError>
-        ensures table { self.new.table ≡ self.old.table }
+        ensures channel { self.new.channel ≡ self.old.channel }
         ensures run { ReceiverGrew T RecvDeadline self.old.steps self.new.steps (timed_reply result) }
         ensures leaves { LeavesTimed result (receiver_at self.new.steps) }
         ensures closes { result ≢ Err Timed.Timeout → IsClosed self.new }
         ensures stays_open { result ≡ Err Timed.Timeout → IsOpen self.new }
         ensures stays_closed { IsClosed self.old → result ≡ Err Timed.Disconnected }
     {
-        let mut lent = BlockSeat {
-            seat: &mut self.seat,
-            parker: &self.parker,
-            rt: &self.rt,
-            deadline: Deadline::At(deadline),
-            told: None,
-        };
+        let deadline = Deadline::At(deadline);
+        let mut lent = Blocking::lend(&mut self.ground, &self.parker, &self.rt, deadline, None);
         recv_deadline(&mut lent, &self.rt, &mut self.hand)
     }
 
@@ -181,7 +170,7 @@ impl<T: Drop, Rt: Wait + Clock + Drop> Receiver<T, Rt> {
     /// call blocks as `recv_ref` does and never answers `Timeout`. If the clock fails, the deadline is over
     /// at once.
     pub fn recv_timeout(&mut self, timeout: Duration) -> Result<T, RecvTimeoutError>
-        ensures table { self.new.table ≡ self.old.table }
+        ensures channel { self.new.channel ≡ self.old.channel }
         ensures run { TimeoutGrew T timeout self.old.steps self.new.steps (timed_reply result) }
         ensures leaves { LeavesTimed result (receiver_at self.new.steps) }
         ensures closes { result ≢ Err Timed.Timeout → IsClosed self.new }
@@ -203,19 +192,13 @@ impl<T: Drop, Rt: Wait + Clock + Drop> Receiver<T, Rt> {
         ensures stays_closed { IsClosed self → IsErr result }
     {
         let Receiver {
-            mut seat,
+            mut ground,
             mut hand,
             parker,
             source: _,
             rt,
         } = self;
-        let mut lent = BlockSeat {
-            seat: &mut seat,
-            parker: &parker,
-            rt: &rt,
-            deadline: Deadline::Never,
-            told: None,
-        };
+        let mut lent = Blocking::lend(&mut ground, &parker, &rt, Deadline::Never, None);
         recv(&mut lent, &rt, &mut hand)
     }
 }
@@ -229,19 +212,14 @@ impl<T: Drop, Rt: Wait + Clock + Drop> Receiver<T, Rt> {
         timeout: Duration,
     ) -> Result<T, RecvTimeoutError>
         requires { IfSome reading (λ now. FitsClock (instant_nanos now)) }
-        ensures table { self.new.table ≡ self.old.table }
+        ensures channel { self.new.channel ≡ self.old.channel }
         ensures run { TimeoutRan T timeout reading self.old.steps self.new.steps (timed_reply result) }
         ensures leaves { LeavesTimed result (receiver_at self.new.steps) }
         ensures stays_closed { IsClosed self.old → result ≡ Err Timed.Disconnected }
     {
         let deadline = Deadline::after(reading, timeout);
-        let mut lent = BlockSeat {
-            seat: &mut self.seat,
-            parker: &self.parker,
-            rt: &self.rt,
-            deadline,
-            told: Some(deadline.is_over(reading)),
-        };
+        let told = Some(deadline.is_over(reading));
+        let mut lent = Blocking::lend(&mut self.ground, &self.parker, &self.rt, deadline, told);
         recv_timeout(&mut lent, &self.rt, &mut self.hand, deadline.has_end())
     }
 }
@@ -250,29 +228,29 @@ impl<T: Drop, Rt: Wait + Drop> Receiver<T, Rt> {
     /// Makes a future of the receiver, which a task can poll. It makes no operation on the word, waits for
     /// nobody and allocates nothing. The receiver's parker is dropped.
     pub fn into_future(self) -> AsyncReceiver<T, Rt>
-        ensures table { result.table ≡ self.table }
+        ensures channel { result.channel ≡ self.channel }
         ensures steps { result.steps ≡ self.steps }
     {
         let Receiver {
-            seat,
+            ground,
             hand: _,
             parker: _,
             source,
             rt,
         } = self;
-        AsyncReceiver::new(seat, source, rt)
+        AsyncReceiver::new(ground, source, rt)
     }
 }
 
 impl<T: Drop, Rt: Drop> Drop for Receiver<T, Rt> {
     fn drop(self) {
         let Receiver {
-            mut seat,
+            mut ground,
             hand: _,
             parker: _,
             source: _,
             rt: _,
         } = self;
-        drop_receiver(&mut seat);
+        drop_receiver(&mut ground);
     }
 }

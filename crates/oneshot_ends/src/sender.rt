@@ -6,10 +6,10 @@ ghost use Rattle.oneshot_machine.specs.declared.machine.sender.SenderCall.TheVar
 ghost use Rattle.oneshot_machine.specs.Phases.{fresh, sender_at};
 ghost use Rattle.oneshot_machine.specs.Slots.{away, vacant};
 ghost use Rattle.oneshot_ends.specs.Ends.{SenderGrew};
-ghost use Rattle.oneshot_ends.specs.Sides.{IsNewSender};
+ghost use Rattle.oneshot_ends.specs.Grounds.{IsNewSender};
 
 use crate::error::SendError;
-use crate::ground::SenderSeat;
+use crate::ground::SenderOnWord;
 use crossbeam_utils::sync::Unparker;
 use futures::task::Waker;
 use oneshot_drive::{drop_sender, send};
@@ -22,8 +22,8 @@ use std::marker::Model;
 /// Dropping it without a `send` wakes a receiver that blocks, whose receive then says that no message
 /// will come. The drop never blocks.
 ///
-/// A contract sees the table that the sender shares with its receiver, and the log of its operations on
-/// the word, which is empty until its one call.
+/// A contract sees the channel that the sender belongs to, and the log of its operations on the word,
+/// which is empty until its one call.
 ///
 /// It may go to another thread where `T` is `Send`. Several threads may share a `&` to it where `T` is
 /// also `Sync`, and ask `is_closed`.
@@ -33,11 +33,11 @@ pub struct Sender<T> {
 
 impl<T> Model for Sender<T> {
     ghost use Rattle.oneshot_ends.specs.Ends.{End};
-    ghost use Rattle.oneshot_ends.specs.Sides.{IsNewSender};
+    ghost use Rattle.oneshot_ends.specs.Grounds.{IsNewSender};
 
     ghost Value = { End };
 
-    ghost view = { λ s. record { table = s.side.table; steps = s.side.steps } };
+    ghost view = { λ s. record { channel = s.side.table; steps = s.side.steps } };
 
     ghost invariant = { λ s. IsNewSender s.side };
 }
@@ -45,7 +45,7 @@ impl<T> Model for Sender<T> {
 impl<T> Sender<T> {
     pub(crate) fn new(side: SenderSide<T, Unparker, Waker>) -> Sender<T>
         requires { IsNewSender side }
-        ensures table { result.table ≡ side.table }
+        ensures channel { result.channel ≡ side.table }
         ensures steps { result.steps ≡ side.steps }
     {
         Sender { side }
@@ -66,15 +66,15 @@ impl<T: Drop> Sender<T> {
     /// - `Err`: the receiver was gone. The error has the message.
     pub fn send(self, message: T) -> Result<(), SendError<T>>
         ensures message { IfErr result (λ error. error.message ≡ message) }
-        ensures table { IfErr result (λ error. error.table ≡ self.table) }
+        ensures channel { IfErr result (λ error. error.channel ≡ self.channel) }
         ensures run { IfErr result (λ error. SenderGrew T Send self.steps error.steps Refused) }
     {
         let Sender { side } = self;
-        let mut seat = SenderSeat::new(side);
-        if send(&mut seat, message) {
+        let mut ground = SenderOnWord::new(side);
+        if send(&mut ground, message) {
             return Ok(());
         }
-        let (message, side) = seat.into_refused();
+        let (message, side) = ground.into_refused();
         Err(SendError::new(message, side))
     }
 }
@@ -82,6 +82,6 @@ impl<T: Drop> Sender<T> {
 impl<T: Drop> Drop for Sender<T> {
     fn drop(self) {
         let Sender { side } = self;
-        drop_sender(&mut SenderSeat::new(side));
+        drop_sender(&mut SenderOnWord::new(side));
     }
 }

@@ -1,5 +1,5 @@
 -- The goals that `new` of `Receiver` leaves.
-use Rattle.oneshot_ends.proofs.Standing.{rests_at_new}
+use Rattle.oneshot_ends.proofs.NewEnds.{rests_at_new}
 use Rattle.oneshot_ends.proofs.receiver.Receiver.new.Goals as goal
 
 pub invariant_of-result : goal.invariant_of-result

@@ -1,0 +1,64 @@
+-- What a driver's run on a real end's ground tells of the end's own log: it grew by the run's operations.
+use Rattle.std.proofs.Common.{◌≡◌, List, [], ◌∷◌, ◌++◌, Option, map, refl, sym, ap, ◌∙◌}
+use Rattle.std.specs.List.{cons_option}
+use Rattle.std.specs.Option.{option_map}
+use Rattle.oneshot_machine.specs.declared.machine.Reply.{Reply}
+use Rattle.oneshot_machine.specs.declared.machine.Seen.{Seen}
+use Rattle.oneshot_machine.specs.declared.machine.Step.{Step}
+use Rattle.oneshot_machine.specs.declared.machine.receiver.ReceiverStart.{ReceiverStart}
+use Rattle.oneshot_machine.specs.declared.machine.sender.SenderCall.{SenderCall}
+use Rattle.oneshot_machine.specs.Logs.{Event, Log, Grows, noted, words}
+use Rattle.oneshot_machine.specs.TableRows.{Outcome}
+use Rattle.oneshot_machine.specs.Runs.{Run, last, more, SenderRan, ReceiverRan}
+use Rattle.oneshot_machine.specs.Receiver.{receiver_start, receiver_step, receiver_row}
+use Rattle.oneshot_machine.specs.Sender.{sender_start, sender_step, sender_row}
+use Rattle.oneshot_machine.specs.Noted.{Noted}
+use Rattle.oneshot_machine.proofs.GrownLists.{words_after}
+use Rattle.oneshot_word.specs.Side.{Side}
+use Rattle.oneshot_ends.specs.Ends.{Waking, SenderGrew, ReceiverGrew}
+use Rattle.oneshot_ends.specs.Grounds.{events_of}
+
+-- the operations in a ground's log are those of its end's
+pub words_of : (T W : Type 0) (xs : List Noted) → words (events_of {T = T} {W = W} xs) ≡ xs
+words_of T W [] = refl
+words_of T W (x ∷ xs) = ap (λ noted. x ∷ noted) (words_of T W xs)
+
+pub began_at : {T W : Type 0} {own s : Side T W} {steps : List Noted} → s ≡ own → own.steps ≡ steps → words (events_of {T = T} {W = W} s.steps) ≡ steps
+began_at {T} {W} {s} is has = words_of T W s.steps ∙ ap (λ s. s.steps) is ∙ has
+
+module _ {T W : Type 0} where
+  -- a run, whichever wakers it hands in and out
+  abbrev unnamed : Event T W → Event T Waking
+  unnamed x = record { step = x.step; seen = x.seen; message = x.message; waker = option_map (λ k. tt) x.waker }
+
+  run_unnamed : {P : Type 0} (step : P → Step) (row : P → Seen → Option (Outcome P)) (p : P) (xs : List (Event T W)) (r : Reply) → Run step row p xs r → Run step row p (map unnamed xs) r
+  run_unnamed step row p _ r (last x is leads) = last (unnamed x) is leads
+  run_unnamed step row p _ r (more next x xs is leads rest) = more next (unnamed x) (map unnamed xs) is leads (run_unnamed step row next xs r rest)
+
+  words_unnamed : (xs : List (Event T W)) → words (map unnamed xs) ≡ words xs
+  words_unnamed [] = refl
+  words_unnamed (x ∷ xs) = ap (λ rest. cons_option (noted x) rest) (words_unnamed xs)
+
+  module _ {a b : Log T W} {before after : List Noted} (was : words a.list ≡ before) (is : words b.list ≡ after) where
+    -- the end's log grows by the operations of what its ground does
+    pub grown : (xs : List (Event T W)) → Grows a b xs → after ≡ before ++ words xs
+    grown xs grows = sym is ∙ words_after xs grows ∙ ap (λ ns. ns ++ words xs) was
+
+    grown_unnamed : (xs : List (Event T W)) → Grows a b xs → after ≡ before ++ words (map unnamed xs)
+    grown_unnamed xs grows = grown xs grows ∙ ap (λ ns. before ++ ns) (sym (words_unnamed xs))
+
+    pub sender_grew : (call : SenderCall) {reply : Reply} {given got : List T} → SenderRan call a b reply given got → SenderGrew T call before after reply
+    sender_grew call {reply} ran =
+        record {
+          run = map unnamed ran.run;
+          is_run = run_unnamed sender_step sender_row (sender_start call) ran.run reply ran.is_run;
+          list = grown_unnamed ran.run ran.grows;
+        }
+
+    pub receiver_grew : (call : ReceiverStart) {reply : Reply} {given got : List T} → ReceiverRan call a b reply given got → ReceiverGrew T call before after reply
+    receiver_grew call {reply} ran =
+        record {
+          run = map unnamed ran.run;
+          is_run = run_unnamed receiver_step receiver_row (receiver_start call) ran.run reply ran.is_run;
+          list = grown_unnamed ran.run ran.grows;
+        }

@@ -1,0 +1,72 @@
+-- What a ground may do and finds by its end's side: one that freed the block makes no operation, and any other shows its side as it is.
+use Rattle.std.proofs.Common.{◌≡◌, ℕ, Bool, true, false, List, Option, Some, refl, sym, subst, true≢false}
+use Rattle.oneshot_machine.specs.declared.states.Op.{Op}
+use Rattle.oneshot_machine.specs.Logs.{words}
+use Rattle.oneshot_machine.specs.Phases.{SenderAt, sender_moves, sender_at, ReceiverAt, receiver_moves, receiver_owns, receiver_at, Share, Row}
+use Rattle.oneshot_machine.specs.Slots.{Held, away, vacant, IsSlot, is_away, May, may, Finds, Owns, owns, own_vacant, SenderMay}
+use Rattle.oneshot_machine.specs.Noted.{Noted}
+use Rattle.oneshot_drive.specs.BetweenCalls.{IsLate, is_late}
+use Rattle.oneshot_drive.specs.Grounds.{SenderAsks, ReceiverAsks}
+use Rattle.oneshot_word.specs.Side.{Side, SenderCan, ReceiverCan}
+use Rattle.oneshot_ends.specs.Grounds.{MayBeFreed, unless_freed, left_of, events_of, state_of}
+use Rattle.oneshot_ends.proofs.EndRows.{is_own, Need, sender_needs, receiver_needs}
+use Rattle.oneshot_ends.proofs.GrewByRuns.{words_of}
+
+-- a slot that an end shows as its own is so
+pub own_slot : {X : Type 0} (freed : Bool) (slot : Held X) {shown : Held X} → unless_freed freed slot ≡ shown → (away ≡ shown → ⊥) → slot ≡ shown
+own_slot false slot is own = is
+own_slot true slot is own = absurd (own is)
+
+not_away : {X : Type 0} {share : Share} → IsSlot {X = X} share away → is_own share ≡ true → ⊥
+not_away is_away own = true≢false (sym own)
+
+module _ {At : Type 0} (moves : At → List (Row At)) (at : List Noted → At) {T W : Type 0} where
+  -- an end whose ground may make an operation has not freed, and may make it
+  unfreed : (freed : Bool) (q : At) (op : Op) (m : Held T) (w : Held W) → (freed ≡ true → Need (moves q)) → May moves q op (unless_freed freed m) (unless_freed freed w) → (freed ≡ false) × May moves q op m w
+  unfreed false q op m w needs asks = (refl, asks)
+  unfreed true q op m w needs (may there message waker) = absurd (not_away message (needs refl _ there))
+
+  can : (freed : Bool) (s : Side T W) {now : Side T W} {op asked : Op} → (freed ≡ true → Need (moves (at s.steps))) → left_of freed s ≡ now → asked ≡ op → May moves (at (words (events_of {T = T} {W = W} now.steps))) asked now.message now.waker → (freed ≡ false) × May moves (at s.steps) op s.message s.waker
+  can freed s {now} {op} needs is same asks =
+      unfreed freed (at s.steps) op s.message s.waker needs
+      (subst (λ xs. May moves (at xs) op (unless_freed freed s.message) (unless_freed freed s.waker)) (words_of T W s.steps)
+      (subst (λ now. May moves (at (words (events_of {T = T} {W = W} now.steps))) op now.message now.waker) (sym is)
+      (subst (λ op. May moves (at (words (events_of {T = T} {W = W} now.steps))) op now.message now.waker) same asks)))
+
+  -- what it found, as its ground shows it
+  pub found : (freed : Bool) (s next : Side T W) {now : Side T W} {op asked : Op} {word : ℕ} → left_of freed s ≡ now → asked ≡ op → freed ≡ false → Finds moves (at s.steps) op word s.message s.waker next.message next.waker → Finds moves (at (words (events_of {T = T} {W = W} now.steps))) asked word now.message now.waker (unless_freed freed next.message) (unless_freed freed next.waker)
+  found freed s next {now} {op} {word} is same unfreed makes =
+      subst (λ op. Finds moves (at (words (events_of {T = T} {W = W} now.steps))) op word now.message now.waker (unless_freed freed next.message) (unless_freed freed next.waker)) (sym same)
+      (subst (λ now. Finds moves (at (words (events_of {T = T} {W = W} now.steps))) op word now.message now.waker (unless_freed freed next.message) (unless_freed freed next.waker)) is
+      (subst (λ f. Finds moves (at (words (events_of {T = T} {W = W} s.steps))) op word (unless_freed f s.message) (unless_freed f s.waker) (unless_freed f next.message) (unless_freed f next.waker)) (sym unfreed)
+      (subst (λ xs. Finds moves (at xs) op word s.message s.waker next.message next.waker) (sym (words_of T W s.steps)) makes)))
+
+module _ {T W : Type 0} where
+  pub sender_can : (freed : Bool) (s : Side T W) {now : Side T W} {op asked : Op} → left_of freed s ≡ now → asked ≡ op → SenderAsks asked (state_of now) → (freed ≡ false) × SenderCan s op
+  sender_can freed s = can sender_moves sender_at freed s (λ is. sender_needs (sender_at s.steps))
+
+  pub receiver_can : (freed : Bool) (s : Side T W) {now : Side T W} {op asked : Op} → MayBeFreed freed (receiver_at s.steps) → left_of freed s ≡ now → asked ≡ op → ReceiverAsks asked (state_of now) → (freed ≡ false) × ReceiverCan s op
+  receiver_can freed s stands = can receiver_moves receiver_at freed s (λ is. receiver_needs (receiver_at s.steps) (subst (λ f. MayBeFreed f (receiver_at s.steps)) is stands))
+
+  -- a sender that came late makes none
+  never_late : {at : SenderAt} {op : Op} {m : Held T} {w : Held W} → IsLate at → SenderMay at op m w → ⊥
+  never_late (is_late by) (may there message waker) = elim there [ ]
+
+  pub late_never : (s now : Side T W) (op : Op) {m : Held T} {w : Held W} → IsLate (sender_at s.steps) → record s { message = m; waker = w } ≡ now → SenderAsks op (state_of now) → ⊥
+  late_never s now op {m} {w} came_late is asks =
+      never_late came_late
+      (subst (λ xs. SenderMay (sender_at xs) op m w) (words_of T W s.steps)
+      (subst (λ now. SenderAsks op (state_of now)) (sym is) asks))
+
+  -- what it frees by
+  both_own : {own : Option (Bool × Bool)} → Owns {T = T} {W = W} own vacant vacant → own ≡ Some (true, true)
+  both_own (owns own_vacant own_vacant) = refl
+
+  pub may_free : (freed : Bool) (at : ReceiverAt) (m : Held T) (w : Held W) → Owns (receiver_owns at) m w → unless_freed freed m ≡ vacant → unless_freed freed w ≡ vacant → MayBeFreed true at
+  may_free freed at m w own message waker =
+      both_own
+      (subst (λ m. Owns {T = T} {W = W} (receiver_owns at) m vacant) (own_slot freed m message (λ e. cc e))
+      (subst (λ w. Owns {T = T} {W = W} (receiver_owns at) m w) (own_slot freed w waker (λ e. cc e)) own))
+
+pub stays_unfreed : (freed : Bool) (at : ReceiverAt) → freed ≡ false → MayBeFreed freed at
+stays_unfreed freed at unfreed = subst (λ f. MayBeFreed f at) (sym unfreed) tt

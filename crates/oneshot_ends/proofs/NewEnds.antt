@@ -1,0 +1,42 @@
+-- How the sides of a channel that was opened are, and their grounds stand.
+use Rattle.std.proofs.Common.{◌≡◌, List, [], sym, ap, subst}
+use Rattle.oneshot_machine.specs.Logs.{Log, words}
+use Rattle.oneshot_machine.specs.Phases.{first, receiver_at, none, empty, Slots}
+use Rattle.oneshot_machine.specs.Slots.{IsSlot, is_away, is_vacant}
+use Rattle.oneshot_machine.specs.Noted.{Noted}
+use Rattle.oneshot_drive.specs.BetweenCalls.{AtRest, rests_new}
+use Rattle.oneshot_drive.specs.Grounds.{StandsWith}
+use Rattle.oneshot_word.specs.Side.{Side, AreEnds}
+use Rattle.oneshot_ends.specs.Grounds.{events_of, state_of, IsNew, IsNewSender, IsNewReceiver}
+
+-- the sides of a channel that was opened
+module _ {T W : Type 0} {sender receiver : Side T W} (are : AreEnds sender receiver) where
+  pub new_sender : IsNewSender sender
+  new_sender =
+      record {
+        steps = are.sender_steps;
+        message = subst (IsSlot empty) (sym are.sender_slots.0) is_vacant;
+        waker = subst (IsSlot none) (sym are.sender_slots.1) is_away;
+      }
+
+  pub new_receiver : IsNewReceiver receiver
+  new_receiver =
+      record {
+        steps = are.receiver_steps;
+        message = subst (IsSlot none) (sym are.receiver_slots.0) is_away;
+        waker = subst (IsSlot none) (sym are.receiver_slots.1) is_away;
+      }
+
+module _ {T W : Type 0} where
+  -- how the ground of a new end stands
+  new_stands : {At : Type 0} (at : List Noted → At) {slots : Slots} (s : Side T W) → IsNew slots s → StandsWith (λ (l : Log T W). at (words l.list)) (at []) slots (state_of s)
+  new_stands at s new =
+      record {
+        phase = ap (λ xs. at (words (events_of {T = T} {W = W} xs))) new.steps;
+        message = new.message;
+        waker = new.waker;
+      }
+
+  pub rests_at_new : (s now : Side T W) → now ≡ s → IsNewReceiver s → AtRest (state_of now)
+  rests_at_new s now is new =
+      subst (λ now. AtRest (state_of now)) (sym is) (record { at = first; is_one = rests_new; stands = new_stands receiver_at s new })
