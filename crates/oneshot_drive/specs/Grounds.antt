@@ -40,7 +40,7 @@ unfilled_or slots (row ∷ rows) =
     if is_unfilled row.1.0 && is_unfilled row.1.1 then row.1 else unfilled_or slots rows
 
 -- The slots of an end at a phase with these rows, which has put nothing into a slot there: those of the
--- first row that needs neither filled, or else of the first row.
+-- first row that needs neither filled, or else of the first row. No contract names a phase without rows.
 abbrev pub slots_by : {At : Type 0} → List (Row At) → Slots
 slots_by [] = (none, none)
 slots_by (row ∷ rows) = unfilled_or row.1 (row ∷ rows)
