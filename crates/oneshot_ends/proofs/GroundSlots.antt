@@ -34,20 +34,44 @@ module _ {At : Type 0} (moves : At → List (Row At)) (at : List Noted → At) {
       (subst (λ op. May moves (at (words (events_of {T = T} {W = W} now.steps))) op now.message now.waker) same asks)))
 
   -- what it found, as its ground shows it
-  pub found : (freed : Bool) (s next : Side T W) {now : Side T W} {op asked : Op} {word : ℕ} → left_of freed s ≡ now → asked ≡ op → freed ≡ false → Finds moves (at s.steps) op word s.message s.waker next.message next.waker → Finds moves (at (words (events_of {T = T} {W = W} now.steps))) asked word now.message now.waker (unless_freed freed next.message) (unless_freed freed next.waker)
+  found : (freed : Bool) (s next : Side T W) {now : Side T W} {op asked : Op} {word : ℕ} → left_of freed s ≡ now → asked ≡ op → freed ≡ false → Finds moves (at s.steps) op word s.message s.waker next.message next.waker → Finds moves (at (words (events_of {T = T} {W = W} now.steps))) asked word now.message now.waker (unless_freed freed next.message) (unless_freed freed next.waker)
   found freed s next {now} {op} {word} is same unfreed makes =
       subst (λ op. Finds moves (at (words (events_of {T = T} {W = W} now.steps))) op word now.message now.waker (unless_freed freed next.message) (unless_freed freed next.waker)) (sym same)
       (subst (λ now. Finds moves (at (words (events_of {T = T} {W = W} now.steps))) op word now.message now.waker (unless_freed freed next.message) (unless_freed freed next.waker)) is
       (subst (λ f. Finds moves (at (words (events_of {T = T} {W = W} s.steps))) op word (unless_freed f s.message) (unless_freed f s.waker) (unless_freed f next.message) (unless_freed f next.waker)) (sym unfreed)
       (subst (λ xs. Finds moves (at xs) op word s.message s.waker next.message next.waker) (sym (words_of T W s.steps)) makes)))
 
+-- a receiver that has not freed may be anywhere
+pub stays_unfreed : (freed : Bool) (at : ReceiverAt) → freed ≡ false → MayBeFreed freed at
+stays_unfreed freed at unfreed = subst (λ f. MayBeFreed f at) (sym unfreed) tt
+
+-- so a sender's ground may make it, and shows what it found
+module _ {T W : Type 0} (freed : Bool) (s : Side T W) {now : Side T W} {op asked : Op} (is : left_of freed s ≡ now) (same : asked ≡ op) (asks : SenderAsks asked (state_of now)) where
+  sender_unfreed : (freed ≡ false) × SenderCan s op
+  sender_unfreed = can sender_moves sender_at freed s (λ is. sender_needs (sender_at s.steps)) is same asks
+
+  pub sender_can : SenderCan s op
+  sender_can = sender_unfreed.1
+
+  pub sender_found : {word : ℕ} (next : Side T W) → Finds sender_moves (sender_at s.steps) op word s.message s.waker next.message next.waker → Finds sender_moves (sender_at (words (events_of {T = T} {W = W} now.steps))) asked word now.message now.waker (unless_freed freed next.message) (unless_freed freed next.waker)
+  sender_found next = found sender_moves sender_at freed s next is same sender_unfreed.0
+
+-- and a receiver's, which has not freed after it either
+module _ {T W : Type 0} (freed : Bool) (s : Side T W) {now : Side T W} {op asked : Op} (stands : MayBeFreed freed (receiver_at s.steps)) (is : left_of freed s ≡ now) (same : asked ≡ op) (asks : ReceiverAsks asked (state_of now)) where
+  receiver_unfreed : (freed ≡ false) × ReceiverCan s op
+  receiver_unfreed =
+      can receiver_moves receiver_at freed s (λ is. receiver_needs (receiver_at s.steps) (subst (λ f. MayBeFreed f (receiver_at s.steps)) is stands)) is same asks
+
+  pub receiver_can : ReceiverCan s op
+  receiver_can = receiver_unfreed.1
+
+  pub receiver_stays : (at : ReceiverAt) → MayBeFreed freed at
+  receiver_stays at = stays_unfreed freed at receiver_unfreed.0
+
+  pub receiver_found : {word : ℕ} (next : Side T W) → Finds receiver_moves (receiver_at s.steps) op word s.message s.waker next.message next.waker → Finds receiver_moves (receiver_at (words (events_of {T = T} {W = W} now.steps))) asked word now.message now.waker (unless_freed freed next.message) (unless_freed freed next.waker)
+  receiver_found next = found receiver_moves receiver_at freed s next is same receiver_unfreed.0
+
 module _ {T W : Type 0} where
-  pub sender_can : (freed : Bool) (s : Side T W) {now : Side T W} {op asked : Op} → left_of freed s ≡ now → asked ≡ op → SenderAsks asked (state_of now) → (freed ≡ false) × SenderCan s op
-  sender_can freed s = can sender_moves sender_at freed s (λ is. sender_needs (sender_at s.steps))
-
-  pub receiver_can : (freed : Bool) (s : Side T W) {now : Side T W} {op asked : Op} → MayBeFreed freed (receiver_at s.steps) → left_of freed s ≡ now → asked ≡ op → ReceiverAsks asked (state_of now) → (freed ≡ false) × ReceiverCan s op
-  receiver_can freed s stands = can receiver_moves receiver_at freed s (λ is. receiver_needs (receiver_at s.steps) (subst (λ f. MayBeFreed f (receiver_at s.steps)) is stands))
-
   -- a sender that came late makes none
   never_late : {at : SenderAt} {op : Op} {m : Held T} {w : Held W} → IsLate at → SenderMay at op m w → ⊥
   never_late (is_late by) (may there message waker) = elim there [ ]
@@ -67,6 +91,3 @@ module _ {T W : Type 0} where
       both_own
       (subst (λ m. Owns {T = T} {W = W} (receiver_owns at) m vacant) (own_slot freed m message (λ e. cc e))
       (subst (λ w. Owns {T = T} {W = W} (receiver_owns at) m w) (own_slot freed w waker (λ e. cc e)) own))
-
-pub stays_unfreed : (freed : Bool) (at : ReceiverAt) → freed ≡ false → MayBeFreed freed at
-stays_unfreed freed at unfreed = subst (λ f. MayBeFreed f at) (sym unfreed) tt
