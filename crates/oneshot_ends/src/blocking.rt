@@ -47,7 +47,7 @@ impl<'g, 'p, 'r, T, Rt> Blocking<'g, 'p, 'r, T, Rt> {
 impl<'g, 'p, 'r, T: Drop, Rt> ReceiverGround<T, Rouse> for Blocking<'g, 'p, 'r, T, Rt> {
     ghost use Rattle.oneshot_ends.specs.Grounds.{lent};
 
-    // The place names the ground that was lent too, so that a caller knows it again.
+    // The channel names the ground that was lent too, so that a caller knows it again.
     ghost state = { λ b. lent b.ground.ghost_name b.ground.now };
 
     // It has nothing beside the channel.

@@ -25,7 +25,7 @@ pub(crate) struct Copies {
 
 // A waker wakes its task when it is dropped. So the drivers have a token for each copy, and a copy whose
 // token they drop stays here as a spare, so that no task is polled more often than it asked.
-/// The ground of a receiver, lent for one poll, with the poll'g task.
+/// The ground of a receiver, lent for one poll, with the poll's task.
 #[derive(Drop)]
 pub(crate) struct Polling<'g, 'c, 'x, 'o, 'k, T> {
     pub(crate) ground: &'g mut ReceiverOnWord<T, Unparker, Waker>,
@@ -38,7 +38,7 @@ impl<'g, 'c, 'x, 'o, 'k, T: Drop> ReceiverGround<T, Copied> for Polling<'g, 'c, 
     ghost use Rattle.oneshot_ends.specs.Polling.{polled_state};
     ghost use Rattle.std.proofs.Common.{◌∙◌};
 
-    // The place names what was lent too, so that a caller knows it again.
+    // The channel names what was lent too, so that a caller knows it again.
     ghost state = { λ b.
         polled_state (b.ground.ghost_name ∷ b.cx.ghost_name ∷ b.copies.ghost_name ∷ []) b.ground.now };
 

@@ -58,7 +58,7 @@ FuturesAreRight =
     ))
 
 -- A poll that says "pending" at once where another waker is stored, or where its own copy is refused,
--- and wakes nobody. Until the sender ends, every definition of this crate lets it pass; `TaskExamples`
+-- and wakes nobody. Until the sender ends, every definition of `oneshot_laws` lets it pass; `TaskExamples`
 -- has it with a sender that ends. No run tells it.
 abbrev pub kept_the_old_waker : Example
 kept_the_old_waker = answered_by 6 R.Pending (up_to 6 polled_by_another_task)

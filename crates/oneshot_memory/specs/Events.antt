@@ -17,7 +17,7 @@ module _ {T W : Type 0} where
   event_of e =
       record { step = e.step; seen = e.seen; message = option_map (λ s. s.value) e.message; waker = option_map (λ s. s.value) e.waker }
 
-  -- a ground in memory is whole, and stands at no place
+  -- a ground in memory is whole, and is of no channel
   abbrev pub logged : List (Event T W) → logs.Log T W
   logged events = record { whole = true; channel = []; list = map event_of events }
 

@@ -44,9 +44,9 @@ impl<T> Act<T> {
 /// A receiver's ground, whose sender acts where it is told to: at once, or in a pause of the receiver.
 ///
 /// The receiver makes a pause when it has copied or written its waker, in each park, at each look at its
-/// clock, and at each load outside a wait that finds the sender about to finish. A park ends by its token if the sender woke the receiver by then, and without one if not;
-/// where the sender never acts, a call that blocks waits for ever, or until its deadline. That is over
-/// at once, unless a test puts it off.
+/// clock, and at each load outside a wait that finds the sender about to finish. A park ends by its token
+/// if the sender woke the receiver by then, and without one if not; where the sender never acts, a call
+/// that blocks waits for ever, or until its deadline. That is over at once, unless a test puts it off.
 #[derive(Drop)]
 pub struct MemoryReceiver<'a, T, W, R: Wait> {
     events: Vec<Event<T, W>>,

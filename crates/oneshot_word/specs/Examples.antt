@@ -94,7 +94,7 @@ pub record StatesThatAreNot (T H K : Type 0) : Type 0 where
   -- a swap of 3 leaves 3 over the message and over the sender's end
   pub stop_leaves_0_over_the_message : {h k : Home T H K} → Owned (sent_over 1) (stopped_over 4) 0 h k → ⊥
   pub stop_leaves_0_over_the_end : {h k : Home T H K} → Owned (dropped_over 1) (stopped_over 2) 0 h k → ⊥
-  -- what waits in the word waits there for its end
+  -- what lies in a slot that is neither end's waits there for its end
   pub message_lies_with_nobody : {k : Home T H K} → Owned (sent_over 1) waits 4 bare k → ⊥
   pub waker_is_gone : {h : Home T H K} → Owned [] waits 0 h bare → ⊥
   -- an exchange that found what it expects leaves its word, and the copy with the right owner

@@ -26,7 +26,7 @@ pub data IsReceiversFull {T H K : Type 0} : Home T H K → Type 0 where
   receiver_found_it : IsReceiversFull out
   waits_for_receiver : (m : T) → IsReceiversFull (has_message m)
 
--- the word's own slot, with the receiver's waker in it
+-- a slot that is neither end's, with the receiver's waker in it
 pub data IsWords {T H K : Type 0} : Home T H K → Type 0 where
   waker_at_home : (k : Rouse H K) → IsWords (has_waker k)
 

@@ -1,4 +1,4 @@
--- What of a world is finite, all but the calls that the scripts have left, and the moves from there.
+-- What of a world is finite up to the names of wakers, all but the calls that the scripts have left, and the moves from there.
 use Rattle.std.specs.Prelude.{ℕ, Bool, true, false, List, [], ◌∷◌, ◌++◌, map, filter, Option, Some, None}
 use Rattle.std.specs.Option.{option_map}
 use Rattle.std.specs.List.{filter_map, flat_map}

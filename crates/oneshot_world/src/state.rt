@@ -1,4 +1,4 @@
-//! The finite part of the world, and one step of one end.
+//! The world without the calls that its scripts have left, and one step of one end.
 
 ghost use Rattle.std.specs.Prelude.{◌≡◌, ◌≤◌, Some, IsSome};
 ghost use Rattle.oneshot_world.specs.State.{opening_state, sender_position, receiver_position, made, moved, sender_steps, receiver_steps};
@@ -38,7 +38,7 @@ pub enum ReceiverState {
     Ended,
 }
 
-/// The finite part of the world.
+/// The world without the calls that its scripts have left: finite, but for the names of wakers.
 #[derive(Clone, Copy, Debug)]
 pub struct State {
     /// The shared word.
