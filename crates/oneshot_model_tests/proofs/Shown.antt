@@ -1,10 +1,10 @@
 -- What an operation tells of an end whose phase and slots are known.
-use Rattle.std.proofs.Common.{◌≡◌, ℕ, Bool, true, false, refl, sym, ap, ◌∙◌, subst}
+use Rattle.std.proofs.Common.{◌≡◌, ℕ, Bool, true, false, not, true≢false, refl, sym, ap, ◌∙◌, subst}
 use Rattle.std.specs.List.{list_all}
 use Rattle.oneshot_machine.specs.declared.states.Op.{Op}
-use Rattle.oneshot_machine.specs.declared.states.Op.TheVariants.{Store}
-use Rattle.oneshot_machine.specs.Noted.{saw}
-use Rattle.oneshot_machine.specs.Phases.{Share, filled, Got, at_once, full, SenderAt, fresh, sender_next, sender_at, ReceiverAt, first, receiver_moves, receiver_next, receiver_at}
+use Rattle.oneshot_machine.specs.declared.states.Op.TheVariants.{Store, Swap}
+use Rattle.oneshot_machine.specs.Noted.{saw, is_same_op}
+use Rattle.oneshot_machine.specs.Phases.{Share, filled, Got, at_once, full, here, looked, waits, blocked, SenderAt, fresh, sender_next, sender_at, ReceiverAt, first, receiver_moves, receiver_next, receiver_at}
 use Rattle.oneshot_machine.specs.Slots.{Held, away, vacant, held, is_held, is_vacant, Turns, stays_vacant, stays_held, gets_thing, head, tail, may, finds, SenderMay, SenderFinds, ReceiverMay, ReceiverFinds, not_its_own, owns, SenderOwns}
 use Rattle.oneshot_machine.proofs.Exactness.{each_passes}
 use Rattle.oneshot_machine.proofs.GrownLists.{phase_from-snoc}
@@ -22,6 +22,28 @@ stays_full _ = refl
 kept : {T : Type 0} {s t : Share} {x : T} {m : Held T} → is_filled t ≡ true → Turns s t (held x) m → m ≡ held x
 kept e (stays_held x) = refl
 kept e _ = absurd (cc)
+
+-- only a receiver that waits in a call that blocks has a swap of 3
+abbrev has_no_stop : ReceiverAt → Bool
+has_no_stop q = list_all (λ row. not (is_same_op (Swap 3) row.0)) (receiver_moves q)
+
+data StopsWhere : ReceiverAt → Type 0 where
+  stops_waiting : StopsWhere (waits blocked)
+  stops_nowhere : {q : ReceiverAt} → has_no_stop q ≡ true → StopsWhere q
+
+where_it_stops : (q : ReceiverAt) → StopsWhere q
+where_it_stops (waits blocked) = stops_waiting
+where_it_stops (here looked) = stops_nowhere refl
+where_it_stops (full at_once) = stops_nowhere refl
+where_it_stops _ = stops_nowhere refl
+
+pub stops_only : {T W : Type 0} {q : ReceiverAt} {m : Held T} {w : Held W} → ReceiverMay q (Swap 3) m w → q ≡ waits blocked
+stops_only {q} asks = by (where_it_stops q) asks
+  where
+    by : {T W : Type 0} {q : ReceiverAt} {m : Held T} {w : Held W} → StopsWhere q → ReceiverMay q (Swap 3) m w → q ≡ waits blocked
+    by stops_waiting asks = refl
+    by {q} (stops_nowhere none) (may row _ _) =
+        absurd (true≢false (sym (each_passes (λ row. not (is_same_op (Swap 3) row.0)) (receiver_moves q) none row)))
 
 module _ {T W : Type 0} where
   -- how far the end is, and its slots

@@ -124,8 +124,7 @@ fn store_waker(rt: &impl Abort, receiver: &mut ReceiverSide<u8, u8, u8>, waker: 
 
 // It gives its waker.
 fn stop(rt: &impl Abort, receiver: &mut ReceiverSide<u8, u8, u8>) -> Rouse<u8, u8>
-    requires at { receiver_at receiver.old.steps ≡ waits blocked }
-    requires stops { ReceiverCan receiver.old (Swap 3) }
+    requires { ReceiverCan receiver.old (Swap 3) }
     ensures at { receiver_at receiver.new.steps ≡ here looked }
     ensures waker { receiver.new.waker ≡ vacant }
 {
@@ -138,8 +137,7 @@ fn stop(rt: &impl Abort, receiver: &mut ReceiverSide<u8, u8, u8>) -> Rouse<u8, u
 }
 
 fn stop_too_late(rt: &impl Abort, receiver: &mut ReceiverSide<u8, u8, u8>)
-    requires at { receiver_at receiver.old.steps ≡ waits blocked }
-    requires stops { ReceiverCan receiver.old (Swap 3) }
+    requires { ReceiverCan receiver.old (Swap 3) }
     ensures { ReceiverCan receiver.new Load }
 {
     let found = receiver.swap(3);
@@ -149,8 +147,7 @@ fn stop_too_late(rt: &impl Abort, receiver: &mut ReceiverSide<u8, u8, u8>)
 }
 
 fn stop_over_the_message(rt: &impl Abort, receiver: &mut ReceiverSide<u8, u8, u8>) -> u8
-    requires at { receiver_at receiver.old.steps ≡ waits blocked }
-    requires stops { ReceiverCan receiver.old (Swap 3) }
+    requires { ReceiverCan receiver.old (Swap 3) }
 {
     let found = receiver.swap(3);
     assert!(rt; found == 4);
@@ -160,8 +157,7 @@ fn stop_over_the_message(rt: &impl Abort, receiver: &mut ReceiverSide<u8, u8, u8
 }
 
 fn stop_over_the_end(rt: &impl Abort, receiver: &mut ReceiverSide<u8, u8, u8>)
-    requires at { receiver_at receiver.old.steps ≡ waits blocked }
-    requires stops { ReceiverCan receiver.old (Swap 3) }
+    requires { ReceiverCan receiver.old (Swap 3) }
 {
     let found = receiver.swap(3);
     assert!(rt; found == 2);

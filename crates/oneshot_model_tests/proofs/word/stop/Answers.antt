@@ -4,7 +4,7 @@ use Rattle.oneshot_machine.specs.declared.states.Op.TheVariants.{Load, Swap}
 use Rattle.oneshot_machine.specs.Phases.{blocked, waits, here, between, receiver_at}
 use Rattle.oneshot_machine.specs.Slots.{Held, away, vacant, held, is_away, is_vacant, stays_away, stays_vacant, gets_thing, head, tail, may, finds, ReceiverFinds}
 use Rattle.oneshot_word.specs.Side.{Side, ReceiverDid}
-use Rattle.oneshot_model_tests.proofs.Shown.{ReceiverIs, receiver_can, receiver_told, receiver_went, receiver_is, receiver_changed}
+use Rattle.oneshot_model_tests.proofs.Shown.{stops_only, ReceiverIs, receiver_can, receiver_told, receiver_went, receiver_is, receiver_changed}
 use Rattle.oneshot_model_tests.proofs.word.stop.Goals as goal
 
 module _ {T W : Type 0} where
@@ -26,17 +26,17 @@ module _ {T W : Type 0} where
 
 pub take_waker-waker-requires : goal.take_waker-waker-requires
 take_waker-waker-requires g c =
-    let it = stops c.requires.at c.swap-found.ensures (search rules) in
+    let it = stops (stops_only c.requires) c.swap-found.ensures (search rules) in
     (it.0, it.1.waker)
 
 pub load-found-requires : goal.load-found-requires
 load-found-requires g c =
-    receiver_can Load (takes c.requires.at c.swap-found.ensures (search rules) c.take_waker-waker.ensures.rest) (may head is_away is_vacant)
+    receiver_can Load (takes (stops_only c.requires) c.swap-found.ensures (search rules) c.take_waker-waker.ensures.rest) (may head is_away is_vacant)
 
 pub returns-clause-at : goal.returns-clause-at
 returns-clause-at g c =
-    receiver_went Load 3 (takes c.requires.at c.swap-found.ensures (search rules) c.take_waker-waker.ensures.rest) c.load-found.ensures (search rules)
+    receiver_went Load 3 (takes (stops_only c.requires) c.swap-found.ensures (search rules) c.take_waker-waker.ensures.rest) c.load-found.ensures (search rules)
 
 pub returns-clause-waker : goal.returns-clause-waker
 returns-clause-waker g c =
-    found_none (receiver_told Load 3 (takes c.requires.at c.swap-found.ensures (search rules) c.take_waker-waker.ensures.rest) c.load-found.ensures (search rules))
+    found_none (receiver_told Load 3 (takes (stops_only c.requires) c.swap-found.ensures (search rules) c.take_waker-waker.ensures.rest) c.load-found.ensures (search rules))

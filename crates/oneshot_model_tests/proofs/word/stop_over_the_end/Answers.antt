@@ -4,7 +4,7 @@ use Rattle.oneshot_machine.specs.declared.states.Op.TheVariants.{Store, Swap}
 use Rattle.oneshot_machine.specs.Phases.{blocked, waits, stopping, unclosed, receiver_at}
 use Rattle.oneshot_machine.specs.Slots.{Held, vacant, is_vacant, gets_room, head, tail, may, finds, ReceiverFinds}
 use Rattle.oneshot_word.specs.Side.{Side, ReceiverDid}
-use Rattle.oneshot_model_tests.proofs.Shown.{ReceiverIs, receiver_can, receiver_told, receiver_went, receiver_is}
+use Rattle.oneshot_model_tests.proofs.Shown.{stops_only, ReceiverIs, receiver_can, receiver_told, receiver_went, receiver_is}
 use Rattle.oneshot_model_tests.proofs.word.stop_over_the_end.Goals as goal
 
 module _ {T W : Type 0} where
@@ -18,4 +18,4 @@ module _ {T W : Type 0} where
       record { at = receiver_went (Swap 3) 2 (receiver_is s at) did same; message = it.0; waker = it.1 }
 
 pub store-found-requires : goal.store-found-requires
-store-found-requires g c = receiver_can (Store 2) (stops c.requires.at c.swap-found.ensures (search rules)) (may head is_vacant is_vacant)
+store-found-requires g c = receiver_can (Store 2) (stops (stops_only c.requires) c.swap-found.ensures (search rules)) (may head is_vacant is_vacant)

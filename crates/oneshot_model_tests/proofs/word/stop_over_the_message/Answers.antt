@@ -4,7 +4,7 @@ use Rattle.oneshot_machine.specs.declared.states.Op.TheVariants.{Store, Swap}
 use Rattle.oneshot_machine.specs.Phases.{blocked, waits, stopping, swapped, full, receiver_at}
 use Rattle.oneshot_machine.specs.Slots.{Held, vacant, held, gets_thing, gets_room, head, tail, finds, ReceiverFinds}
 use Rattle.oneshot_word.specs.Side.{Side, ReceiverDid}
-use Rattle.oneshot_model_tests.proofs.Shown.{ReceiverIs, receiver_can, receiver_told, receiver_went, receiver_is, closes, keeps_message}
+use Rattle.oneshot_model_tests.proofs.Shown.{stops_only, ReceiverIs, receiver_can, receiver_told, receiver_went, receiver_is, closes, keeps_message}
 use Rattle.oneshot_model_tests.proofs.word.stop_over_the_message.Goals as goal
 
 module _ {T W : Type 0} where
@@ -19,10 +19,10 @@ module _ {T W : Type 0} where
 
 pub store-found-requires : goal.store-found-requires
 store-found-requires g c =
-    let it = stops c.requires.at c.swap-found.ensures (search rules) in
+    let it = stops (stops_only c.requires) c.swap-found.ensures (search rules) in
     receiver_can (Store 2) it.1 (closes (swapped stopping) it.0)
 
 pub take_message-requires : goal.take_message-requires
 take_message-requires g c =
-    let it = stops c.requires.at c.swap-found.ensures (search rules) in
+    let it = stops (stops_only c.requires) c.swap-found.ensures (search rules) in
     (it.0, keeps_message (receiver_told (Store 2) 3 it.1 c.store-found.ensures (search rules)))

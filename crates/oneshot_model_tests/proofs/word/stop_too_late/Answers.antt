@@ -4,7 +4,7 @@ use Rattle.oneshot_machine.specs.declared.states.Op.TheVariants.{Load, Swap}
 use Rattle.oneshot_machine.specs.Phases.{blocked, waits, overdue, receiver_at}
 use Rattle.oneshot_machine.specs.Slots.{Held, away, is_away, stays_away, head, tail, may, finds, ReceiverFinds}
 use Rattle.oneshot_word.specs.Side.{Side, ReceiverDid}
-use Rattle.oneshot_model_tests.proofs.Shown.{ReceiverIs, receiver_can, receiver_told, receiver_went, receiver_is}
+use Rattle.oneshot_model_tests.proofs.Shown.{stops_only, ReceiverIs, receiver_can, receiver_told, receiver_went, receiver_is}
 use Rattle.oneshot_model_tests.proofs.word.stop_too_late.Goals as goal
 
 module _ {T W : Type 0} where
@@ -27,8 +27,8 @@ module _ {T W : Type 0} where
       record { at = receiver_went Load 3 is did same; message = none.0; waker = none.1 }
 
 pub load-found-requires : goal.load-found-requires
-load-found-requires g c = receiver_can Load (stops c.requires.at c.swap-found.ensures (search rules)) (may head is_away is_away)
+load-found-requires g c = receiver_can Load (stops (stops_only c.requires) c.swap-found.ensures (search rules)) (may head is_away is_away)
 
 pub returns : goal.returns
 returns g c =
-    receiver_can Load (waits_on (stops c.requires.at c.swap-found.ensures (search rules)) c.load-found.ensures (search rules)) (may head is_away is_away)
+    receiver_can Load (waits_on (stops (stops_only c.requires) c.swap-found.ensures (search rules)) c.load-found.ensures (search rules)) (may head is_away is_away)
