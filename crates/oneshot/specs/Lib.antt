@@ -21,6 +21,13 @@ pub use Rattle.oneshot_memory.specs.Events
 pub use Rattle.oneshot_memory.specs.Receiver as ReceiverMemory
 pub use Rattle.oneshot_memory.specs.Sender as SenderMemory
 -- what those of the machines name
+pub use Rattle.oneshot_machine.specs.Look
+pub use Rattle.oneshot_machine.specs.ByRef
+pub use Rattle.oneshot_machine.specs.Timed
+pub use Rattle.oneshot_machine.specs.Value
+pub use Rattle.oneshot_machine.specs.Future as FutureCalls
+pub use Rattle.oneshot_machine.specs.AsyncDrop
+pub use Rattle.oneshot_machine.specs.Drop as ReceiverDrop
 pub use Rattle.oneshot_machine.specs.Receiver
 pub use Rattle.oneshot_machine.specs.TableRows
 pub use Rattle.oneshot_machine.specs.Sender
