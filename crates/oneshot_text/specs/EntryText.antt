@@ -24,9 +24,9 @@ abbrev pub message_field : Option (Place × Place) → List ℕ
 message_field (Some move) = codes " m:" ++ name_of_place move.0 ++ codes ">" ++ name_of_place move.1
 message_field None = []
 
-abbrev pub waker_field : Option (WakerName × (WakerPlace × WakerPlace)) → List ℕ
+abbrev pub waker_field : Option (WakerName × WakerPlace × WakerPlace) → List ℕ
 waker_field (Some move) =
-    codes " " ++ name_of_waker move.0 ++ codes ":" ++ name_of_waker_place move.1.0 ++ codes ">" ++ name_of_waker_place move.1.1
+    codes " " ++ name_of_waker move.0 ++ codes ":" ++ name_of_waker_place move.1 ++ codes ">" ++ name_of_waker_place move.2
 waker_field None = []
 
 -- a wake that set the token

@@ -1,5 +1,5 @@
 -- The first fault of a text that is not of the grammar, line by line and from left to right.
-use Rattle.std.specs.Prelude.{◌≡◌, ◌≢◌, ¬, ⊥, ℕ, ◌+◌, ◌^◌, ◌<◌, List, [], ◌∷◌, ◌++◌, length, map, decimal, Some, slice_get}
+use Rattle.std.specs.Prelude.{◌≡◌, ◌≢◌, ℕ, ◌+◌, ◌^◌, ◌<◌, List, [], ◌∷◌, ◌++◌, length, map, decimal, Some, slice_get}
 use Rattle.oneshot_text.specs.declared.fault.Malformed.{Malformed}
 use Rattle.oneshot_text.specs.declared.fault.Malformed.TheVariants.{MissingLine, MustBegin, UnknownWord, BadNumber, FollowsLastCall, InputAfterLines}
 use Rattle.oneshot_text.specs.declared.line.Line.{Line}
