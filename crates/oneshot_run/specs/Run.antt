@@ -1,7 +1,7 @@
 -- What the program writes for an input, or which fault it tells.
-use Rattle.std.specs.Prelude.{¬, ℕ, ◌<◌, ◌≤◌, List, length}
+use Rattle.std.specs.Prelude.{ℕ, ◌<◌, ◌≤◌, List, length}
 use Rattle.std.specs.Str.{IsAscii}
-use Rattle.core.specs.declared.alloc.AllocError.{AllocError}
+use Rattle.std.specs.declared.alloc.AllocError.{AllocError}
 use Rattle.oneshot_world.specs.World.{opening}
 use Rattle.oneshot_replay.specs.Rest.{message_of}
 use Rattle.oneshot_replay.specs.declared.Move.{Move}
