@@ -5,7 +5,6 @@ use Rattle.oneshot_world.specs.declared.script.Move.{Move}
 use Rattle.oneshot_world.specs.declared.script.ReceiverScript.{ReceiverScript}
 use Rattle.oneshot_world.specs.declared.script.SenderScript.{SenderScript}
 use Rattle.oneshot_world.specs.declared.trace.Entry.{Entry}
-use Rattle.oneshot_replay.specs.Rest.{message_of}
 use Rattle.oneshot_replay.specs.Run.{HasRun, GoesOn}
 use Rattle.oneshot_replay.specs.Scene.{Scene}
 use Rattle.oneshot_replay.specs.TraceView.{last_of}
@@ -37,11 +36,6 @@ pub length-tells : (start : World) (worlds : List World) (moves : List Move) (en
 length-tells = tells_as_many 1
 
 module _ {T : Type 0} where
-  -- before the first move
-  pub begins : (s : SenderScript T) (r : ReceiverScript) (now : Scene T) → now.world ≡ opening s r → now.count ≡ 0 → now.message ≡ message_of s.last → HasRun s r [] [] now
-  begins s r now world count message =
-      record { worlds = []; tells = tt; ends = sym world; count = count; message = message }
-
   -- the number of the next entry
   next_entry : (s : SenderScript T) (r : ReceiverScript) (moves : List Move) (entries : List Entry) (now : Scene T) → HasRun s r moves entries now → now.count + 1 ≡ 1 + length entries
   next_entry s r moves entries now run =
