@@ -1,9 +1,16 @@
 pub mod Cut
+pub mod EntryText
+pub mod FirstFault
 pub mod Future
+pub mod Grammar
 pub mod Line
 pub mod Lines
+pub mod Names
 pub mod Receiver
+pub mod ReplyText
 pub mod Request
+pub mod RestText
 pub mod Schedule
 pub mod Sender
+pub mod TraceText
 pub mod Words
