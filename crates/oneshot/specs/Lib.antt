@@ -37,6 +37,8 @@ pub use Rattle.oneshot_machine.specs.declared.machine.receiver.ReceiverStart
 pub use Rattle.oneshot_machine.specs.declared.machine.sender.SenderCall
 -- what those of `replay` name
 pub use Rattle.oneshot_replay.specs.Rest
+pub use Rattle.oneshot_replay.specs.Run
+pub use Rattle.oneshot_replay.specs.Scene
 pub use Rattle.oneshot_replay.specs.TraceView
 pub use Rattle.oneshot_replay.specs.declared.rest.Rest as RestOf
 pub use Rattle.oneshot_world.specs.Calls
@@ -47,6 +49,7 @@ pub use Rattle.oneshot_world.specs.State
 pub use Rattle.oneshot_world.specs.World
 pub use Rattle.oneshot_laws.specs.Actions
 pub use Rattle.oneshot_laws.specs.Alone
+pub use Rattle.oneshot_laws.specs.Bounds
 pub use Rattle.oneshot_laws.specs.Ended
 pub use Rattle.oneshot_laws.specs.History
 pub use Rattle.oneshot_laws.specs.Holders

@@ -1,15 +1,13 @@
 -- A run that grows by a move.
-use Rattle.std.proofs.Common.{arith, ◌≡◌, ℕ, ◌+◌, suc, List, [], ◌∷◌, ◌++◌, length, Some, refl, ap, subst}
-use Rattle.oneshot_world.specs.World.{World, turn, Tells_from, Tells}
+use Rattle.std.proofs.Common.{arith, ◌≡◌, ℕ, ◌+◌, suc, List, [], ◌∷◌, ◌++◌, length, length-append, Some, refl, sym, ap, subst, ◌∙◌}
+use Rattle.oneshot_world.specs.World.{World, opening, turn, Tells_from, Tells}
 use Rattle.oneshot_world.specs.declared.script.Move.{Move}
+use Rattle.oneshot_world.specs.declared.script.ReceiverScript.{ReceiverScript}
+use Rattle.oneshot_world.specs.declared.script.SenderScript.{SenderScript}
 use Rattle.oneshot_world.specs.declared.trace.Entry.{Entry}
+use Rattle.oneshot_replay.specs.Run.{HasRun, GoesOn}
+use Rattle.oneshot_replay.specs.Scene.{Scene}
 use Rattle.oneshot_replay.specs.TraceView.{last_of}
-
--- the run so far, from the first world to the one that is there now
-pub record IsRunTo (start : World) (moves : List Move) (entries : List Entry) (now : World) : Type 0 where
-  pub worlds : List World
-  pub tells : Tells start worlds moves entries
-  pub ends : last_of start worlds ≡ now
 
 -- a move that makes the entry after the last one
 tells_more : (n : ℕ) (start : World) (worlds : List World) (moves : List Move) (entries : List Entry) (move : Move) (entry : Entry) (next : World) → Tells_from n start worlds moves entries → turn (n + length entries) (last_of start worlds) move ≡ Some (entry, next) → Tells_from n start (worlds ++ next ∷ []) (moves ++ move ∷ []) (entries ++ entry ∷ [])
@@ -28,19 +26,6 @@ last_more : (start : World) (worlds : List World) (next : World) → last_of sta
 last_more start [] next = refl
 last_more start (w ∷ worlds) next = last_more w worlds next
 
--- one more move
-pub grows : (start : World) (moves : List Move) (entries : List Entry) (now : World) (move : Move) (entry : Entry) (next : World) → IsRunTo start moves entries now → turn (1 + length entries) now move ≡ Some (entry, next) → IsRunTo start (moves ++ move ∷ []) (entries ++ entry ∷ []) next
-grows start moves entries now move entry next run turned =
-    record {
-      worlds = run.worlds ++ next ∷ [];
-      tells = tells_more 1 start run.worlds moves entries move entry next run.tells (rw run.ends turned);
-      ends = last_more start run.worlds next;
-    }
-
--- before the first move
-pub begins : (start : World) → IsRunTo start [] [] start
-begins start = record { worlds = []; tells = tt; ends = refl }
-
 -- an entry a move
 tells_as_many : (n : ℕ) (start : World) (worlds : List World) (moves : List Move) (entries : List Entry) → Tells_from n start worlds moves entries → length entries ≡ length moves
 tells_as_many n start [] [] [] told = refl
@@ -49,3 +34,23 @@ tells_as_many n start _ _ _ told = elim told [ ]
 
 pub length-tells : (start : World) (worlds : List World) (moves : List Move) (entries : List Entry) → Tells start worlds moves entries → length entries ≡ length moves
 length-tells = tells_as_many 1
+
+module _ {T : Type 0} where
+  -- the number of the next entry
+  next_entry : (s : SenderScript T) (r : ReceiverScript) (moves : List Move) (entries : List Entry) (now : Scene T) → HasRun s r moves entries now → now.count + 1 ≡ 1 + length entries
+  next_entry s r moves entries now run =
+      omega (arith, run.count, length-tells (opening s r) run.worlds moves entries run.tells)
+
+  -- one more move
+  pub goes_on : (from : Scene T) (move : Move) (entry : Entry) (to : Scene T) → turn (from.count + 1) from.world move ≡ Some (entry, to.world) → to.count ≡ from.count + 1 → to.message ≡ from.message → GoesOn from move entry to
+  goes_on from move entry to turned count message s r moves entries run =
+      let number : from.count + 1 ≡ 1 + length entries = next_entry s r moves entries from run in
+      let here : turn (1 + length entries) from.world move ≡ Some (entry, to.world) =
+      subst (λ n. turn n from.world move ≡ Some (entry, to.world)) number turned in
+      record {
+        worlds = run.worlds ++ to.world ∷ [];
+        tells = tells_more 1 (opening s r) run.worlds moves entries move entry to.world run.tells (rw run.ends here);
+        ends = last_more (opening s r) run.worlds to.world;
+        count = count ∙ ap (λ n. n + 1) run.count ∙ sym (length-append moves (move ∷ []));
+        message = message ∙ run.message;
+      }

@@ -1,2 +1,4 @@
 pub mod Rest
+pub mod Run
+pub mod Scene
 pub mod TraceView

@@ -1,17 +1,11 @@
 -- The message of a script, beside the world that knows only its place.
 use Rattle.std.specs.Prelude.{Option, Some, None}
-use Rattle.oneshot_world.specs.World.{World}
 use Rattle.oneshot_world.specs.declared.script.SenderLast.{SenderLast}
 use Rattle.oneshot_world.specs.declared.script.SenderLast.TheVariants.{Send, Drop, Stop}
 use Rattle.oneshot_world.specs.declared.trace.Place.{Place}
 use Rattle.oneshot_world.specs.declared.trace.Place.TheVariants as P
 use Rattle.oneshot_replay.specs.declared.rest.Rest.{Rest}
 use Rattle.oneshot_replay.specs.declared.rest.Rest.TheVariants.{NotSent, InCell, InError, Delivered, FromError, Dropped}
-
--- the world, and the message
-pub record Scene (T : Type 0) : Type 0 where
-  pub world : World
-  pub message : Option T
 
 abbrev pub message_of : {T : Type 0} → SenderLast T → Option T
 message_of (Send message error) = Some message

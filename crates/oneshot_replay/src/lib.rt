@@ -13,6 +13,7 @@ pub use oneshot_world::{
     ReceiverCall, ReceiverLast, ReceiverScript, SenderLast, SenderScript, WakerName, WakerPlace,
 };
 pub use refused::Refused;
+pub use replayer::Replayer;
 pub use rest::Rest;
 pub use run::replay;
 pub use trace::Trace;

@@ -1,59 +1,96 @@
 //! Two machines, one move at a time.
 
-ghost use Rattle.std.specs.Prelude.{◌≡◌, Some};
+ghost use Rattle.std.specs.Prelude.{◌≡◌, ◌+◌, ◌-◌, ◌^◌, ◌<◌, [], Some};
 ghost use Rattle.oneshot_world.specs.World.{opening, turn};
 ghost use Rattle.oneshot_replay.specs.Rest.{message_of, rest_at};
+ghost use Rattle.oneshot_replay.specs.Run.{HasRun, GoesOn};
+ghost use Rattle.oneshot_replay.specs.Scene.{sender_call_of, receiver_call_of};
 
 use crate::rest::{Rest, rest_at};
+use oneshot_machine::machine::{ReceiverStart, SenderCall};
 use oneshot_world::{Entry, Move, ReceiverScript, SenderLast, SenderScript, World};
 use std::marker::Model;
 
-/// Two machines between two moves, and the message of the sender's script.
+/// Two machines between two moves, the count of the entries so far, and the sender's message.
 #[derive(Drop)]
-pub(crate) struct Replayer<T> {
+pub struct Replayer<T> {
     world: World,
+    count: usize,
     message: Option<T>,
 }
 
 impl<T> Model for Replayer<T> {
-    ghost use Rattle.oneshot_replay.specs.Rest.{Scene};
+    ghost use Rattle.oneshot_replay.specs.Scene.{Scene};
 
     ghost Value = { Scene T };
 
-    ghost view = { λ r. record { world = r.world; message = r.message } };
+    ghost view = { λ r. record { world = r.world; count = r.count; message = r.message } };
 }
 
 impl<T: Drop> Replayer<T> {
-    /// Both machines before the first move.
-    pub(crate) fn new(s: SenderScript<T>, r: ReceiverScript) -> Replayer<T>
+    /// Both machines before the first move of the scripts `s` and `r`.
+    pub fn new(s: SenderScript<T>, r: ReceiverScript) -> Replayer<T>
         ensures world { result.world ≡ opening s r }
+        ensures count { result.count ≡ 0 }
         ensures message { result.message ≡ message_of s.last }
+        ensures begins { HasRun s r [] [] result }
     {
         let world = World::new(&s, r);
         let message = match s.last {
             SenderLast::Send(message, _) => Some(message),
             SenderLast::Drop | SenderLast::Stop => None,
         };
-        Replayer { world, message }
+        Replayer {
+            world,
+            count: 0,
+            message,
+        }
     }
 
-    /// Makes one move, and tells it. The entry's number counts from 1.
-    pub(crate) fn step(&mut self, m: Move, entry: usize) -> Entry
-        ensures turn { turn entry self.old.world m ≡ Some (result, self.new.world) }
+    /// Makes one move, and tells it.
+    pub fn step(&mut self, m: Move) -> Entry
+        requires room { self.old.count < 2 ^ 64 - 1 }
+        ensures turn { turn (self.old.count + 1) self.old.world m ≡ Some (result, self.new.world) }
+        ensures count { self.new.count ≡ self.old.count + 1 }
         ensures message { self.new.message ≡ self.old.message }
+        ensures goes_on { GoesOn self.old m result self.new }
     {
-        self.world.step(m, entry)
+        self.count += 1;
+        self.world.step(m, self.count)
+    }
+
+    /// How many entries there are so far: one for each move.
+    pub fn count(&self) -> usize
+        ensures { result ≡ self.now.count }
+    {
+        self.count
+    }
+
+    /// The call that the sender has under way, or begins at its next move; `None` where its script has
+    /// nothing left. The calls of a refused message's error are the sender's too.
+    pub fn sender_call(&self) -> Option<SenderCall>
+        ensures { result ≡ sender_call_of self.now }
+    {
+        self.world.sender_call()
+    }
+
+    /// The call that the receiver has under way, or begins at its next move; `None` where its script has
+    /// nothing left.
+    pub fn receiver_call(&self) -> Option<ReceiverStart>
+        ensures { result ≡ receiver_call_of self.now }
+    {
+        self.world.receiver_call()
     }
 
     /// Whether the block is freed.
-    pub(crate) fn block_freed(&self) -> bool
+    pub fn block_freed(&self) -> bool
         ensures { result ≡ self.now.world.state.freed }
     {
         self.world.is_freed()
     }
 
     /// The message's place now, with the message; `None` where the script sends nothing.
-    pub(crate) fn into_rest(self) -> Option<Rest<T>>
+    pub fn into_rest(self) -> Option<Rest<T>>
         ensures { result ≡ rest_at self.world.state.message self.message }
     {
         let place = self.world.place();

@@ -64,8 +64,7 @@ pub fn replay<T: Drop>(
     };
     let mut end = Replayer::new(s, r);
     for m in moves {
-        let entry = entries.len() + 1;
-        let Ok(()) = entries.push(end.step(*m, entry)) else {
+        let Ok(()) = entries.push(end.step(*m)) else {
             unreachable!()
         };
     }

@@ -1,7 +1,9 @@
 //! The world between two moves, and one move of it.
 
 ghost use Rattle.std.specs.Prelude.{◌≡◌, Some};
+ghost use Rattle.std.specs.Option.{option_and_then};
 ghost use Rattle.oneshot_machine.specs.declared.machine.End.TheVariants as Ends;
+ghost use Rattle.oneshot_world.specs.Calls.{first, as_sender_call, as_receiver_call};
 ghost use Rattle.oneshot_world.specs.World.{opening, opening_place, turn, turn_of, nothing_told, answer_of, told_with};
 ghost use Rattle.oneshot_world.specs.declared.script.Move.TheVariants as Moves;
 
@@ -11,7 +13,7 @@ use crate::script::{Move, ReceiverScript, SenderLast, SenderScript};
 use crate::state::State;
 use crate::trace::{Entry, Place, WakerName};
 use crate::wakers::Told;
-use oneshot_machine::machine::{End, ReceiverPos, Step};
+use oneshot_machine::machine::{End, ReceiverPos, ReceiverStart, SenderCall, Step};
 use std::marker::Model;
 
 /// Both machines between two moves, and what each script has left.
@@ -54,6 +56,20 @@ impl World {
             Move::Sender => self.step_sender(),
             Move::Receiver { over, refuse } => self.step_receiver(over, refuse, entry),
         }
+    }
+
+    /// The call that the sender has under way, or begins at its next move; `None` where none is left.
+    pub fn sender_call(&self) -> Option<SenderCall>
+        ensures { result ≡ option_and_then as_sender_call (first self.now.sender.calls) }
+    {
+        self.sender.first()
+    }
+
+    /// The call that the receiver has under way, or begins at its next move; `None` where none is left.
+    pub fn receiver_call(&self) -> Option<ReceiverStart>
+        ensures { result ≡ option_and_then as_receiver_call (first self.now.receiver.calls) }
+    {
+        self.receiver.first()
     }
 
     /// Whether the block is freed.
