@@ -1,10 +1,17 @@
 -- The faults of an input, where its bytes are known.
-use Rattle.std.proofs.Common.{arith, ◌≡◌, ℕ, ◌+◌, ◌<◌, List, [], ◌∷◌, ◌++◌, length, Option, Some, None, IfSome, refl, ap, ◌∙◌}
+use Rattle.std.proofs.Common.{arith, ◌≡◌, ℕ, ◌+◌, ◌<◌, List, [], ◌∷◌, ◌++◌, length, Option, Some, None, IfSome, IfErr, Result, Ok, Err, ap, ◌∙◌}
 use Rattle.std.proofs.lemmas.List.{length-append}
 use Rattle.std.specs.Io.KnownBytes.{Consumes}
 use Rattle.std.specs.declared.alloc.AllocError.{AllocError}
+use Rattle.std.specs.Result.{IsErrAnd}
+use Rattle.oneshot_run.specs.declared.fault.Fault.{Fault}
 use Rattle.oneshot_run.specs.declared.fault.Fault.TheVariants as F
 use Rattle.oneshot_run.specs.Run.{IsFault, is_unread, is_out_of_memory, is_too_long, most_bytes}
+
+-- the fault of a result that passes this one on
+pub passed_on : {T : Type 0} (known : Option (List ℕ)) (fault : Fault) (r : Result T Fault) → IsErrAnd r (λ told. told ≡ fault) → IfSome known (λ input. IsFault input fault) → IfErr r (λ told. IfSome known (λ input. IsFault input told))
+passed_on known fault (Ok value) told is = elim told [ ]
+passed_on known fault (Err other) told is = rw told is
 
 pub unread : (known : Option (List ℕ)) → IfSome known (λ input. IsFault input F.ReadFailed)
 unread None = tt

@@ -33,9 +33,7 @@ pub(crate) fn read_input<R: Read>(alloc: Global, input: &mut R) -> Result<Vec<u8
         if count == 0 {
             return Ok(bytes);
         }
-        bytes
-            .extend_from_slice(&block[..count])
-            .map_err(Fault::OutOfMemory)?;
+        bytes.extend_from_slice(&block[..count])?;
     }
     Err(Fault::InputTooLong)
 }
