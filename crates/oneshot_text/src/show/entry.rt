@@ -2,7 +2,7 @@
 
 use crate::show::names::{WakerText, end_letter, message_place, step_name, waker_place};
 use crate::show::reply::ReplyText;
-use oneshot_machine::machine::Seen;
+use oneshot_machine::machine::{ReceiverStart, Seen};
 use oneshot_replay::{Entry, Made};
 use std::fmt;
 
@@ -13,16 +13,26 @@ pub struct EntryLine {
     pub number: usize,
     /// The entry.
     pub entry: Entry,
-    /// The reply, where the entry ends a call.
-    pub reply: Option<ReplyText>,
+    /// The call that the receiver has under way at the entry.
+    pub call: Option<ReceiverStart>,
+    /// The message of the sender's script.
+    pub message: u64,
 }
 
 impl fmt::Display for EntryLine {
+    ghost use Rattle.std.specs.Prelude.{Some};
+    ghost use Rattle.oneshot_text.specs.EntryText.{entry_text};
+
+    ghost output = { λ l. Some (entry_text l.number l.call l.message l.entry) };
+
     fn fmt<W: fmt::Write>(&self, f: &mut fmt::Formatter<W>) -> fmt::Result {
-        let (number, reply) = (self.number, self.reply);
+        let number = self.number;
         match self.entry {
             Entry::Idle(end) => write!(f, "{number} {} idle", end_letter(end)),
-            Entry::Made(made) => write!(f, "{number} {}", MadeText { made, reply }),
+            Entry::Made(made) => {
+                let reply = made.reply.map(|reply| ReplyText { end: made.side, call: self.call, message: self.message, reply });
+                write!(f, "{number} {}", MadeText { made, reply })
+            }
         }
     }
 }

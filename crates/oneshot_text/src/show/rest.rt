@@ -1,5 +1,8 @@
 //! The rest's line: the message's last place.
 
+ghost use Rattle.std.specs.Prelude.{◌≡◌};
+ghost use Rattle.oneshot_text.specs.RestText.{block_text};
+
 use crate::show::names::message_place;
 use oneshot_replay::{Place, Rest};
 use std::fmt;
@@ -9,6 +12,11 @@ use std::fmt;
 pub(crate) struct RestText(pub(crate) Option<Rest<u64>>);
 
 impl fmt::Display for RestText {
+    ghost use Rattle.std.specs.Prelude.{Some};
+    ghost use Rattle.oneshot_text.specs.RestText.{rest_text};
+
+    ghost output = { λ r. Some (rest_text r.0) };
+
     fn fmt<W: fmt::Write>(&self, f: &mut fmt::Formatter<W>) -> fmt::Result {
         let Some(rest) = &self.0 else {
             return write!(f, "none");
@@ -27,4 +35,11 @@ fn place_of(rest: &Rest<u64>) -> (Place, u64) {
         Rest::FromError(message) => (Place::FromError, *message),
         Rest::Dropped(message) => (Place::Dropped, *message),
     }
+}
+
+/// Whether the block is freed, in a word.
+pub(crate) fn block_word(freed: bool) -> &'static str
+    ensures { result.now ≡ block_text freed }
+{
+    if freed { "freed" } else { "here" }
 }
