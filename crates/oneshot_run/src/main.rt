@@ -3,15 +3,14 @@
 
 mod fault;
 mod input;
+mod run;
 #[cfg(test)]
 mod tests;
 
 pub use fault::Fault;
-use input::{read_input, text_of};
-use oneshot_replay::replay;
-use oneshot_text::{parse_request, write_trace};
-use std::alloc::{AllocError, Global};
-use std::io::{BufWriter, Read, Write};
+pub use run::run;
+use std::alloc::Global;
+use std::io::{Read, Write};
 use std::process::ExitCode;
 
 fn main(rt: HostRuntime) -> ExitCode {
@@ -39,20 +38,4 @@ pub fn answer<R: Read, W: Write, E: Write>(
             fault.status()
         }
     }
-}
-
-/// Reads all of `input`, runs what it asks for, and writes the trace to `output`.
-///
-/// After the first byte of output no memory is asked for, and after a failed write nothing is written.
-pub fn run<R: Read, W: Write>(alloc: Global, input: &mut R, output: &mut W) -> Result<(), Fault> {
-    let bytes = read_input(alloc, input)?;
-    let request = parse_request(alloc, text_of(&bytes)?)?;
-    let calls = request.calls(alloc)?;
-    let message = request.message();
-    let trace = replay(alloc, request.sender, request.receiver, &request.moves)?;
-    let mut buffered = BufWriter::new(alloc, output).map_err(|_| Fault::OutOfMemory(AllocError))?;
-    let written = write_trace(&mut buffered, trace, &calls, message);
-    // Taken apart, it does not try again to write what a failed write left, as its drop would.
-    let _unwritten = buffered.into_parts();
-    written.map_err(|_| Fault::WriteFailed)
 }
