@@ -15,7 +15,7 @@ use arrayvec::ArrayString;
 pub use entry::EntryLine;
 use oneshot_replay::{Move, Replayer};
 pub use reply::ReplyText;
-use rest::RestText;
+use rest::{RestText, block_word};
 use std::fmt::Write as _;
 use std::io;
 use std::io::Write;
@@ -35,10 +35,10 @@ pub fn write_run<W: Write>(
     moves: &[Move],
     message: u64,
 ) -> io::Result<()>
-    requires room { run.entry.count + length moves.now < 2 ^ 64 }
-    requires message { message ≡ unwrap_or run.entry.message 0 }
+    requires room { run.count + length moves.now < 2 ^ 64 }
+    requires message { message ≡ unwrap_or run.message 0 }
     ensures written { OnOk result ((text : List ℕ)
-        × IsTextOf run.entry.message (run.entry.count + 1) run.entry.world moves.now text
+        × IsTextOf run.message (run.count + 1) run.world moves.now text
         × Appends (W.contents output.old) (W.contents output.new) text) }
 {
     let mut buffer = ArrayString::new();
@@ -88,7 +88,7 @@ fn write_line<W: Write>(
 fn write_end<W: Write>(output: &mut W, run: Replayer<u64>) -> io::Result<()>
     ensures { OnOk result (Appends (W.contents output.old) (W.contents output.new) (end_text run.message run.world)) }
 {
-    let block = if run.block_freed() { "freed" } else { "here" };
+    let block = block_word(run.block_freed());
     let rest = RestText(run.into_rest());
     writeln!(output, "rest {rest}")?;
     writeln!(output, "block {block}")

@@ -42,8 +42,8 @@ fn place_of(rest: &Rest<u64>) -> (Place, u64)
 }
 
 /// Whether the block is freed, in a word.
-pub(crate) fn block_word(is_freed: bool) -> &'static str
-    ensures { result.now ≡ block_text is_freed }
+pub(crate) fn block_word(freed: bool) -> &'static str
+    ensures { result.now ≡ block_text freed }
 {
-    if is_freed { "freed" } else { "here" }
+    if freed { "freed" } else { "here" }
 }
