@@ -1,20 +1,27 @@
 //! The names of ends, steps, places and wakers.
 
+ghost use Rattle.std.specs.Prelude.{◌≡◌, ◌++◌, codes};
+ghost use Rattle.oneshot_text.specs.Names.{letter_of_end, name_of_operation, name_of_step, name_of_place, name_of_waker_place};
+
 use oneshot_machine::machine::{End, Step};
 use oneshot_machine::states::Op;
 use oneshot_replay::{Place, WakerName, WakerPlace};
 use std::fmt;
 
-/// An end's letter.
-pub(crate) fn end_letter(end: End) -> &'static str {
+/// An end's letter, between two spaces.
+pub(crate) fn end_letter(end: End) -> &'static str
+    ensures { result.now ≡ codes " " ++ letter_of_end end ++ codes " " }
+{
     match end {
-        End::Sender => "S",
-        End::Receiver => "R",
+        End::Sender => " S ",
+        End::Receiver => " R ",
     }
 }
 
 /// A step's name.
-pub(crate) fn step_name(step: Step) -> &'static str {
+pub(crate) fn step_name(step: Step) -> &'static str
+    ensures { result.now ≡ name_of_step step }
+{
     match step {
         Step::Word(operation) => operation_name(operation),
         Step::WriteMessage => "write-message",
@@ -33,7 +40,9 @@ pub(crate) fn step_name(step: Step) -> &'static str {
     }
 }
 
-fn operation_name(operation: Op) -> &'static str {
+fn operation_name(operation: Op) -> &'static str
+    ensures { result.now ≡ name_of_operation operation }
+{
     match operation {
         Op::Load => "load",
         Op::Store(_) => "store",
@@ -45,7 +54,9 @@ fn operation_name(operation: Op) -> &'static str {
 }
 
 /// The name of a place of the message.
-pub(crate) fn message_place(place: Place) -> &'static str {
+pub(crate) fn message_place(place: Place) -> &'static str
+    ensures { result.now ≡ name_of_place place }
+{
     match place {
         Place::NotSent => "NotSent",
         Place::InCell => "InCell",
@@ -57,7 +68,9 @@ pub(crate) fn message_place(place: Place) -> &'static str {
 }
 
 /// The name of a place of a waker.
-pub(crate) fn waker_place(place: WakerPlace) -> &'static str {
+pub(crate) fn waker_place(place: WakerPlace) -> &'static str
+    ensures { result.now ≡ name_of_waker_place place }
+{
     match place {
         WakerPlace::New => "New",
         WakerPlace::Hand => "Hand",
@@ -73,6 +86,11 @@ pub(crate) fn waker_place(place: WakerPlace) -> &'static str {
 pub(crate) struct WakerText(pub(crate) WakerName);
 
 impl fmt::Display for WakerText {
+    ghost use Rattle.std.specs.Prelude.{Some};
+    ghost use Rattle.oneshot_text.specs.Names.{name_of_waker};
+
+    ghost output = { λ w. Some (name_of_waker w.0) };
+
     fn fmt<W: fmt::Write>(&self, f: &mut fmt::Formatter<W>) -> fmt::Result {
         match self.0 {
             WakerName::Parker => write!(f, "p"),

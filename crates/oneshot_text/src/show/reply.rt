@@ -1,5 +1,8 @@
 //! What a call answered, in the words of that call.
 
+ghost use Rattle.std.specs.Prelude.{◌≡◌};
+ghost use Rattle.oneshot_text.specs.ReplyText.{disconnected_text};
+
 use oneshot_machine::machine::{End, ReceiverStart, Reply};
 use std::fmt;
 
@@ -17,6 +20,11 @@ pub struct ReplyText {
 }
 
 impl fmt::Display for ReplyText {
+    ghost use Rattle.std.specs.Prelude.{Some};
+    ghost use Rattle.oneshot_text.specs.ReplyText.{reply_text};
+
+    ghost output = { λ r. Some (reply_text r.end r.call r.message r.reply) };
+
     fn fmt<W: fmt::Write>(&self, f: &mut fmt::Formatter<W>) -> fmt::Result {
         let message = self.message;
         match self.reply {
@@ -40,7 +48,9 @@ impl fmt::Display for ReplyText {
 }
 
 /// The error of a receive that will get no message.
-fn error_of(call: Option<ReceiverStart>) -> &'static str {
+fn error_of(call: Option<ReceiverStart>) -> &'static str
+    ensures { result.now ≡ disconnected_text call }
+{
     match call {
         Some(ReceiverStart::Poll) => "Ready(Err(RecvError))",
         Some(ReceiverStart::Recv | ReceiverStart::RecvRef) => "Err(RecvError)",

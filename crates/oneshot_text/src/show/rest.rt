@@ -1,7 +1,8 @@
 //! The rest's line: the message's last place.
 
-ghost use Rattle.std.specs.Prelude.{◌≡◌};
-ghost use Rattle.oneshot_text.specs.RestText.{block_text};
+ghost use Rattle.std.specs.Prelude.{◌≡◌, Some};
+ghost use Rattle.oneshot_text.specs.Names.{name_of_place};
+ghost use Rattle.oneshot_text.specs.RestText.{rest_text, at_place, block_text};
 
 use crate::show::names::message_place;
 use oneshot_replay::{Place, Rest};
@@ -26,7 +27,10 @@ impl fmt::Display for RestText {
     }
 }
 
-fn place_of(rest: &Rest<u64>) -> (Place, u64) {
+/// The place and the message.
+fn place_of(rest: &Rest<u64>) -> (Place, u64)
+    ensures { rest_text (Some rest.now) ≡ at_place (name_of_place result.0) result.1 }
+{
     match rest {
         Rest::NotSent(message) => (Place::NotSent, *message),
         Rest::InCell(message) => (Place::InCell, *message),
