@@ -8,7 +8,7 @@ use oneshot_replay::{
 };
 use std::test::Fail;
 
-/// The receiver's move, with a clock that is not over.
+/// The receiver's move, at which no deadline is over and no copy is refused.
 const RECEIVER: Move = Move::Receiver {
     over: false,
     refuse: false,
@@ -44,11 +44,12 @@ fn a_refused_message_is_followed_move_by_move(rt: HostRuntime) {
     assert_eq!(rt; replayer.sender_call(), Some(SenderCall::Send));
     assert_eq!(rt; replayer.receiver_call(), Some(ReceiverStart::Drop));
     for (i, (made, sender, receiver, freed)) in cases.iter().enumerate() {
+        let number = i + 1;
         let _ = replayer.step(*made);
-        assert_eq!(rt; replayer.count(), i + 1);
-        assert_eq!(rt; replayer.sender_call(), *sender, "after move {i}");
-        assert_eq!(rt; replayer.receiver_call(), *receiver, "after move {i}");
-        assert_eq!(rt; replayer.block_freed(), *freed, "after move {i}");
+        assert_eq!(rt; replayer.count(), number);
+        assert_eq!(rt; replayer.sender_call(), *sender, "after move {number}");
+        assert_eq!(rt; replayer.receiver_call(), *receiver, "after move {number}");
+        assert_eq!(rt; replayer.block_freed(), *freed, "after move {number}");
     }
     assert!(rt; matches!(replayer.into_rest(), Some(Rest::FromError(7))));
 }
@@ -87,7 +88,8 @@ fn a_receiver_that_nobody_wakes_parks_and_loads_in_turn(rt: HostRuntime) -> Resu
     };
     let mut replayer = Replayer::new(send(7, ErrorLast::Stop), receiver);
     for i in 0..MOVES {
-        assert_eq!(rt; replayer.step(RECEIVER), waiting(i + 1), "entry {i}");
+        let number = i + 1;
+        assert_eq!(rt; replayer.step(RECEIVER), waiting(number), "entry {number}");
     }
     assert_eq!(rt; replayer.count(), MOVES);
     Ok(())
