@@ -6,6 +6,7 @@ pub mod Grammar
 pub mod Line
 pub mod Lines
 pub mod Names
+pub mod Page
 pub mod Receiver
 pub mod ReplyText
 pub mod Request
