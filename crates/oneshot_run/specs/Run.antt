@@ -42,11 +42,6 @@ pub record IsAnswered (input : List ℕ) (before after : Option (List ℕ)) : Ty
   pub asked : AsksFor input sender receiver moves
   pub written : IsWritten sender receiver moves before after
 
--- the faults of a run that is asked for
-pub data IsNoAnswer : Fault → Type 0 where
-  no_memory : {refusal : AllocError} → IsNoAnswer (F.OutOfMemory refusal)
-  no_write : IsNoAnswer F.WriteFailed
-
 -- When each fault is told, which is the first in this order. Of a stream that fails and of memory that is refused the input knows nothing.
 pub data IsFault (input : List ℕ) : Fault → Type 0 where
   is_unread : IsFault input F.ReadFailed

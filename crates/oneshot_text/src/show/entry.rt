@@ -1,6 +1,6 @@
 //! An entry's line.
 
-ghost use Rattle.std.specs.Prelude.{ℕ, List, ◌++◌, codes};
+ghost use Rattle.std.specs.Prelude.{◌≡◌, ◌++◌, IfSome, codes, decimal};
 ghost use Rattle.std.specs.Fmt.{WritesOnOk};
 ghost use Rattle.oneshot_text.specs.Names.{letter_of_end, name_of_step};
 ghost use Rattle.oneshot_text.specs.EntryText.{word_text, message_field, waker_field, token_field, found_field, own_field, reply_field, made_text};
@@ -69,10 +69,47 @@ fn write_step<W: fmt::Write>(f: &mut fmt::Formatter<W>, made: &Made) -> fmt::Res
 {
     f.write_str(end_letter(made.side))?;
     f.write_str(step_name(made.step))?;
-    f.write_str(" ")?;
-    write_word(f, made.before)?;
+    write_words(f, made.before, made.after)
+}
+
+/// The word before a step and after it.
+fn write_words<W: fmt::Write>(
+    f: &mut fmt::Formatter<W>,
+    before: Option<u8>,
+    after: Option<u8>,
+) -> fmt::Result
+    ensures { WritesOnOk W.write_str_gives f.old result (word_text before ++ codes ">" ++ word_text after) f.new }
+{
+    if let Some(both) = kept_word(before, after) {
+        return f.write_str(both);
+    }
+    write_word(f, before)?;
     f.write_str(">")?;
-    write_word(f, made.after)
+    write_word(f, after)
+}
+
+/// The word before and after a step that keeps it, as most steps do, in one piece.
+fn kept_word(before: Option<u8>, after: Option<u8>) -> Option<&'static str>
+    ensures { IfSome result (λ text. text.now ≡ word_text before ++ codes ">" ++ word_text after) }
+{
+    let (before, after) = (before?, after?);
+    if before == after {
+        return kept_code(before);
+    }
+    None
+}
+
+#[tactic(auto, using(crate::proofs::Kept::kept_text))]
+fn kept_code(code: u8) -> Option<&'static str>
+    ensures { IfSome result (λ text. text.now ≡ decimal code ++ codes ">" ++ decimal code) }
+{
+    match code {
+        0 => Some("0>0"),
+        2 => Some("2>2"),
+        3 => Some("3>3"),
+        4 => Some("4>4"),
+        _ => None,
+    }
 }
 
 /// The word's code, or `-` once the block is freed.

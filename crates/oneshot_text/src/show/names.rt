@@ -18,38 +18,39 @@ pub(crate) fn end_letter(end: End) -> &'static str
     }
 }
 
-/// A step's name.
+/// A step's name, and a space.
 pub(crate) fn step_name(step: Step) -> &'static str
-    ensures { result.now ≡ name_of_step step }
+    ensures { result.now ≡ name_of_step step ++ codes " " }
 {
     match step {
         Step::Word(operation) => operation_name(operation),
-        Step::WriteMessage => "write-message",
-        Step::TakeMessage => "take-message",
-        Step::DropMessage => "drop-message",
-        Step::WriteWaker => "write-waker",
-        Step::TakeWaker => "take-waker",
-        Step::Withdraw => "withdraw",
-        Step::Park => "park",
-        Step::Clock => "clock",
-        Step::Copy => "copy",
-        Step::Wake => "wake",
-        Step::WakeOwn => "wake",
-        Step::Free => "free",
-        Step::Plain => "plain",
+        Step::WriteMessage => "write-message ",
+        Step::TakeMessage => "take-message ",
+        Step::DropMessage => "drop-message ",
+        Step::WriteWaker => "write-waker ",
+        Step::TakeWaker => "take-waker ",
+        Step::Withdraw => "withdraw ",
+        Step::Park => "park ",
+        Step::Clock => "clock ",
+        Step::Copy => "copy ",
+        Step::Wake => "wake ",
+        Step::WakeOwn => "wake ",
+        Step::Free => "free ",
+        Step::Plain => "plain ",
     }
 }
 
+/// An operation's name, and a space.
 fn operation_name(operation: Op) -> &'static str
-    ensures { result.now ≡ name_of_operation operation }
+    ensures { result.now ≡ name_of_operation operation ++ codes " " }
 {
     match operation {
-        Op::Load => "load",
-        Op::Store(_) => "store",
-        Op::Swap(_) => "swap",
-        Op::Exchange(_, _) => "exchange",
-        Op::Add => "add",
-        Op::Xor => "xor",
+        Op::Load => "load ",
+        Op::Store(_) => "store ",
+        Op::Swap(_) => "swap ",
+        Op::Exchange(_, _) => "exchange ",
+        Op::Add => "add ",
+        Op::Xor => "xor ",
     }
 }
 

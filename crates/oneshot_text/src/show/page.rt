@@ -16,7 +16,7 @@ use std::io::Write;
 const PAGE: usize = 4096;
 
 /// How many bytes of a line wait at the most. A longer line has large numbers, and goes out in parts.
-const LINE: usize = 80;
+const LINE: usize = 64;
 
 /// The lines that wait to be written, and the line that is made now.
 #[derive(Drop)]
