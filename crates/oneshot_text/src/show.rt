@@ -21,7 +21,7 @@ use std::io;
 use std::io::Write;
 
 /// How many bytes the buffer of a line has. A longer line has large numbers, and goes out in parts.
-const LINE: usize = 64;
+const LINE: usize = 80;
 
 /// Makes the moves of `run` in their order and writes a line for each, then where the message is left, and
 /// then whether the block is freed.
