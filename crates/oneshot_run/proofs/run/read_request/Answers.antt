@@ -1,5 +1,5 @@
 -- The faults of an input that was read.
-use Rattle.std.proofs.Common.{sym, ◌∙◌, absurd, true≢false, cc}
+use Rattle.std.proofs.Common.{cc, sym, ap, ◌∙◌}
 use Rattle.oneshot_run.proofs.Faults.{passed_on, no_text, no_request}
 use Rattle.oneshot_run.proofs.run.read_request.Goals as goal
 
