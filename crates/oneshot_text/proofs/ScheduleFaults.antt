@@ -1,7 +1,7 @@
 -- How the words of a schedule's line go on behind each word.
-use Rattle.std.proofs.Common.{◌≡◌, ◌≢◌, ℕ, ◌^◌, ◌<◌, true, false, List, [], ◌∷◌, Result, Err, Some, length, map, get_or, slice_get, decimal, alloc_error, refl, sym, ap, subst, ◌∙◌, arith}
+use Rattle.std.proofs.Common.{◌≡◌, ◌≢◌, ℕ, ◌^◌, ◌<◌, true, false, List, [], ◌∷◌, Result, Err, Some, length, map, get_or, decimal, alloc_error, refl, sym, ap, subst, arith}
 use Rattle.std.specs.Result.{MatchResult}
-use Rattle.std.proofs.lemmas.Fmt.{decimal_nonempty, decimal_is_IsNumeral}
+use Rattle.std.proofs.lemmas.Fmt.{decimal_nonempty}
 use Rattle.oneshot_replay.specs.declared.Move.{Move}
 use Rattle.oneshot_replay.specs.declared.Move.TheVariants.{Sender, Receiver}
 use Rattle.oneshot_text.specs.declared.fault.Malformed.{Malformed}

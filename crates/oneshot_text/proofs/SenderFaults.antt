@@ -1,11 +1,11 @@
 -- How the words of a sender's line go on behind each word.
-use Rattle.std.proofs.Common.{◌≡◌, ◌≢◌, ℕ, zero, suc, ◌^◌, ◌<◌, List, [], ◌∷◌, ◌++◌, Some, slice_get, replicate, codes, decimal, get_or, refl, sym, ap, ◌∙◌, arith}
+use Rattle.std.proofs.Common.{◌≡◌, ◌≢◌, ℕ, zero, suc, ◌^◌, ◌<◌, List, [], ◌∷◌, ◌++◌, Some, slice_get, replicate, codes, decimal, refl, ap, ◌∙◌, arith}
 use Rattle.oneshot_replay.specs.declared.SenderLast.{SenderLast}
 use Rattle.oneshot_replay.specs.declared.SenderLast.TheVariants as L
 use Rattle.oneshot_replay.specs.declared.ErrorLast.{ErrorLast}
 use Rattle.oneshot_replay.specs.declared.ErrorLast.TheVariants as E
 use Rattle.oneshot_text.specs.Grammar.{AsksForSender, AsksForError, IsOver, NumberAnd}
-use Rattle.oneshot_text.specs.Sender.{words_of_error_last, words_of_error, words_of_sender_last, words_of_sender, IsSendable}
+use Rattle.oneshot_text.specs.Sender.{words_of_error_last, words_of_error, words_of_sender_last, IsSendable}
 use Rattle.oneshot_text.proofs.Decimal.{decimal-no_letter}
 use Rattle.oneshot_text.proofs.Unlike.{unlike}
 

@@ -1,5 +1,5 @@
 -- Where no line is left, the line is missing; where its first word is another one, it begins otherwise.
-use Rattle.std.proofs.Common.{◌≡◌, ℕ, ◌∷◌, map, length, Some, refl, sym, ap, ◌∙◌, arith}
+use Rattle.std.proofs.Common.{◌≡◌, ◌∷◌, map, length, Some, refl, sym, ap, ◌∙◌, arith}
 use Rattle.std.proofs.lemmas.Grind.{common_steps}
 use Rattle.oneshot_text.specs.declared.fault.Malformed.TheVariants.{MissingLine, MustBegin}
 use Rattle.oneshot_text.specs.Cut.{words_of, lines_of}
