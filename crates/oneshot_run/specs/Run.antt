@@ -1,6 +1,6 @@
 -- What the program writes for an input, or which fault it tells.
-use Rattle.std.specs.Prelude.{Option, ℕ, ◌<◌, ◌≤◌, List, length}
-use Rattle.std.specs.Io.KnownBytes.{Appends}
+use Rattle.std.specs.Prelude.{◌≢◌, IfSome, Option, ℕ, ◌<◌, ◌≤◌, List, length}
+use Rattle.std.specs.Io.KnownBytes.{Appends, Keeps}
 use Rattle.std.specs.Str.{IsAscii}
 use Rattle.std.specs.declared.alloc.AllocError.{AllocError}
 use Rattle.oneshot_world.specs.World.{opening}
@@ -12,6 +12,7 @@ use Rattle.oneshot_text.specs.FirstFault.{HasFault}
 use Rattle.oneshot_text.specs.Request.{Asks}
 use Rattle.oneshot_text.specs.TraceText.{IsTextOf}
 use Rattle.oneshot_text.specs.declared.fault.Malformed.{Malformed}
+use Rattle.oneshot_run.specs.Fault.{status_of}
 use Rattle.oneshot_run.specs.declared.fault.Fault.{Fault}
 use Rattle.oneshot_run.specs.declared.fault.Fault.TheVariants as F
 
@@ -51,3 +52,9 @@ pub data IsFault (input : List ℕ) : Fault → Type 0 where
   is_out_of_memory : {refusal : AllocError} → IsFault input (F.OutOfMemory refusal)
   is_unwritten : (sender : SenderScript ℕ) (receiver : ReceiverScript) (moves : List Move)
       → AsksFor input sender receiver moves → IsFault input F.WriteFailed
+
+-- The exit status: 0 where the answer was written, or that of the fault. Only a failed write leaves the output other than it was.
+pub data EndsWith (known : Option (List ℕ)) (before after : Option (List ℕ)) : ℕ → Type 0 where
+  is_answered : IfSome known (λ input. IsAnswered input before after) → EndsWith known before after 0
+  is_faulty : (fault : Fault) → IfSome known (λ input. IsFault input fault)
+      → (fault ≢ F.WriteFailed → Keeps before after) → EndsWith known before after (status_of fault)

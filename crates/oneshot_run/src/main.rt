@@ -1,6 +1,10 @@
 //! Reads two scripts and a schedule, and prints the trace of their run.
 #![tactic(auto)]
 
+ghost use Rattle.std.specs.Prelude.{◌≡◌};
+ghost use Rattle.std.specs.Io.KnownBytes.{Keeps};
+ghost use Rattle.oneshot_run.specs.Run.{EndsWith};
+
 mod fault;
 mod input;
 mod run;
@@ -29,7 +33,10 @@ pub fn answer<R: Read, W: Write, E: Write>(
     input: &mut R,
     output: &mut W,
     errors: &mut E,
-) -> u8 {
+) -> u8
+    ensures status { EndsWith (R.remaining input.old) (W.contents output.old) (W.contents output.new) result }
+    ensures quiet { result ≡ 0 → Keeps (E.contents errors.old) (E.contents errors.new) }
+{
     match run(alloc, input, output) {
         Ok(()) => 0,
         Err(fault) => {
