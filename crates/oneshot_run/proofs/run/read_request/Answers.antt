@@ -1,5 +1,5 @@
 -- The faults of an input that was read.
-use Rattle.std.proofs.Common.{◌≡◌, Err, refl, sym, ap, ◌∙◌, subst, true≢false}
+use Rattle.std.proofs.Common.{Err, refl, sym, ap, ◌∙◌, subst, true≢false}
 use Rattle.std.specs.Str.{IsAscii}
 use Rattle.oneshot_text.specs.FirstFault.{HasFault}
 use Rattle.oneshot_run.proofs.Faults.{passed_on, no_text, no_request}

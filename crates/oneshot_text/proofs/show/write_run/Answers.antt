@@ -1,5 +1,5 @@
 -- The text grows by a line a move, and ends with two more.
-use Rattle.std.proofs.Common.{arith, ◌≡◌, ℕ, ◌+◌, length, take, refl, sym, ◌∙◌}
+use Rattle.std.proofs.Common.{arith, ◌≡◌, ◌+◌, length, take, refl, ◌∙◌}
 use Rattle.std.specs.Prelude.{unwrap_or}
 use Rattle.std.proofs.lemmas.List.{take_more, take_all, length-take-le}
 use Rattle.std.proofs.lemmas.Result.{on_ok_weaker}
