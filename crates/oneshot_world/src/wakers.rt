@@ -45,93 +45,66 @@ impl Wakers {
         }
     }
 
-    /// After a step that finds this word and is told this.
-    pub(crate) fn after(self, told: Told, word: u8, step: Step) -> Wakers
-        ensures { result ≡ wakers_left told word self step }
-    {
-        match step {
-            Step::WriteWaker => Wakers {
-                cell: self.hand,
-                hand: None,
-                ..self
-            },
-            Step::TakeWaker => Wakers {
-                cell: None,
-                taken: self.cell,
-                ..self
-            },
-            Step::Withdraw => Wakers {
-                cell: None,
-                hand: if self.cell == Some(WakerName::Parker) {
-                    self.cell
-                } else {
-                    self.hand
-                },
-                ..self
-            },
-            Step::Wake => Wakers {
-                taken: None,
-                token: self.token || self.sets_token(step),
-                ..self
-            },
-            Step::Park => Wakers {
-                token: false,
-                ..self
-            },
-            Step::Copy => Wakers {
-                hand: if told.answer { self.hand } else { told.copy },
-                ..self
-            },
-            Step::Word(Op::Exchange(expected, _)) => Wakers {
-                hand: if word == expected { self.hand } else { None },
-                ..self
-            },
-            _ => self,
-        }
-    }
-
-    /// Without the parker's half, where a future begins.
-    pub(crate) fn kept(self, future: bool) -> Wakers
-        ensures { result ≡ hand_kept future self }
-    {
-        Wakers {
-            hand: if future { None } else { self.hand },
-            ..self
-        }
-    }
-
-    /// The move that a step makes with a waker: the waker, and the places that it leaves and goes to.
-    pub(crate) fn moved_by(
-        self,
+    /// What a step does that finds this word and is told this, and the move that it makes with a waker:
+    /// the waker, and the places that it leaves and goes to.
+    #[inline(always)]
+    pub(crate) fn moved(
+        &mut self,
         told: Told,
         word: u8,
         step: Step,
     ) -> Option<(WakerName, WakerPlace, WakerPlace)>
-        ensures { result ≡ waker_move told word self step }
+        ensures leaves { self.new ≡ wakers_left told word self.old step }
+        ensures tells { result ≡ waker_move told word self.old step }
     {
         match step {
-            Step::WriteWaker => Some((self.hand?, WakerPlace::Hand, WakerPlace::Cell)),
-            Step::TakeWaker => Some((self.cell?, WakerPlace::Cell, WakerPlace::SenderHand)),
-            Step::Withdraw => match self.cell? {
-                WakerName::Parker => Some((WakerName::Parker, WakerPlace::Cell, WakerPlace::Hand)),
+            Step::WriteWaker => {
+                self.cell = self.hand.take();
+                Some((self.cell?, WakerPlace::Hand, WakerPlace::Cell))
+            }
+            Step::TakeWaker => {
+                self.taken = self.cell.take();
+                Some((self.taken?, WakerPlace::Cell, WakerPlace::SenderHand))
+            }
+            Step::Withdraw => match self.cell.take()? {
+                WakerName::Parker => {
+                    self.hand = Some(WakerName::Parker);
+                    Some((WakerName::Parker, WakerPlace::Cell, WakerPlace::Hand))
+                }
                 copy => Some((copy, WakerPlace::Cell, WakerPlace::Dropped)),
             },
-            Step::Wake => Some((self.taken?, WakerPlace::SenderHand, WakerPlace::Used)),
+            Step::Wake => {
+                let waker = self.taken.take()?;
+                self.token = self.token || waker == WakerName::Parker;
+                Some((waker, WakerPlace::SenderHand, WakerPlace::Used))
+            }
+            Step::Park => {
+                self.token = false;
+                None
+            }
             Step::Copy => {
                 if told.answer {
-                    None
-                } else {
-                    Some((told.copy?, WakerPlace::New, WakerPlace::Hand))
+                    return None;
                 }
+                self.hand = told.copy;
+                Some((told.copy?, WakerPlace::New, WakerPlace::Hand))
             }
             Step::Word(Op::Exchange(expected, _)) => {
                 if word == expected {
-                    None
-                } else {
-                    Some((self.hand?, WakerPlace::Hand, WakerPlace::Dropped))
+                    return None;
                 }
+                Some((self.hand.take()?, WakerPlace::Hand, WakerPlace::Dropped))
             }
             _ => None,
+        }
+    }
+
+    /// Keeps what is in the hand, but gives up the parker's half where a future begins.
+    pub(crate) fn keep_hand(&mut self, future: bool)
+        ensures { self.new ≡ hand_kept future self.old }
+    {
+        if future {
+            self.hand = None;
         }
     }
 
