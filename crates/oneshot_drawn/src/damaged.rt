@@ -2,10 +2,11 @@
 
 use crate::auditor::audit;
 use crate::damage::{Edit, apply};
+use crate::moves::move_of;
 use crate::run::{run, scripts_of};
 use crate::scripts::{Receiving, Sending};
 use oneshot_machine::machine::{End, Reply, Step};
-use oneshot_replay::{Move, Place, WakerName, WakerPlace};
+use oneshot_replay::{Place, WakerName, WakerPlace};
 use std::alloc::AllocGlobal;
 use std::process::Abort;
 use std::test::Fail;
@@ -39,20 +40,6 @@ fn assert_refused(
         assert_eq!(rt; found.to_string(rt.alloc())?.as_str(), *finding, "{name}");
     }
     Ok(())
-}
-
-/// The move of a letter: the sender's, the receiver's, or the receiver's with its clock past the deadline.
-fn move_of(rt: &impl Abort, letter: char) -> Move {
-    let over = match letter {
-        's' => return Move::Sender,
-        'r' => false,
-        'o' => true,
-        _ => panic!(rt; "no move {letter:?}"),
-    };
-    Move::Receiver {
-        over,
-        refuse: false,
-    }
 }
 
 // 1 S write-message NotSent>InCell, 2 S add 3>4 = Ok, 3 R load 4, 4 R store 2,

@@ -2,7 +2,7 @@
 
 use crate::auditor::audit;
 use crate::digest::Digest;
-use crate::draws::Draws;
+use crate::moves::Draws;
 use crate::run::{run, scripts_of};
 use crate::scripts::{Receiving, Sending};
 use oneshot_replay::Move;

@@ -13,7 +13,7 @@ mod digest;
 #[cfg(test)]
 mod drawn;
 #[cfg(test)]
-mod draws;
+mod moves;
 #[cfg(test)]
 mod run;
 #[cfg(test)]
