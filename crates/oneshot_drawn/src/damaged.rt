@@ -46,7 +46,7 @@ fn assert_refused(
 // 5 R take-message InCell>Delivered = Ok(7), 6 R swap 2>2, 7 R free = dropped.
 #[test]
 fn a_message_that_is_taken(rt: HostRuntime) -> Result<(), Fail> {
-    let damages: [Damage; 14] = [
+    let damages: [Damage; 15] = [
         (
             "the take is missing",
             &[Edit::Remove(5)],
@@ -63,9 +63,14 @@ fn a_message_that_is_taken(rt: HostRuntime) -> Result<(), Fail> {
             "entry 1: the message may not go from NotSent to Delivered",
         ),
         (
-            "the message is not written",
-            &[Edit::Message(1, None)],
-            "entry 5: the message leaves InCell and is NotSent",
+            "the write is missing",
+            &[Edit::Remove(1)],
+            "entry 4: the message leaves InCell and is NotSent",
+        ),
+        (
+            "the receive takes nothing",
+            &[Edit::Message(5, None)],
+            "entry 5: the step moves nothing",
         ),
         (
             "the receive answers before it takes",
@@ -132,7 +137,7 @@ fn a_future_that_is_dropped_beside_its_sender(rt: HostRuntime) -> Result<(), Fai
         entry: 3,
     };
     let copied = (other, WakerPlace::New, WakerPlace::Hand);
-    let damages: [Damage; 13] = [
+    let damages: [Damage; 14] = [
         (
             "the block is freed before the sender's final swap",
             &[Edit::MoveBefore(15, 11)],
@@ -159,14 +164,19 @@ fn a_future_that_is_dropped_beside_its_sender(rt: HostRuntime) -> Result<(), Fai
             "entry 17: a waker leaves SenderHand and is Used",
         ),
         (
-            "the wake is lost",
+            "the wake wakes nobody",
             &[Edit::Waker(16, None)],
+            "entry 16: the step moves nothing",
+        ),
+        (
+            "the wake is lost",
+            &[Edit::Step(16, Step::Plain), Edit::Waker(16, None)],
             "entry 16: all have ended and a waker is SenderHand",
         ),
         (
             "the waker is not written",
-            &[Edit::Waker(4, None)],
-            "entry 10: a waker leaves Cell and is Hand",
+            &[Edit::Remove(4)],
+            "entry 9: a waker leaves Cell and is Hand",
         ),
         (
             "the receiver puts the waker into the sender's hand",
@@ -289,8 +299,8 @@ fn a_deadline_that_is_over(rt: HostRuntime) -> Result<(), Fail> {
 fn a_waker_that_is_replaced(rt: HostRuntime) -> Result<(), Fail> {
     let damages: [Damage; 1] = [(
         "the first waker stays in the cell",
-        &[Edit::Waker(9, None)],
-        "entry 10: a waker is written over another",
+        &[Edit::Remove(9)],
+        "entry 9: a waker is written over another",
     )];
     assert_refused(
         &rt,

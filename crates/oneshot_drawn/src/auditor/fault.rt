@@ -27,6 +27,9 @@ pub(crate) enum Fault {
     /// An end frees the block that the other holds.
     #[error("{0:?} frees the block and is not its last holder")]
     FreedTooEarly(End),
+    /// The step takes from a cell or puts into one, and nothing moves.
+    #[error("the step moves nothing")]
+    MovesNothing,
     /// A message moves, and the script has none.
     #[error("a message moves and the script has none")]
     NoMessage,
@@ -78,4 +81,13 @@ pub(crate) enum Fault {
     /// The trace tells otherwise where the message is.
     #[error("the trace tells that the rest is {rest:?}")]
     ToldRest { rest: Option<(Place, u64)> },
+}
+
+/// A step that moves nothing, which is a fault of one that has to.
+pub(crate) fn no_move(has_to: bool) -> Result<(), Fault> {
+    if has_to {
+        Err(Fault::MovesNothing)
+    } else {
+        Ok(())
+    }
 }

@@ -25,6 +25,22 @@ pub(crate) fn is_word(step: Step) -> bool {
     matches!(step, Step::Word(_))
 }
 
+/// Whether a step moves the message, whatever it sees.
+pub(crate) fn moves_message(step: Step) -> bool {
+    matches!(
+        step,
+        Step::WriteMessage | Step::TakeMessage | Step::DropMessage
+    )
+}
+
+/// Whether a step moves a waker, whatever it sees.
+pub(crate) fn moves_waker(step: Step) -> bool {
+    matches!(
+        step,
+        Step::WriteWaker | Step::TakeWaker | Step::Withdraw | Step::Wake
+    )
+}
+
 /// Whether a step uses the block: an operation on the word, a step on a cell, or the free.
 pub(crate) fn uses_block(step: Step) -> bool {
     match step {

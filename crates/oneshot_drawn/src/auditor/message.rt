@@ -1,8 +1,8 @@
 //! The message's place: it is always in one, and leaves that one.
 
 use crate::auditor::calls::Call;
-use crate::auditor::fault::Fault;
-use crate::auditor::mark::Mark;
+use crate::auditor::fault::{Fault, no_move};
+use crate::auditor::mark::{Mark, moves_message};
 use oneshot_machine::machine::Reply;
 use oneshot_replay::{Place, SenderLast, SenderScript};
 
@@ -25,7 +25,7 @@ impl Message {
     /// Reads a step: it moves the message from where that is, by a move that there is, in a call that may.
     pub(crate) fn read(&mut self, mark: Mark) -> Result<(), Fault> {
         let Some((from, to)) = mark.made.message else {
-            return Ok(());
+            return no_move(moves_message(mark.made.step));
         };
         let Some((place, message)) = self.at else {
             return Err(Fault::NoMessage);

@@ -1,8 +1,8 @@
 //! The wakers' places: each waker is always in one, and leaves that one.
 
 use crate::auditor::calls::Call;
-use crate::auditor::fault::Fault;
-use crate::auditor::mark::Mark;
+use crate::auditor::fault::{Fault, no_move};
+use crate::auditor::mark::{Mark, moves_waker};
 use oneshot_machine::machine::End;
 use oneshot_replay::{Entry, WakerName, WakerPlace};
 
@@ -13,7 +13,7 @@ type WakerMove = (WakerName, WakerPlace, WakerPlace);
 /// end that has it, and into the cell only where none is.
 pub(crate) fn read(mark: Mark, earlier: &[Entry]) -> Result<(), Fault> {
     let Some((name, from, to)) = mark.made.waker else {
-        return Ok(());
+        return no_move(moves_waker(mark.made.step));
     };
     let place = place_of(name, earlier);
     if place != from {
