@@ -1,12 +1,17 @@
 //! The wakers of the world: where each lies, and what a step does to them.
 
-ghost use Rattle.std.specs.Prelude.{◌≡◌};
+ghost use Rattle.std.specs.Prelude.{◌≡◌, ◌||◌, None};
+ghost use Rattle.std.specs.Option.{option_map};
 ghost use Rattle.oneshot_world.specs.State.{hand_kept};
-ghost use Rattle.oneshot_world.specs.Wakers.{opening_wakers, wakers_left, waker_move, sets_token};
+ghost use Rattle.oneshot_world.specs.Wakers.{opening_wakers, is_parker, withdrawn, back_to, wakers_left, waker_move, sets_token};
+ghost use Rattle.oneshot_world.specs.declared.trace.WakerPlace.TheVariants as Places;
 
 use crate::trace::{WakerName, WakerPlace};
 use oneshot_machine::machine::Step;
 use oneshot_machine::states::Op;
+
+/// A move of a waker: the waker, and the places that it leaves and goes to.
+type WakerMove = (WakerName, WakerPlace, WakerPlace);
 
 /// What a move is told.
 #[derive(Clone, Copy, Debug, Eq, PartialEq)]
@@ -48,55 +53,101 @@ impl Wakers {
     /// What a step does that finds this word and is told this, and the move that it makes with a waker:
     /// the waker, and the places that it leaves and goes to.
     #[inline(always)]
-    pub(crate) fn moved(
-        &mut self,
-        told: Told,
-        word: u8,
-        step: Step,
-    ) -> Option<(WakerName, WakerPlace, WakerPlace)>
+    pub(crate) fn moved(&mut self, told: Told, word: u8, step: Step) -> Option<WakerMove>
         ensures leaves { self.new ≡ wakers_left told word self.old step }
         ensures tells { result ≡ waker_move told word self.old step }
     {
+        // Most steps move no waker, so the moves are out of line.
         match step {
-            Step::WriteWaker => {
-                self.cell = self.hand.take();
-                Some((self.cell?, WakerPlace::Hand, WakerPlace::Cell))
-            }
-            Step::TakeWaker => {
-                self.taken = self.cell.take();
-                Some((self.taken?, WakerPlace::Cell, WakerPlace::SenderHand))
-            }
-            Step::Withdraw => match self.cell.take()? {
-                WakerName::Parker => {
-                    self.hand = Some(WakerName::Parker);
-                    Some((WakerName::Parker, WakerPlace::Cell, WakerPlace::Hand))
+            Step::WriteWaker => self.write(),
+            Step::TakeWaker => self.take(),
+            Step::Withdraw => self.withdraw(),
+            Step::Wake => self.wake(),
+            Step::Copy => {
+                if told.answer {
+                    None
+                } else {
+                    self.copy(told.copy)
                 }
-                copy => Some((copy, WakerPlace::Cell, WakerPlace::Dropped)),
-            },
-            Step::Wake => {
-                let waker = self.taken.take()?;
-                self.token = self.token || waker == WakerName::Parker;
-                Some((waker, WakerPlace::SenderHand, WakerPlace::Used))
+            }
+            Step::Word(Op::Exchange(expected, _)) => {
+                if word == expected {
+                    None
+                } else {
+                    self.drop_hand()
+                }
             }
             Step::Park => {
                 self.token = false;
                 None
             }
-            Step::Copy => {
-                if told.answer {
-                    return None;
-                }
-                self.hand = told.copy;
-                Some((told.copy?, WakerPlace::New, WakerPlace::Hand))
-            }
-            Step::Word(Op::Exchange(expected, _)) => {
-                if word == expected {
-                    return None;
-                }
-                Some((self.hand.take()?, WakerPlace::Hand, WakerPlace::Dropped))
-            }
             _ => None,
         }
+    }
+
+    /// The waker in the hand goes into the cell.
+    #[inline(never)]
+    fn write(&mut self) -> Option<WakerMove>
+        ensures leaves { self.new ≡ record self.old { cell = self.old.hand; hand = None } }
+        ensures tells { result ≡ option_map (λ name. (name, Places.Hand, Places.Cell)) self.old.hand }
+    {
+        self.cell = self.hand.take();
+        Some((self.cell?, WakerPlace::Hand, WakerPlace::Cell))
+    }
+
+    /// The sender takes the waker in the cell.
+    #[inline(never)]
+    fn take(&mut self) -> Option<WakerMove>
+        ensures leaves { self.new ≡ record self.old { cell = None; taken = self.old.cell } }
+        ensures tells { result ≡ option_map (λ name. (name, Places.Cell, Places.SenderHand)) self.old.cell }
+    {
+        self.taken = self.cell.take();
+        Some((self.taken?, WakerPlace::Cell, WakerPlace::SenderHand))
+    }
+
+    /// The parker's half in the cell goes back into the hand; a copy in the cell is dropped.
+    #[inline(never)]
+    fn withdraw(&mut self) -> Option<WakerMove>
+        ensures leaves { self.new ≡ record self.old { cell = None; hand = withdrawn self.old.cell self.old.hand } }
+        ensures tells { result ≡ option_map (λ name. (name, Places.Cell, back_to name)) self.old.cell }
+    {
+        match self.cell.take()? {
+            WakerName::Parker => {
+                self.hand = Some(WakerName::Parker);
+                Some((WakerName::Parker, WakerPlace::Cell, WakerPlace::Hand))
+            }
+            copy => Some((copy, WakerPlace::Cell, WakerPlace::Dropped)),
+        }
+    }
+
+    /// The sender uses the waker that it took.
+    #[inline(never)]
+    fn wake(&mut self) -> Option<WakerMove>
+        ensures leaves { self.new ≡ record self.old { taken = None; token = self.old.token || is_parker self.old.taken } }
+        ensures tells { result ≡ option_map (λ name. (name, Places.SenderHand, Places.Used)) self.old.taken }
+    {
+        let waker = self.taken.take()?;
+        self.token = self.token || waker == WakerName::Parker;
+        Some((waker, WakerPlace::SenderHand, WakerPlace::Used))
+    }
+
+    /// A new copy goes into the hand.
+    #[inline(never)]
+    fn copy(&mut self, copy: Option<WakerName>) -> Option<WakerMove>
+        ensures leaves { self.new ≡ record self.old { hand = copy } }
+        ensures tells { result ≡ option_map (λ name. (name, Places.New, Places.Hand)) copy }
+    {
+        self.hand = copy;
+        Some((copy?, WakerPlace::New, WakerPlace::Hand))
+    }
+
+    /// The waker in the hand is dropped.
+    #[inline(never)]
+    fn drop_hand(&mut self) -> Option<WakerMove>
+        ensures leaves { self.new ≡ record self.old { hand = None } }
+        ensures tells { result ≡ option_map (λ name. (name, Places.Hand, Places.Dropped)) self.old.hand }
+    {
+        Some((self.hand.take()?, WakerPlace::Hand, WakerPlace::Dropped))
     }
 
     /// Keeps what is in the hand, but gives up the parker's half where a future begins.
