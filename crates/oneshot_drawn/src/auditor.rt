@@ -44,7 +44,8 @@ pub(crate) fn audit(scripts: &Scripts, told: &Told) -> Result<(), Finding> {
     let entries = told.entries.as_slice();
     for before in 0..entries.len() {
         let number = before + 1;
-        let (earlier, later) = (&entries[..before], &entries[number..]);
+        let earlier = &entries[..before];
+        let later = &entries[number..];
         let found = match entries[before] {
             Entry::Idle(end) => auditor.read_idle(scripts, end),
             Entry::Made(made) => auditor.read_made(scripts, number, made, earlier, later),

@@ -9,7 +9,7 @@ use std::alloc::AllocError;
 use std::process::Abort;
 
 /// A change of a trace. Entries are counted from 1.
-#[derive(Clone, Copy, Debug)]
+#[derive(Clone, Copy)]
 pub(crate) enum Edit {
     /// Takes an entry out.
     Remove(usize),
