@@ -4,8 +4,10 @@ pub mod FirstFault
 pub mod Future
 pub mod Grammar
 pub mod Line
+pub mod LineFault
 pub mod Lines
 pub mod Names
+pub mod Page
 pub mod Receiver
 pub mod ReplyText
 pub mod Request

@@ -1,13 +1,15 @@
 //! What a text asks for: two scripts and a schedule.
 
-ghost use Rattle.std.specs.Prelude.{◌≡◌, ℕ, List, IfOk, MatchResult, unwrap_or, alloc_error};
+ghost use Rattle.std.specs.Prelude.{◌≡◌, ℕ, List, Err, IfOk, MatchResult, unwrap_or, alloc_error};
 ghost use Rattle.oneshot_replay.specs.Rest.{message_of};
 ghost use Rattle.oneshot_replay.specs.declared.Move.{Move};
 ghost use Rattle.oneshot_replay.specs.declared.ReceiverScript.{ReceiverScript};
 ghost use Rattle.oneshot_replay.specs.declared.SenderScript.{SenderScript};
+ghost use Rattle.oneshot_text.specs.FirstFault.{HasFault};
 ghost use Rattle.oneshot_text.specs.Receiver.{IsPollable};
 ghost use Rattle.oneshot_text.specs.Request.{Asks};
 ghost use Rattle.oneshot_text.specs.Sender.{IsSendable};
+ghost use Rattle.oneshot_text.specs.declared.fault.Malformed.{Malformed};
 
 use crate::fault::ParseError;
 use crate::line::Line;
@@ -15,8 +17,8 @@ use crate::lines::Lines;
 use crate::receiver::parse_receiver;
 use crate::schedule::parse_schedule;
 use crate::sender::parse_sender;
-use oneshot_replay::{Move, ReceiverCall, ReceiverScript, SenderLast, SenderScript};
-use std::alloc::{AllocError, Global};
+use oneshot_replay::{Move, ReceiverScript, SenderLast, SenderScript};
+use std::alloc::Global;
 
 /// What a text asks for: a run of two scripts under a schedule.
 #[derive(Drop)]
@@ -39,13 +41,6 @@ impl Request {
             SenderLast::Drop | SenderLast::Stop => 0,
         }
     }
-
-    /// The calls of the receiver's script but its last one, in memory of their own.
-    pub fn calls(&self, alloc: Global) -> Result<Vec<ReceiverCall>, AllocError>
-        ensures { IfOk result (λ calls. calls.items ≡ self.now.receiver.calls) }
-    {
-        Vec::from_slice(alloc, self.receiver.calls.as_slice())
-    }
 }
 
 /// Reads the three lines of `text`, the sender's script, the receiver's and the schedule, each ended by a
@@ -60,6 +55,7 @@ pub fn parse_request(alloc: Global, text: &str) -> Result<Request, ParseError>
         MatchResult result
         (λ read. (read.sender ≡ sender) × (read.receiver ≡ receiver) × (read.moves.items ≡ moves))
         (λ error. error ≡ ParseError.OutOfMemory alloc_error) }
+    ensures faulty { (fault : Malformed) → result ≡ Err (ParseError.Malformed fault) → HasFault text.now fault }
 {
     let mut lines = Lines::new(text);
     let sender = parse_sender(lines.take(Line::Sender)?)?;
