@@ -45,8 +45,8 @@ fn assert_refused(
 // 1 S write-message NotSent>InCell, 2 S add 3>4 = Ok, 3 R load 4, 4 R store 2,
 // 5 R take-message InCell>Delivered = Ok(7), 6 R swap 2>2, 7 R free = dropped.
 #[test]
-fn a_message_that_is_taken(rt: HostRuntime) -> Result<(), Fail> {
-    let damages: [Damage; 15] = [
+fn the_places_of_a_message_that_is_taken(rt: HostRuntime) -> Result<(), Fail> {
+    let damages: [Damage; 6] = [
         (
             "the take is missing",
             &[Edit::Remove(5)],
@@ -77,6 +77,13 @@ fn a_message_that_is_taken(rt: HostRuntime) -> Result<(), Fail> {
             &[Edit::Remove(5), Edit::Reply(4, Some(Reply::Message))],
             "entry 4: the message is not Delivered as the reply says",
         ),
+    ];
+    assert_refused(&rt, Sending::Send, Receiving::TryDrop, "ssrrrrr", &damages)
+}
+
+#[test]
+fn the_replies_about_a_message_that_is_taken(rt: HostRuntime) -> Result<(), Fail> {
+    let damages: [Damage; 4] = [
         (
             "nothing yet, with the message in the cell",
             &[Edit::Reply(3, Some(Reply::Empty))],
@@ -97,6 +104,13 @@ fn a_message_that_is_taken(rt: HostRuntime) -> Result<(), Fail> {
             &[Edit::Remove(6)],
             "entry 6: the call answers and did not act",
         ),
+    ];
+    assert_refused(&rt, Sending::Send, Receiving::TryDrop, "ssrrrrr", &damages)
+}
+
+#[test]
+fn the_block_behind_a_message_that_is_taken(rt: HostRuntime) -> Result<(), Fail> {
+    let damages: [Damage; 5] = [
         (
             "the free is missing",
             &[Edit::Remove(7), Edit::Reply(6, Some(Reply::Done))],
@@ -131,13 +145,8 @@ fn a_message_that_is_taken(rt: HostRuntime) -> Result<(), Fail> {
 // 11 S swap 1>4, 12 R load 4, 13 R swap 4>2, 14 R drop-message InCell>Dropped, 15 R free = dropped,
 // 16 S wake SenderHand>Used = Ok.
 #[test]
-fn a_future_that_is_dropped_beside_its_sender(rt: HostRuntime) -> Result<(), Fail> {
-    let other = WakerName::Copy {
-        number: 2,
-        entry: 3,
-    };
-    let copied = (other, WakerPlace::New, WakerPlace::Hand);
-    let damages: [Damage; 14] = [
+fn the_block_of_a_future_that_is_dropped_beside_its_sender(rt: HostRuntime) -> Result<(), Fail> {
+    let damages: [Damage; 4] = [
         (
             "the block is freed before the sender's final swap",
             &[Edit::MoveBefore(15, 11)],
@@ -158,6 +167,24 @@ fn a_future_that_is_dropped_beside_its_sender(rt: HostRuntime) -> Result<(), Fai
             &[Edit::Reply(7, Some(Reply::Sent))],
             "entry 7: the call answers and did not act",
         ),
+    ];
+    assert_refused(
+        &rt,
+        Sending::Send,
+        Receiving::PollDrop,
+        "rrrrrssrrssrrrrs",
+        &damages,
+    )
+}
+
+#[test]
+fn the_waker_of_a_future_that_is_dropped_beside_its_sender(rt: HostRuntime) -> Result<(), Fail> {
+    let other = WakerName::Copy {
+        number: 2,
+        entry: 3,
+    };
+    let copied = (other, WakerPlace::New, WakerPlace::Hand);
+    let damages: [Damage; 6] = [
         (
             "the waker is used twice",
             &[Edit::Double(16), Edit::Reply(16, None)],
@@ -188,6 +215,19 @@ fn a_future_that_is_dropped_beside_its_sender(rt: HostRuntime) -> Result<(), Fai
             &[Edit::Waker(3, Some(copied))],
             "entry 3: a copy has another name than its task and entry",
         ),
+    ];
+    assert_refused(
+        &rt,
+        Sending::Send,
+        Receiving::PollDrop,
+        "rrrrrssrrssrrrrs",
+        &damages,
+    )
+}
+
+#[test]
+fn the_message_to_a_future_that_is_dropped_beside_its_sender(rt: HostRuntime) -> Result<(), Fail> {
+    let damages: [Damage; 4] = [
         (
             "the message is left in the cell",
             &[Edit::Remove(14)],

@@ -50,11 +50,11 @@ impl World {
 
     /// Makes one move, and tells it. The entry's number counts from 1; a copy of a waker that is made
     /// then is named by it.
-    // Inlined, so that the entry is written where the caller keeps it.
     #[inline(always)]
     pub fn step(&mut self, m: Move, entry: usize) -> Entry
         ensures { turn entry self.old m ≡ Some (result, self.new) }
     {
+        // Inlined, so that the entry is written where the caller keeps it.
         match m {
             Move::Sender => self.step_sender(),
             Move::Receiver { over, refuse } => self.step_receiver(over, refuse, entry),
