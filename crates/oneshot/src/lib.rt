@@ -9,6 +9,8 @@ mod callers;
 mod example;
 #[cfg(test)]
 mod rehearsal;
+#[cfg(test)]
+mod stepped;
 
 pub use oneshot_drive as drive;
 pub use oneshot_ends::{

@@ -9,6 +9,7 @@ ghost use Rattle.oneshot_machine.specs.declared.machine.async_drop.AsyncDropPos.
 ghost use Rattle.oneshot_machine.specs.declared.machine.drop.DropPos.TheVariants.{DropSwap};
 ghost use Rattle.oneshot_machine.specs.declared.machine.receiver.ReceiverStart.TheVariants as C;
 ghost use Rattle.oneshot_machine.specs.declared.states.Op.TheVariants.{Swap};
+ghost use Rattle.oneshot_machine.specs.Counts.{operates_past_1, MakesAtMost};
 ghost use Rattle.oneshot_machine.specs.Logs.{receiver_of};
 ghost use Rattle.oneshot_machine.specs.Phases.{here, looked, waits, again, claimed};
 ghost use Rattle.oneshot_machine.specs.Runs.{ReceiverRan};
@@ -43,6 +44,7 @@ pub fn poll<T, W: Drop, G: TaskGround<T, W>>(
     ensures rests { IsPolled (G.state g.new) }
     ensures leaves { LeavesPolled result (receiver_of (G.state g.new).log) }
     ensures stays { IsClosed (receiver_of (G.state g.old).log) → IsDisconnected result }
+    ensures bounded { MakesAtMost 4 operates_past_1 (G.state g.old).log (G.state g.new).log }
     ensures own_copy { WritesItsCopy (G.state g.old).log (G.state g.new).log }
     ensures heard { OnPending result (G.heard g.new) }
     ensures keeps { G.keeps g.old g.new }
@@ -166,7 +168,8 @@ fn spin<T, W: Drop, G: TaskGround<T, W>>(g: &mut G, rt: &impl Wait) -> Found
 /// finds. It blocks for a sender that is about to finish, and for nothing else.
 pub fn drop_async<T, W: Drop, G: ReceiverGround<T, W>>(g: &mut G, rt: &impl Wait)
     requires { IsPolled (G.state g.old) }
-    ensures { ReceiverRan C.DropAsync (G.state g.old).log (G.state g.new).log R.Done [] [] }
+    ensures run { ReceiverRan C.DropAsync (G.state g.old).log (G.state g.new).log R.Done [] [] }
+    ensures bounded { MakesAtMost 3 operates_past_1 (G.state g.old).log (G.state g.new).log }
 {
     match g.word(Op::Load) {
         RECEIVING => {

@@ -5,6 +5,7 @@ ghost use Rattle.oneshot_errors.specs.declared.try_recv.TryRecvError.TheVariants
 ghost use Rattle.oneshot_machine.specs.declared.machine.Reply.TheVariants as R;
 ghost use Rattle.oneshot_machine.specs.declared.machine.receiver.ReceiverStart.TheVariants.{TryRecv, Drop};
 ghost use Rattle.oneshot_machine.specs.declared.states.Op.TheVariants.{Swap};
+ghost use Rattle.oneshot_machine.specs.Counts.{operates, MakesAtMost};
 ghost use Rattle.oneshot_machine.specs.Logs.{receiver_of};
 ghost use Rattle.oneshot_machine.specs.Runs.{ReceiverRan};
 ghost use Rattle.oneshot_drive.specs.BetweenCalls.{AtRest, IsClosed, Leaves, try_recv_reply, received};
@@ -27,6 +28,7 @@ pub fn try_recv<T, W, G: ReceiverGround<T, W>>(g: &mut G) -> Result<T, TryRecvEr
     ensures rests { AtRest (G.state g.new) }
     ensures leaves { Leaves result (receiver_of (G.state g.new).log) }
     ensures stays { IsClosed (receiver_of (G.state g.old).log) → result ≡ Err Disconnected }
+    ensures bounded { MakesAtMost 2 operates (G.state g.old).log (G.state g.new).log }
 {
     match g.word(Op::Load) {
         MESSAGE => {

@@ -6,6 +6,7 @@ use Rattle.oneshot_machine.specs.declared.machine.Reply.{Reply}
 use Rattle.oneshot_machine.specs.declared.machine.Seen.{Seen}
 use Rattle.oneshot_machine.specs.declared.machine.Step.{Step}
 use Rattle.oneshot_machine.specs.declared.machine.receiver.ReceiverStart.{ReceiverStart}
+use Rattle.oneshot_machine.specs.declared.machine.receiver.ReceiverStart.TheVariants.{TryRecv, Poll}
 use Rattle.oneshot_machine.specs.declared.machine.sender.SenderCall.{SenderCall}
 use Rattle.oneshot_machine.specs.Logs.{Event, Log, Grows, noted, words}
 use Rattle.oneshot_machine.specs.TableRows.{Outcome}
@@ -13,6 +14,8 @@ use Rattle.oneshot_machine.specs.Runs.{Run, last, more, SenderRan, ReceiverRan}
 use Rattle.oneshot_machine.specs.Receiver.{receiver_start, receiver_step, receiver_row}
 use Rattle.oneshot_machine.specs.Sender.{sender_start, sender_step, sender_row}
 use Rattle.oneshot_machine.specs.Noted.{Noted}
+use Rattle.oneshot_machine.specs.Counts.{operates, operates_past_1, GrewAtMost}
+use Rattle.oneshot_machine.proofs.CallBounds.{try_recv_makes, poll_makes}
 use Rattle.oneshot_machine.proofs.GrownLists.{words_after}
 use Rattle.oneshot_word.specs.Side.{Side}
 use Rattle.oneshot_ends.specs.Ends.{Waking, SenderGrew, ReceiverGrew}
@@ -62,3 +65,11 @@ module _ {T W : Type 0} where
           is_run = run_unnamed receiver_step receiver_row (receiver_start call) ran.run reply ran.is_run;
           list = grown_unnamed ran.run ran.grows;
         }
+
+-- and by no more operations than a run of the call makes
+module _ {T : Type 0} {before after : List Noted} {reply : Reply} where
+  pub try_recv_few : ReceiverGrew T TryRecv before after reply → GrewAtMost 2 operates before after
+  try_recv_few grew = record { added = words grew.run; list = grew.list; few = try_recv_makes grew.run grew.is_run }
+
+  pub poll_few : ReceiverGrew T Poll before after reply → GrewAtMost 4 operates_past_1 before after
+  poll_few grew = record { added = words grew.run; list = grew.list; few = poll_makes grew.run grew.is_run }

@@ -6,6 +6,7 @@ ghost use Rattle.futures.specs.declared.task.Poll.TheVariants.{Pending};
 ghost use Rattle.futures.specs.Poll.{IfReady, OnPending};
 ghost use Rattle.futures.specs.Task.{Covers, Keeps};
 ghost use Rattle.oneshot_machine.specs.declared.machine.receiver.ReceiverStart.TheVariants as C;
+ghost use Rattle.oneshot_machine.specs.Counts.{operates_past_1, GrewAtMost};
 ghost use Rattle.oneshot_machine.specs.Phases.{receiver_at};
 ghost use Rattle.oneshot_drive.specs.BetweenCalls.{AtRest};
 ghost use Rattle.oneshot_drive.specs.Polls.{LeavesPolled, IsDisconnected, poll_reply};
@@ -106,6 +107,7 @@ impl<T: Drop, Rt: Wait + Drop> Future for AsyncReceiver<T, Rt> {
         ensures closes { result ≢ Pending → IsDone self.new }
         ensures stays_open { result ≡ Pending → IsPending self.new }
         ensures stays_closed { IsDone self.old → IsDisconnected result }
+        ensures bounded { GrewAtMost 4 operates_past_1 self.old.steps self.new.steps }
     {
         let mut lent = Polling {
             ground: &mut self.ground,

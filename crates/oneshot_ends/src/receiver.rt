@@ -5,6 +5,7 @@ ghost use Rattle.std.specs.Time.{instant_nanos, FitsClock};
 ghost use Rattle.oneshot_errors.specs.declared.recv_timeout.RecvTimeoutError.TheVariants as Timed;
 ghost use Rattle.oneshot_errors.specs.declared.try_recv.TryRecvError.TheVariants as Tried;
 ghost use Rattle.oneshot_machine.specs.declared.machine.receiver.ReceiverStart.TheVariants.{TryRecv, RecvRef, RecvDeadline};
+ghost use Rattle.oneshot_machine.specs.Counts.{operates, GrewAtMost};
 ghost use Rattle.oneshot_machine.specs.Phases.{receiver_at};
 ghost use Rattle.oneshot_drive.specs.BetweenCalls.{Leaves, LeavesClosed, LeavesTimed, try_recv_reply, recv_reply, timed_reply};
 ghost use Rattle.oneshot_ends.specs.Ends.{ReceiverGrew, TimeoutGrew, TimeoutRan, IsClosed, IsOpen};
@@ -111,6 +112,7 @@ impl<T: Drop, Rt: Drop> Receiver<T, Rt> {
         ensures closes { result ≢ Err Tried.Empty → IsClosed self.new }
         ensures stays_open { result ≡ Err Tried.Empty → IsOpen self.new }
         ensures stays_closed { IsClosed self.old → result ≡ Err Tried.Disconnected }
+        ensures bounded { GrewAtMost 2 operates self.old.steps self.new.steps }
     {
         try_recv(&mut self.ground)
     }

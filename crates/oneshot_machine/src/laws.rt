@@ -3,6 +3,7 @@
 ghost use Rattle.oneshot_machine.specs.Exact.{SenderIsExact, ReceiverIsExact};
 ghost use Rattle.oneshot_machine.specs.Examples.{SenderLists, ReceiverLists, RunsThatAre, RunsThatAreNot};
 ghost use Rattle.oneshot_machine.specs.FutureExamples.{FutureLists, FutureRuns, FutureRunsThatAreNot};
+ghost use Rattle.oneshot_machine.specs.CountExamples.{CountsThatAre, CountsThatAreNot};
 
 /// What the definitions allow an end after its operations on the word is what its table makes.
 pub fn tables_are_exact<T, W>()
@@ -10,7 +11,8 @@ pub fn tables_are_exact<T, W>()
     ensures receiver { ReceiverIsExact T W }
 {}
 
-/// Which lists and runs the definitions take for an end's, by examples.
+/// Which lists and runs the definitions take for an end's, and how many operations they count, by
+/// examples.
 pub fn examples_are_so()
     ensures senders { SenderLists }
     ensures receivers { ReceiverLists }
@@ -19,4 +21,6 @@ pub fn examples_are_so()
     ensures futures { FutureLists }
     ensures future_runs { FutureRuns }
     ensures no_future_runs { FutureRunsThatAreNot }
+    ensures counts { CountsThatAre }
+    ensures no_counts { CountsThatAreNot }
 {}

@@ -1,10 +1,12 @@
 //! Tests of what stands beneath the real channel and beside it, each by public names of its crate: the
 //! operations on the word, the drivers over grounds in memory, both sides of the shared word, lists of
-//! calls, and texts.
+//! calls, runs that are stepped by hand, and texts.
 #![tactic(auto)]
 
 #[cfg(test)]
 mod drive;
+#[cfg(test)]
+mod replayer;
 #[cfg(test)]
 mod scripts;
 #[cfg(test)]

@@ -28,11 +28,22 @@ use Rattle.oneshot_laws.proofs.AloneRuns as Alone
 use Rattle.oneshot_laws.proofs.BoundsRuns as Bounds
 use Rattle.oneshot_laws.proofs.BoundsSoon as Soon
 use Rattle.oneshot_replay.specs.Rest.{message_of, rest_of, rest_at}
-use Rattle.oneshot_replay.specs.Run.{OfEachRun}
+use Rattle.oneshot_replay.specs.Run.{OfEachRun, told_at}
+use Rattle.oneshot_replay.specs.TraceView.{IsReplayed}
 use Rattle.oneshot_replay.proofs.Runs.{length-tells}
 use Rattle.oneshot_replay.proofs.Tied.{freed_shown, rest_shown}
 
 module _ {T : Type 0} where
+  pub is_replayed : OfEachRun T (λ s r moves entries now. IsReplayed s r moves (told_at entries now))
+  is_replayed s r moves entries now run = record {
+    worlds = run.worlds;
+    tells = run.tells;
+    block_freed = ap (λ (w : World). w.state.freed) (sym run.ends);
+    rest =
+        ap (rest_at now.world.state.message) run.message
+        ∙ ap (λ (w : World). rest_at w.state.message (message_of s.last)) (sym run.ends);
+  }
+
   pub an_entry_a_move : OfEachRun T (λ s r moves entries now. length entries ≡ length moves)
   an_entry_a_move s r moves entries now run = length-tells (opening s r) run.worlds moves entries run.tells
 
@@ -65,14 +76,13 @@ module _ {T : Type 0} where
 
   pub freed_as_shown : OfEachRun T (λ s r moves entries now. now.world.state.freed ≡ is_freed (marks (calls_of s r) entries))
   freed_as_shown s r moves entries now run =
-      ap (λ (w : World). w.state.freed) (sym run.ends)
-      ∙ freed_shown s r run.worlds moves entries run.tells
+      let told : IsReplayed s r moves (told_at entries now) = is_replayed s r moves entries now run in
+      told.block_freed ∙ freed_shown s r told.worlds moves entries told.tells
 
   pub rest_as_shown : OfEachRun T (λ s r moves entries now. rest_at now.world.state.message now.message ≡ option_map (rest_of (last_message_place entries)) (message_of s.last))
   rest_as_shown s r moves entries now run =
-      ap (rest_at now.world.state.message) run.message
-      ∙ ap (λ (w : World). rest_at w.state.message (message_of s.last)) (sym run.ends)
-      ∙ rest_shown s r run.worlds moves entries run.tells
+      let told : IsReplayed s r moves (told_at entries now) = is_replayed s r moves entries now run in
+      told.rest ∙ rest_shown s r told.worlds moves entries told.tells
 
   pub gone_after_got : OfEachRun T (λ s r moves entries now. IsTrue (is_gone_after_got (marks (calls_of s r) entries)))
   gone_after_got s r moves entries now run = Afterwards.gone_after_got s r run.worlds moves entries run.tells

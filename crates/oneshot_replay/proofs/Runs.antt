@@ -10,7 +10,7 @@ use Rattle.oneshot_replay.specs.Scene.{Scene}
 use Rattle.oneshot_replay.specs.TraceView.{last_of}
 
 -- a move that makes the entry after the last one
-tells_more : (n : ℕ) (start : World) (worlds : List World) (moves : List Move) (entries : List Entry) (move : Move) (entry : Entry) (next : World) → Tells_from n start worlds moves entries → turn (n + length entries) (last_of start worlds) move ≡ Some (entry, next) → Tells_from n start (worlds ++ next ∷ []) (moves ++ move ∷ []) (entries ++ entry ∷ [])
+pub tells_more : (n : ℕ) (start : World) (worlds : List World) (moves : List Move) (entries : List Entry) (move : Move) (entry : Entry) (next : World) → Tells_from n start worlds moves entries → turn (n + length entries) (last_of start worlds) move ≡ Some (entry, next) → Tells_from n start (worlds ++ next ∷ []) (moves ++ move ∷ []) (entries ++ entry ∷ [])
 tells_more n start [] [] [] move entry next told turned =
     let here : n + 0 ≡ n = omega arith in
     (subst (λ k. turn k start move ≡ Some (entry, next)) here turned, tt)
@@ -22,12 +22,12 @@ tells_more n start (w ∷ worlds) (m ∷ moves) (e ∷ entries) move entry next 
     )
 tells_more n start _ _ _ move entry next told turned = elim told [ ]
 
-last_more : (start : World) (worlds : List World) (next : World) → last_of start (worlds ++ next ∷ []) ≡ next
+pub last_more : (start : World) (worlds : List World) (next : World) → last_of start (worlds ++ next ∷ []) ≡ next
 last_more start [] next = refl
 last_more start (w ∷ worlds) next = last_more w worlds next
 
 -- an entry a move
-tells_as_many : (n : ℕ) (start : World) (worlds : List World) (moves : List Move) (entries : List Entry) → Tells_from n start worlds moves entries → length entries ≡ length moves
+pub tells_as_many : (n : ℕ) (start : World) (worlds : List World) (moves : List Move) (entries : List Entry) → Tells_from n start worlds moves entries → length entries ≡ length moves
 tells_as_many n start [] [] [] told = refl
 tells_as_many n start (w ∷ worlds) (m ∷ moves) (e ∷ entries) told = ap (λ n. suc n) (tells_as_many (n + 1) w worlds moves entries told.1)
 tells_as_many n start _ _ _ told = elim told [ ]

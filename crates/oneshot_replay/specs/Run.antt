@@ -5,9 +5,9 @@ use Rattle.oneshot_world.specs.declared.script.Move.{Move}
 use Rattle.oneshot_world.specs.declared.script.ReceiverScript.{ReceiverScript}
 use Rattle.oneshot_world.specs.declared.script.SenderScript.{SenderScript}
 use Rattle.oneshot_world.specs.declared.trace.Entry.{Entry}
-use Rattle.oneshot_replay.specs.Rest.{message_of}
+use Rattle.oneshot_replay.specs.Rest.{message_of, rest_at}
 use Rattle.oneshot_replay.specs.Scene.{Scene}
-use Rattle.oneshot_replay.specs.TraceView.{last_of}
+use Rattle.oneshot_replay.specs.TraceView.{Told, last_of}
 
 -- A run of these scripts under these moves, which made these entries and has come to `now`: entry k tells the step from world k to world k + 1.
 pub record HasRun {T : Type 0} (s : SenderScript T) (r : ReceiverScript) (moves : List Move) (entries : List Entry) (now : Scene T) : Type 0 where
@@ -16,6 +16,15 @@ pub record HasRun {T : Type 0} (s : SenderScript T) (r : ReceiverScript) (moves 
   pub ends : last_of (opening s r) worlds ≡ now.world
   pub count : now.count ≡ length moves
   pub message : now.message ≡ message_of s.last
+
+-- what a trace tells that ends here
+abbrev pub told_at : {T : Type 0} → List Entry → Scene T → Told T
+told_at entries now =
+    record {
+      entries = entries;
+      block_freed = now.world.state.freed;
+      rest = rest_at now.world.state.message now.message;
+    }
 
 -- every run that has come to the one scene goes on to the other, by this move and with this entry
 abbrev pub GoesOn : {T : Type 0} → Scene T → Move → Entry → Scene T → Type 0

@@ -14,8 +14,8 @@ ghost use Rattle.oneshot_laws.specs.Replies.{is_gone_after_got, is_got_after_ful
 ghost use Rattle.oneshot_laws.specs.Alone.{are_lone_calls_right};
 ghost use Rattle.oneshot_laws.specs.Bounds.{are_calls_bounded, is_soon_answered};
 ghost use Rattle.oneshot_replay.specs.Rest.{message_of, rest_of, rest_at};
-ghost use Rattle.oneshot_replay.specs.Run.{OfEachRun};
-ghost use Rattle.oneshot_replay.specs.TraceView.{IsDetermined};
+ghost use Rattle.oneshot_replay.specs.Run.{OfEachRun, told_at};
+ghost use Rattle.oneshot_replay.specs.TraceView.{IsReplayed, IsDetermined};
 
 /// The scripts and the moves determine the trace: the entries, whether the block is freed, and the
 /// message's rest.
@@ -24,8 +24,9 @@ pub fn trace_is_determined<T>()
 {}
 
 /// A run that is stepped by hand keeps every law of a trace, wherever it has come to. The clauses are
-/// those of `replay`.
+/// those that `replay` has of its trace.
 pub fn a_run_is_right<T>()
+    ensures run { OfEachRun T (λ s r moves entries now. IsReplayed s r moves (told_at entries now)) }
     ensures an_entry_a_move { OfEachRun T (λ s r moves entries now. length entries ≡ length moves) }
     ensures idle { OfEachRun T (λ s r moves entries now. IsTrue (is_idle_right (calls_of s r) entries)) }
     ensures legal { OfEachRun T (λ s r moves entries now. IsTrue (has_legal_history (marks (calls_of s r) entries))) }

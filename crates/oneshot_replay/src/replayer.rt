@@ -47,7 +47,7 @@ impl<T: Drop> Replayer<T> {
         }
     }
 
-    /// Makes one move, and tells it.
+    /// Makes one move, and tells it. The count has to have room for one more entry.
     pub fn step(&mut self, m: Move) -> Entry
         requires room { self.old.count < 2 ^ 64 - 1 }
         ensures turn { turn (self.old.count + 1) self.old.world m ≡ Some (result, self.new.world) }

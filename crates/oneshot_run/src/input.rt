@@ -1,9 +1,10 @@
 //! All of the input, as text.
 
-ghost use Rattle.std.specs.Prelude.{◌≡◌, ◌<◌, ◌↔◌, IfOk, IfSome, IsErrOf, IsOk, IsOkUnless, length, take};
+ghost use Rattle.std.specs.Prelude.{◌≡◌, ◌<◌, ◌≤◌, ◌↔◌, IfErr, IfOk, IfSome, IsOk, IsOkUnless, length, take};
 ghost use Rattle.std.specs.Io.{ReadsAtMost};
 ghost use Rattle.std.specs.Io.KnownBytes.{Consumes, IsAtEnd};
 ghost use Rattle.std.specs.Str.{IsAscii};
+ghost use Rattle.oneshot_run.specs.Run.{most_bytes, IsFault};
 
 use crate::fault::Fault;
 use std::alloc::Global;
@@ -17,11 +18,13 @@ const MOST: usize = 1_048_576;
 const BLOCK: usize = 4096;
 
 /// All bytes that `input` gives. Once they are too many, it is read no further.
+#[tactic(auto, using(crate::proofs::Faults::unread, crate::proofs::Faults::no_memory, crate::proofs::Faults::too_long))]
 pub(crate) fn read_input<R: Read>(alloc: Global, input: &mut R) -> Result<Vec<u8>, Fault>
     ensures whole { IfOk result (λ bytes.
         IfSome (R.remaining input.old) (λ all. bytes.items ≡ all)) }
-    ensures long { IsErrOf result Fault.InputTooLong →
-        IfSome (R.remaining input.old) (λ all. MOST < length all) }
+    ensures fits { IfOk result (λ bytes. length bytes.items ≤ most_bytes) }
+    ensures faulty { IfErr result (λ fault.
+        IfSome (R.remaining input.old) (λ all. IsFault all fault)) }
 {
     let mut bytes = Vec::new(alloc);
     let mut block = [0; BLOCK];
@@ -30,9 +33,7 @@ pub(crate) fn read_input<R: Read>(alloc: Global, input: &mut R) -> Result<Vec<u8
         if count == 0 {
             return Ok(bytes);
         }
-        bytes
-            .extend_from_slice(&block[..count])
-            .map_err(Fault::OutOfMemory)?;
+        bytes.extend_from_slice(&block[..count])?;
     }
     Err(Fault::InputTooLong)
 }

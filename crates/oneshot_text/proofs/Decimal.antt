@@ -1,9 +1,9 @@
 -- A number has one text: its decimal digits, with no sign and no leading zero.
-use Rattle.std.proofs.Common.{◌≡◌, ◌≢◌, ℕ, zero, suc, ◌^◌, ◌<◌, List, length, get_or, Result, Ok, Err, Some, IfSome, decimal, sym, ap, ◌∙◌, arith}
+use Rattle.std.proofs.Common.{◌≡◌, ◌≢◌, ℕ, zero, suc, ◌^◌, ◌<◌, List, [], ◌∷◌, length, get_or, Result, Ok, Err, Some, IfSome, decimal, sym, ap, ◌∙◌, arith}
 use Rattle.std.specs.Result.{result_ok}
 use Rattle.std.specs.Str.Parse.{ParsesUnsigned, AllDigits, digits_value}
-use Rattle.std.proofs.lemmas.Fmt.{decimal_digit, first_decimal, decimal-digits_value, parse-decimal}
-use Rattle.std.proofs.lemmas.Str.Parse.{IsNumeralModel, numerals_by_value, tells_digits, parse_plain}
+use Rattle.std.proofs.lemmas.Fmt.{decimal_is_IsNumeral, decimal_digit, first_decimal, decimal-digits_value, parse-decimal}
+use Rattle.std.proofs.lemmas.Str.Parse.{digit_from_value, IsNumeralModel, numerals_by_value, tells_digits, parse_plain}
 
 numerals : IsNumeralModel (AllDigits 10) (digits_value 10)
 numerals = numerals_by_value _ tells_digits
@@ -29,5 +29,14 @@ parse-plain_decimal bs (Err e) parses plain leads = tt
 -- what `parse` gives for a decimal
 pub parse-of_decimal : {E : Type 0} (bs : List ℕ) (r : Result ℕ E) (n : ℕ) → ParsesUnsigned 64 10 bs r → n < 2 ^ 64 → bs ≡ decimal n → result_ok r ≡ Some n
 parse-of_decimal bs r n parses small is = ap result_ok (parse-decimal 64 n bs r small small is parses)
+
+first_of_digits : (bs : List ℕ) → AllDigits 10 bs → get_or bs 0 0 < 58
+first_of_digits [] digits = omega arith
+first_of_digits (b ∷ bs) digits = omega (arith, digit_from_value b digits.0)
+
+-- a decimal begins with no letter
+pub decimal-no_letter : (n : ℕ) (word : List ℕ) → n < 2 ^ 64 → 57 < get_or word 0 0 → decimal n ≢ word
+decimal-no_letter n word small letter is =
+    omega (arith, first_of_digits (decimal n) (decimal_is_IsNumeral n small).0.1, ap (λ w. get_or w 0 0) is)
 
 pub ruleset one_text = (decimal-unsigned, decimal-leads, parse-plain_decimal, parse-of_decimal)

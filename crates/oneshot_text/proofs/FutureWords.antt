@@ -50,9 +50,6 @@ pub record Ahead (future : AsyncScript) (taken : List AsyncCall) (left : List (L
 abbrev pub Each : List (List ℕ) → List AsyncCall → List (List ℕ) → Type 0
 Each all taken left = (future : AsyncScript) → HasNumbers future.calls → all ≡ words_of_future future → Ahead future taken left
 
-pub all_ahead : (all : List (List ℕ)) → Each all [] all
-all_ahead all future numbers is = record { more = future.calls; calls = refl; words = is; numbers = numbers }
-
 -- what is known of the next call that is read
 abbrev pub ReadsEach : {F : Type 0} → List (List ℕ) → Result (Option AsyncCall) F → Type 0
 ReadsEach left read = (call : AsyncCall) (rest : List (List ℕ)) → HasNumber call → left ≡ words_of_future_call call ++ rest → read ≡ Ok (Some call)

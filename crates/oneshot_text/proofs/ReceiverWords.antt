@@ -35,7 +35,7 @@ word_of_call-same : (a b : ReceiverCall) → word_of_call a ≡ word_of_call b �
 word_of_call-same a b is = cc (sym (call_named-word a) ∙ ap call_named is ∙ call_named-word b)
 
 -- no last call begins with a call
-receiver_last-no_call : (last : ReceiverLast) (call : ReceiverCall) → slice_get (words_of_receiver_last last) 0 ≢ Some (word_of_call call)
+pub receiver_last-no_call : (last : ReceiverLast) (call : ReceiverCall) → slice_get (words_of_receiver_last last) 0 ≢ Some (word_of_call call)
 receiver_last-no_call Recv TryRecv = λ is. grind (arith, common_steps)
 receiver_last-no_call Recv RecvRef = λ is. grind (arith, common_steps)
 receiver_last-no_call Recv RecvDeadline = λ is. grind (arith, common_steps)

@@ -20,3 +20,22 @@ module _ {A B : Type 0} (f : A → B) (same : (a b : A) → f a ≡ f b → a �
       let rest = map-same us vs xs ys other_x other_y cc in
       let first : f u ≡ f v = cc in
       (cc (same u v first, rest.0), rest.1)
+
+-- words of a language behind a run are words of the language with it
+module _ {A : Type 0} (language : List A → Type 0) (x : A) where
+  pub replicate_to : ((xs : List A) → language xs → language (x ∷ xs)) → (n : ℕ) (xs : List A) → language xs → language (replicate n x ++ xs)
+  replicate_to to zero xs right = right
+  replicate_to to (suc n) xs right = to (replicate n x ++ xs) (replicate_to to n xs right)
+
+  pub replicate_from : ((xs : List A) → language (x ∷ xs) → language xs) → (n : ℕ) (xs : List A) → language (replicate n x ++ xs) → language xs
+  replicate_from from zero xs right = right
+  replicate_from from (suc n) xs right = replicate_from from n xs (from (replicate n x ++ xs) right)
+
+module _ {A B : Type 0} (language : List B → Type 0) (f : A → B) where
+  pub map_to : ((a : A) (xs : List B) → language xs → language (f a ∷ xs)) → (us : List A) (xs : List B) → language xs → language (map f us ++ xs)
+  map_to to [] xs right = right
+  map_to to (u ∷ us) xs right = to u (map f us ++ xs) (map_to to us xs right)
+
+  pub map_from : ((a : A) (xs : List B) → language (f a ∷ xs) → language xs) → (us : List A) (xs : List B) → language (map f us ++ xs) → language xs
+  map_from from [] xs right = right
+  map_from from (u ∷ us) xs right = map_from from us xs (from u (map f us ++ xs) right)

@@ -4,6 +4,7 @@ pub mod FirstFault
 pub mod Future
 pub mod Grammar
 pub mod Line
+pub mod LineFault
 pub mod Lines
 pub mod Names
 pub mod Receiver

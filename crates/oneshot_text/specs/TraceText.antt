@@ -7,11 +7,16 @@ use Rattle.oneshot_replay.specs.Rest.{rest_at}
 use Rattle.oneshot_replay.specs.TraceView.{last_of}
 use Rattle.oneshot_replay.specs.declared.Entry.{Entry}
 use Rattle.oneshot_replay.specs.declared.Move.{Move}
+use Rattle.oneshot_text.specs.declared.show.entry.EntryLine.{EntryLine}
 use Rattle.oneshot_text.specs.EntryText.{entry_text}
 use Rattle.oneshot_text.specs.RestText.{rest_text, block_text}
 
 abbrev pub line : List ℕ → List ℕ
 line text = text ++ 10 ∷ []
+
+-- an entry with all that its line shows
+abbrev pub line_of : EntryLine → List ℕ
+line_of e = line (entry_text e.number e.call e.message e.entry)
 
 -- the entries from this number on, each with the world before it, whose receiver has the call under way that a reply ends
 abbrev pub entries_text : ℕ → ℕ → World → List World → List Entry → List ℕ

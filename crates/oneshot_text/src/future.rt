@@ -1,11 +1,13 @@
 //! The future's script: its calls in their order, and its last one.
 
-ghost use Rattle.std.specs.Prelude.{◌≡◌, ◌≢◌, [], ◌∷◌, ◌++◌, Some, None, Ok, IfOk, IfSome, MatchResult, List, ℕ, slice_get, alloc_error};
+ghost use Rattle.std.specs.Prelude.{◌≡◌, ◌≢◌, ◌++◌, Some, None, Ok, Err, IfOk, OnOk, IfSome, MatchResult, List, ℕ, slice_get, alloc_error};
 ghost use Rattle.oneshot_replay.specs.declared.AsyncCall.{AsyncCall};
 ghost use Rattle.oneshot_replay.specs.declared.AsyncLast.{AsyncLast};
 ghost use Rattle.oneshot_replay.specs.declared.AsyncScript.{AsyncScript};
 ghost use Rattle.oneshot_text.specs.Future.{word_of_poll_or_look, words_of_future_call, words_of_future_calls, words_of_future_last, words_of_future, HasNumber, HasNumbers};
-ghost use Rattle.oneshot_text.specs.Words.{words_left};
+ghost use Rattle.oneshot_text.specs.Grammar.{AsksForFuture};
+ghost use Rattle.oneshot_text.specs.Words.{words_left, HasLineFault, IsSameLine};
+ghost use Rattle.oneshot_text.specs.declared.fault.Malformed.{Malformed};
 
 use crate::fault::{Malformed, ParseError};
 use crate::words::Words;
@@ -18,6 +20,9 @@ pub(crate) fn parse_future(alloc: Global, mut words: Words<'_>) -> Result<AsyncS
     ensures each { (future : AsyncScript) → HasNumbers future.calls →
         words_left words.entry ≡ words_of_future future →
         MatchResult result (λ read. read ≡ future) (λ error. error ≡ ParseError.OutOfMemory alloc_error) }
+    ensures fits { IfOk result (λ future. HasNumbers future.calls) }
+    ensures faulty { (fault : Malformed) → result ≡ Err (ParseError.Malformed fault) →
+        HasLineFault AsksForFuture words.entry fault }
 {
     let calls = parse_calls(alloc, &mut words)?;
     let last = parse_last(words)?;
@@ -36,6 +41,12 @@ fn parse_calls(alloc: Global, words: &mut Words<'_>) -> Result<Vec<AsyncCall>, P
         MatchResult result
         (λ calls. (calls.items ≡ future.calls) × (words_left words.new ≡ words_of_future_last future.last))
         (λ error. error ≡ ParseError.OutOfMemory alloc_error) }
+    ensures numbers { IfOk result (λ calls. HasNumbers calls.items) }
+    ensures whole { OnOk result ((call : AsyncCall) →
+        slice_get (words_left words.new) 0 ≢ Some (word_of_poll_or_look call)) }
+    ensures line { OnOk result (IsSameLine words.old words.new) }
+    ensures faulty { (fault : Malformed) → result ≡ Err (ParseError.Malformed fault) →
+        HasLineFault AsksForFuture words.old fault }
 {
     let mut calls = Vec::new(alloc);
     while let Some(call) = next_call(words)? {
@@ -55,6 +66,10 @@ fn next_call(words: &mut Words<'_>) -> Result<Option<AsyncCall>, Malformed>
         slice_get (words_left words.old) 0 ≢ Some (word_of_poll_or_look call)) → result ≡ Ok None }
     ensures each { (call : AsyncCall) (rest : List (List ℕ)) → HasNumber call →
         words_left words.old ≡ words_of_future_call call ++ rest → result ≡ Ok (Some call) }
+    ensures numbers { IfOk result (λ next. IfSome next HasNumber) }
+    ensures line { OnOk result (IsSameLine words.old words.new) }
+    ensures faulty { (fault : Malformed) → result ≡ Err fault →
+        HasLineFault AsksForFuture words.old fault }
 {
     if words.next_is("poll") {
         words.next();
@@ -76,12 +91,15 @@ fn parse_last(mut words: Words<'_>) -> Result<AsyncLast, Malformed>
     ensures written { IfOk result (λ last. words_left words.entry ≡ words_of_future_last last) }
     ensures each { (last : AsyncLast) →
         words_left words.entry ≡ words_of_future_last last → result ≡ Ok last }
+    ensures faulty { ((call : AsyncCall) →
+        slice_get (words_left words.entry) 0 ≢ Some (word_of_poll_or_look call)) →
+        (fault : Malformed) → result ≡ Err fault → HasLineFault AsksForFuture words.entry fault }
 {
-    let Some(word) = words.next() else {
-        return Ok(AsyncLast::Stop);
-    };
-    match word.text.as_bytes() {
-        b"drop" => words.end().map(|()| AsyncLast::Drop),
-        _ => Err(word.unknown()),
+    if words.next_is("drop") {
+        words.next();
+        words.end()?;
+        return Ok(AsyncLast::Drop);
     }
+    words.stop()?;
+    Ok(AsyncLast::Stop)
 }

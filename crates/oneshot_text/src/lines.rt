@@ -1,10 +1,13 @@
 //! The lines of a text.
 
-ghost use Rattle.std.specs.Prelude.{◌≡◌, ◌↔◌, ℕ, ◌<◌, List, [], ◌∷◌, length, map, IfOk, IsOk};
+ghost use Rattle.std.specs.Prelude.{◌≡◌, ◌↔◌, ℕ, ◌<◌, List, [], ◌∷◌, Err, length, map, IfOk, IsOk};
 ghost use Rattle.oneshot_text.specs.Cut.{words_of, lines_of};
+ghost use Rattle.oneshot_text.specs.FirstFault.{IsFirstFault};
 ghost use Rattle.oneshot_text.specs.Line.{letter_of_line};
 ghost use Rattle.oneshot_text.specs.Lines.{lines_left};
-ghost use Rattle.oneshot_text.specs.Words.{words_left};
+ghost use Rattle.oneshot_text.specs.Words.{words_left, StandsAt};
+ghost use Rattle.oneshot_text.specs.declared.fault.Malformed.{Malformed};
+ghost use Rattle.oneshot_text.specs.declared.line.Line.{Line};
 
 use crate::fault::Malformed;
 use crate::line::Line;
@@ -30,6 +33,9 @@ impl<'a> Lines<'a> {
             lines_left self.old ≡ (letter_of_line line ∷ words_left words) ∷ lines_left self.new) }
         ensures each { (words : List (List ℕ)) (rest : List (List (List ℕ))) →
             lines_left self.old ≡ (letter_of_line line ∷ words) ∷ rest → IsOk result }
+        ensures first { IfOk result (λ words. StandsAt line 1 words) }
+        ensures faulty { (fault : Malformed) → result ≡ Err fault → (later : List Line) →
+            IsFirstFault (line ∷ later) (lines_left self.old) fault }
     {
         if self.rest.is_empty() {
             return Err(Malformed::MissingLine(line));
@@ -46,7 +52,9 @@ impl<'a> Lines<'a> {
 
     /// Ends the text, of which nothing may be left.
     pub(crate) fn end(self) -> Result<(), Malformed>
-        ensures { IsOk result ↔ (lines_left self.entry ≡ []) }
+        ensures over { IsOk result ↔ (lines_left self.entry ≡ []) }
+        ensures faulty { (fault : Malformed) → result ≡ Err fault →
+            IsFirstFault [] (lines_left self.entry) fault }
     {
         if self.rest.is_empty() {
             Ok(())

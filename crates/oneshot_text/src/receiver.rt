@@ -1,11 +1,13 @@
 //! The receiver's script: its calls in their order, and its last one.
 
-ghost use Rattle.std.specs.Prelude.{◌≡◌, ◌≢◌, ◌↔◌, [], ◌∷◌, ◌++◌, Some, IfOk, OnOk, MatchResult, map, slice_get, alloc_error};
+ghost use Rattle.std.specs.Prelude.{◌≡◌, ◌≢◌, ◌↔◌, ◌++◌, Some, Err, IfOk, OnOk, MatchResult, map, slice_get, alloc_error};
 ghost use Rattle.oneshot_replay.specs.declared.ReceiverCall.{ReceiverCall};
 ghost use Rattle.oneshot_replay.specs.declared.ReceiverLast.{ReceiverLast};
 ghost use Rattle.oneshot_replay.specs.declared.ReceiverScript.{ReceiverScript};
 ghost use Rattle.oneshot_text.specs.Receiver.{word_of_call, words_of_receiver_last, words_of_receiver, IsPollable};
-ghost use Rattle.oneshot_text.specs.Words.{words_left};
+ghost use Rattle.oneshot_text.specs.Grammar.{AsksForReceiver};
+ghost use Rattle.oneshot_text.specs.Words.{words_left, HasLineFault, IsSameLine};
+ghost use Rattle.oneshot_text.specs.declared.fault.Malformed.{Malformed};
 
 use crate::fault::ParseError;
 use crate::future::parse_future;
@@ -22,6 +24,9 @@ pub(crate) fn parse_receiver(
     ensures each { (receiver : ReceiverScript) → IsPollable receiver.last →
         words_left words.entry ≡ words_of_receiver receiver →
         MatchResult result (λ read. read ≡ receiver) (λ error. error ≡ ParseError.OutOfMemory alloc_error) }
+    ensures fits { IfOk result (λ receiver. IsPollable receiver.last) }
+    ensures faulty { (fault : Malformed) → result ≡ Err (ParseError.Malformed fault) →
+        HasLineFault AsksForReceiver words.entry fault }
 {
     let calls = parse_calls(alloc, &mut words)?;
     let last = parse_last(alloc, words)?;
@@ -37,6 +42,7 @@ fn parse_calls(alloc: Global, words: &mut Words<'_>) -> Result<Vec<ReceiverCall>
         words_left words.old ≡ map word_of_call calls.items ++ words_left words.new) }
     ensures whole { OnOk result ((call : ReceiverCall) →
         slice_get (words_left words.new) 0 ≢ Some (word_of_call call)) }
+    ensures line { OnOk result (IsSameLine words.old words.new) }
 {
     let mut calls = Vec::new(alloc);
     while let Some(call) = words.peek().and_then(call_of) {
@@ -52,25 +58,28 @@ fn parse_last(alloc: Global, mut words: Words<'_>) -> Result<ReceiverLast, Parse
     ensures each { (last : ReceiverLast) → IsPollable last →
         words_left words.entry ≡ words_of_receiver_last last →
         MatchResult result (λ read. read ≡ last) (λ error. error ≡ ParseError.OutOfMemory alloc_error) }
+    ensures fits { IfOk result (λ last. IsPollable last) }
+    ensures faulty { ((call : ReceiverCall) →
+        slice_get (words_left words.entry) 0 ≢ Some (word_of_call call)) →
+        (fault : Malformed) → result ≡ Err (ParseError.Malformed fault) →
+        HasLineFault AsksForReceiver words.entry fault }
 {
     if words.next_is("future") {
         words.next();
         return Ok(ReceiverLast::IntoFuture(parse_future(alloc, words)?));
     }
-    let Some(word) = words.next() else {
-        return Ok(ReceiverLast::Stop);
-    };
-    match word.text.as_bytes() {
-        b"recv" => {
-            words.end()?;
-            Ok(ReceiverLast::Recv)
-        }
-        b"drop" => {
-            words.end()?;
-            Ok(ReceiverLast::Drop)
-        }
-        _ => Err(ParseError::Malformed(word.unknown())),
+    if words.next_is("recv") {
+        words.next();
+        words.end()?;
+        return Ok(ReceiverLast::Recv);
     }
+    if words.next_is("drop") {
+        words.next();
+        words.end()?;
+        return Ok(ReceiverLast::Drop);
+    }
+    words.stop()?;
+    Ok(ReceiverLast::Stop)
 }
 
 /// The call that the word asks for.

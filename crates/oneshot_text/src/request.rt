@@ -1,13 +1,15 @@
 //! What a text asks for: two scripts and a schedule.
 
-ghost use Rattle.std.specs.Prelude.{◌≡◌, ℕ, List, IfOk, MatchResult, unwrap_or, alloc_error};
+ghost use Rattle.std.specs.Prelude.{◌≡◌, ℕ, List, Err, IfOk, MatchResult, unwrap_or, alloc_error};
 ghost use Rattle.oneshot_replay.specs.Rest.{message_of};
 ghost use Rattle.oneshot_replay.specs.declared.Move.{Move};
 ghost use Rattle.oneshot_replay.specs.declared.ReceiverScript.{ReceiverScript};
 ghost use Rattle.oneshot_replay.specs.declared.SenderScript.{SenderScript};
+ghost use Rattle.oneshot_text.specs.FirstFault.{HasFault};
 ghost use Rattle.oneshot_text.specs.Receiver.{IsPollable};
 ghost use Rattle.oneshot_text.specs.Request.{Asks};
 ghost use Rattle.oneshot_text.specs.Sender.{IsSendable};
+ghost use Rattle.oneshot_text.specs.declared.fault.Malformed.{Malformed};
 
 use crate::fault::ParseError;
 use crate::line::Line;
@@ -60,6 +62,7 @@ pub fn parse_request(alloc: Global, text: &str) -> Result<Request, ParseError>
         MatchResult result
         (λ read. (read.sender ≡ sender) × (read.receiver ≡ receiver) × (read.moves.items ≡ moves))
         (λ error. error ≡ ParseError.OutOfMemory alloc_error) }
+    ensures faulty { (fault : Malformed) → result ≡ Err (ParseError.Malformed fault) → HasFault text.now fault }
 {
     let mut lines = Lines::new(text);
     let sender = parse_sender(lines.take(Line::Sender)?)?;

@@ -1,9 +1,11 @@
 //! The schedule: a letter for each move.
 
-ghost use Rattle.std.specs.Prelude.{◌≡◌, ◌↔◌, ◌<◌, List, Some, IfOk, MatchResult, length, map, vec_len, alloc_error};
+ghost use Rattle.std.specs.Prelude.{◌≡◌, ◌↔◌, ◌<◌, List, Some, Err, IfOk, MatchResult, length, map, vec_len, alloc_error};
 ghost use Rattle.oneshot_replay.specs.declared.Move.{Move};
+ghost use Rattle.oneshot_text.specs.Grammar.{AsksForMoves};
 ghost use Rattle.oneshot_text.specs.Schedule.{letter_of, words_of_schedule};
-ghost use Rattle.oneshot_text.specs.Words.{words_left};
+ghost use Rattle.oneshot_text.specs.Words.{words_left, HasLineFault};
+ghost use Rattle.oneshot_text.specs.declared.fault.Malformed.{Malformed};
 
 use crate::fault::ParseError;
 use crate::words::{Word, Words};
@@ -17,6 +19,8 @@ pub(crate) fn parse_schedule(alloc: Global, mut words: Words<'_>) -> Result<Vec<
     ensures each { (moves : List Move) →
         map (map Some) (words_left words.entry) ≡ words_of_schedule moves →
         MatchResult result (λ read. read.items ≡ moves) (λ error. error ≡ ParseError.OutOfMemory alloc_error) }
+    ensures faulty { (fault : Malformed) → result ≡ Err (ParseError.Malformed fault) →
+        HasLineFault AsksForMoves words.entry fault }
 {
     let Some(letters) = words.next() else {
         return Ok(Vec::new(alloc));
@@ -33,6 +37,8 @@ fn parse_moves(alloc: Global, letters: Word<'_>) -> Result<Vec<Move>, ParseError
     ensures each { (moves : List Move) → 0 < length moves →
         map letter_of moves ≡ map Some letters.entry.text.now →
         MatchResult result (λ read. read.items ≡ moves) (λ error. error ≡ ParseError.OutOfMemory alloc_error) }
+    ensures faulty { (fault : Malformed) → result ≡ Err (ParseError.Malformed fault) →
+        fault ≡ Malformed.UnknownWord letters.entry.line letters.entry.number }
 {
     if letters.text.is_empty() {
         return Err(ParseError::Malformed(letters.unknown()));

@@ -1,12 +1,14 @@
 //! The sender's script: its looks, its last call, and what is done with the error of a refused `send`.
 
-ghost use Rattle.std.specs.Prelude.{◌≡◌, ◌↔◌, ℕ, [], ◌∷◌, Some, Ok, IfOk};
+ghost use Rattle.std.specs.Prelude.{◌≡◌, ◌≢◌, ℕ, Some, Ok, Err, IfOk, codes, slice_get};
 ghost use Rattle.oneshot_replay.specs.declared.ErrorLast.{ErrorLast};
 ghost use Rattle.oneshot_replay.specs.declared.ErrorScript.{ErrorScript};
 ghost use Rattle.oneshot_replay.specs.declared.SenderLast.{SenderLast};
 ghost use Rattle.oneshot_replay.specs.declared.SenderScript.{SenderScript};
 ghost use Rattle.oneshot_text.specs.Sender.{words_of_error_last, words_of_error, words_of_sender_last, words_of_sender, IsSendable};
-ghost use Rattle.oneshot_text.specs.Words.{words_left};
+ghost use Rattle.oneshot_text.specs.Grammar.{AsksForSender, AsksForError};
+ghost use Rattle.oneshot_text.specs.Words.{words_left, HasLineFault};
+ghost use Rattle.oneshot_text.specs.declared.fault.Malformed.{Malformed};
 
 use crate::fault::Malformed;
 use crate::words::Words;
@@ -17,6 +19,9 @@ pub(crate) fn parse_sender(mut words: Words<'_>) -> Result<SenderScript<u64>, Ma
     ensures written { IfOk result (λ sender. words_left words.entry ≡ words_of_sender sender) }
     ensures each { (sender : SenderScript ℕ) → IsSendable sender.last →
         words_left words.entry ≡ words_of_sender sender → result ≡ Ok sender }
+    ensures fits { IfOk result (λ sender. IsSendable sender.last) }
+    ensures faulty { (fault : Malformed) → result ≡ Err fault →
+        HasLineFault AsksForSender words.entry fault }
 {
     let looks = words.take_run("closed");
     let last = parse_last(words)?;
@@ -28,19 +33,23 @@ fn parse_last(mut words: Words<'_>) -> Result<SenderLast<u64>, Malformed>
     ensures written { IfOk result (λ last. words_left words.entry ≡ words_of_sender_last last) }
     ensures each { (last : SenderLast ℕ) → IsSendable last →
         words_left words.entry ≡ words_of_sender_last last → result ≡ Ok last }
+    ensures fits { IfOk result (λ last. IsSendable last) }
+    ensures faulty { slice_get (words_left words.entry) 0 ≢ Some (codes "closed") →
+        (fault : Malformed) → result ≡ Err fault → HasLineFault AsksForSender words.entry fault }
 {
-    let Some(word) = words.next() else {
-        return Ok(SenderLast::Stop);
-    };
-    match word.text.as_bytes() {
-        b"drop" => words.end().map(|()| SenderLast::Drop),
-        b"send" => {
-            let message = words.number()?;
-            let error = parse_error(words)?;
-            Ok(SenderLast::Send(message, error))
-        }
-        _ => Err(word.unknown()),
+    if words.next_is("drop") {
+        words.next();
+        words.end()?;
+        return Ok(SenderLast::Drop);
     }
+    if words.next_is("send") {
+        words.next();
+        let message = words.number()?;
+        let error = parse_error(words)?;
+        return Ok(SenderLast::Send(message, error));
+    }
+    words.stop()?;
+    Ok(SenderLast::Stop)
 }
 
 /// What is done with the error, to which all words that are left belong.
@@ -48,6 +57,8 @@ fn parse_error(mut words: Words<'_>) -> Result<ErrorScript, Malformed>
     ensures written { IfOk result (λ error. words_left words.entry ≡ words_of_error error) }
     ensures each { (error : ErrorScript) →
         words_left words.entry ≡ words_of_error error → result ≡ Ok error }
+    ensures faulty { (fault : Malformed) → result ≡ Err fault →
+        HasLineFault AsksForError words.entry fault }
 {
     let looks = words.take_run("inner");
     let last = parse_error_last(words)?;
@@ -58,23 +69,19 @@ fn parse_error_last(mut words: Words<'_>) -> Result<ErrorLast, Malformed>
     ensures written { IfOk result (λ last. words_left words.entry ≡ words_of_error_last last) }
     ensures each { (last : ErrorLast) →
         words_left words.entry ≡ words_of_error_last last → result ≡ Ok last }
+    ensures faulty { slice_get (words_left words.entry) 0 ≢ Some (codes "inner") →
+        (fault : Malformed) → result ≡ Err fault → HasLineFault AsksForError words.entry fault }
 {
-    let Some(word) = words.next() else {
-        return Ok(ErrorLast::Stop);
-    };
-    let last = error_last(word.text).ok_or(word.unknown())?;
-    words.end()?;
-    Ok(last)
-}
-
-/// The error's last call that the word asks for.
-fn error_last(word: &str) -> Option<ErrorLast>
-    ensures { (last : ErrorLast) →
-        (result ≡ Some last) ↔ (words_of_error_last last ≡ word.now ∷ []) }
-{
-    match word.as_bytes() {
-        b"into" => Some(ErrorLast::IntoInner),
-        b"drop" => Some(ErrorLast::Drop),
-        _ => None,
+    if words.next_is("into") {
+        words.next();
+        words.end()?;
+        return Ok(ErrorLast::IntoInner);
     }
+    if words.next_is("drop") {
+        words.next();
+        words.end()?;
+        return Ok(ErrorLast::Drop);
+    }
+    words.stop()?;
+    Ok(ErrorLast::Stop)
 }

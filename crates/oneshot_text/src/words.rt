@@ -1,9 +1,10 @@
 //! The words of a line.
 
-ghost use Rattle.std.specs.Prelude.{◌≡◌, ◌≢◌, ◌↔◌, ℕ, ◌+◌, ◌^◌, ◌<◌, [], ◌∷◌, ◌++◌, Some, Ok, IfOk, IsTrue, IsOk, length, slice_get, replicate, decimal};
+ghost use Rattle.std.specs.Prelude.{◌≡◌, ◌≢◌, ◌↔◌, ℕ, ◌+◌, ◌^◌, ◌<◌, [], ◌∷◌, ◌++◌, Some, Ok, Err, IfOk, OnOk, IsTrue, IsOk, length, slice_get, replicate, decimal};
 ghost use Rattle.std.specs.Option.{option_copied};
-ghost use Rattle.std.specs.Iterator.{YieldsFirstBy};
 ghost use Rattle.oneshot_text.specs.Cut.{words_of, words_in};
+ghost use Rattle.oneshot_text.specs.declared.fault.Malformed.{Malformed};
+ghost use Rattle.oneshot_text.specs.Grammar.{IsOver};
 
 use crate::fault::Malformed;
 use crate::line::Line;
@@ -19,14 +20,18 @@ pub(crate) struct Word<'a> {
 
 impl Word<'_> {
     /// Tells that the word is none that may stand here.
-    pub(crate) fn unknown(self) -> Malformed {
+    pub(crate) fn unknown(self) -> Malformed
+        ensures { result ≡ Malformed.UnknownWord self.entry.line self.entry.number }
+    {
         Malformed::UnknownWord {
             line: self.line,
             word: self.number,
         }
     }
 
-    fn follows_last_call(self) -> Malformed {
+    fn follows_last_call(self) -> Malformed
+        ensures { result ≡ Malformed.FollowsLastCall self.entry.line self.entry.number }
+    {
         Malformed::FollowsLastCall {
             line: self.line,
             word: self.number,
@@ -44,11 +49,12 @@ pub(crate) struct Words<'a> {
 }
 
 impl<'a> Words<'a> {
-    ghost use Rattle.oneshot_text.specs.Words.{words_left};
+    ghost use Rattle.oneshot_text.specs.Words.{words_left, HasLineFault, IsSameLine, StandsAt};
 
     /// All words of the line `text`.
     pub(crate) fn new(line: Line, text: &'a str) -> Words<'a>
-        ensures { words_left result ≡ words_of text.now }
+        ensures words { words_left result ≡ words_of text.now }
+        ensures first { StandsAt line 0 result }
     {
         Words {
             line,
@@ -76,6 +82,7 @@ impl<'a> Words<'a> {
     pub(crate) fn take_run(&mut self, text: &str) -> usize
         ensures run { words_left self.old ≡ replicate result text.now ++ words_left self.new }
         ensures whole { slice_get (words_left self.new) 0 ≢ Some text.now }
+        ensures line { IsSameLine self.old self.new }
     {
         let mut count = 0;
         while self.next_is(text) {
@@ -90,6 +97,10 @@ impl<'a> Words<'a> {
         ensures written { IfOk result (λ n. words_left self.old ≡ decimal n ∷ words_left self.new) }
         ensures each { (n : ℕ) → n < 2 ^ 64 →
             slice_get (words_left self.old) 0 ≡ Some (decimal n) → result ≡ Ok n }
+        ensures small { IfOk result (λ n. n < 2 ^ 64) }
+        ensures line { OnOk result (IsSameLine self.old self.new) }
+        ensures faulty { (fault : Malformed) → result ≡ Err fault →
+            fault ≡ Malformed.BadNumber self.old.line self.old.taken }
     {
         let (line, word) = (self.line, self.taken);
         self.next()
@@ -97,9 +108,23 @@ impl<'a> Words<'a> {
             .ok_or(Malformed::BadNumber { line, word })
     }
 
-    /// Ends the line, of which no word may be left.
+    /// Ends the line here. A word that is left is none that may stand here.
+    pub(crate) fn stop(mut self) -> Result<(), Malformed>
+        ensures over { IsOk result ↔ (words_left self.entry ≡ []) }
+        ensures faulty { (fault : Malformed) → result ≡ Err fault →
+            fault ≡ Malformed.UnknownWord self.entry.line self.entry.taken }
+    {
+        match self.next() {
+            None => Ok(()),
+            Some(word) => Err(word.unknown()),
+        }
+    }
+
+    /// Ends the line behind its last call. A word that is left follows it.
     pub(crate) fn end(mut self) -> Result<(), Malformed>
-        ensures { IsOk result ↔ (words_left self.entry ≡ []) }
+        ensures over { IsOk result ↔ (words_left self.entry ≡ []) }
+        ensures faulty { (fault : Malformed) → result ≡ Err fault →
+            HasLineFault IsOver self.entry fault }
     {
         match self.next() {
             None => Ok(()),
@@ -109,11 +134,11 @@ impl<'a> Words<'a> {
 }
 
 impl<'a> Iterator for Words<'a> {
-    ghost use Rattle.oneshot_text.specs.Words.{words_left};
+    ghost use Rattle.oneshot_text.specs.Words.{TakesFirst};
 
     type Item = Word<'a>;
 
-    ghost next_gives = { YieldsFirstBy (λ word. word.text.now) words_left };
+    ghost next_gives = { TakesFirst };
 
     fn next(&mut self) -> Option<Word<'a>> {
         let (text, rest) = cut_word(self.rest?);

@@ -12,6 +12,7 @@ use oneshot_machine::machine::{ReceiverPos, Reply, Seen, SenderPos, Step};
 use oneshot_machine::states::Op;
 
 /// The number of the poll's own waker, where the poll wakes it.
+#[inline(always)]
 pub(crate) fn own_of(told: Told, step: Step) -> Option<u64>
     ensures { result ≡ own_of told step }
 {
@@ -23,6 +24,7 @@ pub(crate) fn own_of(told: Told, step: Step) -> Option<u64>
 
 /// What a step sees: an operation the word, unless it only stores, a park its token, and a clock or a
 /// copy what the move is told.
+#[inline(always)]
 pub(crate) fn seen_by(answer: bool, state: State, step: Step) -> Seen
     ensures { result ≡ seen_by answer state step }
 {
@@ -37,6 +39,7 @@ pub(crate) fn seen_by(answer: bool, state: State, step: Step) -> Seen
 }
 
 /// The word after a step.
+#[inline(always)]
 pub(crate) fn word_left(word: u8, step: Step) -> u8
     requires { word ≤ 4 }
     ensures { result ≡ word_left word step }
@@ -48,6 +51,7 @@ pub(crate) fn word_left(word: u8, step: Step) -> u8
 }
 
 /// The word as an entry shows it.
+#[inline(always)]
 pub(crate) fn shown(freed: bool, word: u8) -> Option<u8>
     ensures { result ≡ shown freed word }
 {
@@ -55,6 +59,7 @@ pub(crate) fn shown(freed: bool, word: u8) -> Option<u8>
 }
 
 /// Where a step of the sender puts the message.
+#[inline(always)]
 pub(crate) fn sender_puts(step: Step, reply: Option<Reply>) -> Option<Place>
     ensures { result ≡ sender_puts step reply }
 {
@@ -68,6 +73,7 @@ pub(crate) fn sender_puts(step: Step, reply: Option<Reply>) -> Option<Place>
 }
 
 /// Where a step of the receiver puts the message.
+#[inline(always)]
 pub(crate) fn receiver_puts(step: Step) -> Option<Place>
     ensures { result ≡ receiver_puts step }
 {
@@ -79,6 +85,7 @@ pub(crate) fn receiver_puts(step: Step) -> Option<Place>
 }
 
 /// The message's place after a step.
+#[inline(always)]
 pub(crate) fn place_left(from: Option<Place>, to: Option<Place>) -> Option<Place>
     ensures { result ≡ place_left from to }
 {
@@ -89,6 +96,7 @@ pub(crate) fn place_left(from: Option<Place>, to: Option<Place>) -> Option<Place
 }
 
 /// The message's move.
+#[inline(always)]
 pub(crate) fn move_of(from: Option<Place>, to: Option<Place>) -> Option<(Place, Place)>
     ensures { result ≡ move_of from to }
 {
@@ -99,6 +107,7 @@ pub(crate) fn move_of(from: Option<Place>, to: Option<Place>) -> Option<(Place, 
 }
 
 /// Where the sender stands after a step that leads to `next`, or ends its call with `reply`.
+#[inline(always)]
 pub(crate) fn sender_goes(step: Step, next: SenderPos, reply: Option<Reply>) -> SenderState
     ensures { result ≡ sender_goes step (outcome (next, reply)) }
 {
@@ -118,6 +127,7 @@ pub(crate) fn sender_goes(step: Step, next: SenderPos, reply: Option<Reply>) -> 
 }
 
 /// Whether a reply gives the future.
+#[inline(always)]
 pub(crate) fn is_future(reply: Option<Reply>) -> bool
     ensures { result ≡ is_future reply }
 {
@@ -128,6 +138,7 @@ pub(crate) fn is_future(reply: Option<Reply>) -> bool
 }
 
 /// Whether the receiver is a future after that.
+#[inline(always)]
 pub(crate) fn future_left(future: bool, reply: Option<Reply>) -> bool
     ensures { result ≡ (future || is_future reply) }
 {
@@ -135,6 +146,7 @@ pub(crate) fn future_left(future: bool, reply: Option<Reply>) -> bool
 }
 
 /// Where the receiver stands after a step that leads to `next`, or ends its call with `reply`.
+#[inline(always)]
 pub(crate) fn receiver_goes(step: Step, next: ReceiverPos, reply: Option<Reply>) -> ReceiverState
     ensures { result ≡ receiver_goes step (outcome (next, reply)) }
 {

@@ -1,7 +1,7 @@
 //! The world without the calls that its scripts have left, and one step of one end.
 
 ghost use Rattle.std.specs.Prelude.{◌≡◌, ◌≤◌, Some, IsSome};
-ghost use Rattle.oneshot_world.specs.State.{opening_state, sender_position, receiver_position, made, moved, sender_steps, receiver_steps};
+ghost use Rattle.oneshot_world.specs.State.{opening_state, made, moved, sender_steps, receiver_steps};
 
 use crate::effects::{
     future_left, is_future, move_of, own_of, place_left, receiver_goes, receiver_puts, seen_by,
@@ -9,9 +9,7 @@ use crate::effects::{
 };
 use crate::trace::{Made, Place};
 use crate::wakers::{Told, Wakers};
-use oneshot_machine::machine::{
-    End, ReceiverPos, ReceiverStart, Reply, SenderCall, SenderPos, Step,
-};
+use oneshot_machine::machine::{End, ReceiverPos, Reply, Seen, SenderPos, Step};
 use oneshot_machine::states::EMPTY;
 
 /// Where the sender stands.
@@ -57,32 +55,6 @@ pub struct State {
     pub wakers: Wakers,
 }
 
-impl SenderState {
-    /// Where the next step is made: in the call under way, or at the start of `call`, the next one.
-    pub(crate) fn position(self, call: Option<SenderCall>) -> Option<SenderPos>
-        ensures { result ≡ sender_position self call }
-    {
-        match self {
-            SenderState::Ready | SenderState::Failed => Some(SenderPos::start(call?)),
-            SenderState::At(position) => Some(position),
-            SenderState::Ended => None,
-        }
-    }
-}
-
-impl ReceiverState {
-    /// Where the next step is made: in the call under way, or at the start of `call`, the next one.
-    pub(crate) fn position(self, call: Option<ReceiverStart>) -> Option<ReceiverPos>
-        ensures { result ≡ receiver_position self call }
-    {
-        match self {
-            ReceiverState::Ready => Some(ReceiverPos::start(call?)),
-            ReceiverState::At(position) => Some(position),
-            ReceiverState::Ended => None,
-        }
-    }
-}
-
 impl State {
     /// The state before the first move, with the message in its script if there is one.
     pub(crate) fn new(message: Option<Place>) -> State
@@ -100,60 +72,70 @@ impl State {
     }
 
     /// Makes the sender's step at `position`, and tells it.
+    #[inline(always)]
     pub(crate) fn step_sender(&mut self, position: SenderPos, told: Told) -> Made
         requires row { IsSome (sender_steps told self.old position) }
         requires code { self.old.word ≤ 4 }
         ensures { sender_steps told self.old position ≡ Some (result, self.new) }
     {
         let step = position.step();
-        let (next, reply) = position.next(seen_by(told.answer, *self, step));
-        let made = self.make(End::Sender, told, step, reply, sender_puts(step, reply));
+        let seen = seen_by(told.answer, *self, step);
+        let (next, reply) = position.next(seen);
+        let puts = sender_puts(step, reply);
+        let made = self.make(End::Sender, told, step, seen, reply, puts);
         self.sender = sender_goes(step, next, reply);
         made
     }
 
     /// Makes the receiver's step at `position`, and tells it.
+    #[inline(always)]
     pub(crate) fn step_receiver(&mut self, position: ReceiverPos, told: Told) -> Made
         requires row { IsSome (receiver_steps told self.old position) }
         requires code { self.old.word ≤ 4 }
         ensures { receiver_steps told self.old position ≡ Some (result, self.new) }
     {
         let step = position.step();
-        let (next, reply) = position.next(seen_by(told.answer, *self, step));
-        let made = self.make(End::Receiver, told, step, reply, receiver_puts(step));
+        let seen = seen_by(told.answer, *self, step);
+        let (next, reply) = position.next(seen);
+        let puts = receiver_puts(step);
+        let made = self.make(End::Receiver, told, step, seen, reply, puts);
         self.receiver = receiver_goes(step, next, reply);
         self.future = future_left(self.future, reply);
-        self.wakers = self.wakers.kept(is_future(reply));
+        self.wakers.keep_hand(is_future(reply));
         made
     }
 
     /// What both ends' steps do alike: the word, the block, the message's place and the wakers.
+    #[inline(always)]
     fn make(
         &mut self,
         side: End,
         told: Told,
         step: Step,
+        seen: Seen,
         reply: Option<Reply>,
         to: Option<Place>,
     ) -> Made
         requires { self.old.word ≤ 4 }
-        ensures tells { result ≡ made side told self.old step reply to }
+        ensures tells { result ≡ record (made side told self.old step reply to) { seen = seen } }
         ensures moves { self.new ≡ moved told self.old step to }
     {
-        let from = *self;
-        self.word = word_left(from.word, step);
-        self.freed = from.freed || step == Step::Free;
-        self.message = place_left(from.message, to);
-        self.wakers = from.wakers.after(told, from.word, step);
+        let before = shown(self.freed, self.word);
+        let message = move_of(self.message, to);
+        let token_set = self.wakers.sets_token(step);
+        let waker = self.wakers.moved(told, self.word, step);
+        self.word = word_left(self.word, step);
+        self.freed = self.freed || step == Step::Free;
+        self.message = place_left(self.message, to);
         Made {
             side,
             step,
-            seen: seen_by(told.answer, from, step),
-            before: shown(from.freed, from.word),
+            seen,
+            before,
             after: shown(self.freed, self.word),
-            message: move_of(from.message, to),
-            waker: from.wakers.moved_by(told, from.word, step),
-            token_set: from.wakers.sets_token(step),
+            message,
+            token_set,
+            waker,
             own: own_of(told, step),
             reply,
         }

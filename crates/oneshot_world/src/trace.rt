@@ -74,10 +74,10 @@ pub struct Made {
     pub after: Option<u8>,
     /// The message's move: the place that it left, and the place that it went to.
     pub message: Option<(Place, Place)>,
-    /// A waker's move: the waker, the place that it left, and the place that it went to.
-    pub waker: Option<(WakerName, WakerPlace, WakerPlace)>,
     /// Whether the step set the token on which the receiver parks.
     pub token_set: bool,
+    /// A waker's move: the waker, the place that it left, and the place that it went to.
+    pub waker: Option<(WakerName, WakerPlace, WakerPlace)>,
     /// The number of the poll's own waker, where the poll woke it.
     pub own: Option<u64>,
     /// The reply, where the step ended its call.

@@ -1,12 +1,17 @@
 //! The wakers of the world: where each lies, and what a step does to them.
 
-ghost use Rattle.std.specs.Prelude.{◌≡◌};
+ghost use Rattle.std.specs.Prelude.{◌≡◌, ◌||◌, None};
+ghost use Rattle.std.specs.Option.{option_map};
 ghost use Rattle.oneshot_world.specs.State.{hand_kept};
-ghost use Rattle.oneshot_world.specs.Wakers.{opening_wakers, wakers_left, waker_move, sets_token};
+ghost use Rattle.oneshot_world.specs.Wakers.{opening_wakers, is_parker, withdrawn, back_to, wakers_left, waker_move, sets_token};
+ghost use Rattle.oneshot_world.specs.declared.trace.WakerPlace.TheVariants as Places;
 
 use crate::trace::{WakerName, WakerPlace};
 use oneshot_machine::machine::Step;
 use oneshot_machine::states::Op;
+
+/// A move of a waker: the waker, and the places that it leaves and goes to.
+type WakerMove = (WakerName, WakerPlace, WakerPlace);
 
 /// What a move is told.
 #[derive(Clone, Copy, Debug, Eq, PartialEq)]
@@ -45,93 +50,112 @@ impl Wakers {
         }
     }
 
-    /// After a step that finds this word and is told this.
-    pub(crate) fn after(self, told: Told, word: u8, step: Step) -> Wakers
-        ensures { result ≡ wakers_left told word self step }
+    /// What a step does that finds this word and is told this, and the move that it makes with a waker:
+    /// the waker, and the places that it leaves and goes to.
+    #[inline(always)]
+    pub(crate) fn moved(&mut self, told: Told, word: u8, step: Step) -> Option<WakerMove>
+        ensures leaves { self.new ≡ wakers_left told word self.old step }
+        ensures tells { result ≡ waker_move told word self.old step }
     {
+        // Most steps move no waker, so the moves are out of line.
         match step {
-            Step::WriteWaker => Wakers {
-                cell: self.hand,
-                hand: None,
-                ..self
-            },
-            Step::TakeWaker => Wakers {
-                cell: None,
-                taken: self.cell,
-                ..self
-            },
-            Step::Withdraw => Wakers {
-                cell: None,
-                hand: if self.cell == Some(WakerName::Parker) {
-                    self.cell
-                } else {
-                    self.hand
-                },
-                ..self
-            },
-            Step::Wake => Wakers {
-                taken: None,
-                token: self.token || self.sets_token(step),
-                ..self
-            },
-            Step::Park => Wakers {
-                token: false,
-                ..self
-            },
-            Step::Copy => Wakers {
-                hand: if told.answer { self.hand } else { told.copy },
-                ..self
-            },
-            Step::Word(Op::Exchange(expected, _)) => Wakers {
-                hand: if word == expected { self.hand } else { None },
-                ..self
-            },
-            _ => self,
-        }
-    }
-
-    /// Without the parker's half, where a future begins.
-    pub(crate) fn kept(self, future: bool) -> Wakers
-        ensures { result ≡ hand_kept future self }
-    {
-        Wakers {
-            hand: if future { None } else { self.hand },
-            ..self
-        }
-    }
-
-    /// The move that a step makes with a waker: the waker, and the places that it leaves and goes to.
-    pub(crate) fn moved_by(
-        self,
-        told: Told,
-        word: u8,
-        step: Step,
-    ) -> Option<(WakerName, WakerPlace, WakerPlace)>
-        ensures { result ≡ waker_move told word self step }
-    {
-        match step {
-            Step::WriteWaker => Some((self.hand?, WakerPlace::Hand, WakerPlace::Cell)),
-            Step::TakeWaker => Some((self.cell?, WakerPlace::Cell, WakerPlace::SenderHand)),
-            Step::Withdraw => match self.cell? {
-                WakerName::Parker => Some((WakerName::Parker, WakerPlace::Cell, WakerPlace::Hand)),
-                copy => Some((copy, WakerPlace::Cell, WakerPlace::Dropped)),
-            },
-            Step::Wake => Some((self.taken?, WakerPlace::SenderHand, WakerPlace::Used)),
+            Step::WriteWaker => self.write(),
+            Step::TakeWaker => self.take(),
+            Step::Withdraw => self.withdraw(),
+            Step::Wake => self.wake(),
             Step::Copy => {
                 if told.answer {
                     None
                 } else {
-                    Some((told.copy?, WakerPlace::New, WakerPlace::Hand))
+                    self.copy(told.copy)
                 }
             }
             Step::Word(Op::Exchange(expected, _)) => {
                 if word == expected {
                     None
                 } else {
-                    Some((self.hand?, WakerPlace::Hand, WakerPlace::Dropped))
+                    self.drop_hand()
                 }
             }
+            Step::Park => {
+                self.token = false;
+                None
+            }
             _ => None,
+        }
+    }
+
+    /// The waker in the hand goes into the cell.
+    #[inline(never)]
+    fn write(&mut self) -> Option<WakerMove>
+        ensures leaves { self.new ≡ record self.old { cell = self.old.hand; hand = None } }
+        ensures tells { result ≡ option_map (λ name. (name, Places.Hand, Places.Cell)) self.old.hand }
+    {
+        self.cell = self.hand.take();
+        Some((self.cell?, WakerPlace::Hand, WakerPlace::Cell))
+    }
+
+    /// The sender takes the waker in the cell.
+    #[inline(never)]
+    fn take(&mut self) -> Option<WakerMove>
+        ensures leaves { self.new ≡ record self.old { cell = None; taken = self.old.cell } }
+        ensures tells { result ≡ option_map (λ name. (name, Places.Cell, Places.SenderHand)) self.old.cell }
+    {
+        self.taken = self.cell.take();
+        Some((self.taken?, WakerPlace::Cell, WakerPlace::SenderHand))
+    }
+
+    /// The parker's half in the cell goes back into the hand; a copy in the cell is dropped.
+    #[inline(never)]
+    fn withdraw(&mut self) -> Option<WakerMove>
+        ensures leaves { self.new ≡ record self.old { cell = None; hand = withdrawn self.old.cell self.old.hand } }
+        ensures tells { result ≡ option_map (λ name. (name, Places.Cell, back_to name)) self.old.cell }
+    {
+        match self.cell.take()? {
+            WakerName::Parker => {
+                self.hand = Some(WakerName::Parker);
+                Some((WakerName::Parker, WakerPlace::Cell, WakerPlace::Hand))
+            }
+            copy => Some((copy, WakerPlace::Cell, WakerPlace::Dropped)),
+        }
+    }
+
+    /// The sender uses the waker that it took.
+    #[inline(never)]
+    fn wake(&mut self) -> Option<WakerMove>
+        ensures leaves { self.new ≡ record self.old { taken = None; token = self.old.token || is_parker self.old.taken } }
+        ensures tells { result ≡ option_map (λ name. (name, Places.SenderHand, Places.Used)) self.old.taken }
+    {
+        let waker = self.taken.take()?;
+        self.token = self.token || waker == WakerName::Parker;
+        Some((waker, WakerPlace::SenderHand, WakerPlace::Used))
+    }
+
+    /// A new copy goes into the hand.
+    #[inline(never)]
+    fn copy(&mut self, copy: Option<WakerName>) -> Option<WakerMove>
+        ensures leaves { self.new ≡ record self.old { hand = copy } }
+        ensures tells { result ≡ option_map (λ name. (name, Places.New, Places.Hand)) copy }
+    {
+        self.hand = copy;
+        Some((copy?, WakerPlace::New, WakerPlace::Hand))
+    }
+
+    /// The waker in the hand is dropped.
+    #[inline(never)]
+    fn drop_hand(&mut self) -> Option<WakerMove>
+        ensures leaves { self.new ≡ record self.old { hand = None } }
+        ensures tells { result ≡ option_map (λ name. (name, Places.Hand, Places.Dropped)) self.old.hand }
+    {
+        Some((self.hand.take()?, WakerPlace::Hand, WakerPlace::Dropped))
+    }
+
+    /// Keeps what is in the hand, but gives up the parker's half where a future begins.
+    pub(crate) fn keep_hand(&mut self, future: bool)
+        ensures { self.new ≡ hand_kept future self.old }
+    {
+        if future {
+            self.hand = None;
         }
     }
 

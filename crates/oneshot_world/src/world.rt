@@ -4,16 +4,17 @@ ghost use Rattle.std.specs.Prelude.{◌≡◌, Some};
 ghost use Rattle.std.specs.Option.{option_and_then};
 ghost use Rattle.oneshot_machine.specs.declared.machine.End.TheVariants as Ends;
 ghost use Rattle.oneshot_world.specs.Calls.{first, as_sender_call, as_receiver_call};
+ghost use Rattle.oneshot_world.specs.State.{sender_stands, receiver_stands};
 ghost use Rattle.oneshot_world.specs.World.{opening, opening_place, turn, turn_of, nothing_told, answer_of, told_with};
 ghost use Rattle.oneshot_world.specs.declared.script.Move.TheVariants as Moves;
 
 use crate::calls::receiver::ReceiverCalls;
 use crate::calls::sender::SenderCalls;
 use crate::script::{Move, ReceiverScript, SenderLast, SenderScript};
-use crate::state::State;
+use crate::state::{ReceiverState, SenderState, State};
 use crate::trace::{Entry, Place, WakerName};
 use crate::wakers::Told;
-use oneshot_machine::machine::{End, ReceiverPos, ReceiverStart, SenderCall, Step};
+use oneshot_machine::machine::{End, FuturePos, ReceiverPos, ReceiverStart, SenderCall, SenderPos};
 use std::marker::Model;
 
 /// Both machines between two moves, and what each script has left.
@@ -49,6 +50,8 @@ impl World {
 
     /// Makes one move, and tells it. The entry's number counts from 1; a copy of a waker that is made
     /// then is named by it.
+    // Inlined, so that the entry is written where the caller keeps it.
+    #[inline(always)]
     pub fn step(&mut self, m: Move, entry: usize) -> Entry
         ensures { turn entry self.old m ≡ Some (result, self.new) }
     {
@@ -86,10 +89,35 @@ impl World {
         self.state.message
     }
 
+    /// Where the sender makes its next step: in the call under way, or at the start of the next one.
+    fn sender_position(&self) -> Option<SenderPos>
+        ensures { result ≡ sender_stands self.now.state (first self.now.sender.calls) }
+    {
+        match self.state.sender {
+            SenderState::Ready | SenderState::Failed => {
+                Some(SenderPos::start(self.sender.first()?))
+            }
+            SenderState::At(position) => Some(position),
+            SenderState::Ended => None,
+        }
+    }
+
+    /// Where the receiver makes its next step: in the call under way, or at the start of the next one.
+    fn receiver_position(&self) -> Option<ReceiverPos>
+        ensures { result ≡ receiver_stands self.now.state (first self.now.receiver.calls) }
+    {
+        match self.state.receiver {
+            ReceiverState::Ready => Some(ReceiverPos::start(self.receiver.first()?)),
+            ReceiverState::At(position) => Some(position),
+            ReceiverState::Ended => None,
+        }
+    }
+
+    #[inline(always)]
     fn step_sender(&mut self) -> Entry
         ensures { turn_of Ends.Sender nothing_told self.old ≡ Some (result, self.new) }
     {
-        let Some(position) = self.state.sender.position(self.sender.first()) else {
+        let Some(position) = self.sender_position() else {
             return Entry::Idle(End::Sender);
         };
         let told = Told {
@@ -102,10 +130,11 @@ impl World {
         Entry::Made(made)
     }
 
+    #[inline(always)]
     fn step_receiver(&mut self, over: bool, refuse: bool, entry: usize) -> Entry
         ensures { turn entry self.old (Moves.Receiver over refuse) ≡ Some (result, self.new) }
     {
-        let Some(position) = self.state.receiver.position(self.receiver.first()) else {
+        let Some(position) = self.receiver_position() else {
             return Entry::Idle(End::Receiver);
         };
         let answer = answer_at(position, over, refuse);
@@ -116,12 +145,13 @@ impl World {
     }
 }
 
-/// What a move answers at a position: to a copy whether it is refused, and to a clock.
+/// What a move answers at a position: to a copy, which only a poll makes, whether it is refused, and to
+/// a clock.
 fn answer_at(position: ReceiverPos, over: bool, refuse: bool) -> bool
     ensures { result ≡ answer_of (Some position) over refuse }
 {
-    match position.step() {
-        Step::Copy => refuse,
+    match position {
+        ReceiverPos::Future(FuturePos::PollCopy | FuturePos::AgainCopy) => refuse,
         _ => over,
     }
 }

@@ -27,7 +27,8 @@ fn a_copy_shows_as_its_number_and_its_entry(rt: HostRuntime) -> Result<(), Fail>
     let line = EntryLine {
         number: 13,
         entry: Entry::Made(exchange),
-        reply: None,
+        call: None,
+        message: 0,
     };
     assert_eq!(rt;
         line.to_string(rt.alloc())?.as_str(),

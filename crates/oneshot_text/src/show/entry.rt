@@ -1,10 +1,16 @@
 //! An entry's line.
 
+ghost use Rattle.std.specs.Prelude.{◌≡◌, ◌++◌, IfSome, codes, decimal};
+ghost use Rattle.std.specs.Fmt.{WritesOnOk};
+ghost use Rattle.oneshot_text.specs.Names.{letter_of_end, name_of_step};
+ghost use Rattle.oneshot_text.specs.EntryText.{word_text, message_field, waker_field, token_field, found_field, own_field, reply_field, made_text};
+
 use crate::show::names::{WakerText, end_letter, message_place, step_name, waker_place};
 use crate::show::reply::ReplyText;
-use oneshot_machine::machine::Seen;
-use oneshot_replay::{Entry, Made};
+use oneshot_machine::machine::{End, ReceiverStart, Seen};
+use oneshot_replay::{Entry, Made, Place, WakerName, WakerPlace};
 use std::fmt;
+use std::fmt::Display;
 
 /// An entry of a trace, which shows as its line.
 #[derive(Clone, Copy)]
@@ -13,77 +19,210 @@ pub struct EntryLine {
     pub number: usize,
     /// The entry.
     pub entry: Entry,
-    /// The reply, where the entry ends a call.
-    pub reply: Option<ReplyText>,
+    /// The call that the receiver has under way at the entry.
+    pub call: Option<ReceiverStart>,
+    /// The message of the sender's script.
+    pub message: u64,
 }
 
 impl fmt::Display for EntryLine {
+    ghost use Rattle.std.specs.Prelude.{Some};
+    ghost use Rattle.oneshot_text.specs.EntryText.{entry_text};
+
+    ghost output = { λ l. Some (entry_text l.number l.call l.message l.entry) };
+
     fn fmt<W: fmt::Write>(&self, f: &mut fmt::Formatter<W>) -> fmt::Result {
-        let (number, reply) = (self.number, self.reply);
-        match self.entry {
-            Entry::Idle(end) => write!(f, "{number} {} idle", end_letter(end)),
-            Entry::Made(made) => write!(f, "{number} {}", MadeText { made, reply }),
+        self.number.fmt(f)?;
+        match &self.entry {
+            Entry::Idle(end) => write_idle(f, *end),
+            Entry::Made(made) => write_made(f, made, self.call, self.message),
         }
     }
+}
+
+/// A move of an end whose script has nothing left.
+fn write_idle<W: fmt::Write>(f: &mut fmt::Formatter<W>, end: End) -> fmt::Result
+    ensures { WritesOnOk W.write_str_gives f.old result (codes " " ++ letter_of_end end ++ codes " idle") f.new }
+{
+    f.write_str(end_letter(end))?;
+    f.write_str("idle")
 }
 
 /// A step of an end: what it did to the word, and then each field that it has.
-#[derive(Clone, Copy)]
-struct MadeText {
-    made: Made,
-    reply: Option<ReplyText>,
+fn write_made<W: fmt::Write>(
+    f: &mut fmt::Formatter<W>,
+    made: &Made,
+    call: Option<ReceiverStart>,
+    message: u64,
+) -> fmt::Result
+    ensures { WritesOnOk W.write_str_gives f.old result (codes " " ++ made_text call message made.now) f.new }
+{
+    write_step(f, made)?;
+    write_fields(f, made)?;
+    write_reply(f, made, call, message)
 }
 
-impl fmt::Display for MadeText {
-    fn fmt<W: fmt::Write>(&self, f: &mut fmt::Formatter<W>) -> fmt::Result {
-        let made = self.made;
-        let (end, step) = (end_letter(made.side), step_name(made.step));
-        let (before, after) = (WordText(made.before), WordText(made.after));
-        write!(f, "{end} {step} {before}>{after}")?;
-        if let Some((from, to)) = made.message {
-            write!(f, " m:{}>{}", message_place(from), message_place(to))?;
-        }
-        if let Some((name, from, to)) = made.waker {
-            let (name, from, to) = (WakerText(name), waker_place(from), waker_place(to));
-            write!(f, " {name}:{from}>{to}")?;
-        }
-        if let Some(found) = found_text(made) {
-            write!(f, " {found}")?;
-        }
-        if let Some(number) = made.own {
-            write!(f, " own:{number}")?;
-        }
-        match self.reply {
-            Some(reply) => write!(f, " = {reply}"),
-            None => Ok(()),
-        }
+/// The end, its step, and the word before and after it.
+fn write_step<W: fmt::Write>(f: &mut fmt::Formatter<W>, made: &Made) -> fmt::Result
+    ensures { WritesOnOk W.write_str_gives f.old result (codes " " ++ letter_of_end made.now.side ++ codes " " ++ name_of_step made.now.step
+        ++ codes " " ++ word_text made.now.before ++ codes ">" ++ word_text made.now.after) f.new }
+{
+    f.write_str(end_letter(made.side))?;
+    f.write_str(step_name(made.step))?;
+    write_words(f, made.before, made.after)
+}
+
+/// The word before a step and after it.
+fn write_words<W: fmt::Write>(
+    f: &mut fmt::Formatter<W>,
+    before: Option<u8>,
+    after: Option<u8>,
+) -> fmt::Result
+    ensures { WritesOnOk W.write_str_gives f.old result (word_text before ++ codes ">" ++ word_text after) f.new }
+{
+    if let Some(both) = kept_word(before, after) {
+        return f.write_str(both);
     }
+    write_word(f, before)?;
+    f.write_str(">")?;
+    write_word(f, after)
 }
 
-/// What a step found or did beside the word: a clock past the deadline or before it, a copy that was
-/// refused, the token on which the receiver parks, or a park that ended without it.
-fn found_text(made: Made) -> Option<&'static str> {
-    match made.seen {
-        Seen::Over(true) => Some("over"),
-        Seen::Over(false) => Some("left"),
-        Seen::Refused(true) => Some("refused"),
-        Seen::Refused(false) => None,
-        Seen::Token(true) => Some("token-"),
-        Seen::Token(false) => Some("spurious"),
-        Seen::Done | Seen::Word(_) if made.token_set => Some("token+"),
-        Seen::Done | Seen::Word(_) => None,
+/// The word before and after a step that keeps it, as most steps do, in one piece.
+fn kept_word(before: Option<u8>, after: Option<u8>) -> Option<&'static str>
+    ensures { IfSome result (λ text. text.now ≡ word_text before ++ codes ">" ++ word_text after) }
+{
+    let (before, after) = (before?, after?);
+    if before == after {
+        return kept_code(before);
+    }
+    None
+}
+
+#[tactic(auto, using(crate::proofs::Kept::kept_text))]
+fn kept_code(code: u8) -> Option<&'static str>
+    ensures { IfSome result (λ text. text.now ≡ decimal code ++ codes ">" ++ decimal code) }
+{
+    match code {
+        0 => Some("0>0"),
+        2 => Some("2>2"),
+        3 => Some("3>3"),
+        4 => Some("4>4"),
+        _ => None,
     }
 }
 
 /// The word's code, or `-` once the block is freed.
-#[derive(Clone, Copy)]
-struct WordText(Option<u8>);
+fn write_word<W: fmt::Write>(f: &mut fmt::Formatter<W>, word: Option<u8>) -> fmt::Result
+    ensures { WritesOnOk W.write_str_gives f.old result (word_text word) f.new }
+{
+    match word {
+        Some(code) => code.fmt(f),
+        None => f.write_str("-"),
+    }
+}
 
-impl fmt::Display for WordText {
-    fn fmt<W: fmt::Write>(&self, f: &mut fmt::Formatter<W>) -> fmt::Result {
-        match self.0 {
-            Some(code) => write!(f, "{code}"),
-            None => write!(f, "-"),
-        }
+/// What the step moved, and what it found or did beside the word.
+fn write_fields<W: fmt::Write>(f: &mut fmt::Formatter<W>, made: &Made) -> fmt::Result
+    ensures { WritesOnOk W.write_str_gives f.old result (message_field made.now.message ++ waker_field made.now.waker
+        ++ token_field made.now.token_set ++ found_field made.now.seen ++ own_field made.now.own) f.new }
+{
+    write_message(f, made.message)?;
+    write_waker(f, made.waker)?;
+    write_token(f, made.token_set)?;
+    write_found(f, made.seen)?;
+    write_own(f, made.own)
+}
+
+/// The move of the message.
+fn write_message<W: fmt::Write>(
+    f: &mut fmt::Formatter<W>,
+    moved: Option<(Place, Place)>,
+) -> fmt::Result
+    ensures { WritesOnOk W.write_str_gives f.old result (message_field moved) f.new }
+{
+    match moved {
+        Some((from, to)) => write!(f, " m:{}>{}", message_place(from), message_place(to)),
+        None => Ok(()),
+    }
+}
+
+/// The move of a waker.
+fn write_waker<W: fmt::Write>(
+    f: &mut fmt::Formatter<W>,
+    moved: Option<(WakerName, WakerPlace, WakerPlace)>,
+) -> fmt::Result
+    ensures { WritesOnOk W.write_str_gives f.old result (waker_field moved) f.new }
+{
+    match moved {
+        Some((name, from, to)) => write!(
+            f,
+            " {}:{}>{}",
+            WakerText(name),
+            waker_place(from),
+            waker_place(to)
+        ),
+        None => Ok(()),
+    }
+}
+
+/// Whether a wake set the token.
+fn write_token<W: fmt::Write>(f: &mut fmt::Formatter<W>, is_set: bool) -> fmt::Result
+    ensures { WritesOnOk W.write_str_gives f.old result (token_field is_set) f.new }
+{
+    if is_set {
+        f.write_str(" token+")
+    } else {
+        Ok(())
+    }
+}
+
+/// What the step found beside the word: a clock past the deadline or before it, a copy that was refused,
+/// the token on which the receiver parks, or a park that ended without it.
+fn write_found<W: fmt::Write>(f: &mut fmt::Formatter<W>, seen: Seen) -> fmt::Result
+    ensures { WritesOnOk W.write_str_gives f.old result (found_field seen) f.new }
+{
+    match seen {
+        Seen::Over(true) => f.write_str(" over"),
+        Seen::Over(false) => f.write_str(" left"),
+        Seen::Refused(true) => f.write_str(" refused"),
+        Seen::Token(true) => f.write_str(" token-"),
+        Seen::Token(false) => f.write_str(" spurious"),
+        Seen::Done | Seen::Word(_) | Seen::Refused(false) => Ok(()),
+    }
+}
+
+/// The poll's own waker that it woke.
+fn write_own<W: fmt::Write>(f: &mut fmt::Formatter<W>, own: Option<u64>) -> fmt::Result
+    ensures { WritesOnOk W.write_str_gives f.old result (own_field own) f.new }
+{
+    match own {
+        Some(number) => write!(f, " own:{number}"),
+        None => Ok(()),
+    }
+}
+
+/// The reply, where the step ends a call.
+fn write_reply<W: fmt::Write>(
+    f: &mut fmt::Formatter<W>,
+    made: &Made,
+    call: Option<ReceiverStart>,
+    message: u64,
+) -> fmt::Result
+    ensures { WritesOnOk W.write_str_gives f.old result (reply_field made.now.side call message made.now.reply) f.new }
+{
+    let end = made.side;
+    match made.reply {
+        Some(reply) => write!(
+            f,
+            " = {}",
+            ReplyText {
+                end,
+                call,
+                message,
+                reply
+            }
+        ),
+        None => Ok(()),
     }
 }

@@ -1,5 +1,9 @@
 //! The rest's line: the message's last place.
 
+ghost use Rattle.std.specs.Prelude.{◌≡◌, Some};
+ghost use Rattle.oneshot_text.specs.Names.{name_of_place};
+ghost use Rattle.oneshot_text.specs.RestText.{rest_text, at_place, block_text};
+
 use crate::show::names::message_place;
 use oneshot_replay::{Place, Rest};
 use std::fmt;
@@ -9,6 +13,11 @@ use std::fmt;
 pub(crate) struct RestText(pub(crate) Option<Rest<u64>>);
 
 impl fmt::Display for RestText {
+    ghost use Rattle.std.specs.Prelude.{Some};
+    ghost use Rattle.oneshot_text.specs.RestText.{rest_text};
+
+    ghost output = { λ r. Some (rest_text r.0) };
+
     fn fmt<W: fmt::Write>(&self, f: &mut fmt::Formatter<W>) -> fmt::Result {
         let Some(rest) = &self.0 else {
             return write!(f, "none");
@@ -18,7 +27,10 @@ impl fmt::Display for RestText {
     }
 }
 
-fn place_of(rest: &Rest<u64>) -> (Place, u64) {
+/// The place and the message.
+fn place_of(rest: &Rest<u64>) -> (Place, u64)
+    ensures { rest_text (Some rest.now) ≡ at_place (name_of_place result.0) result.1 }
+{
     match rest {
         Rest::NotSent(message) => (Place::NotSent, *message),
         Rest::InCell(message) => (Place::InCell, *message),
@@ -27,4 +39,11 @@ fn place_of(rest: &Rest<u64>) -> (Place, u64) {
         Rest::FromError(message) => (Place::FromError, *message),
         Rest::Dropped(message) => (Place::Dropped, *message),
     }
+}
+
+/// Whether the block is freed, in a word.
+pub(crate) fn block_word(freed: bool) -> &'static str
+    ensures { result.now ≡ block_text freed }
+{
+    if freed { "freed" } else { "here" }
 }

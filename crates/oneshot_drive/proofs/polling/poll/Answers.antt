@@ -6,6 +6,7 @@ use Rattle.oneshot_drive.proofs.Stretches.{whole}
 use Rattle.oneshot_drive.proofs.Receives.{full_asks, closed_over}
 use Rattle.oneshot_drive.proofs.PollLoads.{taken_rests, taken_leaves, poll_ran, pending_rests, pending_leaves, gone, gone_rests, gone_leaves}
 use Rattle.oneshot_drive.proofs.OwnCopies.{then_word, then_took}
+use Rattle.oneshot_machine.proofs.CallBounds.{poll_few}
 use Rattle.oneshot_drive.proofs.polling.poll.Goals as goal
 
 pub word-requires : goal.word-requires
@@ -55,3 +56,12 @@ returns-in_default-clause-stays g c is_closed = is_disconnected _
 
 pub returns-in-Message-clause-own_copy : goal.returns-in-Message-clause-own_copy
 returns-in-Message-clause-own_copy g c = then_took c.take_message.result (then_word _ c.word.result c.meet.ensures.own c.word.ensures.list) c.take_message.ensures.list
+
+pub returns-in-Message-clause-bounded : goal.returns-in-Message-clause-bounded
+returns-in-Message-clause-bounded g c = poll_few (returns-in-Message-clause-run g c)
+
+pub returns-in-Nothing-clause-bounded : goal.returns-in-Nothing-clause-bounded
+returns-in-Nothing-clause-bounded g c = poll_few (returns-in-Nothing-clause-run g c)
+
+pub returns-in_default-clause-bounded : goal.returns-in_default-clause-bounded
+returns-in_default-clause-bounded g c = poll_few (returns-in_default-clause-run g c)

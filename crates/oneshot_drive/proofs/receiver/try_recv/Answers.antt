@@ -4,6 +4,7 @@ use Rattle.oneshot_machine.specs.declared.states.Op.TheVariants.{Store}
 use Rattle.oneshot_machine.proofs.Landings.{is_in}
 use Rattle.oneshot_drive.proofs.AfterOperations.{asks, took_message}
 use Rattle.oneshot_drive.proofs.RestLoads.{load_asks, loaded, loaded_full, loaded_open, loaded_none, closed, rests_over, rests_here, took_leaves, open_leaves, closed_leaves, took_ran, empty_ran, gone_ran, never}
+use Rattle.oneshot_machine.proofs.CallBounds.{try_recv_few}
 use Rattle.oneshot_drive.proofs.receiver.try_recv.Goals as goal
 
 pub word-requires : goal.word-requires
@@ -53,3 +54,12 @@ returns-in_default-clause-rests g c = rests_over (loaded_none (loaded c.word.res
 
 pub returns-in_default-clause-leaves : goal.returns-in_default-clause-leaves
 returns-in_default-clause-leaves g c = closed_leaves (loaded_none (loaded c.word.result c.requires c.word.ensures.finds c.word.ensures.list) (search rules) (search rules)).2
+
+pub returns-in-4-clause-bounded : goal.returns-in-4-clause-bounded
+returns-in-4-clause-bounded g c = try_recv_few (returns-in-4-clause-run g c)
+
+pub returns-in-3-clause-bounded : goal.returns-in-3-clause-bounded
+returns-in-3-clause-bounded g c = try_recv_few (returns-in-3-clause-run g c)
+
+pub returns-in_default-clause-bounded : goal.returns-in_default-clause-bounded
+returns-in_default-clause-bounded g c = try_recv_few (returns-in_default-clause-run g c)

@@ -4,6 +4,7 @@ use Rattle.oneshot_machine.proofs.Landings.{message_kept}
 use Rattle.oneshot_drive.proofs.AfterOperations.{sender_asks}
 use Rattle.oneshot_machine.specs.declared.states.Op.TheVariants.{Add}
 use Rattle.oneshot_drive.proofs.SenderCalls.{written, send_owes, added, refused, is_too_late, send_ran, send_refused, send_woke}
+use Rattle.oneshot_machine.proofs.CallBounds.{send_few}
 use Rattle.oneshot_drive.proofs.sender.send.Goals as goal
 
 pub word-requires : goal.word-requires
@@ -36,3 +37,12 @@ returns-in_default-clause-late g c _ =
     let fresh = written c.args.message c.requires c.write_message.ensures.list c.write_message.ensures.message c.write_message.ensures.waker in
     let gone = added c.word.result fresh (search rules) (search rules) c.word.ensures.finds c.word.ensures.list in
     is_too_late gone.stands
+
+pub returns-in-3-clause-bounded : goal.returns-in-3-clause-bounded
+returns-in-3-clause-bounded g c = send_few (returns-in-3-clause-run g c)
+
+pub returns-in-0-clause-bounded : goal.returns-in-0-clause-bounded
+returns-in-0-clause-bounded g c = send_few (returns-in-0-clause-run g c)
+
+pub returns-in_default-clause-bounded : goal.returns-in_default-clause-bounded
+returns-in_default-clause-bounded g c = send_few (returns-in_default-clause-run g c)

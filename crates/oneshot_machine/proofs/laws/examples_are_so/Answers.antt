@@ -1,6 +1,7 @@
 -- The goals that `examples_are_so` leaves.
 use Rattle.oneshot_machine.proofs.ExampleRuns.{sender_lists, receiver_lists, runs_that_are, runs_that_are_not}
 use Rattle.oneshot_machine.proofs.FutureExampleRuns.{future_lists, future_runs, future_runs_that_are_not}
+use Rattle.oneshot_machine.proofs.CountedExamples.{counts_that_are, counts_that_are_not}
 use Rattle.oneshot_machine.proofs.laws.examples_are_so.Goals as goal
 
 pub returns : goal.returns
@@ -13,4 +14,6 @@ returns c =
       futures = future_lists;
       future_runs = future_runs;
       no_future_runs = future_runs_that_are_not;
+      counts = counts_that_are;
+      no_counts = counts_that_are_not;
     }

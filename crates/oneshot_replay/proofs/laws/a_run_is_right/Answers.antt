@@ -2,6 +2,9 @@
 use Rattle.oneshot_replay.proofs.RunLaws as law
 use Rattle.oneshot_replay.proofs.laws.a_run_is_right.Goals as goal
 
+pub returns-clause-run : goal.returns-clause-run
+returns-clause-run g c = law.is_replayed
+
 pub returns-clause-an_entry_a_move : goal.returns-clause-an_entry_a_move
 returns-clause-an_entry_a_move g c = law.an_entry_a_move
 

@@ -5,7 +5,7 @@ use Rattle.oneshot_machine.specs.Phases.{receiver_at}
 use Rattle.oneshot_drive.specs.BetweenCalls.{IsClosed}
 use Rattle.oneshot_drive.specs.Polls.{LeavesPolled}
 use Rattle.oneshot_ends.specs.Ends.{FutureEnd}
-use Rattle.oneshot_ends.proofs.GrewByRuns.{words_of, receiver_grew}
+use Rattle.oneshot_ends.proofs.GrewByRuns.{words_of, receiver_grew, poll_few}
 use Rattle.oneshot_ends.proofs.PolledEnds.{closed_polled, open_polled}
 use Rattle.oneshot_ends.proofs.PollingTokens.{stands_by_tokens, stands_as_told}
 use Rattle.oneshot_ends.proofs.future.AsyncReceiverFuture.poll.Goals as goal
@@ -34,3 +34,6 @@ returns-clause-closes g c = closed_polled c.poll.result (returns-clause-leaves g
 
 pub returns-clause-stays_open : goal.returns-clause-stays_open
 returns-clause-stays_open g c = open_polled (returns-clause-leaves g c)
+
+pub returns-clause-bounded : goal.returns-clause-bounded
+returns-clause-bounded g c = poll_few (returns-clause-run g c)

@@ -5,7 +5,7 @@ use Rattle.oneshot_machine.specs.declared.machine.receiver.ReceiverStart.TheVari
 use Rattle.oneshot_drive.specs.BetweenCalls.{IsClosed, Leaves}
 use Rattle.oneshot_drive.proofs.ReadyHands.{closed_tried, open_tried, ready_still}
 use Rattle.oneshot_ends.specs.Ends.{End}
-use Rattle.oneshot_ends.proofs.GrewByRuns.{words_of, receiver_grew}
+use Rattle.oneshot_ends.proofs.GrewByRuns.{words_of, receiver_grew, try_recv_few}
 use Rattle.oneshot_ends.proofs.receiver.Receiver.try_recv.Goals as goal
 
 pub invariant_of-self : goal.invariant_of-self
@@ -32,3 +32,6 @@ returns-clause-closes g c = closed_tried (returns-clause-leaves g c)
 
 pub returns-clause-stays_open : goal.returns-clause-stays_open
 returns-clause-stays_open g c = open_tried (returns-clause-leaves g c)
+
+pub returns-clause-bounded : goal.returns-clause-bounded
+returns-clause-bounded g c = try_recv_few (returns-clause-run g c)

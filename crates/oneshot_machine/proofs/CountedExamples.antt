@@ -1,0 +1,29 @@
+-- The examples of counts, computed.
+use Rattle.std.proofs.Common.{ℕ, ◌≤◌, Bool, List, [], ◌∷◌, refl, sym, arith, subst}
+use Rattle.std.specs.Prelude.{count_by}
+use Rattle.oneshot_machine.specs.Noted.{Noted}
+use Rattle.oneshot_machine.specs.Counts.{GrewAtMost}
+use Rattle.oneshot_machine.specs.CountExamples.{CountsThatAre, CountsThatAreNot}
+
+pub counts_that_are : CountsThatAre
+counts_that_are =
+    record {
+      sends_by_two = record { added = _; list = refl; few = omega arith };
+      had_made_others = record { added = _ ∷ _ ∷ []; list = refl; few = omega arith };
+      makes_none = record { added = []; list = refl; few = omega arith };
+      waits_for_the_sender = record { added = _; list = refl; few = omega arith };
+      is_too_late = record { added = _; list = refl; few = omega arith };
+    }
+
+-- all that a list has that was empty was added
+all_added : {limit : ℕ} {counts : Noted → Bool} {xs : List Noted} → GrewAtMost limit counts [] xs → count_by counts xs ≤ limit
+all_added {limit} {counts} grew = subst (λ xs. count_by counts xs ≤ limit) (sym grew.list) grew.few
+
+pub counts_that_are_not : CountsThatAreNot
+counts_that_are_not =
+    record {
+      sends_by_one = λ grew. let few = all_added grew in omega arith;
+      forgets_a_load = λ grew. let few = all_added grew in omega arith;
+      forgets_a_swap = λ grew. let few = all_added grew in omega arith;
+      forgets_what_it_made = λ grew. let list = grew.list in cc;
+    }

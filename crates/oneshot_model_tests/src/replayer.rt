@@ -1,0 +1,96 @@
+//! Runs that are stepped by hand.
+
+use oneshot_machine::machine::{End, ReceiverStart, Seen, SenderCall, Step};
+use oneshot_machine::states::Op;
+use oneshot_replay::{
+    CallList, Entry, ErrorLast, ErrorScript, Made, Move, ReceiverCall, ReceiverLast,
+    ReceiverScript, Replayer, Rest, SenderLast, SenderScript, WakerName, WakerPlace,
+};
+use std::test::Fail;
+
+/// The receiver's move, at which no deadline is over and no copy is refused.
+const RECEIVER: Move = Move::Receiver {
+    over: false,
+    refuse: false,
+};
+
+/// The moves of the long run.
+const MOVES: usize = 1_000_000;
+
+fn send(message: u64, last: ErrorLast) -> SenderScript<u64> {
+    SenderScript {
+        looks: 0,
+        last: SenderLast::Send(message, ErrorScript { looks: 0, last }),
+    }
+}
+
+/// A move, and after it the calls of both ends and whether the block is freed.
+type Case = (Move, Option<SenderCall>, Option<ReceiverStart>, bool);
+
+#[test]
+fn a_refused_message_is_followed_move_by_move(rt: HostRuntime) {
+    let cases: [Case; 5] = [
+        (RECEIVER, Some(SenderCall::Send), None, false),
+        (Move::Sender, Some(SenderCall::Send), None, false),
+        (Move::Sender, Some(SenderCall::IntoInner), None, false),
+        (Move::Sender, Some(SenderCall::IntoInner), None, false),
+        (Move::Sender, None, None, true),
+    ];
+    let receiver = ReceiverScript {
+        calls: CallList::from(Vec::new(rt.alloc())),
+        last: ReceiverLast::Drop,
+    };
+    let mut replayer = Replayer::new(send(7, ErrorLast::IntoInner), receiver);
+    assert_eq!(rt; replayer.sender_call(), Some(SenderCall::Send));
+    assert_eq!(rt; replayer.receiver_call(), Some(ReceiverStart::Drop));
+    for (i, (made, sender, receiver, freed)) in cases.iter().enumerate() {
+        let number = i + 1;
+        let _ = replayer.step(*made);
+        assert_eq!(rt; replayer.count(), number);
+        assert_eq!(rt; replayer.sender_call(), *sender, "after move {number}");
+        assert_eq!(rt; replayer.receiver_call(), *receiver, "after move {number}");
+        assert_eq!(rt; replayer.block_freed(), *freed, "after move {number}");
+    }
+    assert!(rt; matches!(replayer.into_rest(), Some(Rest::FromError(7))));
+}
+
+/// The entry of this number, counted from 1, of a `recv_ref` that nobody wakes.
+fn waiting(number: usize) -> Entry {
+    let parks = (WakerName::Parker, WakerPlace::Hand, WakerPlace::Cell);
+    let (step, seen, before, after, waker) = match number {
+        1 => (Step::Word(Op::Load), Seen::Word(3), 3, 3, None),
+        2 => (Step::WriteWaker, Seen::Done, 3, 3, Some(parks)),
+        3 => (Step::Word(Op::Swap(0)), Seen::Word(3), 3, 0, None),
+        _ if number % 2 == 0 => (Step::Park, Seen::Token(false), 0, 0, None),
+        _ => (Step::Word(Op::Load), Seen::Word(0), 0, 0, None),
+    };
+    Entry::Made(Made {
+        side: End::Receiver,
+        step,
+        seen,
+        before: Some(before),
+        after: Some(after),
+        message: None,
+        waker,
+        token_set: false,
+        own: None,
+        reply: None,
+    })
+}
+
+#[test]
+fn a_receiver_that_nobody_wakes_parks_and_loads_in_turn(rt: HostRuntime) -> Result<(), Fail> {
+    let mut calls = Vec::new(rt.alloc());
+    calls.push(ReceiverCall::RecvRef)?;
+    let receiver = ReceiverScript {
+        calls: CallList::from(calls),
+        last: ReceiverLast::Stop,
+    };
+    let mut replayer = Replayer::new(send(7, ErrorLast::Stop), receiver);
+    for i in 0..MOVES {
+        let number = i + 1;
+        assert_eq!(rt; replayer.step(RECEIVER), waiting(number), "entry {number}");
+    }
+    assert_eq!(rt; replayer.count(), MOVES);
+    Ok(())
+}

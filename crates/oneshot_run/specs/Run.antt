@@ -1,0 +1,46 @@
+-- What the program writes for an input, or which fault it tells.
+use Rattle.std.specs.Prelude.{ℕ, ◌<◌, ◌≤◌, List, length}
+use Rattle.std.specs.Str.{IsAscii}
+use Rattle.std.specs.declared.alloc.AllocError.{AllocError}
+use Rattle.oneshot_world.specs.World.{opening}
+use Rattle.oneshot_replay.specs.Rest.{message_of}
+use Rattle.oneshot_replay.specs.declared.Move.{Move}
+use Rattle.oneshot_replay.specs.declared.ReceiverScript.{ReceiverScript}
+use Rattle.oneshot_replay.specs.declared.SenderScript.{SenderScript}
+use Rattle.oneshot_text.specs.FirstFault.{HasFault}
+use Rattle.oneshot_text.specs.Request.{Asks}
+use Rattle.oneshot_text.specs.TraceText.{IsTextOf}
+use Rattle.oneshot_text.specs.declared.fault.Malformed.{Malformed}
+use Rattle.oneshot_run.specs.declared.fault.Fault.{Fault}
+use Rattle.oneshot_run.specs.declared.fault.Fault.TheVariants as F
+
+-- the most bytes that an input may have
+abbrev pub most_bytes : ℕ
+most_bytes = 1048576
+
+-- an input that is not too long, and is text
+abbrev pub IsReadable : List ℕ → Type 0
+IsReadable input = (length input ≤ most_bytes) × IsAscii input
+
+-- an input that asks for the run of these scripts under these moves
+pub record AsksFor (input : List ℕ) (sender : SenderScript ℕ) (receiver : ReceiverScript) (moves : List Move) : Type 0 where
+  pub readable : IsReadable input
+  pub asks : Asks input sender receiver moves
+
+-- what is written for it: the text of the run that it asks for
+pub record IsAnswer (input written : List ℕ) : Type 0 where
+  pub sender : SenderScript ℕ
+  pub receiver : ReceiverScript
+  pub moves : List Move
+  pub asked : AsksFor input sender receiver moves
+  pub text : IsTextOf (message_of sender.last) 1 (opening sender receiver) moves written
+
+-- When each fault is told, which is the first in this order. Of a stream that fails and of memory that is refused the input knows nothing.
+pub data IsFault (input : List ℕ) : Fault → Type 0 where
+  is_unread : IsFault input F.ReadFailed
+  is_too_long : most_bytes < length input → IsFault input F.InputTooLong
+  is_no_text : length input ≤ most_bytes → ¬ (IsAscii input) → IsFault input F.NotAscii
+  is_malformed : {fault : Malformed} → IsReadable input → HasFault input fault → IsFault input (F.Malformed fault)
+  is_out_of_memory : {refusal : AllocError} → IsFault input (F.OutOfMemory refusal)
+  is_unwritten : (sender : SenderScript ℕ) (receiver : ReceiverScript) (moves : List Move)
+      → AsksFor input sender receiver moves → IsFault input F.WriteFailed
