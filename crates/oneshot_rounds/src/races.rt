@@ -21,20 +21,17 @@ pub(super) struct Player<'p, E, A, F> {
     pub(super) call: F,
 }
 
-// Makes the player's call in each round, and tells what it answered.
+// Makes this call with the end of each round, and tells what it answered.
 fn run<'a, E: Drop, A: Copy + Debug + PartialEq, F: FnMut(&'a Round, E) -> A>(
     rt: &(impl Abort + Clock + AllocGlobal),
     mut side: Side<'_>,
     rounds: &'a [Round],
-    player: Player<'_, E, A, F>,
+    ends: Vec<E>,
+    answers: &[A],
+    mut call: F,
 ) -> Vec<Outcome<A>>
-    requires { F.IsAlwaysCallable player.call }
+    requires { F.IsAlwaysCallable call }
 {
-    let Player {
-        ends,
-        answers,
-        mut call,
-    } = player;
     let mut outcomes = Vec::new(rt.alloc());
     for (round, end) in rounds.iter().zip(ends) {
         let late = side.start(rt, round.number);
@@ -47,7 +44,26 @@ fn run<'a, E: Drop, A: Copy + Debug + PartialEq, F: FnMut(&'a Round, E) -> A>(
         );
         outcomes.push(Outcome { answer, late }).expect(rt, "memory");
     }
+    // Here a thread is found that never ends its last round.
     side.meet(rt, u64::MAX);
+    outcomes
+}
+
+// What a player answers in each round, each answer often.
+fn play<'a, E: Drop, A: Copy + Debug + PartialEq, F: FnMut(&'a Round, E) -> A>(
+    rt: &(impl Abort + Clock + AllocGlobal),
+    side: Side<'_>,
+    rounds: &'a [Round],
+    player: Player<'_, E, A, F>,
+) -> Vec<Outcome<A>>
+    requires { F.IsAlwaysCallable player.call }
+{
+    let Player {
+        ends,
+        answers,
+        call,
+    } = player;
+    let outcomes = run(rt, side, rounds, ends, answers, call);
     assert_often(rt, &outcomes, answers);
     outcomes
 }
@@ -69,14 +85,14 @@ pub(super) fn race<
     one: Player<'_, S, A, F>,
     other: Player<'_, E, B, G>,
 ) -> (Vec<Outcome<A>>, Vec<Outcome<B>>)
-    requires one { F.IsAlwaysCallable one.call }
-    requires other { G.IsAlwaysCallable other.call }
+    requires first { F.IsAlwaysCallable one.call }
+    requires second { G.IsAlwaysCallable other.call }
 {
     let line = Line::new();
     let (here, there) = line.sides();
     join(
         rt,
-        || run(rt, here, rounds, one),
-        || run(rt, there, rounds, other),
+        || play(rt, here, rounds, one),
+        || play(rt, there, rounds, other),
     )
 }
