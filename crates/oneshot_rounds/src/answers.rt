@@ -27,12 +27,16 @@ pub(super) struct Outcome<A> {
 /// How often a test has to see what may happen. Delays are drawn so that each is seen some thousand times.
 const OFTEN: usize = 100;
 
-/// Fails unless each of these answers came often.
-pub(super) fn assert_often<A: Debug + PartialEq>(
+/// Fails unless each of these answers came often, and no other.
+pub(super) fn assert_answers<A: Debug + PartialEq>(
     rt: &impl Abort,
     outcomes: &[Outcome<A>],
     answers: &[A],
 ) {
+    for outcome in outcomes {
+        let answer = &outcome.answer;
+        assert!(rt; answers.contains(answer), "{answer:?} came");
+    }
     for answer in answers {
         let count = outcomes.iter().filter(|o| o.answer == *answer).count();
         assert!(rt; count >= OFTEN, "{answer:?} came {count} times");

@@ -6,7 +6,7 @@ use std::alloc::{AllocError, AllocGlobal};
 /// So many channels, with the senders and the receivers in the same order.
 pub(super) fn channels<'r, T: Send + Drop, R: AllocGlobal>(
     rt: &'r R,
-    count: usize,
+    count: u64,
 ) -> Result<(Vec<Sender<T>>, Vec<Receiver<T, &'r R>>), AllocError> {
     let mut senders = Vec::new(rt.alloc());
     let mut receivers = Vec::new(rt.alloc());

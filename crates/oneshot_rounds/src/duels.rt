@@ -1,10 +1,10 @@
 //! A use of a receiver beside the sender's one call, in many rounds.
 
-use super::answers::{Outcome, Silence, assert_both_orders};
+use super::answers::{Outcome, Silence, assert_answers, assert_both_orders};
 use super::channels::channels;
-use super::races::{Player, race};
+use super::counted::make_messages;
+use super::races::race;
 use super::receives::Receives;
-use super::rounds::{assert_dropped_once, make_rounds};
 use std::process::Abort;
 use std::sync::Wait;
 use std::test::Fail;
@@ -20,27 +20,23 @@ pub(super) fn beside_a_send<R: Threads + Wait + Abort + Clock + AllocGlobal + Sy
     sent: &[Result<(), u64>],
     received: &[Result<u64, Silence>],
 ) -> Result<(), Fail> {
-    let rounds = make_rounds(rt.alloc(), ROUNDS)?;
-    let (senders, receivers) = channels(rt, rounds.len())?;
-    let (_, outcomes) = race(
+    let (messages, drops) = make_messages(rt.alloc(), ROUNDS, 999)?;
+    let (senders, receivers) = channels(rt, ROUNDS)?;
+    let (sends, receives) = race(
         rt,
-        &rounds,
-        Player {
-            ends: senders,
-            answers: sent,
-            call: |round, sender| {
-                let sent = sender.send(round.message(999));
-                sent.map_err(|refused| refused.into_inner().value)
-            },
+        rt.alloc(),
+        senders.into_iter().zip(messages).collect(rt.alloc())?,
+        receivers,
+        |(sender, message)| {
+            let sent = sender.send(message);
+            sent.map_err(|refused| refused.into_inner().value)
         },
-        Player {
-            ends: receivers,
-            answers: received,
-            call: |_, receiver| receives.receive(receiver).map(|message| message.value),
-        },
+        |receiver| receives.receive(receiver).map(|message| message.value),
     );
-    assert_dropped_once(rt, &rounds);
-    assert_both_orders(rt, &outcomes);
+    assert_answers(rt, &sends, sent);
+    assert_answers(rt, &receives, received);
+    drops.assert_once(rt);
+    assert_both_orders(rt, &receives);
     Ok(())
 }
 
@@ -51,22 +47,16 @@ pub(super) fn beside_a_drop<R: Threads + Wait + Abort + Clock + AllocGlobal + Sy
     receives: &impl Receives,
     received: &[Result<u64, Silence>],
 ) -> Result<Vec<Outcome<()>>, Fail> {
-    let rounds = make_rounds(rt.alloc(), ROUNDS)?;
-    let (senders, receivers) = channels::<u64, _>(rt, rounds.len())?;
-    let (dropped, outcomes) = race(
+    let (senders, receivers) = channels::<u64, _>(rt, ROUNDS)?;
+    let (drops, receives) = race(
         rt,
-        &rounds,
-        Player {
-            ends: senders,
-            answers: &[()],
-            call: |_, sender| drop(sender),
-        },
-        Player {
-            ends: receivers,
-            answers: received,
-            call: |_, receiver| receives.receive(receiver),
-        },
+        rt.alloc(),
+        senders,
+        receivers,
+        |sender| drop(sender),
+        |receiver| receives.receive(receiver),
     );
-    assert_both_orders(rt, &outcomes);
-    Ok(dropped)
+    assert_answers(rt, &receives, received);
+    assert_both_orders(rt, &receives);
+    Ok(drops)
 }

@@ -10,6 +10,8 @@ mod beside_a_send;
 #[cfg(test)]
 mod channels;
 #[cfg(test)]
+mod counted;
+#[cfg(test)]
 mod draws;
 #[cfg(test)]
 mod duels;
@@ -23,8 +25,6 @@ mod notes;
 mod races;
 #[cfg(test)]
 mod receives;
-#[cfg(test)]
-mod rounds;
 #[cfg(test)]
 mod sizes;
 #[cfg(test)]

@@ -3,45 +3,28 @@
 //! Where all processors are busy both threads may share one. Their calls then follow each other in either
 //! order, and are rarely under way at one time, so that no test asks for that.
 
-use super::answers::{Outcome, assert_often};
+use super::answers::Outcome;
 use super::line::{Line, Side};
-use super::rounds::Round;
-use std::fmt::Debug;
+use std::alloc::Global;
 use std::process::Abort;
 use std::thread::{Threads, join};
 use std::time::Clock;
 
-/// What one side of a race does.
-#[derive(Drop)]
-pub(super) struct Player<'p, E, A, F> {
-    /// Its end of the channel in each round.
-    pub(super) ends: Vec<E>,
-    /// All answers that its call may give. Each has to come often.
-    pub(super) answers: &'p [A],
-    pub(super) call: F,
-}
-
-// Makes this call with the end of each round, and tells what it answered.
-fn run<'a, E: Drop, A: Copy + Debug + PartialEq, F: FnMut(&'a Round, E) -> A>(
-    rt: &(impl Abort + Clock + AllocGlobal),
+// Makes this call in each round, with what its side has there, and tells what it answered.
+fn run<E: Drop, A: Copy, F: FnMut(E) -> A>(
+    rt: &(impl Abort + Clock),
+    alloc: Global,
     mut side: Side<'_>,
-    rounds: &'a [Round],
     ends: Vec<E>,
-    answers: &[A],
     mut call: F,
 ) -> Vec<Outcome<A>>
     requires { F.IsAlwaysCallable call }
 {
-    let mut outcomes = Vec::new(rt.alloc());
-    for (round, end) in rounds.iter().zip(ends) {
-        let late = side.start(rt, round.number);
-        let answer = call(round, end);
-        side.end(round.number);
-        assert!(rt;
-            answers.contains(&answer),
-            "{answer:?} in round {}",
-            round.number
-        );
+    let mut outcomes = Vec::new(alloc);
+    for (round, end) in (1u64..).zip(ends) {
+        let late = side.start(rt, round);
+        let answer = call(end);
+        side.end(round);
         outcomes.push(Outcome { answer, late }).expect(rt, "memory");
     }
     // Here a thread is found that never ends its last round.
@@ -49,50 +32,36 @@ fn run<'a, E: Drop, A: Copy + Debug + PartialEq, F: FnMut(&'a Round, E) -> A>(
     outcomes
 }
 
-// What a player answers in each round, each answer often.
-fn play<'a, E: Drop, A: Copy + Debug + PartialEq, F: FnMut(&'a Round, E) -> A>(
-    rt: &(impl Abort + Clock + AllocGlobal),
-    side: Side<'_>,
-    rounds: &'a [Round],
-    player: Player<'_, E, A, F>,
-) -> Vec<Outcome<A>>
-    requires { F.IsAlwaysCallable player.call }
-{
-    let Player {
-        ends,
-        answers,
-        call,
-    } = player;
-    let outcomes = run(rt, side, rounds, ends, answers, call);
-    assert_often(rt, &outcomes, answers);
-    outcomes
-}
-
-/// What both players answer in each round, each on a thread of its own. Fails at an answer that is none of
-/// the player's, and unless each of those came often.
+/// What both sides answer in each round. Each makes its call on a thread of its own, with what it has in
+/// that round. Fails where a call lasts for seconds.
 pub(super) fn race<
-    'a,
-    R: Threads + Abort + Clock + AllocGlobal + Sync,
+    R: Threads + Abort + Clock + Sync,
     S: Send + Drop,
     E: Drop,
-    A: Copy + Debug + PartialEq + Send + Sync,
-    B: Copy + Debug + PartialEq,
-    F: FnMut(&'a Round, S) -> A + Send,
-    G: FnMut(&'a Round, E) -> B,
+    A: Copy + Send,
+    B: Copy,
+    F: FnMut(S) -> A + Send,
+    G: FnMut(E) -> B,
 >(
     rt: &R,
-    rounds: &'a [Round],
-    one: Player<'_, S, A, F>,
-    other: Player<'_, E, B, G>,
+    alloc: Global,
+    ones: Vec<S>,
+    others: Vec<E>,
+    one: F,
+    other: G,
 ) -> (Vec<Outcome<A>>, Vec<Outcome<B>>)
-    requires first { F.IsAlwaysCallable one.call }
-    requires second { G.IsAlwaysCallable other.call }
+    requires first { F.IsAlwaysCallable one }
+    requires second { G.IsAlwaysCallable other }
 {
     let line = Line::new();
     let (here, there) = line.sides();
     join(
         rt,
-        || play(rt, here, rounds, one),
-        || play(rt, there, rounds, other),
+        || -> Vec<Outcome<A>>
+            requires { F.IsAlwaysCallable one }
+        { run(rt, alloc, here, ones, one) },
+        || -> Vec<Outcome<B>>
+            requires { G.IsAlwaysCallable other }
+        { run(rt, alloc, there, others, other) },
     )
 }

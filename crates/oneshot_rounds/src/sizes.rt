@@ -1,9 +1,9 @@
 //! Messages of no size and of 4,096 bytes, through every receive.
 
+use super::answers::assert_answers;
 use super::channels::channels;
-use super::races::{Player, race};
+use super::races::race;
 use super::receives::{PollUntil, Receives, Recv, RecvDeadline, RecvRef, RecvTimeout, TryUntil};
-use super::rounds::make_rounds;
 use super::waits::patience;
 use futures::test::MockTask;
 use std::fmt::Debug;
@@ -21,22 +21,17 @@ fn assert_comes<
     R: Threads + Wait + Abort + Clock + AllocGlobal + Sync,
     T: Copy + Debug + PartialEq + Send + Sync,
 >(rt: &R, receives: &impl Receives, message: T) -> Result<(), Fail> {
-    let rounds = make_rounds(rt.alloc(), ROUNDS)?;
-    let (senders, receivers) = channels(rt, rounds.len())?;
-    race(
+    let (senders, receivers) = channels(rt, ROUNDS)?;
+    let (sends, receives) = race(
         rt,
-        &rounds,
-        Player {
-            ends: senders,
-            answers: &[true],
-            call: |_, sender| sender.send(message).is_ok(),
-        },
-        Player {
-            ends: receivers,
-            answers: &[Ok(message)],
-            call: |_, receiver| receives.receive(receiver),
-        },
+        rt.alloc(),
+        senders,
+        receivers,
+        |sender| sender.send(message).is_ok(),
+        |receiver| receives.receive(receiver),
     );
+    assert_answers(rt, &sends, &[true]);
+    assert_answers(rt, &receives, &[Ok(message)]);
     Ok(())
 }
 

@@ -1,8 +1,8 @@
 //! Two threads and two channels: one thread sends and then receives, the other receives and then sends.
 
+use super::answers::assert_answers;
 use super::channels::channels;
-use super::races::{Player, race};
-use super::rounds::make_rounds;
+use super::races::race;
 use super::waits::patience;
 use oneshot::{Receiver, RecvTimeoutError};
 use std::process::Abort;
@@ -27,28 +27,23 @@ fn receive_soon<R: Wait + Clock + Abort>(
 
 #[test]
 fn each_thread_gets_the_message_of_the_other(rt: HostRuntime) -> Result<(), Fail> {
-    let rounds = make_rounds(rt.alloc(), ROUNDS)?;
-    let (to_other, from_one) = channels::<u64, _>(&rt, rounds.len())?;
-    let (to_one, from_other) = channels::<u64, _>(&rt, rounds.len())?;
-    race(
+    let (to_other, from_one) = channels::<u64, _>(&rt, ROUNDS)?;
+    let (to_one, from_other) = channels::<u64, _>(&rt, ROUNDS)?;
+    let (ones, others) = race(
         &rt,
-        &rounds,
-        Player {
-            ends: to_other.into_iter().zip(from_other).collect(rt.alloc())?,
-            answers: &[(true, Ok(2))],
-            call: |_, (sender, receiver)| {
-                let sent = sender.send(1).is_ok();
-                (sent, receive_soon(&rt, receiver))
-            },
+        rt.alloc(),
+        to_other.into_iter().zip(from_other).collect(rt.alloc())?,
+        from_one.into_iter().zip(to_one).collect(rt.alloc())?,
+        |(sender, receiver)| {
+            let sent = sender.send(1).is_ok();
+            (sent, receive_soon(&rt, receiver))
         },
-        Player {
-            ends: from_one.into_iter().zip(to_one).collect(rt.alloc())?,
-            answers: &[(Ok(1), true)],
-            call: |_, (receiver, sender)| {
-                let received = receive_soon(&rt, receiver);
-                (received, sender.send(2).is_ok())
-            },
+        |(receiver, sender)| {
+            let received = receive_soon(&rt, receiver);
+            (received, sender.send(2).is_ok())
         },
     );
+    assert_answers(&rt, &ones, &[(true, Ok(2))]);
+    assert_answers(&rt, &others, &[(Ok(1), true)]);
     Ok(())
 }
