@@ -28,10 +28,10 @@ fn assert_comes<
         senders,
         receivers,
         |sender| sender.send(message).is_ok(),
-        |receiver| receives.receive(receiver),
+        |receiver| receives.receive(receiver) == Ok(message),
     );
     assert_answers(rt, &sends, &[true]);
-    assert_answers(rt, &receives, &[Ok(message)]);
+    assert_answers(rt, &receives, &[true]);
     Ok(())
 }
 
