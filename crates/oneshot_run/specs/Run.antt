@@ -1,5 +1,6 @@
 -- What the program writes for an input, or which fault it tells.
-use Rattle.std.specs.Prelude.{ℕ, ◌<◌, ◌≤◌, List, length}
+use Rattle.std.specs.Prelude.{◌≢◌, IfSome, Option, ℕ, ◌<◌, ◌≤◌, List, length}
+use Rattle.std.specs.Io.KnownBytes.{Appends, Keeps}
 use Rattle.std.specs.Str.{IsAscii}
 use Rattle.std.specs.declared.alloc.AllocError.{AllocError}
 use Rattle.oneshot_world.specs.World.{opening}
@@ -11,6 +12,7 @@ use Rattle.oneshot_text.specs.FirstFault.{HasFault}
 use Rattle.oneshot_text.specs.Request.{Asks}
 use Rattle.oneshot_text.specs.TraceText.{IsTextOf}
 use Rattle.oneshot_text.specs.declared.fault.Malformed.{Malformed}
+use Rattle.oneshot_run.specs.Fault.{status_of}
 use Rattle.oneshot_run.specs.declared.fault.Fault.{Fault}
 use Rattle.oneshot_run.specs.declared.fault.Fault.TheVariants as F
 
@@ -27,13 +29,19 @@ pub record AsksFor (input : List ℕ) (sender : SenderScript ℕ) (receiver : Re
   pub readable : IsReadable input
   pub asks : Asks input sender receiver moves
 
--- what is written for it: the text of the run that it asks for
-pub record IsAnswer (input written : List ℕ) : Type 0 where
+-- the writer, where what it holds is known, got the text of this run
+pub record IsWritten (sender : SenderScript ℕ) (receiver : ReceiverScript) (moves : List Move) (before after : Option (List ℕ)) : Type 0 where
+  pub text : List ℕ
+  pub is_text : IsTextOf (message_of sender.last) 1 (opening sender receiver) moves text
+  pub appends : Appends before after text
+
+-- and so the text of the run that the input asks for
+pub record IsAnswered (input : List ℕ) (before after : Option (List ℕ)) : Type 0 where
   pub sender : SenderScript ℕ
   pub receiver : ReceiverScript
   pub moves : List Move
   pub asked : AsksFor input sender receiver moves
-  pub text : IsTextOf (message_of sender.last) 1 (opening sender receiver) moves written
+  pub written : IsWritten sender receiver moves before after
 
 -- When each fault is told, which is the first in this order. Of a stream that fails and of memory that is refused the input knows nothing.
 pub data IsFault (input : List ℕ) : Fault → Type 0 where
@@ -44,3 +52,9 @@ pub data IsFault (input : List ℕ) : Fault → Type 0 where
   is_out_of_memory : {refusal : AllocError} → IsFault input (F.OutOfMemory refusal)
   is_unwritten : (sender : SenderScript ℕ) (receiver : ReceiverScript) (moves : List Move)
       → AsksFor input sender receiver moves → IsFault input F.WriteFailed
+
+-- The exit status: 0 where the answer was written, or that of the fault. Only a failed write leaves the output other than it was.
+pub data EndsWith (known : Option (List ℕ)) (before after : Option (List ℕ)) : ℕ → Type 0 where
+  is_answered : IfSome known (λ input. IsAnswered input before after) → EndsWith known before after 0
+  is_faulty : (fault : Fault) → IfSome known (λ input. IsFault input fault)
+      → (fault ≢ F.WriteFailed → Keeps before after) → EndsWith known before after (status_of fault)

@@ -4,7 +4,6 @@ ghost use Rattle.std.specs.Prelude.{◌≡◌, alloc_error};
 ghost use Rattle.oneshot_run.specs.declared.fault.Fault.TheVariants.{OutOfMemory};
 ghost use Rattle.oneshot_run.specs.Fault.{status_of, fault_of};
 
-use oneshot_replay::Refused;
 use oneshot_text::{Malformed, ParseError};
 use std::alloc::{AllocError, AllocFailed};
 use thiserror::Error;
@@ -55,14 +54,6 @@ impl<T: Drop> From<AllocFailed<T>> for Fault {
     ghost from_gives = { λ _ fault. fault ≡ OutOfMemory alloc_error };
 
     fn from(_: AllocFailed<T>) -> Fault {
-        Fault::OutOfMemory(AllocError)
-    }
-}
-
-impl From<Refused<u64>> for Fault {
-    ghost from_gives = { λ _ fault. fault ≡ OutOfMemory alloc_error };
-
-    fn from(_: Refused<u64>) -> Fault {
         Fault::OutOfMemory(AllocError)
     }
 }

@@ -1,20 +1,20 @@
 //! Reads two scripts and a schedule, and prints the trace of their run.
 #![tactic(auto)]
 
-ghost use Rattle.std.specs.Prelude.{◌≡◌, ◌+◌, ◌^◌, ◌<◌, length, unwrap_or};
+ghost use Rattle.std.specs.Prelude.{◌≡◌};
+ghost use Rattle.std.specs.Io.KnownBytes.{Keeps};
+ghost use Rattle.oneshot_run.specs.Run.{EndsWith};
 
 mod fault;
 mod input;
+mod run;
 #[cfg(test)]
 mod tests;
 
 pub use fault::Fault;
-use input::{read_input, text_of};
-use oneshot_replay::{Move, Replayer};
-use oneshot_text::{Request, parse_request, write_run};
-use std::alloc::{AllocError, Global};
-use std::io;
-use std::io::{BufWriter, Read, Write};
+pub use run::run;
+use std::alloc::Global;
+use std::io::{Read, Write};
 use std::process::ExitCode;
 
 fn main(rt: HostRuntime) -> ExitCode {
@@ -33,7 +33,10 @@ pub fn answer<R: Read, W: Write, E: Write>(
     input: &mut R,
     output: &mut W,
     errors: &mut E,
-) -> u8 {
+) -> u8
+    ensures status { EndsWith (R.remaining input.old) (W.contents output.old) (W.contents output.new) result }
+    ensures quiet { result ≡ 0 → Keeps (E.contents errors.old) (E.contents errors.new) }
+{
     match run(alloc, input, output) {
         Ok(()) => 0,
         Err(fault) => {
@@ -42,38 +45,4 @@ pub fn answer<R: Read, W: Write, E: Write>(
             fault.status()
         }
     }
-}
-
-/// Reads all of `input`, runs what it asks for, and writes the trace to `output`.
-///
-/// After the first byte of output no memory is asked for, and after a failed write nothing is written.
-pub fn run<R: Read, W: Write>(alloc: Global, input: &mut R, output: &mut W) -> Result<(), Fault> {
-    let bytes = read_input(alloc, input)?;
-    let request = parse_request(alloc, text_of(&bytes)?)?;
-    let message = request.message();
-    let Request {
-        sender,
-        receiver,
-        moves,
-    } = request;
-    let mut buffered = BufWriter::new(alloc, output).map_err(|_| Fault::OutOfMemory(AllocError))?;
-    let replayer = Replayer::new(sender, receiver);
-    let written = write_flushed(&mut buffered, replayer, &moves, message);
-    // Taken apart, it does not try again to write what a failed write left, as its drop would.
-    let _unwritten = buffered.into_parts();
-    written.map_err(|_| Fault::WriteFailed)
-}
-
-/// Writes the trace of `replayer` under `moves`, and flushes it.
-fn write_flushed<W: Write + Drop>(
-    buffered: &mut BufWriter<W>,
-    replayer: Replayer<u64>,
-    moves: &[Move],
-    message: u64,
-) -> io::Result<()>
-    requires room { replayer.count + length moves.now < 2 ^ 64 }
-    requires message { message ≡ unwrap_or replayer.message 0 }
-{
-    write_run(buffered, replayer, moves, message)?;
-    buffered.flush()
 }

@@ -70,10 +70,6 @@ appends_more (Some old) (Some mid) None xs ys first_part second_part = elim seco
 appends_more (Some old) (Some mid) (Some new) xs ys first_part second_part =
     second_part ∙ ap (λ bytes. bytes ++ ys) first_part ∙ append_assoc old xs ys
 
-pub appends_nothing : (old : Option (List ℕ)) → Appends old old []
-appends_nothing None = tt
-appends_nothing (Some old) = sym (append-nil old)
-
 -- the last two lines, one behind the other
 pub ends_written : (old mid new : Option (List ℕ)) (message : Option ℕ) (w : World) (rest : Option (Rest ℕ)) (word : List ℕ) → rest ≡ rest_at w.state.message message → word ≡ block_text w.state.freed → Appends old mid (codes "rest " ++ (rest_text rest ++ 10 ∷ [])) → Appends mid new (codes "block " ++ (word ++ 10 ∷ [])) → Appends old new (end_text message w)
 ends_written old mid new message w rest word is_rest is_word first_line second_line =
@@ -87,9 +83,9 @@ pub record HasWritten (message n : ℕ) (start : World) (moves : List Move) (old
   pub is_text : IsTextTo message n start moves text now
   pub appends : Appends old new text
 
-pub written_first : (message n : ℕ) (start : World) (old : Option (List ℕ)) → HasWritten message n start [] old old start
-written_first message n start old =
-    record { text = []; is_text = text_begins message n start; appends = appends_nothing old }
+pub written_first : (message n : ℕ) (start : World) (old new : Option (List ℕ)) → Appends old new [] → HasWritten message n start [] old new start
+written_first message n start old new nothing =
+    record { text = []; is_text = text_begins message n start; appends = nothing }
 
 pub written_more : (message n : ℕ) (start : World) (moves : List Move) (old mid new : Option (List ℕ)) (now : World) (move : Move) (entry : Entry) (next : World) → HasWritten message n start moves old mid now → turn (n + length moves) now move ≡ Some (entry, next) → Appends mid new (line_at message (n + length moves) now entry) → HasWritten message n start (moves ++ move ∷ []) old new next
 written_more message n start moves old mid new now move entry next so_far turned more =

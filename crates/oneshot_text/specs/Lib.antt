@@ -7,6 +7,7 @@ pub mod Line
 pub mod LineFault
 pub mod Lines
 pub mod Names
+pub mod Page
 pub mod Receiver
 pub mod ReplyText
 pub mod Request

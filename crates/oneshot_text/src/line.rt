@@ -1,7 +1,7 @@
 //! The three lines of a text, by name.
 
 ghost use Rattle.std.specs.Prelude.{◌≡◌};
-ghost use Rattle.oneshot_text.specs.Line.{letter_of_line};
+ghost use Rattle.oneshot_text.specs.Line.{letter_of_line, number_of_line};
 
 use std::fmt;
 
@@ -28,7 +28,9 @@ impl Line {
         }
     }
 
-    fn number(self) -> u8 {
+    fn number(self) -> u8
+        ensures { result ≡ number_of_line self }
+    {
         match self {
             Line::Sender => 1,
             Line::Receiver => 2,
@@ -38,6 +40,11 @@ impl Line {
 }
 
 impl fmt::Display for Line {
+    ghost use Rattle.std.specs.Prelude.{◌++◌, Some, codes, decimal};
+    ghost use Rattle.oneshot_text.specs.Line.{number_of_line};
+
+    ghost output = { λ l. Some (codes "line " ++ decimal (number_of_line l)) };
+
     fn fmt<W: fmt::Write>(&self, f: &mut fmt::Formatter<W>) -> fmt::Result {
         write!(f, "line {}", self.number())
     }

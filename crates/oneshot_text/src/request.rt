@@ -17,8 +17,8 @@ use crate::lines::Lines;
 use crate::receiver::parse_receiver;
 use crate::schedule::parse_schedule;
 use crate::sender::parse_sender;
-use oneshot_replay::{Move, ReceiverCall, ReceiverScript, SenderLast, SenderScript};
-use std::alloc::{AllocError, Global};
+use oneshot_replay::{Move, ReceiverScript, SenderLast, SenderScript};
+use std::alloc::Global;
 
 /// What a text asks for: a run of two scripts under a schedule.
 #[derive(Drop)]
@@ -40,13 +40,6 @@ impl Request {
             SenderLast::Send(message, _) => message,
             SenderLast::Drop | SenderLast::Stop => 0,
         }
-    }
-
-    /// The calls of the receiver's script but its last one, in memory of their own.
-    pub fn calls(&self, alloc: Global) -> Result<Vec<ReceiverCall>, AllocError>
-        ensures { IfOk result (λ calls. calls.items ≡ self.now.receiver.calls) }
-    {
-        Vec::from_slice(alloc, self.receiver.calls.as_slice())
     }
 }
 

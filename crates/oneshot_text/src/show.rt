@@ -4,24 +4,22 @@ ghost use Rattle.std.specs.Prelude.{◌≡◌, ℕ, ◌+◌, ◌-◌, ◌^◌, �
 ghost use Rattle.std.specs.Io.KnownBytes.{Appends};
 ghost use Rattle.oneshot_world.specs.World.{turn};
 ghost use Rattle.oneshot_replay.specs.Scene.{receiver_call_of};
-ghost use Rattle.oneshot_text.specs.TraceText.{line, line_of, end_text, IsTextOf};
+ghost use Rattle.oneshot_text.specs.Page.{held};
+ghost use Rattle.oneshot_text.specs.TraceText.{end_text, IsTextOf};
 
 mod entry;
 mod names;
+mod page;
 mod reply;
 mod rest;
 
-use arrayvec::ArrayString;
 pub use entry::EntryLine;
 use oneshot_replay::{Move, Replayer};
+use page::Page;
 pub use reply::ReplyText;
 use rest::{RestText, block_word};
-use std::fmt::Write as _;
 use std::io;
 use std::io::Write;
-
-/// How many bytes the buffer of a line has. A longer line has large numbers, and goes out in parts.
-const LINE: usize = 80;
 
 /// Makes the moves of `run` in their order and writes a line for each, then where the message is left, and
 /// then whether the block is freed.
@@ -41,12 +39,11 @@ pub fn write_run<W: Write>(
         × IsTextOf run.message (run.count + 1) run.world moves.now text
         × Appends (W.contents output.old) (W.contents output.new) text) }
 {
-    let mut buffer = ArrayString::new();
+    let mut page = Page::new();
     for m in moves {
-        let entry = next_line(&mut run, *m, message);
-        write_line(output, &mut buffer, entry)?;
+        page.add(output, next_line(&mut run, *m, message))?;
     }
-    write_end(output, run)
+    write_end(output, page, run)
 }
 
 /// Makes a move of `run`, and tells its line.
@@ -69,27 +66,15 @@ fn next_line(run: &mut Replayer<u64>, m: Move, message: u64) -> EntryLine
     }
 }
 
-/// Writes a line at once, by way of `buffer`.
-fn write_line<W: Write>(
-    output: &mut W,
-    buffer: &mut ArrayString<LINE>,
-    entry: EntryLine,
-) -> io::Result<()>
-    ensures { OnOk result (Appends (W.contents output.old) (W.contents output.new) (line_of entry)) }
-{
-    buffer.clear();
-    match writeln!(buffer, "{entry}") {
-        Ok(()) => output.write_all(buffer.as_str().as_bytes()),
-        Err(_) => writeln!(output, "{entry}"),
-    }
-}
-
-/// Writes where the message is left, and whether the block is freed.
-fn write_end<W: Write>(output: &mut W, run: Replayer<u64>) -> io::Result<()>
-    ensures { OnOk result (Appends (W.contents output.old) (W.contents output.new) (end_text run.message run.world)) }
+/// Writes what waits, where the message is left, and whether the block is freed.
+fn write_end<W: Write>(output: &mut W, mut page: Page, run: Replayer<u64>) -> io::Result<()>
+    ensures { OnOk result (Appends (held (W.contents output.old) page) (W.contents output.new)
+        (end_text run.message run.world)) }
 {
     let block = block_word(run.block_freed());
     let rest = RestText(run.into_rest());
-    writeln!(output, "rest {rest}")?;
-    writeln!(output, "block {block}")
+    page.add(output, format_args!("rest {rest}"))?;
+    page.add(output, format_args!("block {block}"))?;
+    page.write_to(output)?;
+    output.flush()
 }

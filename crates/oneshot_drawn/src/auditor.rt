@@ -1,0 +1,121 @@
+//! An auditor of traces. It reads a trace beside its scripts, from the definitions alone: the object with
+//! one message, the acting entry of each call, the places of the message and of the wakers, and who holds
+//! the block. It knows no transition table, and calls nothing that made the trace.
+
+mod acting;
+mod calls;
+mod fault;
+mod history;
+mod holders;
+mod mark;
+mod message;
+mod object;
+mod wakers;
+
+use crate::auditor::fault::Fault;
+pub(crate) use crate::auditor::fault::Finding;
+use crate::auditor::history::History;
+use crate::auditor::holders::Holders;
+use crate::auditor::message::Message;
+use oneshot_machine::machine::End;
+use oneshot_replay::{Entry, Made, Place, ReceiverScript, SenderScript};
+
+/// A sender's script and a receiver's.
+#[derive(Drop)]
+pub(crate) struct Scripts {
+    pub(crate) sender: SenderScript<u64>,
+    pub(crate) receiver: ReceiverScript,
+}
+
+/// What a trace tells.
+#[derive(Drop)]
+pub(crate) struct Told {
+    /// An entry a move.
+    pub(crate) entries: Vec<Entry>,
+    /// Whether the block is freed.
+    pub(crate) block_freed: bool,
+    /// The message's last place, with the message; `None` where the script sends nothing.
+    pub(crate) rest: Option<(Place, u64)>,
+}
+
+/// Accepts the trace of these scripts, or says what is wrong, at the first entry where it shows.
+pub(crate) fn audit(scripts: &Scripts, told: &Told) -> Result<(), Finding> {
+    let mut auditor = Auditor::new(scripts);
+    let entries = told.entries.as_slice();
+    for before in 0..entries.len() {
+        let number = before + 1;
+        let earlier = &entries[..before];
+        let later = &entries[number..];
+        let found = match entries[before] {
+            Entry::Idle(end) => auditor.read_idle(scripts, end),
+            Entry::Made(made) => auditor.read_made(scripts, number, made, earlier, later),
+        };
+        if let Err(fault) = found {
+            return Err(Finding { number, fault });
+        }
+    }
+    match auditor.read_end(told) {
+        Ok(()) => Ok(()),
+        Err(fault) => Err(Finding {
+            number: entries.len(),
+            fault,
+        }),
+    }
+}
+
+/// What the definitions remember of the entries that were read.
+#[derive(Drop)]
+struct Auditor {
+    history: History,
+    holders: Holders,
+    message: Message,
+}
+
+impl Auditor {
+    fn new(scripts: &Scripts) -> Auditor {
+        Auditor {
+            history: History::new(),
+            holders: Holders::new(),
+            message: Message::new(&scripts.sender),
+        }
+    }
+
+    /// An end is idle only where no call of it is under way or left.
+    fn read_idle(&self, scripts: &Scripts, end: End) -> Result<(), Fault> {
+        match self.history.call_of(scripts, end) {
+            Some(_) => Err(Fault::IdleTooEarly(end)),
+            None => Ok(()),
+        }
+    }
+
+    /// A step: it belongs to a call, and keeps each definition.
+    fn read_made(
+        &mut self,
+        scripts: &Scripts,
+        number: usize,
+        made: Made,
+        earlier: &[Entry],
+        later: &[Entry],
+    ) -> Result<(), Fault> {
+        let Some(call) = self.history.call_of(scripts, made.side) else {
+            return Err(Fault::NoCallLeft(made.side));
+        };
+        let mark = self.history.mark(number, made, call, later);
+        self.holders.read(mark)?;
+        self.message.read(mark)?;
+        wakers::read(mark, earlier)?;
+        self.history.read(mark)?;
+        self.message.read_reply(mark)
+    }
+
+    /// What has to hold after the last entry.
+    fn read_end(&self, told: &Told) -> Result<(), Fault> {
+        if self.history.have_all_ended() {
+            self.message.read_end()?;
+            wakers::read_end(told.entries.as_slice())?;
+            self.holders.read_end()?;
+        }
+        self.holders.read_told(told.block_freed)?;
+        self.message.read_told(told.rest)
+    }
+}

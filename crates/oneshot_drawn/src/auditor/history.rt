@@ -1,0 +1,155 @@
+//! The history: the calls in the order of their acting entries, and the reply of each.
+
+use crate::auditor::Scripts;
+use crate::auditor::acting::acts;
+use crate::auditor::calls::{Call, receiver_call, sender_call};
+use crate::auditor::fault::Fault;
+use crate::auditor::mark::Mark;
+use crate::auditor::object::Object;
+use oneshot_machine::machine::{End, Reply};
+use oneshot_replay::{Entry, Made};
+
+/// How far the calls of an end have come.
+#[derive(Clone, Copy)]
+struct Progress {
+    /// How many have answered.
+    answered: usize,
+    /// The last of them.
+    last: Option<Call>,
+    /// Whether one was a `send` that was refused.
+    is_refused: bool,
+    /// Whether the call under way has acted.
+    has_acted: bool,
+    /// What the object gave it there, in its words.
+    given: Option<Reply>,
+}
+
+impl Progress {
+    fn new() -> Progress {
+        Progress {
+            answered: 0,
+            last: None,
+            is_refused: false,
+            has_acted: false,
+            given: None,
+        }
+    }
+
+    /// Whether the end has ended, and with it the error of a refused `send`.
+    fn has_ended(&self) -> bool {
+        match self.last {
+            Some(Call::Send) => !self.is_refused,
+            Some(
+                Call::DropSender
+                | Call::IntoInner
+                | Call::DropError
+                | Call::Recv
+                | Call::DropReceiver,
+            ) => true,
+            _ => false,
+        }
+    }
+
+    /// What the call under way has to answer: what it always does, or what the object gave.
+    fn wanted_reply(&self, call: Call) -> Result<Option<Reply>, Fault> {
+        let fixed = call.fixed_reply();
+        if fixed.is_some() {
+            Ok(fixed)
+        } else if self.has_acted {
+            Ok(self.given)
+        } else {
+            Err(Fault::DidNotAct)
+        }
+    }
+
+    /// The call under way has answered.
+    fn read_reply(&mut self, call: Call, reply: Reply) -> Result<(), Fault> {
+        let wanted = self.wanted_reply(call)?;
+        if wanted != Some(reply) {
+            return Err(Fault::WrongReply { reply, wanted });
+        }
+        *self = Progress {
+            answered: self.answered.saturating_add(1),
+            last: Some(call),
+            is_refused: self.is_refused || reply == Reply::Refused,
+            has_acted: false,
+            given: None,
+        };
+        Ok(())
+    }
+}
+
+/// The object, and how far both ends have come.
+#[derive(Drop)]
+pub(crate) struct History {
+    object: Object,
+    sender: Progress,
+    receiver: Progress,
+}
+
+impl History {
+    /// The history before any entry.
+    pub(crate) fn new() -> History {
+        History {
+            object: Object::new(),
+            sender: Progress::new(),
+            receiver: Progress::new(),
+        }
+    }
+
+    /// The call that an end has under way, or begins next; `None` where it has none left.
+    pub(crate) fn call_of(&self, scripts: &Scripts, end: End) -> Option<Call> {
+        match end {
+            End::Sender => {
+                let Progress {
+                    answered,
+                    is_refused,
+                    ..
+                } = self.sender;
+                sender_call(&scripts.sender, answered, is_refused)
+            }
+            End::Receiver => receiver_call(&scripts.receiver, self.receiver.answered),
+        }
+    }
+
+    /// A step with what is read beside it; `later` are the entries after it.
+    pub(crate) fn mark(&self, number: usize, made: Made, call: Call, later: &[Entry]) -> Mark {
+        let has_acted = self.progress(made.side).has_acted;
+        Mark {
+            number,
+            made,
+            call,
+            acts: !has_acted && acts(call, &made, later),
+            object: self.object,
+        }
+    }
+
+    /// Reads a step: whether its call acts here, and what it answers.
+    pub(crate) fn read(&mut self, mark: Mark) -> Result<(), Fault> {
+        let mut progress = *self.progress(mark.made.side);
+        if mark.acts {
+            progress.has_acted = true;
+            progress.given = self.object.act(mark.call);
+        }
+        if let Some(reply) = mark.made.reply {
+            progress.read_reply(mark.call, reply)?;
+        }
+        match mark.made.side {
+            End::Sender => self.sender = progress,
+            End::Receiver => self.receiver = progress,
+        }
+        Ok(())
+    }
+
+    /// Whether both ends have ended, and any error.
+    pub(crate) fn have_all_ended(&self) -> bool {
+        self.sender.has_ended() && self.receiver.has_ended()
+    }
+
+    fn progress(&self, end: End) -> &Progress {
+        match end {
+            End::Sender => &self.sender,
+            End::Receiver => &self.receiver,
+        }
+    }
+}

@@ -1,0 +1,116 @@
+//! Changes of a trace.
+
+ghost use Rattle.std.specs.Prelude.{◌<◌, vec_len};
+
+use crate::auditor::Told;
+use oneshot_machine::machine::{End, Reply, Step};
+use oneshot_replay::{Entry, Made, Place, WakerName, WakerPlace};
+use std::alloc::AllocError;
+use std::process::Abort;
+
+/// A change of a trace. Entries are counted from 1.
+#[derive(Clone, Copy)]
+pub(crate) enum Edit {
+    /// Takes an entry out.
+    Remove(usize),
+    /// Makes an entry twice.
+    Double(usize),
+    /// Moves the first of two entries to before the second.
+    MoveBefore(usize, usize),
+    /// Puts that an end is idle in the place of an entry.
+    Idle(usize, End),
+    /// Changes an entry's end.
+    Side(usize, End),
+    /// Changes what an entry does.
+    Step(usize, Step),
+    /// Changes where an entry moves the message.
+    Message(usize, Option<(Place, Place)>),
+    /// Changes which waker an entry moves, and where.
+    Waker(usize, Option<(WakerName, WakerPlace, WakerPlace)>),
+    /// Changes what an entry's call answers.
+    Reply(usize, Option<Reply>),
+    /// Tells whether the block is freed.
+    BlockFreed(bool),
+    /// Tells the message's last place.
+    Rest(Option<(Place, u64)>),
+}
+
+/// Makes a change of a trace, which has the entries that it names.
+pub(crate) fn apply(rt: &impl Abort, told: &mut Told, change: Edit) -> Result<(), AllocError> {
+    match change {
+        Edit::Remove(number) => {
+            let _ = remove(rt, told, number);
+        }
+        Edit::Double(number) => {
+            let entry = entry_of(rt, told, number);
+            insert(rt, told, number, entry)?;
+        }
+        Edit::MoveBefore(from, number) => {
+            let entry = remove(rt, told, from);
+            insert(rt, told, number, entry)?;
+        }
+        Edit::Idle(number, end) => replace(rt, told, number, Entry::Idle(end)),
+        Edit::BlockFreed(block_freed) => told.block_freed = block_freed,
+        Edit::Rest(rest) => told.rest = rest,
+        Edit::Side(number, _)
+        | Edit::Step(number, _)
+        | Edit::Message(number, _)
+        | Edit::Waker(number, _)
+        | Edit::Reply(number, _) => {
+            let made = step_of(rt, told, number);
+            replace(rt, told, number, Entry::Made(changed(made, change)));
+        }
+    }
+    Ok(())
+}
+
+/// A step with one field changed.
+fn changed(made: Made, change: Edit) -> Made {
+    match change {
+        Edit::Side(_, side) => Made { side, ..made },
+        Edit::Step(_, step) => Made { step, ..made },
+        Edit::Message(_, message) => Made { message, ..made },
+        Edit::Waker(_, waker) => Made { waker, ..made },
+        Edit::Reply(_, reply) => Made { reply, ..made },
+        _ => made,
+    }
+}
+
+fn entry_of(rt: &impl Abort, told: &Told, number: usize) -> Entry {
+    let at = index_of(rt, told, number);
+    told.entries[at]
+}
+
+fn step_of(rt: &impl Abort, told: &Told, number: usize) -> Made {
+    match entry_of(rt, told, number) {
+        Entry::Made(made) => made,
+        Entry::Idle(end) => panic!(rt; "entry {number}: {end:?} is idle"),
+    }
+}
+
+fn remove(rt: &impl Abort, told: &mut Told, number: usize) -> Entry {
+    let at = index_of(rt, told, number);
+    told.entries.remove(at)
+}
+
+fn insert(rt: &impl Abort, told: &mut Told, number: usize, entry: Entry) -> Result<(), AllocError> {
+    let at = index_of(rt, told, number);
+    told.entries.insert(at, entry)?;
+    Ok(())
+}
+
+fn replace(rt: &impl Abort, told: &mut Told, number: usize, entry: Entry) {
+    let at = index_of(rt, told, number);
+    told.entries[at] = entry;
+}
+
+/// The index of an entry that there is.
+fn index_of(rt: &impl Abort, told: &Told, number: usize) -> usize
+    ensures { result < vec_len told.now.entries }
+{
+    assert!(rt;
+        0 < number && number <= told.entries.len(),
+        "no entry {number}"
+    );
+    number - 1
+}

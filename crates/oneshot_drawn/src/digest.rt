@@ -1,0 +1,142 @@
+//! A number for all that traces tell, in its order: a guard against change.
+
+use crate::auditor::Told;
+use oneshot_machine::machine::{Seen, Step};
+use oneshot_machine::states::Op;
+use oneshot_replay::{Entry, Made, Place, WakerName, WakerPlace};
+
+/// The digest of the numbers that were added, by the steps of FNV-1a.
+#[derive(Drop)]
+pub(crate) struct Digest {
+    state: u64,
+}
+
+impl Digest {
+    /// The digest of nothing.
+    pub(crate) fn new() -> Digest {
+        Digest {
+            state: 0xcbf2_9ce4_8422_2325,
+        }
+    }
+
+    /// The digest so far.
+    pub(crate) fn value(&self) -> u64 {
+        self.state
+    }
+
+    /// Adds a trace: each field of each entry, and what is told of the end.
+    pub(crate) fn add_trace(&mut self, told: &Told) {
+        for entry in told.entries.as_slice() {
+            match entry {
+                Entry::Idle(end) => self.add_two(0, *end as u64),
+                Entry::Made(made) => self.add_made(made),
+            }
+        }
+        self.add(u64::from(told.block_freed));
+        if let Some((place, message)) = told.rest {
+            self.add_two(place as u64, message);
+        }
+    }
+
+    fn add_made(&mut self, made: &Made) {
+        self.add_two(1, made.side as u64);
+        self.add_step(made.step);
+        self.add_seen(made.seen);
+        self.add_option(made.before.map(u64::from));
+        self.add_option(made.after.map(u64::from));
+        self.add_message(made.message);
+        self.add_waker(made.waker);
+        self.add(u64::from(made.token_set));
+        self.add_option(made.own);
+        self.add_option(made.reply.map(|reply| reply as u64));
+    }
+
+    fn add_step(&mut self, step: Step) {
+        match step {
+            Step::Word(operation) => self.add_operation(operation),
+            Step::WriteMessage => self.add(1),
+            Step::TakeMessage => self.add(2),
+            Step::DropMessage => self.add(3),
+            Step::WriteWaker => self.add(4),
+            Step::TakeWaker => self.add(5),
+            Step::Withdraw => self.add(6),
+            Step::Park => self.add(7),
+            Step::Clock => self.add(8),
+            Step::Copy => self.add(9),
+            Step::Wake => self.add(10),
+            Step::WakeOwn => self.add(11),
+            Step::Free => self.add(12),
+            Step::Plain => self.add(13),
+        }
+    }
+
+    fn add_operation(&mut self, operation: Op) {
+        match operation {
+            Op::Load => self.add(14),
+            Op::Store(new) => self.add_two(15, u64::from(new)),
+            Op::Swap(new) => self.add_two(16, u64::from(new)),
+            Op::Exchange(expected, new) => {
+                self.add_two(17, u64::from(expected));
+                self.add(u64::from(new));
+            }
+            Op::Add => self.add(18),
+            Op::Xor => self.add(19),
+        }
+    }
+
+    fn add_seen(&mut self, seen: Seen) {
+        match seen {
+            Seen::Done => self.add(0),
+            Seen::Word(word) => self.add_two(1, u64::from(word)),
+            Seen::Over(over) => self.add_two(2, u64::from(over)),
+            Seen::Refused(refused) => self.add_two(3, u64::from(refused)),
+            Seen::Token(token) => self.add_two(4, u64::from(token)),
+        }
+    }
+
+    fn add_message(&mut self, moved: Option<(Place, Place)>) {
+        match moved {
+            None => self.add(0),
+            Some((from, to)) => {
+                self.add(1);
+                self.add_two(from as u64, to as u64);
+            }
+        }
+    }
+
+    fn add_waker(&mut self, moved: Option<(WakerName, WakerPlace, WakerPlace)>) {
+        match moved {
+            None => self.add(0),
+            Some((name, from, to)) => {
+                self.add_name(name);
+                self.add_two(from as u64, to as u64);
+            }
+        }
+    }
+
+    fn add_name(&mut self, name: WakerName) {
+        match name {
+            WakerName::Parker => self.add(1),
+            WakerName::Copy { number, entry } => {
+                self.add(2);
+                self.add_two(number, entry as u64);
+            }
+        }
+    }
+
+    fn add_option(&mut self, value: Option<u64>) {
+        match value {
+            None => self.add(0),
+            Some(value) => self.add_two(1, value),
+        }
+    }
+
+    fn add_two(&mut self, first: u64, second: u64) {
+        self.add(first);
+        self.add(second);
+    }
+
+    fn add(&mut self, value: u64) {
+        self.state = (self.state ^ value).wrapping_mul(0x0100_0000_01b3);
+    }
+}

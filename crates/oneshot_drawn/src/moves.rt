@@ -1,0 +1,77 @@
+//! Moves: of letters, and drawn from a seed.
+
+use oneshot_replay::Move;
+use std::process::Abort;
+
+/// The move of a letter: `s` the sender's, `r` the receiver's, `o` the receiver's with a clock past its
+/// deadline, `n` the receiver's with a copy refused.
+pub(crate) fn move_of(rt: &impl Abort, letter: char) -> Move {
+    match letter {
+        's' => Move::Sender,
+        'r' => receiver(false, false),
+        'o' => receiver(true, false),
+        'n' => receiver(false, true),
+        _ => panic!(rt; "no move {letter:?}"),
+    }
+}
+
+fn receiver(over: bool, refuse: bool) -> Move {
+    Move::Receiver { over, refuse }
+}
+
+/// Moves without end, drawn from a state of 64 bits that is not 0.
+#[derive(Drop)]
+pub(crate) struct Draws {
+    state: u64,
+}
+
+impl Draws {
+    /// The moves that a seed draws.
+    pub(crate) fn new(seed: u64) -> Draws {
+        Draws { state: seed }
+    }
+
+    /// The next move: of eight states four move the sender, two the receiver, one the receiver with its
+    /// deadline over, and one the receiver with a copy refused.
+    pub(crate) fn draw(&mut self) -> Move {
+        self.shift();
+        match self.state % 8 {
+            0..=3 => Move::Sender,
+            4 | 5 => receiver(false, false),
+            6 => receiver(true, false),
+            _ => receiver(false, true),
+        }
+    }
+
+    /// Goes to the next state. A shift drops the bits that it shifts out.
+    fn shift(&mut self) {
+        self.state ^= self.state << 13;
+        self.state ^= self.state >> 7;
+        self.state ^= self.state << 17;
+    }
+}
+
+// The letters were computed by another program.
+#[test]
+fn seeds_draw_their_moves(rt: HostRuntime) {
+    let rows = [
+        (
+            1,
+            "sssrrssrnorsosrsrsnrsssssrsnsrrrsrorssssssssrssossssrsrsrrssssso",
+        ),
+        (
+            2,
+            "ssssssnsrrrrrsrrnrossssrsrnsssrssnnsrssrsrorsssosnrsrsssonosrsoo",
+        ),
+        (
+            10_000,
+            "osorrssnrnsrsosrssrsnnsrsrrrsrsssonrsrssnssrrnrsoosssnonsssrrsrs",
+        ),
+    ];
+    for (seed, letters) in rows {
+        let mut draws = Draws::new(seed);
+        for letter in letters.chars() {
+            assert_eq!(rt; draws.draw(), move_of(&rt, letter), "seed {seed}");
+        }
+    }
+}

@@ -1,0 +1,42 @@
+//! Two scripts that are run, and what their trace tells.
+
+use crate::auditor::{Scripts, Told};
+use crate::scripts::{Receiving, Sending};
+use oneshot_replay::{Move, Place, Rest, replay};
+use std::alloc::{AllocError, Global};
+use std::test::Fail;
+
+/// Both scripts.
+pub(crate) fn scripts_of(
+    alloc: Global,
+    sender: Sending,
+    receiver: Receiving,
+) -> Result<Scripts, AllocError> {
+    Ok(Scripts {
+        sender: sender.script(),
+        receiver: receiver.script(alloc)?,
+    })
+}
+
+/// Runs both scripts under a schedule.
+pub(crate) fn run(alloc: Global, scripts: Scripts, moves: &[Move]) -> Result<Told, Fail> {
+    let Scripts { sender, receiver } = scripts;
+    let trace = replay(alloc, sender, receiver, moves)?;
+    let entries = Vec::from_slice(alloc, trace.entries())?;
+    Ok(Told {
+        entries,
+        block_freed: trace.block_freed(),
+        rest: trace.into_rest().map(place_of),
+    })
+}
+
+fn place_of(rest: Rest<u64>) -> (Place, u64) {
+    match rest {
+        Rest::NotSent(message) => (Place::NotSent, message),
+        Rest::InCell(message) => (Place::InCell, message),
+        Rest::InError(message) => (Place::InError, message),
+        Rest::Delivered(message) => (Place::Delivered, message),
+        Rest::FromError(message) => (Place::FromError, message),
+        Rest::Dropped(message) => (Place::Dropped, message),
+    }
+}

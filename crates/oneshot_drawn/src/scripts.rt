@@ -1,0 +1,118 @@
+//! The scripts that are run.
+
+use oneshot_replay::{
+    AsyncCall, AsyncLast, AsyncScript, CallList, ErrorLast, ErrorScript, ReceiverCall,
+    ReceiverLast, ReceiverScript, SenderLast, SenderScript,
+};
+use std::alloc::{AllocError, Global};
+
+/// The message of each script that sends one.
+pub(crate) const MESSAGE: u64 = 7;
+
+/// A script of the sender.
+#[derive(Clone, Copy, Debug)]
+pub(crate) enum Sending {
+    /// `send`.
+    Send,
+    /// The sender is dropped.
+    Drop,
+    /// `is_closed`, `send`, and then `as_inner` and `into_inner` of a refused message.
+    LookAndSend,
+}
+
+impl Sending {
+    /// The script itself.
+    pub(crate) fn script(self) -> SenderScript<u64> {
+        match self {
+            Sending::Send => SenderScript {
+                looks: 0,
+                last: sends(0, ErrorLast::Stop),
+            },
+            Sending::Drop => SenderScript {
+                looks: 0,
+                last: SenderLast::Drop,
+            },
+            Sending::LookAndSend => SenderScript {
+                looks: 1,
+                last: sends(1, ErrorLast::IntoInner),
+            },
+        }
+    }
+}
+
+fn sends(looks: usize, last: ErrorLast) -> SenderLast<u64> {
+    SenderLast::Send(MESSAGE, ErrorScript { looks, last })
+}
+
+/// A script of the receiver. The word after the last capital is its last call, and `Forever` has none.
+#[derive(Clone, Copy, Debug)]
+pub(crate) enum Receiving {
+    /// The receiver is dropped.
+    Drop,
+    /// `try_recv`, and then the drop.
+    TryDrop,
+    /// `try_recv` twice, and then the drop.
+    TryTryDrop,
+    /// `recv`.
+    Recv,
+    /// `recv_ref`, and then the drop.
+    RefDrop,
+    /// `recv_deadline`, `try_recv`, and then the drop.
+    DeadlineTryDrop,
+    /// `recv_timeout` whose end no instant can hold.
+    Forever,
+    /// A future, which is polled once and dropped.
+    PollDrop,
+    /// A future, which is polled by three tasks and dropped.
+    PollPollPollDrop,
+}
+
+impl Receiving {
+    /// The script itself.
+    pub(crate) fn script(self, alloc: Global) -> Result<ReceiverScript, AllocError> {
+        match self {
+            Receiving::Drop => calls(alloc, &[], ReceiverLast::Drop),
+            Receiving::TryDrop => calls(alloc, &[ReceiverCall::TryRecv], ReceiverLast::Drop),
+            Receiving::TryTryDrop => {
+                let twice = [ReceiverCall::TryRecv, ReceiverCall::TryRecv];
+                calls(alloc, &twice, ReceiverLast::Drop)
+            }
+            Receiving::Recv => calls(alloc, &[], ReceiverLast::Recv),
+            Receiving::RefDrop => calls(alloc, &[ReceiverCall::RecvRef], ReceiverLast::Drop),
+            Receiving::DeadlineTryDrop => {
+                let both = [ReceiverCall::RecvDeadline, ReceiverCall::TryRecv];
+                calls(alloc, &both, ReceiverLast::Drop)
+            }
+            Receiving::Forever => {
+                let forever = ReceiverCall::RecvTimeout {
+                    representable: false,
+                };
+                calls(alloc, &[forever], ReceiverLast::Stop)
+            }
+            Receiving::PollDrop => polls(alloc, &[AsyncCall::Poll(1)]),
+            Receiving::PollPollPollDrop => {
+                let three = [AsyncCall::Poll(1), AsyncCall::Poll(2), AsyncCall::Poll(3)];
+                polls(alloc, &three)
+            }
+        }
+    }
+}
+
+/// These calls, and then the last one.
+fn calls(
+    alloc: Global,
+    calls: &[ReceiverCall],
+    last: ReceiverLast,
+) -> Result<ReceiverScript, AllocError> {
+    let calls = CallList::from(Vec::from_slice(alloc, calls)?);
+    Ok(ReceiverScript { calls, last })
+}
+
+/// A future with these calls, and its drop.
+fn polls(alloc: Global, polls: &[AsyncCall]) -> Result<ReceiverScript, AllocError> {
+    let future = AsyncScript {
+        calls: CallList::from(Vec::from_slice(alloc, polls)?),
+        last: AsyncLast::Drop,
+    };
+    calls(alloc, &[], ReceiverLast::IntoFuture(future))
+}
