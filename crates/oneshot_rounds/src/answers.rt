@@ -1,0 +1,54 @@
+//! What the ends of a channel answer, and how often.
+
+use std::fmt::Debug;
+use std::process::Abort;
+
+/// Why the use of a receiver gave no message.
+#[derive(Clone, Copy, Debug, Eq, PartialEq)]
+pub(super) enum Silence {
+    /// `Empty` or `Pending`.
+    NothingYet,
+    /// `Disconnected` or `RecvError`.
+    Disconnected,
+    /// `Timeout`.
+    Timeout,
+    /// It was dropped.
+    Dropped,
+}
+
+/// What one side of a round answered.
+#[derive(Clone, Copy)]
+pub(super) struct Outcome<A> {
+    pub(super) answer: A,
+    /// Whether the other side's call was over before this one's began.
+    pub(super) late: bool,
+}
+
+/// How often a test has to see what may happen. Delays are drawn so that each is seen some thousand times.
+const OFTEN: usize = 100;
+
+/// Fails unless each of these answers came often, and no other.
+pub(super) fn assert_answers<A: Debug + PartialEq>(
+    rt: &impl Abort,
+    outcomes: &[Outcome<A>],
+    answers: &[A],
+) {
+    for outcome in outcomes {
+        let answer = &outcome.answer;
+        assert!(rt; answers.contains(answer), "{answer:?} came");
+    }
+    for answer in answers {
+        let count = outcomes.iter().filter(|o| o.answer == *answer).count();
+        assert!(rt; count >= OFTEN, "{answer:?} came {count} times");
+    }
+}
+
+/// Fails unless a side began often after the other's call was over, and often before.
+pub(super) fn assert_both_orders<A>(rt: &impl Abort, outcomes: &[Outcome<A>]) {
+    let late = outcomes.iter().filter(|outcome| outcome.late).count();
+    let early = outcomes.iter().filter(|outcome| !outcome.late).count();
+    assert!(rt;
+        late >= OFTEN && early >= OFTEN,
+        "late {late} times, early {early} times"
+    );
+}

@@ -1,0 +1,19 @@
+//! Channels by the ten thousand.
+
+use oneshot::{Receiver, Sender, channel};
+use std::alloc::{AllocError, AllocGlobal};
+
+/// So many channels, with the senders and the receivers in the same order.
+pub(super) fn channels<'r, T: Send + Drop, R: AllocGlobal>(
+    rt: &'r R,
+    count: u64,
+) -> Result<(Vec<Sender<T>>, Vec<Receiver<T, &'r R>>), AllocError> {
+    let mut senders = Vec::new(rt.alloc());
+    let mut receivers = Vec::new(rt.alloc());
+    for _ in 0..count {
+        let (sender, receiver) = channel(rt, rt.alloc())?;
+        senders.push(sender)?;
+        receivers.push(receiver)?;
+    }
+    Ok((senders, receivers))
+}

@@ -1,0 +1,62 @@
+//! A use of a receiver beside the sender's one call, in many rounds.
+
+use super::answers::{Outcome, Silence, assert_answers, assert_both_orders};
+use super::channels::channels;
+use super::counted::make_messages;
+use super::races::race;
+use super::receives::Receives;
+use std::process::Abort;
+use std::sync::Wait;
+use std::test::Fail;
+use std::thread::Threads;
+use std::time::Clock;
+
+const ROUNDS: u64 = 10_000;
+
+/// Sends 999 in each round. Fails unless both ends give these answers, each of them often, and no other.
+pub(super) fn beside_a_send<R: Threads + Wait + Abort + Clock + AllocGlobal + Sync>(
+    rt: &R,
+    receives: &impl Receives,
+    sent: &[Result<(), u64>],
+    received: &[Result<u64, Silence>],
+) -> Result<(), Fail> {
+    let (messages, drops) = make_messages(rt.alloc(), ROUNDS, 999)?;
+    let (senders, receivers) = channels(rt, ROUNDS)?;
+    let (sends, receives) = race(
+        rt,
+        rt.alloc(),
+        senders.into_iter().zip(messages).collect(rt.alloc())?,
+        receivers,
+        |(sender, message)| {
+            let sent = sender.send(message);
+            sent.map_err(|refused| refused.into_inner().value)
+        },
+        |receiver| receives.receive(receiver).map(|message| message.value),
+    );
+    assert_answers(rt, &sends, sent);
+    assert_answers(rt, &receives, received);
+    drops.assert_once(rt);
+    assert_both_orders(rt, &receives);
+    Ok(())
+}
+
+/// Drops the sender in each round. Fails unless the receiver gives these answers, each of them often, and
+/// no other. Tells what the sender's side saw.
+pub(super) fn beside_a_drop<R: Threads + Wait + Abort + Clock + AllocGlobal + Sync>(
+    rt: &R,
+    receives: &impl Receives,
+    received: &[Result<u64, Silence>],
+) -> Result<Vec<Outcome<()>>, Fail> {
+    let (senders, receivers) = channels::<u64, _>(rt, ROUNDS)?;
+    let (drops, receives) = race(
+        rt,
+        rt.alloc(),
+        senders,
+        receivers,
+        |sender| drop(sender),
+        |receiver| receives.receive(receiver),
+    );
+    assert_answers(rt, &receives, received);
+    assert_both_orders(rt, &receives);
+    Ok(drops)
+}

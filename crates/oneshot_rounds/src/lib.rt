@@ -1,0 +1,33 @@
+//! Tests of the channel by real threads: rounds by the ten thousand, in each of which both ends race.
+#![tactic(auto)]
+
+#[cfg(test)]
+mod answers;
+#[cfg(test)]
+mod beside_a_drop;
+#[cfg(test)]
+mod beside_a_send;
+#[cfg(test)]
+mod channels;
+#[cfg(test)]
+mod counted;
+#[cfg(test)]
+mod draws;
+#[cfg(test)]
+mod duels;
+#[cfg(test)]
+mod line;
+#[cfg(test)]
+mod nested;
+#[cfg(test)]
+mod notes;
+#[cfg(test)]
+mod races;
+#[cfg(test)]
+mod receives;
+#[cfg(test)]
+mod sizes;
+#[cfg(test)]
+mod two_channels;
+#[cfg(test)]
+mod waits;

@@ -1,0 +1,74 @@
+//! The message is the sender of another channel.
+
+use oneshot::{Receiver, Sender, TryRecvError, channel};
+use std::alloc::{AllocError, AllocGlobal};
+use std::test::Fail;
+
+/// A channel of senders, and a channel whose sender is to be the message.
+struct Nest<'r, R> {
+    outer_sender: Sender<Sender<u8>>,
+    outer_receiver: Receiver<Sender<u8>, &'r R>,
+    inner_sender: Sender<u8>,
+    inner_receiver: Receiver<u8, ()>,
+}
+
+fn make_nest<R: AllocGlobal>(rt: &R) -> Result<Nest<'_, R>, AllocError> {
+    let (outer_sender, outer_receiver) = channel(rt, rt.alloc())?;
+    let (inner_sender, inner_receiver) = channel((), rt.alloc())?;
+    Ok(Nest {
+        outer_sender,
+        outer_receiver,
+        inner_sender,
+        inner_receiver,
+    })
+}
+
+#[test]
+fn a_sender_that_nobody_receives_is_dropped(rt: HostRuntime) -> Result<(), Fail> {
+    let Nest {
+        outer_sender,
+        outer_receiver,
+        inner_sender,
+        mut inner_receiver,
+    } = make_nest(&rt)?;
+    assert!(rt; outer_sender.send(inner_sender).is_ok());
+    assert!(rt; !inner_receiver.is_closed());
+    drop(outer_receiver);
+    assert!(rt; inner_receiver.is_closed());
+    assert_eq!(rt; inner_receiver.try_recv(), Err(TryRecvError::Disconnected));
+    Ok(())
+}
+
+#[test]
+fn a_sender_that_is_refused_lives_as_long_as_the_error(rt: HostRuntime) -> Result<(), Fail> {
+    let Nest {
+        outer_sender,
+        outer_receiver,
+        inner_sender,
+        mut inner_receiver,
+    } = make_nest(&rt)?;
+    drop(outer_receiver);
+    let refused = outer_sender.send(inner_sender);
+    assert!(rt; refused.is_err());
+    assert_eq!(rt; inner_receiver.try_recv(), Err(TryRecvError::Empty));
+    drop(refused);
+    assert_eq!(rt; inner_receiver.try_recv(), Err(TryRecvError::Disconnected));
+    Ok(())
+}
+
+#[test]
+fn a_sender_that_is_received_sends(rt: HostRuntime) -> Result<(), Fail> {
+    let Nest {
+        outer_sender,
+        outer_receiver,
+        inner_sender,
+        mut inner_receiver,
+    } = make_nest(&rt)?;
+    assert!(rt; outer_sender.send(inner_sender).is_ok());
+    let Ok(sender) = outer_receiver.recv() else {
+        panic!(rt; "the sender was sent")
+    };
+    assert!(rt; sender.send(5).is_ok());
+    assert_eq!(rt; inner_receiver.try_recv(), Ok(5));
+    Ok(())
+}

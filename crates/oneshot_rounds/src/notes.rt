@@ -1,0 +1,88 @@
+//! What a sender's thread wrote elsewhere before its `send`, the receiver's thread finds after its receive.
+
+use super::answers::{assert_answers, assert_both_orders};
+use super::channels::channels;
+use super::races::race;
+use super::receives::{PollUntil, Receives, Recv, RecvRef, RecvTimeout, TryUntil};
+use futures::test::MockTask;
+use std::alloc::{AllocError, Global};
+use std::process::Abort;
+use std::sync::Wait;
+use std::sync::atomic::{AtomicU64, Ordering};
+use std::test::Fail;
+use std::thread::Threads;
+use std::time::Clock;
+
+const ROUNDS: u64 = 1_000;
+
+/// A round, which both sides know.
+#[derive(Drop)]
+struct Round {
+    /// Counted from 1.
+    number: u64,
+    /// Where the sender's side writes the number.
+    note: AtomicU64,
+}
+
+fn make_rounds(alloc: Global) -> Result<Vec<Round>, AllocError> {
+    let mut rounds = Vec::new(alloc);
+    for number in 1..=ROUNDS {
+        let note = AtomicU64::new(0);
+        rounds.push(Round { number, note })?;
+    }
+    Ok(rounds)
+}
+
+// Fails unless each receive finds its round's number in the round's note, where the sender wrote it.
+fn assert_finds_notes<R: Threads + Wait + Abort + Clock + AllocGlobal + Sync>(
+    rt: &R,
+    receives: &impl Receives,
+) -> Result<(), Fail> {
+    let rounds = make_rounds(rt.alloc())?;
+    let (senders, receivers) = channels::<(), _>(rt, ROUNDS)?;
+    let (sends, receives) = race(
+        rt,
+        rt.alloc(),
+        rounds.iter().zip(senders).collect(rt.alloc())?,
+        rounds.iter().zip(receivers).collect(rt.alloc())?,
+        |(round, sender)| {
+            round.note.store(round.number, Ordering::SeqCst);
+            sender.send(()).is_ok()
+        },
+        |(round, receiver)| {
+            let received = receives.receive(receiver);
+            assert_eq!(rt; round.note.load(Ordering::SeqCst), round.number);
+            received
+        },
+    );
+    assert_answers(rt, &sends, &[true]);
+    assert_answers(rt, &receives, &[Ok(())]);
+    assert_both_orders(rt, &receives);
+    Ok(())
+}
+
+#[test]
+fn recv_comes_after_the_note(rt: HostRuntime) -> Result<(), Fail> {
+    assert_finds_notes(&rt, &Recv)
+}
+
+#[test]
+fn recv_ref_comes_after_the_note(rt: HostRuntime) -> Result<(), Fail> {
+    assert_finds_notes(&rt, &RecvRef)
+}
+
+#[test]
+fn recv_timeout_comes_after_the_note(rt: HostRuntime) -> Result<(), Fail> {
+    assert_finds_notes(&rt, &RecvTimeout)
+}
+
+#[test]
+fn try_recv_comes_after_the_note(rt: HostRuntime) -> Result<(), Fail> {
+    assert_finds_notes(&rt, &TryUntil)
+}
+
+#[test]
+fn poll_comes_after_the_note(rt: HostRuntime) -> Result<(), Fail> {
+    let task = MockTask::new(&rt)?;
+    assert_finds_notes(&rt, &PollUntil(task))
+}

@@ -1,0 +1,67 @@
+//! Two threads that make a call each in every round, at about the same time.
+//!
+//! Where all processors are busy both threads may share one. Their calls then follow each other in either
+//! order, and are rarely under way at one time, so that no test asks for that.
+
+use super::answers::Outcome;
+use super::line::{Line, Side};
+use std::alloc::Global;
+use std::process::Abort;
+use std::thread::{Threads, join};
+use std::time::Clock;
+
+// Makes this call in each round, with what its side has there, and tells what it answered.
+fn run<E: Drop, A: Copy, F: FnMut(E) -> A>(
+    rt: &(impl Abort + Clock),
+    alloc: Global,
+    mut side: Side<'_>,
+    ends: Vec<E>,
+    mut call: F,
+) -> Vec<Outcome<A>>
+    requires { F.IsAlwaysCallable call }
+{
+    let mut outcomes = Vec::new(alloc);
+    for (round, end) in (1u64..).zip(ends) {
+        let late = side.start(rt, round);
+        let answer = call(end);
+        side.end(round);
+        outcomes.push(Outcome { answer, late }).expect(rt, "memory");
+    }
+    // Here a thread is found that never ends its last round.
+    side.meet(rt, u64::MAX);
+    outcomes
+}
+
+/// What both sides answer in each round. Each makes its call on a thread of its own, with what it has in
+/// that round. Fails where a call lasts for seconds.
+pub(super) fn race<
+    R: Threads + Abort + Clock + Sync,
+    S: Send + Drop,
+    E: Drop,
+    A: Copy + Send,
+    B: Copy,
+    F: FnMut(S) -> A + Send,
+    G: FnMut(E) -> B,
+>(
+    rt: &R,
+    alloc: Global,
+    ones: Vec<S>,
+    others: Vec<E>,
+    one: F,
+    other: G,
+) -> (Vec<Outcome<A>>, Vec<Outcome<B>>)
+    requires first { F.IsAlwaysCallable one }
+    requires second { G.IsAlwaysCallable other }
+{
+    let line = Line::new();
+    let (here, there) = line.sides();
+    join(
+        rt,
+        || -> Vec<Outcome<A>>
+            requires { F.IsAlwaysCallable one }
+        { run(rt, alloc, here, ones, one) },
+        || -> Vec<Outcome<B>>
+            requires { G.IsAlwaysCallable other }
+        { run(rt, alloc, there, others, other) },
+    )
+}

@@ -1,0 +1,49 @@
+//! Two threads and two channels: one thread sends and then receives, the other receives and then sends.
+
+use super::answers::assert_answers;
+use super::channels::channels;
+use super::races::race;
+use super::waits::patience;
+use oneshot::{Receiver, RecvTimeoutError};
+use std::process::Abort;
+use std::sync::Wait;
+use std::test::Fail;
+use std::time::{Clock, Duration, Instant};
+
+const ROUNDS: u64 = 1_000;
+
+// Receives, and fails if that takes half of the time that it may take. A receiver that is not woken finds
+// its message when the time is over.
+fn receive_soon<R: Wait + Clock + Abort>(
+    rt: &R,
+    mut receiver: Receiver<u64, &R>,
+) -> Result<u64, RecvTimeoutError> {
+    let start = Instant::now(rt).expect(rt, "the clock is read");
+    let received = receiver.recv_timeout(patience());
+    let took = start.elapsed(rt).expect(rt, "the clock is read");
+    assert!(rt; took < Duration::from_secs(5), "a receive took {took:?}");
+    received
+}
+
+#[test]
+fn each_thread_gets_the_message_of_the_other(rt: HostRuntime) -> Result<(), Fail> {
+    let (to_other, from_one) = channels::<u64, _>(&rt, ROUNDS)?;
+    let (to_one, from_other) = channels::<u64, _>(&rt, ROUNDS)?;
+    let (ones, others) = race(
+        &rt,
+        rt.alloc(),
+        to_other.into_iter().zip(from_other).collect(rt.alloc())?,
+        from_one.into_iter().zip(to_one).collect(rt.alloc())?,
+        |(sender, receiver)| {
+            let sent = sender.send(1).is_ok();
+            (sent, receive_soon(&rt, receiver))
+        },
+        |(receiver, sender)| {
+            let received = receive_soon(&rt, receiver);
+            (received, sender.send(2).is_ok())
+        },
+    );
+    assert_answers(&rt, &ones, &[(true, Ok(2))]);
+    assert_answers(&rt, &others, &[(Ok(1), true)]);
+    Ok(())
+}

@@ -1,0 +1,35 @@
+//! How a thread waits for what another is about to do.
+
+use std::hint::spin_loop;
+use std::thread::{sleep, yield_now};
+use std::time::{Clock, Duration};
+
+/// The longest wait of a receive that waits by itself.
+pub(super) fn patience() -> Duration {
+    Duration::from_secs(10)
+}
+
+/// Looks that are made one after the other, before those that let another thread run first.
+const QUICK_LOOKS: u64 = 100;
+
+/// Passes the time between two looks for a message.
+pub(super) fn pass_time(looks: u64) {
+    if looks < QUICK_LOOKS {
+        spin_loop();
+    } else {
+        yield_now();
+    }
+}
+
+/// How often a thread looks for the other at a line: at once, then with a yield, and then with a sleep.
+/// The sleeps take some five seconds, less than the wait of a receive that nobody wakes.
+pub(super) const LINE_LOOKS: u64 = 105_000;
+
+/// Passes the time between two looks for the other thread at a line.
+pub(super) fn pass_time_at_line(rt: &impl Clock, looks: u64) {
+    match looks {
+        0..2_000 => spin_loop(),
+        2_000..100_000 => yield_now(),
+        _ => sleep(rt, Duration::from_millis(1)),
+    }
+}
