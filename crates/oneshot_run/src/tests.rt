@@ -1,7 +1,9 @@
 //! What the program writes for an input, or the fault that it tells.
 
+mod damaged;
 mod faults;
 mod long;
+mod overdue;
 mod polls;
 mod streams;
 mod traces;
@@ -25,6 +27,18 @@ fn told(rt: &(impl Abort + AllocGlobal), input: &[u8]) -> String {
     assert!(rt; written.is_empty(), "output beside {errors}");
     let fault = errors.strip_suffix('\n').expect(rt, "a whole line");
     format!(in rt.alloc(); "{status} {fault}").expect(rt, "memory")
+}
+
+/// Fails unless this input has this output.
+fn assert_trace(rt: &(impl Abort + AllocGlobal), input: &str, output: &str) {
+    assert_eq!(rt; told(rt, input.as_bytes()).as_str(), output, "{input}");
+}
+
+/// Fails unless each input has its output.
+fn assert_traces(rt: &(impl Abort + AllocGlobal), cases: &[(&str, &str)]) {
+    for (input, output) in cases {
+        assert_trace(rt, input, output);
+    }
 }
 
 /// A message that is sent, received and let go.

@@ -1,9 +1,11 @@
 //! Polls over a ground in memory: what becomes of the copies of a waker, and how often its task is woken.
 
+use crate::drive::steps::steps_of;
 use futures::task::Poll;
 use oneshot_drive::{drop_async, poll};
 use oneshot_errors::RecvError;
 use oneshot_memory::{MemoryFuture, MemoryTask};
+use std::test::Fail;
 
 /// The copies that were made of its waker, those that ended, and its wakes.
 fn counts(task: &MemoryTask) -> (u64, u64, u64) {
@@ -39,16 +41,21 @@ fn poll_with_different_wakers(rt: HostRuntime) {
 }
 
 #[test]
-fn a_refused_copy_wakes_its_task(rt: HostRuntime) {
+fn a_refused_copy_wakes_its_task(rt: HostRuntime) -> Result<(), Fail> {
     let task = MemoryTask::new();
     let mut g = MemoryFuture::<'_, '_, u64, _>::new(&rt, rt.alloc(), &task);
     g.refuses = true;
     assert!(rt; matches!(&poll(&mut g, &rt), Poll::Pending));
     assert!(rt; counts(&task) == (0, 0, 1));
+    let steps = steps_of(rt.alloc(), g.receiver.events())?;
+    assert_eq!(rt; steps.as_str(), "load:3, copy:refused, wake-own");
+    g.receiver.sender_sends(1234);
+    assert!(rt; matches!(&poll(&mut g, &rt), Poll::Ready(Ok(1234))));
+    Ok(())
 }
 
 #[test]
-fn a_refused_copy_leaves_the_stored_one(rt: HostRuntime) {
+fn a_refused_copy_leaves_the_stored_one(rt: HostRuntime) -> Result<(), Fail> {
     let first = MemoryTask::new();
     let second = MemoryTask::new();
     let mut g = MemoryFuture::<'_, '_, u64, _>::new(&rt, rt.alloc(), &first);
@@ -57,9 +64,15 @@ fn a_refused_copy_leaves_the_stored_one(rt: HostRuntime) {
     g.refuses = true;
     assert!(rt; matches!(&poll(&mut g, &rt), Poll::Pending));
     assert!(rt; counts(&second) == (0, 0, 1));
+    let steps = steps_of(rt.alloc(), g.receiver.events())?;
+    assert_eq!(rt;
+        steps.as_str(),
+        "load:3, copy:made, write-waker, exchange 3 0:3, load:0, copy:refused, wake-own"
+    );
     g.receiver.sender_drops();
     assert!(rt; counts(&first) == (1, 1, 1));
     assert!(rt; matches!(&poll(&mut g, &rt), Poll::Ready(Err(RecvError))));
+    Ok(())
 }
 
 #[test]

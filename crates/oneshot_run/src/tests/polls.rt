@@ -1,12 +1,6 @@
 //! Inputs of a future that are run.
 
-use crate::tests::told;
-use std::alloc::AllocGlobal;
-use std::process::Abort;
-
-fn assert_trace(rt: &(impl Abort + AllocGlobal), input: &str, output: &str) {
-    assert_eq!(rt; told(rt, input.as_bytes()).as_str(), output);
-}
+use crate::tests::assert_trace;
 
 #[test]
 fn the_drop_waits_until_a_sender_has_finished(rt: HostRuntime) {
@@ -29,6 +23,57 @@ fn the_drop_waits_until_a_sender_has_finished(rt: HostRuntime) {
 14 R drop-message 2>2 m:InCell>Dropped
 15 R free 2>- = dropped
 16 S wake ->- w1@3:SenderHand>Used = Ok
+rest Dropped(7)
+block freed
+",
+    );
+}
+
+#[test]
+fn the_drop_waits_until_a_sender_has_gone(rt: HostRuntime) {
+    assert_trace(
+        &rt,
+        "S drop\nR future poll 1 drop\nX rrrrrsrssrrrs\n",
+        "1 R plain 3>3 = future
+2 R load 3>3
+3 R copy 3>3 w1@3:New>Hand
+4 R write-waker 3>3 w1@3:Hand>Cell
+5 R exchange 3>0 = Pending
+6 S xor 0>1
+7 R load 1>1
+8 S take-waker 1>1 w1@3:Cell>SenderHand
+9 S swap 1>2
+10 R load 2>2
+11 R swap 2>2
+12 R free 2>- = dropped
+13 S wake ->- w1@3:SenderHand>Used = dropped
+rest none
+block freed
+",
+    );
+}
+
+#[test]
+fn a_poll_whose_exchange_found_the_sender_finishing_is_dropped(rt: HostRuntime) {
+    assert_trace(
+        &rt,
+        "S send 7\nR future poll 1 drop\nX rrrrrrssrsssrrrr\n",
+        "1 R plain 3>3 = future
+2 R load 3>3
+3 R copy 3>3 w1@3:New>Hand
+4 R write-waker 3>3 w1@3:Hand>Cell
+5 R exchange 3>0 = Pending
+6 R load 0>0
+7 S write-message 0>0 m:NotSent>InCell
+8 S add 0>1
+9 R exchange 1>1
+10 S take-waker 1>1 w1@3:Cell>SenderHand
+11 S swap 1>4
+12 S wake 4>4 w1@3:SenderHand>Used = Ok
+13 R load 4>4
+14 R swap 4>2
+15 R drop-message 2>2 m:InCell>Dropped
+16 R free 2>- = dropped
 rest Dropped(7)
 block freed
 ",

@@ -1,16 +1,7 @@
 //! Inputs that are run.
 
-use crate::tests::{SENT, SENT_TRACE, told};
-use std::alloc::AllocGlobal;
-use std::process::Abort;
+use crate::tests::{SENT, SENT_TRACE, assert_traces, told};
 use std::test::Fail;
-
-/// Each input has this output.
-fn assert_traces(rt: &(impl Abort + AllocGlobal), cases: &[(&str, &str)]) {
-    for (input, output) in cases {
-        assert_eq!(rt; told(rt, input.as_bytes()).as_str(), *output, "{input}");
-    }
-}
 
 #[test]
 fn traces(rt: HostRuntime) {
@@ -400,19 +391,6 @@ block here
 11 R store 3>2
 12 R take-message 2>2 m:InCell>Delivered = Ok(7)
 rest Delivered(7)
-block here
-",
-        ),
-        // a deadline that runs out
-        (
-            "S send 7\nR deadline\nX rrrorr\n",
-            "1 R load 3>3
-2 R write-waker 3>3 p:Hand>Cell
-3 R swap 3>0
-4 R clock 0>0 over
-5 R swap 0>3
-6 R withdraw 3>3 p:Cell>Hand = Err(Timeout)
-rest NotSent(7)
 block here
 ",
         ),

@@ -1,0 +1,92 @@
+//! The fronts of an input, and an input that goes on behind its third line.
+
+use crate::tests::damaged::assert_as_read;
+use crate::tests::damaged::reading::Kind;
+use crate::tests::told;
+use std::alloc::AllocGlobal;
+use std::process::Abort;
+use std::test::Fail;
+
+/// Texts that make an input in their order, each with what is told of the fronts that end in it.
+const FRONTS: [(&str, &str); 14] = [
+    ("S", "2 line 2 is missing"),
+    (" sen", "2 line 1: unknown word 1"),
+    ("d ", "2 line 1: bad number at word 2"),
+    ("7\n", "2 line 2 is missing"),
+    ("R", "2 line 3 is missing"),
+    (" futur", "2 line 2: unknown word 1"),
+    ("e", "2 line 3 is missing"),
+    (" pol", "2 line 2: unknown word 2"),
+    ("l ", "2 line 2: bad number at word 3"),
+    ("1", "2 line 3 is missing"),
+    (" dro", "2 line 2: unknown word 4"),
+    ("p\n", "2 line 3 is missing"),
+    ("X", "rest NotSent(7)\nblock here\n"),
+    (" ", "2 line 3: unknown word 1"),
+];
+
+/// The schedule behind them.
+const SCHEDULE: &str = "rrrrrssrrssrrrrs";
+
+#[test]
+fn each_front_of_an_input(rt: HostRuntime) -> Result<(), Fail> {
+    let mut front = Vec::new(rt.alloc());
+    assert_told(&rt, &front, "2 line 1 is missing")?;
+    for (text, output) in FRONTS {
+        for byte in text.as_bytes() {
+            front.push(*byte)?;
+            assert_told(&rt, &front, output)?;
+        }
+    }
+    for (index, letter) in SCHEDULE.as_bytes().iter().enumerate() {
+        front.push(*letter)?;
+        assert_eq!(rt; assert_as_read(&rt, &front)?, Kind::Trace);
+        let lines = told(&rt, &front).lines().count();
+        assert_eq!(rt; lines, index.saturating_add(3));
+    }
+    let trace = told(&rt, &front);
+    front.push(b'\n')?;
+    assert_told(&rt, &front, &trace)
+}
+
+/// The program tells this of the input, and so does the reading.
+fn assert_told(rt: &(impl Abort + AllocGlobal), input: &[u8], output: &str) -> Result<(), Fail> {
+    assert_eq!(rt;
+        told(rt, input).as_str(),
+        output,
+        "{}",
+        input.escape_ascii()
+    );
+    let _ = assert_as_read(rt, input)?;
+    Ok(())
+}
+
+/// Faults of the three lines, beside input behind them.
+const BEFORE_MORE_INPUT: [(&str, &str); 12] = [
+    ("S\nR\nX\ns", "2 input after line 3"),
+    ("s\nR\nX\ns", "2 line 1: must begin with S"),
+    ("S\ns\nX\ns", "2 line 2: must begin with R"),
+    ("S\nR\ns\ns", "2 line 3: must begin with X"),
+    ("S s\nR\nX\ns", "2 line 1: unknown word 1"),
+    ("S\nR s\nX\ns", "2 line 2: unknown word 1"),
+    ("S\nR\nX q\ns", "2 line 3: unknown word 1"),
+    ("S send s\nR\nX\ns", "2 line 1: bad number at word 2"),
+    ("S\nR future poll s\nX\ns", "2 line 2: bad number at word 3"),
+    (
+        "S drop s\nR\nX\ns",
+        "2 line 1: word 2 follows the last call",
+    ),
+    (
+        "S\nR drop s\nX\ns",
+        "2 line 2: word 2 follows the last call",
+    ),
+    ("S\nR\nX s s\ns", "2 line 3: word 2 follows the last call"),
+];
+
+#[test]
+fn input_behind_the_lines_is_told_after_each_of_their_faults(rt: HostRuntime) -> Result<(), Fail> {
+    for (input, fault) in BEFORE_MORE_INPUT {
+        assert_told(&rt, input.as_bytes(), fault)?;
+    }
+    Ok(())
+}
