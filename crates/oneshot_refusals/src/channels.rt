@@ -1,0 +1,58 @@
+//! Channels.
+
+use crate::outcome::{Outcome, Wrong, ensure};
+use futures::executor::block_on;
+use oneshot::{async_channel, channel};
+use std::random::RandomSource;
+use std::sync::Wait;
+use std::sync::atomic::{AtomicU64, Ordering};
+
+/// A runtime whose drop is counted.
+struct Counted<'a, R> {
+    _rt: &'a R,
+    drops: &'a AtomicU64,
+}
+
+impl<'a, R: Wait> Wait for Counted<'a, R> {}
+
+impl<'a, R> Drop for Counted<'a, R> {
+    fn drop(self) {
+        let Counted { _rt: _, drops } = self;
+        drops.fetch_add(1, Ordering::SeqCst);
+    }
+}
+
+impl<'a, R> Counted<'a, R> {
+    fn new(rt: &'a R, drops: &'a AtomicU64) -> Counted<'a, R> {
+        Counted { _rt: rt, drops }
+    }
+}
+
+/// `channel`. A refusal drops the runtime.
+pub(crate) fn make_channel(rt: &impl AllocGlobal) -> Result<Outcome, Wrong> {
+    let drops = AtomicU64::new(0);
+    if channel::<u8, _>(Counted::new(rt, &drops), rt.alloc()).is_ok() {
+        return Ok(Outcome::Made);
+    }
+    ensure(drops.load(Ordering::SeqCst) == 1, Wrong::RuntimeKept)?;
+    let (sender, mut receiver) = channel(Counted::new(rt, &drops), rt.alloc())?;
+    ensure(sender.send(7).is_ok(), Wrong::Broken)?;
+    ensure(receiver.try_recv() == Ok(7), Wrong::Broken)?;
+    Ok(Outcome::Refused)
+}
+
+/// `async_channel`. A refusal drops the runtime.
+pub(crate) fn make_async_channel(
+    rt: &(impl Wait + RandomSource + AllocGlobal),
+) -> Result<Outcome, Wrong> {
+    let drops = AtomicU64::new(0);
+    if async_channel::<u8, _>(Counted::new(rt, &drops), rt.alloc()).is_ok() {
+        return Ok(Outcome::Made);
+    }
+    ensure(drops.load(Ordering::SeqCst) == 1, Wrong::RuntimeKept)?;
+    let (sender, receiver) = async_channel(Counted::new(rt, &drops), rt.alloc())?;
+    ensure(sender.send(7).is_ok(), Wrong::Broken)?;
+    let received = block_on(rt, receiver).map_err(|_| Wrong::RefusedAgain)?;
+    ensure(received == Ok(7), Wrong::Broken)?;
+    Ok(Outcome::Refused)
+}
