@@ -17,7 +17,6 @@ use Rattle.oneshot_machine.specs.TableRows.{Outcome, Goes, Answers}
 use Rattle.oneshot_machine.specs.Slots.{Held, vacant, held, IsSlot, is_held, ReceiverMay, ReceiverFinds}
 use Rattle.oneshot_drive.specs.Grounds.{State, StandsWith, Stands, ReceiverMakes}
 use Rattle.oneshot_drive.specs.Blocking.{Went}
-use Rattle.oneshot_drive.specs.BetweenCalls.{is_over, is_resolved}
 use Rattle.oneshot_drive.specs.Polls.{LeavesPolled, leaves_waiting, poll_end, EndsPoll, MayLeave}
 use Rattle.oneshot_machine.proofs.Landings.{is_room, has_row, Each, landings}
 use Rattle.oneshot_drive.proofs.AfterOperations.{Lands, Lone, lone, OneOf, one_of, at_word, not_at, asks, lands, still, stands_on, withdrew_waker}
@@ -101,7 +100,7 @@ module _ {T W : Type 0} where
       withdrew_full e = (by_poll, refl, withdrew_waker (full_with (left_with 4 e) found.stands) back message waker)
 
       pub withdrew_over : ¬ (n ≡ 3) → ¬ (n ≡ 4) → EndsPoll F.Closed z
-      withdrew_over a b = record { at = resolved found_closed; is_one = is_resolved found_closed; stands = withdrew_waker (over_with found.is_so found.stands a b).stands back message waker }
+      withdrew_over a b = record { at = resolved found_closed; is_one = refl; stands = withdrew_waker (over_with found.is_so found.stands a b).stands back message waker }
 
   writes : {l k : Log T W} (y : W) → Grows l k (handed Steps.WriteWaker y ∷ []) → Went (Future PollWrite) (Goes (Future PollExchange)) l k
   writes y s = by_write _ y s refl refl
@@ -133,7 +132,7 @@ module _ {T W : Type 0} where
     backed_full e = (by_future, refl, (lone (at_word 4 e found)).stands)
 
     pub backed_none : n ≡ 2 → EndsPoll F.Closed s
-    backed_none e = record { at = disconnected found_closed; is_one = is_over found_closed; stands = (lone (at_word 2 e found)).stands }
+    backed_none e = record { at = disconnected found_closed; is_one = refl; stands = (lone (at_word 2 e found)).stands }
 
     pub backed_late : ¬ (n ≡ 0) → ¬ (n ≡ 4) → ¬ (n ≡ 2) → Lone receiver_of n s (1, claimed, (none, none))
     backed_late a b c = lone (not_at 2 c (not_at 4 b (not_at 0 a found)))

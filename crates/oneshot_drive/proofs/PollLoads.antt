@@ -23,7 +23,7 @@ use Rattle.oneshot_machine.specs.Runs.{last, more, ReceiverRan}
 use Rattle.oneshot_machine.proofs.GrownLists.{and_then}
 use Rattle.oneshot_drive.specs.Grounds.{State, StandsWith, Stands, StandsIn, receiver_slots, ReceiverAsks, ReceiverMakes}
 use Rattle.oneshot_drive.specs.Blocking.{Went}
-use Rattle.oneshot_drive.specs.BetweenCalls.{rests_new, rests_open, rests_closed, IsClosed, is_over, is_resolved}
+use Rattle.oneshot_drive.specs.BetweenCalls.{rests_new, rests_open, rests_closed, IsClosed}
 use Rattle.oneshot_drive.specs.Polls.{Polled, unpolled, left_copy, kept_copy, found_sender, has_resolved, IsPolled, LeavesPolled, leaves_received, leaves_resolved, leaves_over, leaves_gone, leaves_uncopied, leaves_waiting, leaves_its_copy, leaves_claimed, EndsPoll}
 use Rattle.oneshot_machine.proofs.Landings.{has_row, Each, landings}
 use Rattle.oneshot_drive.proofs.AfterOperations.{Came, came, asks, lands}
@@ -87,13 +87,15 @@ pending_polled leaves_waiting = left_copy
 pending_polled leaves_its_copy = kept_copy
 pending_polled leaves_claimed = found_sender
 
-closed_polled : {at : ReceiverAt} → IsClosed at → Polled at
-closed_polled (is_over c) = unpolled (rests_closed c)
-closed_polled (is_resolved c) = has_resolved c
+closed_polled : (at : ReceiverAt) → IsClosed at → Polled at
+closed_polled (disconnected c) is = unpolled (rests_closed c)
+closed_polled (resolved c) is = has_resolved c
+closed_polled _ is = absurd (cc is)
 
-closed_leaves : {T : Type 0} {at : ReceiverAt} (e : RecvError) → IsClosed at → LeavesPolled {T = T} (Ready (Err e)) at
-closed_leaves e (is_over c) = leaves_over e c
-closed_leaves e (is_resolved c) = leaves_gone e c
+closed_leaves : {T : Type 0} (at : ReceiverAt) (e : RecvError) → IsClosed at → LeavesPolled {T = T} (Ready (Err e)) at
+closed_leaves (disconnected c) e is = leaves_over e c
+closed_leaves (resolved c) e is = leaves_gone e c
+closed_leaves _ e is = absurd (cc is)
 
 module _ {T W : Type 0} where
   open_met : {at : ReceiverAt} {s : State T W} → Met 3 at → Stands at s → Stands (here looked) s
@@ -113,7 +115,7 @@ module _ {T W : Type 0} where
   closed_met met_copy stands a b c d = absurd (b refl)
   closed_met (met_message word drops) stands a b c d = absurd (c refl)
   closed_met met_sender stands a b c d = absurd (d refl)
-  closed_met (met_closed k) stands a b c d = (refl, record { at = disconnected k; is_one = is_over k; stands = stands })
+  closed_met (met_closed k) stands a b c d = (refl, record { at = disconnected k; is_one = refl; stands = stands })
 
   pub meet_asks : {s : State T W} → IsPolled s → ReceiverAsks Load s
   meet_asks is = asks Load is.stands (polled_loads is.is_one)
@@ -169,10 +171,10 @@ module _ {T W : Type 0} where
 
   -- or finds it closed
   pub gone_rests : {s : State T W} → StandsIn IsClosed s → IsPolled s
-  gone_rests is = record { at = is.at; is_one = closed_polled is.is_one; stands = is.stands }
+  gone_rests is = record { at = is.at; is_one = closed_polled is.at is.is_one; stands = is.stands }
 
   pub gone_leaves : {s : State T W} (e : RecvError) → StandsIn IsClosed s → LeavesPolled {T = T} (Ready (Err e)) (receiver_of s.log)
-  gone_leaves e is = subst (λ at. LeavesPolled {T = T} (Ready (Err e)) at) (sym is.stands.phase) (closed_leaves e is.is_one)
+  gone_leaves e is = subst (λ at. LeavesPolled {T = T} (Ready (Err e)) at) (sym is.stands.phase) (closed_leaves is.at e is.is_one)
 
   pub gone : (s : State T W) (f : Found) → EndsPoll f s → ¬ (f ≡ F.Message) → ¬ (f ≡ F.Nothing) → (f ≡ F.Closed) × StandsIn IsClosed s
   gone s F.Message ends a b = absurd (a refl)

@@ -9,13 +9,13 @@ use Rattle.oneshot_machine.specs.declared.machine.look.LookPos.TheVariants.{Clos
 use Rattle.oneshot_machine.specs.declared.machine.receiver.ReceiverStart.TheVariants.{TryRecv}
 use Rattle.oneshot_machine.specs.declared.states.Op.TheVariants.{Load, Store, Swap}
 use Rattle.oneshot_machine.specs.Logs.{Log, Grows, receiver_of, took, worded}
-use Rattle.oneshot_machine.specs.Phases.{ReceiverAt, here, looked, between, full, at_once, Closing, found_closed, closed_itself, disconnected, receiver_moves, empty, filled}
+use Rattle.oneshot_machine.specs.Phases.{ReceiverAt, here, looked, between, full, at_once, Closing, found_closed, closed_itself, disconnected, resolved, receiver_moves, empty, filled}
 use Rattle.oneshot_machine.specs.Runs.{last, more, ReceiverRan}
 use Rattle.oneshot_machine.specs.Slots.{Held, ReceiverFinds}
 use Rattle.oneshot_machine.specs.Noted.{is_same_op}
 use Rattle.oneshot_machine.proofs.GrownLists.{and_then}
 use Rattle.oneshot_drive.specs.Grounds.{State, StandsWith, Stands, receiver_slots, ReceiverAsks, ReceiverMakes}
-use Rattle.oneshot_drive.specs.BetweenCalls.{Rests, rests_new, rests_open, rests_closed, AtRest, IsClosed, is_over, is_resolved, Leaves, leaves_received, leaves_open, leaves_closed}
+use Rattle.oneshot_drive.specs.BetweenCalls.{Rests, rests_new, rests_open, rests_closed, AtRest, IsClosed, Leaves, leaves_received, leaves_open, leaves_closed}
 use Rattle.oneshot_machine.proofs.Landings.{has_row, Each, landings, found_so}
 use Rattle.oneshot_drive.proofs.AfterOperations.{lone, Came, came, asks, lands}
 
@@ -56,9 +56,10 @@ at_closed looked_empty a b = absurd (b refl)
 at_closed (looked_closed c) a b = (refl, c, refl)
 
 -- a closed receiver finds 2, and no other word
-closed_loads : {at : ReceiverAt} → IsClosed at → Each (λ n next after. n ≡ 2) (landings Load (receiver_moves at))
-closed_loads (is_over c) = (refl, tt)
-closed_loads (is_resolved c) = (refl, tt)
+closed_loads : (at : ReceiverAt) → IsClosed at → Each (λ n next after. n ≡ 2) (landings Load (receiver_moves at))
+closed_loads (disconnected c) is = (refl, tt)
+closed_loads (resolved c) is = (refl, tt)
+closed_loads _ is = absurd (cc is)
 
 module _ {T W : Type 0} where
   pub load_asks : {s : State T W} → AtRest s → ReceiverAsks Load s
@@ -81,8 +82,8 @@ module _ {T W : Type 0} where
     loaded_none a b = let is = at_closed found.is_so a b in (is.0, is.1, subst (λ at. Stands at s) is.2 found.stands)
 
   pub never : {X : Type 0} {n : ℕ} {at : ReceiverAt} {m m' : Held T} {w w' : Held W} (word : ℕ) → (word == 2) ≡ false → n ≡ word → IsClosed at → ReceiverFinds at Load n m w m' w' → X
-  never word other e is_closed made =
-      let closed : word ≡ 2 = sym e ∙ (found_so (is_same_op Load) (λ n next after. n ≡ 2) refl (closed_loads is_closed) made).is_so in
+  never {at} word other e is_closed made =
+      let closed : word ≡ 2 = sym e ∙ (found_so (is_same_op Load) (λ n next after. n ≡ 2) refl (closed_loads at is_closed) made).is_so in
       let same : (word == 2) ≡ true = eq-eqb word 2 closed in
       absurd (cc)
 

@@ -19,7 +19,6 @@ use Rattle.oneshot_machine.specs.Runs.{Ran, ReceiverRan}
 use Rattle.oneshot_machine.specs.Slots.{vacant}
 use Rattle.oneshot_drive.specs.Grounds.{State, Stands, ReceiverAsks, ReceiverMakes}
 use Rattle.oneshot_drive.specs.Blocking.{Went}
-use Rattle.oneshot_drive.specs.BetweenCalls.{is_over}
 use Rattle.oneshot_drive.specs.Polls.{EndsPoll}
 use Rattle.oneshot_machine.proofs.Landings.{has_row, landings}
 use Rattle.oneshot_drive.proofs.AfterOperations.{Lands, Lone, lone, OneOf, one_of, at_word, not_at, asks, lands, withdrew_waker}
@@ -44,7 +43,7 @@ module _ {T W : Type 0} where
     spun_full e = (by_future, refl, (lone (at_word 4 e found)).stands)
 
     pub spun_over : n ≡ 2 → EndsPoll F.Closed s
-    spun_over e = record { at = disconnected found_closed; is_one = is_over found_closed; stands = (lone (at_word 2 e found)).stands }
+    spun_over e = record { at = disconnected found_closed; is_one = refl; stands = (lone (at_word 2 e found)).stands }
 
     pub spun_again : ¬ (n ≡ 4) → ¬ (n ≡ 2) → Lone receiver_of n s (1, claimed, (none, none))
     spun_again a b = lone (not_at 2 b (not_at 4 a found))

@@ -1,5 +1,5 @@
 -- How an end stands between its calls, and what a call answers.
-use Rattle.std.specs.Prelude.{◌≡◌, ℕ, Bool, true, false, List, [], ◌∷◌, Option, Some, None, Result, Ok, Err}
+use Rattle.std.specs.Prelude.{◌≡◌, ℕ, Bool, true, false, IsTrue, List, [], ◌∷◌, Option, Some, None, Result, Ok, Err}
 use Rattle.oneshot_errors.specs.declared.recv.RecvError.{RecvError}
 use Rattle.oneshot_errors.specs.declared.recv_timeout.RecvTimeoutError.{RecvTimeoutError}
 use Rattle.oneshot_errors.specs.declared.recv_timeout.RecvTimeoutError.TheVariants as Timed
@@ -60,16 +60,26 @@ pub data Rests : ReceiverAt → Type 0 where
 abbrev pub AtRest : {T W : Type 0} → State T W → Type 0
 AtRest = StandsIn Rests
 
-pub data IsClosed : ReceiverAt → Type 0 where
-  is_over : (c : Closing) → IsClosed (disconnected c)
-  is_resolved : (c : Closing) → IsClosed (resolved c)
+abbrev pub is_closed : ReceiverAt → Bool
+is_closed (disconnected c) = true
+is_closed (resolved c) = true
+is_closed _ = false
 
-pub data IsOpen : ReceiverAt → Type 0 where
-  is_new : IsOpen first
-  is_here : (o : Open) → IsOpen (here o)
-  -- a future, with its copy in the cell, or with the sender about to finish
-  is_waiting : (w : Waiting) → IsOpen (waits w)
-  is_claimed : IsOpen claimed
+-- a receiver that is closed: no message comes any more
+abbrev pub IsClosed : ReceiverAt → Type 0
+IsClosed at = IsTrue (is_closed at)
+
+abbrev pub is_open : ReceiverAt → Bool
+is_open first = true
+is_open (here o) = true
+-- a future, with its copy in the cell, or with the sender about to finish
+is_open (waits w) = true
+is_open claimed = true
+is_open _ = false
+
+-- one that is open between two calls: a later receive may give a message
+abbrev pub IsOpen : ReceiverAt → Type 0
+IsOpen at = IsTrue (is_open at)
 
 -- The message and the disconnected error leave a receiver closed, and `Empty` leaves it open.
 pub data Leaves {T : Type 0} : Result T TryRecvError → ReceiverAt → Type 0 where

@@ -3,7 +3,7 @@ use Rattle.std.proofs.Common.{◌≡◌, ◌≢◌, Result, refl, subst}
 use Rattle.futures.specs.declared.task.Poll.{Poll}
 use Rattle.futures.specs.declared.task.Poll.TheVariants.{Ready, Pending}
 use Rattle.oneshot_errors.specs.declared.recv.RecvError.{RecvError}
-use Rattle.oneshot_drive.specs.BetweenCalls.{IsClosed, is_over, is_resolved, IsOpen, is_here, is_waiting, is_claimed}
+use Rattle.oneshot_drive.specs.BetweenCalls.{IsClosed, IsOpen}
 use Rattle.oneshot_drive.specs.Polls.{LeavesPolled, leaves_received, leaves_resolved, leaves_over, leaves_gone, leaves_uncopied, leaves_waiting, leaves_its_copy, leaves_claimed}
 use Rattle.oneshot_machine.specs.Phases.{ReceiverAt}
 
@@ -13,14 +13,14 @@ Leaving Pending = IsOpen
 
 module _ {T : Type 0} where
   leaving : {result : Poll (Result T RecvError)} {at : ReceiverAt} → LeavesPolled result at → Leaving result at
-  leaving (leaves_received x) = is_over _
-  leaving (leaves_resolved x) = is_resolved _
-  leaving (leaves_over e c) = is_over c
-  leaving (leaves_gone e c) = is_resolved c
-  leaving leaves_uncopied = is_here _
-  leaving leaves_waiting = is_waiting _
-  leaving leaves_its_copy = is_waiting _
-  leaving leaves_claimed = is_claimed
+  leaving (leaves_received x) = refl
+  leaving (leaves_resolved x) = refl
+  leaving (leaves_over e c) = refl
+  leaving (leaves_gone e c) = refl
+  leaving leaves_uncopied = refl
+  leaving leaves_waiting = refl
+  leaving leaves_its_copy = refl
+  leaving leaves_claimed = refl
 
   pub closed_polled : (result : Poll (Result T RecvError)) {at : ReceiverAt} → LeavesPolled result at → result ≢ Pending → IsClosed at
   closed_polled (Ready x) leaves ready = leaving leaves

@@ -72,5 +72,6 @@ IsOpen receiver = Open (receiver_at receiver.steps)
 abbrev pub IsDone : FutureEnd → Type 0
 IsDone future = Closed (receiver_at future.steps)
 
-abbrev pub IsPending : FutureEnd → Type 0
-IsPending future = Open (receiver_at future.steps)
+-- one that is not done: a later poll may give the message
+abbrev pub IsUnfinished : FutureEnd → Type 0
+IsUnfinished future = Open (receiver_at future.steps)

@@ -10,7 +10,7 @@ ghost use Rattle.oneshot_machine.specs.Counts.{operates_past_1, GrewAtMost};
 ghost use Rattle.oneshot_machine.specs.Phases.{receiver_at};
 ghost use Rattle.oneshot_drive.specs.BetweenCalls.{AtRest};
 ghost use Rattle.oneshot_drive.specs.Polls.{LeavesPolled, IsDisconnected, poll_reply};
-ghost use Rattle.oneshot_ends.specs.Ends.{ReceiverGrew, IsDone, IsPending};
+ghost use Rattle.oneshot_ends.specs.Ends.{ReceiverGrew, IsDone, IsUnfinished};
 ghost use Rattle.oneshot_ends.specs.Grounds.{state_of};
 
 use crate::ground::ReceiverOnWord;
@@ -105,7 +105,7 @@ impl<T: Drop, Rt: Wait + Drop> Future for AsyncReceiver<T, Rt> {
         ensures run { ReceiverGrew T C.Poll self.old.steps self.new.steps (poll_reply result) }
         ensures leaves { LeavesPolled result (receiver_at self.new.steps) }
         ensures closes { result ≢ Pending → IsDone self.new }
-        ensures stays_open { result ≡ Pending → IsPending self.new }
+        ensures stays_open { result ≡ Pending → IsUnfinished self.new }
         ensures stays_closed { IsDone self.old → IsDisconnected result }
         ensures bounded { GrewAtMost 4 operates_past_1 self.old.steps self.new.steps }
     {

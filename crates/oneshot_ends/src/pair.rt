@@ -1,6 +1,7 @@
 //! How both ends of a channel are made.
 
 ghost use Rattle.std.specs.Prelude.{◌≡◌, [], IfOk};
+ghost use Rattle.oneshot_ends.specs.Ends.{IsOpen, IsUnfinished};
 
 use crate::future::AsyncReceiver;
 use crate::receiver::Receiver;
@@ -25,6 +26,7 @@ pub fn channel<T: Send + Drop, Rt: Drop>(
     ensures one_channel { IfOk result (λ ends. ends.0.channel ≡ ends.1.channel) }
     ensures new_sender { IfOk result (λ ends. ends.0.steps ≡ []) }
     ensures new_receiver { IfOk result (λ ends. ends.1.steps ≡ []) }
+    ensures open { IfOk result (λ ends. IsOpen ends.1) }
 {
     let (near, far) = open(alloc)?;
     let parker = Parker::new(alloc)?;
@@ -43,6 +45,7 @@ pub fn async_channel<T: Send + Drop, Rt: Wait + Drop>(
     ensures one_channel { IfOk result (λ ends. ends.0.channel ≡ ends.1.channel) }
     ensures new_sender { IfOk result (λ ends. ends.0.steps ≡ []) }
     ensures new_receiver { IfOk result (λ ends. ends.1.steps ≡ []) }
+    ensures open { IfOk result (λ ends. IsUnfinished ends.1) }
 {
     let (sender, receiver) = channel(rt, alloc)?;
     Ok((sender, receiver.into_future()))
