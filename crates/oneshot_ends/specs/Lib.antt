@@ -1,4 +1,5 @@
 pub mod Grounds
 pub mod Polling
+pub mod Copies
 pub mod Ends
 pub mod Deadlines

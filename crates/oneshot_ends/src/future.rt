@@ -13,14 +13,14 @@ ghost use Rattle.oneshot_drive.specs.Polls.{LeavesPolled, IsDisconnected, poll_r
 ghost use Rattle.oneshot_ends.specs.Ends.{ReceiverGrew, IsDone, IsUnfinished};
 ghost use Rattle.oneshot_ends.specs.Grounds.{state_of};
 
+use crate::copies::Copies;
 use crate::ground::ReceiverOnWord;
-use crate::polling::{Copies, Polling};
+use crate::polling::Polling;
 use crossbeam_utils::sync::Unparker;
 use futures::Future;
 use futures::task::{Context, Poll, Source, Waker};
 use oneshot_drive::{drop_async, poll};
 use oneshot_errors::RecvError;
-use oneshot_machine::states::{DISCONNECTED, MESSAGE};
 use std::marker::Model;
 use std::sync::Wait;
 
@@ -32,10 +32,10 @@ use std::sync::Wait;
 ///
 /// Where `T` and `Rt` are `Send` it may go to another thread between two polls.
 pub struct AsyncReceiver<T, Rt: Wait> {
-    ground: ReceiverOnWord<T, Unparker, Waker>,
+    pub(crate) ground: ReceiverOnWord<T, Unparker, Waker>,
     source: Source,
     // Copies of wakers that are not in the channel.
-    copies: Copies,
+    copies: Copies<Waker>,
     rt: Rt,
 }
 
@@ -67,18 +67,6 @@ impl<T, Rt: Wait> AsyncReceiver<T, Rt> {
             copies: Copies::new(),
             rt,
         }
-    }
-}
-
-impl<T, Rt: Wait> AsyncReceiver<T, Rt> {
-    /// Whether the sender is gone without a message, or the message was received, by one load.
-    pub fn is_closed(&self) -> bool {
-        self.ground.peek() == DISCONNECTED
-    }
-
-    /// Whether the message is there, by one load; the next poll gives it then.
-    pub fn has_message(&self) -> bool {
-        self.ground.peek() == MESSAGE
     }
 }
 

@@ -7,6 +7,8 @@ ghost use Rattle.oneshot_drive.specs.BetweenCalls.{IsError, IsLate};
 ghost use Rattle.oneshot_word.specs.Side.{Side};
 ghost use Rattle.oneshot_ends.specs.Grounds.{left_of, state_of};
 
+mod looks;
+
 use crate::freed::Freed;
 use crate::rouse::wake;
 use crossbeam_utils::sync::Unparker;
@@ -206,13 +208,6 @@ impl<T, H, K> ReceiverOnWord<T, H, K> {
     {
         let freed = Freed::of(false);
         ReceiverOnWord { side, freed }
-    }
-}
-
-impl<T, H, K> ReceiverOnWord<T, H, K> {
-    /// Reads the word as a look does.
-    pub(crate) fn peek(&self) -> u8 {
-        self.side.peek()
     }
 }
 

@@ -2,6 +2,7 @@
 #![tactic(auto)]
 
 mod blocking;
+mod copies;
 mod deadline;
 mod error;
 mod freed;
@@ -14,6 +15,7 @@ mod receiver;
 mod rouse;
 mod sender;
 
+pub use copies::Copies;
 pub use error::SendError;
 pub use future::AsyncReceiver;
 pub use pair::{async_channel, channel};

@@ -1,8 +1,10 @@
 //! What a receiver does to the world in a poll: its ground, with the task of the poll beside it.
 
-ghost use Rattle.std.specs.Prelude.{◌≡◌, [], ◌∷◌};
+ghost use Rattle.std.specs.Prelude.{◌≡◌, true, false, [], ◌∷◌};
 ghost use Rattle.futures.specs.Task.{IsArmed, Hears, Keeps};
+ghost use Rattle.oneshot_ends.specs.Copies.{HasMade, HasNoneOf};
 
+use crate::copies::Copies;
 use crate::ground::ReceiverOnWord;
 use crate::rouse::Rouse;
 use crossbeam_utils::sync::Unparker;
@@ -14,24 +16,14 @@ use oneshot_machine::states::Op;
 #[derive(Drop)]
 pub(crate) struct Copied;
 
-/// The copies that are not in the channel.
-#[derive(Drop)]
-pub(crate) struct Copies {
-    /// The copy that was made, or one that is spare.
-    hand: Option<Waker>,
-    /// One that was taken back while there was another.
-    spare: Option<Waker>,
-}
-
-// A waker wakes its task when it is dropped. So the drivers have a token for each copy, and a copy whose
-// token they drop stays here as a spare, so that no task is polled more often than it asked.
+// The drivers have a token for each copy, and a copy whose token they drop stays among the copies.
 /// The ground of a receiver, lent for one poll, with the poll's task.
 #[derive(Drop)]
 pub(crate) struct Polling<'g, 'c, 'x, 'o, 'k, T> {
     pub(crate) ground: &'g mut ReceiverOnWord<T, Unparker, Waker>,
     pub(crate) cx: &'c mut Context<'x>,
     pub(crate) source: &'o Source,
-    pub(crate) copies: &'k mut Copies,
+    pub(crate) copies: &'k mut Copies<Waker>,
 }
 
 impl<'g, 'c, 'x, 'o, 'k, T: Drop> ReceiverGround<T, Copied> for Polling<'g, 'c, 'x, 'o, 'k, T> {
@@ -61,13 +53,13 @@ impl<'g, 'c, 'x, 'o, 'k, T: Drop> ReceiverGround<T, Copied> for Polling<'g, 'c, 
     }
 
     fn write_waker(&mut self, _: Copied) {
-        let copy = self.copies.take(self.cx);
+        let copy = given(self.copies, self.cx);
         self.ground.write_waker(copy);
     }
 
     fn withdraw(&mut self) -> Copied {
         let copy = self.ground.withdraw();
-        self.copies.keep(copy);
+        keep(self.copies, copy);
         Copied
     }
 
@@ -84,8 +76,7 @@ impl<'g, 'c, 'x, 'o, 'k, T: Drop> TaskGround<T, Copied> for Polling<'g, 'c, 'x, 
     ghost heard_on = { λ a b h k. (k.0 _ h.0, subst (λ id. Hears b.cx.now id) k.1 (k.0 _ h.1)) };
 
     fn copy(&mut self) -> Option<Copied> {
-        let _registered: Poll<()> = self.cx.register(self.source, &mut self.copies.hand);
-        if self.copies.hand.is_some() {
+        if register(self.copies, self.cx, self.source) {
             Some(Copied)
         } else {
             None
@@ -97,38 +88,38 @@ impl<'g, 'c, 'x, 'o, 'k, T: Drop> TaskGround<T, Copied> for Polling<'g, 'c, 'x, 
     }
 }
 
-impl Copies {
-    pub(crate) fn new() -> Copies {
-        Copies {
-            hand: None,
-            spare: None,
+/// Registers the task of the poll. `false` where no copy of its waker can be made; then the task is woken, and
+/// the copies of other tasks stay as they were.
+fn register(copies: &mut Copies<Waker>, cx: &mut Context<'_>, source: &Source) -> bool
+    ensures made { result ≡ true → HasMade cx.old cx.new copies.new }
+    ensures refused { result ≡ false → HasNoneOf cx.old.turn.task copies.old → copies.new ≡ copies.old }
+    ensures armed { IsArmed cx.new }
+    ensures heard { Hears cx.new source.now.id }
+    ensures kept { Keeps cx.old cx.new }
+{
+    let task = cx.task();
+    let mut place = copies.take_of(task);
+    let _registered: Poll<()> = cx.register(source, &mut place);
+    copies.keep_made(task, place)
+}
+
+/// The copy that was made.
+fn given(copies: &mut Copies<Waker>, cx: &mut Context<'_>) -> Rouse
+    ensures { Keeps cx.old cx.new }
+{
+    match copies.give() {
+        Some(waker) => Rouse::Task(waker),
+        // No driver stores a copy that it has not made.
+        None => {
+            let _again: Poll<()> = cx.yield_now();
+            Rouse::Nobody
         }
     }
+}
 
-    /// The copy that was made.
-    fn take(&mut self, cx: &mut Context<'_>) -> Rouse
-        ensures { Keeps cx.old cx.new }
-    {
-        let copy = self.hand.take();
-        self.hand = self.spare.take();
-        match copy {
-            Some(waker) => Rouse::Task(waker),
-            // No driver stores a copy that it has not made.
-            None => {
-                let _again: Poll<()> = cx.yield_now();
-                Rouse::Nobody
-            }
-        }
-    }
-
-    /// Keeps a copy that was taken back.
-    fn keep(&mut self, copy: Rouse) {
-        if let Rouse::Task(waker) = copy {
-            if self.hand.is_none() {
-                self.hand = Some(waker);
-            } else {
-                self.spare = Some(waker);
-            }
-        }
+/// Keeps a copy that was taken back.
+fn keep(copies: &mut Copies<Waker>, copy: Rouse) {
+    if let Rouse::Task(waker) = copy {
+        copies.take_back(waker);
     }
 }

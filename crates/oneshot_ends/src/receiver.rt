@@ -20,7 +20,6 @@ use crossbeam_utils::sync::{Parker, Unparker};
 use futures::task::{Source, Waker};
 use oneshot_drive::{drop_receiver, recv, recv_deadline, recv_ref, recv_timeout, try_recv};
 use oneshot_errors::{RecvError, RecvTimeoutError, TryRecvError};
-use oneshot_machine::states::{DISCONNECTED, MESSAGE};
 use oneshot_word::ReceiverSide;
 use std::marker::Model;
 use std::sync::Wait;
@@ -39,7 +38,7 @@ use std::time::{Clock, Duration, Instant};
 ///
 /// It may go to another thread where `T` and `Rt` are `Send`. Two threads may not share it.
 pub struct Receiver<T, Rt> {
-    ground: ReceiverOnWord<T, Unparker, Waker>,
+    pub(crate) ground: ReceiverOnWord<T, Unparker, Waker>,
     // The parker's waking half, unless the sender took it to wake the receiver.
     hand: Option<Rouse>,
     // A parker may not be shared, so that one thread at a time has the receiver.
@@ -81,19 +80,6 @@ impl<T, Rt> Receiver<T, Rt> {
             source: Source::new(),
             rt,
         }
-    }
-}
-
-impl<T, Rt> Receiver<T, Rt> {
-    /// Whether the sender is gone without a message, or the message was received. Every later receive
-    /// says `Disconnected` then. It is one load and never blocks.
-    pub fn is_closed(&self) -> bool {
-        self.ground.peek() == DISCONNECTED
-    }
-
-    /// Whether the message is there. The next receive gives it then. It is one load and never blocks.
-    pub fn has_message(&self) -> bool {
-        self.ground.peek() == MESSAGE
     }
 }
 

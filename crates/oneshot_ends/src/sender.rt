@@ -13,7 +13,6 @@ use crate::ground::SenderOnWord;
 use crossbeam_utils::sync::Unparker;
 use futures::task::Waker;
 use oneshot_drive::{drop_sender, send};
-use oneshot_machine::states::DISCONNECTED;
 use oneshot_word::SenderSide;
 use std::marker::Model;
 
@@ -28,7 +27,7 @@ use std::marker::Model;
 /// It may go to another thread where `T` is `Send`. Several threads may share a `&` to it where `T` is
 /// also `Sync`, and ask `is_closed`.
 pub struct Sender<T> {
-    side: SenderSide<T, Unparker, Waker>,
+    pub(crate) side: SenderSide<T, Unparker, Waker>,
 }
 
 impl<T> Model for Sender<T> {
@@ -49,13 +48,6 @@ impl<T> Sender<T> {
         ensures steps { result.steps ≡ side.steps }
     {
         Sender { side }
-    }
-}
-
-impl<T> Sender<T> {
-    /// Whether the receiver is gone. A `send` is refused then. It is one load and never blocks.
-    pub fn is_closed(&self) -> bool {
-        self.side.peek() == DISCONNECTED
     }
 }
 

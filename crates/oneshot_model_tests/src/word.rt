@@ -6,7 +6,7 @@ ghost use Rattle.oneshot_machine.specs.Phases.{fresh, sender_at, looked, first, 
 ghost use Rattle.oneshot_machine.specs.Slots.{vacant};
 ghost use Rattle.oneshot_word.specs.Side.{SenderCan, ReceiverCan};
 
-use oneshot_word::{ReceiverSide, Rouse, SenderSide, Slot, open};
+use oneshot_word::{Peek, ReceiverSide, Rouse, SenderSide, Slot, open};
 use std::mem::size_of;
 use std::process::Abort;
 use std::test::Fail;

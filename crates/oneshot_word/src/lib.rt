@@ -2,6 +2,7 @@
 #![tactic(auto)]
 
 pub mod laws;
+mod looks;
 mod opening;
 mod plays;
 mod receiver;
@@ -10,6 +11,7 @@ mod rule;
 mod sender;
 mod table;
 
+pub use looks::Peek;
 pub use opening::open;
 pub use receiver::ReceiverSide;
 pub use rouse::Rouse;

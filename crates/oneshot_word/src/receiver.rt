@@ -5,14 +5,13 @@ ghost use Rattle.oneshot_machine.specs.declared.states.Op.TheVariants.{Load, Sto
 ghost use Rattle.oneshot_machine.specs.Phases.{receiver_at};
 ghost use Rattle.oneshot_machine.specs.Slots.{ReceiverOwns, away, vacant, held};
 ghost use Rattle.oneshot_word.specs.declared.rouse.Rouse.{Rouse};
-ghost use Rattle.oneshot_word.specs.ReadRule.{RuleReads};
 ghost use Rattle.oneshot_word.specs.Seats.{MessageSlot, WakerSlot, message_of, waker_of};
 ghost use Rattle.oneshot_word.specs.Side.{ReceiverCan, ReceiverDid};
 
 use crate::plays::{Exchanges, Loads, Stores, Swaps};
 use crate::rouse::Rouse;
 use crate::rule::Slot;
-use crate::table::{WordSeat, WordTable, peek};
+use crate::table::{WordSeat, WordTable};
 use std::alloc::Global;
 use std::marker::Model;
 use std::sync::Arc;
@@ -82,14 +81,6 @@ impl<T, H, K> ReceiverSide<T, H, K> {
         ensures { ReceiverOwns (receiver_at self.now.steps) self.now.message self.now.waker }
     {
         let _seat = &self.seat;
-    }
-
-    /// Reads the word as a look does, which lengthens no list and tells nothing of what it found.
-    pub fn peek(&self) -> u8
-        ensures rule { RuleReads T H K }
-        ensures slots { ReceiverOwns (receiver_at self.now.steps) self.now.message self.now.waker }
-    {
-        peek(&self.table)
     }
 }
 

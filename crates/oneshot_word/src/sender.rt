@@ -3,17 +3,15 @@
 ghost use Rattle.std.specs.Prelude.{◌≡◌, ◌≢◌};
 ghost use Rattle.std.specs.Arc.{arc_value};
 ghost use Rattle.oneshot_machine.specs.declared.states.Op.TheVariants.{Swap, Add, Xor};
-ghost use Rattle.oneshot_machine.specs.Phases.{sender_at};
-ghost use Rattle.oneshot_machine.specs.Slots.{SenderOwns, away, vacant, held};
+ghost use Rattle.oneshot_machine.specs.Slots.{away, vacant, held};
 ghost use Rattle.oneshot_word.specs.declared.rouse.Rouse.{Rouse};
-ghost use Rattle.oneshot_word.specs.ReadRule.{RuleReads};
 ghost use Rattle.oneshot_word.specs.Seats.{IsAt, MessageSlot, SenderSeat, WakerSlot, message_of, waker_of};
 ghost use Rattle.oneshot_word.specs.Side.{SenderCan, SenderDid, side_of};
 
 use crate::plays::{Adds, Finishes, Flips};
 use crate::rouse::Rouse;
 use crate::rule::Slot;
-use crate::table::{WordSeat, WordTable, peek};
+use crate::table::{WordSeat, WordTable};
 use std::alloc::Global;
 use std::marker::Model;
 use std::sync::Arc;
@@ -88,14 +86,6 @@ impl<T, H, K> SenderSide<T, H, K> {
         self.table
             .shared
             .swap::<Finishes>(&mut self.seat, 0, new as u64) as u8
-    }
-
-    /// Reads the word as a look does, which lengthens no list and tells nothing of what it found.
-    pub fn peek(&self) -> u8
-        ensures rule { RuleReads T H K }
-        ensures slots { SenderOwns (sender_at self.now.steps) self.now.message self.now.waker }
-    {
-        peek(&self.table)
     }
 }
 

@@ -3,7 +3,7 @@ use Rattle.std.proofs.Common.{subst}
 use Rattle.oneshot_machine.specs.Phases.{receiver_at}
 use Rattle.oneshot_machine.specs.Slots.{ReceiverOwns}
 use Rattle.oneshot_word.proofs.RuleRead.{rule_reads, seat_owns}
-use Rattle.oneshot_word.proofs.receiver.ReceiverSide.peek.Goals as goal
+use Rattle.oneshot_word.proofs.looks.ReceiverSidePeek.peek.Goals as goal
 
 pub returns-clause-rule : goal.returns-clause-rule
 returns-clause-rule g c = rule_reads

@@ -3,7 +3,7 @@ use Rattle.std.proofs.Common.{subst}
 use Rattle.oneshot_machine.specs.Phases.{sender_at}
 use Rattle.oneshot_machine.specs.Slots.{SenderOwns}
 use Rattle.oneshot_word.proofs.RuleRead.{rule_reads, seat_owns}
-use Rattle.oneshot_word.proofs.sender.SenderSide.peek.Goals as goal
+use Rattle.oneshot_word.proofs.looks.SenderSidePeek.peek.Goals as goal
 
 pub returns-clause-rule : goal.returns-clause-rule
 returns-clause-rule g c = rule_reads

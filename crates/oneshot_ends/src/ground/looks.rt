@@ -1,0 +1,48 @@
+//! The looks of the ends, and the load that only they make.
+
+use super::ReceiverOnWord;
+use crate::future::AsyncReceiver;
+use crate::receiver::Receiver;
+use crate::sender::Sender;
+use oneshot_machine::states::{DISCONNECTED, MESSAGE};
+use oneshot_word::Peek;
+use std::sync::Wait;
+
+impl<T, H, K> ReceiverOnWord<T, H, K> {
+    // Private here, so that no call of a receiver but its looks can make it.
+    fn peek(&self) -> u8 {
+        self.side.peek()
+    }
+}
+
+impl<T> Sender<T> {
+    /// Whether the receiver is gone. A `send` is refused then. It is one load and never blocks.
+    pub fn is_closed(&self) -> bool {
+        self.side.peek() == DISCONNECTED
+    }
+}
+
+impl<T, Rt> Receiver<T, Rt> {
+    /// Whether the sender is gone without a message, or the message was received. Every later receive
+    /// says `Disconnected` then. It is one load and never blocks.
+    pub fn is_closed(&self) -> bool {
+        self.ground.peek() == DISCONNECTED
+    }
+
+    /// Whether the message is there. The next receive gives it then. It is one load and never blocks.
+    pub fn has_message(&self) -> bool {
+        self.ground.peek() == MESSAGE
+    }
+}
+
+impl<T, Rt: Wait> AsyncReceiver<T, Rt> {
+    /// Whether the sender is gone without a message, or the message was received, by one load.
+    pub fn is_closed(&self) -> bool {
+        self.ground.peek() == DISCONNECTED
+    }
+
+    /// Whether the message is there, by one load; the next poll gives it then.
+    pub fn has_message(&self) -> bool {
+        self.ground.peek() == MESSAGE
+    }
+}

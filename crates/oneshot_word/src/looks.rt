@@ -1,0 +1,45 @@
+//! The load beneath a look.
+
+ghost use Rattle.std.specs.Prelude.{◌<◌};
+ghost use Rattle.std.specs.Arc.{arc_value};
+ghost use Rattle.oneshot_machine.specs.Phases.{sender_at, receiver_at};
+ghost use Rattle.oneshot_machine.specs.Slots.{SenderOwns, ReceiverOwns};
+ghost use Rattle.oneshot_word.specs.ReadRule.{RuleReads};
+
+use crate::receiver::ReceiverSide;
+use crate::sender::SenderSide;
+use crate::table::WordTable;
+use std::alloc::Global;
+use std::sync::Arc;
+
+/// The load of a look. A trait, so that only a file that brings it can look.
+pub trait Peek {
+    /// Loads the word. The load is not logged, and no contract says what it found.
+    fn peek(&self) -> u8;
+}
+
+impl<T, H, K> Peek for SenderSide<T, H, K> {
+    fn peek(&self) -> u8
+        ensures rule { RuleReads T H K }
+        ensures slots { SenderOwns (sender_at self.now.steps) self.now.message self.now.waker }
+    {
+        load(&self.table)
+    }
+}
+
+impl<T, H, K> Peek for ReceiverSide<T, H, K> {
+    fn peek(&self) -> u8
+        ensures rule { RuleReads T H K }
+        ensures slots { ReceiverOwns (receiver_at self.now.steps) self.now.message self.now.waker }
+    {
+        load(&self.table)
+    }
+}
+
+// No proof knows what a load without a seat finds. By the rule it is below 5, so the low byte is
+// all of it.
+fn load<T, H, K>(table: &Arc<WordTable<T, H, K>, Global>) -> u8
+    requires { 0 < (arc_value table.now).shared.table_id.words }
+{
+    (table.shared.peek(0) & 0xff) as u8
+}
