@@ -8,15 +8,17 @@ mod callers;
 #[cfg(test)]
 mod example;
 #[cfg(test)]
+mod inbox;
+#[cfg(test)]
 mod rehearsal;
 #[cfg(test)]
 mod stepped;
 
-pub use oneshot_drive as drive;
-pub use oneshot_ends::{
-    AsyncReceiver, RawReceiver, RawSender, Receiver, SendError, Sender, async_channel, channel,
+pub use oneshot_channel::{
+    AsyncReceiver, RawReceiver, RawSender, Receiver, RecvError, RecvTimeoutError, SendError,
+    Sender, TryRecvError, async_channel, channel,
 };
-pub use oneshot_errors::{RecvError, RecvTimeoutError, TryRecvError};
+pub use oneshot_drive as drive;
 pub use oneshot_machine::{machine, states};
 pub use oneshot_memory as memory;
 pub use oneshot_replay as replay;

@@ -1,0 +1,61 @@
+//! A struct that keeps a receiver and whether it is done, proved and run; docs/CALLING.md shows it.
+
+ghost use Rattle.std.specs.Prelude.{◌≡◌, true, IfOk, IsNone};
+ghost use Rattle.oneshot.specs.Ends.{IsClosed, IsOpen};
+
+use crate::{Receiver, Sender, TryRecvError, channel};
+use std::alloc::{AllocError, Global};
+use std::test::Fail;
+
+/// A receiver that is asked now and then, and whether its message came or can never come.
+#[derive(Drop)]
+struct Inbox<T: Drop> {
+    receiver: Receiver<T, ()>,
+    done: bool,
+    ghost right: { done ≡ true → IsClosed receiver },
+}
+
+impl<T: Send + Drop> Inbox<T> {
+    /// An inbox, with the sender of its message.
+    fn new(alloc: Global) -> Result<(Sender<T>, Inbox<T>), AllocError>
+        ensures { IfOk result (λ made. IsOpen made.1.receiver) }
+    {
+        let (sender, receiver) = channel((), alloc)?;
+        let inbox = Inbox {
+            receiver,
+            done: false,
+        };
+        Ok((sender, inbox))
+    }
+}
+
+impl<T: Drop> Inbox<T> {
+    /// The message, if it is there. None comes after the inbox is done.
+    fn look(&mut self) -> Option<T>
+        ensures { self.old.done ≡ true → IsNone result }
+    {
+        match self.receiver.try_recv() {
+            Ok(message) => {
+                self.done = true;
+                Some(message)
+            }
+            Err(TryRecvError::Disconnected) => {
+                self.done = true;
+                None
+            }
+            Err(TryRecvError::Empty) => None,
+        }
+    }
+}
+
+#[test]
+fn an_inbox_gives_its_message_once(rt: HostRuntime) -> Result<(), Fail> {
+    let (sender, mut inbox) = Inbox::new(rt.alloc())?;
+    assert_eq!(rt; inbox.look(), None);
+    assert!(rt; !inbox.done);
+    assert!(rt; sender.send(19u64).is_ok());
+    assert_eq!(rt; inbox.look(), Some(19));
+    assert!(rt; inbox.done);
+    assert_eq!(rt; inbox.look(), None);
+    Ok(())
+}

@@ -1,0 +1,16 @@
+-- what the contracts of the channel name
+pub use Rattle.oneshot_ends.specs.Deadlines
+pub use Rattle.oneshot_ends.specs.Ends
+pub use Rattle.oneshot_errors.specs.declared.recv.RecvError
+pub use Rattle.oneshot_errors.specs.declared.recv_timeout.RecvTimeoutError
+pub use Rattle.oneshot_errors.specs.declared.try_recv.TryRecvError
+pub use Rattle.oneshot_drive.specs.BetweenCalls
+pub use Rattle.oneshot_drive.specs.Polls
+pub use Rattle.oneshot_machine.specs.Counts
+pub use Rattle.oneshot_machine.specs.Logs
+pub use Rattle.oneshot_machine.specs.Noted
+pub use Rattle.oneshot_machine.specs.Phases
+pub use Rattle.oneshot_machine.specs.Runs
+pub use Rattle.oneshot_machine.specs.declared.machine.Reply
+pub use Rattle.oneshot_machine.specs.declared.machine.receiver.ReceiverStart
+pub use Rattle.oneshot_machine.specs.declared.machine.sender.SenderCall
