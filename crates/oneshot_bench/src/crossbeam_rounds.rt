@@ -1,21 +1,21 @@
 //! One round of each loop over the kit's `crossbeam_channel`, by `bounded` with room for one message.
 
 use crate::fault::Fault;
+use crate::message::Message;
 use crate::tally::Tally;
 use crossbeam_channel::bounded;
 use std::alloc::Global;
 use std::sync::Wait;
 
 /// As `rounds::make_send_receive_drop`; it drops the sender once it has sent.
-pub fn make_send_receive_drop<T: Drop, R: Wait>(
+pub fn make_send_receive_drop<T: Message + Drop, R: Wait>(
     rt: &R,
     alloc: Global,
     message: T,
-    bytes: usize,
     tally: &mut Tally,
 ) -> Result<(), Fault> {
     let (sender, receiver) = bounded(alloc, 1)?;
-    tally.made(bytes);
+    tally.made(T::BYTES);
     let sent = sender.send(rt, message).is_ok();
     drop(sender);
     if !sent || receiver.try_recv(rt).is_err() {
@@ -26,24 +26,23 @@ pub fn make_send_receive_drop<T: Drop, R: Wait>(
 }
 
 /// As `rounds::make_drop`.
-pub fn make_drop<T: Drop>(alloc: Global, bytes: usize, tally: &mut Tally) -> Result<(), Fault> {
+pub fn make_drop<T: Message + Drop>(alloc: Global, tally: &mut Tally) -> Result<(), Fault> {
     let (sender, receiver) = bounded::<T, Global>(alloc, 1)?;
-    tally.made(bytes);
+    tally.made(T::BYTES);
     drop(sender);
     drop(receiver);
     Ok(())
 }
 
 /// As `rounds::make_send_recv`; it drops the sender once it has sent.
-pub fn make_send_recv<T: Drop, R: Wait>(
+pub fn make_send_recv<T: Message + Drop, R: Wait>(
     rt: &R,
     alloc: Global,
     message: T,
-    bytes: usize,
     tally: &mut Tally,
 ) -> Result<(), Fault> {
     let (sender, receiver) = bounded(alloc, 1)?;
-    tally.made(bytes);
+    tally.made(T::BYTES);
     let sent = sender.send(rt, message).is_ok();
     drop(sender);
     if !sent || receiver.recv(rt).is_err() {

@@ -3,6 +3,7 @@
 ghost use Rattle.futures.specs.Task.{Keeps};
 
 use crate::fault::Fault;
+use crate::message::Message;
 use crate::polled::PolledRound;
 use crate::tally::Tally;
 use futures::Future;
@@ -11,14 +12,13 @@ use futures::task::{Context, Poll};
 use std::alloc::Global;
 
 /// As `rounds::make_send_receive_drop`.
-pub fn make_send_receive_drop<T: Drop>(
+pub fn make_send_receive_drop<T: Message + Drop>(
     alloc: Global,
     message: T,
-    bytes: usize,
     tally: &mut Tally,
 ) -> Result<(), Fault> {
     let (sender, mut receiver) = channel(alloc)?;
-    tally.made(bytes);
+    tally.made(T::BYTES);
     if sender.send(message).is_err() || !matches!(receiver.try_recv(), Ok(Some(_))) {
         return Err(Fault::MessageLost);
     }
@@ -27,26 +27,25 @@ pub fn make_send_receive_drop<T: Drop>(
 }
 
 /// As `rounds::make_drop`.
-pub fn make_drop<T: Drop>(alloc: Global, bytes: usize, tally: &mut Tally) -> Result<(), Fault> {
+pub fn make_drop<T: Message + Drop>(alloc: Global, tally: &mut Tally) -> Result<(), Fault> {
     let (sender, receiver) = channel::<T>(alloc)?;
-    tally.made(bytes);
+    tally.made(T::BYTES);
     drop(sender);
     drop(receiver);
     Ok(())
 }
 
 /// As `rounds::make_poll_send_poll`.
-pub fn make_poll_send_poll<T: Drop>(
+pub fn make_poll_send_poll<T: Message + Drop>(
     alloc: Global,
     message: T,
-    bytes: usize,
     cx: &mut Context<'_>,
     tally: &mut Tally,
 ) -> Result<(), Fault>
     ensures { Keeps cx.old cx.new }
 {
     let (sender, mut receiver) = channel(alloc)?;
-    tally.made(bytes);
+    tally.made(T::BYTES);
     if receiver.poll(cx).is_pending() {
         tally.pended();
     }
@@ -62,22 +61,17 @@ pub fn make_poll_send_poll<T: Drop>(
 pub struct MakePollSendPoll<T> {
     alloc: Global,
     message: T,
-    bytes: usize,
 }
 
 impl<T> MakePollSendPoll<T> {
-    /// A round that sends `message` of so many bytes.
-    pub fn new(alloc: Global, message: T, bytes: usize) -> MakePollSendPoll<T> {
-        MakePollSendPoll {
-            alloc,
-            message,
-            bytes,
-        }
+    /// A round that sends `message`.
+    pub fn new(alloc: Global, message: T) -> MakePollSendPoll<T> {
+        MakePollSendPoll { alloc, message }
     }
 }
 
-impl<T: Copy + Drop> PolledRound for MakePollSendPoll<T> {
+impl<T: Message + Copy + Drop> PolledRound for MakePollSendPoll<T> {
     fn make(&self, cx: &mut Context<'_>, tally: &mut Tally) -> Result<(), Fault> {
-        make_poll_send_poll(self.alloc, self.message, self.bytes, cx, tally)
+        make_poll_send_poll(self.alloc, self.message, cx, tally)
     }
 }

@@ -9,6 +9,7 @@ mod fault;
 mod futures_rounds;
 mod loops;
 mod measure;
+mod message;
 mod polled;
 mod round_trip;
 mod rounds;

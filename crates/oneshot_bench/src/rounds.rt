@@ -5,6 +5,7 @@ ghost use Rattle.futures.specs.Task.{Keeps};
 ghost use Rattle.oneshot_bench.specs.Rounds.{Leads};
 
 use crate::fault::Fault;
+use crate::message::Message;
 use crate::polled::PolledRound;
 use crate::tally::Tally;
 use futures::Future;
@@ -27,17 +28,16 @@ pub fn repeat<F: FnMut() -> Result<(), Fault>>(count: u64, mut round: F) -> Resu
     Ok(())
 }
 
-/// Makes a channel, sends `message` of so many bytes, receives it by `try_recv`, and drops the receiver.
+/// Makes a channel, sends `message`, receives it by `try_recv`, and drops the receiver.
 ///
 /// `Err` where there is no memory for the channel, or the message was lost.
-pub fn make_send_receive_drop<T: Send + Drop>(
+pub fn make_send_receive_drop<T: Message + Send + Drop>(
     alloc: Global,
     message: T,
-    bytes: usize,
     tally: &mut Tally,
 ) -> Result<(), Fault> {
     let (sender, mut receiver) = channel::<T, ()>((), alloc)?;
-    tally.made(bytes);
+    tally.made(T::BYTES);
     if sender.send(message).is_err() || receiver.try_recv().is_err() {
         return Err(Fault::MessageLost);
     }
@@ -45,31 +45,26 @@ pub fn make_send_receive_drop<T: Send + Drop>(
     Ok(())
 }
 
-/// Makes a channel for a message of so many bytes, and drops both ends. `Err` where there is no memory for it.
-pub fn make_drop<T: Send + Drop>(
-    alloc: Global,
-    bytes: usize,
-    tally: &mut Tally,
-) -> Result<(), Fault> {
+/// Makes a channel for a message, and drops both ends. `Err` where there is no memory for it.
+pub fn make_drop<T: Message + Send + Drop>(alloc: Global, tally: &mut Tally) -> Result<(), Fault> {
     let (sender, receiver) = channel::<T, ()>((), alloc)?;
-    tally.made(bytes);
+    tally.made(T::BYTES);
     drop(sender);
     drop(receiver);
     Ok(())
 }
 
-/// Makes a channel, sends `message` of so many bytes, and receives it by `recv`, whose receiver keeps `rt`.
+/// Makes a channel, sends `message`, and receives it by `recv`, whose receiver keeps `rt`.
 ///
 /// `Err` where there is no memory for the channel, or the message was lost.
-pub fn make_send_recv<T: Send + Drop, Rt: Wait + Clock + Drop>(
+pub fn make_send_recv<T: Message + Send + Drop, Rt: Wait + Clock + Drop>(
     rt: Rt,
     alloc: Global,
     message: T,
-    bytes: usize,
     tally: &mut Tally,
 ) -> Result<(), Fault> {
     let (sender, receiver) = channel(rt, alloc)?;
-    tally.made(bytes);
+    tally.made(T::BYTES);
     if sender.send(message).is_err() || receiver.recv().is_err() {
         return Err(Fault::MessageLost);
     }
@@ -77,22 +72,21 @@ pub fn make_send_recv<T: Send + Drop, Rt: Wait + Clock + Drop>(
     Ok(())
 }
 
-/// Makes a channel whose receiver is a future, polls it, sends `message` of so many bytes, polls again,
+/// Makes a channel whose receiver is a future, polls it, sends `message`, polls again,
 /// and drops the receiver, which keeps `rt`.
 ///
 /// `Err` where there is no memory for the channel, or the message was lost.
-pub fn make_poll_send_poll<T: Send + Drop, Rt: Wait + Drop>(
+pub fn make_poll_send_poll<T: Message + Send + Drop, Rt: Wait + Drop>(
     rt: Rt,
     alloc: Global,
     message: T,
-    bytes: usize,
     cx: &mut Context<'_>,
     tally: &mut Tally,
 ) -> Result<(), Fault>
     ensures { Keeps cx.old cx.new }
 {
     let (sender, mut receiver) = async_channel(rt, alloc)?;
-    tally.made(bytes);
+    tally.made(T::BYTES);
     if receiver.poll(cx).is_pending() {
         tally.pended();
     }
@@ -109,29 +103,23 @@ pub struct MakePollSendPoll<T, Rt> {
     rt: Rt,
     alloc: Global,
     message: T,
-    bytes: usize,
 }
 
 impl<T, Rt> MakePollSendPoll<T, Rt> {
-    /// A round that sends `message` of so many bytes.
-    pub fn new(rt: Rt, alloc: Global, message: T, bytes: usize) -> MakePollSendPoll<T, Rt> {
-        MakePollSendPoll {
-            rt,
-            alloc,
-            message,
-            bytes,
-        }
+    /// A round that sends `message`.
+    pub fn new(rt: Rt, alloc: Global, message: T) -> MakePollSendPoll<T, Rt> {
+        MakePollSendPoll { rt, alloc, message }
     }
 }
 
 impl<Rt: Wait + Copy + Drop> PolledRound for MakePollSendPoll<u64, Rt> {
     fn make(&self, cx: &mut Context<'_>, tally: &mut Tally) -> Result<(), Fault> {
-        make_poll_send_poll(self.rt, self.alloc, self.message, self.bytes, cx, tally)
+        make_poll_send_poll(self.rt, self.alloc, self.message, cx, tally)
     }
 }
 
 impl<Rt: Wait + Copy + Drop> PolledRound for MakePollSendPoll<[u8; 4096], Rt> {
     fn make(&self, cx: &mut Context<'_>, tally: &mut Tally) -> Result<(), Fault> {
-        make_poll_send_poll(self.rt, self.alloc, self.message, self.bytes, cx, tally)
+        make_poll_send_poll(self.rt, self.alloc, self.message, cx, tally)
     }
 }

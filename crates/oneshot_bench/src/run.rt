@@ -8,7 +8,6 @@ use crate::rounds::repeat;
 use crate::tally::Tally;
 use crate::{crossbeam_rounds, crossbeam_trips, futures_rounds, round_trip, rounds};
 use std::alloc::AllocGlobal;
-use std::mem::size_of;
 use std::random::RandomSource;
 use std::sync::Wait;
 use std::thread::Threads;
@@ -45,31 +44,27 @@ fn run_oneshot<R: AllocGlobal + RandomSource + Threads + Wait + Clock + Sync>(
     tally: &mut Tally,
 ) -> Result<(), Fault> {
     let alloc = rt.alloc();
-    let small = size_of::<u64>();
-    let large = size_of::<[u8; 4096]>();
     match kind {
         Loop::MakeSendReceiveDrop => repeat(count, || {
-            rounds::make_send_receive_drop(alloc, SMALL, small, tally)
+            rounds::make_send_receive_drop(alloc, SMALL, tally)
         }),
-        Loop::MakeDrop => repeat(count, || rounds::make_drop::<u64>(alloc, small, tally)),
+        Loop::MakeDrop => repeat(count, || rounds::make_drop::<u64>(alloc, tally)),
         Loop::MakeSendRecv => repeat(count, || {
-            rounds::make_send_recv(rt, alloc, SMALL, small, tally)
+            rounds::make_send_recv(rt, alloc, SMALL, tally)
         }),
         Loop::MakePollSendPoll => {
-            let round = rounds::MakePollSendPoll::new(rt, alloc, SMALL, small);
+            let round = rounds::MakePollSendPoll::new(rt, alloc, SMALL);
             repeat_in_task(rt, count, round, tally)
         }
         Loop::MakeSendReceiveDropLarge => repeat(count, || {
-            rounds::make_send_receive_drop(alloc, LARGE, large, tally)
+            rounds::make_send_receive_drop(alloc, LARGE, tally)
         }),
-        Loop::MakeDropLarge => repeat(count, || {
-            rounds::make_drop::<[u8; 4096]>(alloc, large, tally)
-        }),
+        Loop::MakeDropLarge => repeat(count, || { rounds::make_drop::<[u8; 4096]>(alloc, tally) }),
         Loop::MakeSendRecvLarge => repeat(count, || {
-            rounds::make_send_recv(rt, alloc, LARGE, large, tally)
+            rounds::make_send_recv(rt, alloc, LARGE, tally)
         }),
         Loop::MakePollSendPollLarge => {
-            let round = rounds::MakePollSendPoll::new(rt, alloc, LARGE, large);
+            let round = rounds::MakePollSendPoll::new(rt, alloc, LARGE);
             repeat_in_task(rt, count, round, tally)
         }
         Loop::RoundTrip => round_trip::round_trips(rt, alloc, count, tally).map(|_| ()),
@@ -84,29 +79,25 @@ fn run_futures<R: AllocGlobal + RandomSource + Wait>(
     tally: &mut Tally,
 ) -> Result<(), Fault> {
     let alloc = rt.alloc();
-    let small = size_of::<u64>();
-    let large = size_of::<[u8; 4096]>();
     match kind {
         Loop::MakeSendReceiveDrop => repeat(count, || {
-            futures_rounds::make_send_receive_drop(alloc, SMALL, small, tally)
+            futures_rounds::make_send_receive_drop(alloc, SMALL, tally)
         }),
-        Loop::MakeDrop => repeat(count, || {
-            futures_rounds::make_drop::<u64>(alloc, small, tally)
-        }),
+        Loop::MakeDrop => repeat(count, || { futures_rounds::make_drop::<u64>(alloc, tally) }),
         Loop::MakeSendRecv => Err(Fault::CannotRun),
         Loop::MakePollSendPoll => {
-            let round = futures_rounds::MakePollSendPoll::new(alloc, SMALL, small);
+            let round = futures_rounds::MakePollSendPoll::new(alloc, SMALL);
             repeat_in_task(rt, count, round, tally)
         }
         Loop::MakeSendReceiveDropLarge => repeat(count, || {
-            futures_rounds::make_send_receive_drop(alloc, LARGE, large, tally)
+            futures_rounds::make_send_receive_drop(alloc, LARGE, tally)
         }),
         Loop::MakeDropLarge => repeat(count, || {
-            futures_rounds::make_drop::<[u8; 4096]>(alloc, large, tally)
+            futures_rounds::make_drop::<[u8; 4096]>(alloc, tally)
         }),
         Loop::MakeSendRecvLarge => Err(Fault::CannotRun),
         Loop::MakePollSendPollLarge => {
-            let round = futures_rounds::MakePollSendPoll::new(alloc, LARGE, large);
+            let round = futures_rounds::MakePollSendPoll::new(alloc, LARGE);
             repeat_in_task(rt, count, round, tally)
         }
         Loop::RoundTrip => Err(Fault::CannotRun),
@@ -121,27 +112,25 @@ fn run_crossbeam<R: AllocGlobal + Threads + Wait + Sync>(
     tally: &mut Tally,
 ) -> Result<(), Fault> {
     let alloc = rt.alloc();
-    let small = size_of::<u64>();
-    let large = size_of::<[u8; 4096]>();
     match kind {
         Loop::MakeSendReceiveDrop => repeat(count, || {
-            crossbeam_rounds::make_send_receive_drop(rt, alloc, SMALL, small, tally)
+            crossbeam_rounds::make_send_receive_drop(rt, alloc, SMALL, tally)
         }),
         Loop::MakeDrop => repeat(count, || {
-            crossbeam_rounds::make_drop::<u64>(alloc, small, tally)
+            crossbeam_rounds::make_drop::<u64>(alloc, tally)
         }),
         Loop::MakeSendRecv => repeat(count, || {
-            crossbeam_rounds::make_send_recv(rt, alloc, SMALL, small, tally)
+            crossbeam_rounds::make_send_recv(rt, alloc, SMALL, tally)
         }),
         Loop::MakePollSendPoll => Err(Fault::CannotRun),
         Loop::MakeSendReceiveDropLarge => repeat(count, || {
-            crossbeam_rounds::make_send_receive_drop(rt, alloc, LARGE, large, tally)
+            crossbeam_rounds::make_send_receive_drop(rt, alloc, LARGE, tally)
         }),
         Loop::MakeDropLarge => repeat(count, || {
-            crossbeam_rounds::make_drop::<[u8; 4096]>(alloc, large, tally)
+            crossbeam_rounds::make_drop::<[u8; 4096]>(alloc, tally)
         }),
         Loop::MakeSendRecvLarge => repeat(count, || {
-            crossbeam_rounds::make_send_recv(rt, alloc, LARGE, large, tally)
+            crossbeam_rounds::make_send_recv(rt, alloc, LARGE, tally)
         }),
         Loop::MakePollSendPollLarge => Err(Fault::CannotRun),
         Loop::RoundTrip => crossbeam_trips::round_trips(rt, alloc, count, tally).map(|_| ()),

@@ -172,6 +172,15 @@ fn the_time_is_that_of_the_work(rt: HostRuntime) -> Result<(), Fail> {
     Ok(())
 }
 
+// A round makes a channel, which takes more than ten nanoseconds.
+#[test]
+fn the_time_is_that_of_the_rounds(rt: HostRuntime) -> Result<(), Fail> {
+    let count = 20_000;
+    let time = measure(&rt, Channel::Oneshot, Loop::MakeSendReceiveDrop, count)?.time;
+    assert!(rt; time >= Duration::from_micros(200), "{time:?}");
+    Ok(())
+}
+
 #[test]
 fn rounds_end_at_the_first_fault(rt: HostRuntime) {
     let mut made = 0u64;

@@ -1,0 +1,17 @@
+//! What a round may send.
+
+use std::mem::size_of;
+
+/// A message whose bytes are counted.
+pub trait Message {
+    /// How many bytes it has.
+    const BYTES: usize;
+}
+
+impl Message for u64 {
+    const BYTES: usize = size_of::<u64>();
+}
+
+impl Message for [u8; 4096] {
+    const BYTES: usize = size_of::<[u8; 4096]>();
+}
