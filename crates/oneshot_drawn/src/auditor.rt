@@ -1,6 +1,6 @@
 //! An auditor of traces. It reads a trace beside its scripts, from the definitions alone: the object with
-//! one message, the acting entry of each call, the places of the message and of the wakers, and who holds
-//! the block. It knows no transition table, and calls nothing that made the trace.
+//! one message, the acting entry of each call, the places of the message and of the wakers, who holds the
+//! block, and how the receiver waits. It knows no transition table, and calls nothing that made the trace.
 
 mod acting;
 mod calls;
@@ -10,6 +10,7 @@ mod holders;
 mod mark;
 mod message;
 mod object;
+mod waits;
 mod wakers;
 
 use crate::auditor::fault::Fault;
@@ -17,6 +18,7 @@ pub(crate) use crate::auditor::fault::Finding;
 use crate::auditor::history::History;
 use crate::auditor::holders::Holders;
 use crate::auditor::message::Message;
+use crate::auditor::waits::Waits;
 use oneshot_machine::machine::End;
 use oneshot_replay::{Entry, Made, Place, ReceiverScript, SenderScript};
 
@@ -69,6 +71,7 @@ struct Auditor {
     history: History,
     holders: Holders,
     message: Message,
+    waits: Waits,
 }
 
 impl Auditor {
@@ -77,6 +80,7 @@ impl Auditor {
             history: History::new(),
             holders: Holders::new(),
             message: Message::new(&scripts.sender),
+            waits: Waits::new(),
         }
     }
 
@@ -105,7 +109,12 @@ impl Auditor {
         self.message.read(mark)?;
         wakers::read(mark, earlier)?;
         self.history.read(mark)?;
-        self.message.read_reply(mark)
+        self.message.read_reply(mark)?;
+        self.waits.read(mark)?;
+        if self.history.has_sender_answered() {
+            self.waits.read_wait(later)?;
+        }
+        Ok(())
     }
 
     /// What has to hold after the last entry.

@@ -3,7 +3,7 @@
 ghost use Rattle.std.specs.Prelude.{◌<◌, vec_len};
 
 use crate::auditor::Told;
-use oneshot_machine::machine::{End, Reply, Step};
+use oneshot_machine::machine::{End, Reply, Seen, Step};
 use oneshot_replay::{Entry, Made, Place, WakerName, WakerPlace};
 use std::alloc::AllocError;
 use std::process::Abort;
@@ -23,10 +23,18 @@ pub(crate) enum Edit {
     Side(usize, End),
     /// Changes what an entry does.
     Step(usize, Step),
+    /// Changes what an entry sees.
+    Seen(usize, Seen),
+    /// Changes the word that an entry finds.
+    Before(usize, u8),
     /// Changes where an entry moves the message.
     Message(usize, Option<(Place, Place)>),
     /// Changes which waker an entry moves, and where.
     Waker(usize, Option<(WakerName, WakerPlace, WakerPlace)>),
+    /// Changes whether an entry sets the token.
+    Token(usize, bool),
+    /// Changes the number of the waker by which a poll wakes its own task.
+    Own(usize, Option<u64>),
     /// Changes what an entry's call answers.
     Reply(usize, Option<Reply>),
     /// Tells whether the block is freed.
@@ -54,8 +62,12 @@ pub(crate) fn apply(rt: &impl Abort, told: &mut Told, change: Edit) -> Result<()
         Edit::Rest(rest) => told.rest = rest,
         Edit::Side(number, _)
         | Edit::Step(number, _)
+        | Edit::Seen(number, _)
+        | Edit::Before(number, _)
         | Edit::Message(number, _)
         | Edit::Waker(number, _)
+        | Edit::Token(number, _)
+        | Edit::Own(number, _)
         | Edit::Reply(number, _) => {
             let made = step_of(rt, told, number);
             replace(rt, told, number, Entry::Made(changed(made, change)));
@@ -69,8 +81,15 @@ fn changed(made: Made, change: Edit) -> Made {
     match change {
         Edit::Side(_, side) => Made { side, ..made },
         Edit::Step(_, step) => Made { step, ..made },
+        Edit::Seen(_, seen) => Made { seen, ..made },
+        Edit::Before(_, word) => Made {
+            before: Some(word),
+            ..made
+        },
         Edit::Message(_, message) => Made { message, ..made },
         Edit::Waker(_, waker) => Made { waker, ..made },
+        Edit::Token(_, token_set) => Made { token_set, ..made },
+        Edit::Own(_, own) => Made { own, ..made },
         Edit::Reply(_, reply) => Made { reply, ..made },
         _ => made,
     }

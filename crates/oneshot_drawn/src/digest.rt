@@ -1,11 +1,14 @@
-//! A number for all that traces tell, in its order: a guard against change.
+//! A number for all that traces tell, in its order, or for a text: a guard against change.
 
 use crate::auditor::Told;
 use oneshot_machine::machine::{Seen, Step};
 use oneshot_machine::states::Op;
 use oneshot_replay::{Entry, Made, Place, WakerName, WakerPlace};
+use std::io;
+use std::io::Write;
+use std::test::Fail;
 
-/// The digest of the numbers that were added, by the steps of FNV-1a.
+/// The digest of the numbers that were added, or of the bytes that were written, by FNV-1a of 64 bits.
 #[derive(Drop)]
 pub(crate) struct Digest {
     state: u64,
@@ -139,4 +142,33 @@ impl Digest {
     fn add(&mut self, value: u64) {
         self.state = (self.state ^ value).wrapping_mul(0x0100_0000_01b3);
     }
+}
+
+impl Write for Digest {
+    fn write(&mut self, bytes: &[u8]) -> io::Result<usize> {
+        for byte in bytes {
+            self.add(u64::from(*byte));
+        }
+        Ok(bytes.len())
+    }
+
+    fn flush(&mut self) -> io::Result<()> {
+        Ok(())
+    }
+}
+
+// The digests are those that the authors of FNV-1a publish.
+#[test]
+fn texts_have_their_digests(rt: HostRuntime) -> Result<(), Fail> {
+    let rows = [
+        ("", 0xcbf2_9ce4_8422_2325),
+        ("a", 0xaf63_dc4c_8601_ec8c),
+        ("foobar", 0x8594_4171_f739_67e8),
+    ];
+    for (text, digest) in rows {
+        let mut met = Digest::new();
+        met.write_all(text.as_bytes())?;
+        assert_eq!(rt; met.value(), digest, "{text}");
+    }
+    Ok(())
 }

@@ -1,9 +1,10 @@
-//! Drawn schedules of each pair of scripts: the auditor accepts each trace.
+//! Drawn schedules of each pair of scripts: the auditor accepts each trace, and the program prints the text
+//! that another program computed.
 
 use crate::auditor::audit;
 use crate::digest::Digest;
 use crate::moves::Draws;
-use crate::run::{run, scripts_of};
+use crate::run::{print_run, run, scripts_of};
 use crate::scripts::{Receiving, Sending};
 use oneshot_replay::Move;
 use std::alloc::AllocGlobal;
@@ -13,31 +14,41 @@ use std::test::Fail;
 /// How many moves a seed draws.
 const MOVES: usize = 64;
 
-/// Draws a schedule from each seed of 1 to 10,000, runs both scripts under it, and asserts that the
-/// auditor accepts each trace, and that the digest of all of them is this one.
+/// A pair of scripts, and the digests of its traces and of their printed text.
 ///
-/// A digest is no evidence: it is taken from a run, so that a change of what is told is seen.
-fn assert_drawn(
-    rt: &(impl Abort + AllocGlobal),
-    sender: Sending,
-    receiver: Receiving,
-    digest: u64,
-) -> Result<(), Fail> {
-    let scripts = scripts_of(rt.alloc(), sender, receiver)?;
-    let mut met = Digest::new();
-    for seed in 1..=10_000 {
-        let moves = schedule(seed);
-        let told = run(
-            rt.alloc(),
-            scripts_of(rt.alloc(), sender, receiver)?,
-            &moves,
-        )?;
-        if let Err(finding) = audit(&scripts, &told) {
-            panic!(rt; "{sender:?} beside {receiver:?}, seed {seed}: {finding}");
+/// The digest of the traces is no evidence: it is taken from a run, so that a change of what is told is seen.
+/// That of the text was computed by another program, from the tables of both ends and the form of the text.
+type Pair = (Sending, Receiving, u64, u64);
+
+/// Draws a schedule from each seed of 1 to 10,000, and runs both scripts of each pair under it. Asserts that
+/// the auditor accepts each trace, and that the digests of all of a pair are those of its row.
+fn assert_drawn(rt: &(impl Abort + AllocGlobal), pairs: &[Pair]) -> Result<(), Fail> {
+    for (sender, receiver, traces, texts) in pairs {
+        let scripts = scripts_of(rt.alloc(), *sender, *receiver)?;
+        let mut told_all = Digest::new();
+        let mut printed = Digest::new();
+        for seed in 1..=10_000 {
+            let moves = schedule(seed);
+            let played = scripts_of(rt.alloc(), *sender, *receiver)?;
+            let told = run(rt.alloc(), played, &moves)?;
+            if let Err(finding) = audit(&scripts, &told) {
+                panic!(rt; "{sender:?} beside {receiver:?}, seed {seed}: {finding}");
+            }
+            told_all.add_trace(&told);
+            let played = scripts_of(rt.alloc(), *sender, *receiver)?;
+            print_run(&mut printed, played, &moves)?;
         }
-        met.add_trace(&told);
+        assert_eq!(rt;
+            told_all.value(),
+            *traces,
+            "traces of {sender:?} beside {receiver:?}"
+        );
+        assert_eq!(rt;
+            printed.value(),
+            *texts,
+            "texts of {sender:?} beside {receiver:?}"
+        );
     }
-    assert_eq!(rt; met.value(), digest, "{sender:?} beside {receiver:?}");
     Ok(())
 }
 
@@ -50,172 +61,158 @@ fn schedule(seed: u64) -> [Move; MOVES] {
     moves
 }
 
-#[test]
-fn a_send_beside_two_tries(rt: HostRuntime) -> Result<(), Fail> {
-    assert_drawn(
-        &rt,
+const TRIES: &[Pair] = &[
+    (
         Sending::Send,
         Receiving::TryTryDrop,
         0xae26_69a1_7266_c2b9,
-    )
-}
-
-#[test]
-fn a_drop_beside_two_tries(rt: HostRuntime) -> Result<(), Fail> {
-    assert_drawn(
-        &rt,
+        0xcff8_4de4_a5da_9a0e,
+    ),
+    (
         Sending::Drop,
         Receiving::TryTryDrop,
         0xb17a_83c1_5fa4_0857,
-    )
-}
-
-#[test]
-fn a_look_and_a_send_beside_two_tries(rt: HostRuntime) -> Result<(), Fail> {
-    assert_drawn(
-        &rt,
+        0x089b_067e_abaa_1494,
+    ),
+    (
         Sending::LookAndSend,
         Receiving::TryTryDrop,
         0x90d6_db8b_dd9b_ef05,
-    )
-}
+        0xdddb_08b2_61dc_90d4,
+    ),
+];
 
 #[test]
-fn a_send_beside_a_receive_by_value(rt: HostRuntime) -> Result<(), Fail> {
-    assert_drawn(&rt, Sending::Send, Receiving::Recv, 0x0df2_6dd1_bf1c_cc1c)
+fn beside_two_tries(rt: HostRuntime) -> Result<(), Fail> {
+    assert_drawn(&rt, TRIES)
 }
 
-#[test]
-fn a_drop_beside_a_receive_by_value(rt: HostRuntime) -> Result<(), Fail> {
-    assert_drawn(&rt, Sending::Drop, Receiving::Recv, 0xbf11_9959_eb55_8ef0)
-}
-
-#[test]
-fn a_look_and_a_send_beside_a_receive_by_value(rt: HostRuntime) -> Result<(), Fail> {
-    assert_drawn(
-        &rt,
+const RECEIVES_BY_VALUE: &[Pair] = &[
+    (
+        Sending::Send,
+        Receiving::Recv,
+        0x0df2_6dd1_bf1c_cc1c,
+        0x6542_8ebb_1eb1_4d02,
+    ),
+    (
+        Sending::Drop,
+        Receiving::Recv,
+        0xbf11_9959_eb55_8ef0,
+        0x9f98_0f8a_2e55_2ff5,
+    ),
+    (
         Sending::LookAndSend,
         Receiving::Recv,
         0x9b6e_7fff_b4bf_7348,
-    )
-}
+        0x5971_c128_887c_d81c,
+    ),
+];
 
 #[test]
-fn a_send_beside_a_receive_by_reference(rt: HostRuntime) -> Result<(), Fail> {
-    assert_drawn(
-        &rt,
+fn beside_a_receive_by_value(rt: HostRuntime) -> Result<(), Fail> {
+    assert_drawn(&rt, RECEIVES_BY_VALUE)
+}
+
+const RECEIVES_BY_REFERENCE: &[Pair] = &[
+    (
         Sending::Send,
         Receiving::RefDrop,
         0x76b4_e6fa_5b7a_7e90,
-    )
-}
-
-#[test]
-fn a_drop_beside_a_receive_by_reference(rt: HostRuntime) -> Result<(), Fail> {
-    assert_drawn(
-        &rt,
+        0x3db9_1d8e_9dc6_e1de,
+    ),
+    (
         Sending::Drop,
         Receiving::RefDrop,
         0x6e11_7663_154c_a1b2,
-    )
-}
-
-#[test]
-fn a_look_and_a_send_beside_a_receive_by_reference(rt: HostRuntime) -> Result<(), Fail> {
-    assert_drawn(
-        &rt,
+        0x5f0c_945e_7ab3_284a,
+    ),
+    (
         Sending::LookAndSend,
         Receiving::RefDrop,
         0xcaa9_5aa6_1f2a_0ef0,
-    )
-}
+        0xe2f7_1790_fab2_71c2,
+    ),
+];
 
 #[test]
-fn a_send_beside_a_deadline(rt: HostRuntime) -> Result<(), Fail> {
-    assert_drawn(
-        &rt,
+fn beside_a_receive_by_reference(rt: HostRuntime) -> Result<(), Fail> {
+    assert_drawn(&rt, RECEIVES_BY_REFERENCE)
+}
+
+const DEADLINES: &[Pair] = &[
+    (
         Sending::Send,
         Receiving::DeadlineTryDrop,
         0x01df_5b5e_9fde_2ada,
-    )
-}
-
-#[test]
-fn a_drop_beside_a_deadline(rt: HostRuntime) -> Result<(), Fail> {
-    assert_drawn(
-        &rt,
+        0xf57b_5934_ea70_003a,
+    ),
+    (
         Sending::Drop,
         Receiving::DeadlineTryDrop,
         0xbd0b_8ebe_a5ec_db5e,
-    )
-}
-
-#[test]
-fn a_look_and_a_send_beside_a_deadline(rt: HostRuntime) -> Result<(), Fail> {
-    assert_drawn(
-        &rt,
+        0x4390_cb68_8b57_0cb5,
+    ),
+    (
         Sending::LookAndSend,
         Receiving::DeadlineTryDrop,
         0x4746_26d8_0b5d_be23,
-    )
-}
+        0x0309_26ac_faf2_da6b,
+    ),
+];
 
 #[test]
-fn a_send_beside_an_endless_wait(rt: HostRuntime) -> Result<(), Fail> {
-    assert_drawn(
-        &rt,
+fn beside_a_deadline(rt: HostRuntime) -> Result<(), Fail> {
+    assert_drawn(&rt, DEADLINES)
+}
+
+const ENDLESS_WAITS: &[Pair] = &[
+    (
         Sending::Send,
         Receiving::Forever,
         0xfcbe_ff98_4572_910a,
-    )
-}
-
-#[test]
-fn a_drop_beside_an_endless_wait(rt: HostRuntime) -> Result<(), Fail> {
-    assert_drawn(
-        &rt,
+        0xb57f_daaa_d216_5f4c,
+    ),
+    (
         Sending::Drop,
         Receiving::Forever,
         0x0bd5_ea37_93b0_abf9,
-    )
-}
-
-#[test]
-fn a_look_and_a_send_beside_an_endless_wait(rt: HostRuntime) -> Result<(), Fail> {
-    assert_drawn(
-        &rt,
+        0x5450_d0f3_9bb6_b84a,
+    ),
+    (
         Sending::LookAndSend,
         Receiving::Forever,
         0xc7ad_dcf9_03e4_d9a6,
-    )
-}
+        0xb73c_3a71_a2e9_1ece,
+    ),
+];
 
 #[test]
-fn a_send_beside_three_polls(rt: HostRuntime) -> Result<(), Fail> {
-    assert_drawn(
-        &rt,
+fn beside_an_endless_wait(rt: HostRuntime) -> Result<(), Fail> {
+    assert_drawn(&rt, ENDLESS_WAITS)
+}
+
+const POLLS: &[Pair] = &[
+    (
         Sending::Send,
         Receiving::PollPollPollDrop,
         0x2dca_f042_bed0_79be,
-    )
-}
-
-#[test]
-fn a_drop_beside_three_polls(rt: HostRuntime) -> Result<(), Fail> {
-    assert_drawn(
-        &rt,
+        0x5f71_6a83_1082_dcb3,
+    ),
+    (
         Sending::Drop,
         Receiving::PollPollPollDrop,
         0xd64a_54c1_f02f_8a7f,
-    )
-}
-
-#[test]
-fn a_look_and_a_send_beside_three_polls(rt: HostRuntime) -> Result<(), Fail> {
-    assert_drawn(
-        &rt,
+        0xa028_7279_722b_5313,
+    ),
+    (
         Sending::LookAndSend,
         Receiving::PollPollPollDrop,
         0xe6bc_4fe9_e752_669c,
-    )
+        0xa4fc_32e6_e24e_de64,
+    ),
+];
+
+#[test]
+fn beside_three_polls(rt: HostRuntime) -> Result<(), Fail> {
+    assert_drawn(&rt, POLLS)
 }

@@ -1,9 +1,12 @@
-//! Two scripts that are run, and what their trace tells.
+//! Two scripts that are run, what their trace tells, and its printed text.
 
 use crate::auditor::{Scripts, Told};
 use crate::scripts::{Receiving, Sending};
-use oneshot_replay::{Move, Place, Rest, replay};
+use oneshot_replay::{Move, Place, Replayer, Rest, SenderLast, replay};
+use oneshot_text::write_run;
 use std::alloc::{AllocError, Global};
+use std::io;
+use std::io::Write;
 use std::test::Fail;
 
 /// Both scripts.
@@ -28,6 +31,20 @@ pub(crate) fn run(alloc: Global, scripts: Scripts, moves: &[Move]) -> Result<Tol
         block_freed: trace.block_freed(),
         rest: trace.into_rest().map(place_of),
     })
+}
+
+/// Writes what the program prints of both scripts under a schedule.
+pub(crate) fn print_run<W: Write>(
+    output: &mut W,
+    scripts: Scripts,
+    moves: &[Move],
+) -> io::Result<()> {
+    let Scripts { sender, receiver } = scripts;
+    let message = match sender.last {
+        SenderLast::Send(message, _) => message,
+        SenderLast::Drop | SenderLast::Stop => 0,
+    };
+    write_run(output, Replayer::new(sender, receiver), moves, message)
 }
 
 fn place_of(rest: Rest<u64>) -> (Place, u64) {

@@ -16,6 +16,8 @@ pub(crate) enum Sending {
     Send,
     /// The sender is dropped.
     Drop,
+    /// `send`, and then the drop of the error of a refused message.
+    SendAndDropError,
     /// `is_closed`, `send`, and then `as_inner` and `into_inner` of a refused message.
     LookAndSend,
 }
@@ -27,6 +29,10 @@ impl Sending {
             Sending::Send => SenderScript {
                 looks: 0,
                 last: sends(0, ErrorLast::Stop),
+            },
+            Sending::SendAndDropError => SenderScript {
+                looks: 0,
+                last: sends(0, ErrorLast::Drop),
             },
             Sending::Drop => SenderScript {
                 looks: 0,
@@ -49,6 +55,8 @@ fn sends(looks: usize, last: ErrorLast) -> SenderLast<u64> {
 pub(crate) enum Receiving {
     /// The receiver is dropped.
     Drop,
+    /// `has_message`, `is_closed`, and then the drop.
+    LookLookDrop,
     /// `try_recv`, and then the drop.
     TryDrop,
     /// `try_recv` twice, and then the drop.
@@ -63,6 +71,8 @@ pub(crate) enum Receiving {
     Forever,
     /// A future, which is polled once and dropped.
     PollDrop,
+    /// A future, which is polled twice by one task and dropped.
+    PollAgainDrop,
     /// A future, which is polled by three tasks and dropped.
     PollPollPollDrop,
 }
@@ -72,6 +82,10 @@ impl Receiving {
     pub(crate) fn script(self, alloc: Global) -> Result<ReceiverScript, AllocError> {
         match self {
             Receiving::Drop => calls(alloc, &[], ReceiverLast::Drop),
+            Receiving::LookLookDrop => {
+                let looks = [ReceiverCall::HasMessage, ReceiverCall::IsClosed];
+                calls(alloc, &looks, ReceiverLast::Drop)
+            }
             Receiving::TryDrop => calls(alloc, &[ReceiverCall::TryRecv], ReceiverLast::Drop),
             Receiving::TryTryDrop => {
                 let twice = [ReceiverCall::TryRecv, ReceiverCall::TryRecv];
@@ -90,6 +104,7 @@ impl Receiving {
                 calls(alloc, &[forever], ReceiverLast::Stop)
             }
             Receiving::PollDrop => polls(alloc, &[AsyncCall::Poll(1)]),
+            Receiving::PollAgainDrop => polls(alloc, &[AsyncCall::Poll(1), AsyncCall::Poll(1)]),
             Receiving::PollPollPollDrop => {
                 let three = [AsyncCall::Poll(1), AsyncCall::Poll(2), AsyncCall::Poll(3)];
                 polls(alloc, &three)

@@ -66,6 +66,15 @@ pub(crate) enum Fault {
     /// The reply is not the object's.
     #[error("the reply is {reply:?} and not {wanted:?}")]
     WrongReply { reply: Reply, wanted: Option<Reply> },
+    /// A token is set, or found by a park, where there is none, or the other way round.
+    #[error("the step tells the token otherwise than it is")]
+    ToldToken,
+    /// The sender has answered, and the receiver is about to park without its token.
+    #[error("the sender has answered and the receiver parks unwoken")]
+    UnwokenPark,
+    /// The sender has answered, and nothing has woken the task that the last poll left.
+    #[error("the sender has answered and task {0} waits unwoken")]
+    UnwokenTask(u64),
     /// All have ended, and the message is neither taken nor dropped.
     #[error("all have ended and the message is {0:?}")]
     MessageLeft(Place),

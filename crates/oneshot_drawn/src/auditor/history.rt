@@ -18,6 +18,8 @@ struct Progress {
     last: Option<Call>,
     /// Whether one was a `send` that was refused.
     is_refused: bool,
+    /// Whether another is under way.
+    is_under_way: bool,
     /// Whether the call under way has acted.
     has_acted: bool,
     /// What the object gave it there, in its words.
@@ -30,6 +32,7 @@ impl Progress {
             answered: 0,
             last: None,
             is_refused: false,
+            is_under_way: false,
             has_acted: false,
             given: None,
         }
@@ -72,6 +75,7 @@ impl Progress {
             answered: self.answered.saturating_add(1),
             last: Some(call),
             is_refused: self.is_refused || reply == Reply::Refused,
+            is_under_way: false,
             has_acted: false,
             given: None,
         };
@@ -114,12 +118,13 @@ impl History {
 
     /// A step with what is read beside it; `later` are the entries after it.
     pub(crate) fn mark(&self, number: usize, made: Made, call: Call, later: &[Entry]) -> Mark {
-        let has_acted = self.progress(made.side).has_acted;
+        let progress = self.progress(made.side);
         Mark {
             number,
             made,
             call,
-            acts: !has_acted && acts(call, &made, later),
+            begins: !progress.is_under_way,
+            acts: !progress.has_acted && acts(call, &made, later),
             object: self.object,
         }
     }
@@ -127,6 +132,7 @@ impl History {
     /// Reads a step: whether its call acts here, and what it answers.
     pub(crate) fn read(&mut self, mark: Mark) -> Result<(), Fault> {
         let mut progress = *self.progress(mark.made.side);
+        progress.is_under_way = true;
         if mark.acts {
             progress.has_acted = true;
             progress.given = self.object.act(mark.call);
@@ -139,6 +145,11 @@ impl History {
             End::Receiver => self.receiver = progress,
         }
         Ok(())
+    }
+
+    /// Whether the sender's `send` or drop has answered.
+    pub(crate) fn has_sender_answered(&self) -> bool {
+        !matches!(self.sender.last, None | Some(Call::SenderIsClosed))
     }
 
     /// Whether both ends have ended, and any error.

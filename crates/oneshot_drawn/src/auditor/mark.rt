@@ -14,6 +14,8 @@ pub(crate) struct Mark {
     pub(crate) made: Made,
     /// The call that makes it.
     pub(crate) call: Call,
+    /// Whether the call begins here.
+    pub(crate) begins: bool,
     /// Whether the call takes effect here.
     pub(crate) acts: bool,
     /// The object before it.

@@ -36,7 +36,7 @@ impl Message {
         if !may_go(from, to) {
             return Err(Fault::MessageMove { from, to });
         }
-        if !may_put(mark.call, to) {
+        if !may_put(mark, to) {
             return Err(Fault::MessagePut { to });
         }
         self.at = Some((to, message));
@@ -84,12 +84,14 @@ fn may_go(from: Place, to: Place) -> bool {
     )
 }
 
-/// Whether a call may put the message there. A place says whose it is: the cell's, the answer of a receive
-/// or of the error, or the error's itself.
-fn may_put(call: Call, to: Place) -> bool {
+/// Whether a call may put the message there: a refused `send` into the error, and otherwise the call that
+/// the place tells.
+fn may_put(mark: Mark, to: Place) -> bool {
+    let Mark { call, made, .. } = mark;
     match to {
         Place::NotSent => false,
-        Place::InCell | Place::InError => matches!(call, Call::Send),
+        Place::InCell => matches!(call, Call::Send),
+        Place::InError => matches!(call, Call::Send) && made.reply == Some(Reply::Refused),
         Place::Delivered => call.is_receive(),
         Place::FromError => matches!(call, Call::IntoInner),
         Place::Dropped => matches!(call, Call::DropReceiver | Call::DropError),

@@ -1,0 +1,210 @@
+//! Damaged traces of a future: the copies of its tasks' wakers, and the block that it shares with its sender.
+
+use crate::damage::Edit;
+use crate::damaged::Damaged;
+use crate::scripts::{Receiving, Sending};
+use oneshot_machine::machine::{End, Reply, Step};
+use oneshot_replay::{Place, WakerName, WakerPlace};
+
+const OF_ANOTHER_TASK: WakerName = WakerName::Copy {
+    number: 2,
+    entry: 3,
+};
+
+const OF_ANOTHER_ENTRY: WakerName = WakerName::Copy {
+    number: 1,
+    entry: 4,
+};
+
+const FIRST: WakerName = WakerName::Copy {
+    number: 1,
+    entry: 3,
+};
+
+// 1 R plain = future, 2 R load 3, 3 R copy New>Hand, 4 R write-waker Hand>Cell, 5 R exchange 3>0 = Pending,
+// 6 S write-message NotSent>InCell, 7 S add 0>1, 8 R load 1, 9 R load 1, 10 S take-waker Cell>SenderHand,
+// 11 S swap 1>4, 12 R load 4, 13 R swap 4>2, 14 R drop-message InCell>Dropped, 15 R free = dropped,
+// 16 S wake SenderHand>Used = Ok.
+// Under rrrrrrrrr the drop meets no sender: 6 R load 0, 7 R exchange 0>3, 8 R withdraw Cell>Dropped,
+// 9 R swap 3>2 = dropped.
+pub(crate) const POLLED_ONCE: Damaged = (
+    Sending::Send,
+    Receiving::PollDrop,
+    &[
+        (
+            "the block is freed before the sender's final swap",
+            "rrrrrssrrssrrrrs",
+            &[Edit::MoveBefore(15, 11)],
+            "entry 11: Receiver frees the block and is not its last holder",
+        ),
+        (
+            "the sender takes the waker after its final swap",
+            "rrrrrssrrssrrrrs",
+            &[Edit::MoveBefore(11, 10)],
+            "entry 11: Sender uses the block and does not hold it",
+        ),
+        (
+            "the sender frees the block that it left to the receiver",
+            "rrrrrssrrssrrrrs",
+            &[Edit::Step(16, Step::Free)],
+            "entry 16: Sender uses the block and does not hold it",
+        ),
+        (
+            "the waker is withdrawn behind the swap",
+            "rrrrrrrrr",
+            &[
+                Edit::MoveBefore(9, 8),
+                Edit::Reply(8, None),
+                Edit::Reply(9, Some(Reply::Done)),
+            ],
+            "entry 9: Receiver uses the block and does not hold it",
+        ),
+        (
+            "the send answers before its final swap",
+            "rrrrrssrrssrrrrs",
+            &[Edit::Reply(7, Some(Reply::Sent))],
+            "entry 7: the call answers and did not act",
+        ),
+        (
+            "the waker is used twice",
+            "rrrrrssrrssrrrrs",
+            &[Edit::Double(16), Edit::Reply(16, None)],
+            "entry 17: a waker leaves SenderHand and is Used",
+        ),
+        (
+            "the wake wakes nobody",
+            "rrrrrssrrssrrrrs",
+            &[Edit::Waker(16, None)],
+            "entry 16: the step moves nothing",
+        ),
+        (
+            "the wake is lost",
+            "rrrrrssrrssrrrrs",
+            &[Edit::Step(16, Step::Plain), Edit::Waker(16, None)],
+            "entry 16: all have ended and a waker is SenderHand",
+        ),
+        (
+            "the waker is not written",
+            "rrrrrssrrssrrrrs",
+            &[Edit::Remove(4)],
+            "entry 9: a waker leaves Cell and is Hand",
+        ),
+        (
+            "the receiver puts the waker into the sender's hand",
+            "rrrrrssrrssrrrrs",
+            &[Edit::Side(10, End::Receiver)],
+            "entry 10: Receiver moves a waker of the other end",
+        ),
+        (
+            "the parker's half is dropped out of the hand",
+            "r",
+            &[Edit::Waker(
+                1,
+                Some((WakerName::Parker, WakerPlace::Hand, WakerPlace::Dropped)),
+            )],
+            "entry 1: this waker may not go from Hand to Dropped",
+        ),
+        (
+            "the copy is of another task's waker",
+            "rrrrrssrrssrrrrs",
+            &[Edit::Waker(
+                3,
+                Some((OF_ANOTHER_TASK, WakerPlace::New, WakerPlace::Hand)),
+            )],
+            "entry 3: a copy has another name than its task and entry",
+        ),
+        (
+            "the copy is of another entry",
+            "rrr",
+            &[Edit::Waker(
+                3,
+                Some((OF_ANOTHER_ENTRY, WakerPlace::New, WakerPlace::Hand)),
+            )],
+            "entry 3: a copy has another name than its task and entry",
+        ),
+        (
+            "the message is left in the cell",
+            "rrrrrssrrssrrrrs",
+            &[Edit::Remove(14)],
+            "entry 15: all have ended and the message is InCell",
+        ),
+        (
+            "the drop delivers the message",
+            "rrrrrssrrssrrrrs",
+            &[Edit::Message(14, Some((Place::InCell, Place::Delivered)))],
+            "entry 14: this call may not put the message Delivered",
+        ),
+        (
+            "the future that is made answers as a poll",
+            "rrrrrssrrssrrrrs",
+            &[Edit::Reply(1, Some(Reply::Pending))],
+            "entry 1: the reply is Pending and not Some(Future)",
+        ),
+        (
+            "another message is told",
+            "rrrrrssrrssrrrrs",
+            &[Edit::Rest(Some((Place::Dropped, 8)))],
+            "entry 16: the trace tells that the rest is Some((Dropped, 8))",
+        ),
+    ],
+);
+
+// 1 to 5 store the copy of the first poll; 6 R load 0, 7 R copy New>Hand, 8 R exchange 0>3,
+// 9 R withdraw Cell>Dropped, 10 R write-waker Hand>Cell, 11 R exchange 3>0 = Pending, 12 to 16 S send.
+// Where S begins to send at 8 and 9: 10 R exchange 1>1 Hand>Dropped, 11 R wake = Pending, 12 to 14 S = Ok,
+// 15 to 17 the third poll takes the message, 18 to 20 R drop.
+pub(crate) const POLLED_ANEW: Damaged = (
+    Sending::Send,
+    Receiving::PollPollPollDrop,
+    &[
+        (
+            "the first waker stays in the cell",
+            "rrrrrrrrrrrsssss",
+            &[Edit::Remove(9)],
+            "entry 9: a waker is written over another",
+        ),
+        (
+            "the parker's half is written over the first waker",
+            "rrrrrrrrrr",
+            &[
+                Edit::Remove(9),
+                Edit::Waker(
+                    9,
+                    Some((WakerName::Parker, WakerPlace::Hand, WakerPlace::Cell)),
+                ),
+            ],
+            "entry 9: a waker is written over another",
+        ),
+        (
+            "the first waker goes back into the hand",
+            "rrrrrrrrrrrsssss",
+            &[Edit::Waker(9, Some((FIRST, WakerPlace::Cell, WakerPlace::Hand)))],
+            "entry 9: this waker may not go from Cell to Hand",
+        ),
+        (
+            "the sender drops the first waker",
+            "rrrrrrrrrrrsssss",
+            &[Edit::Side(9, End::Sender)],
+            "entry 9: Sender moves a waker of the other end",
+        ),
+        (
+            "the copy that is not stored is forgotten",
+            "rrrrrrrssrrsssrrrrrr",
+            &[Edit::Waker(10, None)],
+            "entry 20: all have ended and a waker is Hand",
+        ),
+    ],
+);
+
+// 1 to 5 store the copy of the poll; 6 R load 0, 7 R exchange 0>3, 8 R withdraw Cell>Dropped,
+// 9 R swap 3>2 = dropped, 10 S xor 2>3, 11 S free = dropped.
+pub(crate) const POLLED_BESIDE_A_DROP: Damaged = (
+    Sending::Drop,
+    Receiving::PollDrop,
+    &[(
+        "the stored waker is left in the cell",
+        "rrrrrrrrrss",
+        &[Edit::Remove(8)],
+        "entry 10: all have ended and a waker is Cell",
+    )],
+);

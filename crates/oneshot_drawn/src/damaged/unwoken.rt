@@ -1,0 +1,109 @@
+//! Damaged traces whose sender has answered and whose receiver waits unwoken.
+
+use crate::damage::Edit;
+use crate::damaged::Damaged;
+use crate::scripts::{Receiving, Sending};
+use oneshot_machine::machine::{Reply, Seen};
+
+// 1 R load 3, 2 R write-waker Hand>Cell, 3 R swap 3>0, 4 S xor 0>1, 5 S take-waker Cell>SenderHand,
+// 6 S swap 1>2, 7 S wake SenderHand>Used token+ = dropped, 8 R park token-.
+pub(crate) const PARKED_AT_A_DROP: Damaged = (
+    Sending::Drop,
+    Receiving::Recv,
+    &[(
+        "the wake is cut out",
+        "rrrssssr",
+        &[
+            Edit::Remove(7),
+            Edit::Reply(6, Some(Reply::Done)),
+            Edit::Seen(7, Seen::Token(false)),
+        ],
+        "entry 6: the sender has answered and the receiver parks unwoken",
+    )],
+);
+
+// 1 R load 3, 2 R write-waker Hand>Cell, 3 R swap 3>0, 4 S write-message NotSent>InCell, 5 S add 0>1,
+// 6 S take-waker Cell>SenderHand, 7 R park spurious, 8 R load 1, 9 S swap 1>4,
+// 10 S wake SenderHand>Used token+ = Ok, 11 R park token-.
+pub(crate) const PARKED_AT_A_SEND: Damaged = (
+    Sending::Send,
+    Receiving::RefDrop,
+    &[(
+        "the sender wakes before its final swap, and the receiver parks again",
+        "rrrsssrrssr",
+        &[
+            Edit::MoveBefore(10, 7),
+            Edit::Reply(7, None),
+            Edit::Seen(8, Seen::Token(true)),
+            Edit::Reply(10, Some(Reply::Sent)),
+            Edit::Seen(11, Seen::Token(false)),
+        ],
+        "entry 10: the sender has answered and the receiver parks unwoken",
+    )],
+);
+
+// 1 R plain = future, 2 R load 3, 3 R copy New>Hand, 4 R write-waker Hand>Cell, 5 R exchange 3>0 = Pending,
+// 6 S write-message NotSent>InCell, 7 S add 0>1, 8 S take-waker Cell>SenderHand, 9 S swap 1>4,
+// 10 S wake SenderHand>Used = Ok.
+// Under rrnrss the copy is refused: 3 R copy refused, 4 R wake own:1 = Pending, 5 S write-message, 6 S add = Ok.
+pub(crate) const POLLED: Damaged = (
+    Sending::Send,
+    Receiving::PollDrop,
+    &[
+        (
+            "the wake is cut out",
+            "rrrrrsssss",
+            &[Edit::Remove(10), Edit::Reply(9, Some(Reply::Sent))],
+            "entry 9: the sender has answered and task 1 waits unwoken",
+        ),
+        (
+            "the poll's own wake is cut out",
+            "rrnrss",
+            &[Edit::Remove(4), Edit::Reply(3, Some(Reply::Pending))],
+            "entry 5: the sender has answered and task 1 waits unwoken",
+        ),
+        (
+            "the poll wakes nobody",
+            "rrnrss",
+            &[Edit::Own(4, None)],
+            "entry 6: the sender has answered and task 1 waits unwoken",
+        ),
+        (
+            "the poll wakes another task",
+            "rrnrss",
+            &[Edit::Own(4, Some(2))],
+            "entry 6: the sender has answered and task 1 waits unwoken",
+        ),
+    ],
+);
+
+// 1 to 5 store the copy of the first task; 6 R load 0 of the second, 7 S write-message, 8 S add 0>1,
+// 9 S take-waker Cell>SenderHand, 10 S swap 1>4, 11 S wake SenderHand>Used = Ok.
+pub(crate) const POLLED_BY_ANOTHER_TASK: Damaged = (
+    Sending::Send,
+    Receiving::PollPollPollDrop,
+    &[(
+        "the second poll is left pending with the first task's waker stored",
+        "rrrrrrsssss",
+        &[Edit::Reply(6, Some(Reply::Pending))],
+        "entry 11: the sender has answered and task 2 waits unwoken",
+    )],
+);
+
+// 1 to 5 store the copy of the first poll; 6 S write-message, 7 S add 0>1, 8 S take-waker Cell>SenderHand,
+// 9 R load 1 of the second poll by the same task, 10 S swap 1>4, 11 S wake SenderHand>Used = Ok.
+pub(crate) const POLLED_AGAIN: Damaged = (
+    Sending::Send,
+    Receiving::PollAgainDrop,
+    &[(
+        "the task is woken before its last poll, which is left pending",
+        "rrrrrsssrss",
+        &[
+            Edit::MoveBefore(11, 9),
+            Edit::Reply(9, None),
+            Edit::Reply(10, Some(Reply::Pending)),
+            Edit::Reply(11, Some(Reply::Sent)),
+        ],
+        "entry 11: the sender has answered and task 1 waits unwoken",
+    )],
+);
