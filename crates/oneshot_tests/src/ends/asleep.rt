@@ -28,7 +28,7 @@ enum Receive {
     BlockOn,
 }
 
-fn receive<T: Drop, Rt: Wait + Clock + Drop>(
+fn received<T: Drop, Rt: Wait + Clock + Drop>(
     rt: &(impl Wait + RandomSource + AllocGlobal),
     mut receiver: Receiver<T, Rt>,
     by: Receive,
@@ -48,12 +48,12 @@ fn time_of<R: Threads + Wait + Clock + CpuClock + RandomSource + AllocGlobal + A
     by: Receive,
 ) -> Result<(Option<u8>, Duration), Fail> {
     let (sender, receiver) = channel(rt, rt.alloc())?;
-    let (received, sent) = join(
+    let (waited, sent) = join(
         rt,
         || {
             let before = rt.thread_cpu_time()?;
-            let received = receive(rt, receiver, by)?;
-            io::Result::Ok((received, rt.thread_cpu_time()?.saturating_sub(before)))
+            let message = received(rt, receiver, by)?;
+            io::Result::Ok((message, rt.thread_cpu_time()?.saturating_sub(before)))
         },
         || {
             sleep(rt, Duration::from_millis(WAIT));
@@ -61,7 +61,7 @@ fn time_of<R: Threads + Wait + Clock + CpuClock + RandomSource + AllocGlobal + A
         },
     );
     assert!(rt; sent);
-    Ok(received?)
+    Ok(waited?)
 }
 
 #[test]

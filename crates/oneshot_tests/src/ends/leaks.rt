@@ -1,7 +1,9 @@
 //! Whatever way a channel ends, all that it owned is given back: the block, the parker and the runtime.
 
 use super::clocks::{Act, Meanwhile, five};
-use super::lives::{DROPPED, Life, RAW, READY, live};
+use super::lives::{DROPPED, LIVES, Life, RAW, READY, live};
+use super::steps::{Ends, Look};
+use futures::test::MockTask;
 use oneshot::{RecvError, channel};
 use std::process::Abort;
 use std::random::RandomSource;
@@ -229,5 +231,31 @@ fn the_runtime_is_dropped_with_the_receiver(rt: HostRuntime) -> Result<(), Fail>
     drop(sender);
     assert_eq!(rt; receiver.recv(), Err(RecvError));
     assert_eq!(rt; Arc::strong_count(&alive), 1);
+    Ok(())
+}
+
+// The runtime is there as long as the receiver, whatever becomes of it.
+#[test]
+fn the_runtime_is_dropped_with_a_receiver_of_each_life(rt: HostRuntime) -> Result<(), Fail> {
+    let alive = Arc::new(rt.alloc(), 0u8)?;
+    let task = MockTask::new(&rt)?;
+    for life in LIVES.into_iter().flatten() {
+        let counted = Counted {
+            rt: &rt,
+            _alive: Arc::try_clone(&alive)?,
+        };
+        let mut ends = Ends::new(rt.alloc(), counted);
+        for (number, (step, _, _, receiver)) in life.iter().enumerate() {
+            ends.make(&task, *step)?;
+            let owners = if *receiver == Look::Gone { 1 } else { 2 };
+            assert_eq!(rt;
+                Arc::strong_count(&alive),
+                owners,
+                "after step {number}, {step:?}"
+            );
+        }
+        drop(ends);
+        assert_eq!(rt; Arc::strong_count(&alive), 1, "after {life:?}");
+    }
     Ok(())
 }

@@ -153,6 +153,9 @@ const BLOCKING: [Life<'static>; 4] = [
     ],
 ];
 
+/// Every life.
+pub(super) const LIVES: [&[Life<'static>]; 4] = [&READY, &DROPPED, &RAW, &BLOCKING];
+
 /// Makes the steps of a life, polls as a task of their own. The ends that are left are dropped. Fails unless
 /// each step answers what the life says.
 pub(super) fn live(
@@ -160,9 +163,9 @@ pub(super) fn live(
     life: Life<'_>,
 ) -> io::Result<()> {
     let task = MockTask::new(rt)?;
-    let mut ends = Ends::new();
+    let mut ends = Ends::new(rt.alloc(), rt);
     for (step, answer, _, _) in life {
-        assert_eq!(rt; ends.make(rt, &task, *step)?, *answer, "{step:?}");
+        assert_eq!(rt; ends.make(&task, *step)?, *answer, "{step:?}");
     }
     Ok(())
 }
@@ -170,11 +173,11 @@ pub(super) fn live(
 #[test]
 fn the_looks_of_both_ends(rt: HostRuntime) -> Result<(), Fail> {
     let task = MockTask::new(&rt)?;
-    for life in READY.iter().chain(&DROPPED).chain(&RAW).chain(&BLOCKING) {
-        let mut ends = Ends::new();
+    for life in LIVES.into_iter().flatten() {
+        let mut ends = Ends::new(rt.alloc(), &rt);
         for (number, (step, answer, sender, receiver)) in life.iter().enumerate() {
             assert_eq!(rt;
-                ends.make(&rt, &task, *step)?,
+                ends.make(&task, *step)?,
                 *answer,
                 "step {number}, {step:?}"
             );

@@ -5,9 +5,7 @@ use futures::test::MockTask;
 use oneshot::{
     AsyncReceiver, Receiver, RecvTimeoutError, Sender, TryRecvError, async_channel, channel,
 };
-use std::alloc::AllocGlobal;
-use std::io;
-use std::random::RandomSource;
+use std::alloc::{AllocError, Global};
 use std::sync::Wait;
 use std::time::{Clock, Duration};
 
@@ -57,7 +55,7 @@ pub(super) enum Answer {
     NothingYet,
     /// That none will come.
     Disconnected,
-    /// The end is gone, or the number was another.
+    /// The end is gone or was made before, or the number was another.
     Wrong,
 }
 
@@ -78,10 +76,13 @@ pub(super) enum Look {
 
 /// Both ends of one channel, with a message that owns memory. The receiver is one that blocks, or a future.
 #[derive(Drop)]
-pub(super) struct Ends<'r, R: Wait> {
+pub(super) struct Ends<Rt: Wait> {
+    alloc: Global,
+    // The receiver's runtime, until it is made.
+    rt: Option<Rt>,
     sender: Option<Sender<Box<u64>>>,
-    receiver: Option<Receiver<Box<u64>, &'r R>>,
-    future: Option<AsyncReceiver<Box<u64>, &'r R>>,
+    receiver: Option<Receiver<Box<u64>, Rt>>,
+    future: Option<AsyncReceiver<Box<u64>, Rt>>,
 }
 
 fn answer_of<E>(received: Result<Box<u64>, E>, silence: impl FnOnce(E) -> Answer) -> Answer {
@@ -101,10 +102,12 @@ fn look_of(is_closed: bool, has_message: bool) -> Look {
     }
 }
 
-impl<'r, R: Wait + Clock + AllocGlobal> Ends<'r, R> {
+impl<Rt: Wait + Clock + Drop> Ends<Rt> {
     /// Before either end is made.
-    pub(super) fn new() -> Ends<'r, R> {
+    pub(super) fn new(alloc: Global, rt: Rt) -> Ends<Rt> {
         Ends {
+            alloc,
+            rt: Some(rt),
             sender: None,
             receiver: None,
             future: None,
@@ -112,11 +115,11 @@ impl<'r, R: Wait + Clock + AllocGlobal> Ends<'r, R> {
     }
 
     /// Makes the step, a poll as this task.
-    pub(super) fn make(&mut self, rt: &'r R, task: &MockTask, step: Step) -> io::Result<Answer> {
+    pub(super) fn make(&mut self, task: &MockTask, step: Step) -> Result<Answer, AllocError> {
         match step {
-            Step::Make => self.open(rt)?,
-            Step::MakeAsync => self.open_async(rt)?,
-            Step::SendMessage => return self.send(rt),
+            Step::Make => return self.open(),
+            Step::MakeAsync => return self.open_async(),
+            Step::SendMessage => return self.send(),
             Step::SenderThroughRaw => {
                 let raw = self.sender.take().map(Sender::into_raw);
                 self.sender = raw.map(Sender::from_raw);
@@ -140,29 +143,36 @@ impl<'r, R: Wait + Clock + AllocGlobal> Ends<'r, R> {
         Ok(Answer::Done)
     }
 
-    fn open(&mut self, rt: &'r R) -> io::Result<()> {
-        let (sender, receiver) = channel(rt, rt.alloc())?;
+    fn open(&mut self) -> Result<Answer, AllocError> {
+        let Some(rt) = self.rt.take() else {
+            return Ok(Answer::Wrong);
+        };
+        let (sender, receiver) = channel(rt, self.alloc)?;
         self.sender = Some(sender);
         self.receiver = Some(receiver);
-        Ok(())
+        Ok(Answer::Done)
     }
 
-    fn open_async(&mut self, rt: &'r R) -> io::Result<()> {
-        let (sender, future) = async_channel(rt, rt.alloc())?;
+    fn open_async(&mut self) -> Result<Answer, AllocError> {
+        let Some(rt) = self.rt.take() else {
+            return Ok(Answer::Wrong);
+        };
+        let (sender, future) = async_channel(rt, self.alloc)?;
         self.sender = Some(sender);
         self.future = Some(future);
-        Ok(())
+        Ok(Answer::Done)
     }
 
-    fn send(&mut self, rt: &R) -> io::Result<Answer> {
-        let message = Box::new(rt.alloc(), 19)?;
-        Ok(
-            match self.sender.take().map(|sender| sender.send(message)) {
-                Some(Ok(())) => Answer::Sent,
-                Some(Err(refused)) if **refused.as_inner() == 19 => Answer::Refused,
-                _ => Answer::Wrong,
-            },
-        )
+    fn send(&mut self) -> Result<Answer, AllocError> {
+        let message = Box::new(self.alloc, 19)?;
+        let Some(sender) = self.sender.take() else {
+            return Ok(Answer::Wrong);
+        };
+        Ok(match sender.send(message) {
+            Ok(()) => Answer::Sent,
+            Err(refused) if **refused.as_inner() == 19 => Answer::Refused,
+            Err(_) => Answer::Wrong,
+        })
     }
 
     fn try_recv(&mut self) -> Answer {
