@@ -1,7 +1,7 @@
 //! The example in the crate's documentation: a thread that answers texts by their lengths, to one who
 //! blocks and to one who awaits.
 
-use super::times::patience;
+use super::times::{answers, in_time, second};
 use crossbeam_channel as queue;
 use futures::executor::block_on;
 use oneshot::{Sender, channel};
@@ -40,10 +40,12 @@ fn a_processing_thread_answers_lengths(rt: HostRuntime) -> Result<(), Fail> {
     let (requests, taken) = queue::unbounded(rt.alloc())?;
     let processor = spawn(&rt, move || process(&rt, taken))?;
     for (text, length) in [("", 0), ("lengths", 7), ("a processing thread", 19)] {
-        let (reply, mut answer) = channel(&rt, rt.alloc())?;
-        let request = String::from_str(rt.alloc(), text)?;
-        assert!(rt; ask(&rt, &requests, request, reply));
-        assert_eq!(rt; answer.recv_timeout(patience()), Ok(length));
+        in_time(&rt, || {
+            let (reply, mut answer) = channel(&rt, rt.alloc())?;
+            let request = String::from_str(rt.alloc(), text)?;
+            assert!(rt; ask(&rt, &requests, request, reply));
+            Ok(answers(&rt, answer.recv_timeout(second()), Ok(length)))
+        })?;
         let (reply, answer) = channel(&rt, rt.alloc())?;
         let request = String::from_str(rt.alloc(), text)?;
         assert!(rt; ask(&rt, &requests, request, reply));

@@ -1,7 +1,7 @@
 //! The programs of `examples/`, each as a test that runs it once.
 
 use super::threads::on_two_threads;
-use super::times::patience;
+use super::times::{answers, in_time, tenth};
 use oneshot::{RecvError, RecvTimeoutError, Sender, channel};
 use std::test::Fail;
 use std::thread::sleep;
@@ -86,24 +86,28 @@ fn recv_ref_before_send_then_drop_sender(rt: HostRuntime) -> Result<(), Fail> {
 
 #[test]
 fn recv_timeout_before_send(rt: HostRuntime) -> Result<(), Fail> {
-    let answers = on_two_threads(
-        &rt,
-        channel(&rt, rt.alloc())?,
-        |sender| send_later(&rt, sender),
-        |mut receiver| receiver.recv_timeout(patience()),
-    );
-    assert_eq!(rt; answers, (true, Ok(9)));
-    Ok(())
+    in_time(&rt, || {
+        let (sent, received) = on_two_threads(
+            &rt,
+            channel(&rt, rt.alloc())?,
+            |sender| send_later(&rt, sender),
+            |mut receiver| receiver.recv_timeout(tenth()),
+        );
+        let in_time = answers(&rt, received, Ok(9));
+        assert!(rt; sent || !in_time);
+        Ok(in_time)
+    })
 }
 
 #[test]
 fn recv_timeout_before_send_then_drop_sender(rt: HostRuntime) -> Result<(), Fail> {
-    let ((), received) = on_two_threads(
-        &rt,
-        channel(&rt, rt.alloc())?,
-        |sender| drop_later(&rt, sender),
-        |mut receiver| receiver.recv_timeout(patience()),
-    );
-    assert_eq!(rt; received, Err(RecvTimeoutError::Disconnected));
-    Ok(())
+    in_time(&rt, || {
+        let ((), received) = on_two_threads(
+            &rt,
+            channel(&rt, rt.alloc())?,
+            |sender| drop_later(&rt, sender),
+            |mut receiver| receiver.recv_timeout(tenth()),
+        );
+        Ok(answers(&rt, received, Err(RecvTimeoutError::Disconnected)))
+    })
 }

@@ -1,7 +1,7 @@
 //! The tests of `tests/miri.rs`: each use of a sender beside each use of a receiver, in many rounds.
 
 use super::threads::{ROUNDS, on_two_threads, poll};
-use super::times::patience;
+use super::times::{answers, in_time, second};
 use futures::FutureExt;
 use futures::task::Poll;
 use futures::test::MockTask;
@@ -90,10 +90,14 @@ fn tx_send_rx_recv_ref(rt: HostRuntime) -> Result<(), Fail> {
 #[test]
 fn tx_send_rx_recv_timeout(rt: HostRuntime) -> Result<(), Fail> {
     for _ in 0..ROUNDS {
-        let answers = beside_a_send(&rt, channel(&rt, rt.alloc())?, |mut receiver| {
-            receiver.recv_timeout(patience())
-        });
-        assert_eq!(rt; answers, (Ok(999), None));
+        in_time(&rt, || {
+            let (received, back) = beside_a_send(&rt, channel(&rt, rt.alloc())?, |mut receiver| {
+                receiver.recv_timeout(second())
+            });
+            let in_time = answers(&rt, received, Ok(999));
+            assert!(rt; back.is_none() || !in_time);
+            Ok(in_time)
+        })?;
     }
     Ok(())
 }
@@ -184,10 +188,12 @@ fn tx_drop_rx_recv_ref(rt: HostRuntime) -> Result<(), Fail> {
 #[test]
 fn tx_drop_rx_recv_timeout(rt: HostRuntime) -> Result<(), Fail> {
     for _ in 0..ROUNDS {
-        let received = beside_a_drop(&rt, channel(&rt, rt.alloc())?, |mut receiver| {
-            receiver.recv_timeout(patience())
-        });
-        assert_eq!(rt; received, Err(RecvTimeoutError::Disconnected));
+        in_time(&rt, || {
+            let received = beside_a_drop(&rt, channel(&rt, rt.alloc())?, |mut receiver| {
+                receiver.recv_timeout(second())
+            });
+            Ok(answers(&rt, received, Err(RecvTimeoutError::Disconnected)))
+        })?;
     }
     Ok(())
 }

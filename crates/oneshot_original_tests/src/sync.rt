@@ -4,7 +4,7 @@
 
 use super::counted::Drops;
 use super::threads::{ROUNDS, on_two_threads};
-use super::times::{linger, patience, slack};
+use super::times::{answers, in_time, linger, second, tenth};
 use oneshot::{RecvError, RecvTimeoutError, SendError, Sender, TryRecvError, channel};
 use std::alloc::{AllocError, Global};
 use std::process::Abort;
@@ -24,7 +24,7 @@ fn send_before_try_recv(rt: HostRuntime) -> Result<(), Fail> {
     let again = receiver.try_recv();
     assert_eq!(rt; (after, again), (false, Err(TryRecvError::Disconnected)));
     assert_eq!(rt; receiver.recv_ref(), Err(RecvError));
-    let timed = receiver.recv_timeout(patience());
+    let timed = receiver.recv_timeout(second());
     assert_eq!(rt; timed, Err(RecvTimeoutError::Disconnected));
     Ok(())
 }
@@ -60,7 +60,7 @@ fn send_before_recv_ref(rt: HostRuntime) -> Result<(), Fail> {
     assert_eq!(rt; (sent, receiver.recv_ref()), (true, Ok(19)));
     let by_ref = receiver.recv_ref();
     let tried = receiver.try_recv();
-    let timed = receiver.recv_timeout(patience());
+    let timed = receiver.recv_timeout(second());
     assert_eq!(rt; by_ref, Err(RecvError));
     assert_eq!(rt; tried, Err(TryRecvError::Disconnected));
     assert_eq!(rt; timed, Err(RecvTimeoutError::Disconnected));
@@ -69,18 +69,20 @@ fn send_before_recv_ref(rt: HostRuntime) -> Result<(), Fail> {
 
 #[test]
 fn send_before_recv_timeout(rt: HostRuntime) -> Result<(), Fail> {
-    let (sender, mut receiver) = channel(&rt, rt.alloc())?;
-    let sent = sender.send(19i128).is_ok();
-    let before = Instant::now(&rt)?;
-    let received = receiver.recv_timeout(patience());
-    assert!(rt; before.elapsed(&rt)? < slack());
-    assert_eq!(rt; (sent, received), (true, Ok(19)));
-    let timed = receiver.recv_timeout(patience());
-    let tried = receiver.try_recv();
-    assert_eq!(rt; timed, Err(RecvTimeoutError::Disconnected));
-    assert_eq!(rt; tried, Err(TryRecvError::Disconnected));
-    assert_eq!(rt; receiver.recv(), Err(RecvError));
-    Ok(())
+    in_time(&rt, || {
+        let (sender, mut receiver) = channel(&rt, rt.alloc())?;
+        let sent = sender.send(19i128).is_ok();
+        let before = Instant::now(&rt)?;
+        let received = receiver.recv_timeout(second());
+        let took = before.elapsed(&rt)?;
+        assert_eq!(rt; (sent, received), (true, Ok(19)));
+        let timed = receiver.recv_timeout(second());
+        let tried = receiver.try_recv();
+        assert_eq!(rt; timed, Err(RecvTimeoutError::Disconnected));
+        assert_eq!(rt; tried, Err(TryRecvError::Disconnected));
+        assert_eq!(rt; receiver.recv(), Err(RecvError));
+        Ok(took < tenth())
+    })
 }
 
 #[test]
@@ -149,16 +151,20 @@ fn recv_before_send(rt: HostRuntime) -> Result<(), Fail> {
 #[test]
 fn recv_timeout_before_send(rt: HostRuntime) -> Result<(), Fail> {
     for round in 0..ROUNDS {
-        let answers = on_two_threads(
-            &rt,
-            channel(&rt, rt.alloc())?,
-            |sender| {
-                linger(&rt, round, 2);
-                sender.send(9u128).is_ok()
-            },
-            |mut receiver| receiver.recv_timeout(patience()),
-        );
-        assert_eq!(rt; answers, (true, Ok(9)));
+        in_time(&rt, || {
+            let (sent, received) = on_two_threads(
+                &rt,
+                channel(&rt, rt.alloc())?,
+                |sender| {
+                    linger(&rt, round, 2);
+                    sender.send(9u128).is_ok()
+                },
+                |mut receiver| receiver.recv_timeout(second()),
+            );
+            let in_time = answers(&rt, received, Ok(9));
+            assert!(rt; sent || !in_time);
+            Ok(in_time)
+        })?;
     }
     Ok(())
 }
@@ -183,16 +189,18 @@ fn recv_before_send_then_drop_sender(rt: HostRuntime) -> Result<(), Fail> {
 #[test]
 fn recv_timeout_before_send_then_drop_sender(rt: HostRuntime) -> Result<(), Fail> {
     for round in 0..ROUNDS {
-        let ((), received) = on_two_threads(
-            &rt,
-            channel::<u128, _>(&rt, rt.alloc())?,
-            |sender| {
-                linger(&rt, round, 10);
-                drop(sender);
-            },
-            |mut receiver| receiver.recv_timeout(patience()),
-        );
-        assert_eq!(rt; received, Err(RecvTimeoutError::Disconnected));
+        in_time(&rt, || {
+            let ((), received) = on_two_threads(
+                &rt,
+                channel::<u128, _>(&rt, rt.alloc())?,
+                |sender| {
+                    linger(&rt, round, 10);
+                    drop(sender);
+                },
+                |mut receiver| receiver.recv_timeout(second()),
+            );
+            Ok(answers(&rt, received, Err(RecvTimeoutError::Disconnected)))
+        })?;
     }
     Ok(())
 }
@@ -236,35 +244,36 @@ fn timed_out<T: Drop, F: FnOnce(Instant) -> Result<T, RecvTimeoutError>>(
 
 #[test]
 fn recv_deadline_and_timeout_no_time(rt: HostRuntime) -> Result<(), Fail> {
-    let (_sender, mut receiver) = channel::<u128, _>(&rt, rt.alloc())?;
-    let took = timed_out(&rt, |start| receiver.recv_deadline(start))?;
-    assert!(rt; took < slack());
-    let took = timed_out(&rt, |_| receiver.recv_timeout(Duration::ZERO))?;
-    assert!(rt; took < slack());
-    Ok(())
+    in_time(&rt, || {
+        let (_sender, mut receiver) = channel::<u128, _>(&rt, rt.alloc())?;
+        let by_deadline = timed_out(&rt, |start| receiver.recv_deadline(start))?;
+        let by_timeout = timed_out(&rt, |_| receiver.recv_timeout(Duration::ZERO))?;
+        let most = Duration::from_millis(200);
+        Ok(by_deadline < most && by_timeout < most)
+    })
 }
 
 #[test]
 fn recv_deadline_time_should_elapse(rt: HostRuntime) -> Result<(), Fail> {
-    let (_sender, mut receiver) = channel::<u128, _>(&rt, rt.alloc())?;
-    let tenth = Duration::from_millis(100);
-    let took = timed_out(&rt, |start| {
-        let end = start
-            .checked_add(tenth)
-            .expect(&rt, "an instant can hold it");
-        receiver.recv_deadline(end)
-    })?;
-    assert!(rt; took > tenth && took < slack());
-    Ok(())
+    in_time(&rt, || {
+        let (_sender, mut receiver) = channel::<u128, _>(&rt, rt.alloc())?;
+        let took = timed_out(&rt, |start| {
+            let end = start.checked_add(tenth());
+            receiver.recv_deadline(end.expect(&rt, "an instant can hold it"))
+        })?;
+        assert!(rt; took > tenth());
+        Ok(took < Duration::from_millis(300))
+    })
 }
 
 #[test]
 fn recv_timeout_time_should_elapse(rt: HostRuntime) -> Result<(), Fail> {
-    let (_sender, mut receiver) = channel::<u128, _>(&rt, rt.alloc())?;
-    let tenth = Duration::from_millis(100);
-    let took = timed_out(&rt, |_| receiver.recv_timeout(tenth))?;
-    assert!(rt; took > tenth && took < slack());
-    Ok(())
+    in_time(&rt, || {
+        let (_sender, mut receiver) = channel::<u128, _>(&rt, rt.alloc())?;
+        let took = timed_out(&rt, |_| receiver.recv_timeout(tenth()))?;
+        assert!(rt; took > tenth());
+        Ok(took < Duration::from_millis(300))
+    })
 }
 
 #[test]

@@ -1,19 +1,57 @@
-//! How long the tests wait, and how late a receive may answer.
+//! How long the tests wait, how late a receive may answer, and what they do on a busy machine.
 
+use oneshot::RecvTimeoutError;
+use std::fmt::Debug;
+use std::process::Abort;
+use std::test::Fail;
 use std::thread::sleep;
 use std::time::{Clock, Duration};
 
-/// The longest wait for what another thread is about to do. The original waits a second, or 100 ms in its
-/// examples; widened for a busy machine.
+/// How long a receive of the examples waits for what another thread is about to do, and how long one may
+/// take whose message is there.
+pub(super) fn tenth() -> Duration {
+    Duration::from_millis(100)
+}
+
+/// How long any other receive waits for that.
+pub(super) fn second() -> Duration {
+    Duration::from_secs(1)
+}
+
+/// How long the receive of `send_recv_different_threads` waits, where the original waits a millisecond.
 pub(super) fn patience() -> Duration {
     Duration::from_secs(10)
 }
 
-/// The longest that a receive may take that has to wait for 100 ms at most. The original allows 100 ms
-/// where the message is there, 200 ms where no time is left, and 300 ms where 100 ms have to elapse;
-/// widened for a busy machine.
-pub(super) fn slack() -> Duration {
-    Duration::from_secs(5)
+/// How often a test is tried that is late, as it can be on a busy machine.
+const TRIES: u64 = 3;
+
+/// Tries until one try is in time. Fails if none of three is.
+pub(super) fn in_time<F: FnMut() -> Result<bool, Fail>>(
+    rt: &impl Abort,
+    mut attempt: F,
+) -> Result<(), Fail>
+    requires { F.IsAlwaysCallable attempt }
+{
+    for _ in 0..TRIES {
+        if attempt()? {
+            return Ok(());
+        }
+    }
+    panic!(rt; "late in each of {TRIES} tries")
+}
+
+/// Whether a receive answered before its time was over. Fails if it answered something else.
+pub(super) fn answers<T: Debug + Drop + PartialEq>(
+    rt: &impl Abort,
+    received: Result<T, RecvTimeoutError>,
+    wanted: Result<T, RecvTimeoutError>,
+) -> bool {
+    if received == Err(RecvTimeoutError::Timeout) {
+        return false;
+    }
+    assert_eq!(rt; received, wanted);
+    true
 }
 
 /// Lets the other thread go first in each fiftieth round, as far as a sleep of so many milliseconds can.

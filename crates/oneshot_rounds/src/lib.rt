@@ -22,6 +22,8 @@ mod nested;
 #[cfg(test)]
 mod notes;
 #[cfg(test)]
+mod pending;
+#[cfg(test)]
 mod races;
 #[cfg(test)]
 mod receives;

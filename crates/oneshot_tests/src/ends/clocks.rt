@@ -72,6 +72,18 @@ fn an_instant_is_not_over_at_itself(rt: HostRuntime) -> Result<(), Fail> {
 }
 
 #[test]
+fn each_turn_of_a_wait_parks(rt: HostRuntime) -> Result<(), Fail> {
+    // A turn reads the clock to ask whether the deadline is over, and a park until it reads that it is. So
+    // this clock goes back: a park that is left out leaves a reading past the deadline to the next turn.
+    let clock = Written::new(&rt, &[1, 7, 2, 7, 3, 7, 6, 8]);
+    let (_sender, mut receiver) = by_clock(&clock, rt.alloc())?;
+    let received = receiver.recv_deadline(five(&rt)?);
+    assert_eq!(rt; received, Err(RecvTimeoutError::Timeout));
+    assert_eq!(rt; clock.left(), 1);
+    Ok(())
+}
+
+#[test]
 fn a_later_instant_is_over_at_once(rt: HostRuntime) -> Result<(), Fail> {
     let clock = Written::new(&rt, &[6, 7]);
     let (_sender, mut receiver) = by_clock(&clock, rt.alloc())?;

@@ -1,9 +1,12 @@
 //! Whatever way a channel ends, all that it owned is given back: the block, the parker and the runtime.
 
 use super::clocks::{Act, Meanwhile, five};
+use super::lives::{DROPPED, LIVES, Life, RAW, READY, live};
+use super::steps::{Ends, Look};
+use futures::test::MockTask;
 use oneshot::{RecvError, channel};
-use std::alloc::AllocError;
 use std::process::Abort;
+use std::random::RandomSource;
 use std::rt::Files;
 use std::sync::{Arc, Wait};
 use std::test::Fail;
@@ -28,7 +31,7 @@ fn resident_pages(rt: &(impl Files + AllocGlobal)) -> io::Result<u64> {
 }
 
 /// How many pages more the process has once it has run so many rounds.
-fn growth<F: FnMut() -> Result<(), AllocError>>(
+fn growth<F: FnMut() -> io::Result<()>>(
     rt: &(impl Files + AllocGlobal),
     rounds: u64,
     mut round: F,
@@ -55,16 +58,39 @@ fn frees_memory(rt: &(impl Files + AllocGlobal)) -> Result<bool, Fail> {
     Ok(grown <= MOST_PAGES)
 }
 
+/// Whether leaks can be seen here. Where they cannot, it prints that.
+fn compares_memory(rt: &(impl Files + Print + AllocGlobal)) -> Result<bool, Fail> {
+    let compares = frees_memory(rt)?;
+    if !compares {
+        println!(rt; "no leak is looked for, since this process keeps what was freed")?;
+    }
+    Ok(compares)
+}
+
 /// Fails if each of so many rounds keeps some memory.
-fn assert_no_leak<F: FnMut() -> Result<(), AllocError>>(
-    rt: &(impl Files + AllocGlobal + Abort),
+fn assert_no_leak<F: FnMut() -> io::Result<()>>(
+    rt: &(impl Files + Print + AllocGlobal + Abort),
     round: F,
 ) -> Result<(), Fail>
     requires { F.IsAlwaysCallable round }
 {
-    if frees_memory(rt)? {
+    if compares_memory(rt)? {
         let grown = growth(rt, ROUNDS, round)?;
         assert!(rt; grown <= MOST_PAGES, "{grown} pages");
+    }
+    Ok(())
+}
+
+/// Fails if a channel that lives one of these lives leaves some memory, each time.
+fn assert_none_leaks(
+    rt: &(impl Files + Print + Wait + Clock + AllocGlobal + RandomSource + Abort),
+    lives: &[Life<'_>],
+) -> Result<(), Fail> {
+    if compares_memory(rt)? {
+        for (number, life) in lives.iter().enumerate() {
+            let grown = growth(rt, ROUNDS, || live(rt, life))?;
+            assert!(rt; grown <= MOST_PAGES, "life {number}: {grown} pages");
+        }
     }
     Ok(())
 }
@@ -148,6 +174,21 @@ fn a_receiver_that_was_woken_leaves_nothing(rt: HostRuntime) -> Result<(), Fail>
     })
 }
 
+#[test]
+fn a_future_that_was_ready_leaves_nothing(rt: HostRuntime) -> Result<(), Fail> {
+    assert_none_leaks(&rt, &READY)
+}
+
+#[test]
+fn a_future_that_is_dropped_leaves_nothing(rt: HostRuntime) -> Result<(), Fail> {
+    assert_none_leaks(&rt, &DROPPED)
+}
+
+#[test]
+fn raw_ends_leave_nothing(rt: HostRuntime) -> Result<(), Fail> {
+    assert_none_leaks(&rt, &RAW)
+}
+
 /// A runtime that is alive as long as its `Arc` is.
 #[derive(Drop)]
 struct Counted<'a, R> {
@@ -190,5 +231,31 @@ fn the_runtime_is_dropped_with_the_receiver(rt: HostRuntime) -> Result<(), Fail>
     drop(sender);
     assert_eq!(rt; receiver.recv(), Err(RecvError));
     assert_eq!(rt; Arc::strong_count(&alive), 1);
+    Ok(())
+}
+
+// The runtime is there as long as the receiver, whatever becomes of it.
+#[test]
+fn the_runtime_is_dropped_with_a_receiver_of_each_life(rt: HostRuntime) -> Result<(), Fail> {
+    let alive = Arc::new(rt.alloc(), 0u8)?;
+    let task = MockTask::new(&rt)?;
+    for life in LIVES.into_iter().flatten() {
+        let counted = Counted {
+            rt: &rt,
+            _alive: Arc::try_clone(&alive)?,
+        };
+        let mut ends = Ends::new(rt.alloc(), counted);
+        for (number, (step, _, _, receiver)) in life.iter().enumerate() {
+            ends.make(&task, *step)?;
+            let owners = if *receiver == Look::Gone { 1 } else { 2 };
+            assert_eq!(rt;
+                Arc::strong_count(&alive),
+                owners,
+                "after step {number}, {step:?}"
+            );
+        }
+        drop(ends);
+        assert_eq!(rt; Arc::strong_count(&alive), 1, "after {life:?}");
+    }
     Ok(())
 }

@@ -12,6 +12,12 @@ use std::time::{Clock, Duration, Instant};
 
 const ROUNDS: u64 = 20_000;
 
+/// The rounds that a test makes however busy the machine is; one that cannot runs into its time limit.
+const FEWEST_ROUNDS: u64 = 1_000;
+
+/// For so many seconds a test makes more rounds than the fewest.
+const SECONDS: u64 = 10;
+
 // More than it takes to start a thread.
 const SPINS: u64 = 100_000_000;
 
@@ -31,9 +37,10 @@ fn meet(here: &AtomicU64) {
     }
 }
 
-/// Whether half of the minute is over that a test has: a busy machine makes fewer rounds.
-fn is_late(rt: &impl Clock, first: Instant) -> io::Result<bool> {
-    Ok(first.elapsed(rt)? > Duration::from_secs(30))
+/// Whether the time is over in which a test makes its rounds, and it has made the fewest.
+fn is_enough(rt: &impl Clock, first: Instant, round: u64) -> io::Result<bool> {
+    let is_late = first.elapsed(rt)? > Duration::from_secs(SECONDS);
+    Ok(is_late && round >= FEWEST_ROUNDS)
 }
 
 /// Passes a little time without a wait: up to 400 loads.
@@ -62,7 +69,7 @@ fn just_in_time<T: Drop, Rt: Wait + Clock + Drop>(
 fn a_message_that_comes_at_the_deadline_is_received_once(rt: HostRuntime) -> Result<(), Fail> {
     let first = Instant::now(&rt)?;
     for round in 0..ROUNDS {
-        if is_late(&rt, first)? {
+        if is_enough(&rt, first, round)? {
             break;
         }
         let here = AtomicU64::new(0);
@@ -89,7 +96,7 @@ fn a_message_that_comes_at_the_deadline_is_received_once(rt: HostRuntime) -> Res
 fn a_sender_that_goes_at_the_deadline_is_told(rt: HostRuntime) -> Result<(), Fail> {
     let first = Instant::now(&rt)?;
     for round in 0..ROUNDS {
-        if is_late(&rt, first)? {
+        if is_enough(&rt, first, round)? {
             break;
         }
         let here = AtomicU64::new(0);

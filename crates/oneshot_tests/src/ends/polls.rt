@@ -6,7 +6,7 @@ use futures::Future;
 use futures::executor::block_on;
 use futures::future::join;
 use futures::task::{Context, Poll};
-use oneshot::{AsyncReceiver, RecvError, async_channel, channel};
+use oneshot::{AsyncReceiver, RecvError, async_channel};
 use std::random::RandomSource;
 use std::sync::Wait;
 use std::sync::atomic::{AtomicU64, Ordering};
@@ -117,34 +117,6 @@ fn a_sender_that_is_dropped_ends_the_wait(rt: HostRuntime) -> Result<(), Fail> {
     Ok(())
 }
 
-#[test]
-fn looks_of_both_ends(rt: HostRuntime) -> Result<(), Fail> {
-    let (sender, receiver) = channel(&rt, rt.alloc())?;
-    let mut receiver = receiver.into_future();
-    assert!(rt; !receiver.is_closed());
-    assert!(rt; !receiver.has_message());
-    receiver = block_on(
-        &rt,
-        Lent {
-            receiver: Some(receiver),
-        },
-    )?
-    .expect(&rt, "it is given back");
-    assert!(rt; !sender.is_closed());
-    assert!(rt; sender.send(19u8).is_ok());
-    assert!(rt; receiver.has_message());
-    assert!(rt; !receiver.is_closed());
-    assert_eq!(rt; block_on(&rt, receiver)?, Ok(19));
-    let (sender, receiver) = async_channel::<u8, _>(&rt, rt.alloc())?;
-    drop(receiver);
-    assert!(rt; sender.is_closed());
-    let (sender, receiver) = async_channel::<u8, _>(&rt, rt.alloc())?;
-    drop(sender);
-    assert!(rt; receiver.is_closed());
-    assert!(rt; !receiver.has_message());
-    Ok(())
-}
-
 /// Polls a receiver once on another thread, and has it back.
 fn polled_there<T: Send + Drop, Rt: Wait + Send + Drop>(
     rt: &(impl thread::Threads + Wait + RandomSource + AllocGlobal + Sync),
@@ -172,29 +144,6 @@ fn two_threads_and_two_executors_poll_one_receiver(rt: HostRuntime) -> Result<()
     );
     assert!(rt; sent);
     assert_eq!(rt; received?, Ok(19));
-    Ok(())
-}
-
-/// How many pairs of threads race.
-const ROUNDS: u64 = 10_000;
-
-// A future that was polled is dropped while its sender finishes: the message goes back or is dropped.
-#[test]
-fn a_future_is_dropped_while_its_sender_finishes(rt: HostRuntime) -> Result<(), Fail> {
-    let mut refused = 0u64;
-    for round in 0..ROUNDS {
-        let (sender, receiver) = async_channel(&rt, rt.alloc())?;
-        let lent = Lent {
-            receiver: Some(receiver),
-        };
-        let receiver = block_on(&rt, lent)?;
-        let (sent, ()) = thread::join(&rt, || sender.send(round), || drop(receiver));
-        if let Err(error) = sent {
-            assert_eq!(rt; error.into_inner(), round);
-            refused = refused.saturating_add(1);
-        }
-    }
-    assert!(rt; refused < ROUNDS);
     Ok(())
 }
 

@@ -1,7 +1,10 @@
 //! Each end on a thread of its own.
 
-use oneshot::{Receiver, Sender, TryRecvError, channel};
-use std::sync::Arc;
+use oneshot::{
+    AsyncReceiver, RawSender, Receiver, SendError, Sender, TryRecvError, async_channel, channel,
+};
+use std::mem::size_of_val;
+use std::sync::{Arc, Wait};
 use std::test::Fail;
 use std::thread::{Threads, join};
 
@@ -57,6 +60,62 @@ fn two_threads_look_at_one_sender(rt: HostRuntime) -> Result<(), Fail> {
     assert_eq!(rt; two_looks(&rt, &sender), (false, false));
     drop(receiver);
     assert_eq!(rt; two_looks(&rt, &sender), (true, true));
+    Ok(())
+}
+
+// What two threads find that look at one future.
+fn two_looks_of_a_future<T: Send + Sync, Rt: Wait + Send + Sync>(
+    rt: &impl Threads,
+    receiver: &AsyncReceiver<T, Rt>,
+) -> (bool, bool) {
+    join(rt, || receiver.has_message(), || receiver.is_closed())
+}
+
+#[test]
+fn two_threads_look_at_one_future(rt: HostRuntime) -> Result<(), Fail> {
+    let (sender, receiver) = async_channel::<u8, _>(&rt, rt.alloc())?;
+    assert_eq!(rt; two_looks_of_a_future(&rt, &receiver), (false, false));
+    assert!(rt; sender.send(5).is_ok());
+    assert_eq!(rt; two_looks_of_a_future(&rt, &receiver), (true, false));
+    Ok(())
+}
+
+// What two threads read of one error.
+fn two_readings<T: Copy + Send + Sync + Drop>(rt: &impl Threads, error: &SendError<T>) -> (T, T) {
+    join(rt, || *error.as_inner(), || *error.as_inner())
+}
+
+// The message that another thread takes out of an error.
+fn taken_there<T: Send + Drop>(rt: &impl Threads, error: SendError<T>) -> T {
+    let (message, ()) = join(rt, move || error.into_inner(), || ());
+    message
+}
+
+#[test]
+fn an_error_is_read_and_emptied_by_other_threads(rt: HostRuntime) -> Result<(), Fail> {
+    let (sender, receiver) = channel::<u8, ()>((), rt.alloc())?;
+    drop(receiver);
+    let Err(error) = sender.send(5) else {
+        panic!(rt; "the receiver is gone")
+    };
+    assert_eq!(rt; two_readings(&rt, &error), (5, 5));
+    assert_eq!(rt; taken_there(&rt, error), 5);
+    Ok(())
+}
+
+// How many bytes two threads see that share a raw sender. It has no call.
+fn two_sights<T: Send + Sync>(rt: &impl Threads, raw: &RawSender<T>) -> (usize, usize) {
+    join(rt, || size_of_val(raw), || size_of_val(raw))
+}
+
+#[test]
+fn two_threads_share_a_raw_sender(rt: HostRuntime) -> Result<(), Fail> {
+    let (sender, receiver) = channel::<u8, ()>((), rt.alloc())?;
+    let raw = sender.into_raw();
+    let size = size_of_val(&raw);
+    assert_eq!(rt; two_sights(&rt, &raw), (size, size));
+    assert!(rt; Sender::from_raw(raw).send(5).is_ok());
+    assert!(rt; receiver.has_message());
     Ok(())
 }
 

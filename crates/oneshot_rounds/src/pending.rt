@@ -1,0 +1,71 @@
+//! The drop of a future that has left a copy of its task's waker, beside a `send` of 999 and beside the
+//! sender's drop.
+
+use super::answers::{assert_answers, assert_both_orders};
+use super::counted::make_messages;
+use super::races::race;
+use futures::task::Poll;
+use futures::test::MockTask;
+use oneshot::{AsyncReceiver, Sender, async_channel};
+use std::alloc::AllocGlobal;
+use std::process::Abort;
+use std::random::RandomSource;
+use std::sync::Wait;
+use std::test::Fail;
+
+const ROUNDS: u64 = 10_000;
+
+/// So many channels, whose futures this task has polled once.
+fn polled_channels<'r, T: Send + Drop, R: Wait + AllocGlobal + RandomSource + Abort>(
+    rt: &'r R,
+    task: &MockTask,
+) -> Result<(Vec<Sender<T>>, Vec<AsyncReceiver<T, &'r R>>), Fail> {
+    let mut senders = Vec::new(rt.alloc());
+    let mut receivers = Vec::new(rt.alloc());
+    for _ in 0..ROUNDS {
+        let (sender, mut receiver) = async_channel(rt, rt.alloc())?;
+        assert!(rt; matches!(task.poll(&mut receiver), Poll::Pending));
+        senders.push(sender)?;
+        receivers.push(receiver)?;
+    }
+    Ok((senders, receivers))
+}
+
+#[test]
+fn a_pending_future_refuses_the_message_or_drops_it(rt: HostRuntime) -> Result<(), Fail> {
+    let task = MockTask::new(&rt)?;
+    let (messages, drops) = make_messages(rt.alloc(), ROUNDS, 999)?;
+    let (senders, receivers) = polled_channels(&rt, &task)?;
+    let (sends, dropped) = race(
+        &rt,
+        rt.alloc(),
+        senders.into_iter().zip(messages).collect(rt.alloc())?,
+        receivers,
+        |(sender, message)| {
+            let sent = sender.send(message);
+            sent.map_err(|refused| refused.into_inner().value)
+        },
+        |receiver| drop(receiver),
+    );
+    assert_answers(&rt, &sends, &[Ok(()), Err(999)]);
+    assert_both_orders(&rt, &dropped);
+    drops.assert_once(&rt);
+    Ok(())
+}
+
+#[test]
+fn a_pending_future_and_its_sender_are_dropped(rt: HostRuntime) -> Result<(), Fail> {
+    let task = MockTask::new(&rt)?;
+    let (senders, receivers) = polled_channels::<u64, _>(&rt, &task)?;
+    let (sends, dropped) = race(
+        &rt,
+        rt.alloc(),
+        senders,
+        receivers,
+        |sender| drop(sender),
+        |receiver| drop(receiver),
+    );
+    assert_both_orders(&rt, &sends);
+    assert_both_orders(&rt, &dropped);
+    Ok(())
+}

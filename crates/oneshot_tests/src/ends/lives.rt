@@ -1,0 +1,193 @@
+//! Lives of a channel as tables: what each step answers, and what the looks of both ends tell after it.
+
+use super::steps::Answer::{Disconnected, Done, NothingYet, Received, Refused, Sent};
+use super::steps::Look::{Closed, Full, Gone, Open};
+use super::steps::Step::{
+    DropRawReceiver, DropRawSender, DropReceiver, DropSender, IntoFuture, Make, MakeAsync,
+    PollFuture, ReceiverThroughRaw, RecvTimeout, SendMessage, SenderThroughRaw, TryRecv,
+};
+use super::steps::{Answer, Ends, Look, Step};
+use futures::test::MockTask;
+use std::alloc::AllocGlobal;
+use std::io;
+use std::process::Abort;
+use std::random::RandomSource;
+use std::sync::Wait;
+use std::test::Fail;
+use std::time::Clock;
+
+/// The steps, each with its answer, and then the look of the sender and those of the receiver.
+pub(super) type Life<'a> = &'a [(Step, Answer, Look, Look)];
+
+/// A future that comes to its end.
+pub(super) const READY: [Life<'static>; 4] = [
+    &[
+        (MakeAsync, Done, Open, Open),
+        (SendMessage, Sent, Gone, Full),
+        (PollFuture, Received, Gone, Closed),
+        (PollFuture, Disconnected, Gone, Closed),
+    ],
+    &[
+        (Make, Done, Open, Open),
+        (IntoFuture, Done, Open, Open),
+        (PollFuture, NothingYet, Open, Open),
+        (PollFuture, NothingYet, Open, Open),
+        (SendMessage, Sent, Gone, Full),
+        (PollFuture, Received, Gone, Closed),
+        (DropReceiver, Done, Gone, Gone),
+    ],
+    &[
+        (MakeAsync, Done, Open, Open),
+        (PollFuture, NothingYet, Open, Open),
+        (DropSender, Done, Gone, Closed),
+        (PollFuture, Disconnected, Gone, Closed),
+    ],
+    &[
+        (MakeAsync, Done, Open, Open),
+        (DropSender, Done, Gone, Closed),
+        (PollFuture, Disconnected, Gone, Closed),
+    ],
+];
+
+/// A future that is dropped before.
+pub(super) const DROPPED: [Life<'static>; 6] = [
+    &[
+        (MakeAsync, Done, Open, Open),
+        (DropReceiver, Done, Closed, Gone),
+        (DropSender, Done, Gone, Gone),
+    ],
+    &[
+        (Make, Done, Open, Open),
+        (IntoFuture, Done, Open, Open),
+        (DropSender, Done, Gone, Closed),
+        (DropReceiver, Done, Gone, Gone),
+    ],
+    &[
+        (MakeAsync, Done, Open, Open),
+        (PollFuture, NothingYet, Open, Open),
+        (DropReceiver, Done, Closed, Gone),
+        (SendMessage, Refused, Gone, Gone),
+    ],
+    &[
+        (MakeAsync, Done, Open, Open),
+        (PollFuture, NothingYet, Open, Open),
+        (PollFuture, NothingYet, Open, Open),
+        (PollFuture, NothingYet, Open, Open),
+        (DropReceiver, Done, Closed, Gone),
+        (DropSender, Done, Gone, Gone),
+    ],
+    &[
+        (MakeAsync, Done, Open, Open),
+        (PollFuture, NothingYet, Open, Open),
+        (SendMessage, Sent, Gone, Full),
+        (DropReceiver, Done, Gone, Gone),
+    ],
+    &[
+        (MakeAsync, Done, Open, Open),
+        (PollFuture, NothingYet, Open, Open),
+        (DropSender, Done, Gone, Closed),
+        (DropReceiver, Done, Gone, Gone),
+    ],
+];
+
+/// Ends that were opaque values.
+pub(super) const RAW: [Life<'static>; 4] = [
+    &[
+        (Make, Done, Open, Open),
+        (SenderThroughRaw, Done, Open, Open),
+        (ReceiverThroughRaw, Done, Open, Open),
+        (SendMessage, Sent, Gone, Full),
+        (ReceiverThroughRaw, Done, Gone, Full),
+        (TryRecv, Received, Gone, Closed),
+        (ReceiverThroughRaw, Done, Gone, Closed),
+    ],
+    &[
+        (Make, Done, Open, Open),
+        (DropRawSender, Done, Gone, Closed),
+        (DropRawReceiver, Done, Gone, Gone),
+    ],
+    &[
+        (Make, Done, Open, Open),
+        (DropRawReceiver, Done, Closed, Gone),
+        (SenderThroughRaw, Done, Closed, Gone),
+        (SendMessage, Refused, Gone, Gone),
+    ],
+    &[
+        (Make, Done, Open, Open),
+        (SendMessage, Sent, Gone, Full),
+        (DropRawReceiver, Done, Gone, Gone),
+    ],
+];
+
+/// A receiver that is no future. The word is that of one that waits only while `recv_timeout` is under way.
+const BLOCKING: [Life<'static>; 4] = [
+    &[
+        (Make, Done, Open, Open),
+        (TryRecv, NothingYet, Open, Open),
+        (RecvTimeout, NothingYet, Open, Open),
+        (SendMessage, Sent, Gone, Full),
+        (RecvTimeout, Received, Gone, Closed),
+        (RecvTimeout, Disconnected, Gone, Closed),
+        (TryRecv, Disconnected, Gone, Closed),
+    ],
+    &[
+        (Make, Done, Open, Open),
+        (RecvTimeout, NothingYet, Open, Open),
+        (DropSender, Done, Gone, Closed),
+        (TryRecv, Disconnected, Gone, Closed),
+        (DropReceiver, Done, Gone, Gone),
+    ],
+    &[
+        (Make, Done, Open, Open),
+        (RecvTimeout, NothingYet, Open, Open),
+        (DropReceiver, Done, Closed, Gone),
+        (SendMessage, Refused, Gone, Gone),
+    ],
+    &[
+        (Make, Done, Open, Open),
+        (RecvTimeout, NothingYet, Open, Open),
+        (IntoFuture, Done, Open, Open),
+        (PollFuture, NothingYet, Open, Open),
+        (SendMessage, Sent, Gone, Full),
+        (PollFuture, Received, Gone, Closed),
+    ],
+];
+
+/// Every life.
+pub(super) const LIVES: [&[Life<'static>]; 4] = [&READY, &DROPPED, &RAW, &BLOCKING];
+
+/// Makes the steps of a life, polls as a task of their own. The ends that are left are dropped. Fails unless
+/// each step answers what the life says.
+pub(super) fn live(
+    rt: &(impl Wait + Clock + AllocGlobal + RandomSource + Abort),
+    life: Life<'_>,
+) -> io::Result<()> {
+    let task = MockTask::new(rt)?;
+    let mut ends = Ends::new(rt.alloc(), rt);
+    for (step, answer, _, _) in life {
+        assert_eq!(rt; ends.make(&task, *step)?, *answer, "{step:?}");
+    }
+    Ok(())
+}
+
+#[test]
+fn the_looks_of_both_ends(rt: HostRuntime) -> Result<(), Fail> {
+    let task = MockTask::new(&rt)?;
+    for life in LIVES.into_iter().flatten() {
+        let mut ends = Ends::new(rt.alloc(), &rt);
+        for (number, (step, answer, sender, receiver)) in life.iter().enumerate() {
+            assert_eq!(rt;
+                ends.make(&task, *step)?,
+                *answer,
+                "step {number}, {step:?}"
+            );
+            let looks = (ends.sender_look(), ends.receiver_look());
+            assert_eq!(rt;
+                looks,
+                (*sender, *receiver),
+                "after step {number}, {step:?}"
+            );
+        }
+    }
+    Ok(())
+}
