@@ -3,7 +3,8 @@
 use futures::task::Poll;
 use futures::test::MockTask;
 use oneshot::{
-    AsyncReceiver, Receiver, RecvTimeoutError, Sender, TryRecvError, async_channel, channel,
+    AsyncReceiver, Receiver, RecvError, RecvTimeoutError, Sender, TryRecvError, async_channel,
+    channel,
 };
 use std::alloc::{AllocError, Global};
 use std::sync::Wait;
@@ -85,11 +86,35 @@ pub(super) struct Ends<Rt: Wait> {
     future: Option<AsyncReceiver<Box<u64>, Rt>>,
 }
 
-fn answer_of<E>(received: Result<Box<u64>, E>, silence: impl FnOnce(E) -> Answer) -> Answer {
+impl From<TryRecvError> for Answer {
+    fn from(error: TryRecvError) -> Answer {
+        match error {
+            TryRecvError::Empty => Answer::NothingYet,
+            TryRecvError::Disconnected => Answer::Disconnected,
+        }
+    }
+}
+
+impl From<RecvTimeoutError> for Answer {
+    fn from(error: RecvTimeoutError) -> Answer {
+        match error {
+            RecvTimeoutError::Timeout => Answer::NothingYet,
+            RecvTimeoutError::Disconnected => Answer::Disconnected,
+        }
+    }
+}
+
+impl From<RecvError> for Answer {
+    fn from(_: RecvError) -> Answer {
+        Answer::Disconnected
+    }
+}
+
+fn answer_of(received: Result<Box<u64>, Answer>) -> Answer {
     match received {
         Ok(message) if *message == 19 => Answer::Received,
         Ok(_) => Answer::Wrong,
-        Err(error) => silence(error),
+        Err(answer) => answer,
     }
 }
 
@@ -126,14 +151,14 @@ impl<Rt: Wait + Clock + Drop> Ends<Rt> {
             }
             Step::DropSender => drop(self.sender.take()),
             Step::DropRawSender => drop(self.sender.take().map(Sender::into_raw)),
-            Step::TryRecv => return Ok(self.try_recv()),
-            Step::RecvTimeout => return Ok(self.recv_timeout()),
+            Step::TryRecv => return Ok(answer_of(self.try_recv())),
+            Step::RecvTimeout => return Ok(answer_of(self.recv_timeout())),
             Step::ReceiverThroughRaw => {
                 let raw = self.receiver.take().map(Receiver::into_raw);
                 self.receiver = raw.map(Receiver::from_raw);
             }
             Step::IntoFuture => self.future = self.receiver.take().map(Receiver::into_future),
-            Step::PollFuture => return Ok(self.poll(task)),
+            Step::PollFuture => return Ok(answer_of(self.poll(task))),
             Step::DropReceiver => {
                 drop(self.receiver.take());
                 drop(self.future.take());
@@ -175,33 +200,27 @@ impl<Rt: Wait + Clock + Drop> Ends<Rt> {
         })
     }
 
-    fn try_recv(&mut self) -> Answer {
-        let Some(receiver) = &mut self.receiver else {
-            return Answer::Wrong;
-        };
-        answer_of(receiver.try_recv(), |error| match error {
-            TryRecvError::Empty => Answer::NothingYet,
-            TryRecvError::Disconnected => Answer::Disconnected,
-        })
+    fn try_recv(&mut self) -> Result<Box<u64>, Answer> {
+        match &mut self.receiver {
+            Some(receiver) => Ok(receiver.try_recv()?),
+            None => Err(Answer::Wrong),
+        }
     }
 
-    fn recv_timeout(&mut self) -> Answer {
-        let Some(receiver) = &mut self.receiver else {
-            return Answer::Wrong;
-        };
-        answer_of(receiver.recv_timeout(Duration::ZERO), |error| match error {
-            RecvTimeoutError::Timeout => Answer::NothingYet,
-            RecvTimeoutError::Disconnected => Answer::Disconnected,
-        })
+    fn recv_timeout(&mut self) -> Result<Box<u64>, Answer> {
+        match &mut self.receiver {
+            Some(receiver) => Ok(receiver.recv_timeout(Duration::ZERO)?),
+            None => Err(Answer::Wrong),
+        }
     }
 
-    fn poll(&mut self, task: &MockTask) -> Answer {
+    fn poll(&mut self, task: &MockTask) -> Result<Box<u64>, Answer> {
         let Some(future) = &mut self.future else {
-            return Answer::Wrong;
+            return Err(Answer::Wrong);
         };
         match task.poll(future) {
-            Poll::Ready(received) => answer_of(received, |_| Answer::Disconnected),
-            Poll::Pending => Answer::NothingYet,
+            Poll::Ready(received) => Ok(received?),
+            Poll::Pending => Err(Answer::NothingYet),
         }
     }
 
