@@ -20,35 +20,34 @@ const MOVES: usize = 64;
 /// That of the text was computed by another program, from the tables of both ends and the form of the text.
 type Pair = (Sending, Receiving, u64, u64);
 
-/// Draws a schedule from each seed of 1 to 10,000, and runs both scripts of each pair under it. Asserts that
-/// the auditor accepts each trace, and that the digests of all of a pair are those of its row.
-fn assert_drawn(rt: &(impl Abort + AllocGlobal), pairs: &[Pair]) -> Result<(), Fail> {
-    for (sender, receiver, traces, texts) in pairs {
-        let scripts = scripts_of(rt.alloc(), *sender, *receiver)?;
-        let mut told_all = Digest::new();
-        let mut printed = Digest::new();
-        for seed in 1..=10_000 {
-            let moves = schedule(seed);
-            let played = scripts_of(rt.alloc(), *sender, *receiver)?;
-            let told = run(rt.alloc(), played, &moves)?;
-            if let Err(finding) = audit(&scripts, &told) {
-                panic!(rt; "{sender:?} beside {receiver:?}, seed {seed}: {finding}");
-            }
-            told_all.add_trace(&told);
-            let played = scripts_of(rt.alloc(), *sender, *receiver)?;
-            print_run(&mut printed, played, &moves)?;
+/// Draws a schedule from each seed of 1 to 10,000, and runs both scripts under it. Asserts that the auditor
+/// accepts each trace, and that the digests of all of them are these.
+fn assert_drawn(rt: &(impl Abort + AllocGlobal), pair: Pair) -> Result<(), Fail> {
+    let (sender, receiver, traces, texts) = pair;
+    let scripts = scripts_of(rt.alloc(), sender, receiver)?;
+    let mut told_all = Digest::new();
+    let mut printed = Digest::new();
+    for seed in 1..=10_000 {
+        let moves = schedule(seed);
+        let played = scripts_of(rt.alloc(), sender, receiver)?;
+        let told = run(rt.alloc(), played, &moves)?;
+        if let Err(finding) = audit(&scripts, &told) {
+            panic!(rt; "{sender:?} beside {receiver:?}, seed {seed}: {finding}");
         }
-        assert_eq!(rt;
-            told_all.value(),
-            *traces,
-            "traces of {sender:?} beside {receiver:?}"
-        );
-        assert_eq!(rt;
-            printed.value(),
-            *texts,
-            "texts of {sender:?} beside {receiver:?}"
-        );
+        told_all.add_trace(&told);
+        let played = scripts_of(rt.alloc(), sender, receiver)?;
+        print_run(&mut printed, played, &moves)?;
     }
+    assert_eq!(rt;
+        told_all.value(),
+        traces,
+        "traces of {sender:?} beside {receiver:?}"
+    );
+    assert_eq!(rt;
+        printed.value(),
+        texts,
+        "texts of {sender:?} beside {receiver:?}"
+    );
     Ok(())
 }
 
@@ -61,7 +60,7 @@ fn schedule(seed: u64) -> [Move; MOVES] {
     moves
 }
 
-const TRIES: &[Pair] = &[
+const TRIES: [Pair; 3] = [
     (
         Sending::Send,
         Receiving::TryTryDrop,
@@ -83,11 +82,21 @@ const TRIES: &[Pair] = &[
 ];
 
 #[test]
-fn beside_two_tries(rt: HostRuntime) -> Result<(), Fail> {
-    assert_drawn(&rt, TRIES)
+fn a_send_beside_two_tries(rt: HostRuntime) -> Result<(), Fail> {
+    assert_drawn(&rt, TRIES[0])
 }
 
-const RECEIVES_BY_VALUE: &[Pair] = &[
+#[test]
+fn a_drop_beside_two_tries(rt: HostRuntime) -> Result<(), Fail> {
+    assert_drawn(&rt, TRIES[1])
+}
+
+#[test]
+fn a_look_and_a_send_beside_two_tries(rt: HostRuntime) -> Result<(), Fail> {
+    assert_drawn(&rt, TRIES[2])
+}
+
+const RECEIVES_BY_VALUE: [Pair; 3] = [
     (
         Sending::Send,
         Receiving::Recv,
@@ -109,11 +118,21 @@ const RECEIVES_BY_VALUE: &[Pair] = &[
 ];
 
 #[test]
-fn beside_a_receive_by_value(rt: HostRuntime) -> Result<(), Fail> {
-    assert_drawn(&rt, RECEIVES_BY_VALUE)
+fn a_send_beside_a_receive_by_value(rt: HostRuntime) -> Result<(), Fail> {
+    assert_drawn(&rt, RECEIVES_BY_VALUE[0])
 }
 
-const RECEIVES_BY_REFERENCE: &[Pair] = &[
+#[test]
+fn a_drop_beside_a_receive_by_value(rt: HostRuntime) -> Result<(), Fail> {
+    assert_drawn(&rt, RECEIVES_BY_VALUE[1])
+}
+
+#[test]
+fn a_look_and_a_send_beside_a_receive_by_value(rt: HostRuntime) -> Result<(), Fail> {
+    assert_drawn(&rt, RECEIVES_BY_VALUE[2])
+}
+
+const RECEIVES_BY_REFERENCE: [Pair; 3] = [
     (
         Sending::Send,
         Receiving::RefDrop,
@@ -135,11 +154,21 @@ const RECEIVES_BY_REFERENCE: &[Pair] = &[
 ];
 
 #[test]
-fn beside_a_receive_by_reference(rt: HostRuntime) -> Result<(), Fail> {
-    assert_drawn(&rt, RECEIVES_BY_REFERENCE)
+fn a_send_beside_a_receive_by_reference(rt: HostRuntime) -> Result<(), Fail> {
+    assert_drawn(&rt, RECEIVES_BY_REFERENCE[0])
 }
 
-const DEADLINES: &[Pair] = &[
+#[test]
+fn a_drop_beside_a_receive_by_reference(rt: HostRuntime) -> Result<(), Fail> {
+    assert_drawn(&rt, RECEIVES_BY_REFERENCE[1])
+}
+
+#[test]
+fn a_look_and_a_send_beside_a_receive_by_reference(rt: HostRuntime) -> Result<(), Fail> {
+    assert_drawn(&rt, RECEIVES_BY_REFERENCE[2])
+}
+
+const DEADLINES: [Pair; 3] = [
     (
         Sending::Send,
         Receiving::DeadlineTryDrop,
@@ -161,11 +190,21 @@ const DEADLINES: &[Pair] = &[
 ];
 
 #[test]
-fn beside_a_deadline(rt: HostRuntime) -> Result<(), Fail> {
-    assert_drawn(&rt, DEADLINES)
+fn a_send_beside_a_deadline(rt: HostRuntime) -> Result<(), Fail> {
+    assert_drawn(&rt, DEADLINES[0])
 }
 
-const ENDLESS_WAITS: &[Pair] = &[
+#[test]
+fn a_drop_beside_a_deadline(rt: HostRuntime) -> Result<(), Fail> {
+    assert_drawn(&rt, DEADLINES[1])
+}
+
+#[test]
+fn a_look_and_a_send_beside_a_deadline(rt: HostRuntime) -> Result<(), Fail> {
+    assert_drawn(&rt, DEADLINES[2])
+}
+
+const ENDLESS_WAITS: [Pair; 3] = [
     (
         Sending::Send,
         Receiving::Forever,
@@ -187,11 +226,21 @@ const ENDLESS_WAITS: &[Pair] = &[
 ];
 
 #[test]
-fn beside_an_endless_wait(rt: HostRuntime) -> Result<(), Fail> {
-    assert_drawn(&rt, ENDLESS_WAITS)
+fn a_send_beside_an_endless_wait(rt: HostRuntime) -> Result<(), Fail> {
+    assert_drawn(&rt, ENDLESS_WAITS[0])
 }
 
-const POLLS: &[Pair] = &[
+#[test]
+fn a_drop_beside_an_endless_wait(rt: HostRuntime) -> Result<(), Fail> {
+    assert_drawn(&rt, ENDLESS_WAITS[1])
+}
+
+#[test]
+fn a_look_and_a_send_beside_an_endless_wait(rt: HostRuntime) -> Result<(), Fail> {
+    assert_drawn(&rt, ENDLESS_WAITS[2])
+}
+
+const POLLS: [Pair; 3] = [
     (
         Sending::Send,
         Receiving::PollPollPollDrop,
@@ -213,6 +262,16 @@ const POLLS: &[Pair] = &[
 ];
 
 #[test]
-fn beside_three_polls(rt: HostRuntime) -> Result<(), Fail> {
-    assert_drawn(&rt, POLLS)
+fn a_send_beside_three_polls(rt: HostRuntime) -> Result<(), Fail> {
+    assert_drawn(&rt, POLLS[0])
+}
+
+#[test]
+fn a_drop_beside_three_polls(rt: HostRuntime) -> Result<(), Fail> {
+    assert_drawn(&rt, POLLS[1])
+}
+
+#[test]
+fn a_look_and_a_send_beside_three_polls(rt: HostRuntime) -> Result<(), Fail> {
+    assert_drawn(&rt, POLLS[2])
 }
