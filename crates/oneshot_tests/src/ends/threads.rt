@@ -1,10 +1,8 @@
 //! Each end on a thread of its own.
 
-use oneshot::{
-    AsyncReceiver, RawSender, Receiver, SendError, Sender, TryRecvError, async_channel, channel,
-};
+use oneshot::{RawSender, Receiver, SendError, Sender, TryRecvError, channel};
 use std::mem::size_of_val;
-use std::sync::{Arc, Wait};
+use std::sync::Arc;
 use std::test::Fail;
 use std::thread::{Threads, join};
 
@@ -60,23 +58,6 @@ fn two_threads_look_at_one_sender(rt: HostRuntime) -> Result<(), Fail> {
     assert_eq!(rt; two_looks(&rt, &sender), (false, false));
     drop(receiver);
     assert_eq!(rt; two_looks(&rt, &sender), (true, true));
-    Ok(())
-}
-
-// What two threads find that look at one future.
-fn two_looks_of_a_future<T: Send + Sync, Rt: Wait + Send + Sync>(
-    rt: &impl Threads,
-    receiver: &AsyncReceiver<T, Rt>,
-) -> (bool, bool) {
-    join(rt, || receiver.has_message(), || receiver.is_closed())
-}
-
-#[test]
-fn two_threads_look_at_one_future(rt: HostRuntime) -> Result<(), Fail> {
-    let (sender, receiver) = async_channel::<u8, _>(&rt, rt.alloc())?;
-    assert_eq!(rt; two_looks_of_a_future(&rt, &receiver), (false, false));
-    assert!(rt; sender.send(5).is_ok());
-    assert_eq!(rt; two_looks_of_a_future(&rt, &receiver), (true, false));
     Ok(())
 }
 
