@@ -16,10 +16,8 @@ fn a_line_ends_where_a_page_is_full(rt: HostRuntime) -> Result<(), Fail> {
     ];
     for (calls, moves, end) in pages {
         let (input, output) = receives(rt.alloc(), calls, moves)?;
-        assert!(rt;
-            output.as_bytes()[..end].ends_with(b"\n"),
-            "{calls} receives"
-        );
+        let page = output.as_bytes().get(..end).ok_or("a short output")?;
+        assert!(rt; page.ends_with(b"\n"), "{calls} receives");
         assert_trace(&rt, &input, &output);
     }
     Ok(())
