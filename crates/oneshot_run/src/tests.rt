@@ -67,3 +67,24 @@ fn idle(alloc: Global, moves: usize) -> Result<(String, String), AllocError> {
     output.push_str("rest none\nblock here\n")?;
     Ok((input, output))
 }
+
+/// An input of so many receives that find nothing and then of moves without a call, and its output.
+fn receives(alloc: Global, calls: usize, moves: usize) -> Result<(String, String), AllocError> {
+    let mut input = String::from_str(alloc, "S send 7\nR")?;
+    let mut output = String::new(alloc);
+    for _ in 0..calls {
+        input.push_str(" try")?;
+    }
+    input.push_str("\nX ")?;
+    for number in 1..=moves {
+        input.push('r')?;
+        let entry = if number <= calls {
+            "load 3>3 = Err(Empty)"
+        } else {
+            "idle"
+        };
+        writeln!(output, "{number} R {entry}")?;
+    }
+    output.push_str("rest NotSent(7)\nblock here\n")?;
+    Ok((input, output))
+}

@@ -1,0 +1,24 @@
+//! Outputs of which a line ends where a page of 4,096 bytes is full, or a byte before or after.
+
+use crate::tests::{assert_trace, receives};
+use std::test::Fail;
+
+#[test]
+fn a_line_ends_where_a_page_is_full(rt: HostRuntime) -> Result<(), Fail> {
+    // How many receives and moves there are, and where a line ends. The last three outputs end there as a whole.
+    let pages = [
+        (2, 400, 4095),
+        (4, 400, 4096),
+        (6, 400, 4097),
+        (3, 375, 4095),
+        (5, 372, 4096),
+        (7, 369, 4097),
+    ];
+    for (calls, moves, end) in pages {
+        let (input, output) = receives(rt.alloc(), calls, moves)?;
+        let page = output.as_bytes().get(..end).ok_or("a short output")?;
+        assert!(rt; page.ends_with(b"\n"), "{calls} receives");
+        assert_trace(&rt, &input, &output);
+    }
+    Ok(())
+}
