@@ -16,9 +16,9 @@ use Rattle.oneshot_laws.specs.Actions.{is_end_of_sender, is_end_of_receiver, is_
 use Rattle.oneshot_laws.specs.Marks.{Mark, marks}
 use Rattle.oneshot_laws.specs.Ended.{has_answered, is_refused, all_ended}
 use Rattle.oneshot_laws.proofs.Coding.{Coding, pairs, by_parts, flags}
-use Rattle.oneshot_laws.proofs.Glanced.{Law, Passes, as_glance, of_call, with_history, LawExplored, nameless_classed, passes_by}
+use Rattle.oneshot_laws.proofs.Glanced.{Law, Passes, as_glance, of_call, Passed}
 use Rattle.oneshot_laws.proofs.Glances.{Glance, glance_of}
-use Rattle.oneshot_laws.proofs.Watched.{Names, no_names, Classed}
+use Rattle.oneshot_laws.proofs.Watched.{Names, no_names}
 
 -- which calls have answered that end something, and what is kept besides
 pub record Kept (X : Type 0) : Type 0 where
@@ -134,23 +134,21 @@ module _ {X : Type 0} (ending : Ending X) where
 nothing_over : (good : Bool) → only_if (is_over false false false false) good ≡ true
 nothing_over good = refl
 
--- what the checker found of an ending, and the classes that it takes
-abbrev pub EndingExplored : {X : Type 0} → Ending X → Type 0
-EndingExplored ending = LawExplored (kept ending)
+-- the ending's law passes a run, as it is seen by classes
+abbrev pub PassesEnding : {X T : Type 0} → Ending X → Classes → SenderScript T → ReceiverScript → List Entry → Type 0
+PassesEnding ending k s r entries =
+    Passes (kept ending) (nothing_ended (ending.first (opening_place s.last))) (map (as_glance k) (map glance_of (marks (calls_of s r) entries)))
 
-abbrev pub EndingClassed : {X : Type 0} → Ending X → Classes → Type 0
-EndingClassed ending k = Classed (with_history (kept ending)) k
-
-module _ {X : Type 0} (ending : Ending X) (k : Classes) (classed : EndingClassed ending k) (explored : EndingExplored ending) where
+module _ {X T : Type 0} (ending : Ending X) (k : Classes) (s : SenderScript T) (r : ReceiverScript) (entries : List Entry) where
   -- each time what is asked, as the run is seen by classes
-  pub asked_run : {T : Type 0} (s : SenderScript T) (r : ReceiverScript) (worlds : List World) (moves : List Move) (entries : List Entry) → classed.apt 1 ((with_history (kept ending)).first (opening_place s.last)) ≡ true → Tells (opening s r) worlds moves entries → Asked ending (ending.first (opening_place s.last)) (map (as_glance k) (map glance_of (marks (calls_of s r) entries)))
-  asked_run s r worlds moves entries apt tells =
-      asked ending (map (as_glance k) (map glance_of (marks (calls_of s r) entries))) (nothing_ended (ending.first (opening_place s.last))) (passes_by (kept ending) k classed explored s r worlds moves entries apt tells)
+  pub asked_run : PassesEnding ending k s r entries → Asked ending (ending.first (opening_place s.last)) (map (as_glance k) (map glance_of (marks (calls_of s r) entries)))
+  asked_run p =
+      asked ending (map (as_glance k) (map glance_of (marks (calls_of s r) entries))) (nothing_ended (ending.first (opening_place s.last))) p
 
   -- and at the end the claim
-  pub ended_run : {T : Type 0} (s : SenderScript T) (r : ReceiverScript) (worlds : List World) (moves : List Move) (entries : List Entry) → classed.apt 1 ((with_history (kept ending)).first (opening_place s.last)) ≡ true → Tells (opening s r) worlds moves entries → only_if (all_ended (marks (calls_of s r) entries)) (ending.good (own_after ending.own_then (ending.first (opening_place s.last)) (map (as_glance k) (map glance_of (marks (calls_of s r) entries))))) ≡ true
-  ended_run s r worlds moves entries apt tells =
-      fine_at_end ending k (marks (calls_of s r) entries) (nothing_ended (ending.first (opening_place s.last))) (nothing_over (ending.good (ending.first (opening_place s.last)))) (passes_by (kept ending) k classed explored s r worlds moves entries apt tells)
+  pub ended_run : PassesEnding ending k s r entries → only_if (all_ended (marks (calls_of s r) entries)) (ending.good (own_after ending.own_then (ending.first (opening_place s.last)) (map (as_glance k) (map glance_of (marks (calls_of s r) entries))))) ≡ true
+  ended_run p =
+      fine_at_end ending k (marks (calls_of s r) entries) (nothing_ended (ending.first (opening_place s.last))) (nothing_over (ending.good (ending.first (opening_place s.last)))) p
 
 -- of an ending that looks at no name
 pub record EndingNameless {X : Type 0} (ending : Ending X) : Type 0 where
@@ -162,7 +160,7 @@ module _ {X : Type 0} (ending : Ending X) (nameless : EndingNameless ending) whe
   after_as k [] own = refl
   after_as k (g ∷ gs) own = ap (λ own. own_after ending.own_then own (map (as_glance k) gs)) (nameless.own_same k own g) ∙ after_as k gs (ending.own_then own g)
 
-  pub at_the_end : EndingExplored ending → {T : Type 0} (s : SenderScript T) (r : ReceiverScript) (worlds : List World) (moves : List Move) (entries : List Entry) → Tells (opening s r) worlds moves entries → only_if (all_ended (marks (calls_of s r) entries)) (ending.good (own_after ending.own_then (ending.first (opening_place s.last)) (map glance_of (marks (calls_of s r) entries)))) ≡ true
-  at_the_end explored s r worlds moves entries tells =
+  pub at_the_end : {T : Type 0} → Passed (kept ending) T → (s : SenderScript T) (r : ReceiverScript) (worlds : List World) (moves : List Move) (entries : List Entry) → Tells (opening s r) worlds moves entries → only_if (all_ended (marks (calls_of s r) entries)) (ending.good (own_after ending.own_then (ending.first (opening_place s.last)) (map glance_of (marks (calls_of s r) entries)))) ≡ true
+  at_the_end each s r worlds moves entries tells =
       subst (λ own. only_if (all_ended (marks (calls_of s r) entries)) (ending.good own) ≡ true) (after_as all_alike (map glance_of (marks (calls_of s r) entries)) (ending.first (opening_place s.last)))
-      (ended_run ending all_alike (nameless_classed (kept ending) (ap of_kept nameless.none)) explored s r worlds moves entries refl tells)
+      (ended_run ending all_alike s r entries (each s r worlds moves entries tells))

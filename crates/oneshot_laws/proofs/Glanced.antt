@@ -16,7 +16,7 @@ use Rattle.oneshot_world.specs.declared.trace.Entry.{Entry}
 use Rattle.oneshot_world.specs.declared.trace.Entry.TheVariants.{Idle, Made as Made_entry}
 use Rattle.oneshot_world.specs.declared.trace.Made.{Made}
 use Rattle.oneshot_world.specs.declared.trace.Place.{Place}
-use Rattle.oneshot_world.proofs.Bools.{and_right}
+use Rattle.oneshot_world.proofs.Bools.{and_left, and_right}
 use Rattle.oneshot_laws.specs.Marks.{Mark, marks, call_under_way}
 use Rattle.oneshot_laws.specs.Object.{Object}
 use Rattle.oneshot_laws.proofs.Coding.{Coding, pairs, by_parts}
@@ -155,13 +155,50 @@ passes_by law k classed explored s r worlds moves entries apt told =
 abbrev pub nameless_classed : {N : Type 0} (law : Law N) → law.names ≡ no_names → Classed (with_history law) all_alike
 nameless_classed law none = all_classed (with_history law) (ap of_pairs none)
 
+-- each run passes the law, as it is seen with all names alike
+abbrev pub Passed : {N : Type 0} → Law N → Type 0 → Type 0
+Passed law T =
+    (s : SenderScript T) (r : ReceiverScript) (worlds : List World) (moves : List Move) (entries : List Entry)
+    → Tells (opening s r) worlds moves entries → Passes law (law.first (opening_place s.last)) (map (as_glance all_alike) (map glance_of (marks (calls_of s r) entries)))
+
+-- a law that knows no name, where all that a run can reach was explored
+pub passed : {N : Type 0} (law : Law N) → law.names ≡ no_names → LawExplored law → {T : Type 0} → Passed law T
+passed law none explored s r worlds moves entries told =
+    passes_by law all_alike (nameless_classed law none) explored s r worlds moves entries refl told
+
 -- a law that looks at no name accepts each run
-pub passes_run : {N : Type 0} (law : Law N) → Nameless law → LawExplored law → {T : Type 0} (s : SenderScript T) (r : ReceiverScript) (worlds : List World) (moves : List Move) (entries : List Entry) → Tells (opening s r) worlds moves entries → Passes law (law.first (opening_place s.last)) (map glance_of (marks (calls_of s r) entries))
-passes_run law nameless explored s r worlds moves entries told =
+pub passes_run : {N T : Type 0} (law : Law N) → Nameless law → Passed law T → (s : SenderScript T) (r : ReceiverScript) (worlds : List World) (moves : List Move) (entries : List Entry) → Tells (opening s r) worlds moves entries → Passes law (law.first (opening_place s.last)) (map glance_of (marks (calls_of s r) entries))
+passes_run law nameless each s r worlds moves entries told =
     passes_alike law nameless all_alike (map glance_of (marks (calls_of s r) entries)) (law.first (opening_place s.last))
-    (passes_by law all_alike (nameless_classed law nameless.none) explored s r worlds moves entries refl told)
+    (each s r worlds moves entries told)
 
 -- so a claim on the marks holds of each run that follows from the law
-pub holds_by : {N T : Type 0} (law : Law N) → Nameless law → LawExplored law → (claim : List Mark → Bool) → ((place : Option Place) (ms : List Mark) → Passes law (law.first place) (map glance_of ms) → claim ms ≡ true) → EachRun T claim
-holds_by law nameless explored claim meets s r worlds moves entries told =
-    meets (opening_place s.last) (marks (calls_of s r) entries) (passes_run law nameless explored s r worlds moves entries told)
+pub holds_by : {N T : Type 0} (law : Law N) → Nameless law → Passed law T → (claim : List Mark → Bool) → ((place : Option Place) (ms : List Mark) → Passes law (law.first place) (map glance_of ms) → claim ms ≡ true) → EachRun T claim
+holds_by law nameless each claim meets s r worlds moves entries told =
+    meets (opening_place s.last) (marks (calls_of s r) entries) (passes_run law nameless each s r worlds moves entries told)
+
+-- two laws that know no name, as one: so both are explored at once
+module _ {N M : Type 0} (a : Law N) (b : Law M) where
+  abbrev pub together : Law (N × M)
+  together =
+      record {
+        coding = pairs a.coding b.coding;
+        passes = λ x g. a.passes x.0 g && b.passes x.1 g;
+        sees = λ x g. (a.sees x.0 g, b.sees x.1 g);
+        names = no_names;
+        first = λ place. (a.first place, b.first place);
+      }
+
+  first_passes : (gs : List Glance) (x : N × M) → Passes together x gs → Passes a x.0 gs
+  first_passes [] x p = tt
+  first_passes (g ∷ gs) x p = (and_left _ _ p.0, first_passes gs _ p.1)
+
+  second_passes : (gs : List Glance) (x : N × M) → Passes together x gs → Passes b x.1 gs
+  second_passes [] x p = tt
+  second_passes (g ∷ gs) x p = (and_right (a.passes x.0 g) _ p.0, second_passes gs _ p.1)
+
+  pub first_passed : {T : Type 0} → Passed together T → Passed a T
+  first_passed both s r worlds moves entries told = first_passes _ _ (both s r worlds moves entries told)
+
+  pub second_passed : {T : Type 0} → Passed together T → Passed b T
+  second_passed both s r worlds moves entries told = second_passes _ _ (both s r worlds moves entries told)

@@ -9,8 +9,8 @@ use Rattle.oneshot_laws.specs.Marks.{Mark, marks, after_each}
 use Rattle.oneshot_laws.specs.Ended.{all_ended}
 use Rattle.oneshot_laws.specs.Holders.{Holders, both_hold, holds, other, is_here, uses_block, frees, is_held, is_free_last, is_freed, is_freed_at_end, is_freed_right}
 use Rattle.oneshot_laws.proofs.Coding.{Coding, pairs, by_parts, flags}
-use Rattle.oneshot_laws.proofs.EndedRuns.{Ending, EndingExplored, kept, own_after, nothing_asked, at_the_end, or_more}
-use Rattle.oneshot_laws.proofs.Glanced.{Law, Passes, Nameless, nameless_of, LawExplored, all_glanced, holds_by}
+use Rattle.oneshot_laws.proofs.EndedRuns.{Ending, kept, own_after, nothing_asked, at_the_end, or_more}
+use Rattle.oneshot_laws.proofs.Glanced.{Law, Passes, Nameless, nameless_of, Passed, holds_by}
 use Rattle.oneshot_laws.proofs.Glances.{Glance, glance_of}
 use Rattle.oneshot_laws.proofs.MarksAfterEach.{ever_law, ever_after}
 use Rattle.oneshot_laws.proofs.Watched.{no_names, EachRun}
@@ -40,7 +40,7 @@ abbrev holdings : Coding Holders
 holdings =
     by_parts (λ h. (h.sender, h.receiver)) (λ p. record { sender = p.0; receiver = p.1 }) (λ h. refl) (pairs flags flags)
 
-abbrev held_law : Law Holders
+abbrev pub held_law : Law Holders
 held_law =
     record { coding = holdings; passes = is_used_by_holder; sees = then_held; names = no_names; first = λ place. both_hold }
 
@@ -51,21 +51,18 @@ held (m ∷ ms) h p = both _ _ p.0 (held ms _ p.1)
 held_nameless : Nameless held_law
 held_nameless = nameless_of held_law refl (λ k n g. (refl, refl)) (λ n g a b. (refl, refl))
 
-held_explored : LawExplored held_law
-held_explored = record { found = all_glanced held_law; all = refl }
-
-held_run : {T : Type 0} → EachRun T (is_held both_hold)
-held_run = holds_by held_law held_nameless held_explored (is_held both_hold) (λ place ms. held ms both_hold)
+held_run : {T : Type 0} → Passed held_law T → EachRun T (is_held both_hold)
+held_run each = holds_by held_law held_nameless each (is_held both_hold) (λ place ms. held ms both_hold)
 
 -- nothing uses the block after a free
 abbrev leaves_alone : Glance → Bool
 leaves_alone g = not (uses g)
 
-free_nameless : Nameless (ever_law is_freeing leaves_alone)
-free_nameless = nameless_of (ever_law is_freeing leaves_alone) refl (λ k n g. (refl, refl)) (λ n g a b. (refl, refl))
+abbrev pub free_law : Law Bool
+free_law = ever_law is_freeing leaves_alone
 
-free_explored : LawExplored (ever_law is_freeing leaves_alone)
-free_explored = record { found = all_glanced (ever_law is_freeing leaves_alone); all = refl }
+free_nameless : Nameless free_law
+free_nameless = nameless_of free_law refl (λ k n g. (refl, refl)) (λ n g a b. (refl, refl))
 
 none_uses : (ms : List Mark) → list_all (λ m. leaves_alone (glance_of m)) ms ≡ not (list_any uses_block ms)
 none_uses [] = refl
@@ -82,15 +79,15 @@ free_last (m ∷ ms) h =
     (subst (λ unused. only_if (frees m) unused ≡ true) (none_uses ms) (and_left _ _ h))
     (free_last ms (and_right (only_if (frees m) (list_all (λ m. leaves_alone (glance_of m)) ms)) _ h))
 
-free_last_run : {T : Type 0} → EachRun T is_free_last
-free_last_run s r worlds moves entries tells =
-    free_last (marks (calls_of s r) entries) (ever_after is_freeing leaves_alone free_nameless free_explored s r worlds moves entries tells)
+free_last_run : {T : Type 0} → Passed free_law T → EachRun T is_free_last
+free_last_run each s r worlds moves entries tells =
+    free_last (marks (calls_of s r) entries) (ever_after is_freeing leaves_alone free_nameless each s r worlds moves entries tells)
 
 -- once all have ended the block is freed
 abbrev freed_then : Bool → Glance → Bool
 freed_then freed g = freed || is_freeing g
 
-abbrev freed_ending : Ending Bool
+abbrev pub freed_ending : Ending Bool
 freed_ending =
     record {
       coding = flags;
@@ -106,16 +103,13 @@ freed_after [] freed = elim freed as (λ b. b ≡ (b || false)) [ true ↦ refl 
 freed_after (m ∷ ms) freed =
     rw (or_more freed (frees m) (is_freed ms)) (freed_after ms (freed || frees m))
 
-freed_explored : EndingExplored freed_ending
-freed_explored = record { found = all_glanced (kept freed_ending); all = refl }
-
-freed_at_end : {T : Type 0} → EachRun T is_freed_at_end
-freed_at_end s r worlds moves entries tells =
+freed_at_end : {T : Type 0} → Passed (kept freed_ending) T → EachRun T is_freed_at_end
+freed_at_end each s r worlds moves entries tells =
     subst (λ freed. only_if (all_ended (marks (calls_of s r) entries)) freed ≡ true) (freed_after (marks (calls_of s r) entries) false)
-    (at_the_end freed_ending (record { none = refl; own_same = λ k freed g. refl }) freed_explored s r worlds moves entries tells)
+    (at_the_end freed_ending (record { none = refl; own_same = λ k freed g. refl }) each s r worlds moves entries tells)
 
-pub freed_right : {T : Type 0} → EachRun T is_freed_right
-freed_right s r worlds moves entries tells =
+pub freed_right : {T : Type 0} → Passed held_law T → Passed free_law T → Passed (kept freed_ending) T → EachRun T is_freed_right
+freed_right by_holders last at_end s r worlds moves entries tells =
     both _ _
-    (both _ _ (held_run s r worlds moves entries tells) (free_last_run s r worlds moves entries tells))
-    (freed_at_end s r worlds moves entries tells)
+    (both _ _ (held_run by_holders s r worlds moves entries tells) (free_last_run last s r worlds moves entries tells))
+    (freed_at_end at_end s r worlds moves entries tells)

@@ -23,3 +23,4 @@ pub mod RepliesDroppedOnce
 pub mod AloneRuns
 pub mod BoundsRuns
 pub mod BoundsSoon
+pub mod EveryRun

@@ -5,7 +5,7 @@ use Rattle.oneshot_world.proofs.Bools.{both}
 use Rattle.oneshot_laws.specs.Entries.{only_if}
 use Rattle.oneshot_laws.specs.Marks.{Mark, after_each}
 use Rattle.oneshot_laws.proofs.Coding.{flags}
-use Rattle.oneshot_laws.proofs.Glanced.{Law, Passes, Nameless, LawExplored, holds_by}
+use Rattle.oneshot_laws.proofs.Glanced.{Law, Passes, Nameless, Passed, holds_by}
 use Rattle.oneshot_laws.proofs.Glances.{Glance, glance_of}
 use Rattle.oneshot_laws.proofs.Watched.{no_names, EachRun}
 
@@ -44,5 +44,5 @@ module _ (test good : Glance → Bool) where
   good_after (m ∷ ms) after p =
       both _ _ (from_here after (test (glance_of m)) _ (all_good ms _ p.1)) (good_after ms _ p.1)
 
-  pub ever_after : {T : Type 0} → Nameless ever_law → LawExplored ever_law → EachRun T (after_each (λ m. test (glance_of m)) (list_all (λ m. good (glance_of m))))
-  ever_after nameless explored = holds_by ever_law nameless explored _ (λ place ms. good_after ms false)
+  pub ever_after : {T : Type 0} → Nameless ever_law → Passed ever_law T → EachRun T (after_each (λ m. test (glance_of m)) (list_all (λ m. good (glance_of m))))
+  ever_after nameless each = holds_by ever_law nameless each _ (λ place ms. good_after ms false)

@@ -4,7 +4,7 @@ use Rattle.oneshot_world.proofs.Bools.{both}
 use Rattle.oneshot_laws.specs.Marks.{Mark}
 use Rattle.oneshot_laws.specs.MessagePlaces.{may_put, is_message_put}
 use Rattle.oneshot_laws.proofs.Coding.{flags}
-use Rattle.oneshot_laws.proofs.Glanced.{Law, Passes, Nameless, nameless_of, LawExplored, all_glanced, holds_by}
+use Rattle.oneshot_laws.proofs.Glanced.{Law, Passes, Nameless, nameless_of, Passed, holds_by}
 use Rattle.oneshot_laws.proofs.Glances.{Glance, glance_of}
 use Rattle.oneshot_laws.proofs.Watched.{no_names, EachRun}
 
@@ -15,7 +15,7 @@ puts state g = elim g.entry.message [ None ↦ true | Some move ↦ may_put g.ca
 abbrev stays : Bool → Glance → Bool
 stays state g = false
 
-abbrev put_law : Law Bool
+abbrev pub put_law : Law Bool
 put_law = record { coding = flags; passes = puts; sees = stays; names = no_names; first = λ place. false }
 
 put : (ms : List Mark) (state : Bool) → Passes put_law state (map glance_of ms) → is_message_put ms ≡ true
@@ -25,8 +25,5 @@ put (m ∷ ms) state p = both _ _ p.0 (put ms false p.1)
 nameless : Nameless put_law
 nameless = nameless_of put_law refl (λ k n g. (refl, refl)) (λ n g a b. (refl, refl))
 
-explored : LawExplored put_law
-explored = record { found = all_glanced put_law; all = refl }
-
-pub message_put : {T : Type 0} → EachRun T is_message_put
-message_put = holds_by put_law nameless explored is_message_put (λ place ms. put ms false)
+pub message_put : {T : Type 0} → Passed put_law T → EachRun T is_message_put
+message_put each = holds_by put_law nameless each is_message_put (λ place ms. put ms false)

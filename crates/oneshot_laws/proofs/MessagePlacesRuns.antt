@@ -23,8 +23,8 @@ use Rattle.oneshot_laws.specs.Marks.{Reading, Mark, marks, marks_from}
 use Rattle.oneshot_laws.specs.Ended.{all_ended}
 use Rattle.oneshot_laws.specs.MessagePlaces.{is_path, last_place, is_same_place, is_message_move, message_moves, is_message_followed, last_message_place, is_message_end, is_message_ended}
 use Rattle.oneshot_laws.proofs.Coding.{pairs, by_parts, or_none, flags, places}
-use Rattle.oneshot_laws.proofs.EndedRuns.{Ending, EndingExplored, EndingNameless, kept, own_after, nothing_asked, at_the_end, or_more, or_false}
-use Rattle.oneshot_laws.proofs.Glanced.{Law, Passes, Nameless, as_glance, of_call, LawExplored, all_glanced, passes_run}
+use Rattle.oneshot_laws.proofs.EndedRuns.{Ending, EndingNameless, kept, own_after, nothing_asked, at_the_end, or_more, or_false}
+use Rattle.oneshot_laws.proofs.Glanced.{Law, Passes, Nameless, as_glance, of_call, Passed, passes_run}
 use Rattle.oneshot_laws.proofs.Glances.{Glance, glance_of}
 use Rattle.oneshot_laws.proofs.Watched.{no_names}
 
@@ -54,7 +54,7 @@ abbrev place_then : Option Place → Glance → Option Place
 place_then None g = None
 place_then (Some place) g = Some (goes_to place g.entry.message)
 
-abbrev path_law : Law (Option Place)
+abbrev pub path_law : Law (Option Place)
 path_law =
     record { coding = or_none places; passes = moves_rightly; sees = place_then; names = no_names; first = λ place. place }
 
@@ -100,13 +100,10 @@ place_as k (Some place) g = refl
 path_nameless : Nameless path_law
 path_nameless = record { none = refl; passes_same = λ k place g. refl; sees_same = place_as }
 
-path_explored : LawExplored path_law
-path_explored = record { found = all_glanced path_law; all = refl }
-
-pub message_followed : {T : Type 0} (s : SenderScript T) (r : ReceiverScript) (worlds : List World) (moves : List Move) (entries : List Entry) → Tells (opening s r) worlds moves entries → is_message_followed (calls_of s r) entries ≡ true
-message_followed s r worlds moves entries tells =
+pub message_followed : {T : Type 0} → Passed path_law T → (s : SenderScript T) (r : ReceiverScript) (worlds : List World) (moves : List Move) (entries : List Entry) → Tells (opening s r) worlds moves entries → is_message_followed (calls_of s r) entries ≡ true
+message_followed each s r worlds moves entries tells =
     let at_marks = path (marks (calls_of s r) entries) (opening_place s.last)
-    (passes_run path_law path_nameless path_explored s r worlds moves entries tells) in
+    (passes_run path_law path_nameless each s r worlds moves entries tells) in
     let at_entries : IsPath (is_some (opening_place s.last)) (or_not_sent (opening_place s.last)) (message_moves entries) =
     subst (IsPath _ _) (sym (shown entries _ _ 1 _)) at_marks in
     let from_start : IsPath (is_some (opening_place s.last)) NotSent (message_moves entries) =
@@ -124,7 +121,7 @@ sending_then x g = record { begun = x.begun || is_send g.call; place = goes_to x
 abbrev not_sent_yet : Sending
 not_sent_yet = record { begun = false; place = NotSent }
 
-abbrev sending_ending : Ending Sending
+abbrev pub sending_ending : Ending Sending
 sending_ending =
     record {
       coding =
@@ -157,17 +154,14 @@ sending_nameless =
       own_same = λ k x g. of_call k (λ call. sending_then x (record g { call = call })) (λ a b. refl) g.call;
     }
 
-end_explored : EndingExplored sending_ending
-end_explored = record { found = all_glanced (kept sending_ending); all = refl }
-
 if_both : (a b c : Bool) → only_if a (only_if b c) ≡ true → only_if (a && b) c ≡ true
 if_both true b c h = h
 if_both false b c h = refl
 
-pub message_ended : {T : Type 0} (s : SenderScript T) (r : ReceiverScript) (worlds : List World) (moves : List Move) (entries : List Entry) → Tells (opening s r) worlds moves entries → is_message_ended entries (marks (calls_of s r) entries) ≡ true
-message_ended s r worlds moves entries tells =
+pub message_ended : {T : Type 0} → Passed (kept sending_ending) T → (s : SenderScript T) (r : ReceiverScript) (worlds : List World) (moves : List Move) (entries : List Entry) → Tells (opening s r) worlds moves entries → is_message_ended entries (marks (calls_of s r) entries) ≡ true
+message_ended each s r worlds moves entries tells =
     let last = place_after (marks (calls_of s r) entries) not_sent_yet ∙ sym (ap (last_place NotSent) (shown entries _ _ 1 _)) in
     if_both (all_ended (marks (calls_of s r) entries)) (list_any (λ m. is_send m.call) (marks (calls_of s r) entries)) (is_message_end (last_message_place entries))
     (subst (λ begun. only_if (all_ended (marks (calls_of s r) entries)) (only_if begun (is_message_end (last_message_place entries))) ≡ true) (begun_after (marks (calls_of s r) entries) not_sent_yet)
     (subst (λ place. only_if (all_ended (marks (calls_of s r) entries)) (only_if (own_after sending_then not_sent_yet (map glance_of (marks (calls_of s r) entries))).begun (is_message_end place)) ≡ true) last
-    (at_the_end sending_ending sending_nameless end_explored s r worlds moves entries tells)))
+    (at_the_end sending_ending sending_nameless each s r worlds moves entries tells)))

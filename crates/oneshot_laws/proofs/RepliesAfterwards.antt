@@ -7,7 +7,7 @@ use Rattle.oneshot_laws.specs.Entries.{only_if, is_reply}
 use Rattle.oneshot_laws.specs.Actions.{is_receive, is_send, is_sender_look, is_closed_look}
 use Rattle.oneshot_laws.specs.History.{agrees}
 use Rattle.oneshot_laws.specs.Replies.{is_gone_after_got, is_gone_after_closed, is_refused_after_closed}
-use Rattle.oneshot_laws.proofs.Glanced.{Nameless, nameless_of, LawExplored, all_glanced}
+use Rattle.oneshot_laws.proofs.Glanced.{Law, Nameless, nameless_of, Passed}
 use Rattle.oneshot_laws.proofs.Glances.{Glance}
 use Rattle.oneshot_laws.proofs.MarksAfterEach.{ever_law, ever_after}
 use Rattle.oneshot_laws.proofs.Watched.{EachRun}
@@ -26,14 +26,14 @@ got = told is_receive R.Message
 abbrev gone : Glance → Bool
 gone = tells_only is_receive R.Disconnected
 
-got_nameless : Nameless (ever_law got gone)
-got_nameless = nameless_of (ever_law got gone) refl (λ k n g. (refl, refl)) (λ n g a b. (refl, refl))
+abbrev pub got_law : Law Bool
+got_law = ever_law got gone
 
-got_explored : LawExplored (ever_law got gone)
-got_explored = record { found = all_glanced (ever_law got gone); all = refl }
+got_nameless : Nameless got_law
+got_nameless = nameless_of got_law refl (λ k n g. (refl, refl)) (λ n g a b. (refl, refl))
 
-pub gone_after_got : {T : Type 0} → EachRun T is_gone_after_got
-gone_after_got = ever_after got gone got_nameless got_explored
+pub gone_after_got : {T : Type 0} → Passed got_law T → EachRun T is_gone_after_got
+gone_after_got = ever_after got gone got_nameless
 
 -- gone, and closed, once closed
 abbrev closed : Glance → Bool
@@ -42,14 +42,14 @@ closed = told is_closed_look R.Yes
 abbrev stays_closed : Glance → Bool
 stays_closed g = gone g && tells_only is_closed_look R.Yes g
 
-closed_nameless : Nameless (ever_law closed stays_closed)
-closed_nameless = nameless_of (ever_law closed stays_closed) refl (λ k n g. (refl, refl)) (λ n g a b. (refl, refl))
+abbrev pub closed_law : Law Bool
+closed_law = ever_law closed stays_closed
 
-closed_explored : LawExplored (ever_law closed stays_closed)
-closed_explored = record { found = all_glanced (ever_law closed stays_closed); all = refl }
+closed_nameless : Nameless closed_law
+closed_nameless = nameless_of closed_law refl (λ k n g. (refl, refl)) (λ n g a b. (refl, refl))
 
-pub gone_after_closed : {T : Type 0} → EachRun T is_gone_after_closed
-gone_after_closed = ever_after closed stays_closed closed_nameless closed_explored
+pub gone_after_closed : {T : Type 0} → Passed closed_law T → EachRun T is_gone_after_closed
+gone_after_closed = ever_after closed stays_closed closed_nameless
 
 -- refused once the receiver was gone
 abbrev receiver_gone : Glance → Bool
@@ -58,11 +58,11 @@ receiver_gone = told is_sender_look R.Yes
 abbrev refused : Glance → Bool
 refused = tells_only is_send R.Refused
 
-refused_nameless : Nameless (ever_law receiver_gone refused)
-refused_nameless = nameless_of (ever_law receiver_gone refused) refl (λ k n g. (refl, refl)) (λ n g a b. (refl, refl))
+abbrev pub refused_law : Law Bool
+refused_law = ever_law receiver_gone refused
 
-refused_explored : LawExplored (ever_law receiver_gone refused)
-refused_explored = record { found = all_glanced (ever_law receiver_gone refused); all = refl }
+refused_nameless : Nameless refused_law
+refused_nameless = nameless_of refused_law refl (λ k n g. (refl, refl)) (λ n g a b. (refl, refl))
 
-pub refused_after_closed : {T : Type 0} → EachRun T is_refused_after_closed
-refused_after_closed = ever_after receiver_gone refused refused_nameless refused_explored
+pub refused_after_closed : {T : Type 0} → Passed refused_law T → EachRun T is_refused_after_closed
+refused_after_closed = ever_after receiver_gone refused refused_nameless

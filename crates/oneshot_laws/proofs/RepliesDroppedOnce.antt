@@ -9,7 +9,7 @@ use Rattle.oneshot_laws.specs.Ended.{has_answered}
 use Rattle.oneshot_laws.specs.Replies.{answers, is_dropped, is_dropping, is_one_by_receiver, is_dropped_once}
 use Rattle.oneshot_laws.proofs.RepliesAfterwards.{told}
 use Rattle.oneshot_laws.proofs.Coding.{Coding, listed, pairs, by_parts, flags}
-use Rattle.oneshot_laws.proofs.Glanced.{Law, Passes, Nameless, nameless_of, LawExplored, all_glanced, holds_by}
+use Rattle.oneshot_laws.proofs.Glanced.{Law, Passes, Nameless, nameless_of, Passed, holds_by}
 use Rattle.oneshot_laws.proofs.Glances.{Glance, glance_of}
 use Rattle.oneshot_laws.proofs.Watched.{no_names, EachRun}
 
@@ -63,7 +63,7 @@ drops_code Never = 0
 drops_code By_receiver = 1
 drops_code Wrongly = 2
 
-drops_back : (d : Drops) → get_or (Never ∷ By_receiver ∷ Wrongly ∷ []) (drops_code d) Never ≡ d
+pub drops_back : (d : Drops) → get_or (Never ∷ By_receiver ∷ Wrongly ∷ []) (drops_code d) Never ≡ d
 drops_back Never = refl
 drops_back By_receiver = refl
 drops_back Wrongly = refl
@@ -76,7 +76,7 @@ stories =
 abbrev nothing_told : Story
 nothing_told = record { sent = false; got = false; done = false; drops = Never }
 
-abbrev story_law : Law Story
+abbrev pub story_law : Law Story
 story_law =
     record { coding = stories; passes = goes_well; sees = story_then; names = no_names; first = λ place. nothing_told }
 
@@ -137,14 +137,11 @@ ends_well (m ∷ ms) story well p =
 nameless : Nameless story_law
 nameless = nameless_of story_law refl (λ k n g. (refl, refl)) (λ n g a b. (refl, refl))
 
-explored : LawExplored story_law
-explored = record { found = all_glanced story_law; all = refl }
-
 with_drops : (told : Bool) (ms : List Mark) → only_if told (is_by_receiver (drops_of Never ms)) ≡ true → only_if told (is_one_by_receiver ms) ≡ true
 with_drops true ms h = one_by_receiver ms h
 with_drops false ms h = refl
 
-pub dropped_once : {T : Type 0} → EachRun T is_dropped_once
-dropped_once =
-    holds_by story_law nameless explored is_dropped_once
+pub dropped_once : {T : Type 0} → Passed story_law T → EachRun T is_dropped_once
+dropped_once each =
+    holds_by story_law nameless each is_dropped_once
     (λ place ms p. with_drops _ (filter is_dropping ms) (ends_well ms nothing_told refl p))

@@ -8,7 +8,7 @@ use Rattle.oneshot_laws.specs.Marks.{Mark}
 use Rattle.oneshot_laws.specs.Replies.{next_receive_gets, is_got_after_full}
 use Rattle.oneshot_laws.proofs.RepliesAfterwards.{told}
 use Rattle.oneshot_laws.proofs.Coding.{flags}
-use Rattle.oneshot_laws.proofs.Glanced.{Law, Passes, Nameless, nameless_of, LawExplored, all_glanced, holds_by}
+use Rattle.oneshot_laws.proofs.Glanced.{Law, Passes, Nameless, nameless_of, Passed, holds_by}
 use Rattle.oneshot_laws.proofs.Glances.{Glance, glance_of}
 use Rattle.oneshot_laws.proofs.Watched.{no_names, EachRun}
 
@@ -25,7 +25,7 @@ gets seen g = only_if (seen && answers_receive g) (is_reply R.Message g.entry.re
 abbrev seen_then : Bool → Glance → Bool
 seen_then seen g = elim (answers_receive g) [ true ↦ full g | false ↦ seen || full g ]
 
-abbrev next_law : Law Bool
+abbrev pub next_law : Law Bool
 next_law = record { coding = flags; passes = gets; sees = seen_then; names = no_names; first = λ place. false }
 
 -- with the next receive here, or later
@@ -57,8 +57,5 @@ got (m ∷ ms) seen p =
 nameless : Nameless next_law
 nameless = nameless_of next_law refl (λ k n g. (refl, refl)) (λ n g a b. (refl, refl))
 
-explored : LawExplored next_law
-explored = record { found = all_glanced next_law; all = refl }
-
-pub got_after_full : {T : Type 0} → EachRun T is_got_after_full
-got_after_full = holds_by next_law nameless explored is_got_after_full (λ place ms. got ms false)
+pub got_after_full : {T : Type 0} → Passed next_law T → EachRun T is_got_after_full
+got_after_full each = holds_by next_law nameless each is_got_after_full (λ place ms. got ms false)

@@ -10,7 +10,7 @@ use Rattle.oneshot_laws.specs.Object.{is_open}
 use Rattle.oneshot_laws.specs.Marks.{Mark, side, call_marks, until_reply}
 use Rattle.oneshot_laws.specs.Replies.{is_nothing_only_if_open}
 use Rattle.oneshot_laws.proofs.Coding.{Coding, pairs, by_parts, flags}
-use Rattle.oneshot_laws.proofs.Glanced.{Law, Passes, Nameless, nameless_of, LawExplored, all_glanced, holds_by}
+use Rattle.oneshot_laws.proofs.Glanced.{Law, Passes, Nameless, nameless_of, Passed, holds_by}
 use Rattle.oneshot_laws.proofs.Glances.{Glance, glance_of}
 use Rattle.oneshot_laws.proofs.Watched.{no_names, EachRun}
 
@@ -47,7 +47,7 @@ mets =
 abbrev nothing_met : Met
 nothing_met = record { sender = false; receiver = false }
 
-abbrev met_law : Law Met
+abbrev pub met_law : Law Met
 met_law =
     record { coding = mets; passes = says_nothing_rightly; sees = met_then; names = no_names; first = λ place. nothing_met }
 
@@ -110,8 +110,5 @@ each (m ∷ ms) met p =
 nameless : Nameless met_law
 nameless = nameless_of met_law refl (λ k n g. (refl, refl)) (λ n g a b. (refl, refl))
 
-explored : LawExplored met_law
-explored = record { found = all_glanced met_law; all = refl }
-
-pub nothing_only_if_open : {T : Type 0} → EachRun T is_nothing_only_if_open
-nothing_only_if_open = holds_by met_law nameless explored is_nothing_only_if_open (λ place ms. each ms nothing_met)
+pub nothing_only_if_open : {T : Type 0} → Passed met_law T → EachRun T is_nothing_only_if_open
+nothing_only_if_open every = holds_by met_law nameless every is_nothing_only_if_open (λ place ms. each ms nothing_met)

@@ -28,10 +28,10 @@ use Rattle.oneshot_laws.specs.Ended.{all_ended}
 use Rattle.oneshot_laws.specs.MessagePlaces.{is_path, last_place}
 use Rattle.oneshot_laws.specs.WakerPlaces.{waker_place_code, is_same_waker_place, is_waker_move, first_waker_place, waker_moves, moves_of, is_waker_followed, is_waker_end, is_waker_ended, AreWakersRight, is_cell, cell_then, is_cell_right, is_cell_kept}
 use Rattle.oneshot_laws.proofs.Coding.{listed, flags}
-use Rattle.oneshot_laws.proofs.EndedRuns.{Ending, EndingExplored, EndingClassed, Asked, kept, own_after, asked_run, ended_run}
-use Rattle.oneshot_laws.proofs.Glanced.{Law, Passes, Nameless, as_glance, LawExplored, all_glanced, nameless_classed, passes_run}
+use Rattle.oneshot_laws.proofs.EndedRuns.{Ending, PassesEnding, Asked, kept, own_after, asked_run, ended_run}
+use Rattle.oneshot_laws.proofs.Glanced.{Law, Passes, Nameless, as_glance, with_history, LawExplored, all_glanced, passes_by, Passed, passes_run}
 use Rattle.oneshot_laws.proofs.Glances.{Glance, glance_of}
-use Rattle.oneshot_laws.proofs.Watched.{Names, no_names, is_fresh}
+use Rattle.oneshot_laws.proofs.Watched.{Names, no_names, Classed, is_fresh}
 
 -- the moves that marks show
 abbrev shown_by : List Mark → List WakerMove
@@ -58,7 +58,7 @@ place_then this place g = goes_to this place g.entry.waker
 abbrev waker_places : List WakerPlace
 waker_places = New ∷ Hand ∷ Cell ∷ SenderHand ∷ Used ∷ Dropped ∷ []
 
-place_back : (x : WakerPlace) → get_or waker_places (waker_place_code x) New ≡ x
+pub place_back : (x : WakerPlace) → get_or waker_places (waker_place_code x) New ≡ x
 place_back New = refl
 place_back Hand = refl
 place_back Cell = refl
@@ -142,14 +142,8 @@ module _ {T : Type 0} (s : SenderScript T) (r : ReceiverScript) (entries : List 
         h
 
 -- THE PARKER'S HALF, which is in the hand at first
-abbrev parker_moves : Ending WakerPlace
+abbrev pub parker_moves : Ending WakerPlace
 parker_moves = moves_of_one Parker no_names
-
-parker_explored : EndingExplored parker_moves
-parker_explored = record { found = all_glanced (kept parker_moves); all = refl }
-
-abbrev parker_classed : EndingClassed parker_moves all_alike
-parker_classed = nameless_classed (kept parker_moves) refl
 
 same_as_parker : (x : WakerName) → is_same_waker (as_name all_alike x) Parker ≡ is_same_waker x Parker
 same_as_parker Parker = refl
@@ -173,7 +167,7 @@ of_one_copy = record { polls = one_poll; copies = λ place number. copies_at pla
 abbrev copy_moves : Ending WakerPlace
 copy_moves = moves_of_one this_copy of_one_copy
 
-copy_explored : EndingExplored copy_moves
+copy_explored : LawExplored (kept copy_moves)
 copy_explored = record { found = all_glanced (kept copy_moves); all = refl }
 
 copy_move : (a i b j : ℕ) (from to : WakerPlace) → is_waker_move (Copy a i) from to ≡ is_waker_move (Copy b j) from to
@@ -262,7 +256,7 @@ module _ (number entry : ℕ) where
   goes_at n place (Some (Parker, from, to)) past may fresh = later n (is_new place) past
   goes_at n place (Some (Copy a i, from, to)) past may fresh = goes_by n a i from to place (a == number && i == entry) refl past may fresh
 
-  abbrev copy_classed : EndingClassed copy_moves following
+  abbrev copy_classed : Classed (with_history (kept copy_moves)) following
   copy_classed =
       record {
         apt = λ n x. is_new_or_past n x.state.own;
@@ -272,19 +266,23 @@ module _ (number entry : ℕ) where
         goes = λ n x side call e past a fresh. goes_at n x.state.own e.waker past (and_left _ _ (and_right _ _ a)) fresh;
       }
 
-module _ {T : Type 0} (s : SenderScript T) (r : ReceiverScript) (worlds : List World) (moves : List Move) (entries : List Entry) (tells : Tells (opening s r) worlds moves entries) where
+module _ {T : Type 0} (each : Passed (kept parker_moves) T) (s : SenderScript T) (r : ReceiverScript) (worlds : List World) (moves : List Move) (entries : List Entry) (tells : Tells (opening s r) worlds moves entries) where
+  copy_passes : (number entry : ℕ) → PassesEnding copy_moves (following number entry) s r entries
+  copy_passes number entry =
+      passes_by (kept copy_moves) (following number entry) (copy_classed number entry) copy_explored s r worlds moves entries refl tells
+
   pub wakers_right : AreWakersRight entries (marks (calls_of s r) entries)
   wakers_right Parker = (
     name_followed s r entries all_alike Parker Parker no_names parker_is_followed
-        (asked_run parker_moves all_alike parker_classed parker_explored s r worlds moves entries refl tells),
+        (asked_run parker_moves all_alike s r entries (each s r worlds moves entries tells)),
     name_ended s r entries all_alike Parker Parker no_names parker_is_followed
-        (ended_run parker_moves all_alike parker_classed parker_explored s r worlds moves entries refl tells),
+        (ended_run parker_moves all_alike s r entries (each s r worlds moves entries tells)),
   )
   wakers_right (Copy number entry) = (
     name_followed s r entries (following number entry) (Copy number entry) this_copy of_one_copy (copy_is_followed number entry)
-        (asked_run copy_moves (following number entry) (copy_classed number entry) copy_explored s r worlds moves entries refl tells),
+        (asked_run copy_moves (following number entry) s r entries (copy_passes number entry)),
     name_ended s r entries (following number entry) (Copy number entry) this_copy of_one_copy (copy_is_followed number entry)
-        (ended_run copy_moves (following number entry) (copy_classed number entry) copy_explored s r worlds moves entries refl tells),
+        (ended_run copy_moves (following number entry) s r entries (copy_passes number entry)),
   )
 
 -- a waker is written where none is
@@ -302,7 +300,7 @@ writes_rightly full g = may_write full g.entry.waker
 abbrev full_then : Bool → Glance → Bool
 full_then full g = cell_by full g.entry.waker
 
-abbrev write_law : Law Bool
+abbrev pub write_law : Law Bool
 write_law =
     record { coding = flags; passes = writes_rightly; sees = full_then; names = no_names; first = λ place. false }
 
@@ -330,11 +328,8 @@ write_nameless =
       sees_same = λ k full g. full_as k full g.entry.waker;
     }
 
-write_explored : LawExplored write_law
-write_explored = record { found = all_glanced write_law; all = refl }
-
-pub cell_kept : {T : Type 0} (s : SenderScript T) (r : ReceiverScript) (worlds : List World) (moves : List Move) (entries : List Entry) → Tells (opening s r) worlds moves entries → is_cell_kept entries ≡ true
-cell_kept s r worlds moves entries tells =
+pub cell_kept : {T : Type 0} → Passed write_law T → (s : SenderScript T) (r : ReceiverScript) (worlds : List World) (moves : List Move) (entries : List Entry) → Tells (opening s r) worlds moves entries → is_cell_kept entries ≡ true
+cell_kept each s r worlds moves entries tells =
     subst (λ ms. is_cell_right false ms ≡ true) (sym (shown entries _ _ 1 _))
     (written (marks (calls_of s r) entries) false
-    (passes_run write_law write_nameless write_explored s r worlds moves entries tells))
+    (passes_run write_law write_nameless each s r worlds moves entries tells))

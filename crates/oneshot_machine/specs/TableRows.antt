@@ -1,6 +1,8 @@
 -- How a table is written: for each position the list of its rows, what was seen with where that leads.
 use Rattle.std.specs.Prelude.{Bool, true, false, Option, Some, None, List, [], ◌∷◌, ◌==◌, if◌then◌else◌}
 use Rattle.oneshot_machine.specs.declared.machine.Reply.{Reply}
+use Rattle.oneshot_machine.specs.declared.machine.RowEnd.{RowEnd}
+use Rattle.oneshot_machine.specs.declared.machine.RowEnd.TheVariants as Code
 use Rattle.oneshot_machine.specs.declared.machine.Seen.{Seen}
 use Rattle.oneshot_machine.specs.declared.machine.Seen.TheVariants.{Done, Word, Over, Refused, Token}
 
@@ -33,3 +35,8 @@ row_for seen (row ∷ rows) = if is_same_seen row.0 seen then Some row.1 else ro
 abbrev pub outcome : {P : Type 0} → P × Option Reply → Outcome P
 outcome (position, None) = Goes position
 outcome (position, Some reply) = Answers reply
+
+-- the same of a row's end as the code has it
+abbrev pub leads : {P : Type 0} → RowEnd P → Outcome P
+leads (Code.Goes position) = Goes position
+leads (Code.Answers reply) = Answers reply

@@ -104,3 +104,12 @@ pub enum Reply {
     /// The drop is done.
     Done,
 }
+
+/// Where a row leads.
+#[derive(Clone, Copy)]
+pub(crate) enum RowEnd<Position> {
+    /// To another position of the call.
+    Goes(Position),
+    /// To the reply that ends the call.
+    Answers(Reply),
+}

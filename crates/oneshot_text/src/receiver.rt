@@ -86,18 +86,18 @@ fn parse_last(alloc: Global, mut words: Words<'_>) -> Result<ReceiverLast, Parse
 fn call_of(word: &str) -> Option<ReceiverCall>
     ensures { (call : ReceiverCall) → (result ≡ Some call) ↔ (word_of_call call ≡ word.now) }
 {
-    match word.as_bytes() {
-        b"try" => Some(ReceiverCall::TryRecv),
-        b"ref" => Some(ReceiverCall::RecvRef),
-        b"deadline" => Some(ReceiverCall::RecvDeadline),
-        b"timeout" => Some(ReceiverCall::RecvTimeout {
+    match word {
+        "try" => Some(ReceiverCall::TryRecv),
+        "ref" => Some(ReceiverCall::RecvRef),
+        "deadline" => Some(ReceiverCall::RecvDeadline),
+        "timeout" => Some(ReceiverCall::RecvTimeout {
             representable: true,
         }),
-        b"forever" => Some(ReceiverCall::RecvTimeout {
+        "forever" => Some(ReceiverCall::RecvTimeout {
             representable: false,
         }),
-        b"full" => Some(ReceiverCall::HasMessage),
-        b"closed" => Some(ReceiverCall::IsClosed),
+        "full" => Some(ReceiverCall::HasMessage),
+        "closed" => Some(ReceiverCall::IsClosed),
         _ => None,
     }
 }

@@ -13,7 +13,7 @@ use oneshot_machine::machine::{End, ReceiverPos, Reply, Seen, SenderPos, Step};
 use oneshot_machine::states::EMPTY;
 
 /// Where the sender stands.
-#[derive(Clone, Copy, Debug)]
+#[derive(Clone, Copy)]
 pub enum SenderState {
     /// No call is under way.
     Ready,
@@ -26,7 +26,7 @@ pub enum SenderState {
 }
 
 /// Where the receiver stands.
-#[derive(Clone, Copy, Debug)]
+#[derive(Clone, Copy)]
 pub enum ReceiverState {
     /// No call is under way.
     Ready,
@@ -37,7 +37,7 @@ pub enum ReceiverState {
 }
 
 /// The world without the calls that its scripts have left: finite, but for the names of wakers.
-#[derive(Clone, Copy, Debug)]
+#[derive(Clone, Copy)]
 pub struct State {
     /// The shared word.
     pub word: u8,

@@ -14,7 +14,7 @@ use oneshot_machine::states::Op;
 type WakerMove = (WakerName, WakerPlace, WakerPlace);
 
 /// What a move is told.
-#[derive(Clone, Copy, Debug, Eq, PartialEq)]
+#[derive(Clone, Copy)]
 pub struct Told {
     /// What its clock answers, or whether its copy of a waker is refused.
     pub answer: bool,
@@ -25,7 +25,7 @@ pub struct Told {
 }
 
 /// The waker in each place that holds one, and the token on which the receiver parks.
-#[derive(Clone, Copy, Debug)]
+#[derive(Clone, Copy)]
 pub struct Wakers {
     /// The one in the channel's cell.
     pub cell: Option<WakerName>,

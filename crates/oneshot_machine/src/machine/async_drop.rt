@@ -1,18 +1,20 @@
 //! The drop of a future, which ends as the drop of a receiver.
 
-ghost use Rattle.std.specs.Prelude.{◌≡◌, Some, None, IfSome};
+ghost use Rattle.std.specs.Prelude.{◌≡◌};
 ghost use Rattle.std.specs.Option.{option_map};
-ghost use Rattle.oneshot_machine.specs.TableRows.{outcome, row_for};
+ghost use Rattle.oneshot_machine.specs.TableRows.{leads, row_for};
 ghost use Rattle.oneshot_machine.specs.AsyncDrop.{async_drop_step, async_drop_rows};
-ghost use Rattle.oneshot_machine.specs.declared.machine.receiver.ReceiverPos.TheVariants.{AsyncDrop};
 
-use crate::machine::drop::{self, DropPos};
+use crate::machine::RowEnd::Goes;
+use crate::machine::async_drop::AsyncDropPos::{AsyncBack, AsyncExchange, AsyncLoad, AsyncSpin};
+use crate::machine::drop::DropPos;
 use crate::machine::receiver::ReceiverPos;
-use crate::machine::{Reply, Seen, Step};
+use crate::machine::receiver::ReceiverPos::{AsyncDrop, Drop};
+use crate::machine::{RowEnd, Seen, Step};
 use crate::states::{DISCONNECTED, EMPTY, MESSAGE, Op, RECEIVING, UNPARKING};
 
 /// Where the drop of a future stands.
-#[derive(Clone, Copy, Debug, Eq, PartialEq)]
+#[derive(Clone, Copy)]
 pub enum AsyncDropPos {
     /// The future's drop is about to read the word.
     AsyncLoad,
@@ -30,43 +32,33 @@ impl AsyncDropPos {
         ensures { result ≡ async_drop_step self.now }
     {
         match self {
-            AsyncDropPos::AsyncLoad => Step::Word(Op::Load),
-            AsyncDropPos::AsyncExchange => Step::Word(Op::Exchange(RECEIVING, EMPTY)),
-            AsyncDropPos::AsyncBack => Step::Withdraw,
-            AsyncDropPos::AsyncSpin => Step::Word(Op::Load),
+            AsyncLoad => Step::Word(Op::Load),
+            AsyncExchange => Step::Word(Op::Exchange(RECEIVING, EMPTY)),
+            AsyncBack => Step::Withdraw,
+            AsyncSpin => Step::Word(Op::Load),
         }
     }
 
     // The table: an arm a row, in the order in which it is written.
-    pub(crate) fn row(&self, seen: Seen) -> Option<(ReceiverPos, Option<Reply>)>
-        ensures row { option_map outcome result ≡ row_for seen (async_drop_rows self.now) }
-        ensures stays { IfSome result (λ r. IfSome r.1 (λ _. r.0 ≡ AsyncDrop self.now)) }
+    pub(crate) fn row(&self, seen: Seen) -> Option<RowEnd<ReceiverPos>>
+        ensures { option_map leads result ≡ row_for seen (async_drop_rows self.now) }
     {
-        let found = match (self, seen) {
-            (AsyncDropPos::AsyncLoad, Seen::Word(RECEIVING)) => goes(AsyncDropPos::AsyncExchange),
-            (AsyncDropPos::AsyncLoad, Seen::Word(UNPARKING)) => goes(AsyncDropPos::AsyncSpin),
-            (AsyncDropPos::AsyncLoad, Seen::Word(DISCONNECTED)) => drop::goes(DropPos::DropSwap),
-            (AsyncDropPos::AsyncLoad, Seen::Word(EMPTY)) => drop::goes(DropPos::DropSwap),
-            (AsyncDropPos::AsyncLoad, Seen::Word(MESSAGE)) => drop::goes(DropPos::DropSwap),
-            (AsyncDropPos::AsyncExchange, Seen::Word(RECEIVING)) => goes(AsyncDropPos::AsyncBack),
-            (AsyncDropPos::AsyncExchange, Seen::Word(UNPARKING)) => goes(AsyncDropPos::AsyncSpin),
-            (AsyncDropPos::AsyncExchange, Seen::Word(DISCONNECTED)) => drop::goes(
-                DropPos::DropSwap,
-            ),
-            (AsyncDropPos::AsyncExchange, Seen::Word(MESSAGE)) => drop::goes(DropPos::DropSwap),
-            (AsyncDropPos::AsyncBack, Seen::Done) => drop::goes(DropPos::DropSwap),
-            (AsyncDropPos::AsyncSpin, Seen::Word(UNPARKING)) => goes(AsyncDropPos::AsyncSpin),
-            (AsyncDropPos::AsyncSpin, Seen::Word(DISCONNECTED)) => drop::goes(DropPos::DropSwap),
-            (AsyncDropPos::AsyncSpin, Seen::Word(MESSAGE)) => drop::goes(DropPos::DropSwap),
+        let end = match (self, seen) {
+            (AsyncLoad, Seen::Word(RECEIVING)) => Goes(AsyncDrop(AsyncExchange)),
+            (AsyncLoad, Seen::Word(UNPARKING)) => Goes(AsyncDrop(AsyncSpin)),
+            (AsyncLoad, Seen::Word(DISCONNECTED)) => Goes(Drop(DropPos::DropSwap)),
+            (AsyncLoad, Seen::Word(EMPTY)) => Goes(Drop(DropPos::DropSwap)),
+            (AsyncLoad, Seen::Word(MESSAGE)) => Goes(Drop(DropPos::DropSwap)),
+            (AsyncExchange, Seen::Word(RECEIVING)) => Goes(AsyncDrop(AsyncBack)),
+            (AsyncExchange, Seen::Word(UNPARKING)) => Goes(AsyncDrop(AsyncSpin)),
+            (AsyncExchange, Seen::Word(DISCONNECTED)) => Goes(Drop(DropPos::DropSwap)),
+            (AsyncExchange, Seen::Word(MESSAGE)) => Goes(Drop(DropPos::DropSwap)),
+            (AsyncBack, Seen::Done) => Goes(Drop(DropPos::DropSwap)),
+            (AsyncSpin, Seen::Word(UNPARKING)) => Goes(AsyncDrop(AsyncSpin)),
+            (AsyncSpin, Seen::Word(DISCONNECTED)) => Goes(Drop(DropPos::DropSwap)),
+            (AsyncSpin, Seen::Word(MESSAGE)) => Goes(Drop(DropPos::DropSwap)),
             _ => return None,
         };
-        Some(found)
+        Some(end)
     }
-}
-
-// The row that leads here.
-fn goes(next: AsyncDropPos) -> (ReceiverPos, Option<Reply>)
-    ensures { result ≡ (AsyncDrop next, None) }
-{
-    (ReceiverPos::AsyncDrop(next), None)
 }

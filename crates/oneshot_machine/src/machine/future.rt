@@ -1,18 +1,19 @@
 //! The receiver as a future: `into_future` and `poll`.
 
-ghost use Rattle.std.specs.Prelude.{◌≡◌, Some, None, IfSome};
+ghost use Rattle.std.specs.Prelude.{◌≡◌};
 ghost use Rattle.std.specs.Option.{option_map};
-ghost use Rattle.oneshot_machine.specs.TableRows.{outcome, row_for};
+ghost use Rattle.oneshot_machine.specs.TableRows.{leads, row_for};
 ghost use Rattle.oneshot_machine.specs.Future.{future_step, future_rows};
-ghost use Rattle.oneshot_machine.specs.declared.machine.receiver.ReceiverPos.TheVariants.{Future};
 
-use crate::machine::look::{self, LookPos};
+use crate::machine::RowEnd::{Answers, Goes};
+use crate::machine::look::LookPos;
 use crate::machine::receiver::ReceiverPos;
-use crate::machine::{Reply, Seen, Step};
+use crate::machine::receiver::ReceiverPos::{Future, Look};
+use crate::machine::{Reply, RowEnd, Seen, Step};
 use crate::states::{DISCONNECTED, EMPTY, MESSAGE, Op, RECEIVING, UNPARKING};
 
 /// Where a call of the receiver as a future stands.
-#[derive(Clone, Copy, Debug, Eq, PartialEq)]
+#[derive(Clone, Copy)]
 pub enum FuturePos {
     /// `into_future` is about to give the future.
     IntoFuture,
@@ -62,54 +63,39 @@ impl FuturePos {
     }
 
     // The table: an arm a row, in the order in which it is written.
-    pub(crate) fn row(&self, seen: Seen) -> Option<(ReceiverPos, Option<Reply>)>
-        ensures row { option_map outcome result ≡ row_for seen (future_rows self.now) }
-        ensures stays { IfSome result (λ r. IfSome r.1 (λ _. r.0 ≡ Future self.now)) }
+    pub(crate) fn row(&self, seen: Seen) -> Option<RowEnd<ReceiverPos>>
+        ensures { option_map leads result ≡ row_for seen (future_rows self.now) }
     {
-        let found = match (self, seen) {
-            (FuturePos::IntoFuture, Seen::Done) => self.answers(Reply::Future),
-            (FuturePos::PollLoad, Seen::Word(EMPTY)) => goes(FuturePos::PollCopy),
-            (FuturePos::PollLoad, Seen::Word(RECEIVING)) => goes(FuturePos::AgainCopy),
-            (FuturePos::PollLoad, Seen::Word(MESSAGE)) => look::goes(LookPos::Close),
-            (FuturePos::PollLoad, Seen::Word(DISCONNECTED)) => self.answers(Reply::Disconnected),
-            (FuturePos::PollLoad, Seen::Word(UNPARKING)) => goes(FuturePos::PollSpin),
-            (FuturePos::PollCopy, Seen::Refused(false)) => goes(FuturePos::PollWrite),
-            (FuturePos::PollCopy, Seen::Refused(true)) => goes(FuturePos::PollOwn),
-            (FuturePos::PollWrite, Seen::Done) => goes(FuturePos::PollExchange),
-            (FuturePos::PollExchange, Seen::Word(EMPTY)) => self.answers(Reply::Pending),
-            (FuturePos::PollExchange, Seen::Word(MESSAGE)) => goes(FuturePos::PollBackFull),
-            (FuturePos::PollExchange, Seen::Word(DISCONNECTED)) => goes(FuturePos::PollBackClosed),
-            (FuturePos::PollBackFull, Seen::Done) => look::goes(LookPos::Close),
-            (FuturePos::PollBackClosed, Seen::Done) => self.answers(Reply::Disconnected),
-            (FuturePos::AgainCopy, Seen::Refused(false)) => goes(FuturePos::AgainExchange),
-            (FuturePos::AgainCopy, Seen::Refused(true)) => goes(FuturePos::PollOwn),
-            (FuturePos::AgainExchange, Seen::Word(RECEIVING)) => goes(FuturePos::AgainBack),
-            (FuturePos::AgainExchange, Seen::Word(MESSAGE)) => look::goes(LookPos::Close),
-            (FuturePos::AgainExchange, Seen::Word(DISCONNECTED)) => self.answers(
-                Reply::Disconnected,
-            ),
-            (FuturePos::AgainExchange, Seen::Word(UNPARKING)) => goes(FuturePos::PollOwn),
-            (FuturePos::AgainBack, Seen::Done) => goes(FuturePos::PollWrite),
-            (FuturePos::PollOwn, Seen::Done) => self.answers(Reply::Pending),
-            (FuturePos::PollSpin, Seen::Word(MESSAGE)) => look::goes(LookPos::Close),
-            (FuturePos::PollSpin, Seen::Word(DISCONNECTED)) => self.answers(Reply::Disconnected),
-            (FuturePos::PollSpin, Seen::Word(UNPARKING)) => goes(FuturePos::PollSpin),
+        let end = match (self, seen) {
+            (FuturePos::IntoFuture, Seen::Done) => Answers(Reply::Future),
+            (FuturePos::PollLoad, Seen::Word(EMPTY)) => Goes(Future(FuturePos::PollCopy)),
+            (FuturePos::PollLoad, Seen::Word(RECEIVING)) => Goes(Future(FuturePos::AgainCopy)),
+            (FuturePos::PollLoad, Seen::Word(MESSAGE)) => Goes(Look(LookPos::Close)),
+            (FuturePos::PollLoad, Seen::Word(DISCONNECTED)) => Answers(Reply::Disconnected),
+            (FuturePos::PollLoad, Seen::Word(UNPARKING)) => Goes(Future(FuturePos::PollSpin)),
+            (FuturePos::PollCopy, Seen::Refused(false)) => Goes(Future(FuturePos::PollWrite)),
+            (FuturePos::PollCopy, Seen::Refused(true)) => Goes(Future(FuturePos::PollOwn)),
+            (FuturePos::PollWrite, Seen::Done) => Goes(Future(FuturePos::PollExchange)),
+            (FuturePos::PollExchange, Seen::Word(EMPTY)) => Answers(Reply::Pending),
+            (FuturePos::PollExchange, Seen::Word(MESSAGE)) => Goes(Future(FuturePos::PollBackFull)),
+            (FuturePos::PollExchange, Seen::Word(DISCONNECTED)) => Goes(Future(
+                FuturePos::PollBackClosed,
+            )),
+            (FuturePos::PollBackFull, Seen::Done) => Goes(Look(LookPos::Close)),
+            (FuturePos::PollBackClosed, Seen::Done) => Answers(Reply::Disconnected),
+            (FuturePos::AgainCopy, Seen::Refused(false)) => Goes(Future(FuturePos::AgainExchange)),
+            (FuturePos::AgainCopy, Seen::Refused(true)) => Goes(Future(FuturePos::PollOwn)),
+            (FuturePos::AgainExchange, Seen::Word(RECEIVING)) => Goes(Future(FuturePos::AgainBack)),
+            (FuturePos::AgainExchange, Seen::Word(MESSAGE)) => Goes(Look(LookPos::Close)),
+            (FuturePos::AgainExchange, Seen::Word(DISCONNECTED)) => Answers(Reply::Disconnected),
+            (FuturePos::AgainExchange, Seen::Word(UNPARKING)) => Goes(Future(FuturePos::PollOwn)),
+            (FuturePos::AgainBack, Seen::Done) => Goes(Future(FuturePos::PollWrite)),
+            (FuturePos::PollOwn, Seen::Done) => Answers(Reply::Pending),
+            (FuturePos::PollSpin, Seen::Word(MESSAGE)) => Goes(Look(LookPos::Close)),
+            (FuturePos::PollSpin, Seen::Word(DISCONNECTED)) => Answers(Reply::Disconnected),
+            (FuturePos::PollSpin, Seen::Word(UNPARKING)) => Goes(Future(FuturePos::PollSpin)),
             _ => return None,
         };
-        Some(found)
+        Some(end)
     }
-
-    // The row at which this position answers.
-    fn answers(&self, reply: Reply) -> (ReceiverPos, Option<Reply>)
-        ensures { result ≡ (Future self.now, Some reply) }
-    {
-        (ReceiverPos::Future(*self), Some(reply))
-    }
-}
-
-// The row that leads here.
-fn goes(next: FuturePos) -> (ReceiverPos, Option<Reply>)
-    ensures { result ≡ (Future next, None) }
-{
-    (ReceiverPos::Future(next), None)
 }

@@ -2,9 +2,10 @@
 
 ghost use Rattle.std.specs.Prelude.{◌≡◌, Some, IsTrue, IfSome, is_some};
 ghost use Rattle.std.specs.Option.{option_map};
-ghost use Rattle.oneshot_machine.specs.TableRows.{outcome};
+ghost use Rattle.oneshot_machine.specs.TableRows.{leads, outcome};
 ghost use Rattle.oneshot_machine.specs.Receiver.{receiver_start, receiver_step, receiver_row};
 
+use crate::machine::RowEnd::{Answers, Goes};
 use crate::machine::async_drop::AsyncDropPos;
 use crate::machine::by_ref::RefPos;
 use crate::machine::drop::DropPos;
@@ -12,7 +13,7 @@ use crate::machine::future::FuturePos;
 use crate::machine::look::LookPos;
 use crate::machine::timed::TimedPos;
 use crate::machine::value::ValuePos;
-use crate::machine::{Reply, Seen, Step};
+use crate::machine::{Reply, RowEnd, Seen, Step};
 
 /// A call of the receiver.
 #[derive(Clone, Copy, Debug, Eq, PartialEq)]
@@ -46,7 +47,7 @@ pub enum ReceiverStart {
 }
 
 /// Where a call of the receiver stands: a position of its table.
-#[derive(Clone, Copy, Debug, Eq, PartialEq)]
+#[derive(Clone, Copy)]
 pub enum ReceiverPos {
     /// A look or `try_recv`, or an ending that receives share.
     Look(LookPos),
@@ -115,16 +116,16 @@ impl ReceiverPos {
         ensures row { receiver_row self.now seen ≡ Some (outcome result) }
         ensures stays { IfSome result.1 (λ _. result.0 ≡ self.now) }
     {
-        let Some(found) = self.row(seen) else {
-            unreachable!()
-        };
-        found
+        match self.row(seen) {
+            Some(Goes(next)) => (next, None),
+            Some(Answers(reply)) => (*self, Some(reply)),
+            None => unreachable!(),
+        }
     }
 
     // The row for `seen`, where the table has one.
-    fn row(&self, seen: Seen) -> Option<(ReceiverPos, Option<Reply>)>
-        ensures row { option_map outcome result ≡ receiver_row self.now seen }
-        ensures stays { IfSome result (λ r. IfSome r.1 (λ _. r.0 ≡ self.now)) }
+    fn row(&self, seen: Seen) -> Option<RowEnd<ReceiverPos>>
+        ensures { option_map leads result ≡ receiver_row self.now seen }
     {
         match self {
             ReceiverPos::Look(at) => at.row(seen),

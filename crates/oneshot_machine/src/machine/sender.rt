@@ -2,10 +2,11 @@
 
 ghost use Rattle.std.specs.Prelude.{◌≡◌, Some, IsTrue, IfSome, is_some};
 ghost use Rattle.std.specs.Option.{option_map};
-ghost use Rattle.oneshot_machine.specs.TableRows.{outcome};
+ghost use Rattle.oneshot_machine.specs.TableRows.{leads, outcome};
 ghost use Rattle.oneshot_machine.specs.Sender.{sender_start, sender_step, sender_row};
 
-use crate::machine::{Reply, Seen, Step};
+use crate::machine::RowEnd::{Answers, Goes};
+use crate::machine::{Reply, RowEnd, Seen, Step};
 use crate::states::{DISCONNECTED, EMPTY, MESSAGE, Op, RECEIVING, UNPARKING};
 
 /// A call of the sender, or of the error of its refused `send`.
@@ -26,7 +27,7 @@ pub enum SenderCall {
 }
 
 /// Where a call of the sender or of its error stands: a position of the sender's table.
-#[derive(Clone, Copy, Debug, Eq, PartialEq)]
+#[derive(Clone, Copy)]
 pub enum SenderPos {
     /// `is_closed` is about to read the word.
     LookClosed,
@@ -115,44 +116,44 @@ impl SenderPos {
         ensures row { sender_row self.now seen ≡ Some (outcome result) }
         ensures stays { IfSome result.1 (λ _. result.0 ≡ self.now) }
     {
-        let Some(found) = self.row(seen) else {
-            unreachable!()
-        };
-        found
+        match self.row(seen) {
+            Some(Goes(next)) => (next, None),
+            Some(Answers(reply)) => (*self, Some(reply)),
+            None => unreachable!(),
+        }
     }
 
     // The table: an arm a row, in the order in which it is written.
-    fn row(&self, seen: Seen) -> Option<(SenderPos, Option<Reply>)>
-        ensures row { option_map outcome result ≡ sender_row self.now seen }
-        ensures stays { IfSome result (λ r. IfSome r.1 (λ _. r.0 ≡ self.now)) }
+    fn row(&self, seen: Seen) -> Option<RowEnd<SenderPos>>
+        ensures { option_map leads result ≡ sender_row self.now seen }
     {
-        let found = match (self, seen) {
-            (SenderPos::LookClosed, Seen::Word(DISCONNECTED)) => (*self, Some(Reply::Yes)),
-            (SenderPos::LookClosed, Seen::Word(RECEIVING)) => (*self, Some(Reply::No)),
-            (SenderPos::LookClosed, Seen::Word(EMPTY)) => (*self, Some(Reply::No)),
-            (SenderPos::SendWrite, Seen::Done) => (SenderPos::SendAdd, None),
-            (SenderPos::SendAdd, Seen::Word(EMPTY)) => (*self, Some(Reply::Sent)),
-            (SenderPos::SendAdd, Seen::Word(RECEIVING)) => (SenderPos::SendTakeWaker, None),
-            (SenderPos::SendAdd, Seen::Word(DISCONNECTED)) => (*self, Some(Reply::Refused)),
-            (SenderPos::SendTakeWaker, Seen::Done) => (SenderPos::SendFinal, None),
-            (SenderPos::SendFinal, Seen::Word(UNPARKING)) => (SenderPos::SendWake, None),
-            (SenderPos::SendFinal, Seen::Word(EMPTY)) => (SenderPos::SendWake, None),
-            (SenderPos::SendWake, Seen::Done) => (*self, Some(Reply::Sent)),
-            (SenderPos::DropXor, Seen::Word(EMPTY)) => (*self, Some(Reply::Done)),
-            (SenderPos::DropXor, Seen::Word(RECEIVING)) => (SenderPos::DropTakeWaker, None),
-            (SenderPos::DropXor, Seen::Word(DISCONNECTED)) => (SenderPos::DropFree, None),
-            (SenderPos::DropTakeWaker, Seen::Done) => (SenderPos::DropFinal, None),
-            (SenderPos::DropFinal, Seen::Word(UNPARKING)) => (SenderPos::DropWake, None),
-            (SenderPos::DropFinal, Seen::Word(EMPTY)) => (SenderPos::DropWake, None),
-            (SenderPos::DropWake, Seen::Done) => (*self, Some(Reply::Done)),
-            (SenderPos::DropFree, Seen::Done) => (*self, Some(Reply::Done)),
-            (SenderPos::ErrorLook, Seen::Done) => (*self, Some(Reply::Message)),
-            (SenderPos::IntoTake, Seen::Done) => (SenderPos::IntoFree, None),
-            (SenderPos::IntoFree, Seen::Done) => (*self, Some(Reply::Message)),
-            (SenderPos::ErrorDrop, Seen::Done) => (SenderPos::ErrorFree, None),
-            (SenderPos::ErrorFree, Seen::Done) => (*self, Some(Reply::Done)),
+        let end = match (self, seen) {
+            (SenderPos::LookClosed, Seen::Word(DISCONNECTED)) => Answers(Reply::Yes),
+            (SenderPos::LookClosed, Seen::Word(RECEIVING)) => Answers(Reply::No),
+            (SenderPos::LookClosed, Seen::Word(EMPTY)) => Answers(Reply::No),
+            (SenderPos::SendWrite, Seen::Done) => Goes(SenderPos::SendAdd),
+            (SenderPos::SendAdd, Seen::Word(EMPTY)) => Answers(Reply::Sent),
+            (SenderPos::SendAdd, Seen::Word(RECEIVING)) => Goes(SenderPos::SendTakeWaker),
+            (SenderPos::SendAdd, Seen::Word(DISCONNECTED)) => Answers(Reply::Refused),
+            (SenderPos::SendTakeWaker, Seen::Done) => Goes(SenderPos::SendFinal),
+            (SenderPos::SendFinal, Seen::Word(UNPARKING)) => Goes(SenderPos::SendWake),
+            (SenderPos::SendFinal, Seen::Word(EMPTY)) => Goes(SenderPos::SendWake),
+            (SenderPos::SendWake, Seen::Done) => Answers(Reply::Sent),
+            (SenderPos::DropXor, Seen::Word(EMPTY)) => Answers(Reply::Done),
+            (SenderPos::DropXor, Seen::Word(RECEIVING)) => Goes(SenderPos::DropTakeWaker),
+            (SenderPos::DropXor, Seen::Word(DISCONNECTED)) => Goes(SenderPos::DropFree),
+            (SenderPos::DropTakeWaker, Seen::Done) => Goes(SenderPos::DropFinal),
+            (SenderPos::DropFinal, Seen::Word(UNPARKING)) => Goes(SenderPos::DropWake),
+            (SenderPos::DropFinal, Seen::Word(EMPTY)) => Goes(SenderPos::DropWake),
+            (SenderPos::DropWake, Seen::Done) => Answers(Reply::Done),
+            (SenderPos::DropFree, Seen::Done) => Answers(Reply::Done),
+            (SenderPos::ErrorLook, Seen::Done) => Answers(Reply::Message),
+            (SenderPos::IntoTake, Seen::Done) => Goes(SenderPos::IntoFree),
+            (SenderPos::IntoFree, Seen::Done) => Answers(Reply::Message),
+            (SenderPos::ErrorDrop, Seen::Done) => Goes(SenderPos::ErrorFree),
+            (SenderPos::ErrorFree, Seen::Done) => Answers(Reply::Done),
             _ => return None,
         };
-        Some(found)
+        Some(end)
     }
 }

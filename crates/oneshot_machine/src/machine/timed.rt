@@ -1,18 +1,20 @@
 //! The receives with a deadline, from where they differ from `recv_ref`.
 
-ghost use Rattle.std.specs.Prelude.{◌≡◌, Some, None, IfSome};
+ghost use Rattle.std.specs.Prelude.{◌≡◌};
 ghost use Rattle.std.specs.Option.{option_map};
-ghost use Rattle.oneshot_machine.specs.TableRows.{outcome, row_for};
+ghost use Rattle.oneshot_machine.specs.TableRows.{leads, row_for};
 ghost use Rattle.oneshot_machine.specs.Timed.{timed_step, timed_rows};
-ghost use Rattle.oneshot_machine.specs.declared.machine.receiver.ReceiverPos.TheVariants.{Timed};
 
-use crate::machine::look::{self, LookPos};
+use crate::machine::RowEnd::{Answers, Goes};
+use crate::machine::by_ref::RefPos;
+use crate::machine::look::LookPos;
 use crate::machine::receiver::ReceiverPos;
-use crate::machine::{Reply, Seen, Step, by_ref};
+use crate::machine::receiver::ReceiverPos::{Look, Ref, Timed};
+use crate::machine::{Reply, RowEnd, Seen, Step};
 use crate::states::{DISCONNECTED, EMPTY, MESSAGE, Op, RECEIVING, UNPARKING};
 
 /// Where a receive with a deadline stands.
-#[derive(Clone, Copy, Debug, Eq, PartialEq)]
+#[derive(Clone, Copy)]
 pub enum TimedPos {
     /// `recv_timeout` is about to read the clock for its sum.
     SumClock {
@@ -53,51 +55,40 @@ impl TimedPos {
     }
 
     // The table: an arm a row, in the order in which it is written.
-    pub(crate) fn row(&self, seen: Seen) -> Option<(ReceiverPos, Option<Reply>)>
-        ensures row { option_map outcome result ≡ row_for seen (timed_rows self.now) }
-        ensures stays { IfSome result (λ r. IfSome r.1 (λ _. r.0 ≡ Timed self.now)) }
+    pub(crate) fn row(&self, seen: Seen) -> Option<RowEnd<ReceiverPos>>
+        ensures { option_map leads result ≡ row_for seen (timed_rows self.now) }
     {
-        let found = match (self, seen) {
-            (TimedPos::SumClock { representable }, Seen::Over(true)) => by_ref::starts(
-                *representable,
-            ),
-            (TimedPos::SumClock { representable }, Seen::Over(false)) => by_ref::starts(
-                *representable,
-            ),
-            (TimedPos::Clock, Seen::Over(false)) => goes(TimedPos::TimedPark),
-            (TimedPos::Clock, Seen::Over(true)) => goes(TimedPos::EndSwap),
-            (TimedPos::TimedPark, Seen::Token(true)) => goes(TimedPos::TimedLoad),
-            (TimedPos::TimedPark, Seen::Token(false)) => goes(TimedPos::TimedLoad),
-            (TimedPos::TimedLoad, Seen::Word(MESSAGE)) => look::goes(LookPos::Close),
-            (TimedPos::TimedLoad, Seen::Word(DISCONNECTED)) => self.answers(Reply::Disconnected),
-            (TimedPos::TimedLoad, Seen::Word(RECEIVING)) => goes(TimedPos::Clock),
-            (TimedPos::TimedLoad, Seen::Word(UNPARKING)) => goes(TimedPos::Clock),
-            (TimedPos::EndSwap, Seen::Word(RECEIVING)) => goes(TimedPos::EndBack),
-            (TimedPos::EndSwap, Seen::Word(MESSAGE)) => look::goes(LookPos::Close),
-            (TimedPos::EndSwap, Seen::Word(DISCONNECTED)) => look::goes(LookPos::CloseOnly),
-            (TimedPos::EndSwap, Seen::Word(UNPARKING)) => goes(TimedPos::LatePark),
-            (TimedPos::EndBack, Seen::Done) => self.answers(Reply::Timeout),
-            (TimedPos::LatePark, Seen::Token(true)) => goes(TimedPos::LateLoad),
-            (TimedPos::LatePark, Seen::Token(false)) => goes(TimedPos::LateLoad),
-            (TimedPos::LateLoad, Seen::Word(MESSAGE)) => look::goes(LookPos::Close),
-            (TimedPos::LateLoad, Seen::Word(DISCONNECTED)) => self.answers(Reply::Disconnected),
-            (TimedPos::LateLoad, Seen::Word(EMPTY)) => goes(TimedPos::LatePark),
+        let end = match (self, seen) {
+            (TimedPos::SumClock { representable }, Seen::Over(true)) => Goes(Ref(
+                RefPos::StartLoad {
+                    timed: *representable,
+                },
+            )),
+            (TimedPos::SumClock { representable }, Seen::Over(false)) => Goes(Ref(
+                RefPos::StartLoad {
+                    timed: *representable,
+                },
+            )),
+            (TimedPos::Clock, Seen::Over(false)) => Goes(Timed(TimedPos::TimedPark)),
+            (TimedPos::Clock, Seen::Over(true)) => Goes(Timed(TimedPos::EndSwap)),
+            (TimedPos::TimedPark, Seen::Token(true)) => Goes(Timed(TimedPos::TimedLoad)),
+            (TimedPos::TimedPark, Seen::Token(false)) => Goes(Timed(TimedPos::TimedLoad)),
+            (TimedPos::TimedLoad, Seen::Word(MESSAGE)) => Goes(Look(LookPos::Close)),
+            (TimedPos::TimedLoad, Seen::Word(DISCONNECTED)) => Answers(Reply::Disconnected),
+            (TimedPos::TimedLoad, Seen::Word(RECEIVING)) => Goes(Timed(TimedPos::Clock)),
+            (TimedPos::TimedLoad, Seen::Word(UNPARKING)) => Goes(Timed(TimedPos::Clock)),
+            (TimedPos::EndSwap, Seen::Word(RECEIVING)) => Goes(Timed(TimedPos::EndBack)),
+            (TimedPos::EndSwap, Seen::Word(MESSAGE)) => Goes(Look(LookPos::Close)),
+            (TimedPos::EndSwap, Seen::Word(DISCONNECTED)) => Goes(Look(LookPos::CloseOnly)),
+            (TimedPos::EndSwap, Seen::Word(UNPARKING)) => Goes(Timed(TimedPos::LatePark)),
+            (TimedPos::EndBack, Seen::Done) => Answers(Reply::Timeout),
+            (TimedPos::LatePark, Seen::Token(true)) => Goes(Timed(TimedPos::LateLoad)),
+            (TimedPos::LatePark, Seen::Token(false)) => Goes(Timed(TimedPos::LateLoad)),
+            (TimedPos::LateLoad, Seen::Word(MESSAGE)) => Goes(Look(LookPos::Close)),
+            (TimedPos::LateLoad, Seen::Word(DISCONNECTED)) => Answers(Reply::Disconnected),
+            (TimedPos::LateLoad, Seen::Word(EMPTY)) => Goes(Timed(TimedPos::LatePark)),
             _ => return None,
         };
-        Some(found)
+        Some(end)
     }
-
-    // The row at which this position answers.
-    fn answers(&self, reply: Reply) -> (ReceiverPos, Option<Reply>)
-        ensures { result ≡ (Timed self.now, Some reply) }
-    {
-        (ReceiverPos::Timed(*self), Some(reply))
-    }
-}
-
-// The row that leads here.
-pub(crate) fn goes(next: TimedPos) -> (ReceiverPos, Option<Reply>)
-    ensures { result ≡ (Timed next, None) }
-{
-    (ReceiverPos::Timed(next), None)
 }

@@ -1,17 +1,18 @@
 //! The receive by value, `recv`, which frees the block itself.
 
-ghost use Rattle.std.specs.Prelude.{◌≡◌, Some, None, IfSome};
+ghost use Rattle.std.specs.Prelude.{◌≡◌};
 ghost use Rattle.std.specs.Option.{option_map};
-ghost use Rattle.oneshot_machine.specs.TableRows.{outcome, row_for};
+ghost use Rattle.oneshot_machine.specs.TableRows.{leads, row_for};
 ghost use Rattle.oneshot_machine.specs.Value.{value_step, value_rows};
-ghost use Rattle.oneshot_machine.specs.declared.machine.receiver.ReceiverPos.TheVariants.{Value};
 
+use crate::machine::RowEnd::{Answers, Goes};
 use crate::machine::receiver::ReceiverPos;
-use crate::machine::{Reply, Seen, Step};
+use crate::machine::receiver::ReceiverPos::Value;
+use crate::machine::{Reply, RowEnd, Seen, Step};
 use crate::states::{DISCONNECTED, EMPTY, MESSAGE, Op, RECEIVING, UNPARKING};
 
 /// Where `recv` stands.
-#[derive(Clone, Copy, Debug, Eq, PartialEq)]
+#[derive(Clone, Copy)]
 pub enum ValuePos {
     /// `recv` is about to read the word.
     RecvLoad,
@@ -55,45 +56,32 @@ impl ValuePos {
     }
 
     // The table: an arm a row, in the order in which it is written.
-    pub(crate) fn row(&self, seen: Seen) -> Option<(ReceiverPos, Option<Reply>)>
-        ensures row { option_map outcome result ≡ row_for seen (value_rows self.now) }
-        ensures stays { IfSome result (λ r. IfSome r.1 (λ _. r.0 ≡ Value self.now)) }
+    pub(crate) fn row(&self, seen: Seen) -> Option<RowEnd<ReceiverPos>>
+        ensures { option_map leads result ≡ row_for seen (value_rows self.now) }
     {
-        let found = match (self, seen) {
-            (ValuePos::RecvLoad, Seen::Word(MESSAGE)) => goes(ValuePos::RecvTake),
-            (ValuePos::RecvLoad, Seen::Word(DISCONNECTED)) => goes(ValuePos::RecvFreeGone),
-            (ValuePos::RecvLoad, Seen::Word(EMPTY)) => goes(ValuePos::RecvWrite),
-            (ValuePos::RecvWrite, Seen::Done) => goes(ValuePos::RecvSwap),
-            (ValuePos::RecvSwap, Seen::Word(EMPTY)) => goes(ValuePos::RecvPark),
-            (ValuePos::RecvSwap, Seen::Word(MESSAGE)) => goes(ValuePos::RecvBackFull),
-            (ValuePos::RecvSwap, Seen::Word(DISCONNECTED)) => goes(ValuePos::RecvBackClosed),
-            (ValuePos::RecvBackFull, Seen::Done) => goes(ValuePos::RecvTake),
-            (ValuePos::RecvBackClosed, Seen::Done) => goes(ValuePos::RecvFreeGone),
-            (ValuePos::RecvPark, Seen::Token(true)) => goes(ValuePos::RecvParkLoad),
-            (ValuePos::RecvPark, Seen::Token(false)) => goes(ValuePos::RecvParkLoad),
-            (ValuePos::RecvParkLoad, Seen::Word(MESSAGE)) => goes(ValuePos::RecvTake),
-            (ValuePos::RecvParkLoad, Seen::Word(DISCONNECTED)) => goes(ValuePos::RecvFreeGone),
-            (ValuePos::RecvParkLoad, Seen::Word(RECEIVING)) => goes(ValuePos::RecvPark),
-            (ValuePos::RecvParkLoad, Seen::Word(UNPARKING)) => goes(ValuePos::RecvPark),
-            (ValuePos::RecvTake, Seen::Done) => goes(ValuePos::RecvFreeGot),
-            (ValuePos::RecvFreeGot, Seen::Done) => self.answers(Reply::Message),
-            (ValuePos::RecvFreeGone, Seen::Done) => self.answers(Reply::Disconnected),
+        let end = match (self, seen) {
+            (ValuePos::RecvLoad, Seen::Word(MESSAGE)) => Goes(Value(ValuePos::RecvTake)),
+            (ValuePos::RecvLoad, Seen::Word(DISCONNECTED)) => Goes(Value(ValuePos::RecvFreeGone)),
+            (ValuePos::RecvLoad, Seen::Word(EMPTY)) => Goes(Value(ValuePos::RecvWrite)),
+            (ValuePos::RecvWrite, Seen::Done) => Goes(Value(ValuePos::RecvSwap)),
+            (ValuePos::RecvSwap, Seen::Word(EMPTY)) => Goes(Value(ValuePos::RecvPark)),
+            (ValuePos::RecvSwap, Seen::Word(MESSAGE)) => Goes(Value(ValuePos::RecvBackFull)),
+            (ValuePos::RecvSwap, Seen::Word(DISCONNECTED)) => Goes(Value(ValuePos::RecvBackClosed)),
+            (ValuePos::RecvBackFull, Seen::Done) => Goes(Value(ValuePos::RecvTake)),
+            (ValuePos::RecvBackClosed, Seen::Done) => Goes(Value(ValuePos::RecvFreeGone)),
+            (ValuePos::RecvPark, Seen::Token(true)) => Goes(Value(ValuePos::RecvParkLoad)),
+            (ValuePos::RecvPark, Seen::Token(false)) => Goes(Value(ValuePos::RecvParkLoad)),
+            (ValuePos::RecvParkLoad, Seen::Word(MESSAGE)) => Goes(Value(ValuePos::RecvTake)),
+            (ValuePos::RecvParkLoad, Seen::Word(DISCONNECTED)) => Goes(Value(
+                ValuePos::RecvFreeGone,
+            )),
+            (ValuePos::RecvParkLoad, Seen::Word(RECEIVING)) => Goes(Value(ValuePos::RecvPark)),
+            (ValuePos::RecvParkLoad, Seen::Word(UNPARKING)) => Goes(Value(ValuePos::RecvPark)),
+            (ValuePos::RecvTake, Seen::Done) => Goes(Value(ValuePos::RecvFreeGot)),
+            (ValuePos::RecvFreeGot, Seen::Done) => Answers(Reply::Message),
+            (ValuePos::RecvFreeGone, Seen::Done) => Answers(Reply::Disconnected),
             _ => return None,
         };
-        Some(found)
+        Some(end)
     }
-
-    // The row at which this position answers.
-    fn answers(&self, reply: Reply) -> (ReceiverPos, Option<Reply>)
-        ensures { result ≡ (Value self.now, Some reply) }
-    {
-        (ReceiverPos::Value(*self), Some(reply))
-    }
-}
-
-// The row that leads here.
-fn goes(next: ValuePos) -> (ReceiverPos, Option<Reply>)
-    ensures { result ≡ (Value next, None) }
-{
-    (ReceiverPos::Value(next), None)
 }

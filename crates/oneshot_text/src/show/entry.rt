@@ -129,8 +129,8 @@ fn write_fields<W: fmt::Write>(f: &mut fmt::Formatter<W>, made: &Made) -> fmt::R
 {
     write_message(f, made.message)?;
     write_waker(f, made.waker)?;
-    write_token(f, made.token_set)?;
-    write_found(f, made.seen)?;
+    f.write_str(token_text(made.token_set))?;
+    f.write_str(found_text(made.seen))?;
     write_own(f, made.own)
 }
 
@@ -167,28 +167,24 @@ fn write_waker<W: fmt::Write>(
 }
 
 /// Whether a wake set the token.
-fn write_token<W: fmt::Write>(f: &mut fmt::Formatter<W>, is_set: bool) -> fmt::Result
-    ensures { WritesOnOk W.write_str_gives f.old result (token_field is_set) f.new }
+fn token_text(is_set: bool) -> &'static str
+    ensures { result.now ≡ token_field is_set }
 {
-    if is_set {
-        f.write_str(" token+")
-    } else {
-        Ok(())
-    }
+    if is_set { " token+" } else { "" }
 }
 
 /// What the step found beside the word: a clock past the deadline or before it, a copy that was refused,
 /// the token on which the receiver parks, or a park that ended without it.
-fn write_found<W: fmt::Write>(f: &mut fmt::Formatter<W>, seen: Seen) -> fmt::Result
-    ensures { WritesOnOk W.write_str_gives f.old result (found_field seen) f.new }
+fn found_text(seen: Seen) -> &'static str
+    ensures { result.now ≡ found_field seen }
 {
     match seen {
-        Seen::Over(true) => f.write_str(" over"),
-        Seen::Over(false) => f.write_str(" left"),
-        Seen::Refused(true) => f.write_str(" refused"),
-        Seen::Token(true) => f.write_str(" token-"),
-        Seen::Token(false) => f.write_str(" spurious"),
-        Seen::Done | Seen::Word(_) | Seen::Refused(false) => Ok(()),
+        Seen::Over(true) => " over",
+        Seen::Over(false) => " left",
+        Seen::Refused(true) => " refused",
+        Seen::Token(true) => " token-",
+        Seen::Token(false) => " spurious",
+        Seen::Done | Seen::Word(_) | Seen::Refused(false) => "",
     }
 }
 

@@ -1,10 +1,13 @@
 //! What a call answered, in the words of that call.
 
-ghost use Rattle.std.specs.Prelude.{◌≡◌};
-ghost use Rattle.oneshot_text.specs.ReplyText.{disconnected_text};
+ghost use Rattle.std.specs.Prelude.{◌≡◌, None, IfSome};
+ghost use Rattle.std.specs.Fmt.{WritesOnOk};
+ghost use Rattle.oneshot_machine.specs.declared.machine.Reply.TheVariants.{Message};
+ghost use Rattle.oneshot_text.specs.ReplyText.{disconnected_text, message_text, reply_text};
 
 use oneshot_machine::machine::{End, ReceiverStart, Reply};
 use std::fmt;
+use std::fmt::Display;
 
 /// A reply, which shows in the words of the call that it ends.
 #[derive(Clone, Copy)]
@@ -26,24 +29,49 @@ impl fmt::Display for ReplyText {
     ghost output = { λ r. Some (reply_text r.end r.call r.message r.reply) };
 
     fn fmt<W: fmt::Write>(&self, f: &mut fmt::Formatter<W>) -> fmt::Result {
-        let message = self.message;
-        match self.reply {
-            Reply::Sent => write!(f, "Ok"),
-            Reply::Refused => write!(f, "Err"),
-            Reply::Yes => write!(f, "true"),
-            Reply::No => write!(f, "false"),
-            Reply::Message => match (self.end, self.call) {
-                (End::Sender, _) => write!(f, "{message}"),
-                (End::Receiver, Some(ReceiverStart::Poll)) => write!(f, "Ready(Ok({message}))"),
-                (End::Receiver, _) => write!(f, "Ok({message})"),
-            },
-            Reply::Empty => write!(f, "Err(Empty)"),
-            Reply::Timeout => write!(f, "Err(Timeout)"),
-            Reply::Disconnected => write!(f, "{}", error_of(self.call)),
-            Reply::Pending => write!(f, "Pending"),
-            Reply::Future => write!(f, "future"),
-            Reply::Done => write!(f, "dropped"),
+        match self.fixed_text() {
+            Some(text) => f.write_str(text),
+            None => write_message(f, self.end, self.call, self.message),
         }
+    }
+}
+
+impl ReplyText {
+    // The text of a reply that shows no message.
+    fn fixed_text(&self) -> Option<&'static str>
+        ensures text { IfSome result (λ text. text.now ≡ reply_text self.now.end self.now.call self.now.message self.now.reply) }
+        ensures none { result ≡ None → self.now.reply ≡ Message }
+    {
+        let text = match self.reply {
+            Reply::Sent => "Ok",
+            Reply::Refused => "Err",
+            Reply::Yes => "true",
+            Reply::No => "false",
+            Reply::Message => return None,
+            Reply::Empty => "Err(Empty)",
+            Reply::Timeout => "Err(Timeout)",
+            Reply::Disconnected => error_of(self.call),
+            Reply::Pending => "Pending",
+            Reply::Future => "future",
+            Reply::Done => "dropped",
+        };
+        Some(text)
+    }
+}
+
+/// The message, as the call shows it.
+fn write_message<W: fmt::Write>(
+    f: &mut fmt::Formatter<W>,
+    end: End,
+    call: Option<ReceiverStart>,
+    message: u64,
+) -> fmt::Result
+    ensures { WritesOnOk W.write_str_gives f.old result (message_text end call message) f.new }
+{
+    match (end, call) {
+        (End::Sender, _) => message.fmt(f),
+        (End::Receiver, Some(ReceiverStart::Poll)) => write!(f, "Ready(Ok({message}))"),
+        (End::Receiver, _) => write!(f, "Ok({message})"),
     }
 }
 

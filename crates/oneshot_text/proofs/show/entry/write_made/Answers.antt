@@ -1,5 +1,5 @@
 -- The step, its fields and its reply, one behind the other.
-use Rattle.std.proofs.Common.{rules, ◌≡◌, ℕ, List, ◌++◌, codes, append_assoc}
+use Rattle.std.proofs.Common.{refl, ◌≡◌, ℕ, List, ◌++◌, codes, append_assoc}
 use Rattle.std.proofs.Output.{has_written_append, has_written_of_eq}
 use Rattle.oneshot_text.proofs.show.entry.write_made.Goals as goal
 
@@ -11,8 +11,8 @@ in_a_row space end name before arrow after message waker token found own reply =
 
 pub returns : goal.returns
 returns g c = λ plain ok.
-    let step = c.write_step.ensures plain (search rules) in
-    let fields = c.write_fields.ensures step.plain (search rules) in
+    let step = c.in_ok-write_step.ensures plain refl in
+    let fields = c.in_ok-write_fields.ensures step.plain refl in
     let reply = c.write_reply.ensures fields.plain ok in
     has_written_of_eq _ _ _ _ _ (in_a_row (codes " ") _ _ _ (codes ">") _ _ _ _ _ _ _)
     (has_written_append _ _ _ _ _ _ (has_written_append _ _ _ _ _ _ step fields) reply)
