@@ -9,7 +9,7 @@ use Rattle.oneshot_laws.specs.Marks.{Mark, side, ends}
 use Rattle.oneshot_laws.specs.History.{agrees}
 use Rattle.oneshot_laws.specs.Alone.{lone_reply, is_lone_call, are_lone_calls_right}
 use Rattle.oneshot_laws.proofs.Coding.{pairs, by_parts, or_none, both_ends}
-use Rattle.oneshot_laws.proofs.Glanced.{Law, Passes, Nameless, nameless_of, Passed, holds_by}
+use Rattle.oneshot_laws.proofs.Glanced.{Law, Passes, Nameless, nameless_of, LawExplored, all_glanced, passed, holds_by}
 use Rattle.oneshot_laws.proofs.Glances.{Glance, glance_of}
 use Rattle.oneshot_laws.proofs.HistoryReader.{objects}
 use Rattle.oneshot_laws.proofs.Watched.{no_names, EachRun}
@@ -51,11 +51,11 @@ abbrev lone_of : Option (End × Object) → Lone
 lone_of None = Nobody
 lone_of (Some p) = Of p.0 p.1
 
-pub lone_back : (lone : Lone) → lone_of (lone_parts lone) ≡ lone
+lone_back : (lone : Lone) → lone_of (lone_parts lone) ≡ lone
 lone_back Nobody = refl
 lone_back (Of end o) = refl
 
-abbrev pub lone_law : Law Lone
+abbrev lone_law : Law Lone
 lone_law =
     record {
       coding = by_parts lone_parts lone_of lone_back (or_none (pairs both_ends objects));
@@ -101,5 +101,8 @@ lone_calls (m ∷ ms) lone p =
 nameless : Nameless lone_law
 nameless = nameless_of lone_law refl (λ k n g. (refl, refl)) (λ n g a b. (refl, refl))
 
-pub lone_calls_right : {T : Type 0} → Passed lone_law T → EachRun T are_lone_calls_right
-lone_calls_right each = holds_by lone_law nameless each are_lone_calls_right (λ place ms. lone_calls ms Nobody)
+explored : LawExplored lone_law
+explored = record { found = all_glanced lone_law; all = refl }
+
+pub lone_calls_right : {T : Type 0} → EachRun T are_lone_calls_right
+lone_calls_right = holds_by lone_law nameless (passed lone_law refl explored) are_lone_calls_right (λ place ms. lone_calls ms Nobody)

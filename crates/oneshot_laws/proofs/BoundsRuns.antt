@@ -13,7 +13,7 @@ use Rattle.oneshot_laws.specs.Object.{is_same_flag}
 use Rattle.oneshot_laws.specs.Marks.{Mark, side, call_marks, until_reply}
 use Rattle.oneshot_laws.specs.Bounds.{at_most, is_within_its_bound, is_bounded, are_calls_bounded}
 use Rattle.oneshot_laws.proofs.Coding.{Coding, pairs, by_parts, or_none, flags, numbers_below}
-use Rattle.oneshot_laws.proofs.Glanced.{Law, Passes, Nameless, of_call, Passed, holds_by}
+use Rattle.oneshot_laws.proofs.Glanced.{Law, Passes, Nameless, of_call, LawExplored, all_glanced, passed, holds_by}
 use Rattle.oneshot_laws.proofs.Glances.{Glance, glance_of}
 use Rattle.oneshot_laws.proofs.Watched.{no_names, EachRun}
 
@@ -100,7 +100,7 @@ left_of None = Resting
 left_of (Some None) = Unbounded
 left_of (Some (Some p)) = Counted p.0 p.1
 
-pub left_back : (left : Left) → left_of (left_parts left) ≡ left
+left_back : (left : Left) → left_of (left_parts left) ≡ left
 left_back Resting = refl
 left_back Unbounded = refl
 left_back (Counted past n) = refl
@@ -111,7 +111,7 @@ lefts = by_parts left_parts left_of left_back (or_none (or_none (pairs flags (nu
 abbrev at_rest : Budget
 at_rest = record { sender = Resting; receiver = Resting }
 
-abbrev pub budget_law : Law Budget
+abbrev budget_law : Law Budget
 budget_law =
     record {
       coding =
@@ -248,5 +248,8 @@ nameless =
       sees_same = λ k n g. ap (λ left. left_at g.entry.side left n) (then_as k (left_by g.entry.side n) g.call g.entry);
     }
 
-pub calls_bounded : {T : Type 0} → Passed budget_law T → EachRun T are_calls_bounded
-calls_bounded every = holds_by budget_law nameless every are_calls_bounded (λ place ms. each ms at_rest)
+explored : LawExplored budget_law
+explored = record { found = all_glanced budget_law; all = refl }
+
+pub calls_bounded : {T : Type 0} → EachRun T are_calls_bounded
+calls_bounded = holds_by budget_law nameless (passed budget_law refl explored) are_calls_bounded (λ place ms. each ms at_rest)

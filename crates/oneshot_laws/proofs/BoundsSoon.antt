@@ -10,7 +10,7 @@ use Rattle.oneshot_laws.specs.Marks.{Mark, finishes, call_marks, until_reply}
 use Rattle.oneshot_laws.specs.Bounds.{at_most, operates, is_senders_last, each_move, answers_soon, is_soon_answered}
 use Rattle.oneshot_laws.proofs.BoundsRuns.{can, spend, pay, no_more}
 use Rattle.oneshot_laws.proofs.Coding.{pairs, by_parts, flags, numbers_below}
-use Rattle.oneshot_laws.proofs.Glanced.{Law, Passes, Nameless, Passed, holds_by}
+use Rattle.oneshot_laws.proofs.Glanced.{Law, Passes, Nameless, LawExplored, all_glanced, passed, holds_by}
 use Rattle.oneshot_laws.proofs.Glances.{Glance, glance_of}
 use Rattle.oneshot_laws.proofs.Watched.{no_names, EachRun}
 
@@ -47,7 +47,7 @@ less (suc n) (suc k) = less n k
 abbrev goes_on_soon : Rest → Glance → Bool
 goes_on_soon x g = less x.operations 2 && less x.moves 6 && fits_at g.entry.side g.entry x
 
-abbrev pub rest_law : Law Rest
+abbrev rest_law : Law Rest
 rest_law =
     record {
       coding =
@@ -163,5 +163,8 @@ nameless =
       sees_same = λ k x g. rest_as k g.entry.side g.entry x;
     }
 
-pub soon_answered : {T : Type 0} → Passed rest_law T → EachRun T is_soon_answered
-soon_answered each = holds_by rest_law nameless each is_soon_answered (λ place ms. soon_after_last ms (whole false))
+explored : LawExplored rest_law
+explored = record { found = all_glanced rest_law; all = refl }
+
+pub soon_answered : {T : Type 0} → EachRun T is_soon_answered
+soon_answered = holds_by rest_law nameless (passed rest_law refl explored) is_soon_answered (λ place ms. soon_after_last ms (whole false))

@@ -23,4 +23,5 @@ pub mod RepliesDroppedOnce
 pub mod AloneRuns
 pub mod BoundsRuns
 pub mod BoundsSoon
-pub mod EveryRun
+pub mod TogetherPlaces
+pub mod TogetherReplies

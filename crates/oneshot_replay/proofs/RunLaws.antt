@@ -27,7 +27,8 @@ use Rattle.oneshot_laws.proofs.RepliesDroppedOnce as DroppedOnce
 use Rattle.oneshot_laws.proofs.AloneRuns as Alone
 use Rattle.oneshot_laws.proofs.BoundsRuns as Bounds
 use Rattle.oneshot_laws.proofs.BoundsSoon as Soon
-use Rattle.oneshot_laws.proofs.EveryRun as Every
+use Rattle.oneshot_laws.proofs.TogetherPlaces as Moved
+use Rattle.oneshot_laws.proofs.TogetherReplies as Told
 use Rattle.oneshot_replay.specs.Rest.{message_of, rest_of, rest_at}
 use Rattle.oneshot_replay.specs.Run.{OfEachRun, told_at}
 use Rattle.oneshot_replay.specs.TraceView.{IsReplayed}
@@ -55,25 +56,25 @@ module _ {T : Type 0} where
   legal s r moves entries now run = legal_run s r run.worlds moves entries run.tells
 
   pub message_followed : OfEachRun T (λ s r moves entries now. IsTrue (is_message_followed (calls_of s r) entries))
-  message_followed s r moves entries now run = Places.message_followed Every.path s r run.worlds moves entries run.tells
+  message_followed s r moves entries now run = Places.message_followed Moved.path s r run.worlds moves entries run.tells
 
   pub message_put : OfEachRun T (λ s r moves entries now. IsTrue (is_message_put (marks (calls_of s r) entries)))
-  message_put s r moves entries now run = Put.message_put Every.put s r run.worlds moves entries run.tells
+  message_put s r moves entries now run = Put.message_put Moved.put s r run.worlds moves entries run.tells
 
   pub message_ended : OfEachRun T (λ s r moves entries now. IsTrue (is_message_ended entries (marks (calls_of s r) entries)))
-  message_ended s r moves entries now run = Places.message_ended Every.sending s r run.worlds moves entries run.tells
+  message_ended s r moves entries now run = Places.message_ended Moved.sending s r run.worlds moves entries run.tells
 
   pub wakers : OfEachRun T (λ s r moves entries now. AreWakersRight entries (marks (calls_of s r) entries))
-  wakers s r moves entries now run = Wakers.wakers_right Every.parker s r run.worlds moves entries run.tells
+  wakers s r moves entries now run = Wakers.wakers_right Moved.parker s r run.worlds moves entries run.tells
 
   pub cell_kept : OfEachRun T (λ s r moves entries now. IsTrue (is_cell_kept entries))
-  cell_kept s r moves entries now run = Wakers.cell_kept Every.write s r run.worlds moves entries run.tells
+  cell_kept s r moves entries now run = Wakers.cell_kept Moved.write s r run.worlds moves entries run.tells
 
   pub never_unwoken : OfEachRun T (λ s r moves entries now. NeverUnwoken s r moves entries)
   never_unwoken s r moves entries now run = Unwoken.never_unwoken s r run.worlds moves entries run.tells
 
   pub freed_right : OfEachRun T (λ s r moves entries now. IsTrue (is_freed_right (marks (calls_of s r) entries)))
-  freed_right s r moves entries now run = Holders.freed_right Every.held Every.free Every.freed s r run.worlds moves entries run.tells
+  freed_right s r moves entries now run = Holders.freed_right Moved.held Moved.free Moved.freed s r run.worlds moves entries run.tells
 
   pub freed_as_shown : OfEachRun T (λ s r moves entries now. now.world.state.freed ≡ is_freed (marks (calls_of s r) entries))
   freed_as_shown s r moves entries now run =
@@ -86,28 +87,28 @@ module _ {T : Type 0} where
       told.rest ∙ rest_shown s r told.worlds moves entries told.tells
 
   pub gone_after_got : OfEachRun T (λ s r moves entries now. IsTrue (is_gone_after_got (marks (calls_of s r) entries)))
-  gone_after_got s r moves entries now run = Afterwards.gone_after_got Every.got s r run.worlds moves entries run.tells
+  gone_after_got s r moves entries now run = Afterwards.gone_after_got Told.got s r run.worlds moves entries run.tells
 
   pub got_after_full : OfEachRun T (λ s r moves entries now. IsTrue (is_got_after_full (marks (calls_of s r) entries)))
-  got_after_full s r moves entries now run = NextReceive.got_after_full Every.next s r run.worlds moves entries run.tells
+  got_after_full s r moves entries now run = NextReceive.got_after_full Told.next s r run.worlds moves entries run.tells
 
   pub gone_after_closed : OfEachRun T (λ s r moves entries now. IsTrue (is_gone_after_closed (marks (calls_of s r) entries)))
-  gone_after_closed s r moves entries now run = Afterwards.gone_after_closed Every.closed s r run.worlds moves entries run.tells
+  gone_after_closed s r moves entries now run = Afterwards.gone_after_closed Told.closed s r run.worlds moves entries run.tells
 
   pub refused_after_closed : OfEachRun T (λ s r moves entries now. IsTrue (is_refused_after_closed (marks (calls_of s r) entries)))
-  refused_after_closed s r moves entries now run = Afterwards.refused_after_closed Every.refused s r run.worlds moves entries run.tells
+  refused_after_closed s r moves entries now run = Afterwards.refused_after_closed Told.refused s r run.worlds moves entries run.tells
 
   pub nothing_only_if_open : OfEachRun T (λ s r moves entries now. IsTrue (is_nothing_only_if_open (marks (calls_of s r) entries)))
-  nothing_only_if_open s r moves entries now run = NothingYet.nothing_only_if_open Every.met s r run.worlds moves entries run.tells
+  nothing_only_if_open s r moves entries now run = NothingYet.nothing_only_if_open Told.met s r run.worlds moves entries run.tells
 
   pub dropped_once : OfEachRun T (λ s r moves entries now. IsTrue (is_dropped_once (marks (calls_of s r) entries)))
-  dropped_once s r moves entries now run = DroppedOnce.dropped_once Every.story s r run.worlds moves entries run.tells
+  dropped_once s r moves entries now run = DroppedOnce.dropped_once Told.story s r run.worlds moves entries run.tells
 
   pub lone_calls : OfEachRun T (λ s r moves entries now. IsTrue (are_lone_calls_right (marks (calls_of s r) entries)))
-  lone_calls s r moves entries now run = Alone.lone_calls_right Every.lone s r run.worlds moves entries run.tells
+  lone_calls s r moves entries now run = Alone.lone_calls_right s r run.worlds moves entries run.tells
 
   pub calls_bounded : OfEachRun T (λ s r moves entries now. IsTrue (are_calls_bounded (marks (calls_of s r) entries)))
-  calls_bounded s r moves entries now run = Bounds.calls_bounded Every.budget s r run.worlds moves entries run.tells
+  calls_bounded s r moves entries now run = Bounds.calls_bounded s r run.worlds moves entries run.tells
 
   pub soon_answered : OfEachRun T (λ s r moves entries now. IsTrue (is_soon_answered (marks (calls_of s r) entries)))
-  soon_answered s r moves entries now run = Soon.soon_answered Every.rest s r run.worlds moves entries run.tells
+  soon_answered s r moves entries now run = Soon.soon_answered s r run.worlds moves entries run.tells
