@@ -36,6 +36,7 @@ abbrev begun : Call → Left
 begun (Of_sender SC.Send) = Counted false 2
 begun (Of_sender SC.Drop) = Counted false 2
 begun (Of_receiver RC.TryRecv) = Counted false 2
+begun (Of_receiver RC.AsyncTryRecv) = Counted false 2
 begun (Poll number) = Counted true 4
 begun (Of_receiver RC.DropAsync) = Counted true 3
 begun _ = Unbounded
@@ -186,6 +187,7 @@ within : (call : Call) (own : List Mark) → covers (begun call) own ≡ true �
 within (Of_sender SC.Send) own h = h
 within (Of_sender SC.Drop) own h = h
 within (Of_receiver RC.TryRecv) own h = h
+within (Of_receiver RC.AsyncTryRecv) own h = h
 within (Of_receiver RC.DropAsync) own h = h
 within (Poll number) own h = h
 within _ own h = refl

@@ -66,6 +66,7 @@ takes (Of_receiver RC.TryRecv) n h = refl
 takes (Of_receiver RC.RecvDeadline) n h = refl
 takes (Of_receiver (RC.RecvTimeout true)) n h = refl
 takes (Poll number) n h = refl
+takes (Of_receiver RC.AsyncTryRecv) n h = refl
 takes _ n h = cc
 
 open_stays_at : (c : Content) (s r : Bool) → is_open c ≡ true → object_after Take (record { content = c; sender_here = s; receiver_here = r }) ≡ record { content = c; sender_here = s; receiver_here = r }
@@ -251,6 +252,7 @@ local_right (Of_receiver RC.IsClosed) o x earlier e later f ok paid says = local
 local_right (Of_receiver RC.Drop) o x earlier e later f ok paid says = local_first swaps_closed_in (Of_receiver RC.Drop) o x earlier e later f.acted ok paid
 local_right (Of_receiver RC.IntoFuture) o x earlier e later f ok paid says = local_fixed (Of_receiver RC.IntoFuture) o x earlier e later refl
 local_right (Of_receiver RC.Poll) o x earlier e later f ok paid says = local_receive (Of_receiver RC.Poll) o x earlier e later f.acted f.worked ok paid (says refl)
+local_right (Of_receiver RC.AsyncTryRecv) o x earlier e later f ok paid says = local_receive (Of_receiver RC.AsyncTryRecv) o x earlier e later f.acted f.worked ok paid (says refl)
 local_right (Poll number) o x earlier e later f ok paid says = local_receive (Poll number) o x earlier e later f.acted f.worked ok paid (says refl)
 local_right (Of_receiver RC.DropAsync) o x earlier e later f ok paid says = local_first swaps_closed_in (Of_receiver RC.DropAsync) o x earlier e later f.acted ok paid
 local_right Stray o x earlier e later f ok paid says = absurd (cc ok)
@@ -303,6 +305,7 @@ no_word (Of_receiver RC.TryRecv) h = cc
 no_word (Of_receiver RC.RecvDeadline) h = cc
 no_word (Of_receiver (RC.RecvTimeout true)) h = cc
 no_word (Poll number) h = cc
+no_word (Of_receiver RC.AsyncTryRecv) h = cc
 no_word _ h = refl
 
 both_false : (a b : Bool) → (a && false) ≡ (b && false)

@@ -74,6 +74,7 @@ begins_unparked (Some RC.HasMessage) = refl
 begins_unparked (Some RC.IsClosed) = refl
 begins_unparked (Some RC.IntoFuture) = refl
 begins_unparked (Some RC.Poll) = refl
+begins_unparked (Some RC.AsyncTryRecv) = refl
 begins_unparked (Some RC.Drop) = refl
 begins_unparked (Some RC.DropAsync) = refl
 

@@ -29,6 +29,7 @@ receiver_action RC.IsClosed = Some Look_closed
 receiver_action RC.Drop = Some Receiver_gone
 receiver_action RC.IntoFuture = None
 receiver_action RC.Poll = Some Take
+receiver_action RC.AsyncTryRecv = Some Take
 receiver_action RC.DropAsync = Some Receiver_gone
 
 abbrev pub action_of : Call → Option Action
@@ -43,6 +44,7 @@ nothing_yet_of (Of_receiver RC.TryRecv) = Some R.Empty
 nothing_yet_of (Of_receiver RC.RecvDeadline) = Some R.Timeout
 nothing_yet_of (Of_receiver (RC.RecvTimeout true)) = Some R.Timeout
 nothing_yet_of (Poll number) = Some R.Pending
+nothing_yet_of (Of_receiver RC.AsyncTryRecv) = Some R.Empty
 nothing_yet_of _ = None
 
 -- the reply that reads an answer
@@ -81,6 +83,7 @@ is_receive (Of_receiver RC.RecvDeadline) = true
 is_receive (Of_receiver (RC.RecvTimeout representable)) = true
 is_receive (Of_receiver RC.Recv) = true
 is_receive (Poll number) = true
+is_receive (Of_receiver RC.AsyncTryRecv) = true
 is_receive _ = false
 
 abbrev pub is_send : Call → Bool

@@ -26,6 +26,7 @@ abbrev pub is_within_its_bound : Call → List Mark → Bool
 is_within_its_bound (Of_sender SC.Send) own = at_most 2 operates own
 is_within_its_bound (Of_sender SC.Drop) own = at_most 2 operates own
 is_within_its_bound (Of_receiver RC.TryRecv) own = at_most 2 operates own
+is_within_its_bound (Of_receiver RC.AsyncTryRecv) own = at_most 2 operates own
 is_within_its_bound (Poll number) own = at_most 4 operates_past_1 own
 is_within_its_bound (Of_receiver RC.DropAsync) own = at_most 3 operates_past_1 own
 is_within_its_bound _ own = true

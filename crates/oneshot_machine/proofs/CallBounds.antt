@@ -8,7 +8,7 @@ use Rattle.oneshot_machine.specs.declared.machine.receiver.ReceiverStart.TheVari
 use Rattle.oneshot_machine.specs.declared.machine.receiver.ReceiverPos.{ReceiverPos}
 use Rattle.oneshot_machine.specs.declared.machine.receiver.ReceiverPos.TheVariants.{Look, Future, AsyncDrop, Drop}
 use Rattle.oneshot_machine.specs.declared.machine.look.LookPos.TheVariants.{TryLoad, Close, Take}
-use Rattle.oneshot_machine.specs.declared.machine.future.FuturePos.TheVariants.{PollLoad, PollCopy, PollWrite, PollExchange, PollBackFull, PollBackClosed, AgainCopy, AgainExchange, AgainBack, PollOwn, PollSpin}
+use Rattle.oneshot_machine.specs.declared.machine.future.FuturePos.TheVariants.{PollLoad, PollCopy, PollWrite, PollExchange, PollBackFull, PollBackClosed, AgainCopy, AgainExchange, AgainBack, PollOwn, PollSpin, AsyncTryLoad}
 use Rattle.oneshot_machine.specs.declared.machine.async_drop.AsyncDropPos.TheVariants.{AsyncLoad, AsyncExchange, AsyncBack, AsyncSpin}
 use Rattle.oneshot_machine.specs.declared.machine.drop.DropPos.TheVariants.{DropSwap, DropMessage, DropFree}
 use Rattle.oneshot_machine.specs.declared.machine.sender.SenderCall.TheVariants as S
@@ -42,6 +42,7 @@ abbrev receiver_most : ReceiverPos → Option ℕ
 receiver_most (Look TryLoad) = Some 2
 receiver_most (Look Close) = Some 1
 receiver_most (Look Take) = Some 0
+receiver_most (Future AsyncTryLoad) = Some 2
 receiver_most _ = None
 
 -- beside the loads and exchanges that find the sender about to finish
@@ -86,6 +87,7 @@ receiver_pays : (p : ReceiverPos) → pays operates receiver_step receiver_rows 
 receiver_pays (Look TryLoad) = refl
 receiver_pays (Look Close) = refl
 receiver_pays (Look Take) = refl
+receiver_pays (Future AsyncTryLoad) = refl
 receiver_pays _ = refl
 
 future_pays : (p : ReceiverPos) → pays operates_past_1 receiver_step receiver_rows future_most p ≡ true
@@ -119,6 +121,9 @@ module _ {T W : Type 0} {reply : Reply} where
   pub try_recv_makes : (xs : List (Event T W)) → Run receiver_step receiver_row (receiver_start C.TryRecv) xs reply → count_by operates (words xs) ≤ 2
   try_recv_makes xs run = at_most operates receiver_step receiver_rows receiver_most receiver_pays (Look TryLoad) xs reply 2 refl run
 
+  pub async_try_recv_makes : (xs : List (Event T W)) → Run receiver_step receiver_row (receiver_start C.AsyncTryRecv) xs reply → count_by operates (words xs) ≤ 2
+  async_try_recv_makes xs run = at_most operates receiver_step receiver_rows receiver_most receiver_pays (Future AsyncTryLoad) xs reply 2 refl run
+
   future_makes : (p : ReceiverPos) (limit : ℕ) → future_most p ≡ Some limit → (xs : List (Event T W)) → Run receiver_step receiver_row p xs reply → count_by operates_past_1 (words xs) ≤ limit
   future_makes p limit is xs run = at_most operates_past_1 receiver_step receiver_rows future_most future_pays p xs reply limit is run
 
@@ -138,6 +143,9 @@ module _ {T W : Type 0} {reply : Reply} where
 
     pub try_recv_few : ReceiverRan C.TryRecv before after reply given got → MakesAtMost 2 operates before after
     try_recv_few ran = ran_few try_recv_makes ran
+
+    pub async_try_recv_few : ReceiverRan C.AsyncTryRecv before after reply given got → MakesAtMost 2 operates before after
+    async_try_recv_few ran = ran_few async_try_recv_makes ran
 
     pub poll_few : ReceiverRan C.Poll before after reply given got → MakesAtMost 4 operates_past_1 before after
     poll_few ran = ran_few poll_makes ran

@@ -30,7 +30,7 @@ abbrev calls : List Standpoint
 calls = plainly (Look TryLoad) ∷ plainly (Ref (StartLoad false)) ∷ plainly (Ref (StartLoad true)) ∷ plainly (Value RecvLoad) ∷ plainly (Drop DropSwap) ∷ []
 
 abbrev polls : List Standpoint
-polls = as_future (Future F.PollLoad) ∷ as_future (AsyncDrop AsyncLoad) ∷ []
+polls = as_future (Future F.PollLoad) ∷ as_future (Future F.AsyncTryLoad) ∷ as_future (AsyncDrop AsyncLoad) ∷ []
 
 -- after the load of a call that blocks, of a poll or of a future's drop, too
 abbrev stores : List Standpoint
@@ -53,7 +53,7 @@ receiver_stands (waits polled) = polls ∷ []
 receiver_stands (waits again) =
     (as_future (Future F.AgainExchange) ∷ as_future (AsyncDrop AsyncExchange) ∷ polls) ∷ []
 receiver_stands claimed =
-    (as_future (Future F.PollSpin) ∷ as_future (AsyncDrop AsyncSpin) ∷ [])
+    (as_future (Future F.PollSpin) ∷ as_future (AsyncDrop AsyncSpin) ∷ polls)
     ∷ (as_future (AsyncDrop AsyncSpin) ∷ polls)
     ∷ []
 receiver_stands withdrew = (as_future (Future F.PollExchange) ∷ as_future (Drop DropSwap) ∷ []) ∷ []

@@ -3,7 +3,7 @@ use Rattle.std.specs.Prelude.{ℕ, true, false, List, [], ◌∷◌}
 use Rattle.oneshot_machine.specs.declared.machine.receiver.ReceiverPos.{ReceiverPos}
 use Rattle.oneshot_machine.specs.declared.machine.receiver.ReceiverPos.TheVariants.{Look, Future}
 use Rattle.oneshot_machine.specs.declared.machine.future.FuturePos.{FuturePos}
-use Rattle.oneshot_machine.specs.declared.machine.future.FuturePos.TheVariants.{IntoFuture, PollLoad, PollCopy, PollWrite, PollExchange, PollBackFull, PollBackClosed, AgainCopy, AgainExchange, AgainBack, PollOwn, PollSpin}
+use Rattle.oneshot_machine.specs.declared.machine.future.FuturePos.TheVariants.{IntoFuture, PollLoad, PollCopy, PollWrite, PollExchange, PollBackFull, PollBackClosed, AgainCopy, AgainExchange, AgainBack, PollOwn, PollSpin, AsyncTryLoad}
 use Rattle.oneshot_machine.specs.declared.machine.look.LookPos.TheVariants.{Close}
 use Rattle.oneshot_machine.specs.declared.machine.Reply.TheVariants as R
 use Rattle.oneshot_machine.specs.declared.machine.Seen.TheVariants.{Done, Word, Refused}
@@ -25,6 +25,7 @@ future_step AgainExchange = T.Word (O.Exchange 0 3)
 future_step AgainBack = T.Withdraw
 future_step PollOwn = T.WakeOwn
 future_step PollSpin = T.Word O.Load
+future_step AsyncTryLoad = T.Word O.Load
 
 abbrev pub future_rows : FuturePos → Rows ReceiverPos
 future_rows IntoFuture = (Done, Answers R.Future) ∷ []
@@ -45,6 +46,8 @@ future_rows AgainBack = (Done, Goes (Future PollWrite)) ∷ []
 future_rows PollOwn = (Done, Answers R.Pending) ∷ []
 future_rows PollSpin =
     (Word 4, Goes (Look Close)) ∷ (Word 2, Answers R.Disconnected) ∷ (Word 1, Goes (Future PollSpin)) ∷ []
+future_rows AsyncTryLoad =
+    (Word 4, Goes (Look Close)) ∷ (Word 2, Answers R.Disconnected) ∷ (Word 3, Answers R.Empty) ∷ (Word 0, Answers R.Empty) ∷ (Word 1, Answers R.Empty) ∷ []
 
 -- the positions, and the number of each in their list
 abbrev pub future_positions : List FuturePos
@@ -61,6 +64,7 @@ future_positions =
     ∷ AgainBack
     ∷ PollOwn
     ∷ PollSpin
+    ∷ AsyncTryLoad
     ∷ []
 
 abbrev pub future_number : FuturePos → ℕ
@@ -76,3 +80,4 @@ future_number AgainExchange = 8
 future_number AgainBack = 9
 future_number PollOwn = 10
 future_number PollSpin = 11
+future_number AsyncTryLoad = 12

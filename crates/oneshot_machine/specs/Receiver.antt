@@ -8,7 +8,7 @@ use Rattle.oneshot_machine.specs.declared.machine.look.LookPos.TheVariants.{Look
 use Rattle.oneshot_machine.specs.declared.machine.by_ref.RefPos.TheVariants.{StartLoad}
 use Rattle.oneshot_machine.specs.declared.machine.timed.TimedPos.TheVariants.{SumClock}
 use Rattle.oneshot_machine.specs.declared.machine.value.ValuePos.TheVariants.{RecvLoad}
-use Rattle.oneshot_machine.specs.declared.machine.future.FuturePos.TheVariants.{IntoFuture, PollLoad}
+use Rattle.oneshot_machine.specs.declared.machine.future.FuturePos.TheVariants.{IntoFuture, PollLoad, AsyncTryLoad}
 use Rattle.oneshot_machine.specs.declared.machine.async_drop.AsyncDropPos.TheVariants.{AsyncLoad}
 use Rattle.oneshot_machine.specs.declared.machine.drop.DropPos.TheVariants.{DropSwap}
 use Rattle.oneshot_machine.specs.declared.machine.Seen.{Seen}
@@ -32,6 +32,7 @@ receiver_start RS.HasMessage = Look LookFull
 receiver_start RS.IsClosed = Look LookClosed
 receiver_start RS.IntoFuture = Future IntoFuture
 receiver_start RS.Poll = Future PollLoad
+receiver_start RS.AsyncTryRecv = Future AsyncTryLoad
 receiver_start RS.Drop = Drop DropSwap
 receiver_start RS.DropAsync = AsyncDrop AsyncLoad
 
@@ -49,6 +50,7 @@ all_receiver_calls =
     ∷ RS.Drop
     ∷ RS.IntoFuture
     ∷ RS.Poll
+    ∷ RS.AsyncTryRecv
     ∷ RS.DropAsync
     ∷ []
 
@@ -67,7 +69,7 @@ receiver_opens =
     ∷ [])
 
 abbrev pub future_opens : List ReceiverPos
-future_opens = map receiver_start (RS.Poll ∷ RS.DropAsync ∷ [])
+future_opens = map receiver_start (RS.Poll ∷ RS.AsyncTryRecv ∷ RS.DropAsync ∷ [])
 
 abbrev pub receiver_step : ReceiverPos → Step
 receiver_step (Look at) = look_step at
@@ -107,9 +109,9 @@ receiver_number (Ref at) = 6 + ref_number at
 receiver_number (Timed at) = 16 + timed_number at
 receiver_number (Value at) = 25 + value_number at
 receiver_number (Future at) = 35 + future_number at
-receiver_number (AsyncDrop at) = 47 + async_drop_number at
-receiver_number (Drop at) = 51 + drop_number at
+receiver_number (AsyncDrop at) = 48 + async_drop_number at
+receiver_number (Drop at) = 52 + drop_number at
 
 -- how many positions there are
 abbrev pub receiver_count : ℕ
-receiver_count = 54
+receiver_count = 55

@@ -48,6 +48,7 @@ receiver_call Script.IsClosed = Of_receiver RC.IsClosed
 
 abbrev pub async_call : AsyncCall → Call
 async_call (AC.Poll number) = Poll number
+async_call AC.TryRecv = Of_receiver RC.AsyncTryRecv
 async_call AC.HasMessage = Of_receiver RC.HasMessage
 async_call AC.IsClosed = Of_receiver RC.IsClosed
 
@@ -115,6 +116,7 @@ ends_receiver _ = false
 
 abbrev pub stays_async : Call → Bool
 stays_async (Poll number) = true
+stays_async (Of_receiver RC.AsyncTryRecv) = true
 stays_async (Of_receiver RC.HasMessage) = true
 stays_async (Of_receiver RC.IsClosed) = true
 stays_async _ = false

@@ -101,6 +101,8 @@ pub struct AsyncScript {
 pub enum AsyncCall {
     /// `AsyncReceiver::poll`, with the task's waker of this number.
     Poll(u64),
+    /// `AsyncReceiver::try_recv`.
+    TryRecv,
     /// `AsyncReceiver::has_message`.
     HasMessage,
     /// `AsyncReceiver::is_closed`.

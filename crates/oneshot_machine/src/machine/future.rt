@@ -1,4 +1,4 @@
-//! The receiver as a future: `into_future` and `poll`.
+//! The receiver as a future: `into_future`, `poll` and its `try_recv`.
 
 ghost use Rattle.std.specs.Prelude.{◌≡◌};
 ghost use Rattle.std.specs.Option.{option_map};
@@ -39,6 +39,8 @@ pub enum FuturePos {
     PollOwn,
     /// `poll` found a sender that is about to finish, and is about to read the word again.
     PollSpin,
+    /// `try_recv` of a future is about to read the word.
+    AsyncTryLoad,
 }
 
 impl FuturePos {
@@ -59,6 +61,7 @@ impl FuturePos {
             FuturePos::AgainBack => Step::Withdraw,
             FuturePos::PollOwn => Step::WakeOwn,
             FuturePos::PollSpin => Step::Word(Op::Load),
+            FuturePos::AsyncTryLoad => Step::Word(Op::Load),
         }
     }
 
@@ -94,6 +97,11 @@ impl FuturePos {
             (FuturePos::PollSpin, Seen::Word(MESSAGE)) => Goes(Look(LookPos::Close)),
             (FuturePos::PollSpin, Seen::Word(DISCONNECTED)) => Answers(Reply::Disconnected),
             (FuturePos::PollSpin, Seen::Word(UNPARKING)) => Goes(Future(FuturePos::PollSpin)),
+            (FuturePos::AsyncTryLoad, Seen::Word(MESSAGE)) => Goes(Look(LookPos::Close)),
+            (FuturePos::AsyncTryLoad, Seen::Word(DISCONNECTED)) => Answers(Reply::Disconnected),
+            (FuturePos::AsyncTryLoad, Seen::Word(EMPTY)) => Answers(Reply::Empty),
+            (FuturePos::AsyncTryLoad, Seen::Word(RECEIVING)) => Answers(Reply::Empty),
+            (FuturePos::AsyncTryLoad, Seen::Word(UNPARKING)) => Answers(Reply::Empty),
             _ => return None,
         };
         Some(end)

@@ -40,6 +40,8 @@ pub enum ReceiverStart {
     IntoFuture,
     /// `AsyncReceiver::poll`.
     Poll,
+    /// `AsyncReceiver::try_recv`.
+    AsyncTryRecv,
     /// The receiver is dropped.
     Drop,
     /// The future is dropped.
@@ -82,6 +84,7 @@ impl ReceiverPos {
             ReceiverStart::IsClosed => ReceiverPos::Look(LookPos::LookClosed),
             ReceiverStart::IntoFuture => ReceiverPos::Future(FuturePos::IntoFuture),
             ReceiverStart::Poll => ReceiverPos::Future(FuturePos::PollLoad),
+            ReceiverStart::AsyncTryRecv => ReceiverPos::Future(FuturePos::AsyncTryLoad),
             ReceiverStart::Drop => ReceiverPos::Drop(DropPos::DropSwap),
             ReceiverStart::DropAsync => ReceiverPos::AsyncDrop(AsyncDropPos::AsyncLoad),
         }

@@ -49,6 +49,7 @@ impl FutureCalls {
         if self.answered < calls.len() {
             match calls[self.answered] {
                 AsyncCall::Poll(_) => Some(ReceiverStart::Poll),
+                AsyncCall::TryRecv => Some(ReceiverStart::AsyncTryRecv),
                 AsyncCall::HasMessage => Some(ReceiverStart::HasMessage),
                 AsyncCall::IsClosed => Some(ReceiverStart::IsClosed),
             }
@@ -68,7 +69,7 @@ impl FutureCalls {
         if self.answered < calls.len() {
             match calls[self.answered] {
                 AsyncCall::Poll(number) => Some(number),
-                AsyncCall::HasMessage | AsyncCall::IsClosed => None,
+                AsyncCall::TryRecv | AsyncCall::HasMessage | AsyncCall::IsClosed => None,
             }
         } else {
             None
