@@ -8,19 +8,19 @@ use Rattle.oneshot_machine.specs.declared.machine.receiver.ReceiverStart.TheVari
 use Rattle.oneshot_machine.specs.declared.machine.receiver.ReceiverPos.{ReceiverPos}
 use Rattle.oneshot_machine.specs.declared.machine.receiver.ReceiverPos.TheVariants.{Look, Future, AsyncDrop, Drop}
 use Rattle.oneshot_machine.specs.declared.machine.look.LookPos.TheVariants.{TryLoad, Close, Take}
-use Rattle.oneshot_machine.specs.declared.machine.future.FuturePos.TheVariants.{PollLoad, PollCopy, PollWrite, PollExchange, PollBackFull, PollBackClosed, AgainCopy, AgainExchange, AgainBack, PollOwn, PollSpin, AsyncTryLoad}
-use Rattle.oneshot_machine.specs.declared.machine.async_drop.AsyncDropPos.TheVariants.{AsyncLoad, AsyncExchange, AsyncBack, AsyncSpin}
-use Rattle.oneshot_machine.specs.declared.machine.drop.DropPos.TheVariants.{DropSwap, DropMessage, DropFree}
+use Rattle.oneshot_machine.specs.declared.machine.future.FuturePos.TheVariants.{PollLoad, PollCopy, PollWrite, PollExchange, PollBackFull, PollBackClosed, AgainCopy, AgainExchange, AgainBack, PollOwn, AsyncTryLoad}
+use Rattle.oneshot_machine.specs.declared.machine.async_drop.AsyncDropPos.TheVariants.{AsyncLoad, AsyncExchange, AsyncBack, AsyncSwap}
+use Rattle.oneshot_machine.specs.declared.machine.drop.DropPos.TheVariants.{DropMessage, DropFree}
 use Rattle.oneshot_machine.specs.declared.machine.sender.SenderCall.TheVariants as S
 use Rattle.oneshot_machine.specs.declared.machine.sender.SenderPos.{SenderPos}
-use Rattle.oneshot_machine.specs.declared.machine.sender.SenderPos.TheVariants.{SendWrite, SendAdd, SendTakeWaker, SendFinal, SendWake, DropXor, DropTakeWaker, DropFinal, DropWake, DropFree as SenderFree}
+use Rattle.oneshot_machine.specs.declared.machine.sender.SenderPos.TheVariants.{SendWrite, SendAdd, SendTakeWaker, SendFinal, SendWake, SendLateWake, DropXor, DropTakeWaker, DropFinal, DropWake, DropLateWake, DropFree as SenderFree}
 use Rattle.oneshot_machine.specs.Logs.{Event, Log, words}
 use Rattle.oneshot_machine.specs.Receiver.{receiver_start, receiver_step, receiver_rows, receiver_row}
 use Rattle.oneshot_machine.specs.Runs.{Run, Ran, SenderRan, ReceiverRan}
 use Rattle.oneshot_machine.specs.Sender.{sender_step, sender_rows, sender_row}
 use Rattle.oneshot_machine.specs.TableRows.{Outcome}
 use Rattle.oneshot_machine.specs.Noted.{Noted}
-use Rattle.oneshot_machine.specs.Counts.{operates, operates_past_1, MakesAtMost}
+use Rattle.oneshot_machine.specs.Counts.{operates, MakesAtMost}
 use Rattle.oneshot_machine.proofs.GrownLists.{words_after}
 use Rattle.oneshot_machine.proofs.CountedRuns.{pays, at_most}
 
@@ -30,44 +30,38 @@ sender_most SendAdd = Some 2
 sender_most SendTakeWaker = Some 1
 sender_most SendFinal = Some 1
 sender_most SendWake = Some 0
+sender_most SendLateWake = Some 0
 sender_most DropXor = Some 2
 sender_most DropTakeWaker = Some 1
 sender_most DropFinal = Some 1
 sender_most DropWake = Some 0
+sender_most DropLateWake = Some 0
 sender_most SenderFree = Some 0
 sender_most _ = None
 
--- of a call that never waits
+-- of the receiver's calls that never wait
 abbrev receiver_most : ReceiverPos → Option ℕ
 receiver_most (Look TryLoad) = Some 2
 receiver_most (Look Close) = Some 1
 receiver_most (Look Take) = Some 0
+receiver_most (Future PollLoad) = Some 4
+receiver_most (Future PollCopy) = Some 2
+receiver_most (Future PollWrite) = Some 2
+receiver_most (Future PollExchange) = Some 2
+receiver_most (Future PollBackFull) = Some 1
+receiver_most (Future PollBackClosed) = Some 0
+receiver_most (Future AgainCopy) = Some 3
+receiver_most (Future AgainExchange) = Some 3
+receiver_most (Future AgainBack) = Some 2
+receiver_most (Future PollOwn) = Some 0
 receiver_most (Future AsyncTryLoad) = Some 2
+receiver_most (AsyncDrop AsyncLoad) = Some 3
+receiver_most (AsyncDrop AsyncExchange) = Some 2
+receiver_most (AsyncDrop AsyncBack) = Some 1
+receiver_most (AsyncDrop AsyncSwap) = Some 1
+receiver_most (Drop DropMessage) = Some 0
+receiver_most (Drop DropFree) = Some 0
 receiver_most _ = None
-
--- beside the loads and exchanges that find the sender about to finish
-abbrev future_most : ReceiverPos → Option ℕ
-future_most (Look Close) = Some 1
-future_most (Look Take) = Some 0
-future_most (Future PollLoad) = Some 4
-future_most (Future PollCopy) = Some 2
-future_most (Future PollWrite) = Some 2
-future_most (Future PollExchange) = Some 2
-future_most (Future PollBackFull) = Some 1
-future_most (Future PollBackClosed) = Some 0
-future_most (Future AgainCopy) = Some 3
-future_most (Future AgainExchange) = Some 3
-future_most (Future AgainBack) = Some 2
-future_most (Future PollOwn) = Some 0
-future_most (Future PollSpin) = Some 2
-future_most (AsyncDrop AsyncLoad) = Some 3
-future_most (AsyncDrop AsyncExchange) = Some 2
-future_most (AsyncDrop AsyncBack) = Some 1
-future_most (AsyncDrop AsyncSpin) = Some 2
-future_most (Drop DropSwap) = Some 1
-future_most (Drop DropMessage) = Some 0
-future_most (Drop DropFree) = Some 0
-future_most _ = None
 
 -- each row pays for its step
 sender_pays : (p : SenderPos) → pays operates sender_step sender_rows sender_most p ≡ true
@@ -76,10 +70,12 @@ sender_pays SendAdd = refl
 sender_pays SendTakeWaker = refl
 sender_pays SendFinal = refl
 sender_pays SendWake = refl
+sender_pays SendLateWake = refl
 sender_pays DropXor = refl
 sender_pays DropTakeWaker = refl
 sender_pays DropFinal = refl
 sender_pays DropWake = refl
+sender_pays DropLateWake = refl
 sender_pays SenderFree = refl
 sender_pays _ = refl
 
@@ -87,48 +83,48 @@ receiver_pays : (p : ReceiverPos) → pays operates receiver_step receiver_rows 
 receiver_pays (Look TryLoad) = refl
 receiver_pays (Look Close) = refl
 receiver_pays (Look Take) = refl
+receiver_pays (Future PollLoad) = refl
+receiver_pays (Future PollCopy) = refl
+receiver_pays (Future PollWrite) = refl
+receiver_pays (Future PollExchange) = refl
+receiver_pays (Future PollBackFull) = refl
+receiver_pays (Future PollBackClosed) = refl
+receiver_pays (Future AgainCopy) = refl
+receiver_pays (Future AgainExchange) = refl
+receiver_pays (Future AgainBack) = refl
+receiver_pays (Future PollOwn) = refl
 receiver_pays (Future AsyncTryLoad) = refl
+receiver_pays (AsyncDrop AsyncLoad) = refl
+receiver_pays (AsyncDrop AsyncExchange) = refl
+receiver_pays (AsyncDrop AsyncBack) = refl
+receiver_pays (AsyncDrop AsyncSwap) = refl
+receiver_pays (Drop DropMessage) = refl
+receiver_pays (Drop DropFree) = refl
 receiver_pays _ = refl
-
-future_pays : (p : ReceiverPos) → pays operates_past_1 receiver_step receiver_rows future_most p ≡ true
-future_pays (Look Close) = refl
-future_pays (Look Take) = refl
-future_pays (Future PollLoad) = refl
-future_pays (Future PollCopy) = refl
-future_pays (Future PollWrite) = refl
-future_pays (Future PollExchange) = refl
-future_pays (Future PollBackFull) = refl
-future_pays (Future PollBackClosed) = refl
-future_pays (Future AgainCopy) = refl
-future_pays (Future AgainExchange) = refl
-future_pays (Future AgainBack) = refl
-future_pays (Future PollOwn) = refl
-future_pays (Future PollSpin) = refl
-future_pays (AsyncDrop AsyncLoad) = refl
-future_pays (AsyncDrop AsyncExchange) = refl
-future_pays (AsyncDrop AsyncBack) = refl
-future_pays (AsyncDrop AsyncSpin) = refl
-future_pays (Drop DropSwap) = refl
-future_pays (Drop DropMessage) = refl
-future_pays (Drop DropFree) = refl
-future_pays _ = refl
 
 module _ {T W : Type 0} {reply : Reply} where
   -- what a run makes
-  sender_makes : (p : SenderPos) (limit : ℕ) → sender_most p ≡ Some limit → (xs : List (Event T W)) → Run sender_step sender_row p xs reply → count_by operates (words xs) ≤ limit
+  sender_makes : (p : SenderPos) (limit : ℕ) → sender_most p ≡ Some limit
+      → (xs : List (Event T W)) → Run sender_step sender_row p xs reply → count_by operates (words xs) ≤ limit
   sender_makes p limit is xs run = at_most operates sender_step sender_rows sender_most sender_pays p xs reply limit is run
 
-  pub try_recv_makes : (xs : List (Event T W)) → Run receiver_step receiver_row (receiver_start C.TryRecv) xs reply → count_by operates (words xs) ≤ 2
-  try_recv_makes xs run = at_most operates receiver_step receiver_rows receiver_most receiver_pays (Look TryLoad) xs reply 2 refl run
+  receiver_makes : (p : ReceiverPos) (limit : ℕ) → receiver_most p ≡ Some limit
+      → (xs : List (Event T W)) → Run receiver_step receiver_row p xs reply → count_by operates (words xs) ≤ limit
+  receiver_makes p limit is xs run =
+      at_most operates receiver_step receiver_rows receiver_most receiver_pays p xs reply limit is run
 
-  pub async_try_recv_makes : (xs : List (Event T W)) → Run receiver_step receiver_row (receiver_start C.AsyncTryRecv) xs reply → count_by operates (words xs) ≤ 2
-  async_try_recv_makes xs run = at_most operates receiver_step receiver_rows receiver_most receiver_pays (Future AsyncTryLoad) xs reply 2 refl run
+  -- of each call
+  pub try_recv_makes : (xs : List (Event T W)) → Run receiver_step receiver_row (receiver_start C.TryRecv) xs reply
+      → count_by operates (words xs) ≤ 2
+  try_recv_makes = receiver_makes (Look TryLoad) 2 refl
 
-  future_makes : (p : ReceiverPos) (limit : ℕ) → future_most p ≡ Some limit → (xs : List (Event T W)) → Run receiver_step receiver_row p xs reply → count_by operates_past_1 (words xs) ≤ limit
-  future_makes p limit is xs run = at_most operates_past_1 receiver_step receiver_rows future_most future_pays p xs reply limit is run
+  pub poll_makes : (xs : List (Event T W)) → Run receiver_step receiver_row (receiver_start C.Poll) xs reply
+      → count_by operates (words xs) ≤ 4
+  poll_makes = receiver_makes (Future PollLoad) 4 refl
 
-  pub poll_makes : (xs : List (Event T W)) → Run receiver_step receiver_row (receiver_start C.Poll) xs reply → count_by operates_past_1 (words xs) ≤ 4
-  poll_makes xs run = future_makes (Future PollLoad) 4 refl xs run
+  pub async_try_recv_makes : (xs : List (Event T W))
+      → Run receiver_step receiver_row (receiver_start C.AsyncTryRecv) xs reply → count_by operates (words xs) ≤ 2
+  async_try_recv_makes = receiver_makes (Future AsyncTryLoad) 2 refl
 
   module _ {given got : List T} {before after : Log T W} where
     -- and so the ground that ran it
@@ -147,8 +143,8 @@ module _ {T W : Type 0} {reply : Reply} where
     pub async_try_recv_few : ReceiverRan C.AsyncTryRecv before after reply given got → MakesAtMost 2 operates before after
     async_try_recv_few ran = ran_few async_try_recv_makes ran
 
-    pub poll_few : ReceiverRan C.Poll before after reply given got → MakesAtMost 4 operates_past_1 before after
+    pub poll_few : ReceiverRan C.Poll before after reply given got → MakesAtMost 4 operates before after
     poll_few ran = ran_few poll_makes ran
 
-    pub drop_async_few : ReceiverRan C.DropAsync before after reply given got → MakesAtMost 3 operates_past_1 before after
-    drop_async_few ran = ran_few (future_makes (AsyncDrop AsyncLoad) 3 refl) ran
+    pub drop_async_few : ReceiverRan C.DropAsync before after reply given got → MakesAtMost 3 operates before after
+    drop_async_few ran = ran_few (receiver_makes (AsyncDrop AsyncLoad) 3 refl) ran

@@ -11,8 +11,7 @@ counts_that_are =
       sends_by_two = record { added = _; list = refl; few = omega arith };
       had_made_others = record { added = _ ∷ _ ∷ []; list = refl; few = omega arith };
       makes_none = record { added = []; list = refl; few = omega arith };
-      waits_for_the_sender = record { added = _; list = refl; few = omega arith };
-      is_too_late = record { added = _; list = refl; few = omega arith };
+      polls_too_late = record { added = _; list = refl; few = omega arith };
     }
 
 -- all that a list has that was empty was added
@@ -24,6 +23,6 @@ counts_that_are_not =
     record {
       sends_by_one = λ grew. let few = all_added grew in omega arith;
       forgets_a_load = λ grew. let few = all_added grew in omega arith;
-      forgets_a_swap = λ grew. let few = all_added grew in omega arith;
+      forgets_what_found_1 = λ grew. let few = all_added grew in omega arith;
       forgets_what_it_made = λ grew. let list = grew.list in cc;
     }

@@ -5,13 +5,13 @@ use Rattle.oneshot_machine.specs.declared.machine.look.LookPos.TheVariants.{TryL
 use Rattle.oneshot_machine.specs.declared.machine.by_ref.RefPos.TheVariants.{StartLoad, StartSwap, ParkLoad}
 use Rattle.oneshot_machine.specs.declared.machine.timed.TimedPos.TheVariants.{TimedLoad, EndSwap, LateLoad}
 use Rattle.oneshot_machine.specs.declared.machine.value.ValuePos.TheVariants.{RecvLoad, RecvSwap, RecvParkLoad}
-use Rattle.oneshot_machine.specs.declared.machine.async_drop.AsyncDropPos.TheVariants.{AsyncLoad, AsyncExchange, AsyncSpin}
+use Rattle.oneshot_machine.specs.declared.machine.async_drop.AsyncDropPos.TheVariants.{AsyncLoad, AsyncExchange, AsyncSwap}
 use Rattle.oneshot_machine.specs.declared.machine.drop.DropPos.TheVariants.{DropSwap}
 use Rattle.oneshot_machine.specs.declared.machine.future.FuturePos.TheVariants as F
 use Rattle.oneshot_machine.specs.declared.machine.sender.SenderPos.{SenderPos}
 use Rattle.oneshot_machine.specs.declared.machine.sender.SenderPos.TheVariants.{SendAdd, SendFinal, DropXor, DropFinal}
 use Rattle.std.specs.Prelude.{true, false}
-use Rattle.oneshot_machine.specs.Phases.{sending, dropping, SenderAt, fresh, owes, finished, late, no_sender, sender_moves, ReceiverAt, first, here, looked, between, blocked, polled, again, waits, claimed, withdrew, overdue, storing, stopping, at_once, waited, swapped, by_future, by_poll, full, unclosed, disconnected, resolved, gone, ended, no_receiver, receiver_moves}
+use Rattle.oneshot_machine.specs.Phases.{sending, dropping, SenderAt, fresh, owes, finished, late, overtaken, no_sender, sender_moves, ReceiverAt, first, here, looked, between, blocked, polled, again, waits, claimed, withdrew, overdue, storing, stopping, at_once, waited, swapped, by_future, by_poll, full, unclosed, disconnected, resolved, gone, ended, no_receiver, receiver_moves}
 use Rattle.oneshot_machine.specs.Standing.{Standpoint, plainly, as_future, sender_table, receiver_table}
 use Rattle.oneshot_machine.specs.Exact.{SenderIsExact, ReceiverIsExact}
 use Rattle.oneshot_machine.proofs.Exactness.{IsExactAt, is_exact}
@@ -23,6 +23,7 @@ sender_stands (owes sending) = (SendFinal ∷ []) ∷ []
 sender_stands (owes dropping) = (DropFinal ∷ []) ∷ []
 sender_stands (finished by) = [] ∷ []
 sender_stands (late by) = [] ∷ []
+sender_stands (overtaken by) = [] ∷ []
 sender_stands no_sender = []
 
 -- where a receiver may between its calls, and a future
@@ -39,7 +40,7 @@ stores =
     ∷ plainly (Ref (StartSwap true))
     ∷ plainly (Value RecvSwap)
     ∷ as_future (Future F.PollExchange)
-    ∷ as_future (Drop DropSwap)
+    ∷ as_future (AsyncDrop AsyncSwap)
     ∷ []
 
 -- Where it may at each phase: some are reached in several ways, after which it stands elsewhere.
@@ -52,22 +53,19 @@ receiver_stands (waits blocked) =
 receiver_stands (waits polled) = polls ∷ []
 receiver_stands (waits again) =
     (as_future (Future F.AgainExchange) ∷ as_future (AsyncDrop AsyncExchange) ∷ polls) ∷ []
-receiver_stands claimed =
-    (as_future (Future F.PollSpin) ∷ as_future (AsyncDrop AsyncSpin) ∷ polls)
-    ∷ (as_future (AsyncDrop AsyncSpin) ∷ polls)
-    ∷ []
-receiver_stands withdrew = (as_future (Future F.PollExchange) ∷ as_future (Drop DropSwap) ∷ []) ∷ []
+receiver_stands claimed = (as_future (AsyncDrop AsyncSwap) ∷ polls) ∷ []
+receiver_stands withdrew = (as_future (Future F.PollExchange) ∷ as_future (AsyncDrop AsyncSwap) ∷ []) ∷ []
 receiver_stands overdue = (plainly (Timed LateLoad) ∷ []) ∷ []
-receiver_stands (full at_once) = (plainly (Look Close) ∷ as_future (Look Close) ∷ as_future (Drop DropSwap) ∷ []) ∷ []
+receiver_stands (full at_once) = (plainly (Look Close) ∷ as_future (Look Close) ∷ as_future (AsyncDrop AsyncSwap) ∷ []) ∷ []
 receiver_stands (full waited) = (plainly (Look Close) ∷ []) ∷ []
 receiver_stands (full (swapped by)) = (plainly (Look Close) ∷ []) ∷ []
-receiver_stands (full by_future) = (as_future (Look Close) ∷ as_future (Drop DropSwap) ∷ []) ∷ []
+receiver_stands (full by_future) = (as_future (Look Close) ∷ as_future (AsyncDrop AsyncSwap) ∷ []) ∷ []
 receiver_stands (full by_poll) = (as_future (Look Close) ∷ []) ∷ []
 receiver_stands (unclosed by) = (plainly (Look CloseOnly) ∷ []) ∷ []
 receiver_stands (disconnected closing) =
     (calls ++ polls)
-    ∷ (as_future (Drop DropSwap) ∷ calls ++ polls)
-    ∷ (as_future (Drop DropSwap) ∷ polls)
+    ∷ (as_future (AsyncDrop AsyncSwap) ∷ calls ++ polls)
+    ∷ (as_future (AsyncDrop AsyncSwap) ∷ polls)
     ∷ []
 receiver_stands (resolved closing) = polls ∷ []
 receiver_stands gone = [] ∷ []
@@ -80,6 +78,7 @@ sender_exact_at (owes sending) = refl
 sender_exact_at (owes dropping) = refl
 sender_exact_at (finished by) = refl
 sender_exact_at (late by) = refl
+sender_exact_at (overtaken by) = refl
 sender_exact_at no_sender = refl
 
 receiver_exact_at : IsExactAt receiver_table no_receiver receiver_moves receiver_stands

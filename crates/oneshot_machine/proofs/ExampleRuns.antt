@@ -9,7 +9,7 @@ use Rattle.oneshot_machine.specs.declared.machine.by_ref.RefPos.TheVariants.{Sta
 use Rattle.oneshot_machine.specs.declared.machine.timed.TimedPos.TheVariants.{Clock, TimedPark, TimedLoad, EndSwap, EndBack, LatePark, LateLoad}
 use Rattle.oneshot_machine.specs.declared.machine.value.ValuePos.TheVariants.{RecvWrite, RecvSwap, RecvBackClosed, RecvPark, RecvParkLoad, RecvTake, RecvFreeGot, RecvFreeGone}
 use Rattle.oneshot_machine.specs.declared.machine.drop.DropPos.TheVariants.{DropMessage, DropFree}
-use Rattle.oneshot_machine.specs.declared.machine.sender.SenderPos.TheVariants.{SendAdd, SendTakeWaker, SendFinal, SendWake, DropTakeWaker, DropFinal, DropWake, IntoFree, ErrorFree}
+use Rattle.oneshot_machine.specs.declared.machine.sender.SenderPos.TheVariants.{SendAdd, SendTakeWaker, SendFinal, SendWake, SendLateWake, DropTakeWaker, DropFinal, DropWake, DropLateWake, IntoFree, ErrorFree}
 use Rattle.oneshot_machine.specs.declared.machine.sender.SenderPos.TheVariants as SP
 use Rattle.oneshot_machine.specs.Logs.{Event, clocked}
 use Rattle.oneshot_machine.specs.TableRows.{Outcome, Goes, Answers}
@@ -25,9 +25,11 @@ sender_lists =
       found_a_waker = refl;
       sent_to_it = refl;
       sent_to_one_that_stopped = refl;
+      sent_to_one_that_left_meanwhile = refl;
       dropped = refl;
       dropped_before_it = refl;
       dropped_too_late = refl;
+      dropped_after_one_that_left_meanwhile = refl;
       sends_over_a_message = refl;
       sends_twice = refl;
       drops_after_it_sent = refl;
@@ -83,7 +85,19 @@ runs_that_are =
       sends = more SendAdd _ _ refl refl (last _ refl refl);
       is_refused = more SendAdd _ _ refl refl (last _ refl refl);
       wakes = more SendAdd _ _ refl refl (more SendTakeWaker _ _ refl refl (more SendFinal _ _ refl refl (more SendWake _ _ refl refl (last _ refl refl))));
+      is_refused_at_its_last_operation =
+          more SendAdd _ _ refl refl
+          (more SendTakeWaker _ _ refl refl
+          (more SendFinal _ _ refl refl
+          (more SendLateWake _ _ refl refl
+          (last _ refl refl))));
       wakes_by_its_drop = more DropTakeWaker _ _ refl refl (more DropFinal _ _ refl refl (more DropWake _ _ refl refl (last _ refl refl)));
+      frees_after_its_wake =
+          more DropTakeWaker _ _ refl refl
+          (more DropFinal _ _ refl refl
+          (more DropLateWake _ _ refl refl
+          (more SP.DropFree _ _ refl refl
+          (last _ refl refl))));
       gives_it_back = more IntoFree _ _ refl refl (last _ refl refl);
       drops_the_error = more ErrorFree _ _ refl refl (last _ refl refl);
       drops_the_sender = more SP.DropFree _ _ refl refl (last _ refl refl);
@@ -210,7 +224,7 @@ module _ {P : Type 0} {step : P → Step} {row : P → Seen → Option (Outcome 
   answers (more next x xs is leads rest) = absurd (no_run rest)
 
   -- a longer one goes on, where its first row leads
-  does_go_on : {p : P} {x y : Event ℕ ℕ} {ys : List (Event ℕ ℕ)} {r : Reply} → Run step row p (x ∷ y ∷ ys) r → (q : P) × (row p x.seen ≡ Some (Goes q)) × Run step row q (y ∷ ys) r
+  pub does_go_on : {p : P} {x y : Event ℕ ℕ} {ys : List (Event ℕ ℕ)} {r : Reply} → Run step row p (x ∷ y ∷ ys) r → (q : P) × (row p x.seen ≡ Some (Goes q)) × Run step row q (y ∷ ys) r
   does_go_on (more next x xs is leads rest) = (next, leads, rest)
 
   pub goes_on : {p : P} {x y : Event ℕ ℕ} {ys : List (Event ℕ ℕ)} {r : Reply} (q : P) → row p x.seen ≡ Some (Goes q) → Run step row p (x ∷ y ∷ ys) r → Run step row q (y ∷ ys) r

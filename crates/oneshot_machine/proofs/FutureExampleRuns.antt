@@ -2,12 +2,12 @@
 use Rattle.std.proofs.Common.{refl}
 use Rattle.oneshot_machine.specs.declared.machine.receiver.ReceiverPos.TheVariants.{Look, Future, AsyncDrop, Drop}
 use Rattle.oneshot_machine.specs.declared.machine.look.LookPos.TheVariants.{Close, Take}
-use Rattle.oneshot_machine.specs.declared.machine.future.FuturePos.TheVariants.{PollCopy, PollWrite, PollExchange, PollBackFull, PollBackClosed, AgainCopy, AgainExchange, AgainBack, PollOwn, PollSpin}
-use Rattle.oneshot_machine.specs.declared.machine.async_drop.AsyncDropPos.TheVariants.{AsyncExchange, AsyncBack, AsyncSpin}
-use Rattle.oneshot_machine.specs.declared.machine.drop.DropPos.TheVariants.{DropSwap, DropFree}
+use Rattle.oneshot_machine.specs.declared.machine.future.FuturePos.TheVariants.{PollCopy, PollWrite, PollExchange, PollBackFull, PollBackClosed, AgainCopy, AgainExchange, AgainBack, PollOwn}
+use Rattle.oneshot_machine.specs.declared.machine.async_drop.AsyncDropPos.TheVariants.{AsyncExchange, AsyncBack, AsyncSwap}
+use Rattle.oneshot_machine.specs.declared.machine.drop.DropPos.TheVariants.{DropFree}
 use Rattle.oneshot_machine.specs.Runs.{last, more}
 use Rattle.oneshot_machine.specs.FutureExamples.{FutureLists, FutureRuns, FutureRunsThatAreNot}
-use Rattle.oneshot_machine.proofs.ExampleRuns.{begins, answers, goes_on}
+use Rattle.oneshot_machine.proofs.ExampleRuns.{begins, answers, does_go_on, goes_on}
 
 pub future_lists : FutureLists
 future_lists =
@@ -25,12 +25,15 @@ future_lists =
       polls_after_the_end = refl;
       is_dropped_with_its_copy = refl;
       is_dropped_over_a_message = refl;
+      tries_over_its_copy = refl;
+      is_dropped_over_a_sender_that_finishes = refl;
+      is_dropped_when_it_has_finished = refl;
       stores_without_a_look = refl;
       takes_back_without_a_look = refl;
       blocks = refl;
       stops_by_a_swap = refl;
       is_dropped_over_its_copy = refl;
-      is_dropped_over_a_sender_that_finishes = refl;
+      is_dropped_twice = refl;
       is_dropped_in_its_poll = refl;
       is_dropped_without_a_look = refl;
     }
@@ -72,23 +75,23 @@ future_runs =
           (more (Future AgainExchange) _ _ refl refl
           (more (Future PollOwn) _ _ refl refl
           (last _ refl refl)));
-      spins =
-          more (Future PollSpin) _ _ refl refl
-          (more (Future PollSpin) _ _ refl refl
-          (more (Look Close) _ _ refl refl
-          (more (Look Take) _ _ refl refl
-          (last _ refl refl))));
+      polls_while_the_sender_finishes = more (Future PollOwn) _ _ refl refl (last _ refl refl);
+      tries_in_vain = last _ refl refl;
+      tries_while_the_sender_finishes = last _ refl refl;
+      receives_by_a_try = more (Look Close) _ _ refl refl (more (Look Take) _ _ refl refl (last _ refl refl));
       drops_its_copy =
           more (AsyncDrop AsyncExchange) _ _ refl refl
           (more (AsyncDrop AsyncBack) _ _ refl refl
-          (more (Drop DropSwap) _ _ refl refl
+          (more (AsyncDrop AsyncSwap) _ _ refl refl
           (last _ refl refl)));
-      waits_for_the_sender_to_finish =
+      leaves_its_copy_with_the_sender =
           more (AsyncDrop AsyncExchange) _ _ refl refl
-          (more (AsyncDrop AsyncSpin) _ _ refl refl
-          (more (Drop DropSwap) _ _ refl refl
+          (more (AsyncDrop AsyncSwap) _ _ refl refl
+          (last _ refl refl));
+      frees_where_the_sender_has_finished =
+          more (AsyncDrop AsyncSwap) _ _ refl refl
           (more (Drop DropFree) _ _ refl refl
-          (last _ refl refl))));
+          (last _ refl refl));
     }
 
 pub future_runs_that_are_not : FutureRunsThatAreNot
@@ -100,7 +103,9 @@ future_runs_that_are_not =
           λ run. let e =
           begins (goes_on (Future PollBackFull) refl (goes_on (Future PollExchange) refl (goes_on (Future PollWrite) refl (goes_on (Future PollCopy) refl run))))
           in cc;
-      spins_in_vain = λ run. let e = answers (goes_on (Future PollSpin) refl run) in cc;
-      drops_over_1 = λ run. let e = begins (goes_on (AsyncDrop AsyncSpin) refl run) in cc;
+      waits_in_its_poll = λ run. let e = begins (goes_on (Future PollOwn) refl run) in cc;
+      sleeps_unwoken = λ run. let e = answers run in cc;
+      tries_and_takes_its_copy_back = λ run. let e = (does_go_on run).1 in cc;
+      frees_before_the_sender = λ run. let e = (does_go_on (goes_on (AsyncDrop AsyncSwap) refl run)).1 in cc;
       drops_its_copy_too_early = λ run. let e = begins (goes_on (AsyncDrop AsyncExchange) refl run) in cc;
     }

@@ -3,28 +3,42 @@ use Rattle.std.specs.Prelude.{ℕ, List, [], ◌∷◌}
 use Rattle.oneshot_machine.specs.declared.machine.receiver.ReceiverPos.{ReceiverPos}
 use Rattle.oneshot_machine.specs.declared.machine.receiver.ReceiverPos.TheVariants.{AsyncDrop, Drop}
 use Rattle.oneshot_machine.specs.declared.machine.async_drop.AsyncDropPos.{AsyncDropPos}
-use Rattle.oneshot_machine.specs.declared.machine.async_drop.AsyncDropPos.TheVariants.{AsyncLoad, AsyncExchange, AsyncBack, AsyncSpin}
-use Rattle.oneshot_machine.specs.declared.machine.drop.DropPos.TheVariants.{DropSwap}
+use Rattle.oneshot_machine.specs.declared.machine.async_drop.AsyncDropPos.TheVariants.{AsyncLoad, AsyncExchange, AsyncBack, AsyncSwap}
+use Rattle.oneshot_machine.specs.declared.machine.drop.DropPos.TheVariants.{DropMessage, DropFree}
+use Rattle.oneshot_machine.specs.declared.machine.Reply.TheVariants as R
 use Rattle.oneshot_machine.specs.declared.machine.Seen.TheVariants.{Done, Word}
 use Rattle.oneshot_machine.specs.declared.machine.Step.{Step}
 use Rattle.oneshot_machine.specs.declared.machine.Step.TheVariants as T
 use Rattle.oneshot_machine.specs.declared.states.Op.TheVariants as O
-use Rattle.oneshot_machine.specs.TableRows.{Goes, Rows}
+use Rattle.oneshot_machine.specs.TableRows.{Goes, Answers, Rows}
 
 abbrev pub async_drop_step : AsyncDropPos → Step
 async_drop_step AsyncLoad = T.Word O.Load
 async_drop_step AsyncExchange = T.Word (O.Exchange 0 3)
 async_drop_step AsyncBack = T.Withdraw
-async_drop_step AsyncSpin = T.Word O.Load
+async_drop_step AsyncSwap = T.Word (O.Swap 2)
 
 abbrev pub async_drop_rows : AsyncDropPos → Rows ReceiverPos
 async_drop_rows AsyncLoad =
-    (Word 0, Goes (AsyncDrop AsyncExchange)) ∷ (Word 1, Goes (AsyncDrop AsyncSpin)) ∷ (Word 2, Goes (Drop DropSwap)) ∷ (Word 3, Goes (Drop DropSwap)) ∷ (Word 4, Goes (Drop DropSwap)) ∷ []
+    (Word 0, Goes (AsyncDrop AsyncExchange))
+    ∷ (Word 1, Goes (AsyncDrop AsyncSwap))
+    ∷ (Word 2, Goes (AsyncDrop AsyncSwap))
+    ∷ (Word 3, Goes (AsyncDrop AsyncSwap))
+    ∷ (Word 4, Goes (AsyncDrop AsyncSwap))
+    ∷ []
 async_drop_rows AsyncExchange =
-    (Word 0, Goes (AsyncDrop AsyncBack)) ∷ (Word 1, Goes (AsyncDrop AsyncSpin)) ∷ (Word 2, Goes (Drop DropSwap)) ∷ (Word 4, Goes (Drop DropSwap)) ∷ []
-async_drop_rows AsyncBack = (Done, Goes (Drop DropSwap)) ∷ []
-async_drop_rows AsyncSpin =
-    (Word 1, Goes (AsyncDrop AsyncSpin)) ∷ (Word 2, Goes (Drop DropSwap)) ∷ (Word 4, Goes (Drop DropSwap)) ∷ []
+    (Word 0, Goes (AsyncDrop AsyncBack))
+    ∷ (Word 1, Goes (AsyncDrop AsyncSwap))
+    ∷ (Word 2, Goes (AsyncDrop AsyncSwap))
+    ∷ (Word 4, Goes (AsyncDrop AsyncSwap))
+    ∷ []
+async_drop_rows AsyncBack = (Done, Goes (AsyncDrop AsyncSwap)) ∷ []
+async_drop_rows AsyncSwap =
+    (Word 3, Answers R.Done)
+    ∷ (Word 1, Answers R.Done)
+    ∷ (Word 4, Goes (Drop DropMessage))
+    ∷ (Word 2, Goes (Drop DropFree))
+    ∷ []
 
 -- the positions, and the number of each in their list
 abbrev pub async_drop_positions : List AsyncDropPos
@@ -32,11 +46,11 @@ async_drop_positions =
     AsyncLoad
     ∷ AsyncExchange
     ∷ AsyncBack
-    ∷ AsyncSpin
+    ∷ AsyncSwap
     ∷ []
 
 abbrev pub async_drop_number : AsyncDropPos → ℕ
 async_drop_number AsyncLoad = 0
 async_drop_number AsyncExchange = 1
 async_drop_number AsyncBack = 2
-async_drop_number AsyncSpin = 3
+async_drop_number AsyncSwap = 3

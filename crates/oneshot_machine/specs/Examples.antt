@@ -17,7 +17,7 @@ use Rattle.oneshot_machine.specs.declared.machine.sender.SenderPos.TheVariants.{
 use Rattle.oneshot_machine.specs.declared.states.Op.TheVariants.{Load, Store, Swap, Add, Xor}
 use Rattle.oneshot_machine.specs.Sender.{sender_step, sender_row}
 use Rattle.oneshot_machine.specs.Receiver.{receiver_step, receiver_row}
-use Rattle.oneshot_machine.specs.Phases.{sending, dropping, fresh, owes, finished, late, no_sender, sender_at, first, here, looked, between, waits, blocked, overdue, full, at_once, waited, swapped, storing, stopping, unclosed, disconnected, found_closed, closed_itself, gone, ended, no_receiver, receiver_at}
+use Rattle.oneshot_machine.specs.Phases.{sending, dropping, fresh, owes, finished, late, overtaken, no_sender, sender_at, first, here, looked, between, waits, blocked, overdue, full, at_once, waited, swapped, storing, stopping, unclosed, disconnected, found_closed, closed_itself, gone, ended, no_receiver, receiver_at}
 use Rattle.oneshot_machine.specs.Logs.{Event, did, wrote, took, handed, parked, clocked, worded, words, kept, messages_given, messages_got}
 use Rattle.oneshot_machine.specs.Runs.{Run}
 
@@ -29,9 +29,11 @@ pub record SenderLists : Type 0 where
   pub found_a_waker : sender_at ((Add, Word 0) ∷ []) ≡ owes sending
   pub sent_to_it : sender_at ((Add, Word 0) ∷ (Swap 4, Word 1) ∷ []) ≡ finished sending
   pub sent_to_one_that_stopped : sender_at ((Add, Word 0) ∷ (Swap 4, Word 3) ∷ []) ≡ finished sending
+  pub sent_to_one_that_left_meanwhile : sender_at ((Add, Word 0) ∷ (Swap 4, Word 2) ∷ []) ≡ overtaken sending
   pub dropped : sender_at ((Xor, Word 3) ∷ []) ≡ finished dropping
   pub dropped_before_it : sender_at ((Xor, Word 0) ∷ (Swap 2, Word 1) ∷ []) ≡ finished dropping
   pub dropped_too_late : sender_at ((Xor, Word 2) ∷ []) ≡ late dropping
+  pub dropped_after_one_that_left_meanwhile : sender_at ((Xor, Word 0) ∷ (Swap 2, Word 2) ∷ []) ≡ overtaken dropping
   -- and lists that no sender makes
   pub sends_over_a_message : sender_at ((Add, Word 4) ∷ []) ≡ no_sender
   pub sends_twice : sender_at ((Add, Word 3) ∷ (Add, Word 3) ∷ []) ≡ no_sender
@@ -138,8 +140,12 @@ pub record RunsThatAre : Type 0 where
   pub sends : SenderRun SendWrite sending_7 Sent
   pub is_refused : SenderRun SendWrite (wrote 7 ∷ worded Add 2 ∷ []) Refused
   pub wakes : SenderRun SendWrite waking Sent
+  pub is_refused_at_its_last_operation :
+      SenderRun SendWrite (wrote 7 ∷ worded Add 0 ∷ handed TakeWaker 1 ∷ worded (Swap 4) 2 ∷ handed Wake 1 ∷ []) Refused
   pub wakes_by_its_drop :
       SenderRun DropXor (worded Xor 0 ∷ handed TakeWaker 1 ∷ worded (Swap 2) 1 ∷ handed Wake 1 ∷ []) R.Done
+  pub frees_after_its_wake :
+      SenderRun DropXor (worded Xor 0 ∷ handed TakeWaker 1 ∷ worded (Swap 2) 2 ∷ handed Wake 1 ∷ did Free ∷ []) R.Done
   pub gives_it_back : SenderRun IntoTake (took 7 ∷ did Free ∷ []) Message
   pub drops_the_error : SenderRun ErrorDrop (did DropMessage ∷ did Free ∷ []) R.Done
   pub drops_the_sender : SenderRun DropXor (worded Xor 2 ∷ did Free ∷ []) R.Done

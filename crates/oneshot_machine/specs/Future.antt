@@ -3,7 +3,7 @@ use Rattle.std.specs.Prelude.{ℕ, true, false, List, [], ◌∷◌}
 use Rattle.oneshot_machine.specs.declared.machine.receiver.ReceiverPos.{ReceiverPos}
 use Rattle.oneshot_machine.specs.declared.machine.receiver.ReceiverPos.TheVariants.{Look, Future}
 use Rattle.oneshot_machine.specs.declared.machine.future.FuturePos.{FuturePos}
-use Rattle.oneshot_machine.specs.declared.machine.future.FuturePos.TheVariants.{IntoFuture, PollLoad, PollCopy, PollWrite, PollExchange, PollBackFull, PollBackClosed, AgainCopy, AgainExchange, AgainBack, PollOwn, PollSpin, AsyncTryLoad}
+use Rattle.oneshot_machine.specs.declared.machine.future.FuturePos.TheVariants.{IntoFuture, PollLoad, PollCopy, PollWrite, PollExchange, PollBackFull, PollBackClosed, AgainCopy, AgainExchange, AgainBack, PollOwn, AsyncTryLoad}
 use Rattle.oneshot_machine.specs.declared.machine.look.LookPos.TheVariants.{Close}
 use Rattle.oneshot_machine.specs.declared.machine.Reply.TheVariants as R
 use Rattle.oneshot_machine.specs.declared.machine.Seen.TheVariants.{Done, Word, Refused}
@@ -24,13 +24,12 @@ future_step AgainCopy = T.Copy
 future_step AgainExchange = T.Word (O.Exchange 0 3)
 future_step AgainBack = T.Withdraw
 future_step PollOwn = T.WakeOwn
-future_step PollSpin = T.Word O.Load
 future_step AsyncTryLoad = T.Word O.Load
 
 abbrev pub future_rows : FuturePos → Rows ReceiverPos
 future_rows IntoFuture = (Done, Answers R.Future) ∷ []
 future_rows PollLoad =
-    (Word 3, Goes (Future PollCopy)) ∷ (Word 0, Goes (Future AgainCopy)) ∷ (Word 4, Goes (Look Close)) ∷ (Word 2, Answers R.Disconnected) ∷ (Word 1, Goes (Future PollSpin)) ∷ []
+    (Word 3, Goes (Future PollCopy)) ∷ (Word 0, Goes (Future AgainCopy)) ∷ (Word 4, Goes (Look Close)) ∷ (Word 2, Answers R.Disconnected) ∷ (Word 1, Goes (Future PollOwn)) ∷ []
 future_rows PollCopy =
     (Refused false, Goes (Future PollWrite)) ∷ (Refused true, Goes (Future PollOwn)) ∷ []
 future_rows PollWrite = (Done, Goes (Future PollExchange)) ∷ []
@@ -44,8 +43,6 @@ future_rows AgainExchange =
     (Word 0, Goes (Future AgainBack)) ∷ (Word 4, Goes (Look Close)) ∷ (Word 2, Answers R.Disconnected) ∷ (Word 1, Goes (Future PollOwn)) ∷ []
 future_rows AgainBack = (Done, Goes (Future PollWrite)) ∷ []
 future_rows PollOwn = (Done, Answers R.Pending) ∷ []
-future_rows PollSpin =
-    (Word 4, Goes (Look Close)) ∷ (Word 2, Answers R.Disconnected) ∷ (Word 1, Goes (Future PollSpin)) ∷ []
 future_rows AsyncTryLoad =
     (Word 4, Goes (Look Close)) ∷ (Word 2, Answers R.Disconnected) ∷ (Word 3, Answers R.Empty) ∷ (Word 0, Answers R.Empty) ∷ (Word 1, Answers R.Empty) ∷ []
 
@@ -63,7 +60,6 @@ future_positions =
     ∷ AgainExchange
     ∷ AgainBack
     ∷ PollOwn
-    ∷ PollSpin
     ∷ AsyncTryLoad
     ∷ []
 
@@ -79,5 +75,4 @@ future_number AgainCopy = 7
 future_number AgainExchange = 8
 future_number AgainBack = 9
 future_number PollOwn = 10
-future_number PollSpin = 11
-future_number AsyncTryLoad = 12
+future_number AsyncTryLoad = 11

@@ -5,7 +5,7 @@ use Rattle.oneshot_machine.specs.declared.machine.Reply.TheVariants as R
 use Rattle.oneshot_machine.specs.declared.machine.Seen.TheVariants.{Done, Word}
 use Rattle.oneshot_machine.specs.declared.machine.Step.TheVariants.{WriteWaker, Withdraw, WakeOwn, Plain, Free}
 use Rattle.oneshot_machine.specs.declared.machine.receiver.ReceiverPos.TheVariants.{Future, AsyncDrop}
-use Rattle.oneshot_machine.specs.declared.machine.future.FuturePos.TheVariants.{IntoFuture, PollLoad}
+use Rattle.oneshot_machine.specs.declared.machine.future.FuturePos.TheVariants.{IntoFuture, PollLoad, AsyncTryLoad}
 use Rattle.oneshot_machine.specs.declared.machine.async_drop.AsyncDropPos.TheVariants.{AsyncLoad}
 use Rattle.oneshot_machine.specs.declared.states.Op.TheVariants.{Load, Store, Swap, Exchange}
 use Rattle.oneshot_machine.specs.Noted.{Noted}
@@ -40,6 +40,11 @@ pub record FutureLists : Type 0 where
   pub is_dropped_with_its_copy :
       receiver_at (once_polled ++ (Load, Word 0) ∷ (Exchange 0 3, Word 0) ∷ (Swap 2, Word 3) ∷ []) ≡ gone
   pub is_dropped_over_a_message : receiver_at ((Load, Word 4) ∷ (Swap 2, Word 4) ∷ []) ≡ ended
+  pub tries_over_its_copy : receiver_at (once_polled ++ (Load, Word 0) ∷ (Load, Word 1) ∷ []) ≡ claimed
+  pub is_dropped_over_a_sender_that_finishes :
+      receiver_at (once_polled ++ (Load, Word 1) ∷ (Swap 2, Word 1) ∷ []) ≡ gone
+  pub is_dropped_when_it_has_finished :
+      receiver_at (once_polled ++ (Load, Word 1) ∷ (Swap 2, Word 4) ∷ []) ≡ ended
   -- and lists that no future makes
   pub stores_without_a_look : receiver_at ((Exchange 3 0, Word 3) ∷ []) ≡ no_receiver
   pub takes_back_without_a_look : receiver_at (once_polled ++ (Exchange 0 3, Word 0) ∷ []) ≡ no_receiver
@@ -47,8 +52,8 @@ pub record FutureLists : Type 0 where
   pub stops_by_a_swap : receiver_at (once_polled ++ (Load, Word 0) ∷ (Swap 3, Word 0) ∷ []) ≡ no_receiver
   pub is_dropped_over_its_copy :
       receiver_at (once_polled ++ (Load, Word 0) ∷ (Swap 2, Word 0) ∷ []) ≡ no_receiver
-  pub is_dropped_over_a_sender_that_finishes :
-      receiver_at (once_polled ++ (Load, Word 1) ∷ (Swap 2, Word 1) ∷ []) ≡ no_receiver
+  pub is_dropped_twice :
+      receiver_at (once_polled ++ (Load, Word 1) ∷ (Swap 2, Word 1) ∷ (Swap 2, Word 2) ∷ []) ≡ no_receiver
   pub is_dropped_in_its_poll :
       receiver_at ((Load, Word 3) ∷ (Exchange 3 0, Word 4) ∷ (Swap 2, Word 4) ∷ []) ≡ no_receiver
   pub is_dropped_without_a_look :
@@ -82,21 +87,20 @@ pub record FutureRuns : Type 0 where
       (polling_again 0 ++ handed Withdraw 1 ∷ handed WriteWaker 2 ∷ worded (Exchange 3 0) 3 ∷ [])
       Pending
   pub polls_too_late : ReceiverRun (Future PollLoad) (polling_again 1 ++ did WakeOwn ∷ []) Pending
-  pub spins :
-      ReceiverRun
-      (Future PollLoad)
-      (worded Load 1 ∷ worded Load 1 ∷ worded Load 4 ∷ worded (Store 2) 4 ∷ took 7 ∷ [])
-      Message
+  pub polls_while_the_sender_finishes : ReceiverRun (Future PollLoad) (worded Load 1 ∷ did WakeOwn ∷ []) Pending
+  pub tries_in_vain : ReceiverRun (Future AsyncTryLoad) (worded Load 0 ∷ []) R.Empty
+  pub tries_while_the_sender_finishes : ReceiverRun (Future AsyncTryLoad) (worded Load 1 ∷ []) R.Empty
+  pub receives_by_a_try :
+      ReceiverRun (Future AsyncTryLoad) (worded Load 4 ∷ worded (Store 2) 4 ∷ took 7 ∷ []) Message
   pub drops_its_copy :
       ReceiverRun
       (AsyncDrop AsyncLoad)
       (worded Load 0 ∷ worded (Exchange 0 3) 0 ∷ handed Withdraw 1 ∷ worded (Swap 2) 3 ∷ [])
       R.Done
-  pub waits_for_the_sender_to_finish :
-      ReceiverRun
-      (AsyncDrop AsyncLoad)
-      (worded Load 0 ∷ worded (Exchange 0 3) 1 ∷ worded Load 2 ∷ worded (Swap 2) 2 ∷ did Free ∷ [])
-      R.Done
+  pub leaves_its_copy_with_the_sender :
+      ReceiverRun (AsyncDrop AsyncLoad) (worded Load 0 ∷ worded (Exchange 0 3) 1 ∷ worded (Swap 2) 1 ∷ []) R.Done
+  pub frees_where_the_sender_has_finished :
+      ReceiverRun (AsyncDrop AsyncLoad) (worded Load 1 ∷ worded (Swap 2) 2 ∷ did Free ∷ []) R.Done
 
 -- and steps that are none
 pub record FutureRunsThatAreNot : Type 0 where
@@ -105,8 +109,11 @@ pub record FutureRunsThatAreNot : Type 0 where
   pub waits_for_nothing : ReceiverRun (Future PollLoad) (worded Load 3 ∷ copied None ∷ []) Pending → ⊥
   pub forgets_its_copy :
       ReceiverRun (Future PollLoad) (polling 4 ++ worded (Store 2) 4 ∷ took 7 ∷ []) Message → ⊥
-  pub spins_in_vain : ReceiverRun (Future PollLoad) (worded Load 1 ∷ worded Load 1 ∷ []) Pending → ⊥
-  pub drops_over_1 :
-      ReceiverRun (AsyncDrop AsyncLoad) (worded Load 1 ∷ worded (Swap 2) 1 ∷ []) R.Done → ⊥
+  pub waits_in_its_poll : ReceiverRun (Future PollLoad) (worded Load 1 ∷ worded Load 4 ∷ []) Pending → ⊥
+  pub sleeps_unwoken : ReceiverRun (Future PollLoad) (worded Load 1 ∷ []) Pending → ⊥
+  pub tries_and_takes_its_copy_back :
+      ReceiverRun (Future AsyncTryLoad) (worded Load 0 ∷ handed Withdraw 1 ∷ []) R.Empty → ⊥
+  pub frees_before_the_sender :
+      ReceiverRun (AsyncDrop AsyncLoad) (worded Load 1 ∷ worded (Swap 2) 1 ∷ did Free ∷ []) R.Done → ⊥
   pub drops_its_copy_too_early :
       ReceiverRun (AsyncDrop AsyncLoad) (worded Load 0 ∷ handed Withdraw 1 ∷ worded (Swap 2) 0 ∷ []) R.Done → ⊥

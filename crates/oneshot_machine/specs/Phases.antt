@@ -18,8 +18,10 @@ pub data SenderAt : Type 0 where
   owes : By → SenderAt
   -- its last operation is made, and the receiver was here
   finished : By → SenderAt
-  -- its last operation is made and found 2: the receiver was gone, and the word is now 3
+  -- its last operation is made, an add or a flip that found 2: the receiver was gone, and the word is now 3
   late : By → SenderAt
+  -- its last operation is made, a final swap that found 2: the receiver went while that was to come
+  overtaken : By → SenderAt
   -- no sender makes such a list
   no_sender : SenderAt
 
@@ -70,7 +72,7 @@ pub data ReceiverAt : Type 0 where
   here : Open → ReceiverAt
   -- its waker is stored, unless the sender took it since
   waits : Waiting → ReceiverAt
-  -- it polled, and found that the sender is about to finish
+  -- as a future it found that the sender is about to finish
   claimed : ReceiverAt
   -- it polled or is dropped, and is about to take the stored waker back or has done so
   withdrew : ReceiverAt
@@ -129,13 +131,16 @@ sender_moves fresh =
 sender_moves (owes sending) =
     (Swap 4, (filled, empty), 1, finished sending, (none, none))
     ∷ (Swap 4, (filled, empty), 3, finished sending, (none, none))
+    ∷ (Swap 4, (filled, empty), 2, overtaken sending, (filled, empty))
     ∷ []
 sender_moves (owes dropping) =
     (Swap 2, (empty, empty), 1, finished dropping, (none, none))
     ∷ (Swap 2, (empty, empty), 3, finished dropping, (none, none))
+    ∷ (Swap 2, (empty, empty), 2, overtaken dropping, (empty, empty))
     ∷ []
 sender_moves (finished by) = []
 sender_moves (late by) = []
+sender_moves (overtaken by) = []
 sender_moves no_sender = []
 
 -- the receiver's table
@@ -200,6 +205,9 @@ receiver_moves claimed =
     (Load, (none, none), 1, claimed, (none, none))
     ∷ (Load, (none, none), 4, full by_future, (filled, empty))
     ∷ (Load, (none, none), 2, disconnected found_closed, (empty, empty))
+    ∷ (Swap 2, (none, none), 1, gone, (none, none))
+    ∷ (Swap 2, (none, none), 4, ended, (filled, empty))
+    ∷ (Swap 2, (none, none), 2, ended, (empty, empty))
     ∷ []
 receiver_moves withdrew =
     (Exchange 3 0, (none, filled), 3, waits polled, (none, none))
@@ -244,6 +252,7 @@ sender_owns fresh = Some (true, false)
 sender_owns (owes by) = Some (true, true)
 sender_owns (finished by) = Some (false, false)
 sender_owns (late by) = Some (true, true)
+sender_owns (overtaken by) = Some (true, true)
 sender_owns no_sender = None
 
 abbrev pub receiver_owns : ReceiverAt → Option (Bool × Bool)

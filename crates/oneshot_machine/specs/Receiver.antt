@@ -109,9 +109,9 @@ receiver_number (Ref at) = 6 + ref_number at
 receiver_number (Timed at) = 16 + timed_number at
 receiver_number (Value at) = 25 + value_number at
 receiver_number (Future at) = 35 + future_number at
-receiver_number (AsyncDrop at) = 48 + async_drop_number at
-receiver_number (Drop at) = 52 + drop_number at
+receiver_number (AsyncDrop at) = 47 + async_drop_number at
+receiver_number (Drop at) = 51 + drop_number at
 
 -- how many positions there are
 abbrev pub receiver_count : ℕ
-receiver_count = 55
+receiver_count = 54

@@ -3,7 +3,7 @@ use Rattle.std.specs.Prelude.{ℕ, List, Option, [], ◌∷◌}
 use Rattle.oneshot_machine.specs.declared.machine.sender.SenderCall.{SenderCall}
 use Rattle.oneshot_machine.specs.declared.machine.sender.SenderCall.TheVariants.{IsClosed, Send, Drop, AsInner, IntoInner, DropError}
 use Rattle.oneshot_machine.specs.declared.machine.sender.SenderPos.{SenderPos}
-use Rattle.oneshot_machine.specs.declared.machine.sender.SenderPos.TheVariants.{LookClosed, SendWrite, SendAdd, SendTakeWaker, SendFinal, SendWake, DropXor, DropTakeWaker, DropFinal, DropWake, DropFree, ErrorLook, IntoTake, IntoFree, ErrorDrop, ErrorFree}
+use Rattle.oneshot_machine.specs.declared.machine.sender.SenderPos.TheVariants.{LookClosed, SendWrite, SendAdd, SendTakeWaker, SendFinal, SendWake, SendLateWake, DropXor, DropTakeWaker, DropFinal, DropWake, DropLateWake, DropFree, ErrorLook, IntoTake, IntoFree, ErrorDrop, ErrorFree}
 use Rattle.oneshot_machine.specs.declared.machine.Reply.TheVariants as R
 use Rattle.oneshot_machine.specs.declared.machine.Seen.{Seen}
 use Rattle.oneshot_machine.specs.declared.machine.Seen.TheVariants.{Done, Word}
@@ -27,10 +27,12 @@ sender_step SendAdd = T.Word O.Add
 sender_step SendTakeWaker = T.TakeWaker
 sender_step SendFinal = T.Word (O.Swap 4)
 sender_step SendWake = T.Wake
+sender_step SendLateWake = T.Wake
 sender_step DropXor = T.Word O.Xor
 sender_step DropTakeWaker = T.TakeWaker
 sender_step DropFinal = T.Word (O.Swap 2)
 sender_step DropWake = T.Wake
+sender_step DropLateWake = T.Wake
 sender_step DropFree = T.Free
 sender_step ErrorLook = T.Plain
 sender_step IntoTake = T.TakeMessage
@@ -44,13 +46,15 @@ sender_rows SendWrite = (Done, Goes SendAdd) ∷ []
 sender_rows SendAdd =
     (Word 3, Answers R.Sent) ∷ (Word 0, Goes SendTakeWaker) ∷ (Word 2, Answers R.Refused) ∷ []
 sender_rows SendTakeWaker = (Done, Goes SendFinal) ∷ []
-sender_rows SendFinal = (Word 1, Goes SendWake) ∷ (Word 3, Goes SendWake) ∷ []
+sender_rows SendFinal = (Word 1, Goes SendWake) ∷ (Word 3, Goes SendWake) ∷ (Word 2, Goes SendLateWake) ∷ []
 sender_rows SendWake = (Done, Answers R.Sent) ∷ []
+sender_rows SendLateWake = (Done, Answers R.Refused) ∷ []
 sender_rows DropXor =
     (Word 3, Answers R.Done) ∷ (Word 0, Goes DropTakeWaker) ∷ (Word 2, Goes DropFree) ∷ []
 sender_rows DropTakeWaker = (Done, Goes DropFinal) ∷ []
-sender_rows DropFinal = (Word 1, Goes DropWake) ∷ (Word 3, Goes DropWake) ∷ []
+sender_rows DropFinal = (Word 1, Goes DropWake) ∷ (Word 3, Goes DropWake) ∷ (Word 2, Goes DropLateWake) ∷ []
 sender_rows DropWake = (Done, Answers R.Done) ∷ []
+sender_rows DropLateWake = (Done, Goes DropFree) ∷ []
 sender_rows DropFree = (Done, Answers R.Done) ∷ []
 sender_rows ErrorLook = (Done, Answers R.Message) ∷ []
 sender_rows IntoTake = (Done, Goes IntoFree) ∷ []
@@ -70,10 +74,12 @@ sender_positions =
     ∷ SendTakeWaker
     ∷ SendFinal
     ∷ SendWake
+    ∷ SendLateWake
     ∷ DropXor
     ∷ DropTakeWaker
     ∷ DropFinal
     ∷ DropWake
+    ∷ DropLateWake
     ∷ DropFree
     ∷ ErrorLook
     ∷ IntoTake
@@ -89,16 +95,18 @@ sender_number SendAdd = 2
 sender_number SendTakeWaker = 3
 sender_number SendFinal = 4
 sender_number SendWake = 5
-sender_number DropXor = 6
-sender_number DropTakeWaker = 7
-sender_number DropFinal = 8
-sender_number DropWake = 9
-sender_number DropFree = 10
-sender_number ErrorLook = 11
-sender_number IntoTake = 12
-sender_number IntoFree = 13
-sender_number ErrorDrop = 14
-sender_number ErrorFree = 15
+sender_number SendLateWake = 6
+sender_number DropXor = 7
+sender_number DropTakeWaker = 8
+sender_number DropFinal = 9
+sender_number DropWake = 10
+sender_number DropLateWake = 11
+sender_number DropFree = 12
+sender_number ErrorLook = 13
+sender_number IntoTake = 14
+sender_number IntoFree = 15
+sender_number ErrorDrop = 16
+sender_number ErrorFree = 17
 
 -- every call
 abbrev pub all_sender_calls : List SenderCall

@@ -1,16 +1,16 @@
-//! The drop of a future, which ends as the drop of a receiver.
+//! The drop of a future, which never waits: a sender that is about to finish frees the block after it.
 
 ghost use Rattle.std.specs.Prelude.{◌≡◌};
 ghost use Rattle.std.specs.Option.{option_map};
 ghost use Rattle.oneshot_machine.specs.TableRows.{leads, row_for};
 ghost use Rattle.oneshot_machine.specs.AsyncDrop.{async_drop_step, async_drop_rows};
 
-use crate::machine::RowEnd::Goes;
-use crate::machine::async_drop::AsyncDropPos::{AsyncBack, AsyncExchange, AsyncLoad, AsyncSpin};
+use crate::machine::RowEnd::{Answers, Goes};
+use crate::machine::async_drop::AsyncDropPos::{AsyncBack, AsyncExchange, AsyncLoad, AsyncSwap};
 use crate::machine::drop::DropPos;
 use crate::machine::receiver::ReceiverPos;
 use crate::machine::receiver::ReceiverPos::{AsyncDrop, Drop};
-use crate::machine::{RowEnd, Seen, Step};
+use crate::machine::{Reply, RowEnd, Seen, Step};
 use crate::states::{DISCONNECTED, EMPTY, MESSAGE, Op, RECEIVING, UNPARKING};
 
 /// Where the drop of a future stands.
@@ -22,8 +22,8 @@ pub enum AsyncDropPos {
     AsyncExchange,
     /// The future's drop is about to take the stored copy back.
     AsyncBack,
-    /// The future's drop found a sender that is about to finish, and is about to read the word again.
-    AsyncSpin,
+    /// The future's drop is about to close the channel.
+    AsyncSwap,
 }
 
 impl AsyncDropPos {
@@ -35,7 +35,7 @@ impl AsyncDropPos {
             AsyncLoad => Step::Word(Op::Load),
             AsyncExchange => Step::Word(Op::Exchange(RECEIVING, EMPTY)),
             AsyncBack => Step::Withdraw,
-            AsyncSpin => Step::Word(Op::Load),
+            AsyncSwap => Step::Word(Op::Swap(DISCONNECTED)),
         }
     }
 
@@ -45,18 +45,19 @@ impl AsyncDropPos {
     {
         let end = match (self, seen) {
             (AsyncLoad, Seen::Word(RECEIVING)) => Goes(AsyncDrop(AsyncExchange)),
-            (AsyncLoad, Seen::Word(UNPARKING)) => Goes(AsyncDrop(AsyncSpin)),
-            (AsyncLoad, Seen::Word(DISCONNECTED)) => Goes(Drop(DropPos::DropSwap)),
-            (AsyncLoad, Seen::Word(EMPTY)) => Goes(Drop(DropPos::DropSwap)),
-            (AsyncLoad, Seen::Word(MESSAGE)) => Goes(Drop(DropPos::DropSwap)),
+            (AsyncLoad, Seen::Word(UNPARKING)) => Goes(AsyncDrop(AsyncSwap)),
+            (AsyncLoad, Seen::Word(DISCONNECTED)) => Goes(AsyncDrop(AsyncSwap)),
+            (AsyncLoad, Seen::Word(EMPTY)) => Goes(AsyncDrop(AsyncSwap)),
+            (AsyncLoad, Seen::Word(MESSAGE)) => Goes(AsyncDrop(AsyncSwap)),
             (AsyncExchange, Seen::Word(RECEIVING)) => Goes(AsyncDrop(AsyncBack)),
-            (AsyncExchange, Seen::Word(UNPARKING)) => Goes(AsyncDrop(AsyncSpin)),
-            (AsyncExchange, Seen::Word(DISCONNECTED)) => Goes(Drop(DropPos::DropSwap)),
-            (AsyncExchange, Seen::Word(MESSAGE)) => Goes(Drop(DropPos::DropSwap)),
-            (AsyncBack, Seen::Done) => Goes(Drop(DropPos::DropSwap)),
-            (AsyncSpin, Seen::Word(UNPARKING)) => Goes(AsyncDrop(AsyncSpin)),
-            (AsyncSpin, Seen::Word(DISCONNECTED)) => Goes(Drop(DropPos::DropSwap)),
-            (AsyncSpin, Seen::Word(MESSAGE)) => Goes(Drop(DropPos::DropSwap)),
+            (AsyncExchange, Seen::Word(UNPARKING)) => Goes(AsyncDrop(AsyncSwap)),
+            (AsyncExchange, Seen::Word(DISCONNECTED)) => Goes(AsyncDrop(AsyncSwap)),
+            (AsyncExchange, Seen::Word(MESSAGE)) => Goes(AsyncDrop(AsyncSwap)),
+            (AsyncBack, Seen::Done) => Goes(AsyncDrop(AsyncSwap)),
+            (AsyncSwap, Seen::Word(EMPTY)) => Answers(Reply::Done),
+            (AsyncSwap, Seen::Word(UNPARKING)) => Answers(Reply::Done),
+            (AsyncSwap, Seen::Word(MESSAGE)) => Goes(Drop(DropPos::DropMessage)),
+            (AsyncSwap, Seen::Word(DISCONNECTED)) => Goes(Drop(DropPos::DropFree)),
             _ => return None,
         };
         Some(end)

@@ -37,8 +37,6 @@ pub enum FuturePos {
     AgainBack,
     /// `poll` is about to wake its own task.
     PollOwn,
-    /// `poll` found a sender that is about to finish, and is about to read the word again.
-    PollSpin,
     /// `try_recv` of a future is about to read the word.
     AsyncTryLoad,
 }
@@ -60,7 +58,6 @@ impl FuturePos {
             FuturePos::AgainExchange => Step::Word(Op::Exchange(RECEIVING, EMPTY)),
             FuturePos::AgainBack => Step::Withdraw,
             FuturePos::PollOwn => Step::WakeOwn,
-            FuturePos::PollSpin => Step::Word(Op::Load),
             FuturePos::AsyncTryLoad => Step::Word(Op::Load),
         }
     }
@@ -75,7 +72,7 @@ impl FuturePos {
             (FuturePos::PollLoad, Seen::Word(RECEIVING)) => Goes(Future(FuturePos::AgainCopy)),
             (FuturePos::PollLoad, Seen::Word(MESSAGE)) => Goes(Look(LookPos::Close)),
             (FuturePos::PollLoad, Seen::Word(DISCONNECTED)) => Answers(Reply::Disconnected),
-            (FuturePos::PollLoad, Seen::Word(UNPARKING)) => Goes(Future(FuturePos::PollSpin)),
+            (FuturePos::PollLoad, Seen::Word(UNPARKING)) => Goes(Future(FuturePos::PollOwn)),
             (FuturePos::PollCopy, Seen::Refused(false)) => Goes(Future(FuturePos::PollWrite)),
             (FuturePos::PollCopy, Seen::Refused(true)) => Goes(Future(FuturePos::PollOwn)),
             (FuturePos::PollWrite, Seen::Done) => Goes(Future(FuturePos::PollExchange)),
@@ -94,9 +91,6 @@ impl FuturePos {
             (FuturePos::AgainExchange, Seen::Word(UNPARKING)) => Goes(Future(FuturePos::PollOwn)),
             (FuturePos::AgainBack, Seen::Done) => Goes(Future(FuturePos::PollWrite)),
             (FuturePos::PollOwn, Seen::Done) => Answers(Reply::Pending),
-            (FuturePos::PollSpin, Seen::Word(MESSAGE)) => Goes(Look(LookPos::Close)),
-            (FuturePos::PollSpin, Seen::Word(DISCONNECTED)) => Answers(Reply::Disconnected),
-            (FuturePos::PollSpin, Seen::Word(UNPARKING)) => Goes(Future(FuturePos::PollSpin)),
             (FuturePos::AsyncTryLoad, Seen::Word(MESSAGE)) => Goes(Look(LookPos::Close)),
             (FuturePos::AsyncTryLoad, Seen::Word(DISCONNECTED)) => Answers(Reply::Disconnected),
             (FuturePos::AsyncTryLoad, Seen::Word(EMPTY)) => Answers(Reply::Empty),

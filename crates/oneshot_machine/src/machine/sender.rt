@@ -41,6 +41,8 @@ pub enum SenderPos {
     SendFinal,
     /// `send` is about to wake the receiver.
     SendWake,
+    /// `send` found by its last operation that the receiver is gone, and is about to use its waker.
+    SendLateWake,
     /// The drop is about to flip the word's lowest bit.
     DropXor,
     /// The drop is about to take the waker of the receiver that waits.
@@ -49,6 +51,8 @@ pub enum SenderPos {
     DropFinal,
     /// The drop is about to wake the receiver.
     DropWake,
+    /// The drop found by its last operation that the receiver is gone, and is about to use its waker.
+    DropLateWake,
     /// The drop is about to free the block.
     DropFree,
     /// `as_inner` is about to show the refused message.
@@ -89,10 +93,12 @@ impl SenderPos {
             SenderPos::SendTakeWaker => Step::TakeWaker,
             SenderPos::SendFinal => Step::Word(Op::Swap(MESSAGE)),
             SenderPos::SendWake => Step::Wake,
+            SenderPos::SendLateWake => Step::Wake,
             SenderPos::DropXor => Step::Word(Op::Xor),
             SenderPos::DropTakeWaker => Step::TakeWaker,
             SenderPos::DropFinal => Step::Word(Op::Swap(DISCONNECTED)),
             SenderPos::DropWake => Step::Wake,
+            SenderPos::DropLateWake => Step::Wake,
             SenderPos::DropFree => Step::Free,
             SenderPos::ErrorLook => Step::Plain,
             SenderPos::IntoTake => Step::TakeMessage,
@@ -138,14 +144,18 @@ impl SenderPos {
             (SenderPos::SendTakeWaker, Seen::Done) => Goes(SenderPos::SendFinal),
             (SenderPos::SendFinal, Seen::Word(UNPARKING)) => Goes(SenderPos::SendWake),
             (SenderPos::SendFinal, Seen::Word(EMPTY)) => Goes(SenderPos::SendWake),
+            (SenderPos::SendFinal, Seen::Word(DISCONNECTED)) => Goes(SenderPos::SendLateWake),
             (SenderPos::SendWake, Seen::Done) => Answers(Reply::Sent),
+            (SenderPos::SendLateWake, Seen::Done) => Answers(Reply::Refused),
             (SenderPos::DropXor, Seen::Word(EMPTY)) => Answers(Reply::Done),
             (SenderPos::DropXor, Seen::Word(RECEIVING)) => Goes(SenderPos::DropTakeWaker),
             (SenderPos::DropXor, Seen::Word(DISCONNECTED)) => Goes(SenderPos::DropFree),
             (SenderPos::DropTakeWaker, Seen::Done) => Goes(SenderPos::DropFinal),
             (SenderPos::DropFinal, Seen::Word(UNPARKING)) => Goes(SenderPos::DropWake),
             (SenderPos::DropFinal, Seen::Word(EMPTY)) => Goes(SenderPos::DropWake),
+            (SenderPos::DropFinal, Seen::Word(DISCONNECTED)) => Goes(SenderPos::DropLateWake),
             (SenderPos::DropWake, Seen::Done) => Answers(Reply::Done),
+            (SenderPos::DropLateWake, Seen::Done) => Goes(SenderPos::DropFree),
             (SenderPos::DropFree, Seen::Done) => Answers(Reply::Done),
             (SenderPos::ErrorLook, Seen::Done) => Answers(Reply::Message),
             (SenderPos::IntoTake, Seen::Done) => Goes(SenderPos::IntoFree),
