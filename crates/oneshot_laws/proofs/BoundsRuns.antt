@@ -8,37 +8,29 @@ use Rattle.oneshot_world.specs.Calls.{Call, Of_sender, Of_receiver, Poll}
 use Rattle.oneshot_world.specs.Classes.{Classes, as_call, as_made}
 use Rattle.oneshot_world.specs.declared.trace.Made.{Made}
 use Rattle.oneshot_world.proofs.Bools.{and_left, and_right, both}
-use Rattle.oneshot_laws.specs.Entries.{is_same_end, is_word, found}
+use Rattle.oneshot_laws.specs.Entries.{is_same_end, is_word}
 use Rattle.oneshot_laws.specs.Object.{is_same_flag}
 use Rattle.oneshot_laws.specs.Marks.{Mark, side, call_marks, until_reply}
-use Rattle.oneshot_laws.specs.Bounds.{at_most, is_within_its_bound, is_bounded, are_calls_bounded}
-use Rattle.oneshot_laws.proofs.Coding.{Coding, pairs, by_parts, or_none, flags, numbers_below}
+use Rattle.oneshot_laws.specs.Bounds.{at_most, operates, is_within_its_bound, is_bounded, are_calls_bounded}
+use Rattle.oneshot_laws.proofs.Coding.{Coding, pairs, by_parts, or_none, numbers_below}
 use Rattle.oneshot_laws.proofs.Glanced.{Law, Passes, Nameless, of_call, LawExplored, all_glanced, passed, holds_by}
 use Rattle.oneshot_laws.proofs.Glances.{Glance, glance_of}
 use Rattle.oneshot_laws.proofs.Watched.{no_names, EachRun}
-
--- what is counted of a call: its operations on the word, or those alone that did not find 1
-abbrev is_counted : Bool → Made → Bool
-is_counted false e = is_word e.step
-is_counted true e = is_word e.step && not (found 1 e.before)
-
-abbrev counts : Bool → Mark → Bool
-counts past m = is_counted past m.entry
 
 -- what an end's call has left: no call is under way, or it has no bound, or so many operations
 pub data Left : Type 0 where
   Resting : Left
   Unbounded : Left
-  Counted : Bool → ℕ → Left
+  Counted : ℕ → Left
 
 -- what a call has that begins
 abbrev begun : Call → Left
-begun (Of_sender SC.Send) = Counted false 2
-begun (Of_sender SC.Drop) = Counted false 2
-begun (Of_receiver RC.TryRecv) = Counted false 2
-begun (Of_receiver RC.AsyncTryRecv) = Counted false 2
-begun (Poll number) = Counted true 4
-begun (Of_receiver RC.DropAsync) = Counted true 3
+begun (Of_sender SC.Send) = Counted 2
+begun (Of_sender SC.Drop) = Counted 2
+begun (Of_receiver RC.TryRecv) = Counted 2
+begun (Of_receiver RC.AsyncTryRecv) = Counted 2
+begun (Poll number) = Counted 4
+begun (Of_receiver RC.DropAsync) = Counted 3
 begun _ = Unbounded
 
 abbrev under_way : Call → Left → Left
@@ -58,11 +50,11 @@ spend zero b = zero
 spend (suc n) b = if b then n else suc n
 
 abbrev may_make : Left → Made → Bool
-may_make (Counted past n) e = can n (is_counted past e)
+may_make (Counted n) e = can n (is_word e.step)
 may_make _ e = true
 
 abbrev spent : Left → Made → Left
-spent (Counted past n) e = Counted past (spend n (is_counted past e))
+spent (Counted n) e = Counted (spend n (is_word e.step))
 spent left e = left
 
 abbrev left_then : Left → Call → Made → Left
@@ -91,23 +83,23 @@ goes_on_within x g = fits (left_by g.entry.side x) g.begins g.call g.entry
 abbrev budget_then : Budget → Glance → Budget
 budget_then x g = left_at g.entry.side (left_then (left_by g.entry.side x) g.call g.entry) x
 
-abbrev left_parts : Left → Option (Option (Bool × ℕ))
+abbrev left_parts : Left → Option (Option ℕ)
 left_parts Resting = None
 left_parts Unbounded = Some None
-left_parts (Counted past n) = Some (Some (past, n))
+left_parts (Counted n) = Some (Some n)
 
-abbrev left_of : Option (Option (Bool × ℕ)) → Left
+abbrev left_of : Option (Option ℕ) → Left
 left_of None = Resting
 left_of (Some None) = Unbounded
-left_of (Some (Some p)) = Counted p.0 p.1
+left_of (Some (Some n)) = Counted n
 
 left_back : (left : Left) → left_of (left_parts left) ≡ left
 left_back Resting = refl
 left_back Unbounded = refl
-left_back (Counted past n) = refl
+left_back (Counted n) = refl
 
 abbrev lefts : Coding Left
-lefts = by_parts left_parts left_of left_back (or_none (or_none (pairs flags (numbers_below 5))))
+lefts = by_parts left_parts left_of left_back (or_none (or_none (numbers_below 5)))
 
 abbrev at_rest : Budget
 at_rest = record { sender = Resting; receiver = Resting }
@@ -134,14 +126,14 @@ pay test (suc n) m later h k =
 
 -- what is left of a call covers the call's marks from here on
 abbrev covers : Left → List Mark → Bool
-covers (Counted past n) own = at_most n (counts past) own
+covers (Counted n) own = at_most n operates own
 covers _ own = true
 
 abbrev stands : Left → List Mark → Bool
 stands Resting [] = true
 stands Resting (m ∷ later) = covers (begun m.call) (m ∷ later)
 stands Unbounded own = true
-stands (Counted past n) own = at_most n (counts past) own
+stands (Counted n) own = at_most n operates own
 
 pub no_more : (n : ℕ) (test : Mark → Bool) → at_most n test [] ≡ true
 no_more n test = refl
@@ -149,16 +141,16 @@ no_more n test = refl
 covered : (left : Left) (m : Mark) (later : List Mark) → may_make left m.entry ≡ true → stands (until_reply m.entry.reply (spent left m.entry) Resting) later ≡ true → covers left (m ∷ until_reply m.entry.reply later []) ≡ true
 covered Resting m later h k = refl
 covered Unbounded m later h k = refl
-covered (Counted past n) m later h k =
-    elim m.entry.reply as (λ a. stands (until_reply a (Counted past (spend n (counts past m))) Resting) later ≡ true → at_most n (counts past) (m ∷ until_reply a later []) ≡ true) [
-      | None ↦ λ k. pay (counts past) n m later h k
-      | Some r ↦ λ k. pay (counts past) n m [] h (no_more (spend n (counts past m)) (counts past))
+covered (Counted n) m later h k =
+    elim m.entry.reply as (λ a. stands (until_reply a (Counted (spend n (operates m))) Resting) later ≡ true → at_most n operates (m ∷ until_reply a later []) ≡ true) [
+      | None ↦ λ k. pay operates n m later h k
+      | Some r ↦ λ k. pay operates n m [] h (no_more (spend n (operates m)) operates)
     ] k
 
 stood : (left : Left) (m : Mark) (later : List Mark) → covers (under_way m.call left) (m ∷ later) ≡ true → stands left (m ∷ later) ≡ true
 stood Resting m later h = h
 stood Unbounded m later h = refl
-stood (Counted past n) m later h = h
+stood (Counted n) m later h = h
 
 -- a mark of this end's call
 here : (end : End) (m : Mark) (ms : List Mark) (x : Budget) → fits (left_by end x) m.begins m.call m.entry ≡ true → stands (left_by end (left_at end (left_then (left_by end x) m.call m.entry) x)) (call_marks end ms) ≡ true → covers (under_way m.call (left_by end x)) (elim (is_same_end end end) as (λ _. List Mark) [ true ↦ m ∷ until_reply m.entry.reply (call_marks end ms) [] | false ↦ call_marks end ms ]) ≡ true
@@ -175,7 +167,7 @@ either Receiver Receiver m ms x h k = stood x.receiver m (until_reply m.entry.re
 nothing_left : (left : Left) → stands left [] ≡ true
 nothing_left Resting = refl
 nothing_left Unbounded = refl
-nothing_left (Counted past n) = refl
+nothing_left (Counted n) = refl
 
 claims : (ms : List Mark) (x : Budget) (end : End) → Passes budget_law x (map glance_of ms) → stands (left_by end x) (call_marks end ms) ≡ true
 claims [] x Sender p = nothing_left x.sender
@@ -196,7 +188,7 @@ begins_at_rest : (begins : Bool) (call : Call) (left : Left) (own : List Mark) �
 begins_at_rest false call left own h k = refl
 begins_at_rest true call Resting own h k = within call own k
 begins_at_rest true call Unbounded own h k = cc
-begins_at_rest true call (Counted past n) own h k = cc
+begins_at_rest true call (Counted n) own h k = cc
 
 first_mark : (end : End) (m : Mark) (ms : List Mark) (x : Budget) → fits (left_by end x) m.begins m.call m.entry ≡ true → stands (left_by end (left_at end (left_then (left_by end x) m.call m.entry) x)) (call_marks end ms) ≡ true → (not m.begins || is_bounded (elim (is_same_end end end) as (λ _. List Mark) [ true ↦ m ∷ until_reply m.entry.reply (call_marks end ms) [] | false ↦ call_marks end ms ])) ≡ true
 first_mark Sender m ms x h k =
@@ -213,24 +205,20 @@ each (m ∷ ms) x p =
 
 -- no name and no number is looked at
 module _ (k : Classes) where
-  counted_as : (past : Bool) (e : Made) → is_counted past (as_made k e) ≡ is_counted past e
-  counted_as true e = refl
-  counted_as false e = refl
-
   may_as : (left : Left) (e : Made) → may_make left (as_made k e) ≡ may_make left e
   may_as Resting e = refl
   may_as Unbounded e = refl
-  may_as (Counted past n) e = ap (can n) (counted_as past e)
+  may_as (Counted n) e = refl
 
   spent_as : (left : Left) (e : Made) → spent left (as_made k e) ≡ spent left e
   spent_as Resting e = refl
   spent_as Unbounded e = refl
-  spent_as (Counted past n) e = ap (λ b. Counted past (spend n b)) (counted_as past e)
+  spent_as (Counted n) e = refl
 
   under_as : (call : Call) (left : Left) → under_way (as_call k call) left ≡ under_way call left
   under_as call Resting = of_call k begun (λ a b. refl) call
   under_as call Unbounded = refl
-  under_as call (Counted past n) = refl
+  under_as call (Counted n) = refl
 
   fits_as : (left : Left) (begins : Bool) (call : Call) (e : Made) → fits left begins (as_call k call) (as_made k e) ≡ fits left begins call e
   fits_as left begins call e =

@@ -4,7 +4,7 @@ use Rattle.oneshot_machine.specs.declared.machine.End.TheVariants.{Sender, Recei
 use Rattle.oneshot_machine.specs.declared.machine.receiver.ReceiverStart.TheVariants as RC
 use Rattle.oneshot_machine.specs.declared.machine.sender.SenderCall.TheVariants as SC
 use Rattle.oneshot_world.specs.Calls.{Call, Of_sender, Of_receiver, Poll}
-use Rattle.oneshot_laws.specs.Entries.{is_same_end, is_word, found}
+use Rattle.oneshot_laws.specs.Entries.{is_same_end, is_word}
 use Rattle.oneshot_laws.specs.Marks.{Mark, finishes, side, call_marks, each_call, after_each}
 
 -- at most so many of these marks pass a test
@@ -17,18 +17,14 @@ at_most (suc limit) test (m ∷ ms) = if test m then at_most limit test ms else 
 abbrev pub operates : Mark → Bool
 operates m = is_word m.entry.step
 
--- one that did not find the sender about to finish
-abbrev pub operates_past_1 : Mark → Bool
-operates_past_1 m = is_word m.entry.step && not (found 1 m.entry.before)
-
--- the most operations that a call makes, for the calls that have a bound; a poll and a future's drop make more only while the sender is about to finish
+-- the most operations that a call makes, for the calls that have a bound
 abbrev pub is_within_its_bound : Call → List Mark → Bool
 is_within_its_bound (Of_sender SC.Send) own = at_most 2 operates own
 is_within_its_bound (Of_sender SC.Drop) own = at_most 2 operates own
 is_within_its_bound (Of_receiver RC.TryRecv) own = at_most 2 operates own
 is_within_its_bound (Of_receiver RC.AsyncTryRecv) own = at_most 2 operates own
-is_within_its_bound (Poll number) own = at_most 4 operates_past_1 own
-is_within_its_bound (Of_receiver RC.DropAsync) own = at_most 3 operates_past_1 own
+is_within_its_bound (Poll number) own = at_most 4 operates own
+is_within_its_bound (Of_receiver RC.DropAsync) own = at_most 3 operates own
 is_within_its_bound _ own = true
 
 abbrev pub is_bounded : List Mark → Bool

@@ -45,11 +45,10 @@ shown false word = Some word
 -- where a step puts the message, if it moves it; a send that is refused leaves the message with the error
 abbrev pub sender_puts : Step → Option Reply → Option Place
 sender_puts WriteMessage reply = Some InCell
-sender_puts (Word op) (Some R.Refused) = Some InError
-sender_puts (Word op) _ = None
 sender_puts TakeMessage reply = Some FromError
 sender_puts DropMessage reply = Some Dropped
-sender_puts _ reply = None
+sender_puts _ (Some R.Refused) = Some InError
+sender_puts _ _ = None
 
 abbrev pub receiver_puts : Step → Option Place
 receiver_puts TakeMessage = Some Delivered

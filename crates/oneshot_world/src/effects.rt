@@ -65,9 +65,9 @@ pub(crate) fn sender_puts(step: Step, reply: Option<Reply>) -> Option<Place>
 {
     match (step, reply) {
         (Step::WriteMessage, _) => Some(Place::InCell),
-        (Step::Word(_), Some(Reply::Refused)) => Some(Place::InError),
         (Step::TakeMessage, _) => Some(Place::FromError),
         (Step::DropMessage, _) => Some(Place::Dropped),
+        (_, Some(Reply::Refused)) => Some(Place::InError),
         _ => None,
     }
 }
