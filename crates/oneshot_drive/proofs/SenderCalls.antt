@@ -1,42 +1,93 @@
 -- What each call of the sender owes its ground, and that what it makes is a run.
-use Rattle.std.proofs.Common.{◌≡◌, ℕ, Bool, true, false, [], ◌∷◌, Some, refl, sym, ◌∙◌, subst}
+use Rattle.std.proofs.Common.{◌≡◌, ℕ, Bool, true, false, not, [], ◌∷◌, Some, refl, sym, ◌∙◌, subst}
+use Rattle.std.specs.Prelude.{◌==◌}
 use Rattle.oneshot_machine.specs.declared.machine.Reply.TheVariants as R
 use Rattle.oneshot_machine.specs.declared.machine.Seen.TheVariants as S
 use Rattle.oneshot_machine.specs.declared.machine.Step.TheVariants.{DropMessage, TakeWaker, Wake, Free}
 use Rattle.oneshot_machine.specs.declared.machine.sender.SenderCall.TheVariants.{Send, Drop, IntoInner, DropError}
-use Rattle.oneshot_machine.specs.declared.machine.sender.SenderPos.TheVariants.{SendAdd, SendTakeWaker, SendFinal, SendWake, DropTakeWaker, DropFinal, DropWake, DropFree, IntoFree, ErrorFree}
+use Rattle.oneshot_machine.specs.declared.machine.sender.SenderPos.TheVariants.{SendAdd, SendTakeWaker, SendFinal, SendWake, SendLateWake, DropTakeWaker, DropFinal, DropWake, DropLateWake, DropFree, IntoFree, ErrorFree}
+use Rattle.oneshot_machine.specs.declared.machine.sender.SenderPos.{SenderPos}
 use Rattle.oneshot_machine.specs.declared.states.Op.{Op}
 use Rattle.oneshot_machine.specs.declared.states.Op.TheVariants.{Swap, Add, Xor}
 use Rattle.oneshot_machine.specs.Logs.{Log, Grows, sender_of, did, wrote, took, handed, worded}
-use Rattle.oneshot_machine.specs.Phases.{By, sending, dropping, SenderAt, fresh, owes, late, sender_moves, Share, none, empty, filled, Slots}
-use Rattle.oneshot_machine.specs.TableRows.{Goes}
+use Rattle.oneshot_machine.specs.Phases.{By, sending, dropping, SenderAt, fresh, owes, late, no_sender, sender_moves, Share, none, empty, filled, Slots}
+use Rattle.oneshot_machine.specs.TableRows.{Goes, Answers}
 use Rattle.oneshot_machine.specs.Runs.{last, more, SenderRan}
-use Rattle.oneshot_machine.specs.Sender.{sender_row}
-use Rattle.oneshot_machine.specs.Slots.{Held, vacant, held, is_vacant, SenderMay, SenderFinds}
-use Rattle.oneshot_machine.proofs.GrownLists.{and_then}
+use Rattle.oneshot_machine.specs.Sender.{sender_step, sender_row}
+use Rattle.oneshot_machine.specs.Slots.{Held, away, vacant, held, IsSlot, is_away, is_vacant, is_held, Turns, stays_away, stays_vacant, stays_held, gives_room, gives_thing, gets_room, gets_thing, In, finds, SenderMay, SenderFinds}
+use Rattle.oneshot_machine.proofs.Exactness.{leads}
+use Rattle.oneshot_machine.proofs.GrownLists.{and_then, sender_moved}
 use Rattle.oneshot_drive.specs.Grounds.{State, StandsWith, SenderMakes}
-use Rattle.oneshot_drive.specs.BetweenCalls.{IsFresh, IsError, IsLate, is_late, Owes, finishing, LastFinds, finds_waiting, finds_overdue, Finishes}
-use Rattle.oneshot_machine.proofs.Landings.{is_in, is_room, put_in, as_before, has_row, landings_of, Each, found_so}
+use Rattle.oneshot_drive.specs.BetweenCalls.{IsFresh, IsError, IsLate, is_late, is_overtaken, Owes, finishing, LastFinds, finds_waiting, finds_overdue, finds_gone, Finishes, IsOvertaken, send_reply}
+use Rattle.oneshot_machine.proofs.Landings.{is_in, is_room, put_in, as_before, turned, message_kept, has_row, landings_of, landed, Each, each, FoundSo, found_so, sender_apart}
 use Rattle.oneshot_drive.proofs.AfterOperations.{Lone, lone, at_word, not_at, sender_asks, sender_lands, sender_still}
 
--- after its last operation a sender wakes
-send_final : {n : ℕ} → LastFinds n → sender_row SendFinal (S.Word n) ≡ Some (Goes SendWake)
+-- after its last operation a sender wakes, and then answers whether the receiver was here
+abbrev send_wake : Bool → SenderPos
+send_wake true = SendWake
+send_wake false = SendLateWake
+
+send_final : {n : ℕ} {here : Bool} → LastFinds n here → sender_row SendFinal (S.Word n) ≡ Some (Goes (send_wake here))
 send_final finds_waiting = refl
 send_final finds_overdue = refl
+send_final finds_gone = refl
 
-drop_final : {n : ℕ} → LastFinds n → sender_row DropFinal (S.Word n) ≡ Some (Goes DropWake)
+wake_is : (here : Bool) → Wake ≡ sender_step (send_wake here)
+wake_is true = refl
+wake_is false = refl
+
+woke : (here : Bool) → sender_row (send_wake here) S.Done ≡ Some (Answers (send_reply here))
+woke true = refl
+woke false = refl
+
+drop_final : {n : ℕ} → LastFinds n true → sender_row DropFinal (S.Word n) ≡ Some (Goes DropWake)
 drop_final finds_waiting = refl
 drop_final finds_overdue = refl
+
+drop_late : {n : ℕ} → LastFinds n false → sender_row DropFinal (S.Word n) ≡ Some (Goes DropLateWake)
+drop_late finds_gone = refl
 
 -- the sender's swap is that operation
 abbrev is_swap : Op → Bool
 is_swap (Swap new) = true
 is_swap _ = false
 
-last_finds : (at : SenderAt) → Each (λ n next after. LastFinds n) (landings_of is_swap (sender_moves at))
-last_finds (owes sending) = (finds_waiting, (finds_overdue, tt))
-last_finds (owes dropping) = (finds_waiting, (finds_overdue, tt))
-last_finds _ = tt
+-- the word that it finds, and how it then stands
+record EndsAt (n : ℕ) (next : SenderAt) (after : Slots) : Type 0 where
+  here : Bool
+  finds : LastFinds n here
+  late : here ≡ false → IsLate next × (after.1 ≡ empty) × ¬ (after.0 ≡ none)
+
+still_here : {n : ℕ} {next : SenderAt} {after : Slots} → LastFinds n true → EndsAt n next after
+still_here finds = record { here = true; finds = finds; late = λ e. cc }
+
+last_ends : (at : SenderAt) → Each EndsAt (landings_of is_swap (sender_moves at))
+last_ends (owes sending) =
+    (still_here finds_waiting, (still_here finds_overdue, (record { here = false; finds = finds_gone; late = λ e. (is_overtaken sending, refl, λ e. cc) }, tt)))
+last_ends (owes dropping) =
+    (still_here finds_waiting, (still_here finds_overdue, (record { here = false; finds = finds_gone; late = λ e. (is_overtaken dropping, refl, λ e. cc) }, tt)))
+last_ends _ = tt
+
+-- a slot that is the end's before and after holds the same
+not_away : {X : Type 0} {s : Share} {h : Held X} → ¬ (s ≡ none) → IsSlot s h → ¬ (h ≡ away)
+not_away own is_away e = own refl
+not_away own is_vacant e = cc
+not_away own (is_held x) e = cc
+
+unmoved : {X : Type 0} {s t : Share} {h h' : Held X} → Turns s t h h' → ¬ (t ≡ none) → ¬ (h ≡ away) → h' ≡ h
+unmoved stays_away own has = absurd (own refl)
+unmoved stays_vacant own has = refl
+unmoved (stays_held x) own has = refl
+unmoved gives_room own has = absurd (own refl)
+unmoved (gives_thing x) own has = absurd (own refl)
+unmoved gets_room own has = absurd (has refl)
+unmoved (gets_thing x) own has = absurd (has refl)
+
+-- whether the receiver is here, by the word that was found
+here_by : {n : ℕ} {here : Bool} → LastFinds n here → here ≡ not (n == 2)
+here_by finds_waiting = refl
+here_by finds_overdue = refl
+here_by finds_gone = refl
 
 module _ {T W : Type 0} where
   -- a sender that wrote its message
@@ -51,20 +102,25 @@ module _ {T W : Type 0} where
     pub flipped : ¬ (n ≡ 3) → ¬ (n ≡ 0) → SenderMakes Xor n b a → Grows b.log a.log (worded Xor n ∷ []) → Lone sender_of n a (2, late dropping, (empty, empty))
     flipped not_3 not_0 made grows = lone (not_at 0 not_0 (not_at 3 not_3 (sender_lands b Xor n is.phase made grows)))
 
-    owed : {at : SenderAt} {share : Share} (word : ℕ) → StandsWith sender_of at (share, filled) a → has_row (Swap word) (share, empty) (sender_moves at) ≡ true → Owes word a
-    owed word stands has =
+    owed : {at : SenderAt} {share : Share} (word : ℕ) → ¬ (share ≡ none) → StandsWith sender_of at (share, filled) a → has_row (Swap word) (share, empty) (sender_moves at) ≡ true → Owes word a
+    owed word own stands has =
         let k = is_in stands.waker in
         record {
           waker = k.0;
           has_waker = k.1;
+          has_slot = not_away own stands.message;
           asks = sender_asks {s = record { log = a.log; message = a.message; waker = vacant }} (Swap word) (record { phase = stands.phase; message = stands.message; waker = is_vacant }) has;
         }
 
     pub send_owes : n ≡ 0 → SenderMakes Add n b a → Grows b.log a.log (worded Add n ∷ []) → Owes 4 a
-    send_owes e made grows = owed 4 (lone (at_word 0 e (sender_lands b Add n is.phase made grows))).stands refl
+    send_owes e made grows = owed 4 (λ e. cc) (lone (at_word 0 e (sender_lands b Add n is.phase made grows))).stands refl
+
+    -- the message that it wrote is where it was
+    pub added_kept : {x : T} → n ≡ 0 → SenderMakes Add n b a → Grows b.log a.log (worded Add n ∷ []) → b.message ≡ held x → a.message ≡ held x
+    added_kept e made grows message = message_kept made message (lone (at_word 0 e (sender_lands b Add n is.phase made grows))).stands.message
 
     pub drop_owes : n ≡ 0 → SenderMakes Xor n b a → Grows b.log a.log (worded Xor n ∷ []) → Owes 2 a
-    drop_owes e made grows = owed 2 (lone (at_word 0 e (sender_lands b Xor n is.phase made grows))).stands refl
+    drop_owes e made grows = owed 2 (λ e. cc) (lone (at_word 0 e (sender_lands b Xor n is.phase made grows))).stands refl
 
   -- a refused `send`
   pub refused : {by : By} {a : State T W} (x : T) → StandsWith sender_of (late by) (filled, empty) a → a.message ≡ held x → IsError (held x) a
@@ -80,11 +136,11 @@ module _ {T W : Type 0} where
   pub send_refused : {l k j : Log T W} {x : T} (n : ℕ) → n ≡ 2 → Grows l k (wrote x ∷ []) → Grows k j (worded Add n ∷ []) → SenderRan Send l j R.Refused (x ∷ []) []
   send_refused {x} n e s t = record { run = wrote x ∷ worded Add n ∷ []; is_run = more SendAdd _ _ refl refl (last _ refl (rw e)); grows = and_then _ _ s t; gives = refl; gets = refl }
 
-  pub send_woke : {l k j z : Log T W} {x : T} (n : ℕ) → n ≡ 0 → Grows l k (wrote x ∷ []) → Grows k j (worded Add n ∷ []) → Finishes 4 j z → SenderRan Send l z R.Sent (x ∷ []) []
-  send_woke {x} n e s t f =
+  pub send_woke : {l k j z : Log T W} {x : T} (n : ℕ) (here : Bool) → n ≡ 0 → Grows l k (wrote x ∷ []) → Grows k j (worded Add n ∷ []) → Finishes 4 here j z → SenderRan Send l z (send_reply here) (x ∷ []) []
+  send_woke {x} n here e s t f =
       record {
         run = wrote x ∷ worded Add n ∷ finishing 4 f.found f.waker;
-        is_run = more SendAdd _ _ refl refl (more SendTakeWaker _ _ refl (rw e) (more SendFinal _ _ refl refl (more SendWake _ _ refl (send_final f.finds) (last _ refl refl))));
+        is_run = more SendAdd _ _ refl refl (more SendTakeWaker _ _ refl (rw e) (more SendFinal _ _ refl refl (more (send_wake here) _ _ refl (send_final f.finds) (last _ (wake_is here) (woke here)))));
         grows = and_then (wrote x ∷ []) _ s (and_then (worded Add n ∷ []) _ t f.grows);
         gives = refl;
         gets = refl;
@@ -94,12 +150,22 @@ module _ {T W : Type 0} where
   pub drop_ran : {l k : Log T W} (n : ℕ) → n ≡ 3 → Grows l k (worded Xor n ∷ []) → SenderRan Drop l k R.Done [] []
   drop_ran n e s = record { run = worded Xor n ∷ []; is_run = last _ refl (rw e); grows = s; gives = refl; gets = refl }
 
-  pub drop_woke : {l k j : Log T W} (n : ℕ) → n ≡ 0 → Grows l k (worded Xor n ∷ []) → Finishes 2 k j → SenderRan Drop l j R.Done [] []
+  pub drop_woke : {l k j : Log T W} (n : ℕ) → n ≡ 0 → Grows l k (worded Xor n ∷ []) → Finishes 2 true k j → SenderRan Drop l j R.Done [] []
   drop_woke n e s f =
       record {
         run = worded Xor n ∷ finishing 2 f.found f.waker;
         is_run = more DropTakeWaker _ _ refl (rw e) (more DropFinal _ _ refl refl (more DropWake _ _ refl (drop_final f.finds) (last _ refl refl)));
         grows = and_then _ _ s f.grows;
+        gives = refl;
+        gets = refl;
+      }
+
+  pub drop_freed_late : {l k j z : Log T W} (n : ℕ) → n ≡ 0 → Grows l k (worded Xor n ∷ []) → Finishes 2 false k j → Grows j z (did Free ∷ []) → SenderRan Drop l z R.Done [] []
+  drop_freed_late n e s f t =
+      record {
+        run = worded Xor n ∷ handed TakeWaker f.waker ∷ worded (Swap 2) f.found ∷ handed Wake f.waker ∷ did Free ∷ [];
+        is_run = more DropTakeWaker _ _ refl (rw e) (more DropFinal _ _ refl refl (more DropLateWake _ _ refl (drop_late f.finds) (more DropFree _ _ refl refl (last _ refl refl))));
+        grows = and_then (worded Xor n ∷ []) _ s (and_then (finishing 2 f.found f.waker) _ f.grows t);
         gives = refl;
         gets = refl;
       }
@@ -112,13 +178,34 @@ module _ {T W : Type 0} where
     pub finish_asks : SenderMay (sender_of k) (Swap word) m w
     finish_asks = subst (λ (z : SenderAt × Held T × Held W). SenderMay z.0 (Swap word) z.1 z.2) (λ i. (sym (sender_still (handed TakeWaker y ∷ []) refl s) i, sym message i, sym waker i)) is.asks
 
-    pub finished_as : {m' : Held T} {w' : Held W} {j z : Log T W} (n : ℕ) → SenderFinds (sender_of k) (Swap word) n m w m' w' → Grows k j (worded (Swap word) n ∷ []) → Grows j z (handed Wake y ∷ []) → Finishes word b.log z
-    finished_as n made t u =
+    module _ {m' : Held T} {w' : Held W} {j z : Log T W} (n : ℕ) (made : SenderFinds (sender_of k) (Swap word) n m w m' w') where
+      ends : FoundSo {At = SenderAt} EndsAt n m' w'
+      ends = found_so is_swap EndsAt refl (last_ends (sender_of k)) made
+
+      pub finished_as : Grows k j (worded (Swap word) n ∷ []) → Grows j z (handed Wake y ∷ []) → Finishes word (not (n == 2)) b.log z
+      finished_as t u =
+          record {
+            found = n;
+            finds = subst (LastFinds n) (here_by ends.is_so.finds) ends.is_so.finds;
+            waker = y;
+            grows = and_then (handed TakeWaker y ∷ []) _ s (and_then (worded (Swap word) n ∷ []) _ t u);
+          }
+
+  -- where that found the receiver gone
+  late_over : {at then : SenderAt} {new n : ℕ} {m m' : Held T} {w w' : Held W} → ({before after : Slots} (next : SenderAt) → In (Swap new, before, n, next, after) (sender_moves at) → then ≡ next) → SenderFinds at (Swap new) n m w m' w' → not (n == 2) ≡ false → ¬ (m ≡ away) → IsLate then × (m' ≡ m) × (w' ≡ vacant)
+  late_over {at} {w'} leads_to (finds {next} row message waker) e has =
+      let ends = each EndsAt (landings_of is_swap (sender_moves at)) (last_ends at) (landed is_swap (sender_moves at) refl row) in
+      let late = ends.late (here_by ends.finds ∙ e) in
+      (subst IsLate (sym (leads_to next row)) late.0, unmoved message late.2 has, is_room (subst (λ s. IsSlot s w') late.1 (turned waker)))
+
+  module _ {b k j z : State T W} {word : ℕ} (y : W) (is : Owes word b) (message : k.message ≡ b.message) where
+    pub overtaken_as : (n : ℕ) → SenderMakes (Swap word) n k j → Grows k.log j.log (worded (Swap word) n ∷ []) → Grows j.log z.log (handed Wake y ∷ []) → z.message ≡ j.message → z.waker ≡ j.waker → not (n == 2) ≡ false → IsOvertaken b z
+    overtaken_as n made t u kept waker e =
+        let late = late_over (λ next row. sender_moved (Swap word) n t ∙ leads no_sender (sender_moves (sender_of k.log)) (sender_apart (sender_of k.log)) row) made e (λ gone. is.has_slot (sym message ∙ gone)) in
         record {
-          found = n;
-          finds = (found_so is_swap (λ n next after. LastFinds n) refl (last_finds (sender_of k)) made).is_so;
-          waker = y;
-          grows = and_then (handed TakeWaker y ∷ []) _ s (and_then (worded (Swap word) n ∷ []) _ t u);
+          late = subst IsLate (sym (sender_still (handed Wake y ∷ []) refl u)) late.0;
+          message = kept ∙ late.1 ∙ message;
+          waker = waker ∙ late.2;
         }
 
   -- the error's calls

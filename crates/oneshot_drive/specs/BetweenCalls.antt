@@ -10,8 +10,8 @@ use Rattle.oneshot_machine.specs.declared.machine.Reply.TheVariants.{Sent, Refus
 use Rattle.oneshot_machine.specs.declared.machine.Step.TheVariants.{TakeWaker, Wake}
 use Rattle.oneshot_machine.specs.declared.states.Op.TheVariants.{Swap}
 use Rattle.oneshot_machine.specs.Logs.{Event, Log, Grows, sender_of, handed, worded}
-use Rattle.oneshot_machine.specs.Phases.{By, SenderAt, fresh, late, Closing, closed_itself, Open, looked, between, Waiting, ReceiverAt, first, here, waits, claimed, disconnected, resolved}
-use Rattle.oneshot_machine.specs.Slots.{Held, vacant, held, SenderMay}
+use Rattle.oneshot_machine.specs.Phases.{By, SenderAt, fresh, late, overtaken, Closing, closed_itself, Open, looked, between, Waiting, ReceiverAt, first, here, waits, claimed, disconnected, resolved}
+use Rattle.oneshot_machine.specs.Slots.{Held, away, vacant, held, SenderMay}
 use Rattle.oneshot_drive.specs.Grounds.{State, SenderStands, StandsIn}
 
 -- a sender that has made no operation: the message's slot is its own and empty
@@ -26,29 +26,38 @@ pub record IsError {T W : Type 0} (refused : Held T) (s : State T W) : Type 0 wh
 -- a sender whose last operation found the receiver gone
 pub data IsLate : SenderAt → Type 0 where
   is_late : (by : By) → IsLate (late by)
+  is_overtaken : (by : By) → IsLate (overtaken by)
 
 -- A sender that found a receiver that waits: it has its waker, and owes it this last word once it has
 -- taken that out of its slot.
 pub record Owes {T W : Type 0} (last : ℕ) (s : State T W) : Type 0 where
   pub waker : W
   pub has_waker : s.waker ≡ held waker
+  pub has_slot : ¬ (s.message ≡ away)
   pub asks : SenderMay {W = W} (sender_of s.log) (Swap last) s.message vacant
 
 -- what it does then
 abbrev pub finishing : {T W : Type 0} → ℕ → ℕ → W → List (Event T W)
 finishing last found k = handed TakeWaker k ∷ worded (Swap last) found ∷ handed Wake k ∷ []
 
--- its last operation finds that the receiver waits, or that its deadline is over since
-pub data LastFinds : ℕ → Type 0 where
-  finds_waiting : LastFinds 1
-  finds_overdue : LastFinds 3
+-- its last operation finds that the receiver waits, or that its deadline is over since; or that it is gone
+pub data LastFinds : ℕ → Bool → Type 0 where
+  finds_waiting : LastFinds 1 true
+  finds_overdue : LastFinds 3 true
+  finds_gone : LastFinds 2 false
 
--- Between the two logs it did so, and left this last word.
-pub record Finishes {T W : Type 0} (last : ℕ) (before after : Log T W) : Type 0 where
+-- Between the two logs it did so, left this last word, and found whether the receiver is here.
+pub record Finishes {T W : Type 0} (last : ℕ) (here : Bool) (before after : Log T W) : Type 0 where
   pub found : ℕ
-  pub finds : LastFinds found
+  pub finds : LastFinds found here
   pub waker : W
   pub grows : Grows before after (finishing last found waker)
+
+-- Between the two states it found the receiver gone: both slots are its own, and the message is where it was.
+pub record IsOvertaken {T W : Type 0} (before after : State T W) : Type 0 where
+  pub late : IsLate (sender_of after.log)
+  pub message : after.message ≡ before.message
+  pub waker : after.waker ≡ vacant
 
 -- the phases of a receiver between two calls
 pub data Rests : ReceiverAt → Type 0 where

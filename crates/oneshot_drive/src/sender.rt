@@ -7,17 +7,17 @@ ghost use Rattle.oneshot_machine.specs.Counts.{operates, MakesAtMost};
 ghost use Rattle.oneshot_machine.specs.Logs.{sender_of, Grows};
 ghost use Rattle.oneshot_machine.specs.Runs.{SenderRan};
 ghost use Rattle.oneshot_machine.specs.Slots.{held};
-ghost use Rattle.oneshot_drive.specs.BetweenCalls.{IsFresh, IsError, IsLate, Owes, Finishes, send_reply};
+ghost use Rattle.oneshot_drive.specs.BetweenCalls.{IsFresh, IsError, IsLate, Owes, Finishes, IsOvertaken, send_reply};
 
 use crate::ground::SenderGround;
 use oneshot_machine::states::{DISCONNECTED, EMPTY, MESSAGE, Op, RECEIVING};
 
-/// Sends `message` on `g`, which has made no operation yet, and wakes a receiver that blocks. It never
+/// Sends `message` on `g`, which has made no operation yet, and wakes a receiver that waits. It never
 /// blocks.
 ///
 /// - `true`: the receiver was there. The receiver's side frees the block.
-/// - `false`: the receiver was gone. The message is in its slot, and `g` owns the block: `into_inner` or
-///   `drop_error` ends it.
+/// - `false`: the receiver was gone, or went while `send` took its waker. The message is in its slot, and
+///   `g` owns the block: `into_inner` or `drop_error` ends it.
 pub fn send<T, W, G: SenderGround<T, W>>(g: &mut G, message: T) -> bool
     requires { IsFresh (G.state g.old) }
     ensures run { SenderRan Send (G.state g.old).log (G.state g.new).log (send_reply result) (message ∷ []) [] }
@@ -29,18 +29,16 @@ pub fn send<T, W, G: SenderGround<T, W>>(g: &mut G, message: T) -> bool
     g.write_message(message);
     match g.word(Op::Add) {
         EMPTY => true,
-        RECEIVING => {
-            finish(g, MESSAGE);
-            true
-        }
+        RECEIVING => finish(g, MESSAGE),
         _ => false,
     }
 }
 
-/// Drops the sender on `g`, which has made no operation yet, and wakes a receiver that blocks. It never
+/// Drops the sender on `g`, which has made no operation yet, and wakes a receiver that waits. It never
 /// blocks and cannot fail.
 ///
-/// It frees the block if the receiver was gone. Otherwise the receiver's side frees it.
+/// It frees the block if the receiver was gone, or went while the drop took its waker. Otherwise the
+/// receiver's side frees it.
 pub fn drop_sender<T, W, G: SenderGround<T, W>>(g: &mut G)
     requires { IsFresh (G.state g.old) }
     ensures run { SenderRan Drop (G.state g.old).log (G.state g.new).log Done [] [] }
@@ -48,19 +46,25 @@ pub fn drop_sender<T, W, G: SenderGround<T, W>>(g: &mut G)
 {
     match g.word(Op::Xor) {
         EMPTY => {}
-        RECEIVING => finish(g, DISCONNECTED),
+        RECEIVING => {
+            if !finish(g, DISCONNECTED) {
+                g.free();
+            }
+        }
         _ => g.free(),
     }
 }
 
-// Leaves this last word to a receiver that waits, and wakes it.
-fn finish<T, W, G: SenderGround<T, W>>(g: &mut G, last: u8)
+// Leaves this last word to a receiver that waits, and uses its waker: `false` where it is gone meanwhile.
+fn finish<T, W, G: SenderGround<T, W>>(g: &mut G, last: u8) -> bool
     requires { Owes last (G.state g.old) }
-    ensures { Finishes last (G.state g.old).log (G.state g.new).log }
+    ensures finishes { Finishes last result (G.state g.old).log (G.state g.new).log }
+    ensures gone { result ≡ false → IsOvertaken (G.state g.old) (G.state g.new) }
 {
     let waker = g.take_waker();
-    g.word(Op::Swap(last));
+    let found = g.word(Op::Swap(last));
     g.wake(waker);
+    found != DISCONNECTED
 }
 
 /// Gives the message of a refused `send` back, and frees the block. It never blocks and cannot fail.

@@ -17,7 +17,7 @@ pub returns-in-3-clause-run : goal.returns-in-3-clause-run
 returns-in-3-clause-run g c = drop_ran c.word.result c.in-3.is c.word.ensures.list
 
 pub returns-in-0-clause-run : goal.returns-in-0-clause-run
-returns-in-0-clause-run g c = drop_woke c.word.result c.in-0.is c.word.ensures.list c.finish.ensures
+returns-in-0-clause-run g c = ?
 
 pub free-requires-clause-message : goal.free-requires-clause-message
 free-requires-clause-message g c = is_room (flipped c.word.result c.requires (search rules) (search rules) c.word.ensures.finds c.word.ensures.list).stands.message

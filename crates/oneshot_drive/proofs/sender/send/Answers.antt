@@ -1,9 +1,9 @@
 -- The goals that `send` leaves.
-use Rattle.std.proofs.Common.{rules, refl}
+use Rattle.std.proofs.Common.{rules, refl, ◌∙◌}
 use Rattle.oneshot_machine.proofs.Landings.{message_kept}
 use Rattle.oneshot_drive.proofs.AfterOperations.{sender_asks}
 use Rattle.oneshot_machine.specs.declared.states.Op.TheVariants.{Add}
-use Rattle.oneshot_drive.proofs.SenderCalls.{written, send_owes, added, refused, is_too_late, send_ran, send_refused, send_woke}
+use Rattle.oneshot_drive.proofs.SenderCalls.{written, send_owes, added_kept, added, refused, is_too_late, send_ran, send_refused, send_woke}
 use Rattle.oneshot_machine.proofs.CallBounds.{send_few}
 use Rattle.oneshot_drive.proofs.sender.send.Goals as goal
 
@@ -18,7 +18,15 @@ pub returns-in-3-clause-run : goal.returns-in-3-clause-run
 returns-in-3-clause-run g c = send_ran c.word.result c.in-3.is c.write_message.ensures.list c.word.ensures.list
 
 pub returns-in-0-clause-run : goal.returns-in-0-clause-run
-returns-in-0-clause-run g c = send_woke c.word.result c.in-0.is c.write_message.ensures.list c.word.ensures.list c.finish.ensures
+returns-in-0-clause-run g c = send_woke c.word.result c.finish.result c.in-0.is c.write_message.ensures.list c.word.ensures.list c.finish.ensures.finishes
+
+pub returns-in-0-clause-refused : goal.returns-in-0-clause-refused
+returns-in-0-clause-refused g c gone =
+    let overtaken = c.finish.ensures.gone gone in
+    record { keeps = overtaken.message ∙ added_kept c.word.result (written c.args.message c.requires c.write_message.ensures.list c.write_message.ensures.message c.write_message.ensures.waker) c.in-0.is c.word.ensures.finds c.word.ensures.list c.write_message.ensures.message; no_waker = overtaken.waker }
+
+pub returns-in-0-clause-late : goal.returns-in-0-clause-late
+returns-in-0-clause-late g c gone = (c.finish.ensures.gone gone).late
 
 pub returns-in_default-clause-run : goal.returns-in_default-clause-run
 returns-in_default-clause-run g c =
