@@ -10,7 +10,7 @@ use Rattle.oneshot_machine.specs.declared.machine.future.FuturePos.TheVariants.{
 use Rattle.oneshot_machine.specs.declared.machine.receiver.ReceiverStart.TheVariants.{AsyncTryRecv}
 use Rattle.oneshot_machine.specs.declared.states.Op.TheVariants.{Load, Store}
 use Rattle.oneshot_machine.specs.Logs.{Log, Grows, receiver_of, took, worded}
-use Rattle.oneshot_machine.specs.Phases.{ReceiverAt, here, looked, between, waits, again, claimed, full, Got, at_once, waited, swapped, by_future, by_poll, Closing, closed_itself, disconnected, resolved, receiver_next, receiver_moves, empty}
+use Rattle.oneshot_machine.specs.Phases.{ReceiverAt, looked, between, full, Got, at_once, waited, swapped, by_future, by_poll, Closing, closed_itself, disconnected, resolved, receiver_next, receiver_moves, empty}
 use Rattle.oneshot_machine.specs.Receiver.{receiver_row}
 use Rattle.oneshot_machine.specs.TableRows.{Goes, Answers}
 use Rattle.oneshot_machine.specs.Runs.{ReceiverRan}
