@@ -1,22 +1,30 @@
 -- What the swap that drops a receiver finds, and the runs that it ends.
-use Rattle.std.proofs.Common.{◌≡◌, ℕ, [], ◌∷◌, refl, subst}
+use Rattle.std.proofs.Common.{◌≡◌, ℕ, [], ◌∷◌, Some, refl, sym, ap, ◌∙◌, subst}
 use Rattle.oneshot_machine.specs.declared.machine.Reply.TheVariants as R
+use Rattle.oneshot_machine.specs.declared.machine.Seen.TheVariants as S
 use Rattle.oneshot_machine.specs.declared.machine.Step.TheVariants as Steps
-use Rattle.oneshot_machine.specs.declared.machine.receiver.ReceiverPos.TheVariants.{Drop as Drop_at}
+use Rattle.oneshot_machine.specs.declared.machine.receiver.ReceiverPos.{ReceiverPos}
+use Rattle.oneshot_machine.specs.declared.machine.receiver.ReceiverPos.TheVariants.{AsyncDrop, Drop}
+use Rattle.oneshot_machine.specs.declared.machine.async_drop.AsyncDropPos.TheVariants.{AsyncSwap}
 use Rattle.oneshot_machine.specs.declared.machine.drop.DropPos.TheVariants.{DropMessage, DropFree}
-use Rattle.oneshot_machine.specs.declared.machine.receiver.ReceiverStart.TheVariants.{Drop}
 use Rattle.oneshot_machine.specs.declared.states.Op.TheVariants.{Swap}
 use Rattle.oneshot_machine.specs.Logs.{Log, Grows, did, worded}
-use Rattle.oneshot_machine.specs.Phases.{ReceiverAt, first, here, looked, between, waits, blocked, withdrew, full, at_once, by_future, disconnected, receiver_moves, none, empty, filled, Slots}
-use Rattle.oneshot_machine.specs.Runs.{last, more, ReceiverRan}
+use Rattle.oneshot_machine.specs.Phases.{ReceiverAt, first, here, looked, between, claimed, waits, blocked, withdrew, full, at_once, by_future, disconnected, receiver_moves, Share, none, empty, filled, Slots}
+use Rattle.oneshot_machine.specs.Receiver.{receiver_step, receiver_row}
+use Rattle.oneshot_machine.specs.TableRows.{Outcome, Goes, Answers}
+use Rattle.oneshot_machine.specs.Runs.{last, more, Ran}
 use Rattle.oneshot_machine.proofs.GrownLists.{and_then}
 use Rattle.oneshot_machine.specs.Slots.{Held, IsSlot, ReceiverFinds}
 use Rattle.oneshot_machine.specs.Noted.{is_same_op}
 use Rattle.oneshot_machine.proofs.Landings.{Each, landings, FoundSo, found_so}
+use Rattle.oneshot_drive.specs.Grounds.{State, ReceiverMakes}
+use Rattle.oneshot_drive.specs.BetweenCalls.{Rests, rests_new, rests_open, rests_closed, AtRest}
 
 -- the word that it finds, with the slots then
 pub data Swapped : ℕ → Slots → Type 0 where
   swapped_empty : Swapped 3 (none, none)
+  -- as a future, where the sender has its waker
+  swapped_sender : Swapped 1 (none, none)
   swapped_message : Swapped 4 (filled, empty)
   swapped_closed : Swapped 2 (empty, empty)
 
@@ -24,6 +32,7 @@ swaps : (at : ReceiverAt) → Each (λ n next after. Swapped n after) (landings 
 swaps first = (swapped_empty, (swapped_message, (swapped_closed, tt)))
 swaps (here looked) = (swapped_empty, (swapped_message, (swapped_closed, tt)))
 swaps (here between) = (swapped_empty, (swapped_message, (swapped_closed, tt)))
+swaps claimed = (swapped_sender, (swapped_message, (swapped_closed, tt)))
 swaps withdrew = (swapped_empty, (swapped_message, (swapped_closed, tt)))
 swaps (full at_once) = (swapped_message, tt)
 swaps (full by_future) = (swapped_message, tt)
@@ -31,42 +40,82 @@ swaps (disconnected c) = (swapped_closed, tt)
 swaps (waits blocked) = tt
 swaps _ = tt
 
+-- a receiver that is no future never meets a sender that is about to finish
+rests_swaps : {at : ReceiverAt} → Rests at → Each (λ n next after. ¬ (n ≡ 1)) (landings (Swap 2) (receiver_moves at))
+rests_swaps rests_new = ((λ e. cc), ((λ e. cc), ((λ e. cc), tt)))
+rests_swaps (rests_open looked) = ((λ e. cc), ((λ e. cc), ((λ e. cc), tt)))
+rests_swaps (rests_open between) = ((λ e. cc), ((λ e. cc), ((λ e. cc), tt)))
+rests_swaps (rests_closed c) = ((λ e. cc), tt)
+
 slots_full : {slots : Slots} → Swapped 4 slots → slots ≡ (filled, empty)
 slots_full swapped_message = refl
 
-slots_closed : {n : ℕ} {slots : Slots} → Swapped n slots → ¬ (n ≡ 4) → ¬ (n ≡ 3) → (n ≡ 2) × (slots ≡ (empty, empty))
-slots_closed swapped_message a b = absurd (a refl)
-slots_closed swapped_empty a b = absurd (b refl)
-slots_closed swapped_closed a b = (refl, refl)
+slots_over : {slots : Slots} → Swapped 2 slots → slots ≡ (empty, empty)
+slots_over swapped_closed = refl
+
+-- the word of one that is gone, or the row of one that leaves it all to the sender
+closed_word : {n : ℕ} {slots : Slots} → Swapped n slots → ¬ (n ≡ 4) → ¬ (n ≡ 3) → ¬ (n ≡ 1) → n ≡ 2
+closed_word swapped_message a b c = absurd (a refl)
+closed_word swapped_empty a b c = absurd (b refl)
+closed_word swapped_sender a b c = absurd (c refl)
+closed_word swapped_closed a b c = refl
+
+left_row : {n : ℕ} {slots : Slots} → Swapped n slots → ¬ (n ≡ 4) → ¬ (n ≡ 2) → receiver_row (AsyncDrop AsyncSwap) (S.Word n) ≡ Some (Answers R.Done)
+left_row swapped_message a b = absurd (a refl)
+left_row swapped_empty a b = refl
+left_row swapped_sender a b = refl
+left_row swapped_closed a b = absurd (b refl)
 
 module _ {T W : Type 0} where
   module _ {n : ℕ} {at : ReceiverAt} {m m' : Held T} {w w' : Held W} (made : ReceiverFinds at (Swap 2) n m w m' w') where
     swapped : FoundSo {At = ReceiverAt} (λ n next after. Swapped n after) n m' w'
     swapped = found_so (is_same_op (Swap 2)) (λ n next after. Swapped n after) refl (swaps at) made
 
-    -- the message, or that the sender is gone
-    pub swapped_full : n ≡ 4 → IsSlot filled m' × IsSlot empty w'
-    swapped_full e =
-        let is = slots_full (subst (λ n. Swapped n swapped.after) e swapped.is_so) in
+    as_slots : (message waker : Share) → swapped.after ≡ (message, waker) → IsSlot message m' × IsSlot waker w'
+    as_slots message waker is =
         (subst (λ slots. IsSlot slots.0 m') is swapped.message, subst (λ slots. IsSlot slots.1 w') is swapped.waker)
 
-    pub swapped_last : ¬ (n ≡ 4) → ¬ (n ≡ 3) → (n ≡ 2) × IsSlot empty m' × IsSlot empty w'
-    swapped_last no_message no_empty =
-        let is = slots_closed swapped.is_so no_message no_empty in
-        (is.0, subst (λ slots. IsSlot slots.0 m') is.1 swapped.message, subst (λ slots. IsSlot slots.1 w') is.1 swapped.waker)
+    -- the message, or that the sender is gone
+    pub swapped_full : n ≡ 4 → IsSlot filled m' × IsSlot empty w'
+    swapped_full e = as_slots filled empty (slots_full (subst (λ n. Swapped n swapped.after) e swapped.is_so))
 
-  pub dropped_message : {l k j z : Log T W} (n : ℕ) → n ≡ 4 → Grows l k (worded (Swap 2) n ∷ []) → Grows k j (did Steps.DropMessage ∷ []) → Grows j z (did Steps.Free ∷ []) → ReceiverRan Drop l z R.Done [] []
-  dropped_message n e s t u =
-      record {
-        run = worded (Swap 2) n ∷ did Steps.DropMessage ∷ did Steps.Free ∷ [];
-        is_run = more (Drop_at DropMessage) _ _ refl (rw e) (more (Drop_at DropFree) _ _ refl refl (last _ refl refl));
-        grows = and_then (worded (Swap 2) n ∷ []) _ s (and_then (did Steps.DropMessage ∷ []) _ t u);
-        gives = refl;
-        gets = refl;
-      }
+    pub swapped_over : n ≡ 2 → IsSlot empty m' × IsSlot empty w'
+    swapped_over e = as_slots empty empty (slots_over (subst (λ n. Swapped n swapped.after) e swapped.is_so))
 
-  pub dropped_open : {l k : Log T W} (n : ℕ) → n ≡ 3 → Grows l k (worded (Swap 2) n ∷ []) → ReceiverRan Drop l k R.Done [] []
-  dropped_open n e s = record { run = worded (Swap 2) n ∷ []; is_run = last _ refl (rw e); grows = s; gives = refl; gets = refl }
+    pub swapped_last : ¬ (n ≡ 4) → ¬ (n ≡ 3) → ¬ (n ≡ 1) → n ≡ 2
+    swapped_last = closed_word swapped.is_so
 
-  pub dropped_last : {l k j : Log T W} (n : ℕ) → n ≡ 2 → Grows l k (worded (Swap 2) n ∷ []) → Grows k j (did Steps.Free ∷ []) → ReceiverRan Drop l j R.Done [] []
-  dropped_last n e s t = record { run = worded (Swap 2) n ∷ did Steps.Free ∷ []; is_run = more (Drop_at DropFree) _ _ refl (rw e) (last _ refl refl); grows = and_then _ _ s t; gives = refl; gets = refl }
+    pub swapped_open : ¬ (n ≡ 4) → ¬ (n ≡ 2) → receiver_row (AsyncDrop AsyncSwap) (S.Word n) ≡ Some (Answers R.Done)
+    swapped_open = left_row swapped.is_so
+
+  pub past_1 : {b a : State T W} {n : ℕ} → AtRest b → ReceiverMakes (Swap 2) n b a → ¬ (n ≡ 1)
+  past_1 rests made =
+      (found_so (is_same_op (Swap 2)) (λ n next after. ¬ (n ≡ 1)) refl (subst (λ at. Each (λ n next after. ¬ (n ≡ 1)) (landings (Swap 2) (receiver_moves at))) (sym rests.stands.phase) (rests_swaps rests.is_one)) made).is_so
+
+  pub row_at : {p : ReceiverPos} {o : Outcome ReceiverPos} {n : ℕ} (word : ℕ) → receiver_row p (S.Word word) ≡ Some o → n ≡ word → receiver_row p (S.Word n) ≡ Some o
+  row_at {p} word leads e = ap (λ n. receiver_row p (S.Word n)) e ∙ leads
+
+  -- the runs of both drops, from the position of their swap
+  module _ (p : ReceiverPos) (at : Steps.Word (Swap 2) ≡ receiver_step p) (n : ℕ) where
+    pub dropped_message : {l k j z : Log T W} → receiver_row p (S.Word n) ≡ Some (Goes (Drop DropMessage)) → Grows l k (worded (Swap 2) n ∷ []) → Grows k j (did Steps.DropMessage ∷ []) → Grows j z (did Steps.Free ∷ []) → Ran receiver_step receiver_row p l z R.Done [] []
+    dropped_message row s t u =
+        record {
+          run = worded (Swap 2) n ∷ did Steps.DropMessage ∷ did Steps.Free ∷ [];
+          is_run = more (Drop DropMessage) _ _ at row (more (Drop DropFree) _ _ refl refl (last _ refl refl));
+          grows = and_then (worded (Swap 2) n ∷ []) _ s (and_then (did Steps.DropMessage ∷ []) _ t u);
+          gives = refl;
+          gets = refl;
+        }
+
+    pub dropped_open : {l k : Log T W} → receiver_row p (S.Word n) ≡ Some (Answers R.Done) → Grows l k (worded (Swap 2) n ∷ []) → Ran receiver_step receiver_row p l k R.Done [] []
+    dropped_open row s = record { run = worded (Swap 2) n ∷ []; is_run = last _ at row; grows = s; gives = refl; gets = refl }
+
+    pub dropped_last : {l k j : Log T W} → receiver_row p (S.Word n) ≡ Some (Goes (Drop DropFree)) → Grows l k (worded (Swap 2) n ∷ []) → Grows k j (did Steps.Free ∷ []) → Ran receiver_step receiver_row p l j R.Done [] []
+    dropped_last row s t =
+        record {
+          run = worded (Swap 2) n ∷ did Steps.Free ∷ [];
+          is_run = more (Drop DropFree) _ _ at row (last _ refl refl);
+          grows = and_then _ _ s t;
+          gives = refl;
+          gets = refl;
+        }

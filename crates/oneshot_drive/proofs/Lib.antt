@@ -10,5 +10,5 @@ pub mod ReadyHands
 pub mod PollLoads
 pub mod TriedFutures
 pub mod LeftCopies
-pub mod Spins
+pub mod DroppedFutures
 pub mod OwnCopies

@@ -8,17 +8,16 @@ use Rattle.oneshot_machine.specs.declared.machine.Reply.TheVariants as R
 use Rattle.oneshot_machine.specs.declared.machine.Seen.TheVariants as S
 use Rattle.oneshot_machine.specs.declared.machine.Step.TheVariants as Steps
 use Rattle.oneshot_machine.specs.declared.machine.receiver.ReceiverPos.{ReceiverPos}
-use Rattle.oneshot_machine.specs.declared.machine.receiver.ReceiverPos.TheVariants.{Look, Future, AsyncDrop, Drop}
+use Rattle.oneshot_machine.specs.declared.machine.receiver.ReceiverPos.TheVariants.{Look, Future, AsyncDrop}
 use Rattle.oneshot_machine.specs.declared.machine.look.LookPos.TheVariants.{Close, Take}
-use Rattle.oneshot_machine.specs.declared.machine.future.FuturePos.TheVariants.{PollLoad}
-use Rattle.oneshot_machine.specs.declared.machine.async_drop.AsyncDropPos.TheVariants.{AsyncLoad}
-use Rattle.oneshot_machine.specs.declared.machine.drop.DropPos.TheVariants.{DropSwap}
+use Rattle.oneshot_machine.specs.declared.machine.future.FuturePos.TheVariants.{PollLoad, PollOwn}
+use Rattle.oneshot_machine.specs.declared.machine.async_drop.AsyncDropPos.TheVariants.{AsyncLoad, AsyncSwap}
 use Rattle.oneshot_machine.specs.declared.machine.receiver.ReceiverStart.TheVariants as C
 use Rattle.oneshot_machine.specs.declared.states.Op.TheVariants.{Load, Store, Swap}
-use Rattle.oneshot_machine.specs.Logs.{Log, Grows, receiver_of, took, worded}
+use Rattle.oneshot_machine.specs.Logs.{Log, Grows, receiver_of, did, took, worded}
 use Rattle.oneshot_machine.specs.Phases.{ReceiverAt, here, looked, between, waits, again, claimed, full, Got, at_once, waited, swapped, by_future, by_poll, Closing, found_closed, closed_itself, disconnected, resolved, receiver_next, receiver_moves, empty, word_of}
 use Rattle.oneshot_machine.specs.Receiver.{receiver_step, receiver_row}
-use Rattle.oneshot_machine.specs.TableRows.{Outcome, Goes}
+use Rattle.oneshot_machine.specs.TableRows.{Outcome, Goes, Answers}
 use Rattle.oneshot_machine.specs.Runs.{last, more, ReceiverRan}
 use Rattle.oneshot_machine.proofs.GrownLists.{and_then}
 use Rattle.oneshot_drive.specs.Grounds.{State, StandsWith, Stands, StandsIn, receiver_slots, ReceiverAsks, ReceiverMakes}
@@ -27,7 +26,7 @@ use Rattle.oneshot_drive.specs.BetweenCalls.{rests_new, rests_open, rests_closed
 use Rattle.oneshot_drive.specs.Polls.{Polled, unpolled, left_copy, kept_copy, found_sender, has_resolved, IsPolled, LeavesPolled, leaves_received, leaves_resolved, leaves_over, leaves_gone, leaves_uncopied, leaves_waiting, leaves_its_copy, leaves_claimed, EndsPoll}
 use Rattle.oneshot_machine.proofs.Landings.{has_row, Each, landings}
 use Rattle.oneshot_drive.proofs.AfterOperations.{Came, came, asks, lands}
-use Rattle.oneshot_drive.proofs.Stretches.{on, by_word, ran}
+use Rattle.oneshot_drive.proofs.Stretches.{on, by_word, by_own, ran}
 
 -- it may load
 polled_loads : {at : ReceiverAt} → Polled at → has_row Load (receiver_slots at) (receiver_moves at) ≡ true
@@ -62,13 +61,14 @@ meets kept_copy = ((met_copy, refl), ((met_sender, refl), ((met_message refl ref
 meets found_sender = ((met_sender, refl), ((met_message refl refl, refl), ((met_closed found_closed, refl), tt)))
 meets (has_resolved c) = ((met_closed c, refl), tt)
 
--- the drop's load keeps it only where its copy is there, or the sender is about to finish
-ends_met : {n : ℕ} {at : ReceiverAt} → Met n at → ¬ (n ≡ 0) → ¬ (n ≡ 1) → Drops at × (receiver_row (AsyncDrop AsyncLoad) (S.Word n) ≡ Some (Goes (Drop DropSwap)))
-ends_met met_empty a b = (refl, refl)
-ends_met (met_message word drops) a b = (drops, refl)
-ends_met (met_closed c) a b = (refl, refl)
-ends_met met_copy a b = absurd (a refl)
-ends_met met_sender a b = absurd (b refl)
+-- the drop's load keeps it only where its copy is there
+ends_met : {n : ℕ} {at : ReceiverAt} → Met n at → ¬ (n ≡ 0)
+    → Drops at × (receiver_row (AsyncDrop AsyncLoad) (S.Word n) ≡ Some (Goes (AsyncDrop AsyncSwap)))
+ends_met met_empty a = (refl, refl)
+ends_met (met_message word drops) a = (drops, refl)
+ends_met (met_closed c) a = (refl, refl)
+ends_met met_copy a = absurd (a refl)
+ends_met met_sender a = (refl, refl)
 
 -- how a poll leaves the future
 leaves_taken : {T : Type 0} (g : Got) (x : T) → LeavesPolled (Ready (Ok x)) (receiver_next (full g) (Store 2) S.Done)
@@ -142,14 +142,18 @@ module _ {T W : Type 0} where
     pub met_none : ¬ (n ≡ 3) → ¬ (n ≡ 0) → ¬ (n ≡ 4) → ¬ (n ≡ 1) → (n ≡ 2) × EndsPoll F.Closed s
     met_none a b c d = closed_met found.is_so found.stands a b c d
 
-    pub met_end : ¬ (n ≡ 0) → ¬ (n ≡ 1) → ReceiverAsks (Swap 2) s × (receiver_row (AsyncDrop AsyncLoad) (S.Word n) ≡ Some (Goes (Drop DropSwap)))
-    met_end a b = let ends = ends_met found.is_so a b in (asks (Swap 2) found.stands ends.0, ends.1)
+    pub met_end : ¬ (n ≡ 0) → ReceiverAsks (Swap 2) s × (receiver_row (AsyncDrop AsyncLoad) (S.Word n) ≡ Some (Goes (AsyncDrop AsyncSwap)))
+    met_end a = let ends = ends_met found.is_so a in (asks (Swap 2) found.stands ends.0, ends.1)
 
   pub loaded_to : {l k : Log T W} {p : ReceiverPos} (o : Outcome ReceiverPos) (n found : ℕ) → Steps.Word Load ≡ receiver_step p → receiver_row p (S.Word found) ≡ Some o → n ≡ found → Grows l k (worded Load n ∷ []) → Went p o l k
   loaded_to {p} o n found at leads e s = by_word o Load n s at (ap (λ n. receiver_row p (S.Word n)) e ∙ leads)
 
   pub met_went : {l k z : Log T W} {p : ReceiverPos} {o : Outcome ReceiverPos} (n found : ℕ) → receiver_row (Future PollLoad) (S.Word found) ≡ Some (Goes p) → n ≡ found → Grows l k (worded Load n ∷ []) → Went p o k z → Went (Future PollLoad) o l z
   met_went {p} n found leads e s went = on (loaded_to (Goes p) n found refl leads e s) went
+
+  -- it finds the sender about to finish, and wakes its own task
+  pub met_own : {l k z : Log T W} (n : ℕ) → n ≡ 1 → Grows l k (worded Load n ∷ []) → Grows k z (did Steps.WakeOwn ∷ []) → Went (Future PollLoad) (Answers R.Pending) l z
+  met_own n e s t = met_went n 1 refl e s (by_own _ t refl refl)
 
   -- `poll`: it closes over the message, and takes it
   pub taken_rests : {s : State T W} (g : Got) → StandsWith receiver_of (receiver_next (full g) (Store 2) S.Done) (empty, empty) s → IsPolled s

@@ -19,7 +19,7 @@ use Rattle.oneshot_machine.proofs.Exactness.{leads}
 use Rattle.oneshot_machine.proofs.GrownLists.{and_then, sender_moved}
 use Rattle.oneshot_drive.specs.Grounds.{State, StandsWith, SenderMakes}
 use Rattle.oneshot_drive.specs.BetweenCalls.{IsFresh, IsError, IsLate, is_late, is_overtaken, Owes, finishing, LastFinds, finds_waiting, finds_overdue, finds_gone, Finishes, IsOvertaken, send_reply}
-use Rattle.oneshot_machine.proofs.Landings.{is_in, is_room, put_in, as_before, turned, message_kept, has_row, landings_of, landed, Each, each, FoundSo, found_so, sender_apart}
+use Rattle.oneshot_machine.proofs.Landings.{is_in, is_room, put_in, as_before, turned, message_kept, has_row, landings_of, landed, Each, each, found_so, sender_apart}
 use Rattle.oneshot_drive.proofs.AfterOperations.{Lone, lone, at_word, not_at, sender_asks, sender_lands, sender_still}
 
 -- after its last operation a sender wakes, and then answers whether the receiver was here
@@ -59,7 +59,7 @@ record EndsAt (n : ℕ) (next : SenderAt) (after : Slots) : Type 0 where
   late : here ≡ false → IsLate next × (after.1 ≡ empty) × ¬ (after.0 ≡ none)
 
 still_here : {n : ℕ} {next : SenderAt} {after : Slots} → LastFinds n true → EndsAt n next after
-still_here finds = record { here = true; finds = finds; late = λ e. cc }
+still_here it = record { here = true; finds = it; late = λ e. cc }
 
 last_ends : (at : SenderAt) → Each EndsAt (landings_of is_swap (sender_moves at))
 last_ends (owes sending) =
@@ -122,6 +122,10 @@ module _ {T W : Type 0} where
     pub drop_owes : n ≡ 0 → SenderMakes Xor n b a → Grows b.log a.log (worded Xor n ∷ []) → Owes 2 a
     drop_owes e made grows = owed 2 (λ e. cc) (lone (at_word 0 e (sender_lands b Xor n is.phase made grows))).stands refl
 
+    -- its slot is as empty as it was
+    pub flipped_room : n ≡ 0 → SenderMakes Xor n b a → Grows b.log a.log (worded Xor n ∷ []) → a.message ≡ vacant
+    flipped_room e made grows = is_room (lone (at_word 0 e (sender_lands b Xor n is.phase made grows))).stands.message
+
   -- a refused `send`
   pub refused : {by : By} {a : State T W} (x : T) → StandsWith sender_of (late by) (filled, empty) a → a.message ≡ held x → IsError (held x) a
   refused x stands message = record { keeps = message; no_waker = is_room stands.waker }
@@ -178,30 +182,27 @@ module _ {T W : Type 0} where
     pub finish_asks : SenderMay (sender_of k) (Swap word) m w
     finish_asks = subst (λ (z : SenderAt × Held T × Held W). SenderMay z.0 (Swap word) z.1 z.2) (λ i. (sym (sender_still (handed TakeWaker y ∷ []) refl s) i, sym message i, sym waker i)) is.asks
 
-    module _ {m' : Held T} {w' : Held W} {j z : Log T W} (n : ℕ) (made : SenderFinds (sender_of k) (Swap word) n m w m' w') where
-      ends : FoundSo {At = SenderAt} EndsAt n m' w'
-      ends = found_so is_swap EndsAt refl (last_ends (sender_of k)) made
-
-      pub finished_as : Grows k j (worded (Swap word) n ∷ []) → Grows j z (handed Wake y ∷ []) → Finishes word (not (n == 2)) b.log z
-      finished_as t u =
-          record {
-            found = n;
-            finds = subst (LastFinds n) (here_by ends.is_so.finds) ends.is_so.finds;
-            waker = y;
-            grows = and_then (handed TakeWaker y ∷ []) _ s (and_then (worded (Swap word) n ∷ []) _ t u);
-          }
+    pub finished_as : {m' : Held T} {w' : Held W} {j z : Log T W} (n : ℕ) → SenderFinds (sender_of k) (Swap word) n m w m' w' → Grows k j (worded (Swap word) n ∷ []) → Grows j z (handed Wake y ∷ []) → Finishes word (not (n == 2)) b.log z
+    finished_as n made t u =
+        let ends = (found_so is_swap EndsAt refl (last_ends (sender_of k)) made).is_so in
+        record {
+          found = n;
+          finds = subst (LastFinds n) (here_by ends.finds) ends.finds;
+          waker = y;
+          grows = and_then (handed TakeWaker y ∷ []) _ s (and_then (worded (Swap word) n ∷ []) _ t u);
+        }
 
   -- where that found the receiver gone
-  late_over : {at then : SenderAt} {new n : ℕ} {m m' : Held T} {w w' : Held W} → ({before after : Slots} (next : SenderAt) → In (Swap new, before, n, next, after) (sender_moves at) → then ≡ next) → SenderFinds at (Swap new) n m w m' w' → not (n == 2) ≡ false → ¬ (m ≡ away) → IsLate then × (m' ≡ m) × (w' ≡ vacant)
-  late_over {at} {w'} leads_to (finds {next} row message waker) e has =
+  late_over : {at then : SenderAt} {new n : ℕ} {m m' : Held T} {w w' : Held W} → ((next : SenderAt) (before after : Slots) → In (Swap new, before, n, next, after) (sender_moves at) → then ≡ next) → SenderFinds at (Swap new) n m w m' w' → not (n == 2) ≡ false → ¬ (m ≡ away) → IsLate then × (m' ≡ m) × (w' ≡ vacant)
+  late_over {at} {w'} leads_to (finds {before} {after} {next} row message waker) e has =
       let ends = each EndsAt (landings_of is_swap (sender_moves at)) (last_ends at) (landed is_swap (sender_moves at) refl row) in
       let late = ends.late (here_by ends.finds ∙ e) in
-      (subst IsLate (sym (leads_to next row)) late.0, unmoved message late.2 has, is_room (subst (λ s. IsSlot s w') late.1 (turned waker)))
+      (subst IsLate (sym (leads_to next before after row)) late.0, unmoved message late.2 has, is_room (subst (λ s. IsSlot s w') late.1 (turned waker)))
 
   module _ {b k j z : State T W} {word : ℕ} (y : W) (is : Owes word b) (message : k.message ≡ b.message) where
     pub overtaken_as : (n : ℕ) → SenderMakes (Swap word) n k j → Grows k.log j.log (worded (Swap word) n ∷ []) → Grows j.log z.log (handed Wake y ∷ []) → z.message ≡ j.message → z.waker ≡ j.waker → not (n == 2) ≡ false → IsOvertaken b z
     overtaken_as n made t u kept waker e =
-        let late = late_over (λ next row. sender_moved (Swap word) n t ∙ leads no_sender (sender_moves (sender_of k.log)) (sender_apart (sender_of k.log)) row) made e (λ gone. is.has_slot (sym message ∙ gone)) in
+        let late = late_over (λ next before after row. sender_moved (Swap word) n t ∙ leads no_sender (sender_moves (sender_of k.log)) (sender_apart (sender_of k.log)) row) made e (λ gone. is.has_slot (sym message ∙ gone)) in
         record {
           late = subst IsLate (sym (sender_still (handed Wake y ∷ []) refl u)) late.0;
           message = kept ∙ late.1 ∙ message;

@@ -4,16 +4,16 @@ ghost use Rattle.std.specs.Prelude.{◌≡◌, [], Some, Err};
 ghost use Rattle.futures.specs.Poll.{OnPending};
 ghost use Rattle.oneshot_errors.specs.declared.try_recv.TryRecvError.TheVariants as Tried;
 ghost use Rattle.oneshot_machine.specs.declared.machine.Reply.TheVariants as R;
-ghost use Rattle.oneshot_machine.specs.declared.machine.receiver.ReceiverPos.TheVariants.{Future, AsyncDrop, Drop};
-ghost use Rattle.oneshot_machine.specs.declared.machine.future.FuturePos.TheVariants.{PollLoad, PollCopy, PollWrite, AgainCopy, PollSpin};
-ghost use Rattle.oneshot_machine.specs.declared.machine.async_drop.AsyncDropPos.TheVariants.{AsyncExchange, AsyncSpin};
-ghost use Rattle.oneshot_machine.specs.declared.machine.drop.DropPos.TheVariants.{DropSwap};
+ghost use Rattle.oneshot_machine.specs.declared.machine.receiver.ReceiverPos.TheVariants.{Future, AsyncDrop};
+ghost use Rattle.oneshot_machine.specs.declared.machine.future.FuturePos.TheVariants.{PollLoad, PollCopy, PollWrite, AgainCopy};
+ghost use Rattle.oneshot_machine.specs.declared.machine.async_drop.AsyncDropPos.TheVariants.{AsyncExchange, AsyncSwap};
 ghost use Rattle.oneshot_machine.specs.declared.machine.receiver.ReceiverStart.TheVariants as C;
 ghost use Rattle.oneshot_machine.specs.declared.states.Op.TheVariants.{Swap};
-ghost use Rattle.oneshot_machine.specs.Counts.{operates, operates_past_1, MakesAtMost};
+ghost use Rattle.oneshot_machine.specs.Counts.{operates, MakesAtMost};
 ghost use Rattle.oneshot_machine.specs.Logs.{receiver_of};
-ghost use Rattle.oneshot_machine.specs.Phases.{here, looked, waits, again, claimed};
-ghost use Rattle.oneshot_machine.specs.Runs.{ReceiverRan};
+ghost use Rattle.oneshot_machine.specs.Phases.{here, looked, waits, again};
+ghost use Rattle.oneshot_machine.specs.Receiver.{receiver_step, receiver_row};
+ghost use Rattle.oneshot_machine.specs.Runs.{Ran, ReceiverRan};
 ghost use Rattle.oneshot_machine.specs.TableRows.{Goes};
 ghost use Rattle.oneshot_drive.specs.declared.waiting.Found.TheVariants as F;
 ghost use Rattle.oneshot_drive.specs.Blocking.{Went};
@@ -22,35 +22,30 @@ ghost use Rattle.oneshot_drive.specs.Grounds.{Stands, ReceiverAsks};
 ghost use Rattle.oneshot_drive.specs.Polls.{IsPolled, LeavesPolled, LeavesTried, StaysRegistered, poll_reply, poll_received, poll_end, EndsPoll, MayLeave, IsDisconnected, WroteCopies, WritesItsCopy, HandsNoWaker};
 
 use crate::ground::{ReceiverGround, TaskGround};
-use crate::receiver::end;
 use crate::waiting::Found;
 use futures::task::Poll;
 use oneshot_errors::{RecvError, TryRecvError};
 use oneshot_machine::states::{DISCONNECTED, EMPTY, MESSAGE, Op, RECEIVING, UNPARKING};
-use std::sync::Wait;
 
-/// Polls the receiver once, without blocking except for a sender that is about to finish.
+/// Polls the receiver once. It waits for nobody.
 ///
 /// - `Ready(Ok)`: the message, which closes the receiver.
 /// - `Ready(Err)`: the sender was dropped, or the message was received before.
 /// - `Pending`: nothing is there yet. The channel holds a new copy of the task's waker, in place of that
 ///   of an earlier poll; or the poll woke its own task, where a copy was refused or the sender is about
 ///   to finish.
-pub fn poll<T, W: Drop, G: TaskGround<T, W>>(
-    g: &mut G,
-    rt: &impl Wait,
-) -> Poll<Result<T, RecvError>>
+pub fn poll<T, W: Drop, G: TaskGround<T, W>>(g: &mut G) -> Poll<Result<T, RecvError>>
     requires { IsPolled (G.state g.old) }
     ensures run { ReceiverRan C.Poll (G.state g.old).log (G.state g.new).log (poll_reply result) [] (poll_received result) }
     ensures rests { IsPolled (G.state g.new) }
     ensures leaves { LeavesPolled result (receiver_of (G.state g.new).log) }
     ensures stays { IsClosed (receiver_of (G.state g.old).log) → IsDisconnected result }
-    ensures bounded { MakesAtMost 4 operates_past_1 (G.state g.old).log (G.state g.new).log }
+    ensures bounded { MakesAtMost 4 operates (G.state g.old).log (G.state g.new).log }
     ensures own_copy { WritesItsCopy (G.state g.old).log (G.state g.new).log }
     ensures heard { OnPending result (G.heard g.new) }
     ensures keeps { G.keeps g.old g.new }
 {
-    match meet(g, rt) {
+    match meet(g) {
         Found::Message => {
             g.word(Op::Store(DISCONNECTED));
             Poll::Ready(Ok(g.take_message()))
@@ -61,7 +56,7 @@ pub fn poll<T, W: Drop, G: TaskGround<T, W>>(
 }
 
 // Reads the word, and leaves a copy where nothing is there yet.
-fn meet<T, W: Drop, G: TaskGround<T, W>>(g: &mut G, rt: &impl Wait) -> Found
+fn meet<T, W: Drop, G: TaskGround<T, W>>(g: &mut G) -> Found
     requires { IsPolled (G.state g.old) }
     ensures went { Went (Future PollLoad) (poll_end result) (G.state g.old).log (G.state g.new).log }
     ensures ends { EndsPoll result (G.state g.new) }
@@ -74,7 +69,10 @@ fn meet<T, W: Drop, G: TaskGround<T, W>>(g: &mut G, rt: &impl Wait) -> Found
         EMPTY => leave_first(g),
         RECEIVING => leave_again(g),
         MESSAGE => Found::Message,
-        UNPARKING => spin(g, rt),
+        UNPARKING => {
+            g.wake_own();
+            Found::Nothing
+        }
         _ => Found::Closed,
     }
 }
@@ -146,25 +144,6 @@ fn leave_again<T, W: Drop, G: TaskGround<T, W>>(g: &mut G) -> Found
     }
 }
 
-// Reads the word until the sender has finished.
-fn spin<T, W: Drop, G: TaskGround<T, W>>(g: &mut G, rt: &impl Wait) -> Found
-    requires { Stands claimed (G.state g.old) }
-    ensures went { Went (Future PollSpin) (poll_end result) (G.state g.old).log (G.state g.new).log }
-    ensures ends { EndsPoll result (G.state g.new) }
-    ensures sent { ¬ (result ≡ F.Nothing) }
-    ensures own { WritesItsCopy (G.state g.old).log (G.state g.new).log }
-    ensures keeps { G.keeps g.old g.new }
-{
-    for _ in rt.forever() {
-        match g.word(Op::Load) {
-            MESSAGE => return Found::Message,
-            DISCONNECTED => return Found::Closed,
-            _ => {}
-        }
-    }
-    unreachable!()
-}
-
 /// Receives the message if it is there. It waits for nobody and frees nothing. A copy of a waker that a poll
 /// left stays where it is.
 ///
@@ -195,48 +174,44 @@ pub fn async_try_recv<T, W, G: ReceiverGround<T, W>>(g: &mut G) -> Result<T, Try
 }
 
 /// Drops the future, with the copy of a waker that it left with the channel and the message that it
-/// finds. It blocks for a sender that is about to finish, and for nothing else.
-pub fn drop_async<T, W: Drop, G: ReceiverGround<T, W>>(g: &mut G, rt: &impl Wait)
+/// finds. It waits for nobody. A sender that is about to finish has that copy, and frees the block.
+pub fn drop_async<T, W: Drop, G: ReceiverGround<T, W>>(g: &mut G)
     requires { IsPolled (G.state g.old) }
     ensures run { ReceiverRan C.DropAsync (G.state g.old).log (G.state g.new).log R.Done [] [] }
-    ensures bounded { MakesAtMost 3 operates_past_1 (G.state g.old).log (G.state g.new).log }
+    ensures bounded { MakesAtMost 3 operates (G.state g.old).log (G.state g.new).log }
 {
     match g.word(Op::Load) {
         RECEIVING => {
-            take_back(g, rt);
-            end(g);
+            take_back(g);
+            close(g);
         }
-        UNPARKING => {
-            wait_out(g, rt);
-            end(g);
-        }
-        _ => end(g),
+        _ => close(g),
     }
 }
 
 // Takes the copy back, unless the sender has acted before.
-fn take_back<T, W: Drop, G: ReceiverGround<T, W>>(g: &mut G, rt: &impl Wait)
+fn take_back<T, W: Drop, G: ReceiverGround<T, W>>(g: &mut G)
     requires { Stands (waits again) (G.state g.old) }
-    ensures went { Went (AsyncDrop AsyncExchange) (Goes (Drop DropSwap)) (G.state g.old).log (G.state g.new).log }
+    ensures went { Went (AsyncDrop AsyncExchange) (Goes (AsyncDrop AsyncSwap)) (G.state g.old).log (G.state g.new).log }
     ensures ends { ReceiverAsks (Swap 2) (G.state g.new) }
 {
     match g.word(Op::Exchange(RECEIVING, EMPTY)) {
         RECEIVING => drop(g.withdraw()),
-        UNPARKING => wait_out(g, rt),
         _ => {}
     }
 }
 
-// Reads the word until the sender has finished.
-fn wait_out<T, W: Drop, G: ReceiverGround<T, W>>(g: &mut G, rt: &impl Wait)
-    requires { Stands claimed (G.state g.old) }
-    ensures went { Went (AsyncDrop AsyncSpin) (Goes (Drop DropSwap)) (G.state g.old).log (G.state g.new).log }
-    ensures ends { ReceiverAsks (Swap 2) (G.state g.new) }
+// Closes the channel, and drops the message that it finds.
+fn close<T, W, G: ReceiverGround<T, W>>(g: &mut G)
+    requires { ReceiverAsks (Swap 2) (G.state g.old) }
+    ensures { Ran receiver_step receiver_row (AsyncDrop AsyncSwap) (G.state g.old).log (G.state g.new).log R.Done [] [] }
 {
-    for _ in rt.forever() {
-        if g.word(Op::Load) != UNPARKING {
-            return;
+    match g.word(Op::Swap(DISCONNECTED)) {
+        MESSAGE => {
+            g.drop_message();
+            g.free();
         }
+        DISCONNECTED => g.free(),
+        _ => {}
     }
-    unreachable!()
 }

@@ -4,12 +4,10 @@ ghost use Rattle.std.specs.Prelude.{◌≡◌, Err, []};
 ghost use Rattle.oneshot_errors.specs.declared.try_recv.TryRecvError.TheVariants.{Disconnected};
 ghost use Rattle.oneshot_machine.specs.declared.machine.Reply.TheVariants as R;
 ghost use Rattle.oneshot_machine.specs.declared.machine.receiver.ReceiverStart.TheVariants.{TryRecv, Drop};
-ghost use Rattle.oneshot_machine.specs.declared.states.Op.TheVariants.{Swap};
 ghost use Rattle.oneshot_machine.specs.Counts.{operates, MakesAtMost};
 ghost use Rattle.oneshot_machine.specs.Logs.{receiver_of};
 ghost use Rattle.oneshot_machine.specs.Runs.{ReceiverRan};
 ghost use Rattle.oneshot_drive.specs.BetweenCalls.{AtRest, IsClosed, Leaves, try_recv_reply, received};
-ghost use Rattle.oneshot_drive.specs.Grounds.{ReceiverAsks};
 
 use crate::ground::ReceiverGround;
 use oneshot_errors::TryRecvError;
@@ -46,14 +44,6 @@ pub fn try_recv<T, W, G: ReceiverGround<T, W>>(g: &mut G) -> Result<T, TryRecvEr
 /// It frees the block if the sender was gone or had sent. Otherwise the sender's side frees it.
 pub fn drop_receiver<T, W, G: ReceiverGround<T, W>>(g: &mut G)
     requires { AtRest (G.state g.old) }
-    ensures { ReceiverRan Drop (G.state g.old).log (G.state g.new).log R.Done [] [] }
-{
-    end(g);
-}
-
-// Closes the channel, and drops the message that it finds.
-pub(crate) fn end<T, W, G: ReceiverGround<T, W>>(g: &mut G)
-    requires { ReceiverAsks (Swap 2) (G.state g.old) }
     ensures { ReceiverRan Drop (G.state g.old).log (G.state g.new).log R.Done [] [] }
 {
     match g.word(Op::Swap(DISCONNECTED)) {

@@ -1,8 +1,10 @@
 -- The goals that `meet` leaves.
 use Rattle.std.proofs.Common.{rules, refl}
 use Rattle.oneshot_drive.proofs.RestLoads.{never}
-use Rattle.oneshot_drive.proofs.PollLoads.{meet_asks, met, met_open, met_copied, met_claimed, met_full, met_none, met_went, loaded_to}
-use Rattle.oneshot_drive.proofs.OwnCopies.{wrote_none, on_word}
+use Rattle.oneshot_drive.proofs.PollLoads.{meet_asks, met, met_open, met_copied, met_claimed, met_full, met_none, met_went, met_own, loaded_to}
+use Rattle.oneshot_drive.proofs.LeftCopies.{owned_ends}
+use Rattle.oneshot_drive.specs.Polls.{leaves_claimed}
+use Rattle.oneshot_drive.proofs.OwnCopies.{wrote_none, on_word, on_own}
 use Rattle.oneshot_drive.proofs.polling.meet.Goals as goal
 
 pub word-requires : goal.word-requires
@@ -35,11 +37,12 @@ returns-in-4-clause-ends g c = met_full (met c.word.result c.requires c.word.ens
 pub returns-in-4-clause-stays : goal.returns-in-4-clause-stays
 returns-in-4-clause-stays g c is_closed = never 4 refl c.in-4.is is_closed c.word.ensures.finds
 
-pub spin-requires : goal.spin-requires
-spin-requires g c = met_claimed (met c.word.result c.requires c.word.ensures.finds c.word.ensures.list) c.in-1.is
-
 pub returns-in-1-clause-went : goal.returns-in-1-clause-went
-returns-in-1-clause-went g c = met_went c.word.result 1 refl c.in-1.is c.word.ensures.list c.spin.ensures.went
+returns-in-1-clause-went g c = met_own c.word.result c.in-1.is c.word.ensures.list c.wake_own.ensures.list
+
+pub returns-in-1-clause-ends : goal.returns-in-1-clause-ends
+returns-in-1-clause-ends g c =
+    owned_ends leaves_claimed (met_claimed (met c.word.result c.requires c.word.ensures.finds c.word.ensures.list) c.in-1.is) c.wake_own.ensures.list c.wake_own.ensures.message c.wake_own.ensures.waker
 
 pub returns-in-1-clause-stays : goal.returns-in-1-clause-stays
 returns-in-1-clause-stays g c is_closed = never 1 refl c.in-1.is is_closed c.word.ensures.finds
@@ -57,7 +60,7 @@ pub returns-in-0-clause-own : goal.returns-in-0-clause-own
 returns-in-0-clause-own g c = on_word _ c.word.result c.word.ensures.list c.leave_again.ensures.own
 
 pub returns-in-1-clause-own : goal.returns-in-1-clause-own
-returns-in-1-clause-own g c = on_word _ c.word.result c.word.ensures.list c.spin.ensures.own
+returns-in-1-clause-own g c = on_word _ c.word.result c.word.ensures.list (on_own c.wake_own.ensures.list (wrote_none _))
 
 pub returns-in-4-clause-own : goal.returns-in-4-clause-own
 returns-in-4-clause-own g c = on_word _ c.word.result c.word.ensures.list (wrote_none _)

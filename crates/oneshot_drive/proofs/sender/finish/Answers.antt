@@ -2,8 +2,8 @@
 use Rattle.oneshot_drive.proofs.SenderCalls.{finish_asks, finished_as, overtaken_as}
 use Rattle.oneshot_drive.proofs.sender.finish.Goals as goal
 
-pub word-requires : goal.word-requires
-word-requires g c = finish_asks c.take_waker-waker.result c.requires c.take_waker-waker.ensures.list c.take_waker-waker.ensures.message c.take_waker-waker.ensures.waker
+pub word-found-requires : goal.word-found-requires
+word-found-requires g c = finish_asks c.take_waker-waker.result c.requires c.take_waker-waker.ensures.list c.take_waker-waker.ensures.message c.take_waker-waker.ensures.waker
 
 pub returns-clause-finishes : goal.returns-clause-finishes
 returns-clause-finishes g c =
