@@ -9,13 +9,15 @@ use Rattle.oneshot_machine.specs.Slots.{SenderMay, ReceiverMay, Finds}
 use Rattle.oneshot_machine.proofs.GrownLists.{phase_from-snoc}
 use Rattle.oneshot_word.specs.declared.rule.Role.TheVariants.{Sender, Receiver}
 use Rattle.oneshot_word.specs.declared.rule.Slot.{Slot}
+use Rattle.oneshot_word.specs.declared.rule.Slot.TheVariants.{Message}
 use Rattle.oneshot_word.specs.declared.rule.View.{View}
-use Rattle.oneshot_word.specs.Rule.{Home, Meet, meet, SenderSays, ReceiverSays, Tied, runs}
-use Rattle.oneshot_word.specs.Seats.{view, message_in, waker_in, waker_first, message_first, SeatOf, SenderSeat, ReceiverSeat, SenderStepped, ReceiverStepped}
+use Rattle.oneshot_word.specs.Rule.{Home, message_home, waker_home, Lies, Tied, runs}
+use Rattle.oneshot_word.specs.Seats.{view, with_waker, message_in, waker_in, waker_first, message_first, SeatOf, SenderSeat, ReceiverSeat, SenderStepped, ReceiverStepped}
 use Rattle.oneshot_word.proofs.Sits.{Sits, sender_sits, receiver_sits, sits}
 use Rattle.oneshot_word.proofs.RuleKept.{stepped, turn, sender_turns, receiver_turns}
-use Rattle.oneshot_word.proofs.Says.{sender_says, receiver_says}
+use Rattle.oneshot_word.proofs.Between.{between, sender_reaches, receiver_reaches}
 use Rattle.oneshot_word.proofs.Trades.{as_read, as_seat, reads}
+use Rattle.oneshot_word.proofs.Meets.{meet}
 
 module _ {T H K : Type 0} where
   abbrev pub Holds : State (Slot T H K) View → Type 0
@@ -34,8 +36,8 @@ module _ {T H K : Type 0} where
     Goes then ws hs vs id = (v : View) × (a : Act (Slot T H K)) × Valid hs me.1 a × Tied (set ws 0 (stepped op (get_or ws 0 0))) (homes_after hs me.1 a) (set vs id v) × then (get_or ws 0 0) (v, carried_after me.1 a)
 
     sender_goes : {ws : List ℕ} {hs : List (Home T H K)} {vs : List View} {id : ℕ} → SenderSeat me → SenderAsks me op → Sits ws hs vs id Sender me.0.steps → Goes (SenderStepped me op) ws hs vs id
-    sender_goes seat may (sender_sits {w = found} {h} {k} ys says others now) =
-        elim (sender_turns {word = found} may seat.has now) [
+    sender_goes seat may (sender_sits {w = found} {h} {k} ys run there there') =
+        elim (sender_turns {word = found} may seat.has (meet (between run) there there')) [
           | turn {h'} {k'} {m'} {w'} act valid homes word lies lies' finds has code ↦
               let x : Noted = (op, saw op found) in
               let after = phase_from-snoc sender_next fresh me.0.steps x in
@@ -43,7 +45,7 @@ module _ {T H K : Type 0} where
                 view Sender xs,
                 act,
                 valid,
-                subst (λ hs. Tied (stepped op found ∷ []) hs (view Sender xs ∷ view Receiver ys ∷ [])) (sym homes) (runs xs ys (subst (λ p. SenderSays xs p) (sym after) (sender_says found says finds)) others (subst (λ p. Meet T H K p (receiver_at ys) (stepped op found) h' k') (sym after) (meet word lies lies'))),
+                subst (λ hs. Tied (stepped op found ∷ []) hs (view Sender xs ∷ view Receiver ys ∷ [])) (sym homes) (runs xs ys (sender_reaches run finds) (subst (λ p. Lies Message (message_home p (receiver_at ys)) h') (sym after) lies) (subst (λ p. Lies with_waker (waker_home p (receiver_at ys)) k') (sym after) lies')),
                 record {
                   list = refl;
                   seat = as_seat {owns = λ xs. sender_owns (sender_at xs)} refl (subst (λ p. SeatOf waker_first (sender_owns p) (carried_after me.1 act) m' w') (sym after) has);
@@ -54,8 +56,8 @@ module _ {T H K : Type 0} where
         ]
 
     receiver_goes : {ws : List ℕ} {hs : List (Home T H K)} {vs : List View} {id : ℕ} → ReceiverSeat me → ReceiverAsks me op → Sits ws hs vs id Receiver me.0.steps → Goes (ReceiverStepped me op) ws hs vs id
-    receiver_goes seat may (receiver_sits {w = found} {h} {k} xs others says now) =
-        elim (receiver_turns {word = found} may seat.has now) [
+    receiver_goes seat may (receiver_sits {w = found} {h} {k} xs run there there') =
+        elim (receiver_turns {word = found} may seat.has (meet (between run) there there')) [
           | turn {h'} {k'} {m'} {w'} act valid homes word lies lies' finds has code ↦
               let x : Noted = (op, saw op found) in
               let after = phase_from-snoc receiver_next first me.0.steps x in
@@ -63,7 +65,7 @@ module _ {T H K : Type 0} where
                 view Receiver ys,
                 act,
                 valid,
-                subst (λ hs. Tied (stepped op found ∷ []) hs (view Sender xs ∷ view Receiver ys ∷ [])) (sym homes) (runs xs ys others (subst (λ q. ReceiverSays ys q) (sym after) (receiver_says found finds says)) (subst (λ q. Meet T H K (sender_at xs) q (stepped op found) h' k') (sym after) (meet word lies lies'))),
+                subst (λ hs. Tied (stepped op found ∷ []) hs (view Sender xs ∷ view Receiver ys ∷ [])) (sym homes) (runs xs ys (receiver_reaches run finds) (subst (λ q. Lies Message (message_home (sender_at xs) q) h') (sym after) lies) (subst (λ q. Lies with_waker (waker_home (sender_at xs) q) k') (sym after) lies')),
                 record {
                   list = refl;
                   seat = as_seat {owns = λ ys. receiver_owns (receiver_at ys)} refl (subst (λ q. SeatOf message_first (receiver_owns q) (carried_after me.1 act) m' w') (sym after) has);

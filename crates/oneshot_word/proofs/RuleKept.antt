@@ -16,10 +16,11 @@ use Rattle.oneshot_word.specs.declared.rouse.Rouse.{Rouse}
 use Rattle.oneshot_word.specs.declared.rule.Slot.{Slot}
 use Rattle.oneshot_word.specs.declared.rule.Slot.TheVariants.{Message}
 use Rattle.oneshot_word.specs.Seats.{with_waker, Carried, Part, Front, message_first, waker_first, carried_as, SeatOf, seat_of}
-use Rattle.oneshot_word.specs.Rule.{Home, word_between, message_home, waker_home, Lies, Is, is, Meet, meet}
+use Rattle.oneshot_word.specs.Rule.{Home, message_home, waker_home, Lies}
 use Rattle.oneshot_word.proofs.Alike.{is_bool, bools_are, is_word, words_are}
 use Rattle.oneshot_word.proofs.FoundRow.{row_of, Found, found_none, found_row, found}
 use Rattle.oneshot_word.proofs.SlotMoves.{is_owned, is_turn, Carries, carries, Went, went, goes, is_act, acts, both}
+use Rattle.oneshot_word.proofs.Meets.{word_between, Is, is, Meet, meet}
 
 -- the word that a step on the table leaves
 abbrev pub stepped : Op → ℕ → ℕ
@@ -102,6 +103,30 @@ module _ {At : Type 0} (e : OneEnd At) where
 
   abbrev keeps_rule : At → Bool
   keeps_rule at = list_all (λ (row : Row At). is_kept at row.0 row.1 (e.word at)) (e.moves at)
+
+module _ {At : Type 0} (e : OneEnd At) where
+  -- the word alone: the rule's word after a row that finds the rule's word
+  leaves_by : (at : At) (op : Op) (before : Slots) (word : ℕ) (o : Option Slots) → is_right e at op before word o ≡ true → Is (e.word (e.next at op (saw op word))) (stepped op word)
+  leaves_by at op before word None fits = absurd (cc)
+  leaves_by at op before word (Some slots) fits =
+      let of_message = turns_message e at op before word slots in
+      let of_waker = turns_waker e at op before word slots in
+      let owned = is_slots (e.owns (e.next at op (saw op word))) slots in
+      let acted = has_act e at op before word slots in
+      let leaves = leaves_word e at op before word in
+      let acts_so = and_parts (leaves && of_message && of_waker && owned) acted fits in
+      let owns_so = and_parts (leaves && of_message && of_waker) owned acts_so.0 in
+      let waker_so = and_parts (leaves && of_message) of_waker owns_so.0 in
+      let message_so = and_parts leaves of_message waker_so.0 in
+      subst (λ o. Is o (stepped op word)) (sym (words_are (e.word (e.next at op (saw op word))) (Some (stepped op word)) message_so.0)) is
+
+  leaves_from : (at : At) (op : Op) (before : Slots) {o : Option ℕ} {word : ℕ} → Is o word → is_kept e at op before o ≡ true → Is (e.word (e.next at op (saw op word))) (stepped op word)
+  leaves_from at op before {word} is kept =
+      leaves_by at op before word (row_of (e.moves at) op before word) (and_parts (leb word 4) (is_right e at op before word (row_of (e.moves at) op before word)) kept).1
+
+  keeps_word : (at : At) {next : At} {op : Op} {before after : Slots} {found word : ℕ} → keeps_rule e at ≡ true → Is (e.word at) word → In (op, before, found, next, after) (e.moves at) → Is (e.word (e.next at op (saw op word))) (stepped op word)
+  keeps_word at {op} {before} all number row =
+      leaves_from at op before number (each_passes (λ (row : Row At). is_kept e at row.0 row.1 (e.word at)) (e.moves at) all row)
 
 module _ {T H K At : Type 0} (e : OneEnd At) where
   -- both parts of what its seat carries
@@ -201,3 +226,10 @@ module _ {T H K : Type 0} {p : SenderAt} {q : ReceiverAt} {op : Op} {word : ℕ}
 
   pub receiver_turns : ReceiverMay q op m w → SeatOf message_first (receiver_owns q) c m w → Meet T H K p q word h k → Turn (receiver_end p) q op word h k c m w
   receiver_turns asks seat (meet now lies lies') = keeps_turn (receiver_end p) q op word (each_passes (λ p. keeps_rule (receiver_end p) q) senders (receiver_keeps q) (is_sender p)) asks seat now lies lies'
+
+module _ (p : SenderAt) (q : ReceiverAt) {op : Op} {before after : Slots} {word : ℕ} where
+  pub sender_leaves : {next : SenderAt} → Is (word_between p q) word → In (op, before, word, next, after) (sender_moves p) → Is (word_between (sender_next p op (saw op word)) q) (stepped op word)
+  sender_leaves = keeps_word (sender_end q) p (sender_keeps p q)
+
+  pub receiver_leaves : {next : ReceiverAt} → Is (word_between p q) word → In (op, before, word, next, after) (receiver_moves q) → Is (word_between p (receiver_next q op (saw op word))) (stepped op word)
+  receiver_leaves = keeps_word (receiver_end p) q (each_passes (λ p. keeps_rule (receiver_end p) q) senders (receiver_keeps q) (is_sender p))
