@@ -1,4 +1,4 @@
--- What a run of the word leaves: the word of both phases, and what both lists say.
+-- What an order of both logs leaves: the word of both phases, and what each log says.
 use Rattle.std.proofs.Common.{◌≡◌, ℕ, Bool, true, List, [], ◌∷◌, ◌++◌, refl, sym, subst}
 use Rattle.std.specs.Prelude.{◌==◌}
 use Rattle.std.specs.List.{list_all}
@@ -33,42 +33,58 @@ receiver_steps_so (disconnected found_closed) = refl
 receiver_steps_so (resolved found_closed) = refl
 receiver_steps_so _ = refl
 
-sender_word : (p : SenderAt) {next : SenderAt} {op : Op} {before after : Slots} {word : ℕ} → In (op, before, word, next, after) (sender_moves p) → stepped op word ≡ word_after op word
+sender_word : (p : SenderAt) {next : SenderAt} {op : Op} {before after : Slots} {word : ℕ}
+    → In (op, before, word, next, after) (sender_moves p) → stepped op word ≡ word_after op word
 sender_word p row = eqb-true _ _ (each_passes steps_so (sender_moves p) (sender_steps_so p) row)
 
-receiver_word : (q : ReceiverAt) {next : ReceiverAt} {op : Op} {before after : Slots} {word : ℕ} → In (op, before, word, next, after) (receiver_moves q) → stepped op word ≡ word_after op word
+receiver_word : (q : ReceiverAt) {next : ReceiverAt} {op : Op} {before after : Slots} {word : ℕ}
+    → In (op, before, word, next, after) (receiver_moves q) → stepped op word ≡ word_after op word
 receiver_word q row = eqb-true _ _ (each_passes steps_so (receiver_moves q) (receiver_steps_so q) row)
 
-pub between : {xs ys : List Noted} {word : ℕ} → Reaches xs ys word → Is (word_between (sender_at xs) (receiver_at ys)) word
+-- the word of both phases
+pub between : {xs ys : List Noted} {word : ℕ}
+    → Reaches xs ys word → Is (word_between (sender_at xs) (receiver_at ys)) word
 between nothing_made = is
-between (sender_makes {xs} {ys} {word} op run (has_row row)) =
-    let then = sender_next (sender_at xs) op (saw op word) in
-    subst (λ p. Is (word_between p (receiver_at ys)) (word_after op word)) (sym (phase_from-snoc sender_next fresh xs (op, saw op word)))
-    (subst (λ n. Is (word_between then (receiver_at ys)) n) (sender_word (sender_at xs) row) (sender_leaves (sender_at xs) (receiver_at ys) (between run) row))
-between (receiver_makes {xs} {ys} {word} op run (has_row row)) =
-    let then = receiver_next (receiver_at ys) op (saw op word) in
-    subst (λ q. Is (word_between (sender_at xs) q) (word_after op word)) (sym (phase_from-snoc receiver_next first ys (op, saw op word)))
-    (subst (λ n. Is (word_between (sender_at xs) then) n) (receiver_word (receiver_at ys) row) (receiver_leaves (sender_at xs) (receiver_at ys) (between run) row))
+between (sender_makes {xs} {ys} {word} op order (has_row row)) =
+    let p = sender_at xs in
+    let q = receiver_at ys in
+    subst (λ p. Is (word_between p q) (word_after op word)) (sym (phase_from-snoc sender_next fresh xs (op, saw op word)))
+      (subst (λ n. Is (word_between (sender_next p op (saw op word)) q) n) (sender_word p row)
+        (sender_leaves p q (between order) row))
+between (receiver_makes {xs} {ys} {word} op order (has_row row)) =
+    let p = sender_at xs in
+    let q = receiver_at ys in
+    subst (λ q. Is (word_between p q) (word_after op word)) (sym (phase_from-snoc receiver_next first ys (op, saw op word)))
+      (subst (λ n. Is (word_between p (receiver_next q op (saw op word))) n) (receiver_word q row)
+        (receiver_leaves p q (between order) row))
 
+-- what each log says
 pub sender_told : {xs ys : List Noted} {word : ℕ} → Reaches xs ys word → SenderSays xs (sender_at xs)
 sender_told nothing_made = says_none
-sender_told (sender_makes {xs} {ys} {word} op run (has_row row)) =
+sender_told (sender_makes {xs} {word} op order (has_row row)) =
     let x : Noted = (op, saw op word) in
-    subst (λ p. SenderSays (xs ++ x ∷ []) p) (sym (phase_from-snoc sender_next fresh xs x)) (sender_says word (sender_told run) row)
-sender_told (receiver_makes op run row) = sender_told run
+    subst (λ p. SenderSays (xs ++ x ∷ []) p) (sym (phase_from-snoc sender_next fresh xs x))
+      (sender_says word (sender_told order) row)
+sender_told (receiver_makes op order row) = sender_told order
 
 pub receiver_told : {xs ys : List Noted} {word : ℕ} → Reaches xs ys word → ReceiverSays ys (receiver_at ys)
 receiver_told nothing_made = record { stores = refl; overdue = refl; gone = refl; wrote = refl }
-receiver_told (sender_makes op run row) = receiver_told run
-receiver_told (receiver_makes {xs} {ys} {word} op run (has_row row)) =
+receiver_told (sender_makes op order row) = receiver_told order
+receiver_told (receiver_makes {ys} {word} op order (has_row row)) =
     let y : Noted = (op, saw op word) in
-    subst (λ q. ReceiverSays (ys ++ y ∷ []) q) (sym (phase_from-snoc receiver_next first ys y)) (receiver_says (receiver_at ys) word row (receiver_told run))
+    subst (λ q. ReceiverSays (ys ++ y ∷ []) q) (sym (phase_from-snoc receiver_next first ys y))
+      (receiver_says (receiver_at ys) word row (receiver_told order))
 
--- a run that goes on by an operation that was found in its table
-pub sender_reaches : {T W : Type 0} {xs ys : List Noted} {op : Op} {word : ℕ} {m m' : Held T} {w w' : Held W} → Reaches xs ys word → Finds sender_moves (sender_at xs) op word m w m' w' → Reaches (xs ++ (op, saw op word) ∷ []) ys (stepped op word)
-sender_reaches {xs} {ys} {op} {word} run (finds row _ _) =
-    subst (λ n. Reaches (xs ++ (op, saw op word) ∷ []) ys n) (sym (sender_word (sender_at xs) row)) (sender_makes op run (has_row row))
+-- an order that goes on by an operation that was found in its table
+module _ {T W : Type 0} {xs ys : List Noted} {op : Op} {word : ℕ} {m m' : Held T} {w w' : Held W} where
+  pub sender_reaches : Reaches xs ys word → Finds sender_moves (sender_at xs) op word m w m' w'
+      → Reaches (xs ++ (op, saw op word) ∷ []) ys (stepped op word)
+  sender_reaches order (finds row _ _) =
+      subst (λ n. Reaches (xs ++ (op, saw op word) ∷ []) ys n) (sym (sender_word (sender_at xs) row))
+        (sender_makes op order (has_row row))
 
-pub receiver_reaches : {T W : Type 0} {xs ys : List Noted} {op : Op} {word : ℕ} {m m' : Held T} {w w' : Held W} → Reaches xs ys word → Finds receiver_moves (receiver_at ys) op word m w m' w' → Reaches xs (ys ++ (op, saw op word) ∷ []) (stepped op word)
-receiver_reaches {xs} {ys} {op} {word} run (finds row _ _) =
-    subst (λ n. Reaches xs (ys ++ (op, saw op word) ∷ []) n) (sym (receiver_word (receiver_at ys) row)) (receiver_makes op run (has_row row))
+  pub receiver_reaches : Reaches xs ys word → Finds receiver_moves (receiver_at ys) op word m w m' w'
+      → Reaches xs (ys ++ (op, saw op word) ∷ []) (stepped op word)
+  receiver_reaches order (finds row _ _) =
+      subst (λ n. Reaches xs (ys ++ (op, saw op word) ∷ []) n) (sym (receiver_word (receiver_at ys) row))
+        (receiver_makes op order (has_row row))

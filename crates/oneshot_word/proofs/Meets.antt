@@ -1,4 +1,4 @@
--- What follows from the rule: the word for each pair of phases, and what each list says.
+-- What follows from the rule by phases: the word for each pair in which the ends can be, and what each log says.
 use Rattle.std.specs.Prelude.{◌≡◌, ℕ, Bool, true, false, List, [], Option, Some, None}
 use Rattle.oneshot_machine.specs.Noted.{Noted}
 use Rattle.oneshot_machine.specs.Phases.{By, sending, dropping, SenderAt, fresh, owes, finished, late, swapped, found_closed, closed_itself, ReceiverAt, first, here, waits, claimed, withdrew, overdue, full, unclosed, disconnected, resolved, gone, ended, swapped_in, word_of}
@@ -55,7 +55,7 @@ pub data Meet (T H K : Type 0) (p : SenderAt) (q : ReceiverAt)
       → Lies Message (message_home p q) h → Lies with_waker (waker_home p q) k
       → Meet T H K p q word h k
 
--- what a list says that is so far
+-- what a receiver's log says in a phase
 abbrev pub stores_of : ReceiverAt → Bool
 stores_of (waits a) = true
 stores_of claimed = true

@@ -61,7 +61,9 @@ told (disconnected found_closed) = refl
 told (resolved found_closed) = refl
 told _ = refl
 
-pub sender_says : {xs : List Noted} {p next : SenderAt} {op : Op} {before after : Slots} (word : ℕ) → SenderSays xs p → In (op, before, word, next, after) (sender_moves p) → SenderSays (xs ++ (op, saw op word) ∷ []) (sender_next p op (saw op word))
+pub sender_says : {xs : List Noted} {p next : SenderAt} {op : Op} {before after : Slots} (word : ℕ)
+    → SenderSays xs p → In (op, before, word, next, after) (sender_moves p)
+    → SenderSays (xs ++ (op, saw op word) ∷ []) (sender_next p op (saw op word))
 sender_says _ says_none head = says_last sending sent
 sender_says _ says_none (tail head) = says_owes sending send_found
 sender_says _ says_none (tail (tail head)) = says_late sending sent_late
@@ -78,10 +80,14 @@ sender_says _ (says_owes _ drop_found) (tail (tail there)) = elim there [ ]
 sender_says _ (says_last _ _) there = elim there [ ]
 sender_says _ (says_late _ _) there = elim there [ ]
 
-adds : (q : ReceiverAt) {next : ReceiverAt} {op : Op} {before after : Slots} (word : ℕ) → In (op, before, word, next, after) (receiver_moves q) → Tells (told_next (told_at q) op (saw op word)) (told_at (receiver_next q op (saw op word)))
+adds : (q : ReceiverAt) {next : ReceiverAt} {op : Op} {before after : Slots} (word : ℕ)
+    → In (op, before, word, next, after) (receiver_moves q)
+    → Tells (told_next (told_at q) op (saw op word)) (told_at (receiver_next q op (saw op word)))
 adds q word row = tells _ _ (each_passes (is_told_by q) (receiver_moves q) (told q) row)
 
-pub receiver_says : {ys : List Noted} (q : ReceiverAt) {next : ReceiverAt} {op : Op} {before after : Slots} (word : ℕ) → In (op, before, word, next, after) (receiver_moves q) → ReceiverSays ys q → ReceiverSays (ys ++ (op, saw op word) ∷ []) (receiver_next q op (saw op word))
+pub receiver_says : {ys : List Noted} (q : ReceiverAt) {next : ReceiverAt} {op : Op} {before after : Slots} (word : ℕ)
+    → In (op, before, word, next, after) (receiver_moves q) → ReceiverSays ys q
+    → ReceiverSays (ys ++ (op, saw op word) ∷ []) (receiver_next q op (saw op word))
 receiver_says {ys} q {op} word found says =
     let more = adds q word found in
     record {

@@ -1,4 +1,4 @@
--- The rule of the table as its steps keep it: both lists are those of a run, and where each slot is.
+-- The rule of the table as its steps keep it: the operations of both ends have an order, and where each slot is.
 use Rattle.std.specs.Prelude.{ℕ, Bool, false, ◌||◌, if◌then◌else◌, List, [], ◌∷◌, Option, Some, None}
 use mathlib.Core.Option as maybe
 use Rattle.oneshot_machine.specs.Noted.{Noted}
@@ -67,5 +67,6 @@ pub data Tied {T H K : Type 0} : List ℕ → List (Home T H K) → List View �
   -- both ends are there: their operations have an order, and each slot is where both phases say
   runs : {w : ℕ} {h k : Home T H K} (xs ys : List Noted)
       → Reaches xs ys w
-      → Lies Message (message_home (sender_at xs) (receiver_at ys)) h → Lies with_waker (waker_home (sender_at xs) (receiver_at ys)) k
+      → Lies Message (message_home (sender_at xs) (receiver_at ys)) h
+      → Lies with_waker (waker_home (sender_at xs) (receiver_at ys)) k
       → Tied (w ∷ []) (h ∷ k ∷ []) (view Sender xs ∷ view Receiver ys ∷ [])

@@ -1,4 +1,4 @@
-//! What the definitions say by examples: the function's contract says it, its body does nothing.
+//! Laws of the definitions: each function's contract is the law, its body nothing.
 
 ghost use Rattle.oneshot_word.specs.Examples.{ListsSay, StatesThatAre, StatesThatAreNot};
 ghost use Rattle.oneshot_word.specs.Ordered.{RuleOrders};
@@ -10,7 +10,8 @@ pub fn examples_are_so<T, H, K>()
     ensures no_states { StatesThatAreNot T H K }
 {}
 
-/// Whatever the table is under its rule, the operations of both ends have an order in which each finds what the one before it left.
+/// Whenever the table keeps its rule, the operations of both ends have an order in which each one finds what
+/// the one before it left.
 pub fn every_state_is_reached<T, H, K>()
     ensures { RuleOrders T H K }
 {}
