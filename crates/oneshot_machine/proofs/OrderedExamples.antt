@@ -18,6 +18,12 @@ waiting = receiver_makes (Swap 0) looked (has_row (tail (tail (tail head))))
 found : Reaches ((Add, Word 0) ∷ []) waits 1
 found = sender_makes Add waiting (has_row (tail head))
 
+sent : Reaches ((Add, Word 3) ∷ []) [] 4
+sent = sender_makes Add nothing_made (has_row head)
+
+gone : Reaches [] ((Swap 2, Word 3) ∷ []) 2
+gone = receiver_makes (Swap 2) nothing_made (has_row (tail (tail (tail head))))
+
 -- the receiver woke too early, and its deadline was over
 woke : Reaches ((Add, Word 0) ∷ []) (waits ++ (Load, Word 1) ∷ []) 1
 woke = receiver_makes Load found (has_row (tail head))
@@ -30,16 +36,13 @@ pub orders_that_are : OrdersThatAre
 orders_that_are =
     record {
       new = nothing_made;
-      received =
-          receiver_makes (Store 2) (receiver_makes Load (sender_makes Add nothing_made (has_row head)) (has_row (tail head)))
-            (has_row head);
+      received = receiver_makes (Store 2) (receiver_makes Load sent (has_row (tail head))) (has_row head);
       waited_for_it = receiver_makes Load (sender_makes (Swap 4) woke (has_row head)) (has_row (tail (tail head)));
       stopped_too_late = sender_makes (Swap 4) stopped (has_row (tail head));
       polled =
           receiver_makes (Exchange 3 0) (sender_makes Xor looked (has_row (tail (tail (tail head)))))
             (has_row (tail (tail (tail (tail (tail (tail (tail (tail head)))))))));
-      sent_too_late =
-          sender_makes Add (receiver_makes (Swap 2) nothing_made (has_row (tail (tail (tail head))))) (has_row (tail (tail head)));
+      sent_too_late = sender_makes Add gone (has_row (tail (tail head)));
     }
 
 begins_at_another_word : Goes fresh first 3 [] [] 0 → ⊥

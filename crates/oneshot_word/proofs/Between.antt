@@ -48,13 +48,15 @@ between nothing_made = is
 between (sender_makes {xs} {ys} {word} op order (has_row row)) =
     let p = sender_at xs in
     let q = receiver_at ys in
-    subst (λ p. Is (word_between p q) (word_after op word)) (sym (phase_from-snoc sender_next fresh xs (op, saw op word)))
+    let after = sym (phase_from-snoc sender_next fresh xs (op, saw op word)) in
+    subst (λ p. Is (word_between p q) (word_after op word)) after
       (subst (λ n. Is (word_between (sender_next p op (saw op word)) q) n) (sender_word p row)
         (sender_leaves p q (between order) row))
 between (receiver_makes {xs} {ys} {word} op order (has_row row)) =
     let p = sender_at xs in
     let q = receiver_at ys in
-    subst (λ q. Is (word_between p q) (word_after op word)) (sym (phase_from-snoc receiver_next first ys (op, saw op word)))
+    let after = sym (phase_from-snoc receiver_next first ys (op, saw op word)) in
+    subst (λ q. Is (word_between p q) (word_after op word)) after
       (subst (λ n. Is (word_between p (receiver_next q op (saw op word))) n) (receiver_word q row)
         (receiver_leaves p q (between order) row))
 

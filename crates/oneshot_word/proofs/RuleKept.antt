@@ -179,7 +179,8 @@ module _ {T H K At : Type 0} (e : OneEnd At) where
         let at' = e.next at op (saw op word) in
         elim (both e.front acted moves moves') [
           | acts act valid homes left ↦
-              turn act valid homes (leaves_so e at op word before leaves) lies lies' (finds there turns turns') (subst (λ c. SeatOf e.front (e.owns at') c m' w') (sym left) (seated slots owned part part')) code
+              turn act valid homes (leaves_so e at op word before leaves) lies lies' (finds there turns turns')
+                (subst (λ c. SeatOf e.front (e.owns at') c m' w') (sym left) (seated slots owned part part')) code
         ]
 
     right : {before : Slots} {o : Option Slots} {cm cw : Carried T H K} {m : Held T} {w : Held (Rouse H K)} → word ≤ 4 → Found (e.moves at) op before word o → is_right e at op before word o ≡ true
@@ -188,7 +189,8 @@ module _ {T H K At : Type 0} (e : OneEnd At) where
     right {before} code (found_row {after = slots} there) fits message waker lies lies' =
         let at' = e.next at op (saw op word) in
         let so = rightly e at op word before slots fits in
-        turned slots code there so.leaves so.owned so.acted (goes 0 Message message slots.0 (e.message at') lies so.of_message)
+        turned slots code there so.leaves so.owned so.acted
+          (goes 0 Message message slots.0 (e.message at') lies so.of_message)
           (goes 1 with_waker waker slots.1 (e.waker at') lies' so.of_waker)
 
     turns_from : {before : Slots} {o : Option ℕ} {owns : Option (Bool × Bool)} {c : Carried T H K} {m : Held T} {w : Held (Rouse H K)} → Is o word → is_kept e at op before o ≡ true

@@ -89,10 +89,11 @@ pub receiver_says : {ys : List Noted} (q : ReceiverAt) {next : ReceiverAt} {op :
     → In (op, before, word, next, after) (receiver_moves q) → ReceiverSays ys q
     → ReceiverSays (ys ++ (op, saw op word) ∷ []) (receiver_next q op (saw op word))
 receiver_says {ys} q {op} word found says =
+    let y : Noted = (op, saw op word) in
     let more = adds q word found in
     record {
-      stores = along-snoc stores_next _ ys (op, saw op word) ∙ ap (λ s. stores_next s op (saw op word)) says.stores ∙ more.stores;
-      overdue = along-snoc overdue_next _ ys (op, saw op word) ∙ ap (λ s. overdue_next s op (saw op word)) says.overdue ∙ more.overdue;
-      gone = along-snoc gone_next _ ys (op, saw op word) ∙ ap (λ s. gone_next s op (saw op word)) says.gone ∙ more.gone;
-      wrote = along-snoc wrote_next _ ys (op, saw op word) ∙ ap (λ s. wrote_next s op (saw op word)) says.wrote ∙ more.wrote;
+      stores = along-snoc stores_next _ ys y ∙ ap (λ s. stores_next s op y.1) says.stores ∙ more.stores;
+      overdue = along-snoc overdue_next _ ys y ∙ ap (λ s. overdue_next s op y.1) says.overdue ∙ more.overdue;
+      gone = along-snoc gone_next _ ys y ∙ ap (λ s. gone_next s op y.1) says.gone ∙ more.gone;
+      wrote = along-snoc wrote_next _ ys y ∙ ap (λ s. wrote_next s op y.1) says.wrote ∙ more.wrote;
     }
