@@ -4,6 +4,7 @@ ghost use Rattle.oneshot_machine.specs.Exact.{SenderIsExact, ReceiverIsExact};
 ghost use Rattle.oneshot_machine.specs.Examples.{SenderLists, ReceiverLists, RunsThatAre, RunsThatAreNot};
 ghost use Rattle.oneshot_machine.specs.FutureExamples.{FutureLists, FutureRuns, FutureRunsThatAreNot};
 ghost use Rattle.oneshot_machine.specs.CountExamples.{CountsThatAre, CountsThatAreNot};
+ghost use Rattle.oneshot_machine.specs.OrderExamples.{OrdersThatAre, OrdersThatAreNot};
 
 /// What the definitions allow an end after its operations on the word is what its table makes.
 pub fn tables_are_exact<T, W>()
@@ -11,8 +12,8 @@ pub fn tables_are_exact<T, W>()
     ensures receiver { ReceiverIsExact T W }
 {}
 
-/// Which lists and runs the definitions take for an end's, and how many operations they count, by
-/// examples.
+/// Which lists and runs the definitions take for an end's, how many operations they count, and which lists of
+/// both ends have an order, by examples.
 pub fn examples_are_so()
     ensures senders { SenderLists }
     ensures receivers { ReceiverLists }
@@ -23,4 +24,6 @@ pub fn examples_are_so()
     ensures no_future_runs { FutureRunsThatAreNot }
     ensures counts { CountsThatAre }
     ensures no_counts { CountsThatAreNot }
+    ensures orders { OrdersThatAre }
+    ensures no_orders { OrdersThatAreNot }
 {}

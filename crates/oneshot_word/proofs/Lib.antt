@@ -1,8 +1,10 @@
 pub mod Alike
+pub mod Meets
 pub mod Says
 pub mod FoundRow
 pub mod SlotMoves
 pub mod RuleKept
+pub mod Between
 pub mod Sits
 pub mod EachStep
 pub mod Opens

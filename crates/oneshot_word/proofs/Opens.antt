@@ -2,11 +2,12 @@
 use Rattle.std.proofs.Common.{◌≡◌, ℕ, List, [], ◌∷◌, ◌++◌, get_or, set, refl, sym, ap, ◌∙◌, subst}
 use mathlib.Core.Option as maybe
 use Rattle.atomic_table.specs.Table.{Me, Act, takes, Valid, Allows, Splits, homes_after, carried_after}
+use Rattle.oneshot_machine.specs.Orders.{nothing_made}
 use Rattle.oneshot_word.specs.declared.rule.Role.TheVariants.{Maker, Dealer, Sender, Receiver}
 use Rattle.oneshot_word.specs.declared.rule.Slot.{Slot}
 use Rattle.oneshot_word.specs.declared.rule.Slot.TheVariants.{Empty}
 use Rattle.oneshot_word.specs.declared.rule.View.{View}
-use Rattle.oneshot_word.specs.Rule.{Home, is, lies_out, lies_bare, meet, says_none, Tied, dealt, runs}
+use Rattle.oneshot_word.specs.Rule.{Home, lies_out, lies_bare, Tied, dealt, runs}
 use Rattle.oneshot_word.specs.Seats.{view, slot_vacant, carried, not_carried, seat_of, SenderSeat, ReceiverSeat}
 use Rattle.oneshot_word.proofs.Sits.{Sits, maker_sits, dealer_sits, sits}
 use Rattle.oneshot_word.proofs.EachStep.{Holds}
@@ -26,7 +27,7 @@ module _ {T H K : Type 0} where
 
   -- its seat is cut into the sender's and the receiver's
   splits : {ws : List ℕ} {hs : List (Home T H K)} {vs : List View} {id : ℕ} → Sits ws hs vs id Dealer [] → Tied ws hs (set vs id (view Sender []) ++ view Receiver [] ∷ [])
-  splits dealer_sits = runs [] [] says_none (record { stores = refl; overdue = refl; gone = refl; wrote = refl }) (meet is lies_out lies_bare)
+  splits dealer_sits = runs [] [] nothing_made lies_out lies_bare
 
   pub split_allowed : (id : ℕ) (v : View) → v ≡ view Dealer [] → Splits (Holds {T = T} {H = H} {K = K}) id v (view Sender []) (view Receiver [])
   split_allowed id v it s tied at = splits (sits tied id (at ∙ ap (λ x. maybe.some x) it))

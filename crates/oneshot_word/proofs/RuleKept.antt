@@ -16,10 +16,11 @@ use Rattle.oneshot_word.specs.declared.rouse.Rouse.{Rouse}
 use Rattle.oneshot_word.specs.declared.rule.Slot.{Slot}
 use Rattle.oneshot_word.specs.declared.rule.Slot.TheVariants.{Message}
 use Rattle.oneshot_word.specs.Seats.{with_waker, Carried, Part, Front, message_first, waker_first, carried_as, SeatOf, seat_of}
-use Rattle.oneshot_word.specs.Rule.{Home, word_between, message_home, waker_home, Lies, Is, is, Meet, meet}
+use Rattle.oneshot_word.specs.Rule.{Home, message_home, waker_home, Lies}
 use Rattle.oneshot_word.proofs.Alike.{is_bool, bools_are, is_word, words_are}
 use Rattle.oneshot_word.proofs.FoundRow.{row_of, Found, found_none, found_row, found}
 use Rattle.oneshot_word.proofs.SlotMoves.{is_owned, is_turn, Carries, carries, Went, went, goes, is_act, acts, both}
+use Rattle.oneshot_word.proofs.Meets.{word_between, Is, is, Meet, meet}
 
 -- the word that a step on the table leaves
 abbrev pub stepped : Op → ℕ → ℕ
@@ -103,6 +104,59 @@ module _ {At : Type 0} (e : OneEnd At) where
   abbrev keeps_rule : At → Bool
   keeps_rule at = list_all (λ (row : Row At). is_kept at row.0 row.1 (e.word at)) (e.moves at)
 
+module _ {At : Type 0} (e : OneEnd At) (at : At) (op : Op) (word : ℕ) where
+  -- the rule's word after an operation that found this word
+  abbrev Leaves : Type 0
+  Leaves = Is (e.word (e.next at op (saw op word))) (stepped op word)
+
+  module _ (before : Slots) where
+    -- what is computed, part by part
+    record Rightly (slots : Slots) : Type 0 where
+      leaves : leaves_word e at op before word ≡ true
+      of_message : turns_message e at op before word slots ≡ true
+      of_waker : turns_waker e at op before word slots ≡ true
+      owned : is_slots (e.owns (after e at op before word)) slots ≡ true
+      acted : has_act e at op before word slots ≡ true
+
+    rightly : (slots : Slots) → is_right e at op before word (Some slots) ≡ true → Rightly slots
+    rightly slots fits =
+        let of_message = turns_message e at op before word slots in
+        let of_waker = turns_waker e at op before word slots in
+        let owned = is_slots (e.owns (after e at op before word)) slots in
+        let acted = has_act e at op before word slots in
+        let leaves = leaves_word e at op before word in
+        let acts_so = and_parts (leaves && of_message && of_waker && owned) acted fits in
+        let owns_so = and_parts (leaves && of_message && of_waker) owned acts_so.0 in
+        let waker_so = and_parts (leaves && of_message) of_waker owns_so.0 in
+        let message_so = and_parts leaves of_message waker_so.0 in
+        record {
+          leaves = message_so.0;
+          of_message = message_so.1;
+          of_waker = waker_so.1;
+          owned = owns_so.1;
+          acted = acts_so.1;
+        }
+
+    leaves_so : leaves_word e at op before word ≡ true → Leaves
+    leaves_so leaves =
+        let word' = e.word (e.next at op (saw op word)) in
+        subst (λ o. Is o (stepped op word)) (sym (words_are word' (Some (stepped op word)) leaves)) is
+
+    leaves_by : (o : Option Slots) → is_right e at op before word o ≡ true → Leaves
+    leaves_by None fits = absurd (cc)
+    leaves_by (Some slots) fits = leaves_so (rightly slots fits).leaves
+
+    leaves_from : {o : Option ℕ} → Is o word → is_kept e at op before o ≡ true → Leaves
+    leaves_from is kept =
+        let o = row_of (e.moves at) op before word in
+        leaves_by o (and_parts (leb word 4) (is_right e at op before word o) kept).1
+
+  keeps_word : {next : At} {before after : Slots} {found : ℕ} → keeps_rule e at ≡ true → Is (e.word at) word
+      → In (op, before, found, next, after) (e.moves at) → Leaves
+  keeps_word {before} all number row =
+      let kept : Row At → Bool = λ row. is_kept e at row.0 row.1 (e.word at) in
+      leaves_from before number (each_passes kept (e.moves at) all row)
+
 module _ {T H K At : Type 0} (e : OneEnd At) where
   -- both parts of what its seat carries
   seated : {o : Option (Bool × Bool)} (after : Slots) {cm cw : Carried T H K} {m : Held T} {w : Held (Rouse H K)} → is_slots o after ≡ true → Part 0 Message (is_owned after.0) cm m → Part 1 with_waker (is_owned after.1) cw w → SeatOf e.front o (carried_as e.front cm cw) m w
@@ -121,11 +175,12 @@ module _ {T H K At : Type 0} (e : OneEnd At) where
     turned : {before : Slots} (slots : Slots) {at' : At} {cm cw : Carried T H K} {m : Held T} {w : Held (Rouse H K)} → word ≤ 4 → In (op, before, word, at', slots) (e.moves at)
         → leaves_word e at op before word ≡ true → is_slots (e.owns (after e at op before word)) slots ≡ true → has_act e at op before word slots ≡ true
         → Went 0 Message before.0 slots.0 (e.message (after e at op before word)) h cm m → Went 1 with_waker before.1 slots.1 (e.waker (after e at op before word)) k cw w → Turn at op word h k (carried_as e.front cm cw) m w
-    turned slots code there leaves owned acted (went {x' = m'} turns moves part lies) (went {x' = w'} turns' moves' part' lies') =
+    turned {before} slots code there leaves owned acted (went {x' = m'} turns moves part lies) (went {x' = w'} turns' moves' part' lies') =
         let at' = e.next at op (saw op word) in
         elim (both e.front acted moves moves') [
           | acts act valid homes left ↦
-              turn act valid homes (subst (λ o. Is o (stepped op word)) (sym (words_are (e.word at') (Some (stepped op word)) leaves)) is) lies lies' (finds there turns turns') (subst (λ c. SeatOf e.front (e.owns at') c m' w') (sym left) (seated slots owned part part')) code
+              turn act valid homes (leaves_so e at op word before leaves) lies lies' (finds there turns turns')
+                (subst (λ c. SeatOf e.front (e.owns at') c m' w') (sym left) (seated slots owned part part')) code
         ]
 
     right : {before : Slots} {o : Option Slots} {cm cw : Carried T H K} {m : Held T} {w : Held (Rouse H K)} → word ≤ 4 → Found (e.moves at) op before word o → is_right e at op before word o ≡ true
@@ -133,16 +188,10 @@ module _ {T H K At : Type 0} (e : OneEnd At) where
     right code found_none fits message waker lies lies' = absurd (cc)
     right {before} code (found_row {after = slots} there) fits message waker lies lies' =
         let at' = e.next at op (saw op word) in
-        let of_message = turns_message e at op before word slots in
-        let of_waker = turns_waker e at op before word slots in
-        let owned = is_slots (e.owns at') slots in
-        let acted = has_act e at op before word slots in
-        let leaves = leaves_word e at op before word in
-        let acts_so = and_parts (leaves && of_message && of_waker && owned) acted fits in
-        let owns_so = and_parts (leaves && of_message && of_waker) owned acts_so.0 in
-        let waker_so = and_parts (leaves && of_message) of_waker owns_so.0 in
-        let message_so = and_parts leaves of_message waker_so.0 in
-        turned slots code there message_so.0 owns_so.1 acts_so.1 (goes 0 Message message slots.0 (e.message at') lies message_so.1) (goes 1 with_waker waker slots.1 (e.waker at') lies' waker_so.1)
+        let so = rightly e at op word before slots fits in
+        turned slots code there so.leaves so.owned so.acted
+          (goes 0 Message message slots.0 (e.message at') lies so.of_message)
+          (goes 1 with_waker waker slots.1 (e.waker at') lies' so.of_waker)
 
     turns_from : {before : Slots} {o : Option ℕ} {owns : Option (Bool × Bool)} {c : Carried T H K} {m : Held T} {w : Held (Rouse H K)} → Is o word → is_kept e at op before o ≡ true
         → IsSlot before.0 m → IsSlot before.1 w → SeatOf e.front owns c m w → Lies Message (e.message at) h → Lies with_waker (e.waker at) k → Turn at op word h k c m w
@@ -201,3 +250,16 @@ module _ {T H K : Type 0} {p : SenderAt} {q : ReceiverAt} {op : Op} {word : ℕ}
 
   pub receiver_turns : ReceiverMay q op m w → SeatOf message_first (receiver_owns q) c m w → Meet T H K p q word h k → Turn (receiver_end p) q op word h k c m w
   receiver_turns asks seat (meet now lies lies') = keeps_turn (receiver_end p) q op word (each_passes (λ p. keeps_rule (receiver_end p) q) senders (receiver_keeps q) (is_sender p)) asks seat now lies lies'
+
+module _ (p : SenderAt) (q : ReceiverAt) {op : Op} {before after : Slots} {word : ℕ} where
+  pub sender_leaves : {next : SenderAt} → Is (word_between p q) word
+      → In (op, before, word, next, after) (sender_moves p)
+      → Is (word_between (sender_next p op (saw op word)) q) (stepped op word)
+  sender_leaves = keeps_word (sender_end q) p op word (sender_keeps p q)
+
+  pub receiver_leaves : {next : ReceiverAt} → Is (word_between p q) word
+      → In (op, before, word, next, after) (receiver_moves q)
+      → Is (word_between p (receiver_next q op (saw op word))) (stepped op word)
+  receiver_leaves =
+      keeps_word (receiver_end p) q op word
+        (each_passes (λ p. keeps_rule (receiver_end p) q) senders (receiver_keeps q) (is_sender p))

@@ -6,9 +6,12 @@ use Rattle.oneshot_machine.specs.Slots.{Held, IsOwned, not_its_own, own_vacant, 
 use Rattle.oneshot_word.specs.declared.rouse.Rouse.{Rouse}
 use Rattle.oneshot_word.specs.declared.rule.Slot.{Slot}
 use Rattle.oneshot_word.specs.declared.rule.View.{View}
+use Rattle.oneshot_word.specs.Ordered.{Ordered, maker_before, dealer_before, in_order}
 use Rattle.oneshot_word.specs.ReadRule.{sender_has_it, left_for_sender, receiver_has_it, left_for_receiver, receiver_found_it, waits_for_receiver, waker_at_home, Owned, both_open, waker_stored, waker_claimed, claimed_overdue, receiver_gone, sender_after, sent, dropped, written, Ruled, maker_alone, dealer_alone, two_ends}
-use Rattle.oneshot_word.specs.Rule.{Home, lies_out, lies_bare, lies_filled, is, Meet, meet, SenderSays, says_none, says_owes, says_last, says_late, ReceiverSays, Tied, opened, dealt, runs}
+use Rattle.oneshot_word.specs.Rule.{Home, lies_out, lies_bare, lies_filled, Tied, opened, dealt, runs}
 use Rattle.oneshot_word.specs.Seats.{Carried, slot_vacant, slot_held, Part, not_carried, carried, Front, SeatOf, seat_of}
+use Rattle.oneshot_word.proofs.Between.{between, sender_told, receiver_told}
+use Rattle.oneshot_word.proofs.Meets.{is, Meet, meet, SenderSays, says_none, says_owes, says_last, says_late, ReceiverSays}
 
 module _ {T H K : Type 0} where
   pair_reads : {xs ys : List Noted} {p : SenderAt} {w : ℕ} {h k : Home T H K} → SenderSays xs p → (q : ReceiverAt) → ReceiverSays ys q → Meet T H K p q w h k → Owned xs ys w h k
@@ -52,7 +55,15 @@ module _ {T H K : Type 0} where
   pub rule_reads : (words : List ℕ) (homes : List (Home T H K)) (views : List View) → Tied words homes views → Ruled words homes views
   rule_reads _ _ _ opened = maker_alone
   rule_reads _ _ _ dealt = dealer_alone
-  rule_reads _ _ _ (runs xs ys s r now) = two_ends xs ys (pair_reads s _ r now)
+  rule_reads _ _ _ (runs xs ys order lies lies') =
+      two_ends xs ys (pair_reads (sender_told order) _ (receiver_told order) (meet (between order) lies lies'))
+
+  -- and both logs have their order
+  pub rule_orders : (words : List ℕ) (homes : List (Home T H K)) (views : List View)
+      → Tied words homes views → Ordered words views
+  rule_orders _ _ _ opened = maker_before
+  rule_orders _ _ _ dealt = dealer_before
+  rule_orders _ _ _ (runs xs ys order lies lies') = in_order xs ys order
 
   is_own : {X : Type 0} {place : ℕ} {put : X → Slot T H K} {b : Bool} {c : Carried T H K} {x : Held X} → Part place put b c x → IsOwned b x
   is_own not_carried = not_its_own

@@ -5,13 +5,12 @@ use Rattle.std.proofs.lemmas.Bool.{and_parts}
 use Rattle.oneshot_machine.specs.declared.machine.Seen.{Seen}
 use Rattle.oneshot_machine.specs.declared.states.Op.{Op}
 use Rattle.oneshot_machine.specs.Noted.{Noted, saw}
-use Rattle.oneshot_machine.specs.Phases.{sending, dropping, SenderAt, sender_next, Row, looked, blocked, storing, swapped, found_closed, ReceiverAt, here, waits, full, unclosed, disconnected, resolved, receiver_moves, receiver_next}
-use Rattle.oneshot_machine.specs.Slots.{Held, head, tail, finds, SenderFinds, ReceiverFinds}
+use Rattle.oneshot_machine.specs.Phases.{sending, dropping, SenderAt, sender_moves, sender_next, Slots, Row, looked, blocked, storing, swapped, found_closed, ReceiverAt, here, waits, full, unclosed, disconnected, resolved, receiver_moves, receiver_next}
+use Rattle.oneshot_machine.specs.Slots.{In, head, tail}
 use Rattle.oneshot_machine.proofs.Exactness.{each_passes}
-use Rattle.oneshot_word.specs.declared.rouse.Rouse.{Rouse}
 use Rattle.oneshot_word.specs.Lists.{send_found, drop_found, sent, sent_to_it, sent_to_overdue, dropped, dropped_before_it, dropped_before_overdue, sent_late, dropped_late, along, stores_next, overdue_next, gone_next, wrote_next}
-use Rattle.oneshot_word.specs.Rule.{stores_of, overdue_of, gone_of, wrote_of, SenderSays, says_none, says_owes, says_last, says_late, ReceiverSays}
 use Rattle.oneshot_word.proofs.Alike.{is_bool, bools_are, is_word, words_are}
+use Rattle.oneshot_word.proofs.Meets.{stores_of, overdue_of, gone_of, wrote_of, SenderSays, says_none, says_owes, says_last, says_late, ReceiverSays}
 
 along-snoc : {A : Type 0} (next : A → Op → Seen → A) (a : A) (xs : List Noted) (x : Noted) → along next a (xs ++ x ∷ []) ≡ next (along next a xs) x.0 x.1
 along-snoc next a [] x = refl
@@ -62,33 +61,39 @@ told (disconnected found_closed) = refl
 told (resolved found_closed) = refl
 told _ = refl
 
-module _ {T H K : Type 0} where
-  pub sender_says : {xs : List Noted} {p : SenderAt} {op : Op} {m m' : Held T} {w w' : Held (Rouse H K)} (word : ℕ) → SenderSays xs p → SenderFinds p op word m w m' w' → SenderSays (xs ++ (op, saw op word) ∷ []) (sender_next p op (saw op word))
-  sender_says _ says_none (finds head _ _) = says_last sending sent
-  sender_says _ says_none (finds (tail head) _ _) = says_owes sending send_found
-  sender_says _ says_none (finds (tail (tail head)) _ _) = says_late sending sent_late
-  sender_says _ says_none (finds (tail (tail (tail head))) _ _) = says_last dropping dropped
-  sender_says _ says_none (finds (tail (tail (tail (tail head)))) _ _) = says_owes dropping drop_found
-  sender_says _ says_none (finds (tail (tail (tail (tail (tail head))))) _ _) = says_late dropping dropped_late
-  sender_says _ (says_owes _ send_found) (finds head _ _) = says_last sending sent_to_it
-  sender_says _ (says_owes _ send_found) (finds (tail head) _ _) = says_last sending sent_to_overdue
-  sender_says _ (says_owes _ drop_found) (finds head _ _) = says_last dropping dropped_before_it
-  sender_says _ (says_owes _ drop_found) (finds (tail head) _ _) = says_last dropping dropped_before_overdue
-  sender_says _ says_none (finds (tail (tail (tail (tail (tail (tail there)))))) _ _) = elim there [ ]
-  sender_says _ (says_owes _ send_found) (finds (tail (tail there)) _ _) = elim there [ ]
-  sender_says _ (says_owes _ drop_found) (finds (tail (tail there)) _ _) = elim there [ ]
-  sender_says _ (says_last _ _) (finds there _ _) = elim there [ ]
-  sender_says _ (says_late _ _) (finds there _ _) = elim there [ ]
+pub sender_says : {xs : List Noted} {p next : SenderAt} {op : Op} {before after : Slots} (word : ℕ)
+    → SenderSays xs p → In (op, before, word, next, after) (sender_moves p)
+    → SenderSays (xs ++ (op, saw op word) ∷ []) (sender_next p op (saw op word))
+sender_says _ says_none head = says_last sending sent
+sender_says _ says_none (tail head) = says_owes sending send_found
+sender_says _ says_none (tail (tail head)) = says_late sending sent_late
+sender_says _ says_none (tail (tail (tail head))) = says_last dropping dropped
+sender_says _ says_none (tail (tail (tail (tail head)))) = says_owes dropping drop_found
+sender_says _ says_none (tail (tail (tail (tail (tail head))))) = says_late dropping dropped_late
+sender_says _ (says_owes _ send_found) head = says_last sending sent_to_it
+sender_says _ (says_owes _ send_found) (tail head) = says_last sending sent_to_overdue
+sender_says _ (says_owes _ drop_found) head = says_last dropping dropped_before_it
+sender_says _ (says_owes _ drop_found) (tail head) = says_last dropping dropped_before_overdue
+sender_says _ says_none (tail (tail (tail (tail (tail (tail there)))))) = elim there [ ]
+sender_says _ (says_owes _ send_found) (tail (tail there)) = elim there [ ]
+sender_says _ (says_owes _ drop_found) (tail (tail there)) = elim there [ ]
+sender_says _ (says_last _ _) there = elim there [ ]
+sender_says _ (says_late _ _) there = elim there [ ]
 
-  adds : {q : ReceiverAt} {op : Op} {m m' : Held T} {w w' : Held (Rouse H K)} (word : ℕ) → ReceiverFinds q op word m w m' w' → Tells (told_next (told_at q) op (saw op word)) (told_at (receiver_next q op (saw op word)))
-  adds {q} word (finds row _ _) = tells _ _ (each_passes (is_told_by q) (receiver_moves q) (told q) row)
+adds : (q : ReceiverAt) {next : ReceiverAt} {op : Op} {before after : Slots} (word : ℕ)
+    → In (op, before, word, next, after) (receiver_moves q)
+    → Tells (told_next (told_at q) op (saw op word)) (told_at (receiver_next q op (saw op word)))
+adds q word row = tells _ _ (each_passes (is_told_by q) (receiver_moves q) (told q) row)
 
-  pub receiver_says : {ys : List Noted} {q : ReceiverAt} {op : Op} {m m' : Held T} {w w' : Held (Rouse H K)} (word : ℕ) → ReceiverFinds q op word m w m' w' → ReceiverSays ys q → ReceiverSays (ys ++ (op, saw op word) ∷ []) (receiver_next q op (saw op word))
-  receiver_says {ys} {op} word found says =
-      let more = adds word found in
-      record {
-        stores = along-snoc stores_next _ ys (op, saw op word) ∙ ap (λ s. stores_next s op (saw op word)) says.stores ∙ more.stores;
-        overdue = along-snoc overdue_next _ ys (op, saw op word) ∙ ap (λ s. overdue_next s op (saw op word)) says.overdue ∙ more.overdue;
-        gone = along-snoc gone_next _ ys (op, saw op word) ∙ ap (λ s. gone_next s op (saw op word)) says.gone ∙ more.gone;
-        wrote = along-snoc wrote_next _ ys (op, saw op word) ∙ ap (λ s. wrote_next s op (saw op word)) says.wrote ∙ more.wrote;
-      }
+pub receiver_says : {ys : List Noted} (q : ReceiverAt) {next : ReceiverAt} {op : Op} {before after : Slots} (word : ℕ)
+    → In (op, before, word, next, after) (receiver_moves q) → ReceiverSays ys q
+    → ReceiverSays (ys ++ (op, saw op word) ∷ []) (receiver_next q op (saw op word))
+receiver_says {ys} q {op} word found says =
+    let y : Noted = (op, saw op word) in
+    let more = adds q word found in
+    record {
+      stores = along-snoc stores_next _ ys y ∙ ap (λ s. stores_next s op y.1) says.stores ∙ more.stores;
+      overdue = along-snoc overdue_next _ ys y ∙ ap (λ s. overdue_next s op y.1) says.overdue ∙ more.overdue;
+      gone = along-snoc gone_next _ ys y ∙ ap (λ s. gone_next s op y.1) says.gone ∙ more.gone;
+      wrote = along-snoc wrote_next _ ys y ∙ ap (λ s. wrote_next s op y.1) says.wrote ∙ more.wrote;
+    }

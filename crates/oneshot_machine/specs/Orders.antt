@@ -1,0 +1,24 @@
+-- The order of both ends' operations: in it each operation finds the word that the one before it left.
+use Rattle.std.specs.Prelude.{ℕ, List, [], ◌∷◌, ◌++◌}
+use Rattle.oneshot_machine.specs.declared.states.Op.{Op}
+use Rattle.oneshot_machine.specs.Noted.{Noted, saw}
+use Rattle.oneshot_machine.specs.Phases.{sender_at, sender_moves, receiver_at, receiver_moves, Slots, Row}
+use Rattle.oneshot_machine.specs.Slots.{In}
+use Rattle.oneshot_machine.specs.States.{word_after}
+
+-- these rows have the operation, where it finds this word
+pub data HasRow {At : Type 0} (rows : List (Row At)) (op : Op) (word : ℕ) : Type 0 where
+  has_row : {before after : Slots} {next : At}
+      → In (op, before, word, next, after) rows → HasRow rows op word
+
+-- The sender's log, the receiver's, and the word that they leave: the operations of both have an order.
+pub data Reaches : List Noted → List Noted → ℕ → Type 0 where
+  -- a new channel is empty
+  nothing_made : Reaches [] [] 3
+  -- an end whose phase has a row for the word makes one operation more, and notes what it saw
+  sender_makes : {xs ys : List Noted} {word : ℕ} (op : Op)
+      → Reaches xs ys word → HasRow (sender_moves (sender_at xs)) op word
+      → Reaches (xs ++ (op, saw op word) ∷ []) ys (word_after op word)
+  receiver_makes : {xs ys : List Noted} {word : ℕ} (op : Op)
+      → Reaches xs ys word → HasRow (receiver_moves (receiver_at ys)) op word
+      → Reaches xs (ys ++ (op, saw op word) ∷ []) (word_after op word)

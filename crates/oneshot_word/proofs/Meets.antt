@@ -1,0 +1,91 @@
+-- What follows from the rule by phases: the word for each pair in which the ends can be, and what each log says.
+use Rattle.std.specs.Prelude.{◌≡◌, ℕ, Bool, true, false, List, [], Option, Some, None}
+use Rattle.oneshot_machine.specs.Noted.{Noted}
+use Rattle.oneshot_machine.specs.Phases.{By, sending, dropping, SenderAt, fresh, owes, finished, late, swapped, found_closed, closed_itself, ReceiverAt, first, here, waits, claimed, withdrew, overdue, full, unclosed, disconnected, resolved, gone, ended, swapped_in, word_of}
+use Rattle.oneshot_word.specs.declared.rule.Slot.TheVariants.{Message}
+use Rattle.oneshot_word.specs.Lists.{FoundZero, MadeLast, MadeLate, stores_waker, is_overdue, is_gone, wrote_since}
+use Rattle.oneshot_word.specs.Rule.{Home, message_home, waker_home, Lies}
+use Rattle.oneshot_word.specs.Seats.{with_waker}
+
+-- the sender's last word, where the receiver was here
+abbrev pub final_word : By → ℕ
+final_word sending = 4
+final_word dropping = 2
+
+-- The word while both ends are so far. There is none where they never are.
+abbrev pub word_between : SenderAt → ReceiverAt → Option ℕ
+-- the sender has made no operation
+word_between fresh first = Some 3
+word_between fresh (here open_at) = Some 3
+word_between fresh (waits waiting) = Some 0
+word_between fresh withdrew = Some 3
+word_between fresh gone = Some 2
+-- it found 0, and its final swap is to come
+word_between (owes by) (waits waiting) = Some 1
+word_between (owes by) claimed = Some 1
+word_between (owes by) overdue = Some 3
+-- its last operation found 2
+word_between (late by) gone = Some 3
+-- its last operation is made, and the receiver has made none since
+word_between (finished by) first = Some (final_word by)
+word_between (finished by) (here open_at) = Some (final_word by)
+word_between (finished by) (waits waiting) = Some (final_word by)
+word_between (finished by) claimed = Some (final_word by)
+word_between (finished by) withdrew = Some (final_word by)
+word_between (finished by) overdue = Some (final_word by)
+-- the receiver has made one since
+word_between (finished sending) (full got) = Some (word_of got)
+word_between (finished dropping) (unclosed swapping) = Some (swapped_in swapping)
+word_between (finished dropping) (disconnected found_closed) = Some 2
+word_between (finished dropping) (resolved found_closed) = Some 2
+word_between (finished by) (disconnected closed_itself) = Some 2
+word_between (finished by) (resolved closed_itself) = Some 2
+word_between (finished by) ended = Some 2
+-- never
+word_between _ _ = None
+
+-- the number that is there
+pub data Is : Option ℕ → ℕ → Type 0 where
+  is : {word : ℕ} → Is (Some word) word
+
+-- the sender, the receiver, the word, and what is at home of the message's slot and of the waker's
+pub data Meet (T H K : Type 0) (p : SenderAt) (q : ReceiverAt)
+    : ℕ → Home T H K → Home T H K → Type 0 where
+  meet : {word : ℕ} {h k : Home T H K} → Is (word_between p q) word
+      → Lies Message (message_home p q) h → Lies with_waker (waker_home p q) k
+      → Meet T H K p q word h k
+
+-- what a receiver's log says in a phase
+abbrev pub stores_of : ReceiverAt → Bool
+stores_of (waits a) = true
+stores_of claimed = true
+stores_of _ = false
+
+abbrev pub overdue_of : ReceiverAt → Bool
+overdue_of overdue = true
+overdue_of _ = false
+
+abbrev pub gone_of : ReceiverAt → Bool
+gone_of gone = true
+gone_of ended = true
+gone_of _ = false
+
+abbrev pub wrote_of : ReceiverAt → Option ℕ
+wrote_of (full (swapped by)) = Some (swapped_in by)
+wrote_of (unclosed by) = Some (swapped_in by)
+wrote_of (disconnected closed_itself) = Some 2
+wrote_of (resolved closed_itself) = Some 2
+wrote_of ended = Some 2
+wrote_of _ = None
+
+pub data SenderSays : List Noted → SenderAt → Type 0 where
+  says_none : SenderSays [] fresh
+  says_owes : {xs : List Noted} (by : By) → FoundZero by xs → SenderSays xs (owes by)
+  says_last : {xs : List Noted} (by : By) → MadeLast by xs → SenderSays xs (finished by)
+  says_late : {xs : List Noted} (by : By) → MadeLate by 3 xs → SenderSays xs (late by)
+
+pub record ReceiverSays (ys : List Noted) (q : ReceiverAt) : Type 0 where
+  pub stores : stores_waker ys ≡ stores_of q
+  pub overdue : is_overdue ys ≡ overdue_of q
+  pub gone : is_gone ys ≡ gone_of q
+  pub wrote : wrote_since ys ≡ wrote_of q

@@ -1,0 +1,22 @@
+-- What the rule says of both logs: their operations have an order in which each finds what the one before it left.
+use Rattle.std.specs.Prelude.{ℕ, List, [], ◌∷◌}
+use Rattle.oneshot_machine.specs.Noted.{Noted}
+use Rattle.oneshot_machine.specs.Orders.{Reaches}
+use Rattle.oneshot_word.specs.declared.rule.Role.TheVariants.{Maker, Dealer, Sender, Receiver}
+use Rattle.oneshot_word.specs.declared.rule.View.{View}
+use Rattle.oneshot_word.specs.Rule.{Home, Tied}
+use Rattle.oneshot_word.specs.Seats.{view}
+
+-- the words and the views of all seats
+pub data Ordered : List ℕ → List View → Type 0 where
+  -- before there are ends
+  maker_before : Ordered (3 ∷ []) (view Maker [] ∷ [])
+  dealer_before : Ordered (3 ∷ []) (view Dealer [] ∷ [])
+  -- and then always
+  in_order : {word : ℕ} (xs ys : List Noted) → Reaches xs ys word
+      → Ordered (word ∷ []) (view Sender xs ∷ view Receiver ys ∷ [])
+
+-- Whatever the table is under its rule, the operations of both ends have an order.
+abbrev pub RuleOrders : (T H K : Type 0) → Type 0
+RuleOrders T H K =
+    (words : List ℕ) (homes : List (Home T H K)) (views : List View) → Tied words homes views → Ordered words views
