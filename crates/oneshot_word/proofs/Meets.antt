@@ -1,13 +1,13 @@
 -- What follows from the rule by phases: the word for each pair in which the ends can be, and what each log says.
 use Rattle.std.specs.Prelude.{◌≡◌, ℕ, Bool, true, false, List, [], Option, Some, None}
 use Rattle.oneshot_machine.specs.Noted.{Noted}
-use Rattle.oneshot_machine.specs.Phases.{By, sending, dropping, SenderAt, fresh, owes, finished, late, swapped, found_closed, closed_itself, ReceiverAt, first, here, waits, claimed, withdrew, overdue, full, unclosed, disconnected, resolved, gone, ended, swapped_in, word_of}
+use Rattle.oneshot_machine.specs.Phases.{By, sending, dropping, SenderAt, fresh, owes, finished, late, overtaken, swapped, found_closed, closed_itself, ReceiverAt, first, here, waits, claimed, withdrew, overdue, full, unclosed, disconnected, resolved, gone, ended, swapped_in, word_of}
 use Rattle.oneshot_word.specs.declared.rule.Slot.TheVariants.{Message}
 use Rattle.oneshot_word.specs.Lists.{FoundZero, MadeLast, MadeLate, stores_waker, is_overdue, is_gone, wrote_since}
 use Rattle.oneshot_word.specs.Rule.{Home, message_home, waker_home, Lies}
 use Rattle.oneshot_word.specs.Seats.{with_waker}
 
--- the sender's last word, where the receiver was here
+-- the word that the sender's final operation leaves, but for an add or a flip that found the receiver gone
 abbrev pub final_word : By → ℕ
 final_word sending = 4
 final_word dropping = 2
@@ -24,8 +24,10 @@ word_between fresh gone = Some 2
 word_between (owes by) (waits waiting) = Some 1
 word_between (owes by) claimed = Some 1
 word_between (owes by) overdue = Some 3
+word_between (owes by) gone = Some 2
 -- its last operation found 2
 word_between (late by) gone = Some 3
+word_between (overtaken by) gone = Some (final_word by)
 -- its last operation is made, and the receiver has made none since
 word_between (finished by) first = Some (final_word by)
 word_between (finished by) (here open_at) = Some (final_word by)
@@ -83,6 +85,7 @@ pub data SenderSays : List Noted → SenderAt → Type 0 where
   says_owes : {xs : List Noted} (by : By) → FoundZero by xs → SenderSays xs (owes by)
   says_last : {xs : List Noted} (by : By) → MadeLast by xs → SenderSays xs (finished by)
   says_late : {xs : List Noted} (by : By) → MadeLate by 3 xs → SenderSays xs (late by)
+  says_overtaken : {xs : List Noted} (by : By) → MadeLate by (final_word by) xs → SenderSays xs (overtaken by)
 
 pub record ReceiverSays (ys : List Noted) (q : ReceiverAt) : Type 0 where
   pub stores : stores_waker ys ≡ stores_of q

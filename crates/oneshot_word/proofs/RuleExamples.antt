@@ -5,10 +5,10 @@ use Rattle.oneshot_machine.specs.declared.states.Op.TheVariants.{Add}
 use Rattle.oneshot_machine.specs.Phases.{sending}
 use Rattle.oneshot_word.specs.declared.rouse.Rouse.{Rouse}
 use Rattle.oneshot_word.specs.declared.rouse.Rouse.TheVariants as R
-use Rattle.oneshot_word.specs.Examples.{waits, stopped_over, polled, polled_over, exchanged_back, claims, sent_over, dropped_over, StatesThatAre, StatesThatAreNot}
-use Rattle.oneshot_word.specs.Lists.{send_found, sent as sent_alone, sent_to_it, sent_to_overdue, dropped_before_overdue}
+use Rattle.oneshot_word.specs.Examples.{waits, stopped_over, polled, polled_over, exchanged_back, left_meanwhile, claims, sent_over, dropped_over, StatesThatAre, StatesThatAreNot}
+use Rattle.oneshot_word.specs.Lists.{send_found, sent as sent_alone, sent_to_it, sent_to_overdue, dropped_before_overdue, sent_overtaken, dropped_overtaken}
 use Rattle.oneshot_word.specs.Rule.{Home, out, bare, has_waker}
-use Rattle.oneshot_word.specs.ReadRule.{IsSenders, IsReceivers, IsWords, Owned, both_open, waker_stored, waker_claimed, claimed_overdue, receiver_gone, sender_after, sent, dropped, written, sender_has_it, left_for_sender, left_for_receiver, receiver_has_it, receiver_found_it, waits_for_receiver, waker_at_home}
+use Rattle.oneshot_word.specs.ReadRule.{IsSenders, IsReceivers, IsWords, Owned, both_open, waker_stored, waker_claimed, claimed_overdue, claimed_gone, receiver_gone, sender_after, sent, dropped, written, sender_has_it, left_for_sender, left_for_receiver, receiver_has_it, receiver_found_it, waits_for_receiver, waker_at_home}
 
 module _ {T H K : Type 0} where
   pub states_that_are : StatesThatAre T H K
@@ -28,6 +28,9 @@ module _ {T H K : Type 0} where
         claimed_in_a_poll = waker_claimed sending send_found refl refl sender_has_it sender_has_it;
         sent_to_a_future = λ x. sent sent_to_it refl (waits_for_receiver x) left_for_receiver;
         polled_too_late = sent sent_alone refl receiver_found_it receiver_has_it;
+        gone_meanwhile = claimed_gone sending send_found refl sender_has_it sender_has_it;
+        sent_after_it = sender_after sending sent_overtaken refl sender_has_it sender_has_it;
+        dropped_after_it = sender_after dropping dropped_overtaken refl sender_has_it sender_has_it;
       }
 
   waker_not_senders : (k : Rouse H K) → IsSenders {T = T} (has_waker k) → ⊥
@@ -130,6 +133,24 @@ module _ {T H K : Type 0} where
   takes_back_over_1 (sender_after by made is m w) = elim made [ ]
   takes_back_over_1 (written by made is m w) = elim made [ ]
 
+  dropped_and_leaves_1 : {h k : Home T H K} → Owned claims left_meanwhile 1 h k → ⊥
+  dropped_and_leaves_1 (waker_claimed by found stores here m w) = cc
+  dropped_and_leaves_1 (sender_after by made is m w) = elim made [ ]
+  dropped_and_leaves_1 (written by made is m w) = elim made [ ]
+
+  dropped_with_its_waker : {h : Home T H K} (k : Rouse H K) → Owned claims left_meanwhile 2 h (has_waker k) → ⊥
+  dropped_with_its_waker k (claimed_gone by found is m w) = waker_not_senders k w
+  dropped_with_its_waker k (receiver_gone none is m w) = cc
+  dropped_with_its_waker k (sender_after by made is m w) = elim made [ ]
+  dropped_with_its_waker k (dropped made is m w) = elim made [ ]
+  dropped_with_its_waker k (written by made is m w) = elim made [ ]
+
+  late_send_leaves_3 : {h k : Home T H K} → Owned (sent_over 2) left_meanwhile 3 h k → ⊥
+  late_send_leaves_3 (both_open none stores here m w) = cc
+  late_send_leaves_3 (claimed_overdue by found late here m w) = elim found [ ]
+  late_send_leaves_3 (sender_after by made is m w) = elim made [ ]
+  late_send_leaves_3 (written by made is m w) = elim made [ ]
+
   pub states_that_are_not : StatesThatAreNot T H K
   states_that_are_not =
       record {
@@ -148,4 +169,7 @@ module _ {T H K : Type 0} where
         takes_nothing_back = takes_nothing_back;
         late_poll_leaves_0 = late_poll_leaves_0;
         takes_back_over_1 = takes_back_over_1;
+        dropped_and_leaves_1 = dropped_and_leaves_1;
+        dropped_with_its_waker = dropped_with_its_waker;
+        late_send_leaves_3 = late_send_leaves_3;
       }

@@ -9,7 +9,7 @@ use Rattle.oneshot_machine.specs.declared.machine.Seen.{Seen}
 use Rattle.oneshot_machine.specs.declared.states.Op.{Op}
 use Rattle.oneshot_machine.specs.declared.states.Op.TheVariants.{Load, Store, Swap, Exchange, Add, Xor}
 use Rattle.oneshot_machine.specs.Noted.{saw}
-use Rattle.oneshot_machine.specs.Phases.{Share, Slots, Row, sending, dropping, SenderAt, fresh, owes, finished, late, no_sender, sender_moves, sender_owns, sender_next, looked, blocked, storing, swapped, found_closed, ReceiverAt, first, here, waits, full, unclosed, disconnected, resolved, receiver_moves, receiver_owns, receiver_next}
+use Rattle.oneshot_machine.specs.Phases.{Share, Slots, Row, sending, dropping, SenderAt, fresh, owes, finished, late, overtaken, no_sender, sender_moves, sender_owns, sender_next, looked, blocked, storing, swapped, found_closed, ReceiverAt, first, here, waits, full, unclosed, disconnected, resolved, receiver_moves, receiver_owns, receiver_next}
 use Rattle.oneshot_machine.specs.Slots.{Held, IsSlot, In, head, tail, May, may, SenderMay, ReceiverMay, Finds, finds}
 use Rattle.oneshot_machine.proofs.Exactness.{each_passes}
 use Rattle.oneshot_word.specs.declared.rouse.Rouse.{Rouse}
@@ -213,6 +213,8 @@ senders =
     ∷ finished dropping
     ∷ late sending
     ∷ late dropping
+    ∷ overtaken sending
+    ∷ overtaken dropping
     ∷ no_sender
     ∷ []
 
@@ -224,7 +226,9 @@ is_sender (finished sending) = tail (tail (tail head))
 is_sender (finished dropping) = tail (tail (tail (tail head)))
 is_sender (late sending) = tail (tail (tail (tail (tail head))))
 is_sender (late dropping) = tail (tail (tail (tail (tail (tail head)))))
-is_sender no_sender = tail (tail (tail (tail (tail (tail (tail head))))))
+is_sender (overtaken sending) = tail (tail (tail (tail (tail (tail (tail head))))))
+is_sender (overtaken dropping) = tail (tail (tail (tail (tail (tail (tail (tail head)))))))
+is_sender no_sender = tail (tail (tail (tail (tail (tail (tail (tail (tail head))))))))
 
 sender_keeps : (p : SenderAt) (q : ReceiverAt) → keeps_rule (sender_end q) p ≡ true
 sender_keeps fresh first = refl
@@ -232,6 +236,7 @@ sender_keeps (owes sending) first = refl
 sender_keeps (owes dropping) first = refl
 sender_keeps (finished by) q = refl
 sender_keeps (late by) q = refl
+sender_keeps (overtaken by) q = refl
 sender_keeps no_sender q = refl
 sender_keeps _ _ = refl
 

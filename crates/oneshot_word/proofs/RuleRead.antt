@@ -7,11 +7,11 @@ use Rattle.oneshot_word.specs.declared.rouse.Rouse.{Rouse}
 use Rattle.oneshot_word.specs.declared.rule.Slot.{Slot}
 use Rattle.oneshot_word.specs.declared.rule.View.{View}
 use Rattle.oneshot_word.specs.Ordered.{Ordered, maker_before, dealer_before, in_order}
-use Rattle.oneshot_word.specs.ReadRule.{sender_has_it, left_for_sender, receiver_has_it, left_for_receiver, receiver_found_it, waits_for_receiver, waker_at_home, Owned, both_open, waker_stored, waker_claimed, claimed_overdue, receiver_gone, sender_after, sent, dropped, written, Ruled, maker_alone, dealer_alone, two_ends}
+use Rattle.oneshot_word.specs.ReadRule.{sender_has_it, left_for_sender, receiver_has_it, left_for_receiver, receiver_found_it, waits_for_receiver, waker_at_home, Owned, both_open, waker_stored, waker_claimed, claimed_overdue, claimed_gone, receiver_gone, sender_after, sent, dropped, written, Ruled, maker_alone, dealer_alone, two_ends}
 use Rattle.oneshot_word.specs.Rule.{Home, lies_out, lies_bare, lies_filled, Tied, opened, dealt, runs}
 use Rattle.oneshot_word.specs.Seats.{Carried, slot_vacant, slot_held, Part, not_carried, carried, Front, SeatOf, seat_of}
 use Rattle.oneshot_word.proofs.Between.{between, sender_told, receiver_told}
-use Rattle.oneshot_word.proofs.Meets.{is, Meet, meet, SenderSays, says_none, says_owes, says_last, says_late, ReceiverSays}
+use Rattle.oneshot_word.proofs.Meets.{is, Meet, meet, SenderSays, says_none, says_owes, says_last, says_late, says_overtaken, ReceiverSays}
 
 module _ {T H K : Type 0} where
   pair_reads : {xs ys : List Noted} {p : SenderAt} {w : ℕ} {h k : Home T H K} → SenderSays xs p → (q : ReceiverAt) → ReceiverSays ys q → Meet T H K p q w h k → Owned xs ys w h k
@@ -23,6 +23,8 @@ module _ {T H K : Type 0} where
   pair_reads (says_owes by found) (waits a) r (meet is lies_out lies_out) = waker_claimed by found r.stores r.gone sender_has_it sender_has_it
   pair_reads (says_owes by found) claimed r (meet is lies_out lies_out) = waker_claimed by found r.stores r.gone sender_has_it sender_has_it
   pair_reads (says_owes by found) overdue r (meet is lies_out lies_out) = claimed_overdue by found r.overdue r.gone sender_has_it sender_has_it
+  pair_reads (says_owes by found) gone r (meet is lies_out lies_out) = claimed_gone by found r.gone sender_has_it sender_has_it
+  pair_reads (says_overtaken by made) gone r (meet is lies_out lies_out) = sender_after by made r.gone sender_has_it sender_has_it
   pair_reads (says_late by made) gone r (meet is lies_out lies_out) = sender_after by made r.gone sender_has_it sender_has_it
   pair_reads (says_last sending made) first r (meet is (lies_filled m) lies_bare) = sent made r.wrote (waits_for_receiver m) left_for_receiver
   pair_reads (says_last dropping made) first r (meet is lies_bare lies_bare) = dropped made r.wrote left_for_receiver left_for_receiver

@@ -8,9 +8,9 @@ use Rattle.oneshot_machine.specs.Noted.{Noted, saw}
 use Rattle.oneshot_machine.specs.Phases.{sending, dropping, SenderAt, sender_moves, sender_next, Slots, Row, looked, blocked, storing, swapped, found_closed, ReceiverAt, here, waits, full, unclosed, disconnected, resolved, receiver_moves, receiver_next}
 use Rattle.oneshot_machine.specs.Slots.{In, head, tail}
 use Rattle.oneshot_machine.proofs.Exactness.{each_passes}
-use Rattle.oneshot_word.specs.Lists.{send_found, drop_found, sent, sent_to_it, sent_to_overdue, dropped, dropped_before_it, dropped_before_overdue, sent_late, dropped_late, along, stores_next, overdue_next, gone_next, wrote_next}
+use Rattle.oneshot_word.specs.Lists.{send_found, drop_found, sent, sent_to_it, sent_to_overdue, dropped, dropped_before_it, dropped_before_overdue, sent_late, dropped_late, sent_overtaken, dropped_overtaken, along, stores_next, overdue_next, gone_next, wrote_next}
 use Rattle.oneshot_word.proofs.Alike.{is_bool, bools_are, is_word, words_are}
-use Rattle.oneshot_word.proofs.Meets.{stores_of, overdue_of, gone_of, wrote_of, SenderSays, says_none, says_owes, says_last, says_late, ReceiverSays}
+use Rattle.oneshot_word.proofs.Meets.{stores_of, overdue_of, gone_of, wrote_of, SenderSays, says_none, says_owes, says_last, says_late, says_overtaken, ReceiverSays}
 
 along-snoc : {A : Type 0} (next : A → Op → Seen → A) (a : A) (xs : List Noted) (x : Noted) → along next a (xs ++ x ∷ []) ≡ next (along next a xs) x.0 x.1
 along-snoc next a [] x = refl
@@ -72,13 +72,16 @@ sender_says _ says_none (tail (tail (tail (tail head)))) = says_owes dropping dr
 sender_says _ says_none (tail (tail (tail (tail (tail head))))) = says_late dropping dropped_late
 sender_says _ (says_owes _ send_found) head = says_last sending sent_to_it
 sender_says _ (says_owes _ send_found) (tail head) = says_last sending sent_to_overdue
+sender_says _ (says_owes _ send_found) (tail (tail head)) = says_overtaken sending sent_overtaken
 sender_says _ (says_owes _ drop_found) head = says_last dropping dropped_before_it
 sender_says _ (says_owes _ drop_found) (tail head) = says_last dropping dropped_before_overdue
+sender_says _ (says_owes _ drop_found) (tail (tail head)) = says_overtaken dropping dropped_overtaken
 sender_says _ says_none (tail (tail (tail (tail (tail (tail there)))))) = elim there [ ]
-sender_says _ (says_owes _ send_found) (tail (tail there)) = elim there [ ]
-sender_says _ (says_owes _ drop_found) (tail (tail there)) = elim there [ ]
+sender_says _ (says_owes _ send_found) (tail (tail (tail there))) = elim there [ ]
+sender_says _ (says_owes _ drop_found) (tail (tail (tail there))) = elim there [ ]
 sender_says _ (says_last _ _) there = elim there [ ]
 sender_says _ (says_late _ _) there = elim there [ ]
+sender_says _ (says_overtaken _ _) there = elim there [ ]
 
 adds : (q : ReceiverAt) {next : ReceiverAt} {op : Op} {before after : Slots} (word : ℕ)
     → In (op, before, word, next, after) (receiver_moves q)

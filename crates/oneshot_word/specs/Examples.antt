@@ -30,6 +30,10 @@ polled_over word = (Load, Word 3) ∷ (Exchange 3 0, Word word) ∷ []
 abbrev pub exchanged_back : ℕ → List Noted
 exchanged_back word = polled ++ (Load, Word 0) ∷ (Exchange 0 3, Word word) ∷ []
 
+-- one that looked while the sender was about to finish, and was dropped then
+abbrev pub left_meanwhile : List Noted
+left_meanwhile = polled ++ (Load, Word 1) ∷ (Swap 2, Word 1) ∷ []
+
 -- A sender that found it waiting, in a `send` or in its drop; and that has finished.
 abbrev pub claims : List Noted
 claims = (Add, Word 0) ∷ []
@@ -62,6 +66,9 @@ pub record ListsSay : Type 0 where
   pub stores_another_copy : stores_waker (exchanged_back 0 ++ (Exchange 3 0, Word 3) ∷ []) ≡ true
   pub stores_no_copy : stores_waker (polled_over 4) ≡ false
   pub exchanged_in_vain : wrote_since (polled_over 4) ≡ None
+  pub left_and_gone : is_gone left_meanwhile ≡ true
+  pub left_no_waker : stores_waker left_meanwhile ≡ false
+  pub left_and_wrote_before_the_end : wrote_since left_meanwhile ≡ None
   pub exchanged_and_closed : wrote_since (polled_over 4 ++ (Store 2, Done) ∷ []) ≡ Some 2
 
 -- the sender's list, the receiver's list, the word, and what of both slots is at home
@@ -81,6 +88,10 @@ pub record StatesThatAre (T H K : Type 0) : Type 0 where
   pub claimed_in_a_poll : Owned {T = T} {H = H} {K = K} claims (exchanged_back 1) 1 out out
   pub sent_to_a_future : (x : T) → Owned {H = H} {K = K} (sent_over 1) polled 4 (has_message x) bare
   pub polled_too_late : Owned {T = T} {H = H} {K = K} ((Add, Word 3) ∷ []) (polled_over 4) 4 out out
+  -- the drop of a future over a sender that is about to finish
+  pub gone_meanwhile : Owned {T = T} {H = H} {K = K} claims left_meanwhile 2 out out
+  pub sent_after_it : Owned {T = T} {H = H} {K = K} (sent_over 2) left_meanwhile 4 out out
+  pub dropped_after_it : Owned {T = T} {H = H} {K = K} (dropped_over 2) left_meanwhile 2 out out
 
 pub record StatesThatAreNot (T H K : Type 0) : Type 0 where
   -- an overdue receiver leaves 3, and its waker to the sender
@@ -105,3 +116,7 @@ pub record StatesThatAreNot (T H K : Type 0) : Type 0 where
   -- one that did not leaves the word that it found
   pub late_poll_leaves_0 : {h k : Home T H K} → Owned ((Add, Word 3) ∷ []) (polled_over 4) 0 h k → ⊥
   pub takes_back_over_1 : {h k : Home T H K} → Owned claims (exchanged_back 1) 3 h k → ⊥
+  -- a future that is dropped over 1 leaves 2, and both slots to the sender
+  pub dropped_and_leaves_1 : {h k : Home T H K} → Owned claims left_meanwhile 1 h k → ⊥
+  pub dropped_with_its_waker : {h : Home T H K} (k : Rouse H K) → Owned claims left_meanwhile 2 h (has_waker k) → ⊥
+  pub late_send_leaves_3 : {h k : Home T H K} → Owned (sent_over 2) left_meanwhile 3 h k → ⊥

@@ -25,6 +25,8 @@ pub data MadeLast : By → List Noted → Type 0 where
 pub data MadeLate : By → ℕ → List Noted → Type 0 where
   sent_late : MadeLate sending 3 ((Add, Word 2) ∷ [])
   dropped_late : MadeLate dropping 3 ((Xor, Word 2) ∷ [])
+  sent_overtaken : MadeLate sending 4 ((Add, Word 0) ∷ (Swap 4, Word 2) ∷ [])
+  dropped_overtaken : MadeLate dropping 2 ((Xor, Word 0) ∷ (Swap 2, Word 2) ∷ [])
 
 -- a value carried along a list, from its first operation on
 abbrev pub along : {A : Type 0} → (A → Op → Seen → A) → A → List Noted → A

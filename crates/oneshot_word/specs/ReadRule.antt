@@ -44,6 +44,9 @@ pub data Owned {T H K : Type 0} (xs ys : List Noted) : ℕ → Home T H K → Ho
   -- the sender found 0, and its final swap is to come; the receiver is overdue
   claimed_overdue : {h k : Home T H K} (by : By) → FoundZero by xs → is_overdue ys ≡ true → is_gone ys ≡ false
       → IsSenders h → IsSenders k → Owned xs ys 3 h k
+  -- the sender found 0, and its final swap is to come; the receiver is gone
+  claimed_gone : {h k : Home T H K} (by : By) → FoundZero by xs → is_gone ys ≡ true
+      → IsSenders h → IsSenders k → Owned xs ys 2 h k
   -- the sender has made no operation, and the receiver is gone
   receiver_gone : {h k : Home T H K} → xs ≡ [] → is_gone ys ≡ true
       → IsSenders h → IsSenders k → Owned xs ys 2 h k
