@@ -8,7 +8,7 @@ use Rattle.oneshot_machine.specs.declared.machine.receiver.ReceiverPos.TheVarian
 use Rattle.oneshot_machine.specs.declared.machine.async_drop.AsyncDropPos.TheVariants.{AsyncSwap}
 use Rattle.oneshot_machine.specs.declared.machine.drop.DropPos.TheVariants.{DropMessage, DropFree}
 use Rattle.oneshot_machine.specs.declared.states.Op.TheVariants.{Swap}
-use Rattle.oneshot_machine.specs.Logs.{Log, Grows, did, worded}
+use Rattle.oneshot_machine.specs.Logs.{Log, Grows, receiver_of, did, worded}
 use Rattle.oneshot_machine.specs.Phases.{ReceiverAt, first, here, looked, between, claimed, waits, blocked, withdrew, full, at_once, by_future, disconnected, receiver_moves, Share, none, empty, filled, Slots}
 use Rattle.oneshot_machine.specs.Receiver.{receiver_step, receiver_row}
 use Rattle.oneshot_machine.specs.TableRows.{Outcome, Goes, Answers}
@@ -17,7 +17,7 @@ use Rattle.oneshot_machine.proofs.GrownLists.{and_then}
 use Rattle.oneshot_machine.specs.Slots.{Held, IsSlot, ReceiverFinds}
 use Rattle.oneshot_machine.specs.Noted.{is_same_op}
 use Rattle.oneshot_machine.proofs.Landings.{Each, landings, FoundSo, found_so}
-use Rattle.oneshot_drive.specs.Grounds.{State, ReceiverMakes}
+use Rattle.oneshot_drive.specs.Grounds.{State}
 use Rattle.oneshot_drive.specs.BetweenCalls.{Rests, rests_new, rests_open, rests_closed, AtRest}
 
 -- the word that it finds, with the slots then
@@ -66,6 +66,10 @@ left_row swapped_empty a b = refl
 left_row swapped_sender a b = refl
 left_row swapped_closed a b = absurd (b refl)
 
+-- a row for a word that is known
+pub row_at : (p : ReceiverPos) {o : Outcome ReceiverPos} {n : ℕ} (word : ℕ) → receiver_row p (S.Word word) ≡ Some o → n ≡ word → receiver_row p (S.Word n) ≡ Some o
+row_at p word leads e = ap (λ n. receiver_row p (S.Word n)) e ∙ leads
+
 module _ {T W : Type 0} where
   module _ {n : ℕ} {at : ReceiverAt} {m m' : Held T} {w w' : Held W} (made : ReceiverFinds at (Swap 2) n m w m' w') where
     swapped : FoundSo {At = ReceiverAt} (λ n next after. Swapped n after) n m' w'
@@ -88,12 +92,9 @@ module _ {T W : Type 0} where
     pub swapped_open : ¬ (n ≡ 4) → ¬ (n ≡ 2) → receiver_row (AsyncDrop AsyncSwap) (S.Word n) ≡ Some (Answers R.Done)
     swapped_open = left_row swapped.is_so
 
-  pub past_1 : {b a : State T W} {n : ℕ} → AtRest b → ReceiverMakes (Swap 2) n b a → ¬ (n ≡ 1)
+  pub past_1 : {b : State T W} {n : ℕ} {m : Held T} {w : Held W} → AtRest b → ReceiverFinds (receiver_of b.log) (Swap 2) n b.message b.waker m w → ¬ (n ≡ 1)
   past_1 rests made =
       (found_so (is_same_op (Swap 2)) (λ n next after. ¬ (n ≡ 1)) refl (subst (λ at. Each (λ n next after. ¬ (n ≡ 1)) (landings (Swap 2) (receiver_moves at))) (sym rests.stands.phase) (rests_swaps rests.is_one)) made).is_so
-
-  pub row_at : {p : ReceiverPos} {o : Outcome ReceiverPos} {n : ℕ} (word : ℕ) → receiver_row p (S.Word word) ≡ Some o → n ≡ word → receiver_row p (S.Word n) ≡ Some o
-  row_at {p} word leads e = ap (λ n. receiver_row p (S.Word n)) e ∙ leads
 
   -- the runs of both drops, from the position of their swap
   module _ (p : ReceiverPos) (at : Steps.Word (Swap 2) ≡ receiver_step p) (n : ℕ) where

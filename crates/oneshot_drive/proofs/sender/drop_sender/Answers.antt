@@ -23,10 +23,10 @@ pub free-requires-clause-waker : goal.free-requires-clause-waker
 free-requires-clause-waker g c = (c.finish.ensures.gone (search rules)).waker
 
 pub returns-then-not-finish-clause-run : goal.returns-then-not-finish-clause-run
-returns-then-not-finish-clause-run g c = drop_freed_late c.word.result c.in-0.is c.word.ensures.list (c.if-not-finish.ensures tt).finishes c.free.ensures.list
+returns-then-not-finish-clause-run g c = drop_freed_late c.word.result c.in-0.is c.word.ensures.list c.if-not-finish.ensures.finishes c.free.ensures.list
 
 pub returns-else-not-finish-clause-run : goal.returns-else-not-finish-clause-run
-returns-else-not-finish-clause-run g c = drop_woke c.word.result c.in-0.is c.word.ensures.list (c.if-not-finish.ensures tt).finishes
+returns-else-not-finish-clause-run g c = drop_woke c.word.result c.in-0.is c.word.ensures.list c.if-not-finish.ensures.finishes
 
 pub free-requires-in_default-clause-message : goal.free-requires-in_default-clause-message
 free-requires-in_default-clause-message g c = is_room (flipped c.word.result c.requires (search rules) (search rules) c.word.ensures.finds c.word.ensures.list).stands.message
