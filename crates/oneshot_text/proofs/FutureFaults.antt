@@ -4,7 +4,7 @@ use Rattle.oneshot_replay.specs.declared.AsyncCall.{AsyncCall}
 use Rattle.oneshot_replay.specs.declared.AsyncCall.TheVariants.{Poll, TryRecv, HasMessage, IsClosed}
 use Rattle.oneshot_replay.specs.declared.AsyncLast.{AsyncLast}
 use Rattle.oneshot_replay.specs.declared.AsyncLast.TheVariants.{Drop, Stop}
-use Rattle.oneshot_text.specs.Future.{first_word_of_future_call, number_behind, words_of_future_calls, words_of_future_last, words_of_future, HasNumber, HasNumbers}
+use Rattle.oneshot_text.specs.Future.{first_word_of_future_call, number_behind, words_of_future_calls, words_of_future_last, HasNumber, HasNumbers}
 use Rattle.oneshot_text.specs.Grammar.{AsksForFuture, IsOver, NumberAnd}
 use Rattle.oneshot_text.proofs.Decimal.{decimal-no_letter}
 use Rattle.oneshot_text.proofs.LineFaults.{number_and_from}
@@ -97,7 +97,9 @@ bare_to : (call : AsyncCall) (rest : List (List ℕ)) → number_behind call ≡
 bare_to call rest none fits asks = record {
   script = record { calls = call ∷ asks.script.calls; last = asks.script.last };
   fits = (fits, asks.fits);
-  written = ap (λ ws. first_word_of_future_call call ∷ ws) asks.written ∙ ap (λ ws. first_word_of_future_call call ∷ ws ++ words_of_future asks.script) (sym none);
+  written =
+      ap (λ ws. first_word_of_future_call call ∷ ws) asks.written
+      ∙ ap (λ ws. first_word_of_future_call call ∷ (ws ++ words_of_future_calls asks.script.calls) ++ words_of_future_last asks.script.last) (sym none);
 }
 
 -- behind a run of calls
