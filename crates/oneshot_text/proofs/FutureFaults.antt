@@ -87,7 +87,7 @@ poll_from rest asks = poll_from_head rest (future_head (codes "poll") rest asks)
 -- behind a call with no number
 bare_from_head : (call : AsyncCall) (rest : List (List ℕ)) → number_behind call ≡ [] → FutureHead (first_word_of_future_call call) rest → AsksForFuture rest
 bare_from_head call rest none (poll is asks) = absurd (bare-no_poll call none (sym is))
-bare_from_head call rest none (bare other no is asks) = asks
+bare_from_head call rest none (bare other without is asks) = asks
 bare_from_head call rest none (drop is over) = absurd (bare-no_drop call (sym is))
 
 bare_from : (call : AsyncCall) (rest : List (List ℕ)) → number_behind call ≡ [] → AsksForFuture (first_word_of_future_call call ∷ rest) → AsksForFuture rest
