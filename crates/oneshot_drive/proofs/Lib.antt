@@ -8,6 +8,7 @@ pub mod Waits
 pub mod Receives
 pub mod ReadyHands
 pub mod PollLoads
+pub mod TriedFutures
 pub mod LeftCopies
 pub mod Spins
 pub mod OwnCopies

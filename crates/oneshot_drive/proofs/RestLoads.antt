@@ -81,9 +81,12 @@ module _ {T W : Type 0} where
     pub loaded_none : ¬ (n ≡ 4) → ¬ (n ≡ 3) → (n ≡ 2) × (c : Closing) × Stands (disconnected c) s
     loaded_none a b = let is = at_closed found.is_so a b in (is.0, is.1, subst (λ at. Stands at s) is.2 found.stands)
 
+  pub closed_finds : {n : ℕ} {at : ReceiverAt} {m m' : Held T} {w w' : Held W} → IsClosed at → ReceiverFinds at Load n m w m' w' → n ≡ 2
+  closed_finds {at} is_closed made = (found_so (is_same_op Load) (λ n next after. n ≡ 2) refl (closed_loads at is_closed) made).is_so
+
   pub never : {X : Type 0} {n : ℕ} {at : ReceiverAt} {m m' : Held T} {w w' : Held W} (word : ℕ) → (word == 2) ≡ false → n ≡ word → IsClosed at → ReceiverFinds at Load n m w m' w' → X
-  never {at} word other e is_closed made =
-      let closed : word ≡ 2 = sym e ∙ (found_so (is_same_op Load) (λ n next after. n ≡ 2) refl (closed_loads at is_closed) made).is_so in
+  never word other e is_closed made =
+      let closed : word ≡ 2 = sym e ∙ closed_finds is_closed made in
       let same : (word == 2) ≡ true = eq-eqb word 2 closed in
       absurd (cc)
 

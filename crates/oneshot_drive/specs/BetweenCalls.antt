@@ -10,7 +10,7 @@ use Rattle.oneshot_machine.specs.declared.machine.Reply.TheVariants.{Sent, Refus
 use Rattle.oneshot_machine.specs.declared.machine.Step.TheVariants.{TakeWaker, Wake}
 use Rattle.oneshot_machine.specs.declared.states.Op.TheVariants.{Swap}
 use Rattle.oneshot_machine.specs.Logs.{Event, Log, Grows, sender_of, handed, worded}
-use Rattle.oneshot_machine.specs.Phases.{By, SenderAt, fresh, late, Closing, closed_itself, Open, looked, between, Waiting, ReceiverAt, first, here, waits, claimed, disconnected, resolved}
+use Rattle.oneshot_machine.specs.Phases.{By, SenderAt, fresh, late, Closing, closed_itself, Open, looked, between, ReceiverAt, first, here, waits, claimed, disconnected, resolved}
 use Rattle.oneshot_machine.specs.Slots.{Held, vacant, held, SenderMay}
 use Rattle.oneshot_drive.specs.Grounds.{State, SenderStands, StandsIn}
 

@@ -1,8 +1,11 @@
--- How a poll comes to its end, how a future stands between its polls, and which wakers a poll writes.
-use Rattle.std.specs.Prelude.{◌≡◌, ⊤, List, [], ◌∷◌, Option, None, Result, Ok, Err}
+-- How a poll comes to its end, how a future stands between its calls, and which wakers its calls hand on.
+use Rattle.std.specs.Prelude.{◌≡◌, ⊤, Bool, true, false, List, [], ◌∷◌, Option, None, Result, Ok, Err}
+use Rattle.std.specs.List.{filter_map}
 use Rattle.futures.specs.declared.task.Poll.{Poll}
 use Rattle.futures.specs.declared.task.Poll.TheVariants.{Ready, Pending}
 use Rattle.oneshot_errors.specs.declared.recv.RecvError.{RecvError}
+use Rattle.oneshot_errors.specs.declared.try_recv.TryRecvError.{TryRecvError}
+use Rattle.oneshot_errors.specs.declared.try_recv.TryRecvError.TheVariants as E
 use Rattle.oneshot_drive.specs.declared.waiting.Found.{Found}
 use Rattle.oneshot_drive.specs.declared.waiting.Found.TheVariants as F
 use Rattle.oneshot_machine.specs.declared.machine.Reply.{Reply}
@@ -47,6 +50,25 @@ pub data LeavesPolled {T : Type 0} : Poll (Result T RecvError) → ReceiverAt �
   leaves_waiting : LeavesPolled Pending (waits polled)
   leaves_its_copy : LeavesPolled Pending (waits again)
   leaves_claimed : LeavesPolled Pending claimed
+
+-- So does its `try_recv`, but for `Empty`, which leaves it open.
+pub data LeavesTried {T : Type 0} : Result T TryRecvError → ReceiverAt → Type 0 where
+  tried_received : (x : T) → LeavesTried (Ok x) (disconnected closed_itself)
+  tried_resolved : (x : T) → LeavesTried (Ok x) (resolved closed_itself)
+  tried_closed : (c : Closing) → LeavesTried (Err E.Disconnected) (disconnected c)
+  tried_uncopied : LeavesTried (Err E.Empty) (here looked)
+  tried_its_copy : LeavesTried (Err E.Empty) (waits again)
+  tried_claimed : LeavesTried (Err E.Empty) claimed
+
+-- a future whose copy of its task's waker is in the channel, unless the sender took it to wake the task
+abbrev pub is_registered : ReceiverAt → Bool
+is_registered (waits w) = true
+is_registered claimed = true
+is_registered _ = false
+
+-- What was registered is so after an `Empty` too, and nothing else is.
+abbrev pub StaysRegistered : {T : Type 0} → Result T TryRecvError → ReceiverAt → ReceiverAt → Type 0
+StaysRegistered result before after = result ≡ Err E.Empty → is_registered after ≡ is_registered before
 
 abbrev pub poll_reply : {T : Type 0} → Poll (Result T RecvError) → Reply
 poll_reply (Ready (Ok x)) = R.Message
@@ -107,3 +129,14 @@ module _ {T W : Type 0} where
   -- a call that begins with no copy in hand
   abbrev pub WritesItsCopy : Log T W → Log T W → Type 0
   WritesItsCopy = WroteCopies None
+
+  -- the wakers that these steps hand in or out
+  abbrev pub wakers_handed : List (Event T W) → List W
+  wakers_handed = filter_map (λ x. x.waker)
+
+  -- Between the two logs a ground put no waker into a slot and took none out of it. Of a whole ground the
+  -- log tells all its steps; of any other it tells no waker.
+  pub record HandsNoWaker (before after : Log T W) : Type 0 where
+    pub steps : List (Event T W)
+    pub grows : Grows before after steps
+    pub none : wakers_handed steps ≡ []

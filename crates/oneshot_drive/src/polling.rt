@@ -1,7 +1,8 @@
-//! The calls of a receiver that is a future: a poll, and its drop.
+//! The calls of a receiver that is a future: a poll, a receive that waits for nobody, and its drop.
 
-ghost use Rattle.std.specs.Prelude.{◌≡◌, [], Some};
+ghost use Rattle.std.specs.Prelude.{◌≡◌, [], Some, Err};
 ghost use Rattle.futures.specs.Poll.{OnPending};
+ghost use Rattle.oneshot_errors.specs.declared.try_recv.TryRecvError.TheVariants as Tried;
 ghost use Rattle.oneshot_machine.specs.declared.machine.Reply.TheVariants as R;
 ghost use Rattle.oneshot_machine.specs.declared.machine.receiver.ReceiverPos.TheVariants.{Future, AsyncDrop, Drop};
 ghost use Rattle.oneshot_machine.specs.declared.machine.future.FuturePos.TheVariants.{PollLoad, PollCopy, PollWrite, AgainCopy, PollSpin};
@@ -9,22 +10,22 @@ ghost use Rattle.oneshot_machine.specs.declared.machine.async_drop.AsyncDropPos.
 ghost use Rattle.oneshot_machine.specs.declared.machine.drop.DropPos.TheVariants.{DropSwap};
 ghost use Rattle.oneshot_machine.specs.declared.machine.receiver.ReceiverStart.TheVariants as C;
 ghost use Rattle.oneshot_machine.specs.declared.states.Op.TheVariants.{Swap};
-ghost use Rattle.oneshot_machine.specs.Counts.{operates_past_1, MakesAtMost};
+ghost use Rattle.oneshot_machine.specs.Counts.{operates, operates_past_1, MakesAtMost};
 ghost use Rattle.oneshot_machine.specs.Logs.{receiver_of};
 ghost use Rattle.oneshot_machine.specs.Phases.{here, looked, waits, again, claimed};
 ghost use Rattle.oneshot_machine.specs.Runs.{ReceiverRan};
 ghost use Rattle.oneshot_machine.specs.TableRows.{Goes};
 ghost use Rattle.oneshot_drive.specs.declared.waiting.Found.TheVariants as F;
 ghost use Rattle.oneshot_drive.specs.Blocking.{Went};
-ghost use Rattle.oneshot_drive.specs.BetweenCalls.{IsClosed};
+ghost use Rattle.oneshot_drive.specs.BetweenCalls.{IsClosed, try_recv_reply, received};
 ghost use Rattle.oneshot_drive.specs.Grounds.{Stands, ReceiverAsks};
-ghost use Rattle.oneshot_drive.specs.Polls.{IsPolled, LeavesPolled, poll_reply, poll_received, poll_end, EndsPoll, MayLeave, IsDisconnected, WroteCopies, WritesItsCopy};
+ghost use Rattle.oneshot_drive.specs.Polls.{IsPolled, LeavesPolled, LeavesTried, StaysRegistered, poll_reply, poll_received, poll_end, EndsPoll, MayLeave, IsDisconnected, WroteCopies, WritesItsCopy, HandsNoWaker};
 
 use crate::ground::{ReceiverGround, TaskGround};
 use crate::receiver::end;
 use crate::waiting::Found;
 use futures::task::Poll;
-use oneshot_errors::RecvError;
+use oneshot_errors::{RecvError, TryRecvError};
 use oneshot_machine::states::{DISCONNECTED, EMPTY, MESSAGE, Op, RECEIVING, UNPARKING};
 use std::sync::Wait;
 
@@ -162,6 +163,35 @@ fn spin<T, W: Drop, G: TaskGround<T, W>>(g: &mut G, rt: &impl Wait) -> Found
         }
     }
     unreachable!()
+}
+
+/// Receives the message if it is there. It waits for nobody and frees nothing. A copy of a waker that a poll
+/// left stays where it is.
+///
+/// - `Ok`: the message, which closes the receiver.
+/// - `Err(Empty)`: nothing was sent yet, or the sender is about to finish.
+/// - `Err(Disconnected)`: the sender is gone without a message, or the message was received before.
+pub fn async_try_recv<T, W, G: ReceiverGround<T, W>>(g: &mut G) -> Result<T, TryRecvError>
+    requires { IsPolled (G.state g.old) }
+    ensures run { ReceiverRan C.AsyncTryRecv (G.state g.old).log (G.state g.new).log
+        (try_recv_reply result) [] (received result) }
+    ensures rests { IsPolled (G.state g.new) }
+    ensures leaves { LeavesTried result (receiver_of (G.state g.new).log) }
+    ensures stays { IsClosed (receiver_of (G.state g.old).log) → result ≡ Err Tried.Disconnected }
+    ensures bounded { MakesAtMost 2 operates (G.state g.old).log (G.state g.new).log }
+    ensures registered { StaysRegistered result (receiver_of (G.state g.old).log)
+        (receiver_of (G.state g.new).log) }
+    ensures wakers { HandsNoWaker (G.state g.old).log (G.state g.new).log }
+    ensures keeps { G.keeps g.old g.new }
+{
+    match g.word(Op::Load) {
+        MESSAGE => {
+            g.word(Op::Store(DISCONNECTED));
+            Ok(g.take_message())
+        }
+        DISCONNECTED => Err(TryRecvError::Disconnected),
+        _ => Err(TryRecvError::Empty),
+    }
 }
 
 /// Drops the future, with the copy of a waker that it left with the channel and the message that it
