@@ -16,8 +16,7 @@ const MOVES: usize = 64;
 
 /// A pair of scripts, and the digests of its traces and of their printed text.
 ///
-/// The digest of the traces is no evidence: it is taken from a run, so that a change of what is told is seen.
-/// That of the text was computed by another program, from the tables of both ends and the form of the text.
+/// Another program computed both digests, from the tables of both ends and the form of an entry and of the text.
 type Pair = (Sending, Receiving, u64, u64);
 
 /// Draws a schedule from each seed of 1 to 10,000, and runs both scripts under it. Asserts that the auditor
@@ -274,4 +273,40 @@ fn a_drop_beside_three_polls(rt: HostRuntime) -> Result<(), Fail> {
 #[test]
 fn a_look_and_a_send_beside_three_polls(rt: HostRuntime) -> Result<(), Fail> {
     assert_drawn(&rt, POLLS[2])
+}
+
+const TRIES_OF_A_FUTURE: [Pair; 3] = [
+    (
+        Sending::Send,
+        Receiving::PollTryPollTryDrop,
+        0x2197_ad6a_c3d2_6ebb,
+        0x01d4_0a87_9a2a_6dc8,
+    ),
+    (
+        Sending::Drop,
+        Receiving::PollTryPollTryDrop,
+        0xa121_8596_b71f_bf43,
+        0x5b2c_23d2_8772_be6d,
+    ),
+    (
+        Sending::LookAndSend,
+        Receiving::PollTryPollTryDrop,
+        0x3e3b_c3ea_84ac_6608,
+        0x5163_8a91_0881_0ec6,
+    ),
+];
+
+#[test]
+fn a_send_beside_polls_and_tries(rt: HostRuntime) -> Result<(), Fail> {
+    assert_drawn(&rt, TRIES_OF_A_FUTURE[0])
+}
+
+#[test]
+fn a_drop_beside_polls_and_tries(rt: HostRuntime) -> Result<(), Fail> {
+    assert_drawn(&rt, TRIES_OF_A_FUTURE[1])
+}
+
+#[test]
+fn a_look_and_a_send_beside_polls_and_tries(rt: HostRuntime) -> Result<(), Fail> {
+    assert_drawn(&rt, TRIES_OF_A_FUTURE[2])
 }

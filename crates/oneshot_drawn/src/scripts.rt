@@ -75,6 +75,8 @@ pub(crate) enum Receiving {
     PollAgainDrop,
     /// A future, which is polled by three tasks and dropped.
     PollPollPollDrop,
+    /// A future, which is polled by two tasks, tried after each poll and dropped.
+    PollTryPollTryDrop,
 }
 
 impl Receiving {
@@ -108,6 +110,15 @@ impl Receiving {
             Receiving::PollPollPollDrop => {
                 let three = [AsyncCall::Poll(1), AsyncCall::Poll(2), AsyncCall::Poll(3)];
                 polls(alloc, &three)
+            }
+            Receiving::PollTryPollTryDrop => {
+                let four = [
+                    AsyncCall::Poll(1),
+                    AsyncCall::TryRecv,
+                    AsyncCall::Poll(2),
+                    AsyncCall::TryRecv,
+                ];
+                polls(alloc, &four)
             }
         }
     }

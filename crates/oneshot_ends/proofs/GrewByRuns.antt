@@ -6,7 +6,7 @@ use Rattle.oneshot_machine.specs.declared.machine.Reply.{Reply}
 use Rattle.oneshot_machine.specs.declared.machine.Seen.{Seen}
 use Rattle.oneshot_machine.specs.declared.machine.Step.{Step}
 use Rattle.oneshot_machine.specs.declared.machine.receiver.ReceiverStart.{ReceiverStart}
-use Rattle.oneshot_machine.specs.declared.machine.receiver.ReceiverStart.TheVariants.{TryRecv, Poll}
+use Rattle.oneshot_machine.specs.declared.machine.receiver.ReceiverStart.TheVariants.{TryRecv, AsyncTryRecv, Poll}
 use Rattle.oneshot_machine.specs.declared.machine.sender.SenderCall.{SenderCall}
 use Rattle.oneshot_machine.specs.Logs.{Event, Log, Grows, noted, words}
 use Rattle.oneshot_machine.specs.TableRows.{Outcome}
@@ -15,7 +15,7 @@ use Rattle.oneshot_machine.specs.Receiver.{receiver_start, receiver_step, receiv
 use Rattle.oneshot_machine.specs.Sender.{sender_start, sender_step, sender_row}
 use Rattle.oneshot_machine.specs.Noted.{Noted}
 use Rattle.oneshot_machine.specs.Counts.{operates, operates_past_1, GrewAtMost}
-use Rattle.oneshot_machine.proofs.CallBounds.{try_recv_makes, poll_makes}
+use Rattle.oneshot_machine.proofs.CallBounds.{try_recv_makes, async_try_recv_makes, poll_makes}
 use Rattle.oneshot_machine.proofs.GrownLists.{words_after}
 use Rattle.oneshot_word.specs.Side.{Side}
 use Rattle.oneshot_ends.specs.Ends.{Waking, SenderGrew, ReceiverGrew}
@@ -70,6 +70,9 @@ module _ {T W : Type 0} where
 module _ {T : Type 0} {before after : List Noted} {reply : Reply} where
   pub try_recv_few : ReceiverGrew T TryRecv before after reply → GrewAtMost 2 operates before after
   try_recv_few grew = record { added = words grew.run; list = grew.list; few = try_recv_makes grew.run grew.is_run }
+
+  pub async_try_recv_few : ReceiverGrew T AsyncTryRecv before after reply → GrewAtMost 2 operates before after
+  async_try_recv_few grew = record { added = words grew.run; list = grew.list; few = async_try_recv_makes grew.run grew.is_run }
 
   pub poll_few : ReceiverGrew T Poll before after reply → GrewAtMost 4 operates_past_1 before after
   poll_few grew = record { added = words grew.run; list = grew.list; few = poll_makes grew.run grew.is_run }

@@ -1,11 +1,14 @@
--- Whether a poll leaves its future closed or open, by its answer.
-use Rattle.std.proofs.Common.{◌≡◌, ◌≢◌, Result, refl, subst}
+-- Whether a poll or a `try_recv` leaves its future closed or open, by its answer, and registered or not.
+use Rattle.std.proofs.Common.{◌≡◌, ◌≢◌, List, Result, Err, refl, sym, ap, ◌∙◌, subst}
 use Rattle.futures.specs.declared.task.Poll.{Poll}
 use Rattle.futures.specs.declared.task.Poll.TheVariants.{Ready, Pending}
 use Rattle.oneshot_errors.specs.declared.recv.RecvError.{RecvError}
+use Rattle.oneshot_errors.specs.declared.try_recv.TryRecvError.{TryRecvError}
+use Rattle.oneshot_errors.specs.declared.try_recv.TryRecvError.TheVariants as Tried
 use Rattle.oneshot_drive.specs.BetweenCalls.{IsClosed, IsOpen}
-use Rattle.oneshot_drive.specs.Polls.{LeavesPolled, leaves_received, leaves_resolved, leaves_over, leaves_gone, leaves_uncopied, leaves_waiting, leaves_its_copy, leaves_claimed}
-use Rattle.oneshot_machine.specs.Phases.{ReceiverAt}
+use Rattle.oneshot_drive.specs.Polls.{LeavesPolled, leaves_received, leaves_resolved, leaves_over, leaves_gone, leaves_uncopied, leaves_waiting, leaves_its_copy, leaves_claimed, LeavesTried, tried_received, tried_resolved, tried_closed, tried_uncopied, tried_its_copy, tried_claimed, is_registered, StaysRegistered}
+use Rattle.oneshot_machine.specs.Noted.{Noted}
+use Rattle.oneshot_machine.specs.Phases.{ReceiverAt, receiver_at}
 
 abbrev Leaving : {X : Type 0} → Poll X → ReceiverAt → Type 0
 Leaving (Ready x) = IsClosed
@@ -28,3 +31,22 @@ module _ {T : Type 0} where
 
   pub open_polled : {result : Poll (Result T RecvError)} {at : ReceiverAt} → LeavesPolled result at → result ≡ Pending → IsOpen at
   open_polled {at} leaves pending = subst (λ result. Leaving result at) pending (leaving leaves)
+
+  pub closed_tried : {result : Result T TryRecvError} {at : ReceiverAt} → LeavesTried result at → result ≢ Err Tried.Empty → IsClosed at
+  closed_tried (tried_received x) found = refl
+  closed_tried (tried_resolved x) found = refl
+  closed_tried (tried_closed c) found = refl
+  closed_tried tried_uncopied found = absurd (found refl)
+  closed_tried tried_its_copy found = absurd (found refl)
+  closed_tried tried_claimed found = absurd (found refl)
+
+  pub open_tried : {result : Result T TryRecvError} {at : ReceiverAt} → LeavesTried result at → result ≡ Err Tried.Empty → IsOpen at
+  open_tried tried_uncopied nothing = refl
+  open_tried tried_its_copy nothing = refl
+  open_tried tried_claimed nothing = refl
+  open_tried _ nothing = absurd (cc nothing)
+
+  -- said of the same logs
+  pub registered_by : (result : Result T TryRecvError) {xs ys before after : List Noted} → xs ≡ before → ys ≡ after → StaysRegistered result (receiver_at xs) (receiver_at ys) → StaysRegistered result (receiver_at before) (receiver_at after)
+  registered_by result was is stays nothing =
+      ap (λ ns. is_registered (receiver_at ns)) (sym is) ∙ stays nothing ∙ ap (λ ns. is_registered (receiver_at ns)) was

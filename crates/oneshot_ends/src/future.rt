@@ -1,15 +1,16 @@
 //! The receiver as a future, which a task polls.
 
-ghost use Rattle.std.specs.Prelude.{◌≡◌, ◌≢◌, ⊤, Result};
+ghost use Rattle.std.specs.Prelude.{◌≡◌, ◌≢◌, ⊤, Result, Err};
 ghost use Rattle.oneshot_errors.specs.declared.recv.RecvError.{RecvError};
+ghost use Rattle.oneshot_errors.specs.declared.try_recv.TryRecvError.TheVariants as Tried;
 ghost use Rattle.futures.specs.declared.task.Poll.TheVariants.{Pending};
 ghost use Rattle.futures.specs.Poll.{IfReady, OnPending};
 ghost use Rattle.futures.specs.Task.{Covers, Keeps};
 ghost use Rattle.oneshot_machine.specs.declared.machine.receiver.ReceiverStart.TheVariants as C;
-ghost use Rattle.oneshot_machine.specs.Counts.{operates_past_1, GrewAtMost};
+ghost use Rattle.oneshot_machine.specs.Counts.{operates, operates_past_1, GrewAtMost};
 ghost use Rattle.oneshot_machine.specs.Phases.{receiver_at};
-ghost use Rattle.oneshot_drive.specs.BetweenCalls.{AtRest};
-ghost use Rattle.oneshot_drive.specs.Polls.{LeavesPolled, IsDisconnected, poll_reply};
+ghost use Rattle.oneshot_drive.specs.BetweenCalls.{AtRest, try_recv_reply};
+ghost use Rattle.oneshot_drive.specs.Polls.{LeavesPolled, LeavesTried, StaysRegistered, IsDisconnected, poll_reply};
 ghost use Rattle.oneshot_ends.specs.Ends.{ReceiverGrew, IsDone, IsUnfinished};
 ghost use Rattle.oneshot_ends.specs.Grounds.{state_of};
 
@@ -19,8 +20,8 @@ use crate::polling::Polling;
 use crossbeam_utils::sync::Unparker;
 use futures::Future;
 use futures::task::{Context, Poll, Source, Waker};
-use oneshot_drive::{drop_async, poll};
-use oneshot_errors::RecvError;
+use oneshot_drive::{async_try_recv, drop_async, poll};
+use oneshot_errors::{RecvError, TryRecvError};
 use std::marker::Model;
 use std::sync::Wait;
 
@@ -67,6 +68,32 @@ impl<T, Rt: Wait> AsyncReceiver<T, Rt> {
             copies: Copies::new(),
             rt,
         }
+    }
+}
+
+impl<T: Drop, Rt: Wait + Drop> AsyncReceiver<T, Rt> {
+    /// Receives the message if it is there. It never blocks and does not allocate. The Rust crate has no
+    /// `try_recv` of a future: this one answers as that of a `Receiver`.
+    ///
+    /// A task that is registered stays so: a later `send`, or the sender's drop, wakes it.
+    ///
+    /// - `Ok`: the message. The future is done from then on.
+    /// - `Err(Empty)`: nothing was sent yet, or a `send` or the sender's drop is under way. The future stays
+    ///   open, and registers nobody.
+    /// - `Err(Disconnected)`: the sender is gone without a message, or the message was received before.
+    ///   Every later call and poll says the same.
+    pub fn try_recv(&mut self) -> Result<T, TryRecvError>
+        ensures channel { self.new.channel ≡ self.old.channel }
+        ensures source { self.new.source ≡ self.old.source }
+        ensures run { ReceiverGrew T C.AsyncTryRecv self.old.steps self.new.steps (try_recv_reply result) }
+        ensures leaves { LeavesTried result (receiver_at self.new.steps) }
+        ensures closes { result ≢ Err Tried.Empty → IsDone self.new }
+        ensures stays_open { result ≡ Err Tried.Empty → IsUnfinished self.new }
+        ensures stays_closed { IsDone self.old → result ≡ Err Tried.Disconnected }
+        ensures registered { StaysRegistered result (receiver_at self.old.steps) (receiver_at self.new.steps) }
+        ensures bounded { GrewAtMost 2 operates self.old.steps self.new.steps }
+    {
+        async_try_recv(&mut self.ground)
     }
 }
 

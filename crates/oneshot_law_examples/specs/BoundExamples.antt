@@ -5,7 +5,7 @@ use Rattle.oneshot_laws.specs.Bounds.{are_calls_bounded, is_soon_answered}
 use Rattle.oneshot_law_examples.specs.Notation.{Example, twice}
 use Rattle.oneshot_law_examples.specs.LawExamples.{marks_in}
 use Rattle.oneshot_law_examples.specs.Traces.{sent_then_taken, waited_for_message, sent_before_waiting, woken_by_drop, sent_at_its_deadline}
-use Rattle.oneshot_law_examples.specs.FutureTraces.{dropped_while_finishing, polled_while_finishing, sent_while_polling, sent_while_replacing, dropped_while_pending, both_dropped_while_pending}
+use Rattle.oneshot_law_examples.specs.FutureTraces.{dropped_while_finishing, polled_while_finishing, sent_while_polling, sent_while_replacing, dropped_while_pending, both_dropped_while_pending, tried_while_pending}
 
 abbrev pub is_bounded_in : Example → Bool
 is_bounded_in x = are_calls_bounded (marks_in x)
@@ -27,12 +27,13 @@ WithinBounds =
     ∷ sent_while_replacing
     ∷ dropped_while_pending
     ∷ both_dropped_while_pending
+    ∷ tried_while_pending
     -- a future's drop may find 1 once more
     ∷ twice 8 dropped_while_finishing
     ∷ []
     ))
 
--- one operation more: of a send, a sender's drop, a `try_recv`, a poll and a future's drop
+-- one operation more: of a send, a sender's drop, a `try_recv`, a poll, a future's drop and a future's `try_recv`
 abbrev pub OneOperationMore : Type 0
 OneOperationMore =
     IsTrue (not (is_bounded_in (twice 9 waited_for_message)))
@@ -40,6 +41,7 @@ OneOperationMore =
     × IsTrue (not (is_bounded_in (twice 3 sent_then_taken)))
     × IsTrue (not (is_bounded_in (twice 6 sent_while_replacing)))
     × IsTrue (not (is_bounded_in (twice 6 dropped_while_pending)))
+    × IsTrue (not (is_bounded_in (twice 13 tried_while_pending)))
 
 -- once the sender is done: two operations and six moves are reached, and one more of either is one too many
 abbrev pub OneMoveMore : Type 0

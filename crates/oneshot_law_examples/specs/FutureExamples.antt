@@ -19,7 +19,7 @@ use Rattle.oneshot_law_examples.specs.LawExamples.{are_wakers_right, marks_in, i
 use Rattle.oneshot_law_examples.specs.WaitExamples.{told_by}
 use Rattle.oneshot_law_examples.specs.TimedExamples.{received_by}
 use Rattle.oneshot_law_examples.specs.UnwokenExamples.{up, aheads_by}
-use Rattle.oneshot_law_examples.specs.FutureTraces.{dropped_while_finishing, polled_while_finishing, copy_refused, polled_by_another_task, sent_before_pending, sent_while_polling, sent_while_replacing, dropped_while_pending, woken_then_ready, both_dropped_while_pending}
+use Rattle.oneshot_law_examples.specs.FutureTraces.{dropped_while_finishing, polled_while_finishing, copy_refused, polled_by_another_task, sent_before_pending, sent_while_polling, sent_while_replacing, dropped_while_pending, woken_then_ready, both_dropped_while_pending, tried_while_pending, tried_beside_a_drop}
 
 -- THE RUNS: each trace is what its scripts tell under its moves
 abbrev pub FuturesAreTold : Type 0
@@ -34,6 +34,8 @@ FuturesAreTold =
     × (told_by (Some P.NotSent) dropped_while_pending ≡ dropped_while_pending.entries)
     × (told_by (Some P.NotSent) woken_then_ready ≡ woken_then_ready.entries)
     × (told_by None both_dropped_while_pending ≡ both_dropped_while_pending.entries)
+    × (told_by (Some P.NotSent) tried_while_pending ≡ tried_while_pending.entries)
+    × (told_by None tried_beside_a_drop ≡ tried_beside_a_drop.entries)
     -- a future parks nowhere
     × (aheads_by (Some P.NotSent) polled_while_finishing ≡ replicate 19 up)
 
@@ -50,6 +52,8 @@ FuturesAreRight =
     ∷ dropped_while_pending
     ∷ woken_then_ready
     ∷ both_dropped_while_pending
+    ∷ tried_while_pending
+    ∷ tried_beside_a_drop
     -- a poll that has not answered
     ∷ up_to 10 polled_while_finishing
     ∷ up_to 8 polled_by_another_task
@@ -87,6 +91,9 @@ PollsAct =
     × (acting_in dropped_while_pending ≡ 5 ∷ 9 ∷ 11 ∷ [])
     × (acting_in woken_then_ready ≡ 5 ∷ 9 ∷ 11 ∷ 12 ∷ 15 ∷ 16 ∷ 18 ∷ [])
     × (acting_in both_dropped_while_pending ≡ 5 ∷ 9 ∷ 11 ∷ [])
+    -- a `try_recv` at its load
+    × (acting_in tried_while_pending ≡ 5 ∷ 6 ∷ 9 ∷ 11 ∷ 13 ∷ [])
+    × (acting_in tried_beside_a_drop ≡ 2 ∷ 6 ∷ 9 ∷ 10 ∷ 11 ∷ [])
 
 abbrev pub IllegalPolls : Type 0
 IllegalPolls =
@@ -104,6 +111,11 @@ IllegalPolls =
     -- a poll answers with another receive's word for nothing
     ∷ answered_by 5 R.Empty dropped_while_finishing
     ∷ answered_by 11 R.Timeout polled_while_finishing
+    -- a `try_recv` does, or finds what is not there yet, or finds nothing over the end of the sender
+    ∷ answered_by 6 R.Pending tried_while_pending
+    ∷ answered_by 9 R.Disconnected tried_while_pending
+    ∷ answered_by 9 R.Message tried_while_pending
+    ∷ answered_by 11 R.Empty tried_beside_a_drop
     -- a message that comes is denied
     ∷ answered_by 10 R.Disconnected sent_before_pending
     -- the making of a future answers otherwise

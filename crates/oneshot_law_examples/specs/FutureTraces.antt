@@ -317,3 +317,64 @@ both_dropped_while_pending =
           ∷ E.Made (replying R.Done (carrying (Copy 1 3) W.SenderHand W.Used (without_block Sender T.Wake)))
           ∷ [];
     }
+
+-- S send 7
+-- R future poll 1 try try try
+-- X rrrrrrssrsssrrr
+-- a `try_recv` of a future that waits finds nothing, also while the sender finishes, and leaves the stored waker; the last one has the message
+abbrev pub tried_while_pending : Example
+tried_while_pending =
+    record {
+      calls =
+          record {
+            sender = C.Of_sender SC.Send ∷ [];
+            error = [];
+            receiver = C.Of_receiver RC.IntoFuture ∷ C.Poll 1 ∷ C.Of_receiver RC.AsyncTryRecv ∷ C.Of_receiver RC.AsyncTryRecv ∷ C.Of_receiver RC.AsyncTryRecv ∷ [];
+          };
+      entries =
+          E.Made (replying R.Future (receiver T.Plain 3 3))
+          ∷ E.Made (receiver (T.Word O.Load) 3 3)
+          ∷ E.Made (carrying (Copy 1 3) W.New W.Hand (copied false 3))
+          ∷ E.Made (carrying (Copy 1 3) W.Hand W.Cell (receiver T.WriteWaker 3 3))
+          ∷ E.Made (replying R.Pending (receiver (T.Word (O.Exchange 3 0)) 3 0))
+          ∷ E.Made (replying R.Empty (receiver (T.Word O.Load) 0 0))
+          ∷ E.Made (moving P.NotSent P.InCell (sender T.WriteMessage 0 0))
+          ∷ E.Made (sender (T.Word O.Add) 0 1)
+          ∷ E.Made (replying R.Empty (receiver (T.Word O.Load) 1 1))
+          ∷ E.Made (carrying (Copy 1 3) W.Cell W.SenderHand (sender T.TakeWaker 1 1))
+          ∷ E.Made (sender (T.Word (O.Swap 4)) 1 4)
+          ∷ E.Made (replying R.Sent (carrying (Copy 1 3) W.SenderHand W.Used (sender T.Wake 4 4)))
+          ∷ E.Made (receiver (T.Word O.Load) 4 4)
+          ∷ E.Made (receiver (T.Word (O.Store 2)) 4 2)
+          ∷ E.Made (replying R.Message (moving P.InCell P.Delivered (receiver T.TakeMessage 2 2)))
+          ∷ [];
+    }
+
+-- S drop
+-- R future try poll 1 try try
+-- X rrrrrrssrsrs
+-- the sender is dropped while the future waits, and a `try_recv` tells it only afterwards
+abbrev pub tried_beside_a_drop : Example
+tried_beside_a_drop =
+    record {
+      calls =
+          record {
+            sender = C.Of_sender SC.Drop ∷ [];
+            error = [];
+            receiver = C.Of_receiver RC.IntoFuture ∷ C.Of_receiver RC.AsyncTryRecv ∷ C.Poll 1 ∷ C.Of_receiver RC.AsyncTryRecv ∷ C.Of_receiver RC.AsyncTryRecv ∷ [];
+          };
+      entries =
+          E.Made (replying R.Future (receiver T.Plain 3 3))
+          ∷ E.Made (replying R.Empty (receiver (T.Word O.Load) 3 3))
+          ∷ E.Made (receiver (T.Word O.Load) 3 3)
+          ∷ E.Made (carrying (Copy 1 4) W.New W.Hand (copied false 3))
+          ∷ E.Made (carrying (Copy 1 4) W.Hand W.Cell (receiver T.WriteWaker 3 3))
+          ∷ E.Made (replying R.Pending (receiver (T.Word (O.Exchange 3 0)) 3 0))
+          ∷ E.Made (sender (T.Word O.Xor) 0 1)
+          ∷ E.Made (carrying (Copy 1 4) W.Cell W.SenderHand (sender T.TakeWaker 1 1))
+          ∷ E.Made (replying R.Empty (receiver (T.Word O.Load) 1 1))
+          ∷ E.Made (sender (T.Word (O.Swap 2)) 1 2)
+          ∷ E.Made (replying R.Disconnected (receiver (T.Word O.Load) 2 2))
+          ∷ E.Made (replying R.Done (carrying (Copy 1 4) W.SenderHand W.Used (sender T.Wake 2 2)))
+          ∷ [];
+    }

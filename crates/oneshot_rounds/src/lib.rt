@@ -30,6 +30,8 @@ mod receives;
 #[cfg(test)]
 mod sizes;
 #[cfg(test)]
+mod tries;
+#[cfg(test)]
 mod two_channels;
 #[cfg(test)]
 mod waits;

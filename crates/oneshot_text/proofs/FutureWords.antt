@@ -3,32 +3,36 @@ use Rattle.std.proofs.Common.{◌≡◌, ◌≢◌, ℕ, List, [], ◌∷◌, �
 use Rattle.std.proofs.lemmas.Grind.{common_steps, flat_map-append}
 use Rattle.std.proofs.lemmas.List.{append_assoc, append-nil}
 use Rattle.oneshot_replay.specs.declared.AsyncCall.{AsyncCall}
-use Rattle.oneshot_replay.specs.declared.AsyncCall.TheVariants.{Poll, HasMessage, IsClosed}
+use Rattle.oneshot_replay.specs.declared.AsyncCall.TheVariants.{Poll, TryRecv, HasMessage, IsClosed}
 use Rattle.oneshot_replay.specs.declared.AsyncLast.{AsyncLast}
 use Rattle.oneshot_replay.specs.declared.AsyncLast.TheVariants.{Drop, Stop}
 use Rattle.oneshot_replay.specs.declared.AsyncScript.{AsyncScript}
-use Rattle.oneshot_text.specs.Future.{word_of_poll_or_look, words_of_future_call, words_of_future_calls, words_of_future_last, words_of_future, HasNumber, HasNumbers}
+use Rattle.oneshot_text.specs.Future.{first_word_of_future_call, words_of_future_call, words_of_future_calls, words_of_future_last, words_of_future, HasNumber, HasNumbers}
 
 -- no last call begins with a call
-future_last-no_call : (last : AsyncLast) (call : AsyncCall) → slice_get (words_of_future_last last) 0 ≢ Some (word_of_poll_or_look call)
+future_last-no_call : (last : AsyncLast) (call : AsyncCall) → slice_get (words_of_future_last last) 0 ≢ Some (first_word_of_future_call call)
 future_last-no_call Drop (Poll number) = λ is. grind (arith, common_steps)
+future_last-no_call Drop TryRecv = λ is. grind (arith, common_steps)
 future_last-no_call Drop HasMessage = λ is. grind (arith, common_steps)
 future_last-no_call Drop IsClosed = λ is. grind (arith, common_steps)
 future_last-no_call Stop call = λ is. grind (arith, common_steps)
 
 -- the words of a call, and what comes behind them
-begins : (call : AsyncCall) (rest : List (List ℕ)) → slice_get (words_of_future_call call ++ rest) 0 ≡ Some (word_of_poll_or_look call)
+begins : (call : AsyncCall) (rest : List (List ℕ)) → slice_get (words_of_future_call call ++ rest) 0 ≡ Some (first_word_of_future_call call)
 begins (Poll number) rest = refl
+begins TryRecv rest = refl
 begins HasMessage rest = refl
 begins IsClosed rest = refl
 
 apart : (call : AsyncCall) (xs ys : List (List ℕ)) → (words_of_future_call call ++ xs) ++ ys ≡ words_of_future_call call ++ (xs ++ ys)
 apart (Poll number) xs ys = refl
+apart TryRecv xs ys = refl
 apart HasMessage xs ys = refl
 apart IsClosed xs ys = refl
 
 behind : (call : AsyncCall) (xs ys : List (List ℕ)) → words_of_future_call call ++ xs ≡ words_of_future_call call ++ ys → xs ≡ ys
 behind (Poll number) xs ys is = cc
+behind TryRecv xs ys is = cc
 behind HasMessage xs ys is = cc
 behind IsClosed xs ys is = cc
 
@@ -55,7 +59,7 @@ abbrev pub ReadsEach : {F : Type 0} → List (List ℕ) → Result (Option Async
 ReadsEach left read = (call : AsyncCall) (rest : List (List ℕ)) → HasNumber call → left ≡ words_of_future_call call ++ rest → read ≡ Ok (Some call)
 
 abbrev pub HasNoCall : List (List ℕ) → Type 0
-HasNoCall left = (call : AsyncCall) → slice_get left 0 ≢ Some (word_of_poll_or_look call)
+HasNoCall left = (call : AsyncCall) → slice_get left 0 ≢ Some (first_word_of_future_call call)
 
 first_ahead : (call : AsyncCall) (more : List AsyncCall) (last left : List (List ℕ)) → left ≡ words_of_future_calls (call ∷ more) ++ last → left ≡ words_of_future_call call ++ (words_of_future_calls more ++ last)
 first_ahead call more last left is = is ∙ apart call (words_of_future_calls more) last

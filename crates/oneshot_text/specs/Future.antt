@@ -2,24 +2,26 @@
 use Rattle.std.specs.Prelude.{ℕ, ◌^◌, ◌<◌, List, [], ◌∷◌, ◌++◌, codes, decimal}
 use Rattle.std.specs.List.{flat_map}
 use Rattle.oneshot_replay.specs.declared.AsyncCall.{AsyncCall}
-use Rattle.oneshot_replay.specs.declared.AsyncCall.TheVariants.{Poll, HasMessage, IsClosed}
+use Rattle.oneshot_replay.specs.declared.AsyncCall.TheVariants.{Poll, TryRecv, HasMessage, IsClosed}
 use Rattle.oneshot_replay.specs.declared.AsyncLast.{AsyncLast}
 use Rattle.oneshot_replay.specs.declared.AsyncLast.TheVariants.{Drop, Stop}
 use Rattle.oneshot_replay.specs.declared.AsyncScript.{AsyncScript}
 
 -- each call has a word, and a poll a number behind it
-abbrev pub word_of_poll_or_look : AsyncCall → List ℕ
-word_of_poll_or_look (Poll number) = codes "poll"
-word_of_poll_or_look HasMessage = codes "full"
-word_of_poll_or_look IsClosed = codes "closed"
+abbrev pub first_word_of_future_call : AsyncCall → List ℕ
+first_word_of_future_call (Poll number) = codes "poll"
+first_word_of_future_call TryRecv = codes "try"
+first_word_of_future_call HasMessage = codes "full"
+first_word_of_future_call IsClosed = codes "closed"
 
 abbrev pub number_behind : AsyncCall → List (List ℕ)
 number_behind (Poll number) = decimal number ∷ []
+number_behind TryRecv = []
 number_behind HasMessage = []
 number_behind IsClosed = []
 
 abbrev pub words_of_future_call : AsyncCall → List (List ℕ)
-words_of_future_call call = word_of_poll_or_look call ∷ number_behind call
+words_of_future_call call = first_word_of_future_call call ∷ number_behind call
 
 abbrev pub words_of_future_calls : List AsyncCall → List (List ℕ)
 words_of_future_calls calls = flat_map words_of_future_call calls
@@ -35,6 +37,7 @@ words_of_future future = words_of_future_calls future.calls ++ words_of_future_l
 -- a number that the program can hold
 abbrev pub HasNumber : AsyncCall → Type 0
 HasNumber (Poll number) = number < 2 ^ 64
+HasNumber TryRecv = Unit {0}
 HasNumber HasMessage = Unit {0}
 HasNumber IsClosed = Unit {0}
 

@@ -4,7 +4,7 @@ ghost use Rattle.std.specs.Prelude.{◌≡◌, ◌≢◌, ◌++◌, Some, None, 
 ghost use Rattle.oneshot_replay.specs.declared.AsyncCall.{AsyncCall};
 ghost use Rattle.oneshot_replay.specs.declared.AsyncLast.{AsyncLast};
 ghost use Rattle.oneshot_replay.specs.declared.AsyncScript.{AsyncScript};
-ghost use Rattle.oneshot_text.specs.Future.{word_of_poll_or_look, words_of_future_call, words_of_future_calls, words_of_future_last, words_of_future, HasNumber, HasNumbers};
+ghost use Rattle.oneshot_text.specs.Future.{first_word_of_future_call, words_of_future_call, words_of_future_calls, words_of_future_last, words_of_future, HasNumber, HasNumbers};
 ghost use Rattle.oneshot_text.specs.Grammar.{AsksForFuture};
 ghost use Rattle.oneshot_text.specs.Words.{words_left, HasLineFault, IsSameLine};
 ghost use Rattle.oneshot_text.specs.declared.fault.Malformed.{Malformed};
@@ -43,7 +43,7 @@ fn parse_calls(alloc: Global, words: &mut Words<'_>) -> Result<Vec<AsyncCall>, P
         (λ error. error ≡ ParseError.OutOfMemory alloc_error) }
     ensures numbers { IfOk result (λ calls. HasNumbers calls.items) }
     ensures whole { OnOk result ((call : AsyncCall) →
-        slice_get (words_left words.new) 0 ≢ Some (word_of_poll_or_look call)) }
+        slice_get (words_left words.new) 0 ≢ Some (first_word_of_future_call call)) }
     ensures line { OnOk result (IsSameLine words.old words.new) }
     ensures faulty { (fault : Malformed) → result ≡ Err (ParseError.Malformed fault) →
         HasLineFault AsksForFuture words.old fault }
@@ -61,9 +61,9 @@ fn next_call(words: &mut Words<'_>) -> Result<Option<AsyncCall>, Malformed>
         words_left words.old ≡ words_of_future_call call ++ words_left words.new)) }
     ensures left { result ≡ Ok None → words_left words.new ≡ words_left words.old }
     ensures none { result ≡ Ok None → (call : AsyncCall) →
-        slice_get (words_left words.old) 0 ≢ Some (word_of_poll_or_look call) }
+        slice_get (words_left words.old) 0 ≢ Some (first_word_of_future_call call) }
     ensures only_then { ((call : AsyncCall) →
-        slice_get (words_left words.old) 0 ≢ Some (word_of_poll_or_look call)) → result ≡ Ok None }
+        slice_get (words_left words.old) 0 ≢ Some (first_word_of_future_call call)) → result ≡ Ok None }
     ensures each { (call : AsyncCall) (rest : List (List ℕ)) → HasNumber call →
         words_left words.old ≡ words_of_future_call call ++ rest → result ≡ Ok (Some call) }
     ensures numbers { IfOk result (λ next. IfSome next HasNumber) }
@@ -75,7 +75,9 @@ fn next_call(words: &mut Words<'_>) -> Result<Option<AsyncCall>, Malformed>
         words.next();
         return Ok(Some(AsyncCall::Poll(words.number()?)));
     }
-    let look = if words.next_is("full") {
+    let call = if words.next_is("try") {
+        AsyncCall::TryRecv
+    } else if words.next_is("full") {
         AsyncCall::HasMessage
     } else if words.next_is("closed") {
         AsyncCall::IsClosed
@@ -83,7 +85,7 @@ fn next_call(words: &mut Words<'_>) -> Result<Option<AsyncCall>, Malformed>
         return Ok(None);
     };
     words.next();
-    Ok(Some(look))
+    Ok(Some(call))
 }
 
 /// The last call, to which all words that are left belong.
@@ -92,7 +94,7 @@ fn parse_last(mut words: Words<'_>) -> Result<AsyncLast, Malformed>
     ensures each { (last : AsyncLast) →
         words_left words.entry ≡ words_of_future_last last → result ≡ Ok last }
     ensures faulty { ((call : AsyncCall) →
-        slice_get (words_left words.entry) 0 ≢ Some (word_of_poll_or_look call)) →
+        slice_get (words_left words.entry) 0 ≢ Some (first_word_of_future_call call)) →
         (fault : Malformed) → result ≡ Err fault → HasLineFault AsksForFuture words.entry fault }
 {
     if words.next_is("drop") {

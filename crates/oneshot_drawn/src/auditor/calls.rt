@@ -21,7 +21,7 @@ pub(crate) enum Call {
     IntoInner,
     /// The error is dropped.
     DropError,
-    /// A call that leaves the receiver in place; a future's looks are the receiver's.
+    /// A call that leaves the receiver in place; a future's looks and its `try_recv` are the receiver's.
     Receiver(ReceiverCall),
     /// `Receiver::recv`.
     Recv,
@@ -161,6 +161,7 @@ fn future_call(script: &AsyncScript, others: usize) -> Option<Call> {
     if others < calls.len() {
         return Some(match calls[others] {
             AsyncCall::Poll(number) => Call::Poll(number),
+            AsyncCall::TryRecv => Call::Receiver(ReceiverCall::TryRecv),
             AsyncCall::HasMessage => Call::Receiver(ReceiverCall::HasMessage),
             AsyncCall::IsClosed => Call::Receiver(ReceiverCall::IsClosed),
         });

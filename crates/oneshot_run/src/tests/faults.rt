@@ -30,6 +30,12 @@ fn each_fault_of_the_three_lines(rt: HostRuntime) {
             "S\nR try try try try try try try try try try recv try\n",
             "2 line 2: word 12 follows the last call",
         ),
+        ("S\nR future try ref\n", "2 line 2: unknown word 3"),
+        ("S\nR future poll try\n", "2 line 2: bad number at word 3"),
+        (
+            "S\nR future poll 1 try drop try\n",
+            "2 line 2: word 6 follows the last call",
+        ),
         ("S\tsend 7\nR\nX\n", "2 line 1: must begin with S"),
         ("S send\t7\nR\nX\n", "2 line 1: unknown word 1"),
         ("S send 7\nR try\t\nX\n", "2 line 2: unknown word 1"),

@@ -206,3 +206,57 @@ block here
 ",
     );
 }
+
+#[test]
+fn a_try_of_a_future_leaves_its_waker(rt: HostRuntime) {
+    assert_trace(
+        &rt,
+        "S send 7\nR future poll 1 try try try\nX rrrrrrssrsssrrr\n",
+        "1 R plain 3>3 = future
+2 R load 3>3
+3 R copy 3>3 w1@3:New>Hand
+4 R write-waker 3>3 w1@3:Hand>Cell
+5 R exchange 3>0 = Pending
+6 R load 0>0 = Err(Empty)
+7 S write-message 0>0 m:NotSent>InCell
+8 S add 0>1
+9 R load 1>1 = Err(Empty)
+10 S take-waker 1>1 w1@3:Cell>SenderHand
+11 S swap 1>4
+12 S wake 4>4 w1@3:SenderHand>Used = Ok
+13 R load 4>4
+14 R store 4>2
+15 R take-message 2>2 m:InCell>Delivered = Ok(7)
+rest Delivered(7)
+block here
+",
+    );
+}
+
+#[test]
+fn a_try_of_a_future_tells_that_the_sender_has_gone(rt: HostRuntime) {
+    assert_trace(
+        &rt,
+        "S drop\nR future try poll 1 try try poll 1 try drop\nX rrrrrrssrsrsrrrrr\n",
+        "1 R plain 3>3 = future
+2 R load 3>3 = Err(Empty)
+3 R load 3>3
+4 R copy 3>3 w1@4:New>Hand
+5 R write-waker 3>3 w1@4:Hand>Cell
+6 R exchange 3>0 = Pending
+7 S xor 0>1
+8 S take-waker 1>1 w1@4:Cell>SenderHand
+9 R load 1>1 = Err(Empty)
+10 S swap 1>2
+11 R load 2>2 = Err(Disconnected)
+12 S wake 2>2 w1@4:SenderHand>Used = dropped
+13 R load 2>2 = Ready(Err(RecvError))
+14 R load 2>2 = Err(Disconnected)
+15 R load 2>2
+16 R swap 2>2
+17 R free 2>- = dropped
+rest none
+block freed
+",
+    );
+}

@@ -17,7 +17,7 @@ const TEXTS: [&str; 8] = [
     "S drop\nR deadline timeout forever\nX srrrorr\n",
     "S closed closed\nR try ref deadline\nX\n",
     "S send 7\nR future poll 1 drop\nX rrrrrssrrssrrrrs\n",
-    "S closed drop\nR try future full closed poll 0 poll 18446744073709551615\nX rrnrsss",
+    "S closed drop\nR try future full closed poll 0 try poll 18446744073709551615\nX rrnrsss",
 ];
 
 /// How many texts a test draws.

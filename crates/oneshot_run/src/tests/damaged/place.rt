@@ -70,6 +70,7 @@ const RECEIVER_CALLS: Words = &[
 
 const FUTURE_CALLS: Words = &[
     ("poll", Place::Task),
+    ("try", Place::FutureCall),
     ("full", Place::FutureCall),
     ("closed", Place::FutureCall),
     ("drop", Place::End),

@@ -1,0 +1,134 @@
+//! One `try_recv` of a future that has left a copy of its task's waker, beside a `send` of 999 and beside
+//! the sender's drop. Where it finds nothing, the copy stays, and the sender wakes the task.
+
+use super::answers::Silence::{Disconnected, NothingYet};
+use super::answers::{Outcome, Silence, assert_answers, assert_both_orders};
+use super::counted::{Counted, make_messages};
+use super::races::race;
+use futures::task::Poll;
+use futures::test::MockTask;
+use oneshot::{AsyncReceiver, Sender, async_channel};
+use std::alloc::AllocGlobal;
+use std::process::Abort;
+use std::random::RandomSource;
+use std::sync::Wait;
+use std::test::Fail;
+
+const ROUNDS: u64 = 10_000;
+
+/// A future, and the task that has polled it.
+#[derive(Drop)]
+struct Waiting<Rt: Wait + Drop> {
+    task: MockTask,
+    future: AsyncReceiver<Counted, Rt>,
+}
+
+impl<Rt: Wait + Drop> Waiting<Rt> {
+    fn try_once(&mut self) -> Result<u64, Silence> {
+        Ok(self.future.try_recv()?.value)
+    }
+
+    fn poll(&mut self) -> Result<u64, Silence> {
+        match self.task.poll(&mut self.future) {
+            Poll::Ready(answer) => Ok(answer?.value),
+            Poll::Pending => Err(NothingYet),
+        }
+    }
+}
+
+/// So many channels, whose futures a task each has polled once.
+fn waiting_channels<R: Wait + AllocGlobal + RandomSource + Abort>(
+    rt: &R,
+) -> Result<(Vec<Sender<Counted>>, Vec<Waiting<&R>>), Fail> {
+    let mut senders = Vec::new(rt.alloc());
+    let mut receivers = Vec::new(rt.alloc());
+    for _ in 0..ROUNDS {
+        let task = MockTask::new(rt)?;
+        let (sender, future) = async_channel(rt, rt.alloc())?;
+        let mut waiting = Waiting { task, future };
+        assert_eq!(rt; waiting.poll(), Err(NothingYet));
+        assert!(rt; !waiting.task.is_woken());
+        senders.push(sender)?;
+        receivers.push(waiting)?;
+    }
+    Ok((senders, receivers))
+}
+
+/// Fails unless each task was woken, and gets this where its `try_recv` found nothing yet. Any other
+/// `try_recv` leaves nothing.
+fn assert_woken<Rt: Wait + Drop>(
+    rt: &impl Abort,
+    receivers: Vec<Waiting<Rt>>,
+    tries: &[Outcome<Result<u64, Silence>>],
+    left: Result<u64, Silence>,
+) {
+    for (mut waiting, tried) in receivers.into_iter().zip(tries) {
+        assert!(rt; waiting.task.is_woken());
+        let wanted = if tried.answer == Err(NothingYet) {
+            left
+        } else {
+            Err(Disconnected)
+        };
+        assert_eq!(rt; waiting.poll(), wanted);
+    }
+}
+
+#[test]
+fn a_try_beside_a_send_leaves_the_task_to_be_woken(rt: HostRuntime) -> Result<(), Fail> {
+    let (messages, drops) = make_messages(rt.alloc(), ROUNDS, 999)?;
+    let (senders, mut receivers) = waiting_channels(&rt)?;
+    let (sends, tries) = race(
+        &rt,
+        rt.alloc(),
+        senders.into_iter().zip(messages).collect(rt.alloc())?,
+        receivers.iter_mut().collect(rt.alloc())?,
+        |(sender, message)| sender.send(message).is_ok(),
+        |waiting| waiting.try_once(),
+    );
+    assert_answers(&rt, &sends, &[true]);
+    assert_answers(&rt, &tries, &[Ok(999), Err(NothingYet)]);
+    assert_both_orders(&rt, &tries);
+    assert_woken(&rt, receivers, &tries, Ok(999));
+    drops.assert_once(&rt);
+    Ok(())
+}
+
+#[test]
+fn a_try_beside_a_drop_leaves_the_task_to_be_woken(rt: HostRuntime) -> Result<(), Fail> {
+    let (senders, mut receivers) = waiting_channels(&rt)?;
+    let (drops, tries) = race(
+        &rt,
+        rt.alloc(),
+        senders,
+        receivers.iter_mut().collect(rt.alloc())?,
+        |sender| drop(sender),
+        |waiting| waiting.try_once(),
+    );
+    assert_answers(&rt, &tries, &[Err(Disconnected), Err(NothingYet)]);
+    assert_both_orders(&rt, &drops);
+    assert_both_orders(&rt, &tries);
+    assert_woken(&rt, receivers, &tries, Err(Disconnected));
+    Ok(())
+}
+
+#[test]
+fn a_try_and_a_drop_beside_a_send_take_the_message_once(rt: HostRuntime) -> Result<(), Fail> {
+    let (messages, drops) = make_messages(rt.alloc(), ROUNDS, 999)?;
+    let (senders, receivers) = waiting_channels(&rt)?;
+    let (sends, tries) = race(
+        &rt,
+        rt.alloc(),
+        senders.into_iter().zip(messages).collect(rt.alloc())?,
+        receivers,
+        |(sender, message)| {
+            let sent = sender.send(message);
+            sent.map_err(|refused| refused.into_inner().value)
+        },
+        |mut waiting| waiting.try_once(),
+    );
+    assert_answers(&rt, &sends, &[Ok(()), Err(999)]);
+    assert_answers(&rt, &tries, &[Ok(999), Err(NothingYet)]);
+    assert_both_orders(&rt, &tries);
+    drops.assert_once(&rt);
+    Ok(())
+}
