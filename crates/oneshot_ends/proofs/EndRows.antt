@@ -4,7 +4,7 @@ use Rattle.std.specs.List.{list_all}
 use Rattle.std.proofs.lemmas.Bool.{and_parts}
 use Rattle.oneshot_machine.specs.declared.states.Op.{Op}
 use Rattle.oneshot_machine.specs.declared.states.Op.TheVariants.{Load, Store, Swap, Exchange, Add, Xor}
-use Rattle.oneshot_machine.specs.Phases.{SenderAt, fresh, owes, finished, late, no_sender, sending, dropping, sender_moves, ReceiverAt, first, here, looked, between, waits, blocked, polled, again, claimed, withdrew, overdue, full, at_once, waited, swapped, by_future, by_poll, unclosed, disconnected, resolved, gone, ended, no_receiver, receiver_moves, receiver_owns, Share, none, empty, filled, Row}
+use Rattle.oneshot_machine.specs.Phases.{SenderAt, fresh, owes, finished, late, overtaken, no_sender, sending, dropping, sender_moves, ReceiverAt, first, here, looked, between, waits, blocked, polled, again, claimed, withdrew, overdue, full, at_once, waited, swapped, by_future, by_poll, unclosed, disconnected, resolved, gone, ended, no_receiver, receiver_moves, receiver_owns, Share, none, empty, filled, Row}
 use Rattle.oneshot_machine.specs.Slots.{Held, In, may, SenderMay, ReceiverMay}
 use Rattle.oneshot_machine.proofs.Exactness.{each_passes}
 use Rattle.oneshot_ends.specs.Grounds.{MayBeFreed}
@@ -36,6 +36,7 @@ senders_rows (owes sending) = refl
 senders_rows (owes dropping) = refl
 senders_rows (finished by) = refl
 senders_rows (late by) = refl
+senders_rows (overtaken by) = refl
 senders_rows no_sender = refl
 
 -- Each of the receiver's is one of its operations, and needs the message's slot where both slots are its own.

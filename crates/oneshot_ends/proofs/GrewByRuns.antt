@@ -14,7 +14,7 @@ use Rattle.oneshot_machine.specs.Runs.{Run, last, more, SenderRan, ReceiverRan}
 use Rattle.oneshot_machine.specs.Receiver.{receiver_start, receiver_step, receiver_row}
 use Rattle.oneshot_machine.specs.Sender.{sender_start, sender_step, sender_row}
 use Rattle.oneshot_machine.specs.Noted.{Noted}
-use Rattle.oneshot_machine.specs.Counts.{operates, operates_past_1, GrewAtMost}
+use Rattle.oneshot_machine.specs.Counts.{operates, GrewAtMost}
 use Rattle.oneshot_machine.proofs.CallBounds.{try_recv_makes, async_try_recv_makes, poll_makes}
 use Rattle.oneshot_machine.proofs.GrownLists.{words_after}
 use Rattle.oneshot_word.specs.Side.{Side}
@@ -74,5 +74,5 @@ module _ {T : Type 0} {before after : List Noted} {reply : Reply} where
   pub async_try_recv_few : ReceiverGrew T AsyncTryRecv before after reply → GrewAtMost 2 operates before after
   async_try_recv_few grew = record { added = words grew.run; list = grew.list; few = async_try_recv_makes grew.run grew.is_run }
 
-  pub poll_few : ReceiverGrew T Poll before after reply → GrewAtMost 4 operates_past_1 before after
+  pub poll_few : ReceiverGrew T Poll before after reply → GrewAtMost 4 operates before after
   poll_few grew = record { added = words grew.run; list = grew.list; few = poll_makes grew.run grew.is_run }

@@ -5,7 +5,7 @@ use Rattle.oneshot_machine.specs.Logs.{words}
 use Rattle.oneshot_machine.specs.Phases.{SenderAt, sender_moves, sender_at, ReceiverAt, receiver_moves, receiver_owns, receiver_at, Share, Row}
 use Rattle.oneshot_machine.specs.Slots.{Held, away, vacant, IsSlot, is_away, May, may, Finds, Owns, owns, own_vacant, SenderMay}
 use Rattle.oneshot_machine.specs.Noted.{Noted}
-use Rattle.oneshot_drive.specs.BetweenCalls.{IsLate, is_late}
+use Rattle.oneshot_drive.specs.BetweenCalls.{IsLate, is_late, is_overtaken}
 use Rattle.oneshot_drive.specs.Grounds.{SenderAsks, ReceiverAsks}
 use Rattle.oneshot_word.specs.Side.{Side, SenderCan, ReceiverCan}
 use Rattle.oneshot_ends.specs.Grounds.{MayBeFreed, unless_freed, left_of, events_of, state_of}
@@ -75,6 +75,7 @@ module _ {T W : Type 0} where
   -- a sender that came late makes none
   never_late : {at : SenderAt} {op : Op} {m : Held T} {w : Held W} → IsLate at → SenderMay at op m w → ⊥
   never_late (is_late by) (may there message waker) = elim there [ ]
+  never_late (is_overtaken by) (may there message waker) = elim there [ ]
 
   pub late_never : (s now : Side T W) (op : Op) {m : Held T} {w : Held W} → IsLate (sender_at s.steps) → record s { message = m; waker = w } ≡ now → SenderAsks op (state_of now) → ⊥
   late_never s now op {m} {w} came_late is asks =

@@ -7,7 +7,7 @@ ghost use Rattle.futures.specs.declared.task.Poll.TheVariants.{Pending};
 ghost use Rattle.futures.specs.Poll.{IfReady, OnPending};
 ghost use Rattle.futures.specs.Task.{Covers, Keeps};
 ghost use Rattle.oneshot_machine.specs.declared.machine.receiver.ReceiverStart.TheVariants as C;
-ghost use Rattle.oneshot_machine.specs.Counts.{operates, operates_past_1, GrewAtMost};
+ghost use Rattle.oneshot_machine.specs.Counts.{operates, GrewAtMost};
 ghost use Rattle.oneshot_machine.specs.Phases.{receiver_at};
 ghost use Rattle.oneshot_drive.specs.BetweenCalls.{AtRest, try_recv_reply};
 ghost use Rattle.oneshot_drive.specs.Polls.{LeavesPolled, LeavesTried, StaysRegistered, IsDisconnected, poll_reply};
@@ -23,7 +23,6 @@ use futures::task::{Context, Poll, Source, Waker};
 use oneshot_drive::{async_try_recv, drop_async, poll};
 use oneshot_errors::{RecvError, TryRecvError};
 use std::marker::Model;
-use std::sync::Wait;
 
 /// Receives one message from its sender, as a future: `Ok` with the message, or `Err` where the sender
 /// was dropped without a message or the message was received before.
@@ -32,15 +31,16 @@ use std::sync::Wait;
 /// reads whether the future is done, and the source at which its polls register.
 ///
 /// Where `T` and `Rt` are `Send` it may go to another thread between two polls.
-pub struct AsyncReceiver<T, Rt: Wait> {
+pub struct AsyncReceiver<T, Rt> {
     pub(crate) ground: ReceiverOnWord<T, Unparker, Waker>,
     source: Source,
     // Copies of wakers that are not in the channel.
     copies: Copies<Waker>,
+    // What `into_future` was given in the receiver: no call of a future uses it.
     rt: Rt,
 }
 
-impl<T, Rt: Wait> Model for AsyncReceiver<T, Rt> {
+impl<T, Rt> Model for AsyncReceiver<T, Rt> {
     ghost use Rattle.oneshot_drive.specs.Polls.{IsPolled};
     ghost use Rattle.oneshot_ends.specs.Ends.{FutureEnd};
     ghost use Rattle.oneshot_ends.specs.Grounds.{state_of};
@@ -52,7 +52,7 @@ impl<T, Rt: Wait> Model for AsyncReceiver<T, Rt> {
     ghost invariant = { λ r. IsPolled (state_of r.ground) };
 }
 
-impl<T, Rt: Wait> AsyncReceiver<T, Rt> {
+impl<T, Rt> AsyncReceiver<T, Rt> {
     pub(crate) fn new(
         ground: ReceiverOnWord<T, Unparker, Waker>,
         source: Source,
@@ -71,7 +71,7 @@ impl<T, Rt: Wait> AsyncReceiver<T, Rt> {
     }
 }
 
-impl<T: Drop, Rt: Wait + Drop> AsyncReceiver<T, Rt> {
+impl<T: Drop, Rt: Drop> AsyncReceiver<T, Rt> {
     /// Receives the message if it is there. It never blocks and does not allocate. The Rust crate has no
     /// `try_recv` of a future: this one answers as that of a `Receiver`.
     ///
@@ -97,12 +97,12 @@ impl<T: Drop, Rt: Wait + Drop> AsyncReceiver<T, Rt> {
     }
 }
 
-impl<T: Drop, Rt: Wait + Drop> Future for AsyncReceiver<T, Rt> {
+impl<T: Drop, Rt: Drop> Future for AsyncReceiver<T, Rt> {
     type Output = Result<T, RecvError>;
 
     ghost needs = { λ r s. s ≡ r.source };
 
-    /// Polls once. It allocates nothing, and blocks only for a sender that is about to finish.
+    /// Polls once. It allocates nothing and never blocks: no poll waits for the sender.
     ///
     /// - `Ready(Ok)`: the message.
     /// - `Ready(Err)`: the sender was dropped without a message, or the message was received before. A
@@ -122,7 +122,7 @@ impl<T: Drop, Rt: Wait + Drop> Future for AsyncReceiver<T, Rt> {
         ensures closes { result ≢ Pending → IsDone self.new }
         ensures stays_open { result ≡ Pending → IsUnfinished self.new }
         ensures stays_closed { IsDone self.old → IsDisconnected result }
-        ensures bounded { GrewAtMost 4 operates_past_1 self.old.steps self.new.steps }
+        ensures bounded { GrewAtMost 4 operates self.old.steps self.new.steps }
     {
         let mut lent = Polling {
             ground: &mut self.ground,
@@ -130,18 +130,18 @@ impl<T: Drop, Rt: Wait + Drop> Future for AsyncReceiver<T, Rt> {
             source: &self.source,
             copies: &mut self.copies,
         };
-        poll(&mut lent, &self.rt)
+        poll(&mut lent)
     }
 }
 
-impl<T: Drop, Rt: Wait + Drop> Drop for AsyncReceiver<T, Rt> {
+impl<T: Drop, Rt: Drop> Drop for AsyncReceiver<T, Rt> {
     fn drop(self) {
         let AsyncReceiver {
             mut ground,
             source: _,
             copies: _,
-            rt,
+            rt: _,
         } = self;
-        drop_async(&mut ground, &rt);
+        drop_async(&mut ground);
     }
 }

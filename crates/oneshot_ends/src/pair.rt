@@ -10,7 +10,6 @@ use crate::sender::Sender;
 use crossbeam_utils::sync::Parker;
 use oneshot_word::open;
 use std::alloc::{AllocError, Global};
-use std::sync::Wait;
 
 /// Makes a channel for one message: its sender and its receiver.
 ///
@@ -36,9 +35,9 @@ pub fn channel<T: Send + Drop, Rt: Drop>(
 
 /// Makes a channel whose receiver is a future: `channel` followed by `Receiver::into_future`.
 ///
-/// The future keeps `rt` for polls that wait for a sender about to finish. `Err` comes only where an
+/// The future keeps `rt`, which no call of it uses: `()` is a runtime for it. `Err` comes only where an
 /// allocation was refused; then nothing was made.
-pub fn async_channel<T: Send + Drop, Rt: Wait + Drop>(
+pub fn async_channel<T: Send + Drop, Rt: Drop>(
     rt: Rt,
     alloc: Global,
 ) -> Result<(Sender<T>, AsyncReceiver<T, Rt>), AllocError>

@@ -212,7 +212,7 @@ impl<T: Drop, Rt: Wait + Clock + Drop> Receiver<T, Rt> {
     }
 }
 
-impl<T: Drop, Rt: Wait + Drop> Receiver<T, Rt> {
+impl<T: Drop, Rt: Drop> Receiver<T, Rt> {
     /// Makes a future of the receiver, which a task can poll. It makes no operation on the word, waits for
     /// nobody and allocates nothing. The receiver's parker is dropped.
     pub fn into_future(self) -> AsyncReceiver<T, Rt>

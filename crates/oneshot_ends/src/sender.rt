@@ -18,7 +18,7 @@ use std::marker::Model;
 
 /// Sends one message to its receiver.
 ///
-/// Dropping it without a `send` wakes a receiver that blocks, whose receive then says that no message
+/// Dropping it without a `send` wakes a receiver that waits, whose receive then says that no message
 /// will come. The drop never blocks.
 ///
 /// A contract sees the channel that the sender belongs to, and the log of its operations on the word,
@@ -52,10 +52,11 @@ impl<T> Sender<T> {
 }
 
 impl<T: Drop> Sender<T> {
-    /// Sends `message`, and wakes a receiver that blocks. It never blocks and does not allocate.
+    /// Sends `message`, and wakes a receiver that waits. It never blocks and does not allocate.
     ///
     /// - `Ok`: the receiver was there. It may still be dropped before it receives the message.
-    /// - `Err`: the receiver was gone. The error has the message.
+    /// - `Err`: the receiver was gone, or, as a future, was dropped while `send` was about to wake its task.
+    ///   The error has the message.
     pub fn send(self, message: T) -> Result<(), SendError<T>>
         ensures message { IfErr result (λ error. error.message ≡ message) }
         ensures channel { IfErr result (λ error. error.channel ≡ self.channel) }

@@ -2,7 +2,7 @@
 use Rattle.std.proofs.Common.{◌≢◌, [], ◌∷◌, refl}
 use Rattle.oneshot_machine.specs.declared.machine.Seen.TheVariants.{Word}
 use Rattle.oneshot_machine.specs.declared.states.Op.TheVariants.{Add}
-use Rattle.oneshot_machine.specs.Phases.{sending}
+use Rattle.oneshot_machine.specs.Phases.{sending, dropping}
 use Rattle.oneshot_word.specs.declared.rouse.Rouse.{Rouse}
 use Rattle.oneshot_word.specs.declared.rouse.Rouse.TheVariants as R
 use Rattle.oneshot_word.specs.Examples.{waits, stopped_over, polled, polled_over, exchanged_back, left_meanwhile, claims, sent_over, dropped_over, StatesThatAre, StatesThatAreNot}

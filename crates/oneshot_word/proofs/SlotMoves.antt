@@ -68,6 +68,7 @@ abbrev pub is_act : Front → Bool → Bool → Bool → Bool → Bool
 is_act waker_first true false false false = true
 is_act waker_first true true false true = true
 is_act waker_first true false true false = true
+is_act waker_first true true true true = true
 is_act message_first false false false false = true
 is_act message_first false false true true = true
 is_act message_first true true true true = true
@@ -85,6 +86,7 @@ module _ {T H K : Type 0} where
   both waker_first e goes_home stays_there = acts gives tt refl refl
   both waker_first e stays_here (comes {s}) = acts (takes 1 s) refl refl refl
   both waker_first e goes_home goes_home = acts (chain gives gives) (tt, tt) refl refl
+  both waker_first e stays_here stays_here = acts keeps tt refl refl
   both message_first e stays_there stays_there = acts keeps tt refl refl
   both message_first e stays_there stays_here = acts keeps tt refl refl
   both message_first e stays_here stays_here = acts keeps tt refl refl

@@ -6,7 +6,6 @@ use crate::receiver::Receiver;
 use crate::sender::Sender;
 use oneshot_machine::states::{DISCONNECTED, MESSAGE};
 use oneshot_word::Peek;
-use std::sync::Wait;
 
 impl<T, H, K> ReceiverOnWord<T, H, K> {
     // Private here, so that no call of a receiver but its looks can make it.
@@ -35,7 +34,7 @@ impl<T, Rt> Receiver<T, Rt> {
     }
 }
 
-impl<T, Rt: Wait> AsyncReceiver<T, Rt> {
+impl<T, Rt> AsyncReceiver<T, Rt> {
     /// Whether the sender is gone without a message, or the message was received, by one load.
     pub fn is_closed(&self) -> bool {
         self.ground.peek() == DISCONNECTED
