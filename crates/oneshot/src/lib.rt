@@ -8,6 +8,8 @@ mod callers;
 #[cfg(test)]
 mod example;
 #[cfg(test)]
+mod glanced;
+#[cfg(test)]
 mod inbox;
 #[cfg(test)]
 mod rehearsal;

@@ -1,9 +1,10 @@
-//! Polls over a ground in memory: what becomes of the copies of a waker, and how often its task is woken.
+//! The calls of a future over a ground in memory: what becomes of the copies of a waker, and how often its
+//! task is woken.
 
 use crate::drive::steps::steps_of;
 use futures::task::Poll;
-use oneshot_drive::{drop_async, poll};
-use oneshot_errors::RecvError;
+use oneshot_drive::{async_try_recv, drop_async, poll};
+use oneshot_errors::{RecvError, TryRecvError};
 use oneshot_memory::{MemoryFuture, MemoryTask};
 use std::test::Fail;
 
@@ -91,4 +92,59 @@ fn a_dropped_future_ends_its_copy(rt: HostRuntime) {
     assert!(rt; matches!(&poll(&mut g, &rt), Poll::Pending));
     drop_async(&mut g, &rt);
     assert!(rt; counts(&task) == (1, 1, 0));
+}
+
+#[test]
+fn a_future_that_was_not_polled_finds_3_4_and_2(rt: HostRuntime) -> Result<(), Fail> {
+    let task = MemoryTask::new();
+    let mut g = MemoryFuture::<'_, '_, u64, _>::new(&rt, rt.alloc(), &task);
+    assert_eq!(rt; async_try_recv(&mut g), Err(TryRecvError::Empty));
+    g.receiver.sender_sends(1234);
+    assert_eq!(rt; async_try_recv(&mut g), Ok(1234));
+    assert_eq!(rt; async_try_recv(&mut g), Err(TryRecvError::Disconnected));
+    assert!(rt; counts(&task) == (0, 0, 0));
+    let steps = steps_of(rt.alloc(), g.receiver.events())?;
+    assert_eq!(rt; steps.as_str(), "load:3, load:4, store 2, take-message, load:2");
+    Ok(())
+}
+
+// The copy stays in its slot over 0, or the sender would wake nobody.
+#[test]
+fn a_look_leaves_the_copy_in_its_slot(rt: HostRuntime) -> Result<(), Fail> {
+    let task = MemoryTask::new();
+    let mut g = MemoryFuture::<'_, '_, u64, _>::new(&rt, rt.alloc(), &task);
+    assert!(rt; matches!(&poll(&mut g, &rt), Poll::Pending));
+    assert_eq!(rt; async_try_recv(&mut g), Err(TryRecvError::Empty));
+    assert_eq!(rt; async_try_recv(&mut g), Err(TryRecvError::Empty));
+    assert!(rt; counts(&task) == (1, 0, 0));
+    g.receiver.sender_drops();
+    assert!(rt; counts(&task) == (1, 1, 1));
+    assert_eq!(rt; async_try_recv(&mut g), Err(TryRecvError::Disconnected));
+    let steps = steps_of(rt.alloc(), g.receiver.events())?;
+    assert_eq!(rt;
+        steps.as_str(),
+        "load:3, copy:made, write-waker, exchange 3 0:3, load:0, load:0, load:2"
+    );
+    Ok(())
+}
+
+// The sender lingers for two pauses: the exchange of the second poll finds it, and so does the first look.
+#[test]
+fn a_look_does_not_wait_for_a_sender_about_to_finish(rt: HostRuntime) -> Result<(), Fail> {
+    let task = MemoryTask::new();
+    let mut g = MemoryFuture::<'_, '_, u64, _>::new(&rt, rt.alloc(), &task);
+    assert!(rt; matches!(&poll(&mut g, &rt), Poll::Pending));
+    g.receiver.sender_will_send(0, 7);
+    g.receiver.sender_will_linger(2);
+    assert!(rt; matches!(&poll(&mut g, &rt), Poll::Pending));
+    assert_eq!(rt; async_try_recv(&mut g), Err(TryRecvError::Empty));
+    assert_eq!(rt; async_try_recv(&mut g), Err(TryRecvError::Empty));
+    assert_eq!(rt; async_try_recv(&mut g), Ok(7));
+    let steps = steps_of(rt.alloc(), g.receiver.events())?;
+    assert_eq!(rt;
+        steps.as_str(),
+        "load:3, copy:made, write-waker, exchange 3 0:3, load:0, copy:made, exchange 0 3:1, \
+        wake-own, load:1, load:1, load:4, store 2, take-message"
+    );
+    Ok(())
 }

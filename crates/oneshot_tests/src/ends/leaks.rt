@@ -1,7 +1,7 @@
 //! Whatever way a channel ends, all that it owned is given back: the block, the parker and the runtime.
 
 use super::clocks::{Act, Meanwhile, five};
-use super::lives::{DROPPED, LIVES, Life, RAW, READY, live};
+use super::lives::{DROPPED, LIVES, Life, RAW, READY, TRIED, live};
 use super::steps::{Ends, Look};
 use futures::test::MockTask;
 use oneshot::{RecvError, channel};
@@ -177,6 +177,11 @@ fn a_receiver_that_was_woken_leaves_nothing(rt: HostRuntime) -> Result<(), Fail>
 #[test]
 fn a_future_that_was_ready_leaves_nothing(rt: HostRuntime) -> Result<(), Fail> {
     assert_none_leaks(&rt, &READY)
+}
+
+#[test]
+fn a_future_that_is_looked_at_leaves_nothing(rt: HostRuntime) -> Result<(), Fail> {
+    assert_none_leaks(&rt, &TRIED)
 }
 
 #[test]

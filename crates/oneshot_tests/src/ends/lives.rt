@@ -49,6 +49,54 @@ pub(super) const READY: [Life<'static>; 4] = [
     ],
 ];
 
+/// A future that is asked by `try_recv` before its polls, between them and after them.
+pub(super) const TRIED: [Life<'static>; 5] = [
+    &[
+        (MakeAsync, Done, Open, Open),
+        (TryRecv, NothingYet, Open, Open),
+        (SendMessage, Sent, Gone, Full),
+        (TryRecv, Received, Gone, Closed),
+        (TryRecv, Disconnected, Gone, Closed),
+        (PollFuture, Disconnected, Gone, Closed),
+    ],
+    &[
+        (MakeAsync, Done, Open, Open),
+        (PollFuture, NothingYet, Open, Open),
+        (TryRecv, NothingYet, Open, Open),
+        (TryRecv, NothingYet, Open, Open),
+        (PollFuture, NothingYet, Open, Open),
+        (TryRecv, NothingYet, Open, Open),
+        (SendMessage, Sent, Gone, Full),
+        (TryRecv, Received, Gone, Closed),
+        (PollFuture, Disconnected, Gone, Closed),
+        (TryRecv, Disconnected, Gone, Closed),
+    ],
+    &[
+        (MakeAsync, Done, Open, Open),
+        (PollFuture, NothingYet, Open, Open),
+        (TryRecv, NothingYet, Open, Open),
+        (SendMessage, Sent, Gone, Full),
+        (PollFuture, Received, Gone, Closed),
+        (TryRecv, Disconnected, Gone, Closed),
+    ],
+    &[
+        (Make, Done, Open, Open),
+        (IntoFuture, Done, Open, Open),
+        (PollFuture, NothingYet, Open, Open),
+        (TryRecv, NothingYet, Open, Open),
+        (DropSender, Done, Gone, Closed),
+        (TryRecv, Disconnected, Gone, Closed),
+        (PollFuture, Disconnected, Gone, Closed),
+    ],
+    &[
+        (MakeAsync, Done, Open, Open),
+        (PollFuture, NothingYet, Open, Open),
+        (TryRecv, NothingYet, Open, Open),
+        (DropReceiver, Done, Closed, Gone),
+        (SendMessage, Refused, Gone, Gone),
+    ],
+];
+
 /// A future that is dropped before.
 pub(super) const DROPPED: [Life<'static>; 6] = [
     &[
@@ -154,7 +202,7 @@ const BLOCKING: [Life<'static>; 4] = [
 ];
 
 /// Every life.
-pub(super) const LIVES: [&[Life<'static>]; 4] = [&READY, &DROPPED, &RAW, &BLOCKING];
+pub(super) const LIVES: [&[Life<'static>]; 5] = [&READY, &TRIED, &DROPPED, &RAW, &BLOCKING];
 
 /// Makes the steps of a life, polls as a task of their own. The ends that are left are dropped. Fails unless
 /// each step answers what the life says.

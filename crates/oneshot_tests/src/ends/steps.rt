@@ -25,7 +25,7 @@ pub(super) enum Step {
     DropSender,
     /// The drop of the sender's `into_raw`.
     DropRawSender,
-    /// `try_recv`.
+    /// `try_recv` of the receiver, or of the future.
     TryRecv,
     /// `recv_timeout` with no time.
     RecvTimeout,
@@ -201,9 +201,10 @@ impl<Rt: Wait + Clock + Drop> Ends<Rt> {
     }
 
     fn try_recv(&mut self) -> Result<Box<u64>, Answer> {
-        match &mut self.receiver {
-            Some(receiver) => Ok(receiver.try_recv()?),
-            None => Err(Answer::Wrong),
+        match (&mut self.receiver, &mut self.future) {
+            (Some(receiver), _) => Ok(receiver.try_recv()?),
+            (None, Some(future)) => Ok(future.try_recv()?),
+            (None, None) => Err(Answer::Wrong),
         }
     }
 
