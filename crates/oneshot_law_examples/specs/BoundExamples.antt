@@ -5,7 +5,7 @@ use Rattle.oneshot_laws.specs.Bounds.{are_calls_bounded, is_soon_answered}
 use Rattle.oneshot_law_examples.specs.Notation.{Example, twice}
 use Rattle.oneshot_law_examples.specs.LawExamples.{marks_in}
 use Rattle.oneshot_law_examples.specs.Traces.{sent_then_taken, waited_for_message, sent_before_waiting, woken_by_drop, sent_at_its_deadline}
-use Rattle.oneshot_law_examples.specs.FutureTraces.{dropped_while_finishing, polled_while_finishing, sent_while_polling, sent_while_replacing, dropped_while_pending, both_dropped_while_pending, tried_while_pending}
+use Rattle.oneshot_law_examples.specs.FutureTraces.{dropped_while_finishing, dropped_once_finished, polled_while_finishing, sent_while_polling, sent_while_replacing, dropped_while_pending, both_dropped_while_pending, tried_while_pending, sent_to_one_that_left, dropped_to_one_that_left, polled_over_the_sender}
 
 abbrev pub is_bounded_in : Example → Bool
 is_bounded_in x = are_calls_bounded (marks_in x)
@@ -28,7 +28,10 @@ WithinBounds =
     ∷ dropped_while_pending
     ∷ both_dropped_while_pending
     ∷ tried_while_pending
-    -- a future's drop may find 1 once more
+    ∷ sent_to_one_that_left
+    ∷ dropped_to_one_that_left
+    ∷ polled_over_the_sender
+    -- a future's drop may find 1 once before its swap
     ∷ twice 8 dropped_while_finishing
     ∷ []
     ))
@@ -42,6 +45,9 @@ OneOperationMore =
     × IsTrue (not (is_bounded_in (twice 6 sent_while_replacing)))
     × IsTrue (not (is_bounded_in (twice 6 dropped_while_pending)))
     × IsTrue (not (is_bounded_in (twice 13 tried_while_pending)))
+    -- and not twice, as a drop that waits for the sender does
+    × IsTrue (not (is_bounded_in (twice 8 (twice 8 dropped_while_finishing))))
+    × IsTrue (not (is_bounded_in dropped_once_finished))
 
 -- once the sender is done: two operations and six moves are reached, and one more of either is one too many
 abbrev pub OneMoveMore : Type 0

@@ -19,7 +19,7 @@ use Rattle.oneshot_law_examples.specs.LawExamples.{are_wakers_right, marks_in, i
 use Rattle.oneshot_law_examples.specs.WaitExamples.{told_by}
 use Rattle.oneshot_law_examples.specs.TimedExamples.{received_by}
 use Rattle.oneshot_law_examples.specs.UnwokenExamples.{up, aheads_by}
-use Rattle.oneshot_law_examples.specs.FutureTraces.{dropped_while_finishing, polled_while_finishing, copy_refused, polled_by_another_task, sent_before_pending, sent_while_polling, sent_while_replacing, dropped_while_pending, woken_then_ready, both_dropped_while_pending, tried_while_pending, tried_beside_a_drop}
+use Rattle.oneshot_law_examples.specs.FutureTraces.{dropped_while_finishing, dropped_once_finished, polled_while_finishing, copy_refused, polled_by_another_task, sent_before_pending, sent_while_polling, sent_while_replacing, dropped_while_pending, woken_then_ready, both_dropped_while_pending, tried_while_pending, tried_beside_a_drop, sent_to_one_that_left, dropped_to_one_that_left, polled_over_the_sender}
 
 -- THE RUNS: each trace is what its scripts tell under its moves
 abbrev pub FuturesAreTold : Type 0
@@ -36,6 +36,9 @@ FuturesAreTold =
     × (told_by None both_dropped_while_pending ≡ both_dropped_while_pending.entries)
     × (told_by (Some P.NotSent) tried_while_pending ≡ tried_while_pending.entries)
     × (told_by None tried_beside_a_drop ≡ tried_beside_a_drop.entries)
+    × (told_by (Some P.NotSent) sent_to_one_that_left ≡ sent_to_one_that_left.entries)
+    × (told_by None dropped_to_one_that_left ≡ dropped_to_one_that_left.entries)
+    × (told_by (Some P.NotSent) polled_over_the_sender ≡ polled_over_the_sender.entries)
     -- a future parks nowhere
     × (aheads_by (Some P.NotSent) polled_while_finishing ≡ replicate 19 up)
 
@@ -43,6 +46,7 @@ abbrev pub FuturesAreRight : Type 0
 FuturesAreRight =
     IsTrue (list_all is_right
     (dropped_while_finishing
+    ∷ dropped_once_finished
     ∷ polled_while_finishing
     ∷ copy_refused
     ∷ polled_by_another_task
@@ -54,6 +58,9 @@ FuturesAreRight =
     ∷ both_dropped_while_pending
     ∷ tried_while_pending
     ∷ tried_beside_a_drop
+    ∷ sent_to_one_that_left
+    ∷ dropped_to_one_that_left
+    ∷ polled_over_the_sender
     -- a poll that has not answered
     ∷ up_to 10 polled_while_finishing
     ∷ up_to 8 polled_by_another_task
@@ -80,7 +87,8 @@ NotTold =
 abbrev pub PollsAct : Type 0
 PollsAct =
     -- a poll that says "pending" acts at its last operation on the word
-    (acting_in dropped_while_finishing ≡ 5 ∷ 11 ∷ 13 ∷ [])
+    (acting_in dropped_once_finished ≡ 5 ∷ 11 ∷ 13 ∷ [])
+    × (acting_in polled_over_the_sender ≡ 5 ∷ 8 ∷ [])
     × (acting_in polled_while_finishing ≡ 5 ∷ 10 ∷ 13 ∷ 16 ∷ [])
     × (acting_in copy_refused ≡ 2 ∷ [])
     × (acting_in polled_by_another_task ≡ 5 ∷ 11 ∷ 15 ∷ [])
@@ -90,7 +98,11 @@ PollsAct =
     × (acting_in (up_to 8 polled_by_another_task) ≡ 5 ∷ [])
     × (acting_in dropped_while_pending ≡ 5 ∷ 9 ∷ 11 ∷ [])
     × (acting_in woken_then_ready ≡ 5 ∷ 9 ∷ 11 ∷ 12 ∷ 15 ∷ 16 ∷ 18 ∷ [])
-    × (acting_in both_dropped_while_pending ≡ 5 ∷ 9 ∷ 11 ∷ [])
+    × (acting_in both_dropped_while_pending ≡ 5 ∷ 9 ∷ 10 ∷ [])
+    -- a drop that leaves at its swap, and the sender's end after it at its last operation
+    × (acting_in dropped_while_finishing ≡ 5 ∷ 9 ∷ 11 ∷ [])
+    × (acting_in sent_to_one_that_left ≡ 5 ∷ 9 ∷ 11 ∷ [])
+    × (acting_in dropped_to_one_that_left ≡ 5 ∷ 8 ∷ 10 ∷ [])
     -- a `try_recv` at its load
     × (acting_in tried_while_pending ≡ 5 ∷ 6 ∷ 9 ∷ 11 ∷ 13 ∷ [])
     × (acting_in tried_beside_a_drop ≡ 2 ∷ 6 ∷ 9 ∷ 10 ∷ 11 ∷ [])
@@ -105,11 +117,11 @@ IllegalPolls =
     -- over a channel that is closed
     ∷ answered_by 15 R.Pending woken_then_ready
     -- nothing was there, and the poll says that the sender is gone, or has a message
-    ∷ answered_by 5 R.Disconnected dropped_while_finishing
-    ∷ answered_by 5 R.Message dropped_while_finishing
+    ∷ answered_by 5 R.Disconnected dropped_once_finished
+    ∷ answered_by 5 R.Message dropped_once_finished
     ∷ answered_by 4 R.Disconnected copy_refused
     -- a poll answers with another receive's word for nothing
-    ∷ answered_by 5 R.Empty dropped_while_finishing
+    ∷ answered_by 5 R.Empty dropped_once_finished
     ∷ answered_by 11 R.Timeout polled_while_finishing
     -- a `try_recv` does, or finds what is not there yet, or finds nothing over the end of the sender
     ∷ answered_by 6 R.Pending tried_while_pending
@@ -119,8 +131,11 @@ IllegalPolls =
     -- a message that comes is denied
     ∷ answered_by 10 R.Disconnected sent_before_pending
     -- the making of a future answers otherwise
-    ∷ answered_by 1 R.Done dropped_while_finishing
+    ∷ answered_by 1 R.Done dropped_once_finished
     ∷ answered_by 1 R.Pending copy_refused
+    -- the future left before the last operation of a `send`, which says that it sent
+    ∷ answered_by 12 R.Sent sent_to_one_that_left
+    ∷ answered_by 16 R.Sent dropped_while_finishing
     -- the sender's last swap comes only after the poll found it
     ∷ without 9 woken_then_ready
     ∷ []
@@ -131,17 +146,17 @@ abbrev pub MisplacedCopies : Type 0
 MisplacedCopies =
     IsTrue (list_all (λ x. not (are_wakers_right x.entries (marks_in x)))
     -- a copy is in two places: made twice, written twice, made under another's name
-    (twice 3 dropped_while_finishing
-    ∷ twice 4 dropped_while_finishing
+    (twice 3 dropped_once_finished
+    ∷ twice 4 dropped_once_finished
     ∷ twice 10 polled_by_another_task
     ∷ carried_by 7 (Copy 1 3) W.New W.Hand polled_while_finishing
     -- the receiver drops it, and the sender takes it
     ∷ carried_by 10 (Copy 1 3) W.Cell W.Dropped polled_while_finishing
-    ∷ carried_by 8 (Copy 1 3) W.Cell W.Dropped dropped_while_finishing
+    ∷ carried_by 8 (Copy 1 3) W.Cell W.Dropped dropped_once_finished
     -- it is forgotten: by an exchange that failed, by a drop, in a withdrawal, by the sender
     ∷ uncarried_by 10 polled_while_finishing
     ∷ uncarried_by 8 dropped_while_pending
-    ∷ uncarried_by 16 dropped_while_finishing
+    ∷ uncarried_by 16 dropped_once_finished
     ∷ uncarried_by 10 woken_then_ready
     -- it is used twice, used by the receiver, or used after it was dropped
     ∷ twice 14 polled_while_finishing
@@ -149,14 +164,14 @@ MisplacedCopies =
     ∷ carried_by 11 (Copy 2 7) W.SenderHand W.Used polled_while_finishing
     ∷ carried_by 16 (Copy 1 3) W.SenderHand W.Used polled_by_another_task
     -- it is never made, or comes back into the hand
-    ∷ uncarried_by 3 dropped_while_finishing
+    ∷ uncarried_by 3 dropped_once_finished
     ∷ carried_by 9 (Copy 1 3) W.Cell W.Hand (carried_by 10 (Copy 1 3) W.Cell W.Dropped polled_by_another_task)
     -- it is dropped by the sender, which wakes nobody
     ∷ carried_by 14 (Copy 1 3) W.SenderHand W.Dropped polled_while_finishing
     -- the parker's half is written in its place
-    ∷ carried_by 4 Parker W.Hand W.Cell dropped_while_finishing
+    ∷ carried_by 4 Parker W.Hand W.Cell dropped_once_finished
     -- the sender wakes it before it has it
-    ∷ put_behind 16 10 dropped_while_finishing
+    ∷ put_behind 16 10 dropped_once_finished
     ∷ []
     ))
     -- the first task's waker stays where the second's is written: each follows its path, and only the cell tells
@@ -164,14 +179,13 @@ MisplacedCopies =
     (uncarried_by 9 (up_to 10 polled_by_another_task) ∷ uncarried_by 9 polled_by_another_task ∷ []))
 
 -- THE FREEING
--- the future's drop swaps over the sender that is about to finish, and takes what it reads then for the sender's end
-abbrev pub swapped_over_the_sender : Example
-swapped_over_the_sender =
+-- the future's drop swaps over a sender that is about to finish, and frees the block
+abbrev pub freed_over_the_sender : Example
+freed_over_the_sender =
     record dropped_while_finishing {
       entries =
           take 8 dropped_while_finishing.entries
           ++ E.Made (receiver (T.Word (O.Swap 2)) 1 2)
-          ∷ E.Made (receiver (T.Word O.Load) 2 2)
           ∷ E.Made (replying R.Done (frees Receiver 2))
           ∷ E.Made (carrying (Copy 1 3) W.Cell W.SenderHand (without_block Sender T.TakeWaker))
           ∷ E.Made (without_block Sender (T.Word (O.Swap 4)))
@@ -182,15 +196,19 @@ swapped_over_the_sender =
 abbrev pub MisfreedFutures : Type 0
 MisfreedFutures =
     IsTrue (list_all (λ x. not (is_block_right x))
-    (swapped_over_the_sender
+    (freed_over_the_sender
     -- up to the sender's next step, and up to the free
-    ∷ up_to 12 swapped_over_the_sender
-    ∷ up_to 11 swapped_over_the_sender
-    -- the drop does not wait, or does not free
-    ∷ put_behind 15 11 dropped_while_finishing
-    ∷ without 15 (answered_by 14 R.Done dropped_while_finishing)
+    ∷ up_to 11 freed_over_the_sender
+    ∷ up_to 10 freed_over_the_sender
+    -- a sender that came late does not free, or frees before its wake and again
+    ∷ without 12 (answered_by 11 R.Done dropped_to_one_that_left)
+    ∷ without 14 (answered_by 13 R.Message sent_to_one_that_left)
+    ∷ twice 12 dropped_to_one_that_left
+    -- a drop frees before the sender's last operation, or not at all
+    ∷ put_behind 15 11 dropped_once_finished
+    ∷ without 15 (answered_by 14 R.Done dropped_once_finished)
     -- the block is freed twice, or by the end that has gone
-    ∷ twice 15 dropped_while_finishing
+    ∷ twice 15 dropped_once_finished
     ∷ twice 13 dropped_while_pending
     ∷ []
     ))
@@ -211,10 +229,10 @@ WrongPolls =
     × IsTrue (fails_at is_gone_after_closed (received_by (C.Of_receiver RC.IntoFuture ∷ C.Poll 1 ∷ C.Of_receiver RC.IsClosed ∷ C.Poll 1 ∷ C.Poll 1 ∷ []) (answered_by 15 R.Pending (up_to 15 woken_then_ready))))
     -- a message that nobody took is not dropped, or dropped twice
     × IsTrue (list_all (fails_at is_dropped_once)
-    (unmoved_by 14 dropped_while_finishing ∷ twice 14 dropped_while_finishing ∷ []))
+    (unmoved_by 14 dropped_once_finished ∷ twice 14 dropped_once_finished ∷ []))
     -- a call that was alone answers otherwise
     × IsTrue (list_all (λ x. not (are_lone_replies_right x))
-    (answered_by 5 R.Disconnected (up_to 5 dropped_while_finishing)
+    (answered_by 5 R.Disconnected (up_to 5 dropped_once_finished)
     ∷ answered_by 4 R.Disconnected copy_refused
     ∷ answered_by 14 R.Pending woken_then_ready
     ∷ answered_by 1 R.Done copy_refused

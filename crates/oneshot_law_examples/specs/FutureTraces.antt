@@ -16,9 +16,39 @@ use Rattle.oneshot_law_examples.specs.Notation.{Example, sender, receiver, frees
 -- S send 7
 -- R future poll 1 drop
 -- X rrrrrssrrssrrrrs
--- the drop waits until a sender has finished that had found the waker
+-- the drop meets a sender that is about to finish: it leaves, and the sender's message comes back to it
 abbrev pub dropped_while_finishing : Example
 dropped_while_finishing =
+    record {
+      calls =
+          record {
+            sender = C.Of_sender SC.Send ∷ [];
+            error = [];
+            receiver = C.Of_receiver RC.IntoFuture ∷ C.Poll 1 ∷ C.Of_receiver RC.DropAsync ∷ [];
+          };
+      entries =
+          E.Made (replying R.Future (receiver T.Plain 3 3))
+          ∷ E.Made (receiver (T.Word O.Load) 3 3)
+          ∷ E.Made (carrying (Copy 1 3) W.New W.Hand (copied false 3))
+          ∷ E.Made (carrying (Copy 1 3) W.Hand W.Cell (receiver T.WriteWaker 3 3))
+          ∷ E.Made (replying R.Pending (receiver (T.Word (O.Exchange 3 0)) 3 0))
+          ∷ E.Made (moving P.NotSent P.InCell (sender T.WriteMessage 0 0))
+          ∷ E.Made (sender (T.Word O.Add) 0 1)
+          ∷ E.Made (receiver (T.Word O.Load) 1 1)
+          ∷ E.Made (replying R.Done (receiver (T.Word (O.Swap 2)) 1 2))
+          ∷ E.Made (carrying (Copy 1 3) W.Cell W.SenderHand (sender T.TakeWaker 2 2))
+          ∷ E.Made (sender (T.Word (O.Swap 4)) 2 4)
+          ∷ E.Idle Receiver
+          ∷ E.Idle Receiver
+          ∷ E.Idle Receiver
+          ∷ E.Idle Receiver
+          ∷ E.Made (replying R.Refused (moving P.InCell P.InError (carrying (Copy 1 3) W.SenderHand W.Used (sender T.Wake 4 4))))
+          ∷ [];
+    }
+
+-- a drop that waits until the sender has finished which found the waker: the definitions let it pass, but no run tells it
+abbrev pub dropped_once_finished : Example
+dropped_once_finished =
     record {
       calls =
           record {
@@ -311,9 +341,9 @@ both_dropped_while_pending =
           ∷ E.Made (receiver (T.Word O.Load) 1 1)
           ∷ E.Made (carrying (Copy 1 3) W.Cell W.SenderHand (sender T.TakeWaker 1 1))
           ∷ E.Made (sender (T.Word (O.Swap 2)) 1 2)
-          ∷ E.Made (receiver (T.Word O.Load) 2 2)
           ∷ E.Made (receiver (T.Word (O.Swap 2)) 2 2)
           ∷ E.Made (replying R.Done (frees Receiver 2))
+          ∷ E.Idle Receiver
           ∷ E.Made (replying R.Done (carrying (Copy 1 3) W.SenderHand W.Used (without_block Sender T.Wake)))
           ∷ [];
     }
@@ -376,5 +406,91 @@ tried_beside_a_drop =
           ∷ E.Made (sender (T.Word (O.Swap 2)) 1 2)
           ∷ E.Made (replying R.Disconnected (receiver (T.Word O.Load) 2 2))
           ∷ E.Made (replying R.Done (carrying (Copy 1 4) W.SenderHand W.Used (sender T.Wake 2 2)))
+          ∷ [];
+    }
+
+-- S send 7 into
+-- R future poll 1 drop
+-- X rrrrrssrrsssss
+-- the same, and the message is taken out of the error, which frees the block
+abbrev pub sent_to_one_that_left : Example
+sent_to_one_that_left =
+    record {
+      calls =
+          record {
+            sender = C.Of_sender SC.Send ∷ [];
+            error = C.Of_sender SC.IntoInner ∷ [];
+            receiver = C.Of_receiver RC.IntoFuture ∷ C.Poll 1 ∷ C.Of_receiver RC.DropAsync ∷ [];
+          };
+      entries =
+          E.Made (replying R.Future (receiver T.Plain 3 3))
+          ∷ E.Made (receiver (T.Word O.Load) 3 3)
+          ∷ E.Made (carrying (Copy 1 3) W.New W.Hand (copied false 3))
+          ∷ E.Made (carrying (Copy 1 3) W.Hand W.Cell (receiver T.WriteWaker 3 3))
+          ∷ E.Made (replying R.Pending (receiver (T.Word (O.Exchange 3 0)) 3 0))
+          ∷ E.Made (moving P.NotSent P.InCell (sender T.WriteMessage 0 0))
+          ∷ E.Made (sender (T.Word O.Add) 0 1)
+          ∷ E.Made (receiver (T.Word O.Load) 1 1)
+          ∷ E.Made (replying R.Done (receiver (T.Word (O.Swap 2)) 1 2))
+          ∷ E.Made (carrying (Copy 1 3) W.Cell W.SenderHand (sender T.TakeWaker 2 2))
+          ∷ E.Made (sender (T.Word (O.Swap 4)) 2 4)
+          ∷ E.Made (replying R.Refused (moving P.InCell P.InError (carrying (Copy 1 3) W.SenderHand W.Used (sender T.Wake 4 4))))
+          ∷ E.Made (moving P.InError P.FromError (sender T.TakeMessage 4 4))
+          ∷ E.Made (replying R.Message (frees Sender 4))
+          ∷ [];
+    }
+
+-- S drop
+-- R future poll 1 drop
+-- X rrrrrsrrssss
+-- the future's drop leaves before the sender's drop has finished, which frees the block
+abbrev pub dropped_to_one_that_left : Example
+dropped_to_one_that_left =
+    record {
+      calls =
+          record {
+            sender = C.Of_sender SC.Drop ∷ [];
+            error = [];
+            receiver = C.Of_receiver RC.IntoFuture ∷ C.Poll 1 ∷ C.Of_receiver RC.DropAsync ∷ [];
+          };
+      entries =
+          E.Made (replying R.Future (receiver T.Plain 3 3))
+          ∷ E.Made (receiver (T.Word O.Load) 3 3)
+          ∷ E.Made (carrying (Copy 1 3) W.New W.Hand (copied false 3))
+          ∷ E.Made (carrying (Copy 1 3) W.Hand W.Cell (receiver T.WriteWaker 3 3))
+          ∷ E.Made (replying R.Pending (receiver (T.Word (O.Exchange 3 0)) 3 0))
+          ∷ E.Made (sender (T.Word O.Xor) 0 1)
+          ∷ E.Made (receiver (T.Word O.Load) 1 1)
+          ∷ E.Made (replying R.Done (receiver (T.Word (O.Swap 2)) 1 2))
+          ∷ E.Made (carrying (Copy 1 3) W.Cell W.SenderHand (sender T.TakeWaker 2 2))
+          ∷ E.Made (sender (T.Word (O.Swap 2)) 2 2)
+          ∷ E.Made (carrying (Copy 1 3) W.SenderHand W.Used (sender T.Wake 2 2))
+          ∷ E.Made (replying R.Done (frees Sender 2))
+          ∷ [];
+    }
+
+-- S send 7
+-- R future poll 1 poll 2
+-- X rrrrrssrr
+-- a poll finds a sender that is about to finish, and wakes its own task
+abbrev pub polled_over_the_sender : Example
+polled_over_the_sender =
+    record {
+      calls =
+          record {
+            sender = C.Of_sender SC.Send ∷ [];
+            error = [];
+            receiver = C.Of_receiver RC.IntoFuture ∷ C.Poll 1 ∷ C.Poll 2 ∷ [];
+          };
+      entries =
+          E.Made (replying R.Future (receiver T.Plain 3 3))
+          ∷ E.Made (receiver (T.Word O.Load) 3 3)
+          ∷ E.Made (carrying (Copy 1 3) W.New W.Hand (copied false 3))
+          ∷ E.Made (carrying (Copy 1 3) W.Hand W.Cell (receiver T.WriteWaker 3 3))
+          ∷ E.Made (replying R.Pending (receiver (T.Word (O.Exchange 3 0)) 3 0))
+          ∷ E.Made (moving P.NotSent P.InCell (sender T.WriteMessage 0 0))
+          ∷ E.Made (sender (T.Word O.Add) 0 1)
+          ∷ E.Made (receiver (T.Word O.Load) 1 1)
+          ∷ E.Made (replying R.Pending (waking_own 2 (receiver T.WakeOwn 1 1)))
           ∷ [];
     }

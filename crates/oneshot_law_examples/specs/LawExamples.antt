@@ -19,6 +19,7 @@ use Rattle.oneshot_laws.specs.Holders.{is_freed_right}
 use Rattle.oneshot_laws.specs.Replies.{is_gone_after_got, is_got_after_full, is_gone_after_closed, is_refused_after_closed, is_nothing_only_if_open, is_dropped_once}
 use Rattle.oneshot_laws.specs.Alone.{are_lone_calls_right}
 use Rattle.oneshot_law_examples.specs.Notation.{Example, without, exchanged, twice, answered_by, unmoved_by, moved_by, finding_at, operating_at, up_to, sender, frees}
+use Rattle.oneshot_law_examples.specs.FutureTraces.{dropped_while_finishing, sent_to_one_that_left}
 use Rattle.oneshot_law_examples.specs.Traces.{sent_then_taken, nothing_moved, nothing_to_do, sent_to_nobody, both_dropped, dropped_then_tried, looked_at_both_ends, taken_from_the_error, dropped_with_the_error, dropped_unread, tried_again, closed_then_tried, sent_though_closed, received_at_once, waited_for_message, sent_before_waiting, dropped_before_waiting, woken_by_drop, still_waiting}
 
 abbrev pub marks_in : Example → List Mark
@@ -40,6 +41,9 @@ MisplacedMessages =
     ∷ unmoved_by 3 taken_from_the_error
     ∷ unmoved_by 5 taken_from_the_error
     ∷ unmoved_by 5 sent_then_taken
+    -- a `send` that came late leaves the message in the cell, and says that it sent
+    ∷ unmoved_by 12 sent_to_one_that_left
+    ∷ unmoved_by 16 (answered_by 16 R.Sent dropped_while_finishing)
     -- all are left out: what was sent is nowhere at the end
     ∷ unmoved_by 1 (unmoved_by 5 sent_then_taken)
     -- it moves twice, from elsewhere, or as no message moves
