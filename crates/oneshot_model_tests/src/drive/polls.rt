@@ -104,7 +104,10 @@ fn a_future_that_was_not_polled_finds_3_4_and_2(rt: HostRuntime) -> Result<(), F
     assert_eq!(rt; async_try_recv(&mut g), Err(TryRecvError::Disconnected));
     assert!(rt; counts(&task) == (0, 0, 0));
     let steps = steps_of(rt.alloc(), g.receiver.events())?;
-    assert_eq!(rt; steps.as_str(), "load:3, load:4, store 2, take-message, load:2");
+    assert_eq!(rt;
+        steps.as_str(),
+        "load:3, load:4, store 2, take-message, load:2"
+    );
     Ok(())
 }
 
