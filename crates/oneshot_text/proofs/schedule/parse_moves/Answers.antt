@@ -1,5 +1,5 @@
 -- Each letter is a move's, and no other moves have these letters.
-use Rattle.std.proofs.Common.{◌≡◌, ◌≢◌, ◌≤◌, Some, None, length, map, take, sym, ap, ◌∙◌}
+use Rattle.std.proofs.Common.{◌≡◌, ◌≢◌, ◌≤◌, Some, None, length, map, sym, ap, ◌∙◌}
 use Rattle.std.proofs.lemmas.List.{take_all}
 use Rattle.oneshot_replay.specs.declared.Move.{Move}
 use Rattle.oneshot_text.specs.Schedule.{letter_of}
