@@ -1,13 +1,12 @@
 -- The examples of orders: each order operation by operation, and why the other logs have none.
 use Rattle.std.proofs.Common.{ℕ, [], ◌∷◌, ◌++◌}
 use Rattle.oneshot_machine.specs.declared.machine.Seen.TheVariants.{Word}
-use Rattle.oneshot_machine.specs.declared.states.Op.{Op}
 use Rattle.oneshot_machine.specs.declared.states.Op.TheVariants.{Load, Store, Swap, Exchange, Add, Xor}
 use Rattle.oneshot_machine.specs.Orders.{Reaches, has_row, nothing_made, sender_makes, receiver_makes}
 use Rattle.oneshot_machine.specs.OrderExamples.{waits, sent_over, OrdersThatAre, OrdersThatAreNot}
 use Rattle.oneshot_machine.specs.Phases.{fresh, first}
 use Rattle.oneshot_machine.specs.Slots.{head, tail}
-use Rattle.oneshot_machine.proofs.OrdersAhead.{Goes, ends, sender_first, receiver_first, ahead}
+use Rattle.oneshot_machine.proofs.OrdersAhead.{Goes, sender_first, receiver_first, ahead}
 
 looked : Reaches [] ((Load, Word 3) ∷ []) 3
 looked = receiver_makes Load nothing_made (has_row head)
@@ -41,7 +40,7 @@ orders_that_are =
       stopped_too_late = sender_makes (Swap 4) stopped (has_row (tail head));
       polled =
           receiver_makes (Exchange 3 0) (sender_makes Xor looked (has_row (tail (tail (tail head)))))
-            (has_row (tail (tail (tail (tail (tail (tail (tail (tail head)))))))));
+          (has_row (tail (tail (tail (tail (tail (tail (tail (tail head)))))))));
       sent_too_late = sender_makes Add gone (has_row (tail (tail head)));
     }
 

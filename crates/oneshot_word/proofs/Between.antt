@@ -50,15 +50,15 @@ between (sender_makes {xs} {ys} {word} op order (has_row row)) =
     let q = receiver_at ys in
     let after = sym (phase_from-snoc sender_next fresh xs (op, saw op word)) in
     subst (λ p. Is (word_between p q) (word_after op word)) after
-      (subst (λ n. Is (word_between (sender_next p op (saw op word)) q) n) (sender_word p row)
-        (sender_leaves p q (between order) row))
+    (subst (λ n. Is (word_between (sender_next p op (saw op word)) q) n) (sender_word p row)
+    (sender_leaves p q (between order) row))
 between (receiver_makes {xs} {ys} {word} op order (has_row row)) =
     let p = sender_at xs in
     let q = receiver_at ys in
     let after = sym (phase_from-snoc receiver_next first ys (op, saw op word)) in
     subst (λ q. Is (word_between p q) (word_after op word)) after
-      (subst (λ n. Is (word_between p (receiver_next q op (saw op word))) n) (receiver_word q row)
-        (receiver_leaves p q (between order) row))
+    (subst (λ n. Is (word_between p (receiver_next q op (saw op word))) n) (receiver_word q row)
+    (receiver_leaves p q (between order) row))
 
 -- what each log says
 pub sender_told : {xs ys : List Noted} {word : ℕ} → Reaches xs ys word → SenderSays xs (sender_at xs)
@@ -66,7 +66,7 @@ sender_told nothing_made = says_none
 sender_told (sender_makes {xs} {word} op order (has_row row)) =
     let x : Noted = (op, saw op word) in
     subst (λ p. SenderSays (xs ++ x ∷ []) p) (sym (phase_from-snoc sender_next fresh xs x))
-      (sender_says word (sender_told order) row)
+    (sender_says word (sender_told order) row)
 sender_told (receiver_makes op order row) = sender_told order
 
 pub receiver_told : {xs ys : List Noted} {word : ℕ} → Reaches xs ys word → ReceiverSays ys (receiver_at ys)
@@ -75,7 +75,7 @@ receiver_told (sender_makes op order row) = receiver_told order
 receiver_told (receiver_makes {ys} {word} op order (has_row row)) =
     let y : Noted = (op, saw op word) in
     subst (λ q. ReceiverSays (ys ++ y ∷ []) q) (sym (phase_from-snoc receiver_next first ys y))
-      (receiver_says (receiver_at ys) word row (receiver_told order))
+    (receiver_says (receiver_at ys) word row (receiver_told order))
 
 -- an order that goes on by an operation that was found in its table
 module _ {T W : Type 0} {xs ys : List Noted} {op : Op} {word : ℕ} {m m' : Held T} {w w' : Held W} where
@@ -83,10 +83,10 @@ module _ {T W : Type 0} {xs ys : List Noted} {op : Op} {word : ℕ} {m m' : Held
       → Reaches (xs ++ (op, saw op word) ∷ []) ys (stepped op word)
   sender_reaches order (finds row _ _) =
       subst (λ n. Reaches (xs ++ (op, saw op word) ∷ []) ys n) (sym (sender_word (sender_at xs) row))
-        (sender_makes op order (has_row row))
+      (sender_makes op order (has_row row))
 
   pub receiver_reaches : Reaches xs ys word → Finds receiver_moves (receiver_at ys) op word m w m' w'
       → Reaches xs (ys ++ (op, saw op word) ∷ []) (stepped op word)
   receiver_reaches order (finds row _ _) =
       subst (λ n. Reaches xs (ys ++ (op, saw op word) ∷ []) n) (sym (receiver_word (receiver_at ys) row))
-        (receiver_makes op order (has_row row))
+      (receiver_makes op order (has_row row))

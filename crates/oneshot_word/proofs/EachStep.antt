@@ -34,8 +34,8 @@ module _ {T H K : Type 0} where
     sender_runs order found lies lies' =
         let after = sym (phase_from-snoc sender_next fresh xs (op, saw op word)) in
         runs (xs ++ (op, saw op word) ∷ []) ys (sender_reaches order found)
-          (subst (λ p. Lies Message (message_home p (receiver_at ys)) h) after lies)
-          (subst (λ p. Lies with_waker (waker_home p (receiver_at ys)) k) after lies')
+        (subst (λ p. Lies Message (message_home p (receiver_at ys)) h) after lies)
+        (subst (λ p. Lies with_waker (waker_home p (receiver_at ys)) k) after lies')
 
     receiver_runs : Reaches xs ys word → Finds receiver_moves (receiver_at ys) op word m w m' w'
         → Lies Message (message_home (sender_at xs) (receiver_next (receiver_at ys) op (saw op word))) h
@@ -44,8 +44,8 @@ module _ {T H K : Type 0} where
     receiver_runs order found lies lies' =
         let after = sym (phase_from-snoc receiver_next first ys (op, saw op word)) in
         runs xs (ys ++ (op, saw op word) ∷ []) (receiver_reaches order found)
-          (subst (λ q. Lies Message (message_home (sender_at xs) q) h) after lies)
-          (subst (λ q. Lies with_waker (waker_home (sender_at xs) q) k) after lies')
+        (subst (λ q. Lies Message (message_home (sender_at xs) q) h) after lies)
+        (subst (λ q. Lies with_waker (waker_home (sender_at xs) q) k) after lies')
 
   -- a seat's end may make the operation
   abbrev SenderAsks : Me (Slot T H K) View → Op → Type 0
@@ -70,7 +70,7 @@ module _ {T H K : Type 0} where
                 act,
                 valid,
                 subst (λ hs. Tied (stepped op found ∷ []) hs (view Sender xs ∷ view Receiver ys ∷ [])) (sym homes)
-                  (sender_runs order finds lies lies'),
+                    (sender_runs order finds lies lies'),
                 record {
                   list = refl;
                   seat = as_seat {owns = λ xs. sender_owns (sender_at xs)} refl (subst (λ p. SeatOf waker_first (sender_owns p) (carried_after me.1 act) m' w') (sym after) has);
@@ -91,7 +91,7 @@ module _ {T H K : Type 0} where
                 act,
                 valid,
                 subst (λ hs. Tied (stepped op found ∷ []) hs (view Sender xs ∷ view Receiver ys ∷ [])) (sym homes)
-                  (receiver_runs order finds lies lies'),
+                    (receiver_runs order finds lies lies'),
                 record {
                   list = refl;
                   seat = as_seat {owns = λ ys. receiver_owns (receiver_at ys)} refl (subst (λ q. SeatOf message_first (receiver_owns q) (carried_after me.1 act) m' w') (sym after) has);

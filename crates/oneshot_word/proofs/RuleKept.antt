@@ -180,7 +180,7 @@ module _ {T H K At : Type 0} (e : OneEnd At) where
         elim (both e.front acted moves moves') [
           | acts act valid homes left ↦
               turn act valid homes (leaves_so e at op word before leaves) lies lies' (finds there turns turns')
-                (subst (λ c. SeatOf e.front (e.owns at') c m' w') (sym left) (seated slots owned part part')) code
+              (subst (λ c. SeatOf e.front (e.owns at') c m' w') (sym left) (seated slots owned part part')) code
         ]
 
     right : {before : Slots} {o : Option Slots} {cm cw : Carried T H K} {m : Held T} {w : Held (Rouse H K)} → word ≤ 4 → Found (e.moves at) op before word o → is_right e at op before word o ≡ true
@@ -190,8 +190,8 @@ module _ {T H K At : Type 0} (e : OneEnd At) where
         let at' = e.next at op (saw op word) in
         let so = rightly e at op word before slots fits in
         turned slots code there so.leaves so.owned so.acted
-          (goes 0 Message message slots.0 (e.message at') lies so.of_message)
-          (goes 1 with_waker waker slots.1 (e.waker at') lies' so.of_waker)
+        (goes 0 Message message slots.0 (e.message at') lies so.of_message)
+        (goes 1 with_waker waker slots.1 (e.waker at') lies' so.of_waker)
 
     turns_from : {before : Slots} {o : Option ℕ} {owns : Option (Bool × Bool)} {c : Carried T H K} {m : Held T} {w : Held (Rouse H K)} → Is o word → is_kept e at op before o ≡ true
         → IsSlot before.0 m → IsSlot before.1 w → SeatOf e.front owns c m w → Lies Message (e.message at) h → Lies with_waker (e.waker at) k → Turn at op word h k c m w
@@ -267,4 +267,4 @@ module _ (p : SenderAt) (q : ReceiverAt) {op : Op} {before after : Slots} {word 
       → Is (word_between p (receiver_next q op (saw op word))) (stepped op word)
   receiver_leaves =
       keeps_word (receiver_end p) q op word
-        (each_passes (λ p. keeps_rule (receiver_end p) q) senders (receiver_keeps q) (is_sender p))
+      (each_passes (λ p. keeps_rule (receiver_end p) q) senders (receiver_keeps q) (is_sender p))

@@ -32,8 +32,8 @@ module _ {T H K : Type 0} where
   sits dealt zero at = subst (λ (v : View). Sits (3 ∷ []) (out ∷ bare ∷ []) (view Dealer [] ∷ []) 0 v.role v.steps) (some-injective _ _ at) dealer_sits
   sits (runs {w} {h} {k} xs ys order lies lies') zero at =
       subst (λ (v : View). Sits (w ∷ []) (h ∷ k ∷ []) (view Sender xs ∷ view Receiver ys ∷ []) 0 v.role v.steps)
-        (some-injective _ _ at) (sender_sits ys order lies lies')
+      (some-injective _ _ at) (sender_sits ys order lies lies')
   sits (runs {w} {h} {k} xs ys order lies lies') (suc zero) at =
       subst (λ (v : View). Sits (w ∷ []) (h ∷ k ∷ []) (view Sender xs ∷ view Receiver ys ∷ []) 1 v.role v.steps)
-        (some-injective _ _ at) (receiver_sits xs order lies lies')
+      (some-injective _ _ at) (receiver_sits xs order lies lies')
   sits _ _ at = absurd (some-ne-none _ (sym at))
