@@ -70,6 +70,7 @@ fn a_receiver_that_parks(rt: HostRuntime) -> Result<(), Fail> {
 fn a_future_that_is_polled(rt: HostRuntime) -> Result<(), Fail> {
     assert_refused(&rt, futures::POLLED_ONCE)?;
     assert_refused(&rt, futures::POLLED_ANEW)?;
+    assert_refused(&rt, futures::LEFT_BY_A_FUTURE)?;
     assert_refused(&rt, futures::POLLED_BESIDE_A_DROP)
 }
 

@@ -22,9 +22,8 @@ const FIRST: WakerName = WakerName::Copy {
 };
 
 // 1 R plain = future, 2 R load 3, 3 R copy New>Hand, 4 R write-waker Hand>Cell, 5 R exchange 3>0 = Pending,
-// 6 S write-message NotSent>InCell, 7 S add 0>1, 8 R load 1, 9 R load 1, 10 S take-waker Cell>SenderHand,
-// 11 S swap 1>4, 12 R load 4, 13 R swap 4>2, 14 R drop-message InCell>Dropped, 15 R free = dropped,
-// 16 S wake SenderHand>Used = Ok.
+// 6 S write-message NotSent>InCell, 7 S add 0>1, 8 S take-waker Cell>SenderHand, 9 S swap 1>4, 10 R load 4,
+// 11 R swap 4>2, 12 R drop-message InCell>Dropped, 13 R free = dropped, 14 S wake SenderHand>Used = Ok.
 // Under rrrrrrrrr the drop meets no sender: 6 R load 0, 7 R exchange 0>3, 8 R withdraw Cell>Dropped,
 // 9 R swap 3>2 = dropped.
 pub(crate) const POLLED_ONCE: Damaged = (
@@ -33,21 +32,21 @@ pub(crate) const POLLED_ONCE: Damaged = (
     &[
         (
             "the block is freed before the sender's final swap",
-            "rrrrrssrrssrrrrs",
-            &[Edit::MoveBefore(15, 11)],
-            "entry 11: Receiver frees the block and is not its last holder",
+            "rrrrrssssrrrrs",
+            &[Edit::MoveBefore(13, 9)],
+            "entry 9: Receiver frees the block and is not its last holder",
         ),
         (
             "the sender takes the waker after its final swap",
-            "rrrrrssrrssrrrrs",
-            &[Edit::MoveBefore(11, 10)],
-            "entry 11: Sender uses the block and does not hold it",
+            "rrrrrssssrrrrs",
+            &[Edit::MoveBefore(9, 8)],
+            "entry 9: Sender uses the block and does not hold it",
         ),
         (
             "the sender frees the block that it left to the receiver",
-            "rrrrrssrrssrrrrs",
-            &[Edit::Step(16, Step::Free)],
-            "entry 16: Sender uses the block and does not hold it",
+            "rrrrrssssrrrrs",
+            &[Edit::Step(14, Step::Free)],
+            "entry 14: Sender uses the block and does not hold it",
         ),
         (
             "the waker is withdrawn behind the swap",
@@ -61,39 +60,39 @@ pub(crate) const POLLED_ONCE: Damaged = (
         ),
         (
             "the send answers before its final swap",
-            "rrrrrssrrssrrrrs",
+            "rrrrrssssrrrrs",
             &[Edit::Reply(7, Some(Reply::Sent))],
             "entry 7: the call answers and did not act",
         ),
         (
             "the waker is used twice",
-            "rrrrrssrrssrrrrs",
-            &[Edit::Double(16), Edit::Reply(16, None)],
-            "entry 17: a waker leaves SenderHand and is Used",
+            "rrrrrssssrrrrs",
+            &[Edit::Double(14), Edit::Reply(14, None)],
+            "entry 15: a waker leaves SenderHand and is Used",
         ),
         (
             "the wake wakes nobody",
-            "rrrrrssrrssrrrrs",
-            &[Edit::Waker(16, None)],
-            "entry 16: the step moves nothing",
+            "rrrrrssssrrrrs",
+            &[Edit::Waker(14, None)],
+            "entry 14: the step moves nothing",
         ),
         (
             "the wake is lost",
-            "rrrrrssrrssrrrrs",
-            &[Edit::Step(16, Step::Plain), Edit::Waker(16, None)],
-            "entry 16: all have ended and a waker is SenderHand",
+            "rrrrrssssrrrrs",
+            &[Edit::Step(14, Step::Plain), Edit::Waker(14, None)],
+            "entry 14: all have ended and a waker is SenderHand",
         ),
         (
             "the waker is not written",
-            "rrrrrssrrssrrrrs",
+            "rrrrrssssrrrrs",
             &[Edit::Remove(4)],
-            "entry 9: a waker leaves Cell and is Hand",
+            "entry 7: a waker leaves Cell and is Hand",
         ),
         (
             "the receiver puts the waker into the sender's hand",
-            "rrrrrssrrssrrrrs",
-            &[Edit::Side(10, End::Receiver)],
-            "entry 10: Receiver moves a waker of the other end",
+            "rrrrrssssrrrrs",
+            &[Edit::Side(8, End::Receiver)],
+            "entry 8: Receiver moves a waker of the other end",
         ),
         (
             "the parker's half is dropped out of the hand",
@@ -106,7 +105,7 @@ pub(crate) const POLLED_ONCE: Damaged = (
         ),
         (
             "the copy is of another task's waker",
-            "rrrrrssrrssrrrrs",
+            "rrrrrssssrrrrs",
             &[Edit::Waker(
                 3,
                 Some((OF_ANOTHER_TASK, WakerPlace::New, WakerPlace::Hand)),
@@ -124,27 +123,27 @@ pub(crate) const POLLED_ONCE: Damaged = (
         ),
         (
             "the message is left in the cell",
-            "rrrrrssrrssrrrrs",
-            &[Edit::Remove(14)],
-            "entry 15: all have ended and the message is InCell",
+            "rrrrrssssrrrrs",
+            &[Edit::Remove(12)],
+            "entry 13: all have ended and the message is InCell",
         ),
         (
             "the drop delivers the message",
-            "rrrrrssrrssrrrrs",
-            &[Edit::Message(14, Some((Place::InCell, Place::Delivered)))],
-            "entry 14: this call may not put the message Delivered",
+            "rrrrrssssrrrrs",
+            &[Edit::Message(12, Some((Place::InCell, Place::Delivered)))],
+            "entry 12: this call may not put the message Delivered",
         ),
         (
             "the future that is made answers as a poll",
-            "rrrrrssrrssrrrrs",
+            "rrrrrssssrrrrs",
             &[Edit::Reply(1, Some(Reply::Pending))],
             "entry 1: the reply is Pending and not Some(Future)",
         ),
         (
             "another message is told",
-            "rrrrrssrrssrrrrs",
+            "rrrrrssssrrrrs",
             &[Edit::Rest(Some((Place::Dropped, 8)))],
-            "entry 16: the trace tells that the rest is Some((Dropped, 8))",
+            "entry 14: the trace tells that the rest is Some((Dropped, 8))",
         ),
     ],
 );
@@ -196,15 +195,71 @@ pub(crate) const POLLED_ANEW: Damaged = (
     ],
 );
 
+// 1 to 5 store the copy of the poll; 6 S write-message NotSent>InCell, 7 S add 0>1, 8 R load 1,
+// 9 R swap 1>2 = dropped, 10 S take-waker Cell>SenderHand, 11 S swap 2>4,
+// 12 S wake InCell>InError SenderHand>Used = Err, 13 S drop-message InError>Dropped, 14 S free = dropped.
+pub(crate) const LEFT_BY_A_FUTURE: Damaged = (
+    Sending::SendAndDropError,
+    Receiving::PollDrop,
+    &[
+        (
+            "a send that came late says that it sent",
+            "rrrrrssrrsss",
+            &[Edit::Message(12, None), Edit::Reply(12, Some(Reply::Sent))],
+            "entry 12: the reply is Sent and not Some(Refused)",
+        ),
+        (
+            "a send that came late leaves the message in the cell",
+            "rrrrrssrrsss",
+            &[Edit::Message(12, None)],
+            "entry 12: the message is not InError as the reply says",
+        ),
+        (
+            "a send that came late keeps the waker",
+            "rrrrrssrrsssss",
+            &[Edit::Step(12, Step::Plain), Edit::Waker(12, None)],
+            "entry 14: all have ended and a waker is SenderHand",
+        ),
+        (
+            "the future's drop frees the block under the sender",
+            "rrrrrssrrsssss",
+            &[
+                Edit::Double(14),
+                Edit::MoveBefore(15, 10),
+                Edit::Side(10, End::Receiver),
+                Edit::Reply(9, None),
+            ],
+            "entry 10: Receiver frees the block and is not its last holder",
+        ),
+        (
+            "the error does not free the block",
+            "rrrrrssrrsssss",
+            &[Edit::Remove(14), Edit::Reply(13, Some(Reply::Done))],
+            "entry 13: all have ended and the block is not freed",
+        ),
+    ],
+);
+
 // 1 to 5 store the copy of the poll; 6 R load 0, 7 R exchange 0>3, 8 R withdraw Cell>Dropped,
 // 9 R swap 3>2 = dropped, 10 S xor 2>3, 11 S free = dropped.
+// Under rrrrrsrrssss the drop meets a sender that is about to finish: 6 S xor 0>1, 7 R load 1,
+// 8 R swap 1>2 = dropped, 9 S take-waker Cell>SenderHand, 10 S swap 2>2, 11 S wake SenderHand>Used,
+// 12 S free = dropped.
 pub(crate) const POLLED_BESIDE_A_DROP: Damaged = (
     Sending::Drop,
     Receiving::PollDrop,
-    &[(
-        "the stored waker is left in the cell",
-        "rrrrrrrrrss",
-        &[Edit::Remove(8)],
-        "entry 10: all have ended and a waker is Cell",
-    )],
+    &[
+        (
+            "the stored waker is left in the cell",
+            "rrrrrrrrrss",
+            &[Edit::Remove(8)],
+            "entry 10: all have ended and a waker is Cell",
+        ),
+        (
+            "a sender's drop that came late frees nothing",
+            "rrrrrsrrssss",
+            &[Edit::Remove(12), Edit::Reply(11, Some(Reply::Done))],
+            "entry 11: all have ended and the block is not freed",
+        ),
+    ],
 );
