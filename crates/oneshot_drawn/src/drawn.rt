@@ -243,20 +243,20 @@ const POLLS: [Pair; 3] = [
     (
         Sending::Send,
         Receiving::PollPollPollDrop,
-        0x2dca_f042_bed0_79be,
-        0x5f71_6a83_1082_dcb3,
+        0xc24d_c315_6763_fa34,
+        0x40cf_d14a_f4cd_b8b8,
     ),
     (
         Sending::Drop,
         Receiving::PollPollPollDrop,
-        0xd64a_54c1_f02f_8a7f,
-        0xa028_7279_722b_5313,
+        0x125c_7e7b_50c6_3781,
+        0x3a5f_5b30_0ac3_88a0,
     ),
     (
         Sending::LookAndSend,
         Receiving::PollPollPollDrop,
-        0xe6bc_4fe9_e752_669c,
-        0xa4fc_32e6_e24e_de64,
+        0x3c50_4faa_3ef0_9567,
+        0x6966_eefe_8d78_9dc1,
     ),
 ];
 
@@ -279,20 +279,20 @@ const TRIES_OF_A_FUTURE: [Pair; 3] = [
     (
         Sending::Send,
         Receiving::PollTryPollTryDrop,
-        0x2197_ad6a_c3d2_6ebb,
-        0x01d4_0a87_9a2a_6dc8,
+        0x7323_1dad_8b9e_b9c7,
+        0x1c1c_3161_d113_6056,
     ),
     (
         Sending::Drop,
         Receiving::PollTryPollTryDrop,
-        0xa121_8596_b71f_bf43,
-        0x5b2c_23d2_8772_be6d,
+        0x511a_7b46_b8ea_e8d0,
+        0x688c_3312_06ce_25a3,
     ),
     (
         Sending::LookAndSend,
         Receiving::PollTryPollTryDrop,
-        0x3e3b_c3ea_84ac_6608,
-        0x5163_8a91_0881_0ec6,
+        0x838f_8605_2ff4_1969,
+        0xa6ae_4b23_2ddd_dac8,
     ),
 ];
 

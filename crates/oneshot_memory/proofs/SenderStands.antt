@@ -3,11 +3,13 @@ use Rattle.std.proofs.Common.{◌≡◌, ℕ, Bool, true, false, List, [], ◌�
 use Rattle.std.specs.Prelude.{is_some}
 use Rattle.oneshot_machine.specs.declared.states.Op.{Op}
 use Rattle.oneshot_machine.specs.Logs.{Grows, words, sender_of, worded}
-use Rattle.oneshot_machine.specs.Phases.{sending, dropping, SenderAt, fresh, owes, finished, late, no_sender, sender_moves, sender_owns, sender_next, sender_at}
+use Rattle.oneshot_machine.specs.Phases.{sending, dropping, SenderAt, fresh, owes, finished, late, overtaken, no_sender, sender_moves, sender_owns, sender_next, sender_at}
 use Rattle.oneshot_machine.specs.Slots.{vacant, held, In, head, tail, SenderMay}
 use Rattle.oneshot_machine.specs.States.{word_after}
 use Rattle.oneshot_machine.proofs.GrownLists.{sender_moved}
 use Rattle.oneshot_memory.specs.declared.Event.{Event}
+use Rattle.oneshot_memory.specs.declared.sender.Meanwhile.{Meanwhile}
+use Rattle.oneshot_memory.specs.declared.sender.Meanwhile.TheVariants.{Waits, Stops, Leaves}
 use Rattle.oneshot_memory.specs.Cells.{Cells, cells_of}
 use Rattle.oneshot_memory.specs.Events.{slot_of, event_of, logged}
 use Rattle.oneshot_memory.specs.Sender.{sender_has, sender_stands, SenderStands, keeps_both, word_then}
@@ -22,13 +24,15 @@ abbrev pub keeps : Op → Cells → Bool × Bool
 keeps op c = (keeps_both c.word, keeps_both c.word)
 
 -- What comes about between its operations, in this order: a message is put into its cell or taken out; the
--- waker is taken out of its own; both slots are freed; and the deadline of the receiver may be over.
+-- waker is taken out of its own; both slots are freed; and the receiver waits on, stops or leaves.
 abbrev pub changes : List (Bool → Cells → Bool × Cells)
 changes =
     (λ there c. (true, record c { has_message = there }))
     ∷ (λ b c. (c.owns_waker, record c { has_waker = false }))
     ∷ (λ b c. (c.owns_waker, record c { owns_message = false; owns_waker = false }))
-    ∷ (λ stops c. (true, record c { word = word_then stops c.word }))
+    ∷ (λ b c. (true, record c { word = word_then Waits c.word }))
+    ∷ (λ b c. (true, record c { word = word_then Stops c.word }))
+    ∷ (λ b c. (true, record c { word = word_then Leaves c.word }))
     ∷ []
 
 -- the law, computed for each phase
@@ -38,6 +42,7 @@ steady (owes sending) = refl
 steady (owes dropping) = refl
 steady (finished by) = refl
 steady (late by) = refl
+steady (overtaken by) = refl
 steady no_sender = refl
 
 -- so each of the changes, by its row, leaves the ground as it may stand
@@ -74,6 +79,8 @@ module _ {T W : Type 0} where
     pub sender_freed : slot_of own_waker waker ≡ vacant → SenderStands p word false false cell waker
     sender_freed e = record { is_so = changes_to p (cells_of word own own_waker cell waker) true (tail (tail head)) stands.is_so (slot_vacant own_waker waker e) }
 
-    -- the deadline of a receiver whose waker the sender took may be over
-    pub sender_outlasts : (stops : Bool) → SenderStands p (word_then stops word) own own_waker cell waker
-    sender_outlasts stops = record { is_so = changes_to p (cells_of word own own_waker cell waker) stops (tail (tail (tail head))) stands.is_so refl }
+    -- what a receiver may do whose waker the sender took
+    pub sender_outlasts : (meanwhile : Meanwhile) → SenderStands p (word_then meanwhile word) own own_waker cell waker
+    sender_outlasts Waits = record { is_so = changes_to p (cells_of word own own_waker cell waker) true (tail (tail (tail head))) stands.is_so refl }
+    sender_outlasts Stops = record { is_so = changes_to p (cells_of word own own_waker cell waker) true (tail (tail (tail (tail head)))) stands.is_so refl }
+    sender_outlasts Leaves = record { is_so = changes_to p (cells_of word own own_waker cell waker) true (tail (tail (tail (tail (tail head))))) stands.is_so refl }

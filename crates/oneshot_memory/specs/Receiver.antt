@@ -1,5 +1,5 @@
 -- What a contract sees of a receiver's ground in memory, and how its word and its cells stand with its log.
-use Rattle.std.specs.Prelude.{◌≡◌, ℕ, Bool, true, false, not, ◌&&◌, ◌||◌, ◌==◌, if◌then◌else◌, List, Option, Some, None, is_some}
+use Rattle.std.specs.Prelude.{◌≡◌, ℕ, Bool, true, false, not, ◌&&◌, ◌||◌, ◌==◌, if◌then◌else◌, List, [], Option, Some, None, is_some}
 use Rattle.std.specs.List.{list_any}
 use Rattle.oneshot_machine.specs.declared.machine.Seen.TheVariants as S
 use Rattle.oneshot_machine.specs.declared.states.Op.{Op}
@@ -44,11 +44,13 @@ abbrev pub leaves_waker : List (Row ReceiverAt) → ℕ → Bool
 leaves_waker rows word = list_any (λ row. is_row_for Load (S.Word word) row && is_away row.4.1) rows
 
 -- The cells of a receiver at a phase with these rows, where these slots are its own. It may have freed
--- both. Where the message's is not its own, there is a message just where the sender sent one.
+-- both. Where the message's is not its own, there is a message just where the sender sent one. Of the cells of
+-- one that is gone nothing is said: they are the sender's.
 abbrev pub receiver_has : Option (Bool × Bool) → List (Row ReceiverAt) → Cells → Bool
 receiver_has None rows c = false
 receiver_has (Some (true, waker)) rows c =
     owns_just true waker c && is_word 2 rows c.word || owns_just false false c
+receiver_has (Some (false, waker)) [] c = owns_just false waker c
 receiver_has (Some (false, waker)) rows c =
     owns_just false waker c
     && is_word 2 rows c.word

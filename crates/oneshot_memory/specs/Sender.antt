@@ -4,20 +4,22 @@ use Rattle.std.specs.List.{list_any}
 use Rattle.oneshot_machine.specs.Phases.{SenderAt, sender_moves, sender_owns, Share, none, empty, filled, Row}
 use Rattle.oneshot_drive.specs.Grounds.{State}
 use Rattle.oneshot_memory.specs.declared.Event.{Event}
-use Rattle.oneshot_memory.specs.Cells.{Cells, cells_of, is_code, is_same, owns_just, is_word}
+use Rattle.oneshot_memory.specs.declared.sender.Meanwhile.{Meanwhile}
+use Rattle.oneshot_memory.specs.declared.sender.Meanwhile.TheVariants.{Waits, Stops, Leaves}
+use Rattle.oneshot_memory.specs.Cells.{Cells, cells_of, is_code, is_same, owns_just}
 use Rattle.oneshot_memory.specs.Events.{state_of}
 
--- what it has done, with both slots as the sender sees them, its word, and whether the deadline of a
--- receiver that waits is to be over before the sender finishes
+-- what it has done, with both slots as the sender sees them, its word, and what a receiver that waits is to
+-- do before the sender finishes
 pub record Sending (T W : Type 0) : Type 0 where
   pub state : State T W
   pub word : ℕ
-  pub stops : Bool
+  pub meanwhile : Meanwhile
 
 module _ {T W : Type 0} where
-  abbrev pub sending_of : List (Event T W) → ℕ → Option T → Option W → Bool → Bool → Bool → Sending T W
-  sending_of events word message waker owns_message owns_waker stops =
-      record { state = state_of events message waker owns_message owns_waker; word = word; stops = stops }
+  abbrev pub sending_of : List (Event T W) → ℕ → Option T → Option W → Bool → Bool → Meanwhile → Sending T W
+  sending_of events word message waker owns_message owns_waker meanwhile =
+      record { state = state_of events message waker owns_message owns_waker; word = word; meanwhile = meanwhile }
 
 abbrev pub is_filled : Share → Bool
 is_filled none = false
@@ -31,12 +33,17 @@ finds_waker [] c = true
 finds_waker (row ∷ rows) c =
     list_any (λ (row : Row SenderAt). (row.2 == c.word) && is_same (is_filled row.4.1) c.has_waker) (row ∷ rows)
 
+-- a word that these rows find; of one that makes no operation any more nothing is said
+abbrev pub finds_word : List (Row SenderAt) → ℕ → Bool
+finds_word [] word = true
+finds_word (row ∷ rows) word = list_any (λ (row : Row SenderAt). row.2 == word) (row ∷ rows)
+
 -- The cells of a sender at a phase with these rows, where these slots are its own. One that has both may
 -- have freed them.
 abbrev pub sender_has : Option (Bool × Bool) → List (Row SenderAt) → Cells → Bool
 sender_has None rows c = false
 sender_has (Some (message, true)) rows c =
-    is_word 3 rows c.word && (owns_just message true c || owns_just false false c)
+    finds_word rows c.word && (owns_just message true c || owns_just false false c)
 sender_has (Some (message, false)) rows c = owns_just message false c && finds_waker rows c
 
 abbrev pub sender_stands : SenderAt → Cells → Bool
@@ -50,6 +57,8 @@ pub record SenderStands {T W : Type 0} (p : SenderAt) (word : ℕ) (owns_message
 abbrev pub keeps_both : ℕ → Bool
 keeps_both word = (word == 2) || (word == 0)
 
--- the word once the sender took the waker of a receiver that waits, whose deadline is over then or not
-abbrev pub word_then : Bool → ℕ → ℕ
-word_then stops word = if stops && (word == 1) then 3 else word
+-- the word once the sender took the waker of a receiver that waits, which then did this
+abbrev pub word_then : Meanwhile → ℕ → ℕ
+word_then Waits word = word
+word_then Stops word = if word == 1 then 3 else word
+word_then Leaves word = if word == 1 then 2 else word

@@ -16,7 +16,7 @@ pub use future::MemoryFuture;
 use oneshot_machine::machine::{Seen, Step};
 use oneshot_machine::states::Op;
 pub use receiver::{Act, MemoryReceiver};
-pub use sender::MemorySender;
+pub use sender::{Meanwhile, MemorySender};
 use std::snapshot::Snapshot;
 use std::sync::Wait;
 pub use task::{MemoryTask, TaskWaker};

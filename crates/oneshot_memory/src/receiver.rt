@@ -44,7 +44,8 @@ impl<T> Act<T> {
 /// A receiver's ground, whose sender acts where it is told to: at once, or in a pause of the receiver.
 ///
 /// The receiver makes a pause when it has copied or written its waker, in each park, at each look at its
-/// clock, and at each load outside a wait that finds the sender about to finish. A park ends by its token
+/// clock, and at each load outside a wait that finds the sender about to finish. A sender that the drop of a
+/// future meets about to finish does so after that drop. A park ends by its token
 /// if the sender woke the receiver by then, and without one if not; where the sender never acts, a call
 /// that blocks waits for ever, or until its deadline. That is over at once, unless a test puts it off.
 #[derive(Drop)]
@@ -278,6 +279,11 @@ impl<'a, T: Drop, W: Drop + Wakes, R: Wait> ReceiverGround<T, W> for MemoryRecei
             self.pause();
         }
         self.parked = false;
+        // A sender that a future leaves behind finishes now.
+        if op == Op::Swap(DISCONNECTED) && before == UNPARKING {
+            self.pauses = 0;
+            self.pause();
+        }
         before
     }
 

@@ -1,7 +1,8 @@
 //! A sender's ground in memory.
 
-ghost use Rattle.std.specs.Prelude.{◌≡◌, true, false, map, if◌then◌else◌};
+ghost use Rattle.std.specs.Prelude.{◌≡◌, map, if◌then◌else◌};
 ghost use Rattle.oneshot_drive.specs.BetweenCalls.{IsFresh};
+ghost use Rattle.oneshot_memory.specs.declared.sender.Meanwhile.TheVariants.{Waits, Stops, Leaves};
 ghost use Rattle.oneshot_memory.specs.Events.{event_of};
 ghost use Rattle.oneshot_memory.specs.Sender.{keeps_both, word_then};
 
@@ -14,8 +15,19 @@ use std::marker::Model;
 use std::snapshot::Snapshot;
 use std::sync::Wait;
 
-/// A sender's ground whose receiver is here, waits or is gone. It does nothing, but that the deadline of
-/// one that waits may be over while the sender finishes.
+/// What a receiver that waits does once the sender took its waker, before the sender's last operation.
+#[derive(Clone, Copy)]
+pub enum Meanwhile {
+    /// It waits on.
+    Waits,
+    /// Its deadline is over.
+    Stops,
+    /// It is a future, and is dropped.
+    Leaves,
+}
+
+/// A sender's ground whose receiver is here, waits or is gone. It does nothing, but that one that waits may
+/// stop or leave while the sender finishes.
 #[derive(Drop)]
 pub struct MemorySender<'a, T, W, R: Wait> {
     events: Vec<Event<T, W>>,
@@ -24,7 +36,7 @@ pub struct MemorySender<'a, T, W, R: Wait> {
     waker: Option<W>,
     owns_message: bool,
     owns_waker: bool,
-    stops: bool,
+    meanwhile: Meanwhile,
     rt: &'a R,
 }
 
@@ -35,7 +47,7 @@ impl<'a, T, W, R: Wait> Model for MemorySender<'a, T, W, R> {
 
     ghost Value = { Sending T W };
 
-    ghost view = { λ s. sending_of s.events.items s.word s.message s.waker s.owns_message s.owns_waker s.stops };
+    ghost view = { λ s. sending_of s.events.items s.word s.message s.waker s.owns_message s.owns_waker s.meanwhile };
 
     ghost invariant = { λ s.
         SenderStands (sender_of (logged s.events.items)) s.word
@@ -47,7 +59,7 @@ impl<'a, T, W, R: Wait> MemorySender<'a, T, W, R> {
     pub fn new(rt: &'a R, alloc: Global, receiver_is_here: bool) -> MemorySender<'a, T, W, R>
         ensures fresh { IsFresh result.state }
         ensures word { result.word ≡ (if receiver_is_here then 3 else 2) }
-        ensures stays { result.stops ≡ false }
+        ensures waits { result.meanwhile ≡ Waits }
     {
         MemorySender {
             events: Vec::new(alloc),
@@ -60,7 +72,7 @@ impl<'a, T, W, R: Wait> MemorySender<'a, T, W, R> {
             waker: None,
             owns_message: true,
             owns_waker: false,
-            stops: false,
+            meanwhile: Meanwhile::Waits,
             rt,
         }
     }
@@ -69,7 +81,7 @@ impl<'a, T, W, R: Wait> MemorySender<'a, T, W, R> {
     pub fn with_waiting_receiver(rt: &'a R, alloc: Global, waker: W) -> MemorySender<'a, T, W, R>
         ensures fresh { IsFresh result.state }
         ensures word { result.word ≡ 0 }
-        ensures stays { result.stops ≡ false }
+        ensures waits { result.meanwhile ≡ Waits }
     {
         MemorySender {
             events: Vec::new(alloc),
@@ -78,16 +90,23 @@ impl<'a, T, W, R: Wait> MemorySender<'a, T, W, R> {
             waker: Some(waker),
             owns_message: true,
             owns_waker: false,
-            stops: false,
+            meanwhile: Meanwhile::Waits,
             rt,
         }
     }
 
     /// The deadline of a receiver that waits is to be over once the sender took its waker.
     pub fn receiver_will_stop(&mut self)
-        ensures { self.new ≡ record self.old { stops = true } }
+        ensures { self.new ≡ record self.old { meanwhile = Stops } }
     {
-        self.stops = true;
+        self.meanwhile = Meanwhile::Stops;
+    }
+
+    /// A receiver that waits is to be gone once the sender took its waker, as a future that is dropped.
+    pub fn receiver_will_leave(&mut self)
+        ensures { self.new ≡ record self.old { meanwhile = Leaves } }
+    {
+        self.meanwhile = Meanwhile::Leaves;
     }
 
     /// The steps so far.
@@ -147,7 +166,7 @@ impl<'a, T: Drop, W: Drop, R: Wait> SenderGround<T, W> for MemorySender<'a, T, W
         let Some(waker) = self.waker.take() else {
             unreachable!()
         };
-        self.word = outlasted(self.word, self.stops);
+        self.word = outlasted(self.word, self.meanwhile);
         let event = Event::handing(Step::TakeWaker, &waker);
         record(self.rt, &mut self.events, event);
         waker
@@ -166,14 +185,14 @@ impl<'a, T: Drop, W: Drop, R: Wait> SenderGround<T, W> for MemorySender<'a, T, W
     }
 }
 
-// The word once the waker is taken, of a receiver whose deadline is over then or not.
-fn outlasted(word: u8, stops: bool) -> u8
-    ensures { result ≡ word_then stops word }
+// The word once the waker is taken, and a receiver that waits has done this.
+fn outlasted(word: u8, meanwhile: Meanwhile) -> u8
+    ensures { result ≡ word_then meanwhile word }
 {
-    if stops && word == UNPARKING {
-        EMPTY
-    } else {
-        word
+    match (meanwhile, word) {
+        (Meanwhile::Stops, UNPARKING) => EMPTY,
+        (Meanwhile::Leaves, UNPARKING) => DISCONNECTED,
+        _ => word,
     }
 }
 
