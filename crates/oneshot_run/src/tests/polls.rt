@@ -3,7 +3,7 @@
 use crate::tests::assert_trace;
 
 #[test]
-fn the_drop_waits_until_a_sender_has_finished(rt: HostRuntime) {
+fn the_drop_leaves_a_sender_that_is_about_to_finish(rt: HostRuntime) {
     assert_trace(
         &rt,
         "S send 7\nR future poll 1 drop\nX rrrrrssrrssrrrrs\n",
@@ -15,22 +15,90 @@ fn the_drop_waits_until_a_sender_has_finished(rt: HostRuntime) {
 6 S write-message 0>0 m:NotSent>InCell
 7 S add 0>1
 8 R load 1>1
-9 R load 1>1
-10 S take-waker 1>1 w1@3:Cell>SenderHand
-11 S swap 1>4
-12 R load 4>4
-13 R swap 4>2
-14 R drop-message 2>2 m:InCell>Dropped
-15 R free 2>- = dropped
-16 S wake ->- w1@3:SenderHand>Used = Ok
-rest Dropped(7)
+9 R swap 1>2 = dropped
+10 S take-waker 2>2 w1@3:Cell>SenderHand
+11 S swap 2>4
+12 R idle
+13 R idle
+14 R idle
+15 R idle
+16 S wake 4>4 m:InCell>InError w1@3:SenderHand>Used = Err
+rest InError(7)
+block here
+",
+    );
+}
+
+#[test]
+fn a_send_that_came_late_gives_its_message_back(rt: HostRuntime) {
+    assert_trace(
+        &rt,
+        "S send 7 into\nR future poll 1 drop\nX rrrrrssrrsssss\n",
+        "1 R plain 3>3 = future
+2 R load 3>3
+3 R copy 3>3 w1@3:New>Hand
+4 R write-waker 3>3 w1@3:Hand>Cell
+5 R exchange 3>0 = Pending
+6 S write-message 0>0 m:NotSent>InCell
+7 S add 0>1
+8 R load 1>1
+9 R swap 1>2 = dropped
+10 S take-waker 2>2 w1@3:Cell>SenderHand
+11 S swap 2>4
+12 S wake 4>4 m:InCell>InError w1@3:SenderHand>Used = Err
+13 S take-message 4>4 m:InError>FromError
+14 S free 4>- = 7
+rest FromError(7)
 block freed
 ",
     );
 }
 
 #[test]
-fn the_drop_waits_until_a_sender_has_gone(rt: HostRuntime) {
+fn a_sender_that_came_late_frees_the_block(rt: HostRuntime) {
+    assert_trace(
+        &rt,
+        "S drop\nR future poll 1 drop\nX rrrrrsrrssss\n",
+        "1 R plain 3>3 = future
+2 R load 3>3
+3 R copy 3>3 w1@3:New>Hand
+4 R write-waker 3>3 w1@3:Hand>Cell
+5 R exchange 3>0 = Pending
+6 S xor 0>1
+7 R load 1>1
+8 R swap 1>2 = dropped
+9 S take-waker 2>2 w1@3:Cell>SenderHand
+10 S swap 2>2
+11 S wake 2>2 w1@3:SenderHand>Used
+12 S free 2>- = dropped
+rest none
+block freed
+",
+    );
+}
+
+#[test]
+fn a_poll_that_finds_the_sender_finishing_wakes_its_own_task(rt: HostRuntime) {
+    assert_trace(
+        &rt,
+        "S send 7\nR future poll 1 poll 2\nX rrrrrssrr\n",
+        "1 R plain 3>3 = future
+2 R load 3>3
+3 R copy 3>3 w1@3:New>Hand
+4 R write-waker 3>3 w1@3:Hand>Cell
+5 R exchange 3>0 = Pending
+6 S write-message 0>0 m:NotSent>InCell
+7 S add 0>1
+8 R load 1>1
+9 R wake 1>1 own:2 = Pending
+rest InCell(7)
+block here
+",
+    );
+}
+
+#[test]
+fn the_drop_frees_after_a_sender_that_has_gone(rt: HostRuntime) {
     assert_trace(
         &rt,
         "S drop\nR future poll 1 drop\nX rrrrrsrssrrrs\n",
@@ -43,9 +111,9 @@ fn the_drop_waits_until_a_sender_has_gone(rt: HostRuntime) {
 7 R load 1>1
 8 S take-waker 1>1 w1@3:Cell>SenderHand
 9 S swap 1>2
-10 R load 2>2
-11 R swap 2>2
-12 R free 2>- = dropped
+10 R swap 2>2
+11 R free 2>- = dropped
+12 R idle
 13 S wake ->- w1@3:SenderHand>Used = dropped
 rest none
 block freed
@@ -54,7 +122,7 @@ block freed
 }
 
 #[test]
-fn a_poll_whose_exchange_found_the_sender_finishing_is_dropped(rt: HostRuntime) {
+fn a_drop_whose_exchange_found_the_sender_finishing_closes_then(rt: HostRuntime) {
     assert_trace(
         &rt,
         "S send 7\nR future poll 1 drop\nX rrrrrrssrsssrrrr\n",
@@ -70,10 +138,10 @@ fn a_poll_whose_exchange_found_the_sender_finishing_is_dropped(rt: HostRuntime) 
 10 S take-waker 1>1 w1@3:Cell>SenderHand
 11 S swap 1>4
 12 S wake 4>4 w1@3:SenderHand>Used = Ok
-13 R load 4>4
-14 R swap 4>2
-15 R drop-message 2>2 m:InCell>Dropped
-16 R free 2>- = dropped
+13 R swap 4>2
+14 R drop-message 2>2 m:InCell>Dropped
+15 R free 2>- = dropped
+16 R idle
 rest Dropped(7)
 block freed
 ",
