@@ -17,11 +17,11 @@ fn counts(task: &MemoryTask) -> (u64, u64, u64) {
 fn poll_then_send(rt: HostRuntime) {
     let task = MemoryTask::new();
     let mut g = MemoryFuture::<'_, '_, u64, _>::new(&rt, rt.alloc(), &task);
-    assert!(rt; matches!(&poll(&mut g, &rt), Poll::Pending));
+    assert!(rt; matches!(&poll(&mut g), Poll::Pending));
     assert!(rt; counts(&task) == (1, 0, 0));
     g.receiver.sender_sends(1234);
     assert!(rt; counts(&task) == (1, 1, 1));
-    assert!(rt; matches!(&poll(&mut g, &rt), Poll::Ready(Ok(1234))));
+    assert!(rt; matches!(&poll(&mut g), Poll::Ready(Ok(1234))));
     assert!(rt; counts(&task) == (1, 1, 1));
 }
 
@@ -30,10 +30,10 @@ fn poll_with_different_wakers(rt: HostRuntime) {
     let first = MemoryTask::new();
     let second = MemoryTask::new();
     let mut g = MemoryFuture::<'_, '_, u64, _>::new(&rt, rt.alloc(), &first);
-    assert!(rt; matches!(&poll(&mut g, &rt), Poll::Pending));
+    assert!(rt; matches!(&poll(&mut g), Poll::Pending));
     assert!(rt; counts(&first) == (1, 0, 0));
     g.task = &second;
-    assert!(rt; matches!(&poll(&mut g, &rt), Poll::Pending));
+    assert!(rt; matches!(&poll(&mut g), Poll::Pending));
     assert!(rt; counts(&first) == (1, 1, 0));
     assert!(rt; counts(&second) == (1, 0, 0));
     g.receiver.sender_sends(1234);
@@ -46,12 +46,12 @@ fn a_refused_copy_wakes_its_task(rt: HostRuntime) -> Result<(), Fail> {
     let task = MemoryTask::new();
     let mut g = MemoryFuture::<'_, '_, u64, _>::new(&rt, rt.alloc(), &task);
     g.refuses = true;
-    assert!(rt; matches!(&poll(&mut g, &rt), Poll::Pending));
+    assert!(rt; matches!(&poll(&mut g), Poll::Pending));
     assert!(rt; counts(&task) == (0, 0, 1));
     let steps = steps_of(rt.alloc(), g.receiver.events())?;
     assert_eq!(rt; steps.as_str(), "load:3, copy:refused, wake-own");
     g.receiver.sender_sends(1234);
-    assert!(rt; matches!(&poll(&mut g, &rt), Poll::Ready(Ok(1234))));
+    assert!(rt; matches!(&poll(&mut g), Poll::Ready(Ok(1234))));
     Ok(())
 }
 
@@ -60,10 +60,10 @@ fn a_refused_copy_leaves_the_stored_one(rt: HostRuntime) -> Result<(), Fail> {
     let first = MemoryTask::new();
     let second = MemoryTask::new();
     let mut g = MemoryFuture::<'_, '_, u64, _>::new(&rt, rt.alloc(), &first);
-    assert!(rt; matches!(&poll(&mut g, &rt), Poll::Pending));
+    assert!(rt; matches!(&poll(&mut g), Poll::Pending));
     g.task = &second;
     g.refuses = true;
-    assert!(rt; matches!(&poll(&mut g, &rt), Poll::Pending));
+    assert!(rt; matches!(&poll(&mut g), Poll::Pending));
     assert!(rt; counts(&second) == (0, 0, 1));
     let steps = steps_of(rt.alloc(), g.receiver.events())?;
     assert_eq!(rt;
@@ -72,7 +72,7 @@ fn a_refused_copy_leaves_the_stored_one(rt: HostRuntime) -> Result<(), Fail> {
     );
     g.receiver.sender_drops();
     assert!(rt; counts(&first) == (1, 1, 1));
-    assert!(rt; matches!(&poll(&mut g, &rt), Poll::Ready(Err(RecvError))));
+    assert!(rt; matches!(&poll(&mut g), Poll::Ready(Err(RecvError))));
     Ok(())
 }
 
@@ -81,7 +81,7 @@ fn a_copy_whose_exchange_failed_is_dropped(rt: HostRuntime) {
     let task = MemoryTask::new();
     let mut g = MemoryFuture::<'_, '_, u64, _>::new(&rt, rt.alloc(), &task);
     g.receiver.sender_will_send(0, 7);
-    assert!(rt; matches!(&poll(&mut g, &rt), Poll::Ready(Ok(7))));
+    assert!(rt; matches!(&poll(&mut g), Poll::Ready(Ok(7))));
     assert!(rt; counts(&task) == (1, 1, 0));
 }
 
@@ -89,8 +89,8 @@ fn a_copy_whose_exchange_failed_is_dropped(rt: HostRuntime) {
 fn a_dropped_future_ends_its_copy(rt: HostRuntime) {
     let task = MemoryTask::new();
     let mut g = MemoryFuture::<'_, '_, u64, _>::new(&rt, rt.alloc(), &task);
-    assert!(rt; matches!(&poll(&mut g, &rt), Poll::Pending));
-    drop_async(&mut g, &rt);
+    assert!(rt; matches!(&poll(&mut g), Poll::Pending));
+    drop_async(&mut g);
     assert!(rt; counts(&task) == (1, 1, 0));
 }
 
@@ -116,7 +116,7 @@ fn a_future_that_was_not_polled_finds_3_4_and_2(rt: HostRuntime) -> Result<(), F
 fn a_look_leaves_the_copy_in_its_slot(rt: HostRuntime) -> Result<(), Fail> {
     let task = MemoryTask::new();
     let mut g = MemoryFuture::<'_, '_, u64, _>::new(&rt, rt.alloc(), &task);
-    assert!(rt; matches!(&poll(&mut g, &rt), Poll::Pending));
+    assert!(rt; matches!(&poll(&mut g), Poll::Pending));
     assert_eq!(rt; async_try_recv(&mut g), Err(TryRecvError::Empty));
     assert_eq!(rt; async_try_recv(&mut g), Err(TryRecvError::Empty));
     assert!(rt; counts(&task) == (1, 0, 0));
@@ -136,10 +136,10 @@ fn a_look_leaves_the_copy_in_its_slot(rt: HostRuntime) -> Result<(), Fail> {
 fn a_look_does_not_wait_for_a_sender_about_to_finish(rt: HostRuntime) -> Result<(), Fail> {
     let task = MemoryTask::new();
     let mut g = MemoryFuture::<'_, '_, u64, _>::new(&rt, rt.alloc(), &task);
-    assert!(rt; matches!(&poll(&mut g, &rt), Poll::Pending));
+    assert!(rt; matches!(&poll(&mut g), Poll::Pending));
     g.receiver.sender_will_send(0, 7);
     g.receiver.sender_will_linger(2);
-    assert!(rt; matches!(&poll(&mut g, &rt), Poll::Pending));
+    assert!(rt; matches!(&poll(&mut g), Poll::Pending));
     assert_eq!(rt; async_try_recv(&mut g), Err(TryRecvError::Empty));
     assert_eq!(rt; async_try_recv(&mut g), Err(TryRecvError::Empty));
     assert_eq!(rt; async_try_recv(&mut g), Ok(7));
@@ -148,6 +148,47 @@ fn a_look_does_not_wait_for_a_sender_about_to_finish(rt: HostRuntime) -> Result<
         steps.as_str(),
         "load:3, copy:made, write-waker, exchange 3 0:3, load:0, copy:made, exchange 0 3:1, \
         wake-own, load:1, load:1, load:4, store 2, take-message"
+    );
+    Ok(())
+}
+
+// The sender lingers between its two operations. Each poll answers all the same, by one load, and wakes its task.
+#[test]
+fn a_poll_does_not_wait_for_a_sender_about_to_finish(rt: HostRuntime) {
+    let task = MemoryTask::new();
+    let mut g = MemoryFuture::<'_, '_, u64, _>::new(&rt, rt.alloc(), &task);
+    assert!(rt; matches!(&poll(&mut g), Poll::Pending));
+    g.receiver.sender_will_send(0, 7);
+    g.receiver.sender_will_linger(1_001);
+    assert!(rt; matches!(&poll(&mut g), Poll::Pending));
+    for polls in 1..=1_000 {
+        let before = g.receiver.events().len();
+        assert!(rt; matches!(&poll(&mut g), Poll::Pending), "poll {polls}");
+        assert_eq!(rt; g.receiver.events().len(), before + 2, "poll {polls}");
+    }
+    assert!(rt; counts(&task) == (2, 2, 1_002));
+    assert!(rt; matches!(&poll(&mut g), Poll::Ready(Ok(7))));
+}
+
+// The sender has the copy then, and uses it.
+#[test]
+fn a_dropped_future_leaves_its_copy_to_a_sender_about_to_finish(
+    rt: HostRuntime,
+) -> Result<(), Fail> {
+    let task = MemoryTask::new();
+    let mut g = MemoryFuture::<'_, '_, u64, _>::new(&rt, rt.alloc(), &task);
+    assert!(rt; matches!(&poll(&mut g), Poll::Pending));
+    g.receiver.sender_will_send(0, 7);
+    g.receiver.sender_will_linger(9);
+    assert!(rt; matches!(&poll(&mut g), Poll::Pending));
+    assert!(rt; counts(&task) == (2, 1, 1));
+    drop_async(&mut g);
+    assert!(rt; counts(&task) == (2, 2, 2));
+    let steps = steps_of(rt.alloc(), g.receiver.events())?;
+    assert_eq!(rt;
+        steps.as_str(),
+        "load:3, copy:made, write-waker, exchange 3 0:3, load:0, copy:made, exchange 0 3:1, \
+        wake-own, load:1, swap 2:1"
     );
     Ok(())
 }

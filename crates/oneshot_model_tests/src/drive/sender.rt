@@ -17,6 +17,8 @@ enum Receiver {
     Waits,
     /// It waits, and its deadline is over before the sender finishes.
     Stops,
+    /// It is a future that waits, and is dropped before the sender finishes.
+    Leaves,
 }
 
 type Ground<'a, R> = MemorySender<'a, u64, u8, R>;
@@ -31,6 +33,11 @@ fn ground<R: Wait>(rt: &R, alloc: Global, receiver: Receiver) -> Ground<'_, R>
         Receiver::Stops => {
             let mut g = Ground::with_waiting_receiver(rt, alloc, 9);
             g.receiver_will_stop();
+            g
+        }
+        Receiver::Leaves => {
+            let mut g = Ground::with_waiting_receiver(rt, alloc, 9);
+            g.receiver_will_leave();
             g
         }
     }
@@ -54,6 +61,11 @@ fn send_makes_its_steps(rt: HostRuntime) -> Result<(), Fail> {
             Receiver::Gone,
             false,
             "write-message, add:2, take-message, free",
+        ),
+        (
+            Receiver::Leaves,
+            false,
+            "write-message, add:0, take-waker, swap 4:2, wake, take-message, free",
         ),
     ];
     for (number, (receiver, sent, steps)) in cases.into_iter().enumerate() {
@@ -80,6 +92,7 @@ fn the_senders_drop_makes_its_steps(rt: HostRuntime) -> Result<(), Fail> {
         (Receiver::Waits, "flip:0, take-waker, swap 2:1, wake"),
         (Receiver::Stops, "flip:0, take-waker, swap 2:3, wake"),
         (Receiver::Gone, "flip:2, free"),
+        (Receiver::Leaves, "flip:0, take-waker, swap 2:2, wake, free"),
     ];
     for (number, (receiver, steps)) in cases.into_iter().enumerate() {
         let mut g = ground(&rt, rt.alloc(), receiver);
