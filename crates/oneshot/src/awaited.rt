@@ -9,7 +9,7 @@ use std::test::Fail;
 use std::thread::join;
 
 /// Blocks this thread until the message is there or will never come.
-fn awaited<R: Wait + RandomSource + AllocGlobal, T: Drop, Rt: Wait + Drop>(
+fn awaited<R: Wait + RandomSource + AllocGlobal, T: Drop, Rt: Drop>(
     rt: &R,
     receiver: AsyncReceiver<T, Rt>,
 ) -> io::Result<Result<T, RecvError>> {

@@ -16,7 +16,7 @@ use std::test::Fail;
 use std::thread::join;
 
 /// What was received, or that no message comes. `None`: ask or wait on, and a task that waits still does.
-fn glance<T: Drop, Rt: Wait + Drop>(
+fn glance<T: Drop, Rt: Drop>(
     receiver: &mut AsyncReceiver<T, Rt>,
 ) -> Option<Result<T, RecvError>>
     ensures open { result ≡ None → IsUnfinished receiver.new }
@@ -32,7 +32,7 @@ fn glance<T: Drop, Rt: Wait + Drop>(
 }
 
 /// Receives at once if the message is there, and makes an executor only if it has to wait.
-fn at_once_or_awaited<R: Wait + RandomSource + AllocGlobal, T: Drop, Rt: Wait + Drop>(
+fn at_once_or_awaited<R: Wait + RandomSource + AllocGlobal, T: Drop, Rt: Drop>(
     rt: &R,
     mut receiver: AsyncReceiver<T, Rt>,
 ) -> io::Result<Result<T, RecvError>> {

@@ -4,6 +4,8 @@
 #[cfg(test)]
 mod awaited;
 #[cfg(test)]
+mod bare;
+#[cfg(test)]
 mod callers;
 #[cfg(test)]
 mod example;

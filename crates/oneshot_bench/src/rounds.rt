@@ -72,12 +72,11 @@ pub fn make_send_recv<T: Message + Send + Drop, Rt: Wait + Clock + Drop>(
     Ok(())
 }
 
-/// Makes a channel whose receiver is a future, polls it, sends `message`, polls again,
-/// and drops the receiver, which keeps `rt`.
+/// Makes a channel whose receiver is a future, polls it, sends `message`, polls again, and drops the
+/// receiver.
 ///
 /// `Err` where there is no memory for the channel, or the message was lost.
-pub fn make_poll_send_poll<T: Message + Send + Drop, Rt: Wait + Drop>(
-    rt: Rt,
+pub fn make_poll_send_poll<T: Message + Send + Drop>(
     alloc: Global,
     message: T,
     cx: &mut Context<'_>,
@@ -85,7 +84,7 @@ pub fn make_poll_send_poll<T: Message + Send + Drop, Rt: Wait + Drop>(
 ) -> Result<(), Fault>
     ensures { Keeps cx.old cx.new }
 {
-    let (sender, mut receiver) = async_channel(rt, alloc)?;
+    let (sender, mut receiver) = async_channel::<T, ()>((), alloc)?;
     tally.made(T::BYTES);
     if receiver.poll(cx).is_pending() {
         tally.pended();
@@ -99,27 +98,26 @@ pub fn make_poll_send_poll<T: Message + Send + Drop, Rt: Wait + Drop>(
 
 /// `make_poll_send_poll` as a round of a task.
 #[derive(Drop)]
-pub struct MakePollSendPoll<T, Rt> {
-    rt: Rt,
+pub struct MakePollSendPoll<T> {
     alloc: Global,
     message: T,
 }
 
-impl<T, Rt> MakePollSendPoll<T, Rt> {
+impl<T> MakePollSendPoll<T> {
     /// A round that sends `message`.
-    pub fn new(rt: Rt, alloc: Global, message: T) -> MakePollSendPoll<T, Rt> {
-        MakePollSendPoll { rt, alloc, message }
+    pub fn new(alloc: Global, message: T) -> MakePollSendPoll<T> {
+        MakePollSendPoll { alloc, message }
     }
 }
 
-impl<Rt: Wait + Copy + Drop> PolledRound for MakePollSendPoll<u64, Rt> {
+impl PolledRound for MakePollSendPoll<u64> {
     fn make(&self, cx: &mut Context<'_>, tally: &mut Tally) -> Result<(), Fault> {
-        make_poll_send_poll(self.rt, self.alloc, self.message, cx, tally)
+        make_poll_send_poll(self.alloc, self.message, cx, tally)
     }
 }
 
-impl<Rt: Wait + Copy + Drop> PolledRound for MakePollSendPoll<[u8; 4096], Rt> {
+impl PolledRound for MakePollSendPoll<[u8; 4096]> {
     fn make(&self, cx: &mut Context<'_>, tally: &mut Tally) -> Result<(), Fault> {
-        make_poll_send_poll(self.rt, self.alloc, self.message, cx, tally)
+        make_poll_send_poll(self.alloc, self.message, cx, tally)
     }
 }

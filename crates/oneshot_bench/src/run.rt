@@ -53,7 +53,7 @@ fn run_oneshot<R: AllocGlobal + RandomSource + Threads + Wait + Clock + Sync>(
             rounds::make_send_recv(rt, alloc, SMALL, tally)
         }),
         Loop::MakePollSendPoll => {
-            let round = rounds::MakePollSendPoll::new(rt, alloc, SMALL);
+            let round = rounds::MakePollSendPoll::new(alloc, SMALL);
             repeat_in_task(rt, count, round, tally)
         }
         Loop::MakeSendReceiveDropLarge => repeat(count, || {
@@ -64,7 +64,7 @@ fn run_oneshot<R: AllocGlobal + RandomSource + Threads + Wait + Clock + Sync>(
             rounds::make_send_recv(rt, alloc, LARGE, tally)
         }),
         Loop::MakePollSendPollLarge => {
-            let round = rounds::MakePollSendPoll::new(rt, alloc, LARGE);
+            let round = rounds::MakePollSendPoll::new(alloc, LARGE);
             repeat_in_task(rt, count, round, tally)
         }
         Loop::RoundTrip => round_trip::round_trips(rt, alloc, count, tally).map(|_| ()),

@@ -42,7 +42,7 @@ fn beside_a_drop<E: Send + Drop, B: Send, D: FnOnce(E) -> B + Send>(
 }
 
 // What a future answers that one task polls until it is ready.
-fn poll_to_completion<T: Drop, Rt: Wait + Drop>(
+fn poll_to_completion<T: Drop, Rt: Drop>(
     rt: &(impl Wait + RandomSource + AllocGlobal),
     mut receiver: AsyncReceiver<T, Rt>,
 ) -> io::Result<Result<T, RecvError>> {

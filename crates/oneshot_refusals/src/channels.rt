@@ -13,8 +13,6 @@ struct Counted<'a, R> {
     drops: &'a AtomicU64,
 }
 
-impl<'a, R: Wait> Wait for Counted<'a, R> {}
-
 impl<'a, R> Drop for Counted<'a, R> {
     fn drop(self) {
         let Counted { _rt: _, drops } = self;

@@ -25,7 +25,7 @@ pub(super) struct Outcome<A> {
 }
 
 /// How often a test has to see what may happen. Delays are drawn so that each is seen some thousand times.
-const OFTEN: usize = 100;
+pub(super) const OFTEN: usize = 100;
 
 /// Fails unless each of these answers came often, and no other.
 pub(super) fn assert_answers<A: Debug + PartialEq>(

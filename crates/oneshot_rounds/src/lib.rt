@@ -22,6 +22,10 @@ mod nested;
 #[cfg(test)]
 mod notes;
 #[cfg(test)]
+mod overtaken;
+#[cfg(test)]
+mod pages;
+#[cfg(test)]
 mod pending;
 #[cfg(test)]
 mod races;

@@ -10,13 +10,12 @@ use oneshot::{AsyncReceiver, Sender, async_channel};
 use std::alloc::AllocGlobal;
 use std::process::Abort;
 use std::random::RandomSource;
-use std::sync::Wait;
 use std::test::Fail;
 
 const ROUNDS: u64 = 10_000;
 
 /// So many channels, whose futures this task has polled once.
-fn polled_channels<'r, T: Send + Drop, R: Wait + AllocGlobal + RandomSource + Abort>(
+fn polled_channels<'r, T: Send + Drop, R: AllocGlobal + RandomSource + Abort>(
     rt: &'r R,
     task: &MockTask,
 ) -> Result<(Vec<Sender<T>>, Vec<AsyncReceiver<T, &'r R>>), Fail> {

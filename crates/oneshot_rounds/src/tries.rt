@@ -11,19 +11,18 @@ use oneshot::{AsyncReceiver, Sender, async_channel};
 use std::alloc::AllocGlobal;
 use std::process::Abort;
 use std::random::RandomSource;
-use std::sync::Wait;
 use std::test::Fail;
 
 const ROUNDS: u64 = 10_000;
 
 /// A future, and the task that has polled it.
 #[derive(Drop)]
-struct Waiting<Rt: Wait + Drop> {
+struct Waiting<Rt> {
     task: MockTask,
     future: AsyncReceiver<Counted, Rt>,
 }
 
-impl<Rt: Wait + Drop> Waiting<Rt> {
+impl<Rt: Drop> Waiting<Rt> {
     fn try_once(&mut self) -> Result<u64, Silence> {
         Ok(self.future.try_recv()?.value)
     }
@@ -37,7 +36,7 @@ impl<Rt: Wait + Drop> Waiting<Rt> {
 }
 
 /// So many channels, whose futures a task each has polled once.
-fn waiting_channels<R: Wait + AllocGlobal + RandomSource + Abort>(
+fn waiting_channels<R: AllocGlobal + RandomSource + Abort>(
     rt: &R,
 ) -> Result<(Vec<Sender<Counted>>, Vec<Waiting<&R>>), Fail> {
     let mut senders = Vec::new(rt.alloc());
@@ -56,7 +55,7 @@ fn waiting_channels<R: Wait + AllocGlobal + RandomSource + Abort>(
 
 /// Fails unless each task was woken, and gets this where its `try_recv` found nothing yet. Any other
 /// `try_recv` leaves nothing.
-fn assert_woken<Rt: Wait + Drop>(
+fn assert_woken<Rt: Drop>(
     rt: &impl Abort,
     receivers: Vec<Waiting<Rt>>,
     tries: &[Outcome<Result<u64, Silence>>],

@@ -70,7 +70,7 @@ pub fn await_divisor<R, Rt>(
 ) -> io::Result<Result<u32, RecvError>>
 where
     R: Wait + RandomSource + AllocGlobal,
-    Rt: Wait + Drop,
+    Rt: Drop,
     ensures divides { IfOk result (λ found. IfOk found (λ value. number % value ≡ 0)) }
     ensures proper { IfOk result (λ found. IfOk found (λ value. (1 < value) × (value < number))) }
 {
@@ -93,7 +93,7 @@ pub fn divisor_of<R: Threads + Wait + RandomSource + AllocGlobal>(
     ensures divides { IfOk result (λ found. IfOk found (λ value. number % value ≡ 0)) }
     ensures proper { IfOk result (λ found. IfOk found (λ value. (1 < value) × (value < number))) }
 {
-    let (waiter, receiver) = async_channel(rt, alloc)?;
+    let (waiter, receiver) = async_channel((), alloc)?;
     let thread = start(rt, number, waiter)?;
     let found = await_divisor(rt, number, receiver);
     thread.join(rt);

@@ -22,7 +22,7 @@ pub type Answers = (Option<u64>, Option<u64>);
 pub fn both_replies<R, Rt>(rt: &R, first: Asked<Rt>, second: Asked<Rt>) -> io::Result<Answers>
 where
     R: Wait + RandomSource + AllocGlobal,
-    Rt: Wait + Drop,
+    Rt: Drop,
     ensures first { IfOk result (λ both. IfSome both.0 (λ value. value ≡ first.root * first.root)) }
     ensures second { IfOk result (λ both. IfSome both.1 (λ value. value ≡ second.root * second.root)) }
 {
@@ -45,7 +45,7 @@ pub fn first_reply<R, Rt>(
 ) -> io::Result<Option<u64>>
 where
     R: Wait + RandomSource + AllocGlobal,
-    Rt: Wait + Drop,
+    Rt: Drop,
     ensures { IfOk result (λ answer. IfSome answer (λ value. value ≡ root * root)) }
 {
     let (reply, other) = match block_on(rt, select(first, second))? {
@@ -89,8 +89,8 @@ pub fn both_squares<R: Threads + Wait + RandomSource + AllocGlobal + Sync>(
     ensures first { IfOk result (λ both. IfSome both.0 (λ value. value ≡ first * first)) }
     ensures second { IfOk result (λ both. IfSome both.1 (λ value. value ≡ second * second)) }
 {
-    let (first_request, first) = ask(rt, alloc, first)?;
-    let (second_request, second) = ask(rt, alloc, second)?;
+    let (first_request, first) = ask((), alloc, first)?;
+    let (second_request, second) = ask((), alloc, second)?;
     beside_servers(rt, first_request, second_request, move || {
         both_replies(rt, first, second)
     })
@@ -107,8 +107,8 @@ pub fn first_square<R: Threads + Wait + RandomSource + AllocGlobal + Sync>(
 ) -> io::Result<Option<u64>>
     ensures { IfOk result (λ answer. IfSome answer (λ value. value ≡ root * root)) }
 {
-    let (first_request, first) = ask(rt, alloc, root)?;
-    let (second_request, second) = ask(rt, alloc, root)?;
+    let (first_request, first) = ask((), alloc, root)?;
+    let (second_request, second) = ask((), alloc, root)?;
     beside_servers(rt, first_request, second_request, move || {
         let (first, second) = (first.reply.into_future(), second.reply.into_future());
         first_reply(rt, root, first, second)

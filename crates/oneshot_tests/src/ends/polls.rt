@@ -17,12 +17,12 @@ use std::time::Duration;
 
 /// A receiver whose polls are counted.
 #[derive(Drop)]
-struct Counted<'a, T, Rt: Wait> {
+struct Counted<'a, T, Rt> {
     receiver: AsyncReceiver<T, Rt>,
     polls: &'a AtomicU64,
 }
 
-impl<'a, T: Drop, Rt: Wait + Drop> Future for Counted<'a, T, Rt> {
+impl<'a, T: Drop, Rt: Drop> Future for Counted<'a, T, Rt> {
     type Output = Result<T, RecvError>;
 
     ghost needs = { λ c s. s ≡ c.receiver.source };
@@ -35,11 +35,11 @@ impl<'a, T: Drop, Rt: Wait + Drop> Future for Counted<'a, T, Rt> {
 
 /// A receiver that is polled so often by one executor, and is then given back.
 #[derive(Drop)]
-struct Lent<T, Rt: Wait> {
+struct Lent<T, Rt> {
     receiver: Option<AsyncReceiver<T, Rt>>,
 }
 
-impl<T: Drop, Rt: Wait + Drop> Future for Lent<T, Rt> {
+impl<T: Drop, Rt: Drop> Future for Lent<T, Rt> {
     type Output = Option<AsyncReceiver<T, Rt>>;
 
     fn poll(&mut self, cx: &mut Context<'_>) -> Poll<Option<AsyncReceiver<T, Rt>>> {
@@ -119,7 +119,7 @@ fn a_sender_that_is_dropped_ends_the_wait(rt: HostRuntime) -> Result<(), Fail> {
 }
 
 /// Polls a receiver once on another thread, and has it back.
-fn polled_there<T: Send + Drop, Rt: Wait + Send + Drop>(
+fn polled_there<T: Send + Drop, Rt: Send + Drop>(
     rt: &(impl thread::Threads + Wait + RandomSource + AllocGlobal + Sync),
     receiver: AsyncReceiver<T, Rt>,
 ) -> Option<AsyncReceiver<T, Rt>> {

@@ -77,7 +77,7 @@ pub(super) enum Look {
 
 /// Both ends of one channel, with a message that owns memory. The receiver is one that blocks, or a future.
 #[derive(Drop)]
-pub(super) struct Ends<Rt: Wait> {
+pub(super) struct Ends<Rt> {
     alloc: Global,
     // The receiver's runtime, until it is made.
     rt: Option<Rt>,

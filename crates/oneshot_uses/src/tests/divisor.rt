@@ -22,7 +22,7 @@ fn a_search_that_finds_none_drops_its_sender(rt: HostRuntime) -> Result<(), Fail
 
 #[test]
 fn a_divisor_of_another_number_is_not_taken(rt: HostRuntime) -> Result<(), Fail> {
-    let (waiter, receiver) = async_channel(&rt, rt.alloc())?;
+    let (waiter, receiver) = async_channel((), rt.alloc())?;
     send_divisor(91, waiter);
     assert_eq!(rt; await_divisor(&rt, 92, receiver)?, Err(RecvError));
     Ok(())
@@ -30,7 +30,7 @@ fn a_divisor_of_another_number_is_not_taken(rt: HostRuntime) -> Result<(), Fail>
 
 #[test]
 fn a_search_ends_where_nobody_waits(rt: HostRuntime) -> Result<(), Fail> {
-    let (waiter, receiver) = async_channel(&rt, rt.alloc())?;
+    let (waiter, receiver) = async_channel((), rt.alloc())?;
     drop(receiver);
     let thread = start(&rt, 91, waiter)?;
     thread.join(&rt);
@@ -39,7 +39,7 @@ fn a_search_ends_where_nobody_waits(rt: HostRuntime) -> Result<(), Fail> {
 
 #[test]
 fn a_search_is_awaited_after_its_thread_ended(rt: HostRuntime) -> Result<(), Fail> {
-    let (waiter, receiver) = async_channel(&rt, rt.alloc())?;
+    let (waiter, receiver) = async_channel((), rt.alloc())?;
     start(&rt, 91, waiter)?.join(&rt);
     assert_eq!(rt; await_divisor(&rt, 91, receiver)?, Ok(7));
     Ok(())

@@ -16,8 +16,8 @@ fn both_numbers_have_their_squares(rt: HostRuntime) -> Result<(), Fail> {
 
 #[test]
 fn a_request_that_is_dropped_leaves_the_other_reply(rt: HostRuntime) -> Result<(), Fail> {
-    let (dropped, first) = ask(&rt, rt.alloc(), 7)?;
-    let (served, second) = ask(&rt, rt.alloc(), 11)?;
+    let (dropped, first) = ask((), rt.alloc(), 7)?;
+    let (served, second) = ask((), rt.alloc(), 11)?;
     let (awaited, was_awaited) = join(
         &rt,
         || both_replies(&rt, first, second),
@@ -33,8 +33,8 @@ fn a_request_that_is_dropped_leaves_the_other_reply(rt: HostRuntime) -> Result<(
 
 #[test]
 fn the_later_request_may_be_served_first(rt: HostRuntime) -> Result<(), Fail> {
-    let (first_request, first) = ask(&rt, rt.alloc(), 7)?;
-    let (second_request, second) = ask(&rt, rt.alloc(), 11)?;
+    let (first_request, first) = ask((), rt.alloc(), 7)?;
+    let (second_request, second) = ask((), rt.alloc(), 11)?;
     assert!(rt; second_request.serve());
     assert!(rt; first_request.serve());
     assert_eq!(rt; both_replies(&rt, first, second)?, (Some(49), Some(121)));
@@ -49,8 +49,8 @@ fn the_first_reply_is_the_square(rt: HostRuntime) -> Result<(), Fail> {
 
 #[test]
 fn one_reply_is_awaited_where_nobody_serves_the_other_request(rt: HostRuntime) -> Result<(), Fail> {
-    let (served, first) = ask(&rt, rt.alloc(), 13)?;
-    let (unserved, second) = ask(&rt, rt.alloc(), 13)?;
+    let (served, first) = ask((), rt.alloc(), 13)?;
+    let (unserved, second) = ask((), rt.alloc(), 13)?;
     let (first, second) = (first.reply.into_future(), second.reply.into_future());
     assert!(rt; served.serve());
     assert_eq!(rt; first_reply(&rt, 13, first, second)?, Some(169));
@@ -60,8 +60,8 @@ fn one_reply_is_awaited_where_nobody_serves_the_other_request(rt: HostRuntime) -
 
 #[test]
 fn a_request_that_is_dropped_leaves_one_reply_to_await(rt: HostRuntime) -> Result<(), Fail> {
-    let (dropped, first) = ask(&rt, rt.alloc(), 13)?;
-    let (served, second) = ask(&rt, rt.alloc(), 13)?;
+    let (dropped, first) = ask((), rt.alloc(), 13)?;
+    let (served, second) = ask((), rt.alloc(), 13)?;
     let (first, second) = (first.reply.into_future(), second.reply.into_future());
     drop(dropped);
     let (awaited, was_awaited) = join(
@@ -76,8 +76,8 @@ fn a_request_that_is_dropped_leaves_one_reply_to_await(rt: HostRuntime) -> Resul
 
 #[test]
 fn no_reply_comes_where_both_requests_are_dropped(rt: HostRuntime) -> Result<(), Fail> {
-    let (_, first) = ask(&rt, rt.alloc(), 13)?;
-    let (_, second) = ask(&rt, rt.alloc(), 13)?;
+    let (_, first) = ask((), rt.alloc(), 13)?;
+    let (_, second) = ask((), rt.alloc(), 13)?;
     let (first, second) = (first.reply.into_future(), second.reply.into_future());
     assert_eq!(rt; first_reply(&rt, 13, first, second)?, None);
     Ok(())

@@ -1,0 +1,47 @@
+//! A future without a runtime, since none of its calls waits; the README shows it.
+
+use crate::{AsyncReceiver, RecvError, TryRecvError, async_channel};
+use futures::executor::block_on;
+use futures::task::Poll;
+use futures::test::MockTask;
+use std::alloc::Global;
+use std::io;
+use std::test::Fail;
+use std::thread::{Threads, join, spawn};
+
+/// Starts to add up the numbers below `end`. Only whoever awaits the sum needs a runtime that waits.
+fn start<R: Threads>(rt: &R, alloc: Global, end: u32) -> io::Result<AsyncReceiver<u64, ()>> {
+    let (sender, sum) = async_channel((), alloc)?;
+    spawn(rt, move || sender.send((0..u64::from(end)).sum()).is_ok())?;
+    Ok(sum)
+}
+
+#[test]
+fn a_sum_is_awaited(rt: HostRuntime) -> Result<(), Fail> {
+    let sum = start(&rt, rt.alloc(), 7)?;
+    assert_eq!(rt; block_on(&rt, sum)?, Ok(21));
+    Ok(())
+}
+
+#[test]
+fn a_message_is_awaited(rt: HostRuntime) -> Result<(), Fail> {
+    let (sender, receiver) = async_channel((), rt.alloc())?;
+    let (received, sent) = join(&rt, || block_on(&rt, receiver), || sender.send(19u64).is_ok());
+    assert_eq!(rt; received?, Ok(19));
+    assert!(rt; sent);
+    Ok(())
+}
+
+#[test]
+fn a_message_is_polled_by_hand(rt: HostRuntime) -> Result<(), Fail> {
+    let task = MockTask::new(&rt)?;
+    let (sender, mut receiver) = async_channel((), rt.alloc())?;
+    assert_eq!(rt; task.poll(&mut receiver), Poll::Pending);
+    assert_eq!(rt; receiver.try_recv(), Err(TryRecvError::Empty));
+    assert!(rt; !task.is_woken());
+    assert!(rt; sender.send(19u64).is_ok());
+    assert!(rt; task.is_woken());
+    assert_eq!(rt; task.poll(&mut receiver), Poll::Ready(Ok(19)));
+    assert_eq!(rt; task.poll(&mut receiver), Poll::Ready(Err(RecvError)));
+    Ok(())
+}

@@ -1,0 +1,202 @@
+//! The drop of a future that comes while its sender, on another thread, is about to wake the task: beside a
+//! `send` of 999, and beside the sender's drop. Neither waits for the other.
+//!
+//! A waker wakes its task when it is dropped too. So where a task is not woken yet right after the drop of
+//! its future, the future did not have its waker back: the sender had taken it.
+
+use super::answers::OFTEN;
+use super::counted::{Counted, make_messages};
+use super::pages::{grown_pages, resident_pages};
+use super::races::race;
+use futures::task::Poll;
+use futures::test::MockTask;
+use oneshot::{AsyncReceiver, Sender, async_channel};
+use std::process::Abort;
+use std::random::RandomSource;
+use std::rt::Files;
+use std::test::Fail;
+use std::thread::Threads;
+use std::time::Clock;
+
+const ROUNDS: u64 = 10_000;
+
+/// How often so many rounds are run at most, until the calls have met often.
+const BATCHES: u64 = 20;
+
+/// A message that fills some pages.
+type Wide = [u64; 4096];
+
+const WIDE: Wide = [999; 4096];
+
+const WIDE_ROUNDS: u64 = 1_000;
+
+/// How many more pages a process may have at the end of a test. As many blocks of wide messages as the calls
+/// have to meet are more.
+const MOST_PAGES: u64 = 128;
+
+/// So many channels, whose futures are without a runtime. A task of its own has polled each once.
+#[derive(Drop)]
+struct Polled<T> {
+    senders: Vec<Sender<T>>,
+    futures: Vec<AsyncReceiver<T, ()>>,
+    tasks: Vec<MockTask>,
+}
+
+impl<T: Send + Drop> Polled<T> {
+    fn new(rt: &(impl AllocGlobal + RandomSource + Abort), count: u64) -> Result<Polled<T>, Fail> {
+        let mut senders = Vec::new(rt.alloc());
+        let mut futures = Vec::new(rt.alloc());
+        let mut tasks = Vec::new(rt.alloc());
+        for _ in 0..count {
+            let task = MockTask::new(rt)?;
+            let (sender, mut future) = async_channel((), rt.alloc())?;
+            assert!(rt; matches!(task.poll(&mut future), Poll::Pending));
+            assert!(rt; !task.is_woken());
+            senders.push(sender)?;
+            futures.push(future)?;
+            tasks.push(task)?;
+        }
+        Ok(Polled {
+            senders,
+            futures,
+            tasks,
+        })
+    }
+}
+
+/// Drops each future beside this call, and counts the rounds in which the call gave this answer and the
+/// sender had the waker, but had not woken the task when the drop was over. Fails unless it has in the end.
+fn count_met<
+    R: Threads + Abort + Clock + AllocGlobal + Sync,
+    S: Send + Drop,
+    T: Drop,
+    A: Copy + PartialEq + Send,
+    F: FnMut(S) -> A + Send,
+>(
+    rt: &R,
+    ones: Vec<S>,
+    futures: Vec<AsyncReceiver<T, ()>>,
+    tasks: Vec<MockTask>,
+    one: F,
+    answer: A,
+) -> Result<usize, Fail>
+    requires { F.IsAlwaysCallable one }
+{
+    let others = tasks.iter().zip(futures).collect(rt.alloc())?;
+    let (answers, early) = race(rt, rt.alloc(), ones, others, one, |(task, future)| {
+        drop(future);
+        !task.is_woken()
+    });
+    for task in &tasks {
+        assert!(rt; task.is_woken());
+    }
+    let met = answers.iter().zip(&early);
+    Ok(met.filter(|(one, drop)| one.answer == answer && drop.answer).count())
+}
+
+/// Runs these batches of rounds, which count where the calls met, until they have met often.
+fn until_met<F: FnMut() -> Result<usize, Fail>>(rt: &impl Abort, mut batch: F) -> Result<(), Fail>
+    requires { F.IsAlwaysCallable batch }
+{
+    let mut met = 0usize;
+    for _ in 0..BATCHES {
+        met = met.saturating_add(batch()?);
+        if met >= OFTEN {
+            return Ok(());
+        }
+    }
+    panic!(rt; "the calls met {met} times")
+}
+
+/// A batch beside a `send` of 999, which gives back the messages of the rounds that count.
+fn batch_of_sends<R: Threads + Abort + Clock + AllocGlobal + RandomSource + Sync>(
+    rt: &R,
+) -> Result<usize, Fail> {
+    let (messages, drops) = make_messages(rt.alloc(), ROUNDS, 999)?;
+    let polled = Polled::<Counted>::new(rt, ROUNDS)?;
+    let senders = polled.senders.into_iter().zip(messages);
+    let met = count_met(
+        rt,
+        senders.collect(rt.alloc())?,
+        polled.futures,
+        polled.tasks,
+        |(sender, message)| {
+            let sent = sender.send(message);
+            sent.map_err(|refused| refused.into_inner().value)
+        },
+        Err(999),
+    )?;
+    drops.assert_once(rt);
+    Ok(met)
+}
+
+/// A batch beside the sender's drop.
+fn batch_of_drops<R: Threads + Abort + Clock + AllocGlobal + RandomSource + Sync, T: Send + Drop>(
+    rt: &R,
+    rounds: u64,
+) -> Result<usize, Fail> {
+    let polled = Polled::<T>::new(rt, rounds)?;
+    count_met(
+        rt,
+        polled.senders,
+        polled.futures,
+        polled.tasks,
+        |sender| drop(sender),
+        (),
+    )
+}
+
+/// A batch beside a `send` of a wide message, whose error is dropped.
+fn batch_of_wide_sends<R: Threads + Abort + Clock + AllocGlobal + RandomSource + Sync>(
+    rt: &R,
+) -> Result<usize, Fail> {
+    let polled = Polled::new(rt, WIDE_ROUNDS)?;
+    count_met(
+        rt,
+        polled.senders,
+        polled.futures,
+        polled.tasks,
+        |sender| sender.send(WIDE).is_err(),
+        true,
+    )
+}
+
+/// Fails if each round that counts keeps its block.
+fn assert_frees_blocks<F: FnMut() -> Result<usize, Fail>>(
+    rt: &(impl Files + Print + AllocGlobal + RandomSource + Abort),
+    mut batch: F,
+) -> Result<(), Fail>
+    requires { F.IsAlwaysCallable batch }
+{
+    batch()?;
+    let before = resident_pages(rt)?;
+    drop(Polled::<Wide>::new(rt, WIDE_ROUNDS)?);
+    if grown_pages(rt, before)? > MOST_PAGES {
+        println!(rt; "no leak is looked for, since this process keeps what was freed")?;
+        return Ok(());
+    }
+    until_met(rt, batch)?;
+    let grown = grown_pages(rt, before)?;
+    assert!(rt; grown <= MOST_PAGES, "{grown} pages");
+    Ok(())
+}
+
+#[test]
+fn a_send_that_a_drop_overtakes_gives_the_message_back(rt: HostRuntime) -> Result<(), Fail> {
+    until_met(&rt, || batch_of_sends(&rt))
+}
+
+#[test]
+fn a_drop_that_a_drop_overtakes_wakes_the_task(rt: HostRuntime) -> Result<(), Fail> {
+    until_met(&rt, || batch_of_drops::<_, u64>(&rt, ROUNDS))
+}
+
+#[test]
+fn a_send_that_a_drop_overtakes_leaves_nothing(rt: HostRuntime) -> Result<(), Fail> {
+    assert_frees_blocks(&rt, || batch_of_wide_sends(&rt))
+}
+
+#[test]
+fn a_drop_that_a_drop_overtakes_leaves_nothing(rt: HostRuntime) -> Result<(), Fail> {
+    assert_frees_blocks(&rt, || batch_of_drops::<_, Wide>(&rt, WIDE_ROUNDS))
+}

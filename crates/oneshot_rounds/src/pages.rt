@@ -1,0 +1,20 @@
+//! How much memory the process has.
+
+use std::rt::Files;
+use std::{fs, io};
+
+/// Where the kernel tells a process of its own memory: its second number counts the pages in use.
+const OWN_MEMORY: &str = concat!("/", "proc/self/statm");
+
+/// How many pages of memory the process has in use.
+pub(super) fn resident_pages(rt: &(impl Files + AllocGlobal)) -> io::Result<u64> {
+    let statm = fs::read_to_string(rt, OWN_MEMORY)?;
+    let resident = statm.split_whitespace().nth(1);
+    let pages = resident.and_then(|pages| pages.parse::<u64>().ok());
+    pages.ok_or(io::ErrorKind::InvalidData.into())
+}
+
+/// How many pages more than before the process has in use.
+pub(super) fn grown_pages(rt: &(impl Files + AllocGlobal), before: u64) -> io::Result<u64> {
+    Ok(resident_pages(rt)?.saturating_sub(before))
+}
