@@ -174,7 +174,8 @@ pub fn async_try_recv<T, W, G: ReceiverGround<T, W>>(g: &mut G) -> Result<T, Try
 }
 
 /// Drops the future, with the copy of a waker that it left with the channel and the message that it
-/// finds. It waits for nobody. A sender that is about to finish has that copy, and frees the block.
+/// finds. It waits for nobody. A sender that is about to finish takes that copy itself, and its side frees
+/// the block.
 pub fn drop_async<T, W: Drop, G: ReceiverGround<T, W>>(g: &mut G)
     requires { IsPolled (G.state g.old) }
     ensures run { ReceiverRan C.DropAsync (G.state g.old).log (G.state g.new).log R.Done [] [] }
