@@ -9,7 +9,7 @@ use std::marker::Model;
 /// A sender as an opaque value, which only `Sender::from_raw` makes a sender again. The Rust crate has a
 /// pointer here.
 ///
-/// Dropping it drops the sender: a receiver that blocks is woken, and learns that no message will come.
+/// Dropping it drops the sender: a receiver that waits is woken, and learns that no message will come.
 /// The drop never blocks.
 ///
 /// A contract sees what it sees of the sender. It may go to another thread where `T` is `Send`.
