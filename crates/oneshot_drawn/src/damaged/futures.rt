@@ -229,7 +229,7 @@ pub(crate) const LEFT_BY_A_FUTURE: Damaged = (
                 Edit::Side(10, End::Receiver),
                 Edit::Reply(9, None),
             ],
-            "entry 10: Receiver frees the block and is not its last holder",
+            "entry 10: Receiver uses the block and does not hold it",
         ),
         (
             "the error does not free the block",
