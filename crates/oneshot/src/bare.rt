@@ -26,7 +26,11 @@ fn a_sum_is_awaited(rt: HostRuntime) -> Result<(), Fail> {
 #[test]
 fn a_message_is_awaited(rt: HostRuntime) -> Result<(), Fail> {
     let (sender, receiver) = async_channel((), rt.alloc())?;
-    let (received, sent) = join(&rt, || block_on(&rt, receiver), || sender.send(19u64).is_ok());
+    let (received, sent) = join(
+        &rt,
+        || block_on(&rt, receiver),
+        || sender.send(19u64).is_ok(),
+    );
     assert_eq!(rt; received?, Ok(19));
     assert!(rt; sent);
     Ok(())

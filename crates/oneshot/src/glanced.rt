@@ -16,9 +16,7 @@ use std::test::Fail;
 use std::thread::join;
 
 /// What was received, or that no message comes. `None`: ask or wait on, and a task that waits still does.
-fn glance<T: Drop, Rt: Drop>(
-    receiver: &mut AsyncReceiver<T, Rt>,
-) -> Option<Result<T, RecvError>>
+fn glance<T: Drop, Rt: Drop>(receiver: &mut AsyncReceiver<T, Rt>) -> Option<Result<T, RecvError>>
     ensures open { result ≡ None → IsUnfinished receiver.new }
     ensures done { result ≢ None → IsDone receiver.new }
     ensures registered { result ≡ None

@@ -91,7 +91,10 @@ fn count_met<
         assert!(rt; task.is_woken());
     }
     let met = answers.iter().zip(&early);
-    Ok(met.filter(|(one, drop)| one.answer == answer && drop.answer).count())
+    Ok(
+        met.filter(|(one, drop)| one.answer == answer && drop.answer)
+            .count(),
+    )
 }
 
 /// Runs these batches of rounds, which count where the calls met, until they have met often.
