@@ -16,25 +16,27 @@ use std::random::RandomSource;
 use std::rt::Files;
 use std::test::Fail;
 use std::thread::Threads;
-use std::time::Clock;
+use std::time::{Clock, Duration, Instant};
 
-const ROUNDS: u64 = 10_000;
+/// The rounds of a batch.
+const ROUNDS: u64 = 1_000;
 
-/// How often so many rounds are run at most, until the calls have met often.
-const BATCHES: u64 = 20;
+/// How many batches are run at most, until the calls have met often.
+const BATCHES: u64 = 100;
+
+/// For so many seconds a test begins batches.
+const SECONDS: u64 = 10;
 
 /// A message that fills some pages.
-type Wide = [u64; 4096];
+type Wide = [u64; 1024];
 
-const WIDE: Wide = [999; 4096];
-
-const WIDE_ROUNDS: u64 = 1_000;
+const WIDE: Wide = [999; 1024];
 
 /// How many more pages a process may have at the end of a test. As many blocks of wide messages as the calls
 /// have to meet are more.
 const MOST_PAGES: u64 = 128;
 
-/// So many channels, whose futures are without a runtime. A task of its own has polled each once.
+/// The channels of a batch, whose futures are without a runtime. A task of its own has polled each once.
 #[derive(Drop)]
 struct Polled<T> {
     senders: Vec<Sender<T>>,
@@ -43,11 +45,11 @@ struct Polled<T> {
 }
 
 impl<T: Send + Drop> Polled<T> {
-    fn new(rt: &(impl AllocGlobal + RandomSource + Abort), count: u64) -> Result<Polled<T>, Fail> {
+    fn new(rt: &(impl AllocGlobal + RandomSource + Abort)) -> Result<Polled<T>, Fail> {
         let mut senders = Vec::new(rt.alloc());
         let mut futures = Vec::new(rt.alloc());
         let mut tasks = Vec::new(rt.alloc());
-        for _ in 0..count {
+        for _ in 0..ROUNDS {
             let task = MockTask::new(rt)?;
             let (sender, mut future) = async_channel((), rt.alloc())?;
             assert!(rt; matches!(task.poll(&mut future), Poll::Pending));
@@ -97,15 +99,22 @@ fn count_met<
     )
 }
 
-/// Runs these batches of rounds, which count where the calls met, until they have met often.
-fn until_met<F: FnMut() -> Result<usize, Fail>>(rt: &impl Abort, mut batch: F) -> Result<(), Fail>
+/// Runs batches, each of which counts the rounds in which the calls met, until they have met often.
+fn until_met<F: FnMut() -> Result<usize, Fail>>(
+    rt: &(impl Abort + Clock),
+    mut batch: F,
+) -> Result<(), Fail>
     requires { F.IsAlwaysCallable batch }
 {
+    let start = Instant::now(rt)?;
     let mut met = 0usize;
     for _ in 0..BATCHES {
         met = met.saturating_add(batch()?);
         if met >= OFTEN {
             return Ok(());
+        }
+        if start.elapsed(rt)? > Duration::from_secs(SECONDS) {
+            break;
         }
     }
     panic!(rt; "the calls met {met} times")
@@ -116,7 +125,7 @@ fn batch_of_sends<R: Threads + Abort + Clock + AllocGlobal + RandomSource + Sync
     rt: &R,
 ) -> Result<usize, Fail> {
     let (messages, drops) = make_messages(rt.alloc(), ROUNDS, 999)?;
-    let polled = Polled::<Counted>::new(rt, ROUNDS)?;
+    let polled = Polled::<Counted>::new(rt)?;
     let senders = polled.senders.into_iter().zip(messages);
     let met = count_met(
         rt,
@@ -136,9 +145,8 @@ fn batch_of_sends<R: Threads + Abort + Clock + AllocGlobal + RandomSource + Sync
 /// A batch beside the sender's drop.
 fn batch_of_drops<R: Threads + Abort + Clock + AllocGlobal + RandomSource + Sync, T: Send + Drop>(
     rt: &R,
-    rounds: u64,
 ) -> Result<usize, Fail> {
-    let polled = Polled::<T>::new(rt, rounds)?;
+    let polled = Polled::<T>::new(rt)?;
     count_met(
         rt,
         polled.senders,
@@ -153,7 +161,7 @@ fn batch_of_drops<R: Threads + Abort + Clock + AllocGlobal + RandomSource + Sync
 fn batch_of_wide_sends<R: Threads + Abort + Clock + AllocGlobal + RandomSource + Sync>(
     rt: &R,
 ) -> Result<usize, Fail> {
-    let polled = Polled::new(rt, WIDE_ROUNDS)?;
+    let polled = Polled::new(rt)?;
     count_met(
         rt,
         polled.senders,
@@ -166,14 +174,14 @@ fn batch_of_wide_sends<R: Threads + Abort + Clock + AllocGlobal + RandomSource +
 
 /// Fails if each round that counts keeps its block.
 fn assert_frees_blocks<F: FnMut() -> Result<usize, Fail>>(
-    rt: &(impl Files + Print + AllocGlobal + RandomSource + Abort),
+    rt: &(impl Files + Print + AllocGlobal + RandomSource + Abort + Clock),
     mut batch: F,
 ) -> Result<(), Fail>
     requires { F.IsAlwaysCallable batch }
 {
     batch()?;
     let before = resident_pages(rt)?;
-    drop(Polled::<Wide>::new(rt, WIDE_ROUNDS)?);
+    drop(Polled::<Wide>::new(rt)?);
     if grown_pages(rt, before)? > MOST_PAGES {
         println!(rt; "no leak is looked for, since this process keeps what was freed")?;
         return Ok(());
@@ -191,7 +199,7 @@ fn a_send_that_a_drop_overtakes_gives_the_message_back(rt: HostRuntime) -> Resul
 
 #[test]
 fn a_drop_that_a_drop_overtakes_wakes_the_task(rt: HostRuntime) -> Result<(), Fail> {
-    until_met(&rt, || batch_of_drops::<_, u64>(&rt, ROUNDS))
+    until_met(&rt, || batch_of_drops::<_, u64>(&rt))
 }
 
 #[test]
@@ -201,5 +209,5 @@ fn a_send_that_a_drop_overtakes_leaves_nothing(rt: HostRuntime) -> Result<(), Fa
 
 #[test]
 fn a_drop_that_a_drop_overtakes_leaves_nothing(rt: HostRuntime) -> Result<(), Fail> {
-    assert_frees_blocks(&rt, || batch_of_drops::<_, Wide>(&rt, WIDE_ROUNDS))
+    assert_frees_blocks(&rt, || batch_of_drops::<_, Wide>(&rt))
 }

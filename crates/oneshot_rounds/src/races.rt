@@ -1,7 +1,7 @@
 //! Two threads that make a call each in every round, at about the same time.
 //!
 //! Where all processors are busy both threads may share one. Their calls then follow each other in either
-//! order, and are rarely under way at one time, so that no test asks for that.
+//! order, and are rarely under way at one time. Only the tests of `overtaken` ask for that, for some seconds.
 
 use super::answers::Outcome;
 use super::line::{Line, Side};
