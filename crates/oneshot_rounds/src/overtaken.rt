@@ -21,11 +21,13 @@ use std::time::{Clock, Duration, Instant};
 /// The rounds of a batch.
 const ROUNDS: u64 = 1_000;
 
-/// How many batches are run at most, until the calls have met often.
-const BATCHES: u64 = 100;
+/// How many batches are run at least, and how many at most until the calls have met often.
+const LEAST: u64 = 10;
 
-/// For so many seconds a test begins batches.
-const SECONDS: u64 = 10;
+const BATCHES: u64 = 400;
+
+/// For so many seconds a test begins batches. On an idle machine it needs two.
+const SECONDS: u64 = 30;
 
 /// A message that fills some pages.
 type Wide = [u64; 1024];
@@ -108,16 +110,15 @@ fn until_met<F: FnMut() -> Result<usize, Fail>>(
 {
     let start = Instant::now(rt)?;
     let mut met = 0usize;
-    for _ in 0..BATCHES {
+    for batches in 1..=BATCHES {
         met = met.saturating_add(batch()?);
-        if met >= OFTEN {
-            return Ok(());
-        }
-        if start.elapsed(rt)? > Duration::from_secs(SECONDS) {
+        let done = batches >= LEAST && met >= OFTEN;
+        if done || start.elapsed(rt)? > Duration::from_secs(SECONDS) {
             break;
         }
     }
-    panic!(rt; "the calls met {met} times")
+    assert!(rt; met >= OFTEN, "the calls met {met} times");
+    Ok(())
 }
 
 /// A batch beside a `send` of 999, which gives back the messages of the rounds that count.
