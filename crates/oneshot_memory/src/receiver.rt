@@ -44,9 +44,10 @@ impl<T> Act<T> {
 /// A receiver's ground, whose sender acts where it is told to: at once, or in a pause of the receiver.
 ///
 /// The receiver makes a pause when it has copied or written its waker, in each park, at each look at its
-/// clock, and after each load outside a wait that finds the sender about to finish. A park ends by its token
-/// if the sender woke the receiver by then, and without one if not; where the sender never acts, a call
-/// that blocks waits for ever, or until its deadline. That is over at once, unless a test puts it off.
+/// clock, and after each load outside a wait that finds its waker stored or the sender about to finish. A
+/// park ends by its token if the sender woke the receiver by then, and without one if not; where the sender
+/// never acts, a call that blocks waits for ever, or until its deadline. That is over at once, unless a test
+/// puts it off.
 ///
 /// A future may be dropped while its sender lingers. The sender then uses the waker, and keeps its message.
 #[derive(Drop)]
@@ -277,7 +278,7 @@ impl<'a, T: Drop, W: Drop + Wakes, R: Wait> ReceiverGround<T, W> for MemoryRecei
     fn word(&mut self, op: Op) -> u8 {
         let before = self.operate(op);
         // One that waits makes its pause in its next park.
-        if op == Op::Load && before == UNPARKING && !self.parked {
+        if op == Op::Load && (before == RECEIVING || before == UNPARKING) && !self.parked {
             self.pause();
         }
         self.parked = false;
