@@ -77,11 +77,11 @@ stays_there true waker = refl
 stays_there false waker = refl
 
 -- and one that is used up is in a cell that the operation leaves to the sender
-used_away : {W : Type 0} (closes finishing open : Bool) (waker : Option W) → slot_of (not (open || finishing)) (if closes && finishing then None else waker) ≡ slot_of (not (open || finishing)) waker
+used_away : {W : Type 0} (closes finishing idle : Bool) (waker : Option W) → slot_of (not (idle || finishing)) (if closes && finishing then None else waker) ≡ slot_of (not (idle || finishing)) waker
 used_away true true true waker = refl
 used_away true true false waker = refl
-used_away true false open waker = refl
-used_away false finishing open waker = refl
+used_away true false idle waker = refl
+used_away false finishing idle waker = refl
 
 slot_after : {W : Type 0} (op : Op) (word : ℕ) (lying : Bool) (waker : Option W) → slot_of (keeps_waker op word lying) (waker_after op word waker) ≡ slot_of (keeps_waker op word lying) waker
 slot_after (Swap new) word lying waker = used_away (new == 2) (word == 1) (word == 3) waker
@@ -113,7 +113,7 @@ module _ {T W : Type 0} where
       → ReceiverStands (receiver_of (logged ys)) left own own_waker cell after
   receiver_worded xs ys op word left was own_was own own_waker {cell} waker after grows found is kept kept_too used =
       let stands : Bool → Bool = λ there.
-        receiver_stands (receiver_next (receiver_of (logged xs)) op (saw op word)) (record { word = word_after op word; owns_message = keeps_message op word; owns_waker = keeps_waker op word (lies own_was waker); has_message = is_some cell; has_waker = there }) in
+      receiver_stands (receiver_next (receiver_of (logged xs)) op (saw op word)) (record { word = word_after op word; owns_message = keeps_message op word; owns_waker = keeps_waker op word (lies own_was waker); has_message = is_some cell; has_waker = there }) in
       let goes_on : stands (is_some (waker_after op word waker)) ≡ true = subst (λ there. stands there ≡ true) (sym (stays_there (overtakes op word) waker)) found.goes_on in
       rw (receiver_moved op word grows, is, kept, kept_too, used) (record { is_so = goes_on })
 
