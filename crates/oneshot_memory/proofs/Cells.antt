@@ -92,9 +92,9 @@ module _ {X : Type 0} where
   slot_held true cell x e = refl
   slot_held false cell x e = absurd (cc)
 
--- An end: its table and where that leads, which cells it has at a phase, and which slots an operation
--- leaves it.
-module _ {At : Type 0} (next : At → Op → Seen → At) (rows : At → List (Row At)) (has : At → Cells → Bool) (keeps : Op → Cells → Bool × Bool) where
+-- An end: its table and where that leads, which cells it has at a phase, and of an operation which slots it
+-- leaves the end, and whether a waker stays in its cell.
+module _ {At : Type 0} (next : At → Op → Seen → At) (rows : At → List (Row At)) (has : At → Cells → Bool) (keeps : Op → Cells → Bool × Bool × Bool) where
   abbrev stands : At → Cells → Bool
   stands at c = is_code c.word && has at c
 
@@ -109,6 +109,17 @@ module _ {At : Type 0} (next : At → Op → Seen → At) (rows : At → List (R
         has_waker = c.has_waker;
       }
 
+  -- and once the other end has used up a waker that does not stay
+  abbrev pub left : Op → Cells → Cells
+  left op c =
+      record {
+        word = word_after op c.word;
+        owns_message = (keeps op c).0;
+        owns_waker = (keeps op c).1;
+        has_message = c.has_message;
+        has_waker = (keeps op c).2 && c.has_waker;
+      }
+
   -- A row is of this operation, and finds this word with the slots as they are. It leaves the end those
   -- that it keeps.
   abbrev is_such : Op → Cells → Row At → Bool
@@ -120,7 +131,7 @@ module _ {At : Type 0} (next : At → Op → Seen → At) (rows : At → List (R
   -- where the row's operation may be made
   abbrev is_met : At → Cells → Row At → Bool
   is_met at c row =
-      implies (is_same_slots row.1 (shares_of c)) (list_any (is_found row.0 c) (rows at) && stands (next at row.0 (saw row.0 c.word)) (after row.0 c))
+      implies (is_same_slots row.1 (shares_of c)) (list_any (is_found row.0 c) (rows at) && stands (next at row.0 (saw row.0 c.word)) (left row.0 c))
 
   -- A change is a table's row: where it may come about, by a truth that its maker chooses, and the cells
   -- then.
@@ -154,16 +165,16 @@ module _ {At : Type 0} (next : At → Op → Seen → At) (rows : At → List (R
         pub record Operated (at : At) (op : Op) (word : ℕ) (own own_waker : Bool) (cell : Option T) (waker : Option W) : Type 0 where
           pub code : word ≤ 4
           pub found : Finds rows at op word (slot_of own cell) (slot_of own_waker waker) (slot_of (keeps op (cells_of word own own_waker cell waker)).0 cell) (slot_of (keeps op (cells_of word own own_waker cell waker)).1 waker)
-          pub goes_on : stands (next at op (saw op word)) (after op (cells_of word own own_waker cell waker)) ≡ true
+          pub goes_on : stands (next at op (saw op word)) (left op (cells_of word own own_waker cell waker)) ≡ true
 
         row_finds : (at : At) (op : Op) (word : ℕ) (own own_waker : Bool) (cell : Option T) (waker : Option W) {row : Row At} → In row (rows at) → is_found op (cells_of word own own_waker cell waker) row ≡ true
             → Finds rows at op word (slot_of own cell) (slot_of own_waker waker) (slot_of (keeps op (cells_of word own own_waker cell waker)).0 cell) (slot_of (keeps op (cells_of word own own_waker cell waker)).1 waker)
         row_finds at op word own own_waker cell waker {row} among found =
             let c : Cells = cells_of word own own_waker cell waker in
-            let left = and_parts (is_such op c row) (is_same_slots (shares_of (after op c)) row.4) found in
-            let such = and_parts (is_same_op row.0 op && row.2 == word) (is_same_slots (shares_of c) row.1) left.0 in
+            let turned = and_parts (is_such op c row) (is_same_slots (shares_of (after op c)) row.4) found in
+            let such = and_parts (is_same_op row.0 op && row.2 == word) (is_same_slots (shares_of c) row.1) turned.0 in
             let same = and_parts (is_same_op row.0 op) (row.2 == word) such.0 in
-            let slots : (shares_of c ≡ row.1) × (shares_of (after op c) ≡ row.4) = (slots_are_same _ _ such.1, slots_are_same _ _ left.1) in
+            let slots : (shares_of c ≡ row.1) × (shares_of (after op c) ≡ row.4) = (slots_are_same _ _ such.1, slots_are_same _ _ turned.1) in
             let message : Turns row.1.0 row.4.0 (slot_of own cell) (slot_of (keeps op c).0 cell) = subst (λ (z : Slots × Slots). Turns z.0.0 z.1.0 (slot_of own cell) (slot_of (keeps op c).0 cell)) (λ i. (slots.0 i, slots.1 i)) (turns own (keeps op c).0 cell) in
             let also : Turns row.1.1 row.4.1 (slot_of own_waker waker) (slot_of (keeps op c).1 waker) = subst (λ (z : Slots × Slots). Turns z.0.1 z.1.1 (slot_of own_waker waker) (slot_of (keeps op c).1 waker)) (λ i. (slots.0 i, slots.1 i)) (turns own_waker (keeps op c).1 waker) in
             subst (λ (z : Op × ℕ). Finds rows at z.0 z.1 (slot_of own cell) (slot_of own_waker waker) (slot_of (keeps op c).0 cell) (slot_of (keeps op c).1 waker)) (λ i. (ops_are_same row.0 op same.0 i, eqb-true row.2 word same.1 i)) (finds among message also)
@@ -172,7 +183,7 @@ module _ {At : Type 0} (next : At → Op → Seen → At) (rows : At → List (R
         operates at {op} word own own_waker cell waker is (may {before} among message was) =
             let c : Cells = cells_of word own own_waker cell waker in
             let fits : is_same_slots before (shares_of c) ≡ true = and_from (is_same_share before.0 (shares_of c).0) (is_same_share before.1 (shares_of c).1) (share_is own cell message) (share_is own_waker waker was) in
-            let goes = stands (next at op (saw op word)) (after op c) in
+            let goes = stands (next at op (saw op word)) (left op c) in
             let met : (list_any (is_found op c) (rows at) && goes) ≡ true = implied (is_same_slots before (shares_of c)) (list_any (is_found op c) (rows at) && goes) (each_passes (is_met at c) (rows at) (at_cells at c is).0 among) fits in
             let parts = and_parts (list_any (is_found op c) (rows at)) goes met in
             let some : Passing (is_found op c) (rows at) = some_passes (is_found op c) (rows at) parts.0 in

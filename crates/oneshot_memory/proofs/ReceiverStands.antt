@@ -1,10 +1,12 @@
 -- How a receiver's ground in memory stands after each of its steps, and after its sender's.
-use Rattle.std.proofs.Common.{◌≡◌, ℕ, Bool, true, false, not, ◌&&◌, ◌==◌, List, [], ◌∷◌, ◌++◌, Option, Some, None, refl, sym, ap, subst}
-use Rattle.std.specs.Prelude.{is_some}
+use Rattle.std.proofs.Common.{◌≡◌, ℕ, Bool, true, false, not, ◌&&◌, ◌||◌, ◌==◌, List, [], ◌∷◌, ◌++◌, Option, Some, None, refl, sym, ap, subst}
+use Rattle.std.specs.Prelude.{is_some, if◌then◌else◌}
 use Rattle.oneshot_machine.specs.declared.states.Op.{Op}
+use Rattle.oneshot_machine.specs.declared.states.Op.TheVariants.{Load, Store, Swap, Exchange, Add, Xor}
 use Rattle.oneshot_machine.specs.Logs.{Grows, words, receiver_of, worded}
+use Rattle.oneshot_machine.specs.Noted.{saw}
 use Rattle.oneshot_machine.specs.Phases.{looked, between, blocked, polled, again, storing, stopping, at_once, waited, swapped, by_future, by_poll, ReceiverAt, first, here, waits, claimed, withdrew, overdue, full, unclosed, disconnected, resolved, gone, ended, no_receiver, receiver_moves, receiver_owns, receiver_next, receiver_at}
-use Rattle.oneshot_machine.specs.Slots.{vacant, held, In, head, tail, ReceiverMay}
+use Rattle.oneshot_machine.specs.Slots.{vacant, held, In, head, tail, ReceiverMay, ReceiverFinds}
 use Rattle.oneshot_machine.specs.States.{word_after}
 use Rattle.oneshot_machine.proofs.GrownLists.{receiver_moved}
 use Rattle.oneshot_memory.specs.declared.Event.{Event}
@@ -12,16 +14,16 @@ use Rattle.oneshot_memory.specs.declared.receiver.Act.{Act}
 use Rattle.oneshot_memory.specs.declared.receiver.Act.TheVariants as A
 use Rattle.oneshot_memory.specs.Cells.{Cells, cells_of, lies_in}
 use Rattle.oneshot_memory.specs.Events.{slot_of, event_of, logged}
-use Rattle.oneshot_memory.specs.Receiver.{receiver_has, receiver_stands, ReceiverStands, keeps_message, keeps_waker, lies, is_quiet, is_open, word_left, message_left}
+use Rattle.oneshot_memory.specs.Receiver.{receiver_has, receiver_stands, ReceiverStands, keeps_message, keeps_waker, overtakes, waker_after, lies, is_quiet, is_open, word_left, message_left}
 use Rattle.oneshot_memory.proofs.Cells.{IsSteady, comes_about, Operated, operates, slot_held}
 use Rattle.oneshot_memory.proofs.Events.{words_same}
 
--- which cells a receiver has, and which slots an operation leaves it
+-- which cells a receiver has, and what an operation leaves it
 abbrev pub has : ReceiverAt → Cells → Bool
 has q = receiver_has (receiver_owns q) (receiver_moves q)
 
-abbrev pub keeps : Op → Cells → Bool × Bool
-keeps op c = (keeps_message op c.word, keeps_waker op c.word (lies_in c))
+abbrev pub keeps : Op → Cells → Bool × Bool × Bool
+keeps op c = (keeps_message op c.word, keeps_waker op c.word (lies_in c), not (overtakes op c.word))
 
 abbrev word_by_act : Bool → ℕ
 word_by_act true = 4
@@ -69,6 +71,26 @@ steady no_receiver = refl
 changes_to : (q : ReceiverAt) (c : Cells) {change : Bool → Cells → Bool × Cells} (b : Bool) → In change changes → receiver_stands q c ≡ true → (change b c).0 ≡ true → receiver_stands q (change b c).1 ≡ true
 changes_to = comes_about receiver_next receiver_moves has keeps changes steady
 
+-- a waker that is not used up stays in its cell
+stays_there : {W : Type 0} (used : Bool) (waker : Option W) → is_some (if used then None else waker) ≡ (not used && is_some waker)
+stays_there true waker = refl
+stays_there false waker = refl
+
+-- and one that is used up is in a cell that the operation leaves to the sender
+used_away : {W : Type 0} (closes finishing idle : Bool) (waker : Option W) → slot_of (not (idle || finishing)) (if closes && finishing then None else waker) ≡ slot_of (not (idle || finishing)) waker
+used_away true true true waker = refl
+used_away true true false waker = refl
+used_away true false idle waker = refl
+used_away false finishing idle waker = refl
+
+slot_after : {W : Type 0} (op : Op) (word : ℕ) (lying : Bool) (waker : Option W) → slot_of (keeps_waker op word lying) (waker_after op word waker) ≡ slot_of (keeps_waker op word lying) waker
+slot_after (Swap new) word lying waker = used_away (new == 2) (word == 1) (word == 3) waker
+slot_after Load word lying waker = refl
+slot_after (Store new) word lying waker = refl
+slot_after (Exchange expected new) word lying waker = refl
+slot_after Add word lying waker = refl
+slot_after Xor word lying waker = refl
+
 module _ {T W : Type 0} where
   -- a step that is no operation on the word
   pub receiver_stays : (xs ys : List (Event T W)) (e : Event T W) {word : ℕ} {own own_waker : Bool} {cell : Option T} {waker : Option W} → ys ≡ xs ++ e ∷ [] → words (event_of e ∷ []) ≡ []
@@ -82,9 +104,18 @@ module _ {T W : Type 0} where
   pub receiver_operates : {q : ReceiverAt} {op : Op} (word : ℕ) (own own_waker : Bool) (cell : Option T) (waker : Option W) → ReceiverStands q word own own_waker cell waker → ReceiverMay q op (slot_of own cell) (slot_of own_waker waker) → ReceiverOperated q op word own own_waker cell waker
   receiver_operates {q} word own own_waker cell waker stands = operates receiver_next receiver_moves has keeps changes steady q word own own_waker cell waker stands.is_so
 
-  pub receiver_worded : (xs ys : List (Event T W)) (op : Op) (word left : ℕ) (was own_was own own_waker : Bool) {cell : Option T} {waker : Option W} → Grows (logged xs) (logged ys) (worded op word ∷ []) → ReceiverOperated (receiver_of (logged xs)) op word was own_was cell waker → left ≡ word_after op word → own ≡ keeps_message op word → own_waker ≡ keeps_waker op word (lies own_was waker)
-      → ReceiverStands (receiver_of (logged ys)) left own own_waker cell waker
-  receiver_worded xs ys op word left was own_was own own_waker grows found is kept kept_too = rw (receiver_moved op word grows, is, kept, kept_too) (record { is_so = found.goes_on })
+  pub receiver_found : {q : ReceiverAt} {op : Op} (word : ℕ) (own own_waker : Bool) (cell : Option T) (waker : Option W) → ReceiverOperated q op word own own_waker cell waker
+      → ReceiverFinds q op word (slot_of own cell) (slot_of own_waker waker) (slot_of (keeps_message op word) cell) (slot_of (keeps_waker op word (lies own_waker waker)) (waker_after op word waker))
+  receiver_found {q} {op} word own own_waker cell waker operated =
+      subst (λ left. ReceiverFinds q op word (slot_of own cell) (slot_of own_waker waker) (slot_of (keeps_message op word) cell) left) (sym (slot_after op word (lies own_waker waker) waker)) operated.found
+
+  pub receiver_worded : (xs ys : List (Event T W)) (op : Op) (word left : ℕ) (was own_was own own_waker : Bool) {cell : Option T} (waker after : Option W) → Grows (logged xs) (logged ys) (worded op word ∷ []) → ReceiverOperated (receiver_of (logged xs)) op word was own_was cell waker → left ≡ word_after op word → own ≡ keeps_message op word → own_waker ≡ keeps_waker op word (lies own_was waker) → after ≡ waker_after op word waker
+      → ReceiverStands (receiver_of (logged ys)) left own own_waker cell after
+  receiver_worded xs ys op word left was own_was own own_waker {cell} waker after grows found is kept kept_too used =
+      let stands : Bool → Bool = λ there.
+      receiver_stands (receiver_next (receiver_of (logged xs)) op (saw op word)) (record { word = word_after op word; owns_message = keeps_message op word; owns_waker = keeps_waker op word (lies own_was waker); has_message = is_some cell; has_waker = there }) in
+      let goes_on : stands (is_some (waker_after op word waker)) ≡ true = subst (λ there. stands there ≡ true) (sym (stays_there (overtakes op word) waker)) found.goes_on in
+      rw (receiver_moved op word grows, is, kept, kept_too, used) (record { is_so = goes_on })
 
   module _ {q : ReceiverAt} {word : ℕ} {own own_waker : Bool} {cell : Option T} {waker : Option W} (stands : ReceiverStands q word own own_waker cell waker) where
     -- what is taken out of the message's slot, or dropped there, leaves it empty

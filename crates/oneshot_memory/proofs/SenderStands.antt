@@ -12,16 +12,16 @@ use Rattle.oneshot_memory.specs.declared.sender.Meanwhile.{Meanwhile}
 use Rattle.oneshot_memory.specs.declared.sender.Meanwhile.TheVariants.{Waits, Stops, Leaves}
 use Rattle.oneshot_memory.specs.Cells.{Cells, cells_of}
 use Rattle.oneshot_memory.specs.Events.{slot_of, event_of, logged}
-use Rattle.oneshot_memory.specs.Sender.{sender_has, sender_stands, SenderStands, keeps_both, word_then}
+use Rattle.oneshot_memory.specs.Sender.{last_word, sender_has, sender_stands, SenderStands, keeps_both, word_then}
 use Rattle.oneshot_memory.proofs.Cells.{IsSteady, comes_about, Operated, operates, slot_vacant, slot_held}
 use Rattle.oneshot_memory.proofs.Events.{words_same}
 
--- which cells a sender has, and which slots an operation leaves it
+-- which cells a sender has, and what an operation leaves it
 abbrev pub has : SenderAt → Cells → Bool
-has p = sender_has (sender_owns p) (sender_moves p)
+has p = sender_has (last_word p) (sender_owns p) (sender_moves p)
 
-abbrev pub keeps : Op → Cells → Bool × Bool
-keeps op c = (keeps_both c.word, keeps_both c.word)
+abbrev pub keeps : Op → Cells → Bool × Bool × Bool
+keeps op c = (keeps_both c.word, keeps_both c.word, true)
 
 -- What comes about between its operations, in this order: a message is put into its cell or taken out; the
 -- waker is taken out of its own; both slots are freed; and the receiver waits on, stops or leaves.
@@ -42,7 +42,8 @@ steady (owes sending) = refl
 steady (owes dropping) = refl
 steady (finished by) = refl
 steady (late by) = refl
-steady (overtaken by) = refl
+steady (overtaken sending) = refl
+steady (overtaken dropping) = refl
 steady no_sender = refl
 
 -- so each of the changes, by its row, leaves the ground as it may stand

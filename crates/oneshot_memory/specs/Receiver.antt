@@ -1,5 +1,5 @@
 -- What a contract sees of a receiver's ground in memory, and how its word and its cells stand with its log.
-use Rattle.std.specs.Prelude.{◌≡◌, ℕ, Bool, true, false, not, ◌&&◌, ◌||◌, ◌==◌, if◌then◌else◌, List, [], Option, Some, None, is_some}
+use Rattle.std.specs.Prelude.{◌≡◌, ℕ, Bool, true, false, not, ◌&&◌, ◌||◌, ◌==◌, if◌then◌else◌, List, Option, Some, None, is_some}
 use Rattle.std.specs.List.{list_any}
 use Rattle.oneshot_machine.specs.declared.machine.Seen.TheVariants as S
 use Rattle.oneshot_machine.specs.declared.states.Op.{Op}
@@ -44,13 +44,11 @@ abbrev pub leaves_waker : List (Row ReceiverAt) → ℕ → Bool
 leaves_waker rows word = list_any (λ row. is_row_for Load (S.Word word) row && is_away row.4.1) rows
 
 -- The cells of a receiver at a phase with these rows, where these slots are its own. It may have freed
--- both. Where the message's is not its own, there is a message just where the sender sent one. Of the cells of
--- one that is gone nothing is said: they are the sender's.
+-- both. Where the message's is not its own, there is a message just where the sender sent one.
 abbrev pub receiver_has : Option (Bool × Bool) → List (Row ReceiverAt) → Cells → Bool
 receiver_has None rows c = false
 receiver_has (Some (true, waker)) rows c =
     owns_just true waker c && is_word 2 rows c.word || owns_just false false c
-receiver_has (Some (false, waker)) [] c = owns_just false waker c
 receiver_has (Some (false, waker)) rows c =
     owns_just false waker c
     && is_word 2 rows c.word
@@ -80,6 +78,15 @@ keeps_waker (Swap new) word lying = not ((word == 3) || (word == 1))
 keeps_waker (Exchange expected new) word lying = not ((word == 3) || (word == 1))
 keeps_waker Load word lying = not lying
 keeps_waker _ word lying = true
+
+-- whether it is the last operation of a receiver that leaves while the sender is about to finish
+abbrev pub overtakes : Op → ℕ → Bool
+overtakes (Swap new) word = (new == 2) && (word == 1)
+overtakes _ word = false
+
+-- the waker in its cell after it: the sender that it overtakes uses it up
+abbrev pub waker_after : {W : Type 0} → Op → ℕ → Option W → Option W
+waker_after op word waker = if overtakes op word then None else waker
 
 -- the words of a channel whose ends have not acted: nobody waits, or the receiver does
 abbrev pub is_quiet : ℕ → Bool

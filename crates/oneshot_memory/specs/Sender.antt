@@ -1,12 +1,12 @@
 -- What a contract sees of a sender's ground in memory, and how its word and its cells stand with its log.
 use Rattle.std.specs.Prelude.{◌≡◌, ℕ, Bool, true, false, ◌&&◌, ◌||◌, ◌==◌, if◌then◌else◌, List, [], ◌∷◌, Option, Some, None}
 use Rattle.std.specs.List.{list_any}
-use Rattle.oneshot_machine.specs.Phases.{SenderAt, sender_moves, sender_owns, Share, none, empty, filled, Row}
+use Rattle.oneshot_machine.specs.Phases.{sending, dropping, SenderAt, overtaken, sender_moves, sender_owns, Share, none, empty, filled, Row}
 use Rattle.oneshot_drive.specs.Grounds.{State}
 use Rattle.oneshot_memory.specs.declared.Event.{Event}
 use Rattle.oneshot_memory.specs.declared.sender.Meanwhile.{Meanwhile}
 use Rattle.oneshot_memory.specs.declared.sender.Meanwhile.TheVariants.{Waits, Stops, Leaves}
-use Rattle.oneshot_memory.specs.Cells.{Cells, cells_of, is_code, is_same, owns_just}
+use Rattle.oneshot_memory.specs.Cells.{Cells, cells_of, is_code, is_same, owns_just, is_word}
 use Rattle.oneshot_memory.specs.Events.{state_of}
 
 -- what it has done, with both slots as the sender sees them, its word, and what a receiver that waits is to
@@ -33,21 +33,22 @@ finds_waker [] c = true
 finds_waker (row ∷ rows) c =
     list_any (λ (row : Row SenderAt). (row.2 == c.word) && is_same (is_filled row.4.1) c.has_waker) (row ∷ rows)
 
--- a word that these rows find; of one that makes no operation any more nothing is said
-abbrev pub finds_word : List (Row SenderAt) → ℕ → Bool
-finds_word [] word = true
-finds_word (row ∷ rows) word = list_any (λ (row : Row SenderAt). row.2 == word) (row ∷ rows)
+-- the last word of a sender that has both slots and makes no operation any more
+abbrev pub last_word : SenderAt → ℕ
+last_word (overtaken sending) = 4
+last_word (overtaken dropping) = 2
+last_word _ = 3
 
--- The cells of a sender at a phase with these rows, where these slots are its own. One that has both may
--- have freed them.
-abbrev pub sender_has : Option (Bool × Bool) → List (Row SenderAt) → Cells → Bool
-sender_has None rows c = false
-sender_has (Some (message, true)) rows c =
-    finds_word rows c.word && (owns_just message true c || owns_just false false c)
-sender_has (Some (message, false)) rows c = owns_just message false c && finds_waker rows c
+-- The cells of a sender at a phase with this last word and these rows, where these slots are its own. One
+-- that has both may have freed them.
+abbrev pub sender_has : ℕ → Option (Bool × Bool) → List (Row SenderAt) → Cells → Bool
+sender_has last None rows c = false
+sender_has last (Some (message, true)) rows c =
+    is_word last rows c.word && (owns_just message true c || owns_just false false c)
+sender_has last (Some (message, false)) rows c = owns_just message false c && finds_waker rows c
 
 abbrev pub sender_stands : SenderAt → Cells → Bool
-sender_stands p c = is_code c.word && sender_has (sender_owns p) (sender_moves p) c
+sender_stands p c = is_code c.word && sender_has (last_word p) (sender_owns p) (sender_moves p) c
 
 -- how far a sender is, its word, which slots are its own, the message in its slot and the waker in its cell
 pub record SenderStands {T W : Type 0} (p : SenderAt) (word : ℕ) (owns_message owns_waker : Bool) (message : Option T) (waker : Option W) : Type 0 where

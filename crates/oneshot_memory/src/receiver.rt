@@ -7,7 +7,7 @@ ghost use Rattle.oneshot_drive.specs.BetweenCalls.{AtRest};
 ghost use Rattle.oneshot_drive.specs.Grounds.{ReceiverAsks, ReceiverMakes};
 ghost use Rattle.oneshot_memory.specs.declared.receiver.Act.TheVariants.{Send, Drop};
 ghost use Rattle.oneshot_memory.specs.Events.{event_of};
-ghost use Rattle.oneshot_memory.specs.Receiver.{keeps_message, keeps_waker, is_open, word_by, word_left, message_left, lies};
+ghost use Rattle.oneshot_memory.specs.Receiver.{keeps_message, keeps_waker, waker_after, is_open, word_by, word_left, message_left, lies};
 
 use crate::wakes::Wakes;
 use crate::{Event, record, sight};
@@ -44,10 +44,12 @@ impl<T> Act<T> {
 /// A receiver's ground, whose sender acts where it is told to: at once, or in a pause of the receiver.
 ///
 /// The receiver makes a pause when it has copied or written its waker, in each park, at each look at its
-/// clock, and at each load outside a wait that finds the sender about to finish. A sender that the drop of a
-/// future meets about to finish does so after that drop. A park ends by its token
-/// if the sender woke the receiver by then, and without one if not; where the sender never acts, a call
-/// that blocks waits for ever, or until its deadline. That is over at once, unless a test puts it off.
+/// clock, and after each load outside a wait that finds its waker stored or the sender about to finish. A
+/// park ends by its token if the sender woke the receiver by then, and without one if not; where the sender
+/// never acts, a call that blocks waits for ever, or until its deadline. That is over at once, unless a test
+/// puts it off.
+///
+/// A future may be dropped while its sender lingers. The sender then uses the waker, and keeps its message.
 #[derive(Drop)]
 pub struct MemoryReceiver<'a, T, W, R: Wait> {
     events: Vec<Event<T, W>>,
@@ -181,6 +183,7 @@ impl<'a, T: Drop, W: Drop + Wakes, R: Wait> MemoryReceiver<'a, T, W, R> {
         self.owns_waker = has_waker(op, before, is_waiting(self.owns_waker, &self.waker));
         let event = Event::of(Step::Word(op), sight(op, before));
         record(self.rt, &mut self.events, event);
+        finish_late(op, before, &mut self.waker);
         before
     }
 
@@ -275,15 +278,10 @@ impl<'a, T: Drop, W: Drop + Wakes, R: Wait> ReceiverGround<T, W> for MemoryRecei
     fn word(&mut self, op: Op) -> u8 {
         let before = self.operate(op);
         // One that waits makes its pause in its next park.
-        if op == Op::Load && before == UNPARKING && !self.parked {
+        if op == Op::Load && (before == RECEIVING || before == UNPARKING) && !self.parked {
             self.pause();
         }
         self.parked = false;
-        // A sender that a future leaves behind finishes now.
-        if op == Op::Swap(DISCONNECTED) && before == UNPARKING {
-            self.pauses = 0;
-            self.pause();
-        }
         before
     }
 
@@ -348,6 +346,17 @@ impl<'a, T: Drop, W: Drop + Wakes, R: Wait> BlockGround<T, W> for MemoryReceiver
         let event = Event::of(Step::Clock, Seen::Over(over));
         record(self.rt, &mut self.events, event);
         over
+    }
+}
+
+// Where the receiver leaves while the sender is about to finish, the sender uses the waker in this cell up.
+fn finish_late<W: Wakes>(op: Op, found: u8, waker: &mut Option<W>)
+    ensures { waker.new ≡ waker_after op found waker.old }
+{
+    if op == Op::Swap(DISCONNECTED) && found == UNPARKING {
+        if let Some(waker) = waker.take() {
+            waker.wake();
+        }
     }
 }
 

@@ -28,6 +28,23 @@ fn the_errors_drop_drops_the_message_once(rt: HostRuntime) {
 }
 
 #[test]
+fn a_receiver_that_left_meanwhile_costs_its_waker_and_the_message_once(rt: HostRuntime) {
+    let messages = Cell::new(0);
+    let wakers = Cell::new(0);
+    let waker = Counted(&wakers);
+    let mut g = MemorySender::<Counted, Counted, _>::with_waiting_receiver(&rt, rt.alloc(), waker);
+    g.receiver_will_leave();
+    if send(&mut g, Counted(&messages)) {
+        panic!(rt; "the receiver left")
+    }
+    assert_eq!(rt; (messages.get(), wakers.get()), (0, 1));
+    drop_error(&mut g);
+    assert_eq!(rt; (messages.get(), wakers.get()), (1, 1));
+    drop(g);
+    assert_eq!(rt; (messages.get(), wakers.get()), (1, 1));
+}
+
+#[test]
 fn send_uses_the_waker_up(rt: HostRuntime) {
     let drops = Cell::new(0);
     let waker = Counted(&drops);

@@ -131,14 +131,14 @@ fn a_look_leaves_the_copy_in_its_slot(rt: HostRuntime) -> Result<(), Fail> {
     Ok(())
 }
 
-// The sender lingers for two pauses: the exchange of the second poll finds it, and so does the first look.
+// The sender lingers for three pauses: the exchange of the second poll finds it, and so do both first looks.
 #[test]
 fn a_look_does_not_wait_for_a_sender_about_to_finish(rt: HostRuntime) -> Result<(), Fail> {
     let task = MemoryTask::new();
     let mut g = MemoryFuture::<'_, '_, u64, _>::new(&rt, rt.alloc(), &task);
     assert!(rt; matches!(&poll(&mut g), Poll::Pending));
     g.receiver.sender_will_send(0, 7);
-    g.receiver.sender_will_linger(2);
+    g.receiver.sender_will_linger(3);
     assert!(rt; matches!(&poll(&mut g), Poll::Pending));
     assert_eq!(rt; async_try_recv(&mut g), Err(TryRecvError::Empty));
     assert_eq!(rt; async_try_recv(&mut g), Err(TryRecvError::Empty));
@@ -152,30 +152,69 @@ fn a_look_does_not_wait_for_a_sender_about_to_finish(rt: HostRuntime) -> Result<
     Ok(())
 }
 
-// The sender lingers between its two operations. Each poll answers all the same, by one load, and wakes its task.
+// The sender stops between its two operations. Each poll makes one load, and wakes its task.
 #[test]
-fn a_poll_does_not_wait_for_a_sender_about_to_finish(rt: HostRuntime) {
+fn no_poll_takes_longer_because_the_sender_is_between_its_two_swaps(
+    rt: HostRuntime,
+) -> Result<(), Fail> {
     let task = MemoryTask::new();
     let mut g = MemoryFuture::<'_, '_, u64, _>::new(&rt, rt.alloc(), &task);
     assert!(rt; matches!(&poll(&mut g), Poll::Pending));
     g.receiver.sender_will_send(0, 7);
-    g.receiver.sender_will_linger(1_001);
+    g.receiver.sender_will_linger(u64::MAX);
+    assert_eq!(rt; async_try_recv(&mut g), Err(TryRecvError::Empty));
     assert!(rt; matches!(&poll(&mut g), Poll::Pending));
+    let steps = steps_of(rt.alloc(), g.receiver.events())?;
+    assert_eq!(rt;
+        steps.as_str(),
+        "load:3, copy:made, write-waker, exchange 3 0:3, load:0, load:1, wake-own"
+    );
     for polls in 1..=1_000 {
         let before = g.receiver.events().len();
         assert!(rt; matches!(&poll(&mut g), Poll::Pending), "poll {polls}");
-        assert_eq!(rt; g.receiver.events().len(), before + 2, "poll {polls}");
+        assert_eq!(rt; g.receiver.events().len() - before, 2, "poll {polls}");
     }
-    assert!(rt; counts(&task) == (2, 1, 1_001));
-    // The sender finishes behind the load of this one.
+    assert!(rt; counts(&task) == (1, 0, 1_001));
+    Ok(())
+}
+
+#[test]
+fn a_poll_meets_the_sender_once_it_has_finished(rt: HostRuntime) {
+    let task = MemoryTask::new();
+    let mut g = MemoryFuture::<'_, '_, u64, _>::new(&rt, rt.alloc(), &task);
     assert!(rt; matches!(&poll(&mut g), Poll::Pending));
-    assert!(rt; counts(&task) == (2, 2, 1_003));
+    g.receiver.sender_will_send(0, 7);
+    g.receiver.sender_will_linger(2);
+    assert_eq!(rt; async_try_recv(&mut g), Err(TryRecvError::Empty));
+    assert!(rt; matches!(&poll(&mut g), Poll::Pending));
+    assert!(rt; counts(&task) == (1, 0, 1));
+    assert!(rt; matches!(&poll(&mut g), Poll::Pending));
+    assert!(rt; counts(&task) == (1, 1, 3));
     assert!(rt; matches!(&poll(&mut g), Poll::Ready(Ok(7))));
 }
 
-// The sender has the copy then, and uses it.
+// A sender about to finish has the copy, and uses it once. It frees the block, and the future does not.
 #[test]
-fn a_dropped_future_leaves_its_copy_to_a_sender_about_to_finish(
+fn a_future_that_finds_1_leaves_its_copy_to_the_sender(rt: HostRuntime) -> Result<(), Fail> {
+    let task = MemoryTask::new();
+    let mut g = MemoryFuture::<'_, '_, u64, _>::new(&rt, rt.alloc(), &task);
+    assert!(rt; matches!(&poll(&mut g), Poll::Pending));
+    g.receiver.sender_will_send(0, 7);
+    g.receiver.sender_will_linger(9);
+    assert_eq!(rt; async_try_recv(&mut g), Err(TryRecvError::Empty));
+    drop_async(&mut g);
+    assert!(rt; counts(&task) == (1, 1, 1));
+    let steps = steps_of(rt.alloc(), g.receiver.events())?;
+    assert_eq!(rt;
+        steps.as_str(),
+        "load:3, copy:made, write-waker, exchange 3 0:3, load:0, load:1, swap 2:1"
+    );
+    Ok(())
+}
+
+// The sender begins between the load of the drop and its exchange.
+#[test]
+fn a_future_whose_exchange_finds_1_leaves_its_copy_to_the_sender(
     rt: HostRuntime,
 ) -> Result<(), Fail> {
     let task = MemoryTask::new();
@@ -183,15 +222,30 @@ fn a_dropped_future_leaves_its_copy_to_a_sender_about_to_finish(
     assert!(rt; matches!(&poll(&mut g), Poll::Pending));
     g.receiver.sender_will_send(0, 7);
     g.receiver.sender_will_linger(9);
-    assert!(rt; matches!(&poll(&mut g), Poll::Pending));
-    assert!(rt; counts(&task) == (2, 1, 1));
     drop_async(&mut g);
-    assert!(rt; counts(&task) == (2, 2, 2));
+    assert!(rt; counts(&task) == (1, 1, 1));
     let steps = steps_of(rt.alloc(), g.receiver.events())?;
     assert_eq!(rt;
         steps.as_str(),
-        "load:3, copy:made, write-waker, exchange 3 0:3, load:0, copy:made, exchange 0 3:1, \
-        wake-own, load:1, swap 2:1"
+        "load:3, copy:made, write-waker, exchange 3 0:3, load:0, exchange 0 3:1, swap 2:1"
+    );
+    Ok(())
+}
+
+// The sender finishes between the load of the drop and its exchange, and wakes the task.
+#[test]
+fn a_future_whose_exchange_finds_the_message_drops_it(rt: HostRuntime) -> Result<(), Fail> {
+    let task = MemoryTask::new();
+    let mut g = MemoryFuture::<'_, '_, u64, _>::new(&rt, rt.alloc(), &task);
+    assert!(rt; matches!(&poll(&mut g), Poll::Pending));
+    g.receiver.sender_will_send(0, 7);
+    drop_async(&mut g);
+    assert!(rt; counts(&task) == (1, 1, 1));
+    let steps = steps_of(rt.alloc(), g.receiver.events())?;
+    assert_eq!(rt;
+        steps.as_str(),
+        "load:3, copy:made, write-waker, exchange 3 0:3, load:0, exchange 0 3:4, swap 2:4, \
+        drop-message, free"
     );
     Ok(())
 }

@@ -3,7 +3,7 @@
 ghost use Rattle.oneshot_drive.specs.BetweenCalls.{IsFresh};
 
 use crate::drive::steps::steps_of;
-use oneshot_drive::{drop_sender, into_inner, send};
+use oneshot_drive::{drop_error, drop_sender, into_inner, send};
 use oneshot_memory::MemorySender;
 use std::alloc::Global;
 use std::sync::Wait;
@@ -82,6 +82,24 @@ fn send_makes_its_steps(rt: HostRuntime) -> Result<(), Fail> {
             "case {number}"
         );
     }
+    Ok(())
+}
+
+#[test]
+fn the_error_of_a_receiver_that_left_meanwhile_frees_once(rt: HostRuntime) -> Result<(), Fail> {
+    let mut g = ground(&rt, rt.alloc(), Receiver::Leaves);
+    if send(&mut g, 7) {
+        panic!(rt; "the receiver left")
+    }
+    assert_eq!(rt;
+        steps_of(rt.alloc(), g.events())?.as_str(),
+        "write-message, add:0, take-waker, swap 4:2, wake"
+    );
+    drop_error(&mut g);
+    assert_eq!(rt;
+        steps_of(rt.alloc(), g.events())?.as_str(),
+        "write-message, add:0, take-waker, swap 4:2, wake, drop-message, free"
+    );
     Ok(())
 }
 

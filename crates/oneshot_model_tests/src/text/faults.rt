@@ -23,7 +23,7 @@ const OF_A_TEXT: &[Case] = &[
     ("S Drop\n", "line 1: unknown word 1"),
     ("S drop\r\n", "line 1: unknown word 1"),
     ("S\nR poll 1\n", "line 2: unknown word 1"),
-    ("S\nR future ref\n", "line 2: unknown word 2"),
+    ("S\nR future try\n", "line 3 is missing"),
     ("S\nR future recv\n", "line 2: unknown word 2"),
     ("S\nR future future\n", "line 2: unknown word 2"),
     ("S\nR future poll 1 dr\n", "line 2: unknown word 4"),
