@@ -82,6 +82,8 @@ NotTold =
     IsTrue (is_right kept_the_old_waker && is_right refused_and_silent)
     × (told_by (Some P.NotSent) kept_the_old_waker ≡ (up_to 6 polled_by_another_task).entries)
     × (told_by (Some P.NotSent) refused_and_silent ≡ (up_to 3 copy_refused).entries)
+    -- nor a drop that waits for its sender: under the same moves it leaves
+    × (told_by (Some P.NotSent) dropped_once_finished ≡ dropped_while_finishing.entries)
 
 -- THE HISTORY: the numbers of the acting entries, in their order
 abbrev pub PollsAct : Type 0

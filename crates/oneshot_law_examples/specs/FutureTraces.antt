@@ -46,7 +46,7 @@ dropped_while_finishing =
           ∷ [];
     }
 
--- a drop that waits until the sender has finished which found the waker: the definitions let it pass, but no run tells it
+-- a drop that waits until the sender has finished, which found the waker: only the bounds refuse it, and no run tells it
 abbrev pub dropped_once_finished : Example
 dropped_once_finished =
     record {
