@@ -89,7 +89,7 @@ fn send_then_poll(rt: HostRuntime) -> Result<(), Fail> {
     let task = MemoryTask::new();
     let mut receiver = MemoryFuture::<'_, '_, u128, _>::new(&rt, rt.alloc(), &task);
     receiver.receiver.sender_sends(1234);
-    assert_eq!(rt; drive::poll(&mut receiver, &rt), Poll::Ready(Ok(1234)));
+    assert_eq!(rt; drive::poll(&mut receiver), Poll::Ready(Ok(1234)));
     assert_eq!(rt; counts(&task), (0, 0, 0));
     Ok(())
 }
@@ -124,11 +124,11 @@ fn poll_then_send(rt: HostRuntime) -> Result<(), Fail> {
 
     let task = MemoryTask::new();
     let mut receiver = MemoryFuture::<'_, '_, u128, _>::new(&rt, rt.alloc(), &task);
-    assert_eq!(rt; drive::poll(&mut receiver, &rt), Poll::Pending);
+    assert_eq!(rt; drive::poll(&mut receiver), Poll::Pending);
     assert_eq!(rt; counts(&task), (1, 0, 0));
     receiver.receiver.sender_sends(1234);
     assert_eq!(rt; counts(&task), (1, 1, 1));
-    assert_eq!(rt; drive::poll(&mut receiver, &rt), Poll::Ready(Ok(1234)));
+    assert_eq!(rt; drive::poll(&mut receiver), Poll::Ready(Ok(1234)));
     assert_eq!(rt; counts(&task), (1, 1, 1));
     Ok(())
 }
@@ -147,10 +147,10 @@ fn poll_with_different_wakers(rt: HostRuntime) -> Result<(), Fail> {
     let first = MemoryTask::new();
     let second = MemoryTask::new();
     let mut receiver = MemoryFuture::<'_, '_, u128, _>::new(&rt, rt.alloc(), &first);
-    assert_eq!(rt; drive::poll(&mut receiver, &rt), Poll::Pending);
+    assert_eq!(rt; drive::poll(&mut receiver), Poll::Pending);
     assert_eq!(rt; counts(&first), (1, 0, 0));
     receiver.task = &second;
-    assert_eq!(rt; drive::poll(&mut receiver, &rt), Poll::Pending);
+    assert_eq!(rt; drive::poll(&mut receiver), Poll::Pending);
     assert_eq!(rt; (counts(&first), counts(&second)), ((1, 1, 0), (1, 0, 0)));
     receiver.receiver.sender_sends(1234);
     assert_eq!(rt; (counts(&first), counts(&second)), ((1, 1, 0), (1, 1, 1)));
