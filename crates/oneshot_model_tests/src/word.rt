@@ -2,8 +2,8 @@
 
 ghost use Rattle.std.specs.Prelude.{◌≡◌};
 ghost use Rattle.oneshot_machine.specs.declared.states.Op.TheVariants.{Load, Swap};
-ghost use Rattle.oneshot_machine.specs.Phases.{fresh, sender_at, looked, first, here, blocked, polled, waits, receiver_at};
-ghost use Rattle.oneshot_machine.specs.Slots.{away, vacant};
+ghost use Rattle.oneshot_machine.specs.Phases.{fresh, sender_at, looked, first, here, blocked, waits, receiver_at};
+ghost use Rattle.oneshot_machine.specs.Slots.{vacant};
 ghost use Rattle.oneshot_word.specs.Side.{SenderCan, ReceiverCan};
 
 use oneshot_word::{Peek, ReceiverSide, Rouse, SenderSide, Slot, open};
@@ -99,32 +99,6 @@ fn a_receiver_that_stops_over_an_end_closes(rt: HostRuntime) -> Result<(), Fail>
     Ok(())
 }
 
-// The word is the sender's last one then, and both slots are the sender's, with the message in its own.
-#[test]
-fn a_send_that_is_overtaken_has_its_message_back(rt: HostRuntime) -> Result<(), Fail> {
-    let (mut sender, mut receiver) = open::<u8, u8, u8>(rt.alloc())?;
-    look(&rt, &mut receiver);
-    leave_waker(&rt, &mut receiver, Rouse::Task(6));
-    assert!(rt; matches!(begin_send(&rt, &mut sender, 7), Rouse::Task(6)));
-    overtake(&rt, &mut receiver);
-    assert_eq!(rt; sender.peek(), 2);
-    assert_eq!(rt; finish_overtaken_send(&rt, &mut sender), 7);
-    assert_eq!(rt; sender.peek(), 4);
-    Ok(())
-}
-
-#[test]
-fn a_drop_that_is_overtaken_has_both_slots(rt: HostRuntime) -> Result<(), Fail> {
-    let (mut sender, mut receiver) = open::<u8, u8, u8>(rt.alloc())?;
-    look(&rt, &mut receiver);
-    leave_waker(&rt, &mut receiver, Rouse::Task(6));
-    assert!(rt; matches!(begin_drop(&rt, &mut sender), Rouse::Task(6)));
-    overtake(&rt, &mut receiver);
-    finish_overtaken_drop(&rt, &mut sender);
-    assert_eq!(rt; sender.peek(), 2);
-    Ok(())
-}
-
 fn look(rt: &impl Abort, receiver: &mut ReceiverSide<u8, u8, u8>)
     requires { receiver_at receiver.old.steps ≡ first }
     ensures at { receiver_at receiver.new.steps ≡ here looked }
@@ -146,33 +120,6 @@ fn store_waker(rt: &impl Abort, receiver: &mut ReceiverSide<u8, u8, u8>, waker: 
     receiver.write_waker(waker);
     let found = receiver.swap(0);
     assert!(rt; found == 3);
-}
-
-// It leaves its waker as a poll does.
-fn leave_waker(rt: &impl Abort, receiver: &mut ReceiverSide<u8, u8, u8>, waker: Rouse<u8, u8>)
-    requires at { receiver_at receiver.old.steps ≡ here looked }
-    requires waker { receiver.old.waker ≡ vacant }
-    ensures at { receiver_at receiver.new.steps ≡ waits polled }
-    ensures loads { ReceiverCan receiver.new Load }
-{
-    receiver.slots();
-    receiver.write_waker(waker);
-    let found = receiver.exchange(3, 0);
-    assert!(rt; found == 3);
-}
-
-// It leaves over a sender about to finish, and has neither slot then.
-fn overtake(rt: &impl Abort, receiver: &mut ReceiverSide<u8, u8, u8>)
-    requires at { receiver_at receiver.old.steps ≡ waits polled }
-    requires loads { ReceiverCan receiver.old Load }
-    ensures message { receiver.new.message ≡ away }
-    ensures waker { receiver.new.waker ≡ away }
-{
-    receiver.slots();
-    let found = receiver.load();
-    assert!(rt; found == 1);
-    let found = receiver.swap(2);
-    assert!(rt; found == 1);
 }
 
 // It gives its waker.
@@ -239,26 +186,6 @@ fn begin_drop(rt: &impl Abort, sender: &mut SenderSide<u8, u8, u8>) -> Rouse<u8,
     let found = sender.flip();
     assert!(rt; found == 0);
     sender.take_waker()
-}
-
-// It gives the message back.
-fn finish_overtaken_send(rt: &impl Abort, sender: &mut SenderSide<u8, u8, u8>) -> u8
-    requires { SenderCan sender.old (Swap 4) }
-    ensures message { sender.new.message ≡ vacant }
-    ensures waker { sender.new.waker ≡ vacant }
-{
-    let found = sender.swap(4);
-    assert!(rt; found == 2);
-    sender.take_message()
-}
-
-fn finish_overtaken_drop(rt: &impl Abort, sender: &mut SenderSide<u8, u8, u8>)
-    requires { SenderCan sender.old (Swap 2) }
-    ensures message { sender.new.message ≡ vacant }
-    ensures waker { sender.new.waker ≡ vacant }
-{
-    let found = sender.swap(2);
-    assert!(rt; found == 2);
 }
 
 fn receive(rt: &impl Abort, receiver: &mut ReceiverSide<u8, u8, u8>) -> u8
