@@ -75,7 +75,8 @@ impl<T: Drop, Rt: Drop> AsyncReceiver<T, Rt> {
     /// Receives the message if it is there. It never blocks and does not allocate. The Rust crate has no
     /// `try_recv` of a future: this one answers as that of a `Receiver`.
     ///
-    /// A task that is registered stays so: a later `send`, or the sender's drop, wakes it.
+    /// A task that is registered stays so, by the log of the operations. That a later `send`, or the sender's
+    /// drop, then wakes it is tested.
     ///
     /// - `Ok`: the message. The future is done from then on.
     /// - `Err(Empty)`: nothing was sent yet, or a `send` or the sender's drop is under way. The future stays
