@@ -25,7 +25,8 @@ moves = M.Receiver false false ∷ M.Sender ∷ M.Sender ∷ []
 worlds_are : (a b : List Entry × List World) → Some a ≡ Some b → a.1 ≡ b.1
 worlds_are a b h = cc
 
-pub comes_back : {T : Type 0} (message : T) (error : ErrorScript) (t : Told T) → IsReplayed (sends message error) drops moves t → t.rest ≡ Some (Rest.InError message)
+pub comes_back : {T : Type 0} (message : T) (error : ErrorScript) (t : Told T)
+    → IsReplayed (sends message error) drops moves t → t.rest ≡ Some (Rest.InError message)
 comes_back message error t replayed =
     let told = run_is 1 (opening (sends message error) drops) replayed.worlds moves t.entries replayed.tells in
     replayed.rest ∙ rw (sym (worlds_are _ (t.entries, replayed.worlds) told)) refl

@@ -21,13 +21,16 @@ module _ {T : Type 0} where
   unfolding told_with
   told_parts t = refl
 
-  pub one_trace : (s : SenderScript T) (r : ReceiverScript) (moves : List Move) (t u : Told T) → IsReplayed s r moves t → IsReplayed s r moves u → t ≡ u
+  pub one_trace : (s : SenderScript T) (r : ReceiverScript) (moves : List Move) (t u : Told T) → IsReplayed s r moves t
+      → IsReplayed s r moves u → t ≡ u
   one_trace s r moves t u a b =
       let same : (t.entries, a.worlds) ≡ (u.entries, b.worlds) =
-      same_value (sym (run_is 1 (opening s r) a.worlds moves t.entries a.tells) ∙ run_is 1 (opening s r) b.worlds moves u.entries b.tells) in
+      same_value (sym (run_is 1 (opening s r) a.worlds moves t.entries a.tells) ∙ run_is 1 (opening s r) b.worlds moves
+      u.entries b.tells) in
       let entries : t.entries ≡ u.entries = ap (λ (x : List Entry × List World). x.0) same in
       let worlds : a.worlds ≡ b.worlds = ap (λ (x : List Entry × List World). x.1) same in
-      let freed : t.block_freed ≡ u.block_freed = a.block_freed ∙ ap (λ ws. (last_of (opening s r) ws).state.freed) worlds ∙ sym b.block_freed in
+      let freed : t.block_freed ≡ u.block_freed =
+      a.block_freed ∙ ap (λ ws. (last_of (opening s r) ws).state.freed) worlds ∙ sym b.block_freed in
       let rest : t.rest ≡ u.rest =
       a.rest ∙ ap (λ ws. rest_at (last_of (opening s r) ws).state.message (message_of s.last)) worlds ∙ sym b.rest in
       cc (told_parts t, told_parts u)

@@ -10,7 +10,10 @@ use Rattle.oneshot_replay.specs.Scene.{Scene}
 use Rattle.oneshot_replay.specs.TraceView.{last_of}
 
 -- a move that makes the entry after the last one
-pub tells_more : (n : ℕ) (start : World) (worlds : List World) (moves : List Move) (entries : List Entry) (move : Move) (entry : Entry) (next : World) → Tells_from n start worlds moves entries → turn (n + length entries) (last_of start worlds) move ≡ Some (entry, next) → Tells_from n start (worlds ++ next ∷ []) (moves ++ move ∷ []) (entries ++ entry ∷ [])
+pub tells_more : (n : ℕ) (start : World) (worlds : List World) (moves : List Move) (entries : List Entry) (move : Move)
+    (entry : Entry) (next : World) → Tells_from n start worlds moves entries
+    → turn (n + length entries) (last_of start worlds) move ≡ Some (entry, next)
+    → Tells_from n start (worlds ++ next ∷ []) (moves ++ move ∷ []) (entries ++ entry ∷ [])
 tells_more n start [] [] [] move entry next told turned =
     let here : n + 0 ≡ n = omega arith in
     (subst (λ k. turn k start move ≡ Some (entry, next)) here turned, tt)
@@ -27,22 +30,27 @@ last_more start [] next = refl
 last_more start (w ∷ worlds) next = last_more w worlds next
 
 -- an entry a move
-pub tells_as_many : (n : ℕ) (start : World) (worlds : List World) (moves : List Move) (entries : List Entry) → Tells_from n start worlds moves entries → length entries ≡ length moves
+pub tells_as_many : (n : ℕ) (start : World) (worlds : List World) (moves : List Move) (entries : List Entry)
+    → Tells_from n start worlds moves entries → length entries ≡ length moves
 tells_as_many n start [] [] [] told = refl
-tells_as_many n start (w ∷ worlds) (m ∷ moves) (e ∷ entries) told = ap (λ n. suc n) (tells_as_many (n + 1) w worlds moves entries told.1)
+tells_as_many n start (w ∷ worlds) (m ∷ moves) (e ∷ entries) told =
+    ap (λ n. suc n) (tells_as_many (n + 1) w worlds moves entries told.1)
 tells_as_many n start _ _ _ told = elim told [ ]
 
-pub length-tells : (start : World) (worlds : List World) (moves : List Move) (entries : List Entry) → Tells start worlds moves entries → length entries ≡ length moves
+pub length-tells : (start : World) (worlds : List World) (moves : List Move) (entries : List Entry)
+    → Tells start worlds moves entries → length entries ≡ length moves
 length-tells = tells_as_many 1
 
 module _ {T : Type 0} where
   -- the number of the next entry
-  next_entry : (s : SenderScript T) (r : ReceiverScript) (moves : List Move) (entries : List Entry) (now : Scene T) → HasRun s r moves entries now → now.count + 1 ≡ 1 + length entries
+  next_entry : (s : SenderScript T) (r : ReceiverScript) (moves : List Move) (entries : List Entry) (now : Scene T)
+      → HasRun s r moves entries now → now.count + 1 ≡ 1 + length entries
   next_entry s r moves entries now run =
       omega (arith, run.count, length-tells (opening s r) run.worlds moves entries run.tells)
 
   -- one more move
-  pub goes_on : (from : Scene T) (move : Move) (entry : Entry) (to : Scene T) → turn (from.count + 1) from.world move ≡ Some (entry, to.world) → to.count ≡ from.count + 1 → to.message ≡ from.message → GoesOn from move entry to
+  pub goes_on : (from : Scene T) (move : Move) (entry : Entry) (to : Scene T) → turn (from.count + 1) from.world move
+      ≡ Some (entry, to.world) → to.count ≡ from.count + 1 → to.message ≡ from.message → GoesOn from move entry to
   goes_on from move entry to turned count message s r moves entries run =
       let number : from.count + 1 ≡ 1 + length entries = next_entry s r moves entries from run in
       let here : turn (1 + length entries) from.world move ≡ Some (entry, to.world) =

@@ -1,4 +1,5 @@
--- What a trace answers besides its entries is what the entries show: whether the block is freed, and the message's last place.
+-- What a trace answers besides its entries is what the entries show: whether the block is freed, and the
+-- message's last place.
 use Rattle.std.proofs.Common.{◌≡◌, ℕ, ◌+◌, Bool, true, false, ◌||◌, List, [], ◌∷◌, Option, Some, None, refl, ◌∙◌, ap}
 use Rattle.std.specs.List.{list_any, cons_option}
 use Rattle.std.specs.Option.{option_map}
@@ -48,18 +49,27 @@ freed_at freed _ = or_false freed
 
 -- the block is freed where an entry freed it
 abbrev FreedClaim : List Entry → Type 0
-FreedClaim entries = (n : ℕ) (w : World) (worlds : List World) (moves : List Move) → Tells_from n w worlds moves entries → (last_of w worlds).state.freed ≡ (w.state.freed || list_any (λ e. is_free e.step) (made_entries entries))
+FreedClaim entries =
+    (n : ℕ) (w : World) (worlds : List World) (moves : List Move) → Tells_from n w worlds moves entries
+    → (last_of w worlds).state.freed ≡ (w.state.freed || list_any (λ e. is_free e.step) (made_entries entries))
 
-freed_on : (freed : Bool) (step : Step) (later : Bool) (last : Bool) → last ≡ (freed_by freed step || later) → last ≡ (freed || (is_free step || later))
-freed_on freed step later last h = h ∙ ap (λ now. now || later) (freed_at freed step) ∙ or_more freed (is_free step) later
+freed_on : (freed : Bool) (step : Step) (later : Bool) (last : Bool) → last ≡ (freed_by freed step || later) → last
+    ≡ (freed || (is_free step || later))
+freed_on freed step later last h =
+    h ∙ ap (λ now. now || later) (freed_at freed step) ∙ or_more freed (is_free step) later
 
-freed_turn : (entries : List Entry) → FreedClaim entries → (n : ℕ) (side : End) (w : World) (entry : Entry) (next : World) (worlds : List World) (moves : List Move) → Turned n w side entry next → Tells_from (n + 1) next worlds moves entries → (last_of next worlds).state.freed ≡ (w.state.freed || list_any (λ e. is_free e.step) (made_entries (entry ∷ entries)))
+freed_turn : (entries : List Entry) → FreedClaim entries
+    → (n : ℕ) (side : End) (w : World) (entry : Entry) (next : World) (worlds : List World) (moves : List Move)
+    → Turned n w side entry next → Tells_from (n + 1) next worlds moves entries → (last_of next worlds).state.freed
+    ≡ (w.state.freed || list_any (λ e. is_free e.step) (made_entries (entry ∷ entries)))
 freed_turn entries later n _ w _ _ worlds moves (sender_idle at) told = later (n + 1) w worlds moves told
 freed_turn entries later n _ w _ _ worlds moves (receiver_idle at) told = later (n + 1) w worlds moves told
 freed_turn entries later n _ w _ _ worlds moves (sender_made position row at by) told =
-    freed_on w.state.freed (sender_step position) _ _ (later (n + 1) (sender_world w (sender_step position) row) worlds moves told)
+    freed_on w.state.freed (sender_step position) _ _
+    (later (n + 1) (sender_world w (sender_step position) row) worlds moves told)
 freed_turn entries later n _ w _ _ worlds moves (receiver_made answer position row at by) told =
-    freed_on w.state.freed (receiver_step position) _ _ (later (n + 1) (receiver_world (receiver_told answer n w) w (receiver_step position) row) worlds moves told)
+    freed_on w.state.freed (receiver_step position) _ _
+    (later (n + 1) (receiver_world (receiver_told answer n w) w (receiver_step position) row) worlds moves told)
 
 freed_steps : (entries : List Entry) → FreedClaim entries
 freed_steps [] n w [] [] told = or_false w.state.freed
@@ -67,17 +77,21 @@ freed_steps [] n w (next ∷ worlds) [] told = elim told [ ]
 freed_steps [] n w (next ∷ worlds) (move ∷ moves) told = elim told [ ]
 freed_steps [] n w [] (move ∷ moves) told = elim told [ ]
 freed_steps (entry ∷ entries) n w (next ∷ worlds) (move ∷ moves) told =
-    freed_turn entries (freed_steps entries) n (side_of move) w entry next worlds moves (turned n w move (entry, next) told.0) told.1
+    freed_turn entries (freed_steps entries) n (side_of move) w entry next worlds moves
+    (turned n w move (entry, next) told.0) told.1
 freed_steps (entry ∷ entries) n w [] [] told = elim told [ ]
 freed_steps (entry ∷ entries) n w [] (move ∷ moves) told = elim told [ ]
 freed_steps (entry ∷ entries) n w (next ∷ worlds) [] told = elim told [ ]
 
-freed_marks : (es : List Entry) (s r : Reading) (n : ℕ) (o : Object) → list_any (λ e. is_free e.step) (made_entries es) ≡ list_any frees (marks_from s r n o es)
+freed_marks : (es : List Entry) (s r : Reading) (n : ℕ) (o : Object) → list_any (λ e. is_free e.step) (made_entries es)
+    ≡ list_any frees (marks_from s r n o es)
 freed_marks [] s r n o = refl
 freed_marks (Idle side ∷ es) s r n o = freed_marks es s r (n + 1) o
 freed_marks (Made_entry e ∷ es) s r n o = ap (λ later. is_free e.step || later) (freed_marks es _ _ _ _)
 
-pub freed_shown : {T : Type 0} (s : SenderScript T) (r : ReceiverScript) (worlds : List World) (moves : List Move) (entries : List Entry) → Tells (opening s r) worlds moves entries → (last_of (opening s r) worlds).state.freed ≡ is_freed (marks (calls_of s r) entries)
+pub freed_shown : {T : Type 0} (s : SenderScript T) (r : ReceiverScript) (worlds : List World) (moves : List Move)
+    (entries : List Entry) → Tells (opening s r) worlds moves entries → (last_of (opening s r) worlds).state.freed
+    ≡ is_freed (marks (calls_of s r) entries)
 freed_shown s r worlds moves entries told =
     freed_steps entries 1 (opening s r) worlds moves told ∙ freed_marks entries _ _ 1 _
 
@@ -86,27 +100,40 @@ abbrev moved_to : Place → Option Place → Place
 moved_to from None = from
 moved_to from (Some to) = to
 
-moved_on : (place : Option Place) (from : Place) (to : Option Place) → place ≡ Some from → place_left place to ≡ Some (moved_to from to)
+moved_on : (place : Option Place) (from : Place) (to : Option Place) → place ≡ Some from → place_left place to
+    ≡ Some (moved_to from to)
 moved_on place from None is = rw is refl
 moved_on place from (Some to) is = rw is refl
 
-last_on : (place : Option Place) (from : Place) (to : Option Place) (later : List (Place × Place)) → place ≡ Some from → last_place (moved_to from to) later ≡ last_place from (cons_option (move_of place to) later)
+last_on : (place : Option Place) (from : Place) (to : Option Place) (later : List (Place × Place)) → place ≡ Some from
+    → last_place (moved_to from to) later ≡ last_place from (cons_option (move_of place to) later)
 last_on place from None later is = rw is refl
 last_on place from (Some to) later is = rw is refl
 
 abbrev PlaceClaim : List Entry → Type 0
-PlaceClaim entries = (n : ℕ) (w : World) (from : Place) (worlds : List World) (moves : List Move) → w.state.message ≡ Some from → Tells_from n w worlds moves entries → (last_of w worlds).state.message ≡ Some (last_place from (message_moves entries))
+PlaceClaim entries =
+    (n : ℕ) (w : World) (from : Place) (worlds : List World) (moves : List Move) → w.state.message ≡ Some from
+    → Tells_from n w worlds moves entries → (last_of w worlds).state.message
+    ≡ Some (last_place from (message_moves entries))
 
-place_turn : (entries : List Entry) → PlaceClaim entries → (n : ℕ) (side : End) (w : World) (entry : Entry) (next : World) (from : Place) (worlds : List World) (moves : List Move) → Turned n w side entry next → w.state.message ≡ Some from → Tells_from (n + 1) next worlds moves entries → (last_of next worlds).state.message ≡ Some (last_place from (message_moves (entry ∷ entries)))
-place_turn entries later n _ w _ _ from worlds moves (sender_idle at) is told = later (n + 1) w from worlds moves is told
-place_turn entries later n _ w _ _ from worlds moves (receiver_idle at) is told = later (n + 1) w from worlds moves is told
+place_turn : (entries : List Entry) → PlaceClaim entries
+    → (n : ℕ) (side : End) (w : World) (entry : Entry) (next : World) (from : Place) (worlds : List World)
+    (moves : List Move) → Turned n w side entry next → w.state.message ≡ Some from
+    → Tells_from (n + 1) next worlds moves entries → (last_of next worlds).state.message
+    ≡ Some (last_place from (message_moves (entry ∷ entries)))
+place_turn entries later n _ w _ _ from worlds moves (sender_idle at) is told =
+    later (n + 1) w from worlds moves is told
+place_turn entries later n _ w _ _ from worlds moves (receiver_idle at) is told =
+    later (n + 1) w from worlds moves is told
 place_turn entries later n _ w _ _ from worlds moves (sender_made position row at by) is told =
     let to : Option Place = sender_puts (sender_step position) (reply_of row) in
-    later (n + 1) (sender_world w (sender_step position) row) (moved_to from to) worlds moves (moved_on w.state.message from to is) told
+    later (n + 1) (sender_world w (sender_step position) row) (moved_to from to) worlds moves
+    (moved_on w.state.message from to is) told
     ∙ ap (λ (place : Place). Some place) (last_on w.state.message from to (message_moves entries) is)
 place_turn entries later n _ w _ _ from worlds moves (receiver_made answer position row at by) is told =
     let to : Option Place = receiver_puts (receiver_step position) in
-    later (n + 1) (receiver_world (receiver_told answer n w) w (receiver_step position) row) (moved_to from to) worlds moves (moved_on w.state.message from to is) told
+    later (n + 1) (receiver_world (receiver_told answer n w) w (receiver_step position) row) (moved_to from to) worlds
+    moves (moved_on w.state.message from to is) told
     ∙ ap (λ (place : Place). Some place) (last_on w.state.message from to (message_moves entries) is)
 
 place_steps : (entries : List Entry) → PlaceClaim entries
@@ -115,7 +142,8 @@ place_steps [] n w from (next ∷ worlds) [] is told = elim told [ ]
 place_steps [] n w from (next ∷ worlds) (move ∷ moves) is told = elim told [ ]
 place_steps [] n w from [] (move ∷ moves) is told = elim told [ ]
 place_steps (entry ∷ entries) n w from (next ∷ worlds) (move ∷ moves) is told =
-    place_turn entries (place_steps entries) n (side_of move) w entry next from worlds moves (turned n w move (entry, next) told.0) is told.1
+    place_turn entries (place_steps entries) n (side_of move) w entry next from worlds moves
+    (turned n w move (entry, next) told.0) is told.1
 place_steps (entry ∷ entries) n w from [] [] is told = elim told [ ]
 place_steps (entry ∷ entries) n w from [] (move ∷ moves) is told = elim told [ ]
 place_steps (entry ∷ entries) n w from (next ∷ worlds) [] is told = elim told [ ]
@@ -124,12 +152,17 @@ no_rest : {T : Type 0} (place : Option Place) → rest_at {T = T} place None ≡
 no_rest None = refl
 no_rest (Some place) = refl
 
-rest_shown_by : {T : Type 0} (last : SenderLast T) (place : Option Place) (shown : Place) → (opening_place last ≡ Some NotSent → place ≡ Some shown) → rest_at place (message_of last) ≡ option_map (rest_of shown) (message_of last)
+rest_shown_by : {T : Type 0} (last : SenderLast T) (place : Option Place) (shown : Place)
+    → (opening_place last ≡ Some NotSent → place ≡ Some shown) → rest_at place (message_of last)
+    ≡ option_map (rest_of shown) (message_of last)
 rest_shown_by (SL.Send message error) place shown is = rw (is refl) refl
 rest_shown_by SL.Drop place shown is = no_rest place
 rest_shown_by SL.Stop place shown is = no_rest place
 
-pub rest_shown : {T : Type 0} (s : SenderScript T) (r : ReceiverScript) (worlds : List World) (moves : List Move) (entries : List Entry) → Tells (opening s r) worlds moves entries → rest_at (last_of (opening s r) worlds).state.message (message_of s.last) ≡ option_map (rest_of (last_message_place entries)) (message_of s.last)
+pub rest_shown : {T : Type 0} (s : SenderScript T) (r : ReceiverScript) (worlds : List World) (moves : List Move)
+    (entries : List Entry) → Tells (opening s r) worlds moves entries
+    → rest_at (last_of (opening s r) worlds).state.message (message_of s.last)
+    ≡ option_map (rest_of (last_message_place entries)) (message_of s.last)
 rest_shown s r worlds moves entries told =
     rest_shown_by s.last (last_of (opening s r) worlds).state.message (last_message_place entries)
     (λ is. place_steps entries 1 (opening s r) NotSent worlds moves is told)

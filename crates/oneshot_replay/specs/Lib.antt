@@ -1,4 +1,5 @@
 pub mod Rest
+pub mod Right
 pub mod Run
 pub mod Scene
 pub mod TraceView

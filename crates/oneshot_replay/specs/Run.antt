@@ -9,8 +9,10 @@ use Rattle.oneshot_replay.specs.Rest.{message_of, rest_at}
 use Rattle.oneshot_replay.specs.Scene.{Scene}
 use Rattle.oneshot_replay.specs.TraceView.{Told, last_of}
 
--- A run of these scripts under these moves, which made these entries and has come to `now`: entry k tells the step from world k to world k + 1.
-pub record HasRun {T : Type 0} (s : SenderScript T) (r : ReceiverScript) (moves : List Move) (entries : List Entry) (now : Scene T) : Type 0 where
+-- A run of these scripts under these moves, which made these entries and has come to `now`: entry k tells the
+-- step from world k to world k + 1.
+pub record HasRun {T : Type 0} (s : SenderScript T) (r : ReceiverScript) (moves : List Move) (entries : List Entry)
+    (now : Scene T) : Type 0 where
   pub worlds : List World
   pub tells : Tells (opening s r) worlds moves entries
   pub ends : last_of (opening s r) worlds ≡ now.world
@@ -33,7 +35,8 @@ GoesOn {T = T} from move entry to =
     → HasRun s r moves entries from → HasRun s r (moves ++ move ∷ []) (entries ++ entry ∷ []) to
 
 -- this holds of every run of two scripts, wherever it has come to
-abbrev pub OfEachRun : (T : Type 0) → (SenderScript T → ReceiverScript → List Move → List Entry → Scene T → Type 0) → Type 0
+abbrev pub OfEachRun : (T : Type 0) → (SenderScript T → ReceiverScript → List Move → List Entry → Scene T → Type 0)
+    → Type 0
 OfEachRun T holds =
     (s : SenderScript T) (r : ReceiverScript) (moves : List Move) (entries : List Entry) (now : Scene T)
     → HasRun s r moves entries now → holds s r moves entries now

@@ -18,8 +18,11 @@ abbrev pub last_of : World → List World → World
 last_of w [] = w
 last_of w (next ∷ worlds) = last_of next worlds
 
--- There is a run of the two scripts, a list of worlds one longer than the moves: entry k tells the step from world k to world k + 1. The block and the message's rest are those of its last world, with the script's own message.
-pub record IsReplayed {T : Type 0} (s : SenderScript T) (r : ReceiverScript) (moves : List Move) (t : Told T) : Type 0 where
+-- There is a run of the two scripts, a list of worlds one longer than the moves: entry k tells the step from
+-- world k to world k + 1. The block and the message's rest are those of its last world, with the script's own
+-- message.
+pub record IsReplayed {T : Type 0} (s : SenderScript T) (r : ReceiverScript) (moves : List Move) (t : Told T) : Type
+    0 where
   pub worlds : List World
   pub tells : Tells (opening s r) worlds moves t.entries
   pub block_freed : t.block_freed ≡ (last_of (opening s r) worlds).state.freed

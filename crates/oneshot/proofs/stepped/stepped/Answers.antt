@@ -10,9 +10,9 @@ loop-m-preserved c =
     (c.step.ensures.goes_on c.args.s c.args.r _ _ c.loop-m.invariant)
 
 pub returns-clause-message_followed : goal.returns-clause-message_followed
-returns-clause-message_followed c = c.a_run_is_right.ensures.message_followed _ _ _ _ _ c.loop-m.invariant
+returns-clause-message_followed c = (c.a_run_is_right.ensures _ _ _ _ _ c.loop-m.invariant).message_followed
 
 pub returns-clause-never_unwoken : goal.returns-clause-never_unwoken
 returns-clause-never_unwoken c =
     let all : take c.loop-m.m-index c.args.moves.now ≡ c.args.moves.now = take_all _ _ c.loop-m-test.false in
-    rw all at (c.a_run_is_right.ensures.never_unwoken _ _ _ _ _ c.loop-m.invariant)
+    rw all at (c.a_run_is_right.ensures _ _ _ _ _ c.loop-m.invariant).never_unwoken
