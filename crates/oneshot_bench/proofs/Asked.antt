@@ -14,7 +14,8 @@ use Rattle.oneshot_bench.proofs.Names.{loop_named, loop_named-finds, loop_named-
 writes-one : (word : List ℕ) (m n : ℕ) → Writes word m → Writes word n → m ≡ n
 writes-one word m n one other = cc (one.value, other.value)
 
-asked-measure : (over : Channel) (name word : List ℕ) (kind : Loop) (count : ℕ) (command : Command) → loop_named name ≡ Some kind
+asked-measure : (over : Channel) (name word : List ℕ) (kind : Loop) (count : ℕ) (command : Command)
+    → loop_named name ≡ Some kind
     → Writes word count → AsksOver over (name ∷ word ∷ []) command → Measure over kind count ≡ command
 asked-measure over name word kind count Usage found writes asks = absurd asks
 asked-measure over name word kind count (Measure channel other number) found writes (text, same_channel, is, wrote) =
@@ -23,11 +24,14 @@ asked-measure over name word kind count (Measure channel other number) found wri
     let value : count ≡ number = writes-one word count number writes (rw same at wrote) in
     cc
 
-pub measure-asked : (over : Channel) (name word : List ℕ) (kind : Loop) (count : ℕ) (command : Command) → loop_named name ≡ Some kind
+pub measure-asked : (over : Channel) (name word : List ℕ) (kind : Loop) (count : ℕ) (command : Command)
+    → loop_named name ≡ Some kind
     → Writes word count → (Some (Measure over kind count) ≡ Some command) ↔ AsksOver over (name ∷ word ∷ []) command
 measure-asked over name word kind count command found writes =
-    let asks : AsksOver over (name ∷ word ∷ []) (Measure over kind count) = (word, refl, (cc (loop_named-found kind name found)), writes) in (
-      (λ is. let same : Measure over kind count ≡ command = cc in subst (λ asked. AsksOver over (name ∷ word ∷ []) asked) same asks),
+    let asks : AsksOver over (name ∷ word ∷ []) (Measure over kind count) =
+    (word, refl, (cc (loop_named-found kind name found)), writes) in (
+      (λ is. let same : Measure over kind count ≡ command = cc in
+          subst (λ asked. AsksOver over (name ∷ word ∷ []) asked) same asks),
       (λ asked. ap Some (asked-measure over name word kind count command found writes asked)),
     )
 
@@ -35,19 +39,22 @@ measure-asked over name word kind count command found writes =
 abbrev Over : List (List ℕ) → Channel → List (List ℕ) → Type 0
 Over words channel rest = (words ≡ channel_name channel ∷ rest) ⊎ ((channel ≡ Oneshot) × (words ≡ rest))
 
-over-two : (name word text : List ℕ) (channel : Channel) (kind : Loop) → Over (name ∷ word ∷ []) channel (name_of kind ∷ text ∷ [])
+over-two : (name word text : List ℕ) (channel : Channel) (kind : Loop)
+    → Over (name ∷ word ∷ []) channel (name_of kind ∷ text ∷ [])
     → (Oneshot ≡ channel) × (name ∷ word ∷ [] ≡ name_of kind ∷ text ∷ [])
 over-two name word text channel kind (inl long) = absurd cc
 over-two name word text channel kind (inr short) = (sym short.0, short.1)
 
 over-three : (first name word text : List ℕ) (over channel : Channel) (kind : Loop) → channel_named first ≡ Some over
-    → Over (first ∷ name ∷ word ∷ []) channel (name_of kind ∷ text ∷ []) → (over ≡ channel) × (name ∷ word ∷ [] ≡ name_of kind ∷ text ∷ [])
+    → Over (first ∷ name ∷ word ∷ []) channel (name_of kind ∷ text ∷ [])
+    → (over ≡ channel) × (name ∷ word ∷ [] ≡ name_of kind ∷ text ∷ [])
 over-three first name word text over channel kind found (inl long) =
     let named : channel_named first ≡ Some channel = channel_named-finds channel first (cc) in (cc, cc)
 over-three first name word text over channel kind found (inr short) = let long = short.1 in absurd cc
 
 -- two words are read as those over `Oneshot`
-pub asks-two : (name word : List ℕ) (command : Command) → AsksOver Oneshot (name ∷ word ∷ []) command ↔ Asks (name ∷ word ∷ []) command
+pub asks-two : (name word : List ℕ) (command : Command)
+    → AsksOver Oneshot (name ∷ word ∷ []) command ↔ Asks (name ∷ word ∷ []) command
 asks-two name word Usage = ((λ asks. absurd asks), (λ is. absurd cc))
 asks-two name word (Measure channel kind count) = (
   (λ asks. (asks.0, inr (sym asks.1, asks.2), asks.3)),
@@ -59,19 +66,23 @@ pub asks-three : (first name word : List ℕ) (over : Channel) (command : Comman
     → AsksOver over (name ∷ word ∷ []) command ↔ Asks (first ∷ name ∷ word ∷ []) command
 asks-three first name word over Usage found = ((λ asks. absurd asks), (λ is. absurd cc))
 asks-three first name word over (Measure channel kind count) found = (
-  (λ asks. let named = channel_named-found over first found in let same = asks.1 in let rest = asks.2 in (asks.0, inl (cc), asks.3)),
-  (λ asks. let over = over-three first name word asks.0 over channel kind found asks.1 in (asks.0, over.0, over.1, asks.2)),
+  (λ asks. let named = channel_named-found over first found in let same = asks.1 in let rest = asks.2 in
+      (asks.0, inl (cc), asks.3)),
+  (λ asks. let over = over-three first name word asks.0 over channel kind found asks.1 in
+      (asks.0, over.0, over.1, asks.2)),
 )
 
 -- a list of two, by its elements
-pub map-pair : {A B : Type 0} (f : A → B) (xs : List A) (a b : A) → length xs ≡ 2 → a ≡ get_or xs 0 a → b ≡ get_or xs 1 b → map f xs ≡ f a ∷ f b ∷ []
+pub map-pair : {A B : Type 0} (f : A → B) (xs : List A) (a b : A) → length xs ≡ 2 → a ≡ get_or xs 0 a
+    → b ≡ get_or xs 1 b → map f xs ≡ f a ∷ f b ∷ []
 map-pair f [] a b two first second = absurd (omega arith)
 map-pair f (x ∷ []) a b two first second = absurd (omega arith)
 map-pair f (x ∷ y ∷ []) a b two first second = cc
 map-pair f (x ∷ y ∷ z ∷ xs) a b two first second = absurd (omega arith)
 
 -- a list of three, by its elements
-pub map-triple : {A B : Type 0} (f : A → B) (xs : List A) (a b c : A) → length xs ≡ 3 → a ≡ get_or xs 0 a → b ≡ get_or xs 1 b
+pub map-triple : {A B : Type 0} (f : A → B) (xs : List A) (a b c : A) → length xs ≡ 3 → a ≡ get_or xs 0 a
+    → b ≡ get_or xs 1 b
     → c ≡ get_or xs 2 c → map f xs ≡ f a ∷ f b ∷ f c ∷ []
 map-triple f [] a b c three first second third = absurd (omega arith)
 map-triple f (x ∷ []) a b c three first second third = absurd (omega arith)

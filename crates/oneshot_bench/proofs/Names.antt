@@ -43,17 +43,22 @@ first_found test first rest false x fails is later = later is
 -- what is found passes the test
 find-passes : {X : Type 0} (test : X → Bool) (xs : List X) (x : X) → find test xs ≡ Some x → test x ≡ true
 find-passes test [] x is = absurd cc
-find-passes test (first ∷ rest) x is = first_found test first (find test rest) (test first) x refl is (find-passes test rest x)
+find-passes test (first ∷ rest) x is =
+    first_found test first (find test rest) (test first) x refl is (find-passes test rest x)
 
 pub loop_named-finds : (kind : Loop) (name : List ℕ) → name_of kind ≡ name → loop_named name ≡ Some kind
 loop_named-finds kind name is = rw (← is) (loop_named-name kind)
 
 pub loop_named-found : (kind : Loop) (name : List ℕ) → loop_named name ≡ Some kind → name_of kind ≡ name
-loop_named-found kind name is = same_text (name_of kind) name (sym (find-passes (λ kind. bytes_eq (name_of kind) name) LOOPS kind is))
+loop_named-found kind name is =
+    same_text (name_of kind) name (sym (find-passes (λ kind. bytes_eq (name_of kind) name) LOOPS kind is))
 
-pub channel_named-finds : (channel : Channel) (name : List ℕ) → channel_name channel ≡ name → channel_named name ≡ Some channel
+pub channel_named-finds : (channel : Channel) (name : List ℕ) → channel_name channel ≡ name
+    → channel_named name ≡ Some channel
 channel_named-finds channel name is = rw (← is) (channel_named-name channel)
 
-pub channel_named-found : (channel : Channel) (name : List ℕ) → channel_named name ≡ Some channel → channel_name channel ≡ name
+pub channel_named-found : (channel : Channel) (name : List ℕ) → channel_named name ≡ Some channel
+    → channel_name channel ≡ name
 channel_named-found channel name is =
-    same_text (channel_name channel) name (sym (find-passes (λ channel. bytes_eq (channel_name channel) name) CHANNELS channel is))
+    same_text (channel_name channel) name
+    (sym (find-passes (λ channel. bytes_eq (channel_name channel) name) CHANNELS channel is))

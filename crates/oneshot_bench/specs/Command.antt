@@ -25,5 +25,6 @@ abbrev pub Asks : List (List ℕ) → Command → Type 0
 Asks words Usage = words ≡ []
 Asks words (Measure channel kind count) =
     (word : List ℕ)
-    × ((words ≡ channel_name channel ∷ name_of kind ∷ word ∷ []) ⊎ ((channel ≡ Oneshot) × (words ≡ name_of kind ∷ word ∷ [])))
+    × ((words ≡ channel_name channel ∷ name_of kind ∷ word ∷ [])
+    ⊎ ((channel ≡ Oneshot) × (words ≡ name_of kind ∷ word ∷ [])))
     × Writes word count

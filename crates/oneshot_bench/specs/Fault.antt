@@ -1,4 +1,5 @@
--- The exit status of each fault: 1 where the system or the channel failed, 2 where the arguments are at fault, 3 where memory was refused.
+-- The exit status of each fault: 1 where the system or the channel failed, 2 where the arguments are at
+-- fault, 3 where memory was refused.
 use Rattle.std.specs.Prelude.{ℕ}
 use Rattle.oneshot_bench.specs.declared.fault.Fault.{Fault}
 use Rattle.oneshot_bench.specs.declared.fault.Fault.TheVariants.{BadArguments, ClockFailed, WriteFailed, MessageLost, CannotRun, TaskFailed, OutOfMemory}

@@ -1,4 +1,5 @@
--- What the bounds say of worked traces that reach them, and of the same traces with one operation or one move more. The checker computes all of it.
+-- What the bounds say of worked traces that reach them, and of the same traces with one operation or one move
+-- more. The checker computes all of it.
 use Rattle.std.specs.Prelude.{Bool, not, ◌&&◌, [], ◌∷◌, IsTrue}
 use Rattle.std.specs.List.{list_all}
 use Rattle.oneshot_laws.specs.Bounds.{are_calls_bounded, is_soon_answered}

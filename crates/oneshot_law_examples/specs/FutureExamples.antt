@@ -1,4 +1,5 @@
--- What the definitions say of worked traces of a future, and of the same traces damaged. The checker computes all of it.
+-- What the definitions say of worked traces of a future, and of the same traces damaged. The checker computes
+-- all of it.
 use Rattle.std.specs.Prelude.{◌≡◌, not, ◌&&◌, [], ◌∷◌, ◌++◌, take, replicate, Some, None, IsTrue}
 use Rattle.std.specs.List.{list_all}
 use Rattle.oneshot_machine.specs.declared.machine.End.TheVariants.{Sender, Receiver}
@@ -228,7 +229,9 @@ WrongPolls =
     × IsTrue (list_all (fails_at is_got_after_full)
     (answered_by 14 R.Pending woken_then_ready ∷ answered_by 14 R.Disconnected woken_then_ready ∷ []))
     -- the channel was closed, and a poll waits
-    × IsTrue (fails_at is_gone_after_closed (received_by (C.Of_receiver RC.IntoFuture ∷ C.Poll 1 ∷ C.Of_receiver RC.IsClosed ∷ C.Poll 1 ∷ C.Poll 1 ∷ []) (answered_by 15 R.Pending (up_to 15 woken_then_ready))))
+    × IsTrue (fails_at is_gone_after_closed
+    (received_by (C.Of_receiver RC.IntoFuture ∷ C.Poll 1 ∷ C.Of_receiver RC.IsClosed ∷ C.Poll 1 ∷ C.Poll 1 ∷ [])
+    (answered_by 15 R.Pending (up_to 15 woken_then_ready))))
     -- a message that nobody took is not dropped, or dropped twice
     × IsTrue (list_all (fails_at is_dropped_once)
     (unmoved_by 14 dropped_once_finished ∷ twice 14 dropped_once_finished ∷ []))

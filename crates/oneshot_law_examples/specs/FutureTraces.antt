@@ -42,11 +42,13 @@ dropped_while_finishing =
           ∷ E.Idle Receiver
           ∷ E.Idle Receiver
           ∷ E.Idle Receiver
-          ∷ E.Made (replying R.Refused (moving P.InCell P.InError (carrying (Copy 1 3) W.SenderHand W.Used (sender T.Wake 4 4))))
+          ∷ E.Made (replying R.Refused (moving P.InCell P.InError
+          (carrying (Copy 1 3) W.SenderHand W.Used (sender T.Wake 4 4))))
           ∷ [];
     }
 
--- a drop that waits until the sender has finished, which found the waker: only the bounds refuse it, and no run tells it
+-- a drop that waits until the sender has finished, which found the waker: only the bounds refuse it, and no
+-- run tells it
 abbrev pub dropped_once_finished : Example
 dropped_once_finished =
     record {
@@ -79,7 +81,8 @@ dropped_once_finished =
 -- S send 7
 -- R future poll 1 poll 2 drop
 -- X rrrrrrrssrrsssrrrr
--- the exchange of a second poll fails over a sender that is about to finish: the new copy is dropped, and the poll wakes its own task
+-- the exchange of a second poll fails over a sender that is about to finish: the new copy is dropped, and the
+-- poll wakes its own task
 abbrev pub polled_while_finishing : Example
 polled_while_finishing =
     record {
@@ -293,7 +296,9 @@ woken_then_ready =
           record {
             sender = C.Of_sender SC.Send ∷ [];
             error = [];
-            receiver = C.Of_receiver RC.IntoFuture ∷ C.Poll 1 ∷ C.Of_receiver RC.HasMessage ∷ C.Poll 1 ∷ C.Poll 1 ∷ C.Of_receiver RC.IsClosed ∷ C.Of_receiver RC.DropAsync ∷ [];
+            receiver =
+                C.Of_receiver RC.IntoFuture ∷ C.Poll 1 ∷ C.Of_receiver RC.HasMessage ∷ C.Poll 1 ∷ C.Poll 1
+                ∷ C.Of_receiver RC.IsClosed ∷ C.Of_receiver RC.DropAsync ∷ [];
           };
       entries =
           E.Made (replying R.Future (receiver T.Plain 3 3))
@@ -351,7 +356,8 @@ both_dropped_while_pending =
 -- S send 7
 -- R future poll 1 try try try
 -- X rrrrrrssrsssrrr
--- a `try_recv` of a future that waits finds nothing, also while the sender finishes, and leaves the stored waker; the last one has the message
+-- a `try_recv` of a future that waits finds nothing, also while the sender finishes, and leaves the stored
+-- waker; the last one has the message
 abbrev pub tried_while_pending : Example
 tried_while_pending =
     record {
@@ -359,7 +365,9 @@ tried_while_pending =
           record {
             sender = C.Of_sender SC.Send ∷ [];
             error = [];
-            receiver = C.Of_receiver RC.IntoFuture ∷ C.Poll 1 ∷ C.Of_receiver RC.AsyncTryRecv ∷ C.Of_receiver RC.AsyncTryRecv ∷ C.Of_receiver RC.AsyncTryRecv ∷ [];
+            receiver =
+                C.Of_receiver RC.IntoFuture ∷ C.Poll 1 ∷ C.Of_receiver RC.AsyncTryRecv ∷ C.Of_receiver RC.AsyncTryRecv
+                ∷ C.Of_receiver RC.AsyncTryRecv ∷ [];
           };
       entries =
           E.Made (replying R.Future (receiver T.Plain 3 3))
@@ -391,7 +399,9 @@ tried_beside_a_drop =
           record {
             sender = C.Of_sender SC.Drop ∷ [];
             error = [];
-            receiver = C.Of_receiver RC.IntoFuture ∷ C.Of_receiver RC.AsyncTryRecv ∷ C.Poll 1 ∷ C.Of_receiver RC.AsyncTryRecv ∷ C.Of_receiver RC.AsyncTryRecv ∷ [];
+            receiver =
+                C.Of_receiver RC.IntoFuture ∷ C.Of_receiver RC.AsyncTryRecv ∷ C.Poll 1 ∷ C.Of_receiver RC.AsyncTryRecv
+                ∷ C.Of_receiver RC.AsyncTryRecv ∷ [];
           };
       entries =
           E.Made (replying R.Future (receiver T.Plain 3 3))
@@ -434,7 +444,8 @@ sent_to_one_that_left =
           ∷ E.Made (replying R.Done (receiver (T.Word (O.Swap 2)) 1 2))
           ∷ E.Made (carrying (Copy 1 3) W.Cell W.SenderHand (sender T.TakeWaker 2 2))
           ∷ E.Made (sender (T.Word (O.Swap 4)) 2 4)
-          ∷ E.Made (replying R.Refused (moving P.InCell P.InError (carrying (Copy 1 3) W.SenderHand W.Used (sender T.Wake 4 4))))
+          ∷ E.Made (replying R.Refused (moving P.InCell P.InError
+          (carrying (Copy 1 3) W.SenderHand W.Used (sender T.Wake 4 4))))
           ∷ E.Made (moving P.InError P.FromError (sender T.TakeMessage 4 4))
           ∷ E.Made (replying R.Message (frees Sender 4))
           ∷ [];

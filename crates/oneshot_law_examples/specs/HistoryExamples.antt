@@ -1,4 +1,5 @@
--- What the object answers, and what acting entries, histories and idle ends are in worked traces, and in the same traces damaged. The checker computes all of it.
+-- What the object answers, and what acting entries, histories and idle ends are in worked traces, and in the
+-- same traces damaged. The checker computes all of it.
 use Rattle.std.specs.Prelude.{◌≡◌, ℕ, Bool, not, List, [], ◌∷◌, ◌++◌, map, take, IsTrue}
 use Rattle.std.specs.List.{list_all}
 use Rattle.oneshot_machine.specs.declared.machine.End.TheVariants.{Sender, Receiver}

@@ -109,17 +109,22 @@ are_replies_right x =
 abbrev pub WrongReplies : Type 0
 WrongReplies =
     -- a receive answers otherwise after the message was got
-    IsTrue (list_all (fails_at is_gone_after_got) (answered_by 6 R.Empty tried_again ∷ answered_by 6 R.Message tried_again ∷ []))
+    IsTrue (list_all (fails_at is_gone_after_got)
+    (answered_by 6 R.Empty tried_again ∷ answered_by 6 R.Message tried_again ∷ []))
     -- a receive does not give the message that was seen
-    × IsTrue (list_all (fails_at is_got_after_full) (answered_by 8 R.Disconnected looked_at_both_ends ∷ answered_by 6 R.Empty looked_at_both_ends ∷ []))
+    × IsTrue (list_all (fails_at is_got_after_full)
+    (answered_by 8 R.Disconnected looked_at_both_ends ∷ answered_by 6 R.Empty looked_at_both_ends ∷ []))
     -- after it was closed, something came, or it was open again
-    × IsTrue (list_all (fails_at is_gone_after_closed) (answered_by 3 R.Empty closed_then_tried ∷ answered_by 4 R.No closed_then_tried ∷ []))
+    × IsTrue (list_all (fails_at is_gone_after_closed)
+    (answered_by 3 R.Empty closed_then_tried ∷ answered_by 4 R.No closed_then_tried ∷ []))
     -- a send is accepted though the receiver was gone
     × IsTrue (fails_at is_refused_after_closed (answered_by 4 R.Sent sent_though_closed))
     -- "nothing yet" though the message was there, or the sender gone
-    × IsTrue (list_all (fails_at is_nothing_only_if_open) (answered_by 5 R.Empty sent_then_taken ∷ answered_by 2 R.Empty dropped_then_tried ∷ []))
+    × IsTrue (list_all (fails_at is_nothing_only_if_open)
+    (answered_by 5 R.Empty sent_then_taken ∷ answered_by 2 R.Empty dropped_then_tried ∷ []))
     -- an unread message is dropped never, or twice
-    × IsTrue (list_all (fails_at is_dropped_once) (unmoved_by 4 dropped_unread ∷ moved_by 5 P.InCell P.Dropped dropped_unread ∷ []))
+    × IsTrue (list_all (fails_at is_dropped_once)
+    (unmoved_by 4 dropped_unread ∷ moved_by 5 P.InCell P.Dropped dropped_unread ∷ []))
     -- or by the send
     × IsTrue (fails_at is_dropped_once (moved_by 2 P.InCell P.Dropped (unmoved_by 4 dropped_unread)))
 

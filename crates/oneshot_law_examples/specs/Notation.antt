@@ -148,7 +148,13 @@ finding_at k word x = changed_at k (λ e. record e { before = Some word }) x
 
 abbrev pub operating_at : ℕ → Op → ℕ → ℕ → Example → Example
 operating_at k op before after x =
-    changed_at k (λ e. record e { step = T.Word op; seen = seen_at (T.Word op) (Some before); before = Some before; after = Some after }) x
+    changed_at k (λ e.
+    record e {
+      step = T.Word op;
+      seen = seen_at (T.Word op) (Some before);
+      before = Some before;
+      after = Some after;
+    }) x
 
 abbrev pub answered_by : ℕ → Reply → Example → Example
 answered_by k reply x = changed_at k (replying reply) x

@@ -1,4 +1,5 @@
--- What the definition of an unwoken receiver says of a future, and of polls that leave their task without a wake. The checker computes all of it.
+-- What the definition of an unwoken receiver says of a future, and of polls that leave their task without a
+-- wake. The checker computes all of it.
 use Rattle.std.specs.Prelude.{not, ◌&&◌, [], ◌∷◌, ◌++◌, take, replicate, IsTrue}
 use Rattle.std.specs.List.{list_all}
 use Rattle.oneshot_machine.specs.declared.machine.Reply.TheVariants as R
@@ -43,7 +44,8 @@ wakes_nobody =
 abbrev pub wakes_another : Example
 wakes_another = changed_at 11 (waking_own 1) polled_while_finishing
 
--- A `try_recv` that finds nothing takes the stored waker back, as a poll does, and drops it. The sender then finds nobody to wake.
+-- A `try_recv` that finds nothing takes the stored waker back, as a poll does, and drops it. The sender then
+-- finds nobody to wake.
 abbrev pub withdrawn_by_a_try : Example
 withdrawn_by_a_try =
     record tried_while_pending {

@@ -1,4 +1,5 @@
--- What the history, the freeing, the wakers and the replies are in worked traces of calls with a deadline, and in the same traces damaged. The checker computes all of it.
+-- What the history, the freeing, the wakers and the replies are in worked traces of calls with a deadline,
+-- and in the same traces damaged. The checker computes all of it.
 use Rattle.std.specs.Prelude.{◌≡◌, true, not, map, List, [], ◌∷◌, ◌++◌, Some, None, IsTrue}
 use Rattle.std.specs.List.{list_all}
 use Rattle.oneshot_machine.specs.declared.machine.Reply.{Reply}
@@ -89,7 +90,8 @@ received_by calls x = record x { calls = record x.calls { receiver = calls } }
 -- a receive with a timeout gets the message, and the next one replies so
 abbrev pub received_in_time_then : Reply → Example
 received_in_time_then reply =
-    received_by (C.Of_receiver (RC.RecvTimeout true) ∷ C.Of_receiver (RC.RecvTimeout true) ∷ []) (record sent_before_its_deadline {
+    received_by (C.Of_receiver (RC.RecvTimeout true) ∷ C.Of_receiver (RC.RecvTimeout true) ∷ [])
+    (record sent_before_its_deadline {
       entries = sent_before_its_deadline.entries ++ E.Made (replying reply (receiver (T.Word O.Load) 2 2)) ∷ [];
     })
 
@@ -100,16 +102,24 @@ WrongTimeouts =
     -- a receive that has the message is followed by one that runs out
     × IsTrue (fails_at is_gone_after_got
     (record sent_before_its_deadline {
-      calls = record sent_before_its_deadline.calls { receiver = sent_before_its_deadline.calls.receiver ++ sent_before_its_deadline.calls.receiver };
+      calls = record sent_before_its_deadline.calls {
+        receiver = sent_before_its_deadline.calls.receiver ++ sent_before_its_deadline.calls.receiver;
+      };
       entries = sent_before_its_deadline.entries ++ E.Made (replying R.Timeout (receiver (T.Word O.Load) 2 2)) ∷ [];
     }))
     -- the same of a receive with a timeout
     × IsTrue (list_all (fails_at is_gone_after_got) (map received_in_time_then (R.Empty ∷ R.Timeout ∷ R.Message ∷ [])))
     -- or that says that nothing was there after it was seen, or after the channel was closed
-    × IsTrue (fails_at is_got_after_full (answered_by 6 R.Timeout (received_by (C.Of_receiver RC.IsClosed ∷ C.Of_receiver RC.HasMessage ∷ C.Of_receiver RC.RecvDeadline ∷ C.Of_receiver RC.IsClosed ∷ []) looked_at_both_ends)))
-    × IsTrue (fails_at is_gone_after_closed (answered_by 3 R.Timeout (received_by (C.Of_receiver RC.IsClosed ∷ C.Of_receiver RC.RecvDeadline ∷ C.Of_receiver RC.IsClosed ∷ []) closed_then_tried)))
+    × IsTrue (fails_at is_got_after_full
+    (answered_by 6 R.Timeout (received_by
+    (C.Of_receiver RC.IsClosed ∷ C.Of_receiver RC.HasMessage ∷ C.Of_receiver RC.RecvDeadline
+    ∷ C.Of_receiver RC.IsClosed ∷ []) looked_at_both_ends))) × IsTrue (fails_at is_gone_after_closed
+    (answered_by 3 R.Timeout (received_by
+    (C.Of_receiver RC.IsClosed ∷ C.Of_receiver RC.RecvDeadline ∷ C.Of_receiver RC.IsClosed ∷ [])
+    closed_then_tried)))
     -- a call that was alone answers otherwise
     × IsTrue (list_all (λ x. not (are_lone_replies_right x))
     (answered_by 5 R.Timeout sent_before_its_deadline ∷ answered_by 10 R.Disconnected ran_out_then_taken ∷ []))
     -- the half is not taken back at the end of the wait
-    × IsTrue (not (are_wakers_right (uncarried_by 6 ran_out_then_dropped).entries (marks_in (uncarried_by 6 ran_out_then_dropped))))
+    × IsTrue (not (are_wakers_right (uncarried_by 6 ran_out_then_dropped).entries
+    (marks_in (uncarried_by 6 ran_out_then_dropped))))

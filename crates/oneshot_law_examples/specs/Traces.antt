@@ -19,7 +19,11 @@ use Rattle.oneshot_law_examples.specs.Notation.{Example, sender, receiver, frees
 abbrev pub sent_then_taken : Example
 sent_then_taken =
     record {
-      calls = record { sender = C.Of_sender SC.Send ∷ []; error = []; receiver = C.Of_receiver RC.TryRecv ∷ C.Of_receiver RC.Drop ∷ [] };
+      calls = record {
+        sender = C.Of_sender SC.Send ∷ [];
+        error = [];
+        receiver = C.Of_receiver RC.TryRecv ∷ C.Of_receiver RC.Drop ∷ [];
+      };
       entries =
           E.Made (moving P.NotSent P.InCell (sender T.WriteMessage 3 3))
           ∷ E.Made (replying R.Sent (sender (T.Word O.Add) 3 4))
@@ -81,7 +85,11 @@ both_dropped =
 abbrev pub dropped_then_tried : Example
 dropped_then_tried =
     record {
-      calls = record { sender = C.Of_sender SC.Drop ∷ []; error = []; receiver = C.Of_receiver RC.TryRecv ∷ C.Of_receiver RC.Drop ∷ [] };
+      calls = record {
+        sender = C.Of_sender SC.Drop ∷ [];
+        error = [];
+        receiver = C.Of_receiver RC.TryRecv ∷ C.Of_receiver RC.Drop ∷ [];
+      };
       entries =
           E.Made (replying R.Done (sender (T.Word O.Xor) 3 2))
           ∷ E.Made (replying R.Disconnected (receiver (T.Word O.Load) 2 2))
@@ -100,7 +108,9 @@ looked_at_both_ends =
           record {
             sender = C.Of_sender SC.IsClosed ∷ C.Of_sender SC.Send ∷ [];
             error = [];
-            receiver = C.Of_receiver RC.IsClosed ∷ C.Of_receiver RC.HasMessage ∷ C.Of_receiver RC.TryRecv ∷ C.Of_receiver RC.IsClosed ∷ [];
+            receiver =
+                C.Of_receiver RC.IsClosed ∷ C.Of_receiver RC.HasMessage ∷ C.Of_receiver RC.TryRecv
+                ∷ C.Of_receiver RC.IsClosed ∷ [];
           };
       entries =
           E.Made (replying R.No (sender (T.Word O.Load) 3 3))
@@ -122,7 +132,12 @@ abbrev pub taken_from_the_error : Example
 taken_from_the_error =
     record {
       calls =
-          record { sender = C.Of_sender SC.Send ∷ []; error = C.Of_sender SC.AsInner ∷ C.Of_sender SC.IntoInner ∷ []; receiver = C.Of_receiver RC.Drop ∷ [] };
+          record {
+            sender = C.Of_sender SC.Send ∷ [];
+            error = C.Of_sender SC.AsInner ∷ C.Of_sender SC.IntoInner
+                ∷ [];
+            receiver = C.Of_receiver RC.Drop ∷ [];
+          };
       entries =
           E.Made (replying R.Done (receiver (T.Word (O.Swap 2)) 3 2))
           ∷ E.Made (moving P.NotSent P.InCell (sender T.WriteMessage 2 2))
@@ -140,7 +155,12 @@ taken_from_the_error =
 abbrev pub dropped_with_the_error : Example
 dropped_with_the_error =
     record {
-      calls = record { sender = C.Of_sender SC.Send ∷ []; error = C.Of_sender SC.DropError ∷ []; receiver = C.Of_receiver RC.Drop ∷ [] };
+      calls = record {
+        sender = C.Of_sender SC.Send ∷ [];
+        error = C.Of_sender SC.DropError
+            ∷ [];
+        receiver = C.Of_receiver RC.Drop ∷ [];
+      };
       entries =
           E.Made (replying R.Done (receiver (T.Word (O.Swap 2)) 3 2))
           ∷ E.Made (moving P.NotSent P.InCell (sender T.WriteMessage 2 2))
@@ -172,7 +192,11 @@ dropped_unread =
 abbrev pub tried_again : Example
 tried_again =
     record {
-      calls = record { sender = C.Of_sender SC.Send ∷ []; error = []; receiver = C.Of_receiver RC.TryRecv ∷ C.Of_receiver RC.TryRecv ∷ [] };
+      calls = record {
+        sender = C.Of_sender SC.Send ∷ [];
+        error = [];
+        receiver = C.Of_receiver RC.TryRecv ∷ C.Of_receiver RC.TryRecv ∷ [];
+      };
       entries =
           E.Made (moving P.NotSent P.InCell (sender T.WriteMessage 3 3))
           ∷ E.Made (replying R.Sent (sender (T.Word O.Add) 3 4))
@@ -210,7 +234,12 @@ abbrev pub sent_though_closed : Example
 sent_though_closed =
     record {
       calls =
-          record { sender = C.Of_sender SC.IsClosed ∷ C.Of_sender SC.Send ∷ []; error = []; receiver = C.Of_receiver RC.Drop ∷ [] };
+          record {
+            sender = C.Of_sender SC.IsClosed ∷ C.Of_sender SC.Send
+                ∷ [];
+            error = [];
+            receiver = C.Of_receiver RC.Drop ∷ [];
+          };
       entries =
           E.Made (replying R.Done (receiver (T.Word (O.Swap 2)) 3 2))
           ∷ E.Made (replying R.Yes (sender (T.Word O.Load) 2 2))
@@ -303,7 +332,11 @@ dropped_before_waiting =
 abbrev pub woken_by_drop : Example
 woken_by_drop =
     record {
-      calls = record { sender = C.Of_sender SC.Drop ∷ []; error = []; receiver = C.Of_receiver RC.RecvRef ∷ C.Of_receiver RC.Drop ∷ [] };
+      calls = record {
+        sender = C.Of_sender SC.Drop ∷ [];
+        error = [];
+        receiver = C.Of_receiver RC.RecvRef ∷ C.Of_receiver RC.Drop ∷ [];
+      };
       entries =
           E.Made (receiver (T.Word O.Load) 3 3)
           ∷ E.Made (carrying Parker W.Hand W.Cell (receiver T.WriteWaker 3 3))
@@ -391,7 +424,11 @@ sent_at_its_deadline =
 abbrev pub ran_out_then_taken : Example
 ran_out_then_taken =
     record {
-      calls = record { sender = C.Of_sender SC.Send ∷ []; error = []; receiver = C.Of_receiver (RC.RecvTimeout true) ∷ C.Of_receiver RC.TryRecv ∷ [] };
+      calls = record {
+        sender = C.Of_sender SC.Send ∷ [];
+        error = [];
+        receiver = C.Of_receiver (RC.RecvTimeout true) ∷ C.Of_receiver RC.TryRecv ∷ [];
+      };
       entries =
           E.Made (clocked false 3)
           ∷ E.Made (receiver (T.Word O.Load) 3 3)
@@ -418,7 +455,12 @@ ran_out_then_taken =
 abbrev pub never_ran_out : Example
 never_ran_out =
     record {
-      calls = record { sender = C.Of_sender SC.Drop ∷ []; error = []; receiver = C.Of_receiver (RC.RecvTimeout false) ∷ [] };
+      calls = record {
+        sender = C.Of_sender SC.Drop ∷ [];
+        error = [];
+        receiver = C.Of_receiver (RC.RecvTimeout false)
+            ∷ [];
+      };
       entries =
           E.Made (clocked true 3)
           ∷ E.Made (receiver (T.Word O.Load) 3 3)
@@ -440,7 +482,11 @@ never_ran_out =
 abbrev pub ran_out_then_dropped : Example
 ran_out_then_dropped =
     record {
-      calls = record { sender = C.Of_sender SC.Drop ∷ []; error = []; receiver = C.Of_receiver RC.RecvDeadline ∷ C.Of_receiver RC.Drop ∷ [] };
+      calls = record {
+        sender = C.Of_sender SC.Drop ∷ [];
+        error = [];
+        receiver = C.Of_receiver RC.RecvDeadline ∷ C.Of_receiver RC.Drop ∷ [];
+      };
       entries =
           E.Made (receiver (T.Word O.Load) 3 3)
           ∷ E.Made (carrying Parker W.Hand W.Cell (receiver T.WriteWaker 3 3))

@@ -1,4 +1,5 @@
--- What the definition of an unwoken receiver says of worked traces, and of a sender that wakes too soon or never. The checker computes all of it.
+-- What the definition of an unwoken receiver says of worked traces, and of a sender that wakes too soon or
+-- never. The checker computes all of it.
 use Rattle.std.specs.Prelude.{◌≡◌, ℕ, ◌+◌, Bool, true, false, not, ◌&&◌, List, [], ◌∷◌, ◌++◌, take, drop, replicate, Option, Some, None, IsTrue}
 use Rattle.oneshot_machine.specs.declared.machine.Reply.TheVariants as R
 use Rattle.oneshot_machine.specs.declared.machine.Step.TheVariants as T

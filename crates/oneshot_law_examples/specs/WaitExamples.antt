@@ -1,4 +1,5 @@
--- What the history, the freeing and the replies are in worked traces of calls that wait, and in the same traces damaged. The checker computes all of it.
+-- What the history, the freeing and the replies are in worked traces of calls that wait, and in the same
+-- traces damaged. The checker computes all of it.
 use Rattle.std.specs.Prelude.{◌≡◌, ℕ, ◌+◌, not, List, [], ◌∷◌, ◌++◌, take, Option, Some, None, IsTrue}
 use Rattle.std.specs.List.{list_all}
 use Rattle.oneshot_machine.specs.declared.machine.End.TheVariants.{Sender, Receiver}
@@ -87,7 +88,9 @@ IllegalWaits =
       entries = E.Made (replying R.Empty (receiver (T.Word O.Load) 3 3)) ∷ [];
     }
     -- after a `recv` the receiver has no other call
-    ∷ record received_at_once { entries = received_at_once.entries ++ E.Made (replying R.Disconnected (without_block Receiver T.Plain)) ∷ [] }
+    ∷ record received_at_once {
+      entries = received_at_once.entries ++ E.Made (replying R.Disconnected (without_block Receiver T.Plain)) ∷ [];
+    }
     ∷ []
     ))
 
@@ -108,11 +111,19 @@ MisfreedWaits =
     ∷ put_behind 6 3 dropped_before_waiting
     -- the sender frees too, after its wake or in its place
     ∷ record waited_for_message { entries = waited_for_message.entries ++ E.Made (without_block Sender T.Free) ∷ [] }
-    ∷ record waited_for_message { entries = take 13 waited_for_message.entries ++ E.Made (replying R.Sent (without_block Sender T.Free)) ∷ [] }
+    ∷ record waited_for_message {
+      entries = take 13 waited_for_message.entries ++ E.Made (replying R.Sent (without_block Sender T.Free)) ∷ [];
+    }
     -- the sender frees after its wake, while the receiver holds
-    ∷ record woken_by_drop { entries = take 6 woken_by_drop.entries ++ E.Made (setting_token (carrying Parker W.SenderHand W.Used (sender T.Wake 2 2))) ∷ E.Made (replying R.Done (frees Sender 2)) ∷ [] }
+    ∷ record woken_by_drop {
+      entries = take 6 woken_by_drop.entries
+          ++ E.Made (setting_token (carrying Parker W.SenderHand W.Used (sender T.Wake 2 2)))
+          ∷ E.Made (replying R.Done (frees Sender 2)) ∷ [];
+    }
     -- the receiver frees where the sender still holds
-    ∷ record waited_for_message { entries = take 8 waited_for_message.entries ++ E.Made (replying R.Disconnected (frees Receiver 1)) ∷ [] }
+    ∷ record waited_for_message {
+      entries = take 8 waited_for_message.entries ++ E.Made (replying R.Disconnected (frees Receiver 1)) ∷ [];
+    }
     -- neither end frees
     ∷ answered_by 12 R.Message (without 13 waited_for_message)
     ∷ answered_by 5 R.Disconnected (without 6 dropped_before_waiting)
@@ -125,14 +136,22 @@ MisfreedWaits =
 abbrev pub received_twice : Reply → Example
 received_twice reply =
     record {
-      calls = record { sender = C.Of_sender SC.Send ∷ []; error = []; receiver = C.Of_receiver RC.RecvRef ∷ C.Of_receiver RC.RecvRef ∷ [] };
+      calls = record {
+        sender = C.Of_sender SC.Send ∷ [];
+        error = [];
+        receiver = C.Of_receiver RC.RecvRef ∷ C.Of_receiver RC.RecvRef ∷ [];
+      };
       entries = sent_before_waiting.entries ++ E.Made (replying reply (receiver (T.Word O.Load) 2 2)) ∷ [];
     }
 
 abbrev pub closed_then_received : Reply → Example
 closed_then_received reply =
     record {
-      calls = record { sender = C.Of_sender SC.Drop ∷ []; error = []; receiver = C.Of_receiver RC.IsClosed ∷ C.Of_receiver RC.Recv ∷ [] };
+      calls = record {
+        sender = C.Of_sender SC.Drop ∷ [];
+        error = [];
+        receiver = C.Of_receiver RC.IsClosed ∷ C.Of_receiver RC.Recv ∷ [];
+      };
       entries =
           E.Made (replying R.Done (sender (T.Word O.Xor) 3 2))
           ∷ E.Made (replying R.Yes (receiver (T.Word O.Load) 2 2))
@@ -146,7 +165,8 @@ WrongReceives =
     IsTrue (list_all is_right (received_twice R.Disconnected ∷ closed_then_received R.Disconnected ∷ []))
     -- a receive answers otherwise after the message was got, or after it was closed
     × IsTrue (list_all (fails_at is_gone_after_got) (received_twice R.Message ∷ received_twice R.Empty ∷ []))
-    × IsTrue (list_all (fails_at is_gone_after_closed) (closed_then_received R.Message ∷ closed_then_received R.Empty ∷ []))
+    × IsTrue (list_all (fails_at is_gone_after_closed)
+    (closed_then_received R.Message ∷ closed_then_received R.Empty ∷ []))
     -- a call that was alone answers otherwise
     × IsTrue (list_all (λ x. not (are_lone_replies_right x))
     (answered_by 5 R.Empty received_at_once

@@ -1,4 +1,5 @@
--- What the definitions say of the wakers' moves in worked traces, and in the same traces damaged. The checker computes all of it.
+-- What the definitions say of the wakers' moves in worked traces, and in the same traces damaged. The checker
+-- computes all of it.
 use Rattle.std.specs.Prelude.{not, ◌&&◌, [], ◌∷◌, ◌++◌, IsTrue}
 use Rattle.std.specs.List.{list_all}
 use Rattle.oneshot_machine.specs.declared.machine.Step.TheVariants as T

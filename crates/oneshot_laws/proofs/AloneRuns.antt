@@ -70,14 +70,20 @@ claim ms Nobody = true
 claim ms (Of end o) = is_lone_call o end ms
 
 -- a mark beside a call that began before
-going_on : (same begins ended : Bool) (own new : Lone) (right later : Lone → Bool) → (not (begins && same) && only_if ended (right (if begins then new else (if same then own else Nobody)))) ≡ true → later (if ended then Nobody else (if begins then new else (if same then own else Nobody))) ≡ true → (not same || (if ended then right own else later own)) ≡ true
+going_on : (same begins ended : Bool) (own new : Lone) (right later : Lone → Bool)
+    → (not (begins && same) && only_if ended (right (if begins then new else (if same then own else Nobody)))) ≡ true
+    → later (if ended then Nobody else (if begins then new else (if same then own else Nobody))) ≡ true
+    → (not same || (if ended then right own else later own)) ≡ true
 going_on false begins ended own new right later h k = refl
 going_on true true ended own new right later h k = cc
 going_on true false true own new right later h k = h
 going_on true false false own new right later h k = k
 
 -- the mark with which a call begins
-beginning : (begins again ended x : Bool) (old new : Lone) (right later : Lone → Bool) → (not again && only_if ended (right (if begins then new else old))) ≡ true → later (if ended then Nobody else (if begins then new else old)) ≡ true → only_if begins (x || (if ended then right new else later new)) ≡ true
+beginning : (begins again ended x : Bool) (old new : Lone) (right later : Lone → Bool)
+    → (not again && only_if ended (right (if begins then new else old))) ≡ true
+    → later (if ended then Nobody else (if begins then new else old)) ≡ true
+    → only_if begins (x || (if ended then right new else later new)) ≡ true
 beginning false again ended x old new right later h k = refl
 beginning true again ended true old new right later h k = refl
 beginning true again true false old new right later h k = and_right (not again) (right new) h
@@ -87,14 +93,16 @@ lone_claim : (ms : List Mark) (lone : Lone) → Passes lone_law lone (map glance
 lone_claim ms Nobody p = refl
 lone_claim [] (Of end o) p = refl
 lone_claim (m ∷ ms) (Of end o) p =
-    going_on (is_same_end (side m) end) m.begins (ends m) (Of end o) (Of (side m) m.object) (answers_as (glance_of m)) (claim ms) p.0
+    going_on (is_same_end (side m) end) m.begins (ends m) (Of end o) (Of (side m) m.object) (answers_as (glance_of m))
+    (claim ms) p.0
     (lone_claim ms (lone_then (Of end o) (glance_of m)) p.1)
 
 lone_calls : (ms : List Mark) (lone : Lone) → Passes lone_law lone (map glance_of ms) → are_lone_calls_right ms ≡ true
 lone_calls [] lone p = refl
 lone_calls (m ∷ ms) lone p =
     both _ _
-    (beginning m.begins (m.begins && is_of (side m) lone) (ends m) (not (is_same_end (side m) (side m))) (still (side m) lone) (Of (side m) m.object) (answers_as (glance_of m)) (claim ms) p.0
+    (beginning m.begins (m.begins && is_of (side m) lone) (ends m) (not (is_same_end (side m) (side m)))
+    (still (side m) lone) (Of (side m) m.object) (answers_as (glance_of m)) (claim ms) p.0
     (lone_claim ms (lone_then lone (glance_of m)) p.1))
     (lone_calls ms _ p.1)
 
@@ -105,4 +113,5 @@ explored : LawExplored lone_law
 explored = record { found = all_glanced lone_law; all = refl }
 
 pub lone_calls_right : {T : Type 0} → EachRun T are_lone_calls_right
-lone_calls_right = holds_by lone_law nameless (passed lone_law refl explored) are_lone_calls_right (λ place ms. lone_calls ms Nobody)
+lone_calls_right =
+    holds_by lone_law nameless (passed lone_law refl explored) are_lone_calls_right (λ place ms. lone_calls ms Nobody)

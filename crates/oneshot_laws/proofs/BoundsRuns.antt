@@ -1,4 +1,5 @@
--- Each call makes no more operations on the word than its bound: the reader counts down, for each end, what its call has left.
+-- Each call makes no more operations on the word than its bound: the reader counts down, for each end, what
+-- its call has left.
 use Rattle.std.proofs.Common.{◌≡◌, ℕ, zero, suc, Bool, true, false, not, ◌&&◌, ◌||◌, List, [], ◌∷◌, map, Option, Some, None, refl, ◌∙◌, ap, if◌then◌else◌}
 use Rattle.oneshot_machine.specs.declared.machine.End.{End}
 use Rattle.oneshot_machine.specs.declared.machine.End.TheVariants.{Sender, Receiver}
@@ -108,7 +109,8 @@ abbrev budget_law : Law Budget
 budget_law =
     record {
       coding =
-          by_parts (λ x. (x.sender, x.receiver)) (λ p. record { sender = p.0; receiver = p.1 }) (λ x. refl) (pairs lefts lefts);
+          by_parts (λ x. (x.sender, x.receiver)) (λ p. record { sender = p.0; receiver = p.1 }) (λ x. refl)
+          (pairs lefts lefts);
       passes = goes_on_within;
       sees = budget_then;
       names = no_names;
@@ -116,10 +118,12 @@ budget_law =
     }
 
 -- one more mark of a call
-pub pay : (test : Mark → Bool) (n : ℕ) (m : Mark) (later : List Mark) → can n (test m) ≡ true → at_most (spend n (test m)) test later ≡ true → at_most n test (m ∷ later) ≡ true
+pub pay : (test : Mark → Bool) (n : ℕ) (m : Mark) (later : List Mark) → can n (test m) ≡ true
+    → at_most (spend n (test m)) test later ≡ true → at_most n test (m ∷ later) ≡ true
 pay test zero m later h k = both (not (test m)) _ h k
 pay test (suc n) m later h k =
-    elim (test m) as (λ b. at_most (if b then n else suc n) test later ≡ true → (if b then at_most n test later else at_most (suc n) test later) ≡ true) [
+    elim (test m) as (λ b. at_most (if b then n else suc n) test later ≡ true
+    → (if b then at_most n test later else at_most (suc n) test later) ≡ true) [
       | true ↦ λ k. k
       | false ↦ λ k. k
     ] k
@@ -138,38 +142,57 @@ stands (Counted n) own = at_most n operates own
 pub no_more : (n : ℕ) (test : Mark → Bool) → at_most n test [] ≡ true
 no_more n test = refl
 
-covered : (left : Left) (m : Mark) (later : List Mark) → may_make left m.entry ≡ true → stands (until_reply m.entry.reply (spent left m.entry) Resting) later ≡ true → covers left (m ∷ until_reply m.entry.reply later []) ≡ true
+covered : (left : Left) (m : Mark) (later : List Mark) → may_make left m.entry ≡ true
+    → stands (until_reply m.entry.reply (spent left m.entry) Resting) later ≡ true
+    → covers left (m ∷ until_reply m.entry.reply later []) ≡ true
 covered Resting m later h k = refl
 covered Unbounded m later h k = refl
 covered (Counted n) m later h k =
-    elim m.entry.reply as (λ a. stands (until_reply a (Counted (spend n (operates m))) Resting) later ≡ true → at_most n operates (m ∷ until_reply a later []) ≡ true) [
+    elim m.entry.reply as (λ a. stands (until_reply a (Counted (spend n (operates m))) Resting) later ≡ true → at_most n
+    operates (m ∷ until_reply a later []) ≡ true) [
       | None ↦ λ k. pay operates n m later h k
       | Some r ↦ λ k. pay operates n m [] h (no_more (spend n (operates m)) operates)
     ] k
 
-stood : (left : Left) (m : Mark) (later : List Mark) → covers (under_way m.call left) (m ∷ later) ≡ true → stands left (m ∷ later) ≡ true
+stood : (left : Left) (m : Mark) (later : List Mark) → covers (under_way m.call left) (m ∷ later) ≡ true
+    → stands left (m ∷ later) ≡ true
 stood Resting m later h = h
 stood Unbounded m later h = refl
 stood (Counted n) m later h = h
 
 -- a mark of this end's call
-here : (end : End) (m : Mark) (ms : List Mark) (x : Budget) → fits (left_by end x) m.begins m.call m.entry ≡ true → stands (left_by end (left_at end (left_then (left_by end x) m.call m.entry) x)) (call_marks end ms) ≡ true → covers (under_way m.call (left_by end x)) (elim (is_same_end end end) as (λ _. List Mark) [ true ↦ m ∷ until_reply m.entry.reply (call_marks end ms) [] | false ↦ call_marks end ms ]) ≡ true
-here Sender m ms x h k = covered (under_way m.call x.sender) m (call_marks Sender ms) (and_right (is_same_flag m.begins (is_resting x.sender)) _ h) k
-here Receiver m ms x h k = covered (under_way m.call x.receiver) m (call_marks Receiver ms) (and_right (is_same_flag m.begins (is_resting x.receiver)) _ h) k
+here : (end : End) (m : Mark) (ms : List Mark) (x : Budget) → fits (left_by end x) m.begins m.call m.entry ≡ true
+    → stands (left_by end (left_at end (left_then (left_by end x) m.call m.entry) x)) (call_marks end ms) ≡ true
+    → covers (under_way m.call (left_by end x))
+    (elim (is_same_end end end) as (λ _. List Mark)
+    [ true ↦ m ∷ until_reply m.entry.reply (call_marks end ms) [] | false ↦ call_marks end ms ]) ≡ true
+here Sender m ms x h k =
+    covered (under_way m.call x.sender) m (call_marks Sender ms)
+    (and_right (is_same_flag m.begins (is_resting x.sender)) _ h) k
+here Receiver m ms x h k =
+    covered (under_way m.call x.receiver) m (call_marks Receiver ms)
+    (and_right (is_same_flag m.begins (is_resting x.receiver)) _ h) k
 
 -- a mark of either end, for the call of this one
-either : (mover end : End) (m : Mark) (ms : List Mark) (x : Budget) → fits (left_by mover x) m.begins m.call m.entry ≡ true → stands (left_by end (left_at mover (left_then (left_by mover x) m.call m.entry) x)) (call_marks end ms) ≡ true → stands (left_by end x) (elim (is_same_end mover end) as (λ _. List Mark) [ true ↦ m ∷ until_reply m.entry.reply (call_marks end ms) [] | false ↦ call_marks end ms ]) ≡ true
-either Sender Sender m ms x h k = stood x.sender m (until_reply m.entry.reply (call_marks Sender ms) []) (here Sender m ms x h k)
+either : (mover end : End) (m : Mark) (ms : List Mark) (x : Budget)
+    → fits (left_by mover x) m.begins m.call m.entry ≡ true
+    → stands (left_by end (left_at mover (left_then (left_by mover x) m.call m.entry) x)) (call_marks end ms) ≡ true
+    → stands (left_by end x) (elim (is_same_end mover end) as (λ _. List Mark)
+    [ true ↦ m ∷ until_reply m.entry.reply (call_marks end ms) [] | false ↦ call_marks end ms ]) ≡ true
+either Sender Sender m ms x h k =
+    stood x.sender m (until_reply m.entry.reply (call_marks Sender ms) []) (here Sender m ms x h k)
 either Sender Receiver m ms x h k = k
 either Receiver Sender m ms x h k = k
-either Receiver Receiver m ms x h k = stood x.receiver m (until_reply m.entry.reply (call_marks Receiver ms) []) (here Receiver m ms x h k)
+either Receiver Receiver m ms x h k =
+    stood x.receiver m (until_reply m.entry.reply (call_marks Receiver ms) []) (here Receiver m ms x h k)
 
 nothing_left : (left : Left) → stands left [] ≡ true
 nothing_left Resting = refl
 nothing_left Unbounded = refl
 nothing_left (Counted n) = refl
 
-claims : (ms : List Mark) (x : Budget) (end : End) → Passes budget_law x (map glance_of ms) → stands (left_by end x) (call_marks end ms) ≡ true
+claims : (ms : List Mark) (x : Budget) (end : End) → Passes budget_law x (map glance_of ms)
+    → stands (left_by end x) (call_marks end ms) ≡ true
 claims [] x Sender p = nothing_left x.sender
 claims [] x Receiver p = nothing_left x.receiver
 claims (m ∷ ms) x end p = either m.entry.side end m ms x p.0 (claims ms (budget_then x (glance_of m)) end p.1)
@@ -184,17 +207,24 @@ within (Of_receiver RC.DropAsync) own h = h
 within (Poll number) own h = h
 within _ own h = refl
 
-begins_at_rest : (begins : Bool) (call : Call) (left : Left) (own : List Mark) → is_same_flag begins (is_resting left) ≡ true → covers (under_way call left) own ≡ true → (not begins || is_within_its_bound call own) ≡ true
+begins_at_rest : (begins : Bool) (call : Call) (left : Left) (own : List Mark)
+    → is_same_flag begins (is_resting left) ≡ true → covers (under_way call left) own ≡ true
+    → (not begins || is_within_its_bound call own) ≡ true
 begins_at_rest false call left own h k = refl
 begins_at_rest true call Resting own h k = within call own k
 begins_at_rest true call Unbounded own h k = cc
 begins_at_rest true call (Counted n) own h k = cc
 
-first_mark : (end : End) (m : Mark) (ms : List Mark) (x : Budget) → fits (left_by end x) m.begins m.call m.entry ≡ true → stands (left_by end (left_at end (left_then (left_by end x) m.call m.entry) x)) (call_marks end ms) ≡ true → (not m.begins || is_bounded (elim (is_same_end end end) as (λ _. List Mark) [ true ↦ m ∷ until_reply m.entry.reply (call_marks end ms) [] | false ↦ call_marks end ms ])) ≡ true
+first_mark : (end : End) (m : Mark) (ms : List Mark) (x : Budget) → fits (left_by end x) m.begins m.call m.entry ≡ true
+    → stands (left_by end (left_at end (left_then (left_by end x) m.call m.entry) x)) (call_marks end ms) ≡ true
+    → (not m.begins || is_bounded (elim (is_same_end end end) as (λ _. List Mark)
+    [ true ↦ m ∷ until_reply m.entry.reply (call_marks end ms) [] | false ↦ call_marks end ms ])) ≡ true
 first_mark Sender m ms x h k =
-    begins_at_rest m.begins m.call x.sender (m ∷ until_reply m.entry.reply (call_marks Sender ms) []) (and_left _ _ h) (here Sender m ms x h k)
+    begins_at_rest m.begins m.call x.sender (m ∷ until_reply m.entry.reply (call_marks Sender ms) []) (and_left _ _ h)
+    (here Sender m ms x h k)
 first_mark Receiver m ms x h k =
-    begins_at_rest m.begins m.call x.receiver (m ∷ until_reply m.entry.reply (call_marks Receiver ms) []) (and_left _ _ h) (here Receiver m ms x h k)
+    begins_at_rest m.begins m.call x.receiver (m ∷ until_reply m.entry.reply (call_marks Receiver ms) [])
+    (and_left _ _ h) (here Receiver m ms x h k)
 
 each : (ms : List Mark) (x : Budget) → Passes budget_law x (map glance_of ms) → are_calls_bounded ms ≡ true
 each [] x p = refl
@@ -220,12 +250,14 @@ module _ (k : Classes) where
   under_as call Unbounded = refl
   under_as call (Counted n) = refl
 
-  fits_as : (left : Left) (begins : Bool) (call : Call) (e : Made) → fits left begins (as_call k call) (as_made k e) ≡ fits left begins call e
+  fits_as : (left : Left) (begins : Bool) (call : Call) (e : Made)
+      → fits left begins (as_call k call) (as_made k e) ≡ fits left begins call e
   fits_as left begins call e =
       ap (λ l. is_same_flag begins (is_resting left) && may_make l (as_made k e)) (under_as call left)
       ∙ ap (λ b. is_same_flag begins (is_resting left) && b) (may_as (under_way call left) e)
 
-  then_as : (left : Left) (call : Call) (e : Made) → left_then left (as_call k call) (as_made k e) ≡ left_then left call e
+  then_as : (left : Left) (call : Call) (e : Made)
+      → left_then left (as_call k call) (as_made k e) ≡ left_then left call e
   then_as left call e =
       ap (λ l. until_reply e.reply (spent l (as_made k e)) Resting) (under_as call left)
       ∙ ap (λ l. until_reply e.reply l Resting) (spent_as (under_way call left) e)
@@ -242,4 +274,5 @@ explored : LawExplored budget_law
 explored = record { found = all_glanced budget_law; all = refl }
 
 pub calls_bounded : {T : Type 0} → EachRun T are_calls_bounded
-calls_bounded = holds_by budget_law nameless (passed budget_law refl explored) are_calls_bounded (λ place ms. each ms at_rest)
+calls_bounded =
+    holds_by budget_law nameless (passed budget_law refl explored) are_calls_bounded (λ place ms. each ms at_rest)

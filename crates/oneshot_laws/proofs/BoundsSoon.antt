@@ -1,4 +1,5 @@
--- Once the sender made its last operation on the word, each call of the receiver answers soon: the reader counts down what the receiver's call has left.
+-- Once the sender made its last operation on the word, each call of the receiver answers soon: the reader
+-- counts down what the receiver's call has left.
 use Rattle.std.proofs.Common.{◌≡◌, ℕ, zero, suc, Bool, true, false, not, ◌&&◌, ◌||◌, List, [], ◌∷◌, map, Some, None, refl, ap, subst, if◌then◌else◌}
 use Rattle.oneshot_machine.specs.declared.machine.End.{End}
 use Rattle.oneshot_machine.specs.declared.machine.End.TheVariants.{Sender, Receiver}
@@ -25,7 +26,9 @@ whole over = record { over = over; operations = 2; moves = 6 }
 
 abbrev spent : Rest → Made → Rest
 spent x e =
-    until_reply e.reply (record { over = true; operations = spend x.operations (is_word e.step); moves = spend x.moves true }) (whole true)
+    until_reply e.reply
+    (record { over = true; operations = spend x.operations (is_word e.step); moves = spend x.moves true })
+    (whole true)
 
 abbrev rest_at : End → Made → Rest → Rest
 rest_at Sender e x = elim x.over [ true ↦ x | false ↦ whole (finishes e) ]
@@ -51,7 +54,8 @@ abbrev rest_law : Law Rest
 rest_law =
     record {
       coding =
-          by_parts (λ x. (x.over, (x.operations, x.moves))) (λ p. record { over = p.0; operations = p.1.0; moves = p.1.1 }) (λ x. refl)
+          by_parts (λ x. (x.over, (x.operations, x.moves)))
+          (λ p. record { over = p.0; operations = p.1.0; moves = p.1.1 }) (λ x. refl)
           (pairs flags (pairs (numbers_below 3) (numbers_below 7)));
       passes = goes_on_soon;
       sees = rest_then;
@@ -60,16 +64,19 @@ rest_law =
     }
 
 -- at most so many, and so at most more
-more : (test : Mark → Bool) (n k : ℕ) (ms : List Mark) → less n k ≡ true → at_most n test ms ≡ true → at_most k test ms ≡ true
+more : (test : Mark → Bool) (n k : ℕ) (ms : List Mark) → less n k ≡ true → at_most n test ms ≡ true
+    → at_most k test ms ≡ true
 more test n k [] l h = refl
 more test zero zero (m ∷ ms) l h = h
 more test zero (suc k) (m ∷ ms) l h =
-    elim (test m) as (λ b. (not b && at_most zero test ms) ≡ true → (if b then at_most k test ms else at_most (suc k) test ms) ≡ true) [
+    elim (test m) as (λ b. (not b && at_most zero test ms) ≡ true
+    → (if b then at_most k test ms else at_most (suc k) test ms) ≡ true) [
       | true ↦ λ h. cc
       | false ↦ λ h. more test zero (suc k) ms refl h
     ] h
 more test (suc n) (suc k) (m ∷ ms) l h =
-    elim (test m) as (λ b. (if b then at_most n test ms else at_most (suc n) test ms) ≡ true → (if b then at_most k test ms else at_most (suc k) test ms) ≡ true) [
+    elim (test m) as (λ b. (if b then at_most n test ms else at_most (suc n) test ms) ≡ true
+    → (if b then at_most k test ms else at_most (suc k) test ms) ≡ true) [
       | true ↦ λ h. more test n k ms l h
       | false ↦ λ h. more test (suc n) (suc k) ms l h
     ] h
@@ -85,15 +92,23 @@ Within n k own = (at_most n operates own ≡ true) × (at_most k each_move own �
 abbrev Later : List Mark → Type 0
 Later ms = (n k : ℕ) → Passes rest_law (left n k) (map glance_of ms) → Within n k (call_marks Receiver ms)
 
-one_move : (end : End) (m : Mark) (ms : List Mark) (n k : ℕ) → Later ms → fits_at end m.entry (left n k) ≡ true → Passes rest_law (rest_at end m.entry (left n k)) (map glance_of ms) → Within n k (elim (is_same_end end Receiver) as (λ _. List Mark) [ true ↦ m ∷ until_reply m.entry.reply (call_marks Receiver ms) [] | false ↦ call_marks Receiver ms ])
+one_move : (end : End) (m : Mark) (ms : List Mark) (n k : ℕ) → Later ms → fits_at end m.entry (left n k) ≡ true
+    → Passes rest_law (rest_at end m.entry (left n k)) (map glance_of ms)
+    → Within n k (elim (is_same_end end Receiver) as (λ _. List Mark)
+    [ true ↦ m ∷ until_reply m.entry.reply (call_marks Receiver ms) [] | false ↦ call_marks Receiver ms ])
 one_move Sender m ms n k later h p = later n k p
 one_move Receiver m ms n k later h p =
     let operation = and_left _ _ h in
     let move = and_right (can n (operates m)) _ h in
-    elim m.entry.reply as (λ a. Passes rest_law (until_reply a (left (spend n (operates m)) (spend k true)) (whole true)) (map glance_of ms) → Within n k (m ∷ until_reply a (call_marks Receiver ms) [])) [
+    elim m.entry.reply as (λ a. Passes rest_law
+    (until_reply a (left (spend n (operates m)) (spend k true)) (whole true)) (map glance_of ms)
+    → Within n k (m ∷ until_reply a (call_marks Receiver ms) [])) [
       | None ↦ λ p.
-          let it = later (spend n (operates m)) (spend k true) p in
-          (pay operates n m (call_marks Receiver ms) operation it.0, pay each_move k m (call_marks Receiver ms) move it.1)
+          let it = later (spend n (operates m)) (spend k true) p in (
+            pay operates n m (call_marks Receiver ms) operation it.0,
+            pay each_move k m (call_marks Receiver ms) move
+                it.1,
+          )
       | Some r ↦ λ p. (
         pay operates n m [] operation (no_more (spend n (operates m)) operates),
         pay each_move k m [] move (no_more (spend k true) each_move),
@@ -108,7 +123,8 @@ own_marks (m ∷ ms) n k p =
 goes_to : (end : End) (e : Made) (n k : ℕ) → (a : ℕ × ℕ) × (rest_at end e (left n k) ≡ left a.0 a.1)
 goes_to Sender e n k = ((n, k), refl)
 goes_to Receiver e n k =
-    elim e.reply as (λ r. (a : ℕ × ℕ) × (until_reply r (left (spend n (is_word e.step)) (spend k true)) (whole true) ≡ left a.0 a.1)) [
+    elim e.reply as (λ r. (a : ℕ × ℕ)
+    × (until_reply r (left (spend n (is_word e.step)) (spend k true)) (whole true) ≡ left a.0 a.1)) [
       | None ↦ ((spend n (is_word e.step), spend k true), refl)
       | Some r ↦ ((2, 6), refl)
     ]
@@ -126,10 +142,12 @@ soon (m ∷ ms) n k p =
     (soon ms next.0.0 next.0.1 (subst (λ x. Passes rest_law x (map glance_of ms)) next.1 p.1))
 
 -- the sender's last operation
-last : (end : End) (e : Made) (x : Rest) (ms : List Mark) → (is_same_end end Sender && finishes e) ≡ true → fits_at end e x ≡ true → Passes rest_law (rest_at end e x) (map glance_of ms) → answers_soon ms ≡ true
+last : (end : End) (e : Made) (x : Rest) (ms : List Mark) → (is_same_end end Sender && finishes e) ≡ true
+    → fits_at end e x ≡ true → Passes rest_law (rest_at end e x) (map glance_of ms) → answers_soon ms ≡ true
 last Receiver e x ms l h p = cc
 last Sender e x ms l h p =
-    elim x.over as (λ o. not (o && finishes e) ≡ true → Passes rest_law (elim o as (λ _. Rest) [ true ↦ x | false ↦ whole (finishes e) ]) (map glance_of ms) → answers_soon ms ≡ true) [
+    elim x.over as (λ o. not (o && finishes e) ≡ true → Passes rest_law
+    (elim o as (λ _. Rest) [ true ↦ x | false ↦ whole (finishes e) ]) (map glance_of ms) → answers_soon ms ≡ true) [
       | true ↦ λ h p. cc (l, h)
       | false ↦ λ h p. soon ms 2 6 (subst (λ o. Passes rest_law (whole o) (map glance_of ms)) l p)
     ] h p
@@ -142,7 +160,8 @@ soon_after_last : (ms : List Mark) (x : Rest) → Passes rest_law x (map glance_
 soon_after_last [] x p = refl
 soon_after_last (m ∷ ms) x p =
     both _ _
-    (if_last (is_senders_last m) (answers_soon ms) (λ l. last m.entry.side m.entry x ms l (and_right (less x.operations 2 && less x.moves 6) _ p.0) p.1))
+    (if_last (is_senders_last m) (answers_soon ms)
+    (λ l. last m.entry.side m.entry x ms l (and_right (less x.operations 2 && less x.moves 6) _ p.0) p.1))
     (soon_after_last ms (rest_then x (glance_of m)) p.1)
 
 -- no name and no number is looked at
@@ -159,7 +178,8 @@ nameless : Nameless rest_law
 nameless =
     record {
       none = refl;
-      passes_same = λ k x g. ap (λ fits. less x.operations 2 && less x.moves 6 && fits) (fits_as k g.entry.side g.entry x);
+      passes_same =
+          λ k x g. ap (λ fits. less x.operations 2 && less x.moves 6 && fits) (fits_as k g.entry.side g.entry x);
       sees_same = λ k x g. rest_as k g.entry.side g.entry x;
     }
 
@@ -167,4 +187,6 @@ explored : LawExplored rest_law
 explored = record { found = all_glanced rest_law; all = refl }
 
 pub soon_answered : {T : Type 0} → EachRun T is_soon_answered
-soon_answered = holds_by rest_law nameless (passed rest_law refl explored) is_soon_answered (λ place ms. soon_after_last ms (whole false))
+soon_answered =
+    holds_by rest_law nameless (passed rest_law refl explored) is_soon_answered
+    (λ place ms. soon_after_last ms (whole false))

@@ -1,4 +1,5 @@
--- How the values of a type are told apart while the checker explores: by a code that sorts them, and a test which the same values alone pass.
+-- How the values of a type are told apart while the checker explores: by a code that sorts them, and a test
+-- which the same values alone pass.
 use Rattle.std.proofs.Common.{◌≡◌, ℕ, ◌+◌, ◌*◌, ◌==◌, Bool, true, false, ◌&&◌, List, [], ◌∷◌, Option, Some, None, refl, sym, ◌∙◌, ap, get_or}
 use Rattle.std.proofs.lemmas.Bool.{eqb-true}
 use Rattle.oneshot_machine.specs.declared.machine.End.{End}
@@ -22,7 +23,8 @@ pub record Coding (X : Type 0) : Type 0 where
   pub sound : (a b : X) → is_same a b ≡ true → a ≡ b
 
 -- values that stand in a list at their codes
-abbrev pub listed : {X : Type 0} (width : ℕ) (code : X → ℕ) (values : List X) (d : X) → ((x : X) → get_or values (code x) d ≡ x) → Coding X
+abbrev pub listed : {X : Type 0} (width : ℕ) (code : X → ℕ) (values : List X) (d : X)
+    → ((x : X) → get_or values (code x) d ≡ x) → Coding X
 listed width code values d back =
     record { width = width; code = code; is_same = λ a b. code a == code b; sound = same_by code values d back }
 
@@ -51,7 +53,8 @@ pairs c d =
     }
 
 -- a value by its parts, of which it is made again
-abbrev pub by_parts : {X Y : Type 0} (parts : X → Y) (whole : Y → X) → ((x : X) → whole (parts x) ≡ x) → Coding Y → Coding X
+abbrev pub by_parts : {X Y : Type 0} (parts : X → Y) (whole : Y → X) → ((x : X) → whole (parts x) ≡ x) → Coding Y
+    → Coding X
 by_parts parts whole back c =
     record {
       width = c.width;
@@ -93,7 +96,9 @@ abbrev pub both_ends : Coding End
 both_ends = listed 2 end_code (Sender ∷ Receiver ∷ []) Sender end_back
 
 abbrev all_replies : List Reply
-all_replies = R.Sent ∷ R.Refused ∷ R.Yes ∷ R.No ∷ R.Message ∷ R.Empty ∷ R.Timeout ∷ R.Disconnected ∷ R.Pending ∷ R.Future ∷ R.Done ∷ []
+all_replies =
+    R.Sent ∷ R.Refused ∷ R.Yes ∷ R.No ∷ R.Message ∷ R.Empty ∷ R.Timeout ∷ R.Disconnected ∷ R.Pending ∷ R.Future ∷ R.Done
+    ∷ []
 
 pub reply_back : (x : Reply) → get_or all_replies (reply_code x) R.Done ≡ x
 reply_back R.Sent = refl

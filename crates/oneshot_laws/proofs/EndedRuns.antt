@@ -1,4 +1,5 @@
--- Once both ends and the error have ended: a claim on what was told until then, for any way of keeping it and for any classes of names.
+-- Once both ends and the error have ended: a claim on what was told until then, for any way of keeping it and
+-- for any classes of names.
 use Rattle.std.proofs.Common.{◌≡◌, Bool, true, false, ◌&&◌, ◌||◌, List, [], ◌∷◌, Option, is_some, map, refl, ◌∙◌, ap, subst}
 use Rattle.oneshot_machine.specs.declared.machine.Reply.TheVariants as R
 use Rattle.oneshot_world.specs.Calls.{Call}
@@ -39,10 +40,13 @@ or_more false b c = refl
 abbrev pub is_over : Bool → Bool → Bool → Bool → Bool
 is_over sender receiver refused error = sender && receiver && only_if refused error
 
-over_now : (s r f e good : Bool) → only_if (is_over s r f e) good ≡ true → only_if (is_over (s || false) (r || false) (f || false) (e || false)) good ≡ true
+over_now : (s r f e good : Bool) → only_if (is_over s r f e) good ≡ true
+    → only_if (is_over (s || false) (r || false) (f || false) (e || false)) good ≡ true
 over_now s r f e good h = rw (or_false s, or_false r, or_false f, or_false e) h
 
-over_later : (s x s' r y r' f z f' e w e' good : Bool) → only_if (is_over ((s || x) || s') ((r || y) || r') ((f || z) || f') ((e || w) || e')) good ≡ true → only_if (is_over (s || (x || s')) (r || (y || r')) (f || (z || f')) (e || (w || e'))) good ≡ true
+over_later : (s x s' r y r' f z f' e w e' good : Bool)
+    → only_if (is_over ((s || x) || s') ((r || y) || r') ((f || z) || f') ((e || w) || e')) good ≡ true
+    → only_if (is_over (s || (x || s')) (r || (y || r')) (f || (z || f')) (e || (w || e'))) good ≡ true
 over_later s x s' r y r' f z f' e w e' good h = rw (or_more s x s', or_more r y r', or_more f z f', or_more e w e') h
 
 -- a law that asks nothing until the end
@@ -54,7 +58,8 @@ abbrev pub own_after : {X : Type 0} → (X → Glance → X) → X → List Glan
 own_after own_then own [] = own
 own_after own_then own (g ∷ gs) = own_after own_then (own_then own g) gs
 
--- A claim on what is kept at the end: `own_then` is how it is kept, `asks` a claim on what is told each time, and `good` the claim at the end.
+-- A claim on what is kept at the end: `own_then` is how it is kept, `asks` a claim on what is told each time,
+-- and `good` the claim at the end.
 pub record Ending (X : Type 0) : Type 0 where
   pub coding : Coding X
   pub own_then : X → Glance → X
@@ -90,7 +95,9 @@ module _ {X : Type 0} (ending : Ending X) where
   kept =
       record {
         coding =
-            by_parts (λ x. (x.sender, (x.receiver, (x.refused, (x.error, x.own))))) (λ p. record { sender = p.0; receiver = p.1.0; refused = p.1.1.0; error = p.1.1.1.0; own = p.1.1.1.1 }) (λ x. refl)
+            by_parts (λ x. (x.sender, (x.receiver, (x.refused, (x.error, x.own)))))
+            (λ p. record { sender = p.0; receiver = p.1.0; refused = p.1.1.0; error = p.1.1.1.0; own = p.1.1.1.1 })
+            (λ x. refl)
             (pairs flags (pairs flags (pairs flags (pairs flags ending.coding))));
         passes = λ x g. ending.asks x.own g && is_fine (kept_then x g);
         sees = kept_then;
@@ -114,13 +121,21 @@ module _ {X : Type 0} (ending : Ending X) where
     kept_as x g = of_call k (seen_then x g) (λ a b. refl) g.call
 
     abbrev IsFineAtEnd : List Mark → Kept X → Type 0
-    IsFineAtEnd ms x = only_if (is_over (x.sender || has_answered is_end_of_sender ms) (x.receiver || has_answered is_end_of_receiver ms) (x.refused || is_refused ms) (x.error || has_answered is_end_of_error ms)) (ending.good (own_after ending.own_then x.own (map (as_glance k) (map glance_of ms)))) ≡ true
+    IsFineAtEnd ms x =
+        only_if (is_over (x.sender || has_answered is_end_of_sender ms)
+        (x.receiver || has_answered is_end_of_receiver ms) (x.refused || is_refused ms)
+        (x.error || has_answered is_end_of_error ms))
+        (ending.good (own_after ending.own_then x.own (map (as_glance k) (map glance_of ms)))) ≡ true
 
-    fine_at_end : (ms : List Mark) (x : Kept X) → is_fine x ≡ true → Passes kept x (map (as_glance k) (map glance_of ms)) → IsFineAtEnd ms x
+    fine_at_end : (ms : List Mark) (x : Kept X) → is_fine x ≡ true
+        → Passes kept x (map (as_glance k) (map glance_of ms)) → IsFineAtEnd ms x
     fine_at_end [] x fine p = over_now x.sender x.receiver x.refused x.error _ fine
     fine_at_end (m ∷ ms) x fine p =
-        over_later x.sender _ (has_answered is_end_of_sender ms) x.receiver _ (has_answered is_end_of_receiver ms) x.refused _ (is_refused ms) x.error _ (has_answered is_end_of_error ms) _
-        (subst (IsFineAtEnd ms) (kept_as x (glance_of m)) (fine_at_end ms (kept_then x (as_glance k (glance_of m))) (and_right (ending.asks x.own (as_glance k (glance_of m))) _ p.0) p.1))
+        over_later x.sender _ (has_answered is_end_of_sender ms) x.receiver _ (has_answered is_end_of_receiver ms)
+        x.refused _ (is_refused ms) x.error _ (has_answered is_end_of_error ms) _
+        (subst (IsFineAtEnd ms) (kept_as x (glance_of m))
+        (fine_at_end ms (kept_then x (as_glance k (glance_of m)))
+        (and_right (ending.asks x.own (as_glance k (glance_of m))) _ p.0) p.1))
 
   -- each time, what is asked
   abbrev pub Asked : X → List Glance → Type 0
@@ -137,18 +152,25 @@ nothing_over good = refl
 -- the ending's law passes a run, as it is seen by classes
 abbrev pub PassesEnding : {X T : Type 0} → Ending X → Classes → SenderScript T → ReceiverScript → List Entry → Type 0
 PassesEnding ending k s r entries =
-    Passes (kept ending) (nothing_ended (ending.first (opening_place s.last))) (map (as_glance k) (map glance_of (marks (calls_of s r) entries)))
+    Passes (kept ending) (nothing_ended (ending.first (opening_place s.last)))
+    (map (as_glance k) (map glance_of (marks (calls_of s r) entries)))
 
-module _ {X T : Type 0} (ending : Ending X) (k : Classes) (s : SenderScript T) (r : ReceiverScript) (entries : List Entry) where
+module _ {X T : Type 0} (ending : Ending X) (k : Classes) (s : SenderScript T) (r : ReceiverScript)
+    (entries : List Entry) where
   -- each time what is asked, as the run is seen by classes
-  pub asked_run : PassesEnding ending k s r entries → Asked ending (ending.first (opening_place s.last)) (map (as_glance k) (map glance_of (marks (calls_of s r) entries)))
+  pub asked_run : PassesEnding ending k s r entries → Asked ending (ending.first (opening_place s.last))
+      (map (as_glance k) (map glance_of (marks (calls_of s r) entries)))
   asked_run p =
-      asked ending (map (as_glance k) (map glance_of (marks (calls_of s r) entries))) (nothing_ended (ending.first (opening_place s.last))) p
+      asked ending (map (as_glance k) (map glance_of (marks (calls_of s r) entries)))
+      (nothing_ended (ending.first (opening_place s.last))) p
 
   -- and at the end the claim
-  pub ended_run : PassesEnding ending k s r entries → only_if (all_ended (marks (calls_of s r) entries)) (ending.good (own_after ending.own_then (ending.first (opening_place s.last)) (map (as_glance k) (map glance_of (marks (calls_of s r) entries))))) ≡ true
+  pub ended_run : PassesEnding ending k s r entries → only_if (all_ended (marks (calls_of s r) entries))
+      (ending.good (own_after ending.own_then (ending.first (opening_place s.last))
+      (map (as_glance k) (map glance_of (marks (calls_of s r) entries))))) ≡ true
   ended_run p =
-      fine_at_end ending k (marks (calls_of s r) entries) (nothing_ended (ending.first (opening_place s.last))) (nothing_over (ending.good (ending.first (opening_place s.last)))) p
+      fine_at_end ending k (marks (calls_of s r) entries) (nothing_ended (ending.first (opening_place s.last)))
+      (nothing_over (ending.good (ending.first (opening_place s.last)))) p
 
 -- of an ending that looks at no name
 pub record EndingNameless {X : Type 0} (ending : Ending X) : Type 0 where
@@ -156,11 +178,19 @@ pub record EndingNameless {X : Type 0} (ending : Ending X) : Type 0 where
   pub own_same : (k : Classes) (own : X) (g : Glance) → ending.own_then own (as_glance k g) ≡ ending.own_then own g
 
 module _ {X : Type 0} (ending : Ending X) (nameless : EndingNameless ending) where
-  after_as : (k : Classes) (gs : List Glance) (own : X) → own_after ending.own_then own (map (as_glance k) gs) ≡ own_after ending.own_then own gs
+  after_as : (k : Classes) (gs : List Glance) (own : X)
+      → own_after ending.own_then own (map (as_glance k) gs) ≡ own_after ending.own_then own gs
   after_as k [] own = refl
-  after_as k (g ∷ gs) own = ap (λ own. own_after ending.own_then own (map (as_glance k) gs)) (nameless.own_same k own g) ∙ after_as k gs (ending.own_then own g)
+  after_as k (g ∷ gs) own =
+      ap (λ own. own_after ending.own_then own (map (as_glance k) gs)) (nameless.own_same k own g)
+      ∙ after_as k gs (ending.own_then own g)
 
-  pub at_the_end : {T : Type 0} → Passed (kept ending) T → (s : SenderScript T) (r : ReceiverScript) (worlds : List World) (moves : List Move) (entries : List Entry) → Tells (opening s r) worlds moves entries → only_if (all_ended (marks (calls_of s r) entries)) (ending.good (own_after ending.own_then (ending.first (opening_place s.last)) (map glance_of (marks (calls_of s r) entries)))) ≡ true
+  pub at_the_end : {T : Type 0} → Passed (kept ending) T
+      → (s : SenderScript T) (r : ReceiverScript) (worlds : List World) (moves : List Move) (entries : List Entry)
+      → Tells (opening s r) worlds moves entries → only_if (all_ended (marks (calls_of s r) entries))
+      (ending.good (own_after ending.own_then (ending.first (opening_place s.last))
+      (map glance_of (marks (calls_of s r) entries)))) ≡ true
   at_the_end each s r worlds moves entries tells =
-      subst (λ own. only_if (all_ended (marks (calls_of s r) entries)) (ending.good own) ≡ true) (after_as all_alike (map glance_of (marks (calls_of s r) entries)) (ending.first (opening_place s.last)))
+      subst (λ own. only_if (all_ended (marks (calls_of s r) entries)) (ending.good own) ≡ true)
+      (after_as all_alike (map glance_of (marks (calls_of s r) entries)) (ending.first (opening_place s.last)))
       (ended_run ending all_alike s r entries (each s r worlds moves entries tells))

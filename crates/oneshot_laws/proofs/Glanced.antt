@@ -1,4 +1,5 @@
--- A law's own reader, which goes through the glances at the marks, by classes of names: explored beside the machines and the reader of histories, for any such reader.
+-- A law's own reader, which goes through the glances at the marks, by classes of names: explored beside the
+-- machines and the reader of histories, for any such reader.
 use Rattle.std.proofs.Common.{◌≡◌, ℕ, Bool, true, ◌&&◌, List, [], ◌∷◌, map, Option, refl, sym, ◌∙◌, ap, subst}
 use Rattle.oneshot_machine.specs.declared.machine.End.{End}
 use Rattle.oneshot_machine.specs.declared.machine.End.TheVariants.{Sender, Receiver}
@@ -30,7 +31,8 @@ pub record Pair (N : Type 0) : Type 0 where
   pub reader : Reader
   pub state : N
 
--- A law as a reader of glances: whether it accepts what it sees next, and where it goes with it, both by classes; and where it begins, by the message's first place.
+-- A law as a reader of glances: whether it accepts what it sees next, and where it goes with it, both by
+-- classes; and where it begins, by the message's first place.
 pub record Law (N : Type 0) : Type 0 where
   pub coding : Coding N
   pub passes : N → Glance → Bool
@@ -47,15 +49,18 @@ Passes law n (g ∷ gs) = (law.passes n g ≡ true) × Passes law (law.sees n g)
 abbrev pub as_glance : Classes → Glance → Glance
 as_glance k g = record g { entry = as_made k g.entry; call = as_call k g.call }
 
-glance_as : (k : Classes) (call : Call) (e : Made) (o : Object) (x : Watch) → glance_at (as_call k call) (as_made k e) o x ≡ as_glance k (glance_at call e o x)
+glance_as : (k : Classes) (call : Call) (e : Made) (o : Object) (x : Watch)
+    → glance_at (as_call k call) (as_made k e) o x ≡ as_glance k (glance_at call e o x)
 glance_as k (Poll number) e o x =
-    ap (λ next. record (as_glance k (glance_at (Poll number) e o x)) { next = next }) (object_as k (hits Receives e x) number o)
+    ap (λ next. record (as_glance k (glance_at (Poll number) e o x)) { next = next })
+    (object_as k (hits Receives e x) number o)
 glance_as k (Of_sender SC.Send) e o x = refl
 glance_as k (Of_receiver RC.Recv) e o x = refl
 glance_as k _ e o x = refl
 
 -- what is said of a call and not of a poll's number
-pub of_call : {X : Type 0} (k : Classes) (f : Call → X) → ((a b : ℕ) → f (Poll a) ≡ f (Poll b)) → (call : Call) → f (as_call k call) ≡ f call
+pub of_call : {X : Type 0} (k : Classes) (f : Call → X) → ((a b : ℕ) → f (Poll a) ≡ f (Poll b)) → (call : Call)
+    → f (as_call k call) ≡ f call
 of_call k f same (Poll number) = same (k.polls number) number
 of_call k f same _ = refl
 
@@ -72,14 +77,19 @@ abbrev pub with_poll : ℕ → Glance → Glance
 with_poll number g = record g { call = Poll number }
 
 -- so it is where no name in an entry counts, and no number of a poll
-pub nameless_of : {N : Type 0} (law : Law N) → law.names ≡ no_names → ((k : Classes) (n : N) (g : Glance) → (law.passes n (entry_as k g) ≡ law.passes n g) × (law.sees n (entry_as k g) ≡ law.sees n g)) → ((n : N) (g : Glance) (a b : ℕ) → (law.passes n (with_poll a g) ≡ law.passes n (with_poll b g)) × (law.sees n (with_poll a g) ≡ law.sees n (with_poll b g))) → Nameless law
+pub nameless_of : {N : Type 0} (law : Law N) → law.names ≡ no_names → ((k : Classes) (n : N) (g : Glance)
+    → (law.passes n (entry_as k g) ≡ law.passes n g) × (law.sees n (entry_as k g) ≡ law.sees n g))
+    → ((n : N) (g : Glance) (a b : ℕ) → (law.passes n (with_poll a g) ≡ law.passes n (with_poll b g))
+    × (law.sees n (with_poll a g) ≡ law.sees n (with_poll b g))) → Nameless law
 nameless_of law none entries polls =
     record {
       none = none;
       passes_same = λ k n g.
-          of_call k (λ call. law.passes n (record (entry_as k g) { call = call })) (λ a b. (polls n (entry_as k g) a b).0) g.call ∙ (entries k n g).0;
+          of_call k (λ call. law.passes n (record (entry_as k g) { call = call }))
+          (λ a b. (polls n (entry_as k g) a b).0) g.call ∙ (entries k n g).0;
       sees_same = λ k n g.
-          of_call k (λ call. law.sees n (record (entry_as k g) { call = call })) (λ a b. (polls n (entry_as k g) a b).1) g.call ∙ (entries k n g).1;
+          of_call k (λ call. law.sees n (record (entry_as k g) { call = call })) (λ a b. (polls n (entry_as k g) a b).1)
+          g.call ∙ (entries k n g).1;
     }
 
 -- names by what the law knows
@@ -87,11 +97,13 @@ abbrev pub of_pairs : {N : Type 0} → Names N → Names (Pair N)
 of_pairs names = record { polls = names.polls; copies = λ x. names.copies x.state }
 
 module _ {N : Type 0} (law : Law N) where
-  pub passes_alike : Nameless law → (k : Classes) (gs : List Glance) (n : N) → Passes law n (map (as_glance k) gs) → Passes law n gs
+  pub passes_alike : Nameless law → (k : Classes) (gs : List Glance) (n : N) → Passes law n (map (as_glance k) gs)
+      → Passes law n gs
   passes_alike nameless k [] n p = tt
   passes_alike nameless k (g ∷ gs) n p = (
     sym (nameless.passes_same k n g) ∙ p.0,
-    passes_alike nameless k gs (law.sees n g) (subst (λ m. Passes law m (map (as_glance k) gs)) (nameless.sees_same k n g) p.1),
+    passes_alike nameless k gs (law.sees n g)
+        (subst (λ m. Passes law m (map (as_glance k) gs)) (nameless.sees_same k n g) p.1),
   )
 
   abbrev pub pair_accepts : End → Call → Made → Pair N → Bool
@@ -110,7 +122,8 @@ module _ {N : Type 0} (law : Law N) where
   with_history =
       record {
         coding =
-            by_parts (λ x. (x.reader, x.state)) (λ p. record { reader = p.0; state = p.1 }) (λ x. refl) (pairs readers law.coding);
+            by_parts (λ x. (x.reader, x.state)) (λ p. record { reader = p.0; state = p.1 }) (λ x. refl)
+            (pairs readers law.coding);
         accepts = pair_accepts;
         reads = pair_reads;
         names = of_pairs law.names;
@@ -119,21 +132,33 @@ module _ {N : Type 0} (law : Law N) where
 
   module _ (k : Classes) where
     -- what is seen of an entry by classes
-    seen_as : (side : End) (left : Unanswered) (e : Made) (m : Reader) → glance_at (class_under_way k left) (as_made k e) m.object (watch_at side m) ≡ as_glance k (glance_at (call_under_way left) e m.object (watch_at side m))
+    seen_as : (side : End) (left : Unanswered) (e : Made) (m : Reader)
+        → glance_at (class_under_way k left) (as_made k e) m.object (watch_at side m)
+        ≡ as_glance k (glance_at (call_under_way left) e m.object (watch_at side m))
     seen_as side left e m =
-        ap (λ call. glance_at call (as_made k e) m.object (watch_at side m)) (class_is k left) ∙ glance_as k (call_under_way left) e m.object (watch_at side m)
+        ap (λ call. glance_at call (as_made k e) m.object (watch_at side m)) (class_is k left)
+        ∙ glance_as k (call_under_way left) e m.object (watch_at side m)
 
-    read_as : (side : End) (left : Unanswered) (e : Made) (m : Reader) → reads side (class_under_way k left) (as_made k e) m ≡ reads side (call_under_way left) e m
+    read_as : (side : End) (left : Unanswered) (e : Made) (m : Reader)
+        → reads side (class_under_way k left) (as_made k e) m ≡ reads side (call_under_way left) e m
     read_as = reads_alike histories histories_nameless k
 
     -- what the pair accepts, the law accepts
-    pub glanced : (entries : List Entry) (x : Pair N) (s r : Unanswered) → Accepts_by with_history k x s r entries → Passes law x.state (map (as_glance k) (glances x.reader s r entries))
+    pub glanced : (entries : List Entry) (x : Pair N) (s r : Unanswered) → Accepts_by with_history k x s r entries
+        → Passes law x.state (map (as_glance k) (glances x.reader s r entries))
     glanced [] x s r a = tt
     glanced (Idle side ∷ entries) x s r a = glanced entries x s r a
     glanced (Made_entry e ∷ entries) x s r a = (
       subst (λ g. law.passes x.state g ≡ true) (seen_as e.side (by_end e.side s r) e x.reader) (and_right _ _ a.0),
-      subst (λ g. Passes law (law.sees x.state g) (map (as_glance k) (glances (reads e.side (call_under_way (by_end e.side s r)) e x.reader) (left_after e.side Sender e.reply s) (left_after e.side Receiver e.reply r) entries))) (seen_as e.side (by_end e.side s r) e x.reader)
-          (subst (λ m. Passes law (law.sees x.state (glance_at (class_under_way k (by_end e.side s r)) (as_made k e) x.reader.object (watch_at e.side x.reader))) (map (as_glance k) (glances m (left_after e.side Sender e.reply s) (left_after e.side Receiver e.reply r) entries))) (read_as e.side (by_end e.side s r) e x.reader)
+      subst (λ g. Passes law (law.sees x.state g)
+          (map (as_glance k) (glances (reads e.side (call_under_way (by_end e.side s r)) e x.reader)
+          (left_after e.side Sender e.reply s) (left_after e.side Receiver e.reply r) entries)))
+          (seen_as e.side (by_end e.side s r) e x.reader)
+          (subst (λ m. Passes law (law.sees x.state
+          (glance_at (class_under_way k (by_end e.side s r)) (as_made k e) x.reader.object
+          (watch_at e.side x.reader))) (map (as_glance k)
+          (glances m (left_after e.side Sender e.reply s) (left_after e.side Receiver e.reply r) entries)))
+          (read_as e.side (by_end e.side s r) e x.reader)
           (glanced entries _ _ _ a.1)),
     )
 
@@ -146,9 +171,14 @@ abbrev pub all_glanced : {N : Type 0} (law : Law N) → Tree (Watched (Pair N))
 all_glanced law = all_watched (with_history law)
 
 -- the law accepts each run, as it is seen by classes
-pub passes_by : {N : Type 0} (law : Law N) (k : Classes) (classed : Classed (with_history law) k) → LawExplored law → {T : Type 0} (s : SenderScript T) (r : ReceiverScript) (worlds : List World) (moves : List Move) (entries : List Entry) → classed.apt 1 ((with_history law).first (opening_place s.last)) ≡ true → Tells (opening s r) worlds moves entries → Passes law (law.first (opening_place s.last)) (map (as_glance k) (map glance_of (marks (calls_of s r) entries)))
+pub passes_by : {N : Type 0} (law : Law N) (k : Classes) (classed : Classed (with_history law) k) → LawExplored law
+    → {T : Type 0} (s : SenderScript T) (r : ReceiverScript) (worlds : List World) (moves : List Move)
+    (entries : List Entry) → classed.apt 1 ((with_history law).first (opening_place s.last)) ≡ true
+    → Tells (opening s r) worlds moves entries
+    → Passes law (law.first (opening_place s.last)) (map (as_glance k) (map glance_of (marks (calls_of s r) entries)))
 passes_by law k classed explored s r worlds moves entries apt told =
-    subst (λ gs. Passes law (law.first (opening_place s.last)) (map (as_glance k) gs)) (sym (marks_run s r worlds moves entries told).1)
+    subst (λ gs. Passes law (law.first (opening_place s.last)) (map (as_glance k) gs))
+    (sym (marks_run s r worlds moves entries told).1)
     (glanced law k entries ((with_history law).first (opening_place s.last)) (opening s r).sender (opening s r).receiver
     (accepted_run (with_history law) k classed explored s r worlds moves entries apt told))
 
@@ -159,7 +189,8 @@ nameless_classed law none = all_classed (with_history law) (ap of_pairs none)
 abbrev pub Passed : {N : Type 0} → Law N → Type 0 → Type 0
 Passed law T =
     (s : SenderScript T) (r : ReceiverScript) (worlds : List World) (moves : List Move) (entries : List Entry)
-    → Tells (opening s r) worlds moves entries → Passes law (law.first (opening_place s.last)) (map (as_glance all_alike) (map glance_of (marks (calls_of s r) entries)))
+    → Tells (opening s r) worlds moves entries → Passes law (law.first (opening_place s.last))
+    (map (as_glance all_alike) (map glance_of (marks (calls_of s r) entries)))
 
 -- a law that knows no name, where all that a run can reach was explored
 pub passed : {N : Type 0} (law : Law N) → law.names ≡ no_names → LawExplored law → {T : Type 0} → Passed law T
@@ -167,15 +198,22 @@ passed law none explored s r worlds moves entries told =
     passes_by law all_alike (nameless_classed law none) explored s r worlds moves entries refl told
 
 -- a law that looks at no name accepts each run
-pub passes_run : {N T : Type 0} (law : Law N) → Nameless law → Passed law T → (s : SenderScript T) (r : ReceiverScript) (worlds : List World) (moves : List Move) (entries : List Entry) → Tells (opening s r) worlds moves entries → Passes law (law.first (opening_place s.last)) (map glance_of (marks (calls_of s r) entries))
+pub passes_run : {N T : Type 0} (law : Law N) → Nameless law → Passed law T
+    → (s : SenderScript T) (r : ReceiverScript) (worlds : List World) (moves : List Move) (entries : List Entry)
+    → Tells (opening s r) worlds moves entries
+    → Passes law (law.first (opening_place s.last)) (map glance_of (marks (calls_of s r) entries))
 passes_run law nameless each s r worlds moves entries told =
-    passes_alike law nameless all_alike (map glance_of (marks (calls_of s r) entries)) (law.first (opening_place s.last))
+    passes_alike law nameless all_alike (map glance_of (marks (calls_of s r) entries))
+    (law.first (opening_place s.last))
     (each s r worlds moves entries told)
 
 -- so a claim on the marks holds of each run that follows from the law
-pub holds_by : {N T : Type 0} (law : Law N) → Nameless law → Passed law T → (claim : List Mark → Bool) → ((place : Option Place) (ms : List Mark) → Passes law (law.first place) (map glance_of ms) → claim ms ≡ true) → EachRun T claim
+pub holds_by : {N T : Type 0} (law : Law N) → Nameless law → Passed law T → (claim : List Mark → Bool)
+    → ((place : Option Place) (ms : List Mark) → Passes law (law.first place) (map glance_of ms) → claim ms ≡ true)
+    → EachRun T claim
 holds_by law nameless each claim meets s r worlds moves entries told =
-    meets (opening_place s.last) (marks (calls_of s r) entries) (passes_run law nameless each s r worlds moves entries told)
+    meets (opening_place s.last) (marks (calls_of s r) entries)
+    (passes_run law nameless each s r worlds moves entries told)
 
 -- two laws that know no name, as one: so both are explored at once
 module _ {N M : Type 0} (a : Law N) (b : Law M) where

@@ -1,4 +1,5 @@
--- What the other laws look at in a mark: the part of it that looks only back, as a mark shows it and as the reader of histories sees it.
+-- What the other laws look at in a mark: the part of it that looks only back, as a mark shows it and as the
+-- reader of histories sees it.
 use Rattle.std.proofs.Common.{Bool, not, ◌&&◌, ◌||◌, List, [], ◌∷◌}
 use Rattle.oneshot_machine.specs.declared.machine.End.TheVariants.{Sender, Receiver}
 use Rattle.oneshot_world.specs.Calls.{Call, Unanswered}
@@ -50,4 +51,5 @@ glances m s r [] = []
 glances m s r (Idle side ∷ es) = glances m s r es
 glances m s r (Made_entry e ∷ es) =
     glance_at (call_under_way (by_end e.side s r)) e m.object (watch_at e.side m)
-    ∷ glances (reads e.side (call_under_way (by_end e.side s r)) e m) (left_after e.side Sender e.reply s) (left_after e.side Receiver e.reply r) es
+    ∷ glances (reads e.side (call_under_way (by_end e.side s r)) e m) (left_after e.side Sender e.reply s)
+    (left_after e.side Receiver e.reply r) es

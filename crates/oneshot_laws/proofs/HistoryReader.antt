@@ -1,4 +1,5 @@
--- A reader of the trace, entry by entry, with finitely many states: the object, and what the call under way at each end owes since it acted.
+-- A reader of the trace, entry by entry, with finitely many states: the object, and what the call under way
+-- at each end owes since it acted.
 use Rattle.std.proofs.Common.{◌≡◌, ℕ, Bool, true, false, not, ◌&&◌, ◌||◌, Option, Some, None, is_some, refl, ap}
 use Rattle.oneshot_machine.specs.declared.machine.End.{End}
 use Rattle.oneshot_machine.specs.declared.machine.End.TheVariants.{Sender, Receiver}
@@ -16,7 +17,8 @@ use Rattle.oneshot_laws.specs.History.{agrees}
 use Rattle.oneshot_laws.proofs.Coding.{Coding, pairs, by_parts, or_none, flags, replies, contents}
 use Rattle.oneshot_laws.proofs.Watched.{Automaton, NamelessReader, no_names}
 
--- how a call acts: at its first entry that passes a test, as a receive does, or never, with a reply that is always the same
+-- how a call acts: at its first entry that passes a test, as a receive does, or never, with a reply that is
+-- always the same
 pub data Kind : Type 0 where
   Acts_first : (test : Made → Bool) → Kind
   Receives : Kind
@@ -153,17 +155,20 @@ new_reader = record { object = new_object; sender = new_watch; receiver = new_wa
 -- two readers are told apart by their parts
 abbrev pub watches : Coding Watch
 watches =
-    by_parts (λ x. (x.owes, (x.worked, x.begun))) (λ p. record { begun = p.1.1; owes = p.0; worked = p.1.0 }) (λ x. refl)
+    by_parts (λ x. (x.owes, (x.worked, x.begun))) (λ p. record { begun = p.1.1; owes = p.0; worked = p.1.0 })
+    (λ x. refl)
     (pairs (or_none replies) (pairs flags flags))
 
 abbrev pub objects : Coding Object
 objects =
-    by_parts (λ o. (o.content, (o.sender_here, o.receiver_here))) (λ p. record { content = p.0; sender_here = p.1.0; receiver_here = p.1.1 }) (λ o. refl)
+    by_parts (λ o. (o.content, (o.sender_here, o.receiver_here)))
+    (λ p. record { content = p.0; sender_here = p.1.0; receiver_here = p.1.1 }) (λ o. refl)
     (pairs contents (pairs flags flags))
 
 abbrev pub readers : Coding Reader
 readers =
-    by_parts (λ m. (m.object, (m.sender, m.receiver))) (λ p. record { object = p.0; sender = p.1.0; receiver = p.1.1 }) (λ m. refl)
+    by_parts (λ m. (m.object, (m.sender, m.receiver))) (λ p. record { object = p.0; sender = p.1.0; receiver = p.1.1 })
+    (λ m. refl)
     (pairs objects (pairs watches watches))
 
 abbrev pub histories : Automaton Reader
@@ -171,12 +176,14 @@ histories =
     record { coding = readers; accepts = accepts; reads = reads; names = no_names; first = λ place. new_reader }
 
 -- the reader looks at no name and at no number
-accepts_alike : (k : Classes) (side : End) (call : Call) (e : Made) (m : Reader) → accepts side (as_call k call) (as_made k e) m ≡ accepts side call e m
+accepts_alike : (k : Classes) (side : End) (call : Call) (e : Made) (m : Reader)
+    → accepts side (as_call k call) (as_made k e) m ≡ accepts side call e m
 accepts_alike k side (Of_sender SC.Send) e m = refl
 accepts_alike k side (Of_receiver RC.Recv) e m = refl
 accepts_alike k side _ e m = refl
 
-pub object_as : (k : Classes) (now : Bool) (number : ℕ) (o : Object) → object_if now (Poll (k.polls number)) o ≡ object_if now (Poll number) o
+pub object_as : (k : Classes) (now : Bool) (number : ℕ) (o : Object)
+    → object_if now (Poll (k.polls number)) o ≡ object_if now (Poll number) o
 object_as k true number o = refl
 object_as k false number o = refl
 
@@ -184,14 +191,17 @@ abbrev read_to : End → Object → Watch → Reader → Reader
 read_to Sender o x m = record { object = o; sender = x; receiver = m.receiver }
 read_to Receiver o x m = record { object = o; sender = m.sender; receiver = x }
 
-reads_alike : (k : Classes) (side : End) (call : Call) (e : Made) (m : Reader) → reads side (as_call k call) (as_made k e) m ≡ reads side call e m
+reads_alike : (k : Classes) (side : End) (call : Call) (e : Made) (m : Reader)
+    → reads side (as_call k call) (as_made k e) m ≡ reads side call e m
 reads_alike k Sender (Poll number) e m =
-    ap (λ o. read_to Sender o (watch_then (Poll number) e m.object m.sender) m) (object_as k (hits Receives e m.sender) number m.object)
+    ap (λ o. read_to Sender o (watch_then (Poll number) e m.object m.sender) m)
+    (object_as k (hits Receives e m.sender) number m.object)
 reads_alike k Sender (Of_sender SC.Send) e m = refl
 reads_alike k Sender (Of_receiver RC.Recv) e m = refl
 reads_alike k Sender _ e m = refl
 reads_alike k Receiver (Poll number) e m =
-    ap (λ o. read_to Receiver o (watch_then (Poll number) e m.object m.receiver) m) (object_as k (hits Receives e m.receiver) number m.object)
+    ap (λ o. read_to Receiver o (watch_then (Poll number) e m.object m.receiver) m)
+    (object_as k (hits Receives e m.receiver) number m.object)
 reads_alike k Receiver (Of_sender SC.Send) e m = refl
 reads_alike k Receiver (Of_receiver RC.Recv) e m = refl
 reads_alike k Receiver _ e m = refl

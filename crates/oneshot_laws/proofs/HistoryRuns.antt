@@ -1,4 +1,5 @@
--- Each run of two scripts has a legal history: the reader accepts it, as the checker computes over machines and reader together.
+-- Each run of two scripts has a legal history: the reader accepts it, as the checker computes over machines
+-- and reader together.
 use Rattle.std.proofs.Common.{◌≡◌, true, List, [], refl}
 use Rattle.oneshot_world.specs.Calls.{Unanswered}
 use Rattle.oneshot_world.specs.Scripts.{calls_of}
@@ -22,17 +23,24 @@ explored = record { found = all_watched histories; all = refl }
 new_follows : (left : Unanswered) → FollowsAt (call_under_way left) new_watch []
 new_follows left = record { begun = refl; acted = refl; worked = refl }
 
-run_accepted : {T : Type 0} (s : SenderScript T) (r : ReceiverScript) (worlds : List World) (moves : List Move) (entries : List Entry) → Tells (opening s r) worlds moves entries → Accepted new_reader (opening s r).sender (opening s r).receiver entries
+run_accepted : {T : Type 0} (s : SenderScript T) (r : ReceiverScript) (worlds : List World) (moves : List Move)
+    (entries : List Entry) → Tells (opening s r) worlds moves entries
+    → Accepted new_reader (opening s r).sender (opening s r).receiver entries
 run_accepted s r worlds moves entries told =
     alike histories histories_nameless all_alike entries new_reader (opening s r).sender (opening s r).receiver
     (accepted_run histories all_alike (all_classed histories refl) explored s r worlds moves entries refl told)
 
 -- the marks of a run are right, and the other laws see what the reader sees
-pub marks_run : {T : Type 0} (s : SenderScript T) (r : ReceiverScript) (worlds : List World) (moves : List Move) (entries : List Entry) → Tells (opening s r) worlds moves entries → MarksRight (marks (calls_of s r) entries) (glances new_reader (opening s r).sender (opening s r).receiver entries)
+pub marks_run : {T : Type 0} (s : SenderScript T) (r : ReceiverScript) (worlds : List World) (moves : List Move)
+    (entries : List Entry) → Tells (opening s r) worlds moves entries
+    → MarksRight (marks (calls_of s r) entries) (glances new_reader (opening s r).sender (opening s r).receiver entries)
 marks_run s r worlds moves entries told =
     all_right entries new_reader (sender_reading (calls_of s r)) (receiver_reading (calls_of s r)) 1
     (record { sender = new_follows (opening s r).sender; receiver = new_follows (opening s r).receiver })
     (run_accepted s r worlds moves entries told)
 
-pub legal_run : {T : Type 0} (s : SenderScript T) (r : ReceiverScript) (worlds : List World) (moves : List Move) (entries : List Entry) → Tells (opening s r) worlds moves entries → has_legal_history (marks (calls_of s r) entries) ≡ true
-legal_run s r worlds moves entries told = legal (marks (calls_of s r) entries) (marks_run s r worlds moves entries told).0
+pub legal_run : {T : Type 0} (s : SenderScript T) (r : ReceiverScript) (worlds : List World) (moves : List Move)
+    (entries : List Entry) → Tells (opening s r) worlds moves entries
+    → has_legal_history (marks (calls_of s r) entries) ≡ true
+legal_run s r worlds moves entries told =
+    legal (marks (calls_of s r) entries) (marks_run s r worlds moves entries told).0

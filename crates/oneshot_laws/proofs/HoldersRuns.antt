@@ -1,4 +1,5 @@
--- Only holders use the block, its last holder frees it, nothing uses it afterwards, and once all have ended it is freed.
+-- Only holders use the block, its last holder frees it, nothing uses it afterwards, and once all have ended
+-- it is freed.
 use Rattle.std.proofs.Common.{◌≡◌, Bool, true, false, not, ◌&&◌, ◌||◌, List, [], ◌∷◌, map, refl, subst}
 use Rattle.std.specs.List.{list_any, list_all}
 use Rattle.oneshot_world.specs.Scripts.{calls_of}
@@ -38,11 +39,19 @@ then_held h g =
 
 abbrev holdings : Coding Holders
 holdings =
-    by_parts (λ h. (h.sender, h.receiver)) (λ p. record { sender = p.0; receiver = p.1 }) (λ h. refl) (pairs flags flags)
+    by_parts (λ h. (h.sender, h.receiver)) (λ p. record { sender = p.0; receiver = p.1 }) (λ h. refl)
+    (pairs flags flags)
 
 abbrev pub held_law : Law Holders
 held_law =
-    record { coding = holdings; passes = is_used_by_holder; sees = then_held; names = no_names; first = λ place. both_hold }
+    record {
+      coding = holdings;
+      passes = is_used_by_holder;
+      sees = then_held;
+      names = no_names;
+      first = λ place.
+          both_hold;
+    }
 
 held : (ms : List Mark) (h : Holders) → Passes held_law h (map glance_of ms) → is_held h ms ≡ true
 held [] h p = refl
@@ -67,12 +76,14 @@ free_nameless = nameless_of free_law refl (λ k n g. (refl, refl)) (λ n g a b. 
 none_uses : (ms : List Mark) → list_all (λ m. leaves_alone (glance_of m)) ms ≡ not (list_any uses_block ms)
 none_uses [] = refl
 none_uses (m ∷ ms) =
-    elim (uses_block m) as (λ b. (not b && list_all (λ m. leaves_alone (glance_of m)) ms) ≡ not (b || list_any uses_block ms)) [
+    elim (uses_block m) as (λ b. (not b && list_all (λ m. leaves_alone (glance_of m)) ms) ≡ not
+    (b || list_any uses_block ms)) [
       | true ↦ refl
       | false ↦ none_uses ms
     ]
 
-free_last : (ms : List Mark) → after_each (λ m. is_freeing (glance_of m)) (list_all (λ m. leaves_alone (glance_of m))) ms ≡ true → is_free_last ms ≡ true
+free_last : (ms : List Mark) → after_each (λ m. is_freeing (glance_of m)) (list_all (λ m. leaves_alone (glance_of m)))
+    ms ≡ true → is_free_last ms ≡ true
 free_last [] h = refl
 free_last (m ∷ ms) h =
     both _ _
@@ -81,7 +92,8 @@ free_last (m ∷ ms) h =
 
 free_last_run : {T : Type 0} → Passed free_law T → EachRun T is_free_last
 free_last_run each s r worlds moves entries tells =
-    free_last (marks (calls_of s r) entries) (ever_after is_freeing leaves_alone free_nameless each s r worlds moves entries tells)
+    free_last (marks (calls_of s r) entries)
+    (ever_after is_freeing leaves_alone free_nameless each s r worlds moves entries tells)
 
 -- once all have ended the block is freed
 abbrev freed_then : Bool → Glance → Bool
@@ -105,10 +117,12 @@ freed_after (m ∷ ms) freed =
 
 freed_at_end : {T : Type 0} → Passed (kept freed_ending) T → EachRun T is_freed_at_end
 freed_at_end each s r worlds moves entries tells =
-    subst (λ freed. only_if (all_ended (marks (calls_of s r) entries)) freed ≡ true) (freed_after (marks (calls_of s r) entries) false)
+    subst (λ freed. only_if (all_ended (marks (calls_of s r) entries)) freed ≡ true)
+    (freed_after (marks (calls_of s r) entries) false)
     (at_the_end freed_ending (record { none = refl; own_same = λ k freed g. refl }) each s r worlds moves entries tells)
 
-pub freed_right : {T : Type 0} → Passed held_law T → Passed free_law T → Passed (kept freed_ending) T → EachRun T is_freed_right
+pub freed_right : {T : Type 0} → Passed held_law T → Passed free_law T → Passed (kept freed_ending) T
+    → EachRun T is_freed_right
 freed_right by_holders last at_end s r worlds moves entries tells =
     both _ _
     (both _ _ (held_run by_holders s r worlds moves entries tells) (free_last_run last s r worlds moves entries tells))

@@ -29,7 +29,8 @@ use Rattle.oneshot_laws.specs.Idle.{is_idle_right_from, is_idle_right}
 use Rattle.oneshot_laws.specs.Marks.{Reading, sender_reading, receiver_reading}
 
 -- an end without a position has no call left
-sender_none : (message : Option Place) (s : SenderState) (calls : List Call) → sender_has message s calls ≡ true → sender_position s (option_and_then as_sender_call (first calls)) ≡ None → is_none_left calls ≡ true
+sender_none : (message : Option Place) (s : SenderState) (calls : List Call) → sender_has message s calls ≡ true
+    → sender_position s (option_and_then as_sender_call (first calls)) ≡ None → is_none_left calls ≡ true
 sender_none message SS.Ready [] h at = refl
 sender_none message SS.Ready (Of_sender call ∷ calls) h at = cc
 sender_none message SS.Ready (_ ∷ calls) h at = cc
@@ -39,7 +40,8 @@ sender_none message SS.Failed (Of_sender call ∷ calls) h at = cc
 sender_none message SS.Failed (_ ∷ calls) h at = cc
 sender_none message SS.Ended calls h at = h
 
-receiver_none : (s : ReceiverState) (future : Bool) (calls : List Call) → receiver_has s future calls ≡ true → receiver_position s (option_and_then as_receiver_call (first calls)) ≡ None → is_none_left calls ≡ true
+receiver_none : (s : ReceiverState) (future : Bool) (calls : List Call) → receiver_has s future calls ≡ true
+    → receiver_position s (option_and_then as_receiver_call (first calls)) ≡ None → is_none_left calls ≡ true
 receiver_none RS.Ready false [] h at = refl
 receiver_none RS.Ready false (Of_receiver call ∷ calls) h at = cc
 receiver_none RS.Ready false (_ ∷ calls) h at = cc
@@ -51,27 +53,39 @@ receiver_none RS.Ended future calls h at = h
 
 -- a reading of what a run from this world tells
 abbrev Claim : List Entry → Type 0
-Claim entries = (n : ℕ) (w : World) (s r : Reading) (worlds : List World) (moves : List Move) → s.left ≡ w.sender → r.left ≡ w.receiver → IsReached w → Tells_from n w worlds moves entries → is_idle_right_from s r entries ≡ true
+Claim entries =
+    (n : ℕ) (w : World) (s r : Reading) (worlds : List World) (moves : List Move) → s.left ≡ w.sender
+    → r.left ≡ w.receiver → IsReached w → Tells_from n w worlds moves entries → is_idle_right_from s r entries ≡ true
 
-idle_turn : (entries : List Entry) → Claim entries → (n : ℕ) (side : End) (w : World) (entry : Entry) (next : World) (s r : Reading) (worlds : List World) (moves : List Move) → Turned n w side entry next → s.left ≡ w.sender → r.left ≡ w.receiver → IsReached w → IsReached next → Tells_from (n + 1) next worlds moves entries → is_idle_right_from s r (entry ∷ entries) ≡ true
+idle_turn : (entries : List Entry) → Claim entries
+    → (n : ℕ) (side : End) (w : World) (entry : Entry) (next : World) (s r : Reading) (worlds : List World)
+    (moves : List Move) → Turned n w side entry next → s.left ≡ w.sender → r.left ≡ w.receiver → IsReached w
+    → IsReached next → Tells_from (n + 1) next worlds moves entries → is_idle_right_from s r (entry ∷ entries) ≡ true
 idle_turn entries later n _ w _ _ s r worlds moves (sender_idle at) se re h k told =
-    both _ _ (rw se (sender_none w.state.message w.state.sender w.sender.calls h.sender at)) (later (n + 1) w s r worlds moves se re h told)
+    both _ _ (rw se (sender_none w.state.message w.state.sender w.sender.calls h.sender at))
+    (later (n + 1) w s r worlds moves se re h told)
 idle_turn entries later n _ w _ _ s r worlds moves (receiver_idle at) se re h k told =
-    both _ _ (rw re (receiver_none w.state.receiver w.state.future w.receiver.calls h.receiver at)) (later (n + 1) w s r worlds moves se re h told)
+    both _ _ (rw re (receiver_none w.state.receiver w.state.future w.receiver.calls h.receiver at))
+    (later (n + 1) w s r worlds moves se re h told)
 idle_turn entries later n _ w _ _ s r worlds moves (sender_made position row at steps) se re h k told =
-    later (n + 1) (sender_world w (sender_step position) row) _ r worlds moves (ap (λ left. left_by Sender (reply_of row) left) se) re k told
+    later (n + 1) (sender_world w (sender_step position) row) _ r worlds moves
+    (ap (λ left. left_by Sender (reply_of row) left) se) re k told
 idle_turn entries later n _ w _ _ s r worlds moves (receiver_made answer position row at steps) se re h k told =
-    later (n + 1) (receiver_world (receiver_told answer n w) w (receiver_step position) row) s _ worlds moves se (ap (λ left. left_by Receiver (reply_of row) left) re) k told
+    later (n + 1) (receiver_world (receiver_told answer n w) w (receiver_step position) row) s _ worlds moves se
+    (ap (λ left. left_by Receiver (reply_of row) left) re) k told
 
 idles : (entries : List Entry) → Claim entries
 idles [] n w s r worlds moves se re h told = refl
 idles (entry ∷ entries) n w s r (next ∷ worlds) (move ∷ moves) se re h told =
     let by : Turned n w (side_of move) entry next = turned n w move (entry, next) told.0 in
-    idle_turn entries (idles entries) n (side_of move) w entry next s r worlds moves by se re h (turned_reaches n (side_of move) w entry next h by) told.1
+    idle_turn entries (idles entries) n (side_of move) w entry next s r worlds moves by se re h
+    (turned_reaches n (side_of move) w entry next h by) told.1
 idles (entry ∷ entries) n w s r [] [] se re h told = elim told [ ]
 idles (entry ∷ entries) n w s r [] (move ∷ moves) se re h told = elim told [ ]
 idles (entry ∷ entries) n w s r (next ∷ worlds) [] se re h told = elim told [ ]
 
-pub idle_run : {T : Type 0} (s : SenderScript T) (r : ReceiverScript) (worlds : List World) (moves : List Move) (entries : List Entry) → Tells (opening s r) worlds moves entries → is_idle_right (calls_of s r) entries ≡ true
+pub idle_run : {T : Type 0} (s : SenderScript T) (r : ReceiverScript) (worlds : List World) (moves : List Move)
+    (entries : List Entry) → Tells (opening s r) worlds moves entries → is_idle_right (calls_of s r) entries ≡ true
 idle_run s r worlds moves entries told =
-    idles entries 1 (opening s r) (sender_reading (calls_of s r)) (receiver_reading (calls_of s r)) worlds moves refl refl (opening_reached s r) told
+    idles entries 1 (opening s r) (sender_reading (calls_of s r)) (receiver_reading (calls_of s r)) worlds moves refl
+    refl (opening_reached s r) told

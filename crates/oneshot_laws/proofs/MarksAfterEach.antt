@@ -10,7 +10,8 @@ use Rattle.oneshot_laws.proofs.Glances.{Glance, glance_of}
 use Rattle.oneshot_laws.proofs.Watched.{no_names, EachRun}
 
 -- what was asked of this and of all that follows
-ever : (after test good later : Bool) → only_if after good ≡ true → only_if (after || test) later ≡ true → only_if after (good && later) ≡ true
+ever : (after test good later : Bool) → only_if after good ≡ true → only_if (after || test) later ≡ true
+    → only_if after (good && later) ≡ true
 ever false test good later h k = refl
 ever true test good later h k = both good later h k
 
@@ -35,14 +36,17 @@ module _ (test good : Glance → Bool) where
         first = λ place. false;
       }
 
-  all_good : (ms : List Mark) (after : Bool) → Passes ever_law after (map glance_of ms) → only_if after (list_all (λ m. good (glance_of m)) ms) ≡ true
+  all_good : (ms : List Mark) (after : Bool) → Passes ever_law after (map glance_of ms)
+      → only_if after (list_all (λ m. good (glance_of m)) ms) ≡ true
   all_good [] after p = always after
   all_good (m ∷ ms) after p = ever after (test (glance_of m)) (good (glance_of m)) _ p.0 (all_good ms _ p.1)
 
-  good_after : (ms : List Mark) (after : Bool) → Passes ever_law after (map glance_of ms) → after_each (λ m. test (glance_of m)) (list_all (λ m. good (glance_of m))) ms ≡ true
+  good_after : (ms : List Mark) (after : Bool) → Passes ever_law after (map glance_of ms)
+      → after_each (λ m. test (glance_of m)) (list_all (λ m. good (glance_of m))) ms ≡ true
   good_after [] after p = refl
   good_after (m ∷ ms) after p =
       both _ _ (from_here after (test (glance_of m)) _ (all_good ms _ p.1)) (good_after ms _ p.1)
 
-  pub ever_after : {T : Type 0} → Nameless ever_law → Passed ever_law T → EachRun T (after_each (λ m. test (glance_of m)) (list_all (λ m. good (glance_of m))))
+  pub ever_after : {T : Type 0} → Nameless ever_law → Passed ever_law T
+      → EachRun T (after_each (λ m. test (glance_of m)) (list_all (λ m. good (glance_of m))))
   ever_after nameless each = holds_by ever_law nameless each _ (λ place ms. good_after ms false)

@@ -1,4 +1,5 @@
--- The message is always in one place: it begins as not sent, moves as it may, and ends with somebody once all have ended.
+-- The message is always in one place: it begins as not sent, moves as it may, and ends with somebody once all
+-- have ended.
 use Rattle.std.proofs.Common.{◌≡◌, ℕ, zero, suc, ◌+◌, Bool, true, false, ◌&&◌, ◌||◌, List, [], ◌∷◌, ◌++◌, Option, Some, None, is_some, map, replicate, refl, sym, ◌∙◌, ap, subst}
 use Rattle.std.specs.List.{list_any, filter_map, cons_option}
 use Rattle.oneshot_machine.specs.declared.machine.sender.SenderCall.TheVariants as SC
@@ -56,7 +57,14 @@ place_then (Some place) g = Some (goes_to place g.entry.message)
 
 abbrev pub path_law : Law (Option Place)
 path_law =
-    record { coding = or_none places; passes = moves_rightly; sees = place_then; names = no_names; first = λ place. place }
+    record {
+      coding = or_none places;
+      passes = moves_rightly;
+      sees = place_then;
+      names = no_names;
+      first = λ place.
+          place;
+    }
 
 abbrev or_not_sent : Option Place → Place
 or_not_sent None = NotSent
@@ -65,21 +73,25 @@ or_not_sent (Some place) = place
 abbrev IsPath : Bool → Place → List (Place × Place) → Type 0
 IsPath has place moves = is_path is_same_place (λ from to. has && is_message_move from to) place moves ≡ true
 
-no_move : (x : Option (Place × Place)) (later : List (Place × Place)) → may_move None x ≡ true → IsPath false NotSent later → IsPath false NotSent (cons_option x later)
+no_move : (x : Option (Place × Place)) (later : List (Place × Place)) → may_move None x ≡ true
+    → IsPath false NotSent later → IsPath false NotSent (cons_option x later)
 no_move None later h k = k
 no_move (Some move) later h k = cc
 
-one_move : (x : Option (Place × Place)) (place : Place) (later : List (Place × Place)) → may_move (Some place) x ≡ true → IsPath true (goes_to place x) later → IsPath true place (cons_option x later)
+one_move : (x : Option (Place × Place)) (place : Place) (later : List (Place × Place)) → may_move (Some place) x ≡ true
+    → IsPath true (goes_to place x) later → IsPath true place (cons_option x later)
 one_move None place later h k = k
 one_move (Some move) place later h k = both _ _ h k
 
-path : (ms : List Mark) (place : Option Place) → Passes path_law place (map glance_of ms) → IsPath (is_some place) (or_not_sent place) (moves_of ms)
+path : (ms : List Mark) (place : Option Place) → Passes path_law place (map glance_of ms)
+    → IsPath (is_some place) (or_not_sent place) (moves_of ms)
 path [] place p = refl
 path (m ∷ ms) None p = no_move m.entry.message (moves_of ms) p.0 (path ms None p.1)
 path (m ∷ ms) (Some place) p = one_move m.entry.message place (moves_of ms) p.0 (path ms _ p.1)
 
 -- whether the scripts have a message
-sends_after_looks : (n : ℕ) (calls : List Call) → list_any is_send (replicate n (Of_sender SC.IsClosed) ++ calls) ≡ list_any is_send calls
+sends_after_looks : (n : ℕ) (calls : List Call)
+    → list_any is_send (replicate n (Of_sender SC.IsClosed) ++ calls) ≡ list_any is_send calls
 sends_after_looks zero calls = refl
 sends_after_looks (suc n) calls = sends_after_looks n calls
 
@@ -100,15 +112,20 @@ place_as k (Some place) g = refl
 path_nameless : Nameless path_law
 path_nameless = record { none = refl; passes_same = λ k place g. refl; sees_same = place_as }
 
-pub message_followed : {T : Type 0} → Passed path_law T → (s : SenderScript T) (r : ReceiverScript) (worlds : List World) (moves : List Move) (entries : List Entry) → Tells (opening s r) worlds moves entries → is_message_followed (calls_of s r) entries ≡ true
+pub message_followed : {T : Type 0} → Passed path_law T
+    → (s : SenderScript T) (r : ReceiverScript) (worlds : List World) (moves : List Move) (entries : List Entry)
+    → Tells (opening s r) worlds moves entries → is_message_followed (calls_of s r) entries ≡ true
 message_followed each s r worlds moves entries tells =
     let at_marks = path (marks (calls_of s r) entries) (opening_place s.last)
     (passes_run path_law path_nameless each s r worlds moves entries tells) in
-    let at_entries : IsPath (is_some (opening_place s.last)) (or_not_sent (opening_place s.last)) (message_moves entries) =
+    let at_entries : IsPath (is_some (opening_place s.last)) (or_not_sent (opening_place s.last))
+    (message_moves entries) =
     subst (IsPath _ _) (sym (shown entries _ _ 1 _)) at_marks in
     let from_start : IsPath (is_some (opening_place s.last)) NotSent (message_moves entries) =
-    subst (λ place. IsPath (is_some (opening_place s.last)) place (message_moves entries)) (begins_there s.last) at_entries in
-    subst (λ has. IsPath has NotSent (message_moves entries)) (has_it s.last ∙ sym (sends_after_looks s.looks (sender_last s.last))) from_start
+    subst (λ place. IsPath (is_some (opening_place s.last)) place (message_moves entries)) (begins_there s.last)
+    at_entries in
+    subst (λ has. IsPath has NotSent (message_moves entries))
+    (has_it s.last ∙ sym (sends_after_looks s.looks (sender_last s.last))) from_start
 
 -- whether a send was made, and where the message is
 pub record Sending : Type 0 where
@@ -125,7 +142,8 @@ abbrev pub sending_ending : Ending Sending
 sending_ending =
     record {
       coding =
-          by_parts (λ x. (x.begun, x.place)) (λ p. record { begun = p.0; place = p.1 }) (λ x. refl) (pairs flags places);
+          by_parts (λ x. (x.begun, x.place)) (λ p. record { begun = p.0; place = p.1 }) (λ x. refl)
+          (pairs flags places);
       own_then = sending_then;
       asks = nothing_asked;
       good = λ x. only_if x.begun (is_message_end x.place);
@@ -133,16 +151,20 @@ sending_ending =
       first = λ place. not_sent_yet;
     }
 
-begun_after : (ms : List Mark) (x : Sending) → (own_after sending_then x (map glance_of ms)).begun ≡ (x.begun || list_any (λ m. is_send m.call) ms)
+begun_after : (ms : List Mark) (x : Sending)
+    → (own_after sending_then x (map glance_of ms)).begun ≡ (x.begun || list_any (λ m. is_send m.call) ms)
 begun_after [] x = sym (or_false x.begun)
 begun_after (m ∷ ms) x =
-    begun_after ms (sending_then x (glance_of m)) ∙ sym (or_more x.begun (is_send m.call) (list_any (λ m. is_send m.call) ms))
+    begun_after ms (sending_then x (glance_of m))
+    ∙ sym (or_more x.begun (is_send m.call) (list_any (λ m. is_send m.call) ms))
 
-last_after : (x : Option (Place × Place)) (place : Place) (later : List (Place × Place)) → last_place (goes_to place x) later ≡ last_place place (cons_option x later)
+last_after : (x : Option (Place × Place)) (place : Place) (later : List (Place × Place))
+    → last_place (goes_to place x) later ≡ last_place place (cons_option x later)
 last_after None place later = refl
 last_after (Some move) place later = refl
 
-place_after : (ms : List Mark) (x : Sending) → (own_after sending_then x (map glance_of ms)).place ≡ last_place x.place (moves_of ms)
+place_after : (ms : List Mark) (x : Sending)
+    → (own_after sending_then x (map glance_of ms)).place ≡ last_place x.place (moves_of ms)
 place_after [] x = refl
 place_after (m ∷ ms) x =
     place_after ms (sending_then x (glance_of m)) ∙ last_after m.entry.message x.place (moves_of ms)
@@ -158,10 +180,19 @@ if_both : (a b c : Bool) → only_if a (only_if b c) ≡ true → only_if (a && 
 if_both true b c h = h
 if_both false b c h = refl
 
-pub message_ended : {T : Type 0} → Passed (kept sending_ending) T → (s : SenderScript T) (r : ReceiverScript) (worlds : List World) (moves : List Move) (entries : List Entry) → Tells (opening s r) worlds moves entries → is_message_ended entries (marks (calls_of s r) entries) ≡ true
+pub message_ended : {T : Type 0} → Passed (kept sending_ending) T
+    → (s : SenderScript T) (r : ReceiverScript) (worlds : List World) (moves : List Move) (entries : List Entry)
+    → Tells (opening s r) worlds moves entries → is_message_ended entries (marks (calls_of s r) entries) ≡ true
 message_ended each s r worlds moves entries tells =
-    let last = place_after (marks (calls_of s r) entries) not_sent_yet ∙ sym (ap (last_place NotSent) (shown entries _ _ 1 _)) in
-    if_both (all_ended (marks (calls_of s r) entries)) (list_any (λ m. is_send m.call) (marks (calls_of s r) entries)) (is_message_end (last_message_place entries))
-    (subst (λ begun. only_if (all_ended (marks (calls_of s r) entries)) (only_if begun (is_message_end (last_message_place entries))) ≡ true) (begun_after (marks (calls_of s r) entries) not_sent_yet)
-    (subst (λ place. only_if (all_ended (marks (calls_of s r) entries)) (only_if (own_after sending_then not_sent_yet (map glance_of (marks (calls_of s r) entries))).begun (is_message_end place)) ≡ true) last
+    let last =
+    place_after (marks (calls_of s r) entries) not_sent_yet
+    ∙ sym (ap (last_place NotSent) (shown entries _ _ 1 _)) in
+    if_both (all_ended (marks (calls_of s r) entries)) (list_any (λ m. is_send m.call) (marks (calls_of s r) entries))
+    (is_message_end (last_message_place entries))
+    (subst (λ begun. only_if (all_ended (marks (calls_of s r) entries))
+    (only_if begun (is_message_end (last_message_place entries))) ≡ true)
+    (begun_after (marks (calls_of s r) entries) not_sent_yet)
+    (subst (λ place. only_if (all_ended (marks (calls_of s r) entries))
+    (only_if (own_after sending_then not_sent_yet (map glance_of (marks (calls_of s r) entries))).begun
+    (is_message_end place)) ≡ true) last
     (at_the_end sending_ending sending_nameless each s r worlds moves entries tells)))

@@ -1,4 +1,5 @@
--- The laws that something told once holds ever after: gone once the message was got, gone once closed, refused once the receiver was gone.
+-- The laws that something told once holds ever after: gone once the message was got, gone once closed,
+-- refused once the receiver was gone.
 use Rattle.std.proofs.Common.{Bool, ◌&&◌, Some, refl}
 use Rattle.oneshot_machine.specs.declared.machine.Reply.{Reply}
 use Rattle.oneshot_machine.specs.declared.machine.Reply.TheVariants as R

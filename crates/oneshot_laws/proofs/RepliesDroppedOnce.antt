@@ -70,8 +70,10 @@ drops_back Wrongly = refl
 
 abbrev stories : Coding Story
 stories =
-    by_parts (λ x. (x.sent, (x.got, (x.done, x.drops)))) (λ p. record { sent = p.0; got = p.1.0; done = p.1.1.0; drops = p.1.1.1 }) (λ x. refl)
-    (pairs flags (pairs flags (pairs flags (listed 3 drops_code (Never ∷ By_receiver ∷ Wrongly ∷ []) Never drops_back))))
+    by_parts (λ x. (x.sent, (x.got, (x.done, x.drops))))
+    (λ p. record { sent = p.0; got = p.1.0; done = p.1.1.0; drops = p.1.1.1 }) (λ x. refl)
+    (pairs flags (pairs flags
+    (pairs flags (listed 3 drops_code (Never ∷ By_receiver ∷ Wrongly ∷ []) Never drops_back))))
 
 abbrev nothing_told : Story
 nothing_told = record { sent = false; got = false; done = false; drops = Never }
@@ -92,10 +94,12 @@ stays_wrong (m ∷ ms) = stays_wrong ms
 one_by_receiver : (ms : List Mark) → is_by_receiver (drops_of Never ms) ≡ true → is_one_by_receiver ms ≡ true
 one_by_receiver [] h = h
 one_by_receiver (m ∷ []) h =
-    elim (is_drop_of_receiver m.call) as (λ b. is_by_receiver (one_more b Never) ≡ true → b ≡ true) [ true ↦ λ h. refl | false ↦ λ h. h ] h
+    elim (is_drop_of_receiver m.call) as (λ b. is_by_receiver (one_more b Never) ≡ true → b ≡ true)
+    [ true ↦ λ h. refl | false ↦ λ h. h ] h
 one_by_receiver (m ∷ n ∷ ms) h =
     let wrong : (one_more (is_drop_of_receiver n.call) (one_more (is_drop_of_receiver m.call) Never)) ≡ Wrongly =
-    elim (is_drop_of_receiver m.call) as (λ b. one_more (is_drop_of_receiver n.call) (one_more b Never) ≡ Wrongly) [ true ↦ refl | false ↦ refl ]
+    elim (is_drop_of_receiver m.call) as (λ b. one_more (is_drop_of_receiver n.call) (one_more b Never) ≡ Wrongly)
+    [ true ↦ refl | false ↦ refl ]
     in absurd (cc (h, wrong, stays_wrong ms))
 
 -- the claim on what is told, with what was told before
@@ -106,13 +110,16 @@ IsWell story ms =
     && (story.done || has_answered is_drop_of_receiver ms))
     (is_by_receiver (drops_of story.drops (filter is_dropping ms))) ≡ true
 
-nothing_more : (sent got done well : Bool) → only_if (sent && not got && done) well ≡ true → only_if ((sent || false) && not (got || false) && (done || false)) well ≡ true
+nothing_more : (sent got done well : Bool) → only_if (sent && not got && done) well ≡ true
+    → only_if ((sent || false) && not (got || false) && (done || false)) well ≡ true
 nothing_more false got done well h = refl
 nothing_more true true done well h = refl
 nothing_more true false false well h = refl
 nothing_more true false true well h = h
 
-more_told : (s x s' g y g' d z d' well : Bool) → only_if (((s || x) || s') && not ((g || y) || g') && ((d || z) || d')) well ≡ true → only_if ((s || (x || s')) && not (g || (y || g')) && (d || (z || d'))) well ≡ true
+more_told : (s x s' g y g' d z d' well : Bool)
+    → only_if (((s || x) || s') && not ((g || y) || g') && ((d || z) || d')) well ≡ true
+    → only_if ((s || (x || s')) && not (g || (y || g')) && (d || (z || d'))) well ≡ true
 more_told false x s' false y g' false z d' well h = h
 more_told false x s' false y g' true z d' well h = h
 more_told false x s' true y g' false z d' well h = h
@@ -122,22 +129,29 @@ more_told true x s' false y g' true z d' well h = h
 more_told true x s' true y g' false z d' well h = h
 more_told true x s' true y g' true z d' well h = h
 
-dropped_here : (here : Bool) (m : Mark) (drops : Drops) (later : List Mark) → drops_of (drops_then here (is_drop_of_receiver m.call) drops) later ≡ drops_of drops (if here then m ∷ later else later)
+dropped_here : (here : Bool) (m : Mark) (drops : Drops) (later : List Mark)
+    → drops_of (drops_then here (is_drop_of_receiver m.call) drops) later
+    ≡ drops_of drops (if here then m ∷ later else later)
 dropped_here true m drops later = refl
 dropped_here false m drops later = refl
 
-ends_well : (ms : List Mark) (story : Story) → is_well story ≡ true → Passes story_law story (map glance_of ms) → IsWell story ms
+ends_well : (ms : List Mark) (story : Story) → is_well story ≡ true → Passes story_law story (map glance_of ms)
+    → IsWell story ms
 ends_well [] story well p = nothing_more story.sent story.got story.done _ well
 ends_well (m ∷ ms) story well p =
-    subst (λ drops. only_if ((story.sent || list_any (answers is_send R.Sent) (m ∷ ms)) && not (story.got || list_any (answers is_receive R.Message) (m ∷ ms)) && (story.done || has_answered is_drop_of_receiver (m ∷ ms))) (is_by_receiver drops) ≡ true)
+    subst (λ drops. only_if ((story.sent || list_any (answers is_send R.Sent) (m ∷ ms)) && not
+    (story.got || list_any (answers is_receive R.Message) (m ∷ ms))
+    && (story.done || has_answered is_drop_of_receiver (m ∷ ms))) (is_by_receiver drops) ≡ true)
     (dropped_here (is_dropping m) m story.drops (filter is_dropping ms))
-    (more_told story.sent _ (list_any (answers is_send R.Sent) ms) story.got _ (list_any (answers is_receive R.Message) ms) story.done _ (has_answered is_drop_of_receiver ms) _
+    (more_told story.sent _ (list_any (answers is_send R.Sent) ms) story.got _
+    (list_any (answers is_receive R.Message) ms) story.done _ (has_answered is_drop_of_receiver ms) _
     (ends_well ms (story_then story (glance_of m)) p.0 p.1))
 
 nameless : Nameless story_law
 nameless = nameless_of story_law refl (λ k n g. (refl, refl)) (λ n g a b. (refl, refl))
 
-with_drops : (told : Bool) (ms : List Mark) → only_if told (is_by_receiver (drops_of Never ms)) ≡ true → only_if told (is_one_by_receiver ms) ≡ true
+with_drops : (told : Bool) (ms : List Mark) → only_if told (is_by_receiver (drops_of Never ms)) ≡ true
+    → only_if told (is_one_by_receiver ms) ≡ true
 with_drops true ms h = one_by_receiver ms h
 with_drops false ms h = refl
 

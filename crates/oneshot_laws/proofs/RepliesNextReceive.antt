@@ -29,12 +29,16 @@ abbrev pub next_law : Law Bool
 next_law = record { coding = flags; passes = gets; sees = seen_then; names = no_names; first = λ place. false }
 
 -- with the next receive here, or later
-next_at : (seen receives is_full gets later : Bool) → only_if (seen && receives) gets ≡ true → only_if (elim receives as (λ _. Bool) [ true ↦ is_full | false ↦ seen || is_full ]) later ≡ true → only_if seen (elim receives as (λ _. Bool) [ true ↦ gets | false ↦ later ]) ≡ true
+next_at : (seen receives is_full gets later : Bool) → only_if (seen && receives) gets ≡ true
+    → only_if (elim receives as (λ _. Bool) [ true ↦ is_full | false ↦ seen || is_full ]) later ≡ true
+    → only_if seen (elim receives as (λ _. Bool) [ true ↦ gets | false ↦ later ]) ≡ true
 next_at false receives is_full gets later h k = refl
 next_at true true is_full gets later h k = h
 next_at true false is_full gets later h k = k
 
-full_now : (seen receives is_full later : Bool) → only_if (elim receives as (λ _. Bool) [ true ↦ is_full | false ↦ seen || is_full ]) later ≡ true → only_if is_full later ≡ true
+full_now : (seen receives is_full later : Bool)
+    → only_if (elim receives as (λ _. Bool) [ true ↦ is_full | false ↦ seen || is_full ]) later ≡ true
+    → only_if is_full later ≡ true
 full_now seen receives false later h = refl
 full_now seen true true later h = h
 full_now true false true later h = h
@@ -44,7 +48,8 @@ never_asked : (seen : Bool) → only_if seen true ≡ true
 never_asked true = refl
 never_asked false = refl
 
-next_gets : (ms : List Mark) (seen : Bool) → Passes next_law seen (map glance_of ms) → only_if seen (next_receive_gets ms) ≡ true
+next_gets : (ms : List Mark) (seen : Bool) → Passes next_law seen (map glance_of ms)
+    → only_if seen (next_receive_gets ms) ≡ true
 next_gets [] seen p = never_asked seen
 next_gets (m ∷ ms) seen p =
     next_at seen (answers_receive (glance_of m)) (full (glance_of m)) _ _ p.0 (next_gets ms _ p.1)

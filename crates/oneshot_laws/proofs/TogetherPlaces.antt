@@ -19,7 +19,8 @@ waker_laws = together (kept parker_moves) write_law
 abbrev holder_laws : Law (Holders × (Bool × Kept Bool))
 holder_laws = together held_law (together free_law (kept freed_ending))
 
-abbrev place_laws : Law ((Option Place × (Kept Sending × Bool)) × ((Kept WakerPlace × Bool) × (Holders × (Bool × Kept Bool))))
+abbrev place_laws : Law ((Option Place × (Kept Sending × Bool))
+    × ((Kept WakerPlace × Bool) × (Holders × (Bool × Kept Bool))))
 place_laws = together message_laws (together waker_laws holder_laws)
 
 place_explored : LawExplored place_laws
@@ -33,10 +34,13 @@ module _ {T : Type 0} where
   path = first_passed path_law (together (kept sending_ending) put_law) message
 
   pub sending : Passed (kept sending_ending) T
-  sending = first_passed (kept sending_ending) put_law (second_passed path_law (together (kept sending_ending) put_law) message)
+  sending =
+      first_passed (kept sending_ending) put_law
+      (second_passed path_law (together (kept sending_ending) put_law) message)
 
   pub put : Passed put_law T
-  put = second_passed (kept sending_ending) put_law (second_passed path_law (together (kept sending_ending) put_law) message)
+  put = second_passed (kept sending_ending) put_law
+      (second_passed path_law (together (kept sending_ending) put_law) message)
 
   others : Passed (together waker_laws holder_laws) T
   others = second_passed message_laws (together waker_laws holder_laws) (passed place_laws refl place_explored)
@@ -54,7 +58,9 @@ module _ {T : Type 0} where
   held = first_passed held_law (together free_law (kept freed_ending)) holders
 
   pub free : Passed free_law T
-  free = first_passed free_law (kept freed_ending) (second_passed held_law (together free_law (kept freed_ending)) holders)
+  free = first_passed free_law (kept freed_ending)
+      (second_passed held_law (together free_law (kept freed_ending)) holders)
 
   pub freed : Passed (kept freed_ending) T
-  freed = second_passed free_law (kept freed_ending) (second_passed held_law (together free_law (kept freed_ending)) holders)
+  freed = second_passed free_law (kept freed_ending)
+      (second_passed held_law (together free_law (kept freed_ending)) holders)

@@ -1,4 +1,5 @@
--- No receiver waits unwoken: in each run, once the sender's send or drop has answered, a receiver about to park has its token, and no task waits.
+-- No receiver waits unwoken: in each run, once the sender's send or drop has answered, a receiver about to
+-- park has its token, and no task waits.
 use Rattle.std.proofs.Common.{◌≡◌, ℕ, ◌+◌, Bool, true, false, not, ◌&&◌, ◌||◌, List, [], ◌∷◌, map, Option, Some, None, is_some, refl, sym, ◌∙◌, ap, subst}
 use Rattle.std.specs.Option.{option_map, option_and_then}
 use Rattle.oneshot_machine.specs.Receiver.{receiver_step}
@@ -63,7 +64,8 @@ parks_at _ = false
 abbrev ahead_at : Control → Ahead
 ahead_at c = record { parks = parks_at c.state.receiver; token = c.state.wakers.token }
 
-begins_unparked : (call : Option ReceiverStart) → is_some_park (option_map receiver_step (receiver_position RS.Ready call)) ≡ false
+begins_unparked : (call : Option ReceiverStart)
+    → is_some_park (option_map receiver_step (receiver_position RS.Ready call)) ≡ false
 begins_unparked None = refl
 begins_unparked (Some RC.TryRecv) = refl
 begins_unparked (Some RC.Recv) = refl
@@ -78,13 +80,16 @@ begins_unparked (Some RC.AsyncTryRecv) = refl
 begins_unparked (Some RC.Drop) = refl
 begins_unparked (Some RC.DropAsync) = refl
 
-parks_as : (s : ReceiverState) (call : Option ReceiverStart) → is_some_park (option_map receiver_step (receiver_position s call)) ≡ parks_at s
+parks_as : (s : ReceiverState) (call : Option ReceiverStart)
+    → is_some_park (option_map receiver_step (receiver_position s call)) ≡ parks_at s
 parks_as RS.Ready call = begins_unparked call
 parks_as (RS.At position) call = refl
 parks_as RS.Ended call = refl
 
 waits_as : (w : World) → waits_in_park (ahead_of w) ≡ waits_in_park (ahead_at (control_of w))
-waits_as w = ap (λ parks. parks && not w.state.wakers.token) (parks_as w.state.receiver (option_and_then as_receiver_call (first w.receiver.calls)))
+waits_as w =
+    ap (λ parks. parks && not w.state.wakers.token)
+    (parks_as w.state.receiver (option_and_then as_receiver_call (first w.receiver.calls)))
 
 abbrev is_awake : Watched Bool → Bool
 is_awake x = not (x.reader && waits_in_park (ahead_at x.control))
@@ -106,15 +111,22 @@ Found w ended = IsFound ended_reader all_alike ended_classed explored w ended
 awake : (w : World) (ended : Bool) → Found w ended → not (ended && waits_in_park (ahead_of w)) ≡ true
 awake w ended f =
     rw (waits_as w)
-    (passes_where_found (watched_coding ended_reader).code (watched_coding ended_reader).is_same (watched_coding ended_reader).sound is_awake explored.found (record { control = as_control all_alike (control_of w); reader = ended }) all_awake f)
+    (passes_where_found (watched_coding ended_reader).code (watched_coding ended_reader).is_same
+    (watched_coding ended_reader).sound is_awake explored.found
+    (record { control = as_control all_alike (control_of w); reader = ended }) all_awake f)
 
 -- a turn leads on to what was found; the reader looks at no number
-next_found : (n : ℕ) (side : End) (w : World) (entry : Entry) (next : World) (ended : Bool) → Turned n w side entry next → IsReached w → Found w ended → true ≡ true → Found next (reads_entry ended_reader (class_under_way all_alike (by_end side w.sender w.receiver)) (as_entry all_alike entry) ended)
+next_found : (n : ℕ) (side : End) (w : World) (entry : Entry) (next : World) (ended : Bool) → Turned n w side entry next
+    → IsReached w → Found w ended → true ≡ true
+    → Found next (reads_entry ended_reader (class_under_way all_alike (by_end side w.sender w.receiver))
+    (as_entry all_alike entry) ended)
 next_found = found_next ended_reader all_alike ended_classed explored
 
-same_answered : (left : Unanswered) (e : Made) → ends_sender_at (class_under_way all_alike left) (as_made all_alike e) ≡ ends_sender_at (call_under_way left) e
+same_answered : (left : Unanswered) (e : Made)
+    → ends_sender_at (class_under_way all_alike left) (as_made all_alike e) ≡ ends_sender_at (call_under_way left) e
 same_answered left e =
-    ap (λ call. ends_sender_at call e) (class_is all_alike left) ∙ of_call all_alike (λ call. ends_sender_at call e) (λ a b. refl) (call_under_way left)
+    ap (λ call. ends_sender_at call e) (class_is all_alike left)
+    ∙ of_call all_alike (λ call. ends_sender_at call e) (λ a b. refl) (call_under_way left)
 
 -- whether the sender's last call answers in a front of the trace
 abbrev ended_in : Reading → Reading → List Entry → Bool
@@ -124,7 +136,8 @@ ended_in s r (Made_entry e ∷ es) =
     ends_sender_at (call_under_way (by_end e.side s r).left) e
     || ended_in (by_end e.side (read s e) s) (by_end e.side r (read r e)) es
 
-answered_in : (es : List Entry) (s r : Reading) (n : ℕ) (o : Object) → has_answered is_end_of_sender (marks_from s r n o es) ≡ ended_in s r es
+answered_in : (es : List Entry) (s r : Reading) (n : ℕ) (o : Object)
+    → has_answered is_end_of_sender (marks_from s r n o es) ≡ ended_in s r es
 answered_in [] s r n o = refl
 answered_in (Idle side ∷ es) s r n o = answered_in es s r (n + 1) o
 answered_in (Made_entry e ∷ es) s r n o =
@@ -139,48 +152,85 @@ NoTaskWaits so_far n w =
 -- the moments from a world on
 abbrev Claim : List Entry → Type 0
 Claim entries =
-    (so_far : List Entry → List Mark) (n : ℕ) (w : World) (s r : Reading) (ended : Bool) (worlds : List World) (moves : List Move)
+    (so_far : List Entry → List Mark) (n : ℕ) (w : World) (s r : Reading) (ended : Bool) (worlds : List World)
+    (moves : List Move)
     → s.left ≡ w.sender → r.left ≡ w.receiver → IsReached w → Found w ended
     → ((front : List Entry) → has_answered is_end_of_sender (so_far front) ≡ (ended || ended_in s r front))
     → NoTaskWaits so_far n w
     → Tells_from n w worlds moves entries
     → is_never_unwoken so_far (map ahead_of (w ∷ worlds)) entries ≡ true
 
-neither : (answered park task : Bool) → not (answered && park) ≡ true → not (answered && task) ≡ true → not (answered && (park || task)) ≡ true
+neither : (answered park task : Bool) → not (answered && park) ≡ true → not (answered && task) ≡ true
+    → not (answered && (park || task)) ≡ true
 neither false park task p t = refl
 neither true false task p t = t
 neither true true task p t = p
 
-now : (so_far : List Entry → List Mark) (n : ℕ) (w : World) (ended : Bool) → Found w ended → has_answered is_end_of_sender (so_far []) ≡ (ended || false) → NoTaskWaits so_far n w → not (is_unwoken (so_far []) (ahead_of w)) ≡ true
+now : (so_far : List Entry → List Mark) (n : ℕ) (w : World) (ended : Bool) → Found w ended
+    → has_answered is_end_of_sender (so_far []) ≡ (ended || false) → NoTaskWaits so_far n w
+    → not (is_unwoken (so_far []) (ahead_of w)) ≡ true
 now so_far n w ended f h task =
     neither (has_answered is_end_of_sender (so_far [])) (waits_in_park (ahead_of w)) (waits_in_task (so_far []))
     (rw (h ∙ or_false ended) (awake w ended f)) (task [] [] [] tt)
 
 -- an entry made takes the reading on as it takes the reader
-woken_turn : (entries : List Entry) → Claim entries → (so_far : List Entry → List Mark) (n : ℕ) (side : End) (w : World) (entry : Entry) (next : World) (s r : Reading) (ended : Bool) (worlds : List World) (moves : List Move) → Turned n w side entry next → s.left ≡ w.sender → r.left ≡ w.receiver → IsReached w → IsReached next → Found w ended → ((front : List Entry) → has_answered is_end_of_sender (so_far front) ≡ (ended || ended_in s r front)) → NoTaskWaits (λ front. so_far (entry ∷ front)) (n + 1) next → Tells_from (n + 1) next worlds moves entries → is_never_unwoken (λ front. so_far (entry ∷ front)) (map ahead_of (next ∷ worlds)) entries ≡ true
+woken_turn : (entries : List Entry) → Claim entries
+    → (so_far : List Entry → List Mark) (n : ℕ) (side : End) (w : World) (entry : Entry) (next : World) (s r : Reading)
+    (ended : Bool) (worlds : List World) (moves : List Move) → Turned n w side entry next → s.left ≡ w.sender
+    → r.left ≡ w.receiver → IsReached w → IsReached next → Found w ended
+    → ((front : List Entry) → has_answered is_end_of_sender (so_far front) ≡ (ended || ended_in s r front))
+    → NoTaskWaits (λ front. so_far (entry ∷ front)) (n + 1) next → Tells_from (n + 1) next worlds moves entries
+    → is_never_unwoken (λ front. so_far (entry ∷ front)) (map ahead_of (next ∷ worlds)) entries ≡ true
 woken_turn entries later so_far n _ w _ _ s r ended worlds moves (sender_idle at) se re h k f so task told =
-    later (λ front. so_far (Idle Sender ∷ front)) (n + 1) w s r ended worlds moves se re h f (λ front. so (Idle Sender ∷ front)) task told
+    later (λ front. so_far (Idle Sender ∷ front)) (n + 1) w s r ended worlds moves se re h f
+    (λ front. so (Idle Sender ∷ front)) task told
 woken_turn entries later so_far n _ w _ _ s r ended worlds moves (receiver_idle at) se re h k f so task told =
-    later (λ front. so_far (Idle Receiver ∷ front)) (n + 1) w s r ended worlds moves se re h f (λ front. so (Idle Receiver ∷ front)) task told
-woken_turn entries later so_far n _ w entry next s r ended worlds moves (sender_made position row at steps) se re h k f so task told =
-    later (λ front. so_far (entry ∷ front)) (n + 1) next (read s (sender_stepped nothing_told w.state (sender_step position) row).0) r (ended || ends_sender_at (call_under_way s.left) (sender_stepped nothing_told w.state (sender_step position) row).0) worlds moves (ap (λ left. left_by Sender (reply_of row) left) se) re k
-    (subst (λ left. Found (sender_world w (sender_step position) row) (ended || ends_sender_at (call_under_way left) (sender_stepped nothing_told w.state (sender_step position) row).0)) (sym se)
-    (subst (λ answered. Found (sender_world w (sender_step position) row) (ended || answered)) (same_answered w.sender (sender_stepped nothing_told w.state (sender_step position) row).0)
+    later (λ front. so_far (Idle Receiver ∷ front)) (n + 1) w s r ended worlds moves se re h f
+    (λ front. so (Idle Receiver ∷ front)) task told
+woken_turn entries later so_far n _ w entry next s r ended worlds moves (sender_made position row at steps) se re h k f
+    so task told =
+    later (λ front. so_far (entry ∷ front)) (n + 1) next
+    (read s (sender_stepped nothing_told w.state (sender_step position) row).0) r
+    (ended || ends_sender_at (call_under_way s.left)
+    (sender_stepped nothing_told w.state (sender_step position) row).0) worlds moves
+    (ap (λ left. left_by Sender (reply_of row) left) se) re k
+    (subst (λ left. Found (sender_world w (sender_step position) row)
+    (ended || ends_sender_at (call_under_way left)
+    (sender_stepped nothing_told w.state (sender_step position) row).0)) (sym se)
+    (subst (λ answered. Found (sender_world w (sender_step position) row) (ended || answered))
+    (same_answered w.sender (sender_stepped nothing_told w.state (sender_step position) row).0)
     (next_found n Sender w _ _ ended (sender_made position row at steps) h f refl)))
-    (λ front. so (entry ∷ front) ∙ or_more ended (ends_sender_at (call_under_way s.left) (sender_stepped nothing_told w.state (sender_step position) row).0) (ended_in (read s (sender_stepped nothing_told w.state (sender_step position) row).0) r front)) task told
-woken_turn entries later so_far n _ w entry next s r ended worlds moves (receiver_made answer position row at steps) se re h k f so task told =
-    later (λ front. so_far (entry ∷ front)) (n + 1) next s (read r (receiver_stepped (receiver_told answer n w) w.state (receiver_step position) row).0) (ended || ends_sender_at (call_under_way r.left) (receiver_stepped (receiver_told answer n w) w.state (receiver_step position) row).0) worlds moves se (ap (λ left. left_by Receiver (reply_of row) left) re) k
-    (subst (λ left. Found (receiver_world (receiver_told answer n w) w (receiver_step position) row) (ended || ends_sender_at (call_under_way left) (receiver_stepped (receiver_told answer n w) w.state (receiver_step position) row).0)) (sym re)
-    (subst (λ answered. Found (receiver_world (receiver_told answer n w) w (receiver_step position) row) (ended || answered)) (same_answered w.receiver (receiver_stepped (receiver_told answer n w) w.state (receiver_step position) row).0)
+    (λ front. so (entry ∷ front) ∙ or_more ended
+    (ends_sender_at (call_under_way s.left) (sender_stepped nothing_told w.state (sender_step position) row).0)
+    (ended_in (read s (sender_stepped nothing_told w.state (sender_step position) row).0) r front)) task told
+woken_turn entries later so_far n _ w entry next s r ended worlds moves (receiver_made answer position row at steps) se
+    re h k f so task told =
+    later (λ front. so_far (entry ∷ front)) (n + 1) next s
+    (read r (receiver_stepped (receiver_told answer n w) w.state (receiver_step position) row).0)
+    (ended || ends_sender_at (call_under_way r.left)
+    (receiver_stepped (receiver_told answer n w) w.state (receiver_step position) row).0) worlds moves se
+    (ap (λ left. left_by Receiver (reply_of row) left) re) k
+    (subst (λ left. Found (receiver_world (receiver_told answer n w) w (receiver_step position) row)
+    (ended || ends_sender_at (call_under_way left)
+    (receiver_stepped (receiver_told answer n w) w.state (receiver_step position) row).0)) (sym re)
+    (subst (λ answered. Found (receiver_world (receiver_told answer n w) w (receiver_step position) row)
+    (ended || answered)) (same_answered w.receiver
+    (receiver_stepped (receiver_told answer n w) w.state (receiver_step position) row).0)
     (next_found n Receiver w _ _ ended (receiver_made answer position row at steps) h f refl)))
-    (λ front. so (entry ∷ front) ∙ or_more ended (ends_sender_at (call_under_way r.left) (receiver_stepped (receiver_told answer n w) w.state (receiver_step position) row).0) (ended_in s (read r (receiver_stepped (receiver_told answer n w) w.state (receiver_step position) row).0) front)) task told
+    (λ front. so (entry ∷ front) ∙ or_more ended
+    (ends_sender_at (call_under_way r.left)
+    (receiver_stepped (receiver_told answer n w) w.state (receiver_step position) row).0)
+    (ended_in s (read r (receiver_stepped (receiver_told answer n w) w.state (receiver_step position) row).0)
+    front)) task told
 
 woken : (entries : List Entry) → Claim entries
 woken [] so_far n w s r ended [] [] se re h f so task told = now so_far n w ended f (so []) task
 woken (entry ∷ entries) so_far n w s r ended (next ∷ worlds) (move ∷ moves) se re h f so task told =
     let by : Turned n w (side_of move) entry next = turned n w move (entry, next) told.0 in
     both _ _ (now so_far n w ended f (so []) task)
-    (woken_turn entries (woken entries) so_far n (side_of move) w entry next s r ended worlds moves by se re h (turned_reaches n (side_of move) w entry next h by) f so (λ worlds moves front more. task (next ∷ worlds) (move ∷ moves) (entry ∷ front) (told.0, more)) told.1)
+    (woken_turn entries (woken entries) so_far n (side_of move) w entry next s r ended worlds moves by se re h
+    (turned_reaches n (side_of move) w entry next h by) f so
+    (λ worlds moves front more. task (next ∷ worlds) (move ∷ moves) (entry ∷ front) (told.0, more)) told.1)
 woken [] so_far n w s r ended [] (move ∷ moves) se re h f so task told = elim told [ ]
 woken [] so_far n w s r ended (next ∷ worlds) [] se re h f so task told = elim told [ ]
 woken [] so_far n w s r ended (next ∷ worlds) (move ∷ moves) se re h f so task told = elim told [ ]
@@ -188,13 +238,16 @@ woken (entry ∷ entries) so_far n w s r ended [] [] se re h f so task told = el
 woken (entry ∷ entries) so_far n w s r ended [] (move ∷ moves) se re h f so task told = elim told [ ]
 woken (entry ∷ entries) so_far n w s r ended (next ∷ worlds) [] se re h f so task told = elim told [ ]
 
-pub never_unwoken : {T : Type 0} (s : SenderScript T) (r : ReceiverScript) (worlds : List World) (moves : List Move) (entries : List Entry) → Tells (opening s r) worlds moves entries → NeverUnwoken s r moves entries
+pub never_unwoken : {T : Type 0} (s : SenderScript T) (r : ReceiverScript) (worlds : List World) (moves : List Move)
+    (entries : List Entry) → Tells (opening s r) worlds moves entries → NeverUnwoken s r moves entries
 never_unwoken s r worlds moves entries tells =
     record {
       worlds = worlds;
       tells = tells;
       woken =
-          woken entries (marks (calls_of s r)) 1 (opening s r) (sender_reading (calls_of s r)) (receiver_reading (calls_of s r)) false worlds moves refl refl (opening_reached s r)
+          woken entries (marks (calls_of s r)) 1 (opening s r) (sender_reading (calls_of s r))
+          (receiver_reading (calls_of s r)) false worlds moves refl refl (opening_reached s r)
           (opening_found ended_reader all_alike ended_classed explored s.last)
-          (λ front. answered_in front _ _ 1 _) (λ worlds moves front told. no_task_waits s r worlds moves front told) tells;
+          (λ front. answered_in front _ _ 1 _) (λ worlds moves front told. no_task_waits s r worlds moves front told)
+          tells;
     }

@@ -1,4 +1,5 @@
--- No task waits unwoken: in each run, once the sender's send or drop has answered, the last poll that left its task was woken.
+-- No task waits unwoken: in each run, once the sender's send or drop has answered, the last poll that left
+-- its task was woken.
 use Rattle.std.proofs.Common.{◌≡◌, ℕ, ◌==◌, Bool, true, false, not, ◌&&◌, ◌||◌, List, [], ◌∷◌, map, Option, Some, None, is_some, get_or, refl, sym, ◌∙◌, ap, if◌then◌else◌}
 use Rattle.std.proofs.lemmas.Bool.{eq-eqb}
 use Rattle.std.specs.List.{list_any}
@@ -29,7 +30,8 @@ use Rattle.oneshot_laws.proofs.Glanced.{Law, Passes, as_glance, of_call, with_hi
 use Rattle.oneshot_laws.proofs.Glances.{Glance, glance_of}
 use Rattle.oneshot_laws.proofs.Watched.{Names, Classed}
 
--- of the last poll: none of the number that waits, one under way, or one that left its task; nothing woke it since it began
+-- of the last poll: none of the number that waits, one under way, or one that left its task; nothing woke it
+-- since it began
 pub data Nap : Type 0 where
   Calm : Nap
   Polling : Nap
@@ -56,17 +58,20 @@ abbrev nap_after : ℕ → Nap → List Mark → Nap
 nap_after number nap ms = own_after (nap_then number) nap (map glance_of ms)
 
 -- what was left and not woken stays so
-left_stays : (begins this woken pending : Bool) → begins ≡ false → woken ≡ false → answered pending (roused woken (begun begins this Left)) ≡ Left
+left_stays : (begins this woken pending : Bool) → begins ≡ false → woken ≡ false
+    → answered pending (roused woken (begun begins this Left)) ≡ Left
 left_stays false this false pending b w = refl
 left_stays true this woken pending b w = cc
 left_stays false this true pending b w = cc
 
-polling_stays : (begins this woken pending : Bool) → begins ≡ false → woken ≡ false → answered pending (roused woken (begun begins this Polling)) ≡ (if pending then Left else Polling)
+polling_stays : (begins this woken pending : Bool) → begins ≡ false → woken ≡ false
+    → answered pending (roused woken (begun begins this Polling)) ≡ (if pending then Left else Polling)
 polling_stays false this false pending b w = refl
 polling_stays true this woken pending b w = cc
 polling_stays false this true pending b w = cc
 
-polling_begins : (begins this woken pending : Bool) (nap : Nap) → begins ≡ true → this ≡ true → woken ≡ false → answered pending (roused woken (begun begins this nap)) ≡ (if pending then Left else Polling)
+polling_begins : (begins this woken pending : Bool) (nap : Nap) → begins ≡ true → this ≡ true → woken ≡ false
+    → answered pending (roused woken (begun begins this nap)) ≡ (if pending then Left else Polling)
 polling_begins true true false pending nap b t w = refl
 polling_begins false this woken pending nap b t w = cc
 polling_begins true false woken pending nap b t w = cc
@@ -80,20 +85,25 @@ none_later : (a b : Bool) → (a || b) ≡ false → b ≡ false
 none_later false b h = h
 none_later true b h = cc
 
-still_left : (number : ℕ) (ms : List Mark) → list_any begins_poll_or_drop ms ≡ false → list_any (wakes number) ms ≡ false → nap_after number Left ms ≡ Left
+still_left : (number : ℕ) (ms : List Mark) → list_any begins_poll_or_drop ms ≡ false
+    → list_any (wakes number) ms ≡ false → nap_after number Left ms ≡ Left
 still_left number [] b w = refl
 still_left number (m ∷ ms) b w =
     ap (λ nap. nap_after number nap ms)
-    (left_stays (begins_poll_or_drop m) (is_own number (number_of m.call)) (wakes number m) (answers_pending m) (none_first _ _ b) (none_first _ _ w))
+    (left_stays (begins_poll_or_drop m) (is_own number (number_of m.call)) (wakes number m) (answers_pending m)
+    (none_first _ _ b) (none_first _ _ w))
     ∙ still_left number ms (none_later (begins_poll_or_drop m) _ b) (none_later (wakes number m) _ w)
 
 -- a poll under way that answers "pending" later
-left_then : (number : ℕ) (ms : List Mark) → list_any answers_pending ms ≡ true → list_any begins_poll_or_drop ms ≡ false → list_any (wakes number) ms ≡ false → nap_after number Polling ms ≡ Left
+left_then : (number : ℕ) (ms : List Mark) → list_any answers_pending ms ≡ true → list_any begins_poll_or_drop ms ≡ false
+    → list_any (wakes number) ms ≡ false → nap_after number Polling ms ≡ Left
 left_then number [] p b w = cc
 left_then number (m ∷ ms) p b w =
     ap (λ nap. nap_after number nap ms)
-    (polling_stays (begins_poll_or_drop m) (is_own number (number_of m.call)) (wakes number m) (answers_pending m) (none_first _ _ b) (none_first _ _ w))
-    ∙ elim (answers_pending m) as (λ a. (a || list_any answers_pending ms) ≡ true → nap_after number (if a then Left else Polling) ms ≡ Left) [
+    (polling_stays (begins_poll_or_drop m) (is_own number (number_of m.call)) (wakes number m) (answers_pending m)
+    (none_first _ _ b) (none_first _ _ w))
+    ∙ elim (answers_pending m) as (λ a. (a || list_any answers_pending ms) ≡ true → nap_after number
+    (if a then Left else Polling) ms ≡ Left) [
       | true ↦ λ p. still_left number ms (none_later (begins_poll_or_drop m) _ b) (none_later (wakes number m) _ w)
       | false ↦ λ p. left_then number ms p (none_later (begins_poll_or_drop m) _ b) (none_later (wakes number m) _ w)
     ] p
@@ -118,16 +128,21 @@ is_not false h = refl
 is_not true h = cc
 
 -- where it begins
-left_here : (number : ℕ) (m : Mark) (ms : List Mark) (nap : Nap) → m.begins ≡ true → is_own number (number_of m.call) ≡ true → is_left_by (Some number) m ms ≡ true → nap_after number nap (m ∷ ms) ≡ Left
+left_here : (number : ℕ) (m : Mark) (ms : List Mark) (nap : Nap) → m.begins ≡ true
+    → is_own number (number_of m.call) ≡ true → is_left_by (Some number) m ms ≡ true
+    → nap_after number nap (m ∷ ms) ≡ Left
 left_here number m ms nap begins this left =
     let told = and_left _ _ left in
     let pending = and_left _ _ told in
     let calm = is_not _ (and_right (list_any answers_pending (m ∷ ms)) _ told) in
-    let silent = is_not _ (and_right (list_any answers_pending (m ∷ ms) && not (list_any begins_poll_or_drop ms)) _ left) in
+    let silent =
+    is_not _ (and_right (list_any answers_pending (m ∷ ms) && not (list_any begins_poll_or_drop ms)) _ left) in
     ap (λ nap. nap_after number nap ms)
     (polling_begins (begins_poll_or_drop m) (is_own number (number_of m.call)) (wakes number m) (answers_pending m) nap
-    (begins_it m.begins (is_poll m.call) (is_drop_of_receiver m.call) begins (has_number number (number_of m.call) this)) this (none_first _ _ silent))
-    ∙ elim (answers_pending m) as (λ a. (a || list_any answers_pending ms) ≡ true → nap_after number (if a then Left else Polling) ms ≡ Left) [
+    (begins_it m.begins (is_poll m.call) (is_drop_of_receiver m.call) begins
+    (has_number number (number_of m.call) this)) this (none_first _ _ silent))
+    ∙ elim (answers_pending m) as (λ a. (a || list_any answers_pending ms) ≡ true → nap_after number
+    (if a then Left else Polling) ms ≡ Left) [
       | true ↦ λ p. still_left number ms calm (none_later (wakes number m) _ silent)
       | false ↦ λ p. left_then number ms p calm (none_later (wakes number m) _ silent)
     ] pending
@@ -136,15 +151,19 @@ left_here number m ms nap begins this left =
 left_after : (number : ℕ) (ms : List Mark) (nap : Nap) → waits_by number ms ≡ true → nap_after number nap ms ≡ Left
 left_after number [] nap w = cc
 left_after number (m ∷ ms) nap w =
-    elim (m.begins && (is_own number (number_of m.call) && is_left_by (Some number) m ms)) as (λ b. (m.begins && (is_own number (number_of m.call) && is_left_by (Some number) m ms)) ≡ b → (b || waits_by number ms) ≡ true → nap_after number nap (m ∷ ms) ≡ Left) [
+    elim (m.begins && (is_own number (number_of m.call) && is_left_by (Some number) m ms)) as
+    (λ b. (m.begins && (is_own number (number_of m.call) && is_left_by (Some number) m ms)) ≡ b
+    → (b || waits_by number ms) ≡ true → nap_after number nap (m ∷ ms) ≡ Left) [
       | true ↦ λ e w.
           let it = and_right m.begins _ e in
-          left_here number m ms nap (and_left _ _ e) (and_left _ _ it) (and_right (is_own number (number_of m.call)) _ it)
+          left_here number m ms nap (and_left _ _ e) (and_left _ _ it)
+          (and_right (is_own number (number_of m.call)) _ it)
       | false ↦ λ e w. left_after number ms (nap_then number nap (glance_of m)) w
     ] refl w
 
 -- the number of the poll that left its task
-left_number : (x : Option ℕ) (m : Mark) (ms : List Mark) → is_left_by x m ms ≡ true → (number : ℕ) × (is_own number x && is_left_by (Some number) m ms) ≡ true
+left_number : (x : Option ℕ) (m : Mark) (ms : List Mark) → is_left_by x m ms ≡ true
+    → (number : ℕ) × (is_own number x && is_left_by (Some number) m ms) ≡ true
 left_number None m ms h = absurd (cc h)
 left_number (Some number) m ms h = (number, both (number == number) _ (eq-eqb number number refl) h)
 
@@ -159,7 +178,9 @@ or_first false b h = absurd (cc h)
 left_by_number : (ms : List Mark) → waits_in_task ms ≡ true → (number : ℕ) × waits_by number ms ≡ true
 left_by_number [] h = absurd (cc h)
 left_by_number (m ∷ ms) h =
-    elim (m.begins && is_left_by (number_of m.call) m ms) as (λ b. (m.begins && is_left_by (number_of m.call) m ms) ≡ b → (b || waits_in_task ms) ≡ true → (number : ℕ) × waits_by number (m ∷ ms) ≡ true) [
+    elim (m.begins && is_left_by (number_of m.call) m ms) as
+    (λ b. (m.begins && is_left_by (number_of m.call) m ms) ≡ b → (b || waits_in_task ms) ≡ true
+    → (number : ℕ) × waits_by number (m ∷ ms) ≡ true) [
       | true ↦ λ e h.
           let it = left_number (number_of m.call) m ms (and_right m.begins _ e) in
           (it.0, or_first _ _ (both m.begins _ (and_left _ _ e) it.1))
@@ -177,7 +198,8 @@ is_one : (b : Bool) → (bool_code b == 1) ≡ b
 is_one true = refl
 is_one false = refl
 
-used_as : (number : ℕ) (x : Option WakerMove) → uses_copy_of 1 (option_map (as_move (of_number number)) x) ≡ uses_copy_of number x
+used_as : (number : ℕ) (x : Option WakerMove)
+    → uses_copy_of 1 (option_map (as_move (of_number number)) x) ≡ uses_copy_of number x
 used_as number None = refl
 used_as number (Some (Parker, from, W.New)) = refl
 used_as number (Some (Parker, from, W.Hand)) = refl
@@ -196,7 +218,8 @@ own_as : (number : ℕ) (x : Option ℕ) → is_own 1 (option_map (of_number num
 own_as number None = refl
 own_as number (Some other) = is_one (other == number)
 
-polled_as : (number : ℕ) (call : Call) → is_own 1 (number_of (as_call (of_number number) call)) ≡ is_own number (number_of call)
+polled_as : (number : ℕ) (call : Call)
+    → is_own 1 (number_of (as_call (of_number number) call)) ≡ is_own number (number_of call)
 polled_as number (Poll other) = is_one (other == number)
 polled_as number _ = refl
 
@@ -204,7 +227,8 @@ nap_as : (number : ℕ) (nap : Nap) (g : Glance) → nap_then 1 nap (as_glance (
 nap_as number nap g =
     let k = of_number number in
     let poll : is_poll (as_call k g.call) ≡ is_poll g.call = of_call k is_poll (λ a b. refl) g.call in
-    let drops : is_drop_of_receiver (as_call k g.call) ≡ is_drop_of_receiver g.call = of_call k is_drop_of_receiver (λ a b. refl) g.call in
+    let drops : is_drop_of_receiver (as_call k g.call) ≡ is_drop_of_receiver g.call =
+    of_call k is_drop_of_receiver (λ a b. refl) g.call in
     rw (poll, drops, used_as number g.entry.waker, own_as number g.entry.own, polled_as number g.call) refl
 
 -- THE READER: the last poll of the number, and whether the sender's last call has answered
@@ -279,20 +303,26 @@ classed number =
     }
 
 -- what the reader accepts ends well
-well_after : (gs : List Glance) (x : Story) → is_well x ≡ true → Passes task_law x gs → is_well (own_after story_then x gs) ≡ true
+well_after : (gs : List Glance) (x : Story) → is_well x ≡ true → Passes task_law x gs
+    → is_well (own_after story_then x gs) ≡ true
 well_after [] x well p = well
 well_after (g ∷ gs) x well p = well_after gs (story_then x g) p.0 p.1
 
-nap_of : (number : ℕ) (ms : List Mark) (x : Story) → (own_after story_then x (map (as_glance (of_number number)) (map glance_of ms))).nap ≡ nap_after number x.nap ms
+nap_of : (number : ℕ) (ms : List Mark) (x : Story)
+    → (own_after story_then x (map (as_glance (of_number number)) (map glance_of ms))).nap ≡ nap_after number x.nap ms
 nap_of number [] x = refl
 nap_of number (m ∷ ms) x =
     nap_of number ms (story_then x (as_glance (of_number number) (glance_of m)))
     ∙ ap (λ nap. nap_after number nap ms) (nap_as number x.nap (glance_of m))
 
-ended_as : (number : ℕ) (m : Mark) → ends_sender (as_glance (of_number number) (glance_of m)) ≡ (is_some m.entry.reply && is_end_of_sender m.call)
-ended_as number m = of_call (of_number number) (λ call. is_some m.entry.reply && is_end_of_sender call) (λ a b. refl) m.call
+ended_as : (number : ℕ) (m : Mark)
+    → ends_sender (as_glance (of_number number) (glance_of m)) ≡ (is_some m.entry.reply && is_end_of_sender m.call)
+ended_as number m =
+    of_call (of_number number) (λ call. is_some m.entry.reply && is_end_of_sender call) (λ a b. refl) m.call
 
-ended_of : (number : ℕ) (ms : List Mark) (x : Story) → (own_after story_then x (map (as_glance (of_number number)) (map glance_of ms))).ended ≡ (x.ended || has_answered is_end_of_sender ms)
+ended_of : (number : ℕ) (ms : List Mark) (x : Story)
+    → (own_after story_then x (map (as_glance (of_number number)) (map glance_of ms))).ended
+    ≡ (x.ended || has_answered is_end_of_sender ms)
 ended_of number [] x = sym (or_false x.ended)
 ended_of number (m ∷ ms) x =
     ended_of number ms (story_then x (as_glance (of_number number) (glance_of m)))
@@ -304,7 +334,10 @@ not_both false b h = refl
 not_both true false h = refl
 not_both true true h = h refl refl
 
-pub no_task_waits : {T : Type 0} (s : SenderScript T) (r : ReceiverScript) (worlds : List World) (moves : List Move) (entries : List Entry) → Tells (opening s r) worlds moves entries → not (has_answered is_end_of_sender (marks (calls_of s r) entries) && waits_in_task (marks (calls_of s r) entries)) ≡ true
+pub no_task_waits : {T : Type 0} (s : SenderScript T) (r : ReceiverScript) (worlds : List World) (moves : List Move)
+    (entries : List Entry) → Tells (opening s r) worlds moves entries
+    → not (has_answered is_end_of_sender (marks (calls_of s r) entries) && waits_in_task (marks (calls_of s r) entries))
+    ≡ true
 no_task_waits s r worlds moves entries tells =
     let ms : List Mark = marks (calls_of s r) entries in
     not_both _ _ (λ ended waits.

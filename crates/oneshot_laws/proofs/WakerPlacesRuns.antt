@@ -89,34 +89,48 @@ pub record IsFollowed (k : Classes) (name this : WakerName) : Type 0 where
 
 -- what is seen of it by its class, holds of it by its name
 module _ (k : Classes) (name this : WakerName) (names : Names WakerPlace) (followed : IsFollowed k name this) where
-  if_this : (same : Bool) (from to place : WakerPlace) (later : List WakerMove) → (if same then is_same_waker_place from place && is_waker_move this from to else true) ≡ true → IsPath name (if same then to else place) later → is_path is_same_waker_place (is_waker_move name) place (cons_option (if same then Some (from, to) else None) (moves_of name later)) ≡ true
-  if_this true from to place later h p = both (is_same_waker_place from place && is_waker_move name from to) _ (rw (followed.same_move from to) at h) p
+  if_this : (same : Bool) (from to place : WakerPlace) (later : List WakerMove)
+      → (if same then is_same_waker_place from place && is_waker_move this from to else true) ≡ true
+      → IsPath name (if same then to else place) later → is_path is_same_waker_place (is_waker_move name) place
+      (cons_option (if same then Some (from, to) else None) (moves_of name later)) ≡ true
+  if_this true from to place later h p =
+      both (is_same_waker_place from place && is_waker_move name from to) _ (rw (followed.same_move from to) at h) p
   if_this false from to place later h p = p
 
-  one_move : (x : Option WakerMove) (place : WakerPlace) (later : List WakerMove) → may_move this place (option_map (as_move k) x) ≡ true → IsPath name (goes_to this place (option_map (as_move k) x)) later → IsPath name place (cons_option x later)
+  one_move : (x : Option WakerMove) (place : WakerPlace) (later : List WakerMove)
+      → may_move this place (option_map (as_move k) x) ≡ true
+      → IsPath name (goes_to this place (option_map (as_move k) x)) later → IsPath name place (cons_option x later)
   one_move None place later h p = p
   one_move (Some (other, from, to)) place later h p =
       if_this (is_same_waker other name) from to place later
-      (subst (λ same. (if same then is_same_waker_place from place && is_waker_move this from to else true) ≡ true) (followed.same_name other) h)
+      (subst (λ same. (if same then is_same_waker_place from place && is_waker_move this from to else true) ≡ true)
+      (followed.same_name other) h)
       (subst (λ same. IsPath name (if same then to else place) later) (followed.same_name other) p)
 
-  path : (ms : List Mark) (place : WakerPlace) → Asked (moves_of_one this names) place (map (as_glance k) (map glance_of ms)) → IsPath name place (shown_by ms)
+  path : (ms : List Mark) (place : WakerPlace)
+      → Asked (moves_of_one this names) place (map (as_glance k) (map glance_of ms)) → IsPath name place (shown_by ms)
   path [] place p = refl
   path (m ∷ ms) place p =
       one_move m.entry.waker place (shown_by ms) p.0 (path ms (place_then this place (as_glance k (glance_of m))) p.1)
 
   -- where it is at the end
-  last_if : (same : Bool) (from to place : WakerPlace) (later : List WakerMove) → last_place (if same then to else place) (moves_of name later) ≡ last_place place (cons_option (if same then Some (from, to) else None) (moves_of name later))
+  last_if : (same : Bool) (from to place : WakerPlace) (later : List WakerMove)
+      → last_place (if same then to else place) (moves_of name later)
+      ≡ last_place place (cons_option (if same then Some (from, to) else None) (moves_of name later))
   last_if true from to place later = refl
   last_if false from to place later = refl
 
-  last_after : (x : Option WakerMove) (place : WakerPlace) (later : List WakerMove) → last_place (goes_to this place (option_map (as_move k) x)) (moves_of name later) ≡ last_place place (moves_of name (cons_option x later))
+  last_after : (x : Option WakerMove) (place : WakerPlace) (later : List WakerMove)
+      → last_place (goes_to this place (option_map (as_move k) x)) (moves_of name later)
+      ≡ last_place place (moves_of name (cons_option x later))
   last_after None place later = refl
   last_after (Some (other, from, to)) place later =
       ap (λ same. last_place (if same then to else place) (moves_of name later)) (followed.same_name other)
       ∙ last_if (is_same_waker other name) from to place later
 
-  place_after : (ms : List Mark) (place : WakerPlace) → own_after (place_then this) place (map (as_glance k) (map glance_of ms)) ≡ last_place place (moves_of name (shown_by ms))
+  place_after : (ms : List Mark) (place : WakerPlace)
+      → own_after (place_then this) place (map (as_glance k) (map glance_of ms))
+      ≡ last_place place (moves_of name (shown_by ms))
   place_after [] place = refl
   place_after (m ∷ ms) place =
       place_after ms (place_then this place (as_glance k (glance_of m))) ∙ last_after m.entry.waker place (shown_by ms)
@@ -130,15 +144,20 @@ module _ {T : Type 0} (s : SenderScript T) (r : ReceiverScript) (entries : List 
   same_moves = shown entries _ _ 1 _
 
   module _ (k : Classes) (name this : WakerName) (names : Names WakerPlace) (followed : IsFollowed k name this) where
-    name_followed : Asked (moves_of_one this names) (first_waker_place name) (map (as_glance k) (map glance_of MarksOfRun)) → is_waker_followed entries name ≡ true
+    name_followed : Asked (moves_of_one this names) (first_waker_place name)
+        (map (as_glance k) (map glance_of MarksOfRun)) → is_waker_followed entries name ≡ true
     name_followed p =
-        subst (λ ms. IsPath name (first_waker_place name) ms) (sym same_moves) (path k name this names followed MarksOfRun (first_waker_place name) p)
+        subst (λ ms. IsPath name (first_waker_place name) ms) (sym same_moves)
+        (path k name this names followed MarksOfRun (first_waker_place name) p)
 
-    name_ended : only_if (all_ended MarksOfRun) (is_waker_end this (own_after (place_then this) (first_waker_place name) (map (as_glance k) (map glance_of MarksOfRun)))) ≡ true → is_waker_ended entries MarksOfRun name ≡ true
+    name_ended : only_if (all_ended MarksOfRun)
+        (is_waker_end this (own_after (place_then this) (first_waker_place name)
+        (map (as_glance k) (map glance_of MarksOfRun)))) ≡ true → is_waker_ended entries MarksOfRun name ≡ true
     name_ended h =
         subst (λ good. only_if (all_ended MarksOfRun) good ≡ true)
         (followed.same_end _
-        ∙ ap (is_waker_end name) (place_after k name this names followed MarksOfRun (first_waker_place name) ∙ ap (λ ms. last_place (first_waker_place name) (moves_of name ms)) (sym same_moves)))
+        ∙ ap (is_waker_end name) (place_after k name this names followed MarksOfRun (first_waker_place name) ∙ ap
+        (λ ms. last_place (first_waker_place name) (moves_of name ms)) (sym same_moves)))
         h
 
 -- THE PARKER'S HALF, which is in the hand at first
@@ -205,7 +224,11 @@ module _ (number entry : ℕ) where
 
   copy_is_followed : IsFollowed following (Copy number entry) this_copy
   copy_is_followed =
-      record { same_name = same_as_copy; same_move = copy_move 1 0 number entry; same_end = copy_ended 1 0 number entry }
+      record {
+        same_name = same_as_copy;
+        same_move = copy_move 1 0 number entry;
+        same_end = copy_ended 1 0 number entry;
+      }
 
   -- it is new, or its entry is past
   abbrev is_new_or_past : ℕ → WakerPlace → Bool
@@ -222,7 +245,8 @@ module _ (number entry : ℕ) where
   is_past : (n : ℕ) → nat_lt entry n ≡ true → (n == entry) ≡ false
   is_past n h = ne_eqb n entry (λ same. omega (arith, ltb-true entry n h, same))
 
-  copied_at : (n : ℕ) (place : WakerPlace) → is_new_or_past n place ≡ true → (a : ℕ) → is_listed (following.copies a n) (copies_at place) ≡ true
+  copied_at : (n : ℕ) (place : WakerPlace) → is_new_or_past n place ≡ true → (a : ℕ)
+      → is_listed (following.copies a n) (copies_at place) ≡ true
   copied_at n New h a = either (a == number && n == entry)
   copied_at n _ h a = none_of (a == number) (n == entry) (is_past n h)
 
@@ -237,7 +261,9 @@ module _ (number entry : ℕ) where
   made_now n i this now = lt-ltb entry (n + 1) (omega (arith, eqb-true i entry this, eqb-true i n now))
 
   -- it is made, now or before
-  is_made : (n a i : ℕ) (from to place : WakerPlace) → is_new_or_past n place ≡ true → (is_same_waker_place from place && is_waker_move this_copy from to) ≡ true → (i == entry) ≡ true → is_fresh n (Some (Copy a i, from, to)) ≡ true → nat_lt entry (n + 1) ≡ true
+  is_made : (n a i : ℕ) (from to place : WakerPlace) → is_new_or_past n place ≡ true
+      → (is_same_waker_place from place && is_waker_move this_copy from to) ≡ true → (i == entry) ≡ true
+      → is_fresh n (Some (Copy a i, from, to)) ≡ true → nat_lt entry (n + 1) ≡ true
   is_made n a i New to place past may this fresh = made_now n i this fresh
   is_made n a i from to Hand past may this fresh = next_past n past
   is_made n a i from to Cell past may this fresh = next_past n past
@@ -246,15 +272,22 @@ module _ (number entry : ℕ) where
   is_made n a i from to Dropped past may this fresh = next_past n past
   is_made n a i from to New past may this fresh = cc
 
-  goes_by : (n a i : ℕ) (from to place : WakerPlace) (b : Bool) → (a == number && i == entry) ≡ b → is_new_or_past n place ≡ true → (if bool_code b == 1 && 0 == 0 then is_same_waker_place from place && is_waker_move this_copy from to else true) ≡ true → is_fresh n (Some (Copy a i, from, to)) ≡ true → is_new_or_past (n + 1) (if bool_code b == 1 && 0 == 0 then to else place) ≡ true
+  goes_by : (n a i : ℕ) (from to place : WakerPlace) (b : Bool) → (a == number && i == entry) ≡ b
+      → is_new_or_past n place ≡ true
+      → (if bool_code b == 1 && 0 == 0 then is_same_waker_place from place && is_waker_move this_copy from to else true)
+      ≡ true → is_fresh n (Some (Copy a i, from, to)) ≡ true
+      → is_new_or_past (n + 1) (if bool_code b == 1 && 0 == 0 then to else place) ≡ true
   goes_by n a i from to place true this past may fresh =
       or_right (is_new to) _ (is_made n a i from to place past may (and_right (a == number) _ this) fresh)
   goes_by n a i from to place false this past may fresh = later n (is_new place) past
 
-  goes_at : (n : ℕ) (place : WakerPlace) (x : Option WakerMove) → is_new_or_past n place ≡ true → may_move this_copy place (option_map (as_move following) x) ≡ true → is_fresh n x ≡ true → is_new_or_past (n + 1) (goes_to this_copy place (option_map (as_move following) x)) ≡ true
+  goes_at : (n : ℕ) (place : WakerPlace) (x : Option WakerMove) → is_new_or_past n place ≡ true
+      → may_move this_copy place (option_map (as_move following) x) ≡ true → is_fresh n x ≡ true
+      → is_new_or_past (n + 1) (goes_to this_copy place (option_map (as_move following) x)) ≡ true
   goes_at n place None past may fresh = later n (is_new place) past
   goes_at n place (Some (Parker, from, to)) past may fresh = later n (is_new place) past
-  goes_at n place (Some (Copy a i, from, to)) past may fresh = goes_by n a i from to place (a == number && i == entry) refl past may fresh
+  goes_at n place (Some (Copy a i, from, to)) past may fresh =
+      goes_by n a i from to place (a == number && i == entry) refl past may fresh
 
   abbrev copy_classed : Classed (with_history (kept copy_moves)) following
   copy_classed =
@@ -263,13 +296,17 @@ module _ (number entry : ℕ) where
         polled = λ a. refl;
         copied = λ n x past a. copied_at n x.state.own past a;
         stays = λ n x past. later n (is_new x.state.own) past;
-        goes = λ n x side call e past a fresh. goes_at n x.state.own e.waker past (and_left _ _ (and_right _ _ a)) fresh;
+        goes = λ n x side call e past a fresh. goes_at n x.state.own e.waker past (and_left _ _ (and_right _ _ a))
+            fresh;
       }
 
-module _ {T : Type 0} (each : Passed (kept parker_moves) T) (s : SenderScript T) (r : ReceiverScript) (worlds : List World) (moves : List Move) (entries : List Entry) (tells : Tells (opening s r) worlds moves entries) where
+module _ {T : Type 0} (each : Passed (kept parker_moves) T) (s : SenderScript T) (r : ReceiverScript)
+    (worlds : List World) (moves : List Move) (entries : List Entry)
+    (tells : Tells (opening s r) worlds moves entries) where
   copy_passes : (number entry : ℕ) → PassesEnding copy_moves (following number entry) s r entries
   copy_passes number entry =
-      passes_by (kept copy_moves) (following number entry) (copy_classed number entry) copy_explored s r worlds moves entries refl tells
+      passes_by (kept copy_moves) (following number entry) (copy_classed number entry) copy_explored s r worlds moves
+      entries refl tells
 
   pub wakers_right : AreWakersRight entries (marks (calls_of s r) entries)
   wakers_right Parker = (
@@ -279,9 +316,11 @@ module _ {T : Type 0} (each : Passed (kept parker_moves) T) (s : SenderScript T)
         (ended_run parker_moves all_alike s r entries (each s r worlds moves entries tells)),
   )
   wakers_right (Copy number entry) = (
-    name_followed s r entries (following number entry) (Copy number entry) this_copy of_one_copy (copy_is_followed number entry)
+    name_followed s r entries (following number entry) (Copy number entry) this_copy of_one_copy
+        (copy_is_followed number entry)
         (asked_run copy_moves (following number entry) s r entries (copy_passes number entry)),
-    name_ended s r entries (following number entry) (Copy number entry) this_copy of_one_copy (copy_is_followed number entry)
+    name_ended s r entries (following number entry) (Copy number entry) this_copy of_one_copy
+        (copy_is_followed number entry)
         (ended_run copy_moves (following number entry) s r entries (copy_passes number entry)),
   )
 
@@ -304,15 +343,18 @@ abbrev pub write_law : Law Bool
 write_law =
     record { coding = flags; passes = writes_rightly; sees = full_then; names = no_names; first = λ place. false }
 
-one_write : (x : Option WakerMove) (full : Bool) (later : List WakerMove) → may_write full x ≡ true → is_cell_right (cell_by full x) later ≡ true → is_cell_right full (cons_option x later) ≡ true
+one_write : (x : Option WakerMove) (full : Bool) (later : List WakerMove) → may_write full x ≡ true
+    → is_cell_right (cell_by full x) later ≡ true → is_cell_right full (cons_option x later) ≡ true
 one_write None full later h k = k
 one_write (Some move) full later h k = both (only_if (is_cell move.2) (not full)) _ h k
 
-written : (ms : List Mark) (full : Bool) → Passes write_law full (map glance_of ms) → is_cell_right full (shown_by ms) ≡ true
+written : (ms : List Mark) (full : Bool) → Passes write_law full (map glance_of ms)
+    → is_cell_right full (shown_by ms) ≡ true
 written [] full p = refl
 written (m ∷ ms) full p = one_write m.entry.waker full (shown_by ms) p.0 (written ms (full_then full (glance_of m)) p.1)
 
-write_as : (k : Classes) (full : Bool) (x : Option WakerMove) → may_write full (option_map (as_move k) x) ≡ may_write full x
+write_as : (k : Classes) (full : Bool) (x : Option WakerMove)
+    → may_write full (option_map (as_move k) x) ≡ may_write full x
 write_as k full None = refl
 write_as k full (Some move) = refl
 
@@ -328,7 +370,9 @@ write_nameless =
       sees_same = λ k full g. full_as k full g.entry.waker;
     }
 
-pub cell_kept : {T : Type 0} → Passed write_law T → (s : SenderScript T) (r : ReceiverScript) (worlds : List World) (moves : List Move) (entries : List Entry) → Tells (opening s r) worlds moves entries → is_cell_kept entries ≡ true
+pub cell_kept : {T : Type 0} → Passed write_law T
+    → (s : SenderScript T) (r : ReceiverScript) (worlds : List World) (moves : List Move) (entries : List Entry)
+    → Tells (opening s r) worlds moves entries → is_cell_kept entries ≡ true
 cell_kept each s r worlds moves entries tells =
     subst (λ ms. is_cell_right false ms ≡ true) (sym (shown entries _ _ 1 _))
     (written (marks (calls_of s r) entries) false

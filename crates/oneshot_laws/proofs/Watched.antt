@@ -1,4 +1,5 @@
--- A reader of traces beside the machines, by classes of copies and polls: the checker explores both together, and what each found pair passes, each run passes.
+-- A reader of traces beside the machines, by classes of copies and polls: the checker explores both together,
+-- and what each found pair passes, each run passes.
 use Rattle.std.proofs.Common.{◌≡◌, ℕ, ◌+◌, ◌==◌, if◌then◌else◌, Bool, true, false, ◌&&◌, List, [], ◌∷◌, Option, Some, None, refl, sym, ◌∙◌, ap, subst}
 use Rattle.std.proofs.lemmas.Bool.{eq-eqb}
 use Rattle.std.specs.List.{list_all, filter_map}
@@ -55,20 +56,25 @@ is_fresh e None = true
 is_fresh e (Some (name, W.New, to)) = is_named_by e name
 is_fresh e (Some (name, _, to)) = true
 
-old_move : (e : ℕ) (f : WakerName → WakerMove) → ((name : WakerName) → is_fresh e (Some (f name)) ≡ true) → (x : Option WakerName) → is_fresh e (option_map f x) ≡ true
+old_move : (e : ℕ) (f : WakerName → WakerMove) → ((name : WakerName) → is_fresh e (Some (f name)) ≡ true)
+    → (x : Option WakerName) → is_fresh e (option_map f x) ≡ true
 old_move e f h None = refl
 old_move e f h (Some name) = h name
 
-told_fresh : (e : ℕ) (answer : Bool) (number : Option ℕ) → is_fresh e (if answer then None else option_map (λ name. (name, W.New, W.Hand)) (told_with answer e number).copy) ≡ true
+told_fresh : (e : ℕ) (answer : Bool) (number : Option ℕ)
+    → is_fresh e (if answer then None else option_map (λ name. (name, W.New, W.Hand)) (told_with answer e number).copy)
+    ≡ true
 told_fresh e true number = refl
 told_fresh e false None = refl
 told_fresh e false (Some number) = eq-eqb e e refl
 
-exchange_fresh : (e : ℕ) (b : Bool) (x : Option WakerName) → is_fresh e (if b then None else option_map (λ name. (name, W.Hand, W.Dropped)) x) ≡ true
+exchange_fresh : (e : ℕ) (b : Bool) (x : Option WakerName)
+    → is_fresh e (if b then None else option_map (λ name. (name, W.Hand, W.Dropped)) x) ≡ true
 exchange_fresh e true x = refl
 exchange_fresh e false x = old_move e (λ name. (name, W.Hand, W.Dropped)) (λ name. refl) x
 
-move_fresh : (e : ℕ) (answer : Bool) (number : Option ℕ) (word : ℕ) (w : Wakers) (step : Step) → is_fresh e (waker_move (told_with answer e number) word w step) ≡ true
+move_fresh : (e : ℕ) (answer : Bool) (number : Option ℕ) (word : ℕ) (w : Wakers) (step : Step)
+    → is_fresh e (waker_move (told_with answer e number) word w step) ≡ true
 move_fresh e answer number word w T.WriteWaker = old_move e (λ name. (name, W.Hand, W.Cell)) (λ name. refl) w.hand
 move_fresh e answer number word w T.TakeWaker = old_move e (λ name. (name, W.Cell, W.SenderHand)) (λ name. refl) w.cell
 move_fresh e answer number word w T.Withdraw = old_move e (λ name. (name, W.Cell, back_to name)) (λ name. refl) w.cell
@@ -106,7 +112,8 @@ pub record Names (M : Type 0) : Type 0 where
 abbrev pub no_names : {M : Type 0} → Names M
 no_names = record { polls = one_poll; copies = λ m. one_copy }
 
--- A reader of traces: whether it accepts an entry, and where it goes with it, both by classes; and where it begins, by the message's first place.
+-- A reader of traces: whether it accepts an entry, and where it goes with it, both by classes; and where it
+-- begins, by the message's first place.
 pub record Automaton (M : Type 0) : Type 0 where
   pub coding : Coding M
   pub accepts : End → Call → Made → M → Bool
@@ -176,7 +183,9 @@ abbrev pub class_under_way : Classes → Unanswered → Call
 class_under_way k left = or_stray (option_map (as_call k) (first left.calls))
 
 pub class_is : (k : Classes) (left : Unanswered) → class_under_way k left ≡ as_call k (call_under_way left)
-class_is k left = elim (first left.calls) as (λ c. or_stray (option_map (as_call k) c) ≡ as_call k (or_stray c)) [ None ↦ refl | Some call ↦ refl ]
+class_is k left =
+    elim (first left.calls) as (λ c. or_stray (option_map (as_call k) c) ≡ as_call k (or_stray c))
+    [ None ↦ refl | Some call ↦ refl ]
 
 module _ {M : Type 0} (a : Automaton M) where
   -- the reader accepts a trace of scripts that have this left
@@ -185,7 +194,8 @@ module _ {M : Type 0} (a : Automaton M) where
   Accepts m s r (Idle side ∷ entries) = Accepts m s r entries
   Accepts m s r (Made_entry e ∷ entries) =
       (a.accepts e.side (call_under_way (by_end e.side s r)) e m ≡ true)
-      × Accepts (a.reads e.side (call_under_way (by_end e.side s r)) e m) (left_after e.side Sender e.reply s) (left_after e.side Receiver e.reply r) entries
+      × Accepts (a.reads e.side (call_under_way (by_end e.side s r)) e m) (left_after e.side Sender e.reply s)
+      (left_after e.side Receiver e.reply r) entries
 
   -- it accepts the trace as it is seen by classes
   abbrev pub Accepts_by : Classes → M → Unanswered → Unanswered → List Entry → Type 0
@@ -193,38 +203,51 @@ module _ {M : Type 0} (a : Automaton M) where
   Accepts_by k m s r (Idle side ∷ entries) = Accepts_by k m s r entries
   Accepts_by k m s r (Made_entry e ∷ entries) =
       (a.accepts e.side (class_under_way k (by_end e.side s r)) (as_made k e) m ≡ true)
-      × Accepts_by k (a.reads e.side (class_under_way k (by_end e.side s r)) (as_made k e) m) (left_after e.side Sender e.reply s) (left_after e.side Receiver e.reply r) entries
+      × Accepts_by k (a.reads e.side (class_under_way k (by_end e.side s r)) (as_made k e) m)
+      (left_after e.side Sender e.reply s) (left_after e.side Receiver e.reply r) entries
 
 -- a reader that looks at no name and no number
 pub record NamelessReader {M : Type 0} (a : Automaton M) : Type 0 where
-  pub accepts_same : (k : Classes) (side : End) (call : Call) (e : Made) (m : M) → a.accepts side (as_call k call) (as_made k e) m ≡ a.accepts side call e m
-  pub reads_same : (k : Classes) (side : End) (call : Call) (e : Made) (m : M) → a.reads side (as_call k call) (as_made k e) m ≡ a.reads side call e m
+  pub accepts_same : (k : Classes) (side : End) (call : Call) (e : Made) (m : M)
+      → a.accepts side (as_call k call) (as_made k e) m ≡ a.accepts side call e m
+  pub reads_same : (k : Classes) (side : End) (call : Call) (e : Made) (m : M)
+      → a.reads side (as_call k call) (as_made k e) m ≡ a.reads side call e m
 
 -- it accepts a trace where it accepts it by classes
 module _ {M : Type 0} (a : Automaton M) (nameless : NamelessReader a) (k : Classes) where
-  accepts_alike : (side : End) (left : Unanswered) (e : Made) (m : M) → a.accepts side (class_under_way k left) (as_made k e) m ≡ a.accepts side (call_under_way left) e m
+  accepts_alike : (side : End) (left : Unanswered) (e : Made) (m : M)
+      → a.accepts side (class_under_way k left) (as_made k e) m ≡ a.accepts side (call_under_way left) e m
   accepts_alike side left e m =
-      ap (λ call. a.accepts side call (as_made k e) m) (class_is k left) ∙ nameless.accepts_same k side (call_under_way left) e m
+      ap (λ call. a.accepts side call (as_made k e) m) (class_is k left)
+      ∙ nameless.accepts_same k side (call_under_way left) e m
 
-  pub reads_alike : (side : End) (left : Unanswered) (e : Made) (m : M) → a.reads side (class_under_way k left) (as_made k e) m ≡ a.reads side (call_under_way left) e m
+  pub reads_alike : (side : End) (left : Unanswered) (e : Made) (m : M)
+      → a.reads side (class_under_way k left) (as_made k e) m ≡ a.reads side (call_under_way left) e m
   reads_alike side left e m =
-      ap (λ call. a.reads side call (as_made k e) m) (class_is k left) ∙ nameless.reads_same k side (call_under_way left) e m
+      ap (λ call. a.reads side call (as_made k e) m) (class_is k left)
+      ∙ nameless.reads_same k side (call_under_way left) e m
 
   pub alike : (entries : List Entry) (m : M) (s r : Unanswered) → Accepts_by a k m s r entries → Accepts a m s r entries
   alike [] m s r h = tt
   alike (Idle side ∷ entries) m s r h = alike entries m s r h
   alike (Made_entry e ∷ entries) m s r h = (
     sym (accepts_alike e.side (by_end e.side s r) e m) ∙ h.0,
-    alike entries _ _ _ (subst (λ n. Accepts_by a k n (left_after e.side Sender e.reply s) (left_after e.side Receiver e.reply r) entries) (reads_alike e.side (by_end e.side s r) e m) h.1),
+    alike entries _ _ _ (subst
+        (λ n. Accepts_by a k n (left_after e.side Sender e.reply s) (left_after e.side Receiver e.reply r) entries)
+        (reads_alike e.side (by_end e.side s r) e m) h.1),
   )
 
--- Each poll and each copy has a class that was explored. `apt` ties a reader to the number of the entry that is made next, so far as the classes of copies hang on it.
+-- Each poll and each copy has a class that was explored. `apt` ties a reader to the number of the entry that
+-- is made next, so far as the classes of copies hang on it.
 pub record Classed {M : Type 0} (a : Automaton M) (k : Classes) : Type 0 where
   pub apt : ℕ → M → Bool
   pub polled : (number : ℕ) → is_listed (k.polls number) a.names.polls ≡ true
-  pub copied : (n : ℕ) (m : M) → apt n m ≡ true → (number : ℕ) → is_listed (k.copies number n) (a.names.copies m (k.polls number)) ≡ true
+  pub copied : (n : ℕ) (m : M) → apt n m ≡ true → (number : ℕ)
+      → is_listed (k.copies number n) (a.names.copies m (k.polls number)) ≡ true
   pub stays : (n : ℕ) (m : M) → apt n m ≡ true → apt (n + 1) m ≡ true
-  pub goes : (n : ℕ) (m : M) (side : End) (call : Call) (e : Made) → apt n m ≡ true → a.accepts side call (as_made k e) m ≡ true → is_fresh n e.waker ≡ true → apt (n + 1) (a.reads side call (as_made k e) m) ≡ true
+  pub goes : (n : ℕ) (m : M) (side : End) (call : Call) (e : Made) → apt n m ≡ true
+      → a.accepts side call (as_made k e) m ≡ true → is_fresh n e.waker ≡ true
+      → apt (n + 1) (a.reads side call (as_made k e) m) ≡ true
 
 abbrev pub all_classed : {M : Type 0} (a : Automaton M) → a.names ≡ no_names → Classed a all_alike
 all_classed a none =
@@ -247,45 +270,75 @@ module _ {M : Type 0} (a : Automaton M) (k : Classes) (classed : Classed a k) (e
   abbrev pub IsFound : World → M → Type 0
   IsFound w m = IsFoundAt (control_of w) m
 
-  passing : (w : World) (m : M) → IsFound w m → list_all (λ b. passes_on a explored.found m b (control_turn (as_control k (control_of w)) b)) (begins a.names.polls (a.names.copies m) (as_control k (control_of w))) ≡ true
-  passing w m h = passes_where_found (watched_coding a).code (watched_coding a).is_same (watched_coding a).sound (λ x. list_all (λ b. passes_on a explored.found x.reader b (control_turn x.control b)) (begins_beside a x)) explored.found (beside (control_of w) m) (and_right _ _ (and_right _ _ explored.all)) h
+  passing : (w : World) (m : M) → IsFound w m
+      → list_all (λ b. passes_on a explored.found m b (control_turn (as_control k (control_of w)) b))
+      (begins a.names.polls (a.names.copies m) (as_control k (control_of w))) ≡ true
+  passing w m h =
+      passes_where_found (watched_coding a).code (watched_coding a).is_same (watched_coding a).sound
+      (λ x. list_all (λ b. passes_on a explored.found x.reader b (control_turn x.control b)) (begins_beside a x))
+      explored.found (beside (control_of w) m) (and_right _ _ (and_right _ _ explored.all)) h
 
   -- a pair that was found leads to one that was found
-  pub found_next : (n : ℕ) (side : End) (w : World) (entry : Entry) (next : World) (m : M) → Turned n w side entry next → IsReached w → IsFound w m → classed.apt n m ≡ true → IsFound next (reads_entry a (class_under_way k (by_end side w.sender w.receiver)) (as_entry k entry) m)
+  pub found_next : (n : ℕ) (side : End) (w : World) (entry : Entry) (next : World) (m : M) → Turned n w side entry next
+      → IsReached w → IsFound w m → classed.apt n m ≡ true
+      → IsFound next (reads_entry a (class_under_way k (by_end side w.sender w.receiver)) (as_entry k entry) m)
   found_next n _ w _ _ m (sender_idle at) h f apt = f
   found_next n _ w _ _ m (receiver_idle at) h f apt = f
   found_next n _ w _ _ m (sender_made position row at steps) h f apt =
-      let passed = rw steps at (sender_passes k a.names.polls (a.names.copies m) (passes_on a explored.found m) w position h at (passing w m f)) in
-      subst (λ c. IsFoundAt c (a.reads Sender (class_under_way k w.sender) (as_made k (sender_stepped nothing_told w.state (sender_step position) row).0) m))
+      let passed =
+      rw steps at (sender_passes k a.names.polls (a.names.copies m) (passes_on a explored.found m) w position
+      h at (passing w m f)) in
+      subst (λ c. IsFoundAt c (a.reads Sender (class_under_way k w.sender)
+      (as_made k (sender_stepped nothing_told w.state (sender_step position) row).0) m))
       (sender_control_is w (sender_step position) row)
       (and_right _ _ passed)
   found_next n _ w _ _ m (receiver_made answer position row at steps) h f apt =
-      let passed = rw steps at (receiver_passes k a.names.polls (a.names.copies m) (passes_on a explored.found m) n classed.polled (classed.copied n m apt) answer w position h at (passing w m f)) in
-      subst (λ c. IsFoundAt c (a.reads Receiver (class_under_way k w.receiver) (as_made k (receiver_stepped (receiver_told answer n w) w.state (receiver_step position) row).0) m))
+      let passed =
+      rw steps at (receiver_passes k a.names.polls (a.names.copies m) (passes_on a explored.found m) n
+      classed.polled (classed.copied n m apt) answer w position h at (passing w m f)) in
+      subst (λ c. IsFoundAt c (a.reads Receiver (class_under_way k w.receiver)
+      (as_made k (receiver_stepped (receiver_told answer n w) w.state (receiver_step position) row).0) m))
       (receiver_control_is (receiver_told answer n w) w (receiver_step position) row)
       (and_right _ _ passed)
 
   -- every run from here on that tells these entries, of which the next is the n-th, is accepted
   abbrev Claim : List Entry → Type 0
-  Claim entries = (n : ℕ) (w : World) (m : M) (worlds : List World) (moves : List Move) → IsReached w → IsFound w m → classed.apt n m ≡ true → Tells_from n w worlds moves entries → Accepts_by a k m w.sender w.receiver entries
+  Claim entries =
+      (n : ℕ) (w : World) (m : M) (worlds : List World) (moves : List Move) → IsReached w → IsFound w m
+      → classed.apt n m ≡ true → Tells_from n w worlds moves entries → Accepts_by a k m w.sender w.receiver entries
 
-  accepted_turn : (entries : List Entry) → Claim entries → (n : ℕ) (side : End) (w : World) (entry : Entry) (next : World) (m : M) (worlds : List World) (moves : List Move) → Turned n w side entry next → IsReached w → IsReached next → IsFound w m → classed.apt n m ≡ true → Tells_from (n + 1) next worlds moves entries → Accepts_by a k m w.sender w.receiver (entry ∷ entries)
-  accepted_turn entries later n _ w _ _ m worlds moves (sender_idle at) h r f apt told = later (n + 1) w m worlds moves h f (classed.stays n m apt) told
-  accepted_turn entries later n _ w _ _ m worlds moves (receiver_idle at) h r f apt told = later (n + 1) w m worlds moves h f (classed.stays n m apt) told
+  accepted_turn : (entries : List Entry) → Claim entries
+      → (n : ℕ) (side : End) (w : World) (entry : Entry) (next : World) (m : M) (worlds : List World)
+      (moves : List Move) → Turned n w side entry next → IsReached w → IsReached next → IsFound w m
+      → classed.apt n m ≡ true → Tells_from (n + 1) next worlds moves entries
+      → Accepts_by a k m w.sender w.receiver (entry ∷ entries)
+  accepted_turn entries later n _ w _ _ m worlds moves (sender_idle at) h r f apt told =
+      later (n + 1) w m worlds moves h f (classed.stays n m apt) told
+  accepted_turn entries later n _ w _ _ m worlds moves (receiver_idle at) h r f apt told =
+      later (n + 1) w m worlds moves h f (classed.stays n m apt) told
   accepted_turn entries later n _ w _ _ m worlds moves (sender_made position row at steps) h r f apt told =
-      let passed = rw steps at (sender_passes k a.names.polls (a.names.copies m) (passes_on a explored.found m) w position h at (passing w m f)) in (
+      let passed =
+      rw steps at (sender_passes k a.names.polls (a.names.copies m) (passes_on a explored.found m) w position
+      h at (passing w m f)) in (
         and_left _ _ passed,
         later (n + 1) (sender_world w (sender_step position) row) _ worlds moves r
             (found_next n Sender w _ _ m (sender_made position row at steps) h f apt)
-            (classed.goes n m Sender (class_under_way k w.sender) (sender_stepped nothing_told w.state (sender_step position) row).0 apt (and_left _ _ passed) (move_fresh n false None w.state.word w.state.wakers (sender_step position)))
+            (classed.goes n m Sender (class_under_way k w.sender)
+            (sender_stepped nothing_told w.state (sender_step position) row).0 apt (and_left _ _ passed)
+            (move_fresh n false None w.state.word w.state.wakers (sender_step position)))
             told,
       )
   accepted_turn entries later n _ w _ _ m worlds moves (receiver_made answer position row at steps) h r f apt told =
-      let passed = rw steps at (receiver_passes k a.names.polls (a.names.copies m) (passes_on a explored.found m) n classed.polled (classed.copied n m apt) answer w position h at (passing w m f)) in (
+      let passed =
+      rw steps at (receiver_passes k a.names.polls (a.names.copies m) (passes_on a explored.found m) n
+      classed.polled (classed.copied n m apt) answer w position h at (passing w m f)) in (
         and_left _ _ passed,
         later (n + 1) (receiver_world (receiver_told answer n w) w (receiver_step position) row) _ worlds moves r
             (found_next n Receiver w _ _ m (receiver_made answer position row at steps) h f apt)
-            (classed.goes n m Receiver (class_under_way k w.receiver) (receiver_stepped (receiver_told answer n w) w.state (receiver_step position) row).0 apt (and_left _ _ passed) (move_fresh n answer (option_and_then number_of (first w.receiver.calls)) w.state.word w.state.wakers (receiver_step position)))
+            (classed.goes n m Receiver (class_under_way k w.receiver)
+            (receiver_stepped (receiver_told answer n w) w.state (receiver_step position) row).0 apt
+            (and_left _ _ passed) (move_fresh n answer (option_and_then number_of (first w.receiver.calls))
+            w.state.word w.state.wakers (receiver_step position)))
             told,
       )
 
@@ -293,21 +346,27 @@ module _ {M : Type 0} (a : Automaton M) (k : Classes) (classed : Classed a k) (e
   accepted [] n w m worlds moves h f apt told = tt
   accepted (entry ∷ entries) n w m (next ∷ worlds) (move ∷ moves) h f apt told =
       let by : Turned n w (side_of move) entry next = turned n w move (entry, next) told.0 in
-      accepted_turn entries (accepted entries) n (side_of move) w entry next m worlds moves by h (turned_reaches n (side_of move) w entry next h by) f apt told.1
+      accepted_turn entries (accepted entries) n (side_of move) w entry next m worlds moves by h
+      (turned_reaches n (side_of move) w entry next h by) f apt told.1
   accepted (entry ∷ entries) n w m [] [] h f apt told = elim told [ ]
   accepted (entry ∷ entries) n w m [] (move ∷ moves) h f apt told = elim told [ ]
   accepted (entry ∷ entries) n w m (next ∷ worlds) [] h f apt told = elim told [ ]
 
 -- each run of two scripts is accepted
 module _ {M : Type 0} (a : Automaton M) (k : Classes) (classed : Classed a k) (explored : Explored a) where
-  pub opening_found : {T : Type 0} (last : SenderLast T) → is_watched_in a explored.found (opening_watched a (opening_place last)) ≡ true
+  pub opening_found : {T : Type 0} (last : SenderLast T)
+      → is_watched_in a explored.found (opening_watched a (opening_place last)) ≡ true
   opening_found (SL.Send message error) = and_left _ _ (and_right _ _ explored.all)
   opening_found SL.Drop = and_left _ _ explored.all
   opening_found SL.Stop = and_left _ _ explored.all
 
-  pub accepted_run : {T : Type 0} (s : SenderScript T) (r : ReceiverScript) (worlds : List World) (moves : List Move) (entries : List Entry) → classed.apt 1 (a.first (opening_place s.last)) ≡ true → Tells (opening s r) worlds moves entries → Accepts_by a k (a.first (opening_place s.last)) (opening s r).sender (opening s r).receiver entries
+  pub accepted_run : {T : Type 0} (s : SenderScript T) (r : ReceiverScript) (worlds : List World) (moves : List Move)
+      (entries : List Entry) → classed.apt 1 (a.first (opening_place s.last)) ≡ true
+      → Tells (opening s r) worlds moves entries
+      → Accepts_by a k (a.first (opening_place s.last)) (opening s r).sender (opening s r).receiver entries
   accepted_run s r worlds moves entries apt told =
-      accepted a k classed explored entries 1 (opening s r) (a.first (opening_place s.last)) worlds moves (opening_reached s r) (opening_found s.last) apt told
+      accepted a k classed explored entries 1 (opening s r) (a.first (opening_place s.last)) worlds moves
+      (opening_reached s r) (opening_found s.last) apt told
 
 -- a claim on the marks of each run of two scripts
 abbrev pub EachRun : Type 0 → (List Mark → Bool) → Type 0

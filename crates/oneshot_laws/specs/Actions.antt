@@ -38,7 +38,8 @@ action_of (Of_receiver call) = receiver_action call
 action_of (Poll number) = receiver_action RC.Poll
 action_of Stray = None
 
--- How a receive says "nothing yet". One that waits without end has no reply for it, so a history in which one says so is not legal.
+-- How a receive says "nothing yet". One that waits without end has no reply for it, so a history in which one
+-- says so is not legal.
 abbrev pub nothing_yet_of : Call → Option Reply
 nothing_yet_of (Of_receiver RC.TryRecv) = Some R.Empty
 nothing_yet_of (Of_receiver RC.RecvDeadline) = Some R.Timeout

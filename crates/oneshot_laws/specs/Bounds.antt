@@ -1,4 +1,5 @@
--- How many operations on the word a call makes, and how soon a receiver's call ends once the sender is done with the word.
+-- How many operations on the word a call makes, and how soon a receiver's call ends once the sender is done
+-- with the word.
 use Rattle.std.specs.Prelude.{ℕ, zero, suc, Bool, true, not, ◌&&◌, List, [], ◌∷◌, if◌then◌else◌}
 use Rattle.oneshot_machine.specs.declared.machine.End.TheVariants.{Sender, Receiver}
 use Rattle.oneshot_machine.specs.declared.machine.receiver.ReceiverStart.TheVariants as RC
@@ -41,7 +42,8 @@ is_senders_last m = is_same_end (side m) Sender && finishes m.entry
 abbrev pub each_move : Mark → Bool
 each_move m = true
 
--- from each mark on, the receiver's call that is under way or begins next makes at most two operations and six moves until its answer
+-- from each mark on, the receiver's call that is under way or begins next makes at most two operations and
+-- six moves until its answer
 abbrev pub answers_soon : List Mark → Bool
 answers_soon [] = true
 answers_soon (m ∷ later) =

@@ -1,4 +1,5 @@
--- What is asked of an entry: which end made it, which reply it gives, which operation or step it is, and which word it met.
+-- What is asked of an entry: which end made it, which reply it gives, which operation or step it is, and
+-- which word it met.
 use Rattle.std.specs.Prelude.{ℕ, Bool, true, false, not, ◌||◌, ◌==◌, Option, Some, None}
 use Rattle.oneshot_machine.specs.declared.machine.End.{End}
 use Rattle.oneshot_machine.specs.declared.machine.End.TheVariants.{Sender, Receiver}

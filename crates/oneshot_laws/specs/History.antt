@@ -1,4 +1,5 @@
--- Each reply is the object's at the call's own acting entry: the calls, in the order of their acting entries, are a legal history of the object.
+-- Each reply is the object's at the call's own acting entry: the calls, in the order of their acting entries,
+-- are a legal history of the object.
 use Rattle.std.specs.Prelude.{Bool, true, false, not, ◌&&◌, List, Option, Some, None, is_some, filter}
 use Rattle.std.specs.List.{list_all}
 use Rattle.oneshot_machine.specs.declared.machine.Reply.{Reply}
@@ -35,7 +36,8 @@ is_complete ms = list_all (λ m. only_if (ends m && is_object_step m.call) m.act
 -- the other calls answer as they always do
 abbrev pub is_right_outside : List Mark → Bool
 is_right_outside ms =
-    list_all (λ m. only_if (not (is_object_step m.call) && not (is_stray m.call)) (agrees m.entry.reply (fixed_reply_of m.call))) ms
+    list_all (λ m. only_if (not (is_object_step m.call) && not (is_stray m.call))
+    (agrees m.entry.reply (fixed_reply_of m.call))) ms
 
 -- every step belongs to a call of the scripts
 abbrev pub is_covered : List Mark → Bool

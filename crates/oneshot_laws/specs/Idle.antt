@@ -8,7 +8,8 @@ use Rattle.oneshot_laws.specs.Marks.{Reading, read, sender_reading, receiver_rea
 
 abbrev pub is_idle_right_from : Reading → Reading → List Entry → Bool
 is_idle_right_from s r [] = true
-is_idle_right_from s r (Idle side ∷ entries) = is_none_left (by_end side s r).left.calls && is_idle_right_from s r entries
+is_idle_right_from s r (Idle side ∷ entries) =
+    is_none_left (by_end side s r).left.calls && is_idle_right_from s r entries
 is_idle_right_from s r (Made_entry e ∷ entries) =
     is_idle_right_from (by_end e.side (read s e) s) (by_end e.side r (read r e)) entries
 

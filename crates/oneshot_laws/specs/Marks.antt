@@ -1,4 +1,5 @@
--- The trace as it is read: each step with the call that it belongs to, that call's answer, whether it begins the call, whether the call acts there, and the object that it meets.
+-- The trace as it is read: each step with the call that it belongs to, that call's answer, whether it begins
+-- the call, whether the call acts there, and the object that it meets.
 use Rattle.std.specs.Prelude.{ℕ, ◌+◌, Bool, true, false, not, ◌&&◌, ◌||◌, List, [], ◌∷◌, ◌++◌, Option, Some, None, is_some}
 use Rattle.std.specs.List.{list_any}
 use Rattle.oneshot_machine.specs.declared.machine.End.{End}
@@ -12,7 +13,8 @@ use Rattle.oneshot_laws.specs.Entries.{is_same_end, is_nothing_yet, is_word, is_
 use Rattle.oneshot_laws.specs.Object.{Action, Send, Sender_gone, Take, Take_and_go, Look_full, Look_closed, Look_receiver_gone, Receiver_gone, Object, new_object}
 use Rattle.oneshot_laws.specs.Actions.{action_of, stepped}
 
--- The acting entry of a call is the first, or the last, of its entries that pass a test; a call that is no step of the object has none.
+-- The acting entry of a call is the first, or the last, of its entries that pass a test; a call that is no
+-- step of the object has none.
 pub data Rule : Type 0 where
   First : (test : Made → Bool) → Rule
   Last : (test : Made → Bool) → Rule
@@ -34,7 +36,8 @@ finds_full_or_closed e = is_word e.step && (found 4 e.before || found 2 e.before
 abbrev pub swaps_closed_in : Made → Bool
 swaps_closed_in e = is_swap_of 2 e.step
 
--- A receive that answers "nothing yet" acts at its last word operation. Any other, also one that has not answered, acts where it first finds 4 or 2.
+-- A receive that answers "nothing yet" acts at its last word operation. Any other, also one that has not
+-- answered, acts where it first finds 4 or 2.
 abbrev pub receive_rule : Option Reply → Rule
 receive_rule answer = elim (is_nothing_yet answer) [ true ↦ Last works_on_word | false ↦ First finds_full_or_closed ]
 
@@ -84,7 +87,8 @@ abbrev pub reply_among : List Made → Option Reply
 reply_among [] = None
 reply_among (e ∷ entries) = until_reply e.reply (reply_among entries) e.reply
 
--- where a reading of the trace stands at one end: what its script has left, and the entries so far of the call under way
+-- where a reading of the trace stands at one end: what its script has left, and the entries so far of the
+-- call under way
 pub record Reading : Type 0 where
   pub left : Unanswered
   pub earlier : List Made
@@ -99,7 +103,8 @@ read_by side at e =
 abbrev pub read : Reading → Made → Reading
 read at e = read_by e.side at e
 
--- `number` is the entry's own, counted from 1; `object` is what the acting entries before it have left; `acted` is whether the call has acted, here or before.
+-- `number` is the entry's own, counted from 1; `object` is what the acting entries before it have left;
+-- `acted` is whether the call has acted, here or before.
 pub record Mark : Type 0 where
   pub number : ℕ
   pub entry : Made

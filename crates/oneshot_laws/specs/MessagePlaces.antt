@@ -86,4 +86,5 @@ may_put call reply FromError = is_into_inner call
 may_put call reply Dropped = is_drop_of_receiver call || is_drop_of_error call
 
 abbrev pub is_message_put : List Mark → Bool
-is_message_put ms = list_all (λ m. elim m.entry.message [ None ↦ true | Some move ↦ may_put m.call m.entry.reply move.1 ]) ms
+is_message_put ms =
+    list_all (λ m. elim m.entry.message [ None ↦ true | Some move ↦ may_put m.call m.entry.reply move.1 ]) ms

@@ -1,7 +1,9 @@
--- A channel as an object with one message: what it is, what its steps do, and what they answer. It knows no code, no position and no word.
+-- A channel as an object with one message: what it is, what its steps do, and what they answer. It knows no
+-- code, no position and no word.
 use Rattle.std.specs.Prelude.{ℕ, Bool, true, false, not, ◌&&◌, ◌==◌, if◌then◌else◌}
 
--- Nothing sent yet, the message, or closed for good. There is one message, that of the sender's script, so `Full` need not name it.
+-- Nothing sent yet, the message, or closed for good. There is one message, that of the sender's script, so
+-- `Full` need not name it.
 pub data Content : Type 0 where
   Open : Content
   Full : Content

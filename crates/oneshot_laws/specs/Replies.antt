@@ -39,7 +39,8 @@ next_receive_gets (m ∷ later) =
 abbrev pub is_got_after_full : List Mark → Bool
 is_got_after_full ms = after_each (answers is_full_look R.Yes) next_receive_gets ms
 
--- after the receiver's `is_closed` was true every later receive that answers, answers `Disconnected`, and `is_closed` stays true
+-- after the receiver's `is_closed` was true every later receive that answers, answers `Disconnected`, and
+-- `is_closed` stays true
 abbrev pub is_gone_after_closed : List Mark → Bool
 is_gone_after_closed ms =
     after_each (answers is_closed_look R.Yes)
@@ -52,7 +53,8 @@ is_refused_after_closed ms = after_each (answers is_sender_look R.Yes) (list_all
 -- "nothing yet" is answered only where the object was open at one of that call's entries
 abbrev pub is_nothing_only_if_open : List Mark → Bool
 is_nothing_only_if_open ms =
-    each_call (λ own. only_if (list_any (λ m. is_nothing_yet m.entry.reply) own) (list_any (λ m. is_open m.object.content) own)) ms
+    each_call (λ own. only_if (list_any (λ m. is_nothing_yet m.entry.reply) own)
+    (list_any (λ m. is_open m.object.content) own)) ms
 
 abbrev pub is_dropped : Place → Bool
 is_dropped P.Dropped = true

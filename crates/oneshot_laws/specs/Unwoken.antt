@@ -1,4 +1,5 @@
--- A receiver that waits unwoken, in a park or in a task: what must never be, once the sender's send or drop has answered.
+-- A receiver that waits unwoken, in a park or in a task: what must never be, once the sender's send or drop
+-- has answered.
 use Rattle.std.specs.Prelude.{ℕ, ◌==◌, Bool, false, not, ◌&&◌, ◌||◌, List, [], ◌∷◌, map, Option, Some, None, is_some, IsTrue}
 use Rattle.std.specs.List.{list_any}
 use Rattle.oneshot_machine.specs.declared.machine.Reply.TheVariants as R
@@ -70,7 +71,8 @@ is_never_unwoken so_far (ahead ∷ aheads) (entry ∷ entries) =
 is_never_unwoken so_far [] entries = false
 
 -- the run of two scripts under these moves, with these entries, has no such moment
-pub record NeverUnwoken {T : Type 0} (s : SenderScript T) (r : ReceiverScript) (moves : List Move) (entries : List Entry) : Type 0 where
+pub record NeverUnwoken {T : Type 0} (s : SenderScript T) (r : ReceiverScript) (moves : List Move)
+    (entries : List Entry) : Type 0 where
   pub worlds : List World
   pub tells : Tells (opening s r) worlds moves entries
   pub woken : IsTrue (is_never_unwoken (marks (calls_of s r)) (map ahead_of (opening s r ∷ worlds)) entries)

@@ -64,7 +64,9 @@ is_waker_end (Copy number entry) New = true
 is_waker_end _ _ = false
 
 abbrev pub is_waker_ended : List Entry → List Mark → WakerName → Bool
-is_waker_ended entries ms name = only_if (all_ended ms) (is_waker_end name (last_place (first_waker_place name) (moves_of name (waker_moves entries))))
+is_waker_ended entries ms name =
+    only_if (all_ended ms) (is_waker_end name
+    (last_place (first_waker_place name) (moves_of name (waker_moves entries))))
 
 -- each waker follows its path, and has ended once all have
 abbrev pub AreWakersRight : List Entry → List Mark → Type 0

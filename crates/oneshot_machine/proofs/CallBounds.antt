@@ -1,4 +1,5 @@
--- The most operations that are left at each position of the calls that have a bound, and what a run of such a call makes.
+-- The most operations that are left at each position of the calls that have a bound, and what a run of such a
+-- call makes.
 use Rattle.std.proofs.Common.{◌≡◌, ℕ, ◌≤◌, Bool, true, List, Option, Some, None, refl}
 use Rattle.std.specs.Prelude.{count_by}
 use Rattle.oneshot_machine.specs.declared.machine.Reply.{Reply}
@@ -106,7 +107,8 @@ module _ {T W : Type 0} {reply : Reply} where
   -- what a run makes
   sender_makes : (p : SenderPos) (limit : ℕ) → sender_most p ≡ Some limit
       → (xs : List (Event T W)) → Run sender_step sender_row p xs reply → count_by operates (words xs) ≤ limit
-  sender_makes p limit is xs run = at_most operates sender_step sender_rows sender_most sender_pays p xs reply limit is run
+  sender_makes p limit is xs run =
+      at_most operates sender_step sender_rows sender_most sender_pays p xs reply limit is run
 
   receiver_makes : (p : ReceiverPos) (limit : ℕ) → receiver_most p ≡ Some limit
       → (xs : List (Event T W)) → Run receiver_step receiver_row p xs reply → count_by operates (words xs) ≤ limit
@@ -128,8 +130,11 @@ module _ {T W : Type 0} {reply : Reply} where
 
   module _ {given got : List T} {before after : Log T W} where
     -- and so the ground that ran it
-    ran_few : {P : Type 0} {step : P → Step} {row : P → Seen → Option (Outcome P)} {from : P} {counts : Noted → Bool} {limit : ℕ} → ((xs : List (Event T W)) → Run step row from xs reply → count_by counts (words xs) ≤ limit) → Ran step row from before after reply given got → MakesAtMost limit counts before after
-    ran_few makes ran = record { added = words ran.run; list = words_after ran.run ran.grows; few = makes ran.run ran.is_run }
+    ran_few : {P : Type 0} {step : P → Step} {row : P → Seen → Option (Outcome P)} {from : P} {counts : Noted → Bool}
+        {limit : ℕ} → ((xs : List (Event T W)) → Run step row from xs reply → count_by counts (words xs) ≤ limit)
+        → Ran step row from before after reply given got → MakesAtMost limit counts before after
+    ran_few makes ran =
+        record { added = words ran.run; list = words_after ran.run ran.grows; few = makes ran.run ran.is_run }
 
     pub send_few : SenderRan S.Send before after reply given got → MakesAtMost 2 operates before after
     send_few ran = ran_few (sender_makes SendWrite 2 refl) ran
@@ -140,7 +145,8 @@ module _ {T W : Type 0} {reply : Reply} where
     pub try_recv_few : ReceiverRan C.TryRecv before after reply given got → MakesAtMost 2 operates before after
     try_recv_few ran = ran_few try_recv_makes ran
 
-    pub async_try_recv_few : ReceiverRan C.AsyncTryRecv before after reply given got → MakesAtMost 2 operates before after
+    pub async_try_recv_few : ReceiverRan C.AsyncTryRecv before after reply given got
+        → MakesAtMost 2 operates before after
     async_try_recv_few ran = ran_few async_try_recv_makes ran
 
     pub poll_few : ReceiverRan C.Poll before after reply given got → MakesAtMost 4 operates before after

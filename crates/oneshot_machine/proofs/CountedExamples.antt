@@ -15,7 +15,8 @@ counts_that_are =
     }
 
 -- all that a list has that was empty was added
-all_added : {limit : ℕ} {counts : Noted → Bool} {xs : List Noted} → GrewAtMost limit counts [] xs → count_by counts xs ≤ limit
+all_added : {limit : ℕ} {counts : Noted → Bool} {xs : List Noted} → GrewAtMost limit counts [] xs
+    → count_by counts xs ≤ limit
 all_added {limit} {counts} grew = subst (λ xs. count_by counts xs ≤ limit) (sym grew.list) grew.few
 
 pub counts_that_are_not : CountsThatAreNot

@@ -29,13 +29,16 @@ seens_are_same _ _ e = absurd (cc)
 
 module _ {P : Type 0} where
   -- what each row passes, the row for what was seen passes
-  row_passes : (test : Seen × Outcome P → Bool) (rows : Rows P) (seen : Seen) (o : Outcome P) → list_all test rows ≡ true → row_for seen rows ≡ Some o → test (seen, o) ≡ true
+  row_passes : (test : Seen × Outcome P → Bool) (rows : Rows P) (seen : Seen) (o : Outcome P)
+      → list_all test rows ≡ true → row_for seen rows ≡ Some o → test (seen, o) ≡ true
   row_passes test [] seen o all is = absurd (cc)
   row_passes test (row ∷ rows) seen o all is =
       let parts = and_parts (test row) (list_all test rows) all in
       by (is_same_seen row.0 seen) refl parts.0 is (row_passes test rows seen o parts.1)
     where
-      by : (b : Bool) → is_same_seen row.0 seen ≡ b → test row ≡ true → (if b then Some row.1 else row_for seen rows) ≡ Some o → (row_for seen rows ≡ Some o → test (seen, o) ≡ true) → test (seen, o) ≡ true
+      by : (b : Bool) → is_same_seen row.0 seen ≡ b → test row ≡ true
+          → (if b then Some row.1 else row_for seen rows) ≡ Some o
+          → (row_for seen rows ≡ Some o → test (seen, o) ≡ true) → test (seen, o) ≡ true
       by true same passes found rest =
           let leads : row.1 ≡ o = cc in
           subst (λ (z : Seen × Outcome P). test z ≡ true) (λ i. (seens_are_same row.0 seen same i, leads i)) passes
@@ -47,11 +50,13 @@ module _ (counts : Noted → Bool) where
   cost None seen = 0
   cost (Some op) seen = cond (counts (op, seen)) 1 0
 
-  counted_by : (op : Option Op) (seen : Seen) (ns : List Noted) → count_by counts (cons_option (option_map (λ op. (op, seen)) op) ns) ≡ cost op seen + count_by counts ns
+  counted_by : (op : Option Op) (seen : Seen) (ns : List Noted)
+      → count_by counts (cons_option (option_map (λ op. (op, seen)) op) ns) ≡ cost op seen + count_by counts ns
   counted_by None seen ns = omega arith
   counted_by (Some op) seen ns = sum_by-cons (λ x. cond (counts x) 1 0) (op, seen) ns
 
-  counted : {T W : Type 0} (x : Event T W) (xs : List (Event T W)) → count_by counts (words (x ∷ xs)) ≡ cost (op_of x.step) x.seen + count_by counts (words xs)
+  counted : {T W : Type 0} (x : Event T W) (xs : List (Event T W))
+      → count_by counts (words (x ∷ xs)) ≡ cost (op_of x.step) x.seen + count_by counts (words xs)
   counted x xs = counted_by (op_of x.step) x.seen (words xs)
 
   module _ {P : Type 0} (step : P → Step) (rows : P → Rows P) (most : P → Option ℕ) where
@@ -72,19 +77,24 @@ module _ (counts : Noted → Bool) where
     pays p = pays_by p (most p)
 
     -- a row that goes on leaves a limit for the rest
-    rest_of : (limit spent : ℕ) (left : Option ℕ) → leaves_enough limit spent left ≡ true → (rest : ℕ) × (left ≡ Some rest) × (spent + rest ≤ limit)
+    rest_of : (limit spent : ℕ) (left : Option ℕ) → leaves_enough limit spent left ≡ true
+        → (rest : ℕ) × (left ≡ Some rest) × (spent + rest ≤ limit)
     rest_of limit spent None enough = absurd (cc)
     rest_of limit spent (Some rest) enough = (rest, refl, leb-true (spent + rest) limit enough)
 
     module _ (all_pay : (p : P) → pays p ≡ true) {T W : Type 0} where
       -- the row of a step pays for it
-      paid : (p : P) (limit : ℕ) (x : Event T W) (o : Outcome P) → most p ≡ Some limit → row_for x.seen (rows p) ≡ Some o → row_pays p limit (x.seen, o) ≡ true
-      paid p limit x o is row = row_passes (row_pays p limit) (rows p) x.seen o (subst (λ most. pays_by p most ≡ true) is (all_pay p)) row
+      paid : (p : P) (limit : ℕ) (x : Event T W) (o : Outcome P) → most p ≡ Some limit
+          → row_for x.seen (rows p) ≡ Some o → row_pays p limit (x.seen, o) ≡ true
+      paid p limit x o is row =
+          row_passes (row_pays p limit) (rows p) x.seen o (subst (λ most. pays_by p most ≡ true) is (all_pay p)) row
 
-      spent_by : (p : P) (x : Event T W) (xs : List (Event T W)) → x.step ≡ step p → count_by counts (words (x ∷ xs)) ≡ cost (op_of (step p)) x.seen + count_by counts (words xs)
+      spent_by : (p : P) (x : Event T W) (xs : List (Event T W)) → x.step ≡ step p
+          → count_by counts (words (x ∷ xs)) ≡ cost (op_of (step p)) x.seen + count_by counts (words xs)
       spent_by p x xs same = counted x xs ∙ ap (λ s. cost (op_of s) x.seen + count_by counts (words xs)) same
 
-      pub at_most : (p : P) (xs : List (Event T W)) (r : Reply) (limit : ℕ) → most p ≡ Some limit → Run step (λ p seen. row_for seen (rows p)) p xs r → count_by counts (words xs) ≤ limit
+      pub at_most : (p : P) (xs : List (Event T W)) (r : Reply) (limit : ℕ) → most p ≡ Some limit
+          → Run step (λ p seen. row_for seen (rows p)) p xs r → count_by counts (words xs) ≤ limit
       at_most p _ r limit is (last x same row) =
           let spent = spent_by p x [] same in
           let enough = leb-true (cost (op_of (step p)) x.seen) limit (paid p limit x (Answers r) is row) in

@@ -1,4 +1,5 @@
--- What the definitions allow is what the tables make: where an end may stand at each phase, and the law, computed for each.
+-- What the definitions allow is what the tables make: where an end may stand at each phase, and the law,
+-- computed for each.
 use Rattle.std.proofs.Common.{List, [], ◌∷◌, ◌++◌, refl}
 use Rattle.oneshot_machine.specs.declared.machine.receiver.ReceiverPos.TheVariants.{Look, Ref, Timed, Value, Future, AsyncDrop, Drop}
 use Rattle.oneshot_machine.specs.declared.machine.look.LookPos.TheVariants.{TryLoad, Close, CloseOnly}
@@ -28,7 +29,8 @@ sender_stands no_sender = []
 
 -- where a receiver may between its calls, and a future
 abbrev calls : List Standpoint
-calls = plainly (Look TryLoad) ∷ plainly (Ref (StartLoad false)) ∷ plainly (Ref (StartLoad true)) ∷ plainly (Value RecvLoad) ∷ plainly (Drop DropSwap) ∷ []
+calls = plainly (Look TryLoad) ∷ plainly (Ref (StartLoad false)) ∷ plainly (Ref (StartLoad true))
+    ∷ plainly (Value RecvLoad) ∷ plainly (Drop DropSwap) ∷ []
 
 abbrev polls : List Standpoint
 polls = as_future (Future F.PollLoad) ∷ as_future (Future F.AsyncTryLoad) ∷ as_future (AsyncDrop AsyncLoad) ∷ []
@@ -49,14 +51,16 @@ receiver_stands first = (calls ++ polls) ∷ []
 receiver_stands (here looked) = (calls ++ polls ++ stores) ∷ []
 receiver_stands (here between) = (calls ++ polls) ∷ []
 receiver_stands (waits blocked) =
-    (plainly (Ref ParkLoad) ∷ plainly (Timed TimedLoad) ∷ plainly (Timed EndSwap) ∷ plainly (Value RecvParkLoad) ∷ []) ∷ []
+    (plainly (Ref ParkLoad) ∷ plainly (Timed TimedLoad) ∷ plainly (Timed EndSwap) ∷ plainly (Value RecvParkLoad) ∷ [])
+    ∷ []
 receiver_stands (waits polled) = polls ∷ []
 receiver_stands (waits again) =
     (as_future (Future F.AgainExchange) ∷ as_future (AsyncDrop AsyncExchange) ∷ polls) ∷ []
 receiver_stands claimed = (as_future (AsyncDrop AsyncSwap) ∷ polls) ∷ []
 receiver_stands withdrew = (as_future (Future F.PollExchange) ∷ as_future (AsyncDrop AsyncSwap) ∷ []) ∷ []
 receiver_stands overdue = (plainly (Timed LateLoad) ∷ []) ∷ []
-receiver_stands (full at_once) = (plainly (Look Close) ∷ as_future (Look Close) ∷ as_future (AsyncDrop AsyncSwap) ∷ []) ∷ []
+receiver_stands (full at_once) =
+    (plainly (Look Close) ∷ as_future (Look Close) ∷ as_future (AsyncDrop AsyncSwap) ∷ []) ∷ []
 receiver_stands (full waited) = (plainly (Look Close) ∷ []) ∷ []
 receiver_stands (full (swapped by)) = (plainly (Look Close) ∷ []) ∷ []
 receiver_stands (full by_future) = (as_future (Look Close) ∷ as_future (AsyncDrop AsyncSwap) ∷ []) ∷ []

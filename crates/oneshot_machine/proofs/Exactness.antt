@@ -29,7 +29,8 @@ thrice true true c e = (refl, refl, e)
 thrice true false c e = absurd (cc)
 thrice false b c e = absurd (cc)
 
-five : (a b c d e : Bool) → (a && b && c && d && e) ≡ true → (a ≡ true) × (b ≡ true) × (c ≡ true) × (d ≡ true) × (e ≡ true)
+five : (a b c d e : Bool) → (a && b && c && d && e) ≡ true
+    → (a ≡ true) × (b ≡ true) × (c ≡ true) × (d ≡ true) × (e ≡ true)
 five true true true true e h = (refl, refl, refl, refl, h)
 five true true true false e h = absurd (cc)
 five true true false d e h = absurd (cc)
@@ -65,7 +66,9 @@ ops_are_same Load Load e = refl
 ops_are_same (Store a) (Store b) e = ap Store (eqb-true a b e)
 ops_are_same (Swap a) (Swap b) e = ap Swap (eqb-true a b e)
 ops_are_same (Exchange a b) (Exchange c d) e =
-    let parts = and_parts (a == c) (b == d) e in ap (λ x. Exchange x b) (eqb-true a c parts.0) ∙ ap (λ x. Exchange c x) (eqb-true b d parts.1)
+    let parts =
+    and_parts (a == c) (b == d) e in
+    ap (λ x. Exchange x b) (eqb-true a c parts.0) ∙ ap (λ x. Exchange c x) (eqb-true b d parts.1)
 ops_are_same Add Add e = refl
 ops_are_same Xor Xor e = refl
 ops_are_same _ _ e = absurd (cc)
@@ -112,7 +115,8 @@ is_plain filled none = true
 is_plain none empty = true
 is_plain _ _ = false
 
-turns_plainly : {X : Type 0} {s t : Share} {h : Held X} → is_plain s t ≡ true → IsSlot s h → (h' : Held X) × Turns s t h h'
+turns_plainly : {X : Type 0} {s t : Share} {h : Held X} → is_plain s t ≡ true → IsSlot s h
+    → (h' : Held X) × Turns s t h h'
 turns_plainly {s = none} {t = none} e is_away = (away, stays_away)
 turns_plainly {s = empty} {t = empty} e is_vacant = (vacant, stays_vacant)
 turns_plainly {s = filled} {t = filled} e (is_held x) = (held x, stays_held x)
@@ -133,22 +137,29 @@ module _ {At : Type 0} (nowhere : At) where
   not_so {b = false} e = refl
 
   -- so each leads where it says
-  pub leads : (rows : List (Row At)) {op : Op} {before after : Slots} {word : ℕ} {next : At} → differ rows ≡ true → In (op, before, word, next, after) rows → next_by nowhere rows op (saw op word) ≡ next
+  pub leads : (rows : List (Row At)) {op : Op} {before after : Slots} {word : ℕ} {next : At} → differ rows ≡ true
+      → In (op, before, word, next, after) rows → next_by nowhere rows op (saw op word) ≡ next
   leads [] apart there = elim there [ ]
   leads (row ∷ rows) {op} {word} {next} apart head =
       let same : is_row_for op (saw op word) row ≡ true = rw (same_op op, same_sight op word) refl in
       ap (λ b. if b then next else next_by nowhere rows op (saw op word)) same
   leads (row ∷ rows) {op} {word} apart (tail there) =
-      let parts = and_parts (list_all (λ (other : Row At). not (is_row_for other.0 (saw other.0 other.2) row)) rows) (differ rows) apart in
-      let other : is_row_for op (saw op word) row ≡ false = not_so (each_passes (λ (other : Row At). not (is_row_for other.0 (saw other.0 other.2) row)) rows parts.0 there) in
+      let parts =
+      and_parts (list_all (λ (other : Row At). not (is_row_for other.0 (saw other.0 other.2) row)) rows)
+      (differ rows) apart in
+      let other : is_row_for op (saw op word) row ≡ false =
+      not_so (each_passes (λ (other : Row At). not (is_row_for other.0 (saw other.0 other.2) row)) rows parts.0
+      there) in
       ap (λ b. if b then row.3 else next_by nowhere rows op (saw op word)) other ∙ leads rows parts.1 there
 
 -- where an end stands after one operation more
-standing_from-snoc : {P : Type 0} (t : Table P) (ps : List P) (xs : List Noted) (x : Noted) → standing_from t ps (xs ++ x ∷ []) ≡ moved t (standing_from t ps xs) x
+standing_from-snoc : {P : Type 0} (t : Table P) (ps : List P) (xs : List Noted) (x : Noted)
+    → standing_from t ps (xs ++ x ∷ []) ≡ moved t (standing_from t ps xs) x
 standing_from-snoc t ps [] x = refl
 standing_from-snoc t ps (y ∷ xs) x = standing_from-snoc t (moved t ps y) xs x
 
-standing-snoc : {P : Type 0} (t : Table P) (xs : List Noted) (x : Noted) → standing t (xs ++ x ∷ []) ≡ moved t (standing t xs) x
+standing-snoc : {P : Type 0} (t : Table P) (xs : List Noted) (x : Noted)
+    → standing t (xs ++ x ∷ []) ≡ moved t (standing t xs) x
 standing-snoc t xs x = standing_from-snoc t (standing t []) xs x
 
 module _ {P At : Type 0} (t : Table P) (nowhere : At) (rows : At → List (Row At)) (stands : At → List (List P)) where
@@ -165,7 +176,9 @@ module _ {P At : Type 0} (t : Table P) (nowhere : At) (rows : At → List (Row A
   is_ready op word p = if is_op op (op_of (t.step p)) then is_some (t.row p (saw op word)) else true
 
   accepts_there : (op : Op) (word : ℕ) (p : P) → is_ready op word p ≡ true → Accepts t op word p
-  accepts_there op word p ready step = sym (ap (λ b. if b then is_some (t.row p (saw op word)) else true) (ap (λ s. is_op op (op_of s)) step ∙ same_op op)) ∙ ready
+  accepts_there op word p ready step =
+      sym (ap (λ b. if b then is_some (t.row p (saw op word)) else true)
+      (ap (λ s. is_op op (op_of s)) step ∙ same_op op)) ∙ ready
 
   accept : (op : Op) (word : ℕ) (ps : List P) → list_all (is_ready op word) ps ≡ true → All (Accepts t op word) ps
   accept op word [] ready = λ n d below. absurd (omega arith)
@@ -187,7 +200,8 @@ module _ {P At : Type 0} (t : Table P) (nowhere : At) (rows : At → List (Row A
   -- some row, of the same operation and slots, finds a word with which nothing new comes
   abbrev is_such : At → Op → Slots → Row At → Bool
   is_such at op before row =
-      is_same_op op row.0 && is_same_share before.0 row.1.0 && is_same_share before.1 row.1.1 && is_plain before.0 row.4.0 && is_plain before.1 row.4.1
+      is_same_op op row.0 && is_same_share before.0 row.1.0 && is_same_share before.1 row.1.1
+      && is_plain before.0 row.4.0 && is_plain before.1 row.4.1
 
   abbrev is_findable : At → Row At → Bool
   is_findable at row = list_any (is_such at row.0 row.1) (rows at)
@@ -206,19 +220,22 @@ module _ {P At : Type 0} (t : Table P) (nowhere : At) (rows : At → List (Row A
   -- what is computed for each phase
   abbrev pub is_exact_at : At → Bool
   is_exact_at at =
-      differ nowhere (rows at) && list_all (is_findable at) (rows at) && list_all (λ ps. is_fit at (in_order t ps)) (stands at)
+      differ nowhere (rows at) && list_all (is_findable at) (rows at)
+      && list_all (λ ps. is_fit at (in_order t ps)) (stands at)
 
   -- the lists of positions at which an end may stand there
   data StandsAt (at : At) : List P → Type 0 where
     stands_at : (ps : List P) → In ps (stands at) → StandsAt at (in_order t ps)
 
-  filter-agree : (f g : P → Bool) (ps : List P) → list_all (λ p. is_same (f p) (g p)) ps ≡ true → filter f ps ≡ filter g ps
+  filter-agree : (f g : P → Bool) (ps : List P) → list_all (λ p. is_same (f p) (g p)) ps ≡ true
+      → filter f ps ≡ filter g ps
   filter-agree f g [] all = refl
   filter-agree f g (p ∷ ps) all =
       let parts = and_parts (is_same (f p) (g p)) _ all in
       by (f p) (g p) parts.0 (filter-agree f g ps parts.1)
     where
-      by : (a b : Bool) → is_same a b ≡ true → filter f ps ≡ filter g ps → cond a (p ∷ filter f ps) (filter f ps) ≡ cond b (p ∷ filter g ps) (filter g ps)
+      by : (a b : Bool) → is_same a b ≡ true → filter f ps ≡ filter g ps
+          → cond a (p ∷ filter f ps) (filter f ps) ≡ cond b (p ∷ filter g ps) (filter g ps)
       by true true e rest = ap (λ ps. p ∷ ps) rest
       by true false e rest = absurd (cc)
       by false true e rest = absurd (cc)
@@ -242,71 +259,109 @@ module _ {P At : Type 0} (t : Table P) (nowhere : At) (rows : At → List (Row A
 
     findable : (at : At) {row : Row At} → In row (rows at) → is_findable at row ≡ true
     findable at row =
-        each_passes (is_findable at) (rows at) (thrice (differ nowhere (rows at)) (list_all (is_findable at) (rows at)) _ (exact at)).1 row
+        each_passes (is_findable at) (rows at)
+        (thrice (differ nowhere (rows at)) (list_all (is_findable at) (rows at)) _ (exact at)).1 row
 
     fits : (at : At) {ps : List P} → StandsAt at ps → is_fit at ps ≡ true
     fits at (stands_at ps among) =
-        each_passes (λ ps. is_fit at (in_order t ps)) (stands at) (thrice (differ nowhere (rows at)) (list_all (is_findable at) (rows at)) _ (exact at)).2 among
+        each_passes (λ ps. is_fit at (in_order t ps)) (stands at)
+        (thrice (differ nowhere (rows at)) (list_all (is_findable at) (rows at)) _ (exact at)).2 among
 
     -- what a row tells of the positions: one makes it, each has a row for what it finds, and it leads on
-    made : (at : At) {ps : List P} {op : Op} {before after : Slots} {word : ℕ} {next : At} → StandsAt at ps → In (op, before, word, next, after) (rows at)
-        → (list_any (is_same_op op) (made_at t ps) ≡ true) × (list_all (is_ready op word) ps ≡ true) × (list_any (agree (reached ps op word)) (stands next) ≡ true)
+    made : (at : At) {ps : List P} {op : Op} {before after : Slots} {word : ℕ} {next : At} → StandsAt at ps
+        → In (op, before, word, next, after) (rows at)
+        → (list_any (is_same_op op) (made_at t ps) ≡ true) × (list_all (is_ready op word) ps ≡ true)
+        × (list_any (agree (reached ps op word)) (stands next) ≡ true)
     made at {ps} {op} {word} {next} there row =
-        thrice (list_any (is_same_op op) (made_at t ps)) (list_all (is_ready op word) ps) (list_any (agree (reached ps op word)) (stands next)) (each_passes (is_row_made at ps) (rows at) (and_parts (list_all (is_row_made at ps) (rows at)) _ (fits at there)).0 row)
+        thrice (list_any (is_same_op op) (made_at t ps)) (list_all (is_ready op word) ps)
+        (list_any (agree (reached ps op word)) (stands next))
+        (each_passes (is_row_made at ps) (rows at)
+        (and_parts (list_all (is_row_made at ps) (rows at)) _ (fits at there)).0 row)
 
     module _ {T W : Type 0} where
-      goes_on : (at : At) {ps : List P} {op : Op} {m m' : Held T} {w w' : Held W} (word : ℕ) → StandsAt at ps → Finds rows at op word m w m' w' → StandsAt (next_at at op (saw op word)) (moved t ps (op, saw op word))
+      goes_on : (at : At) {ps : List P} {op : Op} {m m' : Held T} {w w' : Held W} (word : ℕ) → StandsAt at ps
+          → Finds rows at op word m w m' w' → StandsAt (next_at at op (saw op word)) (moved t ps (op, saw op word))
       goes_on at {ps} {op} word there (finds {next} row _ _) =
-          subst (λ at. StandsAt at (moved t ps (op, saw op word))) (sym (leads nowhere (rows at) (distinct at) row)) (lands next (reached ps op word) (made at there row).2)
+          subst (λ at. StandsAt at (moved t ps (op, saw op word))) (sym (leads nowhere (rows at) (distinct at) row))
+          (lands next (reached ps op word) (made at there row).2)
 
       -- the operations made there are allowed
-      allowed : (x : T) (k : W) (at : At) (op : Op) → list_any (λ (row : Row At). is_same_op op row.0) (rows at) ≡ true → IsAllowed (May {T = T} {W = W} rows) at op
+      allowed : (x : T) (k : W) (at : At) (op : Op) → list_any (λ (row : Row At). is_same_op op row.0) (rows at) ≡ true
+          → IsAllowed (May {T = T} {W = W} rows) at op
       allowed x k at op any =
           let found = some_passes (λ (row : Row At). is_same_op op row.0) (rows at) any in
           let row = found.one in
-          subst (λ op. IsAllowed (May {T = T} {W = W} rows) at op) (sym (ops_are_same op row.0 found.passes)) (fill x row.1.0, fill k row.1.1, may found.among (fills x row.1.0) (fills k row.1.1))
+          subst (λ op. IsAllowed (May {T = T} {W = W} rows) at op) (sym (ops_are_same op row.0 found.passes))
+          (fill x row.1.0, fill k row.1.1, may found.among (fills x row.1.0) (fills k row.1.1))
 
-      each_allowed : (x : T) (k : W) (at : At) (ops : List Op) → list_all (λ op. list_any (λ (row : Row At). is_same_op op row.0) (rows at)) ops ≡ true → All (IsAllowed (May {T = T} {W = W} rows) at) ops
+      each_allowed : (x : T) (k : W) (at : At) (ops : List Op)
+          → list_all (λ op. list_any (λ (row : Row At). is_same_op op row.0) (rows at)) ops ≡ true
+          → All (IsAllowed (May {T = T} {W = W} rows) at) ops
       each_allowed x k at [] all = λ n d below. absurd (omega arith)
       each_allowed x k at (op ∷ ops) all =
           let parts = and_parts (list_any (λ (row : Row At). is_same_op op row.0) (rows at)) _ all in
           All-cons (IsAllowed (May rows) at) op ops (allowed x k at op parts.0) (each_allowed x k at ops parts.1)
 
       -- what is allowed is made there
-      is_made : (at : At) {op : Op} {m : Held T} {w : Held W} {ps : List P} → StandsAt at ps → May rows at op m w → Contains (made_at t ps) op
+      is_made : (at : At) {op : Op} {m : Held T} {w : Held W} {ps : List P} → StandsAt at ps → May rows at op m w
+          → Contains (made_at t ps) op
       is_made at {op} {ps} there (may row _ _) = Contains-from_any ops_are_same op (made_at t ps) (made at there row).0
 
       -- what is allowed may find some word
-      finds_such : (at : At) {row : Row At} {op : Op} {before : Slots} {m : Held T} {w : Held W} → In row (rows at) → is_such at op before row ≡ true → IsSlot before.0 m → IsSlot before.1 w → (word : ℕ) × (m' : Held T) × (w' : Held W) × Finds rows at op word m w m' w'
+      finds_such : (at : At) {row : Row At} {op : Op} {before : Slots} {m : Held T} {w : Held W} → In row (rows at)
+          → is_such at op before row ≡ true → IsSlot before.0 m → IsSlot before.1 w
+          → (word : ℕ) × (m' : Held T) × (w' : Held W) × Finds rows at op word m w m' w'
       finds_such at {row} {op} {before} {m} {w} among such message waker =
-          let is = five (is_same_op op row.0) (is_same_share before.0 row.1.0) (is_same_share before.1 row.1.1) (is_plain before.0 row.4.0) (is_plain before.1 row.4.1) such in
+          let is = five (is_same_op op row.0) (is_same_share before.0 row.1.0) (is_same_share before.1 row.1.1)
+          (is_plain before.0 row.4.0) (is_plain before.1 row.4.1) such in
           let to = turns_plainly is.3 message in
           let also = turns_plainly is.4 waker in
-          let message_turns : Turns row.1.0 row.4.0 m to.0 = subst (λ s. Turns s row.4.0 m to.0) (shares_are_same before.0 row.1.0 is.1) to.1 in
-          let waker_turns : Turns row.1.1 row.4.1 w also.0 = subst (λ s. Turns s row.4.1 w also.0) (shares_are_same before.1 row.1.1 is.2) also.1 in
-          (row.2, to.0, also.0, subst (λ op. Finds rows at op row.2 m w to.0 also.0) (sym (ops_are_same op row.0 is.0)) (finds among message_turns waker_turns))
+          let message_turns : Turns row.1.0 row.4.0 m to.0 =
+          subst (λ s. Turns s row.4.0 m to.0) (shares_are_same before.0 row.1.0 is.1) to.1 in
+          let waker_turns : Turns row.1.1 row.4.1 w also.0 =
+          subst (λ s. Turns s row.4.1 w also.0) (shares_are_same before.1 row.1.1 is.2) also.1 in (
+            row.2,
+            to.0,
+            also.0,
+            subst (λ op. Finds rows at op row.2 m w to.0 also.0) (sym (ops_are_same op row.0 is.0))
+                (finds among message_turns waker_turns),
+          )
 
-      some_word : (at : At) {op : Op} {m : Held T} {w : Held W} → May rows at op m w → (word : ℕ) × (m' : Held T) × (w' : Held W) × Finds rows at op word m w m' w'
+      some_word : (at : At) {op : Op} {m : Held T} {w : Held W} → May rows at op m w
+          → (word : ℕ) × (m' : Held T) × (w' : Held W) × Finds rows at op word m w m' w'
       some_word at {op} (may {before} row message waker) =
           let found = some_passes (is_such at op before) (rows at) (findable at row) in
           finds_such at found.among found.passes message waker
 
       -- and only words that are accepted
-      accepted_there : (at : At) {op : Op} {m m' : Held T} {w w' : Held W} {ps : List P} (word : ℕ) → StandsAt at ps → Finds rows at op word m w m' w' → All (Accepts t op word) ps
+      accepted_there : (at : At) {op : Op} {m m' : Held T} {w w' : Held W} {ps : List P} (word : ℕ) → StandsAt at ps
+          → Finds rows at op word m w m' w' → All (Accepts t op word) ps
       accepted_there at {op} {ps} word there (finds row _ _) = accept op word ps (made at there row).1
 
     module _ (start : At) (starts : list_any (agree (onward_all t t.opens)) (stands start) ≡ true) where
       -- along each log
-      stands_after : {T W : Type 0} {xs : List Noted} → IsFound {T = T} {W = W} (phase_from next_at start) (Finds rows) xs → StandsAt (phase_from next_at start xs) (standing t xs)
+      stands_after : {T W : Type 0} {xs : List Noted}
+          → IsFound {T = T} {W = W} (phase_from next_at start) (Finds rows) xs
+          → StandsAt (phase_from next_at start xs) (standing t xs)
       stands_after none_yet = lands start (onward_all t t.opens) starts
       stands_after (one_more {xs} {op} word before found) =
-          subst (λ (z : At × List P). StandsAt z.0 z.1) (λ i. (sym (phase_from-snoc next_at start xs (op, saw op word)) i, sym (standing-snoc t xs (op, saw op word)) i)) (goes_on (phase_from next_at start xs) word (stands_after before) found)
+          subst (λ (z : At × List P). StandsAt z.0 z.1)
+          (λ i. (
+            sym (phase_from-snoc next_at start xs (op, saw op word)) i,
+            sym
+                (standing-snoc t xs (op, saw op word)) i,
+          ))
+          (goes_on (phase_from next_at start xs) word (stands_after before) found)
 
       pub is_exact : (T W : Type 0) → IsExact {T = T} {W = W} t (phase_from next_at start) (May rows) (Finds rows)
       is_exact T W =
           record {
-            no_less = λ x k {xs} found. each_allowed x k (phase_from next_at start xs) (operations t xs) (and_parts (list_all (is_row_made (phase_from next_at start xs) (standing t xs)) (rows (phase_from next_at start xs))) _ (fits (phase_from next_at start xs) (stands_after found))).1;
+            no_less =
+                λ x k {xs} found. each_allowed x k (phase_from next_at start xs) (operations t xs)
+                (and_parts (list_all (is_row_made (phase_from next_at start xs) (standing t xs))
+                (rows (phase_from next_at start xs))) _ (fits (phase_from next_at start xs) (stands_after found))).1;
             no_more = λ {xs} found allowed. is_made (phase_from next_at start xs) (stands_after found) allowed;
             finds = λ {xs} allowed. some_word (phase_from next_at start xs) allowed;
-            accepted = λ {xs} word found finds. accepted_there (phase_from next_at start xs) word (stands_after found) finds;
+            accepted =
+                λ {xs} word found finds. accepted_there (phase_from next_at start xs) word (stands_after found) finds;
           }

@@ -84,14 +84,18 @@ runs_that_are =
     record {
       sends = more SendAdd _ _ refl refl (last _ refl refl);
       is_refused = more SendAdd _ _ refl refl (last _ refl refl);
-      wakes = more SendAdd _ _ refl refl (more SendTakeWaker _ _ refl refl (more SendFinal _ _ refl refl (more SendWake _ _ refl refl (last _ refl refl))));
+      wakes = more SendAdd _ _ refl refl
+          (more SendTakeWaker _ _ refl refl
+          (more SendFinal _ _ refl refl (more SendWake _ _ refl refl (last _ refl refl))));
       is_refused_at_its_last_operation =
           more SendAdd _ _ refl refl
           (more SendTakeWaker _ _ refl refl
           (more SendFinal _ _ refl refl
           (more SendLateWake _ _ refl refl
           (last _ refl refl))));
-      wakes_by_its_drop = more DropTakeWaker _ _ refl refl (more DropFinal _ _ refl refl (more DropWake _ _ refl refl (last _ refl refl)));
+      wakes_by_its_drop =
+          more DropTakeWaker _ _ refl refl
+          (more DropFinal _ _ refl refl (more DropWake _ _ refl refl (last _ refl refl)));
       frees_after_its_wake =
           more DropTakeWaker _ _ refl refl
           (more DropFinal _ _ refl refl
@@ -224,22 +228,29 @@ module _ {P : Type 0} {step : P → Step} {row : P → Seen → Option (Outcome 
   answers (more next x xs is leads rest) = absurd (no_run rest)
 
   -- a longer one goes on, where its first row leads
-  pub does_go_on : {p : P} {x y : Event ℕ ℕ} {ys : List (Event ℕ ℕ)} {r : Reply} → Run step row p (x ∷ y ∷ ys) r → (q : P) × (row p x.seen ≡ Some (Goes q)) × Run step row q (y ∷ ys) r
+  pub does_go_on : {p : P} {x y : Event ℕ ℕ} {ys : List (Event ℕ ℕ)} {r : Reply} → Run step row p (x ∷ y ∷ ys) r
+      → (q : P) × (row p x.seen ≡ Some (Goes q)) × Run step row q (y ∷ ys) r
   does_go_on (more next x xs is leads rest) = (next, leads, rest)
 
-  pub goes_on : {p : P} {x y : Event ℕ ℕ} {ys : List (Event ℕ ℕ)} {r : Reply} (q : P) → row p x.seen ≡ Some (Goes q) → Run step row p (x ∷ y ∷ ys) r → Run step row q (y ∷ ys) r
+  pub goes_on : {p : P} {x y : Event ℕ ℕ} {ys : List (Event ℕ ℕ)} {r : Reply} (q : P) → row p x.seen ≡ Some (Goes q)
+      → Run step row p (x ∷ y ∷ ys) r → Run step row q (y ∷ ys) r
   goes_on {y} {ys} {r} q to run =
       let on = does_go_on run in
       let same : on.0 ≡ q = cc in
       subst (λ p. Run step row p (y ∷ ys) r) same on.2
 
 -- a receive with a deadline that waited once asks its clock again
-asks_again : {ys : List (Event ℕ ℕ)} {r : Reply} → ReceiverRun (Ref (StartLoad true)) (waited_once ++ clocked true ∷ ys) r → ReceiverRun (Timed Clock) (clocked true ∷ ys) r
+asks_again : {ys : List (Event ℕ ℕ)} {r : Reply}
+    → ReceiverRun (Ref (StartLoad true)) (waited_once ++ clocked true ∷ ys) r
+    → ReceiverRun (Timed Clock) (clocked true ∷ ys) r
 asks_again run =
-    goes_on (Timed Clock) refl (goes_on (Timed TimedLoad) refl (goes_on (Timed TimedPark) refl (goes_on (Timed Clock) refl (goes_on (Ref (StartSwap true)) refl (goes_on (Ref (StartWrite true)) refl run)))))
+    goes_on (Timed Clock) refl (goes_on (Timed TimedLoad) refl
+    (goes_on (Timed TimedPark) refl
+    (goes_on (Timed Clock) refl (goes_on (Ref (StartSwap true)) refl (goes_on (Ref (StartWrite true)) refl run)))))
 
 -- and swaps where it is over
-ends_its_wait : {y : Event ℕ ℕ} {ys : List (Event ℕ ℕ)} {r : Reply} → ReceiverRun (Ref (StartLoad true)) (running_out ++ y ∷ ys) r → ReceiverRun (Timed EndSwap) (y ∷ ys) r
+ends_its_wait : {y : Event ℕ ℕ} {ys : List (Event ℕ ℕ)} {r : Reply}
+    → ReceiverRun (Ref (StartLoad true)) (running_out ++ y ∷ ys) r → ReceiverRun (Timed EndSwap) (y ∷ ys) r
 ends_its_wait run = goes_on (Timed EndSwap) refl (asks_again run)
 
 pub runs_that_are_not : RunsThatAreNot
@@ -252,12 +263,19 @@ runs_that_are_not =
       frees_unasked = λ r run. let e = (does_go_on run).1 in cc;
       takes_and_leaves_4 = λ r run. let e = begins (goes_on (Look Close) refl run) in cc;
       says_that_all_are_gone = λ run. let e = answers run in cc;
-      wakes_before_its_swap = λ r run. let e = begins (goes_on SendFinal refl (goes_on SendTakeWaker refl (goes_on SendAdd refl run))) in cc;
+      wakes_before_its_swap =
+          λ r run. let e =
+          begins (goes_on SendFinal refl (goes_on SendTakeWaker refl (goes_on SendAdd refl run))) in cc;
       answers_unwoken =
           λ r run. let e =
-          answers (goes_on (Ref ParkLoad) refl (goes_on (Ref Park) refl (goes_on (Ref ParkLoad) refl (goes_on (Ref Park) refl (goes_on (Ref (StartSwap false)) refl (goes_on (Ref (StartWrite false)) refl run))))))
+          answers (goes_on (Ref ParkLoad) refl
+          (goes_on (Ref Park) refl (goes_on (Ref ParkLoad) refl
+          (goes_on (Ref Park) refl (goes_on (Ref (StartSwap false)) refl
+          (goes_on (Ref (StartWrite false)) refl run))))))
           in cc;
-      parks_before_it_swaps = λ r run. let e = begins (goes_on (Ref (StartSwap false)) refl (goes_on (Ref (StartWrite false)) refl run)) in cc;
+      parks_before_it_swaps =
+          λ r run. let e =
+          begins (goes_on (Ref (StartSwap false)) refl (goes_on (Ref (StartWrite false)) refl run)) in cc;
       runs_out_over_4 = λ run. let e = answers (ends_its_wait run) in cc;
       runs_out_over_1 = λ run. let e = answers (ends_its_wait run) in cc;
       runs_out_by_the_clock_alone = λ r run. let e = answers (asks_again run) in cc;

@@ -101,7 +101,9 @@ future_runs_that_are_not =
       waits_for_nothing = λ run. let e = answers (goes_on (Future PollCopy) refl run) in cc;
       forgets_its_copy =
           λ run. let e =
-          begins (goes_on (Future PollBackFull) refl (goes_on (Future PollExchange) refl (goes_on (Future PollWrite) refl (goes_on (Future PollCopy) refl run))))
+          begins (goes_on (Future PollBackFull) refl
+          (goes_on (Future PollExchange) refl
+          (goes_on (Future PollWrite) refl (goes_on (Future PollCopy) refl run))))
           in cc;
       waits_in_its_poll = λ run. let e = begins (goes_on (Future PollOwn) refl run) in cc;
       sleeps_unwoken = λ run. let e = answers run in cc;

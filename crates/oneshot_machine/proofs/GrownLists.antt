@@ -11,7 +11,8 @@ use Rattle.oneshot_machine.specs.Noted.{Noted, saw, op_of}
 use Rattle.oneshot_machine.specs.Phases.{fresh, sender_next, sender_at, first, receiver_next, receiver_at, phase_from}
 use Rattle.oneshot_machine.specs.Logs.{Event, worded, noted, words, kept, Log, Grows, sender_of, receiver_of}
 
-pub phase_from-snoc : {At : Type 0} (next : At → Op → Seen → At) (at : At) (xs : List Noted) (x : Noted) → phase_from next at (xs ++ x ∷ []) ≡ next (phase_from next at xs) x.0 x.1
+pub phase_from-snoc : {At : Type 0} (next : At → Op → Seen → At) (at : At) (xs : List Noted) (x : Noted)
+    → phase_from next at (xs ++ x ∷ []) ≡ next (phase_from next at xs) x.0 x.1
 phase_from-snoc next at [] x = refl
 phase_from-snoc next at (y ∷ xs) x = phase_from-snoc next (next at y.0 y.1) xs x
 
@@ -24,13 +25,16 @@ module _ {T W : Type 0} where
   abbrev noted_by : Event T W → Option Op → Option Noted
   noted_by x op = option_map (λ op. (op, x.seen)) op
 
-  words-cond : (x : Event T W) (xs ys : List (Event T W)) (op : Option Op) → op_of x.step ≡ op → words ys ≡ words xs → words (cond (is_some op) (x ∷ ys) ys) ≡ cons_option (noted_by x op) (words xs)
+  words-cond : (x : Event T W) (xs ys : List (Event T W)) (op : Option Op) → op_of x.step ≡ op → words ys ≡ words xs
+      → words (cond (is_some op) (x ∷ ys) ys) ≡ cons_option (noted_by x op) (words xs)
   words-cond x xs ys None is same = same
-  words-cond x xs ys (Some op) is same = ap (λ o. cons_option (noted_by x o) (words ys)) is ∙ ap (λ ns. (op, x.seen) ∷ ns) same
+  words-cond x xs ys (Some op) is same =
+      ap (λ o. cons_option (noted_by x o) (words ys)) is ∙ ap (λ ns. (op, x.seen) ∷ ns) same
 
   words-filter : (xs : List (Event T W)) → words (filter (λ x. is_some (op_of x.step)) xs) ≡ words xs
   words-filter [] = refl
-  words-filter (x ∷ xs) = words-cond x xs (filter (λ y. is_some (op_of y.step)) xs) (op_of x.step) refl (words-filter xs)
+  words-filter (x ∷ xs) =
+      words-cond x xs (filter (λ y. is_some (op_of y.step)) xs) (op_of x.step) refl (words-filter xs)
 
   pub words-kept : (whole : Bool) (xs : List (Event T W)) → words (kept whole xs) ≡ words xs
   words-kept true xs = refl
@@ -38,27 +42,40 @@ module _ {T W : Type 0} where
 
   module _ {before after : Log T W} where
     -- the operations of more steps
-    pub words_after : (steps : List (Event T W)) → Grows before after steps → words after.list ≡ words before.list ++ words steps
+    pub words_after : (steps : List (Event T W)) → Grows before after steps
+        → words after.list ≡ words before.list ++ words steps
     words_after steps grows =
-        ap words grows.list ∙ filter_map-append noted before.list (kept before.whole steps) ∙ ap (λ ns. words before.list ++ ns) (words-kept before.whole steps)
+        ap words grows.list ∙ filter_map-append noted before.list (kept before.whole steps)
+        ∙ ap (λ ns. words before.list ++ ns) (words-kept before.whole steps)
 
     -- steps that are no operation leave an end as far as it was
-    pub words_stay : (steps : List (Event T W)) → words steps ≡ [] → Grows before after steps → words after.list ≡ words before.list
-    words_stay steps none grows = words_after steps grows ∙ ap (λ ns. words before.list ++ ns) none ∙ append-nil (words before.list)
+    pub words_stay : (steps : List (Event T W)) → words steps ≡ [] → Grows before after steps
+        → words after.list ≡ words before.list
+    words_stay steps none grows =
+        words_after steps grows ∙ ap (λ ns. words before.list ++ ns) none ∙ append-nil (words before.list)
 
     -- and an operation takes it on
-    pub sender_moved : (op : Op) (word : ℕ) → Grows before after (worded op word ∷ []) → sender_of after ≡ sender_next (sender_of before) op (saw op word)
-    sender_moved op word grows = ap sender_at (words_after (worded op word ∷ []) grows) ∙ phase_from-snoc sender_next fresh (words before.list) (op, saw op word)
+    pub sender_moved : (op : Op) (word : ℕ) → Grows before after (worded op word ∷ [])
+        → sender_of after ≡ sender_next (sender_of before) op (saw op word)
+    sender_moved op word grows =
+        ap sender_at (words_after (worded op word ∷ []) grows)
+        ∙ phase_from-snoc sender_next fresh (words before.list) (op, saw op word)
 
-    pub receiver_moved : (op : Op) (word : ℕ) → Grows before after (worded op word ∷ []) → receiver_of after ≡ receiver_next (receiver_of before) op (saw op word)
-    receiver_moved op word grows = ap receiver_at (words_after (worded op word ∷ []) grows) ∙ phase_from-snoc receiver_next first (words before.list) (op, saw op word)
+    pub receiver_moved : (op : Op) (word : ℕ) → Grows before after (worded op word ∷ [])
+        → receiver_of after ≡ receiver_next (receiver_of before) op (saw op word)
+    receiver_moved op word grows =
+        ap receiver_at (words_after (worded op word ∷ []) grows)
+        ∙ phase_from-snoc receiver_next first (words before.list) (op, saw op word)
 
     -- first some steps, and then some more
-    pub and_then : {last : Log T W} (xs ys : List (Event T W)) → Grows before after xs → Grows after last ys → Grows before last (xs ++ ys)
+    pub and_then : {last : Log T W} (xs ys : List (Event T W)) → Grows before after xs → Grows after last ys
+        → Grows before last (xs ++ ys)
     and_then xs ys s t =
         record {
           whole = t.whole ∙ s.whole;
           channel = t.channel ∙ s.channel;
-          list = t.list ∙ ap (λ l. l ++ kept after.whole ys) s.list ∙ append_assoc before.list (kept before.whole xs) (kept after.whole ys)
-              ∙ ap (λ whole. before.list ++ (kept before.whole xs ++ kept whole ys)) s.whole ∙ ap (λ l. before.list ++ l) (sym (kept-append before.whole xs ys));
+          list = t.list ∙ ap (λ l. l ++ kept after.whole ys) s.list
+              ∙ append_assoc before.list (kept before.whole xs) (kept after.whole ys)
+              ∙ ap (λ whole. before.list ++ (kept before.whole xs ++ kept whole ys)) s.whole
+              ∙ ap (λ l. before.list ++ l) (sym (kept-append before.whole xs ys));
         }

@@ -48,12 +48,16 @@ pub record RowOf {At : Type 0} (op : Op) (slots : Slots) (rows : List (Row At)) 
   pub after : Slots
   pub row : In (op, slots, word, next, after) rows
 
-pub row_of : {At : Type 0} (op : Op) (slots : Slots) (rows : List (Row At)) → has_row op slots rows ≡ true → RowOf op slots rows
+pub row_of : {At : Type 0} (op : Op) (slots : Slots) (rows : List (Row At)) → has_row op slots rows ≡ true
+    → RowOf op slots rows
 row_of op slots [] has = absurd (true≢false (sym has))
 row_of {At} op slots (row ∷ rows) has = by (is_row_of op slots row) refl has (row_of op slots rows)
   where
-    by : (b : Bool) → is_row_of op slots row ≡ b → (if b then true else has_row op slots rows) ≡ true → (has_row op slots rows ≡ true → RowOf op slots rows) → RowOf op slots (row ∷ rows)
-    by false is rest later = let found = later rest in record { word = found.word; next = found.next; after = found.after; row = tail found.row }
+    by : (b : Bool) → is_row_of op slots row ≡ b → (if b then true else has_row op slots rows) ≡ true
+        → (has_row op slots rows ≡ true → RowOf op slots rows) → RowOf op slots (row ∷ rows)
+    by false is rest later =
+        let found =
+        later rest in record { word = found.word; next = found.next; after = found.after; row = tail found.row }
     by true is rest later =
         let parts = and_parts (is_same_op op row.0) _ is in
         let shares = and_parts (is_same_share slots.0 row.1.0) _ parts.1 in
@@ -64,7 +68,8 @@ row_of {At} op slots (row ∷ rows) has = by (is_row_of op slots row) refl has (
           word = row.2;
           next = row.3;
           after = row.4;
-          row = subst (λ (z : Row At). In z (row ∷ rows)) (λ i. (sym made i, (sym message i, sym waker i), row.2, row.3, row.4)) head;
+          row = subst (λ (z : Row At). In z (row ∷ rows))
+              (λ i. (sym made i, (sym message i, sym waker i), row.2, row.3, row.4)) head;
         }
 
 -- where an operation may land: the word that it finds, the phase after it, and the slots then
@@ -73,18 +78,23 @@ Landing At = ℕ × At × Slots
 
 abbrev pub landings_of : {At : Type 0} → (Op → Bool) → List (Row At) → List (Landing At)
 landings_of such [] = []
-landings_of such (row ∷ rows) = if such row.0 then (row.2, row.3, row.4) ∷ landings_of such rows else landings_of such rows
+landings_of such (row ∷ rows) =
+    if such row.0 then (row.2, row.3, row.4) ∷ landings_of such rows else landings_of such rows
 
 abbrev pub landings : {At : Type 0} → Op → List (Row At) → List (Landing At)
 landings op = landings_of (is_same_op op)
 
-pub landed : {At : Type 0} (such : Op → Bool) {op : Op} {before after : Slots} {word : ℕ} {next : At} (rows : List (Row At)) → such op ≡ true → In (op, before, word, next, after) rows → In (word, next, after) (landings_of such rows)
+pub landed : {At : Type 0} (such : Op → Bool) {op : Op} {before after : Slots} {word : ℕ} {next : At}
+    (rows : List (Row At)) → such op ≡ true → In (op, before, word, next, after) rows
+    → In (word, next, after) (landings_of such rows)
 landed such [] is there = elim there [ ]
 landed such {after} {word} {next} (row ∷ rows) is head =
-    subst (λ b. In (word, next, after) (if b then (word, next, after) ∷ landings_of such rows else landings_of such rows)) (sym is) head
+    subst (λ b. In (word, next, after)
+    (if b then (word, next, after) ∷ landings_of such rows else landings_of such rows)) (sym is) head
 landed {At} such {after} {word} {next} (row ∷ rows) is (tail there) = later (such row.0) (landed such rows is there)
   where
-    later : (b : Bool) → In (word, next, after) (landings_of such rows) → In (word, next, after) (if b then (row.2, row.3, row.4) ∷ landings_of such rows else landings_of such rows)
+    later : (b : Bool) → In (word, next, after) (landings_of such rows)
+        → In (word, next, after) (if b then (row.2, row.3, row.4) ∷ landings_of such rows else landings_of such rows)
     later true found = tail found
     later false found = found
 
@@ -93,7 +103,8 @@ abbrev pub Each : {At : Type 0} → (ℕ → At → Slots → Type 0) → List (
 Each fact [] = ⊤
 Each fact (l ∷ ls) = fact l.0 l.1 l.2 × Each fact ls
 
-pub each : {At : Type 0} (fact : ℕ → At → Slots → Type 0) {word : ℕ} {next : At} {after : Slots} (ls : List (Landing At)) → Each fact ls → In (word, next, after) ls → fact word next after
+pub each : {At : Type 0} (fact : ℕ → At → Slots → Type 0) {word : ℕ} {next : At} {after : Slots}
+    (ls : List (Landing At)) → Each fact ls → In (word, next, after) ls → fact word next after
 each fact [] all there = elim there [ ]
 each fact (l ∷ ls) all head = all.0
 each fact (l ∷ ls) all (tail there) = each fact ls all.1 there
@@ -106,9 +117,18 @@ pub record FoundSo {At T W : Type 0} (fact : ℕ → At → Slots → Type 0) (n
   pub message : IsSlot after.0 m
   pub waker : IsSlot after.1 w
 
-pub found_so : {At T W : Type 0} {moves : At → List (Row At)} {at : At} {op : Op} {n : ℕ} {m m' : Held T} {w w' : Held W} (such : Op → Bool) (fact : ℕ → At → Slots → Type 0) → such op ≡ true → Each fact (landings_of such (moves at)) → Finds moves at op n m w m' w' → FoundSo fact n m' w'
+pub found_so : {At T W : Type 0} {moves : At → List (Row At)} {at : At} {op : Op} {n : ℕ} {m m' : Held T}
+    {w w' : Held W} (such : Op → Bool) (fact : ℕ → At → Slots → Type 0) → such op ≡ true
+    → Each fact (landings_of such (moves at)) → Finds moves at op n m w m' w' → FoundSo fact n m' w'
 found_so {moves} {at} such fact is all (finds {after} {next} row message waker) =
-    record { next = next; after = after; is_so = each fact (landings_of such (moves at)) all (landed such (moves at) is row); message = turned message; waker = turned waker }
+    record {
+      next = next;
+      after = after;
+      is_so = each fact (landings_of such (moves at)) all
+          (landed such (moves at) is row);
+      message = turned message;
+      waker = turned waker;
+    }
 
 -- what is in a slot before and after an operation is the same
 kept : {X : Type 0} {s t : Share} {h h' : Held X} {x : X} → Turns s t h h' → h ≡ held x → IsSlot filled h' → h' ≡ held x
@@ -116,7 +136,8 @@ kept (stays_held y) is there = is
 kept (gives_thing y) is there = elim there [ ]
 kept _ is there = absurd (cc)
 
-module _ {At T W : Type 0} {moves : At → List (Row At)} {at : At} {op : Op} {n : ℕ} {m m' : Held T} {w w' : Held W} where
+module _ {At T W : Type 0} {moves : At → List (Row At)} {at : At} {op : Op} {n : ℕ} {m m' : Held T}
+    {w w' : Held W} where
   pub message_kept : {x : T} → Finds moves at op n m w m' w' → m ≡ held x → IsSlot filled m' → m' ≡ held x
   message_kept (finds row message waker) is there = kept message is there
 
@@ -128,12 +149,15 @@ abbrev pub among : {At : Type 0} → (ℕ → Bool) → List (Landing At) → Li
 among such [] = []
 among such (l ∷ ls) = if such l.0 then l ∷ among such ls else among such ls
 
-pub is_among : {At : Type 0} (such : ℕ → Bool) {word : ℕ} {next : At} {after : Slots} (ls : List (Landing At)) → such word ≡ true → In (word, next, after) ls → In (word, next, after) (among such ls)
+pub is_among : {At : Type 0} (such : ℕ → Bool) {word : ℕ} {next : At} {after : Slots} (ls : List (Landing At))
+    → such word ≡ true → In (word, next, after) ls → In (word, next, after) (among such ls)
 is_among such [] is there = elim there [ ]
-is_among such {word} {next} {after} (l ∷ ls) is head = subst (λ b. In (word, next, after) (if b then (word, next, after) ∷ among such ls else among such ls)) (sym is) head
+is_among such {word} {next} {after} (l ∷ ls) is head =
+    subst (λ b. In (word, next, after) (if b then (word, next, after) ∷ among such ls else among such ls)) (sym is) head
 is_among such {word} {next} {after} (l ∷ ls) is (tail there) = later (such l.0) (is_among such ls is there)
   where
-    later : (b : Bool) → In (word, next, after) (among such ls) → In (word, next, after) (if b then l ∷ among such ls else among such ls)
+    later : (b : Bool) → In (word, next, after) (among such ls)
+        → In (word, next, after) (if b then l ∷ among such ls else among such ls)
     later true found = tail found
     later false found = found
 

@@ -34,7 +34,8 @@ ref_rows BackFull = (Done, Goes (Look Close)) ∷ []
 ref_rows BackClosed = (Done, Goes (Look CloseOnly)) ∷ []
 ref_rows Park = (Token true, Goes (Ref ParkLoad)) ∷ (Token false, Goes (Ref ParkLoad)) ∷ []
 ref_rows ParkLoad =
-    (Word 4, Goes (Look Close)) ∷ (Word 2, Answers R.Disconnected) ∷ (Word 0, Goes (Ref Park)) ∷ (Word 1, Goes (Ref Park)) ∷ []
+    (Word 4, Goes (Look Close)) ∷ (Word 2, Answers R.Disconnected) ∷ (Word 0, Goes (Ref Park))
+    ∷ (Word 1, Goes (Ref Park)) ∷ []
 
 -- the positions, and the number of each in their list
 abbrev pub ref_positions : List RefPos

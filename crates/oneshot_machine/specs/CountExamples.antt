@@ -6,7 +6,8 @@ use Rattle.oneshot_machine.specs.Counts.{operates, GrewAtMost}
 
 pub record CountsThatAre : Type 0 where
   pub sends_by_two : GrewAtMost 2 operates [] ((Add, Word 0) ∷ (Swap 4, Word 1) ∷ [])
-  pub had_made_others : GrewAtMost 2 operates ((Load, Word 3) ∷ []) ((Load, Word 3) ∷ (Load, Word 4) ∷ (Store 2, Done) ∷ [])
+  pub had_made_others : GrewAtMost 2 operates ((Load, Word 3) ∷ [])
+      ((Load, Word 3) ∷ (Load, Word 4) ∷ (Store 2, Done) ∷ [])
   pub makes_none : GrewAtMost 0 operates ((Load, Word 2) ∷ []) ((Load, Word 2) ∷ [])
   pub polls_too_late : GrewAtMost 2 operates [] ((Load, Word 0) ∷ (Exchange 0 3, Word 1) ∷ [])
 

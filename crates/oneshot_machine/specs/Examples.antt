@@ -161,7 +161,8 @@ pub record RunsThatAre : Type 0 where
   pub runs_out :
       ReceiverRun (Ref (StartLoad true)) (running_out ++ worded (Swap 3) 0 ∷ handed Withdraw 1 ∷ []) Timeout
   pub runs_out_after_its_sum :
-      ReceiverRun (Timed (SumClock true)) (clocked true ∷ running_out ++ worded (Swap 3) 0 ∷ handed Withdraw 1 ∷ []) Timeout
+      ReceiverRun (Timed (SumClock true)) (clocked true ∷ running_out ++ worded (Swap 3) 0 ∷ handed Withdraw 1 ∷ [])
+      Timeout
   pub runs_out_over_a_message :
       ReceiverRun (Ref (StartLoad true)) (running_out ++ worded (Swap 3) 4 ∷ worded (Store 2) 3 ∷ took 7 ∷ []) Message
   pub runs_out_over_a_drop :

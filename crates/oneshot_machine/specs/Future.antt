@@ -29,7 +29,8 @@ future_step AsyncTryLoad = T.Word O.Load
 abbrev pub future_rows : FuturePos → Rows ReceiverPos
 future_rows IntoFuture = (Done, Answers R.Future) ∷ []
 future_rows PollLoad =
-    (Word 3, Goes (Future PollCopy)) ∷ (Word 0, Goes (Future AgainCopy)) ∷ (Word 4, Goes (Look Close)) ∷ (Word 2, Answers R.Disconnected) ∷ (Word 1, Goes (Future PollOwn)) ∷ []
+    (Word 3, Goes (Future PollCopy)) ∷ (Word 0, Goes (Future AgainCopy)) ∷ (Word 4, Goes (Look Close))
+    ∷ (Word 2, Answers R.Disconnected) ∷ (Word 1, Goes (Future PollOwn)) ∷ []
 future_rows PollCopy =
     (Refused false, Goes (Future PollWrite)) ∷ (Refused true, Goes (Future PollOwn)) ∷ []
 future_rows PollWrite = (Done, Goes (Future PollExchange)) ∷ []
@@ -40,11 +41,13 @@ future_rows PollBackClosed = (Done, Answers R.Disconnected) ∷ []
 future_rows AgainCopy =
     (Refused false, Goes (Future AgainExchange)) ∷ (Refused true, Goes (Future PollOwn)) ∷ []
 future_rows AgainExchange =
-    (Word 0, Goes (Future AgainBack)) ∷ (Word 4, Goes (Look Close)) ∷ (Word 2, Answers R.Disconnected) ∷ (Word 1, Goes (Future PollOwn)) ∷ []
+    (Word 0, Goes (Future AgainBack)) ∷ (Word 4, Goes (Look Close)) ∷ (Word 2, Answers R.Disconnected)
+    ∷ (Word 1, Goes (Future PollOwn)) ∷ []
 future_rows AgainBack = (Done, Goes (Future PollWrite)) ∷ []
 future_rows PollOwn = (Done, Answers R.Pending) ∷ []
 future_rows AsyncTryLoad =
-    (Word 4, Goes (Look Close)) ∷ (Word 2, Answers R.Disconnected) ∷ (Word 3, Answers R.Empty) ∷ (Word 0, Answers R.Empty) ∷ (Word 1, Answers R.Empty) ∷ []
+    (Word 4, Goes (Look Close)) ∷ (Word 2, Answers R.Disconnected) ∷ (Word 3, Answers R.Empty)
+    ∷ (Word 0, Answers R.Empty) ∷ (Word 1, Answers R.Empty) ∷ []
 
 -- the positions, and the number of each in their list
 abbrev pub future_positions : List FuturePos

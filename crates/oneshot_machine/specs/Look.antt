@@ -21,9 +21,11 @@ look_step CloseOnly = T.Word (O.Store 2)
 
 abbrev pub look_rows : LookPos → Rows ReceiverPos
 look_rows LookFull =
-    (Word 4, Answers R.Yes) ∷ (Word 0, Answers R.No) ∷ (Word 1, Answers R.No) ∷ (Word 2, Answers R.No) ∷ (Word 3, Answers R.No) ∷ []
+    (Word 4, Answers R.Yes) ∷ (Word 0, Answers R.No) ∷ (Word 1, Answers R.No) ∷ (Word 2, Answers R.No)
+    ∷ (Word 3, Answers R.No) ∷ []
 look_rows LookClosed =
-    (Word 2, Answers R.Yes) ∷ (Word 0, Answers R.No) ∷ (Word 1, Answers R.No) ∷ (Word 3, Answers R.No) ∷ (Word 4, Answers R.No) ∷ []
+    (Word 2, Answers R.Yes) ∷ (Word 0, Answers R.No) ∷ (Word 1, Answers R.No) ∷ (Word 3, Answers R.No)
+    ∷ (Word 4, Answers R.No) ∷ []
 look_rows TryLoad =
     (Word 4, Goes (Look Close)) ∷ (Word 3, Answers R.Empty) ∷ (Word 2, Answers R.Disconnected) ∷ []
 look_rows Close = (Done, Goes (Look Take)) ∷ []

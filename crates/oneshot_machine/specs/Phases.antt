@@ -1,4 +1,5 @@
--- How far an end is by its log, and the transition table of the phases: which operations an end may make at each, what they find, where that leads, and what becomes of its slots.
+-- How far an end is by its log, and the transition table of the phases: which operations an end may make at
+-- each, what they find, where that leads, and what becomes of its slots.
 use Rattle.std.specs.Prelude.{ℕ, Bool, true, false, List, [], ◌∷◌, ◌&&◌, if◌then◌else◌, Option, Some, None}
 use Rattle.oneshot_machine.specs.declared.machine.Seen.{Seen}
 use Rattle.oneshot_machine.specs.declared.states.Op.{Op}

@@ -30,9 +30,11 @@ timed_rows Clock = (Over false, Goes (Timed TimedPark)) ∷ (Over true, Goes (Ti
 timed_rows TimedPark =
     (Token true, Goes (Timed TimedLoad)) ∷ (Token false, Goes (Timed TimedLoad)) ∷ []
 timed_rows TimedLoad =
-    (Word 4, Goes (Look Close)) ∷ (Word 2, Answers R.Disconnected) ∷ (Word 0, Goes (Timed Clock)) ∷ (Word 1, Goes (Timed Clock)) ∷ []
+    (Word 4, Goes (Look Close)) ∷ (Word 2, Answers R.Disconnected) ∷ (Word 0, Goes (Timed Clock))
+    ∷ (Word 1, Goes (Timed Clock)) ∷ []
 timed_rows EndSwap =
-    (Word 0, Goes (Timed EndBack)) ∷ (Word 4, Goes (Look Close)) ∷ (Word 2, Goes (Look CloseOnly)) ∷ (Word 1, Goes (Timed LatePark)) ∷ []
+    (Word 0, Goes (Timed EndBack)) ∷ (Word 4, Goes (Look Close)) ∷ (Word 2, Goes (Look CloseOnly))
+    ∷ (Word 1, Goes (Timed LatePark)) ∷ []
 timed_rows EndBack = (Done, Answers R.Timeout) ∷ []
 timed_rows LatePark =
     (Token true, Goes (Timed LateLoad)) ∷ (Token false, Goes (Timed LateLoad)) ∷ []

@@ -34,7 +34,8 @@ value_rows RecvBackClosed = (Done, Goes (Value RecvFreeGone)) ∷ []
 value_rows RecvPark =
     (Token true, Goes (Value RecvParkLoad)) ∷ (Token false, Goes (Value RecvParkLoad)) ∷ []
 value_rows RecvParkLoad =
-    (Word 4, Goes (Value RecvTake)) ∷ (Word 2, Goes (Value RecvFreeGone)) ∷ (Word 0, Goes (Value RecvPark)) ∷ (Word 1, Goes (Value RecvPark)) ∷ []
+    (Word 4, Goes (Value RecvTake)) ∷ (Word 2, Goes (Value RecvFreeGone)) ∷ (Word 0, Goes (Value RecvPark))
+    ∷ (Word 1, Goes (Value RecvPark)) ∷ []
 value_rows RecvTake = (Done, Goes (Value RecvFreeGot)) ∷ []
 value_rows RecvFreeGot = (Done, Answers R.Message) ∷ []
 value_rows RecvFreeGone = (Done, Answers R.Disconnected) ∷ []

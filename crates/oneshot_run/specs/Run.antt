@@ -25,12 +25,14 @@ abbrev pub IsReadable : List ℕ → Type 0
 IsReadable input = (length input ≤ most_bytes) × IsAscii input
 
 -- an input that asks for the run of these scripts under these moves
-pub record AsksFor (input : List ℕ) (sender : SenderScript ℕ) (receiver : ReceiverScript) (moves : List Move) : Type 0 where
+pub record AsksFor (input : List ℕ) (sender : SenderScript ℕ) (receiver : ReceiverScript) (moves : List Move) : Type
+    0 where
   pub readable : IsReadable input
   pub asks : Asks input sender receiver moves
 
 -- the writer, where what it holds is known, got the text of this run
-pub record IsWritten (sender : SenderScript ℕ) (receiver : ReceiverScript) (moves : List Move) (before after : Option (List ℕ)) : Type 0 where
+pub record IsWritten (sender : SenderScript ℕ) (receiver : ReceiverScript) (moves : List Move)
+    (before after : Option (List ℕ)) : Type 0 where
   pub text : List ℕ
   pub is_text : IsTextOf (message_of sender.last) 1 (opening sender receiver) moves text
   pub appends : Appends before after text
@@ -43,7 +45,8 @@ pub record IsAnswered (input : List ℕ) (before after : Option (List ℕ)) : Ty
   pub asked : AsksFor input sender receiver moves
   pub written : IsWritten sender receiver moves before after
 
--- When each fault is told, which is the first in this order. Of a stream that fails and of memory that is refused the input knows nothing.
+-- When each fault is told, which is the first in this order. Of a stream that fails and of memory that is
+-- refused the input knows nothing.
 pub data IsFault (input : List ℕ) : Fault → Type 0 where
   is_unread : IsFault input F.ReadFailed
   is_too_long : most_bytes < length input → IsFault input F.InputTooLong
@@ -53,7 +56,8 @@ pub data IsFault (input : List ℕ) : Fault → Type 0 where
   is_unwritten : (sender : SenderScript ℕ) (receiver : ReceiverScript) (moves : List Move)
       → AsksFor input sender receiver moves → IsFault input F.WriteFailed
 
--- The exit status: 0 where the answer was written, or that of the fault. Only a failed write leaves the output other than it was.
+-- The exit status: 0 where the answer was written, or that of the fault. Only a failed write leaves the
+-- output other than it was.
 pub data EndsWith (known : Option (List ℕ)) (before after : Option (List ℕ)) : ℕ → Type 0 where
   is_answered : IfSome known (λ input. IsAnswered input before after) → EndsWith known before after 0
   is_faulty : (fault : Fault) → IfSome known (λ input. IsFault input fault)

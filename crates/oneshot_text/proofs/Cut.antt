@@ -20,7 +20,8 @@ pub slice_split-whole : (byte : ℕ) (bs : List ℕ) → Lacks byte bs → slice
 slice_split-whole byte bs lacks = slice_split_none (λ b. eqb b byte) bs (All-from_lacks byte bs lacks)
 
 -- what comes before the first such byte is the first part
-pub slice_split-first : (byte : ℕ) (bs first rest : List ℕ) → bs ≡ first ++ (byte ∷ rest) → Lacks byte first → slice_split (λ b. eqb b byte) bs ≡ first ∷ slice_split (λ b. eqb b byte) rest
+pub slice_split-first : (byte : ℕ) (bs first rest : List ℕ) → bs ≡ first ++ (byte ∷ rest) → Lacks byte first
+    → slice_split (λ b. eqb b byte) bs ≡ first ∷ slice_split (λ b. eqb b byte) rest
 slice_split-first byte bs first rest is lacks =
     ap (slice_split (λ b. eqb b byte)) is
     ∙ slice_split_at (λ b. eqb b byte) first byte rest (All-from_lacks byte first lacks) (eq-eqb byte byte refl)
@@ -34,9 +35,11 @@ cons-from_length [] some = absurd (omega arith)
 cons-from_length (y ∷ ys) some = (y, ys, refl)
 
 -- a first line that its line feed ends
-pub lines_of-first : (bs first rest : List ℕ) → bs ≡ first ++ (10 ∷ rest) → Lacks 10 first → lines_of bs ≡ first ∷ lines_of rest
+pub lines_of-first : (bs first rest : List ℕ) → bs ≡ first ++ (10 ∷ rest) → Lacks 10 first
+    → lines_of bs ≡ first ∷ lines_of rest
 lines_of-first bs first rest is lacks =
-    let more = cons-from_length (slice_split (λ b. eqb b 10) rest) (omega (arith, length-slice_split (λ b. eqb b 10) rest)) in
+    let more =
+    cons-from_length (slice_split (λ b. eqb b 10) rest) (omega (arith, length-slice_split (λ b. eqb b 10) rest)) in
     rw (slice_split-first 10 bs first rest is lacks, more.2) refl
 
 -- an only line with no line feed
@@ -45,7 +48,8 @@ lines_of-whole [] some lacks = absurd (omega arith)
 lines_of-whole (b ∷ bs) some lacks = rw (slice_split-whole 10 (b ∷ bs) lacks) refl
 
 -- the same, as `split_once` and `unwrap_or` tell it
-pub lines_of-cut : (text empty : Bor (List ℕ)) (r : Option (Bor (List ℕ) × Bor (List ℕ))) → 0 < length text.now → empty.now ≡ []
+pub lines_of-cut : (text empty : Bor (List ℕ)) (r : Option (Bor (List ℕ) × Bor (List ℕ))) → 0 < length text.now
+    → empty.now ≡ []
     → MatchOption r (Lacks 10 text.now) (λ x. (text.now ≡ x.0.now ++ (10 ∷ x.1.now)) × Lacks 10 x.0.now)
     → lines_of text.now ≡ (unwrap_or r (text, empty)).0.now ∷ lines_of (unwrap_or r (text, empty)).1.now
 lines_of-cut text empty None some none lacks = rw none (lines_of-whole text.now some lacks)
@@ -66,4 +70,5 @@ pub lines_of-none : (bs : List ℕ) → map words_of (lines_of bs) ≡ [] → bs
 lines_of-none bs none =
     let parts = slice_split (λ b. eqb b 10) bs in
     let some : 0 < length parts = omega (arith, length-slice_split (λ b. eqb b 10) bs) in
-    sym (join_with_byte-slice_split 10 bs) ∙ ap (join_with_byte 10) (one_empty_part parts some (map-none words_of (lines_of bs) none))
+    sym (join_with_byte-slice_split 10 bs)
+    ∙ ap (join_with_byte 10) (one_empty_part parts some (map-none words_of (lines_of bs) none))

@@ -27,7 +27,8 @@ parse-plain_decimal {E} bs (Ok n) parses plain leads =
 parse-plain_decimal bs (Err e) parses plain leads = tt
 
 -- what `parse` gives for a decimal
-pub parse-of_decimal : {E : Type 0} (bs : List ℕ) (r : Result ℕ E) (n : ℕ) → ParsesUnsigned 64 10 bs r → n < 2 ^ 64 → bs ≡ decimal n → result_ok r ≡ Some n
+pub parse-of_decimal : {E : Type 0} (bs : List ℕ) (r : Result ℕ E) (n : ℕ) → ParsesUnsigned 64 10 bs r → n < 2 ^ 64
+    → bs ≡ decimal n → result_ok r ≡ Some n
 parse-of_decimal bs r n parses small is = ap result_ok (parse-decimal 64 n bs r small small is parses)
 
 first_of_digits : (bs : List ℕ) → AllDigits 10 bs → get_or bs 0 0 < 58

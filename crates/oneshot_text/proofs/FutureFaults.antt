@@ -13,14 +13,17 @@ use Rattle.oneshot_text.proofs.Unlike.{unlike}
 -- what the first word of a future's words tells
 pub data FutureHead (word : List ℕ) (rest : List (List ℕ)) : Type 0 where
   poll : word ≡ codes "poll" → NumberAnd AsksForFuture rest → FutureHead word rest
-  bare : (call : AsyncCall) → number_behind call ≡ [] → word ≡ first_word_of_future_call call → AsksForFuture rest → FutureHead word rest
+  bare : (call : AsyncCall) → number_behind call ≡ [] → word ≡ first_word_of_future_call call → AsksForFuture rest
+      → FutureHead word rest
   drop : word ≡ codes "drop" → rest ≡ [] → FutureHead word rest
 
 -- how the words go on behind the first call
-abbrev as_future : (calls : List AsyncCall) (last : AsyncLast) (rest : List (List ℕ)) → HasNumbers calls → rest ≡ words_of_future_calls calls ++ words_of_future_last last → AsksForFuture rest
+abbrev as_future : (calls : List AsyncCall) (last : AsyncLast) (rest : List (List ℕ)) → HasNumbers calls
+    → rest ≡ words_of_future_calls calls ++ words_of_future_last last → AsksForFuture rest
 as_future calls last rest fits is = record { script = record { calls = calls; last = last }; fits = fits; written = is }
 
-future_head_of : (calls : List AsyncCall) (last : AsyncLast) (word : List ℕ) (rest : List (List ℕ)) → HasNumbers calls → word ∷ rest ≡ words_of_future_calls calls ++ words_of_future_last last → FutureHead word rest
+future_head_of : (calls : List AsyncCall) (last : AsyncLast) (word : List ℕ) (rest : List (List ℕ)) → HasNumbers calls
+    → word ∷ rest ≡ words_of_future_calls calls ++ words_of_future_last last → FutureHead word rest
 future_head_of [] Drop word rest fits is = drop (cc) (cc)
 future_head_of [] Stop word rest fits is = absurd (cc)
 future_head_of (Poll n ∷ calls) last word rest fits is =
@@ -32,8 +35,10 @@ future_head_of (Poll n ∷ calls) last word rest fits is =
       right = as_future calls last _ fits.1 refl;
     })
 future_head_of (TryRecv ∷ calls) last word rest fits is = bare TryRecv refl (cc) (as_future calls last rest fits.1 (cc))
-future_head_of (HasMessage ∷ calls) last word rest fits is = bare HasMessage refl (cc) (as_future calls last rest fits.1 (cc))
-future_head_of (IsClosed ∷ calls) last word rest fits is = bare IsClosed refl (cc) (as_future calls last rest fits.1 (cc))
+future_head_of (HasMessage ∷ calls) last word rest fits is =
+    bare HasMessage refl (cc) (as_future calls last rest fits.1 (cc))
+future_head_of (IsClosed ∷ calls) last word rest fits is =
+    bare IsClosed refl (cc) (as_future calls last rest fits.1 (cc))
 
 future_head : (word : List ℕ) (rest : List (List ℕ)) → AsksForFuture (word ∷ rest) → FutureHead word rest
 future_head word rest asks = future_head_of asks.script.calls asks.script.last word rest asks.fits asks.written
@@ -41,7 +46,8 @@ future_head word rest asks = future_head_of asks.script.calls asks.script.last w
 pub no_future : AsksForFuture []
 no_future = record { script = record { calls = []; last = Stop }; fits = tt; written = refl }
 
--- the words of a future's calls are no numbers, and that of a call with no number behind it is neither `poll` nor `drop`
+-- the words of a future's calls are no numbers, and that of a call with no number behind it is neither `poll`
+-- nor `drop`
 no_number_in_call : (n : ℕ) (call : AsyncCall) → n < 2 ^ 64 → decimal n ≡ first_word_of_future_call call → ⊥
 no_number_in_call n (Poll number) small is = decimal-no_letter n (codes "poll") small (omega arith) is
 no_number_in_call n TryRecv small is = decimal-no_letter n (codes "try") small (omega arith) is
@@ -85,42 +91,62 @@ pub poll_from : (rest : List (List ℕ)) → AsksForFuture (codes "poll" ∷ res
 poll_from rest asks = poll_from_head rest (future_head (codes "poll") rest asks)
 
 -- behind a call with no number
-bare_from_head : (call : AsyncCall) (rest : List (List ℕ)) → number_behind call ≡ [] → FutureHead (first_word_of_future_call call) rest → AsksForFuture rest
+bare_from_head : (call : AsyncCall) (rest : List (List ℕ)) → number_behind call ≡ []
+    → FutureHead (first_word_of_future_call call) rest → AsksForFuture rest
 bare_from_head call rest none (poll is asks) = absurd (bare-no_poll call none (sym is))
 bare_from_head call rest none (bare other without is asks) = asks
 bare_from_head call rest none (drop is over) = absurd (bare-no_drop call (sym is))
 
-bare_from : (call : AsyncCall) (rest : List (List ℕ)) → number_behind call ≡ [] → AsksForFuture (first_word_of_future_call call ∷ rest) → AsksForFuture rest
+bare_from : (call : AsyncCall) (rest : List (List ℕ)) → number_behind call ≡ []
+    → AsksForFuture (first_word_of_future_call call ∷ rest) → AsksForFuture rest
 bare_from call rest none asks = bare_from_head call rest none (future_head (first_word_of_future_call call) rest asks)
 
-bare_to : (call : AsyncCall) (rest : List (List ℕ)) → number_behind call ≡ [] → HasNumber call → AsksForFuture rest → AsksForFuture (first_word_of_future_call call ∷ rest)
+bare_to : (call : AsyncCall) (rest : List (List ℕ)) → number_behind call ≡ [] → HasNumber call → AsksForFuture rest
+    → AsksForFuture (first_word_of_future_call call ∷ rest)
 bare_to call rest none fits asks = record {
   script = record { calls = call ∷ asks.script.calls; last = asks.script.last };
   fits = (fits, asks.fits);
   written =
       ap (λ ws. first_word_of_future_call call ∷ ws) asks.written
-      ∙ ap (λ ws. first_word_of_future_call call ∷ (ws ++ words_of_future_calls asks.script.calls) ++ words_of_future_last asks.script.last) (sym none);
+      ∙ ap (λ ws. first_word_of_future_call call ∷ (ws ++ words_of_future_calls asks.script.calls)
+      ++ words_of_future_last asks.script.last) (sym none);
 }
 
 -- behind a run of calls
-pub calls_to : (calls : List AsyncCall) → HasNumbers calls → (rest : List (List ℕ)) → AsksForFuture rest → AsksForFuture (words_of_future_calls calls ++ rest)
+pub calls_to : (calls : List AsyncCall) → HasNumbers calls → (rest : List (List ℕ)) → AsksForFuture rest
+    → AsksForFuture (words_of_future_calls calls ++ rest)
 calls_to [] fits rest asks = asks
 calls_to (Poll n ∷ calls) fits rest asks =
     poll_to (decimal n ∷ words_of_future_calls calls ++ rest)
-    (record { number = n; rest = words_of_future_calls calls ++ rest; small = fits.0; written = refl; right = calls_to calls fits.1 rest asks })
-calls_to (TryRecv ∷ calls) fits rest asks = bare_to TryRecv (words_of_future_calls calls ++ rest) refl tt (calls_to calls fits.1 rest asks)
-calls_to (HasMessage ∷ calls) fits rest asks = bare_to HasMessage (words_of_future_calls calls ++ rest) refl tt (calls_to calls fits.1 rest asks)
-calls_to (IsClosed ∷ calls) fits rest asks = bare_to IsClosed (words_of_future_calls calls ++ rest) refl tt (calls_to calls fits.1 rest asks)
+    (record {
+      number = n;
+      rest = words_of_future_calls calls ++ rest;
+      small = fits.0;
+      written = refl;
+      right = calls_to calls fits.1 rest asks;
+    })
+calls_to (TryRecv ∷ calls) fits rest asks =
+    bare_to TryRecv (words_of_future_calls calls ++ rest) refl tt (calls_to calls fits.1 rest asks)
+calls_to (HasMessage ∷ calls) fits rest asks =
+    bare_to HasMessage (words_of_future_calls calls ++ rest) refl tt (calls_to calls fits.1 rest asks)
+calls_to (IsClosed ∷ calls) fits rest asks =
+    bare_to IsClosed (words_of_future_calls calls ++ rest) refl tt (calls_to calls fits.1 rest asks)
 
-pub calls_from : (calls : List AsyncCall) (rest : List (List ℕ)) → AsksForFuture (words_of_future_calls calls ++ rest) → AsksForFuture rest
+pub calls_from : (calls : List AsyncCall) (rest : List (List ℕ)) → AsksForFuture (words_of_future_calls calls ++ rest)
+    → AsksForFuture rest
 calls_from [] rest asks = asks
 calls_from (Poll n ∷ calls) rest asks =
-    calls_from calls rest (number_and_from AsksForFuture n (words_of_future_calls calls ++ rest) (poll_from (decimal n ∷ words_of_future_calls calls ++ rest) asks))
-calls_from (TryRecv ∷ calls) rest asks = calls_from calls rest (bare_from TryRecv (words_of_future_calls calls ++ rest) refl asks)
-calls_from (HasMessage ∷ calls) rest asks = calls_from calls rest (bare_from HasMessage (words_of_future_calls calls ++ rest) refl asks)
-calls_from (IsClosed ∷ calls) rest asks = calls_from calls rest (bare_from IsClosed (words_of_future_calls calls ++ rest) refl asks)
+    calls_from calls rest (number_and_from AsksForFuture n (words_of_future_calls calls ++ rest)
+    (poll_from (decimal n ∷ words_of_future_calls calls ++ rest) asks))
+calls_from (TryRecv ∷ calls) rest asks =
+    calls_from calls rest (bare_from TryRecv (words_of_future_calls calls ++ rest) refl asks)
+calls_from (HasMessage ∷ calls) rest asks =
+    calls_from calls rest (bare_from HasMessage (words_of_future_calls calls ++ rest) refl asks)
+calls_from (IsClosed ∷ calls) rest asks =
+    calls_from calls rest (bare_from IsClosed (words_of_future_calls calls ++ rest) refl asks)
 
-pub numbers_more : (calls : List AsyncCall) (call : AsyncCall) → HasNumbers calls → HasNumber call → HasNumbers (calls ++ call ∷ [])
+pub numbers_more : (calls : List AsyncCall) (call : AsyncCall) → HasNumbers calls → HasNumber call
+    → HasNumbers (calls ++ call ∷ [])
 numbers_more [] call fits small = (small, tt)
 numbers_more (first ∷ calls) call fits small = (fits.0, numbers_more calls call fits.1 small)
 
@@ -131,17 +157,21 @@ drop_from_head rest (bare call none is asks) = absurd (bare-no_drop call is)
 drop_from_head rest (drop is over) = over
 
 pub future_drop_to : (rest : List (List ℕ)) → IsOver rest → AsksForFuture (codes "drop" ∷ rest)
-future_drop_to rest over = record { script = record { calls = []; last = Drop }; fits = tt; written = ap (λ ws. codes "drop" ∷ ws) over }
+future_drop_to rest over =
+    record { script = record { calls = []; last = Drop }; fits = tt; written = ap (λ ws. codes "drop" ∷ ws) over }
 
 pub future_drop_from : (rest : List (List ℕ)) → AsksForFuture (codes "drop" ∷ rest) → IsOver rest
 future_drop_from rest asks = drop_from_head rest (future_head (codes "drop") rest asks)
 
 -- a word that is none of a future's
-module _ (left : List (List ℕ)) (no_call : (call : AsyncCall) → slice_get left 0 ≢ Some (first_word_of_future_call call)) (no_drop : slice_get left 0 ≢ Some (codes "drop")) where
+module _ (left : List (List ℕ))
+    (no_call : (call : AsyncCall) → slice_get left 0 ≢ Some (first_word_of_future_call call))
+    (no_drop : slice_get left 0 ≢ Some (codes "drop")) where
   unknown_in_future : (word : List ℕ) → slice_get left 0 ≡ Some word → (rest : List (List ℕ)) → FutureHead word rest → ⊥
   unknown_in_future word at rest (poll is asks) = no_call (Poll 0) (at ∙ ap (λ w. Some w) is)
   unknown_in_future word at rest (bare call none is asks) = no_call call (at ∙ ap (λ w. Some w) is)
   unknown_in_future word at rest (drop is over) = no_drop (at ∙ ap (λ w. Some w) is)
 
-  pub future-no_word : (word : List ℕ) → slice_get left 0 ≡ Some word → (rest : List (List ℕ)) → ¬ (AsksForFuture (word ∷ rest))
+  pub future-no_word : (word : List ℕ) → slice_get left 0 ≡ Some word → (rest : List (List ℕ))
+      → ¬ (AsksForFuture (word ∷ rest))
   future-no_word word at rest asks = unknown_in_future word at rest (future_head word rest asks)

@@ -18,7 +18,8 @@ move_lettered-letter (Receiver true false) letter is = let e : 111 ≡ letter = 
 move_lettered-letter (Receiver false true) letter is = let e : 110 ≡ letter = cc in rw (← e) refl
 move_lettered-letter (Receiver true true) letter is = absurd cc
 
-pub moves-same : (xs ys : List Move) (text : List ℕ) → map letter_of xs ≡ map Some text → map letter_of ys ≡ map Some text → xs ≡ ys
+pub moves-same : (xs ys : List Move) (text : List ℕ) → map letter_of xs ≡ map Some text
+    → map letter_of ys ≡ map Some text → xs ≡ ys
 moves-same [] [] text x_is y_is = refl
 moves-same [] (y ∷ ys) text x_is y_is = absurd (cc (x_is ∙ sym y_is))
 moves-same (x ∷ xs) [] text x_is y_is = absurd (cc (x_is ∙ sym y_is))
@@ -27,13 +28,15 @@ moves-same (x ∷ xs) (y ∷ ys) (letter ∷ text) x_is y_is =
     cc (move_lettered-letter x letter (cc), move_lettered-letter y letter (cc), moves-same xs ys text (cc) (cc))
 
 -- each letter of the word is a move's
-pub letter-at : (moves : List Move) (text : List ℕ) (i : ℕ) → map letter_of moves ≡ map Some text → i < length text → (move : Move) × (letter_of move ≡ Some (get_or text i 0))
+pub letter-at : (moves : List Move) (text : List ℕ) (i : ℕ) → map letter_of moves ≡ map Some text → i < length text
+    → (move : Move) × (letter_of move ≡ Some (get_or text i 0))
 letter-at moves [] i is small = absurd (omega arith)
 letter-at [] (letter ∷ text) i is small = absurd cc
 letter-at (move ∷ moves) (letter ∷ text) zero is small = (move, cc)
 letter-at (move ∷ moves) (letter ∷ text) (suc i) is small = letter-at moves text i (cc) (omega arith)
 
 -- the one word of the line has the letters of no other moves
-pub schedule-same : (xs ys : List Move) (word : List ℕ) → map letter_of xs ≡ map Some word → map (map Some) (word ∷ []) ≡ words_of_schedule ys → xs ≡ ys
+pub schedule-same : (xs ys : List Move) (word : List ℕ) → map letter_of xs ≡ map Some word
+    → map (map Some) (word ∷ []) ≡ words_of_schedule ys → xs ≡ ys
 schedule-same xs [] word x_is y_is = absurd cc
 schedule-same xs (y ∷ ys) word x_is y_is = moves-same xs (y ∷ ys) word x_is (cc)

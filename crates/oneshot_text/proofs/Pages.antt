@@ -7,17 +7,20 @@ use Rattle.std.specs.Io.KnownBytes.{Appends, Keeps, append_known}
 use Rattle.std.proofs.lemmas.List.{append_assoc, append-nil}
 
 -- before the first line
-pub page_begins : (written : Option (List ℕ)) (lines : List ℕ) → lines ≡ [] → Appends written (append_known written lines) []
+pub page_begins : (written : Option (List ℕ)) (lines : List ℕ) → lines ≡ []
+    → Appends written (append_known written lines) []
 page_begins None lines none = tt
 page_begins (Some bytes) lines none = ap (λ more. bytes ++ more) none
 
 -- a line joins those that wait
-pub joined : (written : Option (List ℕ)) (old new line : List ℕ) → new ≡ old ++ line → Appends (append_known written old) (append_known written new) line
+pub joined : (written : Option (List ℕ)) (old new line : List ℕ) → new ≡ old ++ line
+    → Appends (append_known written old) (append_known written new) line
 joined None old new line is = tt
 joined (Some bytes) old new line is = ap (λ lines. bytes ++ lines) is ∙ sym (append_assoc bytes old line)
 
 -- those that wait are written, and then the line
-pub passed : (written mid new : Option (List ℕ)) (old left line : List ℕ) → left ≡ [] → Appends written mid old → Appends mid new line → Appends (append_known written old) (append_known new left) line
+pub passed : (written mid new : Option (List ℕ)) (old left line : List ℕ) → left ≡ [] → Appends written mid old
+    → Appends mid new line → Appends (append_known written old) (append_known new left) line
 passed None mid new old left line none first_part second_part = tt
 passed (Some bytes) None new old left line none first_part second_part = elim first_part [ ]
 passed (Some bytes) (Some more) None old left line none first_part second_part = elim second_part [ ]
@@ -25,7 +28,9 @@ passed (Some bytes) (Some more) (Some most) old left line none first_part second
     ap (λ lines. most ++ lines) none ∙ append-nil most ∙ second_part ∙ ap (λ b. b ++ line) first_part
 
 -- at the end all that waited is written, and the writer keeps it
-pub written_out : (before written new kept : Option (List ℕ)) (lines text : List ℕ) → Appends before (append_known written lines) text → Appends written new lines → Keeps new kept → Appends before kept text
+pub written_out : (before written new kept : Option (List ℕ)) (lines text : List ℕ)
+    → Appends before (append_known written lines) text → Appends written new lines → Keeps new kept
+    → Appends before kept text
 written_out None written new kept lines text grew out keeps = tt
 written_out (Some first) None new kept lines text grew out keeps = elim grew [ ]
 written_out (Some first) (Some bytes) None kept lines text grew out keeps = elim out [ ]
@@ -33,13 +38,16 @@ written_out (Some first) (Some bytes) (Some most) None lines text grew out keeps
 written_out (Some first) (Some bytes) (Some most) (Some last) lines text grew out keeps = keeps ∙ out ∙ grew
 
 -- what was empty has the text that was written to it
-pub text_is : {W : Type 0} (took : W → List ℕ → W → Type 0) (contents : W → List ℕ) (appends : (w : W) (bytes : List ℕ) (v : W) → took w bytes v → contents v ≡ contents w ++ bytes) (w v : W) (text : Option (List ℕ)) → contents w ≡ [] → WritesText took w text v → IfSome text (λ bytes. contents v ≡ bytes)
+pub text_is : {W : Type 0} (took : W → List ℕ → W → Type 0) (contents : W → List ℕ)
+    (appends : (w : W) (bytes : List ℕ) (v : W) → took w bytes v → contents v ≡ contents w ++ bytes) (w v : W)
+    (text : Option (List ℕ)) → contents w ≡ [] → WritesText took w text v → IfSome text (λ bytes. contents v ≡ bytes)
 text_is took contents appends w v None empty writes = tt
 text_is took contents appends w v (Some bytes) empty writes =
     contents_after_writes took contents appends w bytes v writes ∙ ap (λ b. b ++ bytes) empty
 
 -- a fact of the line is one of the text
-pub of_text : {T E : Type 0} (fact : List ℕ → Type 0) (r : Result T E) (text : Option (List ℕ)) (line : List ℕ) → IfSome text (λ bytes. line ≡ bytes) → OnOk r (fact line) → OnOk r (IfSome text fact)
+pub of_text : {T E : Type 0} (fact : List ℕ → Type 0) (r : Result T E) (text : Option (List ℕ)) (line : List ℕ)
+    → IfSome text (λ bytes. line ≡ bytes) → OnOk r (fact line) → OnOk r (IfSome text fact)
 of_text fact r None line is done = on_ok_weaker r (λ there. tt) done
 of_text fact r (Some bytes) line is done = on_ok_weaker r (λ there. subst fact is there) done
 

@@ -19,12 +19,15 @@ pub data ReceiverHead (word : List ℕ) (rest : List (List ℕ)) : Type 0 where
   drop : word ≡ codes "drop" → rest ≡ [] → ReceiverHead word rest
   future : word ≡ codes "future" → AsksForFuture rest → ReceiverHead word rest
 
-receiver_head_of : (calls : List ReceiverCall) (last : ReceiverLast) (word : List ℕ) (rest : List (List ℕ)) → IsPollable last → word ∷ rest ≡ map word_of_call calls ++ words_of_receiver_last last → ReceiverHead word rest
+receiver_head_of : (calls : List ReceiverCall) (last : ReceiverLast) (word : List ℕ) (rest : List (List ℕ))
+    → IsPollable last → word ∷ rest ≡ map word_of_call calls ++ words_of_receiver_last last → ReceiverHead word rest
 receiver_head_of [] Recv word rest fits is = recv (cc) (cc)
 receiver_head_of [] Drop word rest fits is = drop (cc) (cc)
-receiver_head_of [] (IntoFuture script) word rest fits is = future (cc) (record { script = script; fits = fits; written = cc })
+receiver_head_of [] (IntoFuture script) word rest fits is =
+    future (cc) (record { script = script; fits = fits; written = cc })
 receiver_head_of [] Stop word rest fits is = absurd (cc)
-receiver_head_of (c ∷ calls) last word rest fits is = call c (cc) (record { script = record { calls = calls; last = last }; fits = fits; written = cc })
+receiver_head_of (c ∷ calls) last word rest fits is =
+    call c (cc) (record { script = record { calls = calls; last = last }; fits = fits; written = cc })
 
 receiver_head : (word : List ℕ) (rest : List (List ℕ)) → AsksForReceiver (word ∷ rest) → ReceiverHead word rest
 receiver_head word rest asks = receiver_head_of asks.script.calls asks.script.last word rest asks.fits asks.written
@@ -39,7 +42,8 @@ word_of_call-letter HasMessage = omega arith
 word_of_call-letter IsClosed = omega arith
 
 no_number_in_receiver : (n : ℕ) (xs : List (List ℕ)) → n < 2 ^ 64 → ReceiverHead (decimal n) xs → ⊥
-no_number_in_receiver n xs small (call c is asks) = decimal-no_letter n (word_of_call c) small (word_of_call-letter c) is
+no_number_in_receiver n xs small (call c is asks) =
+    decimal-no_letter n (word_of_call c) small (word_of_call-letter c) is
 no_number_in_receiver n xs small (recv is over) = decimal-no_letter n (codes "recv") small (omega arith) is
 no_number_in_receiver n xs small (drop is over) = decimal-no_letter n (codes "drop") small (omega arith) is
 no_number_in_receiver n xs small (future is asks) = decimal-no_letter n (codes "future") small (omega arith) is
@@ -68,9 +72,16 @@ call_from_head c rest (drop is over) = absurd (no_drop c is)
 call_from_head c rest (future is asks) = absurd (no_future c is)
 
 pub call_to : (c : ReceiverCall) (rest : List (List ℕ)) → AsksForReceiver rest → AsksForReceiver (word_of_call c ∷ rest)
-call_to c rest asks = record { script = record { calls = c ∷ asks.script.calls; last = asks.script.last }; fits = asks.fits; written = ap (λ ws. word_of_call c ∷ ws) asks.written }
+call_to c rest asks =
+    record {
+      script = record { calls = c ∷ asks.script.calls; last = asks.script.last };
+      fits = asks.fits;
+      written = ap
+          (λ ws. word_of_call c ∷ ws) asks.written;
+    }
 
-pub call_from : (c : ReceiverCall) (rest : List (List ℕ)) → AsksForReceiver (word_of_call c ∷ rest) → AsksForReceiver rest
+pub call_from : (c : ReceiverCall) (rest : List (List ℕ)) → AsksForReceiver (word_of_call c ∷ rest)
+    → AsksForReceiver rest
 call_from c rest asks = call_from_head c rest (receiver_head (word_of_call c) rest asks)
 
 -- behind `recv`
@@ -81,7 +92,8 @@ recv_from_head rest (drop is over) = absurd (unlike (codes "recv") (codes "drop"
 recv_from_head rest (future is asks) = absurd (unlike (codes "recv") (codes "future") refl refl is)
 
 pub recv_to : (rest : List (List ℕ)) → IsOver rest → AsksForReceiver (codes "recv" ∷ rest)
-recv_to rest over = record { script = record { calls = []; last = Recv }; fits = tt; written = ap (λ ws. codes "recv" ∷ ws) over }
+recv_to rest over =
+    record { script = record { calls = []; last = Recv }; fits = tt; written = ap (λ ws. codes "recv" ∷ ws) over }
 
 pub recv_from : (rest : List (List ℕ)) → AsksForReceiver (codes "recv" ∷ rest) → IsOver rest
 recv_from rest asks = recv_from_head rest (receiver_head (codes "recv") rest asks)
@@ -94,7 +106,8 @@ drop_from_head rest (drop is over) = over
 drop_from_head rest (future is asks) = absurd (unlike (codes "drop") (codes "future") refl refl is)
 
 pub receiver_drop_to : (rest : List (List ℕ)) → IsOver rest → AsksForReceiver (codes "drop" ∷ rest)
-receiver_drop_to rest over = record { script = record { calls = []; last = Drop }; fits = tt; written = ap (λ ws. codes "drop" ∷ ws) over }
+receiver_drop_to rest over =
+    record { script = record { calls = []; last = Drop }; fits = tt; written = ap (λ ws. codes "drop" ∷ ws) over }
 
 pub receiver_drop_from : (rest : List (List ℕ)) → AsksForReceiver (codes "drop" ∷ rest) → IsOver rest
 receiver_drop_from rest asks = drop_from_head rest (receiver_head (codes "drop") rest asks)
@@ -107,18 +120,28 @@ future_from_head rest (drop is over) = absurd (unlike (codes "future") (codes "d
 future_from_head rest (future is asks) = asks
 
 pub future_to : (rest : List (List ℕ)) → AsksForFuture rest → AsksForReceiver (codes "future" ∷ rest)
-future_to rest asks = record { script = record { calls = []; last = IntoFuture asks.script }; fits = asks.fits; written = ap (λ ws. codes "future" ∷ ws) asks.written }
+future_to rest asks =
+    record {
+      script = record { calls = []; last = IntoFuture asks.script };
+      fits = asks.fits;
+      written = ap
+          (λ ws. codes "future" ∷ ws) asks.written;
+    }
 
 pub future_from : (rest : List (List ℕ)) → AsksForReceiver (codes "future" ∷ rest) → AsksForFuture rest
 future_from rest asks = future_from_head rest (receiver_head (codes "future") rest asks)
 
 -- a word that is none of a receiver's
-module _ (left : List (List ℕ)) (no_call : (c : ReceiverCall) → slice_get left 0 ≢ Some (word_of_call c)) (none_is_future : slice_get left 0 ≢ Some (codes "future")) (none_is_recv : slice_get left 0 ≢ Some (codes "recv")) (none_is_drop : slice_get left 0 ≢ Some (codes "drop")) where
-  unknown_in_receiver : (word : List ℕ) → slice_get left 0 ≡ Some word → (rest : List (List ℕ)) → ReceiverHead word rest → ⊥
+module _ (left : List (List ℕ)) (no_call : (c : ReceiverCall) → slice_get left 0 ≢ Some (word_of_call c))
+    (none_is_future : slice_get left 0 ≢ Some (codes "future")) (none_is_recv : slice_get left 0 ≢ Some (codes "recv"))
+    (none_is_drop : slice_get left 0 ≢ Some (codes "drop")) where
+  unknown_in_receiver : (word : List ℕ) → slice_get left 0 ≡ Some word → (rest : List (List ℕ)) → ReceiverHead word rest
+      → ⊥
   unknown_in_receiver word at rest (call c is asks) = no_call c (at ∙ ap (λ w. Some w) is)
   unknown_in_receiver word at rest (recv is over) = none_is_recv (at ∙ ap (λ w. Some w) is)
   unknown_in_receiver word at rest (drop is over) = none_is_drop (at ∙ ap (λ w. Some w) is)
   unknown_in_receiver word at rest (future is asks) = none_is_future (at ∙ ap (λ w. Some w) is)
 
-  pub receiver-no_word : (word : List ℕ) → slice_get left 0 ≡ Some word → (rest : List (List ℕ)) → ¬ (AsksForReceiver (word ∷ rest))
+  pub receiver-no_word : (word : List ℕ) → slice_get left 0 ≡ Some word → (rest : List (List ℕ))
+      → ¬ (AsksForReceiver (word ∷ rest))
   receiver-no_word word at rest asks = unknown_in_receiver word at rest (receiver_head word rest asks)

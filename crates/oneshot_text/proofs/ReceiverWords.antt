@@ -35,7 +35,8 @@ word_of_call-same : (a b : ReceiverCall) → word_of_call a ≡ word_of_call b �
 word_of_call-same a b is = cc (sym (call_named-word a) ∙ ap call_named is ∙ call_named-word b)
 
 -- no last call begins with a call
-pub receiver_last-no_call : (last : ReceiverLast) (call : ReceiverCall) → slice_get (words_of_receiver_last last) 0 ≢ Some (word_of_call call)
+pub receiver_last-no_call : (last : ReceiverLast) (call : ReceiverCall)
+    → slice_get (words_of_receiver_last last) 0 ≢ Some (word_of_call call)
 receiver_last-no_call Recv TryRecv = λ is. grind (arith, common_steps)
 receiver_last-no_call Recv RecvRef = λ is. grind (arith, common_steps)
 receiver_last-no_call Recv RecvDeadline = λ is. grind (arith, common_steps)
@@ -59,19 +60,24 @@ receiver_last-no_call (IntoFuture future) HasMessage = λ is. grind (arith, comm
 receiver_last-no_call (IntoFuture future) IsClosed = λ is. grind (arith, common_steps)
 receiver_last-no_call Stop call = λ is. grind (arith, common_steps)
 
-pub receiver-same : (calls : List ReceiverCall) (rest : List (List ℕ)) (receiver : ReceiverScript) → ((call : ReceiverCall) → slice_get rest 0 ≢ Some (word_of_call call))
-    → map word_of_call calls ++ rest ≡ words_of_receiver receiver → (calls ≡ receiver.calls) × (rest ≡ words_of_receiver_last receiver.last)
+pub receiver-same : (calls : List ReceiverCall) (rest : List (List ℕ)) (receiver : ReceiverScript)
+    → ((call : ReceiverCall) → slice_get rest 0 ≢ Some (word_of_call call))
+    → map word_of_call calls ++ rest ≡ words_of_receiver receiver
+    → (calls ≡ receiver.calls) × (rest ≡ words_of_receiver_last receiver.last)
 receiver-same calls rest receiver whole is =
-    map-same word_of_call word_of_call-same calls receiver.calls rest (words_of_receiver_last receiver.last) whole (receiver_last-no_call receiver.last) is
+    map-same word_of_call word_of_call-same calls receiver.calls rest (words_of_receiver_last receiver.last) whole
+    (receiver_last-no_call receiver.last) is
 
 -- a script is its calls and its last one
-pub receiver-of : (calls : List ReceiverCall) (last : ReceiverLast) (receiver : ReceiverScript) → calls ≡ receiver.calls → last ≡ receiver.last
+pub receiver-of : (calls : List ReceiverCall) (last : ReceiverLast) (receiver : ReceiverScript) → calls ≡ receiver.calls
+    → last ≡ receiver.last
     → record { calls = calls; last = last } ≡ receiver
 receiver-of calls last receiver same_calls same_last =
     let script : List ReceiverCall → ReceiverLast → ReceiverScript = λ cs l. record { calls = cs; last = l } in
     ap (λ cs. script cs last) same_calls ∙ ap (λ l. script receiver.calls l) same_last
 
 -- an error that is passed on
-pub passed_on : {T E : Type 0} (P : T → Type 0) (result : Result T E) (passed error : E) → IsErrAnd result (λ e. e ≡ passed) → passed ≡ error → MatchResult result P (λ e. e ≡ error)
+pub passed_on : {T E : Type 0} (P : T → Type 0) (result : Result T E) (passed error : E)
+    → IsErrAnd result (λ e. e ≡ passed) → passed ≡ error → MatchResult result P (λ e. e ≡ error)
 passed_on P (Ok x) passed error told same = absurd told
 passed_on P (Err e) passed error told same = told ∙ same

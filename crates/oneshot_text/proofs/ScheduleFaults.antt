@@ -28,19 +28,23 @@ no_more : (rest : List (List ℕ)) → map (map Some) rest ≡ [] → rest ≡ [
 no_more [] none = refl
 no_more (word ∷ rest) none = absurd cc
 
-moves_head_of : (moves : List Move) (word : List ℕ) (rest : List (List ℕ)) → map (map Some) (word ∷ rest) ≡ words_of_schedule moves → MovesHead word rest
+moves_head_of : (moves : List Move) (word : List ℕ) (rest : List (List ℕ))
+    → map (map Some) (word ∷ rest) ≡ words_of_schedule moves → MovesHead word rest
 moves_head_of [] word rest is = absurd cc
-moves_head_of (move ∷ moves) word rest is = record { moves = move ∷ moves; some = omega arith; letters = cc; over = no_more rest cc }
+moves_head_of (move ∷ moves) word rest is =
+    record { moves = move ∷ moves; some = omega arith; letters = cc; over = no_more rest cc }
 
 moves_head : (word : List ℕ) (rest : List (List ℕ)) → AsksForMoves (word ∷ rest) → MovesHead word rest
 moves_head word rest asks = moves_head_of asks.moves word rest asks.written
 
 -- behind the letters
-moves_written : (moves : List Move) (word : List ℕ) → 0 < length moves → map letter_of moves ≡ map Some word → map (map Some) (word ∷ []) ≡ words_of_schedule moves
+moves_written : (moves : List Move) (word : List ℕ) → 0 < length moves → map letter_of moves ≡ map Some word
+    → map (map Some) (word ∷ []) ≡ words_of_schedule moves
 moves_written [] word some is = absurd (omega arith)
 moves_written (move ∷ moves) word some is = ap (λ letters. letters ∷ []) (sym is)
 
-pub moves_to : (moves : List Move) (word : List ℕ) → 0 < length moves → map letter_of moves ≡ map Some word → (rest : List (List ℕ)) → IsOver rest → AsksForMoves (word ∷ rest)
+pub moves_to : (moves : List Move) (word : List ℕ) → 0 < length moves → map letter_of moves ≡ map Some word
+    → (rest : List (List ℕ)) → IsOver rest → AsksForMoves (word ∷ rest)
 moves_to moves word some is rest over = rw over (record { moves = moves; written = moves_written moves word some is })
 
 pub moves_from : (word : List ℕ) (rest : List (List ℕ)) → AsksForMoves (word ∷ rest) → IsOver rest
@@ -65,17 +69,25 @@ abbrev pub ReadsEachMoves : {T : Type 0} → (T → List Move) → List ℕ → 
 ReadsEachMoves items word read = (moves : List Move) → 0 < length moves → map letter_of moves ≡ map Some word
     → MatchResult read (λ r. items r ≡ moves) (λ error. error ≡ OutOfMemory alloc_error)
 
-no_moves : {T : Type 0} (items : T → List Move) (word : List ℕ) (read : Result T ParseError) (fault : Malformed) → ReadsEachMoves items word read → read ≡ Err (NotOfTheGrammar fault)
+no_moves : {T : Type 0} (items : T → List Move) (word : List ℕ) (read : Result T ParseError) (fault : Malformed)
+    → ReadsEachMoves items word read → read ≡ Err (NotOfTheGrammar fault)
     → (moves : List Move) → 0 < length moves → map letter_of moves ≢ map Some word
 no_moves items word read fault each was moves some is =
-    let same : NotOfTheGrammar fault ≡ OutOfMemory alloc_error = subst (λ r. MatchResult r (λ x. items x ≡ moves) (λ error. error ≡ OutOfMemory alloc_error)) was (each moves some is) in
+    let same : NotOfTheGrammar fault ≡ OutOfMemory alloc_error =
+    subst (λ r. MatchResult r (λ x. items x ≡ moves) (λ error. error ≡ OutOfMemory alloc_error)) was
+    (each moves some is) in
     absurd (cc same)
 
 -- a word with other letters
-pub schedule_unknown : {T : Type 0} (items : T → List Move) (words : Words) (word : Word) (rest : List (List ℕ)) → words_left words ≡ word.text.now ∷ rest → IsNextOf words word
-    → (read : Result T ParseError) → ReadsEachMoves items word.text.now read → (fault : Malformed) → read ≡ Err (NotOfTheGrammar fault) → fault ≡ UnknownWord word.line word.number → HasLineFault AsksForMoves words fault
+pub schedule_unknown : {T : Type 0} (items : T → List Move) (words : Words) (word : Word) (rest : List (List ℕ))
+    → words_left words ≡ word.text.now ∷ rest → IsNextOf words word
+    → (read : Result T ParseError) → ReadsEachMoves items word.text.now read → (fault : Malformed)
+    → read ≡ Err (NotOfTheGrammar fault) → fault ≡ UnknownWord word.line word.number
+    → HasLineFault AsksForMoves words fault
 schedule_unknown items words word rest left place read each fault was is =
-    rw (is, place.line, place.number, left) (unknown_word words.line words.taken AsksForMoves word.text.now rest (115 ∷ []) []
+    rw (is, place.line, place.number, left)
+    (unknown_word words.line words.taken AsksForMoves word.text.now rest (115 ∷ []) []
     (record { moves = Sender ∷ []; written = refl })
     schedule-no_number
-    (λ xs asks. let head = moves_head word.text.now xs asks in no_moves items word.text.now read fault each was head.moves head.some head.letters))
+    (λ xs asks. let head = moves_head word.text.now xs asks in
+    no_moves items word.text.now read fault each was head.moves head.some head.letters))

@@ -15,11 +15,13 @@ pub data ErrorHead (word : List ℕ) (rest : List (List ℕ)) : Type 0 where
   into : word ≡ codes "into" → rest ≡ [] → ErrorHead word rest
   drop : word ≡ codes "drop" → rest ≡ [] → ErrorHead word rest
 
-error_head_of : (looks : ℕ) (last : ErrorLast) (word : List ℕ) (rest : List (List ℕ)) → word ∷ rest ≡ replicate looks (codes "inner") ++ words_of_error_last last → ErrorHead word rest
+error_head_of : (looks : ℕ) (last : ErrorLast) (word : List ℕ) (rest : List (List ℕ))
+    → word ∷ rest ≡ replicate looks (codes "inner") ++ words_of_error_last last → ErrorHead word rest
 error_head_of zero E.IntoInner word rest is = into (cc) (cc)
 error_head_of zero E.Drop word rest is = drop (cc) (cc)
 error_head_of zero E.Stop word rest is = absurd (cc)
-error_head_of (suc looks) last word rest is = inner (cc) (record { script = record { looks = looks; last = last }; written = cc })
+error_head_of (suc looks) last word rest is =
+    inner (cc) (record { script = record { looks = looks; last = last }; written = cc })
 
 pub error_head : (word : List ℕ) (rest : List (List ℕ)) → AsksForError (word ∷ rest) → ErrorHead word rest
 error_head word rest asks = error_head_of asks.script.looks asks.script.last word rest asks.written
@@ -39,7 +41,12 @@ inner_from_head rest (into is over) = absurd (unlike (codes "inner") (codes "int
 inner_from_head rest (drop is over) = absurd (unlike (codes "inner") (codes "drop") refl refl is)
 
 pub inner_to : (rest : List (List ℕ)) → AsksForError rest → AsksForError (codes "inner" ∷ rest)
-inner_to rest asks = record { script = record { looks = suc asks.script.looks; last = asks.script.last }; written = ap (λ ws. codes "inner" ∷ ws) asks.written }
+inner_to rest asks =
+    record {
+      script = record { looks = suc asks.script.looks; last = asks.script.last };
+      written = ap
+          (λ ws. codes "inner" ∷ ws) asks.written;
+    }
 
 pub inner_from : (rest : List (List ℕ)) → AsksForError (codes "inner" ∷ rest) → AsksForError rest
 inner_from rest asks = inner_from_head rest (error_head (codes "inner") rest asks)
@@ -51,7 +58,8 @@ into_from_head rest (into is over) = over
 into_from_head rest (drop is over) = over
 
 pub into_to : (rest : List (List ℕ)) → IsOver rest → AsksForError (codes "into" ∷ rest)
-into_to rest over = record { script = record { looks = 0; last = E.IntoInner }; written = ap (λ ws. codes "into" ∷ ws) over }
+into_to rest over =
+    record { script = record { looks = 0; last = E.IntoInner }; written = ap (λ ws. codes "into" ∷ ws) over }
 
 pub into_from : (rest : List (List ℕ)) → AsksForError (codes "into" ∷ rest) → IsOver rest
 into_from rest asks = into_from_head rest (error_head (codes "into") rest asks)
@@ -62,19 +70,22 @@ error_drop_from_head rest (into is over) = over
 error_drop_from_head rest (drop is over) = over
 
 pub error_drop_to : (rest : List (List ℕ)) → IsOver rest → AsksForError (codes "drop" ∷ rest)
-error_drop_to rest over = record { script = record { looks = 0; last = E.Drop }; written = ap (λ ws. codes "drop" ∷ ws) over }
+error_drop_to rest over =
+    record { script = record { looks = 0; last = E.Drop }; written = ap (λ ws. codes "drop" ∷ ws) over }
 
 pub error_drop_from : (rest : List (List ℕ)) → AsksForError (codes "drop" ∷ rest) → IsOver rest
 error_drop_from rest asks = error_drop_from_head rest (error_head (codes "drop") rest asks)
 
 -- a word that is none of an error's
-module _ (left : List (List ℕ)) (no_inner : slice_get left 0 ≢ Some (codes "inner")) (no_into : slice_get left 0 ≢ Some (codes "into")) (no_drop : slice_get left 0 ≢ Some (codes "drop")) where
+module _ (left : List (List ℕ)) (no_inner : slice_get left 0 ≢ Some (codes "inner"))
+    (no_into : slice_get left 0 ≢ Some (codes "into")) (no_drop : slice_get left 0 ≢ Some (codes "drop")) where
   unknown_in_error : (word : List ℕ) → slice_get left 0 ≡ Some word → (rest : List (List ℕ)) → ErrorHead word rest → ⊥
   unknown_in_error word at rest (inner is asks) = no_inner (at ∙ ap (λ w. Some w) is)
   unknown_in_error word at rest (into is over) = no_into (at ∙ ap (λ w. Some w) is)
   unknown_in_error word at rest (drop is over) = no_drop (at ∙ ap (λ w. Some w) is)
 
-  pub error-no_word : (word : List ℕ) → slice_get left 0 ≡ Some word → (rest : List (List ℕ)) → ¬ (AsksForError (word ∷ rest))
+  pub error-no_word : (word : List ℕ) → slice_get left 0 ≡ Some word → (rest : List (List ℕ))
+      → ¬ (AsksForError (word ∷ rest))
   error-no_word word at rest asks = unknown_in_error word at rest (error_head word rest asks)
 
 -- what the first word of a sender's words tells
@@ -83,12 +94,22 @@ pub data SenderHead (word : List ℕ) (rest : List (List ℕ)) : Type 0 where
   send : word ≡ codes "send" → NumberAnd AsksForError rest → SenderHead word rest
   drop : word ≡ codes "drop" → rest ≡ [] → SenderHead word rest
 
-sender_head_of : (looks : ℕ) (last : SenderLast ℕ) (word : List ℕ) (rest : List (List ℕ)) → IsSendable last → word ∷ rest ≡ replicate looks (codes "closed") ++ words_of_sender_last last → SenderHead word rest
+sender_head_of : (looks : ℕ) (last : SenderLast ℕ) (word : List ℕ) (rest : List (List ℕ)) → IsSendable last
+    → word ∷ rest ≡ replicate looks (codes "closed") ++ words_of_sender_last last → SenderHead word rest
 sender_head_of zero (L.Send message error) word rest fits is =
-    send (cc) (record { number = message; rest = words_of_error error; small = fits; written = cc; right = record { script = error; written = refl } })
+    send (cc)
+    (record {
+      number = message;
+      rest = words_of_error error;
+      small = fits;
+      written = cc;
+      right =
+          record { script = error; written = refl };
+    })
 sender_head_of zero L.Drop word rest fits is = drop (cc) (cc)
 sender_head_of zero L.Stop word rest fits is = absurd (cc)
-sender_head_of (suc looks) last word rest fits is = closed (cc) (record { script = record { looks = looks; last = last }; fits = fits; written = cc })
+sender_head_of (suc looks) last word rest fits is =
+    closed (cc) (record { script = record { looks = looks; last = last }; fits = fits; written = cc })
 
 pub sender_head : (word : List ℕ) (rest : List (List ℕ)) → AsksForSender (word ∷ rest) → SenderHead word rest
 sender_head word rest asks = sender_head_of asks.script.looks asks.script.last word rest asks.fits asks.written
@@ -108,7 +129,13 @@ closed_from_head rest (send is asks) = absurd (unlike (codes "closed") (codes "s
 closed_from_head rest (drop is over) = absurd (unlike (codes "closed") (codes "drop") refl refl is)
 
 pub closed_to : (rest : List (List ℕ)) → AsksForSender rest → AsksForSender (codes "closed" ∷ rest)
-closed_to rest asks = record { script = record { looks = suc asks.script.looks; last = asks.script.last }; fits = asks.fits; written = ap (λ ws. codes "closed" ∷ ws) asks.written }
+closed_to rest asks =
+    record {
+      script = record { looks = suc asks.script.looks; last = asks.script.last };
+      fits = asks.fits;
+      written = ap
+          (λ ws. codes "closed" ∷ ws) asks.written;
+    }
 
 pub closed_from : (rest : List (List ℕ)) → AsksForSender (codes "closed" ∷ rest) → AsksForSender rest
 closed_from rest asks = closed_from_head rest (sender_head (codes "closed") rest asks)
@@ -136,19 +163,22 @@ drop_from_head rest (send is asks) = absurd (unlike (codes "drop") (codes "send"
 drop_from_head rest (drop is over) = over
 
 pub drop_to : (rest : List (List ℕ)) → IsOver rest → AsksForSender (codes "drop" ∷ rest)
-drop_to rest over = record { script = record { looks = 0; last = L.Drop }; fits = tt; written = ap (λ ws. codes "drop" ∷ ws) over }
+drop_to rest over =
+    record { script = record { looks = 0; last = L.Drop }; fits = tt; written = ap (λ ws. codes "drop" ∷ ws) over }
 
 pub drop_from : (rest : List (List ℕ)) → AsksForSender (codes "drop" ∷ rest) → IsOver rest
 drop_from rest asks = drop_from_head rest (sender_head (codes "drop") rest asks)
 
 -- a word that is none of a sender's
-module _ (left : List (List ℕ)) (no_closed : slice_get left 0 ≢ Some (codes "closed")) (no_send : slice_get left 0 ≢ Some (codes "send")) (no_drop : slice_get left 0 ≢ Some (codes "drop")) where
+module _ (left : List (List ℕ)) (no_closed : slice_get left 0 ≢ Some (codes "closed"))
+    (no_send : slice_get left 0 ≢ Some (codes "send")) (no_drop : slice_get left 0 ≢ Some (codes "drop")) where
   unknown_in_sender : (word : List ℕ) → slice_get left 0 ≡ Some word → (rest : List (List ℕ)) → SenderHead word rest → ⊥
   unknown_in_sender word at rest (closed is asks) = no_closed (at ∙ ap (λ w. Some w) is)
   unknown_in_sender word at rest (send is asks) = no_send (at ∙ ap (λ w. Some w) is)
   unknown_in_sender word at rest (drop is over) = no_drop (at ∙ ap (λ w. Some w) is)
 
-  pub sender-no_word : (word : List ℕ) → slice_get left 0 ≡ Some word → (rest : List (List ℕ)) → ¬ (AsksForSender (word ∷ rest))
+  pub sender-no_word : (word : List ℕ) → slice_get left 0 ≡ Some word → (rest : List (List ℕ))
+      → ¬ (AsksForSender (word ∷ rest))
   sender-no_word word at rest asks = unknown_in_sender word at rest (sender_head word rest asks)
 
 -- the parts of a line that no word follows yet

@@ -26,7 +26,8 @@ message_field None = []
 
 abbrev pub waker_field : Option (WakerName × WakerPlace × WakerPlace) → List ℕ
 waker_field (Some move) =
-    codes " " ++ name_of_waker move.0 ++ codes ":" ++ name_of_waker_place move.1 ++ codes ">" ++ name_of_waker_place move.2
+    codes " " ++ name_of_waker move.0 ++ codes ":" ++ name_of_waker_place move.1 ++ codes ">"
+    ++ name_of_waker_place move.2
 waker_field None = []
 
 -- a wake that set the token
@@ -34,7 +35,8 @@ abbrev pub token_field : Bool → List ℕ
 token_field true = codes " token+"
 token_field false = []
 
--- what the step found beside the word: a park its token or not, a clock a deadline that is over or not, a copy that was refused
+-- what the step found beside the word: a park its token or not, a clock a deadline that is over or not, a
+-- copy that was refused
 abbrev pub found_field : Seen → List ℕ
 found_field Done = []
 found_field (Word code) = []
@@ -57,7 +59,8 @@ reply_field end call message None = []
 -- a step: its end, its name, the word before and after it, and its fields
 abbrev pub made_text : Option ReceiverStart → ℕ → Made → List ℕ
 made_text call message made =
-    letter_of_end made.side ++ codes " " ++ name_of_step made.step ++ codes " " ++ word_text made.before ++ codes ">" ++ word_text made.after
+    letter_of_end made.side ++ codes " " ++ name_of_step made.step ++ codes " " ++ word_text made.before ++ codes ">"
+    ++ word_text made.after
     ++ message_field made.message
     ++ waker_field made.waker
     ++ token_field made.token_set

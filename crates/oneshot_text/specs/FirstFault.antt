@@ -15,10 +15,13 @@ pub data IsFirstFault : List Line → List (List (List ℕ)) → Malformed → T
   begins_otherwise : {line : Line} {lines : List Line} {words : List (List ℕ)} {rest : List (List (List ℕ))}
       → slice_get words 0 ≢ Some (letter_of_line line) → IsFirstFault (line ∷ lines) (words ∷ rest) (MustBegin line)
   is_wrong : {line : Line} {lines : List Line} {words : List (List ℕ)} {rest : List (List (List ℕ))} {fault : Malformed}
-      → IsLineFault line 1 (IsRight line) words fault → IsFirstFault (line ∷ lines) ((letter_of_line line ∷ words) ∷ rest) fault
+      → IsLineFault line 1 (IsRight line) words fault
+      → IsFirstFault (line ∷ lines) ((letter_of_line line ∷ words) ∷ rest) fault
   is_later : {line : Line} {lines : List Line} {words : List (List ℕ)} {rest : List (List (List ℕ))} {fault : Malformed}
-      → IsRight line words → IsFirstFault lines rest fault → IsFirstFault (line ∷ lines) ((letter_of_line line ∷ words) ∷ rest) fault
-  is_input_after : {words : List (List ℕ)} {rest : List (List (List ℕ))} → IsFirstFault [] (words ∷ rest) InputAfterLines
+      → IsRight line words → IsFirstFault lines rest fault
+      → IsFirstFault (line ∷ lines) ((letter_of_line line ∷ words) ∷ rest) fault
+  is_input_after : {words : List (List ℕ)} {rest : List (List (List ℕ))}
+      → IsFirstFault [] (words ∷ rest) InputAfterLines
 
 abbrev pub HasFault : List ℕ → Malformed → Type 0
 HasFault text fault = IsFirstFault (Sender ∷ Receiver ∷ Schedule ∷ []) (map words_of (lines_of text)) fault

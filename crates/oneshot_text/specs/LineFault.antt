@@ -26,14 +26,18 @@ NumberMayFollow language front = (number : ℕ) × (number < 2 ^ 64) × MayFollo
 abbrev pub WordMayFollow : (List (List ℕ) → Type 0) → List (List ℕ) → Type 0
 WordMayFollow language front = (word : List ℕ) × MayFollow language front word
 
--- Which fault it is where a line goes wrong at the word of this number, behind these words: a number had to follow, a word but no number, or no word.
-pub data IsFaultAt (line : Line) (word : ℕ) (language : List (List ℕ) → Type 0) (front : List (List ℕ)) : Malformed → Type 0 where
+-- Which fault it is where a line goes wrong at the word of this number, behind these words: a number had to
+-- follow, a word but no number, or no word.
+pub data IsFaultAt (line : Line) (word : ℕ) (language : List (List ℕ) → Type 0) (front : List (List ℕ)) : Malformed
+    → Type 0 where
   needs_number : NumberMayFollow language front → IsFaultAt line word language front (BadNumber line word)
-  needs_word : WordMayFollow language front → ¬ (NumberMayFollow language front) → IsFaultAt line word language front (UnknownWord line word)
+  needs_word : WordMayFollow language front → ¬ (NumberMayFollow language front)
+      → IsFaultAt line word language front (UnknownWord line word)
   is_over : ¬ (WordMayFollow language front) → IsFaultAt line word language front (FollowsLastCall line word)
 
 -- These words, of which the first has the number `first`, are right as far as `front`, and go wrong there.
-pub record IsLineFault (line : Line) (first : ℕ) (language : List (List ℕ) → Type 0) (words : List (List ℕ)) (fault : Malformed) : Type 0 where
+pub record IsLineFault (line : Line) (first : ℕ) (language : List (List ℕ) → Type 0) (words : List (List ℕ))
+    (fault : Malformed) : Type 0 where
   pub front : List (List ℕ)
   pub rest : List (List ℕ)
   pub parts : words ≡ front ++ rest

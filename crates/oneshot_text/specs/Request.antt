@@ -15,4 +15,5 @@ pub record Asks (text : List ℕ) (sender : SenderScript ℕ) (receiver : Receiv
   pub schedule : List (List ℕ)
   pub letters : map (map Some) schedule ≡ words_of_schedule moves
   pub lines : map words_of (lines_of text)
-      ≡ (letter_of_line Sender ∷ words_of_sender sender) ∷ (letter_of_line Receiver ∷ words_of_receiver receiver) ∷ (letter_of_line Schedule ∷ schedule) ∷ []
+      ≡ (letter_of_line Sender ∷ words_of_sender sender) ∷ (letter_of_line Receiver ∷ words_of_receiver receiver)
+      ∷ (letter_of_line Schedule ∷ schedule) ∷ []

@@ -35,7 +35,8 @@ use Rattle.oneshot_world.specs.declared.wakers.Wakers.{Wakers}
 use Rattle.oneshot_world.proofs.Bools.{and_left, and_right}
 
 -- a code under which each value stands in a list
-pub same_by : {X : Type 0} (code : X → ℕ) (values : List X) (d : X) → ((x : X) → get_or values (code x) d ≡ x) → (x y : X) → (code x == code y) ≡ true → x ≡ y
+pub same_by : {X : Type 0} (code : X → ℕ) (values : List X) (d : X) → ((x : X) → get_or values (code x) d ≡ x)
+    → (x y : X) → (code x == code y) ≡ true → x ≡ y
 same_by code values d back x y h = sym (back x) ∙ ap (λ k. get_or values k d) (eqb-true (code x) (code y) h) ∙ back y
 
 abbrev senders : List SenderState
@@ -80,16 +81,19 @@ abbrev pub with_code : {X : Type 0} → (X → ℕ) → ℕ → List X → Optio
 with_code code n [] = None
 with_code code n (x ∷ xs) = if code x == n then Some x else with_code code n xs
 
-same_with : {X : Type 0} (code : X → ℕ) (values : List X) → ((x : X) → with_code code (code x) values ≡ Some x) → (x y : X) → (code x == code y) ≡ true → x ≡ y
+same_with : {X : Type 0} (code : X → ℕ) (values : List X) → ((x : X) → with_code code (code x) values ≡ Some x)
+    → (x y : X) → (code x == code y) ≡ true → x ≡ y
 same_with code values back x y h =
-    let same : Some x ≡ Some y = sym (back x) ∙ ap (λ k. with_code code k values) (eqb-true (code x) (code y) h) ∙ back y in
+    let same : Some x ≡ Some y =
+    sym (back x) ∙ ap (λ k. with_code code k values) (eqb-true (code x) (code y) h) ∙ back y in
     cc same
 
 pub sender_call_back : (c : SenderCall) → with_code sender_call_code (sender_call_code c) all_sender_calls ≡ Some c
 sender_call_back SC.IsClosed = refl
 sender_call_back _ = refl
 
-pub receiver_call_back : (c : ReceiverStart) → with_code receiver_call_code (receiver_call_code c) all_receiver_calls ≡ Some c
+pub receiver_call_back : (c : ReceiverStart)
+    → with_code receiver_call_code (receiver_call_code c) all_receiver_calls ≡ Some c
 receiver_call_back (RC.RecvTimeout false) = refl
 receiver_call_back (RC.RecvTimeout true) = refl
 receiver_call_back _ = refl
@@ -158,7 +162,9 @@ pub wakers_are : (v w : Wakers) → is_same_wakers v w ≡ true → v ≡ w
 wakers_are v w h =
     let h1 = and_right (is_same_name v.cell w.cell) _ h in
     let h2 = and_right (is_same_name v.hand w.hand) _ h1 in
-    let cell : v.cell ≡ w.cell = name_is v.cell w.cell (and_left _ (is_same_name v.hand w.hand && (is_same_name v.taken w.taken && bool_code v.token == bool_code w.token)) h) in
+    let cell : v.cell ≡ w.cell =
+    name_is v.cell w.cell (and_left _
+    (is_same_name v.hand w.hand && (is_same_name v.taken w.taken && bool_code v.token == bool_code w.token)) h) in
     let hand : v.hand ≡ w.hand = name_is v.hand w.hand (and_left _ _ h1) in
     let taken : v.taken ≡ w.taken = name_is v.taken w.taken (and_left _ _ h2) in
     let token : v.token ≡ w.token = bool_is v.token w.token (and_right (is_same_name v.taken w.taken) _ h2) in
@@ -166,7 +172,15 @@ wakers_are v w h =
 
 state_of : ℕ → Bool → SenderState → ReceiverState → Bool → Option Place → Wakers → State
 state_of word freed sender receiver future message wakers =
-    record { word = word; freed = freed; sender = sender; receiver = receiver; future = future; message = message; wakers = wakers }
+    record {
+      word = word;
+      freed = freed;
+      sender = sender;
+      receiver = receiver;
+      future = future;
+      message = message;
+      wakers = wakers;
+    }
 
 its_fields : (s : State) → state_of s.word s.freed s.sender s.receiver s.future s.message s.wakers ≡ s
 unfolding state_of
@@ -177,14 +191,17 @@ state_is s t h =
     let h1 = and_right _ _ h in
     let h2 = and_right _ _ h1 in
     let h3 = and_right _ _ h2 in
-    let sender : s.sender ≡ t.sender = same_by sender_code senders SS.Ended sender_back s.sender t.sender (and_left _ _ h) in
-    let receiver : s.receiver ≡ t.receiver = same_by receiver_code receivers RS.Ended receiver_back s.receiver t.receiver (and_left _ _ h1) in
+    let sender : s.sender ≡ t.sender =
+    same_by sender_code senders SS.Ended sender_back s.sender t.sender (and_left _ _ h) in
+    let receiver : s.receiver ≡ t.receiver =
+    same_by receiver_code receivers RS.Ended receiver_back s.receiver t.receiver (and_left _ _ h1) in
     let word : s.word ≡ t.word = eqb-true s.word t.word (and_left _ _ h2) in
     let freed : s.freed ≡ t.freed = bool_is s.freed t.freed (and_left _ _ h3) in
     let h5 = and_right _ _ h3 in
     let future : s.future ≡ t.future = bool_is s.future t.future (and_left _ _ h5) in
     let h4 = and_right _ _ h5 in
-    let message : s.message ≡ t.message = same_by place_code places None place_back s.message t.message (and_left _ _ h4) in
+    let message : s.message ≡ t.message =
+    same_by place_code places None place_back s.message t.message (and_left _ _ h4) in
     let wakers : s.wakers ≡ t.wakers = wakers_are s.wakers t.wakers (and_right _ _ h4) in
     cc (its_fields s, its_fields t)
 

@@ -8,7 +8,8 @@ abbrev pub is_listed : ℕ → List ℕ → Bool
 is_listed x [] = false
 is_listed x (y ∷ ys) = y == x || is_listed x ys
 
-pub all_mapped : {X : Type 0} (test : X → Bool) (f : ℕ → X) (ys : List ℕ) (x : ℕ) → list_all test (map f ys) ≡ true → is_listed x ys ≡ true → test (f x) ≡ true
+pub all_mapped : {X : Type 0} (test : X → Bool) (f : ℕ → X) (ys : List ℕ) (x : ℕ) → list_all test (map f ys) ≡ true
+    → is_listed x ys ≡ true → test (f x) ≡ true
 all_mapped test f [] x all h = cc
 all_mapped test f (y ∷ ys) x all h =
     elim (y == x) as (λ b. (y == x) ≡ b → (b || is_listed x ys) ≡ true → test (f x) ≡ true) [
@@ -16,7 +17,8 @@ all_mapped test f (y ∷ ys) x all h =
       | false ↦ λ e h. all_mapped test f ys x (and_right (test (f y)) _ all) h
     ] refl h
 
-pub all_flat : {X : Type 0} (test : X → Bool) (f : ℕ → List X) (ys : List ℕ) (x : ℕ) → list_all test (flat_map f ys) ≡ true → is_listed x ys ≡ true → list_all test (f x) ≡ true
+pub all_flat : {X : Type 0} (test : X → Bool) (f : ℕ → List X) (ys : List ℕ) (x : ℕ)
+    → list_all test (flat_map f ys) ≡ true → is_listed x ys ≡ true → list_all test (f x) ≡ true
 all_flat test f [] x all h = cc
 all_flat test f (y ∷ ys) x all h =
     elim (y == x) as (λ b. (y == x) ≡ b → (b || is_listed x ys) ≡ true → list_all test (f x) ≡ true) [

@@ -21,7 +21,8 @@ message_there : is_reached (as_control all_alike (opening_control (Some NotSent)
 unfolding reached
 message_there = refl
 
-opening_place_reached : {T : Type 0} (last : SenderLast T) → is_reached (as_control all_alike (opening_control (opening_place last))) ≡ true
+opening_place_reached : {T : Type 0} (last : SenderLast T)
+    → is_reached (as_control all_alike (opening_control (opening_place last))) ≡ true
 opening_place_reached (SL.Send message error) = message_there
 opening_place_reached SL.Drop = nothing_sent
 opening_place_reached SL.Stop = nothing_sent

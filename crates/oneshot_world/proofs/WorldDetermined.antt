@@ -8,9 +8,11 @@ use Rattle.oneshot_world.specs.declared.trace.Entry.{Entry}
 -- the run, computed: its entries, and the worlds after the first
 abbrev pub run : ℕ → World → List Move → Option (List Entry × List World)
 run k w [] = Some ([], [])
-run k w (move ∷ moves) = option_and_then (λ t. option_map (λ more. (t.0 ∷ more.0, t.1 ∷ more.1)) (run (k + 1) t.1 moves)) (turn k w move)
+run k w (move ∷ moves) =
+    option_and_then (λ t. option_map (λ more. (t.0 ∷ more.0, t.1 ∷ more.1)) (run (k + 1) t.1 moves)) (turn k w move)
 
-pub run_is : (k : ℕ) (w : World) (worlds : List World) (moves : List Move) (entries : List Entry) → Tells_from k w worlds moves entries → run k w moves ≡ Some (entries, worlds)
+pub run_is : (k : ℕ) (w : World) (worlds : List World) (moves : List Move) (entries : List Entry)
+    → Tells_from k w worlds moves entries → run k w moves ≡ Some (entries, worlds)
 run_is k w [] [] [] told = refl
 run_is k w (next ∷ worlds) (move ∷ moves) (entry ∷ entries) told =
     rw told.0 (rw (run_is (k + 1) next worlds moves entries told.1) refl)

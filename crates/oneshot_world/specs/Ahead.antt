@@ -23,7 +23,8 @@ is_some_park (Some step) = is_park step
 
 abbrev pub next_of_receiver : World → Option Step
 next_of_receiver w =
-    option_map receiver_step (receiver_position w.state.receiver (option_and_then as_receiver_call (first w.receiver.calls)))
+    option_map receiver_step (receiver_position w.state.receiver
+    (option_and_then as_receiver_call (first w.receiver.calls)))
 
 abbrev pub ahead_of : World → Ahead
 ahead_of w = record { parks = is_some_park (next_of_receiver w); token = w.state.wakers.token }

@@ -9,7 +9,8 @@ use Rattle.oneshot_machine.specs.declared.machine.receiver.ReceiverStart.{Receiv
 use Rattle.oneshot_machine.specs.declared.machine.sender.SenderCall.{SenderCall}
 use Rattle.oneshot_machine.specs.declared.machine.sender.SenderCall.TheVariants as SC
 
--- A call by the name that the machine of its end has for it, and a poll with its number, of which the machine knows nothing. `Stray` stands for no call: what an end does that has no call left.
+-- A call by the name that the machine of its end has for it, and a poll with its number, of which the machine
+-- knows nothing. `Stray` stands for no call: what an end does that has no call left.
 pub data Call : Type 0 where
   Of_sender : (call : SenderCall) → Call
   Of_receiver : (call : ReceiverStart) → Call
@@ -37,7 +38,8 @@ pub record Calls : Type 0 where
   pub error : List Call
   pub receiver : List Call
 
--- What an end has left: the calls that are not answered, the first of them the one under way, and those that follow if a send is refused.
+-- What an end has left: the calls that are not answered, the first of them the one under way, and those that
+-- follow if a send is refused.
 pub record Unanswered : Type 0 where
   pub calls : List Call
   pub error : List Call

@@ -11,4 +11,5 @@ use Rattle.oneshot_world.specs.declared.wakers.Told.{Told}
 abbrev pub TurnsCommute : Type 0
 TurnsCommute =
     (k : Classes) (side : End) (t : Told) (s : State) (call : Option Call)
-    → turns side (as_told k t) (as_state k s) (option_map (as_call k) call) ≡ option_map (as_turned k) (turns side t s call)
+    → turns side (as_told k t) (as_state k s) (option_map (as_call k) call)
+    ≡ option_map (as_turned k) (turns side t s call)

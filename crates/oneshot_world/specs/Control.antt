@@ -1,4 +1,5 @@
--- What of a world is finite up to the names of wakers, all but the calls that the scripts have left, and the moves from there.
+-- What of a world is finite up to the names of wakers, all but the calls that the scripts have left, and the
+-- moves from there.
 use Rattle.std.specs.Prelude.{ℕ, Bool, true, false, List, [], ◌∷◌, ◌++◌, map, filter, Option, Some, None}
 use Rattle.std.specs.Option.{option_map}
 use Rattle.std.specs.List.{filter_map, flat_map}
@@ -59,7 +60,8 @@ begins_with side t may calls = map (λ call. record { side = side; told = t; cal
 
 -- the moves of an end: it goes on with the call under way, or begins any call
 abbrev pub sender_begins : Option Place → SenderState → Option Call → List Begin
-sender_begins message SS.Ready call = begins_with Sender nothing_told (begins_sender message) (map Of_sender all_sender_calls)
+sender_begins message SS.Ready call =
+    begins_with Sender nothing_told (begins_sender message) (map Of_sender all_sender_calls)
 sender_begins message (SS.At position) call = record { side = Sender; told = nothing_told; call = call } ∷ []
 sender_begins message SS.Failed call = begins_with Sender nothing_told begins_error (map Of_sender all_sender_calls)
 sender_begins message SS.Ended call = []
@@ -72,7 +74,8 @@ abbrev pub poll_told : Bool → ℕ → ℕ → Told
 poll_told answer number copy = record { answer = answer; copy = Some (Copy copy 0); own = Some number }
 
 abbrev pub poll_begin : Bool → ℕ → ℕ → Begin
-poll_begin answer number copy = record { side = Receiver; told = poll_told answer number copy; call = Some (Poll number) }
+poll_begin answer number copy =
+    record { side = Receiver; told = poll_told answer number copy; call = Some (Poll number) }
 
 -- `polls` are the classes of polls, and `copies` those of the copies that a poll of a class may make now
 abbrev pub begins_poll : (ℕ → List ℕ) → Bool → ℕ → List Begin
@@ -108,7 +111,8 @@ control_then Receiver call c s =
     record { state = s; sender = c.sender; receiver = receiver_under_way s.receiver call }
 
 abbrev pub control_turn : Control → Begin → Option (Entry × Control)
-control_turn c b = option_map (λ turned. (turned.0, control_then b.side b.call c turned.1)) (turns b.side b.told c.state b.call)
+control_turn c b =
+    option_map (λ turned. (turned.0, control_then b.side b.call c turned.1)) (turns b.side b.told c.state b.call)
 
 abbrev pub successors : List ℕ → (ℕ → List ℕ) → Control → List Control
 successors polls copies c =

@@ -20,7 +20,8 @@ use Rattle.oneshot_world.specs.declared.state.State.{State}
 use Rattle.oneshot_world.specs.declared.trace.Place.{Place}
 use Rattle.oneshot_world.specs.declared.trace.Place.TheVariants.{InCell, InError, Delivered, FromError, Dropped}
 
--- what a step sees: an operation on the word sees the word before it, but a store sees nothing; a park sees its token, and a clock or a copy what the move is told
+-- what a step sees: an operation on the word sees the word before it, but a store sees nothing; a park sees
+-- its token, and a clock or a copy what the move is told
 abbrev pub seen_by : Bool → State → Step → Seen
 seen_by answer s (Word (Store new)) = S.Done
 seen_by answer s (Word op) = S.Word s.word
@@ -71,7 +72,8 @@ abbrev pub reply_of : {P : Type 0} → Outcome P → Option Reply
 reply_of (Goes next) = None
 reply_of (Answers reply) = Some reply
 
--- Where an end stands after a row. A look leaves it ready, a refused send leaves the error, a look at the error leaves the error, and any other answer of the sender's side ends it.
+-- Where an end stands after a row. A look leaves it ready, a refused send leaves the error, a look at the
+-- error leaves the error, and any other answer of the sender's side ends it.
 -- A drop and a call that frees end the receiver, and any other answer leaves it ready.
 abbrev pub is_plain : Step → Bool
 is_plain Plain = true

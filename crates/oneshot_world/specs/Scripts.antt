@@ -1,4 +1,5 @@
--- The calls of a script, and a pair of scripts as lists of calls: the sender's, those of the error of a refused send, the receiver's.
+-- The calls of a script, and a pair of scripts as lists of calls: the sender's, those of the error of a
+-- refused send, the receiver's.
 use Rattle.std.specs.Prelude.{Bool, true, false, ◌||◌, List, [], ◌∷◌, ◌++◌, map, replicate, Option, is_some}
 use Rattle.oneshot_machine.specs.declared.machine.receiver.ReceiverStart.TheVariants as RC
 use Rattle.oneshot_machine.specs.declared.machine.sender.SenderCall.TheVariants as SC

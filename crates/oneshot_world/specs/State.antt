@@ -136,7 +136,8 @@ receiver_stepped t s step row = (
   receiver_moved t s step row,
 )
 
--- the step that is made at a position; none where the table has no row for what is seen, or the cell is not as the step needs it
+-- the step that is made at a position; none where the table has no row for what is seen, or the cell is not
+-- as the step needs it
 abbrev pub sender_steps : Told → State → SenderPos → Option (Made × State)
 sender_steps t s position =
     if sender_fits s (sender_step position)

@@ -38,7 +38,8 @@ abbrev pub back_to : WakerName → WakerPlace
 back_to Parker = Hand
 back_to (Copy number entry) = Dropped
 
--- after a step; a park uses the token, if there is one; a copy that is not refused goes into the hand; an exchange that fails drops what is in the hand
+-- after a step; a park uses the token, if there is one; a copy that is not refused goes into the hand; an
+-- exchange that fails drops what is in the hand
 abbrev pub wakers_left : Told → ℕ → Wakers → Step → Wakers
 wakers_left t word w WriteWaker = record w { cell = w.hand; hand = None }
 wakers_left t word w TakeWaker = record w { cell = None; taken = w.cell }
@@ -59,7 +60,8 @@ waker_move t word w TakeWaker = option_map (λ name. (name, Cell, SenderHand)) w
 waker_move t word w Withdraw = option_map (λ name. (name, Cell, back_to name)) w.cell
 waker_move t word w Wake = option_map (λ name. (name, SenderHand, Used)) w.taken
 waker_move t word w T.Copy = if t.answer then None else option_map (λ name. (name, New, Hand)) t.copy
-waker_move t word w (T.Word (Exchange expected new)) = if word == expected then None else option_map (λ name. (name, Hand, Dropped)) w.hand
+waker_move t word w (T.Word (Exchange expected new)) =
+    if word == expected then None else option_map (λ name. (name, Hand, Dropped)) w.hand
 waker_move t word w _ = None
 
 -- the number of the poll's own waker, where the poll wakes it

@@ -110,14 +110,17 @@ told_of M.Sender entry w = nothing_told
 told_of (M.Receiver over refuse) entry w =
     receiver_told (answer_of (receiver_stands w.state (first w.receiver.calls)) over refuse) entry w
 
--- A move, by which entry `entry` is made, counted from 1: what it tells, and the world that it leads to. None where the moving end finds what its table has no row for, or a cell or a hand is not as the step needs it.
+-- A move, by which entry `entry` is made, counted from 1: what it tells, and the world that it leads to. None
+-- where the moving end finds what its table has no row for, or a cell or a hand is not as the step needs it.
 abbrev pub turn : ℕ → World → Move → Option (Entry × World)
 turn entry w move = turn_of (side_of move) (told_of move entry w) w
 
--- A run: entry k tells the step from world k to world k + 1 by move k. The worlds are one more than the moves, `w` and then these.
+-- A run: entry k tells the step from world k to world k + 1 by move k. The worlds are one more than the
+-- moves, `w` and then these.
 abbrev pub Tells_from : ℕ → World → List World → List Move → List Entry → Type 0
 Tells_from k w [] [] [] = Unit {0}
-Tells_from k w (next ∷ worlds) (move ∷ moves) (entry ∷ entries) = (turn k w move ≡ Some (entry, next)) × Tells_from (k + 1) next worlds moves entries
+Tells_from k w (next ∷ worlds) (move ∷ moves) (entry ∷ entries) =
+    (turn k w move ≡ Some (entry, next)) × Tells_from (k + 1) next worlds moves entries
 Tells_from k w _ _ _ = ⊥
 
 abbrev pub Tells : World → List World → List Move → List Entry → Type 0

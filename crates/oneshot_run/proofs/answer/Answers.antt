@@ -8,4 +8,5 @@ returns-in-Ok-clause-status g c = is_answered c.in-Ok.ensures.answered
 
 pub returns-in-Err-clause-status : goal.returns-in-Err-clause-status
 returns-in-Err-clause-status g c =
-    subst (EndsWith _ _ _) (sym c.status.ensures) (is_faulty c.in-Err.fault c.in-Err.ensures.faulty c.in-Err.ensures.untouched)
+    subst (EndsWith _ _ _) (sym c.status.ensures)
+    (is_faulty c.in-Err.fault c.in-Err.ensures.faulty c.in-Err.ensures.untouched)

@@ -25,6 +25,9 @@ returns-clause-try_recv c = record {
   ];
   alike = elim [
     | Empty ↦ elim [ Empty ↦ (λ _. refl, λ _. refl) | Disconnected ↦ (λ e. cc, λ e. absurd (usize-apart e)) ]
-    | Disconnected ↦ elim [ Empty ↦ (λ e. cc, λ e. absurd (usize-apart (sym e))) | Disconnected ↦ (λ _. refl, λ _. refl) ]
+    | Disconnected ↦ elim [
+      | Empty ↦ (λ e. cc, λ e. absurd (usize-apart (sym e)))
+      | Disconnected ↦ (λ _. refl, λ _. refl)
+    ]
   ];
 }

@@ -8,4 +8,5 @@ returns-in_err-count-clause-faulty g c = search (rules, unread (g.R.Read.remaini
 
 pub returns-in_err-extend_from_slice-clause-faulty : goal.returns-in_err-extend_from_slice-clause-faulty
 returns-in_err-extend_from_slice-clause-faulty g c =
-    passed_on _ _ c.from_residual-in_err-extend_from_slice.result c.from_residual-in_err-extend_from_slice.ensures.1 (no_memory (g.R.Read.remaining c.args.input.now) _)
+    passed_on _ _ c.from_residual-in_err-extend_from_slice.result c.from_residual-in_err-extend_from_slice.ensures.1
+    (no_memory (g.R.Read.remaining c.args.input.now) _)

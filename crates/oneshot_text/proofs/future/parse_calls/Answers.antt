@@ -1,4 +1,5 @@
--- Each call that is taken is the next one of a script that all words ask for; no fault is found in such a script, and where no call is left, none is left of it.
+-- Each call that is taken is the next one of a script that all words ask for; no fault is found in such a
+-- script, and where no call is left, none is left of it.
 use Rattle.std.proofs.Common.{◌≡◌, ◌++◌, Some, None, Ok, slice_get, ap, sym, ◌∙◌}
 use Rattle.oneshot_text.specs.Future.{words_of_future_call, words_of_future_calls, HasNumber}
 use Rattle.oneshot_text.specs.Grammar.{AsksForFuture}
@@ -11,13 +12,15 @@ use Rattle.oneshot_text.proofs.future.parse_calls.Goals as goal
 pub returns-in_err-call-clause-each : goal.returns-in_err-call-clause-each
 returns-in_err-call-clause-each c = λ future numbers asks.
     let next = c.next_call.ensures in
-    absurd (no_fault _ _ _ c.next_call.result c.in_err-call.field-0.0 c.loop-calls.invariant.each c.in_err-call.was next.each next.only_then future numbers asks)
+    absurd (no_fault _ _ _ c.next_call.result c.in_err-call.field-0.0 c.loop-calls.invariant.each c.in_err-call.was
+    next.each next.only_then future numbers asks)
 
 pub loop-calls-preserved : goal.loop-calls-preserved
 loop-calls-preserved c =
     let next = c.next_call.ensures in
     let is : c.next_call.result ≡ Ok (Some c.in-Some.call) = cc (c.in_ok-call.was, c.in-Some.is) in
-    let taken : words_left c.loop-calls.words ≡ words_of_future_call c.in-Some.call ++ words_left c.next_call.new.words = rw is at next.taken in
+    let taken : words_left c.loop-calls.words
+    ≡ words_of_future_call c.in-Some.call ++ words_left c.next_call.new.words = rw is at next.taken in
     let small : HasNumber c.in-Some.call = rw is at next.numbers in
     let line : IsSameLine c.loop-calls.words c.next_call.new.words = rw is at next.line in
     rw c.in_ok-push.ensures.items (record {
@@ -52,5 +55,7 @@ returns-in_err-call-clause-faulty c = λ fault is.
     let calls = c.loop-calls.calls.items in
     let so_far = c.loop-calls.invariant in
     fault_turned AsksForFuture c.args.words.now c.from_residual.result given fault c.from_residual.ensures.1 is
-    (fault_behind AsksForFuture AsksForFuture (words_of_future_calls calls) (calls_to calls so_far.numbers) (calls_from calls)
-    c.args.words.now c.loop-calls.words given so_far.line so_far.written (c.next_call.ensures.faulty given c.in_err-call.was))
+    (fault_behind AsksForFuture AsksForFuture (words_of_future_calls calls) (calls_to calls so_far.numbers)
+    (calls_from calls)
+    c.args.words.now c.loop-calls.words given so_far.line so_far.written
+    (c.next_call.ensures.faulty given c.in_err-call.was))

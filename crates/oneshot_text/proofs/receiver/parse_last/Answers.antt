@@ -10,30 +10,39 @@ use Rattle.oneshot_text.proofs.receiver.parse_last.Goals as goal
 pub returns-in_err-parse_future-clause-faulty : goal.returns-in_err-parse_future-clause-faulty
 returns-in_err-parse_future-clause-faulty c = λ no_call fault is.
     let future = c.next_is.ensures.0 c.if-next_is.true in
-    let was = error_is c.parse_future.result c.in_err-parse_future.field-0.0 fault c.in_err-parse_future.was c.from_residual.result c.from_residual.ensures.1 is in
-    fault_behind_word AsksForFuture AsksForReceiver (codes "future") future_to future_from c.args.words _ _ c.next.ensures.steps future fault (c.parse_future.ensures.faulty fault was)
+    let was =
+    error_is c.parse_future.result c.in_err-parse_future.field-0.0 fault c.in_err-parse_future.was
+    c.from_residual.result c.from_residual.ensures.1 is in
+    fault_behind_word AsksForFuture AsksForReceiver (codes "future") future_to future_from c.args.words _ _
+    c.next.ensures.steps future fault (c.parse_future.ensures.faulty fault was)
 
 pub returns-in_err-end-clause-faulty : goal.returns-in_err-end-clause-faulty
 returns-in_err-end-clause-faulty c = λ no_call fault is.
     let given = c.in_err-end.field-0.0 in
     let over = c.in_err-end.ensures.faulty given refl in
     let recv = c.next_is-2.ensures.0 c.if-next_is-2.true in
-    fault_turned AsksForReceiver c.args.words c.from_residual-in_err-end.result given fault c.from_residual-in_err-end.ensures.1 is
-    (fault_behind_word IsOver AsksForReceiver (codes "recv") recv_to recv_from c.args.words _ _ c.next-then-next_is-2.ensures.steps recv given over)
+    fault_turned AsksForReceiver c.args.words c.from_residual-in_err-end.result given fault
+    c.from_residual-in_err-end.ensures.1 is
+    (fault_behind_word IsOver AsksForReceiver (codes "recv") recv_to recv_from c.args.words _ _
+    c.next-then-next_is-2.ensures.steps recv given over)
 
 pub returns-in_err-end-2-clause-faulty : goal.returns-in_err-end-2-clause-faulty
 returns-in_err-end-2-clause-faulty c = λ no_call fault is.
     let given = c.in_err-end-2.field-0.0 in
     let over = c.in_err-end-2.ensures.faulty given refl in
     let drop = c.next_is-3.ensures.0 c.if-next_is-3.true in
-    fault_turned AsksForReceiver c.args.words c.from_residual-in_err-end-2.result given fault c.from_residual-in_err-end-2.ensures.1 is
-    (fault_behind_word IsOver AsksForReceiver (codes "drop") receiver_drop_to receiver_drop_from c.args.words _ _ c.next-then-next_is-3.ensures.steps drop given over)
+    fault_turned AsksForReceiver c.args.words c.from_residual-in_err-end-2.result given fault
+    c.from_residual-in_err-end-2.ensures.1 is
+    (fault_behind_word IsOver AsksForReceiver (codes "drop") receiver_drop_to receiver_drop_from c.args.words _ _
+    c.next-then-next_is-3.ensures.steps drop given over)
 
 pub returns-in_err-stop-clause-faulty : goal.returns-in_err-stop-clause-faulty
 returns-in_err-stop-clause-faulty c = λ no_call fault is.
     let given = c.in_err-stop.field-0.0 in
-    fault_turned AsksForReceiver c.args.words c.from_residual-in_err-stop.result given fault c.from_residual-in_err-stop.ensures.1 is
-    (word_unknown AsksForReceiver c.args.words c.stop.result (codes "drop") [] (receiver_drop_to [] refl) receiver-no_number
+    fault_turned AsksForReceiver c.args.words c.from_residual-in_err-stop.result given fault
+    c.from_residual-in_err-stop.ensures.1 is
+    (word_unknown AsksForReceiver c.args.words c.stop.result (codes "drop") [] (receiver_drop_to [] refl)
+    receiver-no_number
     (receiver-no_word (words_left c.args.words) no_call
     (λ at. not_both c.next_is.result c.if-next_is.false (c.next_is.ensures.1 at))
     (λ at. not_both c.next_is-2.result c.if-next_is-2.false (c.next_is-2.ensures.1 at))

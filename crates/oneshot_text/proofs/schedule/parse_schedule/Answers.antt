@@ -16,8 +16,11 @@ returns-clause-each c = λ moves is.
 pub returns-in_err-moves-clause-faulty : goal.returns-in_err-moves-clause-faulty
 returns-in_err-moves-clause-faulty c = λ fault is.
     let next = c.in-Some.ensures.steps in
-    let was = error_is c.parse_moves.result c.in_err-moves.field-0.0 fault c.in_err-moves.was c.from_residual.result c.from_residual.ensures.1 is in
-    schedule_unknown (λ moves. moves.items) c.args.words c.in-Some.letters _ next.0 next.2 c.parse_moves.result c.parse_moves.ensures.each fault was (c.parse_moves.ensures.faulty fault was)
+    let was =
+    error_is c.parse_moves.result c.in_err-moves.field-0.0 fault c.in_err-moves.was c.from_residual.result
+    c.from_residual.ensures.1 is in
+    schedule_unknown (λ moves. moves.items) c.args.words c.in-Some.letters _ next.0 next.2 c.parse_moves.result
+    c.parse_moves.ensures.each fault was (c.parse_moves.ensures.faulty fault was)
 
 pub returns-in_err-end-clause-faulty : goal.returns-in_err-end-clause-faulty
 returns-in_err-end-clause-faulty c = λ fault is.
@@ -26,5 +29,7 @@ returns-in_err-end-clause-faulty c = λ fault is.
     let moves = c.in_ok-moves.ensures in
     let some : 0 < length c.in_ok-moves.moves.items = omega (arith, moves.some) in
     let given = c.in_err-end.field-0.0 in
-    fault_turned AsksForMoves c.args.words c.from_residual-in_err-end.result given fault c.from_residual-in_err-end.ensures.1 is
-    (fault_behind IsOver AsksForMoves (word ∷ []) (moves_to c.in_ok-moves.moves.items word some moves.written) (moves_from word) c.args.words _ given next.1 next.0 (c.in_err-end.ensures.faulty given refl))
+    fault_turned AsksForMoves c.args.words c.from_residual-in_err-end.result given fault
+    c.from_residual-in_err-end.ensures.1 is
+    (fault_behind IsOver AsksForMoves (word ∷ []) (moves_to c.in_ok-moves.moves.items word some moves.written)
+    (moves_from word) c.args.words _ given next.1 next.0 (c.in_err-end.ensures.faulty given refl))

@@ -13,30 +13,40 @@ returns-in_err-end-clause-faulty c = λ other fault is.
     let over = c.in_err-end.ensures.faulty given refl in
     let drop = c.next_is.ensures.0 c.if-next_is.true in
     fault_passed AsksForSender c.args.words c.from_residual.result given fault c.from_residual.ensures.1 is
-    (fault_behind_word IsOver AsksForSender (codes "drop") drop_to drop_from c.args.words _ _ c.next.ensures.steps drop given over)
+    (fault_behind_word IsOver AsksForSender (codes "drop") drop_to drop_from c.args.words _ _ c.next.ensures.steps drop
+    given over)
 
 pub returns-in_err-message-clause-faulty : goal.returns-in_err-message-clause-faulty
 returns-in_err-message-clause-faulty c = λ other fault is.
     let given = c.in_err-message.field-0.0 in
     let number = c.number.ensures in
     let send = c.next_is-2.ensures.0 c.if-next_is-2.true in
-    let missing = number_missing AsksForError c.next-then-next_is-2.new.self [] no_error c.number.result number.each number.faulty given c.in_err-message.was in
-    fault_passed AsksForSender c.args.words c.from_residual-in_err-message.result given fault c.from_residual-in_err-message.ensures.1 is
-    (fault_behind_word (NumberAnd AsksForError) AsksForSender (codes "send") send_to send_from c.args.words _ _ c.next-then-next_is-2.ensures.steps send given missing)
+    let missing =
+    number_missing AsksForError c.next-then-next_is-2.new.self [] no_error c.number.result number.each number.faulty
+    given c.in_err-message.was in
+    fault_passed AsksForSender c.args.words c.from_residual-in_err-message.result given fault
+    c.from_residual-in_err-message.ensures.1 is
+    (fault_behind_word (NumberAnd AsksForError) AsksForSender (codes "send") send_to send_from c.args.words _ _
+    c.next-then-next_is-2.ensures.steps send given missing)
 
 pub returns-in_err-error-clause-faulty : goal.returns-in_err-error-clause-faulty
 returns-in_err-error-clause-faulty c = λ other fault is.
     let given = c.in_err-error.field-0.0 in
     let number = c.in_ok-message.ensures in
     let send = c.next_is-2.ensures.0 c.if-next_is-2.true in
-    let behind = fault_behind_number AsksForError c.in_ok-message.message number.small c.next-then-next_is-2.new.self c.number.new.self number.line number.written given (c.in_err-error.ensures.faulty given refl) in
-    fault_passed AsksForSender c.args.words c.from_residual-in_err-error.result given fault c.from_residual-in_err-error.ensures.1 is
-    (fault_behind_word (NumberAnd AsksForError) AsksForSender (codes "send") send_to send_from c.args.words _ _ c.next-then-next_is-2.ensures.steps send given behind)
+    let behind =
+    fault_behind_number AsksForError c.in_ok-message.message number.small c.next-then-next_is-2.new.self
+    c.number.new.self number.line number.written given (c.in_err-error.ensures.faulty given refl) in
+    fault_passed AsksForSender c.args.words c.from_residual-in_err-error.result given fault
+    c.from_residual-in_err-error.ensures.1 is
+    (fault_behind_word (NumberAnd AsksForError) AsksForSender (codes "send") send_to send_from c.args.words _ _
+    c.next-then-next_is-2.ensures.steps send given behind)
 
 pub returns-in_err-stop-clause-faulty : goal.returns-in_err-stop-clause-faulty
 returns-in_err-stop-clause-faulty c = λ other fault is.
     let given = c.in_err-stop.field-0.0 in
-    fault_passed AsksForSender c.args.words c.from_residual-in_err-stop.result given fault c.from_residual-in_err-stop.ensures.1 is
+    fault_passed AsksForSender c.args.words c.from_residual-in_err-stop.result given fault
+    c.from_residual-in_err-stop.ensures.1 is
     (word_unknown AsksForSender c.args.words c.stop.result (codes "drop") [] (drop_to [] refl) sender-no_number
     (sender-no_word (words_left c.args.words) other
     (λ at. not_both c.next_is-2.result c.if-next_is-2.false (c.next_is-2.ensures.1 at))

@@ -23,6 +23,9 @@ pub returns-in_err-last-clause-faulty : goal.returns-in_err-last-clause-faulty
 returns-in_err-last-clause-faulty c = λ fault is.
     let run = c.take_run-looks.ensures in
     let looks = c.take_run-looks.result in
-    fault_passed AsksForSender c.args.words c.from_residual.result c.in_err-last.field-0.0 fault c.from_residual.ensures.1 is
-    (fault_behind AsksForSender AsksForSender (replicate looks (codes "closed")) (replicate_to AsksForSender (codes "closed") closed_to looks) (replicate_from AsksForSender (codes "closed") closed_from looks)
+    fault_passed AsksForSender c.args.words c.from_residual.result c.in_err-last.field-0.0 fault
+    c.from_residual.ensures.1 is
+    (fault_behind AsksForSender AsksForSender (replicate looks (codes "closed"))
+    (replicate_to AsksForSender (codes "closed") closed_to looks)
+    (replicate_from AsksForSender (codes "closed") closed_from looks)
     c.args.words _ _ run.line run.run (c.in_err-last.ensures.faulty run.whole c.in_err-last.field-0.0 refl))

@@ -9,5 +9,6 @@ abbrev pub invariant-loop-m : goal.invariant-loop-m
 invariant-loop-m g l = record {
   count : l.run.count ≡ l.initial.run.count + l.m-index;
   message : l.run.message ≡ l.initial.run.message;
-  written : HasWritten l.message (l.initial.run.count + 1) l.initial.run.world (take l.m-index l.moves) (g.W.Write.contents l.initial.output) (held (g.W.Write.contents l.output) l.page) l.run.world;
+  written : HasWritten l.message (l.initial.run.count + 1) l.initial.run.world (take l.m-index l.moves)
+      (g.W.Write.contents l.initial.output) (held (g.W.Write.contents l.output) l.page) l.run.world;
 }

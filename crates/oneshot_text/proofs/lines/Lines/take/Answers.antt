@@ -19,7 +19,10 @@ pub returns-then-not-next_is-clause-faulty : goal.returns-then-not-next_is-claus
 returns-then-not-next_is-clause-faulty c = λ fault is later.
     let text = c.args.self.now.rest.now in
     let first : lines_of text ≡ c.cut_line.result.0.now ∷ lines_of c.cut_line.result.1.now = c.cut_line.ensures in
-    let words : lines_left c.args.self.now ≡ words_left c.new-words.result ∷ map words_of (lines_of c.cut_line.result.1.now) = rw (first, c.new-words.ensures.words) refl in
+    let words : lines_left c.args.self.now
+    ≡ words_left c.new-words.result ∷ map words_of (lines_of c.cut_line.result.1.now) =
+    rw (first, c.new-words.ensures.words) refl in
     other_letter c.args.line later _ (words_left c.new-words.result) _ fault words
-    (λ at. absurd (cc (c.next_is.ensures.1 (at ∙ ap (λ letter. Some letter) (sym c.letter.ensures)), c.if-not-next_is.true)))
+    (λ at. absurd (cc
+    (c.next_is.ensures.1 (at ∙ ap (λ letter. Some letter) (sym c.letter.ensures)), c.if-not-next_is.true)))
     (fault_of_err (MustBegin c.args.line) fault is)

@@ -10,4 +10,6 @@ returns g c = λ plain ok.
     let token = rw c.token_text.ensures at (c.in_ok-write_str.ensures.writes waker.plain refl) in
     let found = rw c.found_text.ensures at (c.in_ok-write_str-2.ensures.writes token.plain refl) in
     let own = c.write_own.ensures found.plain ok in
-    has_written_append _ _ _ _ _ _ (has_written_append _ _ _ _ _ _ (has_written_append _ _ _ _ _ _ (has_written_append _ _ _ _ _ _ message waker) token) found) own
+    has_written_append _ _ _ _ _ _
+    (has_written_append _ _ _ _ _ _
+    (has_written_append _ _ _ _ _ _ (has_written_append _ _ _ _ _ _ message waker) token) found) own

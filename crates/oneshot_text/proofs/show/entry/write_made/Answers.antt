@@ -5,8 +5,10 @@ use Rattle.oneshot_text.proofs.show.entry.write_made.Goals as goal
 
 -- the texts of a step in a row, however they are grouped
 in_a_row : (space end name before arrow after message waker token found own reply : List ℕ) →
-    (space ++ end ++ space ++ name ++ space ++ before ++ arrow ++ after) ++ (message ++ waker ++ token ++ found ++ own) ++ reply
-    ≡ space ++ (end ++ space ++ name ++ space ++ before ++ arrow ++ after ++ message ++ waker ++ token ++ found ++ own ++ reply)
+    (space ++ end ++ space ++ name ++ space ++ before ++ arrow ++ after) ++ (message ++ waker ++ token ++ found ++ own)
+    ++ reply
+    ≡ space ++ (end ++ space ++ name ++ space ++ before ++ arrow ++ after ++ message ++ waker ++ token ++ found ++ own
+    ++ reply)
 in_a_row space end name before arrow after message waker token found own reply = simp append_assoc
 
 pub returns : goal.returns

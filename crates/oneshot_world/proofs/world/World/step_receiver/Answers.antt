@@ -7,8 +7,10 @@ use Rattle.oneshot_world.proofs.world.World.step_receiver.Goals as goal
 
 pub step_receiver-made-requires-clause-row : goal.step_receiver-made-requires-clause-row
 step_receiver-made-requires-clause-row c =
-    let w : World = record { state = c.self.inside.state; sender = c.self.inside.sender; receiver = c.self.inside.receiver } in
-    let at : receiver_at w ≡ Some c.in-Some.position = ap receiver_at c.self.view_is ∙ sym c.receiver_position.ensures ∙ c.in-Some.is in
+    let w : World =
+    record { state = c.self.inside.state; sender = c.self.inside.sender; receiver = c.self.inside.receiver } in
+    let at : receiver_at w ≡ Some c.in-Some.position =
+    ap receiver_at c.self.view_is ∙ sym c.receiver_position.ensures ∙ c.in-Some.is in
     let told : c.told_with-told.result ≡ receiver_told c.answer_at-answer.result c.args.entry w = cc in
     rw told (receiver_makes c.answer_at-answer.result c.args.entry w c.in-Some.position c.self.invariant at)
 
@@ -17,16 +19,26 @@ step_receiver-made-requires-clause-code c = word_is_code _ c.self.invariant
 
 pub invariant_of-self : goal.invariant_of-self
 invariant_of-self c =
-    let w : World = record { state = c.self.inside.state; sender = c.self.inside.sender; receiver = c.self.inside.receiver } in
-    let at : receiver_at w ≡ Some c.in-Some.position = ap receiver_at c.self.view_is ∙ sym c.receiver_position.ensures ∙ c.in-Some.is in
+    let w : World =
+    record { state = c.self.inside.state; sender = c.self.inside.sender; receiver = c.self.inside.receiver } in
+    let at : receiver_at w ≡ Some c.in-Some.position =
+    ap receiver_at c.self.view_is ∙ sym c.receiver_position.ensures ∙ c.in-Some.is in
     let told : c.told_with-told.result ≡ receiver_told c.answer_at-answer.result c.args.entry w = cc in
-    rw c.advance.ensures (receiver_reaches c.answer_at-answer.result c.args.entry w c.in-Some.position c.step_receiver-made.result c.step_receiver-made.new.self c.self.invariant at (rw told at c.step_receiver-made.ensures))
+    rw c.advance.ensures (receiver_reaches c.answer_at-answer.result c.args.entry w c.in-Some.position
+    c.step_receiver-made.result c.step_receiver-made.new.self
+    c.self.invariant at (rw told at c.step_receiver-made.ensures))
 
 pub returns : goal.returns
 returns c =
-    let w : World = record { state = c.self.inside.state; sender = c.self.inside.sender; receiver = c.self.inside.receiver } in
-    let at : receiver_at w ≡ Some c.in-Some.position = ap receiver_at c.self.view_is ∙ sym c.receiver_position.ensures ∙ c.in-Some.is in
-    let answer : c.answer_at-answer.result ≡ answer_of (receiver_at w) c.args.over c.args.refuse = c.answer_at-answer.ensures ∙ ap (λ p. answer_of p c.args.over c.args.refuse) (sym at) in
-    let told : c.told_with-told.result ≡ receiver_told (answer_of (receiver_at w) c.args.over c.args.refuse) c.args.entry w = cc in
+    let w : World =
+    record { state = c.self.inside.state; sender = c.self.inside.sender; receiver = c.self.inside.receiver } in
+    let at : receiver_at w ≡ Some c.in-Some.position =
+    ap receiver_at c.self.view_is ∙ sym c.receiver_position.ensures ∙ c.in-Some.is in
+    let answer : c.answer_at-answer.result ≡ answer_of (receiver_at w) c.args.over c.args.refuse =
+    c.answer_at-answer.ensures ∙ ap (λ p. answer_of p c.args.over c.args.refuse) (sym at) in
+    let told : c.told_with-told.result
+    ≡ receiver_told (answer_of (receiver_at w) c.args.over c.args.refuse) c.args.entry w = cc in
     rw (← c.self.view_is, c.advance.ensures)
-    (receiver_turn_made (answer_of (receiver_at w) c.args.over c.args.refuse) c.args.entry w c.in-Some.position c.told_with-told.result c.step_receiver-made.result c.step_receiver-made.new.self at told c.step_receiver-made.ensures)
+    (receiver_turn_made (answer_of (receiver_at w) c.args.over c.args.refuse) c.args.entry w c.in-Some.position
+    c.told_with-told.result c.step_receiver-made.result c.step_receiver-made.new.self at told
+    c.step_receiver-made.ensures)

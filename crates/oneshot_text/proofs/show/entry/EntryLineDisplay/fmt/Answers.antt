@@ -6,7 +6,8 @@ use Rattle.oneshot_text.specs.EntryText.{entry_text, made_text}
 use Rattle.oneshot_text.specs.Names.{letter_of_end}
 use Rattle.oneshot_text.proofs.show.entry.EntryLineDisplay.fmt.Goals as goal
 
-idle_line : (number : ℕ) (end : List ℕ) → decimal number ++ (codes " " ++ end ++ codes " idle") ≡ decimal number ++ codes " " ++ end ++ codes " idle"
+idle_line : (number : ℕ) (end : List ℕ)
+    → decimal number ++ (codes " " ++ end ++ codes " idle") ≡ decimal number ++ codes " " ++ end ++ codes " idle"
 idle_line number end = simp append_assoc
 
 pub returns-in-Made-clause-writes : goal.returns-in-Made-clause-writes
@@ -23,5 +24,7 @@ returns-in-Idle-clause-writes g c = λ plain ok.
     let number = c.in_ok-fmt.ensures.writes plain refl in
     let idle = c.write_idle.ensures number.plain ok in
     let line = c.args.self.now in
-    let text = idle_line line.number (letter_of_end c.in-Idle.end) ∙ ap (λ entry. entry_text line.number line.call line.message entry) (sym c.in-Idle.is) in
+    let text =
+    idle_line line.number (letter_of_end c.in-Idle.end)
+    ∙ ap (λ entry. entry_text line.number line.call line.message entry) (sym c.in-Idle.is) in
     has_written_of_eq _ _ _ _ _ text (has_written_append _ _ _ _ _ _ number idle)

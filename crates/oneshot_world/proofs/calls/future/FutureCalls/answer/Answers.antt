@@ -5,5 +5,6 @@ use Rattle.oneshot_world.proofs.calls.future.FutureCalls.answer.Goals as goal
 
 pub returns-then-self-as_slice : goal.returns-then-self-as_slice
 returns-then-self-as_slice c =
-    let here : c.self.inside.answered < length c.self.inside.calls = rw (c.as_slice.ensures) at c.if-self-as_slice.true in
+    let here : c.self.inside.answered < length c.self.inside.calls =
+    rw (c.as_slice.ensures) at c.if-self-as_slice.true in
     rw (← c.self.view_is, future_from_here c.self.inside.calls c.self.inside.answered c.self.inside.last here) refl

@@ -5,6 +5,13 @@ use Rattle.oneshot_world.proofs.calls.receiver.ReceiverCalls.advance.Goals as go
 
 pub returns-then-self-as_slice : goal.returns-then-self-as_slice
 returns-then-self-as_slice c =
-    let here : c.self.inside.answered < length c.self.inside.calls = rw (c.as_slice.ensures) at c.if-self-as_slice.true in
+    let here : c.self.inside.answered < length c.self.inside.calls =
+    rw (c.as_slice.ensures) at c.if-self-as_slice.true in
     let none : c.self.inside.future ≡ None = cc in
-    rw (answers c.args.reply c.args.self.now c.if-is_none.ensures, ← c.self.view_is, none, from_here c.self.inside.calls c.self.inside.answered c.self.inside.last here) refl
+    rw (
+      answers c.args.reply c.args.self.now c.if-is_none.ensures,
+      ← c.self.view_is,
+      none,
+      from_here c.self.inside.calls
+          c.self.inside.answered c.self.inside.last here,
+    ) refl
