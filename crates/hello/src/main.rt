@@ -1,0 +1,15 @@
+//! Sends a number from one thread to another.
+#![tactic(auto)]
+
+use oneshot::channel;
+use std::io;
+use std::thread::join;
+
+fn main(rt: HostRuntime) -> io::Result<()> {
+    let (sender, receiver) = channel(&rt, rt.alloc())?;
+    let (received, _) = join(&rt, || receiver.recv(), || sender.send(19));
+    match received {
+        Ok(number) => println!(rt; "received {number}"),
+        Err(error) => println!(rt; "{error}"),
+    }
+}
