@@ -1,4 +1,4 @@
-//! A message that a future waits for, under an executor; the README shows it.
+//! A message that a future waits for, under an executor; docs/CALLING.md shows it.
 
 use crate::{AsyncReceiver, RecvError, async_channel};
 use futures::executor::block_on;

@@ -1,4 +1,4 @@
-//! A caller of each call whose contract tells it more than its answer, proved and run; docs/CALLING.md shows them.
+//! Callers of the calls whose contracts tell more than their answers, proved and run; docs/CALLING.md shows them.
 
 ghost use Rattle.std.specs.Prelude.{◌≡◌, ◌≢◌, None, Ok, Err, IsErr, IfSome};
 ghost use Rattle.oneshot.specs.Ends.{IsClosed, IsOpen};
