@@ -1,6 +1,6 @@
 -- Each call makes no more operations on the word than its bound: the reader counts down, for each end, what
 -- its call has left.
-use Rattle.std.proofs.Common.{◌≡◌, ℕ, zero, suc, Bool, true, false, not, ◌&&◌, ◌||◌, List, [], ◌∷◌, map, Option, Some, None, refl, ◌∙◌, ap, if◌then◌else◌}
+use Rattle.std.proofs.Common.{◌≡◌, ℕ, zero, suc, Bool, true, false, not, ◌&&◌, ◌||◌, List, [], ◌∷◌, map, Some, None, refl, ◌∙◌, ap, if◌then◌else◌}
 use Rattle.oneshot_machine.specs.declared.machine.End.{End}
 use Rattle.oneshot_machine.specs.declared.machine.End.TheVariants.{Sender, Receiver}
 use Rattle.oneshot_machine.specs.declared.machine.receiver.ReceiverStart.TheVariants as RC
@@ -9,14 +9,12 @@ use Rattle.oneshot_world.specs.Calls.{Call, Of_sender, Of_receiver, Poll}
 use Rattle.oneshot_world.specs.Classes.{Classes, as_call, as_made}
 use Rattle.oneshot_world.specs.declared.trace.Made.{Made}
 use Rattle.oneshot_world.proofs.Bools.{and_left, and_right, both}
-use Rattle.oneshot_laws.specs.Entries.{is_same_end, is_word}
+use Rattle.oneshot_laws.specs.Entries.{is_same_end}
 use Rattle.oneshot_laws.specs.Object.{is_same_flag}
 use Rattle.oneshot_laws.specs.Marks.{Mark, side, call_marks, until_reply}
 use Rattle.oneshot_laws.specs.Bounds.{at_most, operates, is_within_its_bound, is_bounded, are_calls_bounded}
-use Rattle.oneshot_laws.proofs.Coding.{Coding, pairs, by_parts, or_none, numbers_below}
-use Rattle.oneshot_laws.proofs.Glanced.{Law, Passes, Nameless, of_call, LawExplored, all_glanced, passed, holds_by}
-use Rattle.oneshot_laws.proofs.Glances.{Glance, glance_of}
-use Rattle.oneshot_laws.proofs.Watched.{no_names}
+use Rattle.oneshot_laws.proofs.Glanced.{Passes, Nameless, of_call, LawExplored, all_glanced, passed, holds_by}
+use Rattle.oneshot_laws.proofs.Glances.{glance_of}
 use Rattle.oneshot_laws.proofs.WatchedRuns.{EachRun}
 use Rattle.oneshot_laws.proofs.Budgets.{Left, Resting, Unbounded, Counted, begun, under_way, is_resting, can, spend, may_make, spent, left_then, Budget, left_by, left_at, fits, budget_then, at_rest, budget_law}
 

@@ -1,22 +1,18 @@
 -- What each end's call has left of its operations on the word, as a reader of the trace counts it.
-use Rattle.std.proofs.Common.{◌≡◌, ℕ, zero, suc, Bool, true, false, not, ◌&&◌, ◌||◌, List, [], ◌∷◌, map, Option, Some, None, refl, ◌∙◌, ap, if◌then◌else◌}
+use Rattle.std.proofs.Common.{◌≡◌, ℕ, zero, suc, Bool, true, false, not, ◌&&◌, Option, Some, None, refl, if◌then◌else◌}
 use Rattle.oneshot_machine.specs.declared.machine.End.{End}
 use Rattle.oneshot_machine.specs.declared.machine.End.TheVariants.{Sender, Receiver}
 use Rattle.oneshot_machine.specs.declared.machine.receiver.ReceiverStart.TheVariants as RC
 use Rattle.oneshot_machine.specs.declared.machine.sender.SenderCall.TheVariants as SC
 use Rattle.oneshot_world.specs.Calls.{Call, Of_sender, Of_receiver, Poll}
-use Rattle.oneshot_world.specs.Classes.{Classes, as_call, as_made}
 use Rattle.oneshot_world.specs.declared.trace.Made.{Made}
-use Rattle.oneshot_world.proofs.Bools.{and_left, and_right, both}
-use Rattle.oneshot_laws.specs.Entries.{is_same_end, is_word}
+use Rattle.oneshot_laws.specs.Entries.{is_word}
 use Rattle.oneshot_laws.specs.Object.{is_same_flag}
-use Rattle.oneshot_laws.specs.Marks.{Mark, side, call_marks, until_reply}
-use Rattle.oneshot_laws.specs.Bounds.{at_most, operates, is_within_its_bound, is_bounded, are_calls_bounded}
+use Rattle.oneshot_laws.specs.Marks.{until_reply}
 use Rattle.oneshot_laws.proofs.Coding.{Coding, pairs, by_parts, or_none, numbers_below}
-use Rattle.oneshot_laws.proofs.Glanced.{Law, Passes, Nameless, of_call, LawExplored, all_glanced, passed, holds_by}
-use Rattle.oneshot_laws.proofs.Glances.{Glance, glance_of}
+use Rattle.oneshot_laws.proofs.Glanced.{Law}
+use Rattle.oneshot_laws.proofs.Glances.{Glance}
 use Rattle.oneshot_laws.proofs.Watched.{no_names}
-use Rattle.oneshot_laws.proofs.WatchedRuns.{EachRun}
 
 -- what an end's call has left: no call is under way, or it has no bound, or so many operations
 pub data Left : Type 0 where

@@ -1,6 +1,6 @@
 -- What the reader accepts has a legal history, whatever machine made it. No table and no world is in this file.
 use Rattle.std.proofs.Common.{◌≡◌, ℕ, ◌+◌, Bool, true, false, not, ◌&&◌, ◌||◌, List, [], ◌∷◌, ◌++◌, map, Option, Some, None, is_some, refl, sym, ◌∙◌, ap, subst, if◌then◌else◌}
-use Rattle.std.specs.List.{list_any, list_all}
+use Rattle.std.specs.List.{list_all}
 use Rattle.oneshot_machine.specs.declared.machine.End.{End}
 use Rattle.oneshot_machine.specs.declared.machine.End.TheVariants.{Sender, Receiver}
 use Rattle.oneshot_machine.specs.declared.machine.Reply.{Reply}
@@ -12,15 +12,15 @@ use Rattle.oneshot_world.specs.declared.trace.Entry.{Entry}
 use Rattle.oneshot_world.specs.declared.trace.Entry.TheVariants.{Idle, Made as Made_entry}
 use Rattle.oneshot_world.specs.declared.trace.Made.{Made}
 use Rattle.oneshot_world.proofs.Bools.{and_left, and_right, both}
-use Rattle.oneshot_laws.specs.Entries.{only_if, says_nothing_yet, is_nothing_yet}
-use Rattle.oneshot_laws.specs.Object.{Object, Content, Open, Full, Closed, Take, is_open, object_after}
-use Rattle.oneshot_laws.specs.Actions.{action_of, nothing_yet_of, reply_on, stepped, fixed_reply_of, is_stray, is_end_of_sender, is_end_of_receiver}
-use Rattle.oneshot_laws.specs.Marks.{Rule, First, Last, Never, rule, acts, has_acted, receive_rule, works_on_word, finds_full_or_closed, until_reply, to_reply, reply_among, Reading, read_by, Mark, loads, finishes, swaps_closed_in, mark_at, marks_from, call_under_way, object_then, ends}
+use Rattle.oneshot_laws.specs.Entries.{only_if}
+use Rattle.oneshot_laws.specs.Object.{Object}
+use Rattle.oneshot_laws.specs.Actions.{nothing_yet_of, fixed_reply_of, is_stray, is_end_of_sender, is_end_of_receiver}
+use Rattle.oneshot_laws.specs.Marks.{rule, works_on_word, until_reply, to_reply, Reading, read_by, Mark, mark_at, marks_from, call_under_way, object_then, ends}
 use Rattle.oneshot_laws.specs.History.{agrees, object_reply, is_object_step, is_legal, is_complete, is_right_outside, is_covered, history, has_legal_history}
 use Rattle.oneshot_laws.specs.Holders.{acts_last}
 use Rattle.oneshot_laws.proofs.Glances.{Glance, glance_of, glance_at, glances}
-use Rattle.oneshot_laws.proofs.HistoryReader.{Receives, kind, Watch, Reader, due, hit, hits, owed, owes_then, object_if, object_by, watch_at, pays, may_say, pays_receive, may_owe, has_reply, accepts_call, reads}
-use Rattle.oneshot_laws.proofs.HistoryOwed.{Accepted, Goes_on, answer_from, answer_pays, pays_in, answer_says, says_in, fine_as, not_owed}
+use Rattle.oneshot_laws.proofs.HistoryReader.{kind, Watch, Reader, due, hit, hits, owes_then, object_by, watch_at, has_reply, accepts_call, reads}
+use Rattle.oneshot_laws.proofs.HistoryOwed.{Accepted, Goes_on, answer_from, answer_pays, pays_in, answer_says, says_in}
 use Rattle.oneshot_laws.proofs.Watched.{left_after}
 use Rattle.oneshot_laws.proofs.HistoryEntries.{any_more, owed_is, FollowsAt, EntryRight}
 use Rattle.oneshot_laws.proofs.HistoryCalls.{local_right}

@@ -1,27 +1,18 @@
 -- What the definition says of one entry of a call that the reader accepts. No table and no world is in this file.
-use Rattle.std.proofs.Common.{◌≡◌, ℕ, ◌+◌, Bool, true, false, not, ◌&&◌, ◌||◌, List, [], ◌∷◌, ◌++◌, map, Option, Some, None, is_some, refl, sym, ◌∙◌, ap, subst, if◌then◌else◌}
-use Rattle.std.specs.List.{list_any, list_all}
-use Rattle.oneshot_machine.specs.declared.machine.End.{End}
-use Rattle.oneshot_machine.specs.declared.machine.End.TheVariants.{Sender, Receiver}
+use Rattle.std.proofs.Common.{◌≡◌, Bool, true, false, not, ◌&&◌, ◌||◌, List, [], ◌∷◌, ◌++◌, Option, Some, None, is_some, refl, sym, ◌∙◌, ap, subst}
+use Rattle.std.specs.List.{list_any}
 use Rattle.oneshot_machine.specs.declared.machine.Reply.{Reply}
 use Rattle.oneshot_machine.specs.declared.machine.receiver.ReceiverStart.TheVariants as RC
-use Rattle.oneshot_machine.specs.declared.machine.sender.SenderCall.TheVariants as SC
-use Rattle.oneshot_world.specs.Calls.{Call, Of_sender, Of_receiver, Poll, Stray, Unanswered, is_none_left, left_by}
-use Rattle.oneshot_world.specs.World.{by_end}
-use Rattle.oneshot_world.specs.declared.trace.Entry.{Entry}
-use Rattle.oneshot_world.specs.declared.trace.Entry.TheVariants.{Idle, Made as Made_entry}
+use Rattle.oneshot_world.specs.Calls.{Call, Of_receiver, Poll, is_none_left}
 use Rattle.oneshot_world.specs.declared.trace.Made.{Made}
-use Rattle.oneshot_world.proofs.Bools.{and_left, and_right, both}
+use Rattle.oneshot_world.proofs.Bools.{and_left, and_right}
 use Rattle.oneshot_laws.specs.Entries.{only_if, says_nothing_yet, is_nothing_yet}
 use Rattle.oneshot_laws.specs.Object.{Object, Content, Open, Full, Closed, Take, is_open, object_after}
-use Rattle.oneshot_laws.specs.Actions.{action_of, nothing_yet_of, reply_on, stepped, fixed_reply_of, is_stray, is_end_of_sender, is_end_of_receiver}
-use Rattle.oneshot_laws.specs.Marks.{Rule, First, Last, Never, rule, acts, has_acted, receive_rule, works_on_word, finds_full_or_closed, until_reply, to_reply, reply_among, Reading, read_by, Mark, loads, finishes, swaps_closed_in, mark_at, marks_from, call_under_way, object_then, ends}
-use Rattle.oneshot_laws.specs.History.{agrees, object_reply, is_object_step, is_legal, is_complete, is_right_outside, is_covered, history, has_legal_history}
-use Rattle.oneshot_laws.specs.Holders.{acts_last}
-use Rattle.oneshot_laws.proofs.Glances.{Glance, glance_of, glance_at, glances}
-use Rattle.oneshot_laws.proofs.HistoryReader.{Receives, kind, Watch, Reader, due, hit, hits, owed, owes_then, object_if, object_by, watch_at, pays, may_say, pays_receive, may_owe, has_reply, accepts_call, reads}
-use Rattle.oneshot_laws.proofs.HistoryOwed.{Accepted, Goes_on, answer_from, answer_pays, pays_in, answer_says, says_in, fine_as, not_owed}
-use Rattle.oneshot_laws.proofs.Watched.{left_after}
+use Rattle.oneshot_laws.specs.Actions.{action_of, nothing_yet_of, reply_on, stepped}
+use Rattle.oneshot_laws.specs.Marks.{Rule, First, Last, acts, has_acted, receive_rule, works_on_word, finds_full_or_closed}
+use Rattle.oneshot_laws.specs.History.{agrees, is_object_step}
+use Rattle.oneshot_laws.proofs.HistoryReader.{kind, Watch, due, hit, owed, object_if, may_say, pays_receive, may_owe, has_reply}
+use Rattle.oneshot_laws.proofs.HistoryOwed.{fine_as, not_owed}
 
 -- one more entry of a call
 pub any_more : {X : Type 0} (test : X → Bool) (xs : List X) (x : X)

@@ -1,34 +1,16 @@
 -- What the definition says of the last poll of a number, one reader of the trace has in the end.
-use Rattle.std.proofs.Common.{◌≡◌, ℕ, ◌==◌, Bool, true, false, not, ◌&&◌, ◌||◌, List, [], ◌∷◌, map, Option, Some, None, is_some, get_or, refl, sym, ◌∙◌, ap, if◌then◌else◌}
+use Rattle.std.proofs.Common.{◌≡◌, ℕ, ◌==◌, Bool, true, false, not, ◌&&◌, ◌||◌, List, [], ◌∷◌, map, Option, Some, None, is_some, refl, ◌∙◌, ap, if◌then◌else◌}
 use Rattle.std.proofs.lemmas.Bool.{eq-eqb}
 use Rattle.std.specs.List.{list_any}
-use Rattle.std.specs.Option.{option_map}
-use Rattle.oneshot_world.specs.Calls.{Call, Poll, number_of}
-use Rattle.oneshot_world.specs.Scripts.{calls_of}
-use Rattle.oneshot_world.specs.Classes.{Classes, as_call, as_move}
-use Rattle.oneshot_world.specs.ControlCodes.{bool_code}
-use Rattle.oneshot_world.specs.Wakers.{WakerMove}
-use Rattle.oneshot_world.specs.World.{World, Tells, opening}
-use Rattle.oneshot_world.specs.declared.script.Move.{Move}
-use Rattle.oneshot_world.specs.declared.script.ReceiverScript.{ReceiverScript}
-use Rattle.oneshot_world.specs.declared.script.SenderScript.{SenderScript}
-use Rattle.oneshot_world.specs.declared.trace.Entry.{Entry}
-use Rattle.oneshot_world.specs.declared.trace.WakerName.TheVariants.{Parker, Copy}
-use Rattle.oneshot_world.specs.declared.trace.WakerPlace.TheVariants as W
+use Rattle.oneshot_world.specs.Calls.{number_of}
 use Rattle.oneshot_world.proofs.Bools.{and_left, and_right, both}
-use Rattle.oneshot_world.proofs.Listed.{is_listed}
 use Rattle.oneshot_laws.specs.Entries.{is_reply}
-use Rattle.oneshot_laws.specs.Actions.{is_end_of_sender, is_drop_of_receiver}
-use Rattle.oneshot_laws.specs.Marks.{Mark, marks}
-use Rattle.oneshot_laws.specs.Ended.{has_answered}
+use Rattle.oneshot_laws.specs.Actions.{is_drop_of_receiver}
+use Rattle.oneshot_laws.specs.Marks.{Mark}
 use Rattle.oneshot_laws.specs.Unwoken.{uses_copy_of, is_own, wakes, is_poll, begins_poll_or_drop, answers_pending, is_left_by, waits_in_task}
 use Rattle.oneshot_machine.specs.declared.machine.Reply.TheVariants as R
-use Rattle.oneshot_laws.proofs.Coding.{listed, pairs, by_parts, flags}
-use Rattle.oneshot_laws.proofs.EndedRuns.{own_after, or_more, or_false}
-use Rattle.oneshot_laws.proofs.Glanced.{Law, Passes, as_glance, of_call, with_history, LawExplored, all_glanced, passes_by}
+use Rattle.oneshot_laws.proofs.EndedRuns.{own_after}
 use Rattle.oneshot_laws.proofs.Glances.{Glance, glance_of}
-use Rattle.oneshot_laws.proofs.Watched.{Names}
-use Rattle.oneshot_laws.proofs.WatchedRuns.{Classed}
 
 -- of the last poll: none of the number that waits, one under way, or one that left its task; nothing woke it
 -- since it began

@@ -1,46 +1,26 @@
 -- No receiver waits in a park unwoken, in all that the checker found beside the machines.
-use Rattle.std.proofs.Common.{◌≡◌, ℕ, ◌+◌, Bool, true, false, not, ◌&&◌, ◌||◌, List, [], ◌∷◌, map, Option, Some, None, is_some, refl, sym, ◌∙◌, ap, subst}
+use Rattle.std.proofs.Common.{◌≡◌, Bool, true, false, not, ◌&&◌, ◌||◌, Option, Some, None, is_some, refl, ap}
 use Rattle.std.specs.Option.{option_map, option_and_then}
 use Rattle.oneshot_machine.specs.Receiver.{receiver_step}
 use Rattle.oneshot_machine.specs.declared.machine.End.{End}
-use Rattle.oneshot_machine.specs.declared.machine.End.TheVariants.{Sender, Receiver}
 use Rattle.oneshot_machine.specs.declared.machine.receiver.ReceiverStart.{ReceiverStart}
 use Rattle.oneshot_machine.specs.declared.machine.receiver.ReceiverStart.TheVariants as RC
-use Rattle.oneshot_world.specs.Calls.{Call, Unanswered, first, as_receiver_call, left_by}
-use Rattle.oneshot_world.specs.Scripts.{calls_of}
-use Rattle.oneshot_world.specs.Classes.{all_alike, as_made, as_entry}
+use Rattle.oneshot_world.specs.Calls.{Call, first, as_receiver_call}
+use Rattle.oneshot_world.specs.Classes.{all_alike}
 use Rattle.oneshot_world.specs.Control.{Control, control_of, as_control}
-use Rattle.oneshot_world.specs.Reached.{IsReached}
 use Rattle.oneshot_world.specs.Explore.{all_in}
-use Rattle.oneshot_machine.specs.Sender.{sender_step}
-use Rattle.oneshot_world.specs.State.{receiver_position, sender_stepped, receiver_stepped}
-use Rattle.oneshot_world.specs.Effects.{reply_of}
-use Rattle.oneshot_world.specs.World.{World, Tells_from, Tells, opening, side_of, by_end, nothing_told, receiver_told}
-use Rattle.oneshot_world.specs.declared.script.Move.{Move}
-use Rattle.oneshot_world.specs.declared.script.ReceiverScript.{ReceiverScript}
-use Rattle.oneshot_world.specs.declared.script.SenderScript.{SenderScript}
+use Rattle.oneshot_world.specs.State.{receiver_position}
+use Rattle.oneshot_world.specs.World.{World}
 use Rattle.oneshot_world.specs.declared.state.ReceiverState.{ReceiverState}
 use Rattle.oneshot_world.specs.declared.state.ReceiverState.TheVariants as RS
-use Rattle.oneshot_world.specs.declared.trace.Entry.{Entry}
-use Rattle.oneshot_world.specs.declared.trace.Entry.TheVariants.{Idle, Made as Made_entry}
 use Rattle.oneshot_world.specs.declared.trace.Made.{Made}
-use Rattle.oneshot_world.proofs.Bools.{both}
 use Rattle.oneshot_world.proofs.ExploreFound.{passes_where_found}
-use Rattle.oneshot_world.proofs.ReachedLeft.{sender_world, receiver_world}
-use Rattle.oneshot_world.proofs.ReachedOpening.{opening_reached}
-use Rattle.oneshot_world.proofs.WorldTurns.{Turned, sender_idle, sender_made, receiver_idle, receiver_made, turned, turned_reaches}
-use Rattle.oneshot_laws.specs.Object.{Object}
 use Rattle.oneshot_laws.specs.Actions.{is_end_of_sender}
-use Rattle.oneshot_laws.specs.Marks.{Reading, read, Mark, marks, marks_from, sender_reading, receiver_reading, call_under_way}
-use Rattle.oneshot_laws.specs.Ended.{has_answered}
 use Rattle.oneshot_world.specs.Ahead.{Ahead, is_some_park, ahead_of}
-use Rattle.oneshot_laws.specs.Unwoken.{waits_in_park, waits_in_task, is_unwoken, is_never_unwoken, NeverUnwoken}
+use Rattle.oneshot_laws.specs.Unwoken.{waits_in_park}
 use Rattle.oneshot_laws.proofs.Coding.{flags}
-use Rattle.oneshot_laws.proofs.EndedRuns.{or_more, or_false}
-use Rattle.oneshot_laws.proofs.Watched.{Watched, Automaton, Explored, no_names, all_watched, watched_coding, class_under_way, class_is, reads_entry}
-use Rattle.oneshot_laws.proofs.WatchedRuns.{Classed, all_classed, IsFound, found_next, opening_found}
-use Rattle.oneshot_laws.proofs.Glanced.{of_call}
-use Rattle.oneshot_laws.proofs.UnwokenTasks.{no_task_waits}
+use Rattle.oneshot_laws.proofs.Watched.{Watched, Automaton, Explored, no_names, all_watched, watched_coding}
+use Rattle.oneshot_laws.proofs.WatchedRuns.{Classed, all_classed, IsFound}
 
 -- the reader keeps whether the sender's last call has answered
 abbrev all_are_fine : End → Call → Made → Bool → Bool

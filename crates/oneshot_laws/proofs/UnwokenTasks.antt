@@ -1,8 +1,6 @@
 -- No task waits unwoken: in each run, once the sender's send or drop has answered, the last poll that left
 -- its task was woken.
-use Rattle.std.proofs.Common.{◌≡◌, ℕ, ◌==◌, Bool, true, false, not, ◌&&◌, ◌||◌, List, [], ◌∷◌, map, Option, Some, None, is_some, get_or, refl, sym, ◌∙◌, ap, if◌then◌else◌}
-use Rattle.std.proofs.lemmas.Bool.{eq-eqb}
-use Rattle.std.specs.List.{list_any}
+use Rattle.std.proofs.Common.{◌≡◌, ℕ, ◌==◌, Bool, true, false, not, ◌&&◌, ◌||◌, List, [], ◌∷◌, map, Option, Some, None, is_some, get_or, refl, sym, ◌∙◌, ap}
 use Rattle.std.specs.Option.{option_map}
 use Rattle.oneshot_world.specs.Calls.{Call, Poll, number_of}
 use Rattle.oneshot_world.specs.Scripts.{calls_of}
@@ -16,14 +14,11 @@ use Rattle.oneshot_world.specs.declared.script.SenderScript.{SenderScript}
 use Rattle.oneshot_world.specs.declared.trace.Entry.{Entry}
 use Rattle.oneshot_world.specs.declared.trace.WakerName.TheVariants.{Parker, Copy}
 use Rattle.oneshot_world.specs.declared.trace.WakerPlace.TheVariants as W
-use Rattle.oneshot_world.proofs.Bools.{and_left, and_right, both}
 use Rattle.oneshot_world.proofs.Listed.{is_listed}
-use Rattle.oneshot_laws.specs.Entries.{is_reply}
 use Rattle.oneshot_laws.specs.Actions.{is_end_of_sender, is_drop_of_receiver}
 use Rattle.oneshot_laws.specs.Marks.{Mark, marks}
 use Rattle.oneshot_laws.specs.Ended.{has_answered}
-use Rattle.oneshot_laws.specs.Unwoken.{uses_copy_of, is_own, wakes, is_poll, begins_poll_or_drop, answers_pending, is_left_by, waits_in_task}
-use Rattle.oneshot_machine.specs.declared.machine.Reply.TheVariants as R
+use Rattle.oneshot_laws.specs.Unwoken.{uses_copy_of, is_own, is_poll, waits_in_task}
 use Rattle.oneshot_laws.proofs.Coding.{listed, pairs, by_parts, flags}
 use Rattle.oneshot_laws.proofs.EndedRuns.{own_after, or_more, or_false}
 use Rattle.oneshot_laws.proofs.Glanced.{Law, Passes, as_glance, of_call, with_history, LawExplored, all_glanced, passes_by}

@@ -1,39 +1,29 @@
 -- A waker that is followed by its class is on a path of allowed moves by its name.
-use Rattle.std.proofs.Common.{arith, ◌≡◌, ℕ, ◌+◌, ◌==◌, Bool, true, false, not, ◌&&◌, ◌||◌, List, [], ◌∷◌, Option, Some, None, map, get_or, nat_lt, refl, sym, ◌∙◌, ap, subst, if◌then◌else◌}
-use Rattle.std.proofs.lemmas.Bool.{eqb-true, ne_eqb, ltb-true, lt-ltb}
+use Rattle.std.proofs.Common.{◌≡◌, ℕ, ◌+◌, Bool, true, false, ◌&&◌, List, [], ◌∷◌, Option, Some, None, map, get_or, refl, sym, ◌∙◌, ap, subst, if◌then◌else◌}
 use Rattle.std.specs.List.{filter_map, cons_option}
 use Rattle.std.specs.Option.{option_map}
 use Rattle.oneshot_world.specs.Scripts.{calls_of}
-use Rattle.oneshot_world.specs.Classes.{Classes, all_alike, as_name, as_move}
-use Rattle.oneshot_world.specs.ControlCodes.{bool_code}
-use Rattle.oneshot_world.specs.Reached.{one_poll}
+use Rattle.oneshot_world.specs.Classes.{Classes, as_name, as_move}
 use Rattle.oneshot_world.specs.Wakers.{WakerMove, is_same_waker}
-use Rattle.oneshot_world.specs.World.{World, Tells, opening}
-use Rattle.oneshot_world.specs.declared.script.Move.{Move}
 use Rattle.oneshot_world.specs.declared.script.ReceiverScript.{ReceiverScript}
 use Rattle.oneshot_world.specs.declared.script.SenderScript.{SenderScript}
 use Rattle.oneshot_world.specs.declared.trace.Entry.{Entry}
 use Rattle.oneshot_world.specs.declared.trace.Entry.TheVariants.{Idle, Made as Made_entry}
 use Rattle.oneshot_world.specs.declared.trace.WakerName.{WakerName}
-use Rattle.oneshot_world.specs.declared.trace.WakerName.TheVariants.{Parker, Copy}
 use Rattle.oneshot_world.specs.declared.trace.WakerPlace.{WakerPlace}
 use Rattle.oneshot_world.specs.declared.trace.WakerPlace.TheVariants.{New, Hand, Cell, SenderHand, Used, Dropped}
-use Rattle.oneshot_world.proofs.Bools.{and_left, and_right, both}
-use Rattle.oneshot_world.proofs.ScriptsLeft.{or_right}
-use Rattle.oneshot_world.proofs.Listed.{is_listed}
+use Rattle.oneshot_world.proofs.Bools.{both}
 use Rattle.oneshot_laws.specs.Entries.{only_if}
 use Rattle.oneshot_laws.specs.Object.{Object}
 use Rattle.oneshot_laws.specs.Marks.{Reading, Mark, marks, marks_from}
 use Rattle.oneshot_laws.specs.Ended.{all_ended}
 use Rattle.oneshot_laws.specs.MessagePlaces.{is_path, last_place}
-use Rattle.oneshot_laws.specs.WakerPlaces.{waker_place_code, is_same_waker_place, is_waker_move, first_waker_place, waker_moves, moves_of, is_waker_followed, is_waker_end, is_waker_ended, AreWakersRight, is_cell, cell_then, is_cell_right, is_cell_kept}
-use Rattle.oneshot_laws.proofs.Coding.{listed, flags}
-use Rattle.oneshot_laws.proofs.EndedRuns.{Ending, PassesEnding, Asked, kept, own_after, asked_run, ended_run}
-use Rattle.oneshot_laws.proofs.Glanced.{Law, Passes, Nameless, as_glance, with_history, LawExplored, all_glanced, passes_by, Passed, passes_run}
+use Rattle.oneshot_laws.specs.WakerPlaces.{waker_place_code, is_same_waker_place, is_waker_move, first_waker_place, waker_moves, moves_of, is_waker_followed, is_waker_end, is_waker_ended}
+use Rattle.oneshot_laws.proofs.Coding.{listed}
+use Rattle.oneshot_laws.proofs.EndedRuns.{Ending, Asked, own_after}
+use Rattle.oneshot_laws.proofs.Glanced.{as_glance}
 use Rattle.oneshot_laws.proofs.Glances.{Glance, glance_of}
-use Rattle.oneshot_laws.proofs.Watched.{Names, no_names}
-use Rattle.oneshot_laws.proofs.WatchedRuns.{Classed}
-use Rattle.oneshot_laws.proofs.Fresh.{is_fresh}
+use Rattle.oneshot_laws.proofs.Watched.{Names}
 
 -- the moves that marks show
 abbrev pub shown_by : List Mark → List WakerMove

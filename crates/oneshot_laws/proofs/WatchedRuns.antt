@@ -1,50 +1,33 @@
 -- What the checker found of a reader beside the machines, each run of two scripts passes.
-use Rattle.std.proofs.Common.{◌≡◌, ℕ, ◌+◌, ◌==◌, if◌then◌else◌, Bool, true, false, ◌&&◌, List, [], ◌∷◌, Option, Some, None, refl, sym, ◌∙◌, ap, subst}
-use Rattle.std.proofs.lemmas.Bool.{eq-eqb}
-use Rattle.std.specs.List.{list_all, filter_map}
-use Rattle.std.specs.Option.{option_map, option_and_then}
+use Rattle.std.proofs.Common.{◌≡◌, ℕ, ◌+◌, Bool, true, false, List, [], ◌∷◌, None, refl, sym, subst}
+use Rattle.std.specs.List.{list_all}
+use Rattle.std.specs.Option.{option_and_then}
 use Rattle.oneshot_machine.specs.Receiver.{receiver_step}
 use Rattle.oneshot_machine.specs.Sender.{sender_step}
 use Rattle.oneshot_machine.specs.declared.machine.End.{End}
 use Rattle.oneshot_machine.specs.declared.machine.End.TheVariants.{Sender, Receiver}
-use Rattle.oneshot_machine.specs.declared.machine.Reply.{Reply}
-use Rattle.oneshot_machine.specs.declared.machine.Step.{Step}
-use Rattle.oneshot_machine.specs.declared.machine.Step.TheVariants as T
-use Rattle.oneshot_machine.specs.declared.states.Op.TheVariants as O
-use Rattle.oneshot_world.specs.Calls.{Call, Unanswered, first, left_by, number_of}
+use Rattle.oneshot_world.specs.Calls.{Call, first, number_of}
 use Rattle.oneshot_world.specs.Scripts.{calls_of}
-use Rattle.oneshot_world.specs.Classes.{Classes, all_alike, as_call, as_made, as_entry}
-use Rattle.oneshot_world.specs.Control.{Control, control_of, Begin, begins, control_turn, as_control}
-use Rattle.oneshot_world.specs.ControlCodes.{control_code, is_same_control}
-use Rattle.oneshot_world.specs.Reached.{opening_control, IsReached, one_poll, one_copy}
-use Rattle.oneshot_world.specs.Explore.{Tree, reach, is_in, all_in}
+use Rattle.oneshot_world.specs.Classes.{Classes, all_alike, as_made, as_entry}
+use Rattle.oneshot_world.specs.Control.{Control, control_of, begins, control_turn, as_control}
+use Rattle.oneshot_world.specs.Reached.{IsReached}
 use Rattle.oneshot_world.specs.State.{sender_stepped, receiver_stepped}
-use Rattle.oneshot_world.specs.Wakers.{WakerMove, waker_move, back_to}
-use Rattle.oneshot_world.specs.World.{World, Tells_from, Tells, opening, opening_place, side_of, by_end, nothing_told, told_with, receiver_told}
+use Rattle.oneshot_world.specs.World.{World, Tells_from, Tells, opening, opening_place, side_of, by_end, nothing_told, receiver_told}
 use Rattle.oneshot_world.specs.declared.script.Move.{Move}
 use Rattle.oneshot_world.specs.declared.script.ReceiverScript.{ReceiverScript}
 use Rattle.oneshot_world.specs.declared.script.SenderLast.{SenderLast}
 use Rattle.oneshot_world.specs.declared.script.SenderLast.TheVariants as SL
 use Rattle.oneshot_world.specs.declared.script.SenderScript.{SenderScript}
 use Rattle.oneshot_world.specs.declared.trace.Entry.{Entry}
-use Rattle.oneshot_world.specs.declared.trace.Entry.TheVariants.{Idle, Made as Made_entry}
 use Rattle.oneshot_world.specs.declared.trace.Made.{Made}
-use Rattle.oneshot_world.specs.declared.trace.Place.{Place}
-use Rattle.oneshot_world.specs.declared.trace.Place.TheVariants.{NotSent}
-use Rattle.oneshot_world.specs.declared.trace.WakerName.{WakerName}
-use Rattle.oneshot_world.specs.declared.trace.WakerName.TheVariants.{Parker, Copy}
-use Rattle.oneshot_world.specs.declared.trace.WakerPlace.TheVariants as W
-use Rattle.oneshot_world.specs.declared.wakers.Wakers.{Wakers}
 use Rattle.oneshot_world.proofs.Bools.{and_left, and_right}
-use Rattle.oneshot_world.proofs.ControlCodes.{control_is}
 use Rattle.oneshot_world.proofs.ExploreFound.{passes_where_found}
 use Rattle.oneshot_world.proofs.Listed.{is_listed}
 use Rattle.oneshot_world.proofs.ReachedLeads.{sender_passes, receiver_passes}
 use Rattle.oneshot_world.proofs.ReachedLeft.{sender_world, receiver_world, sender_control_is, receiver_control_is}
 use Rattle.oneshot_world.proofs.ReachedOpening.{opening_reached}
 use Rattle.oneshot_world.proofs.WorldTurns.{Turned, sender_idle, sender_made, receiver_idle, receiver_made, turned, turned_reaches}
-use Rattle.oneshot_laws.specs.Marks.{Mark, marks, or_stray, call_under_way}
-use Rattle.oneshot_laws.proofs.Coding.{Coding, pairs, by_parts}
+use Rattle.oneshot_laws.specs.Marks.{Mark, marks}
 use Rattle.oneshot_laws.proofs.Fresh.{is_fresh, move_fresh}
 use Rattle.oneshot_laws.proofs.Watched.{Watched, no_names, Automaton, watched_coding, reads_entry, begins_beside, opening_watched, is_watched_in, passes_on, Explored, class_under_way, Accepts_by}
 

@@ -3,18 +3,16 @@ use Rattle.std.proofs.Common.{◌≡◌, ℕ, List, [], ◌∷◌, ◌++◌, Opt
 use Rattle.oneshot_machine.specs.declared.machine.Reply.{Reply}
 use Rattle.oneshot_machine.specs.declared.machine.Seen.{Seen}
 use Rattle.oneshot_machine.specs.declared.machine.Step.{Step}
-use Rattle.oneshot_machine.specs.declared.machine.receiver.ReceiverPos.TheVariants.{Look, Ref, Timed, Value, Drop}
-use Rattle.oneshot_machine.specs.declared.machine.look.LookPos.TheVariants.{Close, Take, CloseOnly}
-use Rattle.oneshot_machine.specs.declared.machine.by_ref.RefPos.TheVariants.{StartLoad, StartWrite, StartSwap, BackFull, BackClosed, Park, ParkLoad}
-use Rattle.oneshot_machine.specs.declared.machine.timed.TimedPos.TheVariants.{Clock, TimedPark, TimedLoad, EndSwap, EndBack, LatePark, LateLoad}
-use Rattle.oneshot_machine.specs.declared.machine.value.ValuePos.TheVariants.{RecvWrite, RecvSwap, RecvBackClosed, RecvPark, RecvParkLoad, RecvTake, RecvFreeGot, RecvFreeGone}
-use Rattle.oneshot_machine.specs.declared.machine.drop.DropPos.TheVariants.{DropMessage, DropFree}
-use Rattle.oneshot_machine.specs.declared.machine.sender.SenderPos.TheVariants.{SendAdd, SendTakeWaker, SendFinal, SendWake, SendLateWake, DropTakeWaker, DropFinal, DropWake, DropLateWake, IntoFree, ErrorFree}
-use Rattle.oneshot_machine.specs.declared.machine.sender.SenderPos.TheVariants as SP
+use Rattle.oneshot_machine.specs.declared.machine.receiver.ReceiverPos.TheVariants.{Look, Ref, Timed, Drop}
+use Rattle.oneshot_machine.specs.declared.machine.look.LookPos.TheVariants.{Close}
+use Rattle.oneshot_machine.specs.declared.machine.by_ref.RefPos.TheVariants.{StartLoad, StartWrite, StartSwap, Park, ParkLoad}
+use Rattle.oneshot_machine.specs.declared.machine.timed.TimedPos.TheVariants.{Clock, TimedPark, TimedLoad, EndSwap}
+use Rattle.oneshot_machine.specs.declared.machine.drop.DropPos.TheVariants.{DropMessage}
+use Rattle.oneshot_machine.specs.declared.machine.sender.SenderPos.TheVariants.{SendAdd, SendTakeWaker, SendFinal}
 use Rattle.oneshot_machine.specs.Logs.{Event, clocked}
 use Rattle.oneshot_machine.specs.TableRows.{Outcome, Goes, Answers}
 use Rattle.oneshot_machine.specs.Runs.{Run, last, more}
-use Rattle.oneshot_machine.specs.Examples.{SenderLists, ReceiverLists, ReceiverRun, waited_once, running_out, RunsThatAre, RunsThatAreNot}
+use Rattle.oneshot_machine.specs.Examples.{ReceiverRun, waited_once, running_out, RunsThatAreNot}
 
 module _ {P : Type 0} {step : P → Step} {row : P → Seen → Option (Outcome P)} where
   -- a run's first step is its position's

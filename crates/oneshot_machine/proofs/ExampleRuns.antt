@@ -1,8 +1,5 @@
 -- The examples, computed.
-use Rattle.std.proofs.Common.{◌≡◌, ℕ, List, [], ◌∷◌, ◌++◌, Option, Some, true, false, refl, subst}
-use Rattle.oneshot_machine.specs.declared.machine.Reply.{Reply}
-use Rattle.oneshot_machine.specs.declared.machine.Seen.{Seen}
-use Rattle.oneshot_machine.specs.declared.machine.Step.{Step}
+use Rattle.std.proofs.Common.{true, false, refl}
 use Rattle.oneshot_machine.specs.declared.machine.receiver.ReceiverPos.TheVariants.{Look, Ref, Timed, Value, Drop}
 use Rattle.oneshot_machine.specs.declared.machine.look.LookPos.TheVariants.{Close, Take, CloseOnly}
 use Rattle.oneshot_machine.specs.declared.machine.by_ref.RefPos.TheVariants.{StartLoad, StartWrite, StartSwap, BackFull, BackClosed, Park, ParkLoad}
@@ -11,10 +8,8 @@ use Rattle.oneshot_machine.specs.declared.machine.value.ValuePos.TheVariants.{Re
 use Rattle.oneshot_machine.specs.declared.machine.drop.DropPos.TheVariants.{DropMessage, DropFree}
 use Rattle.oneshot_machine.specs.declared.machine.sender.SenderPos.TheVariants.{SendAdd, SendTakeWaker, SendFinal, SendWake, SendLateWake, DropTakeWaker, DropFinal, DropWake, DropLateWake, IntoFree, ErrorFree}
 use Rattle.oneshot_machine.specs.declared.machine.sender.SenderPos.TheVariants as SP
-use Rattle.oneshot_machine.specs.Logs.{Event, clocked}
-use Rattle.oneshot_machine.specs.TableRows.{Outcome, Goes, Answers}
-use Rattle.oneshot_machine.specs.Runs.{Run, last, more}
-use Rattle.oneshot_machine.specs.Examples.{SenderLists, ReceiverLists, ReceiverRun, waited_once, running_out, RunsThatAre, RunsThatAreNot}
+use Rattle.oneshot_machine.specs.Runs.{last, more}
+use Rattle.oneshot_machine.specs.Examples.{SenderLists, ReceiverLists, RunsThatAre}
 
 pub sender_lists : SenderLists
 sender_lists =

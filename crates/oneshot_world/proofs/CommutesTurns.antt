@@ -1,6 +1,6 @@
 -- What a turn does is the same by classes: a step asks of a waker only whether it is the parker's half, and
 -- of a poll nothing.
-use Rattle.std.proofs.Common.{◌≡◌, ℕ, Bool, true, false, Option, Some, None, refl, ◌∙◌, ap, ◌==◌, is_some, is_none, if◌then◌else◌}
+use Rattle.std.proofs.Common.{◌≡◌, Bool, true, false, Option, Some, None, refl, ap, if◌then◌else◌}
 use Rattle.std.specs.Option.{option_map, option_and_then}
 use Rattle.oneshot_machine.specs.Receiver.{receiver_step, receiver_row}
 use Rattle.oneshot_machine.specs.TableRows.{Outcome}
@@ -14,11 +14,11 @@ use Rattle.oneshot_machine.specs.declared.machine.receiver.ReceiverPos.{Receiver
 use Rattle.oneshot_machine.specs.declared.machine.sender.SenderPos.{SenderPos}
 use Rattle.oneshot_machine.specs.declared.states.Op.TheVariants as O
 use Rattle.oneshot_world.specs.Calls.{Call, Poll, as_sender_call, as_receiver_call}
-use Rattle.oneshot_world.specs.Classes.{Classes, as_name, as_wakers, as_told, as_state, as_call, as_move, as_made, as_turned}
+use Rattle.oneshot_world.specs.Classes.{Classes, as_name, as_wakers, as_told, as_state, as_call, as_made, as_turned}
 use Rattle.oneshot_world.specs.Control.{Control, Begin, control_then, control_turn, sender_under_way, receiver_under_way, as_begin, as_control, as_control_turned}
 use Rattle.oneshot_world.specs.State.{turns, sender_turns_at, receiver_turns_at, sender_stands, receiver_stands, sender_stepped, sender_moved, receiver_moved, receiver_stepped, made, made_entry, sender_fits, receiver_fits, hand_kept}
 use Rattle.oneshot_world.specs.Effects.{seen_by, reply_of, is_future, sender_puts, receiver_puts}
-use Rattle.oneshot_world.specs.Wakers.{is_parker, is_copy, withdrawn, back_to, wakers_left, waker_move, sets_token, own_of}
+use Rattle.oneshot_world.specs.Wakers.{wakers_left, sets_token, own_of}
 use Rattle.oneshot_world.specs.declared.state.ReceiverState.{ReceiverState}
 use Rattle.oneshot_world.specs.declared.state.ReceiverState.TheVariants as RS
 use Rattle.oneshot_world.specs.declared.state.SenderState.{SenderState}
@@ -27,10 +27,6 @@ use Rattle.oneshot_world.specs.declared.state.State.{State}
 use Rattle.oneshot_world.specs.declared.trace.Entry.{Entry}
 use Rattle.oneshot_world.specs.declared.trace.Made.{Made}
 use Rattle.oneshot_world.specs.declared.trace.Place.{Place}
-use Rattle.oneshot_world.specs.declared.trace.WakerName.{WakerName}
-use Rattle.oneshot_world.specs.declared.trace.WakerName.TheVariants.{Parker, Copy}
-use Rattle.oneshot_world.specs.declared.trace.WakerPlace.{WakerPlace}
-use Rattle.oneshot_world.specs.declared.trace.WakerPlace.TheVariants as WakerPlaces
 use Rattle.oneshot_world.specs.declared.wakers.Told.{Told}
 use Rattle.oneshot_world.specs.declared.wakers.Wakers.{Wakers}
 use Rattle.oneshot_world.proofs.CommutesWakers.{some_as, none_as, copy_as, parker_as, wakers_as, waker_moved_as}

@@ -1,27 +1,22 @@
 -- A turn from a world that a run reaches leads to what a run reaches, as its finite part shows it.
-use Rattle.std.proofs.Common.{◌≡◌, ◌≤◌, ◌==◌, ℕ, Bool, true, false, List, [], ◌∷◌, Option, Some, None, refl, sym, ◌∙◌, ap, subst, ◌&&◌, ◌||◌, nat_le, if◌then◌else◌}
+use Rattle.std.proofs.Common.{◌≡◌, ◌≤◌, ◌==◌, ℕ, Bool, true, false, List, Option, Some, None, refl, ◌∙◌, ap, subst, ◌&&◌, ◌||◌, nat_le, if◌then◌else◌}
 use Rattle.std.proofs.lemmas.Bool.{leb-true}
 use Rattle.std.specs.List.{list_all}
 use Rattle.std.specs.Option.{option_map, IsSome}
-use Rattle.oneshot_machine.specs.Receiver.{receiver_step, receiver_row}
-use Rattle.oneshot_machine.specs.TableRows.{Outcome, Goes, Answers}
-use Rattle.oneshot_machine.specs.Sender.{sender_step, sender_row}
 use Rattle.oneshot_machine.specs.declared.machine.End.TheVariants.{Sender, Receiver}
 use Rattle.oneshot_machine.specs.declared.machine.Reply.{Reply}
 use Rattle.oneshot_machine.specs.declared.machine.Reply.TheVariants as Replies
-use Rattle.oneshot_machine.specs.declared.machine.Step.{Step}
 use Rattle.oneshot_machine.specs.declared.machine.receiver.ReceiverPos.{ReceiverPos}
 use Rattle.oneshot_machine.specs.declared.machine.sender.SenderPos.{SenderPos}
-use Rattle.oneshot_world.specs.Calls.{Call, Poll, Unanswered, first, rest, is_none_left, left_by}
-use Rattle.oneshot_world.specs.Classes.{Classes, all_alike, as_call}
-use Rattle.oneshot_world.specs.Control.{Control, control_of, Begin, begins, as_begin, as_control, as_control_turned, sender_begins, sender_under_way, receiver_under_way, control_then, control_turn}
+use Rattle.oneshot_world.specs.Calls.{Call, first}
+use Rattle.oneshot_world.specs.Classes.{Classes, all_alike}
+use Rattle.oneshot_world.specs.Control.{Control, control_of, Begin, begins, as_begin, as_control, as_control_turned, sender_begins, control_then, control_turn}
 use Rattle.oneshot_world.specs.Reached.{one_poll, one_copy, reached, is_reached, IsReached}
 use Rattle.oneshot_world.specs.ControlCodes.{bool_code, control_code, is_same_control}
-use Rattle.oneshot_world.specs.ScriptsLeft.{is_sender_script, is_error_script, has_script, sender_has, receiver_has}
 use Rattle.oneshot_world.specs.Scripts.{stays_sender, ends_sender, stays_error, ends_error}
 use Rattle.oneshot_world.specs.Explore.{all_in}
-use Rattle.oneshot_world.specs.State.{sender_turns_at, receiver_turns_at, sender_stands, receiver_stands, sender_steps, receiver_steps, sender_moved, sender_stepped, receiver_moved, receiver_stepped, made_entry, sender_fits, receiver_fits}
-use Rattle.oneshot_world.specs.Effects.{place_left, reply_of, sender_goes, receiver_goes, is_plain, is_free, is_future, seen_by, sender_puts, receiver_puts}
+use Rattle.oneshot_world.specs.State.{sender_turns_at, receiver_turns_at, sender_stands, receiver_stands, sender_steps, receiver_steps, made_entry}
+use Rattle.oneshot_world.specs.Effects.{is_future}
 use Rattle.oneshot_world.specs.World.{World, by_end, reply_in, nothing_told, receiver_told}
 use Rattle.oneshot_world.specs.declared.state.ReceiverState.{ReceiverState}
 use Rattle.oneshot_world.specs.declared.state.ReceiverState.TheVariants as RS
@@ -30,14 +25,12 @@ use Rattle.oneshot_world.specs.declared.state.SenderState.TheVariants as SS
 use Rattle.oneshot_world.specs.declared.state.State.{State}
 use Rattle.oneshot_world.specs.declared.trace.Entry.{Entry}
 use Rattle.oneshot_world.specs.declared.trace.Made.{Made}
-use Rattle.oneshot_world.specs.declared.trace.Place.{Place}
 use Rattle.oneshot_world.specs.declared.trace.Place.TheVariants.{NotSent}
 use Rattle.oneshot_world.proofs.Bools.{and_left, and_right, all_left, all_right}
-use Rattle.oneshot_world.specs.declared.wakers.Told.{Told}
 use Rattle.oneshot_world.proofs.CommutesTurns.{control_turn_as}
-use Rattle.oneshot_world.proofs.ControlCodes.{bool_is, control_is}
+use Rattle.oneshot_world.proofs.ControlCodes.{control_is}
 use Rattle.oneshot_world.proofs.Listed.{is_listed}
-use Rattle.oneshot_world.proofs.ScriptsLeft.{either_stays, script_stays, sender_still_has, sender_has_script, receiver_has_script, sender_goes_on, error_goes_on, sender_ends, becomes_future, ends_either, receiver_goes_on, receiver_ends}
+use Rattle.oneshot_world.proofs.ScriptsLeft.{becomes_future, ends_either}
 use Rattle.oneshot_world.proofs.ExploreFound.{passes_where_found}
 use Rattle.oneshot_world.proofs.ReachedBegins.{at_sender, at_receiver, receives_at}
 

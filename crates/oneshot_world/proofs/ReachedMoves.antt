@@ -1,45 +1,30 @@
 -- Each move from a world that a run reaches has its row, and leads to a world that a run reaches.
-use Rattle.std.proofs.Common.{◌≡◌, ◌≤◌, ◌==◌, ℕ, Bool, true, false, List, [], ◌∷◌, Option, Some, None, refl, sym, ◌∙◌, ap, subst, ◌&&◌, ◌||◌, nat_le, if◌then◌else◌}
-use Rattle.std.proofs.lemmas.Bool.{leb-true}
-use Rattle.std.specs.List.{list_all}
+use Rattle.std.proofs.Common.{◌≡◌, ℕ, Bool, true, Option, Some, None, refl, sym, ◌∙◌, ap, subst}
 use Rattle.std.specs.Option.{option_map, IsSome}
 use Rattle.oneshot_machine.specs.Receiver.{receiver_step, receiver_row}
-use Rattle.oneshot_machine.specs.TableRows.{Outcome, Goes, Answers}
+use Rattle.oneshot_machine.specs.TableRows.{Outcome}
 use Rattle.oneshot_machine.specs.Sender.{sender_step, sender_row}
 use Rattle.oneshot_machine.specs.declared.machine.End.TheVariants.{Sender, Receiver}
 use Rattle.oneshot_machine.specs.declared.machine.Reply.{Reply}
 use Rattle.oneshot_machine.specs.declared.machine.Reply.TheVariants as Replies
-use Rattle.oneshot_machine.specs.declared.machine.Step.{Step}
 use Rattle.oneshot_machine.specs.declared.machine.receiver.ReceiverPos.{ReceiverPos}
 use Rattle.oneshot_machine.specs.declared.machine.sender.SenderPos.{SenderPos}
-use Rattle.oneshot_world.specs.Calls.{Call, Poll, Unanswered, first, rest, is_none_left, left_by}
+use Rattle.oneshot_world.specs.Calls.{Call, Poll, first, left_by}
 use Rattle.oneshot_world.specs.Classes.{Classes, all_alike, as_call}
-use Rattle.oneshot_world.specs.Control.{Control, control_of, Begin, begins, as_begin, as_control, as_control_turned, sender_begins, sender_under_way, receiver_under_way, control_then, control_turn}
-use Rattle.oneshot_world.specs.Reached.{one_poll, one_copy, reached, is_reached, IsReached}
-use Rattle.oneshot_world.specs.ControlCodes.{bool_code, control_code, is_same_control}
-use Rattle.oneshot_world.specs.ScriptsLeft.{is_sender_script, is_error_script, has_script, sender_has, receiver_has}
-use Rattle.oneshot_world.specs.Scripts.{stays_sender, ends_sender, stays_error, ends_error}
-use Rattle.oneshot_world.specs.Explore.{all_in}
-use Rattle.oneshot_world.specs.State.{sender_turns_at, receiver_turns_at, sender_stands, receiver_stands, sender_steps, receiver_steps, sender_moved, sender_stepped, receiver_moved, receiver_stepped, made_entry, sender_fits, receiver_fits}
-use Rattle.oneshot_world.specs.Effects.{place_left, reply_of, sender_goes, receiver_goes, is_plain, is_free, is_future, seen_by, sender_puts, receiver_puts}
-use Rattle.oneshot_world.specs.World.{World, by_end, reply_in, nothing_told, receiver_told}
+use Rattle.oneshot_world.specs.Control.{control_of, as_begin, as_control, control_then}
+use Rattle.oneshot_world.specs.Reached.{is_reached, IsReached}
+use Rattle.oneshot_world.specs.State.{sender_steps, receiver_steps, sender_moved, sender_stepped, receiver_moved, receiver_stepped, sender_fits, receiver_fits}
+use Rattle.oneshot_world.specs.Effects.{reply_of, sender_goes, receiver_goes, seen_by}
+use Rattle.oneshot_world.specs.World.{World, nothing_told, receiver_told}
 use Rattle.oneshot_world.specs.declared.state.ReceiverState.{ReceiverState}
 use Rattle.oneshot_world.specs.declared.state.ReceiverState.TheVariants as RS
 use Rattle.oneshot_world.specs.declared.state.SenderState.{SenderState}
 use Rattle.oneshot_world.specs.declared.state.SenderState.TheVariants as SS
 use Rattle.oneshot_world.specs.declared.state.State.{State}
-use Rattle.oneshot_world.specs.declared.trace.Entry.{Entry}
 use Rattle.oneshot_world.specs.declared.trace.Made.{Made}
-use Rattle.oneshot_world.specs.declared.trace.Place.{Place}
-use Rattle.oneshot_world.specs.declared.trace.Place.TheVariants.{NotSent}
-use Rattle.oneshot_world.proofs.Bools.{and_left, and_right, all_left, all_right}
+use Rattle.oneshot_world.proofs.Bools.{and_left, and_right}
 use Rattle.oneshot_world.specs.declared.wakers.Told.{Told}
-use Rattle.oneshot_world.proofs.CommutesTurns.{control_turn_as}
-use Rattle.oneshot_world.proofs.ControlCodes.{bool_is, control_is}
-use Rattle.oneshot_world.proofs.Listed.{is_listed}
-use Rattle.oneshot_world.proofs.ScriptsLeft.{either_stays, script_stays, sender_still_has, sender_has_script, receiver_has_script, sender_goes_on, error_goes_on, sender_ends, becomes_future, ends_either, receiver_goes_on, receiver_ends}
-use Rattle.oneshot_world.proofs.ExploreFound.{passes_where_found}
-use Rattle.oneshot_world.proofs.ReachedBegins.{at_sender, at_receiver, receives_at}
+use Rattle.oneshot_world.proofs.ScriptsLeft.{sender_has_script, receiver_has_script}
 use Rattle.oneshot_world.proofs.ReachedLeads.{left_as, sender_left_by_its_call, ends_right, receiver_left_by_its_call, leads_on, sender_at, receiver_at, sender_begin, receiver_begin, after_sender, after_receiver, sender_leads, receiver_leads, made_if, from_row}
 use Rattle.oneshot_world.proofs.ReachedLeft.{sender_world, receiver_world, sender_stays_reached, receiver_stays_reached}
 
