@@ -12,7 +12,8 @@ use Rattle.oneshot_laws.proofs.Coding.{pairs, by_parts, or_none, both_ends}
 use Rattle.oneshot_laws.proofs.Glanced.{Law, Passes, Nameless, nameless_of, LawExplored, all_glanced, passed, holds_by}
 use Rattle.oneshot_laws.proofs.Glances.{Glance, glance_of}
 use Rattle.oneshot_laws.proofs.HistoryReader.{objects}
-use Rattle.oneshot_laws.proofs.Watched.{no_names, EachRun}
+use Rattle.oneshot_laws.proofs.Watched.{no_names}
+use Rattle.oneshot_laws.proofs.WatchedRuns.{EachRun}
 
 -- the call beside which the other end has made no step, and the object on which it began
 pub data Lone : Type 0 where

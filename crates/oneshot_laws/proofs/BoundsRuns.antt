@@ -1,6 +1,6 @@
 -- Each call makes no more operations on the word than its bound: the reader counts down, for each end, what
 -- its call has left.
-use Rattle.std.proofs.Common.{◌≡◌, ℕ, zero, suc, Bool, true, false, not, ◌&&◌, ◌||◌, List, [], ◌∷◌, map, Option, Some, None, refl, ◌∙◌, ap, if◌then◌else◌}
+use Rattle.std.proofs.Common.{◌≡◌, ℕ, zero, suc, Bool, true, false, not, ◌&&◌, ◌||◌, List, [], ◌∷◌, map, Some, None, refl, ◌∙◌, ap, if◌then◌else◌}
 use Rattle.oneshot_machine.specs.declared.machine.End.{End}
 use Rattle.oneshot_machine.specs.declared.machine.End.TheVariants.{Sender, Receiver}
 use Rattle.oneshot_machine.specs.declared.machine.receiver.ReceiverStart.TheVariants as RC
@@ -9,113 +9,14 @@ use Rattle.oneshot_world.specs.Calls.{Call, Of_sender, Of_receiver, Poll}
 use Rattle.oneshot_world.specs.Classes.{Classes, as_call, as_made}
 use Rattle.oneshot_world.specs.declared.trace.Made.{Made}
 use Rattle.oneshot_world.proofs.Bools.{and_left, and_right, both}
-use Rattle.oneshot_laws.specs.Entries.{is_same_end, is_word}
+use Rattle.oneshot_laws.specs.Entries.{is_same_end}
 use Rattle.oneshot_laws.specs.Object.{is_same_flag}
 use Rattle.oneshot_laws.specs.Marks.{Mark, side, call_marks, until_reply}
 use Rattle.oneshot_laws.specs.Bounds.{at_most, operates, is_within_its_bound, is_bounded, are_calls_bounded}
-use Rattle.oneshot_laws.proofs.Coding.{Coding, pairs, by_parts, or_none, numbers_below}
-use Rattle.oneshot_laws.proofs.Glanced.{Law, Passes, Nameless, of_call, LawExplored, all_glanced, passed, holds_by}
-use Rattle.oneshot_laws.proofs.Glances.{Glance, glance_of}
-use Rattle.oneshot_laws.proofs.Watched.{no_names, EachRun}
-
--- what an end's call has left: no call is under way, or it has no bound, or so many operations
-pub data Left : Type 0 where
-  Resting : Left
-  Unbounded : Left
-  Counted : ℕ → Left
-
--- what a call has that begins
-abbrev begun : Call → Left
-begun (Of_sender SC.Send) = Counted 2
-begun (Of_sender SC.Drop) = Counted 2
-begun (Of_receiver RC.TryRecv) = Counted 2
-begun (Of_receiver RC.AsyncTryRecv) = Counted 2
-begun (Poll number) = Counted 4
-begun (Of_receiver RC.DropAsync) = Counted 3
-begun _ = Unbounded
-
-abbrev under_way : Call → Left → Left
-under_way call Resting = begun call
-under_way call left = left
-
-abbrev is_resting : Left → Bool
-is_resting Resting = true
-is_resting _ = false
-
-abbrev pub can : ℕ → Bool → Bool
-can (suc n) b = true
-can zero b = not b
-
-abbrev pub spend : ℕ → Bool → ℕ
-spend zero b = zero
-spend (suc n) b = if b then n else suc n
-
-abbrev may_make : Left → Made → Bool
-may_make (Counted n) e = can n (is_word e.step)
-may_make _ e = true
-
-abbrev spent : Left → Made → Left
-spent (Counted n) e = Counted (spend n (is_word e.step))
-spent left e = left
-
-abbrev left_then : Left → Call → Made → Left
-left_then left call e = until_reply e.reply (spent (under_way call left) e) Resting
-
--- what both ends have left
-pub record Budget : Type 0 where
-  pub sender : Left
-  pub receiver : Left
-
-abbrev left_by : End → Budget → Left
-left_by Sender x = x.sender
-left_by Receiver x = x.receiver
-
-abbrev left_at : End → Left → Budget → Budget
-left_at Sender left x = record { sender = left; receiver = x.receiver }
-left_at Receiver left x = record { sender = x.sender; receiver = left }
-
--- a call begins just where none is under way, and makes what it may
-abbrev fits : Left → Bool → Call → Made → Bool
-fits left begins call e = is_same_flag begins (is_resting left) && may_make (under_way call left) e
-
-abbrev goes_on_within : Budget → Glance → Bool
-goes_on_within x g = fits (left_by g.entry.side x) g.begins g.call g.entry
-
-abbrev budget_then : Budget → Glance → Budget
-budget_then x g = left_at g.entry.side (left_then (left_by g.entry.side x) g.call g.entry) x
-
-abbrev left_parts : Left → Option (Option ℕ)
-left_parts Resting = None
-left_parts Unbounded = Some None
-left_parts (Counted n) = Some (Some n)
-
-abbrev left_of : Option (Option ℕ) → Left
-left_of None = Resting
-left_of (Some None) = Unbounded
-left_of (Some (Some n)) = Counted n
-
-left_back : (left : Left) → left_of (left_parts left) ≡ left
-left_back Resting = refl
-left_back Unbounded = refl
-left_back (Counted n) = refl
-
-abbrev lefts : Coding Left
-lefts = by_parts left_parts left_of left_back (or_none (or_none (numbers_below 5)))
-
-abbrev at_rest : Budget
-at_rest = record { sender = Resting; receiver = Resting }
-
-abbrev budget_law : Law Budget
-budget_law =
-    record {
-      coding =
-          by_parts (λ x. (x.sender, x.receiver)) (λ p. record { sender = p.0; receiver = p.1 }) (λ x. refl)
-          (pairs lefts lefts);
-      passes = goes_on_within;
-      sees = budget_then;
-      names = no_names;
-      first = λ place. at_rest;
-    }
+use Rattle.oneshot_laws.proofs.Glanced.{Passes, Nameless, of_call, LawExplored, all_glanced, passed, holds_by}
+use Rattle.oneshot_laws.proofs.Glances.{glance_of}
+use Rattle.oneshot_laws.proofs.WatchedRuns.{EachRun}
+use Rattle.oneshot_laws.proofs.Budgets.{Left, Resting, Unbounded, Counted, begun, under_way, is_resting, can, spend, may_make, spent, left_then, Budget, left_by, left_at, fits, budget_then, at_rest, budget_law}
 
 -- one more mark of a call
 pub pay : (test : Mark → Bool) (n : ℕ) (m : Mark) (later : List Mark) → can n (test m) ≡ true

@@ -9,11 +9,13 @@ use Rattle.oneshot_world.proofs.Bools.{and_left, and_right, both}
 use Rattle.oneshot_laws.specs.Entries.{is_same_end, is_word}
 use Rattle.oneshot_laws.specs.Marks.{Mark, finishes, call_marks, until_reply}
 use Rattle.oneshot_laws.specs.Bounds.{at_most, operates, is_senders_last, each_move, answers_soon, is_soon_answered}
-use Rattle.oneshot_laws.proofs.BoundsRuns.{can, spend, pay, no_more}
+use Rattle.oneshot_laws.proofs.Budgets.{can, spend}
+use Rattle.oneshot_laws.proofs.BoundsRuns.{pay, no_more}
 use Rattle.oneshot_laws.proofs.Coding.{pairs, by_parts, flags, numbers_below}
 use Rattle.oneshot_laws.proofs.Glanced.{Law, Passes, Nameless, LawExplored, all_glanced, passed, holds_by}
 use Rattle.oneshot_laws.proofs.Glances.{Glance, glance_of}
-use Rattle.oneshot_laws.proofs.Watched.{no_names, EachRun}
+use Rattle.oneshot_laws.proofs.Watched.{no_names}
+use Rattle.oneshot_laws.proofs.WatchedRuns.{EachRun}
 
 -- whether the sender is done with the word, and what the receiver's call has left since
 pub record Rest : Type 0 where

@@ -24,7 +24,8 @@ use Rattle.oneshot_laws.proofs.Coding.{Coding, pairs, by_parts}
 use Rattle.oneshot_laws.proofs.Glances.{Glance, glance_of, glance_at, glances}
 use Rattle.oneshot_laws.proofs.HistoryReader.{Receives, hits, object_as, Reader, Watch, new_reader, watch_at, accepts, reads, readers, histories, histories_nameless}
 use Rattle.oneshot_laws.proofs.HistoryRuns.{marks_run}
-use Rattle.oneshot_laws.proofs.Watched.{Watched, all_watched, Names, no_names, Automaton, Explored, class_under_way, class_is, reads_alike, Accepts_by, left_after, Classed, all_classed, accepted_run, EachRun}
+use Rattle.oneshot_laws.proofs.Watched.{Watched, all_watched, Names, no_names, Automaton, Explored, class_under_way, class_is, reads_alike, Accepts_by, left_after}
+use Rattle.oneshot_laws.proofs.WatchedRuns.{Classed, all_classed, accepted_run, EachRun}
 
 -- the reader of histories, and the law's own state
 pub record Pair (N : Type 0) : Type 0 where

@@ -12,10 +12,12 @@ use Rattle.oneshot_world.specs.declared.trace.Entry.{Entry}
 use Rattle.oneshot_laws.specs.Marks.{marks, sender_reading, receiver_reading, call_under_way}
 use Rattle.oneshot_laws.specs.History.{has_legal_history}
 use Rattle.oneshot_laws.proofs.HistoryReader.{new_reader, new_watch, histories, histories_nameless}
-use Rattle.oneshot_laws.proofs.HistoryAccepted.{FollowsAt, MarksRight, all_right, legal}
+use Rattle.oneshot_laws.proofs.HistoryEntries.{FollowsAt}
+use Rattle.oneshot_laws.proofs.HistoryAccepted.{MarksRight, all_right, legal}
 use Rattle.oneshot_laws.proofs.Glances.{glances}
 use Rattle.oneshot_laws.proofs.HistoryOwed.{Accepted}
-use Rattle.oneshot_laws.proofs.Watched.{Explored, all_watched, alike, all_classed, accepted_run}
+use Rattle.oneshot_laws.proofs.Watched.{Explored, all_watched, alike}
+use Rattle.oneshot_laws.proofs.WatchedRuns.{all_classed, accepted_run}
 
 explored : Explored histories
 explored = record { found = all_watched histories; all = refl }

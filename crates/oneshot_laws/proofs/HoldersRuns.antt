@@ -14,7 +14,8 @@ use Rattle.oneshot_laws.proofs.EndedRuns.{Ending, kept, own_after, nothing_asked
 use Rattle.oneshot_laws.proofs.Glanced.{Law, Passes, Nameless, nameless_of, Passed, holds_by}
 use Rattle.oneshot_laws.proofs.Glances.{Glance, glance_of}
 use Rattle.oneshot_laws.proofs.MarksAfterEach.{ever_law, ever_after}
-use Rattle.oneshot_laws.proofs.Watched.{no_names, EachRun}
+use Rattle.oneshot_laws.proofs.Watched.{no_names}
+use Rattle.oneshot_laws.proofs.WatchedRuns.{EachRun}
 
 abbrev uses : Glance → Bool
 uses g = is_word g.entry.step || is_on_a_cell g.entry.step || is_free g.entry.step

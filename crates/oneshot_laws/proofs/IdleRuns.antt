@@ -22,7 +22,7 @@ use Rattle.oneshot_world.specs.declared.state.SenderState.TheVariants as SS
 use Rattle.oneshot_world.specs.declared.trace.Entry.{Entry}
 use Rattle.oneshot_world.specs.declared.trace.Place.{Place}
 use Rattle.oneshot_world.proofs.Bools.{both}
-use Rattle.oneshot_world.proofs.ReachedMoves.{sender_world, receiver_world}
+use Rattle.oneshot_world.proofs.ReachedLeft.{sender_world, receiver_world}
 use Rattle.oneshot_world.proofs.ReachedOpening.{opening_reached}
 use Rattle.oneshot_world.proofs.WorldTurns.{Turned, sender_idle, sender_made, receiver_idle, receiver_made, turned, turned_reaches}
 use Rattle.oneshot_laws.specs.Idle.{is_idle_right_from, is_idle_right}

@@ -1,9 +1,13 @@
 -- That every run keeps each definition: first what reads traces, then a noun of `specs/` after the other.
 pub mod Coding
+pub mod Fresh
 pub mod Watched
+pub mod WatchedRuns
 pub mod HistoryReader
 pub mod Glances
 pub mod HistoryOwed
+pub mod HistoryEntries
+pub mod HistoryCalls
 pub mod HistoryAccepted
 pub mod HistoryRuns
 pub mod Glanced
@@ -12,8 +16,12 @@ pub mod EndedRuns
 pub mod IdleRuns
 pub mod MessagePlacesRuns
 pub mod MessagePlacesPut
+pub mod WakerPaths
 pub mod WakerPlacesRuns
+pub mod WakerCellRuns
+pub mod Naps
 pub mod UnwokenTasks
+pub mod UnwokenParks
 pub mod UnwokenRuns
 pub mod HoldersRuns
 pub mod RepliesAfterwards
@@ -21,6 +29,7 @@ pub mod RepliesNextReceive
 pub mod RepliesNothingYet
 pub mod RepliesDroppedOnce
 pub mod AloneRuns
+pub mod Budgets
 pub mod BoundsRuns
 pub mod BoundsSoon
 pub mod TogetherPlaces

@@ -7,7 +7,8 @@ use Rattle.oneshot_laws.specs.Marks.{Mark, after_each}
 use Rattle.oneshot_laws.proofs.Coding.{flags}
 use Rattle.oneshot_laws.proofs.Glanced.{Law, Passes, Nameless, Passed, holds_by}
 use Rattle.oneshot_laws.proofs.Glances.{Glance, glance_of}
-use Rattle.oneshot_laws.proofs.Watched.{no_names, EachRun}
+use Rattle.oneshot_laws.proofs.Watched.{no_names}
+use Rattle.oneshot_laws.proofs.WatchedRuns.{EachRun}
 
 -- what was asked of this and of all that follows
 ever : (after test good later : Bool) → only_if after good ≡ true → only_if (after || test) later ≡ true

@@ -6,7 +6,8 @@ use Rattle.oneshot_laws.specs.MessagePlaces.{may_put, is_message_put}
 use Rattle.oneshot_laws.proofs.Coding.{flags}
 use Rattle.oneshot_laws.proofs.Glanced.{Law, Passes, Nameless, nameless_of, Passed, holds_by}
 use Rattle.oneshot_laws.proofs.Glances.{Glance, glance_of}
-use Rattle.oneshot_laws.proofs.Watched.{no_names, EachRun}
+use Rattle.oneshot_laws.proofs.Watched.{no_names}
+use Rattle.oneshot_laws.proofs.WatchedRuns.{EachRun}
 
 -- a law that looks at each mark alone: its state says nothing
 abbrev puts : Bool → Glance → Bool

@@ -11,7 +11,7 @@ use Rattle.oneshot_laws.specs.Replies.{is_gone_after_got, is_gone_after_closed, 
 use Rattle.oneshot_laws.proofs.Glanced.{Law, Nameless, nameless_of, Passed}
 use Rattle.oneshot_laws.proofs.Glances.{Glance}
 use Rattle.oneshot_laws.proofs.MarksAfterEach.{ever_law, ever_after}
-use Rattle.oneshot_laws.proofs.Watched.{EachRun}
+use Rattle.oneshot_laws.proofs.WatchedRuns.{EachRun}
 
 -- a call that answers so, and a call that answers so if it answers
 abbrev pub told : (Call → Bool) → Reply → Glance → Bool

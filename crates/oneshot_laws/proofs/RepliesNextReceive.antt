@@ -10,7 +10,8 @@ use Rattle.oneshot_laws.proofs.RepliesAfterwards.{told}
 use Rattle.oneshot_laws.proofs.Coding.{flags}
 use Rattle.oneshot_laws.proofs.Glanced.{Law, Passes, Nameless, nameless_of, Passed, holds_by}
 use Rattle.oneshot_laws.proofs.Glances.{Glance, glance_of}
-use Rattle.oneshot_laws.proofs.Watched.{no_names, EachRun}
+use Rattle.oneshot_laws.proofs.Watched.{no_names}
+use Rattle.oneshot_laws.proofs.WatchedRuns.{EachRun}
 
 abbrev full : Glance → Bool
 full = told is_full_look R.Yes

@@ -8,7 +8,8 @@ use Rattle.oneshot_laws.proofs.Glanced.{Law, LawExplored, all_glanced, Passed, p
 use Rattle.oneshot_laws.proofs.HoldersRuns.{held_law, free_law, freed_ending}
 use Rattle.oneshot_laws.proofs.MessagePlacesPut.{put_law}
 use Rattle.oneshot_laws.proofs.MessagePlacesRuns.{Sending, path_law, sending_ending}
-use Rattle.oneshot_laws.proofs.WakerPlacesRuns.{parker_moves, write_law}
+use Rattle.oneshot_laws.proofs.WakerPlacesRuns.{parker_moves}
+use Rattle.oneshot_laws.proofs.WakerCellRuns.{write_law}
 
 abbrev message_laws : Law (Option Place × (Kept Sending × Bool))
 message_laws = together path_law (together (kept sending_ending) put_law)

@@ -1,119 +1,39 @@
 -- No receiver waits unwoken: in each run, once the sender's send or drop has answered, a receiver about to
 -- park has its token, and no task waits.
-use Rattle.std.proofs.Common.{◌≡◌, ℕ, ◌+◌, Bool, true, false, not, ◌&&◌, ◌||◌, List, [], ◌∷◌, map, Option, Some, None, is_some, refl, sym, ◌∙◌, ap, subst}
-use Rattle.std.specs.Option.{option_map, option_and_then}
+use Rattle.std.proofs.Common.{◌≡◌, ℕ, ◌+◌, Bool, true, false, not, ◌&&◌, ◌||◌, List, [], ◌∷◌, map, refl, sym, ◌∙◌, ap, subst}
 use Rattle.oneshot_machine.specs.Receiver.{receiver_step}
 use Rattle.oneshot_machine.specs.declared.machine.End.{End}
 use Rattle.oneshot_machine.specs.declared.machine.End.TheVariants.{Sender, Receiver}
-use Rattle.oneshot_machine.specs.declared.machine.receiver.ReceiverStart.{ReceiverStart}
-use Rattle.oneshot_machine.specs.declared.machine.receiver.ReceiverStart.TheVariants as RC
-use Rattle.oneshot_world.specs.Calls.{Call, Unanswered, first, as_receiver_call, left_by}
+use Rattle.oneshot_world.specs.Calls.{Unanswered, left_by}
 use Rattle.oneshot_world.specs.Scripts.{calls_of}
 use Rattle.oneshot_world.specs.Classes.{all_alike, as_made, as_entry}
-use Rattle.oneshot_world.specs.Control.{Control, control_of, as_control}
 use Rattle.oneshot_world.specs.Reached.{IsReached}
-use Rattle.oneshot_world.specs.Explore.{all_in}
 use Rattle.oneshot_machine.specs.Sender.{sender_step}
-use Rattle.oneshot_world.specs.State.{receiver_position, sender_stepped, receiver_stepped}
+use Rattle.oneshot_world.specs.State.{sender_stepped, receiver_stepped}
 use Rattle.oneshot_world.specs.Effects.{reply_of}
 use Rattle.oneshot_world.specs.World.{World, Tells_from, Tells, opening, side_of, by_end, nothing_told, receiver_told}
 use Rattle.oneshot_world.specs.declared.script.Move.{Move}
 use Rattle.oneshot_world.specs.declared.script.ReceiverScript.{ReceiverScript}
 use Rattle.oneshot_world.specs.declared.script.SenderScript.{SenderScript}
-use Rattle.oneshot_world.specs.declared.state.ReceiverState.{ReceiverState}
-use Rattle.oneshot_world.specs.declared.state.ReceiverState.TheVariants as RS
 use Rattle.oneshot_world.specs.declared.trace.Entry.{Entry}
 use Rattle.oneshot_world.specs.declared.trace.Entry.TheVariants.{Idle, Made as Made_entry}
 use Rattle.oneshot_world.specs.declared.trace.Made.{Made}
 use Rattle.oneshot_world.proofs.Bools.{both}
-use Rattle.oneshot_world.proofs.ExploreFound.{passes_where_found}
-use Rattle.oneshot_world.proofs.ReachedMoves.{sender_world, receiver_world}
+use Rattle.oneshot_world.proofs.ReachedLeft.{sender_world, receiver_world}
 use Rattle.oneshot_world.proofs.ReachedOpening.{opening_reached}
 use Rattle.oneshot_world.proofs.WorldTurns.{Turned, sender_idle, sender_made, receiver_idle, receiver_made, turned, turned_reaches}
 use Rattle.oneshot_laws.specs.Object.{Object}
 use Rattle.oneshot_laws.specs.Actions.{is_end_of_sender}
 use Rattle.oneshot_laws.specs.Marks.{Reading, read, Mark, marks, marks_from, sender_reading, receiver_reading, call_under_way}
 use Rattle.oneshot_laws.specs.Ended.{has_answered}
-use Rattle.oneshot_world.specs.Ahead.{Ahead, is_some_park, ahead_of}
+use Rattle.oneshot_world.specs.Ahead.{ahead_of}
 use Rattle.oneshot_laws.specs.Unwoken.{waits_in_park, waits_in_task, is_unwoken, is_never_unwoken, NeverUnwoken}
-use Rattle.oneshot_laws.proofs.Coding.{flags}
 use Rattle.oneshot_laws.proofs.EndedRuns.{or_more, or_false}
-use Rattle.oneshot_laws.proofs.Watched.{Watched, Automaton, Explored, Classed, no_names, all_watched, watched_coding, class_under_way, class_is, reads_entry, all_classed, IsFound, found_next, opening_found}
+use Rattle.oneshot_laws.proofs.Watched.{class_under_way, class_is, reads_entry}
+use Rattle.oneshot_laws.proofs.WatchedRuns.{found_next, opening_found}
 use Rattle.oneshot_laws.proofs.Glanced.{of_call}
 use Rattle.oneshot_laws.proofs.UnwokenTasks.{no_task_waits}
-
--- the reader keeps whether the sender's last call has answered
-abbrev all_are_fine : End → Call → Made → Bool → Bool
-all_are_fine side call e ended = true
-
-abbrev ends_sender_at : Call → Made → Bool
-ends_sender_at call e = is_some e.reply && is_end_of_sender call
-
-abbrev ended_then : End → Call → Made → Bool → Bool
-ended_then side call e ended = ended || ends_sender_at call e
-
-abbrev ended_reader : Automaton Bool
-ended_reader =
-    record { coding = flags; accepts = all_are_fine; reads = ended_then; names = no_names; first = λ place. false }
-
--- what lies ahead of a world, as its finite part shows it
-abbrev parks_at : ReceiverState → Bool
-parks_at (RS.At position) = is_some_park (Some (receiver_step position))
-parks_at _ = false
-
-abbrev ahead_at : Control → Ahead
-ahead_at c = record { parks = parks_at c.state.receiver; token = c.state.wakers.token }
-
-begins_unparked : (call : Option ReceiverStart)
-    → is_some_park (option_map receiver_step (receiver_position RS.Ready call)) ≡ false
-begins_unparked None = refl
-begins_unparked (Some RC.TryRecv) = refl
-begins_unparked (Some RC.Recv) = refl
-begins_unparked (Some RC.RecvRef) = refl
-begins_unparked (Some RC.RecvDeadline) = refl
-begins_unparked (Some (RC.RecvTimeout representable)) = refl
-begins_unparked (Some RC.HasMessage) = refl
-begins_unparked (Some RC.IsClosed) = refl
-begins_unparked (Some RC.IntoFuture) = refl
-begins_unparked (Some RC.Poll) = refl
-begins_unparked (Some RC.AsyncTryRecv) = refl
-begins_unparked (Some RC.Drop) = refl
-begins_unparked (Some RC.DropAsync) = refl
-
-parks_as : (s : ReceiverState) (call : Option ReceiverStart)
-    → is_some_park (option_map receiver_step (receiver_position s call)) ≡ parks_at s
-parks_as RS.Ready call = begins_unparked call
-parks_as (RS.At position) call = refl
-parks_as RS.Ended call = refl
-
-waits_as : (w : World) → waits_in_park (ahead_of w) ≡ waits_in_park (ahead_at (control_of w))
-waits_as w =
-    ap (λ parks. parks && not w.state.wakers.token)
-    (parks_as w.state.receiver (option_and_then as_receiver_call (first w.receiver.calls)))
-
-abbrev is_awake : Watched Bool → Bool
-is_awake x = not (x.reader && waits_in_park (ahead_at x.control))
-
--- all that a run can reach, and nobody in it waits in a park
-explored : Explored ended_reader
-explored = record { found = all_watched ended_reader; all = refl }
-
-all_awake : all_in is_awake explored.found ≡ true
-unfolding explored
-all_awake = refl
-
-abbrev ended_classed : Classed ended_reader all_alike
-ended_classed = all_classed ended_reader refl
-
-abbrev Found : World → Bool → Type 0
-Found w ended = IsFound ended_reader all_alike ended_classed explored w ended
-
-awake : (w : World) (ended : Bool) → Found w ended → not (ended && waits_in_park (ahead_of w)) ≡ true
-awake w ended f =
-    rw (waits_as w)
-    (passes_where_found (watched_coding ended_reader).code (watched_coding ended_reader).is_same
-    (watched_coding ended_reader).sound is_awake explored.found
-    (record { control = as_control all_alike (control_of w); reader = ended }) all_awake f)
+use Rattle.oneshot_laws.proofs.UnwokenParks.{ends_sender_at, ended_reader, explored, ended_classed, Found, awake}
 
 -- a turn leads on to what was found; the reader looks at no number
 next_found : (n : ℕ) (side : End) (w : World) (entry : Entry) (next : World) (ended : Bool) → Turned n w side entry next

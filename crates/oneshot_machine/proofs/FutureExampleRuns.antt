@@ -7,7 +7,7 @@ use Rattle.oneshot_machine.specs.declared.machine.async_drop.AsyncDropPos.TheVar
 use Rattle.oneshot_machine.specs.declared.machine.drop.DropPos.TheVariants.{DropFree}
 use Rattle.oneshot_machine.specs.Runs.{last, more}
 use Rattle.oneshot_machine.specs.FutureExamples.{FutureLists, FutureRuns, FutureRunsThatAreNot}
-use Rattle.oneshot_machine.proofs.ExampleRuns.{begins, answers, does_go_on, goes_on}
+use Rattle.oneshot_machine.proofs.ExampleNoRuns.{begins, answers, does_go_on, goes_on}
 
 pub future_lists : FutureLists
 future_lists =

@@ -1,6 +1,6 @@
 -- Where an end may stand after its operations on the word, computed from its table.
 use Rattle.std.specs.Option.{option_map}
-use Rattle.std.specs.Prelude.{ℕ, ◌+◌, ◌++◌, Bool, true, false, ◌&&◌, ◌==◌, if◌then◌else◌, List, [], ◌∷◌, filter, map, Option, Some, None, is_some}
+use Rattle.std.specs.Prelude.{ℕ, ◌+◌, ◌++◌, Bool, true, false, ◌==◌, if◌then◌else◌, List, [], ◌∷◌, filter, map, Option, Some, None, is_some}
 use Rattle.std.specs.List.{list_any, filter_map, flat_map}
 use Rattle.std.proofs.Common.{zero, suc}
 use Rattle.oneshot_machine.specs.declared.machine.Reply.{Reply}
@@ -15,10 +15,8 @@ use Rattle.oneshot_machine.specs.declared.machine.by_ref.RefPos.TheVariants.{Sta
 use Rattle.oneshot_machine.specs.declared.machine.timed.TimedPos.TheVariants.{TimedLoad, EndBack, LateLoad}
 use Rattle.oneshot_machine.specs.declared.machine.future.FuturePos.TheVariants.{IntoFuture}
 use Rattle.oneshot_machine.specs.declared.machine.sender.SenderPos.{SenderPos}
-use Rattle.oneshot_machine.specs.declared.machine.sender.SenderPos.TheVariants as SP
 use Rattle.oneshot_machine.specs.declared.machine.sender.SenderCall.TheVariants as SC
 use Rattle.oneshot_machine.specs.declared.states.Op.{Op}
-use Rattle.oneshot_machine.specs.declared.states.Op.TheVariants as O
 use Rattle.oneshot_machine.specs.TableRows.{Outcome, Goes, Answers}
 use Rattle.oneshot_machine.specs.Sender.{sender_start, sender_step, sender_row, sender_positions, sender_number}
 use Rattle.oneshot_machine.specs.Receiver.{receiver_step, receiver_row, receiver_opens, future_opens, receiver_positions, receiver_number, receiver_count}

@@ -6,6 +6,7 @@ use Rattle.oneshot_laws.proofs.HistoryRuns.{legal_run}
 use Rattle.oneshot_laws.proofs.MessagePlacesRuns as Places
 use Rattle.oneshot_laws.proofs.MessagePlacesPut as Put
 use Rattle.oneshot_laws.proofs.WakerPlacesRuns as Wakers
+use Rattle.oneshot_laws.proofs.WakerCellRuns as Cell
 use Rattle.oneshot_laws.proofs.UnwokenRuns as Unwoken
 use Rattle.oneshot_laws.proofs.HoldersRuns as Holders
 use Rattle.oneshot_laws.proofs.RepliesAfterwards as Afterwards
@@ -47,7 +48,7 @@ module _ {T : Type 0} where
         message_put = Put.message_put Moved.put s r run.worlds moves entries run.tells;
         message_ended = Places.message_ended Moved.sending s r run.worlds moves entries run.tells;
         wakers = Wakers.wakers_right Moved.parker s r run.worlds moves entries run.tells;
-        cell_kept = Wakers.cell_kept Moved.write s r run.worlds moves entries run.tells;
+        cell_kept = Cell.cell_kept Moved.write s r run.worlds moves entries run.tells;
         never_unwoken = Unwoken.never_unwoken s r run.worlds moves entries run.tells;
         freed_right = Holders.freed_right Moved.held Moved.free Moved.freed s r run.worlds moves entries run.tells;
         freed_as_shown = told.block_freed ∙ freed_shown s r told.worlds moves entries told.tells;

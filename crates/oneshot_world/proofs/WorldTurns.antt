@@ -19,7 +19,9 @@ use Rattle.oneshot_world.specs.declared.trace.Entry.TheVariants.{Idle, Made as M
 use Rattle.oneshot_world.specs.declared.trace.Made.{Made}
 use Rattle.oneshot_world.specs.Calls.{left_by}
 use Rattle.oneshot_world.specs.declared.wakers.Told.{Told}
-use Rattle.oneshot_world.proofs.ReachedMoves.{sender_at, receiver_at, sender_world, receiver_world, sender_made_by, receiver_made_by, sender_row_reaches, receiver_row_reaches}
+use Rattle.oneshot_world.proofs.ReachedLeads.{sender_at, receiver_at}
+use Rattle.oneshot_world.proofs.ReachedLeft.{sender_world, receiver_world}
+use Rattle.oneshot_world.proofs.ReachedMoves.{sender_made_by, receiver_made_by, sender_row_reaches, receiver_row_reaches}
 
 -- by the move that makes entry `k`
 pub data Turned (k : ℕ) (w : World) : End → Entry → World → Type 0 where

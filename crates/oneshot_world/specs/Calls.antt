@@ -7,7 +7,6 @@ use Rattle.oneshot_machine.specs.declared.machine.Reply.{Reply}
 use Rattle.oneshot_machine.specs.declared.machine.receiver.ReceiverStart.TheVariants as RC
 use Rattle.oneshot_machine.specs.declared.machine.receiver.ReceiverStart.{ReceiverStart}
 use Rattle.oneshot_machine.specs.declared.machine.sender.SenderCall.{SenderCall}
-use Rattle.oneshot_machine.specs.declared.machine.sender.SenderCall.TheVariants as SC
 
 -- A call by the name that the machine of its end has for it, and a poll with its number, of which the machine
 -- knows nothing. `Stray` stands for no call: what an end does that has no call left.

@@ -1,9 +1,8 @@
 -- What is left of a script while it runs: calls that leave the end in place, and at the end perhaps one that ends it.
-use Rattle.std.specs.Prelude.{Bool, true, false, ◌&&◌, ◌||◌, is_some, List, [], ◌∷◌, Option}
+use Rattle.std.specs.Prelude.{Bool, true, false, ◌&&◌, ◌||◌, List, [], ◌∷◌, Option}
 use Rattle.oneshot_machine.specs.declared.machine.receiver.ReceiverStart.TheVariants as RC
-use Rattle.oneshot_machine.specs.declared.machine.sender.SenderCall.TheVariants as SC
 use Rattle.oneshot_world.specs.Scripts.{stays_sender, ends_sender, stays_error, ends_error, stays_receiver, ends_receiver, stays_async, ends_async}
-use Rattle.oneshot_world.specs.Calls.{Call, Of_sender, Of_receiver, Poll, is_none_left}
+use Rattle.oneshot_world.specs.Calls.{Call, Of_receiver, is_none_left}
 use Rattle.oneshot_world.specs.declared.state.ReceiverState.TheVariants as RS
 use Rattle.oneshot_world.specs.declared.state.ReceiverState.{ReceiverState}
 use Rattle.oneshot_world.specs.declared.state.SenderState.TheVariants as SS

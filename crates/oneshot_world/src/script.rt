@@ -149,7 +149,7 @@ impl<C> CallList<C> {
         calls
     }
 
-    /// The calls.
+    /// The calls, in the order in which they are made.
     pub fn as_slice(&self) -> &[C]
         ensures { result.now ≡ self.now }
     {

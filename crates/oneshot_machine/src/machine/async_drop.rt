@@ -27,7 +27,6 @@ pub enum AsyncDropPos {
 }
 
 impl AsyncDropPos {
-    // The step that is made here.
     pub(crate) fn step(&self) -> Step
         ensures { result ≡ async_drop_step self.now }
     {

@@ -42,7 +42,6 @@ pub enum RefPos {
 }
 
 impl RefPos {
-    // The step that is made here.
     pub(crate) fn step(&self) -> Step
         ensures { result ≡ ref_step self.now }
     {

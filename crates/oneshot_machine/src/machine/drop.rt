@@ -23,7 +23,6 @@ pub enum DropPos {
 }
 
 impl DropPos {
-    // The step that is made here.
     pub(crate) fn step(&self) -> Step
         ensures { result ≡ drop_step self.now }
     {

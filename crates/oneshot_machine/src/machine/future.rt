@@ -42,7 +42,6 @@ pub enum FuturePos {
 }
 
 impl FuturePos {
-    // The step that is made here.
     pub(crate) fn step(&self) -> Step
         ensures { result ≡ future_step self.now }
     {

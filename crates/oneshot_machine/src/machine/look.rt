@@ -29,7 +29,6 @@ pub enum LookPos {
 }
 
 impl LookPos {
-    // The step that is made here.
     pub(crate) fn step(&self) -> Step
         ensures { result ≡ look_step self.now }
     {

@@ -90,7 +90,7 @@ impl ReceiverPos {
         }
     }
 
-    /// The step that is made here.
+    /// What the end does at this position: an operation on the word, or a step of its own.
     pub fn step(&self) -> Step
         ensures { result ≡ receiver_step self.now }
     {

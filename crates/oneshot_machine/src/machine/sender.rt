@@ -82,7 +82,7 @@ impl SenderPos {
         }
     }
 
-    /// The step that is made here.
+    /// What the end does at this position: an operation on the word, or a step of its own.
     pub fn step(&self) -> Step
         ensures { result ≡ sender_step self.now }
     {

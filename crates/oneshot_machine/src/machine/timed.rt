@@ -38,7 +38,6 @@ pub enum TimedPos {
 }
 
 impl TimedPos {
-    // The step that is made here.
     pub(crate) fn step(&self) -> Step
         ensures { result ≡ timed_step self.now }
     {

@@ -37,7 +37,6 @@ pub enum ValuePos {
 }
 
 impl ValuePos {
-    // The step that is made here.
     pub(crate) fn step(&self) -> Step
         ensures { result ≡ value_step self.now }
     {

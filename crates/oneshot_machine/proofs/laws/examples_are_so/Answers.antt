@@ -1,5 +1,6 @@
 -- The goals that `examples_are_so` leaves.
-use Rattle.oneshot_machine.proofs.ExampleRuns.{sender_lists, receiver_lists, runs_that_are, runs_that_are_not}
+use Rattle.oneshot_machine.proofs.ExampleRuns.{sender_lists, receiver_lists, runs_that_are}
+use Rattle.oneshot_machine.proofs.ExampleNoRuns.{runs_that_are_not}
 use Rattle.oneshot_machine.proofs.FutureExampleRuns.{future_lists, future_runs, future_runs_that_are_not}
 use Rattle.oneshot_machine.proofs.CountedExamples.{counts_that_are, counts_that_are_not}
 use Rattle.oneshot_machine.proofs.OrderedExamples.{orders_that_are, orders_that_are_not}

@@ -1,7 +1,8 @@
 -- The position has its step, and the world after it is one that a run reaches.
 use Rattle.std.proofs.Common.{◌≡◌, Some, ◌∙◌, ap, sym}
 use Rattle.oneshot_world.specs.World.{World, answer_of, receiver_told}
-use Rattle.oneshot_world.proofs.ReachedMoves.{word_is_code, receiver_at, receiver_makes, receiver_reaches}
+use Rattle.oneshot_world.proofs.ReachedLeads.{word_is_code, receiver_at}
+use Rattle.oneshot_world.proofs.ReachedMoves.{receiver_makes, receiver_reaches}
 use Rattle.oneshot_world.proofs.WorldTurns.{receiver_turn_made}
 use Rattle.oneshot_world.proofs.world.World.step_receiver.Goals as goal
 
