@@ -21,7 +21,8 @@ use Rattle.oneshot_world.specs.World.{World, turn, turn_of, world_then, nothing_
 use Rattle.oneshot_world.specs.declared.script.Move.TheVariants as M
 use Rattle.oneshot_world.specs.declared.trace.Entry.{Entry}
 use Rattle.oneshot_world.specs.declared.trace.Entry.TheVariants.{Made as Made_entry}
-use Rattle.oneshot_world.proofs.ReachedMoves.{sender_at, receiver_at, sender_world, receiver_world}
+use Rattle.oneshot_world.proofs.ReachedLeads.{sender_at, receiver_at}
+use Rattle.oneshot_world.proofs.ReachedLeft.{sender_world, receiver_world}
 use Rattle.oneshot_bridge.specs.OrdersRun.{noted_of, log_of}
 use Rattle.oneshot_bridge.specs.Walks.{may_see}
 

@@ -22,7 +22,9 @@ use Rattle.oneshot_world.specs.declared.script.SenderScript.{SenderScript}
 use Rattle.oneshot_world.specs.declared.state.State.{State}
 use Rattle.oneshot_world.specs.declared.trace.Entry.{Entry}
 use Rattle.oneshot_world.specs.declared.trace.Entry.TheVariants.{Made as Made_entry}
-use Rattle.oneshot_world.proofs.ReachedMoves.{sender_at, receiver_at, sender_world, receiver_world, sender_makes, receiver_makes, sender_row_reaches, receiver_row_reaches}
+use Rattle.oneshot_world.proofs.ReachedLeads.{sender_at, receiver_at}
+use Rattle.oneshot_world.proofs.ReachedLeft.{sender_world, receiver_world}
+use Rattle.oneshot_world.proofs.ReachedMoves.{sender_makes, receiver_makes, sender_row_reaches, receiver_row_reaches}
 use Rattle.oneshot_world.proofs.ReachedOpening.{opening_reached}
 use Rattle.oneshot_replay.specs.Rest.{message_of}
 use Rattle.oneshot_replay.specs.Scene.{Scene}
