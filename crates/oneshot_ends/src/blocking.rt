@@ -10,6 +10,7 @@ use futures::task::Waker;
 use oneshot_drive::{BlockGround, ReceiverGround};
 use oneshot_machine::states::Op;
 use std::sync::Wait;
+use std::thread::yield_now;
 use std::time::Clock;
 
 /// The ground of a receiver, lent for one call, with what it parks by.
@@ -21,6 +22,8 @@ pub(crate) struct Blocking<'g, 'p, 'r, T, Rt> {
     deadline: Deadline,
     /// What the first read of the clock tells, where the call made it before it lent its ground.
     told: Option<bool>,
+    /// Whether at the last reading of the clock much was left of the deadline.
+    lasts: bool,
 }
 
 impl<'g, 'p, 'r, T, Rt> Blocking<'g, 'p, 'r, T, Rt> {
@@ -40,6 +43,7 @@ impl<'g, 'p, 'r, T, Rt> Blocking<'g, 'p, 'r, T, Rt> {
             rt,
             deadline,
             told,
+            lasts: false,
         }
     }
 }
@@ -84,6 +88,10 @@ impl<'g, 'p, 'r, T: Drop, Rt> ReceiverGround<T, Rouse> for Blocking<'g, 'p, 'r, 
 
 impl<'g, 'p, 'r, T: Drop, Rt: Wait + Clock> BlockGround<T, Rouse> for Blocking<'g, 'p, 'r, T, Rt> {
     fn park(&mut self, timed: bool) {
+        // A sender that runs meanwhile leaves the token: then nobody sleeps, and nobody is woken by the system.
+        if !timed || self.lasts {
+            yield_now();
+        }
         if !timed {
             return self.parker.park(self.rt);
         }
@@ -97,7 +105,11 @@ impl<'g, 'p, 'r, T: Drop, Rt: Wait + Clock> BlockGround<T, Rouse> for Blocking<'
     fn over(&mut self) -> bool {
         match self.told.take() {
             Some(over) => over,
-            None => self.deadline.is_over(read(self.rt)),
+            None => {
+                let reading = read(self.rt);
+                self.lasts = self.deadline.lasts(reading);
+                self.deadline.is_over(reading)
+            }
         }
     }
 }

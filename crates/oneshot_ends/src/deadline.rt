@@ -1,10 +1,14 @@
 //! When the wait of a receive is over, by what its clock reads.
 
-ghost use Rattle.std.specs.Prelude.{◌≡◌, ◌↔◌, IsTrue, IfSome};
+ghost use Rattle.std.specs.Prelude.{◌≡◌, ◌↔◌, true, IsTrue, IfSome};
 ghost use Rattle.std.specs.Time.{instant_nanos, FitsClock};
 ghost use Rattle.oneshot_ends.specs.Deadlines.{IsAfter, IsOver, has_end};
 
 use std::time::{Clock, Duration, Instant};
+
+/// How many milliseconds a deadline has to last for a receive to yield before it sleeps. A yield may take as long as
+/// the scheduler lets some other threads run, a few milliseconds each, and must not make a receive late.
+const LONG: u64 = 100;
 
 /// Reads the clock; `None` where it cannot be read.
 pub(crate) fn read(clock: &impl Clock) -> Option<Instant>
@@ -52,6 +56,19 @@ impl Deadline {
             },
             Deadline::Passed => true,
             Deadline::Never => false,
+        }
+    }
+
+    /// Whether an instant is so far after this reading of the clock that a yield before it does no harm.
+    pub(crate) fn lasts(self, reading: Option<Instant>) -> bool
+        ensures { result ≡ true → ¬ IsOver self reading }
+    {
+        match (self, reading) {
+            (Deadline::At(end), Some(now)) => match end.checked_duration_since(now) {
+                Some(left) => left >= Duration::from_millis(LONG),
+                None => false,
+            },
+            _ => false,
         }
     }
 

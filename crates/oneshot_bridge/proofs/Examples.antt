@@ -1,0 +1,144 @@
+-- The examples: each walk step by step, the order operation by operation, and why the others are none.
+use Rattle.std.proofs.Common.{◌≡◌, true, false, List, [], ◌∷◌, Some, refl, sym, ap, subst, ◌∙◌}
+use Rattle.std.specs.Option.{IsSome}
+use Rattle.oneshot_machine.specs.declared.machine.Reply.TheVariants as R
+use Rattle.oneshot_machine.specs.declared.machine.Seen.TheVariants.{Done, Word, Token}
+use Rattle.oneshot_machine.specs.declared.machine.Step.TheVariants as Steps
+use Rattle.oneshot_machine.specs.declared.machine.receiver.ReceiverPos.TheVariants.{Value}
+use Rattle.oneshot_machine.specs.declared.machine.sender.SenderPos.TheVariants.{SendWrite, SendAdd, SendTakeWaker, SendFinal, SendWake}
+use Rattle.oneshot_machine.specs.declared.machine.value.ValuePos.TheVariants.{RecvLoad, RecvWrite, RecvSwap, RecvPark, RecvParkLoad, RecvTake, RecvFreeGot}
+use Rattle.oneshot_machine.specs.declared.states.Op.TheVariants.{Load, Swap, Add}
+use Rattle.oneshot_machine.specs.Noted.{Noted}
+use Rattle.oneshot_machine.specs.Orders.{Reaches, has_row, nothing_made, sender_makes, receiver_makes}
+use Rattle.oneshot_machine.specs.Receiver.{receiver_step, receiver_row}
+use Rattle.oneshot_machine.specs.Slots.{head, tail}
+use Rattle.oneshot_machine.specs.TableRows.{Goes, Answers}
+use Rattle.oneshot_world.specs.declared.state.ReceiverState.TheVariants as RS
+use Rattle.oneshot_bridge.specs.Examples.{sends, receives, sent, received, worlds, WorkedRun, WrongRuns}
+use Rattle.oneshot_bridge.specs.Walks.{may_see, begins, quietly, by_one, Quiet, quiet, Operates, operates, the_receiver, opening_receiver, SenderStand, ReceiverStand, SenderWalk, ReceiverWalk}
+use Rattle.oneshot_bridge.proofs.Interleaves.{not_empty, same_start, same_last}
+
+module _ {T : Type 0} (m : T) where
+  sender : (s : SenderStand) × SenderWalk (sends m) sent s
+  sender = (
+    _,
+    quietly
+        (by_one (Swap 4, Word 1)
+        (quietly
+        (by_one (Add, Word 0) (quietly begins (quiet SendWrite Done (Goes SendAdd) refl refl refl))
+        (operates SendAdd (Add, Word 0) (Goes SendTakeWaker) refl refl refl))
+        (quiet SendTakeWaker Done (Goes SendFinal) refl refl refl))
+        (operates SendFinal (Swap 4, Word 1) (Goes SendWake) refl refl refl))
+        (quiet SendWake Done (Answers R.Sent) refl refl refl),
+  )
+
+waits : ReceiverWalk receives ((Load, Word 3) ∷ (Swap 0, Word 3) ∷ [])
+    (RS.At (Value RecvPark), (opening_receiver receives).1)
+waits =
+    by_one (Swap 0, Word 3)
+    (quietly
+    (by_one (Load, Word 3) begins (operates (Value RecvLoad) (Load, Word 3) (Goes (Value RecvWrite)) refl refl refl))
+    (quiet (Value RecvWrite) Done (Goes (Value RecvSwap)) refl refl refl))
+    (operates (Value RecvSwap) (Swap 0, Word 3) (Goes (Value RecvPark)) refl refl refl)
+
+receiver : (s : ReceiverStand) × ReceiverWalk receives received s
+receiver = (
+  _,
+  quietly
+      (quietly
+      (by_one (Load, Word 4)
+      (quietly
+      (by_one (Load, Word 1)
+      (quietly waits (quiet (Value RecvPark) (Token false) (Goes (Value RecvParkLoad)) refl refl refl))
+      (operates (Value RecvParkLoad) (Load, Word 1) (Goes (Value RecvPark)) refl refl refl))
+      (quiet (Value RecvPark) (Token true) (Goes (Value RecvParkLoad)) refl refl refl))
+      (operates (Value RecvParkLoad) (Load, Word 4) (Goes (Value RecvTake)) refl refl refl))
+      (quiet (Value RecvTake) Done (Goes (Value RecvFreeGot)) refl refl refl))
+      (quiet (Value RecvFreeGot) Done (Answers R.Message) refl refl refl),
+)
+
+stored : Reaches [] ((Load, Word 3) ∷ (Swap 0, Word 3) ∷ []) 0
+stored = receiver_makes (Swap 0) (receiver_makes Load nothing_made (has_row head)) (has_row (tail (tail (tail head))))
+
+order : Reaches sent received 4
+order =
+    receiver_makes Load
+    (sender_makes (Swap 4)
+    (receiver_makes Load (sender_makes Add stored (has_row (tail head))) (has_row (tail head))) (has_row head))
+    (has_row (tail (tail head)))
+
+pub worked_run : {T : Type 0} (m : T) → WorkedRun m
+worked_run m =
+    record {
+      sender = sender m;
+      receiver = receiver;
+      order = order;
+      run = record {
+        run = record {
+          worlds = worlds m;
+          tells = (
+            refl,
+            (
+              refl,
+              (refl, (refl, (refl, (refl, (refl, (refl, (refl, (refl, (refl, (refl, (refl, (refl, tt)))))))))))),
+            ),
+          );
+          ends = refl;
+          count = refl;
+          message = refl;
+        };
+        sender_log = refl;
+        receiver_log = refl;
+        leaves = refl;
+      };
+    }
+
+-- a receive begins with its load
+rests_not : {s next : ReceiverStand} → s ≡ opening_receiver receives → Quiet the_receiver s next → ⊥
+rests_not at (quiet p seen row position may rows) =
+    let here : Some (Value RecvLoad) ≡ Some p = sym (ap the_receiver.position at) ∙ position in
+    let same : Value RecvLoad ≡ p = cc here in
+    let seen_so : false ≡ true = subst (λ p. may_see (receiver_step p) seen ≡ true) (sym same) may in
+    absurd (cc seen_so)
+
+stays : {xs : List Noted} {s : ReceiverStand} → ReceiverWalk receives xs s → xs ≡ [] → s ≡ opening_receiver receives
+stays begins e = refl
+stays (quietly a q) e = absurd (rests_not (stays a e) q)
+stays (by_one {xs} x a made) e = absurd (not_empty xs x e)
+
+-- which a row is for
+abbrev IsFirst : Noted → Type 0
+IsFirst x = (Load ≡ x.0) × IsSome (receiver_row (Value RecvLoad) x.1)
+
+makes_first : {s next : ReceiverStand} {x : Noted} → s ≡ opening_receiver receives → Operates the_receiver s x next
+    → IsFirst x
+makes_first at (operates p x row position step rows) =
+    let here : Some (Value RecvLoad) ≡ Some p = sym (ap the_receiver.position at) ∙ position in
+    let same : Value RecvLoad ≡ p = cc here in
+    let loads : Steps.Word Load ≡ Steps.Word x.0 = ap receiver_step same ∙ step in
+    let some : receiver_row (Value RecvLoad) x.1 ≡ Some row = ap (λ p. receiver_row p x.1) same ∙ rows in
+    (cc loads, rw some refl)
+
+begins_so : {xs : List Noted} {s : ReceiverStand} (x : Noted) → ReceiverWalk receives xs s → xs ≡ x ∷ [] → IsFirst x
+begins_so x begins e = absurd (cc e)
+begins_so x (quietly a q) e = begins_so x a e
+begins_so x (by_one {xs} y a made) e =
+    subst IsFirst (same_last xs [] y x e) (makes_first (stays a (same_start xs [] y x e)) made)
+
+skips_its_load : IsFirst (Swap 0, Word 3) → ⊥
+skips_its_load first = let swaps : Load ≡ Swap 0 = first.0 in cc swaps
+
+finds_a_waker : IsFirst (Load, Word 0) → ⊥
+finds_a_waker first = let no_row : IsSome (receiver_row (Value RecvLoad) (Word 0)) = first.1 in cc no_row
+
+pub wrong_runs : {T : Type 0} (m : T) → WrongRuns m
+wrong_runs m =
+    record {
+      skips_its_load = λ s walk. skips_its_load (begins_so _ walk refl);
+      finds_a_waker = λ s walk. finds_a_waker (begins_so _ walk refl);
+      adds_to_another_word = λ now ys word runs. let log : sent ≡ (Add, Word 3) ∷ [] = runs.sender_log in cc log;
+      wakes_in_time =
+          λ now xs word runs. let log : received ≡ (Load, Word 3) ∷ (Swap 0, Word 3) ∷ (Load, Word 4) ∷ [] =
+          runs.receiver_log in cc log;
+      leaves_another_word = λ word runs. sym runs.leaves;
+    }

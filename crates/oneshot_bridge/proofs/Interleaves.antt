@@ -1,0 +1,89 @@
+-- An order of both ends' operations, and a walk of each end, make a run of any model that can make each step
+-- of a walk: the induction on the order.
+use Rattle.std.proofs.Common.{◌≡◌, ℕ, List, [], ◌∷◌, ◌++◌, refl, sym, subst}
+use Rattle.oneshot_machine.specs.declared.states.Op.{Op}
+use Rattle.oneshot_machine.specs.Noted.{Noted, saw}
+use Rattle.oneshot_machine.specs.Orders.{Reaches, nothing_made, sender_makes, receiver_makes}
+use Rattle.oneshot_machine.specs.States.{word_after}
+use Rattle.oneshot_bridge.specs.Walks.{Walk, begins, quietly, by_one}
+
+-- a list with a last element is not empty, and determines that and what is before it
+pub not_empty : {X : Type 0} (xs : List X) (x : X) → xs ++ x ∷ [] ≡ [] → ⊥
+not_empty [] x e = cc
+not_empty (y ∷ xs) x e = cc
+
+some_more : {X : Type 0} (y x : X) (xs : List X) → [] ≡ xs ++ x ∷ [] → ⊥
+some_more y x xs e = not_empty xs x (sym e)
+
+heads_are : {X : Type 0} (x y : X) (xs ys : List X) → x ∷ xs ≡ y ∷ ys → x ≡ y
+heads_are x y xs ys e = cc
+
+tails_are : {X : Type 0} (x y : X) (xs ys : List X) → x ∷ xs ≡ y ∷ ys → xs ≡ ys
+tails_are x y xs ys e = cc
+
+pub same_start : {X : Type 0} (xs ys : List X) (x y : X) → xs ++ x ∷ [] ≡ ys ++ y ∷ [] → xs ≡ ys
+same_start [] [] x y e = refl
+same_start [] (z ∷ ys) x y e = absurd (some_more z y ys (tails_are _ _ _ _ e))
+same_start (z ∷ xs) [] x y e = absurd (not_empty xs x (tails_are _ _ _ _ e))
+same_start (z ∷ xs) (v ∷ ys) x y e =
+    let head : z ≡ v = heads_are _ _ _ _ e in
+    let tail : xs ≡ ys = same_start xs ys x y (tails_are _ _ _ _ e) in λ i. head i ∷ tail i
+
+pub same_last : {X : Type 0} (xs ys : List X) (x y : X) → xs ++ x ∷ [] ≡ ys ++ y ∷ [] → x ≡ y
+same_last [] [] x y e = heads_are _ _ _ _ e
+same_last [] (z ∷ ys) x y e = absurd (some_more z y ys (tails_are _ _ _ _ e))
+same_last (z ∷ xs) [] x y e = absurd (not_empty xs x (tails_are _ _ _ _ e))
+same_last (z ∷ xs) (v ∷ ys) x y e = same_last xs ys x y (tails_are _ _ _ _ e)
+
+-- what a model can do that makes each step of a walk
+pub record CanStep {S R : Type 0} (SRests : S → S → Type 0) (SMakes : S → Noted → S → Type 0)
+    (RRests : R → R → Type 0) (RMakes : R → Noted → R → Type 0) (s0 : S) (r0 : R)
+    (Ran : List Noted → List Noted → ℕ → S → R → Type 0) : Type 0 where
+  pub opens : Ran [] [] 3 s0 r0
+  pub sender_rests : {xs ys : List Noted} {w : ℕ} {s next : S} {r : R}
+      → Ran xs ys w s r → SRests s next → Ran xs ys w next r
+  pub receiver_rests : {xs ys : List Noted} {w : ℕ} {s : S} {r next : R}
+      → Ran xs ys w s r → RRests r next → Ran xs ys w s next
+  pub sender_acts : {xs ys : List Noted} {w : ℕ} {s next : S} {r : R} (op : Op)
+      → Ran xs ys w s r → SMakes s (op, saw op w) next → Ran (xs ++ (op, saw op w) ∷ []) ys (word_after op w) next r
+  pub receiver_acts : {xs ys : List Noted} {w : ℕ} {s : S} {r next : R} (op : Op)
+      → Ran xs ys w s r → RMakes r (op, saw op w) next → Ran xs (ys ++ (op, saw op w) ∷ []) (word_after op w) s next
+
+module _ {S R : Type 0} {SRests : S → S → Type 0} {SMakes : S → Noted → S → Type 0} {RRests : R → R → Type 0}
+    {RMakes : R → Noted → R → Type 0} {s0 : S} {r0 : R} {Ran : List Noted → List Noted → ℕ → S → R → Type 0}
+    (can : CanStep SRests SMakes RRests RMakes s0 r0 Ran) where
+  -- neither has made an operation
+  both_rest : {xs ys : List Noted} {s : S} {r : R} → Walk SRests SMakes s0 xs s → xs ≡ []
+      → Walk RRests RMakes r0 ys r → ys ≡ [] → Ran [] [] 3 s r
+  both_rest begins e begins f = can.opens
+  both_rest begins e (quietly b q) f = can.receiver_rests (both_rest begins e b f) q
+  both_rest begins e (by_one {xs = ys} y b m) f = absurd (not_empty ys y f)
+  both_rest (quietly a q) e b f = can.sender_rests (both_rest a e b f) q
+  both_rest (by_one {xs} x a m) e b f = absurd (not_empty xs x e)
+
+  -- one end has made the last operation, and rests since
+  module _ {xs ys : List Noted} {word : ℕ} (op : Op)
+      (before : (s : S) (r : R) → Walk SRests SMakes s0 xs s → Walk RRests RMakes r0 ys r → Ran xs ys word s r) where
+    sender_then : {zs : List Noted} {s : S} {r : R} → Walk SRests SMakes s0 zs s → zs ≡ xs ++ (op, saw op word) ∷ []
+        → Walk RRests RMakes r0 ys r → Ran (xs ++ (op, saw op word) ∷ []) ys (word_after op word) s r
+    sender_then begins e b = absurd (not_empty xs (op, saw op word) (sym e))
+    sender_then (quietly a q) e b = can.sender_rests (sender_then a e b) q
+    sender_then {s} (by_one {xs = zs} {s = s1} x a m) e b =
+        can.sender_acts op
+        (before s1 _ (subst (λ l. Walk SRests SMakes s0 l s1) (same_start zs xs x (op, saw op word) e) a) b)
+        (subst (λ x. SMakes s1 x s) (same_last zs xs x (op, saw op word) e) m)
+
+    receiver_then : {zs : List Noted} {s : S} {r : R} → Walk SRests SMakes s0 xs s → Walk RRests RMakes r0 zs r
+        → zs ≡ ys ++ (op, saw op word) ∷ [] → Ran xs (ys ++ (op, saw op word) ∷ []) (word_after op word) s r
+    receiver_then a begins e = absurd (not_empty ys (op, saw op word) (sym e))
+    receiver_then a (quietly b q) e = can.receiver_rests (receiver_then a b e) q
+    receiver_then {r} a (by_one {xs = zs} {s = r1} y b m) e =
+        can.receiver_acts op
+        (before _ r1 a (subst (λ l. Walk RRests RMakes r0 l r1) (same_start zs ys y (op, saw op word) e) b))
+        (subst (λ y. RMakes r1 y r) (same_last zs ys y (op, saw op word) e) m)
+
+  pub interleaves : {xs ys : List Noted} {word : ℕ} {s : S} {r : R} → Reaches xs ys word
+      → Walk SRests SMakes s0 xs s → Walk RRests RMakes r0 ys r → Ran xs ys word s r
+  interleaves nothing_made a b = both_rest a refl b refl
+  interleaves (sender_makes op order row) a b = sender_then op (λ s r a b. interleaves order a b) a refl b
+  interleaves (receiver_makes op order row) a b = receiver_then op (λ s r a b. interleaves order a b) a b refl

@@ -1,0 +1,13 @@
+pub mod Interleaves
+pub mod Seen
+pub mod Turns
+pub mod Worlds
+pub mod SenderScripted
+pub mod ReceiverStands
+pub mod Standpoints
+pub mod Among
+pub mod ReceiverScripted
+pub mod RowsTurn
+pub mod ReceiverLogs
+pub mod StatesRun
+pub mod Examples

@@ -1,0 +1,177 @@
+-- A receiver that stands in a call, with a script that any calls may go on: how its walk goes on by a step, by
+-- an answer and by the next call.
+use Rattle.std.proofs.Common.{◌≡◌, true, List, [], ◌∷◌, ◌++◌, Some, refl, subst}
+use Rattle.oneshot_machine.specs.declared.machine.Reply.{Reply}
+use Rattle.oneshot_machine.specs.declared.machine.Seen.{Seen}
+use Rattle.oneshot_machine.specs.declared.machine.Step.TheVariants.{Word}
+use Rattle.oneshot_machine.specs.declared.machine.receiver.ReceiverPos.{ReceiverPos}
+use Rattle.oneshot_machine.specs.declared.machine.receiver.ReceiverStart.TheVariants as RC
+use Rattle.oneshot_machine.specs.declared.states.Op.{Op}
+use Rattle.oneshot_machine.specs.Noted.{Noted}
+use Rattle.oneshot_machine.specs.Receiver.{receiver_start, receiver_step, receiver_row}
+use Rattle.oneshot_machine.specs.TableRows.{Outcome, Goes, Answers}
+use Rattle.oneshot_world.specs.Calls.{Call, Of_receiver, as_receiver_call}
+use Rattle.oneshot_world.specs.Effects.{receiver_goes}
+use Rattle.oneshot_world.specs.Scripts.{receiver_call, async_call, receiver_calls, async_calls}
+use Rattle.oneshot_world.specs.State.{receiver_position}
+use Rattle.oneshot_world.specs.declared.script.AsyncCall.{AsyncCall}
+use Rattle.oneshot_world.specs.declared.script.AsyncLast.{AsyncLast}
+use Rattle.oneshot_world.specs.declared.script.AsyncLast.TheVariants as AL
+use Rattle.oneshot_world.specs.declared.script.ReceiverCall.{ReceiverCall}
+use Rattle.oneshot_world.specs.declared.script.ReceiverLast.{ReceiverLast}
+use Rattle.oneshot_world.specs.declared.script.ReceiverLast.TheVariants as RL
+use Rattle.oneshot_world.specs.declared.script.ReceiverScript.{ReceiverScript}
+use Rattle.oneshot_world.specs.declared.state.ReceiverState.{ReceiverState}
+use Rattle.oneshot_world.specs.declared.state.ReceiverState.TheVariants as RS
+use Rattle.oneshot_bridge.specs.Walks.{may_see, quietly, by_one, quiet, operates, stands_after, the_receiver, ReceiverStand, ReceiverWalk, begins}
+
+-- which calls may follow the one under way: those of a receiver, those of a future, or none
+pub data After : Type 0 where
+  calls : After
+  polls : After
+  nothing : After
+
+abbrev pub Rest : After → Type 0
+Rest calls = List ReceiverCall × ReceiverLast
+Rest polls = List AsyncCall × AsyncLast
+Rest nothing = Unit {0}
+
+abbrev pub calls_in : (after : After) → Rest after → List Call
+calls_in calls rest = receiver_calls rest.0 rest.1
+calls_in polls rest = async_calls rest.0 rest.1
+calls_in nothing rest = []
+
+-- a walk with this log stands at this position, whichever calls follow
+pub record Stands (ys : List Noted) (p : ReceiverPos) (after : After) : Type 0 where
+  pub call : Call
+  pub state : ReceiverState
+  pub position : receiver_position state (as_receiver_call call) ≡ Some p
+  pub script : Rest after → ReceiverScript
+  pub walk : (rest : Rest after)
+      → ReceiverWalk (script rest) ys (state, record { calls = call ∷ calls_in after rest; error = [] })
+
+-- it has answered its call, and these follow
+pub record IsReady (ys : List Noted) (after : After) : Type 0 where
+  pub script : Rest after → ReceiverScript
+  pub walk : (rest : Rest after)
+      → ReceiverWalk (script rest) ys (RS.Ready, record { calls = calls_in after rest; error = [] })
+
+-- a step at a position that sees this, and the log after it
+pub data Steps (ys : List Noted) (p : ReceiverPos) (seen : Seen) : List Noted → Type 0 where
+  rests : may_see (receiver_step p) seen ≡ true → Steps ys p seen ys
+  makes : (op : Op) → receiver_step p ≡ Word op → Steps ys p seen (ys ++ (op, seen) ∷ [])
+
+walks : (r : ReceiverScript) {ys zs : List Noted} {s : ReceiverStand} {p : ReceiverPos} {seen : Seen}
+    (row : Outcome ReceiverPos) → Steps ys p seen zs → the_receiver.position s ≡ Some p
+    → receiver_row p seen ≡ Some row → ReceiverWalk r ys s
+    → ReceiverWalk r zs (stands_after the_receiver p row s.1)
+walks r {p} {seen} row (rests may) at rows walk = quietly walk (quiet p seen row at may rows)
+walks r {p} {seen} row (makes op step) at rows walk = by_one (op, seen) walk (operates p (op, seen) row at step rows)
+
+module _ {ys zs : List Noted} {p : ReceiverPos} {seen : Seen} {after : After} where
+  pub goes : (next : ReceiverPos) → Stands ys p after → Steps ys p seen zs → receiver_row p seen ≡ Some (Goes next)
+      → Stands zs next after
+  goes next stands steps rows =
+      record {
+        call = stands.call;
+        state = RS.At next;
+        position = refl;
+        script = stands.script;
+        walk = λ rest. walks (stands.script rest) (Goes next) steps stands.position rows (stands.walk rest);
+      }
+
+  pub answers : (reply : Reply) → Stands ys p after → Steps ys p seen zs → receiver_row p seen ≡ Some (Answers reply)
+      → receiver_goes (receiver_step p) (Answers reply) ≡ RS.Ready → IsReady zs after
+  answers reply stands steps rows ready =
+      record {
+        script = stands.script;
+        walk =
+            λ rest. subst
+            (λ (s : ReceiverState). ReceiverWalk (stands.script rest) zs
+            (s, record { calls = calls_in after rest; error = [] }))
+            ready (walks (stands.script rest) (Answers reply) steps stands.position rows (stands.walk rest));
+      }
+
+some_rest : (after : After) → Rest after
+some_rest calls = ([], RL.Stop)
+some_rest polls = ([], AL.Stop)
+some_rest nothing = tt
+
+-- if no calls follow
+pub some_walk : {ys zs : List Noted} {p : ReceiverPos} {seen : Seen} {after : After} (row : Outcome ReceiverPos)
+    → Stands ys p after → Steps ys p seen zs → receiver_row p seen ≡ Some row
+    → (r : ReceiverScript) × (at : ReceiverStand) × ReceiverWalk r zs at
+some_walk {after} row stands steps rows = (
+  stands.script (some_rest after),
+  _,
+  walks (stands.script (some_rest after)) row steps stands.position rows (stands.walk (some_rest after)),
+)
+
+pub opens : IsReady [] calls
+opens = record { script = λ rest. record { calls = rest.0; last = rest.1 }; walk = λ rest. begins }
+
+-- the next call: one that leaves the receiver in place, its last, or the one that makes it a future
+module _ {ys : List Noted} (ready : IsReady ys calls) where
+  pub call_begins : (call : ReceiverCall) (p : ReceiverPos)
+      → receiver_position RS.Ready (as_receiver_call (receiver_call call)) ≡ Some p → Stands ys p calls
+  call_begins call p at =
+      record {
+        call = receiver_call call;
+        state = RS.Ready;
+        position = at;
+        script = λ rest. ready.script (call ∷ rest.0, rest.1);
+        walk = λ rest. ready.walk (call ∷ rest.0, rest.1);
+      }
+
+  pub recv_begins : Stands ys (receiver_start RC.Recv) nothing
+  recv_begins =
+      record {
+        call = Of_receiver RC.Recv;
+        state = RS.Ready;
+        position = refl;
+        script = λ rest. ready.script ([], RL.Recv);
+        walk = λ rest. ready.walk ([], RL.Recv);
+      }
+
+  pub drop_begins : Stands ys (receiver_start RC.Drop) nothing
+  drop_begins =
+      record {
+        call = Of_receiver RC.Drop;
+        state = RS.Ready;
+        position = refl;
+        script = λ rest. ready.script ([], RL.Drop);
+        walk = λ rest. ready.walk ([], RL.Drop);
+      }
+
+  pub future_begins : Stands ys (receiver_start RC.IntoFuture) polls
+  future_begins =
+      record {
+        call = Of_receiver RC.IntoFuture;
+        state = RS.Ready;
+        position = refl;
+        script = λ rest. ready.script ([], RL.IntoFuture (record { calls = rest.0; last = rest.1 }));
+        walk = λ rest. ready.walk ([], RL.IntoFuture (record { calls = rest.0; last = rest.1 }));
+      }
+
+-- the same of a future
+module _ {ys : List Noted} (ready : IsReady ys polls) where
+  pub poll_begins : (call : AsyncCall) (p : ReceiverPos)
+      → receiver_position RS.Ready (as_receiver_call (async_call call)) ≡ Some p → Stands ys p polls
+  poll_begins call p at =
+      record {
+        call = async_call call;
+        state = RS.Ready;
+        position = at;
+        script = λ rest. ready.script (call ∷ rest.0, rest.1);
+        walk = λ rest. ready.walk (call ∷ rest.0, rest.1);
+      }
+
+  pub async_drop_begins : Stands ys (receiver_start RC.DropAsync) nothing
+  async_drop_begins =
+      record {
+        call = Of_receiver RC.DropAsync;
+        state = RS.Ready;
+        position = refl;
+        script = λ rest. ready.script ([], AL.Drop);
+        walk = λ rest. ready.walk ([], AL.Drop);
+      }

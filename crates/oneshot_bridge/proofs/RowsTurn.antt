@@ -1,0 +1,96 @@
+-- A log that an order allows a receiver is one whose words its table may find, with slots that are so: what the
+-- law of exact tables asks for.
+use Rattle.std.proofs.Common.{◌≡◌, ℕ, Bool, true, false, ◌&&◌, List, refl}
+use Rattle.std.specs.List.{list_all}
+use Rattle.std.proofs.lemmas.Bool.{and_parts}
+use Rattle.oneshot_machine.specs.declared.states.Op.{Op}
+use Rattle.oneshot_machine.specs.Exact.{IsFound, none_yet, one_more}
+use Rattle.oneshot_machine.specs.Noted.{Noted}
+use Rattle.oneshot_machine.specs.Orders.{Reaches, has_row, nothing_made, sender_makes, receiver_makes}
+use Rattle.oneshot_machine.specs.Phases.{ReceiverAt, first, here, looked, between, waits, blocked, polled, again, full, at_once, waited, swapped, by_future, by_poll, unclosed, disconnected, resolved, receiver_at, receiver_moves, Share, none, empty, filled, Slots, Row}
+use Rattle.oneshot_machine.specs.Slots.{Held, away, vacant, held, IsSlot, is_away, is_vacant, is_held, Turns, stays_away, stays_vacant, stays_held, gives_room, gives_thing, gets_room, gets_thing, In, ReceiverMay, may, ReceiverFinds, finds}
+use Rattle.oneshot_machine.proofs.Exactness.{each_passes}
+
+-- the slots of a row stay, are given up or come
+abbrev can_turn : Share → Share → Bool
+can_turn empty filled = false
+can_turn filled empty = false
+can_turn _ _ = true
+
+abbrev is_turning : Row ReceiverAt → Bool
+is_turning row = can_turn row.1.0 row.4.0 && can_turn row.1.1 row.4.1
+
+rows_turn : (at : ReceiverAt) → list_all is_turning (receiver_moves at) ≡ true
+rows_turn first = refl
+rows_turn (here looked) = refl
+rows_turn (here between) = refl
+rows_turn (waits blocked) = refl
+rows_turn (waits polled) = refl
+rows_turn (waits again) = refl
+rows_turn (full at_once) = refl
+rows_turn (full waited) = refl
+rows_turn (full (swapped by)) = refl
+rows_turn (full by_future) = refl
+rows_turn (full by_poll) = refl
+rows_turn (unclosed by) = refl
+rows_turn (disconnected closing) = refl
+rows_turn (resolved closing) = refl
+rows_turn _ = refl
+
+record Turning (s t : Share) : Type 0 where
+  before : Held (Unit {0})
+  after : Held (Unit {0})
+  turns : Turns s t before after
+
+turning : (s t : Share) → can_turn s t ≡ true → Turning s t
+turning none none e = record { before = away; after = away; turns = stays_away }
+turning none empty e = record { before = away; after = vacant; turns = gets_room }
+turning none filled e = record { before = away; after = held tt; turns = gets_thing tt }
+turning empty none e = record { before = vacant; after = away; turns = gives_room }
+turning empty empty e = record { before = vacant; after = vacant; turns = stays_vacant }
+turning filled none e = record { before = held tt; after = away; turns = gives_thing tt }
+turning filled filled e = record { before = held tt; after = held tt; turns = stays_held tt }
+turning _ _ e = absurd (cc e)
+
+slot_before : {X : Type 0} {s t : Share} {m n : Held X} → Turns s t m n → IsSlot s m
+slot_before stays_away = is_away
+slot_before stays_vacant = is_vacant
+slot_before (stays_held x) = is_held x
+slot_before gives_room = is_vacant
+slot_before (gives_thing x) = is_held x
+slot_before gets_room = is_away
+slot_before (gets_thing x) = is_away
+
+-- a row is found with some slots, and may be made with them
+pub record RowFound (at : ReceiverAt) (op : Op) (word : ℕ) : Type 0 where
+  pub m : Held (Unit {0})
+  pub w : Held (Unit {0})
+  pub m_after : Held (Unit {0})
+  pub w_after : Held (Unit {0})
+  pub finds : ReceiverFinds at op word m w m_after w_after
+  pub may : ReceiverMay at op m w
+
+pub row_found : (at : ReceiverAt) {op : Op} {before after : Slots} {word : ℕ} {next : ReceiverAt}
+    → In (op, before, word, next, after) (receiver_moves at) → RowFound at op word
+row_found at {before} {after} row =
+    let turn = and_parts (can_turn before.0 after.0) (can_turn before.1 after.1)
+    (each_passes is_turning (receiver_moves at) (rows_turn at) row) in
+    let message = turning before.0 after.0 turn.0 in
+    let waker = turning before.1 after.1 turn.1 in
+    record {
+      m = message.before;
+      w = waker.before;
+      m_after = message.after;
+      w_after = waker.after;
+      finds = finds row message.turns waker.turns;
+      may = may row (slot_before message.turns) (slot_before waker.turns);
+    }
+
+abbrev pub IsReceiverLog : List Noted → Type 0
+IsReceiverLog = IsFound {T = Unit {0}} {W = Unit {0}} receiver_at ReceiverFinds
+
+pub is_found : {xs ys : List Noted} {word : ℕ} → Reaches xs ys word → IsReceiverLog ys
+is_found nothing_made = none_yet
+is_found (sender_makes op order row) = is_found order
+is_found (receiver_makes {ys} {word} op order (has_row row)) =
+    one_more word (is_found order) (row_found (receiver_at ys) row).finds

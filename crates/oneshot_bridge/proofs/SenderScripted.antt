@@ -1,0 +1,107 @@
+-- For each log of the sender that an order allows there are a script and a walk.
+use Rattle.std.proofs.Common.{◌≡◌, ℕ, List, [], ◌∷◌, ◌++◌, refl, sym, subst}
+use Rattle.oneshot_machine.specs.declared.machine.Reply.TheVariants as R
+use Rattle.oneshot_machine.specs.declared.machine.Seen.TheVariants.{Done, Word}
+use Rattle.oneshot_machine.specs.declared.machine.sender.SenderPos.TheVariants.{SendWrite, SendAdd, SendTakeWaker, SendFinal, SendWake, SendLateWake, DropXor, DropTakeWaker, DropFinal, DropWake, DropLateWake, DropFree}
+use Rattle.oneshot_machine.specs.declared.states.Op.{Op}
+use Rattle.oneshot_machine.specs.declared.states.Op.TheVariants.{Swap, Add, Xor}
+use Rattle.oneshot_machine.specs.Noted.{Noted, saw}
+use Rattle.oneshot_machine.specs.Orders.{Reaches, has_row, nothing_made, sender_makes, receiver_makes}
+use Rattle.oneshot_machine.specs.Phases.{By, sending, dropping, SenderAt, fresh, owes, sender_at, sender_next, sender_moves, Slots, Row}
+use Rattle.oneshot_machine.specs.Slots.{In, head, tail}
+use Rattle.oneshot_machine.specs.TableRows.{Goes, Answers}
+use Rattle.oneshot_machine.proofs.GrownLists.{phase_from-snoc}
+use Rattle.oneshot_machine.specs.declared.machine.sender.SenderPos.{SenderPos}
+use Rattle.oneshot_world.specs.declared.script.ErrorLast.TheVariants as EL
+use Rattle.oneshot_world.specs.declared.script.SenderLast.TheVariants as SL
+use Rattle.oneshot_world.specs.declared.script.SenderScript.{SenderScript}
+use Rattle.oneshot_world.specs.declared.state.SenderState.TheVariants as SS
+use Rattle.oneshot_bridge.specs.Scripted.{SenderIsScripted}
+use Rattle.oneshot_bridge.specs.Walks.{begins, quietly, by_one, quiet, operates, opening_sender, SenderStand, SenderWalk}
+
+module _ {T : Type 0} (m : T) where
+  -- a script of one call, and where that call makes its final swap
+  abbrev script_of : By → SenderScript T
+  script_of sending = record { looks = 0; last = SL.Send m (record { looks = 0; last = EL.Stop }) }
+  script_of dropping = record { looks = 0; last = SL.Drop }
+
+  abbrev swaps_at : By → SenderPos
+  swaps_at sending = SendFinal
+  swaps_at dropping = DropFinal
+
+  -- the walk at each phase: one that owes its final swap stands there
+  data Scripted : List Noted → SenderAt → Type 0 where
+    not_begun : Scripted [] fresh
+    owing : {xs : List Noted} (by : By)
+        → SenderWalk (script_of by) xs (SS.At (swaps_at by), (opening_sender (script_of by)).1) → Scripted xs (owes by)
+    over : {xs : List Noted} {at : SenderAt} (by : By) (s : SenderStand) → sender_moves at ≡ []
+        → SenderWalk (script_of by) xs s → Scripted xs at
+
+  writes : SenderWalk (script_of sending) [] (SS.At SendAdd, (opening_sender (script_of sending)).1)
+  writes = quietly begins (quiet SendWrite Done (Goes SendAdd) refl refl refl)
+
+  more : {xs : List Noted} {p next : SenderAt} {op : Op} {before after : Slots} (word : ℕ) → Scripted xs p
+      → In (op, before, word, next, after) (sender_moves p)
+      → Scripted (xs ++ (op, saw op word) ∷ []) (sender_next p op (saw op word))
+  more _ not_begun head =
+      over sending _ refl (by_one (Add, Word 3) writes (operates SendAdd (Add, Word 3) (Answers R.Sent) refl refl refl))
+  more _ not_begun (tail head) =
+      owing sending
+      (quietly (by_one (Add, Word 0) writes (operates SendAdd (Add, Word 0) (Goes SendTakeWaker) refl refl refl))
+      (quiet SendTakeWaker Done (Goes SendFinal) refl refl refl))
+  more _ not_begun (tail (tail head)) =
+      over sending _ refl
+      (by_one (Add, Word 2) writes (operates SendAdd (Add, Word 2) (Answers R.Refused) refl refl refl))
+  more _ not_begun (tail (tail (tail head))) =
+      over dropping _ refl
+      (by_one (Xor, Word 3) begins (operates DropXor (Xor, Word 3) (Answers R.Done) refl refl refl))
+  more _ not_begun (tail (tail (tail (tail head)))) =
+      owing dropping
+      (quietly (by_one (Xor, Word 0) begins (operates DropXor (Xor, Word 0) (Goes DropTakeWaker) refl refl refl))
+      (quiet DropTakeWaker Done (Goes DropFinal) refl refl refl))
+  more _ not_begun (tail (tail (tail (tail (tail head))))) =
+      over dropping _ refl
+      (by_one (Xor, Word 2) begins (operates DropXor (Xor, Word 2) (Goes DropFree) refl refl refl))
+  more _ not_begun (tail (tail (tail (tail (tail (tail there)))))) = elim there [ ]
+  more _ (owing sending walk) head =
+      over sending _ refl
+      (by_one (Swap 4, Word 1) walk (operates SendFinal (Swap 4, Word 1) (Goes SendWake) refl refl refl))
+  more _ (owing sending walk) (tail head) =
+      over sending _ refl
+      (by_one (Swap 4, Word 3) walk (operates SendFinal (Swap 4, Word 3) (Goes SendWake) refl refl refl))
+  more _ (owing sending walk) (tail (tail head)) =
+      over sending _ refl
+      (by_one (Swap 4, Word 2) walk (operates SendFinal (Swap 4, Word 2) (Goes SendLateWake) refl refl refl))
+  more _ (owing sending walk) (tail (tail (tail there))) = elim there [ ]
+  more _ (owing dropping walk) head =
+      over dropping _ refl
+      (by_one (Swap 2, Word 1) walk (operates DropFinal (Swap 2, Word 1) (Goes DropWake) refl refl refl))
+  more _ (owing dropping walk) (tail head) =
+      over dropping _ refl
+      (by_one (Swap 2, Word 3) walk (operates DropFinal (Swap 2, Word 3) (Goes DropWake) refl refl refl))
+  more _ (owing dropping walk) (tail (tail head)) =
+      over dropping _ refl
+      (by_one (Swap 2, Word 2) walk (operates DropFinal (Swap 2, Word 2) (Goes DropLateWake) refl refl refl))
+  more _ (owing dropping walk) (tail (tail (tail there))) = elim there [ ]
+  more {next} {op} {before} {after} word (over by s none walk) there =
+      absurd (no_row (subst (λ rows. In (op, before, word, next, after) rows) none there))
+    where
+      no_row : {row : Row SenderAt} → In row [] → ⊥
+      no_row there = elim there [ ]
+
+  scripted : {xs ys : List Noted} {word : ℕ} → Reaches xs ys word → Scripted xs (sender_at xs)
+  scripted nothing_made = not_begun
+  scripted (sender_makes {xs} {word} op order (has_row row)) =
+      let x : Noted = (op, saw op word) in
+      subst (λ p. Scripted (xs ++ x ∷ []) p) (sym (phase_from-snoc sender_next fresh xs x))
+      (more word (scripted order) row)
+  scripted (receiver_makes op order row) = scripted order
+
+  walk_of : {xs : List Noted} {at : SenderAt} → Scripted xs at
+      → (s : SenderScript T) × (stand : SenderStand) × SenderWalk s xs stand
+  walk_of not_begun = (script_of dropping, opening_sender (script_of dropping), begins)
+  walk_of (owing by walk) = (script_of by, _, walk)
+  walk_of (over by s none walk) = (script_of by, s, walk)
+
+pub sender_scripted : (T : Type 0) → SenderIsScripted T
+sender_scripted T m xs ys word order = walk_of m (scripted m order)

@@ -1,0 +1,179 @@
+-- The standpoints of a receiver, as its walks meet them: which calls may follow at each, and that its number
+-- tells it apart.
+use Rattle.std.proofs.Common.{◌≡◌, ◌==◌, Bool, true, false, List, refl, get_or, map}
+use Rattle.oneshot_machine.specs.declared.machine.Reply.{Reply}
+use Rattle.oneshot_machine.specs.declared.machine.Reply.TheVariants as R
+use Rattle.oneshot_machine.specs.declared.machine.async_drop.AsyncDropPos.TheVariants.{AsyncLoad}
+use Rattle.oneshot_machine.specs.declared.machine.by_ref.RefPos.TheVariants.{StartLoad, StartWrite, StartSwap, ParkLoad}
+use Rattle.oneshot_machine.specs.declared.machine.drop.DropPos.TheVariants.{DropSwap}
+use Rattle.oneshot_machine.specs.declared.machine.future.FuturePos.TheVariants.{IntoFuture}
+use Rattle.oneshot_machine.specs.declared.machine.look.LookPos.TheVariants.{LookFull, TryLoad, Take, CloseOnly}
+use Rattle.oneshot_machine.specs.declared.machine.receiver.ReceiverPos.{ReceiverPos}
+use Rattle.oneshot_machine.specs.declared.machine.receiver.ReceiverPos.TheVariants.{Look, Ref, Timed, Value, Future, AsyncDrop, Drop}
+use Rattle.oneshot_machine.specs.declared.machine.timed.TimedPos.TheVariants.{SumClock, TimedLoad, EndBack, LateLoad}
+use Rattle.oneshot_machine.specs.declared.machine.value.ValuePos.TheVariants.{RecvLoad}
+use Rattle.oneshot_machine.specs.Noted.{Noted}
+use Rattle.oneshot_machine.specs.Receiver.{receiver_opens, future_opens, receiver_step}
+use Rattle.oneshot_machine.specs.Slots.{In, head, tail}
+use Rattle.oneshot_machine.specs.Standing.{Standpoint, plainly, as_future, receiver_table, standpoint_number, standpoint_follows}
+use Rattle.oneshot_machine.specs.TableRows.{Answers}
+use Rattle.oneshot_world.specs.Effects.{receiver_goes}
+use Rattle.oneshot_world.specs.declared.script.AsyncCall.TheVariants as AC
+use Rattle.oneshot_world.specs.declared.script.ReceiverCall.TheVariants as Script
+use Rattle.oneshot_world.specs.declared.state.ReceiverState.{ReceiverState}
+use Rattle.oneshot_world.specs.declared.state.ReceiverState.TheVariants as RS
+use Rattle.oneshot_world.proofs.ControlCodes.{same_by}
+use Rattle.oneshot_bridge.proofs.ReceiverStands.{After, calls, polls, nothing, Stands, IsReady, call_begins, recv_begins, drop_begins, future_begins, poll_begins, async_drop_begins}
+
+abbrev pub pos_of : Standpoint → ReceiverPos
+pos_of (plainly p) = p
+pos_of (as_future p) = p
+
+-- the calls that may follow at a standpoint, and the standpoints that walks meet
+abbrev pub after_of : Standpoint → After
+after_of (plainly (Look at)) = calls
+after_of (plainly (Ref at)) = calls
+after_of (plainly (Timed at)) = calls
+after_of (plainly (Future at)) = polls
+after_of (as_future (Look at)) = polls
+after_of (as_future (Future at)) = polls
+after_of _ = nothing
+
+abbrev pub is_met : Standpoint → Bool
+is_met (plainly (Future IntoFuture)) = true
+is_met (plainly (Future at)) = false
+is_met (plainly (AsyncDrop at)) = false
+is_met (as_future (Ref at)) = false
+is_met (as_future (Timed at)) = false
+is_met (as_future (Value at)) = false
+is_met _ = true
+
+-- a walk with this log stands there
+pub record Comes (ys : List Noted) (s : Standpoint) : Type 0 where
+  pub met : is_met s ≡ true
+  pub stands : Stands ys (pos_of s) (after_of s)
+
+-- a call begins, of a receiver and of a future
+module _ {ys : List Noted} where
+  pub receiver_begins : {s : Standpoint} → IsReady ys calls → In s (map plainly receiver_opens) → Comes ys s
+  receiver_begins ready head = record { met = refl; stands = call_begins ready Script.TryRecv _ refl }
+  receiver_begins ready (tail head) = record { met = refl; stands = call_begins ready Script.RecvRef _ refl }
+  receiver_begins ready (tail (tail head)) =
+      record { met = refl; stands = call_begins ready Script.RecvDeadline _ refl }
+  receiver_begins ready (tail (tail (tail head))) =
+      record { met = refl; stands = call_begins ready (Script.RecvTimeout true) _ refl }
+  receiver_begins ready (tail (tail (tail (tail head)))) =
+      record { met = refl; stands = call_begins ready (Script.RecvTimeout false) _ refl }
+  receiver_begins ready (tail (tail (tail (tail (tail head))))) = record { met = refl; stands = recv_begins ready }
+  receiver_begins ready (tail (tail (tail (tail (tail (tail head)))))) =
+      record { met = refl; stands = future_begins ready }
+  receiver_begins ready (tail (tail (tail (tail (tail (tail (tail head))))))) =
+      record { met = refl; stands = drop_begins ready }
+  receiver_begins ready (tail (tail (tail (tail (tail (tail (tail (tail there)))))))) = elim there [ ]
+
+  pub polls_begin : {s : Standpoint} → IsReady ys polls → In s (map as_future future_opens) → Comes ys s
+  polls_begin ready head = record { met = refl; stands = poll_begins ready (AC.Poll 0) _ refl }
+  polls_begin ready (tail head) = record { met = refl; stands = poll_begins ready AC.TryRecv _ refl }
+  polls_begin ready (tail (tail head)) = record { met = refl; stands = async_drop_begins ready }
+  polls_begin ready (tail (tail (tail there))) = elim there [ ]
+
+-- an answer at which calls may follow leaves the receiver ready
+abbrev is_ready : ReceiverState → Bool
+is_ready RS.Ready = true
+is_ready _ = false
+
+abbrev pub stays_on : Standpoint → Reply → Bool
+stays_on (as_future (AsyncDrop at)) reply = false
+stays_on (as_future (Drop at)) reply = false
+stays_on s reply = is_ready (receiver_goes (receiver_step (pos_of s)) (Answers reply))
+
+is_ready_so : (s : ReceiverState) → is_ready s ≡ true → s ≡ RS.Ready
+is_ready_so RS.Ready e = refl
+is_ready_so _ e = absurd (cc e)
+
+pub stays_ready : (s : Standpoint) (reply : Reply) → stays_on s reply ≡ true
+    → receiver_goes (receiver_step (pos_of s)) (Answers reply) ≡ RS.Ready
+stays_ready (as_future (AsyncDrop at)) reply e = absurd (cc e)
+stays_ready (as_future (Drop at)) reply e = absurd (cc e)
+stays_ready (as_future (Look at)) reply e = is_ready_so _ e
+stays_ready (as_future _) reply e = is_ready_so _ e
+stays_ready (plainly p) reply e = is_ready_so _ e
+
+-- the next call after an answer
+module _ {ys : List Noted} where
+  pub follows : {q : Standpoint} (s : Standpoint) (reply : Reply) → is_met s ≡ true → stays_on s reply ≡ true
+      → IsReady ys (after_of s) → In q (standpoint_follows s reply) → Comes ys q
+  follows (plainly (Look TryLoad)) reply met stays ready there = receiver_begins ready there
+  follows (plainly (Look Take)) reply met stays ready there = receiver_begins ready there
+  follows (plainly (Look CloseOnly)) reply met stays ready there = receiver_begins ready there
+  follows (plainly (Ref (StartLoad timed))) reply met stays ready there = receiver_begins ready there
+  follows (plainly (Ref ParkLoad)) reply met stays ready there = receiver_begins ready there
+  follows (plainly (Timed TimedLoad)) reply met stays ready there = receiver_begins ready there
+  follows (plainly (Timed EndBack)) reply met stays ready there = receiver_begins ready there
+  follows (plainly (Timed LateLoad)) reply met stays ready there = receiver_begins ready there
+  follows (plainly (Future IntoFuture)) reply met stays ready there = polls_begin ready there
+  follows (plainly (Look _)) reply met stays ready there = elim there [ ]
+  follows (plainly (Ref _)) reply met stays ready there = elim there [ ]
+  follows (plainly (Timed _)) reply met stays ready there = elim there [ ]
+  follows (plainly (Future _)) reply met stays ready there = elim there [ ]
+  follows (plainly (Value at)) reply met stays ready there = elim there [ ]
+  follows (plainly (AsyncDrop at)) reply met stays ready there = elim there [ ]
+  follows (plainly (Drop at)) reply met stays ready there = elim there [ ]
+  follows (as_future (Look at)) R.Done met stays ready there = elim there [ ]
+  follows (as_future (Look at)) _ met stays ready there = polls_begin ready there
+  follows (as_future (Future at)) R.Done met stays ready there = elim there [ ]
+  follows (as_future (Future at)) _ met stays ready there = polls_begin ready there
+  follows (as_future (AsyncDrop at)) reply met stays ready there = absurd (cc stays)
+  follows (as_future (Drop at)) reply met stays ready there = absurd (cc stays)
+  follows (as_future (Ref at)) reply met stays ready there = absurd (cc met)
+  follows (as_future (Timed at)) reply met stays ready there = absurd (cc met)
+  follows (as_future (Value at)) reply met stays ready there = absurd (cc met)
+
+-- each standpoint stands in the table's list under its number
+abbrev nowhere : Standpoint
+nowhere = plainly (Look LookFull)
+
+back : (s : Standpoint) → get_or receiver_table.positions (standpoint_number s) nowhere ≡ s
+back (plainly (Look LookFull)) = refl
+back (plainly (Look _)) = refl
+back (plainly (Ref (StartLoad false))) = refl
+back (plainly (Ref (StartLoad true))) = refl
+back (plainly (Ref (StartWrite false))) = refl
+back (plainly (Ref (StartWrite true))) = refl
+back (plainly (Ref (StartSwap false))) = refl
+back (plainly (Ref (StartSwap true))) = refl
+back (plainly (Ref _)) = refl
+back (plainly (Timed (SumClock false))) = refl
+back (plainly (Timed (SumClock true))) = refl
+back (plainly (Timed _)) = refl
+back (plainly (Value RecvLoad)) = refl
+back (plainly (Value _)) = refl
+back (plainly (Future IntoFuture)) = refl
+back (plainly (Future _)) = refl
+back (plainly (AsyncDrop AsyncLoad)) = refl
+back (plainly (AsyncDrop _)) = refl
+back (plainly (Drop DropSwap)) = refl
+back (plainly (Drop _)) = refl
+back (as_future (Look LookFull)) = refl
+back (as_future (Look _)) = refl
+back (as_future (Ref (StartLoad false))) = refl
+back (as_future (Ref (StartLoad true))) = refl
+back (as_future (Ref (StartWrite false))) = refl
+back (as_future (Ref (StartWrite true))) = refl
+back (as_future (Ref (StartSwap false))) = refl
+back (as_future (Ref (StartSwap true))) = refl
+back (as_future (Ref _)) = refl
+back (as_future (Timed (SumClock false))) = refl
+back (as_future (Timed (SumClock true))) = refl
+back (as_future (Timed _)) = refl
+back (as_future (Value RecvLoad)) = refl
+back (as_future (Value _)) = refl
+back (as_future (Future IntoFuture)) = refl
+back (as_future (Future _)) = refl
+back (as_future (AsyncDrop AsyncLoad)) = refl
+back (as_future (AsyncDrop _)) = refl
+back (as_future (Drop DropSwap)) = refl
+back (as_future (Drop _)) = refl
+
+pub standpoint_is : (r s : Standpoint) → (standpoint_number r == standpoint_number s) ≡ true → r ≡ s
+standpoint_is = same_by standpoint_number receiver_table.positions nowhere back

@@ -1,0 +1,242 @@
+-- The model makes each step of a walk: one move.
+use Rattle.std.proofs.Common.{◌≡◌, ℕ, ◌+◌, Bool, false, List, [], ◌∷◌, ◌++◌, Some, refl, sym, ap, ◌∙◌, subst}
+use Rattle.std.specs.Option.{option_map}
+use Rattle.oneshot_machine.specs.declared.machine.End.TheVariants.{Sender, Receiver}
+use Rattle.oneshot_machine.specs.declared.machine.receiver.ReceiverPos.{ReceiverPos}
+use Rattle.oneshot_machine.specs.declared.machine.sender.SenderPos.{SenderPos}
+use Rattle.oneshot_machine.specs.declared.states.Op.{Op}
+use Rattle.oneshot_machine.specs.Noted.{Noted, op_of, saw}
+use Rattle.oneshot_machine.specs.Receiver.{receiver_step, receiver_row}
+use Rattle.oneshot_machine.specs.Sender.{sender_step, sender_row}
+use Rattle.oneshot_machine.specs.States.{word_after}
+use Rattle.oneshot_machine.specs.TableRows.{Outcome}
+use Rattle.oneshot_world.specs.Calls.{left_by}
+use Rattle.oneshot_world.specs.Effects.{seen_by, word_left, reply_of, sender_goes, receiver_goes}
+use Rattle.oneshot_world.specs.Reached.{IsReached}
+use Rattle.oneshot_world.specs.State.{sender_fits, receiver_fits, sender_steps, receiver_steps, sender_stepped, receiver_stepped}
+use Rattle.oneshot_world.specs.World.{World, turn, nothing_told, receiver_told, opening}
+use Rattle.oneshot_world.specs.declared.script.Move.{Move}
+use Rattle.oneshot_world.specs.declared.script.Move.TheVariants as M
+use Rattle.oneshot_world.specs.declared.script.ReceiverScript.{ReceiverScript}
+use Rattle.oneshot_world.specs.declared.script.SenderScript.{SenderScript}
+use Rattle.oneshot_world.specs.declared.state.State.{State}
+use Rattle.oneshot_world.specs.declared.trace.Entry.{Entry}
+use Rattle.oneshot_world.specs.declared.trace.Entry.TheVariants.{Made as Made_entry}
+use Rattle.oneshot_world.proofs.ReachedMoves.{sender_at, receiver_at, sender_world, receiver_world, sender_makes, receiver_makes, sender_row_reaches, receiver_row_reaches}
+use Rattle.oneshot_world.proofs.ReachedOpening.{opening_reached}
+use Rattle.oneshot_replay.specs.Rest.{message_of}
+use Rattle.oneshot_replay.specs.Scene.{Scene}
+use Rattle.oneshot_replay.proofs.RunLaws.{is_right}
+use Rattle.oneshot_replay.proofs.Runs.{goes_on}
+use Rattle.oneshot_bridge.specs.OrdersRun.{log_of, RunsSo, OrdersAreRuns}
+use Rattle.oneshot_bridge.specs.Walks.{opening_sender, opening_receiver, SenderStand, ReceiverStand, the_sender, the_receiver, Quiet, quiet, Operates, operates}
+use Rattle.oneshot_bridge.proofs.Interleaves.{CanStep, interleaves}
+use Rattle.oneshot_bridge.proofs.Seen.{op_sees, answer_in, sender_answers, sender_sees, receiver_sees}
+use Rattle.oneshot_bridge.proofs.Turns.{by_row, quiet_word, quiet_op, log_stays, log_grows, sender_turn, receiver_turn}
+
+module _ {X : Type 0} (a : SenderScript X) (b : ReceiverScript) where
+  -- a run, with what holds of the world that it leads to
+  record Got (xs ys : List Noted) (n : ℕ) (s : SenderStand) (r : ReceiverStand) : Type 0 where
+    moves : List Move
+    entries : List Entry
+    now : Scene X
+    run : RunsSo a b moves entries now xs ys n
+    sender : (now.world.state.sender, now.world.sender) ≡ s
+    receiver : (now.world.state.receiver, now.world.receiver) ≡ r
+    reached : IsReached now.world
+
+  -- the entry of a step by a row
+  abbrev sender_entry : State → SenderPos → Outcome SenderPos → Entry
+  sender_entry state p row = Made_entry (sender_stepped nothing_told state (sender_step p) row).0
+
+  abbrev receiver_entry : Bool → Scene X → State → ReceiverPos → Outcome ReceiverPos → Entry
+  receiver_entry answer now state p row =
+      Made_entry (receiver_stepped (receiver_told answer (now.count + 1) now.world) state (receiver_step p) row).0
+
+  -- where a move leads
+  abbrev then_at : Scene X → World → Scene X
+  then_at now next = record { world = next; count = now.count + 1; message = now.message }
+
+  moved_on : {xs ys zs vs : List Noted} {n m : ℕ} {s : SenderStand} {r : ReceiverStand} (g : Got xs ys n s r)
+      (move : Move) (entry : Entry) (next : World) → turn (g.now.count + 1) g.now.world move ≡ Some (entry, next)
+      → log_of Sender (g.entries ++ entry ∷ []) ≡ zs → log_of Receiver (g.entries ++ entry ∷ []) ≡ vs
+      → next.state.word ≡ m
+      → RunsSo a b (g.moves ++ move ∷ []) (g.entries ++ entry ∷ []) (then_at g.now next) zs vs m
+  moved_on g move entry next turned sender receiver word =
+      record {
+        run = goes_on g.now move entry (then_at g.now next) turned refl refl a b g.moves g.entries g.run.run;
+        sender_log = sender;
+        receiver_log = receiver;
+        leaves = word;
+      }
+
+  module _ {xs ys : List Noted} {n : ℕ} where
+    -- the step that a sender's world makes by a row
+    sender_made : {s : SenderStand} {r : ReceiverStand} (g : Got xs ys n s r) (p : SenderPos) (row : Outcome SenderPos)
+        → the_sender.position s ≡ Some p → sender_row p (seen_by false g.now.world.state (sender_step p)) ≡ Some row
+        → (sender_at g.now.world ≡ Some p) × (sender_steps nothing_told g.now.world.state p
+        ≡ Some (sender_stepped nothing_told g.now.world.state (sender_step p) row))
+    sender_made g p row at rows =
+        let w = g.now.world in
+        let there : sender_at w ≡ Some p =
+        subst (λ (z : SenderStand). the_sender.position z ≡ Some p) (sym g.sender) at in (
+          there,
+          by_row (sender_fits w.state (sender_step p)) (sender_stepped nothing_told w.state (sender_step p))
+              (sender_row p (seen_by false w.state (sender_step p))) row (sender_makes w p g.reached there) rows,
+        )
+
+    sender_then : {zs : List Noted} {m : ℕ} {s : SenderStand} {r : ReceiverStand} (g : Got xs ys n s r) (p : SenderPos)
+        (row : Outcome SenderPos) → the_sender.position s ≡ Some p
+        → sender_row p (seen_by false g.now.world.state (sender_step p)) ≡ Some row
+        → log_of Sender
+        (g.entries ++ sender_entry g.now.world.state p row ∷ []) ≡ zs
+        → word_left g.now.world.state.word (sender_step p) ≡ m
+        → Got zs ys m (sender_goes (sender_step p) row, left_by Sender (reply_of row) s.1) r
+    sender_then g p row at rows log word =
+        let w = g.now.world in
+        let next = sender_world w (sender_step p) row in
+        let entry = sender_entry w.state p row in
+        let made = sender_made g p row at rows in
+        record {
+          moves = g.moves ++ M.Sender ∷ [];
+          entries = g.entries ++ entry ∷ [];
+          now = then_at g.now next;
+          run =
+              moved_on g M.Sender entry next (sender_turn (g.now.count + 1) w p row made.0 made.1) log
+              (log_stays Receiver g.entries entry g.run.receiver_log refl) word;
+          sender =
+              ap (λ (z : SenderStand). (sender_goes (sender_step p) row, left_by Sender (reply_of row) z.1)) g.sender;
+          receiver = g.receiver;
+          reached = sender_row_reaches w p row g.reached made.0 made.1;
+        }
+
+    sender_rests : {s next : SenderStand} {r : ReceiverStand} → Got xs ys n s r → Quiet the_sender s next
+        → Got xs ys n next r
+    sender_rests g (quiet p seen row at may rows) =
+        let state = g.now.world.state in
+        let step = sender_step p in
+        sender_then g p row at (ap (sender_row p) (sender_answers p (answer_in seen) state) ∙ sender_sees p seen state
+        may ∙ rows)
+        (log_stays Sender g.entries (sender_entry state p row) g.run.sender_log
+        (ap (λ o. option_map (λ op. (op, seen_by false state step)) o) (quiet_op step seen may)))
+        (quiet_word step seen state.word may ∙ g.run.leaves)
+
+    sender_acts : {s next : SenderStand} {r : ReceiverStand} (op : Op) → Got xs ys n s r
+        → Operates the_sender s (op, saw op n) next → Got (xs ++ (op, saw op n) ∷ []) ys (word_after op n) next r
+    sender_acts op g (operates p _ row at step rows) =
+        let state = g.now.world.state in
+        let seen : seen_by false state (sender_step p) ≡ saw op n =
+        ap (seen_by false state) step ∙ op_sees false state op ∙ ap (saw op) g.run.leaves in
+        sender_then g p row at (ap (sender_row p) seen ∙ rows)
+        (log_grows Sender g.entries (sender_entry state p row) g.run.sender_log
+        (λ i. option_map (λ op. (op, seen i)) (op_of (step i))))
+        (ap (word_left state.word) step ∙ ap (word_after op) g.run.leaves)
+
+    -- the same of the receiver
+    receiver_made : {s : SenderStand} {r : ReceiverStand} (answer : Bool) (g : Got xs ys n s r) (p : ReceiverPos)
+        (row : Outcome ReceiverPos) → the_receiver.position r ≡ Some p
+        → receiver_row p (seen_by answer g.now.world.state (receiver_step p)) ≡ Some row
+        → (receiver_at g.now.world ≡ Some p)
+        × (receiver_steps (receiver_told answer (g.now.count + 1) g.now.world) g.now.world.state p ≡ Some
+        (receiver_stepped (receiver_told answer (g.now.count + 1) g.now.world) g.now.world.state (receiver_step p) row))
+    receiver_made answer g p row at rows =
+        let w = g.now.world in
+        let k = g.now.count + 1 in
+        let there : receiver_at w ≡ Some p =
+        subst (λ (z : ReceiverStand). the_receiver.position z ≡ Some p) (sym g.receiver) at in (
+          there,
+          by_row (receiver_fits w.state (receiver_step p))
+              (receiver_stepped (receiver_told answer k w) w.state (receiver_step p))
+              (receiver_row p (seen_by answer w.state (receiver_step p))) row
+              (receiver_makes answer k w p g.reached there) rows,
+        )
+
+    receiver_then : {zs : List Noted} {m : ℕ} {s : SenderStand} {r : ReceiverStand} (answer : Bool)
+        (g : Got xs ys n s r)
+        (p : ReceiverPos) (row : Outcome ReceiverPos) → the_receiver.position r ≡ Some p
+        → receiver_row p (seen_by answer g.now.world.state (receiver_step p)) ≡ Some row
+        → log_of Receiver (g.entries ++ receiver_entry answer g.now g.now.world.state p row ∷ []) ≡ zs
+        → word_left g.now.world.state.word (receiver_step p) ≡ m
+        → Got xs zs m s (receiver_goes (receiver_step p) row, left_by Receiver (reply_of row) r.1)
+    receiver_then answer g p row at rows log word =
+        let w = g.now.world in
+        let k = g.now.count + 1 in
+        let t = receiver_told answer k w in
+        let next = receiver_world t w (receiver_step p) row in
+        let entry = receiver_entry answer g.now w.state p row in
+        let made = receiver_made answer g p row at rows in
+        record {
+          moves = g.moves ++ M.Receiver answer answer ∷ [];
+          entries = g.entries ++ entry ∷ [];
+          now = then_at g.now next;
+          run =
+              moved_on g (M.Receiver answer answer) entry next (receiver_turn answer k w p row made.0 made.1)
+              (log_stays Sender g.entries entry g.run.sender_log refl) log word;
+          sender = g.sender;
+          receiver =
+              ap (λ (z : ReceiverStand). (receiver_goes (receiver_step p) row, left_by Receiver (reply_of row) z.1))
+              g.receiver;
+          reached = receiver_row_reaches answer k w p row g.reached made.0 made.1;
+        }
+
+    receiver_rests : {s : SenderStand} {r next : ReceiverStand} → Got xs ys n s r → Quiet the_receiver r next
+        → Got xs ys n s next
+    receiver_rests g (quiet p seen row at may rows) =
+        let state = g.now.world.state in
+        let step = receiver_step p in
+        receiver_then (answer_in seen) g p row at (receiver_sees p seen state may ∙ rows)
+        (log_stays Receiver g.entries (receiver_entry (answer_in seen) g.now state p row) g.run.receiver_log
+        (ap (λ o. option_map (λ op. (op, seen_by (answer_in seen) state step)) o) (quiet_op step seen may)))
+        (quiet_word step seen state.word may ∙ g.run.leaves)
+
+    receiver_acts : {s : SenderStand} {r next : ReceiverStand} (op : Op) → Got xs ys n s r
+        → Operates the_receiver r (op, saw op n) next → Got xs (ys ++ (op, saw op n) ∷ []) (word_after op n) s next
+    receiver_acts op g (operates p _ row at step rows) =
+        let state = g.now.world.state in
+        let seen : seen_by false state (receiver_step p) ≡ saw op n =
+        ap (seen_by false state) step ∙ op_sees false state op ∙ ap (saw op) g.run.leaves in
+        receiver_then false g p row at (ap (receiver_row p) seen ∙ rows)
+        (log_grows Receiver g.entries (receiver_entry false g.now state p row) g.run.receiver_log
+        (λ i. option_map (λ op. (op, seen i)) (op_of (step i))))
+        (ap (word_left state.word) step ∙ ap (word_after op) g.run.leaves)
+
+  opens : Got [] [] 3 (opening_sender a) (opening_receiver b)
+  opens =
+      record {
+        moves = [];
+        entries = [];
+        now = record { world = opening a b; count = 0; message = message_of a.last };
+        run = record {
+          run = record { worlds = []; tells = tt; ends = refl; count = refl; message = refl };
+          sender_log = refl;
+          receiver_log = refl;
+          leaves = refl;
+        };
+        sender = refl;
+        receiver = refl;
+        reached = opening_reached a b;
+      }
+
+  the_model : CanStep (Quiet the_sender) (Operates the_sender) (Quiet the_receiver) (Operates the_receiver)
+      (opening_sender a) (opening_receiver b) Got
+  the_model =
+      record {
+        opens = opens;
+        sender_rests = sender_rests;
+        receiver_rests = receiver_rests;
+        sender_acts = sender_acts;
+        receiver_acts = receiver_acts;
+      }
+
+pub orders_run : (T : Type 0) → OrdersAreRuns T
+orders_run T a b xs ys n s r order sender receiver =
+    let got : Got a b xs ys n s r = interleaves (the_model a b) order sender receiver in
+    record {
+      moves = got.moves;
+      entries = got.entries;
+      now = got.now;
+      run = got.run;
+      sender = got.sender;
+      receiver = got.receiver;
+      right = is_right a b got.moves got.entries got.now got.run.run;
+    }

@@ -1,0 +1,6 @@
+-- Each state is of a run, in one.
+use Rattle.oneshot_bridge.proofs.StatesRun.{states_run}
+use Rattle.oneshot_bridge.proofs.every_state_is_of_a_run.Goals as goal
+
+pub returns : goal.returns
+returns g c = states_run _

@@ -1,0 +1,6 @@
+-- Each order is a run, in one.
+use Rattle.oneshot_bridge.proofs.Worlds.{orders_run}
+use Rattle.oneshot_bridge.proofs.orders_are_runs.Goals as goal
+
+pub returns : goal.returns
+returns g c = orders_run _

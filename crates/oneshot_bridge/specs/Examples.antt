@@ -1,0 +1,83 @@
+-- What the definitions of the bridge are of, by a worked run, and what they are not: a send that finds a
+-- receiver waiting, which goes on once without being woken.
+use Rattle.std.specs.Prelude.{◌≡◌, ℕ, ◌+◌, false, List, [], ◌∷◌, map, Some, None}
+use Rattle.oneshot_machine.specs.declared.machine.Seen.TheVariants.{Word}
+use Rattle.oneshot_machine.specs.declared.states.Op.TheVariants.{Load, Swap, Add}
+use Rattle.oneshot_machine.specs.Noted.{Noted}
+use Rattle.oneshot_machine.specs.Orders.{Reaches}
+use Rattle.oneshot_world.specs.World.{World, opening, turn}
+use Rattle.oneshot_world.specs.declared.script.ErrorLast.TheVariants as EL
+use Rattle.oneshot_world.specs.declared.script.Move.{Move}
+use Rattle.oneshot_world.specs.declared.script.Move.TheVariants.{Sender, Receiver}
+use Rattle.oneshot_world.specs.declared.script.ReceiverLast.TheVariants as RL
+use Rattle.oneshot_world.specs.declared.script.ReceiverScript.{ReceiverScript}
+use Rattle.oneshot_world.specs.declared.script.SenderLast.TheVariants as SL
+use Rattle.oneshot_world.specs.declared.script.SenderScript.{SenderScript}
+use Rattle.oneshot_world.specs.declared.trace.Entry.{Entry}
+use Rattle.oneshot_replay.specs.Scene.{Scene}
+use Rattle.oneshot_replay.specs.TraceView.{last_of}
+use Rattle.oneshot_bridge.specs.Walks.{SenderStand, ReceiverStand, SenderWalk, ReceiverWalk}
+use Rattle.oneshot_bridge.specs.OrdersRun.{RunsSo}
+
+-- the scripts: a send, and a `recv`
+abbrev pub sends : {T : Type 0} → T → SenderScript T
+sends m = record { looks = 0; last = SL.Send m (record { looks = 0; last = EL.Stop }) }
+
+abbrev pub receives : ReceiverScript
+receives = record { calls = []; last = RL.Recv }
+
+-- both logs
+abbrev pub sent : List Noted
+sent = (Add, Word 0) ∷ (Swap 4, Word 1) ∷ []
+
+abbrev pub received : List Noted
+received = (Load, Word 3) ∷ (Swap 0, Word 3) ∷ (Load, Word 1) ∷ (Load, Word 4) ∷ []
+
+-- the schedule: the receiver stores its waker; the sender adds; the receiver wakes too early and parks again;
+-- the sender finishes; the receiver takes the message
+abbrev pub r : Move
+r = Receiver false false
+
+abbrev pub schedule : List Move
+schedule =
+    r ∷ r ∷ r ∷ Sender ∷ Sender ∷ r ∷ r ∷ Sender ∷ Sender ∷ Sender ∷ r ∷ r ∷ r ∷ r ∷ []
+
+-- what a schedule tells, an entry and the world after it a move
+abbrev pub told_from : ℕ → World → List Move → List (Entry × World)
+told_from n w [] = []
+told_from n w (move ∷ moves) =
+    elim (turn n w move) [ None ↦ [] | Some told ↦ told ∷ told_from (n + 1) told.1 moves ]
+
+module _ {T : Type 0} (m : T) where
+  abbrev pub told : List (Entry × World)
+  told = told_from 1 (opening (sends m) receives) schedule
+
+  abbrev pub entries : List Entry
+  entries = map (λ (t : Entry × World). t.0) told
+
+  abbrev pub worlds : List World
+  worlds = map (λ (t : Entry × World). t.1) told
+
+  abbrev pub last : Scene T
+  last = record { world = last_of (opening (sends m) receives) worlds; count = 14; message = Some m }
+
+  pub record WorkedRun : Type 0 where
+    pub sender : (s : SenderStand) × SenderWalk (sends m) sent s
+    pub receiver : (s : ReceiverStand) × ReceiverWalk receives received s
+    pub order : Reaches sent received 4
+    pub run : RunsSo (sends m) receives schedule entries last sent received 4
+
+  pub record WrongRuns : Type 0 where
+    -- a receive that does not look first
+    pub skips_its_load : (s : ReceiverStand) → ReceiverWalk receives ((Swap 0, Word 3) ∷ []) s → ⊥
+    -- a receive never finds a waker that it did not store
+    pub finds_a_waker : (s : ReceiverStand) → ReceiverWalk receives ((Load, Word 0) ∷ []) s → ⊥
+    -- the words of the run are not those of the log: its add found 0, and its second load 1
+    pub adds_to_another_word : (now : Scene T) (ys : List Noted) (word : ℕ)
+        → RunsSo (sends m) receives schedule entries now ((Add, Word 3) ∷ []) ys word → ⊥
+    pub wakes_in_time : (now : Scene T) (xs : List Noted) (word : ℕ)
+        → RunsSo (sends m) receives schedule entries now xs
+        ((Load, Word 3) ∷ (Swap 0, Word 3) ∷ (Load, Word 4) ∷ []) word → ⊥
+    -- nor is the last word of the run another one
+    pub leaves_another_word : (word : ℕ) → RunsSo (sends m) receives schedule entries last sent received word
+        → word ≡ 4

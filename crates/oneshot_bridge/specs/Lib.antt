@@ -1,0 +1,4 @@
+pub mod Walks
+pub mod OrdersRun
+pub mod Scripted
+pub mod Examples
