@@ -10,7 +10,7 @@ pub exchange-requires : goal.exchange-requires
 exchange-requires g c =
     (search rules, sender_waker_front c.self.inside.seat.me c.self.invariant.0 (subst (λ s. s.waker ≢ away) (sym c.self.view_is) c.requires.its_own))
 
-traded : (g : given.Over) (c : goal.After-exchange g) → Traded (λ s. WakerSlot s (waker_in c.self.inside.seat.me.1)) SenderSeat c.self.inside.seat.me c.exchange.new.seat.me c.exchange.result (message_in c.self.inside.seat.me.1) (waker_of c.args.new)
+traded : (g : given.Over) (c : goal.After-exchange g) → Traded (λ s. WakerSlot s (waker_in c.self.inside.seat.me.1)) (SenderSeat g.P.Promise.keeps) c.self.inside.seat.me c.exchange.new.seat.me c.exchange.result (message_in c.self.inside.seat.me.1) (waker_of c.args.new)
 traded g c =
     sender_waker_traded c.self.inside.seat.me c.exchange.new.seat.me c.self.invariant.0 (subst (λ s. s.waker ≢ away) (sym c.self.view_is) c.requires.its_own) (fits_waker c.args.new c.requires.no_message) c.exchange.ensures.2 c.exchange.ensures.3
 
