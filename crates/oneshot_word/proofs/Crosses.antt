@@ -31,7 +31,9 @@ WordSeat T H K P = Seat.the_row (Slot.the_row T H K) (View.the_row P)
 
 module _ (T H K P : RattleType) (g : Ghosts P.Denot T.Denot) where
   abbrev WordTable : RattleType
-  WordTable = Table.the_row (Slot.the_row T H K) (View.the_row P) P WordRule.the_row Global.the_row (rule.ghosts T H K P g (impl [] tnil dnil)) heap.ghosts
+  WordTable =
+      Table.the_row (Slot.the_row T H K) (View.the_row P) P WordRule.the_row Global.the_row
+      (rule.ghosts T H K P g (impl [] tnil dnil)) heap.ghosts
 
   abbrev pub Shared : RattleType
   Shared = Arc.the_row WordTable Global.the_row heap.ghosts
@@ -42,17 +44,23 @@ module _ (T H K P : RattleType) (g : Ghosts P.Denot T.Denot) (s : IsSend T) (u :
 
   table_send : IsSend (WordTable T H K P g)
   table_send =
-      table.the_send (Slot.the_row T H K) (View.the_row P) P WordRule.the_row Global.the_row (rule.ghosts T H K P g (impl [] tnil dnil)) heap.ghosts slot_send global.the_send frees
+      table.the_send (Slot.the_row T H K) (View.the_row P) P WordRule.the_row Global.the_row
+      (rule.ghosts T H K P g (impl [] tnil dnil)) heap.ghosts slot_send global.the_send frees
 
   table_sync : IsSync (WordTable T H K P g)
   table_sync =
-      table.the_sync (Slot.the_row T H K) (View.the_row P) P WordRule.the_row Global.the_row (rule.ghosts T H K P g (impl [] tnil dnil)) heap.ghosts slot_send global.the_send global.the_sync frees
+      table.the_sync (Slot.the_row T H K) (View.the_row P) P WordRule.the_row Global.the_row
+      (rule.ghosts T H K P g (impl [] tnil dnil)) heap.ghosts slot_send global.the_send global.the_sync frees
 
   shared_send : IsSend (Shared T H K P g)
-  shared_send = arc.the_send (WordTable T H K P g) Global.the_row heap.ghosts table_send global.the_send table_sync global.the_sync frees
+  shared_send =
+      arc.the_send (WordTable T H K P g) Global.the_row heap.ghosts table_send global.the_send table_sync
+      global.the_sync frees
 
   shared_sync : IsSync (Shared T H K P g)
-  shared_sync = arc.the_sync (WordTable T H K P g) Global.the_row heap.ghosts table_send global.the_send table_sync global.the_sync frees
+  shared_sync =
+      arc.the_sync (WordTable T H K P g) Global.the_row heap.ghosts table_send global.the_send table_sync
+      global.the_sync frees
 
   pub parts_send : AllSend (fields (the_type T H K P g))
   parts_send = (shared_send, (seat.the_send (Slot.the_row T H K) (View.the_row P) slot_send, tt))

@@ -30,7 +30,8 @@ module _ {T H K P : Type 0} (keeps : P → T → Type 0) (q : P) where
     sender_runs : Reaches xs ys word → Finds sender_moves (sender_at xs) op word m w m' w'
         → Lies (keeps q) Message (message_home (sender_next (sender_at xs) op (saw op word)) (receiver_at ys)) h
         → Lies any with_waker (waker_home (sender_next (sender_at xs) op (saw op word)) (receiver_at ys)) k
-        → Tied keeps q (stepped op word ∷ []) (h ∷ k ∷ []) (view q Sender (xs ++ (op, saw op word) ∷ []) ∷ view q Receiver ys ∷ [])
+        → Tied keeps q (stepped op word ∷ []) (h ∷ k ∷ [])
+        (view q Sender (xs ++ (op, saw op word) ∷ []) ∷ view q Receiver ys ∷ [])
     sender_runs order found lies lies' =
         let after = sym (phase_from-snoc sender_next fresh xs (op, saw op word)) in
         runs (xs ++ (op, saw op word) ∷ []) ys (sender_reaches order found)
@@ -40,7 +41,8 @@ module _ {T H K P : Type 0} (keeps : P → T → Type 0) (q : P) where
     receiver_runs : Reaches xs ys word → Finds receiver_moves (receiver_at ys) op word m w m' w'
         → Lies (keeps q) Message (message_home (sender_at xs) (receiver_next (receiver_at ys) op (saw op word))) h
         → Lies any with_waker (waker_home (sender_at xs) (receiver_next (receiver_at ys) op (saw op word))) k
-        → Tied keeps q (stepped op word ∷ []) (h ∷ k ∷ []) (view q Sender xs ∷ view q Receiver (ys ++ (op, saw op word) ∷ []) ∷ [])
+        → Tied keeps q (stepped op word ∷ []) (h ∷ k ∷ [])
+        (view q Sender xs ∷ view q Receiver (ys ++ (op, saw op word) ∷ []) ∷ [])
     receiver_runs order found lies lies' =
         let after = sym (phase_from-snoc receiver_next first ys (op, saw op word)) in
         runs xs (ys ++ (op, saw op word) ∷ []) (receiver_reaches order found)
@@ -57,7 +59,10 @@ module _ {T H K P : Type 0} (keeps : P → T → Type 0) (q : P) where
   module _ (me : Me (Slot T H K) (View P)) (op : Op) where
     -- what `Allows` asks of a state that was found
     abbrev Goes : (ℕ → Me (Slot T H K) (View P) → Type 0) → List ℕ → List (Home T H K) → List (View P) → ℕ → Type 0
-    Goes then ws hs vs id = (v : View P) × (a : Act (Slot T H K)) × Valid hs me.1 a × Tied keeps q (set ws 0 (stepped op (get_or ws 0 0))) (homes_after hs me.1 a) (set vs id v) × then (get_or ws 0 0) (v, carried_after me.1 a)
+    Goes then ws hs vs id =
+        (v : View P) × (a : Act (Slot T H K)) × Valid hs me.1 a
+        × Tied keeps q (set ws 0 (stepped op (get_or ws 0 0))) (homes_after hs me.1 a) (set vs id v)
+        × then (get_or ws 0 0) (v, carried_after me.1 a)
 
     -- what the seat carries, of which a message keeps its promise about this value
     abbrev Has : Front → Option (Bool × Bool) → P → Type 0
@@ -76,14 +81,19 @@ module _ {T H K P : Type 0} (keeps : P → T → Type 0) (q : P) where
                 view q Sender xs,
                 act,
                 valid,
-                subst (λ hs. Tied keeps q (stepped op found ∷ []) hs (view q Sender xs ∷ view q Receiver ys ∷ [])) (sym homes)
+                subst (λ hs. Tied keeps q (stepped op found ∷ []) hs (view q Sender xs ∷ view q Receiver ys ∷ []))
+                    (sym homes)
                     (sender_runs order finds lies lies'),
                 record {
                   about = sym same;
                   list = refl;
-                  seat = as_seat {owns = λ xs. sender_owns (sender_at xs)} refl (subst (λ p. SeatOf (keeps q) waker_first (sender_owns p) (carried_after me.1 act) m' w') (sym after) has);
+                  seat = as_seat {owns = λ xs. sender_owns (sender_at xs)} refl
+                      (subst (λ p. SeatOf (keeps q) waker_first (sender_owns p) (carried_after me.1 act) m' w')
+                      (sym after) has);
                   code = code;
-                  finds = as_read (carried_after me.1 act) (λ m w. Finds sender_moves (sender_at me.0.steps) op found (message_in me.1) (waker_in me.1) m w) (reads has) finds;
+                  finds = as_read (carried_after me.1 act)
+                      (λ m w. Finds sender_moves (sender_at me.0.steps) op found (message_in me.1) (waker_in me.1) m w)
+                      (reads has) finds;
                 },
               )
         ]
@@ -101,24 +111,31 @@ module _ {T H K P : Type 0} (keeps : P → T → Type 0) (q : P) where
                 view q Receiver ys,
                 act,
                 valid,
-                subst (λ hs. Tied keeps q (stepped op found ∷ []) hs (view q Sender xs ∷ view q Receiver ys ∷ [])) (sym homes)
+                subst (λ hs. Tied keeps q (stepped op found ∷ []) hs (view q Sender xs ∷ view q Receiver ys ∷ []))
+                    (sym homes)
                     (receiver_runs order finds lies lies'),
                 record {
                   about = sym same;
                   list = refl;
-                  seat = as_seat {owns = λ ys. receiver_owns (receiver_at ys)} refl (subst (λ at. SeatOf (keeps q) message_first (receiver_owns at) (carried_after me.1 act) m' w') (sym after) has);
+                  seat = as_seat {owns = λ ys. receiver_owns (receiver_at ys)} refl
+                      (subst (λ at. SeatOf (keeps q) message_first (receiver_owns at) (carried_after me.1 act) m' w')
+                      (sym after) has);
                   code = code;
-                  finds = as_read (carried_after me.1 act) (λ m w. Finds receiver_moves (receiver_at me.0.steps) op found (message_in me.1) (waker_in me.1) m w) (reads has) finds;
+                  finds = as_read (carried_after me.1 act)
+                      (λ m w. Finds receiver_moves (receiver_at me.0.steps) op found (message_in me.1) (waker_in me.1) m
+                      w) (reads has) finds;
                 },
               )
         ]
 
-    pub sender_allowed : (slots id : ℕ) → SenderSeat keeps me → SenderAsks me op → Allows Holds slots id me 0 (stepped op) (SenderStepped keeps me op)
+    pub sender_allowed : (slots id : ℕ) → SenderSeat keeps me → SenderAsks me op
+        → Allows Holds slots id me 0 (stepped op) (SenderStepped keeps me op)
     sender_allowed slots id seat may s tied _ at _ =
         let same = knows tied id at in
         sender_goes same seat may (sits tied id (at ∙ (λ i. maybe.some (view (same i) (seat.role i) me.0.steps))))
 
-    pub receiver_allowed : (slots id : ℕ) → ReceiverSeat keeps me → ReceiverAsks me op → Allows Holds slots id me 0 (stepped op) (ReceiverStepped keeps me op)
+    pub receiver_allowed : (slots id : ℕ) → ReceiverSeat keeps me → ReceiverAsks me op
+        → Allows Holds slots id me 0 (stepped op) (ReceiverStepped keeps me op)
     receiver_allowed slots id seat may s tied _ at _ =
         let same = knows tied id at in
         receiver_goes same seat may (sits tied id (at ∙ (λ i. maybe.some (view (same i) (seat.role i) me.0.steps))))

@@ -18,13 +18,16 @@ dealt_seat about = (view about Dealer [], (0, Empty) ∷ [])
 module _ {T H K P : Type 0} (keeps : P → T → Type 0) (q : P) where
   -- the maker takes the message's slot
   deals : {ws : List ℕ} {hs : List (Home T H K)} {vs : List (View P)} {id : ℕ} → Sits keeps q ws hs vs id Maker []
-      → (v : View P) × (a : Act (Slot T H K)) × Valid hs [] a × Tied keeps q (set ws 0 (get_or ws 0 0)) (homes_after hs [] a) (set vs id v) × ((v, carried_after [] a) ≡ dealt_seat q)
+      → (v : View P) × (a : Act (Slot T H K)) × Valid hs [] a
+      × Tied keeps q (set ws 0 (get_or ws 0 0)) (homes_after hs [] a) (set vs id v)
+      × ((v, carried_after [] a) ≡ dealt_seat q)
   deals maker_sits = (view q Dealer [], takes 0 Empty, refl, dealt, refl)
 
   pub deal_allowed : (slots id : ℕ) (me : Me (Slot T H K) (View P)) → me ≡ (view q Maker [], [])
       → Allows (Holds keeps q) slots id me 0 (λ n. n) (λ r n. n ≡ dealt_seat me.0.about)
   deal_allowed slots id me it =
-      subst (λ (m : Me (Slot T H K) (View P)). Allows (Holds keeps q) slots id m 0 (λ n. n) (λ r n. n ≡ dealt_seat m.0.about))
+      subst (λ (m : Me (Slot T H K) (View P)). Allows (Holds keeps q) slots id m 0 (λ n. n)
+      (λ r n. n ≡ dealt_seat m.0.about))
       (sym it) (λ s tied _ at _. deals (sits tied id at))
 
   -- its seat is cut into the sender's and the receiver's
@@ -35,7 +38,8 @@ module _ {T H K P : Type 0} (keeps : P → T → Type 0) (q : P) where
   pub split_allowed : (id : ℕ) (v : View P) → v ≡ view q Dealer []
       → Splits (Holds {T = T} {H = H} {K = K} keeps q) id v (view v.about Sender []) (view v.about Receiver [])
   split_allowed id v it =
-      subst (λ (v : View P). Splits (Holds {T = T} {H = H} {K = K} keeps q) id v (view v.about Sender []) (view v.about Receiver []))
+      subst (λ (v : View P). Splits (Holds {T = T} {H = H} {K = K} keeps q) id v (view v.about Sender [])
+      (view v.about Receiver []))
       (sym it) (λ s tied at. splits (sits tied id at))
 
   pub sender_seated : SenderSeat {T = T} {H = H} {K = K} keeps (view q Sender [], (0, Empty) ∷ [])

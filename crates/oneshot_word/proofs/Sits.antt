@@ -28,19 +28,27 @@ module _ {T H K P : Type 0} (keeps : P → T → Type 0) where
         → Sits q (w ∷ []) (h ∷ k ∷ []) (view q Sender xs ∷ view q Receiver ys ∷ []) 1 Receiver ys
 
 module _ {T H K P : Type 0} {keeps : P → T → Type 0} where
-  pub sits : {q : P} {ws : List ℕ} {hs : List (Home T H K)} {vs : List (View P)} {r : Role} {xs : List Noted} → Tied keeps q ws hs vs → (id : ℕ) → get_elem? vs id ≡ maybe.some (view q r xs) → Sits keeps q ws hs vs id r xs
-  sits {q} opened zero at = subst (λ (v : View P). Sits {T = T} {H = H} {K = K} keeps q (3 ∷ []) (bare ∷ bare ∷ []) (view q Maker [] ∷ []) 0 v.role v.steps) (some-injective _ _ at) maker_sits
-  sits {q} dealt zero at = subst (λ (v : View P). Sits {T = T} {H = H} {K = K} keeps q (3 ∷ []) (out ∷ bare ∷ []) (view q Dealer [] ∷ []) 0 v.role v.steps) (some-injective _ _ at) dealer_sits
+  pub sits : {q : P} {ws : List ℕ} {hs : List (Home T H K)} {vs : List (View P)} {r : Role} {xs : List Noted}
+      → Tied keeps q ws hs vs → (id : ℕ) → get_elem? vs id ≡ maybe.some (view q r xs) → Sits keeps q ws hs vs id r xs
+  sits {q} opened zero at =
+      subst (λ (v : View P). Sits {T = T} {H = H} {K = K} keeps q (3 ∷ []) (bare ∷ bare ∷ []) (view q Maker [] ∷ []) 0
+      v.role v.steps) (some-injective _ _ at) maker_sits
+  sits {q} dealt zero at =
+      subst (λ (v : View P). Sits {T = T} {H = H} {K = K} keeps q (3 ∷ []) (out ∷ bare ∷ []) (view q Dealer [] ∷ []) 0
+      v.role v.steps) (some-injective _ _ at) dealer_sits
   sits {q} (runs {w} {h} {k} xs ys order lies lies') zero at =
-      subst (λ (v : View P). Sits {T = T} {H = H} {K = K} keeps q (w ∷ []) (h ∷ k ∷ []) (view q Sender xs ∷ view q Receiver ys ∷ []) 0 v.role v.steps)
+      subst (λ (v : View P). Sits {T = T} {H = H} {K = K} keeps q (w ∷ []) (h ∷ k ∷ [])
+      (view q Sender xs ∷ view q Receiver ys ∷ []) 0 v.role v.steps)
       (some-injective _ _ at) (sender_sits ys order lies lies')
   sits {q} (runs {w} {h} {k} xs ys order lies lies') (suc zero) at =
-      subst (λ (v : View P). Sits {T = T} {H = H} {K = K} keeps q (w ∷ []) (h ∷ k ∷ []) (view q Sender xs ∷ view q Receiver ys ∷ []) 1 v.role v.steps)
+      subst (λ (v : View P). Sits {T = T} {H = H} {K = K} keeps q (w ∷ []) (h ∷ k ∷ [])
+      (view q Sender xs ∷ view q Receiver ys ∷ []) 1 v.role v.steps)
       (some-injective _ _ at) (receiver_sits xs order lies lies')
   sits _ _ at = absurd (some-ne-none _ (sym at))
 
   -- each view has the value that the messages keep their promise about
-  pub knows : {q : P} {ws : List ℕ} {hs : List (Home T H K)} {vs : List (View P)} {v : View P} → Tied keeps q ws hs vs → (id : ℕ) → get_elem? vs id ≡ maybe.some v → v.about ≡ q
+  pub knows : {q : P} {ws : List ℕ} {hs : List (Home T H K)} {vs : List (View P)} {v : View P} → Tied keeps q ws hs vs
+      → (id : ℕ) → get_elem? vs id ≡ maybe.some v → v.about ≡ q
   knows opened zero at = sym (ap (λ (v : View P). v.about) (some-injective _ _ at))
   knows dealt zero at = sym (ap (λ (v : View P). v.about) (some-injective _ _ at))
   knows (runs xs ys order lies lies') zero at = sym (ap (λ (v : View P). v.about) (some-injective _ _ at))

@@ -1,5 +1,6 @@
 -- What each step on the word notes of its seat: the operation with the word that was found.
--- The table calls a note with the number that the word really held, and nothing else says that a list tells what was found: the rule speaks of lists alone. So each is to be read.
+-- The table calls a note with the number that the word really held, and nothing else says that a list tells
+-- what was found: the rule speaks of lists alone. So each is to be read.
 use Rattle.std.specs.Prelude.{ℕ}
 use Rattle.atomic_table.specs.Table.{Me, Step}
 use Rattle.oneshot_machine.specs.declared.states.Op.TheVariants.{Load, Store, Swap, Exchange, Add, Xor}

@@ -1,4 +1,5 @@
--- The rule of the table as its reader wants it: both lists, the word, and whether each slot is out, empty, or holds what.
+-- The rule of the table as its reader wants it: both lists, the word, and whether each slot is out, empty, or
+-- holds what.
 use Rattle.std.specs.Prelude.{◌≡◌, ℕ, true, false, List, [], ◌∷◌, Some, None}
 use Rattle.oneshot_machine.specs.Noted.{Noted}
 use Rattle.oneshot_machine.specs.Phases.{By, sending, dropping}
@@ -75,4 +76,5 @@ pub data Ruled {T H K P : Type 0} (q : P) : List ℕ → List (Home T H K) → L
 -- Whatever the table is under its rule, it is as the rows say.
 abbrev pub RuleReads : {T P : Type 0} (H K : Type 0) → (P → T → Type 0) → Type 0
 RuleReads {T} {P} H K keeps =
-    (q : P) (words : List ℕ) (homes : List (Home T H K)) (views : List (View P)) → Tied keeps q words homes views → Ruled q words homes views
+    (q : P) (words : List ℕ) (homes : List (Home T H K)) (views : List (View P)) → Tied keeps q words homes views
+    → Ruled q words homes views

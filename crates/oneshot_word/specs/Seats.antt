@@ -108,7 +108,8 @@ pub record IsAt (shared seat : TableId) : Type 0 where
   pub slots : seat.slots ≡ 2
 
 -- an end's seat: whose it is, and what it carries by how far its end is
-pub record SeatIs {T H K P : Type 0} (keeps : P → T → Type 0) (whose : Role) (front : Front) (owns : List Noted → Option (Bool × Bool))
+pub record SeatIs {T H K P : Type 0} (keeps : P → T → Type 0) (whose : Role) (front : Front)
+    (owns : List Noted → Option (Bool × Bool))
     (me : Me (Slot T H K) (View P)) : Type 0 where
   pub role : me.0.role ≡ whose
   pub has : SeatOf (keeps me.0.about) front (owns me.0.steps) me.1 (message_in me.1) (waker_in me.1)
