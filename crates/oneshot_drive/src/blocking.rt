@@ -1,6 +1,6 @@
 //! The calls of the receiver that wait for the message.
 
-ghost use Rattle.std.specs.Prelude.{◌≡◌, Err, IsErr, false, []};
+ghost use Rattle.std.specs.Prelude.{◌≡◌, Err, IsErr, IfOk, false, []};
 ghost use Rattle.oneshot_errors.specs.declared.recv_timeout.RecvTimeoutError.TheVariants.{Timeout, Disconnected};
 ghost use Rattle.oneshot_machine.specs.declared.machine.receiver.ReceiverPos.TheVariants.{Ref};
 ghost use Rattle.oneshot_machine.specs.declared.machine.by_ref.RefPos.TheVariants.{StartLoad};
@@ -37,6 +37,8 @@ pub fn recv_ref<T, W: Drop, G: BlockGround<T, W>>(
     ensures leaves { LeavesClosed result (receiver_of (G.state g.new).log) }
     ensures stays { IsClosed (receiver_of (G.state g.old).log) → IsErr result }
     ensures hand { Hands hand.old hand.new (receiver_of (G.state g.new).log) }
+    ensures given { IfOk result (λ message. G.gives g.old message) }
+    ensures keeps { G.keeps g.old g.new }
 {
     match receive(g, rt, hand, false) {
         Ok(message) => Ok(message),
@@ -68,6 +70,8 @@ pub fn recv_deadline<T, W: Drop, G: BlockGround<T, W>>(
     ensures leaves { LeavesTimed result (receiver_of (G.state g.new).log) }
     ensures stays { IsClosed (receiver_of (G.state g.old).log) → result ≡ Err Disconnected }
     ensures hand { Hands hand.old hand.new (receiver_of (G.state g.new).log) }
+    ensures given { IfOk result (λ message. G.gives g.old message) }
+    ensures keeps { G.keeps g.old g.new }
 {
     receive(g, rt, hand, true)
 }
@@ -93,6 +97,8 @@ pub fn recv_timeout<T, W: Drop, G: BlockGround<T, W>>(
     ensures stays { IsClosed (receiver_of (G.state g.old).log) → result ≡ Err Disconnected }
     ensures hand { Hands hand.old hand.new (receiver_of (G.state g.new).log) }
     ensures endless { representable ≡ false → ¬ (result ≡ Err Timeout) }
+    ensures given { IfOk result (λ message. G.gives g.old message) }
+    ensures keeps { G.keeps g.old g.new }
 {
     g.over();
     receive(g, rt, hand, representable)
@@ -114,6 +120,8 @@ fn receive<T, W: Drop, G: BlockGround<T, W>>(
     ensures stays { IsClosed (receiver_of (G.state g.old).log) → result ≡ Err Disconnected }
     ensures hand { Hands hand.old hand.new (receiver_of (G.state g.new).log) }
     ensures endless { timed ≡ false → ¬ (result ≡ Err Timeout) }
+    ensures given { IfOk result (λ message. G.gives g.old message) }
+    ensures keeps { G.keeps g.old g.new }
 {
     match find(g, rt, hand, timed) {
         Found::Message => {
@@ -147,6 +155,7 @@ pub fn recv<T, W: Drop, G: BlockGround<T, W>>(
         (recv_reply result) [] (received result) }
     ensures stays { IsClosed (receiver_of (G.state g.old).log) → IsErr result }
     ensures hand { Returns hand.old hand.new }
+    ensures given { IfOk result (λ message. G.gives g.old message) }
 {
     let Found::Message = find(g, rt, hand, false) else {
         g.free();

@@ -14,6 +14,9 @@ pub trait SenderGround<T, W> {
     // What the ground has done, with the message's slot and the waker's as the end sees them.
     ghost state: { Self → State T W };
 
+    // What the ground asks of a message that it takes in.
+    ghost admits: { Self → T → Type 0 };
+
     /// Makes an operation on the word, and gives the word before.
     fn word(&mut self, op: Op) -> u8
         requires { SenderAsks op (state self.old) }
@@ -22,7 +25,8 @@ pub trait SenderGround<T, W> {
 
     /// Puts the message into its slot, which is the end's and empty.
     fn write_message(&mut self, message: T)
-        requires { (state self.old).message ≡ vacant }
+        requires slot { (state self.old).message ≡ vacant }
+        requires kept { admits self.old message }
         ensures list { Grows (state self.old).log (state self.new).log (wrote message ∷ []) }
         ensures message { (state self.new).message ≡ held message }
         ensures waker { (state self.new).waker ≡ (state self.old).waker };
@@ -77,6 +81,12 @@ pub trait ReceiverGround<T, W> {
 
     ghost keeps_on: { (a b c : Self) → keeps a b → keeps b c → keeps a c };
 
+    // What holds of a message that the ground hands out.
+    ghost gives: { Self → T → Type 0 };
+
+    // What a later state says of a message, an earlier one says of it too.
+    ghost gives_on: { (a b : Self) (x : T) → keeps a b → gives b x → gives a x };
+
     /// Makes an operation on the word, and gives the word before.
     fn word(&mut self, op: Op) -> u8
         requires { ReceiverAsks op (state self.old) }
@@ -89,6 +99,7 @@ pub trait ReceiverGround<T, W> {
         requires { (x : T) × ((state self.old).message ≡ held x) }
         ensures list { Grows (state self.old).log (state self.new).log (took result ∷ []) }
         ensures was { (state self.old).message ≡ held result }
+        ensures given { gives self.old result }
         ensures message { (state self.new).message ≡ vacant }
         ensures waker { (state self.new).waker ≡ (state self.old).waker }
         ensures keeps { keeps self.old self.new };
@@ -137,14 +148,16 @@ pub trait BlockGround<T, W>: ReceiverGround<T, W> {
         requires { Parks timed (receiver_of (Self.state self.old).log) }
         ensures list { (woken : Bool) × Grows (Self.state self.old).log (Self.state self.new).log (parked woken ∷ []) }
         ensures message { (Self.state self.new).message ≡ (Self.state self.old).message }
-        ensures waker { (Self.state self.new).waker ≡ (Self.state self.old).waker };
+        ensures waker { (Self.state self.new).waker ≡ (Self.state self.old).waker }
+        ensures keeps { Self.keeps self.old self.new };
 
     /// Whether the deadline is over, by a reading of the clock. A reading that fails counts as past every
     /// deadline. The first answer of a timeout may rest on the reading that its sum was made from.
     fn over(&mut self) -> bool
         ensures list { Grows (Self.state self.old).log (Self.state self.new).log (clocked result ∷ []) }
         ensures message { (Self.state self.new).message ≡ (Self.state self.old).message }
-        ensures waker { (Self.state self.new).waker ≡ (Self.state self.old).waker };
+        ensures waker { (Self.state self.new).waker ≡ (Self.state self.old).waker }
+        ensures keeps { Self.keeps self.old self.new };
 }
 
 /// What the receiver does to the world in a poll.

@@ -1,7 +1,7 @@
 //! The calls of a receiver that is a future: a poll, a receive that waits for nobody, and its drop.
 
-ghost use Rattle.std.specs.Prelude.{◌≡◌, [], Some, Err};
-ghost use Rattle.futures.specs.Poll.{OnPending};
+ghost use Rattle.std.specs.Prelude.{◌≡◌, [], Some, Err, IfOk};
+ghost use Rattle.futures.specs.Poll.{IfReady, OnPending};
 ghost use Rattle.oneshot_errors.specs.declared.try_recv.TryRecvError.TheVariants as Tried;
 ghost use Rattle.oneshot_machine.specs.declared.machine.Reply.TheVariants as R;
 ghost use Rattle.oneshot_machine.specs.declared.machine.receiver.ReceiverPos.TheVariants.{Future, AsyncDrop};
@@ -43,6 +43,7 @@ pub fn poll<T, W: Drop, G: TaskGround<T, W>>(g: &mut G) -> Poll<Result<T, RecvEr
     ensures bounded { MakesAtMost 4 operates (G.state g.old).log (G.state g.new).log }
     ensures own_copy { WritesItsCopy (G.state g.old).log (G.state g.new).log }
     ensures heard { OnPending result (G.heard g.new) }
+    ensures given { IfReady result (λ answer. IfOk answer (λ message. G.gives g.old message)) }
     ensures keeps { G.keeps g.old g.new }
 {
     match meet(g) {
@@ -161,6 +162,7 @@ pub fn async_try_recv<T, W, G: ReceiverGround<T, W>>(g: &mut G) -> Result<T, Try
     ensures registered { StaysRegistered result (receiver_of (G.state g.old).log)
         (receiver_of (G.state g.new).log) }
     ensures wakers { HandsNoWaker (G.state g.old).log (G.state g.new).log }
+    ensures given { IfOk result (λ message. G.gives g.old message) }
     ensures keeps { G.keeps g.old g.new }
 {
     match g.word(Op::Load) {

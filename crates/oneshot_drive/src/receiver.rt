@@ -1,6 +1,6 @@
 //! The calls of the receiver that never block.
 
-ghost use Rattle.std.specs.Prelude.{◌≡◌, Err, []};
+ghost use Rattle.std.specs.Prelude.{◌≡◌, Err, [], IfOk};
 ghost use Rattle.oneshot_errors.specs.declared.try_recv.TryRecvError.TheVariants.{Disconnected};
 ghost use Rattle.oneshot_machine.specs.declared.machine.Reply.TheVariants as R;
 ghost use Rattle.oneshot_machine.specs.declared.machine.receiver.ReceiverStart.TheVariants.{TryRecv, Drop};
@@ -27,6 +27,8 @@ pub fn try_recv<T, W, G: ReceiverGround<T, W>>(g: &mut G) -> Result<T, TryRecvEr
     ensures leaves { Leaves result (receiver_of (G.state g.new).log) }
     ensures stays { IsClosed (receiver_of (G.state g.old).log) → result ≡ Err Disconnected }
     ensures bounded { MakesAtMost 2 operates (G.state g.old).log (G.state g.new).log }
+    ensures given { IfOk result (λ message. G.gives g.old message) }
+    ensures keeps { G.keeps g.old g.new }
 {
     match g.word(Op::Load) {
         MESSAGE => {

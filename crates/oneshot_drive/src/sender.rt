@@ -19,7 +19,8 @@ use oneshot_machine::states::{DISCONNECTED, EMPTY, MESSAGE, Op, RECEIVING};
 /// - `false`: the receiver was gone, or went while `send` took its waker. The message is in its slot, and
 ///   `g` owns the block: `into_inner` or `drop_error` ends it.
 pub fn send<T, W, G: SenderGround<T, W>>(g: &mut G, message: T) -> bool
-    requires { IsFresh (G.state g.old) }
+    requires fresh { IsFresh (G.state g.old) }
+    requires kept { G.admits g.old message }
     ensures run { SenderRan Send (G.state g.old).log (G.state g.new).log (send_reply result) (message ∷ []) [] }
     ensures refused { result ≡ false →
         IsError (held message) (G.state g.new) }

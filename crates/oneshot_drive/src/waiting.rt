@@ -41,6 +41,7 @@ pub(crate) fn find<T, W: Drop, G: BlockGround<T, W>>(
     ensures ends { EndsAt timed result (G.state g.new) }
     ensures stays { IsClosed (receiver_of (G.state g.old).log) → result ≡ F.Closed }
     ensures hand { HandAt result hand.old hand.new }
+    ensures keeps { G.keeps g.old g.new }
 {
     match g.word(Op::Load) {
         MESSAGE => Found::Message,
@@ -61,6 +62,7 @@ fn store_and_wait<T, W: Drop, G: BlockGround<T, W>>(
     ensures went { (way : Way timed) → Went (write_of way) (end_of way result) (G.state g.old).log (G.state g.new).log }
     ensures ends { EndsAt timed result (G.state g.new) }
     ensures hand { HandAt result hand.old hand.new }
+    ensures keeps { G.keeps g.old g.new }
 {
     let Some(waker) = hand.take() else {
         unreachable!()
@@ -89,6 +91,7 @@ fn wait<T, W: Drop, G: BlockGround<T, W>>(
     ensures went { (way : Way timed) → Went (wait_of way) (end_of way result) (G.state g.old).log (G.state g.new).log }
     ensures ends { EndsAt timed result (G.state g.new) }
     ensures hand { WaitedHand result hand.old hand.new }
+    ensures keeps { G.keeps g.old g.new }
 {
     for _ in rt.forever() {
         if is_over(g, timed) {
@@ -110,6 +113,7 @@ fn is_over<T, W, G: BlockGround<T, W>>(g: &mut G, timed: bool) -> bool
     ensures went { (way : Way timed) → Went (wait_of way) (Goes (asked_of way result)) (G.state g.old).log (G.state g.new).log }
     ensures waits { Stands (waits blocked) (G.state g.new) }
     ensures deadline { result ≡ true → timed ≡ true }
+    ensures keeps { G.keeps g.old g.new }
 {
     if timed { g.over() } else { false }
 }
@@ -120,6 +124,7 @@ fn stop<T, W: Drop, G: BlockGround<T, W>>(g: &mut G, rt: &impl Wait, hand: &mut 
     ensures went { Went (Timed EndSwap) (ref_end result) (G.state g.old).log (G.state g.new).log }
     ensures ends { EndsAt true result (G.state g.new) }
     ensures hand { WaitedHand result hand.old hand.new }
+    ensures keeps { G.keeps g.old g.new }
 {
     match g.word(Op::Swap(EMPTY)) {
         RECEIVING => {
@@ -138,6 +143,7 @@ fn wait_late<T, W, G: BlockGround<T, W>>(g: &mut G, rt: &impl Wait) -> Found
     ensures went { Went (Timed LatePark) (ref_end result) (G.state g.old).log (G.state g.new).log }
     ensures ends { EndsAt true result (G.state g.new) }
     ensures sent { ¬ (result ≡ F.Nothing) }
+    ensures keeps { G.keeps g.old g.new }
 {
     for _ in rt.forever() {
         g.park(false);

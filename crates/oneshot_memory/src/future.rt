@@ -46,6 +46,11 @@ impl<'a, 't, T: Drop, R: Wait> ReceiverGround<T, TaskWaker<'t>> for MemoryFuture
 
     ghost keeps_on = { λ a b c f g. tt };
 
+    // It says nothing of a message that it hands out.
+    ghost gives = { λ s m. ⊤ };
+
+    ghost gives_on = { λ a b m k g. tt };
+
     fn word(&mut self, op: Op) -> u8 {
         self.receiver.word(op)
     }

@@ -275,6 +275,11 @@ impl<'a, T: Drop, W: Drop + Wakes, R: Wait> ReceiverGround<T, W> for MemoryRecei
 
     ghost keeps_on = { λ a b c f g. tt };
 
+    // It says nothing of a message that it hands out.
+    ghost gives = { λ s m. ⊤ };
+
+    ghost gives_on = { λ a b m k g. tt };
+
     fn word(&mut self, op: Op) -> u8 {
         let before = self.operate(op);
         // One that waits makes its pause in its next park.

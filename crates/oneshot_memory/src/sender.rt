@@ -1,6 +1,6 @@
 //! A sender's ground in memory.
 
-ghost use Rattle.std.specs.Prelude.{◌≡◌, map, if◌then◌else◌};
+ghost use Rattle.std.specs.Prelude.{◌≡◌, ⊤, map, if◌then◌else◌};
 ghost use Rattle.oneshot_drive.specs.BetweenCalls.{IsFresh};
 ghost use Rattle.oneshot_memory.specs.declared.sender.Meanwhile.TheVariants.{Waits, Stops, Leaves};
 ghost use Rattle.oneshot_memory.specs.Events.{event_of};
@@ -119,6 +119,9 @@ impl<'a, T, W, R: Wait> MemorySender<'a, T, W, R> {
 
 impl<'a, T: Drop, W: Drop, R: Wait> SenderGround<T, W> for MemorySender<'a, T, W, R> {
     ghost state = { λ s. s.state };
+
+    // It takes in any message.
+    ghost admits = { λ s m. ⊤ };
 
     fn word(&mut self, op: Op) -> u8 {
         let before = self.word;

@@ -80,3 +80,17 @@ returns-in-Nothing-clause-hand g c = (let ends = rw c.in-Nothing.is at c.find.en
 
 pub returns-in-Nothing-clause-endless : goal.returns-in-Nothing-clause-endless
 returns-in-Nothing-clause-endless g c untimed out = let ends = rw c.in-Nothing.is at c.find.ensures.ends in let timed = ends.0 in absurd (cc)
+
+pub returns-in-Message-clause-given : goal.returns-in-Message-clause-given
+returns-in-Message-clause-given g c =
+    let on = g.G.ReceiverGround.gives_on in
+    on _ _ _ c.find.ensures.keeps (on _ _ _ c.word.ensures.keeps c.take_message.ensures.given)
+
+pub returns-in-Message-clause-keeps : goal.returns-in-Message-clause-keeps
+returns-in-Message-clause-keeps g c =
+    let on = g.G.ReceiverGround.keeps_on in
+    on _ _ _ c.find.ensures.keeps (on _ _ _ c.word.ensures.keeps c.take_message.ensures.keeps)
+
+pub returns-in-Unclosed-clause-keeps : goal.returns-in-Unclosed-clause-keeps
+returns-in-Unclosed-clause-keeps g c =
+    g.G.ReceiverGround.keeps_on _ _ _ c.find.ensures.keeps c.word-in-Unclosed.ensures.keeps

@@ -11,7 +11,7 @@ free-requires g c =
     record { message = none.message; waker = none.waker }
 
 pub returns-in_default : goal.returns-in_default
-returns-in_default g c = record { run = gone_freed (gone (g.G.ReceiverGround.state c.find.new.g) c.find.result c.in_default.not-Message c.find.ensures.ends) (c.find.ensures.went by_value) c.free.ensures.list; stays = λ _. refl; hand = hand_back (g.G.ReceiverGround.state c.find.new.g) c.find.result c.find.ensures.ends c.find.ensures.hand }
+returns-in_default g c = record { run = gone_freed (gone (g.G.ReceiverGround.state c.find.new.g) c.find.result c.in_default.not-Message c.find.ensures.ends) (c.find.ensures.went by_value) c.free.ensures.list; stays = λ _. refl; hand = hand_back (g.G.ReceiverGround.state c.find.new.g) c.find.result c.find.ensures.ends c.find.ensures.hand; given = tt }
 
 pub take_message-message-requires : goal.take_message-message-requires
 take_message-message-requires g c = (let ends = rw c.in-Message.is at c.find.ensures.ends in is_in (has_message ends.2).message)
@@ -24,3 +24,7 @@ returns-clause-run g c = full_freed c.take_message-message.result (rw c.in-Messa
 
 pub returns-clause-hand : goal.returns-clause-hand
 returns-clause-hand g c = hand_back (g.G.ReceiverGround.state c.find.new.g) c.find.result c.find.ensures.ends c.find.ensures.hand
+
+pub returns-clause-given : goal.returns-clause-given
+returns-clause-given g c =
+    g.G.ReceiverGround.gives_on _ _ _ c.find.ensures.keeps c.take_message-message.ensures.given

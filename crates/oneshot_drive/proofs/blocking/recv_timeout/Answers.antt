@@ -1,4 +1,5 @@
 -- The goals that `recv_timeout` leaves.
+use Rattle.std.proofs.lemmas.Result.{IfOk-weaker}
 use Rattle.oneshot_drive.proofs.Receives.{clock_rests, clock_ready, clock_closed, sum_ran}
 use Rattle.oneshot_drive.proofs.blocking.recv_timeout.Goals as goal
 
@@ -13,3 +14,11 @@ returns-clause-run g c = sum_ran c.over.result c.over.ensures.list c.receive.ens
 
 pub returns-clause-stays : goal.returns-clause-stays
 returns-clause-stays g c is_closed = c.receive.ensures.stays (clock_closed c.over.result c.over.ensures.list is_closed)
+
+pub returns-clause-given : goal.returns-clause-given
+returns-clause-given g c =
+    IfOk-weaker _ _ _ (λ x. g.G.ReceiverGround.gives_on _ _ x c.over.ensures.keeps) c.receive.ensures.given
+
+pub returns-clause-keeps : goal.returns-clause-keeps
+returns-clause-keeps g c =
+    g.G.ReceiverGround.keeps_on _ _ _ c.over.ensures.keeps c.receive.ensures.keeps

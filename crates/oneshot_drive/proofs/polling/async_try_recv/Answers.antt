@@ -82,3 +82,8 @@ returns-in_default-clause-registered g c unsent = stays_registered c.word.result
 
 pub returns-in_default-clause-wakers : goal.returns-in_default-clause-wakers
 returns-in_default-clause-wakers g c = load_alone c.word.result c.word.ensures.list
+
+pub returns-in-4-clause-given : goal.returns-in-4-clause-given
+returns-in-4-clause-given g c =
+    let on = g.G.ReceiverGround.gives_on in
+    on _ _ _ c.word.ensures.keeps (on _ _ _ c.word-in-4.ensures.keeps c.take_message.ensures.given)

@@ -65,3 +65,8 @@ returns-in-Nothing-clause-bounded g c = poll_few (returns-in-Nothing-clause-run 
 
 pub returns-in_default-clause-bounded : goal.returns-in_default-clause-bounded
 returns-in_default-clause-bounded g c = poll_few (returns-in_default-clause-run g c)
+
+pub returns-in-Message-clause-given : goal.returns-in-Message-clause-given
+returns-in-Message-clause-given g c =
+    let on = g.G.ReceiverGround.gives_on in
+    on _ _ _ c.meet.ensures.keeps (on _ _ _ c.word.ensures.keeps c.take_message.ensures.given)

@@ -63,3 +63,13 @@ returns-in-3-clause-bounded g c = try_recv_few (returns-in-3-clause-run g c)
 
 pub returns-in_default-clause-bounded : goal.returns-in_default-clause-bounded
 returns-in_default-clause-bounded g c = try_recv_few (returns-in_default-clause-run g c)
+
+pub returns-in-4-clause-given : goal.returns-in-4-clause-given
+returns-in-4-clause-given g c =
+    let on = g.G.ReceiverGround.gives_on in
+    on _ _ _ c.word.ensures.keeps (on _ _ _ c.word-in-4.ensures.keeps c.take_message.ensures.given)
+
+pub returns-in-4-clause-keeps : goal.returns-in-4-clause-keeps
+returns-in-4-clause-keeps g c =
+    let on = g.G.ReceiverGround.keeps_on in
+    on _ _ _ c.word.ensures.keeps (on _ _ _ c.word-in-4.ensures.keeps c.take_message.ensures.keeps)

@@ -43,3 +43,7 @@ returns-in_default-clause-ends g c =
 
 pub returns-in_default-clause-hand : goal.returns-in_default-clause-hand
 returns-in_default-clause-hand g c = returned c.args.hand.now
+
+pub returns-in-3-clause-keeps : goal.returns-in-3-clause-keeps
+returns-in-3-clause-keeps g c =
+    g.G.ReceiverGround.keeps_on _ _ _ c.word.ensures.keeps c.store_and_wait.ensures.keeps

@@ -13,3 +13,6 @@ returns-then-timed-clause-waits g c = stands_on (clocked c.over.result ∷ []) r
 
 pub returns-else-timed-clause-went : goal.returns-else-timed-clause-went
 returns-else-timed-clause-went g c way = not_asked way (g.G.ReceiverGround.state c.args.g.now).log c.if-timed.false
+
+pub returns-else-timed-clause-keeps : goal.returns-else-timed-clause-keeps
+returns-else-timed-clause-keeps g c = g.G.ReceiverGround.keeps_same _

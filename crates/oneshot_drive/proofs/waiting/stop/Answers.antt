@@ -40,3 +40,11 @@ pub returns-in_default-clause-went : goal.returns-in_default-clause-went
 returns-in_default-clause-went g c =
     let late = stopped_late (stopped c.word.result c.requires c.word.ensures.finds c.word.ensures.list) (search rules) (search rules) (search rules) in
     late_went c.wait_late.result c.word.result late.word c.word.ensures.list c.wait_late.ensures.went
+
+pub returns-in-0-clause-keeps : goal.returns-in-0-clause-keeps
+returns-in-0-clause-keeps g c =
+    g.G.ReceiverGround.keeps_on _ _ _ c.word.ensures.keeps c.withdraw.ensures.keeps
+
+pub returns-in_default-clause-keeps : goal.returns-in_default-clause-keeps
+returns-in_default-clause-keeps g c =
+    g.G.ReceiverGround.keeps_on _ _ _ c.word.ensures.keeps c.wait_late.ensures.keeps

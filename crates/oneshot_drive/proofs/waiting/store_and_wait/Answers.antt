@@ -47,3 +47,18 @@ pub returns-else-word-eq-MESSAGE-clause-hand : goal.returns-else-word-eq-MESSAGE
 returns-else-word-eq-MESSAGE-clause-hand g c =
     let is : c.args.hand.now ≡ Some c.in-Some.waker = search rules in
     back c.in-Some.waker c.withdraw.result is (waker_kept c.word-word.ensures.finds c.write_waker.ensures.waker (stored_there (stored c.word-word.result (wrote_waker c.requires.open c.write_waker.ensures.list c.write_waker.ensures.message c.write_waker.ensures.waker) c.word-word.ensures.finds c.word-word.ensures.list) c.if-word-eq-EMPTY.false)) c.withdraw.ensures.was
+
+pub returns-then-word-eq-EMPTY-clause-keeps : goal.returns-then-word-eq-EMPTY-clause-keeps
+returns-then-word-eq-EMPTY-clause-keeps g c =
+    let on = g.G.ReceiverGround.keeps_on in
+    on _ _ _ c.write_waker.ensures.keeps (on _ _ _ c.word-word.ensures.keeps c.wait.ensures.keeps)
+
+pub returns-then-word-eq-MESSAGE-clause-keeps : goal.returns-then-word-eq-MESSAGE-clause-keeps
+returns-then-word-eq-MESSAGE-clause-keeps g c =
+    let on = g.G.ReceiverGround.keeps_on in
+    on _ _ _ c.write_waker.ensures.keeps (on _ _ _ c.word-word.ensures.keeps c.withdraw.ensures.keeps)
+
+pub returns-else-word-eq-MESSAGE-clause-keeps : goal.returns-else-word-eq-MESSAGE-clause-keeps
+returns-else-word-eq-MESSAGE-clause-keeps g c =
+    let on = g.G.ReceiverGround.keeps_on in
+    on _ _ _ c.write_waker.ensures.keeps (on _ _ _ c.word-word.ensures.keeps c.withdraw.ensures.keeps)

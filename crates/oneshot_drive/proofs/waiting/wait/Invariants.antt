@@ -14,4 +14,5 @@ invariant-loop g l =
       went : (way : Way l.fn.timed) → Went (wait_of way) (Goes (wait_of way)) (g.G.ReceiverGround.state l.fn.g).log (g.G.ReceiverGround.state l.g).log;
       waits : Stands (waits blocked) (g.G.ReceiverGround.state l.g);
       hand : l.hand ≡ l.fn.hand;
+      keeps : g.G.ReceiverGround.keeps l.fn.g l.g;
     }

@@ -10,7 +10,7 @@ use Rattle.oneshot_drive.proofs.Waits.{may_park_late, ended, ended_full, ended_o
 use Rattle.oneshot_drive.proofs.waiting.wait_late.Goals as goal
 
 pub loop-init : goal.loop-init
-loop-init g c = record { can_next = tt; is_finite = tt; went = begun (Timed LatePark) (g.G.ReceiverGround.state c.args.g.now).log; overdue = c.requires }
+loop-init g c = record { can_next = tt; is_finite = tt; went = begun (Timed LatePark) (g.G.ReceiverGround.state c.args.g.now).log; overdue = c.requires; keeps = g.G.ReceiverGround.keeps_same _ }
 
 pub park-requires : goal.park-requires
 park-requires g c = may_park_late c.loop.invariant.overdue
@@ -37,10 +37,22 @@ returns-in-2-clause-ends g c =
 pub loop-preserved : goal.loop-preserved
 loop-preserved g c =
     let still = stands_on (parked c.park.ensures.list.0 ∷ []) refl c.loop.invariant.overdue c.park.ensures.list.1 c.park.ensures.message c.park.ensures.waker in
+    let on = g.G.ReceiverGround.keeps_on in
     let again = ended_again (ended c.word.result still c.word.ensures.finds c.word.ensures.list) (search rules) (search rules) in
     record {
       can_next = tt;
       is_finite = tt;
       went = late_to _ c.word.result 3 refl again.word c.loop.invariant.went c.park.ensures.list.0 c.park.ensures.list.1 c.word.ensures.list;
       overdue = again.stands;
+      keeps = on _ _ _ c.loop.invariant.keeps (on _ _ _ c.park.ensures.keeps c.word.ensures.keeps);
     }
+
+pub returns-in-4-clause-keeps : goal.returns-in-4-clause-keeps
+returns-in-4-clause-keeps g c =
+    let on = g.G.ReceiverGround.keeps_on in
+    on _ _ _ c.loop.invariant.keeps (on _ _ _ c.park.ensures.keeps c.word.ensures.keeps)
+
+pub returns-in-2-clause-keeps : goal.returns-in-2-clause-keeps
+returns-in-2-clause-keeps g c =
+    let on = g.G.ReceiverGround.keeps_on in
+    on _ _ _ c.loop.invariant.keeps (on _ _ _ c.park.ensures.keeps c.word.ensures.keeps)
