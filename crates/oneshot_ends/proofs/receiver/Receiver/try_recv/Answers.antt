@@ -1,5 +1,5 @@
 -- The goals that `try_recv` of `Receiver` leaves.
-use Rattle.std.proofs.Common.{sym, ap, ◌∙◌, subst}
+use Rattle.std.proofs.Common.{sym, ◌∙◌, subst}
 use Rattle.oneshot_machine.specs.Phases.{receiver_at}
 use Rattle.oneshot_machine.specs.declared.machine.receiver.ReceiverStart.TheVariants.{TryRecv}
 use Rattle.oneshot_drive.specs.BetweenCalls.{IsClosed, Leaves}
