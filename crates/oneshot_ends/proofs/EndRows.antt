@@ -1,4 +1,5 @@
--- What each row of an end's table is: one of the end's operations, which needs a slot that it has not once it freed the block.
+-- What each row of an end's table is: one of the end's operations, which needs a slot that it has not once it
+-- freed the block.
 use Rattle.std.proofs.Common.{◌≡◌, ℕ, Bool, true, false, ◌&&◌, List, Option, Some, refl, sym, subst, true≢false}
 use Rattle.std.specs.List.{list_all}
 use Rattle.std.proofs.lemmas.Bool.{and_parts}
@@ -74,17 +75,21 @@ abbrev pub Need : {At : Type 0} → List (Row At) → Type 0
 Need {At} rows = (row : Row At) → In row rows → is_own row.1.0 ≡ true
 
 pub sender_needs : (at : SenderAt) → Need (sender_moves at)
-sender_needs at row there = (and_parts (is_senders row.0) _ (each_passes is_senders_row (sender_moves at) (senders_rows at) there)).1
+sender_needs at row there =
+    (and_parts (is_senders row.0) _ (each_passes is_senders_row (sender_moves at) (senders_rows at) there)).1
 
 pub receiver_needs : (at : ReceiverAt) → MayBeFreed true at → Need (receiver_moves at)
 receiver_needs at both row there =
     subst (λ own. where_both own (is_own row.1.0) ≡ true) both
-    (and_parts (is_receivers row.0) _ (each_passes (is_receivers_row at) (receiver_moves at) (receivers_rows at) there)).1
+    (and_parts (is_receivers row.0) _
+    (each_passes (is_receivers_row at) (receiver_moves at) (receivers_rows at) there)).1
 
 module _ {T W : Type 0} where
   -- no end makes another operation
-  pub sender_makes_no_other : {at : SenderAt} {op : Op} {m : Held T} {w : Held W} → SenderMay at op m w → (op ≡ Add → ⊥) → (op ≡ Xor → ⊥) → ((new : ℕ) → op ≡ Swap new → ⊥) → ⊥
-  sender_makes_no_other {at} {op} (may there message waker) = by op (and_parts (is_senders op) _ (each_passes is_senders_row (sender_moves at) (senders_rows at) there)).0
+  pub sender_makes_no_other : {at : SenderAt} {op : Op} {m : Held T} {w : Held W} → SenderMay at op m w → (op ≡ Add → ⊥)
+      → (op ≡ Xor → ⊥) → ((new : ℕ) → op ≡ Swap new → ⊥) → ⊥
+  sender_makes_no_other {at} {op} (may there message waker) =
+      by op (and_parts (is_senders op) _ (each_passes is_senders_row (sender_moves at) (senders_rows at) there)).0
     where
       by : (op : Op) → is_senders op ≡ true → (op ≡ Add → ⊥) → (op ≡ Xor → ⊥) → ((new : ℕ) → op ≡ Swap new → ⊥) → ⊥
       by Add its add xor swap = add refl
@@ -92,10 +97,15 @@ module _ {T W : Type 0} where
       by (Swap new) its add xor swap = swap new refl
       by _ its add xor swap = true≢false (sym its)
 
-  pub receiver_makes_no_other : {at : ReceiverAt} {op : Op} {m : Held T} {w : Held W} → ReceiverMay at op m w → (op ≡ Load → ⊥) → ((new : ℕ) → op ≡ Store new → ⊥) → ((new : ℕ) → op ≡ Swap new → ⊥) → ((expected new : ℕ) → op ≡ Exchange expected new → ⊥) → ⊥
-  receiver_makes_no_other {at} {op} (may there message waker) = by op (and_parts (is_receivers op) _ (each_passes (is_receivers_row at) (receiver_moves at) (receivers_rows at) there)).0
+  pub receiver_makes_no_other : {at : ReceiverAt} {op : Op} {m : Held T} {w : Held W} → ReceiverMay at op m w
+      → (op ≡ Load → ⊥) → ((new : ℕ) → op ≡ Store new → ⊥) → ((new : ℕ) → op ≡ Swap new → ⊥)
+      → ((expected new : ℕ) → op ≡ Exchange expected new → ⊥) → ⊥
+  receiver_makes_no_other {at} {op} (may there message waker) =
+      by op (and_parts (is_receivers op) _
+      (each_passes (is_receivers_row at) (receiver_moves at) (receivers_rows at) there)).0
     where
-      by : (op : Op) → is_receivers op ≡ true → (op ≡ Load → ⊥) → ((new : ℕ) → op ≡ Store new → ⊥) → ((new : ℕ) → op ≡ Swap new → ⊥) → ((expected new : ℕ) → op ≡ Exchange expected new → ⊥) → ⊥
+      by : (op : Op) → is_receivers op ≡ true → (op ≡ Load → ⊥) → ((new : ℕ) → op ≡ Store new → ⊥)
+          → ((new : ℕ) → op ≡ Swap new → ⊥) → ((expected new : ℕ) → op ≡ Exchange expected new → ⊥) → ⊥
       by Load its load store swap exchange = load refl
       by (Store new) its load store swap exchange = store new refl
       by (Swap new) its load store swap exchange = swap new refl

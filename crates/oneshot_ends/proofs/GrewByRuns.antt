@@ -26,7 +26,8 @@ pub words_of : (T W : Type 0) (xs : List Noted) → words (events_of {T = T} {W 
 words_of T W [] = refl
 words_of T W (x ∷ xs) = ap (λ noted. x ∷ noted) (words_of T W xs)
 
-pub began_at : {T W P : Type 0} {own s : Side T W P} {steps : List Noted} → s ≡ own → own.steps ≡ steps → words (events_of {T = T} {W = W} s.steps) ≡ steps
+pub began_at : {T W P : Type 0} {own s : Side T W P} {steps : List Noted} → s ≡ own → own.steps ≡ steps
+    → words (events_of {T = T} {W = W} s.steps) ≡ steps
 began_at {T} {W} {s} is has = words_of T W s.steps ∙ ap (λ s. s.steps) is ∙ has
 
 module _ {T W : Type 0} where
@@ -34,9 +35,11 @@ module _ {T W : Type 0} where
   abbrev unnamed : Event T W → Event T Waking
   unnamed x = record { step = x.step; seen = x.seen; message = x.message; waker = option_map (λ k. tt) x.waker }
 
-  run_unnamed : {P : Type 0} (step : P → Step) (row : P → Seen → Option (Outcome P)) (p : P) (xs : List (Event T W)) (r : Reply) → Run step row p xs r → Run step row p (map unnamed xs) r
+  run_unnamed : {P : Type 0} (step : P → Step) (row : P → Seen → Option (Outcome P)) (p : P) (xs : List (Event T W))
+      (r : Reply) → Run step row p xs r → Run step row p (map unnamed xs) r
   run_unnamed step row p _ r (last x is leads) = last (unnamed x) is leads
-  run_unnamed step row p _ r (more next x xs is leads rest) = more next (unnamed x) (map unnamed xs) is leads (run_unnamed step row next xs r rest)
+  run_unnamed step row p _ r (more next x xs is leads rest) =
+      more next (unnamed x) (map unnamed xs) is leads (run_unnamed step row next xs r rest)
 
   words_unnamed : (xs : List (Event T W)) → words (map unnamed xs) ≡ words xs
   words_unnamed [] = refl
@@ -50,7 +53,8 @@ module _ {T W : Type 0} where
     grown_unnamed : (xs : List (Event T W)) → Grows a b xs → after ≡ before ++ words (map unnamed xs)
     grown_unnamed xs grows = grown xs grows ∙ ap (λ ns. before ++ ns) (sym (words_unnamed xs))
 
-    pub sender_grew : (call : SenderCall) {reply : Reply} {given got : List T} → SenderRan call a b reply given got → SenderGrew T call before after reply
+    pub sender_grew : (call : SenderCall) {reply : Reply} {given got : List T} → SenderRan call a b reply given got
+        → SenderGrew T call before after reply
     sender_grew call {reply} ran =
         record {
           run = map unnamed ran.run;
@@ -58,7 +62,8 @@ module _ {T W : Type 0} where
           list = grown_unnamed ran.run ran.grows;
         }
 
-    pub receiver_grew : (call : ReceiverStart) {reply : Reply} {given got : List T} → ReceiverRan call a b reply given got → ReceiverGrew T call before after reply
+    pub receiver_grew : (call : ReceiverStart) {reply : Reply} {given got : List T}
+        → ReceiverRan call a b reply given got → ReceiverGrew T call before after reply
     receiver_grew call {reply} ran =
         record {
           run = map unnamed ran.run;
@@ -72,7 +77,8 @@ module _ {T : Type 0} {before after : List Noted} {reply : Reply} where
   try_recv_few grew = record { added = words grew.run; list = grew.list; few = try_recv_makes grew.run grew.is_run }
 
   pub async_try_recv_few : ReceiverGrew T AsyncTryRecv before after reply → GrewAtMost 2 operates before after
-  async_try_recv_few grew = record { added = words grew.run; list = grew.list; few = async_try_recv_makes grew.run grew.is_run }
+  async_try_recv_few grew =
+      record { added = words grew.run; list = grew.list; few = async_try_recv_makes grew.run grew.is_run }
 
   pub poll_few : ReceiverGrew T Poll before after reply → GrewAtMost 4 operates before after
   poll_few grew = record { added = words grew.run; list = grew.list; few = poll_makes grew.run grew.is_run }

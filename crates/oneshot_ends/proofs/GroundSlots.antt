@@ -1,4 +1,5 @@
--- What a ground may do and finds by its end's side: one that freed the block makes no operation, and any other shows its side as it is.
+-- What a ground may do and finds by its end's side: one that freed the block makes no operation, and any
+-- other shows its side as it is.
 use Rattle.std.proofs.Common.{◌≡◌, ℕ, Bool, true, false, List, Option, Some, refl, sym, subst, true≢false}
 use Rattle.oneshot_machine.specs.declared.states.Op.{Op}
 use Rattle.oneshot_machine.specs.Logs.{words}
@@ -13,7 +14,8 @@ use Rattle.oneshot_ends.proofs.EndRows.{is_own, Need, sender_needs, receiver_nee
 use Rattle.oneshot_ends.proofs.GrewByRuns.{words_of}
 
 -- a slot that an end shows as its own is so
-pub own_slot : {X : Type 0} (freed : Bool) (slot : Held X) {shown : Held X} → unless_freed freed slot ≡ shown → (away ≡ shown → ⊥) → slot ≡ shown
+pub own_slot : {X : Type 0} (freed : Bool) (slot : Held X) {shown : Held X} → unless_freed freed slot ≡ shown
+    → (away ≡ shown → ⊥) → slot ≡ shown
 own_slot false slot is own = is
 own_slot true slot is own = absurd (own is)
 
@@ -22,45 +24,66 @@ not_away is_away own = true≢false (sym own)
 
 module _ {At : Type 0} (moves : At → List (Row At)) (at : List Noted → At) {T W : Type 0} where
   -- an end whose ground may make an operation has not freed, and may make it
-  unfreed : (freed : Bool) (q : At) (op : Op) (m : Held T) (w : Held W) → (freed ≡ true → Need (moves q)) → May moves q op (unless_freed freed m) (unless_freed freed w) → (freed ≡ false) × May moves q op m w
+  unfreed : (freed : Bool) (q : At) (op : Op) (m : Held T) (w : Held W) → (freed ≡ true → Need (moves q))
+      → May moves q op (unless_freed freed m) (unless_freed freed w) → (freed ≡ false) × May moves q op m w
   unfreed false q op m w needs asks = (refl, asks)
   unfreed true q op m w needs (may there message waker) = absurd (not_away message (needs refl _ there))
 
-  can : {P : Type 0} (freed : Bool) (s : Side T W P) {now : Side T W P} {op asked : Op} → (freed ≡ true → Need (moves (at s.steps))) → left_of freed s ≡ now → asked ≡ op → May moves (at (words (events_of {T = T} {W = W} now.steps))) asked now.message now.waker → (freed ≡ false) × May moves (at s.steps) op s.message s.waker
+  can : {P : Type 0} (freed : Bool) (s : Side T W P) {now : Side T W P} {op asked : Op}
+      → (freed ≡ true → Need (moves (at s.steps))) → left_of freed s ≡ now → asked ≡ op
+      → May moves (at (words (events_of {T = T} {W = W} now.steps))) asked now.message now.waker
+      → (freed ≡ false) × May moves (at s.steps) op s.message s.waker
   can freed s {now} {op} needs is same asks =
       unfreed freed (at s.steps) op s.message s.waker needs
-      (subst (λ xs. May moves (at xs) op (unless_freed freed s.message) (unless_freed freed s.waker)) (words_of T W s.steps)
+      (subst (λ xs. May moves (at xs) op (unless_freed freed s.message) (unless_freed freed s.waker))
+      (words_of T W s.steps)
       (subst (λ now. May moves (at (words (events_of {T = T} {W = W} now.steps))) op now.message now.waker) (sym is)
       (subst (λ op. May moves (at (words (events_of {T = T} {W = W} now.steps))) op now.message now.waker) same asks)))
 
   -- what it found, as its ground shows it
-  found : {P : Type 0} (freed : Bool) (s next : Side T W P) {now : Side T W P} {op asked : Op} {word : ℕ} → left_of freed s ≡ now → asked ≡ op → freed ≡ false → Finds moves (at s.steps) op word s.message s.waker next.message next.waker → Finds moves (at (words (events_of {T = T} {W = W} now.steps))) asked word now.message now.waker (unless_freed freed next.message) (unless_freed freed next.waker)
+  found : {P : Type 0} (freed : Bool) (s next : Side T W P) {now : Side T W P} {op asked : Op} {word : ℕ}
+      → left_of freed s ≡ now → asked ≡ op → freed ≡ false
+      → Finds moves (at s.steps) op word s.message s.waker next.message next.waker
+      → Finds moves (at (words (events_of {T = T} {W = W} now.steps))) asked word now.message now.waker
+      (unless_freed freed next.message) (unless_freed freed next.waker)
   found freed s next {now} {op} {word} is same unfreed makes =
-      subst (λ op. Finds moves (at (words (events_of {T = T} {W = W} now.steps))) op word now.message now.waker (unless_freed freed next.message) (unless_freed freed next.waker)) (sym same)
-      (subst (λ now. Finds moves (at (words (events_of {T = T} {W = W} now.steps))) op word now.message now.waker (unless_freed freed next.message) (unless_freed freed next.waker)) is
-      (subst (λ f. Finds moves (at (words (events_of {T = T} {W = W} s.steps))) op word (unless_freed f s.message) (unless_freed f s.waker) (unless_freed f next.message) (unless_freed f next.waker)) (sym unfreed)
-      (subst (λ xs. Finds moves (at xs) op word s.message s.waker next.message next.waker) (sym (words_of T W s.steps)) makes)))
+      subst (λ op. Finds moves (at (words (events_of {T = T} {W = W} now.steps))) op word now.message now.waker
+      (unless_freed freed next.message) (unless_freed freed next.waker)) (sym same)
+      (subst (λ now. Finds moves (at (words (events_of {T = T} {W = W} now.steps))) op word now.message now.waker
+      (unless_freed freed next.message) (unless_freed freed next.waker)) is
+      (subst (λ f. Finds moves (at (words (events_of {T = T} {W = W} s.steps))) op word (unless_freed f s.message)
+      (unless_freed f s.waker) (unless_freed f next.message) (unless_freed f next.waker)) (sym unfreed)
+      (subst (λ xs. Finds moves (at xs) op word s.message s.waker next.message next.waker) (sym (words_of T W s.steps))
+      makes)))
 
 -- a receiver that has not freed may be anywhere
 pub stays_unfreed : (freed : Bool) (at : ReceiverAt) → freed ≡ false → MayBeFreed freed at
 stays_unfreed freed at unfreed = subst (λ f. MayBeFreed f at) (sym unfreed) tt
 
 -- so a sender's ground may make it, and shows what it found
-module _ {T W P : Type 0} (freed : Bool) (s : Side T W P) {now : Side T W P} {op asked : Op} (is : left_of freed s ≡ now) (same : asked ≡ op) (asks : SenderAsks asked (state_of now)) where
+module _ {T W P : Type 0} (freed : Bool) (s : Side T W P) {now : Side T W P} {op asked : Op}
+    (is : left_of freed s ≡ now) (same : asked ≡ op) (asks : SenderAsks asked (state_of now)) where
   sender_unfreed : (freed ≡ false) × SenderCan s op
   sender_unfreed = can sender_moves sender_at freed s (λ is. sender_needs (sender_at s.steps)) is same asks
 
   pub sender_can : SenderCan s op
   sender_can = sender_unfreed.1
 
-  pub sender_found : {word : ℕ} (next : Side T W P) → Finds sender_moves (sender_at s.steps) op word s.message s.waker next.message next.waker → Finds sender_moves (sender_at (words (events_of {T = T} {W = W} now.steps))) asked word now.message now.waker (unless_freed freed next.message) (unless_freed freed next.waker)
+  pub sender_found : {word : ℕ} (next : Side T W P)
+      → Finds sender_moves (sender_at s.steps) op word s.message s.waker next.message next.waker
+      → Finds sender_moves (sender_at (words (events_of {T = T} {W = W} now.steps))) asked word now.message now.waker
+      (unless_freed freed next.message) (unless_freed freed next.waker)
   sender_found next = found sender_moves sender_at freed s next is same sender_unfreed.0
 
 -- and a receiver's, which has not freed after it either
-module _ {T W P : Type 0} (freed : Bool) (s : Side T W P) {now : Side T W P} {op asked : Op} (stands : MayBeFreed freed (receiver_at s.steps)) (is : left_of freed s ≡ now) (same : asked ≡ op) (asks : ReceiverAsks asked (state_of now)) where
+module _ {T W P : Type 0} (freed : Bool) (s : Side T W P) {now : Side T W P} {op asked : Op}
+    (stands : MayBeFreed freed (receiver_at s.steps)) (is : left_of freed s ≡ now) (same : asked ≡ op)
+    (asks : ReceiverAsks asked (state_of now)) where
   receiver_unfreed : (freed ≡ false) × ReceiverCan s op
   receiver_unfreed =
-      can receiver_moves receiver_at freed s (λ is. receiver_needs (receiver_at s.steps) (subst (λ f. MayBeFreed f (receiver_at s.steps)) is stands)) is same asks
+      can receiver_moves receiver_at freed s
+      (λ is. receiver_needs (receiver_at s.steps) (subst (λ f. MayBeFreed f (receiver_at s.steps)) is stands)) is
+      same asks
 
   pub receiver_can : ReceiverCan s op
   receiver_can = receiver_unfreed.1
@@ -68,7 +91,10 @@ module _ {T W P : Type 0} (freed : Bool) (s : Side T W P) {now : Side T W P} {op
   pub receiver_stays : (at : ReceiverAt) → MayBeFreed freed at
   receiver_stays at = stays_unfreed freed at receiver_unfreed.0
 
-  pub receiver_found : {word : ℕ} (next : Side T W P) → Finds receiver_moves (receiver_at s.steps) op word s.message s.waker next.message next.waker → Finds receiver_moves (receiver_at (words (events_of {T = T} {W = W} now.steps))) asked word now.message now.waker (unless_freed freed next.message) (unless_freed freed next.waker)
+  pub receiver_found : {word : ℕ} (next : Side T W P)
+      → Finds receiver_moves (receiver_at s.steps) op word s.message s.waker next.message next.waker
+      → Finds receiver_moves (receiver_at (words (events_of {T = T} {W = W} now.steps))) asked word now.message
+      now.waker (unless_freed freed next.message) (unless_freed freed next.waker)
   receiver_found next = found receiver_moves receiver_at freed s next is same receiver_unfreed.0
 
 module _ {T W : Type 0} where
@@ -77,7 +103,8 @@ module _ {T W : Type 0} where
   never_late (is_late by) (may there message waker) = elim there [ ]
   never_late (is_overtaken by) (may there message waker) = elim there [ ]
 
-  pub late_never : {P : Type 0} (s now : Side T W P) (op : Op) {m : Held T} {w : Held W} → IsLate (sender_at s.steps) → record s { message = m; waker = w } ≡ now → SenderAsks op (state_of now) → ⊥
+  pub late_never : {P : Type 0} (s now : Side T W P) (op : Op) {m : Held T} {w : Held W} → IsLate (sender_at s.steps)
+      → record s { message = m; waker = w } ≡ now → SenderAsks op (state_of now) → ⊥
   late_never s now op {m} {w} came_late is asks =
       never_late came_late
       (subst (λ xs. SenderMay (sender_at xs) op m w) (words_of T W s.steps)
@@ -87,7 +114,8 @@ module _ {T W : Type 0} where
   both_own : {own : Option (Bool × Bool)} → Owns {T = T} {W = W} own vacant vacant → own ≡ Some (true, true)
   both_own (owns own_vacant own_vacant) = refl
 
-  pub may_free : (freed : Bool) (at : ReceiverAt) (m : Held T) (w : Held W) → Owns (receiver_owns at) m w → unless_freed freed m ≡ vacant → unless_freed freed w ≡ vacant → MayBeFreed true at
+  pub may_free : (freed : Bool) (at : ReceiverAt) (m : Held T) (w : Held W) → Owns (receiver_owns at) m w
+      → unless_freed freed m ≡ vacant → unless_freed freed w ≡ vacant → MayBeFreed true at
   may_free freed at m w own message waker =
       both_own
       (subst (λ m. Owns {T = T} {W = W} (receiver_owns at) m vacant) (own_slot freed m message (λ e. cc e))

@@ -9,16 +9,24 @@ use Rattle.oneshot_word.specs.Side.{Side}
 use Rattle.oneshot_ends.specs.Grounds.{state_of, lent}
 
 -- one ground stands as another does that is as far and has the same of its slots
-pub stands_again : {Phases : ReceiverAt → Type 0} {T W V : Type 0} {s : State T W} {t : State T V} → receiver_of t.log ≡ receiver_of s.log → ((share : Share) → IsSlot share s.message → IsSlot share t.message) → ((share : Share) → IsSlot share s.waker → IsSlot share t.waker) → StandsIn Phases s → StandsIn Phases t
+pub stands_again : {Phases : ReceiverAt → Type 0} {T W V : Type 0} {s : State T W} {t : State T V}
+    → receiver_of t.log ≡ receiver_of s.log → ((share : Share) → IsSlot share s.message → IsSlot share t.message)
+    → ((share : Share) → IsSlot share s.waker → IsSlot share t.waker) → StandsIn Phases s → StandsIn Phases t
 stands_again as_far message waker is =
     record {
       at = is.at;
       is_one = is.is_one;
-      stands = record { phase = as_far ∙ is.stands.phase; message = message _ is.stands.message; waker = waker _ is.stands.waker };
+      stands = record {
+        phase = as_far
+            ∙ is.stands.phase;
+        message = message _ is.stands.message;
+        waker = waker _ is.stands.waker;
+      };
     }
 
 module _ {T W P : Type 0} {Phases : ReceiverAt → Type 0} where
-  pub as_lent : (name : ℕ) {own s : Side T W P} → s ≡ own → StandsIn Phases (state_of own) → StandsIn Phases (lent name s)
+  pub as_lent : (name : ℕ) {own s : Side T W P} → s ≡ own → StandsIn Phases (state_of own)
+      → StandsIn Phases (lent name s)
   as_lent name is stands =
       subst (λ s. StandsIn Phases (lent name s)) (sym is) (stands_again refl (λ share m. m) (λ share w. w) stands)
 
@@ -26,5 +34,6 @@ module _ {T W P : Type 0} {Phases : ReceiverAt → Type 0} where
   given_back name s = stands_again refl (λ share m. m) (λ share w. w)
 
 -- and its hand is as ready
-pub hand_lent : {T W V P : Type 0} {own s : Side T W P} (hand : Option V) → s ≡ own → IsReady hand (receiver_of (state_of own).log) → IsReady hand (receiver_of (state_of s).log)
+pub hand_lent : {T W V P : Type 0} {own s : Side T W P} (hand : Option V) → s ≡ own
+    → IsReady hand (receiver_of (state_of own).log) → IsReady hand (receiver_of (state_of s).log)
 hand_lent hand is ready = subst (λ s. IsReady hand (receiver_of (state_of s).log)) (sym is) ready

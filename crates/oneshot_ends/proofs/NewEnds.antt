@@ -29,7 +29,8 @@ module _ {T W P : Type 0} {about : P} {sender receiver : Side T W P} (are : AreE
 
 module _ {T W P : Type 0} where
   -- how the ground of a new end stands
-  new_stands : {At : Type 0} (at : List Noted → At) {slots : Slots} (s : Side T W P) → IsNew slots s → StandsWith (λ (l : Log T W). at (words l.list)) (at []) slots (state_of s)
+  new_stands : {At : Type 0} (at : List Noted → At) {slots : Slots} (s : Side T W P) → IsNew slots s
+      → StandsWith (λ (l : Log T W). at (words l.list)) (at []) slots (state_of s)
   new_stands at s new =
       record {
         phase = ap (λ xs. at (words (events_of {T = T} {W = W} xs))) new.steps;
@@ -39,4 +40,5 @@ module _ {T W P : Type 0} where
 
   pub rests_at_new : (s now : Side T W P) → now ≡ s → IsNewReceiver s → AtRest (state_of now)
   rests_at_new s now is new =
-      subst (λ now. AtRest (state_of now)) (sym is) (record { at = first; is_one = rests_new; stands = new_stands receiver_at s new })
+      subst (λ now. AtRest (state_of now)) (sym is)
+      (record { at = first; is_one = rests_new; stands = new_stands receiver_at s new })

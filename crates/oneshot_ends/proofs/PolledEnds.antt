@@ -25,14 +25,17 @@ module _ {T : Type 0} where
   leaving leaves_its_copy = refl
   leaving leaves_claimed = refl
 
-  pub closed_polled : (result : Poll (Result T RecvError)) {at : ReceiverAt} → LeavesPolled result at → result ≢ Pending → IsClosed at
+  pub closed_polled : (result : Poll (Result T RecvError)) {at : ReceiverAt} → LeavesPolled result at → result ≢ Pending
+      → IsClosed at
   closed_polled (Ready x) leaves ready = leaving leaves
   closed_polled Pending leaves ready = absurd (ready refl)
 
-  pub open_polled : {result : Poll (Result T RecvError)} {at : ReceiverAt} → LeavesPolled result at → result ≡ Pending → IsOpen at
+  pub open_polled : {result : Poll (Result T RecvError)} {at : ReceiverAt} → LeavesPolled result at → result ≡ Pending
+      → IsOpen at
   open_polled {at} leaves pending = subst (λ result. Leaving result at) pending (leaving leaves)
 
-  pub closed_tried : {result : Result T TryRecvError} {at : ReceiverAt} → LeavesTried result at → result ≢ Err Tried.Empty → IsClosed at
+  pub closed_tried : {result : Result T TryRecvError} {at : ReceiverAt} → LeavesTried result at
+      → result ≢ Err Tried.Empty → IsClosed at
   closed_tried (tried_received x) found = refl
   closed_tried (tried_resolved x) found = refl
   closed_tried (tried_closed c) found = refl
@@ -40,13 +43,16 @@ module _ {T : Type 0} where
   closed_tried tried_its_copy found = absurd (found refl)
   closed_tried tried_claimed found = absurd (found refl)
 
-  pub open_tried : {result : Result T TryRecvError} {at : ReceiverAt} → LeavesTried result at → result ≡ Err Tried.Empty → IsOpen at
+  pub open_tried : {result : Result T TryRecvError} {at : ReceiverAt} → LeavesTried result at → result ≡ Err Tried.Empty
+      → IsOpen at
   open_tried tried_uncopied nothing = refl
   open_tried tried_its_copy nothing = refl
   open_tried tried_claimed nothing = refl
   open_tried _ nothing = absurd (cc nothing)
 
   -- said of the same logs
-  pub registered_by : (result : Result T TryRecvError) {xs ys before after : List Noted} → xs ≡ before → ys ≡ after → StaysRegistered result (receiver_at xs) (receiver_at ys) → StaysRegistered result (receiver_at before) (receiver_at after)
+  pub registered_by : (result : Result T TryRecvError) {xs ys before after : List Noted} → xs ≡ before → ys ≡ after
+      → StaysRegistered result (receiver_at xs) (receiver_at ys)
+      → StaysRegistered result (receiver_at before) (receiver_at after)
   registered_by result was is stays nothing =
       ap (λ ns. is_registered (receiver_at ns)) (sym is) ∙ stays nothing ∙ ap (λ ns. is_registered (receiver_at ns)) was

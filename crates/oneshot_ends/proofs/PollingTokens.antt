@@ -24,7 +24,8 @@ module _ {W : Type 0} where
   slot_of_token vacant is_vacant = is_vacant
   slot_of_token (held k) (is_held _) = is_held k
 
-  token_turns : {share then : Share} {w w' : Held W} → Turns share then w w' → Turns share then (token_of w) (token_of w')
+  token_turns : {share then : Share} {w w' : Held W} → Turns share then w w'
+      → Turns share then (token_of w) (token_of w')
   token_turns stays_away = stays_away
   token_turns stays_vacant = stays_vacant
   token_turns (stays_held k) = stays_held (record {})
@@ -34,35 +35,55 @@ module _ {W : Type 0} where
   token_turns (gets_thing k) = gets_thing (record {})
 
 module _ {T W : Type 0} where
-  token_may : {q : ReceiverAt} {op : Op} {m : Held T} (w : Held W) → ReceiverMay {T = T} {W = Copied} q op m (token_of w) → ReceiverMay {T = T} {W = W} q op m w
+  token_may : {q : ReceiverAt} {op : Op} {m : Held T} (w : Held W)
+      → ReceiverMay {T = T} {W = Copied} q op m (token_of w) → ReceiverMay {T = T} {W = W} q op m w
   token_may w (may there message waker) = may there message (slot_of_token w waker)
 
-  token_finds : {q : ReceiverAt} {op : Op} {n : ℕ} {m m' : Held T} {w w' : Held W} → ReceiverFinds {T = T} {W = W} q op n m w m' w' → ReceiverFinds {T = T} {W = Copied} q op n m (token_of w) m' (token_of w')
+  token_finds : {q : ReceiverAt} {op : Op} {n : ℕ} {m m' : Held T} {w w' : Held W}
+      → ReceiverFinds {T = T} {W = W} q op n m w m' w'
+      → ReceiverFinds {T = T} {W = Copied} q op n m (token_of w) m' (token_of w')
   token_finds (finds there message waker) = finds there message (token_turns waker)
 
-  pub token_can : {P : Type 0} (names : List ℕ) (s : Side T W P) (op : Op) → ReceiverAsks op (polled_state names s) → ReceiverAsks op (state_of s)
+  pub token_can : {P : Type 0} (names : List ℕ) (s : Side T W P) (op : Op) → ReceiverAsks op (polled_state names s)
+      → ReceiverAsks op (state_of s)
   token_can names s op asks =
       subst (λ xs. ReceiverMay (receiver_at xs) op s.message s.waker) (sym (words_of T W s.steps))
-      (token_may s.waker (subst (λ xs. ReceiverMay {T = T} {W = Copied} (receiver_at xs) op s.message (token_of s.waker)) (words_of T Copied s.steps) asks))
+      (token_may s.waker (subst
+      (λ xs. ReceiverMay {T = T} {W = Copied} (receiver_at xs) op s.message (token_of s.waker))
+      (words_of T Copied s.steps) asks))
 
-  pub token_found : {P : Type 0} (names : List ℕ) (s t : Side T W P) (op : Op) (n : ℕ) → ReceiverMakes op n (state_of s) (state_of t) → ReceiverMakes op n (polled_state names s) (polled_state names t)
+  pub token_found : {P : Type 0} (names : List ℕ) (s t : Side T W P) (op : Op) (n : ℕ)
+      → ReceiverMakes op n (state_of s) (state_of t) → ReceiverMakes op n (polled_state names s) (polled_state names t)
   token_found names s t op n makes =
-      subst (λ xs. ReceiverFinds {T = T} {W = Copied} (receiver_at xs) op n s.message (token_of s.waker) t.message (token_of t.waker)) (sym (words_of T Copied s.steps))
-      (token_finds (subst (λ xs. ReceiverFinds (receiver_at xs) op n s.message s.waker t.message t.waker) (words_of T W s.steps) makes))
+      subst (λ xs. ReceiverFinds {T = T} {W = Copied} (receiver_at xs) op n s.message (token_of s.waker) t.message
+      (token_of t.waker)) (sym (words_of T Copied s.steps))
+      (token_finds (subst (λ xs. ReceiverFinds (receiver_at xs) op n s.message s.waker t.message t.waker)
+      (words_of T W s.steps) makes))
 
   -- what the log of the receiver's own ground says, its own does
-  pub told : {P : Type 0} (names : List ℕ) (before after : Side T W P) (run : List (Event T W)) (ys : List (Event T Copied)) → events_of {T = T} {W = Copied} (words run) ≡ kept false ys → Grows (state_of before).log (state_of after).log run → Grows (polled_state names before).log (polled_state names after).log ys
+  pub told : {P : Type 0} (names : List ℕ) (before after : Side T W P) (run : List (Event T W))
+      (ys : List (Event T Copied)) → events_of {T = T} {W = Copied} (words run) ≡ kept false ys
+      → Grows (state_of before).log (state_of after).log run
+      → Grows (polled_state names before).log (polled_state names after).log ys
   told names before after run ys same grows =
       record {
         whole = refl;
         channel = ap (λ p. names ++ p) grows.channel;
-        list = ap (λ xs. events_of {T = T} {W = Copied} xs) (grown (words_of T W before.steps) (words_of T W after.steps) run grows) ∙ map-append (event_of {T = T} {W = Copied}) before.steps (words run)
+        list = ap (λ xs. events_of {T = T} {W = Copied} xs)
+            (grown (words_of T W before.steps) (words_of T W after.steps) run grows)
+            ∙ map-append (event_of {T = T} {W = Copied}) before.steps (words run)
             ∙ ap (λ ys. events_of {T = T} {W = Copied} before.steps ++ ys) same;
       }
 
   -- and it stands as that does
-  pub stands_by_tokens : {P : Type 0} {Phases : ReceiverAt → Type 0} (names : List ℕ) (s : Side T W P) → StandsIn Phases (state_of s) → StandsIn Phases (polled_state names s)
-  stands_by_tokens names s = stands_again (ap receiver_at (words_of T Copied s.steps ∙ sym (words_of T W s.steps))) (λ share m. m) (λ share. token_slot)
+  pub stands_by_tokens : {P : Type 0} {Phases : ReceiverAt → Type 0} (names : List ℕ) (s : Side T W P)
+      → StandsIn Phases (state_of s) → StandsIn Phases (polled_state names s)
+  stands_by_tokens names s =
+      stands_again (ap receiver_at (words_of T Copied s.steps ∙ sym (words_of T W s.steps))) (λ share m. m)
+      (λ share. token_slot)
 
-  pub stands_as_told : {P : Type 0} {Phases : ReceiverAt → Type 0} (names : List ℕ) (s : Side T W P) → StandsIn Phases (polled_state names s) → StandsIn Phases (state_of s)
-  stands_as_told names s = stands_again (ap receiver_at (words_of T W s.steps ∙ sym (words_of T Copied s.steps))) (λ share m. m) (λ share. slot_of_token s.waker)
+  pub stands_as_told : {P : Type 0} {Phases : ReceiverAt → Type 0} (names : List ℕ) (s : Side T W P)
+      → StandsIn Phases (polled_state names s) → StandsIn Phases (state_of s)
+  stands_as_told names s =
+      stands_again (ap receiver_at (words_of T W s.steps ∙ sym (words_of T Copied s.steps))) (λ share m. m)
+      (λ share. slot_of_token s.waker)

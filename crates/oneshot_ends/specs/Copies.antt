@@ -9,7 +9,8 @@ use Rattle.oneshot_ends.specs.declared.copies.Copies.{Copies}
 -- waker in this poll the toolchain tells the number alone.
 abbrev pub HasMade : Context → Context → Copies Waker → Type 0
 HasMade before after copies =
-    IsSomeAnd copies.hand (λ copy. (copy.task ≡ before.turn.task) × ((after.lacks_waker ≡ true) ⊎ Wakes copy.waker before))
+    IsSomeAnd copies.hand (λ copy. (copy.task ≡ before.turn.task)
+    × ((after.lacks_waker ≡ true) ⊎ Wakes copy.waker before))
 
 -- the copy in hand, if one is there, has another task's number
 abbrev pub HasNoneOf : ℕ → Copies Waker → Type 0

@@ -60,7 +60,8 @@ pub record ReceiverGrew (T : Type 0) (call : ReceiverStart) (before after : List
 
 -- The same of a receive with this timeout whose clock read so, or failed: it waits without end just where
 -- no instant can hold the sum.
-pub record TimeoutRan (T : Type 0) (timeout : Duration) (reading : Option Instant) (before after : List Noted) (reply : Reply) : Type 0 where
+pub record TimeoutRan (T : Type 0) (timeout : Duration) (reading : Option Instant) (before after : List Noted)
+    (reply : Reply) : Type 0 where
   pub has_end : Bool
   pub held : IsTrue has_end ↔ HasEnd timeout reading
   pub grew : ReceiverGrew T (RecvTimeout has_end) before after reply

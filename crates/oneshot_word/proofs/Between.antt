@@ -11,7 +11,8 @@ use Rattle.oneshot_machine.specs.Slots.{Held, In, Finds, finds}
 use Rattle.oneshot_machine.specs.States.{word_after}
 use Rattle.oneshot_machine.proofs.Exactness.{each_passes}
 use Rattle.oneshot_machine.proofs.GrownLists.{phase_from-snoc}
-use Rattle.oneshot_word.proofs.RuleKept.{stepped, sender_leaves, receiver_leaves}
+use Rattle.oneshot_word.proofs.KeptRows.{stepped}
+use Rattle.oneshot_word.proofs.RuleKept.{sender_leaves, receiver_leaves}
 use Rattle.oneshot_word.proofs.Says.{sender_says, receiver_says}
 use Rattle.oneshot_word.proofs.Meets.{word_between, Is, is, SenderSays, says_none, ReceiverSays}
 

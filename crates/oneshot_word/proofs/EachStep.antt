@@ -1,5 +1,5 @@
 -- Each step of an end keeps the rule, and tells the end what it found.
-use Rattle.std.proofs.Common.{◌≡◌, ℕ, Bool, Option, List, [], ◌∷◌, ◌++◌, get_or, set, refl, sym, ap, ◌∙◌, subst}
+use Rattle.std.proofs.Common.{◌≡◌, ℕ, Bool, Option, List, [], ◌∷◌, ◌++◌, get_or, set, refl, sym, ◌∙◌, subst}
 use mathlib.Core.Option as maybe
 use Rattle.atomic_table.specs.Table.{State, Me, Act, Valid, Allows, homes_after, carried_after}
 use Rattle.oneshot_machine.specs.declared.states.Op.{Op}
@@ -16,9 +16,10 @@ use Rattle.oneshot_word.specs.declared.rule.View.{View}
 use Rattle.oneshot_word.specs.Rule.{Home, message_home, waker_home, Lies, Tied, runs}
 use Rattle.oneshot_word.specs.Seats.{view, any, with_waker, message_in, waker_in, Front, waker_first, message_first, SeatOf, SenderSeat, ReceiverSeat, SenderStepped, ReceiverStepped}
 use Rattle.oneshot_word.proofs.Sits.{Sits, sender_sits, receiver_sits, sits, knows}
-use Rattle.oneshot_word.proofs.RuleKept.{stepped, turn, sender_turns, receiver_turns}
+use Rattle.oneshot_word.proofs.KeptRows.{stepped}
+use Rattle.oneshot_word.proofs.RuleKept.{turn, sender_turns, receiver_turns}
 use Rattle.oneshot_word.proofs.Between.{between, sender_reaches, receiver_reaches}
-use Rattle.oneshot_word.proofs.Trades.{as_read, as_seat, reads}
+use Rattle.oneshot_word.proofs.SlotReads.{as_read, as_seat, reads}
 use Rattle.oneshot_word.proofs.Meets.{meet}
 
 module _ {T H K P : Type 0} (keeps : P → T → Type 0) (q : P) where

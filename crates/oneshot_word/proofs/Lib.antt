@@ -3,11 +3,13 @@ pub mod Meets
 pub mod Says
 pub mod FoundRow
 pub mod SlotMoves
+pub mod KeptRows
 pub mod RuleKept
 pub mod Between
 pub mod Sits
 pub mod EachStep
 pub mod Opens
+pub mod SlotReads
 pub mod Trades
 pub mod RuleRead
 pub mod RuleKeeps

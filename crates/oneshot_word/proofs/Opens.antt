@@ -1,6 +1,5 @@
 -- The table is made under its rule, and its first seat becomes the two ends'.
-use Rattle.std.proofs.Common.{◌≡◌, ℕ, List, [], ◌∷◌, ◌++◌, get_or, set, refl, sym, ap, ◌∙◌, subst}
-use mathlib.Core.Option as maybe
+use Rattle.std.proofs.Common.{◌≡◌, ℕ, List, [], ◌∷◌, ◌++◌, get_or, set, refl, sym, subst}
 use Rattle.atomic_table.specs.Table.{Me, Act, takes, Valid, Allows, Splits, homes_after, carried_after}
 use Rattle.oneshot_machine.specs.Orders.{nothing_made}
 use Rattle.oneshot_word.specs.declared.rule.Role.TheVariants.{Maker, Dealer, Sender, Receiver}

@@ -17,8 +17,10 @@ returns-clause-once g c =
     subst (λ after. PolledOnce c.poll.result c.args.ground.now after) {x = c.poll.new.g.ground.now} (search rules)
     (record {
       polled = stands_as_told (_ ∷ _ ∷ _ ∷ []) c.poll.new.g.ground.now c.poll.ensures.rests;
-      run = receiver_grew (words_of _ _ c.args.ground.now.steps) (words_of _ _ c.poll.new.g.ground.now.steps) C.Poll c.poll.ensures.run;
-      leaves = subst (λ xs. LeavesPolled c.poll.result (receiver_at xs)) (words_of _ _ c.poll.new.g.ground.now.steps) c.poll.ensures.leaves;
+      run = receiver_grew (words_of _ _ c.args.ground.now.steps) (words_of _ _ c.poll.new.g.ground.now.steps) C.Poll
+          c.poll.ensures.run;
+      leaves = subst (λ xs. LeavesPolled c.poll.result (receiver_at xs)) (words_of _ _ c.poll.new.g.ground.now.steps)
+          c.poll.ensures.leaves;
     })
 
 pub returns-clause-stays_closed : goal.returns-clause-stays_closed

@@ -24,9 +24,11 @@ of_spec 𝓤 𝓛 𝓜 𝓡 wired =
     let Told : Type 0 = made.value ≡ a.0 in let O = the_row.own_val made (v ∷ []) in
     let y : (walk_of 𝓛 ended stayed c).Ghost = ((κs, qs, bounds, a, (bool_vals a.0, tt)), gh) in
     let Post : Val → SProp 𝓤 = (walk_of 𝓛 ended stayed c).post y in
-    qed 𝓛 ((raw (alive 𝓛 ended.signature κs qs) ⊛ ‵ (owns (types_at ended.signature.params κs) a y.0.4)) ∷ raw ((c κs a).requires gh) ∷ []) ∵
+    qed 𝓛 ((raw (alive 𝓛 ended.signature κs qs) ⊛ ‵ (owns (types_at ended.signature.params κs) a y.0.4))
+    ∷ raw ((c κs a).requires gh) ∷ []) ∵
     split ! $ keep ! (0 ∷ []) $ use0 𝓛 (‵ O) (makes_shadow 𝓛 O ((λ vss. (tt, tt)), tt) ((tt, (refl, tt)), tt)) $
     enter ! 𝓣.C 𝓣.Λ code.function (bool_vals a.0) Post $ alloc_all ! (λ l. pass_all ! refl ((tt, tt), tt) $
     sets ! (agg ! (no_more !)) refl (tt, tt) $
     use0 𝓛 (raw (fact 𝓤 Told)) (fact_i 𝓤 Told (emp 𝓤) refl) $ nothing ! $ nothing ! $ fjoin ! $
-    returns ! (look_at ! 0 refl) $ free_all ! refl $ keep ! (3 ∷ 0 ∷ 2 ∷ 1 ∷ []) $ by ! (leaves 𝓛 ended stayed c y v made (tt, tt) (tt, tt))))
+    returns ! (look_at ! 0 refl) $ free_all ! refl $ keep ! (3 ∷ 0 ∷ 2 ∷ 1 ∷ []) $ by !
+    (leaves 𝓛 ended stayed c y v made (tt, tt) (tt, tt))))

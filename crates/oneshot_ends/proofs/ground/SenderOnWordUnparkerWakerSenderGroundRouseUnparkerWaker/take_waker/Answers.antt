@@ -4,5 +4,8 @@ use Rattle.oneshot_ends.proofs.GroundSlots.{own_slot}
 use Rattle.oneshot_ends.proofs.ground.SenderOnWordUnparkerWakerSenderGroundRouseUnparkerWaker.take_waker.Goals as goal
 
 pub take_waker-requires : goal.take_waker-requires
-take_waker-requires g c =
-    (c.requires.0, own_slot c.self.inside.freed.value c.self.inside.side.waker (ap (λ s. s.waker) c.self.view_is ∙ c.requires.1) (λ e. cc e))
+take_waker-requires g c = (
+  c.requires.0,
+  own_slot c.self.inside.freed.value c.self.inside.side.waker
+      (ap (λ s. s.waker) c.self.view_is ∙ c.requires.1) (λ e. cc e),
+)

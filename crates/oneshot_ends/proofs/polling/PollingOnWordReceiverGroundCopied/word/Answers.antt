@@ -10,4 +10,5 @@ pub returns-clause-list : goal.returns-clause-list
 returns-clause-list g c = told (_ ∷ _ ∷ _ ∷ []) c.args.self.now.ground.now c.word.new.self _ _ refl c.word.ensures.list
 
 pub returns-clause-finds : goal.returns-clause-finds
-returns-clause-finds g c = token_found [] c.args.self.now.ground.now c.word.new.self c.args.op c.word.result c.word.ensures.finds
+returns-clause-finds g c =
+    token_found [] c.args.self.now.ground.now c.word.new.self c.args.op c.word.result c.word.ensures.finds

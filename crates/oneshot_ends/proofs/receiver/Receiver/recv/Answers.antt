@@ -15,6 +15,8 @@ returns g c =
     record {
       stays_closed = λ closed.
           c.recv.ensures.stays
-          (subst (λ xs. IsClosed (receiver_at xs)) (sym (began_at (ap (λ r. r.now) c.lend-lent.ensures) (same_steps c.self.view_is))) closed);
-      kept = kept_about g.P.Promise.keeps c.recv.result (lent_about (ap (λ r. r.now) c.lend-lent.ensures) (same_about c.self.view_is)) c.recv.ensures.given;
+          (subst (λ xs. IsClosed (receiver_at xs))
+          (sym (began_at (ap (λ r. r.now) c.lend-lent.ensures) (same_steps c.self.view_is))) closed);
+      kept = kept_about g.P.Promise.keeps c.recv.result
+          (lent_about (ap (λ r. r.now) c.lend-lent.ensures) (same_about c.self.view_is)) c.recv.ensures.given;
     }

@@ -18,25 +18,32 @@ recv_timeout-requires-clause-rests g c = as_lent _ (ap (λ r. r.now) c.lend-lent
 pub invariant_of-self : goal.invariant_of-self
 invariant_of-self g c = (
   given_back _ c.recv_timeout.new.g.ground.now c.recv_timeout.ensures.rests,
-  ready_timed c.recv_timeout.result c.self.inside.hand c.recv_timeout.new.hand _ _ (hand_lent c.self.inside.hand (ap (λ r. r.now) c.lend-lent.ensures) c.self.invariant.1) c.recv_timeout.ensures.stays c.recv_timeout.ensures.leaves c.recv_timeout.ensures.hand,
+  ready_timed c.recv_timeout.result c.self.inside.hand c.recv_timeout.new.hand _ _
+      (hand_lent c.self.inside.hand (ap (λ r. r.now) c.lend-lent.ensures) c.self.invariant.1)
+      c.recv_timeout.ensures.stays c.recv_timeout.ensures.leaves c.recv_timeout.ensures.hand,
 )
 
 pub returns-clause-run : goal.returns-clause-run
 returns-clause-run g c =
     record {
       has_end = c.has_end.result;
-      held = subst (λ ends. IsTrue ends ↔ HasEnd c.args.timeout c.args.reading) (sym c.has_end.ensures) (ends_where_held c.args.timeout c.args.reading c.after-deadline.result c.after-deadline.ensures);
-      grew = receiver_grew (began_at (ap (λ r. r.now) c.lend-lent.ensures) (same_steps c.self.view_is)) (words_of _ _ c.recv_timeout.new.g.ground.now.steps) (RecvTimeout c.has_end.result) c.recv_timeout.ensures.run;
+      held = subst (λ ends. IsTrue ends ↔ HasEnd c.args.timeout c.args.reading) (sym c.has_end.ensures)
+          (ends_where_held c.args.timeout c.args.reading c.after-deadline.result c.after-deadline.ensures);
+      grew = receiver_grew (began_at (ap (λ r. r.now) c.lend-lent.ensures) (same_steps c.self.view_is))
+          (words_of _ _ c.recv_timeout.new.g.ground.now.steps) (RecvTimeout c.has_end.result)
+          c.recv_timeout.ensures.run;
     }
 
 pub returns-clause-leaves : goal.returns-clause-leaves
 returns-clause-leaves g c =
-    subst (λ xs. LeavesTimed c.recv_timeout.result (receiver_at xs)) (words_of _ _ c.recv_timeout.new.g.ground.now.steps) c.recv_timeout.ensures.leaves
+    subst (λ xs. LeavesTimed c.recv_timeout.result (receiver_at xs))
+    (words_of _ _ c.recv_timeout.new.g.ground.now.steps) c.recv_timeout.ensures.leaves
 
 pub returns-clause-stays_closed : goal.returns-clause-stays_closed
 returns-clause-stays_closed g c = λ closed.
     c.recv_timeout.ensures.stays
-    (subst (λ xs. IsClosed (receiver_at xs)) (sym (began_at (ap (λ r. r.now) c.lend-lent.ensures) (same_steps c.self.view_is))) closed)
+    (subst (λ xs. IsClosed (receiver_at xs))
+    (sym (began_at (ap (λ r. r.now) c.lend-lent.ensures) (same_steps c.self.view_is))) closed)
 
 pub returns-clause-about : goal.returns-clause-about
 returns-clause-about g c =
@@ -44,4 +51,5 @@ returns-clause-about g c =
 
 pub returns-clause-kept : goal.returns-clause-kept
 returns-clause-kept g c =
-    kept_about g.P.Promise.keeps c.recv_timeout.result (lent_about (ap (λ r. r.now) c.lend-lent.ensures) (same_about c.self.view_is)) c.recv_timeout.ensures.given
+    kept_about g.P.Promise.keeps c.recv_timeout.result
+    (lent_about (ap (λ r. r.now) c.lend-lent.ensures) (same_about c.self.view_is)) c.recv_timeout.ensures.given

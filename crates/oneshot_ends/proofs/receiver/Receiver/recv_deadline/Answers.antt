@@ -15,21 +15,26 @@ recv_deadline-requires-clause-rests g c = as_lent _ (ap (λ r. r.now) c.lend-len
 pub invariant_of-self : goal.invariant_of-self
 invariant_of-self g c = (
   given_back _ c.recv_deadline.new.g.ground.now c.recv_deadline.ensures.rests,
-  ready_timed c.recv_deadline.result c.self.inside.hand c.recv_deadline.new.hand _ _ (hand_lent c.self.inside.hand (ap (λ r. r.now) c.lend-lent.ensures) c.self.invariant.1) c.recv_deadline.ensures.stays c.recv_deadline.ensures.leaves c.recv_deadline.ensures.hand,
+  ready_timed c.recv_deadline.result c.self.inside.hand c.recv_deadline.new.hand _ _
+      (hand_lent c.self.inside.hand (ap (λ r. r.now) c.lend-lent.ensures) c.self.invariant.1)
+      c.recv_deadline.ensures.stays c.recv_deadline.ensures.leaves c.recv_deadline.ensures.hand,
 )
 
 pub returns-clause-run : goal.returns-clause-run
 returns-clause-run g c =
-    receiver_grew (began_at (ap (λ r. r.now) c.lend-lent.ensures) (same_steps c.self.view_is)) (words_of _ _ c.recv_deadline.new.g.ground.now.steps) RecvDeadline c.recv_deadline.ensures.run
+    receiver_grew (began_at (ap (λ r. r.now) c.lend-lent.ensures) (same_steps c.self.view_is))
+    (words_of _ _ c.recv_deadline.new.g.ground.now.steps) RecvDeadline c.recv_deadline.ensures.run
 
 pub returns-clause-leaves : goal.returns-clause-leaves
 returns-clause-leaves g c =
-    subst (λ xs. LeavesTimed c.recv_deadline.result (receiver_at xs)) (words_of _ _ c.recv_deadline.new.g.ground.now.steps) c.recv_deadline.ensures.leaves
+    subst (λ xs. LeavesTimed c.recv_deadline.result (receiver_at xs))
+    (words_of _ _ c.recv_deadline.new.g.ground.now.steps) c.recv_deadline.ensures.leaves
 
 pub returns-clause-stays_closed : goal.returns-clause-stays_closed
 returns-clause-stays_closed g c = λ closed.
     c.recv_deadline.ensures.stays
-    (subst (λ xs. IsClosed (receiver_at xs)) (sym (began_at (ap (λ r. r.now) c.lend-lent.ensures) (same_steps c.self.view_is))) closed)
+    (subst (λ xs. IsClosed (receiver_at xs))
+    (sym (began_at (ap (λ r. r.now) c.lend-lent.ensures) (same_steps c.self.view_is))) closed)
 
 pub returns-clause-closes : goal.returns-clause-closes
 returns-clause-closes g c = closed_in_time (returns-clause-leaves g c)
@@ -43,4 +48,5 @@ returns-clause-about g c =
 
 pub returns-clause-kept : goal.returns-clause-kept
 returns-clause-kept g c =
-    kept_about g.P.Promise.keeps c.recv_deadline.result (lent_about (ap (λ r. r.now) c.lend-lent.ensures) (same_about c.self.view_is)) c.recv_deadline.ensures.given
+    kept_about g.P.Promise.keeps c.recv_deadline.result
+    (lent_about (ap (λ r. r.now) c.lend-lent.ensures) (same_about c.self.view_is)) c.recv_deadline.ensures.given

@@ -13,21 +13,27 @@ pub recv_ref-requires-clause-rests : goal.recv_ref-requires-clause-rests
 recv_ref-requires-clause-rests g c = as_lent _ (ap (λ r. r.now) c.lend-lent.ensures) c.self.invariant.0
 
 pub invariant_of-self : goal.invariant_of-self
-invariant_of-self g c =
-    (given_back _ c.recv_ref.new.g.ground.now c.recv_ref.ensures.rests, ready_closed c.recv_ref.new.hand c.recv_ref.result _ c.recv_ref.ensures.leaves)
+invariant_of-self g c = (
+  given_back _ c.recv_ref.new.g.ground.now c.recv_ref.ensures.rests,
+  ready_closed c.recv_ref.new.hand
+      c.recv_ref.result _ c.recv_ref.ensures.leaves,
+)
 
 pub returns-clause-run : goal.returns-clause-run
 returns-clause-run g c =
-    receiver_grew (began_at (ap (λ r. r.now) c.lend-lent.ensures) (same_steps c.self.view_is)) (words_of _ _ c.recv_ref.new.g.ground.now.steps) RecvRef c.recv_ref.ensures.run
+    receiver_grew (began_at (ap (λ r. r.now) c.lend-lent.ensures) (same_steps c.self.view_is))
+    (words_of _ _ c.recv_ref.new.g.ground.now.steps) RecvRef c.recv_ref.ensures.run
 
 pub returns-clause-leaves : goal.returns-clause-leaves
 returns-clause-leaves g c =
-    subst (λ xs. LeavesClosed c.recv_ref.result (receiver_at xs)) (words_of _ _ c.recv_ref.new.g.ground.now.steps) c.recv_ref.ensures.leaves
+    subst (λ xs. LeavesClosed c.recv_ref.result (receiver_at xs)) (words_of _ _ c.recv_ref.new.g.ground.now.steps)
+    c.recv_ref.ensures.leaves
 
 pub returns-clause-stays_closed : goal.returns-clause-stays_closed
 returns-clause-stays_closed g c = λ closed.
     c.recv_ref.ensures.stays
-    (subst (λ xs. IsClosed (receiver_at xs)) (sym (began_at (ap (λ r. r.now) c.lend-lent.ensures) (same_steps c.self.view_is))) closed)
+    (subst (λ xs. IsClosed (receiver_at xs))
+    (sym (began_at (ap (λ r. r.now) c.lend-lent.ensures) (same_steps c.self.view_is))) closed)
 
 pub returns-clause-closes : goal.returns-clause-closes
 returns-clause-closes g c = closed_by _ _ (returns-clause-leaves g c)
@@ -38,4 +44,5 @@ returns-clause-about g c =
 
 pub returns-clause-kept : goal.returns-clause-kept
 returns-clause-kept g c =
-    kept_about g.P.Promise.keeps c.recv_ref.result (lent_about (ap (λ r. r.now) c.lend-lent.ensures) (same_about c.self.view_is)) c.recv_ref.ensures.given
+    kept_about g.P.Promise.keeps c.recv_ref.result
+    (lent_about (ap (λ r. r.now) c.lend-lent.ensures) (same_about c.self.view_is)) c.recv_ref.ensures.given

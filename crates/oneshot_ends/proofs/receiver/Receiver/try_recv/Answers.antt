@@ -1,5 +1,5 @@
 -- The goals that `try_recv` of `Receiver` leaves.
-use Rattle.std.proofs.Common.{sym, ap, ◌∙◌, subst}
+use Rattle.std.proofs.Common.{sym, ◌∙◌, subst}
 use Rattle.oneshot_machine.specs.Phases.{receiver_at}
 use Rattle.oneshot_machine.specs.declared.machine.receiver.ReceiverStart.TheVariants.{TryRecv}
 use Rattle.oneshot_drive.specs.BetweenCalls.{IsClosed, Leaves}
@@ -11,21 +11,25 @@ use Rattle.oneshot_ends.proofs.receiver.Receiver.try_recv.Goals as goal
 pub invariant_of-self : goal.invariant_of-self
 invariant_of-self g c = (
   c.try_recv.ensures.rests,
-  ready_still c.self.inside.hand c.try_recv.result _ _ c.self.invariant.1 c.try_recv.ensures.stays c.try_recv.ensures.leaves,
+  ready_still c.self.inside.hand c.try_recv.result _ _ c.self.invariant.1 c.try_recv.ensures.stays
+      c.try_recv.ensures.leaves,
 )
 
 pub returns-clause-run : goal.returns-clause-run
 returns-clause-run g c =
-    receiver_grew (words_of _ _ c.self.inside.ground.steps ∙ same_steps c.self.view_is) (words_of _ _ c.try_recv.new.g.steps) TryRecv c.try_recv.ensures.run
+    receiver_grew (words_of _ _ c.self.inside.ground.steps ∙ same_steps c.self.view_is)
+    (words_of _ _ c.try_recv.new.g.steps) TryRecv c.try_recv.ensures.run
 
 pub returns-clause-leaves : goal.returns-clause-leaves
 returns-clause-leaves g c =
-    subst (λ xs. Leaves c.try_recv.result (receiver_at xs)) (words_of _ _ c.try_recv.new.g.steps) c.try_recv.ensures.leaves
+    subst (λ xs. Leaves c.try_recv.result (receiver_at xs)) (words_of _ _ c.try_recv.new.g.steps)
+    c.try_recv.ensures.leaves
 
 pub returns-clause-stays_closed : goal.returns-clause-stays_closed
 returns-clause-stays_closed g c = λ closed.
     c.try_recv.ensures.stays
-    (subst (λ xs. IsClosed (receiver_at xs)) (same_steps (sym c.self.view_is) ∙ sym (words_of _ _ c.self.inside.ground.steps)) closed)
+    (subst (λ xs. IsClosed (receiver_at xs))
+    (same_steps (sym c.self.view_is) ∙ sym (words_of _ _ c.self.inside.ground.steps)) closed)
 
 pub returns-clause-closes : goal.returns-clause-closes
 returns-clause-closes g c = closed_tried (returns-clause-leaves g c)
@@ -40,4 +44,5 @@ pub returns-clause-about : goal.returns-clause-about
 returns-clause-about g c = c.try_recv.ensures.keeps ∙ same_about c.self.view_is
 
 pub returns-clause-kept : goal.returns-clause-kept
-returns-clause-kept g c = kept_about g.P.Promise.keeps c.try_recv.result (same_about c.self.view_is) c.try_recv.ensures.given
+returns-clause-kept g c =
+    kept_about g.P.Promise.keeps c.try_recv.result (same_about c.self.view_is) c.try_recv.ensures.given

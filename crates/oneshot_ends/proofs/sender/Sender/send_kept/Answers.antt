@@ -14,11 +14,15 @@ use Rattle.oneshot_ends.proofs.sender.Sender.send_kept.Goals as goal
 pub returns-clause-run : goal.returns-clause-run
 returns-clause-run g c =
     sender_grew
-    (words_of _ _ c.new-ground.result.steps ∙ ap (λ (s : Side _ _ _). s.steps) c.new-ground.ensures ∙ same_steps c.self.view_is)
-    (words_of _ _ c.send.new.g.steps ∙ sym c.into_refused-message.ensures.steps ∙ ap (λ (e : Failed _). e.steps) (sym c.new.ensures))
+    (words_of _ _ c.new-ground.result.steps ∙ ap (λ (s : Side _ _ _). s.steps) c.new-ground.ensures
+    ∙ same_steps c.self.view_is)
+    (words_of _ _ c.send.new.g.steps ∙ sym c.into_refused-message.ensures.steps
+    ∙ ap (λ (e : Failed _). e.steps) (sym c.new.ensures))
     Send
-    (subst (λ sent. SenderRan Send (state_of c.new-ground.result).log (state_of c.send.new.g).log (send_reply sent) (c.args.message ∷ []) []) c.if-send.false c.send.ensures.run)
+    (subst (λ sent. SenderRan Send (state_of c.new-ground.result).log (state_of c.send.new.g).log (send_reply sent)
+    (c.args.message ∷ []) []) c.if-send.false c.send.ensures.run)
 
 pub new-requires : goal.new-requires
 new-requires g c =
-    subst (λ xs. IsLate (sender_at xs)) (words_of _ _ c.send.new.g.steps ∙ sym c.into_refused-message.ensures.steps) (c.send.ensures.late c.if-send.false)
+    subst (λ xs. IsLate (sender_at xs)) (words_of _ _ c.send.new.g.steps ∙ sym c.into_refused-message.ensures.steps)
+    (c.send.ensures.late c.if-send.false)

@@ -1,8 +1,9 @@
 -- The goals that `trade_message` of `ReceiverSide` leaves.
-use Rattle.std.proofs.Common.{◌≢◌, rules, sym, ap, subst}
+use Rattle.std.proofs.Common.{◌≢◌, rules, sym, subst}
 use Rattle.oneshot_machine.specs.Slots.{away}
 use Rattle.oneshot_word.specs.Seats.{Keeps, message_of, message_in, waker_in, MessageSlot, ReceiverSeat}
-use Rattle.oneshot_word.proofs.Trades.{fits_message, receiver_message_front, Traded, receiver_message_traded, message_side}
+use Rattle.oneshot_word.proofs.SlotReads.{fits_message}
+use Rattle.oneshot_word.proofs.Trades.{receiver_message_front, Traded, receiver_message_traded, message_side}
 use Rattle.oneshot_word.proofs.receiver.ReceiverSide.trade_message.Given as given
 use Rattle.oneshot_word.proofs.receiver.ReceiverSide.trade_message.Goals as goal
 

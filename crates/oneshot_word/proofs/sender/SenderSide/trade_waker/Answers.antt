@@ -2,7 +2,8 @@
 use Rattle.std.proofs.Common.{◌≢◌, rules, refl, sym, ap, subst}
 use Rattle.oneshot_machine.specs.Slots.{away}
 use Rattle.oneshot_word.specs.Seats.{waker_of, message_in, waker_in, WakerSlot, SenderSeat}
-use Rattle.oneshot_word.proofs.Trades.{fits_waker, sender_waker_front, Traded, sender_waker_traded, waker_side}
+use Rattle.oneshot_word.proofs.SlotReads.{fits_waker}
+use Rattle.oneshot_word.proofs.Trades.{sender_waker_front, Traded, sender_waker_traded, waker_side}
 use Rattle.oneshot_word.proofs.sender.SenderSide.trade_waker.Given as given
 use Rattle.oneshot_word.proofs.sender.SenderSide.trade_waker.Goals as goal
 

@@ -1,0 +1,71 @@
+-- How the slots that a seat carries read as its end has them, and what may lie in each.
+use Rattle.std.proofs.Common.{◌≡◌, Bool, List, Option, refl, sym, subst}
+use Rattle.atomic_table.specs.Table.{Me}
+use Rattle.oneshot_machine.specs.Noted.{Noted}
+use Rattle.oneshot_machine.specs.Slots.{Held, vacant, held}
+use Rattle.oneshot_word.specs.declared.rouse.Rouse.{Rouse}
+use Rattle.oneshot_word.specs.declared.rule.Slot.{Slot}
+use Rattle.oneshot_word.specs.declared.rouse.Rouse.TheVariants as R
+use Rattle.oneshot_word.specs.declared.rule.Slot.TheVariants.{Empty, Message, Thread, Task, Nobody}
+use Rattle.oneshot_word.specs.declared.rule.View.{View}
+use Rattle.oneshot_word.specs.declared.rule.Role.{Role}
+use Rattle.oneshot_word.specs.Seats.{Keeps, held_keeps, with_waker, Carried, message_of, waker_of, message_in, waker_in, MessageSlot, WakerSlot, slot_vacant, slot_held, not_carried, carried, Front, message_first, waker_first, SeatOf, seat_of, SeatIs}
+
+reads_back : (T : Type 0) {H K : Type 0} (k : Rouse H K) → waker_of (with_waker {T = T} k) ≡ held k
+reads_back T (R.Thread half) = refl
+reads_back T (R.Task copy) = refl
+reads_back T R.Nobody = refl
+
+module _ {T H K : Type 0} where
+  pub message_reads : {kept : T → Type 0} {s : Slot T H K} {m : Held T} → MessageSlot kept s m → message_of s ≡ m
+  message_reads slot_vacant = refl
+  message_reads (slot_held x _) = refl
+
+  pub waker_reads : {t : Slot T H K} {w : Held (Rouse H K)} → WakerSlot t w → waker_of t ≡ w
+  waker_reads slot_vacant = refl
+  waker_reads (slot_held k _) = reads_back T k
+
+  -- what is no waker may lie in a message's slot, and what is no message in a waker's
+  pub fits_message : {kept : T → Type 0} (s : Slot T H K) → waker_of s ≡ vacant → Keeps kept (message_of s)
+      → MessageSlot kept s (message_of s)
+  fits_message Empty e k = slot_vacant
+  fits_message (Message x) e (held_keeps _ k) = slot_held x k
+  fits_message _ e k = absurd (cc)
+
+  pub fits_waker : (s : Slot T H K) → message_of s ≡ vacant → WakerSlot s (waker_of s)
+  fits_waker Empty e = slot_vacant
+  fits_waker (Message x) e = absurd (cc)
+  fits_waker (Thread half) e = slot_held (R.Thread half) tt
+  fits_waker (Task copy) e = slot_held (R.Task copy) tt
+  fits_waker Nobody e = slot_held R.Nobody tt
+
+  -- what a seat carries reads as what its end has
+  abbrev pub Reads : Carried T H K → Held T → Held (Rouse H K) → Type 0
+  Reads c m w = (message_in c ≡ m) × (waker_in c ≡ w)
+
+  pub reads : {kept : T → Type 0} {front : Front} {o : Option (Bool × Bool)} {c : Carried T H K} {m : Held T}
+      {w : Held (Rouse H K)} → SeatOf kept front o c m w → Reads c m w
+  reads {front = message_first} (seat_of not_carried not_carried) = (refl, refl)
+  reads {front = message_first} (seat_of not_carried (carried other)) = (refl, waker_reads other)
+  reads {front = message_first} (seat_of (carried slot) not_carried) = (message_reads slot, refl)
+  reads {front = message_first} (seat_of (carried slot) (carried other)) = (message_reads slot, waker_reads other)
+  reads {front = waker_first} (seat_of not_carried not_carried) = (refl, refl)
+  reads {front = waker_first} (seat_of not_carried (carried other)) = (refl, waker_reads other)
+  reads {front = waker_first} (seat_of (carried slot) not_carried) = (message_reads slot, refl)
+  reads {front = waker_first} (seat_of (carried slot) (carried other)) = (message_reads slot, waker_reads other)
+
+  pub as_read : (c : Carried T H K) {m : Held T} {w : Held (Rouse H K)} (P : Held T → Held (Rouse H K) → Type 0)
+      → Reads c m w → P m w → P (message_in c) (waker_in c)
+  as_read c {m} P reads p = subst (λ m. P m (waker_in c)) (sym reads.0) (subst (λ w. P m w) (sym reads.1) p)
+
+  -- the seat that an end has then
+  pub as_seat : {P : Type 0} {keeps : P → T → Type 0} {whose : Role} {front : Front}
+      {owns : List Noted → Option (Bool × Bool)} {me : Me (Slot T H K) (View P)} {m : Held T} {w : Held (Rouse H K)}
+      → me.0.role ≡ whose → SeatOf (keeps me.0.about) front (owns me.0.steps) me.1 m w
+      → SeatIs keeps whose front owns me
+  as_seat {keeps} {front} {owns} {me} role has =
+      record {
+        role = role;
+        has = as_read me.1 (λ m w. SeatOf (keeps me.0.about) front (owns me.0.steps) me.1 m w)
+            (reads has) has;
+      }
