@@ -1,5 +1,6 @@
 pub mod Interleaves
 pub mod Seen
+pub mod Told
 pub mod Turns
 pub mod Worlds
 pub mod SenderScripted

@@ -1,5 +1,5 @@
 -- The model makes each step of a walk: one move.
-use Rattle.std.proofs.Common.{◌≡◌, ℕ, ◌+◌, Bool, false, List, [], ◌∷◌, ◌++◌, Some, refl, sym, ap, ◌∙◌, subst}
+use Rattle.std.proofs.Common.{◌≡◌, ℕ, ◌+◌, Bool, false, List, [], ◌∷◌, ◌++◌, Some, refl, ap, ◌∙◌}
 use Rattle.std.specs.Option.{option_map}
 use Rattle.oneshot_machine.specs.declared.machine.End.TheVariants.{Sender, Receiver}
 use Rattle.oneshot_machine.specs.declared.machine.receiver.ReceiverPos.{ReceiverPos}
@@ -11,7 +11,7 @@ use Rattle.oneshot_machine.specs.Sender.{sender_step, sender_row}
 use Rattle.oneshot_machine.specs.States.{word_after}
 use Rattle.oneshot_machine.specs.TableRows.{Outcome}
 use Rattle.oneshot_world.specs.Calls.{left_by}
-use Rattle.oneshot_world.specs.Effects.{seen_by, word_left, reply_of, sender_goes, receiver_goes}
+use Rattle.oneshot_world.specs.Effects.{seen_by, word_left, reply_of}
 use Rattle.oneshot_world.specs.Reached.{IsReached}
 use Rattle.oneshot_world.specs.State.{sender_fits, receiver_fits, sender_steps, receiver_steps, sender_stepped, receiver_stepped}
 use Rattle.oneshot_world.specs.World.{World, turn, nothing_told, receiver_told, opening}
@@ -29,9 +29,10 @@ use Rattle.oneshot_replay.specs.Scene.{Scene}
 use Rattle.oneshot_replay.proofs.RunLaws.{is_right}
 use Rattle.oneshot_replay.proofs.Runs.{goes_on}
 use Rattle.oneshot_bridge.specs.OrdersRun.{log_of, RunsSo, OrdersAreRuns}
-use Rattle.oneshot_bridge.specs.Walks.{opening_sender, opening_receiver, SenderStand, ReceiverStand, the_sender, the_receiver, Quiet, quiet, Operates, operates}
+use Rattle.oneshot_bridge.specs.Walks.{answers_with, stands_after, opening_sender, opening_receiver, SenderStand, ReceiverStand, the_sender, the_receiver, Quiet, quiet, Operates, operates}
 use Rattle.oneshot_bridge.proofs.Interleaves.{CanStep, interleaves}
 use Rattle.oneshot_bridge.proofs.Seen.{op_sees, answer_in, sender_answers, sender_sees, receiver_sees}
+use Rattle.oneshot_bridge.proofs.Told.{told_by, tells_more, tells_same, told_in}
 use Rattle.oneshot_bridge.proofs.Turns.{by_row, quiet_word, quiet_op, log_stays, log_grows, sender_turn, receiver_turn}
 
 module _ {X : Type 0} (a : SenderScript X) (b : ReceiverScript) where
@@ -41,8 +42,14 @@ module _ {X : Type 0} (a : SenderScript X) (b : ReceiverScript) where
     entries : List Entry
     now : Scene X
     run : RunsSo a b moves entries now xs ys n
-    sender : (now.world.state.sender, now.world.sender) ≡ s
-    receiver : (now.world.state.receiver, now.world.receiver) ≡ r
+    sender : now.world.state.sender ≡ s.0
+    sender_left : now.world.sender ≡ s.1
+    receiver : now.world.state.receiver ≡ r.0
+    receiver_left : now.world.receiver ≡ r.1
+    sender_told : (more : List Entry)
+        → told_by Sender (opening_sender a).1 (entries ++ more) ≡ s.2 ++ told_by Sender s.1 more
+    receiver_told : (more : List Entry)
+        → told_by Receiver (opening_receiver b).1 (entries ++ more) ≡ r.2 ++ told_by Receiver r.1 more
     reached : IsReached now.world
 
   -- the entry of a step by a row
@@ -76,10 +83,10 @@ module _ {X : Type 0} (a : SenderScript X) (b : ReceiverScript) where
         → the_sender.position s ≡ Some p → sender_row p (seen_by false g.now.world.state (sender_step p)) ≡ Some row
         → (sender_at g.now.world ≡ Some p) × (sender_steps nothing_told g.now.world.state p
         ≡ Some (sender_stepped nothing_told g.now.world.state (sender_step p) row))
-    sender_made g p row at rows =
+    sender_made {s} g p row at rows =
         let w = g.now.world in
         let there : sender_at w ≡ Some p =
-        subst (λ (z : SenderStand). the_sender.position z ≡ Some p) (sym g.sender) at in (
+        (λ i. the_sender.position (g.sender i, g.sender_left i, s.2)) ∙ at in (
           there,
           by_row (sender_fits w.state (sender_step p)) (sender_stepped nothing_told w.state (sender_step p))
               (sender_row p (seen_by false w.state (sender_step p))) row (sender_makes w p g.reached there) rows,
@@ -91,8 +98,8 @@ module _ {X : Type 0} (a : SenderScript X) (b : ReceiverScript) where
         → log_of Sender
         (g.entries ++ sender_entry g.now.world.state p row ∷ []) ≡ zs
         → word_left g.now.world.state.word (sender_step p) ≡ m
-        → Got zs ys m (sender_goes (sender_step p) row, left_by Sender (reply_of row) s.1) r
-    sender_then g p row at rows log word =
+        → Got zs ys m (stands_after the_sender p row s.1 s.2) r
+    sender_then {s} {r} g p row at rows log word =
         let w = g.now.world in
         let next = sender_world w (sender_step p) row in
         let entry = sender_entry w.state p row in
@@ -104,9 +111,14 @@ module _ {X : Type 0} (a : SenderScript X) (b : ReceiverScript) where
           run =
               moved_on g M.Sender entry next (sender_turn (g.now.count + 1) w p row made.0 made.1) log
               (log_stays Receiver g.entries entry g.run.receiver_log refl) word;
-          sender =
-              ap (λ (z : SenderStand). (sender_goes (sender_step p) row, left_by Sender (reply_of row) z.1)) g.sender;
+          sender = refl;
+          sender_left = ap (left_by Sender (reply_of row)) g.sender_left;
           receiver = g.receiver;
+          receiver_left = g.receiver_left;
+          sender_told =
+              tells_more Sender entry g.entries _ s.1 (left_by Sender (reply_of row) s.1) s.2
+              (answers_with s.1 (reply_of row)) g.sender_told (λ more. refl);
+          receiver_told = tells_same Receiver entry g.entries _ r.1 r.2 g.receiver_told (λ more. refl);
           reached = sender_row_reaches w p row g.reached made.0 made.1;
         }
 
@@ -139,11 +151,11 @@ module _ {X : Type 0} (a : SenderScript X) (b : ReceiverScript) where
         → (receiver_at g.now.world ≡ Some p)
         × (receiver_steps (receiver_told answer (g.now.count + 1) g.now.world) g.now.world.state p ≡ Some
         (receiver_stepped (receiver_told answer (g.now.count + 1) g.now.world) g.now.world.state (receiver_step p) row))
-    receiver_made answer g p row at rows =
+    receiver_made {r} answer g p row at rows =
         let w = g.now.world in
         let k = g.now.count + 1 in
         let there : receiver_at w ≡ Some p =
-        subst (λ (z : ReceiverStand). the_receiver.position z ≡ Some p) (sym g.receiver) at in (
+        (λ i. the_receiver.position (g.receiver i, g.receiver_left i, r.2)) ∙ at in (
           there,
           by_row (receiver_fits w.state (receiver_step p))
               (receiver_stepped (receiver_told answer k w) w.state (receiver_step p))
@@ -157,8 +169,8 @@ module _ {X : Type 0} (a : SenderScript X) (b : ReceiverScript) where
         → receiver_row p (seen_by answer g.now.world.state (receiver_step p)) ≡ Some row
         → log_of Receiver (g.entries ++ receiver_entry answer g.now g.now.world.state p row ∷ []) ≡ zs
         → word_left g.now.world.state.word (receiver_step p) ≡ m
-        → Got xs zs m s (receiver_goes (receiver_step p) row, left_by Receiver (reply_of row) r.1)
-    receiver_then answer g p row at rows log word =
+        → Got xs zs m s (stands_after the_receiver p row r.1 r.2)
+    receiver_then {s} {r} answer g p row at rows log word =
         let w = g.now.world in
         let k = g.now.count + 1 in
         let t = receiver_told answer k w in
@@ -173,9 +185,13 @@ module _ {X : Type 0} (a : SenderScript X) (b : ReceiverScript) where
               moved_on g (M.Receiver answer answer) entry next (receiver_turn answer k w p row made.0 made.1)
               (log_stays Sender g.entries entry g.run.sender_log refl) log word;
           sender = g.sender;
-          receiver =
-              ap (λ (z : ReceiverStand). (receiver_goes (receiver_step p) row, left_by Receiver (reply_of row) z.1))
-              g.receiver;
+          receiver = refl;
+          sender_left = g.sender_left;
+          receiver_left = ap (left_by Receiver (reply_of row)) g.receiver_left;
+          sender_told = tells_same Sender entry g.entries _ s.1 s.2 g.sender_told (λ more. refl);
+          receiver_told =
+              tells_more Receiver entry g.entries _ r.1 (left_by Receiver (reply_of row) r.1) r.2
+              (answers_with r.1 (reply_of row)) g.receiver_told (λ more. refl);
           reached = receiver_row_reaches answer k w p row g.reached made.0 made.1;
         }
 
@@ -213,7 +229,11 @@ module _ {X : Type 0} (a : SenderScript X) (b : ReceiverScript) where
           leaves = refl;
         };
         sender = refl;
+        sender_left = refl;
         receiver = refl;
+        receiver_left = refl;
+        sender_told = λ more. refl;
+        receiver_told = λ more. refl;
         reached = opening_reached a b;
       }
 
@@ -236,7 +256,9 @@ orders_run T a b xs ys n s r order sender receiver =
       entries = got.entries;
       now = got.now;
       run = got.run;
-      sender = got.sender;
-      receiver = got.receiver;
+      sender = let told = told_in a b got.entries Sender s.1 s.2 got.sender_told in
+          λ i. (got.sender i, got.sender_left i, told i);
+      receiver = let told = told_in a b got.entries Receiver r.1 r.2 got.receiver_told in
+          λ i. (got.receiver i, got.receiver_left i, told i);
       right = is_right a b got.moves got.entries got.now got.run.run;
     }
