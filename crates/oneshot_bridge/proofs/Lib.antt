@@ -11,4 +11,6 @@ pub mod ReceiverScripted
 pub mod RowsTurn
 pub mod ReceiverLogs
 pub mod StatesRun
+pub mod OneReceive
+pub mod Given
 pub mod Examples

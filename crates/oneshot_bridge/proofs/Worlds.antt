@@ -26,31 +26,30 @@ use Rattle.oneshot_world.proofs.ReachedMoves.{sender_at, receiver_at, sender_wor
 use Rattle.oneshot_world.proofs.ReachedOpening.{opening_reached}
 use Rattle.oneshot_replay.specs.Rest.{message_of}
 use Rattle.oneshot_replay.specs.Scene.{Scene}
-use Rattle.oneshot_replay.proofs.RunLaws.{is_right}
 use Rattle.oneshot_replay.proofs.Runs.{goes_on}
-use Rattle.oneshot_bridge.specs.OrdersRun.{log_of, RunsSo, OrdersAreRuns}
+use Rattle.oneshot_bridge.specs.OrdersRun.{log_of, RunsSo}
 use Rattle.oneshot_bridge.specs.Walks.{answers_with, stands_after, opening_sender, opening_receiver, SenderStand, ReceiverStand, the_sender, the_receiver, Quiet, quiet, Operates, operates}
-use Rattle.oneshot_bridge.proofs.Interleaves.{CanStep, interleaves}
+use Rattle.oneshot_bridge.proofs.Interleaves.{CanStep}
 use Rattle.oneshot_bridge.proofs.Seen.{op_sees, answer_in, sender_answers, sender_sees, receiver_sees}
-use Rattle.oneshot_bridge.proofs.Told.{told_by, tells_more, tells_same, told_in}
+use Rattle.oneshot_bridge.proofs.Told.{told_by, tells_more, tells_same}
 use Rattle.oneshot_bridge.proofs.Turns.{by_row, quiet_word, quiet_op, log_stays, log_grows, sender_turn, receiver_turn}
 
 module _ {X : Type 0} (a : SenderScript X) (b : ReceiverScript) where
   -- a run, with what holds of the world that it leads to
-  record Got (xs ys : List Noted) (n : ℕ) (s : SenderStand) (r : ReceiverStand) : Type 0 where
-    moves : List Move
-    entries : List Entry
-    now : Scene X
-    run : RunsSo a b moves entries now xs ys n
-    sender : now.world.state.sender ≡ s.0
-    sender_left : now.world.sender ≡ s.1
-    receiver : now.world.state.receiver ≡ r.0
-    receiver_left : now.world.receiver ≡ r.1
-    sender_told : (more : List Entry)
+  pub record Got (xs ys : List Noted) (n : ℕ) (s : SenderStand) (r : ReceiverStand) : Type 0 where
+    pub moves : List Move
+    pub entries : List Entry
+    pub now : Scene X
+    pub run : RunsSo a b moves entries now xs ys n
+    pub sender : now.world.state.sender ≡ s.0
+    pub sender_left : now.world.sender ≡ s.1
+    pub receiver : now.world.state.receiver ≡ r.0
+    pub receiver_left : now.world.receiver ≡ r.1
+    pub sender_told : (more : List Entry)
         → told_by Sender (opening_sender a).1 (entries ++ more) ≡ s.2 ++ told_by Sender s.1 more
-    receiver_told : (more : List Entry)
+    pub receiver_told : (more : List Entry)
         → told_by Receiver (opening_receiver b).1 (entries ++ more) ≡ r.2 ++ told_by Receiver r.1 more
-    reached : IsReached now.world
+    pub reached : IsReached now.world
 
   -- the entry of a step by a row
   abbrev sender_entry : State → SenderPos → Outcome SenderPos → Entry
@@ -237,7 +236,7 @@ module _ {X : Type 0} (a : SenderScript X) (b : ReceiverScript) where
         reached = opening_reached a b;
       }
 
-  the_model : CanStep (Quiet the_sender) (Operates the_sender) (Quiet the_receiver) (Operates the_receiver)
+  pub the_model : CanStep (Quiet the_sender) (Operates the_sender) (Quiet the_receiver) (Operates the_receiver)
       (opening_sender a) (opening_receiver b) Got
   the_model =
       record {
@@ -247,18 +246,3 @@ module _ {X : Type 0} (a : SenderScript X) (b : ReceiverScript) where
         sender_acts = sender_acts;
         receiver_acts = receiver_acts;
       }
-
-pub orders_run : (T : Type 0) → OrdersAreRuns T
-orders_run T a b xs ys n s r order sender receiver =
-    let got : Got a b xs ys n s r = interleaves (the_model a b) order sender receiver in
-    record {
-      moves = got.moves;
-      entries = got.entries;
-      now = got.now;
-      run = got.run;
-      sender = let told = told_in a b got.entries Sender s.1 s.2 got.sender_told in
-          λ i. (got.sender i, got.sender_left i, told i);
-      receiver = let told = told_in a b got.entries Receiver r.1 r.2 got.receiver_told in
-          λ i. (got.receiver i, got.receiver_left i, told i);
-      right = is_right a b got.moves got.entries got.now got.run.run;
-    }
