@@ -33,7 +33,7 @@ module _ {T : Type 0} (m : T) where
   )
 
 waits : ReceiverWalk receives ((Load, Word 3) ∷ (Swap 0, Word 3) ∷ [])
-    (RS.At (Value RecvPark), (opening_receiver receives).1)
+    (RS.At (Value RecvPark), (opening_receiver receives).1, [])
 waits =
     by_one (Swap 0, Word 3)
     (quietly

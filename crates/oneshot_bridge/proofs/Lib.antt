@@ -1,5 +1,6 @@
 pub mod Interleaves
 pub mod Seen
+pub mod Told
 pub mod Turns
 pub mod Worlds
 pub mod SenderScripted
@@ -10,4 +11,6 @@ pub mod ReceiverScripted
 pub mod RowsTurn
 pub mod ReceiverLogs
 pub mod StatesRun
+pub mod OneReceive
+pub mod Given
 pub mod Examples

@@ -23,7 +23,7 @@ use Rattle.oneshot_world.specs.declared.script.ReceiverLast.TheVariants as RL
 use Rattle.oneshot_world.specs.declared.script.ReceiverScript.{ReceiverScript}
 use Rattle.oneshot_world.specs.declared.state.ReceiverState.{ReceiverState}
 use Rattle.oneshot_world.specs.declared.state.ReceiverState.TheVariants as RS
-use Rattle.oneshot_bridge.specs.Walks.{may_see, quietly, by_one, quiet, operates, stands_after, the_receiver, ReceiverStand, ReceiverWalk, begins}
+use Rattle.oneshot_bridge.specs.Walks.{Answered, may_see, quietly, by_one, quiet, operates, stands_after, the_receiver, ReceiverStand, ReceiverWalk, begins}
 
 -- which calls may follow the one under way: those of a receiver, those of a future, or none
 pub data After : Type 0 where
@@ -45,16 +45,18 @@ calls_in nothing rest = []
 pub record Stands (ys : List Noted) (p : ReceiverPos) (after : After) : Type 0 where
   pub call : Call
   pub state : ReceiverState
+  pub told : List Answered
   pub position : receiver_position state (as_receiver_call call) ≡ Some p
   pub script : Rest after → ReceiverScript
   pub walk : (rest : Rest after)
-      → ReceiverWalk (script rest) ys (state, record { calls = call ∷ calls_in after rest; error = [] })
+      → ReceiverWalk (script rest) ys (state, record { calls = call ∷ calls_in after rest; error = [] }, told)
 
 -- it has answered its call, and these follow
 pub record IsReady (ys : List Noted) (after : After) : Type 0 where
+  pub told : List Answered
   pub script : Rest after → ReceiverScript
   pub walk : (rest : Rest after)
-      → ReceiverWalk (script rest) ys (RS.Ready, record { calls = calls_in after rest; error = [] })
+      → ReceiverWalk (script rest) ys (RS.Ready, record { calls = calls_in after rest; error = [] }, told)
 
 -- a step at a position that sees this, and the log after it
 pub data Steps (ys : List Noted) (p : ReceiverPos) (seen : Seen) : List Noted → Type 0 where
@@ -64,7 +66,7 @@ pub data Steps (ys : List Noted) (p : ReceiverPos) (seen : Seen) : List Noted �
 walks : (r : ReceiverScript) {ys zs : List Noted} {s : ReceiverStand} {p : ReceiverPos} {seen : Seen}
     (row : Outcome ReceiverPos) → Steps ys p seen zs → the_receiver.position s ≡ Some p
     → receiver_row p seen ≡ Some row → ReceiverWalk r ys s
-    → ReceiverWalk r zs (stands_after the_receiver p row s.1)
+    → ReceiverWalk r zs (stands_after the_receiver p row s.1 s.2)
 walks r {p} {seen} row (rests may) at rows walk = quietly walk (quiet p seen row at may rows)
 walks r {p} {seen} row (makes op step) at rows walk = by_one (op, seen) walk (operates p (op, seen) row at step rows)
 
@@ -75,6 +77,7 @@ module _ {ys zs : List Noted} {p : ReceiverPos} {seen : Seen} {after : After} wh
       record {
         call = stands.call;
         state = RS.At next;
+        told = stands.told ++ [];
         position = refl;
         script = stands.script;
         walk = λ rest. walks (stands.script rest) (Goes next) steps stands.position rows (stands.walk rest);
@@ -84,11 +87,12 @@ module _ {ys zs : List Noted} {p : ReceiverPos} {seen : Seen} {after : After} wh
       → receiver_goes (receiver_step p) (Answers reply) ≡ RS.Ready → IsReady zs after
   answers reply stands steps rows ready =
       record {
+        told = stands.told ++ (stands.call, reply) ∷ [];
         script = stands.script;
         walk =
             λ rest. subst
             (λ (s : ReceiverState). ReceiverWalk (stands.script rest) zs
-            (s, record { calls = calls_in after rest; error = [] }))
+            (s, record { calls = calls_in after rest; error = [] }, stands.told ++ (stands.call, reply) ∷ []))
             ready (walks (stands.script rest) (Answers reply) steps stands.position rows (stands.walk rest));
       }
 
@@ -108,7 +112,7 @@ some_walk {after} row stands steps rows = (
 )
 
 pub opens : IsReady [] calls
-opens = record { script = λ rest. record { calls = rest.0; last = rest.1 }; walk = λ rest. begins }
+opens = record { told = []; script = λ rest. record { calls = rest.0; last = rest.1 }; walk = λ rest. begins }
 
 -- the next call: one that leaves the receiver in place, its last, or the one that makes it a future
 module _ {ys : List Noted} (ready : IsReady ys calls) where
@@ -118,6 +122,7 @@ module _ {ys : List Noted} (ready : IsReady ys calls) where
       record {
         call = receiver_call call;
         state = RS.Ready;
+        told = ready.told;
         position = at;
         script = λ rest. ready.script (call ∷ rest.0, rest.1);
         walk = λ rest. ready.walk (call ∷ rest.0, rest.1);
@@ -128,6 +133,7 @@ module _ {ys : List Noted} (ready : IsReady ys calls) where
       record {
         call = Of_receiver RC.Recv;
         state = RS.Ready;
+        told = ready.told;
         position = refl;
         script = λ rest. ready.script ([], RL.Recv);
         walk = λ rest. ready.walk ([], RL.Recv);
@@ -138,6 +144,7 @@ module _ {ys : List Noted} (ready : IsReady ys calls) where
       record {
         call = Of_receiver RC.Drop;
         state = RS.Ready;
+        told = ready.told;
         position = refl;
         script = λ rest. ready.script ([], RL.Drop);
         walk = λ rest. ready.walk ([], RL.Drop);
@@ -148,6 +155,7 @@ module _ {ys : List Noted} (ready : IsReady ys calls) where
       record {
         call = Of_receiver RC.IntoFuture;
         state = RS.Ready;
+        told = ready.told;
         position = refl;
         script = λ rest. ready.script ([], RL.IntoFuture (record { calls = rest.0; last = rest.1 }));
         walk = λ rest. ready.walk ([], RL.IntoFuture (record { calls = rest.0; last = rest.1 }));
@@ -161,6 +169,7 @@ module _ {ys : List Noted} (ready : IsReady ys polls) where
       record {
         call = async_call call;
         state = RS.Ready;
+        told = ready.told;
         position = at;
         script = λ rest. ready.script (call ∷ rest.0, rest.1);
         walk = λ rest. ready.walk (call ∷ rest.0, rest.1);
@@ -171,6 +180,7 @@ module _ {ys : List Noted} (ready : IsReady ys polls) where
       record {
         call = Of_receiver RC.DropAsync;
         state = RS.Ready;
+        told = ready.told;
         position = refl;
         script = λ rest. ready.script ([], AL.Drop);
         walk = λ rest. ready.walk ([], AL.Drop);

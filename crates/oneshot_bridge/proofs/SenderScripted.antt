@@ -33,11 +33,12 @@ module _ {T : Type 0} (m : T) where
   data Scripted : List Noted → SenderAt → Type 0 where
     not_begun : Scripted [] fresh
     owing : {xs : List Noted} (by : By)
-        → SenderWalk (script_of by) xs (SS.At (swaps_at by), (opening_sender (script_of by)).1) → Scripted xs (owes by)
+        → SenderWalk (script_of by) xs (SS.At (swaps_at by), (opening_sender (script_of by)).1, [])
+        → Scripted xs (owes by)
     over : {xs : List Noted} {at : SenderAt} (by : By) (s : SenderStand) → sender_moves at ≡ []
         → SenderWalk (script_of by) xs s → Scripted xs at
 
-  writes : SenderWalk (script_of sending) [] (SS.At SendAdd, (opening_sender (script_of sending)).1)
+  writes : SenderWalk (script_of sending) [] (SS.At SendAdd, (opening_sender (script_of sending)).1, [])
   writes = quietly begins (quiet SendWrite Done (Goes SendAdd) refl refl refl)
 
   more : {xs : List Noted} {p next : SenderAt} {op : Op} {before after : Slots} (word : ℕ) → Scripted xs p

@@ -1,9 +1,29 @@
--- Each state that the rule of the word allows is one of a run: both ends are scripted, and their order is a run.
-use Rattle.oneshot_bridge.specs.OrdersRun.{RunsTo}
+-- Each order is a run, and each state that the rule of the word allows is one of a run: both ends are scripted,
+-- and their order is a run.
+use Rattle.oneshot_machine.specs.declared.machine.End.TheVariants.{Sender, Receiver}
+use Rattle.oneshot_replay.proofs.RunLaws.{is_right}
+use Rattle.oneshot_bridge.specs.OrdersRun.{RunsTo, OrdersAreRuns}
 use Rattle.oneshot_bridge.specs.Scripted.{StatesAreOfRuns}
+use Rattle.oneshot_bridge.proofs.Interleaves.{interleaves}
 use Rattle.oneshot_bridge.proofs.ReceiverLogs.{receiver_scripted}
 use Rattle.oneshot_bridge.proofs.SenderScripted.{sender_scripted}
-use Rattle.oneshot_bridge.proofs.Worlds.{orders_run}
+use Rattle.oneshot_bridge.proofs.Told.{told_in}
+use Rattle.oneshot_bridge.proofs.Worlds.{Got, the_model}
+
+pub orders_run : (T : Type 0) → OrdersAreRuns T
+orders_run T a b xs ys n s r order sender receiver =
+    let got : Got a b xs ys n s r = interleaves (the_model a b) order sender receiver in
+    record {
+      moves = got.moves;
+      entries = got.entries;
+      now = got.now;
+      run = got.run;
+      sender = let told = told_in a b got.entries Sender s.1 s.2 got.sender_told in
+          λ i. (got.sender i, got.sender_left i, told i);
+      receiver = let told = told_in a b got.entries Receiver r.1 r.2 got.receiver_told in
+          λ i. (got.receiver i, got.receiver_left i, told i);
+      right = is_right a b got.moves got.entries got.now got.run.run;
+    }
 
 pub states_run : (T : Type 0) → StatesAreOfRuns T
 states_run T message xs ys word order =

@@ -1,5 +1,5 @@
 -- The model makes each step of a walk: one move.
-use Rattle.std.proofs.Common.{◌≡◌, ℕ, ◌+◌, Bool, false, List, [], ◌∷◌, ◌++◌, Some, refl, sym, ap, ◌∙◌, subst}
+use Rattle.std.proofs.Common.{◌≡◌, ℕ, ◌+◌, Bool, false, List, [], ◌∷◌, ◌++◌, Some, refl, ap, ◌∙◌}
 use Rattle.std.specs.Option.{option_map}
 use Rattle.oneshot_machine.specs.declared.machine.End.TheVariants.{Sender, Receiver}
 use Rattle.oneshot_machine.specs.declared.machine.receiver.ReceiverPos.{ReceiverPos}
@@ -11,7 +11,7 @@ use Rattle.oneshot_machine.specs.Sender.{sender_step, sender_row}
 use Rattle.oneshot_machine.specs.States.{word_after}
 use Rattle.oneshot_machine.specs.TableRows.{Outcome}
 use Rattle.oneshot_world.specs.Calls.{left_by}
-use Rattle.oneshot_world.specs.Effects.{seen_by, word_left, reply_of, sender_goes, receiver_goes}
+use Rattle.oneshot_world.specs.Effects.{seen_by, word_left, reply_of}
 use Rattle.oneshot_world.specs.Reached.{IsReached}
 use Rattle.oneshot_world.specs.State.{sender_fits, receiver_fits, sender_steps, receiver_steps, sender_stepped, receiver_stepped}
 use Rattle.oneshot_world.specs.World.{World, turn, nothing_told, receiver_told, opening}
@@ -28,24 +28,30 @@ use Rattle.oneshot_world.proofs.ReachedMoves.{sender_makes, receiver_makes, send
 use Rattle.oneshot_world.proofs.ReachedOpening.{opening_reached}
 use Rattle.oneshot_replay.specs.Rest.{message_of}
 use Rattle.oneshot_replay.specs.Scene.{Scene}
-use Rattle.oneshot_replay.proofs.RunLaws.{is_right}
 use Rattle.oneshot_replay.proofs.Runs.{goes_on}
-use Rattle.oneshot_bridge.specs.OrdersRun.{log_of, RunsSo, OrdersAreRuns}
-use Rattle.oneshot_bridge.specs.Walks.{opening_sender, opening_receiver, SenderStand, ReceiverStand, the_sender, the_receiver, Quiet, quiet, Operates, operates}
-use Rattle.oneshot_bridge.proofs.Interleaves.{CanStep, interleaves}
+use Rattle.oneshot_bridge.specs.OrdersRun.{log_of, RunsSo}
+use Rattle.oneshot_bridge.specs.Walks.{answers_with, stands_after, opening_sender, opening_receiver, SenderStand, ReceiverStand, the_sender, the_receiver, Quiet, quiet, Operates, operates}
+use Rattle.oneshot_bridge.proofs.Interleaves.{CanStep}
 use Rattle.oneshot_bridge.proofs.Seen.{op_sees, answer_in, sender_answers, sender_sees, receiver_sees}
+use Rattle.oneshot_bridge.proofs.Told.{told_by, tells_more, tells_same}
 use Rattle.oneshot_bridge.proofs.Turns.{by_row, quiet_word, quiet_op, log_stays, log_grows, sender_turn, receiver_turn}
 
 module _ {X : Type 0} (a : SenderScript X) (b : ReceiverScript) where
   -- a run, with what holds of the world that it leads to
-  record Got (xs ys : List Noted) (n : ℕ) (s : SenderStand) (r : ReceiverStand) : Type 0 where
-    moves : List Move
-    entries : List Entry
-    now : Scene X
-    run : RunsSo a b moves entries now xs ys n
-    sender : (now.world.state.sender, now.world.sender) ≡ s
-    receiver : (now.world.state.receiver, now.world.receiver) ≡ r
-    reached : IsReached now.world
+  pub record Got (xs ys : List Noted) (n : ℕ) (s : SenderStand) (r : ReceiverStand) : Type 0 where
+    pub moves : List Move
+    pub entries : List Entry
+    pub now : Scene X
+    pub run : RunsSo a b moves entries now xs ys n
+    pub sender : now.world.state.sender ≡ s.0
+    pub sender_left : now.world.sender ≡ s.1
+    pub receiver : now.world.state.receiver ≡ r.0
+    pub receiver_left : now.world.receiver ≡ r.1
+    pub sender_told : (more : List Entry)
+        → told_by Sender (opening_sender a).1 (entries ++ more) ≡ s.2 ++ told_by Sender s.1 more
+    pub receiver_told : (more : List Entry)
+        → told_by Receiver (opening_receiver b).1 (entries ++ more) ≡ r.2 ++ told_by Receiver r.1 more
+    pub reached : IsReached now.world
 
   -- the entry of a step by a row
   abbrev sender_entry : State → SenderPos → Outcome SenderPos → Entry
@@ -78,10 +84,10 @@ module _ {X : Type 0} (a : SenderScript X) (b : ReceiverScript) where
         → the_sender.position s ≡ Some p → sender_row p (seen_by false g.now.world.state (sender_step p)) ≡ Some row
         → (sender_at g.now.world ≡ Some p) × (sender_steps nothing_told g.now.world.state p
         ≡ Some (sender_stepped nothing_told g.now.world.state (sender_step p) row))
-    sender_made g p row at rows =
+    sender_made {s} g p row at rows =
         let w = g.now.world in
         let there : sender_at w ≡ Some p =
-        subst (λ (z : SenderStand). the_sender.position z ≡ Some p) (sym g.sender) at in (
+        (λ i. the_sender.position (g.sender i, g.sender_left i, s.2)) ∙ at in (
           there,
           by_row (sender_fits w.state (sender_step p)) (sender_stepped nothing_told w.state (sender_step p))
               (sender_row p (seen_by false w.state (sender_step p))) row (sender_makes w p g.reached there) rows,
@@ -93,8 +99,8 @@ module _ {X : Type 0} (a : SenderScript X) (b : ReceiverScript) where
         → log_of Sender
         (g.entries ++ sender_entry g.now.world.state p row ∷ []) ≡ zs
         → word_left g.now.world.state.word (sender_step p) ≡ m
-        → Got zs ys m (sender_goes (sender_step p) row, left_by Sender (reply_of row) s.1) r
-    sender_then g p row at rows log word =
+        → Got zs ys m (stands_after the_sender p row s.1 s.2) r
+    sender_then {s} {r} g p row at rows log word =
         let w = g.now.world in
         let next = sender_world w (sender_step p) row in
         let entry = sender_entry w.state p row in
@@ -106,9 +112,14 @@ module _ {X : Type 0} (a : SenderScript X) (b : ReceiverScript) where
           run =
               moved_on g M.Sender entry next (sender_turn (g.now.count + 1) w p row made.0 made.1) log
               (log_stays Receiver g.entries entry g.run.receiver_log refl) word;
-          sender =
-              ap (λ (z : SenderStand). (sender_goes (sender_step p) row, left_by Sender (reply_of row) z.1)) g.sender;
+          sender = refl;
+          sender_left = ap (left_by Sender (reply_of row)) g.sender_left;
           receiver = g.receiver;
+          receiver_left = g.receiver_left;
+          sender_told =
+              tells_more Sender entry g.entries _ s.1 (left_by Sender (reply_of row) s.1) s.2
+              (answers_with s.1 (reply_of row)) g.sender_told (λ more. refl);
+          receiver_told = tells_same Receiver entry g.entries _ r.1 r.2 g.receiver_told (λ more. refl);
           reached = sender_row_reaches w p row g.reached made.0 made.1;
         }
 
@@ -141,11 +152,11 @@ module _ {X : Type 0} (a : SenderScript X) (b : ReceiverScript) where
         → (receiver_at g.now.world ≡ Some p)
         × (receiver_steps (receiver_told answer (g.now.count + 1) g.now.world) g.now.world.state p ≡ Some
         (receiver_stepped (receiver_told answer (g.now.count + 1) g.now.world) g.now.world.state (receiver_step p) row))
-    receiver_made answer g p row at rows =
+    receiver_made {r} answer g p row at rows =
         let w = g.now.world in
         let k = g.now.count + 1 in
         let there : receiver_at w ≡ Some p =
-        subst (λ (z : ReceiverStand). the_receiver.position z ≡ Some p) (sym g.receiver) at in (
+        (λ i. the_receiver.position (g.receiver i, g.receiver_left i, r.2)) ∙ at in (
           there,
           by_row (receiver_fits w.state (receiver_step p))
               (receiver_stepped (receiver_told answer k w) w.state (receiver_step p))
@@ -159,8 +170,8 @@ module _ {X : Type 0} (a : SenderScript X) (b : ReceiverScript) where
         → receiver_row p (seen_by answer g.now.world.state (receiver_step p)) ≡ Some row
         → log_of Receiver (g.entries ++ receiver_entry answer g.now g.now.world.state p row ∷ []) ≡ zs
         → word_left g.now.world.state.word (receiver_step p) ≡ m
-        → Got xs zs m s (receiver_goes (receiver_step p) row, left_by Receiver (reply_of row) r.1)
-    receiver_then answer g p row at rows log word =
+        → Got xs zs m s (stands_after the_receiver p row r.1 r.2)
+    receiver_then {s} {r} answer g p row at rows log word =
         let w = g.now.world in
         let k = g.now.count + 1 in
         let t = receiver_told answer k w in
@@ -175,9 +186,13 @@ module _ {X : Type 0} (a : SenderScript X) (b : ReceiverScript) where
               moved_on g (M.Receiver answer answer) entry next (receiver_turn answer k w p row made.0 made.1)
               (log_stays Sender g.entries entry g.run.sender_log refl) log word;
           sender = g.sender;
-          receiver =
-              ap (λ (z : ReceiverStand). (receiver_goes (receiver_step p) row, left_by Receiver (reply_of row) z.1))
-              g.receiver;
+          receiver = refl;
+          sender_left = g.sender_left;
+          receiver_left = ap (left_by Receiver (reply_of row)) g.receiver_left;
+          sender_told = tells_same Sender entry g.entries _ s.1 s.2 g.sender_told (λ more. refl);
+          receiver_told =
+              tells_more Receiver entry g.entries _ r.1 (left_by Receiver (reply_of row) r.1) r.2
+              (answers_with r.1 (reply_of row)) g.receiver_told (λ more. refl);
           reached = receiver_row_reaches answer k w p row g.reached made.0 made.1;
         }
 
@@ -215,11 +230,15 @@ module _ {X : Type 0} (a : SenderScript X) (b : ReceiverScript) where
           leaves = refl;
         };
         sender = refl;
+        sender_left = refl;
         receiver = refl;
+        receiver_left = refl;
+        sender_told = λ more. refl;
+        receiver_told = λ more. refl;
         reached = opening_reached a b;
       }
 
-  the_model : CanStep (Quiet the_sender) (Operates the_sender) (Quiet the_receiver) (Operates the_receiver)
+  pub the_model : CanStep (Quiet the_sender) (Operates the_sender) (Quiet the_receiver) (Operates the_receiver)
       (opening_sender a) (opening_receiver b) Got
   the_model =
       record {
@@ -229,16 +248,3 @@ module _ {X : Type 0} (a : SenderScript X) (b : ReceiverScript) where
         sender_acts = sender_acts;
         receiver_acts = receiver_acts;
       }
-
-pub orders_run : (T : Type 0) → OrdersAreRuns T
-orders_run T a b xs ys n s r order sender receiver =
-    let got : Got a b xs ys n s r = interleaves (the_model a b) order sender receiver in
-    record {
-      moves = got.moves;
-      entries = got.entries;
-      now = got.now;
-      run = got.run;
-      sender = got.sender;
-      receiver = got.receiver;
-      right = is_right a b got.moves got.entries got.now got.run.run;
-    }

@@ -2,3 +2,4 @@ pub mod Walks
 pub mod OrdersRun
 pub mod Scripted
 pub mod Examples
+pub mod Gives

@@ -1,9 +1,10 @@
 -- A walk: one end carries out its script alone, each step by a row of its table, and notes its operations on
--- the word. It knows no other end, no schedule and no word but those that it found.
-use Rattle.std.specs.Prelude.{◌≡◌, Bool, true, false, List, [], ◌∷◌, ◌++◌, Option, Some}
+-- the word and the replies of its calls. It knows no other end, no schedule and no word but those that it found.
+use Rattle.std.specs.Prelude.{◌≡◌, Bool, true, false, List, [], ◌∷◌, ◌++◌, Option, Some, None}
 use Rattle.std.specs.Option.{option_and_then}
 use Rattle.oneshot_machine.specs.declared.machine.End.{End}
 use Rattle.oneshot_machine.specs.declared.machine.End.TheVariants.{Sender, Receiver}
+use Rattle.oneshot_machine.specs.declared.machine.Reply.{Reply}
 use Rattle.oneshot_machine.specs.declared.machine.Seen.{Seen}
 use Rattle.oneshot_machine.specs.declared.machine.Seen.TheVariants.{Done, Over, Refused, Token}
 use Rattle.oneshot_machine.specs.declared.machine.Step.{Step}
@@ -14,7 +15,7 @@ use Rattle.oneshot_machine.specs.Noted.{Noted}
 use Rattle.oneshot_machine.specs.Receiver.{receiver_step, receiver_row}
 use Rattle.oneshot_machine.specs.Sender.{sender_step, sender_row}
 use Rattle.oneshot_machine.specs.TableRows.{Outcome}
-use Rattle.oneshot_world.specs.Calls.{Unanswered, as_sender_call, as_receiver_call, first, left_by}
+use Rattle.oneshot_world.specs.Calls.{Call, Unanswered, as_sender_call, as_receiver_call, first, left_by}
 use Rattle.oneshot_world.specs.Effects.{reply_of, sender_goes, receiver_goes}
 use Rattle.oneshot_world.specs.Scripts.{sender_calls, error_calls, receiver_calls}
 use Rattle.oneshot_world.specs.State.{sender_position, receiver_position}
@@ -24,10 +25,20 @@ use Rattle.oneshot_world.specs.declared.state.ReceiverState.{ReceiverState}
 use Rattle.oneshot_world.specs.declared.state.ReceiverState.TheVariants as RS
 use Rattle.oneshot_world.specs.declared.state.SenderState.{SenderState}
 use Rattle.oneshot_world.specs.declared.state.SenderState.TheVariants as SS
+use Rattle.oneshot_laws.specs.Marks.{call_under_way}
 
--- where an end stands in its call, and what is left of its script
+-- an answered call with its reply
+abbrev pub Answered : Type 0
+Answered = Call × Reply
+
+-- where an end stands in its call, what is left of its script, and the calls that it has answered
 abbrev pub Stand : Type 0 → Type 0
-Stand S = S × Unanswered
+Stand S = S × Unanswered × List Answered
+
+-- the call under way, if a step answers it
+abbrev pub answers_with : Unanswered → Option Reply → List Answered
+answers_with left None = []
+answers_with left (Some reply) = (call_under_way left, reply) ∷ []
 
 -- An end by its table: the position at which it makes its next step, the step there, the row for what that
 -- step sees, and where the row leads the end.
@@ -53,20 +64,21 @@ may_see _ seen = false
 
 module _ {P S : Type 0} (w : Walker P S) where
   -- where the end stands after a row
-  abbrev pub stands_after : P → Outcome P → Unanswered → Stand S
-  stands_after p row left = (w.goes (w.step p) row, left_by w.side (reply_of row) left)
+  abbrev pub stands_after : P → Outcome P → Unanswered → List Answered → Stand S
+  stands_after p row left told =
+      (w.goes (w.step p) row, left_by w.side (reply_of row) left, told ++ answers_with left (reply_of row))
 
   -- one step that is no operation on the word
   pub data Quiet : Stand S → Stand S → Type 0 where
-    quiet : {s : S} {left : Unanswered} (p : P) (seen : Seen) (row : Outcome P)
-        → w.position (s, left) ≡ Some p → may_see (w.step p) seen ≡ true → w.row p seen ≡ Some row
-        → Quiet (s, left) (stands_after p row left)
+    quiet : {s : S} {left : Unanswered} {told : List Answered} (p : P) (seen : Seen) (row : Outcome P)
+        → w.position (s, left, told) ≡ Some p → may_see (w.step p) seen ≡ true → w.row p seen ≡ Some row
+        → Quiet (s, left, told) (stands_after p row left told)
 
   -- one operation on the word, with what it saw
   pub data Operates : Stand S → Noted → Stand S → Type 0 where
-    operates : {s : S} {left : Unanswered} (p : P) (x : Noted) (row : Outcome P)
-        → w.position (s, left) ≡ Some p → w.step p ≡ Word x.0 → w.row p x.1 ≡ Some row
-        → Operates (s, left) x (stands_after p row left)
+    operates : {s : S} {left : Unanswered} {told : List Answered} (p : P) (x : Noted) (row : Outcome P)
+        → w.position (s, left, told) ≡ Some p → w.step p ≡ Word x.0 → w.row p x.1 ≡ Some row
+        → Operates (s, left, told) x (stands_after p row left told)
 
 -- steps from here on, with the log of their operations
 pub data Walk {At : Type 0} (Rests : At → At → Type 0) (Makes : At → Noted → At → Type 0) (from : At)
@@ -92,7 +104,7 @@ the_sender =
     }
 
 abbrev pub opening_sender : {T : Type 0} → SenderScript T → SenderStand
-opening_sender s = (SS.Ready, record { calls = sender_calls s; error = error_calls s.last })
+opening_sender s = (SS.Ready, record { calls = sender_calls s; error = error_calls s.last }, [])
 
 abbrev pub SenderWalk : {T : Type 0} → SenderScript T → List Noted → SenderStand → Type 0
 SenderWalk s = Walk (Quiet the_sender) (Operates the_sender) (opening_sender s)
@@ -112,7 +124,7 @@ the_receiver =
     }
 
 abbrev pub opening_receiver : ReceiverScript → ReceiverStand
-opening_receiver r = (RS.Ready, record { calls = receiver_calls r.calls r.last; error = [] })
+opening_receiver r = (RS.Ready, record { calls = receiver_calls r.calls r.last; error = [] }, [])
 
 abbrev pub ReceiverWalk : ReceiverScript → List Noted → ReceiverStand → Type 0
 ReceiverWalk r = Walk (Quiet the_receiver) (Operates the_receiver) (opening_receiver r)

@@ -1,5 +1,5 @@
 -- Each order is a run, in one.
-use Rattle.oneshot_bridge.proofs.Worlds.{orders_run}
+use Rattle.oneshot_bridge.proofs.StatesRun.{orders_run}
 use Rattle.oneshot_bridge.proofs.orders_are_runs.Goals as goal
 
 pub returns : goal.returns

@@ -1,0 +1,111 @@
+-- What the laws of the model say of both ends: each from the run that they are of.
+use Rattle.std.proofs.Common.{◌≡◌, ℕ, ◌+◌, Bool, true, false, not, ◌&&◌, ◌||◌, List, [], ◌∷◌, Option, Some, None, map, refl, sym, ap, ◌∙◌, subst, if◌then◌else◌}
+use Rattle.std.specs.Prelude.{◌≤◌, filter, length, is_some}
+use Rattle.std.specs.List.{list_any, cons_option}
+use Rattle.std.specs.Option.{option_map}
+use Rattle.std.proofs.lemmas.Bool.{and_parts}
+use Rattle.oneshot_machine.specs.declared.machine.End.TheVariants.{Sender, Receiver}
+use Rattle.oneshot_machine.specs.declared.machine.Reply.{Reply}
+use Rattle.oneshot_machine.specs.Receiver.{receiver_step}
+use Rattle.oneshot_world.specs.Ahead.{ahead_of, is_some_park}
+use Rattle.oneshot_world.specs.Calls.{Call}
+use Rattle.oneshot_world.specs.Scripts.{calls_of}
+use Rattle.oneshot_world.specs.World.{World, opening, Tells_from}
+use Rattle.oneshot_world.specs.declared.script.Move.{Move}
+use Rattle.oneshot_world.specs.declared.trace.Entry.{Entry}
+use Rattle.oneshot_world.proofs.WorldDetermined.{run_is}
+use Rattle.oneshot_laws.specs.Actions.{is_end_of_sender}
+use Rattle.oneshot_laws.specs.Ended.{has_answered}
+use Rattle.oneshot_laws.specs.Entries.{is_same_end}
+use Rattle.oneshot_laws.specs.Holders.{both_hold, is_held, is_free_last, is_freed_at_end}
+use Rattle.oneshot_laws.specs.Marks.{Mark, marks, side}
+use Rattle.oneshot_laws.specs.Unwoken.{is_unwoken, is_never_unwoken, waits_in_task}
+use Rattle.oneshot_replay.specs.TraceView.{last_of}
+use Rattle.oneshot_bridge.specs.Gives.{gave_message, OneReceiveGets, NoWakeupIsLost, IsFreedOnce}
+use Rattle.oneshot_bridge.specs.OrdersRun.{answered_by, RunsTo}
+use Rattle.oneshot_bridge.specs.Walks.{Answered, the_receiver, ReceiverStand, SenderStand}
+use Rattle.oneshot_bridge.proofs.OneReceive.{one_gets, freed_once}
+use Rattle.oneshot_bridge.proofs.StatesRun.{orders_run}
+
+pub one_receive_gets : (T : Type 0) → OneReceiveGets T
+one_receive_gets T a b xs ys word s r come =
+    let run : RunsTo a b xs ys word s r = orders_run T a b xs ys word s r come.order come.sender come.receiver in
+    let told : answered_by Receiver (marks (calls_of a b) run.entries) ≡ r.2 =
+    ap (λ (z : ReceiverStand). z.2) run.receiver in
+    subst (λ told. length (filter gave_message told) ≤ 1) told
+    (one_gets (marks (calls_of a b) run.entries) run.right.gone_after_got)
+
+pub is_freed_once : (T : Type 0) → IsFreedOnce T
+is_freed_once T a b xs ys word s r come run =
+    let ms = marks (calls_of a b) run.entries in
+    freed_once ms (and_parts (is_held both_hold ms) (is_free_last ms)
+    (and_parts (is_held both_hold ms && is_free_last ms) (is_freed_at_end ms) run.right.freed_right).0).1
+
+-- never unwoken, at the last moment of a run
+last_woken : (so_far : List Entry → List Mark) (k : ℕ) (w : World) (worlds : List World) (moves : List Move)
+    (entries : List Entry) → Tells_from k w worlds moves entries
+    → is_never_unwoken so_far (map ahead_of (w ∷ worlds)) entries ≡ true
+    → not (is_unwoken (so_far entries) (ahead_of (last_of w worlds))) ≡ true
+last_woken so_far k w [] [] [] tells woken = woken
+last_woken so_far k w (next ∷ worlds) (move ∷ moves) (entry ∷ entries) tells woken =
+    last_woken (λ front. so_far (entry ∷ front)) (k + 1) next worlds moves entries tells.1
+    (and_parts (not (is_unwoken (so_far []) (ahead_of w))) _ woken).1
+last_woken so_far k w _ _ _ tells woken = elim tells [ ]
+
+-- a call that an end has answered, as its marks show it
+or_so : (a b : Bool) → b ≡ true → (a || b) ≡ true
+or_so true b e = refl
+or_so false b e = e
+
+ended_by : (b : Bool) (o : Option Reply) (call : Call) (xs : List Answered) (rest : Bool)
+    → (list_any (λ (x : Answered). is_end_of_sender x.0) xs ≡ true → rest ≡ true)
+    → list_any (λ (x : Answered). is_end_of_sender x.0)
+    (cons_option (if b then option_map (λ reply. (call, reply)) o else None) xs) ≡ true
+    → (is_some o && is_end_of_sender call || rest) ≡ true
+ended_by true (Some reply) call xs rest later any = by (is_end_of_sender call) any
+  where
+    by : (ends : Bool) → (ends || list_any (λ (x : Answered). is_end_of_sender x.0) xs) ≡ true → (ends || rest) ≡ true
+    by true any = refl
+    by false any = later any
+ended_by true None call xs rest later any = later any
+ended_by false o call xs rest later any = or_so (is_some o && is_end_of_sender call) rest (later any)
+
+has_ended : (ms : List Mark) → list_any (λ (x : Answered). is_end_of_sender x.0) (answered_by Sender ms) ≡ true
+    → has_answered is_end_of_sender ms ≡ true
+has_ended [] any = any
+has_ended (m ∷ later) any =
+    ended_by (is_same_end (side m) Sender) m.entry.reply m.call (answered_by Sender later)
+    (has_answered is_end_of_sender later) (has_ended later) any
+
+token_there : (ended parks token task : Bool) → ended ≡ true → parks ≡ true
+    → not (ended && (parks && not token || task)) ≡ true → token ≡ true
+token_there ended parks true task e p woken = refl
+token_there true true false task e p woken = absurd (cc woken)
+token_there false parks false task e p woken = absurd (cc e)
+token_there true false false task e p woken = absurd (cc p)
+
+same_value : {X : Type 0} {a b : X} → Some a ≡ Some b → a ≡ b
+same_value is = cc
+
+pub no_wakeup_is_lost : (T : Type 0) → NoWakeupIsLost T
+no_wakeup_is_lost T a b xs ys word s r come answered parks run =
+    let ms = marks (calls_of a b) run.entries in
+    let never = run.right.never_unwoken in
+    let ran = run.run.run in
+    let same : (run.entries, never.worlds) ≡ (run.entries, ran.worlds) =
+    same_value (sym (run_is 1 (opening a b) never.worlds run.moves run.entries never.tells)
+    ∙ run_is 1 (opening a b) ran.worlds run.moves run.entries ran.tells) in
+    let last : last_of (opening a b) never.worlds ≡ run.now.world =
+    ap (λ (told : List Entry × List World). last_of (opening a b) told.1) same ∙ ran.ends in
+    let woken : not (is_unwoken ms (ahead_of run.now.world)) ≡ true =
+    subst (λ w. not (is_unwoken ms (ahead_of w)) ≡ true) last
+    (last_woken (marks (calls_of a b)) 1 (opening a b) never.worlds run.moves run.entries never.tells never.woken) in
+    let told : answered_by Sender ms ≡ s.2 = ap (λ (z : SenderStand). z.2) run.sender in
+    let ended : has_answered is_end_of_sender ms ≡ true =
+    has_ended ms (subst (λ told. list_any (λ (x : Answered). is_end_of_sender x.0) told ≡ true) (sym told) answered) in
+    let ahead : is_some_park (option_map receiver_step
+    (the_receiver.position (run.now.world.state.receiver, run.now.world.receiver, r.2))) ≡ true =
+    ap (λ (z : ReceiverStand). is_some_park (option_map receiver_step (the_receiver.position z))) run.receiver
+    ∙ ap is_some_park parks in
+    token_there (has_answered is_end_of_sender ms) (ahead_of run.now.world).parks run.now.world.state.wakers.token
+    (waits_in_task ms) ended ahead woken

@@ -1,0 +1,130 @@
+-- At most one receive is answered with the message, and at most one entry frees the block.
+use Rattle.std.proofs.Common.{arith, ◌≡◌, ◌≤◌, ℕ, ◌+◌, Bool, true, false, not, ◌&&◌, ◌||◌, List, [], ◌∷◌, Option, Some, None, cond, refl, sym, ap, if◌then◌else◌, length}
+use Rattle.std.specs.Prelude.{filter}
+use Rattle.std.specs.List.{list_all, list_any, cons_option}
+use Rattle.std.specs.Option.{option_map}
+use Rattle.std.proofs.lemmas.Bool.{and_parts}
+use Rattle.oneshot_machine.specs.declared.machine.End.TheVariants.{Receiver}
+use Rattle.oneshot_machine.specs.declared.machine.Reply.{Reply}
+use Rattle.oneshot_machine.specs.declared.machine.Reply.TheVariants as R
+use Rattle.oneshot_machine.specs.declared.machine.Step.{Step}
+use Rattle.oneshot_machine.specs.declared.machine.Step.TheVariants.{Free}
+use Rattle.oneshot_world.specs.Calls.{Call}
+use Rattle.oneshot_laws.specs.Actions.{is_receive}
+use Rattle.oneshot_laws.specs.Entries.{only_if, is_same_end, is_same_reply, is_reply, is_word, is_on_a_cell, is_free}
+use Rattle.oneshot_laws.specs.History.{agrees}
+use Rattle.oneshot_laws.specs.Holders.{frees, uses_block, is_free_last}
+use Rattle.oneshot_laws.specs.Marks.{Mark, side}
+use Rattle.oneshot_laws.specs.Replies.{answers, answers_only, is_gone_after_got}
+use Rattle.oneshot_bridge.specs.Gives.{gave_message}
+use Rattle.oneshot_bridge.specs.OrdersRun.{answered_at, answered_by}
+use Rattle.oneshot_bridge.specs.Walks.{Answered}
+
+abbrev number_of : List Answered → ℕ
+number_of told = length (filter gave_message told)
+
+-- what a mark adds: one at the most, and none where it gives no message
+abbrev at_most : Bool → ℕ
+at_most gives = cond gives 1 0
+
+one_more : {X : Type 0} (b gives : Bool) (x : X) (xs : List X) → b ≡ gives
+    → length (cond b (x ∷ xs) xs) ≤ at_most gives + length xs
+one_more true true x xs e = omega arith
+one_more false false x xs e = omega arith
+one_more true false x xs e = absurd (cc e)
+one_more false true x xs e = absurd (cc e)
+
+adds : (gives : Bool) (o : Option Answered) (xs : List Answered)
+    → ((x : Answered) → o ≡ Some x → gave_message x ≡ gives)
+    → number_of (cons_option o xs) ≤ at_most gives + number_of xs
+adds gives None xs is = omega arith
+adds gives (Some x) xs is = one_more (gave_message x) gives x (filter gave_message xs) (is x refl)
+
+gives_as : (b : Bool) (o : Option Reply) (call : Call) (x : Answered)
+    → (if b then option_map (λ reply. (call, reply)) o else None) ≡ Some x
+    → gave_message x ≡ (is_receive call && is_reply R.Message o)
+gives_as true (Some reply) call x e = let same : (call, reply) ≡ x = cc e in sym (ap gave_message same)
+gives_as true None call x e = absurd (cc e)
+gives_as false o call x e = absurd (cc e)
+
+mark_adds : (m : Mark) (later : List Mark)
+    → number_of (answered_by Receiver (m ∷ later))
+    ≤ at_most (answers is_receive R.Message m) + number_of (answered_by Receiver later)
+mark_adds m later =
+    adds (answers is_receive R.Message m) (answered_at Receiver m) (answered_by Receiver later)
+    (gives_as (is_same_end (side m) Receiver) m.entry.reply m.call)
+
+-- a receive that is answered with "disconnected" is not answered with the message
+apart : (reply : Reply) → is_same_reply reply R.Disconnected ≡ true → is_same_reply R.Message reply ≡ false
+apart R.Disconnected e = refl
+apart _ e = absurd (cc e)
+
+not_both : (receive : Bool) (o : Option Reply) → only_if receive (agrees o (Some R.Disconnected)) ≡ true
+    → (receive && is_reply R.Message o) ≡ false
+not_both false o e = refl
+not_both true None e = refl
+not_both true (Some reply) e = apart reply e
+
+none_gets : (ms : List Mark) → list_all (answers_only is_receive R.Disconnected) ms ≡ true
+    → number_of (answered_by Receiver ms) ≤ 0
+none_gets [] all = omega arith
+none_gets (m ∷ later) all =
+    let parts = and_parts (answers_only is_receive R.Disconnected m) _ all in
+    let none : at_most (answers is_receive R.Message m) ≡ 0 =
+    ap at_most (not_both (is_receive m.call) m.entry.reply parts.0) in
+    let rest : number_of (answered_by Receiver later) ≤ 0 = none_gets later parts.1 in
+    let more : number_of (answered_by Receiver (m ∷ later))
+    ≤ at_most (answers is_receive R.Message m) + number_of (answered_by Receiver later) = mark_adds m later in
+    omega (arith, none, rest, more)
+
+pub one_gets : (ms : List Mark) → is_gone_after_got ms ≡ true → number_of (answered_by Receiver ms) ≤ 1
+one_gets [] gone = omega arith
+one_gets (m ∷ later) gone =
+    let parts = and_parts (not (answers is_receive R.Message m)
+    || list_all (answers_only is_receive R.Disconnected) later) (is_gone_after_got later) gone in
+    by (answers is_receive R.Message m) parts.0 (mark_adds m later) (one_gets later parts.1)
+  where
+    by : (gives : Bool) → (not gives || list_all (answers_only is_receive R.Disconnected) later) ≡ true
+        → number_of (answered_by Receiver (m ∷ later)) ≤ at_most gives + number_of (answered_by Receiver later)
+        → number_of (answered_by Receiver later) ≤ 1 → number_of (answered_by Receiver (m ∷ later)) ≤ 1
+    by true all more rest =
+        let none : number_of (answered_by Receiver later) ≤ 0 = none_gets later all in omega (arith, none, more)
+    by false all more rest = omega (arith, more, rest)
+
+-- the block is freed at most once
+or_left : (a b : Bool) → (a || b) ≡ false → (a ≡ false) × (b ≡ false)
+or_left true b e = absurd (cc e)
+or_left false b e = (refl, e)
+
+free_uses : (step : Step) → (is_word step || is_on_a_cell step || is_free step) ≡ false → is_free step ≡ false
+free_uses Free e = absurd (cc e)
+free_uses _ e = refl
+
+not_freed : (ms : List Mark) → list_any uses_block ms ≡ false → length (filter frees ms) ≤ 0
+not_freed [] none = omega arith
+not_freed (m ∷ later) none =
+    let parts = or_left (uses_block m) (list_any uses_block later) none in
+    let more : length (filter frees (m ∷ later)) ≤ 0 + length (filter frees later) =
+    one_more (frees m) false m (filter frees later) (free_uses m.entry.step parts.0) in
+    let rest : length (filter frees later) ≤ 0 = not_freed later parts.1 in omega (arith, more, rest)
+
+not_so : (b : Bool) → not b ≡ true → b ≡ false
+not_so true e = absurd (cc e)
+not_so false e = refl
+
+pub freed_once : (ms : List Mark) → is_free_last ms ≡ true → length (filter frees ms) ≤ 1
+freed_once [] last = omega arith
+freed_once (m ∷ later) last =
+    let parts = and_parts (only_if (frees m) (not (list_any uses_block later))) (is_free_last later) last in
+    by (frees m) refl parts.0 (freed_once later parts.1)
+  where
+    by : (b : Bool) → frees m ≡ b → only_if b (not (list_any uses_block later)) ≡ true
+        → length (filter frees later) ≤ 1 → length (filter frees (m ∷ later)) ≤ 1
+    by true is none rest =
+        let more : length (filter frees (m ∷ later)) ≤ 1 + length (filter frees later) =
+        one_more (frees m) true m (filter frees later) is in
+        let freed : length (filter frees later) ≤ 0 = not_freed later (not_so (list_any uses_block later) none) in
+        omega (arith, more, freed)
+    by false is none rest =
+        let more : length (filter frees (m ∷ later)) ≤ 0 + length (filter frees later) =
+        one_more (frees m) false m (filter frees later) is in omega (arith, more, rest)

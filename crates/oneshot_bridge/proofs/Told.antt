@@ -1,0 +1,99 @@
+-- The answered calls of a trace that grows at its end, and those that its marks show.
+use Rattle.std.proofs.Common.{◌≡◌, ℕ, ◌+◌, List, [], ◌∷◌, ◌++◌, Option, Some, None, refl, sym, ap, ◌∙◌, if◌then◌else◌}
+use Rattle.std.proofs.lemmas.List.{append_assoc, append-nil}
+use Rattle.std.specs.List.{cons_option}
+use Rattle.std.specs.Option.{option_map}
+use Rattle.oneshot_machine.specs.declared.machine.End.{End}
+use Rattle.oneshot_machine.specs.declared.machine.End.TheVariants.{Sender, Receiver}
+use Rattle.oneshot_machine.specs.declared.machine.Reply.{Reply}
+use Rattle.oneshot_world.specs.Calls.{Unanswered, left_by}
+use Rattle.oneshot_world.specs.Scripts.{calls_of}
+use Rattle.oneshot_world.specs.World.{by_end}
+use Rattle.oneshot_world.specs.declared.script.ReceiverScript.{ReceiverScript}
+use Rattle.oneshot_world.specs.declared.script.SenderScript.{SenderScript}
+use Rattle.oneshot_world.specs.declared.trace.Entry.{Entry}
+use Rattle.oneshot_world.specs.declared.trace.Entry.TheVariants.{Idle, Made as Made_entry}
+use Rattle.oneshot_world.specs.declared.trace.Made.{Made}
+use Rattle.oneshot_laws.specs.Entries.{is_same_end}
+use Rattle.oneshot_laws.specs.Marks.{Reading, read_by, call_under_way, marks, marks_from, until_reply, to_reply, mark_at, object_then, sender_reading, receiver_reading}
+use Rattle.oneshot_laws.specs.Object.{Object, new_object}
+use Rattle.oneshot_bridge.specs.OrdersRun.{answered_by}
+use Rattle.oneshot_bridge.specs.Walks.{Answered, answers_with, opening_sender, opening_receiver}
+
+-- the calls that an end answers from here on, which has these left
+abbrev pub told_by : End → Unanswered → List Entry → List Answered
+told_by end left [] = []
+told_by end left (Idle side ∷ entries) = told_by end left entries
+told_by end left (Made_entry e ∷ entries) =
+    if is_same_end e.side end then answers_with left e.reply ++ told_by end (left_by end e.reply left) entries
+    else told_by end left entries
+
+-- one entry more: of this end, with what it answers, and of the other
+module _ (end : End) (entry : Entry) (entries : List Entry) where
+  pub tells_more : (from left next : Unanswered) (told answers : List Answered)
+      → ((more : List Entry) → told_by end from (entries ++ more) ≡ told ++ told_by end left more)
+      → ((more : List Entry) → told_by end left (entry ∷ more) ≡ answers ++ told_by end next more)
+      → (more : List Entry)
+      → told_by end from ((entries ++ entry ∷ []) ++ more) ≡ (told ++ answers) ++ told_by end next more
+  tells_more from left next told answers before last more =
+      ap (told_by end from) (append_assoc entries (entry ∷ []) more) ∙ before (entry ∷ more)
+      ∙ ap (λ l. told ++ l) (last more) ∙ sym (append_assoc told answers (told_by end next more))
+
+  pub tells_same : (from left : Unanswered) (told : List Answered)
+      → ((more : List Entry) → told_by end from (entries ++ more) ≡ told ++ told_by end left more)
+      → ((more : List Entry) → told_by end left (entry ∷ more) ≡ told_by end left more) → (more : List Entry)
+      → told_by end from ((entries ++ entry ∷ []) ++ more) ≡ told ++ told_by end left more
+  tells_same from left told before last more =
+      ap (told_by end from) (append_assoc entries (entry ∷ []) more) ∙ before (entry ∷ more)
+      ∙ ap (λ l. told ++ l) (last more)
+
+-- the marks of these entries show the same
+abbrev Shown : End → List Entry → Type 0
+Shown end entries =
+    (s r : Reading) (n : ℕ) (o : Object)
+    → answered_by end (marks_from s r n o entries) ≡ told_by end (by_end end s r).left entries
+
+answers_shown : (left : Unanswered) (reply : Option Reply) (xs ys : List Answered) → xs ≡ ys
+    → cons_option (option_map (λ reply. (call_under_way left, reply)) reply) xs ≡ answers_with left reply ++ ys
+answers_shown left None xs ys same = same
+answers_shown left (Some reply) xs ys same = ap (λ l. (call_under_way left, reply) ∷ l) same
+
+made_shown : (side end : End) (e : Made) (entries : List Entry) → Shown end entries
+    → (s r : Reading) (n : ℕ) (o : Object)
+    → cons_option
+    (if is_same_end side end then option_map (λ reply. (call_under_way (by_end side s r).left, reply)) e.reply
+    else None)
+    (answered_by end (marks_from (by_end side (read_by side s e) s) (by_end side r (read_by side r e)) n o entries))
+    ≡ (if is_same_end side end
+    then answers_with (by_end end s r).left e.reply ++ told_by end (left_by end e.reply (by_end end s r).left) entries
+    else told_by end (by_end end s r).left entries)
+made_shown Sender Sender e entries shown s r n o =
+    answers_shown s.left e.reply _ _ (shown (read_by Sender s e) r n o)
+made_shown Receiver Receiver e entries shown s r n o =
+    answers_shown r.left e.reply _ _ (shown s (read_by Receiver r e) n o)
+made_shown Sender Receiver e entries shown s r n o = shown (read_by Sender s e) r n o
+made_shown Receiver Sender e entries shown s r n o = shown s (read_by Receiver r e) n o
+
+shows : (end : End) (entries : List Entry) → Shown end entries
+shows end [] s r n o = refl
+shows end (Idle side ∷ entries) s r n o = shows end entries s r (n + 1) o
+shows end (Made_entry e ∷ entries) s r n o =
+    made_shown e.side end e entries (shows end entries) s r (n + 1)
+    (object_then (mark_at n o (by_end e.side s r) e (until_reply e.reply (to_reply e.side entries) [])))
+
+-- so of a whole trace
+module _ {T : Type 0} (a : SenderScript T) (b : ReceiverScript) (entries : List Entry) where
+  shown : (end : End) → answered_by end (marks (calls_of a b) entries)
+      ≡ told_by end (by_end end (opening_sender a).1 (opening_receiver b).1) entries
+  shown Sender = shows Sender entries (sender_reading (calls_of a b)) (receiver_reading (calls_of a b)) 1 new_object
+  shown Receiver = shows Receiver entries (sender_reading (calls_of a b)) (receiver_reading (calls_of a b)) 1 new_object
+
+  pub told_in : (end : End) (left : Unanswered) (told : List Answered)
+      → ((more : List Entry)
+      → told_by end (by_end end (opening_sender a).1 (opening_receiver b).1) (entries ++ more)
+      ≡ told ++ told_by end left more)
+      → answered_by end (marks (calls_of a b) entries) ≡ told
+  told_in end left told tells =
+      shown end
+      ∙ ap (told_by end (by_end end (opening_sender a).1 (opening_receiver b).1)) (sym (append-nil entries))
+      ∙ tells [] ∙ append-nil told

@@ -1,0 +1,54 @@
+-- What the laws of the model say of both ends, once what these did is a run of it.
+use Rattle.std.specs.Prelude.{◌≡◌, ◌≤◌, ℕ, Bool, true, ◌&&◌, List, Some, filter, length, IsTrue}
+use Rattle.std.specs.List.{list_any}
+use Rattle.std.specs.Option.{option_map}
+use Rattle.oneshot_machine.specs.declared.machine.Reply.TheVariants as R
+use Rattle.oneshot_machine.specs.declared.machine.Step.TheVariants.{Park}
+use Rattle.oneshot_machine.specs.Noted.{Noted}
+use Rattle.oneshot_machine.specs.Orders.{Reaches}
+use Rattle.oneshot_machine.specs.Receiver.{receiver_step}
+use Rattle.oneshot_world.specs.Scripts.{calls_of}
+use Rattle.oneshot_world.specs.declared.script.ReceiverScript.{ReceiverScript}
+use Rattle.oneshot_world.specs.declared.script.SenderScript.{SenderScript}
+use Rattle.oneshot_laws.specs.Actions.{is_receive, is_end_of_sender}
+use Rattle.oneshot_laws.specs.Entries.{is_same_reply}
+use Rattle.oneshot_laws.specs.Holders.{frees}
+use Rattle.oneshot_laws.specs.Marks.{marks}
+use Rattle.oneshot_bridge.specs.OrdersRun.{RunsTo}
+use Rattle.oneshot_bridge.specs.Walks.{Answered, the_receiver, SenderStand, ReceiverStand, SenderWalk, ReceiverWalk}
+
+-- each end alone has carried out its script up to here, and the operations of both have an order
+pub record HaveCome {T : Type 0} (a : SenderScript T) (b : ReceiverScript) (xs ys : List Noted) (word : ℕ)
+    (s : SenderStand) (r : ReceiverStand) : Type 0 where
+  pub order : Reaches xs ys word
+  pub sender : SenderWalk a xs s
+  pub receiver : ReceiverWalk b ys r
+
+-- this holds wherever both ends have come to
+abbrev pub WhereverTheyCome : (T : Type 0)
+    → ((a : SenderScript T) (b : ReceiverScript) (xs ys : List Noted) (word : ℕ) (s : SenderStand) (r : ReceiverStand)
+    → Type 0) → Type 0
+WhereverTheyCome T holds =
+    (a : SenderScript T) (b : ReceiverScript) (xs ys : List Noted) (word : ℕ) (s : SenderStand) (r : ReceiverStand)
+    → HaveCome a b xs ys word s r → holds a b xs ys word s r
+
+-- at most one receive was answered with the message
+abbrev pub gave_message : Answered → Bool
+gave_message answered = is_receive answered.0 && is_same_reply R.Message answered.1
+
+abbrev pub OneReceiveGets : (T : Type 0) → Type 0
+OneReceiveGets T = WhereverTheyCome T (λ a b xs ys word s r. length (filter gave_message r.2) ≤ 1)
+
+-- Where the sender's `send` or drop has answered and the receiver's next step is a park, each run that leads
+-- there has a token for it: the park ends at once.
+abbrev pub NoWakeupIsLost : (T : Type 0) → Type 0
+NoWakeupIsLost T =
+    WhereverTheyCome T (λ a b xs ys word s r. IsTrue (list_any (λ x. is_end_of_sender x.0) s.2)
+    → option_map receiver_step (the_receiver.position r) ≡ Some Park
+    → (run : RunsTo a b xs ys word s r) → run.now.world.state.wakers.token ≡ true)
+
+-- no run that leads there frees the block twice
+abbrev pub IsFreedOnce : (T : Type 0) → Type 0
+IsFreedOnce T =
+    WhereverTheyCome T (λ a b xs ys word s r. (run : RunsTo a b xs ys word s r)
+    → length (filter frees (marks (calls_of a b) run.entries)) ≤ 1)
