@@ -6,8 +6,9 @@ use Rattle.std.specs.Str.{bytes_eq}
 use Rattle.oneshot_bench.specs.declared.channels.Channel.{Channel}
 use Rattle.oneshot_bench.specs.declared.channels.Channel.TheVariants.{Oneshot, Futures, Crossbeam}
 use Rattle.oneshot_bench.specs.declared.channels.TheConstants.{CHANNELS}
+use Rattle.oneshot_bench.specs.declared.loops.Awaited.TheVariants.{MakeSendBlockOn, MakeSendAwait, PollPending, JoinTwo, RoundTripAwait}
 use Rattle.oneshot_bench.specs.declared.loops.Loop.{Loop}
-use Rattle.oneshot_bench.specs.declared.loops.Loop.TheVariants.{MakeSendReceiveDrop, MakeDrop, MakeSendRecv, MakePollSendPoll, MakeSendReceiveDropLarge, MakeDropLarge, MakeSendRecvLarge, MakePollSendPollLarge, RoundTrip}
+use Rattle.oneshot_bench.specs.declared.loops.Loop.TheVariants.{MakeSendReceiveDrop, MakeDrop, MakeSendRecv, MakePollSendPoll, MakeSendReceiveDropLarge, MakeDropLarge, MakeSendRecvLarge, MakePollSendPollLarge, RoundTrip, Awaited}
 use Rattle.oneshot_bench.specs.declared.loops.TheConstants.{LOOPS}
 use Rattle.oneshot_bench.specs.Channel.{channel_name}
 use Rattle.oneshot_bench.specs.Loop.{name_of}
@@ -25,6 +26,11 @@ loop_named-name MakeDropLarge = refl
 loop_named-name MakeSendRecvLarge = refl
 loop_named-name MakePollSendPollLarge = refl
 loop_named-name RoundTrip = refl
+loop_named-name (Awaited MakeSendBlockOn) = refl
+loop_named-name (Awaited MakeSendAwait) = refl
+loop_named-name (Awaited PollPending) = refl
+loop_named-name (Awaited JoinTwo) = refl
+loop_named-name (Awaited RoundTripAwait) = refl
 
 abbrev pub channel_named : List ℕ → Option Channel
 channel_named name = find (λ channel. bytes_eq (channel_name channel) name) CHANNELS

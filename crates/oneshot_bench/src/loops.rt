@@ -3,7 +3,7 @@
 ghost use Rattle.std.specs.Prelude.{◌≡◌, ◌↔◌, Some};
 ghost use Rattle.std.specs.List.{find};
 ghost use Rattle.std.specs.Str.{bytes_eq};
-ghost use Rattle.oneshot_bench.specs.Loop.{name_of};
+ghost use Rattle.oneshot_bench.specs.Loop.{name_of, awaited_name};
 
 use std::fmt;
 
@@ -28,10 +28,27 @@ pub enum Loop {
     MakePollSendPollLarge,
     /// It asks another thread, and waits for the reply.
     RoundTrip,
+    /// It awaits futures.
+    Awaited(Awaited),
+}
+
+/// What each round of a loop does whose receivers are futures that an executor awaits.
+#[derive(Clone, Copy, Debug, PartialEq, Eq)]
+pub enum Awaited {
+    /// It sends 8 bytes, and `block_on` awaits them.
+    MakeSendBlockOn,
+    /// It sends 8 bytes, and awaits them in a queue that all rounds share.
+    MakeSendAwait,
+    /// It polls one receiver, which is pending: all rounds share a channel.
+    PollPending,
+    /// It polls a join of two receivers, sends 8 bytes over both channels, and polls again.
+    JoinTwo,
+    /// As `Loop::RoundTrip`, where each thread awaits in a queue that it keeps.
+    RoundTripAwait,
 }
 
 /// Every loop.
-const LOOPS: [Loop; 9] = [
+const LOOPS: [Loop; 14] = [
     Loop::MakeSendReceiveDrop,
     Loop::MakeDrop,
     Loop::MakeSendRecv,
@@ -41,6 +58,11 @@ const LOOPS: [Loop; 9] = [
     Loop::MakeSendRecvLarge,
     Loop::MakePollSendPollLarge,
     Loop::RoundTrip,
+    Loop::Awaited(Awaited::MakeSendBlockOn),
+    Loop::Awaited(Awaited::MakeSendAwait),
+    Loop::Awaited(Awaited::PollPending),
+    Loop::Awaited(Awaited::JoinTwo),
+    Loop::Awaited(Awaited::RoundTripAwait),
 ];
 
 impl Loop {
@@ -58,6 +80,7 @@ impl Loop {
             Loop::MakeSendRecvLarge => "make_send_recv_4096",
             Loop::MakePollSendPollLarge => "make_poll_send_poll_4096",
             Loop::RoundTrip => "round_trip",
+            Loop::Awaited(kind) => kind.name(),
         }
     }
 
@@ -66,6 +89,21 @@ impl Loop {
         ensures { result ≡ find (λ kind. bytes_eq (name_of kind) name.now) LOOPS }
     {
         LOOPS.iter().copied().find(|kind| kind.name() == name)
+    }
+}
+
+impl Awaited {
+    /// The loop's name.
+    fn name(self) -> &'static str
+        ensures { result.now ≡ awaited_name self }
+    {
+        match self {
+            Awaited::MakeSendBlockOn => "make_send_block_on",
+            Awaited::MakeSendAwait => "make_send_await",
+            Awaited::PollPending => "poll_pending",
+            Awaited::JoinTwo => "join_two",
+            Awaited::RoundTripAwait => "round_trip_await",
+        }
     }
 }
 

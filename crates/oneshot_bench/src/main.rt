@@ -1,16 +1,21 @@
 //! Measures a channel: one of its loops by name, how many rounds of it, and over which channel.
 #![tactic(auto)]
 
+mod awaited_rounds;
+mod awaited_trips;
 mod channels;
 mod command;
 mod crossbeam_rounds;
 mod crossbeam_trips;
 mod fault;
+mod futures_awaited_rounds;
 mod futures_rounds;
+mod futures_trips;
 mod loops;
 mod measure;
 mod message;
 mod polled;
+mod queues;
 mod round_trip;
 mod rounds;
 mod run;

@@ -1,15 +1,15 @@
 //! Rounds that a task makes within one poll, so that no round pays for the executor.
 
+ghost use Rattle.std.specs.Prelude.{IfOk};
 ghost use Rattle.futures.specs.Task.{Keeps};
 
 use crate::fault::Fault;
+use crate::queues::task_fault;
 use crate::tally::Tally;
 use futures::Future;
 use futures::executor::block_on;
 use futures::task::{Context, Poll};
 use std::alloc::AllocGlobal;
-use std::io;
-use std::io::ErrorKind;
 use std::random::RandomSource;
 use std::sync::Wait;
 
@@ -62,9 +62,22 @@ pub fn repeat_in_task<R: Wait + RandomSource + AllocGlobal, P: PolledRound>(
     Ok(())
 }
 
-fn task_fault(error: io::Error) -> Fault {
-    match error.kind() {
-        ErrorKind::OutOfMemory => Fault::OutOfMemory,
-        _ => Fault::TaskFailed,
+/// Polls a future this many times while it is pending. `Err` where it is ready.
+pub fn pend<F: Future<Output: Drop>>(
+    future: &mut F,
+    count: u64,
+    cx: &mut Context<'_>,
+    tally: &mut Tally,
+) -> Result<(), Fault>
+    requires { F.can_poll future.old }
+    ensures waits { IfOk result (λ _. F.can_poll future.new) }
+    ensures kept { Keeps cx.old cx.new }
+{
+    for _polled in 0..count {
+        if future.poll(cx).is_ready() {
+            return Err(Fault::MessageLost);
+        }
+        tally.pended();
     }
+    Ok(())
 }

@@ -2,11 +2,15 @@
 
 use crate::channels::Channel;
 use crate::fault::Fault;
-use crate::loops::Loop;
+use crate::loops::{Awaited, Loop};
 use crate::polled::repeat_in_task;
+use crate::queues::queue;
 use crate::rounds::repeat;
 use crate::tally::Tally;
-use crate::{crossbeam_rounds, crossbeam_trips, futures_rounds, round_trip, rounds};
+use crate::{
+    awaited_rounds, awaited_trips, crossbeam_rounds, crossbeam_trips, futures_awaited_rounds,
+    futures_rounds, futures_trips, round_trip, rounds,
+};
 use std::alloc::AllocGlobal;
 use std::random::RandomSource;
 use std::sync::Wait;
@@ -68,11 +72,12 @@ fn run_oneshot<R: AllocGlobal + RandomSource + Threads + Wait + Clock + Sync>(
             repeat_in_task(rt, count, round, tally)
         }
         Loop::RoundTrip => round_trip::round_trips(rt, alloc, count, tally).map(|_| ()),
+        Loop::Awaited(kind) => run_oneshot_awaited(rt, kind, count, tally),
     }
 }
 
 /// Over `futures::channel::oneshot`, whose receiver is a future and blocks no thread by itself.
-fn run_futures<R: AllocGlobal + RandomSource + Wait>(
+fn run_futures<R: AllocGlobal + RandomSource + Threads + Wait + Sync>(
     rt: &R,
     kind: Loop,
     count: u64,
@@ -101,6 +106,7 @@ fn run_futures<R: AllocGlobal + RandomSource + Wait>(
             repeat_in_task(rt, count, round, tally)
         }
         Loop::RoundTrip => Err(Fault::CannotRun),
+        Loop::Awaited(kind) => run_futures_awaited(rt, kind, count, tally),
     }
 }
 
@@ -134,5 +140,66 @@ fn run_crossbeam<R: AllocGlobal + Threads + Wait + Sync>(
         }),
         Loop::MakePollSendPollLarge => Err(Fault::CannotRun),
         Loop::RoundTrip => crossbeam_trips::round_trips(rt, alloc, count, tally).map(|_| ()),
+        Loop::Awaited(_) => Err(Fault::CannotRun),
+    }
+}
+
+/// Over this repository's channel, whose receiver is a future.
+fn run_oneshot_awaited<R: AllocGlobal + RandomSource + Threads + Wait + Sync>(
+    rt: &R,
+    kind: Awaited,
+    count: u64,
+    tally: &mut Tally,
+) -> Result<(), Fault> {
+    let alloc = rt.alloc();
+    match kind {
+        Awaited::MakeSendBlockOn => repeat(count, || {
+            awaited_rounds::make_send_block_on(rt, SMALL, tally)
+        }),
+        Awaited::MakeSendAwait => {
+            let queue = queue(rt)?;
+            repeat(count, || {
+                awaited_rounds::make_send_await(rt, &queue, alloc, SMALL, tally)
+            })
+        }
+        Awaited::PollPending => {
+            let round = awaited_rounds::PollPending::new(alloc, count, SMALL);
+            repeat_in_task(rt, 1, round, tally)
+        }
+        Awaited::JoinTwo => {
+            let round = awaited_rounds::JoinTwo::new(alloc, SMALL);
+            repeat_in_task(rt, count, round, tally)
+        }
+        Awaited::RoundTripAwait => awaited_trips::round_trips(rt, alloc, count, tally).map(|_| ()),
+    }
+}
+
+/// Over `futures::channel::oneshot`, whose receiver an executor awaits.
+fn run_futures_awaited<R: AllocGlobal + RandomSource + Threads + Wait + Sync>(
+    rt: &R,
+    kind: Awaited,
+    count: u64,
+    tally: &mut Tally,
+) -> Result<(), Fault> {
+    let alloc = rt.alloc();
+    match kind {
+        Awaited::MakeSendBlockOn => repeat(count, || {
+            futures_awaited_rounds::make_send_block_on(rt, SMALL, tally)
+        }),
+        Awaited::MakeSendAwait => {
+            let queue = queue(rt)?;
+            repeat(count, || {
+                futures_awaited_rounds::make_send_await(rt, &queue, alloc, SMALL, tally)
+            })
+        }
+        Awaited::PollPending => {
+            let round = futures_awaited_rounds::PollPending::new(alloc, count, SMALL);
+            repeat_in_task(rt, 1, round, tally)
+        }
+        Awaited::JoinTwo => {
+            let round = futures_awaited_rounds::JoinTwo::new(alloc, SMALL);
+            repeat_in_task(rt, count, round, tally)
+        }
+        Awaited::RoundTripAwait => futures_trips::round_trips(rt, alloc, count, tally).map(|_| ()),
     }
 }

@@ -3,7 +3,7 @@
 use crate::channels::Channel;
 use crate::command::{Command, parse_command, parse_count};
 use crate::fault::Fault;
-use crate::loops::Loop;
+use crate::loops::{Awaited, Loop};
 use std::alloc::{AllocError, Global};
 use std::test::Fail;
 
@@ -30,6 +30,14 @@ fn each_name_is_read(rt: HostRuntime) -> Result<(), Fail> {
         ("make_send_recv_4096", Loop::MakeSendRecvLarge),
         ("make_poll_send_poll_4096", Loop::MakePollSendPollLarge),
         ("round_trip", Loop::RoundTrip),
+        (
+            "make_send_block_on",
+            Loop::Awaited(Awaited::MakeSendBlockOn),
+        ),
+        ("make_send_await", Loop::Awaited(Awaited::MakeSendAwait)),
+        ("poll_pending", Loop::Awaited(Awaited::PollPending)),
+        ("join_two", Loop::Awaited(Awaited::JoinTwo)),
+        ("round_trip_await", Loop::Awaited(Awaited::RoundTripAwait)),
     ];
     for (name, kind) in names {
         let command = Command::Measure {

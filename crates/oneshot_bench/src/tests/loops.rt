@@ -1,17 +1,20 @@
 //! That each loop does what its name says, and tells a message that is lost.
 
 use crate::channels::Channel;
-use crate::crossbeam_trips;
 use crate::fault::Fault;
-use crate::loops::Loop;
+use crate::loops::{Awaited, Loop};
 use crate::measure::{measure, timed};
-use crate::polled::{PolledRound, repeat_in_task};
+use crate::polled::{PolledRound, pend, repeat_in_task};
+use crate::queues::queue;
 use crate::round_trip::{Request, ask, serve};
 use crate::rounds::repeat;
 use crate::tally::Tally;
+use crate::{awaited_trips, crossbeam_trips, futures_trips};
 use crossbeam_channel::bounded;
+use futures::channel::oneshot::channel as futures_channel;
+use futures::future::ready;
 use futures::task::Context;
-use oneshot::channel;
+use oneshot::{async_channel, channel};
 use std::cell::Cell;
 use std::io;
 use std::test::Fail;
@@ -61,6 +64,122 @@ fn polled(bytes: u64) -> Tally {
         polled: 1,
         ..made(bytes)
     }
+}
+
+/// What a round does besides that awaits its message, which is there.
+fn awaited(bytes: u64) -> Tally {
+    Tally {
+        polled: 1,
+        ..made(bytes)
+    }
+}
+
+/// The loops of this repository's channel and of the kit's whose receivers are futures.
+const OF_FUTURES: [Channel; 2] = [Channel::Oneshot, Channel::Futures];
+
+#[test]
+fn each_awaited_loop_makes_its_rounds(rt: HostRuntime) -> Result<(), Fail> {
+    let joined = Tally {
+        channels: 2,
+        room: 16,
+        pended: 1,
+        polled: 2,
+        ..Tally::new()
+    };
+    let kinds = [
+        (Awaited::MakeSendBlockOn, awaited(8)),
+        (Awaited::MakeSendAwait, awaited(8)),
+        (Awaited::JoinTwo, joined),
+    ];
+    for channel in OF_FUTURES {
+        for (kind, round) in kinds {
+            for count in [0, 3] {
+                let tally = measure(&rt, channel, Loop::Awaited(kind), count)?.tally;
+                assert_eq!(rt;
+                    tally,
+                    tally_of(count, round),
+                    "{count} of {channel} {kind:?}"
+                );
+            }
+        }
+    }
+    Ok(())
+}
+
+// One channel, however many polls.
+#[test]
+fn each_poll_before_the_message_is_pending(rt: HostRuntime) -> Result<(), Fail> {
+    for channel in OF_FUTURES {
+        for count in [0, 3] {
+            let tally = measure(&rt, channel, Loop::Awaited(Awaited::PollPending), count)?.tally;
+            let pended = Tally {
+                pended: count,
+                ..awaited(8)
+            };
+            assert_eq!(rt; tally, pended, "{count} of {channel}");
+        }
+    }
+    Ok(())
+}
+
+#[test]
+fn each_round_trip_of_futures_is_made(rt: HostRuntime) -> Result<(), Fail> {
+    for channel in OF_FUTURES {
+        for count in [0, 1, 1024, 1025] {
+            let tally = measure(&rt, channel, Loop::Awaited(Awaited::RoundTripAwait), count)?.tally;
+            assert_eq!(rt; tally.channels, 2 * count);
+            assert_eq!(rt; tally.polled, 2 * count);
+            assert_eq!(rt; tally.waited, 0);
+            assert_eq!(rt; tally.tried, 0);
+        }
+    }
+    Ok(())
+}
+
+#[test]
+fn a_future_that_is_ready_is_not_pending(rt: HostRuntime) -> Result<(), Fail> {
+    let mut tally = Tally::new();
+    let ready = repeat_in_task(&rt, 1, PolledOnceTooOften, &mut tally);
+    assert!(rt; matches!(ready, Err(Fault::MessageLost)));
+    Ok(())
+}
+
+/// A round that polls until a future is no longer pending.
+#[derive(Drop)]
+struct PolledOnceTooOften;
+
+impl PolledRound for PolledOnceTooOften {
+    fn make(&self, cx: &mut Context<'_>, tally: &mut Tally) -> Result<(), Fault> {
+        pend(&mut ready(7u64), 1, cx, tally)
+    }
+}
+
+#[test]
+fn a_request_to_no_future_is_lost(rt: HostRuntime) -> Result<(), Fail> {
+    let queue = queue(&rt)?;
+    let (requests, served) = async_channel::<awaited_trips::Request, ()>((), rt.alloc())?;
+    drop(served);
+    let lost = awaited_trips::ask(&rt, &queue, rt.alloc(), requests, &mut Tally::new());
+    assert!(rt; matches!(lost, Err(Fault::MessageLost)));
+    let (requests, served) = futures_channel::<futures_trips::Request>(rt.alloc())?;
+    drop(served);
+    let lost = futures_trips::ask(&rt, &queue, rt.alloc(), requests, &mut Tally::new());
+    assert!(rt; matches!(lost, Err(Fault::MessageLost)));
+    Ok(())
+}
+
+#[test]
+fn a_request_that_no_future_gets_is_lost(rt: HostRuntime) -> Result<(), Fail> {
+    let queue = queue(&rt)?;
+    let (requests, served) = async_channel::<awaited_trips::Request, ()>((), rt.alloc())?;
+    drop(requests);
+    let lost = awaited_trips::serve(&rt, &queue, served, &mut Tally::new());
+    assert!(rt; matches!(lost, Err(Fault::MessageLost)));
+    let (requests, served) = futures_channel::<futures_trips::Request>(rt.alloc())?;
+    drop(requests);
+    let lost = futures_trips::serve(&rt, &queue, served, &mut Tally::new());
+    assert!(rt; matches!(lost, Err(Fault::MessageLost)));
+    Ok(())
 }
 
 #[test]
@@ -120,6 +239,8 @@ fn a_channel_refuses_a_loop_that_it_has_no_call_for(rt: HostRuntime) {
         (Channel::Futures, Loop::RoundTrip),
         (Channel::Crossbeam, Loop::MakePollSendPoll),
         (Channel::Crossbeam, Loop::MakePollSendPollLarge),
+        (Channel::Crossbeam, Loop::Awaited(Awaited::MakeSendBlockOn)),
+        (Channel::Crossbeam, Loop::Awaited(Awaited::RoundTripAwait)),
     ];
     for (channel, kind) in kinds {
         let refused = matches!(measure(&rt, channel, kind, 3), Err(Fault::CannotRun));

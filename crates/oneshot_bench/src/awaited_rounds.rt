@@ -1,0 +1,118 @@
+//! Rounds whose receiver is a future that an executor awaits, alone or beside another.
+
+ghost use Rattle.futures.specs.Task.{Keeps};
+
+use crate::fault::Fault;
+use crate::message::Message;
+use crate::polled::{PolledRound, pend};
+use crate::queues::{awaited, task_fault};
+use crate::tally::Tally;
+use futures::Future;
+use futures::executor::block_on;
+use futures::future::join;
+use futures::task::{Context, Poll, Queue};
+use oneshot::async_channel;
+use std::alloc::{AllocGlobal, Global};
+use std::random::RandomSource;
+use std::sync::Wait;
+
+/// Makes a channel whose receiver is a future, sends `message`, and awaits it by `block_on`.
+///
+/// `Err` where there is no memory for the channel, the executor cannot be made, or the message was lost.
+pub fn make_send_block_on<T: Message + Send + Drop, R: Wait + RandomSource + AllocGlobal>(
+    rt: &R,
+    message: T,
+    tally: &mut Tally,
+) -> Result<(), Fault> {
+    let (sender, receiver) = async_channel::<T, ()>((), rt.alloc())?;
+    tally.made(T::BYTES);
+    if sender.send(message).is_err() || block_on(rt, receiver).map_err(task_fault)?.is_err() {
+        return Err(Fault::MessageLost);
+    }
+    tally.polled();
+    Ok(())
+}
+
+/// As `make_send_block_on`, where the message is awaited in `queue`.
+pub fn make_send_await<T: Message + Send + Drop, R: Wait>(
+    rt: &R,
+    queue: &Queue,
+    alloc: Global,
+    message: T,
+    tally: &mut Tally,
+) -> Result<(), Fault> {
+    let (sender, receiver) = async_channel::<T, ()>((), alloc)?;
+    tally.made(T::BYTES);
+    if sender.send(message).is_err() {
+        return Err(Fault::MessageLost);
+    }
+    awaited(rt, queue, receiver)?;
+    tally.polled();
+    Ok(())
+}
+
+/// Makes a channel, polls its receiver `count` times before `message` is sent, and once more.
+#[derive(Drop)]
+pub struct PollPending {
+    alloc: Global,
+    count: u64,
+    message: u64,
+}
+
+impl PollPending {
+    /// A round of `count` polls before `message` is there.
+    pub fn new(alloc: Global, count: u64, message: u64) -> PollPending {
+        PollPending {
+            alloc,
+            count,
+            message,
+        }
+    }
+}
+
+impl PolledRound for PollPending {
+    fn make(&self, cx: &mut Context<'_>, tally: &mut Tally) -> Result<(), Fault> {
+        let (sender, mut receiver) = async_channel::<u64, ()>((), self.alloc)?;
+        tally.made(u64::BYTES);
+        pend(&mut receiver, self.count, cx, tally)?;
+        if sender.send(self.message).is_err() || !matches!(receiver.poll(cx), Poll::Ready(Ok(_))) {
+            return Err(Fault::MessageLost);
+        }
+        tally.polled();
+        Ok(())
+    }
+}
+
+/// Makes two channels, polls a join of their receivers, sends `message` over both, and polls again.
+#[derive(Drop)]
+pub struct JoinTwo {
+    alloc: Global,
+    message: u64,
+}
+
+impl JoinTwo {
+    /// A round that sends `message`.
+    pub fn new(alloc: Global, message: u64) -> JoinTwo {
+        JoinTwo { alloc, message }
+    }
+}
+
+impl PolledRound for JoinTwo {
+    fn make(&self, cx: &mut Context<'_>, tally: &mut Tally) -> Result<(), Fault> {
+        let (first, one) = async_channel::<u64, ()>((), self.alloc)?;
+        tally.made(u64::BYTES);
+        let (second, two) = async_channel::<u64, ()>((), self.alloc)?;
+        tally.made(u64::BYTES);
+        let mut both = join(one, two);
+        pend(&mut both, 1, cx, tally)?;
+        if first.send(self.message).is_err() || second.send(self.message).is_err() {
+            return Err(Fault::MessageLost);
+        }
+        let Poll::Ready((Ok(_), Ok(_))) = both.poll(cx) else {
+            return Err(Fault::MessageLost);
+        };
+        tally.polled();
+        tally.polled();
+        Ok(())
+    }
+}
