@@ -26,7 +26,7 @@ pub words_of : (T W : Type 0) (xs : List Noted) → words (events_of {T = T} {W 
 words_of T W [] = refl
 words_of T W (x ∷ xs) = ap (λ noted. x ∷ noted) (words_of T W xs)
 
-pub began_at : {T W : Type 0} {own s : Side T W} {steps : List Noted} → s ≡ own → own.steps ≡ steps → words (events_of {T = T} {W = W} s.steps) ≡ steps
+pub began_at : {T W P : Type 0} {own s : Side T W P} {steps : List Noted} → s ≡ own → own.steps ≡ steps → words (events_of {T = T} {W = W} s.steps) ≡ steps
 began_at {T} {W} {s} is has = words_of T W s.steps ∙ ap (λ s. s.steps) is ∙ has
 
 module _ {T W : Type 0} where

@@ -17,14 +17,14 @@ stands_again as_far message waker is =
       stands = record { phase = as_far ∙ is.stands.phase; message = message _ is.stands.message; waker = waker _ is.stands.waker };
     }
 
-module _ {T W : Type 0} {Phases : ReceiverAt → Type 0} where
-  pub as_lent : (name : ℕ) {own s : Side T W} → s ≡ own → StandsIn Phases (state_of own) → StandsIn Phases (lent name s)
+module _ {T W P : Type 0} {Phases : ReceiverAt → Type 0} where
+  pub as_lent : (name : ℕ) {own s : Side T W P} → s ≡ own → StandsIn Phases (state_of own) → StandsIn Phases (lent name s)
   as_lent name is stands =
       subst (λ s. StandsIn Phases (lent name s)) (sym is) (stands_again refl (λ share m. m) (λ share w. w) stands)
 
-  pub given_back : (name : ℕ) (s : Side T W) → StandsIn Phases (lent name s) → StandsIn Phases (state_of s)
+  pub given_back : (name : ℕ) (s : Side T W P) → StandsIn Phases (lent name s) → StandsIn Phases (state_of s)
   given_back name s = stands_again refl (λ share m. m) (λ share w. w)
 
 -- and its hand is as ready
-pub hand_lent : {T W V : Type 0} {own s : Side T W} (hand : Option V) → s ≡ own → IsReady hand (receiver_of (state_of own).log) → IsReady hand (receiver_of (state_of s).log)
+pub hand_lent : {T W V P : Type 0} {own s : Side T W P} (hand : Option V) → s ≡ own → IsReady hand (receiver_of (state_of own).log) → IsReady hand (receiver_of (state_of s).log)
 hand_lent hand is ready = subst (λ s. IsReady hand (receiver_of (state_of s).log)) (sym is) ready

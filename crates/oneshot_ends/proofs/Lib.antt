@@ -1,3 +1,4 @@
+mod EndViews
 mod GrewByRuns
 mod EndRows
 mod GroundSlots

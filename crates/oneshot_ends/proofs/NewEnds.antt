@@ -10,7 +10,7 @@ use Rattle.oneshot_word.specs.Side.{Side, AreEnds}
 use Rattle.oneshot_ends.specs.Grounds.{events_of, state_of, IsNew, IsNewSender, IsNewReceiver}
 
 -- the sides of a channel that was opened
-module _ {T W : Type 0} {sender receiver : Side T W} (are : AreEnds sender receiver) where
+module _ {T W P : Type 0} {about : P} {sender receiver : Side T W P} (are : AreEnds about sender receiver) where
   pub new_sender : IsNewSender sender
   new_sender =
       record {
@@ -27,9 +27,9 @@ module _ {T W : Type 0} {sender receiver : Side T W} (are : AreEnds sender recei
         waker = subst (IsSlot none) (sym are.receiver_slots.1) is_away;
       }
 
-module _ {T W : Type 0} where
+module _ {T W P : Type 0} where
   -- how the ground of a new end stands
-  new_stands : {At : Type 0} (at : List Noted → At) {slots : Slots} (s : Side T W) → IsNew slots s → StandsWith (λ (l : Log T W). at (words l.list)) (at []) slots (state_of s)
+  new_stands : {At : Type 0} (at : List Noted → At) {slots : Slots} (s : Side T W P) → IsNew slots s → StandsWith (λ (l : Log T W). at (words l.list)) (at []) slots (state_of s)
   new_stands at s new =
       record {
         phase = ap (λ xs. at (words (events_of {T = T} {W = W} xs))) new.steps;
@@ -37,6 +37,6 @@ module _ {T W : Type 0} where
         waker = new.waker;
       }
 
-  pub rests_at_new : (s now : Side T W) → now ≡ s → IsNewReceiver s → AtRest (state_of now)
+  pub rests_at_new : (s now : Side T W P) → now ≡ s → IsNewReceiver s → AtRest (state_of now)
   rests_at_new s now is new =
       subst (λ now. AtRest (state_of now)) (sym is) (record { at = first; is_one = rests_new; stands = new_stands receiver_at s new })

@@ -40,18 +40,18 @@ module _ {T W : Type 0} where
   token_finds : {q : ReceiverAt} {op : Op} {n : ℕ} {m m' : Held T} {w w' : Held W} → ReceiverFinds {T = T} {W = W} q op n m w m' w' → ReceiverFinds {T = T} {W = Copied} q op n m (token_of w) m' (token_of w')
   token_finds (finds there message waker) = finds there message (token_turns waker)
 
-  pub token_can : (names : List ℕ) (s : Side T W) (op : Op) → ReceiverAsks op (polled_state names s) → ReceiverAsks op (state_of s)
+  pub token_can : {P : Type 0} (names : List ℕ) (s : Side T W P) (op : Op) → ReceiverAsks op (polled_state names s) → ReceiverAsks op (state_of s)
   token_can names s op asks =
       subst (λ xs. ReceiverMay (receiver_at xs) op s.message s.waker) (sym (words_of T W s.steps))
       (token_may s.waker (subst (λ xs. ReceiverMay {T = T} {W = Copied} (receiver_at xs) op s.message (token_of s.waker)) (words_of T Copied s.steps) asks))
 
-  pub token_found : (names : List ℕ) (s t : Side T W) (op : Op) (n : ℕ) → ReceiverMakes op n (state_of s) (state_of t) → ReceiverMakes op n (polled_state names s) (polled_state names t)
+  pub token_found : {P : Type 0} (names : List ℕ) (s t : Side T W P) (op : Op) (n : ℕ) → ReceiverMakes op n (state_of s) (state_of t) → ReceiverMakes op n (polled_state names s) (polled_state names t)
   token_found names s t op n makes =
       subst (λ xs. ReceiverFinds {T = T} {W = Copied} (receiver_at xs) op n s.message (token_of s.waker) t.message (token_of t.waker)) (sym (words_of T Copied s.steps))
       (token_finds (subst (λ xs. ReceiverFinds (receiver_at xs) op n s.message s.waker t.message t.waker) (words_of T W s.steps) makes))
 
   -- what the log of the receiver's own ground says, its own does
-  pub told : (names : List ℕ) (before after : Side T W) (run : List (Event T W)) (ys : List (Event T Copied)) → events_of {T = T} {W = Copied} (words run) ≡ kept false ys → Grows (state_of before).log (state_of after).log run → Grows (polled_state names before).log (polled_state names after).log ys
+  pub told : {P : Type 0} (names : List ℕ) (before after : Side T W P) (run : List (Event T W)) (ys : List (Event T Copied)) → events_of {T = T} {W = Copied} (words run) ≡ kept false ys → Grows (state_of before).log (state_of after).log run → Grows (polled_state names before).log (polled_state names after).log ys
   told names before after run ys same grows =
       record {
         whole = refl;
@@ -61,8 +61,8 @@ module _ {T W : Type 0} where
       }
 
   -- and it stands as that does
-  pub stands_by_tokens : {Phases : ReceiverAt → Type 0} (names : List ℕ) (s : Side T W) → StandsIn Phases (state_of s) → StandsIn Phases (polled_state names s)
+  pub stands_by_tokens : {P : Type 0} {Phases : ReceiverAt → Type 0} (names : List ℕ) (s : Side T W P) → StandsIn Phases (state_of s) → StandsIn Phases (polled_state names s)
   stands_by_tokens names s = stands_again (ap receiver_at (words_of T Copied s.steps ∙ sym (words_of T W s.steps))) (λ share m. m) (λ share. token_slot)
 
-  pub stands_as_told : {Phases : ReceiverAt → Type 0} (names : List ℕ) (s : Side T W) → StandsIn Phases (polled_state names s) → StandsIn Phases (state_of s)
+  pub stands_as_told : {P : Type 0} {Phases : ReceiverAt → Type 0} (names : List ℕ) (s : Side T W P) → StandsIn Phases (polled_state names s) → StandsIn Phases (state_of s)
   stands_as_told names s = stands_again (ap receiver_at (words_of T W s.steps ∙ sym (words_of T Copied s.steps))) (λ share m. m) (λ share. slot_of_token s.waker)

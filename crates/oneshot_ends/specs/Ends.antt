@@ -21,15 +21,25 @@ use Rattle.oneshot_ends.specs.Deadlines.{HasEnd}
 abbrev pub Waking : Type 0
 Waking = Unit {0}
 
-pub record End : Type 0 where
+-- with the value that its channel is about, by which each message keeps a promise
+pub record EndOf (P : Type 0) : Type 0 where
   pub channel : TableId
   pub steps : List Noted
+  pub about : P
+
+-- of a channel without a promise
+abbrev pub End : Type 0
+End = EndOf (Unit {0})
 
 -- the same of a future, with the source at which its polls register
-pub record FutureEnd : Type 0 where
+pub record FutureEndOf (P : Type 0) : Type 0 where
   pub channel : TableId
   pub steps : List Noted
   pub source : ℕ
+  pub about : P
+
+abbrev pub FutureEnd : Type 0
+FutureEnd = FutureEndOf (Unit {0})
 
 -- the same of an error, with the message that was refused
 pub record Failed (T : Type 0) : Type 0 where
@@ -62,16 +72,16 @@ pub record TimeoutGrew (T : Type 0) (timeout : Duration) (before after : List No
   pub ran : TimeoutRan T timeout reading before after reply
 
 -- a receiver that is closed, or open
-abbrev pub IsClosed : End → Type 0
+abbrev pub IsClosed : {P : Type 0} → EndOf P → Type 0
 IsClosed receiver = Closed (receiver_at receiver.steps)
 
-abbrev pub IsOpen : End → Type 0
+abbrev pub IsOpen : {P : Type 0} → EndOf P → Type 0
 IsOpen receiver = Open (receiver_at receiver.steps)
 
 -- the same of a future
-abbrev pub IsDone : FutureEnd → Type 0
+abbrev pub IsDone : {P : Type 0} → FutureEndOf P → Type 0
 IsDone future = Closed (receiver_at future.steps)
 
 -- one that is not done: a later poll may give the message
-abbrev pub IsUnfinished : FutureEnd → Type 0
+abbrev pub IsUnfinished : {P : Type 0} → FutureEndOf P → Type 0
 IsUnfinished future = Open (receiver_at future.steps)

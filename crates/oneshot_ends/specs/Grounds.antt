@@ -31,7 +31,7 @@ unless_freed true slot = away
 unless_freed false slot = slot
 
 -- an end's side, with the slots that it has left
-abbrev pub left_of : {T W : Type 0} → Bool → Side T W → Side T W
+abbrev pub left_of : {T W P : Type 0} → Bool → Side T W P → Side T W P
 left_of freed s = record s { message = unless_freed freed s.message; waker = unless_freed freed s.waker }
 
 -- only a receiver that has both slots frees the block
@@ -48,7 +48,7 @@ module _ {T W : Type 0} where
 
 -- The state of a ground over an end's side: it stands on the table, beside what has these names, and shows
 -- the waker's slot so.
-abbrev pub state_beside : {T W V : Type 0} → (Held W → Held V) → List ℕ → Side T W → State T V
+abbrev pub state_beside : {T W V P : Type 0} → (Held W → Held V) → List ℕ → Side T W P → State T V
 state_beside shown names s =
     record {
       log = record { whole = false; channel = names ++ channel_of s.table; list = events_of s.steps };
@@ -56,24 +56,24 @@ state_beside shown names s =
       waker = shown s.waker;
     }
 
-module _ {T W : Type 0} where
+module _ {T W P : Type 0} where
   -- of one that shows the waker's slot as it is
-  abbrev pub state_of : Side T W → State T W
+  abbrev pub state_of : Side T W P → State T W
   state_of = state_beside (λ slot. slot) []
 
   -- the same of one that was lent under this name
-  abbrev pub lent : ℕ → Side T W → State T W
+  abbrev pub lent : ℕ → Side T W P → State T W
   lent name = state_beside (λ slot. slot) (name ∷ [])
 
   -- a side that has made no operation, with these shares of its slots
-  pub record IsNew (slots : Slots) (s : Side T W) : Type 0 where
+  pub record IsNew (slots : Slots) (s : Side T W P) : Type 0 where
     pub steps : s.steps ≡ []
     pub message : IsSlot slots.0 s.message
     pub waker : IsSlot slots.1 s.waker
 
   -- each end's, with its slots as the table has them there
-  abbrev pub IsNewSender : Side T W → Type 0
+  abbrev pub IsNewSender : Side T W P → Type 0
   IsNewSender = IsNew (sender_slots fresh)
 
-  abbrev pub IsNewReceiver : Side T W → Type 0
+  abbrev pub IsNewReceiver : Side T W P → Type 0
   IsNewReceiver = IsNew (receiver_slots first)

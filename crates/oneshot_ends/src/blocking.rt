@@ -1,21 +1,23 @@
 //! What a receiver does to the world in a call that blocks: its ground, with its parker beside it.
 
-ghost use Rattle.std.specs.Prelude.{◌≡◌, ⊤};
+ghost use Rattle.std.specs.Prelude.{◌≡◌};
 
 use crate::deadline::{Deadline, read};
-use crate::ground::ReceiverOnWord;
+use crate::ground::OnWord;
 use crate::rouse::Rouse;
-use crossbeam_utils::sync::{Parker, Unparker};
-use futures::task::Waker;
+use crossbeam_utils::sync::Parker;
 use oneshot_drive::{BlockGround, ReceiverGround};
 use oneshot_machine::states::Op;
+use oneshot_word::Promise;
 use std::sync::Wait;
 use std::time::Clock;
 
+// It names the ground as one type `G`, since a derived `Drop` wants one of each parameter: no channel has a
+// value of its `P`.
 /// The ground of a receiver, lent for one call, with what it parks by.
 #[derive(Drop)]
-pub(crate) struct Blocking<'g, 'p, 'r, T, Rt> {
-    ground: &'g mut ReceiverOnWord<T, Unparker, Waker>,
+pub(crate) struct Blocking<'g, 'p, 'r, G, Rt> {
+    ground: &'g mut G,
     parker: &'p Parker,
     rt: &'r Rt,
     deadline: Deadline,
@@ -23,15 +25,15 @@ pub(crate) struct Blocking<'g, 'p, 'r, T, Rt> {
     told: Option<bool>,
 }
 
-impl<'g, 'p, 'r, T, Rt> Blocking<'g, 'p, 'r, T, Rt> {
+impl<'g, 'p, 'r, G, Rt> Blocking<'g, 'p, 'r, G, Rt> {
     /// Lends the ground, with this deadline, and what a first read of the clock told of it.
     pub(crate) fn lend(
-        ground: &'g mut ReceiverOnWord<T, Unparker, Waker>,
+        ground: &'g mut G,
         parker: &'p Parker,
         rt: &'r Rt,
         deadline: Deadline,
         told: Option<bool>,
-    ) -> Blocking<'g, 'p, 'r, T, Rt>
+    ) -> Blocking<'g, 'p, 'r, G, Rt>
         ensures { result.ground ≡ ground.entry }
     {
         Blocking {
@@ -44,18 +46,24 @@ impl<'g, 'p, 'r, T, Rt> Blocking<'g, 'p, 'r, T, Rt> {
     }
 }
 
-impl<'g, 'p, 'r, T: Drop, Rt> ReceiverGround<T, Rouse> for Blocking<'g, 'p, 'r, T, Rt> {
+impl<'g, 'p, 'r, T: Drop, Rt, P: Promise<T>> ReceiverGround<T, Rouse>
+    for Blocking<'g, 'p, 'r, OnWord<T, P>, Rt> {
+    ghost use Rattle.std.proofs.Common.{◌∙◌, refl, subst};
     ghost use Rattle.oneshot_ends.specs.Grounds.{lent};
 
     // The channel names the ground that was lent too, so that a caller knows it again.
     ghost state = { λ b. lent b.ground.ghost_name b.ground.now };
 
-    // It has nothing beside the channel.
-    ghost keeps = { λ _ _. ⊤ };
+    // What the channel is about stays so.
+    ghost keeps = { λ a b. b.ground.now.about ≡ a.ground.now.about };
 
-    ghost keeps_same = { λ _. tt };
+    ghost keeps_same = { λ _. refl };
 
-    ghost keeps_on = { λ _ _ _ _ _. tt };
+    ghost keeps_on = { λ _ _ _ e f. f ∙ e };
+
+    ghost gives = { λ b message. P.keeps b.ground.now.about message };
+
+    ghost gives_on = { λ _ _ message e kept. subst (λ q. P.keeps q message) e kept };
 
     fn word(&mut self, op: Op) -> u8 {
         self.ground.word(op)
@@ -82,7 +90,8 @@ impl<'g, 'p, 'r, T: Drop, Rt> ReceiverGround<T, Rouse> for Blocking<'g, 'p, 'r, 
     }
 }
 
-impl<'g, 'p, 'r, T: Drop, Rt: Wait + Clock> BlockGround<T, Rouse> for Blocking<'g, 'p, 'r, T, Rt> {
+impl<'g, 'p, 'r, T: Drop, Rt: Wait + Clock, P: Promise<T>> BlockGround<T, Rouse>
+    for Blocking<'g, 'p, 'r, OnWord<T, P>, Rt> {
     fn park(&mut self, timed: bool) {
         if !timed {
             return self.parker.park(self.rt);

@@ -8,7 +8,7 @@ use crate::ground::ErrorOffWord;
 use crossbeam_utils::sync::Unparker;
 use futures::task::Waker;
 use oneshot_drive::{drop_error, into_inner};
-use oneshot_word::SenderSide;
+use oneshot_word::{Promise, SenderSide};
 use std::error::Error;
 use std::fmt;
 use std::fmt::{Debug, Display, Formatter};
@@ -20,12 +20,12 @@ use std::marker::Model;
 /// `into_inner` gives the message back and gives up the memory.
 ///
 /// A contract sees the message, the channel, and the sender's log of operations on the word.
-pub struct SendError<T> {
+pub struct SendError<T, P: Promise<T> = ()> {
     message: T,
-    side: SenderSide<T, Unparker, Waker>,
+    side: SenderSide<T, Unparker, Waker, P>,
 }
 
-impl<T> Model for SendError<T> {
+impl<T, P: Promise<T>> Model for SendError<T, P> {
     ghost use Rattle.oneshot_machine.specs.Phases.{sender_at};
     ghost use Rattle.oneshot_drive.specs.BetweenCalls.{IsLate};
     ghost use Rattle.oneshot_ends.specs.Ends.{Failed};
@@ -37,8 +37,8 @@ impl<T> Model for SendError<T> {
     ghost invariant = { λ e. IsLate (sender_at e.side.steps) };
 }
 
-impl<T> SendError<T> {
-    pub(crate) fn new(message: T, side: SenderSide<T, Unparker, Waker>) -> SendError<T>
+impl<T, P: Promise<T>> SendError<T, P> {
+    pub(crate) fn new(message: T, side: SenderSide<T, Unparker, Waker, P>) -> SendError<T, P>
         requires { IsLate (sender_at side.steps) }
         ensures { result ≡ record { message = message; channel = side.table; steps = side.steps } }
     {
@@ -53,7 +53,7 @@ impl<T> SendError<T> {
     }
 }
 
-impl<T: Drop> SendError<T> {
+impl<T: Drop, P: Promise<T>> SendError<T, P> {
     /// Gives the message back, and gives up the error's share of the channel's memory.
     pub fn into_inner(self) -> T
         ensures { result ≡ self.message }
@@ -63,14 +63,14 @@ impl<T: Drop> SendError<T> {
     }
 }
 
-impl<T: Drop> Drop for SendError<T> {
+impl<T: Drop, P: Promise<T>> Drop for SendError<T, P> {
     fn drop(self) {
         let SendError { message, side } = self;
         drop_error(&mut ErrorOffWord::new(message, side));
     }
 }
 
-impl<T> Display for SendError<T> {
+impl<T, P: Promise<T>> Display for SendError<T, P> {
     ghost use Rattle.std.specs.Prelude.{Some, codes};
 
     ghost output = { λ _. Some (codes "sending on a closed channel") };
@@ -80,10 +80,10 @@ impl<T> Display for SendError<T> {
     }
 }
 
-impl<T> Debug for SendError<T> {
+impl<T, P: Promise<T>> Debug for SendError<T, P> {
     fn fmt<W: fmt::Write>(&self, f: &mut Formatter<W>) -> fmt::Result {
         f.write_str("SendError(_)")
     }
 }
 
-impl<T: Drop> Error for SendError<T> {}
+impl<T: Drop, P: Promise<T>> Error for SendError<T, P> {}

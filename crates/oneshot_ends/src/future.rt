@@ -1,6 +1,6 @@
 //! The receiver as a future, which a task polls.
 
-ghost use Rattle.std.specs.Prelude.{◌≡◌, ◌≢◌, ⊤, Result, Err};
+ghost use Rattle.std.specs.Prelude.{◌≡◌, ◌≢◌, ⊤, Result, Err, IfOk};
 ghost use Rattle.oneshot_errors.specs.declared.recv.RecvError.{RecvError};
 ghost use Rattle.oneshot_errors.specs.declared.try_recv.TryRecvError.TheVariants as Tried;
 ghost use Rattle.futures.specs.declared.task.Poll.TheVariants.{Pending};
@@ -16,12 +16,13 @@ ghost use Rattle.oneshot_ends.specs.Grounds.{state_of};
 
 use crate::copies::Copies;
 use crate::ground::ReceiverOnWord;
-use crate::polling::Polling;
+use crate::polling::poll_once;
 use crossbeam_utils::sync::Unparker;
 use futures::Future;
 use futures::task::{Context, Poll, Source, Waker};
-use oneshot_drive::{async_try_recv, drop_async, poll};
+use oneshot_drive::{async_try_recv, drop_async};
 use oneshot_errors::{RecvError, TryRecvError};
+use oneshot_word::Promise;
 use std::marker::Model;
 
 /// Receives one message from its sender, as a future: `Ok` with the message, or `Err` where the sender
@@ -30,9 +31,11 @@ use std::marker::Model;
 /// A contract sees the channel that it belongs to, the log of its operations on the word, from which it
 /// reads whether the future is done, and the source at which its polls register.
 ///
+/// `P` is the promise of its channel, which the message that it gives keeps.
+///
 /// Where `T` and `Rt` are `Send` it may go to another thread between two polls.
-pub struct AsyncReceiver<T, Rt> {
-    pub(crate) ground: ReceiverOnWord<T, Unparker, Waker>,
+pub struct AsyncReceiver<T, Rt, P: Promise<T> = ()> {
+    pub(crate) ground: ReceiverOnWord<T, Unparker, Waker, P>,
     source: Source,
     // Copies of wakers that are not in the channel.
     copies: Copies<Waker>,
@@ -40,27 +43,33 @@ pub struct AsyncReceiver<T, Rt> {
     rt: Rt,
 }
 
-impl<T, Rt> Model for AsyncReceiver<T, Rt> {
+impl<T, Rt, P: Promise<T>> Model for AsyncReceiver<T, Rt, P> {
     ghost use Rattle.oneshot_drive.specs.Polls.{IsPolled};
-    ghost use Rattle.oneshot_ends.specs.Ends.{FutureEnd};
+    ghost use Rattle.oneshot_ends.specs.Ends.{FutureEndOf};
     ghost use Rattle.oneshot_ends.specs.Grounds.{state_of};
 
-    ghost Value = { FutureEnd };
+    ghost Value = { FutureEndOf P };
 
-    ghost view = { λ r. record { channel = r.ground.table; steps = r.ground.steps; source = r.source.id } };
+    ghost view = { λ r. record {
+      channel = r.ground.table;
+      steps = r.ground.steps;
+      source = r.source.id;
+      about = r.ground.about;
+    } };
 
     ghost invariant = { λ r. IsPolled (state_of r.ground) };
 }
 
-impl<T, Rt> AsyncReceiver<T, Rt> {
+impl<T, Rt, P: Promise<T>> AsyncReceiver<T, Rt, P> {
     pub(crate) fn new(
-        ground: ReceiverOnWord<T, Unparker, Waker>,
+        ground: ReceiverOnWord<T, Unparker, Waker, P>,
         source: Source,
         rt: Rt,
-    ) -> AsyncReceiver<T, Rt>
+    ) -> AsyncReceiver<T, Rt, P>
         requires { AtRest (state_of ground) }
         ensures channel { result.channel ≡ ground.table }
         ensures steps { result.steps ≡ ground.steps }
+        ensures about { result.about ≡ ground.about }
     {
         AsyncReceiver {
             ground,
@@ -71,7 +80,7 @@ impl<T, Rt> AsyncReceiver<T, Rt> {
     }
 }
 
-impl<T: Drop, Rt: Drop> AsyncReceiver<T, Rt> {
+impl<T: Drop, Rt: Drop, P: Promise<T>> AsyncReceiver<T, Rt, P> {
     /// Receives the message if it is there. It never blocks and does not allocate. The Rust crate has no
     /// `try_recv` of a future: this one answers as that of a `Receiver`.
     ///
@@ -93,12 +102,14 @@ impl<T: Drop, Rt: Drop> AsyncReceiver<T, Rt> {
         ensures stays_closed { IsDone self.old → result ≡ Err Tried.Disconnected }
         ensures registered { StaysRegistered result (receiver_at self.old.steps) (receiver_at self.new.steps) }
         ensures bounded { GrewAtMost 2 operates self.old.steps self.new.steps }
+        ensures about { self.new.about ≡ self.old.about }
+        ensures kept { IfOk result (λ message. P.keeps self.old.about message) }
     {
         async_try_recv(&mut self.ground)
     }
 }
 
-impl<T: Drop, Rt: Drop> Future for AsyncReceiver<T, Rt> {
+impl<T: Drop, Rt: Drop, P: Promise<T>> Future for AsyncReceiver<T, Rt, P> {
     type Output = Result<T, RecvError>;
 
     ghost needs = { λ r s. s ≡ r.source };
@@ -124,18 +135,14 @@ impl<T: Drop, Rt: Drop> Future for AsyncReceiver<T, Rt> {
         ensures stays_open { result ≡ Pending → IsUnfinished self.new }
         ensures stays_closed { IsDone self.old → IsDisconnected result }
         ensures bounded { GrewAtMost 4 operates self.old.steps self.new.steps }
+        ensures about { self.new.about ≡ self.old.about }
+        ensures promise { IfReady result (λ answer. IfOk answer (λ message. P.keeps self.old.about message)) }
     {
-        let mut lent = Polling {
-            ground: &mut self.ground,
-            cx: &mut *cx,
-            source: &self.source,
-            copies: &mut self.copies,
-        };
-        poll(&mut lent)
+        poll_once(&mut self.ground, cx, &self.source, &mut self.copies)
     }
 }
 
-impl<T: Drop, Rt: Drop> Drop for AsyncReceiver<T, Rt> {
+impl<T: Drop, Rt: Drop, P: Promise<T>> Drop for AsyncReceiver<T, Rt, P> {
     fn drop(self) {
         let AsyncReceiver {
             mut ground,

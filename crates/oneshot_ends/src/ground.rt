@@ -15,30 +15,29 @@ use crossbeam_utils::sync::Unparker;
 use futures::task::Waker;
 use oneshot_drive::{ReceiverGround, SenderGround};
 use oneshot_machine::states::Op;
-use oneshot_word::{ReceiverSide, Rouse, SenderSide};
+use oneshot_word::{Promise, ReceiverSide, Rouse, SenderSide};
 use std::marker::Model;
 
 /// The sender's ground.
-#[derive(Drop)]
-pub(crate) struct SenderOnWord<T, H, K> {
-    side: SenderSide<T, H, K>,
+pub(crate) struct SenderOnWord<T, H, K, P: Promise<T>> {
+    side: SenderSide<T, H, K, P>,
     // The block goes with the last of both shares, so that nothing is left to do; only proofs read this.
     freed: Freed,
 }
 
-impl<T, H, K> Model for SenderOnWord<T, H, K> {
+impl<T, H, K, P: Promise<T>> Model for SenderOnWord<T, H, K, P> {
     ghost use Rattle.oneshot_word.specs.Side.{Side};
     ghost use Rattle.oneshot_word.specs.declared.rouse.Rouse.{Rouse};
     ghost use Rattle.oneshot_ends.specs.Grounds.{left_of};
 
-    ghost Value = { Side T (Rouse H K) };
+    ghost Value = { Side T (Rouse H K) P };
 
     ghost view = { λ s. left_of s.freed.value s.side };
 }
 
-impl<T, H, K> SenderOnWord<T, H, K> {
+impl<T, H, K, P: Promise<T>> SenderOnWord<T, H, K, P> {
     /// The ground of a sender that has freed nothing.
-    pub(crate) fn new(side: SenderSide<T, H, K>) -> SenderOnWord<T, H, K>
+    pub(crate) fn new(side: SenderSide<T, H, K, P>) -> SenderOnWord<T, H, K, P>
         ensures { result ≡ side }
     {
         let freed = Freed::of(false);
@@ -46,11 +45,12 @@ impl<T, H, K> SenderOnWord<T, H, K> {
     }
 }
 
-impl<T: Drop, H: Drop, K: Drop> SenderOnWord<T, H, K> {
+impl<T: Drop, H: Drop, K: Drop, P: Promise<T>> SenderOnWord<T, H, K, P> {
     /// Takes the message out of its slot, with the side that it lay in.
-    pub(crate) fn into_refused(self) -> (T, SenderSide<T, H, K>)
+    pub(crate) fn into_refused(self) -> (T, SenderSide<T, H, K, P>)
         requires { (x : T) × (self.message ≡ held x) }
         ensures message { self.message ≡ held result.0 }
+        ensures about { result.1.about ≡ self.about }
         ensures table { result.1.table ≡ self.table }
         ensures steps { result.1.steps ≡ self.steps }
     {
@@ -60,10 +60,13 @@ impl<T: Drop, H: Drop, K: Drop> SenderOnWord<T, H, K> {
     }
 }
 
-impl<T: Drop> SenderGround<T, Rouse<Unparker, Waker>> for SenderOnWord<T, Unparker, Waker> {
+impl<T: Drop, P: Promise<T>> SenderGround<T, Rouse<Unparker, Waker>>
+    for SenderOnWord<T, Unparker, Waker, P> {
     ghost use Rattle.oneshot_ends.specs.Grounds.{state_of};
 
     ghost state = { state_of };
+
+    ghost admits = { λ s message. P.keeps s.about message };
 
     fn word(&mut self, op: Op) -> u8 {
         match op {
@@ -101,15 +104,21 @@ impl<T: Drop> SenderGround<T, Rouse<Unparker, Waker>> for SenderOnWord<T, Unpark
     }
 }
 
+// Written out, as both below: a derived `Drop` would want one of `P`, of which a channel has no value.
+impl<T: Drop, H: Drop, K: Drop, P: Promise<T>> Drop for SenderOnWord<T, H, K, P> {
+    fn drop(self) {
+        let SenderOnWord { side: _, freed: _ } = self;
+    }
+}
+
 /// The ground of an error, which has the refused message in its own hands.
-#[derive(Drop)]
-pub(crate) struct ErrorOffWord<T, H, K> {
+pub(crate) struct ErrorOffWord<T, H, K, P: Promise<T>> {
     message: Option<T>,
-    side: SenderSide<T, H, K>,
+    side: SenderSide<T, H, K, P>,
     freed: Freed,
 }
 
-impl<T, H, K> Model for ErrorOffWord<T, H, K> {
+impl<T, H, K, P: Promise<T>> Model for ErrorOffWord<T, H, K, P> {
     ghost use Rattle.oneshot_machine.specs.Phases.{sender_at};
     ghost use Rattle.oneshot_machine.specs.Slots.{vacant};
     ghost use Rattle.oneshot_drive.specs.BetweenCalls.{IsLate};
@@ -117,16 +126,16 @@ impl<T, H, K> Model for ErrorOffWord<T, H, K> {
     ghost use Rattle.oneshot_word.specs.declared.rouse.Rouse.{Rouse};
     ghost use Rattle.oneshot_ends.specs.Grounds.{unless_freed, slot_of};
 
-    ghost Value = { Side T (Rouse H K) };
+    ghost Value = { Side T (Rouse H K) P };
 
     ghost view = { λ e. record e.side { message = unless_freed e.freed.value (slot_of e.message); waker = unless_freed e.freed.value vacant } };
 
     ghost invariant = { λ e. IsLate (sender_at e.side.steps) };
 }
 
-impl<T, H, K> ErrorOffWord<T, H, K> {
+impl<T, H, K, P: Promise<T>> ErrorOffWord<T, H, K, P> {
     /// The ground of an error that has freed nothing.
-    pub(crate) fn new(message: T, side: SenderSide<T, H, K>) -> ErrorOffWord<T, H, K>
+    pub(crate) fn new(message: T, side: SenderSide<T, H, K, P>) -> ErrorOffWord<T, H, K, P>
         requires { IsLate (sender_at side.steps) }
         ensures { IsError (held message) (state_of result) }
     {
@@ -139,10 +148,13 @@ impl<T, H, K> ErrorOffWord<T, H, K> {
     }
 }
 
-impl<T: Drop> SenderGround<T, Rouse<Unparker, Waker>> for ErrorOffWord<T, Unparker, Waker> {
+impl<T: Drop, P: Promise<T>> SenderGround<T, Rouse<Unparker, Waker>>
+    for ErrorOffWord<T, Unparker, Waker, P> {
     ghost use Rattle.oneshot_ends.specs.Grounds.{state_of};
 
     ghost state = { state_of };
+
+    ghost admits = { λ _ _. ⊤ };
 
     // No operation on the word follows a refused `send`.
     fn word(&mut self, _: Op) -> u8 {
@@ -181,29 +193,41 @@ impl<T: Drop> SenderGround<T, Rouse<Unparker, Waker>> for ErrorOffWord<T, Unpark
     }
 }
 
+impl<T: Drop, H: Drop, K: Drop, P: Promise<T>> Drop for ErrorOffWord<T, H, K, P> {
+    fn drop(self) {
+        let ErrorOffWord {
+            message: _,
+            side: _,
+            freed: _,
+        } = self;
+    }
+}
+
+/// The ground of a channel's receiver.
+pub(crate) type OnWord<T, P> = ReceiverOnWord<T, Unparker, Waker, P>;
+
 /// The receiver's ground.
-#[derive(Drop)]
-pub(crate) struct ReceiverOnWord<T, H, K> {
-    side: ReceiverSide<T, H, K>,
+pub(crate) struct ReceiverOnWord<T, H, K, P: Promise<T>> {
+    side: ReceiverSide<T, H, K, P>,
     freed: Freed,
 }
 
-impl<T, H, K> Model for ReceiverOnWord<T, H, K> {
+impl<T, H, K, P: Promise<T>> Model for ReceiverOnWord<T, H, K, P> {
     ghost use Rattle.oneshot_word.specs.Side.{Side};
     ghost use Rattle.oneshot_word.specs.declared.rouse.Rouse.{Rouse};
     ghost use Rattle.oneshot_ends.specs.Grounds.{left_of, MayBeFreed};
     ghost use Rattle.oneshot_machine.specs.Phases.{receiver_at};
 
-    ghost Value = { Side T (Rouse H K) };
+    ghost Value = { Side T (Rouse H K) P };
 
     ghost view = { λ s. left_of s.freed.value s.side };
 
     ghost invariant = { λ s. MayBeFreed s.freed.value (receiver_at s.side.steps) };
 }
 
-impl<T, H, K> ReceiverOnWord<T, H, K> {
+impl<T, H, K, P: Promise<T>> ReceiverOnWord<T, H, K, P> {
     /// The ground of a receiver that has freed nothing.
-    pub(crate) fn new(side: ReceiverSide<T, H, K>) -> ReceiverOnWord<T, H, K>
+    pub(crate) fn new(side: ReceiverSide<T, H, K, P>) -> ReceiverOnWord<T, H, K, P>
         ensures { result ≡ side }
     {
         let freed = Freed::of(false);
@@ -211,17 +235,23 @@ impl<T, H, K> ReceiverOnWord<T, H, K> {
     }
 }
 
-impl<T: Drop, H: Drop, K: Drop> ReceiverGround<T, Rouse<H, K>> for ReceiverOnWord<T, H, K> {
+impl<T: Drop, H: Drop, K: Drop, P: Promise<T>> ReceiverGround<T, Rouse<H, K>>
+    for ReceiverOnWord<T, H, K, P> {
+    ghost use Rattle.std.proofs.Common.{◌∙◌, refl, subst};
     ghost use Rattle.oneshot_ends.specs.Grounds.{state_of};
 
     ghost state = { state_of };
 
-    // It has nothing beside the channel.
-    ghost keeps = { λ _ _. ⊤ };
+    // What the channel is about stays so.
+    ghost keeps = { λ a b. b.about ≡ a.about };
 
-    ghost keeps_same = { λ _. tt };
+    ghost keeps_same = { λ _. refl };
 
-    ghost keeps_on = { λ _ _ _ _ _. tt };
+    ghost keeps_on = { λ _ _ _ e f. f ∙ e };
+
+    ghost gives = { λ s message. P.keeps s.about message };
+
+    ghost gives_on = { λ _ _ message e kept. subst (λ q. P.keeps q message) e kept };
 
     fn word(&mut self, op: Op) -> u8 {
         match op {
@@ -252,5 +282,11 @@ impl<T: Drop, H: Drop, K: Drop> ReceiverGround<T, Rouse<H, K>> for ReceiverOnWor
     fn free(&mut self) {
         self.side.slots();
         self.freed = Freed::of(true);
+    }
+}
+
+impl<T: Drop, H: Drop, K: Drop, P: Promise<T>> Drop for ReceiverOnWord<T, H, K, P> {
+    fn drop(self) {
+        let ReceiverOnWord { side: _, freed: _ } = self;
     }
 }

@@ -8,7 +8,7 @@ use crate::receiver::Receiver;
 use crate::rouse::Rouse;
 use crate::sender::Sender;
 use crossbeam_utils::sync::Parker;
-use oneshot_word::open;
+use oneshot_word::{Promise, open};
 use std::alloc::{AllocError, Global};
 
 /// Makes a channel for one message: its sender and its receiver.
@@ -27,7 +27,27 @@ pub fn channel<T: Send + Drop, Rt: Drop>(
     ensures new_receiver { IfOk result (λ ends. ends.1.steps ≡ []) }
     ensures open { IfOk result (λ ends. IsOpen ends.1) }
 {
-    let (near, far) = open(alloc)?;
+    channel_for(rt, alloc, &())
+}
+
+/// Makes a channel whose every message keeps a promise about `about`: `Sender::send_kept` requires it, and
+/// each receive ensures it of the message that it gives. Nothing of `about` is kept, and the channel runs as
+/// one of `channel` does.
+///
+/// `rt`, `alloc` and `Err` are those of `channel`.
+pub fn channel_for<T: Send + Drop, Rt: Drop, P: Promise<T>>(
+    rt: Rt,
+    alloc: Global,
+    about: &P,
+) -> Result<(Sender<T, P>, Receiver<T, Rt, P>), AllocError>
+    ensures one_channel { IfOk result (λ ends. ends.0.channel ≡ ends.1.channel) }
+    ensures new_sender { IfOk result (λ ends. ends.0.steps ≡ []) }
+    ensures new_receiver { IfOk result (λ ends. ends.1.steps ≡ []) }
+    ensures open { IfOk result (λ ends. IsOpen ends.1) }
+    ensures sender_about { IfOk result (λ ends. ends.0.about ≡ about.now) }
+    ensures receiver_about { IfOk result (λ ends. ends.1.about ≡ about.now) }
+{
+    let (near, far) = open(alloc, about)?;
     let parker = Parker::new(alloc)?;
     let half = Rouse::Thread(parker.unparker().clone()?);
     Ok((Sender::new(near), Receiver::new(far, parker, half, rt)))
@@ -46,6 +66,23 @@ pub fn async_channel<T: Send + Drop, Rt: Drop>(
     ensures new_receiver { IfOk result (λ ends. ends.1.steps ≡ []) }
     ensures open { IfOk result (λ ends. IsUnfinished ends.1) }
 {
-    let (sender, receiver) = channel(rt, alloc)?;
+    async_channel_for(rt, alloc, &())
+}
+
+/// Makes a channel under a promise about `about`, whose receiver is a future: `channel_for` followed by
+/// `Receiver::into_future`. `rt`, `alloc` and `Err` are those of `async_channel`.
+pub fn async_channel_for<T: Send + Drop, Rt: Drop, P: Promise<T>>(
+    rt: Rt,
+    alloc: Global,
+    about: &P,
+) -> Result<(Sender<T, P>, AsyncReceiver<T, Rt, P>), AllocError>
+    ensures one_channel { IfOk result (λ ends. ends.0.channel ≡ ends.1.channel) }
+    ensures new_sender { IfOk result (λ ends. ends.0.steps ≡ []) }
+    ensures new_receiver { IfOk result (λ ends. ends.1.steps ≡ []) }
+    ensures open { IfOk result (λ ends. IsUnfinished ends.1) }
+    ensures sender_about { IfOk result (λ ends. ends.0.about ≡ about.now) }
+    ensures receiver_about { IfOk result (λ ends. ends.1.about ≡ about.now) }
+{
+    let (sender, receiver) = channel_for(rt, alloc, about)?;
     Ok((sender, receiver.into_future()))
 }

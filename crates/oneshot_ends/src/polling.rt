@@ -1,16 +1,23 @@
 //! What a receiver does to the world in a poll: its ground, with the task of the poll beside it.
 
-ghost use Rattle.std.specs.Prelude.{◌≡◌, true, false, [], ◌∷◌};
-ghost use Rattle.futures.specs.Task.{IsArmed, Hears, Keeps};
+ghost use Rattle.std.specs.Prelude.{◌≡◌, true, false, [], ◌∷◌, IfOk};
+ghost use Rattle.futures.specs.Poll.{IfReady, OnPending};
+ghost use Rattle.futures.specs.Task.{IsArmed, Hears, Covers, Keeps};
+ghost use Rattle.oneshot_machine.specs.Phases.{receiver_at};
+ghost use Rattle.oneshot_drive.specs.BetweenCalls.{IsClosed};
+ghost use Rattle.oneshot_drive.specs.Polls.{IsPolled, IsDisconnected};
 ghost use Rattle.oneshot_ends.specs.Copies.{HasMade, HasNoneOf};
+ghost use Rattle.oneshot_ends.specs.Grounds.{state_of};
+ghost use Rattle.oneshot_ends.specs.Polling.{PolledOnce};
 
 use crate::copies::Copies;
-use crate::ground::ReceiverOnWord;
+use crate::ground::OnWord;
 use crate::rouse::Rouse;
-use crossbeam_utils::sync::Unparker;
 use futures::task::{Context, Poll, Source, Waker};
-use oneshot_drive::{ReceiverGround, TaskGround};
+use oneshot_drive::{ReceiverGround, TaskGround, poll};
+use oneshot_errors::RecvError;
 use oneshot_machine::states::Op;
+use oneshot_word::Promise;
 
 /// Stands for a copy of a waker that the ground keeps. Dropping it ends no copy.
 #[derive(Drop)]
@@ -19,26 +26,33 @@ pub(crate) struct Copied;
 // The drivers have a token for each copy, and a copy whose token they drop stays among the copies.
 /// The ground of a receiver, lent for one poll, with the poll's task.
 #[derive(Drop)]
-pub(crate) struct Polling<'g, 'c, 'x, 'o, 'k, T> {
-    pub(crate) ground: &'g mut ReceiverOnWord<T, Unparker, Waker>,
-    pub(crate) cx: &'c mut Context<'x>,
-    pub(crate) source: &'o Source,
-    pub(crate) copies: &'k mut Copies<Waker>,
+pub(crate) struct Polling<'g, 'c, 'x, 'o, 'k, G> {
+    ground: &'g mut G,
+    cx: &'c mut Context<'x>,
+    source: &'o Source,
+    copies: &'k mut Copies<Waker>,
 }
 
-impl<'g, 'c, 'x, 'o, 'k, T: Drop> ReceiverGround<T, Copied> for Polling<'g, 'c, 'x, 'o, 'k, T> {
+impl<'g, 'c, 'x, 'o, 'k, T: Drop, P: Promise<T>> ReceiverGround<T, Copied>
+    for Polling<'g, 'c, 'x, 'o, 'k, OnWord<T, P>> {
     ghost use Rattle.oneshot_ends.specs.Polling.{polled_state};
-    ghost use Rattle.std.proofs.Common.{◌∙◌};
+    ghost use Rattle.std.proofs.Common.{◌∙◌, refl, subst};
 
     // The channel names what was lent too, so that a caller knows it again.
     ghost state = { λ b.
         polled_state (b.ground.ghost_name ∷ b.cx.ghost_name ∷ b.copies.ghost_name ∷ []) b.ground.now };
 
-    ghost keeps = { λ a b. Keeps a.cx.now b.cx.now × (a.source.now.id ≡ b.source.now.id) };
+    // What the channel is about stays so, and so does what the task has registered.
+    ghost keeps = { λ a b. Keeps a.cx.now b.cx.now × (a.source.now.id ≡ b.source.now.id)
+        × (b.ground.now.about ≡ a.ground.now.about) };
 
-    ghost keeps_same = { λ a. (λ fact h. h, λ i. a.source.now.id) };
+    ghost keeps_same = { λ a. (λ fact h. h, λ i. a.source.now.id, refl) };
 
-    ghost keeps_on = { λ a b c f g. (λ fact h. g.0 fact (f.0 fact h), f.1 ∙ g.1) };
+    ghost keeps_on = { λ a b c f g. (λ fact h. g.0 fact (f.0 fact h), f.1 ∙ g.1, g.2 ∙ f.2) };
+
+    ghost gives = { λ b message. P.keeps b.ground.now.about message };
+
+    ghost gives_on = { λ _ _ message e kept. subst (λ q. P.keeps q message) e.2 kept };
 
     fn word(&mut self, op: Op) -> u8 {
         self.ground.word(op)
@@ -68,7 +82,8 @@ impl<'g, 'c, 'x, 'o, 'k, T: Drop> ReceiverGround<T, Copied> for Polling<'g, 'c, 
     }
 }
 
-impl<'g, 'c, 'x, 'o, 'k, T: Drop> TaskGround<T, Copied> for Polling<'g, 'c, 'x, 'o, 'k, T> {
+impl<'g, 'c, 'x, 'o, 'k, T: Drop, P: Promise<T>> TaskGround<T, Copied>
+    for Polling<'g, 'c, 'x, 'o, 'k, OnWord<T, P>> {
     ghost use Rattle.std.proofs.Common.{subst};
 
     ghost heard = { λ b. IsArmed b.cx.now × Hears b.cx.now b.source.now.id };
@@ -86,6 +101,32 @@ impl<'g, 'c, 'x, 'o, 'k, T: Drop> TaskGround<T, Copied> for Polling<'g, 'c, 'x, 
     fn wake_own(&mut self) {
         let _again: Poll<()> = self.cx.yield_now();
     }
+}
+
+// A function of its own: the toolchain's borrow checker does not cover this call inside the future's `poll`.
+/// Polls a receiver by this ground once, for the task of `cx`, whose registration is at `source`.
+pub(crate) fn poll_once<T: Drop, P: Promise<T>>(
+    ground: &mut OnWord<T, P>,
+    cx: &mut Context<'_>,
+    source: &Source,
+    copies: &mut Copies<Waker>,
+) -> Poll<Result<T, RecvError>>
+    requires { IsPolled (state_of ground.old) }
+    ensures once { PolledOnce result ground.old ground.new }
+    ensures registered { OnPending result (Covers cx.new (λ s. s ≡ source.now.id)) }
+    ensures kept { Keeps cx.old cx.new }
+    ensures channel { ground.new.table ≡ ground.old.table }
+    ensures stays_closed { IsClosed (receiver_at ground.old.steps) → IsDisconnected result }
+    ensures about { ground.new.about ≡ ground.old.about }
+    ensures promise { IfReady result (λ answer. IfOk answer (λ message. P.keeps ground.old.about message)) }
+{
+    let mut lent = Polling {
+        ground: &mut *ground,
+        cx: &mut *cx,
+        source,
+        copies: &mut *copies,
+    };
+    poll(&mut lent)
 }
 
 /// Registers the task of the poll. `false` where no copy of its waker can be made; then the task is woken, and

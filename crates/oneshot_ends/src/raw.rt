@@ -4,6 +4,7 @@ ghost use Rattle.std.specs.Prelude.{◌≡◌};
 
 use crate::receiver::Receiver;
 use crate::sender::Sender;
+use oneshot_word::Promise;
 use std::marker::Model;
 
 /// A sender as an opaque value, which only `Sender::from_raw` makes a sender again. The Rust crate has a
@@ -13,25 +14,24 @@ use std::marker::Model;
 /// The drop never blocks.
 ///
 /// A contract sees what it sees of the sender. It may go to another thread where `T` is `Send`.
-#[derive(Drop)]
-pub struct RawSender<T> {
-    sender: Sender<T>,
+pub struct RawSender<T, P: Promise<T> = ()> {
+    sender: Sender<T, P>,
 }
 
-impl<T> Model for RawSender<T> {
-    ghost use Rattle.oneshot_ends.specs.Ends.{End};
+impl<T, P: Promise<T>> Model for RawSender<T, P> {
+    ghost use Rattle.oneshot_ends.specs.Ends.{EndOf};
 
-    ghost Value = { End };
+    ghost Value = { EndOf P };
 
     ghost view = { λ r. r.sender };
 }
 
-impl<T> Sender<T> {
+impl<T, P: Promise<T>> Sender<T, P> {
     /// Makes an opaque value of the sender. It makes no operation on the word and does not allocate.
     ///
     /// In the Rust crate it gives a pointer, and the channel's memory leaks if no sender is made of that
     /// again. Here the value owns the sender, and dropping it drops the sender.
-    pub fn into_raw(self) -> RawSender<T>
+    pub fn into_raw(self) -> RawSender<T, P>
         ensures { result ≡ self }
     {
         RawSender { sender: self }
@@ -41,11 +41,26 @@ impl<T> Sender<T> {
     ///
     /// In the Rust crate it is `unsafe`, since its caller may pass any pointer. Here it is safe: only
     /// `into_raw` makes a `RawSender<T>`, and this call consumes it.
-    pub fn from_raw(raw: RawSender<T>) -> Sender<T>
+    pub fn from_raw(raw: RawSender<T, P>) -> Sender<T, P>
         ensures { result ≡ raw }
     {
-        let RawSender { sender } = raw;
+        raw.into_sender()
+    }
+}
+
+impl<T, P: Promise<T>> RawSender<T, P> {
+    fn into_sender(self) -> Sender<T, P>
+        ensures { result ≡ self }
+    {
+        let RawSender { sender } = self;
         sender
+    }
+}
+
+// Written out: a derived `Drop` would want one of `P`, of which a channel has no value.
+impl<T: Drop, P: Promise<T>> Drop for RawSender<T, P> {
+    fn drop(self) {
+        let RawSender { sender: _ } = self;
     }
 }
 
@@ -56,25 +71,24 @@ impl<T> Sender<T> {
 /// `send` is refused: its error gives the message back. The drop never blocks.
 ///
 /// A contract sees what it sees of the receiver. It may go to another thread where `T` and `Rt` are `Send`.
-#[derive(Drop)]
-pub struct RawReceiver<T, Rt> {
-    receiver: Receiver<T, Rt>,
+pub struct RawReceiver<T, Rt, P: Promise<T> = ()> {
+    receiver: Receiver<T, Rt, P>,
 }
 
-impl<T, Rt> Model for RawReceiver<T, Rt> {
-    ghost use Rattle.oneshot_ends.specs.Ends.{End};
+impl<T, Rt, P: Promise<T>> Model for RawReceiver<T, Rt, P> {
+    ghost use Rattle.oneshot_ends.specs.Ends.{EndOf};
 
-    ghost Value = { End };
+    ghost Value = { EndOf P };
 
     ghost view = { λ r. r.receiver };
 }
 
-impl<T, Rt> Receiver<T, Rt> {
+impl<T, Rt, P: Promise<T>> Receiver<T, Rt, P> {
     /// Makes an opaque value of the receiver. It makes no operation on the word and does not allocate.
     ///
     /// In the Rust crate it gives a pointer, and the channel's memory leaks if no receiver is made of that
     /// again. Here the value owns the receiver, and dropping it drops the receiver.
-    pub fn into_raw(self) -> RawReceiver<T, Rt>
+    pub fn into_raw(self) -> RawReceiver<T, Rt, P>
         ensures { result ≡ self }
     {
         RawReceiver { receiver: self }
@@ -84,10 +98,24 @@ impl<T, Rt> Receiver<T, Rt> {
     ///
     /// In the Rust crate it is `unsafe`, since its caller may pass any pointer. Here it is safe: only
     /// `into_raw` makes a `RawReceiver<T, Rt>`, and this call consumes it.
-    pub fn from_raw(raw: RawReceiver<T, Rt>) -> Receiver<T, Rt>
+    pub fn from_raw(raw: RawReceiver<T, Rt, P>) -> Receiver<T, Rt, P>
         ensures { result ≡ raw }
     {
-        let RawReceiver { receiver } = raw;
+        raw.into_receiver()
+    }
+}
+
+impl<T, Rt, P: Promise<T>> RawReceiver<T, Rt, P> {
+    fn into_receiver(self) -> Receiver<T, Rt, P>
+        ensures { result ≡ self }
+    {
+        let RawReceiver { receiver } = self;
         receiver
+    }
+}
+
+impl<T: Drop, Rt: Drop, P: Promise<T>> Drop for RawReceiver<T, Rt, P> {
+    fn drop(self) {
+        let RawReceiver { receiver: _ } = self;
     }
 }

@@ -1,6 +1,6 @@
 //! The receiver.
 
-ghost use Rattle.std.specs.Prelude.{◌≡◌, ◌≢◌, Err, IsErr, IfSome};
+ghost use Rattle.std.specs.Prelude.{◌≡◌, ◌≢◌, Err, IsErr, IfOk, IfSome};
 ghost use Rattle.std.specs.Time.{instant_nanos, FitsClock};
 ghost use Rattle.oneshot_errors.specs.declared.recv_timeout.RecvTimeoutError.TheVariants as Timed;
 ghost use Rattle.oneshot_errors.specs.declared.try_recv.TryRecvError.TheVariants as Tried;
@@ -20,7 +20,7 @@ use crossbeam_utils::sync::{Parker, Unparker};
 use futures::task::{Source, Waker};
 use oneshot_drive::{drop_receiver, recv, recv_deadline, recv_ref, recv_timeout, try_recv};
 use oneshot_errors::{RecvError, RecvTimeoutError, TryRecvError};
-use oneshot_word::ReceiverSide;
+use oneshot_word::{Promise, ReceiverSide};
 use std::marker::Model;
 use std::sync::Wait;
 use std::time::{Clock, Duration, Instant};
@@ -36,9 +36,12 @@ use std::time::{Clock, Duration, Instant};
 /// A contract sees the channel that the receiver belongs to, and the log of its operations on the word.
 /// Whether the receiver is closed is read off that log.
 ///
+/// `P` is the promise of a channel of `channel_for`: each message that a receive gives keeps it.
+/// `Receiver<T, Rt>` is that of a channel without one.
+///
 /// It may go to another thread where `T` and `Rt` are `Send`. Two threads may not share it.
-pub struct Receiver<T, Rt> {
-    pub(crate) ground: ReceiverOnWord<T, Unparker, Waker>,
+pub struct Receiver<T, Rt, P: Promise<T> = ()> {
+    pub(crate) ground: ReceiverOnWord<T, Unparker, Waker, P>,
     // The parker's waking half, unless the sender took it to wake the receiver.
     hand: Option<Rouse>,
     // A parker may not be shared, so that one thread at a time has the receiver.
@@ -48,30 +51,31 @@ pub struct Receiver<T, Rt> {
     rt: Rt,
 }
 
-impl<T, Rt> Model for Receiver<T, Rt> {
+impl<T, Rt, P: Promise<T>> Model for Receiver<T, Rt, P> {
     ghost use Rattle.oneshot_machine.specs.Logs.{receiver_of};
     ghost use Rattle.oneshot_drive.specs.BetweenCalls.{AtRest, IsReady};
-    ghost use Rattle.oneshot_ends.specs.Ends.{End};
+    ghost use Rattle.oneshot_ends.specs.Ends.{EndOf};
     ghost use Rattle.oneshot_ends.specs.Grounds.{state_of};
 
-    ghost Value = { End };
+    ghost Value = { EndOf P };
 
-    ghost view = { λ r. record { channel = r.ground.table; steps = r.ground.steps } };
+    ghost view = { λ r. record { channel = r.ground.table; steps = r.ground.steps; about = r.ground.about } };
 
     ghost invariant = { λ r.
         AtRest (state_of r.ground) × IsReady r.hand (receiver_of (state_of r.ground).log) };
 }
 
-impl<T, Rt> Receiver<T, Rt> {
+impl<T, Rt, P: Promise<T>> Receiver<T, Rt, P> {
     pub(crate) fn new(
-        side: ReceiverSide<T, Unparker, Waker>,
+        side: ReceiverSide<T, Unparker, Waker, P>,
         parker: Parker,
         half: Rouse,
         rt: Rt,
-    ) -> Receiver<T, Rt>
+    ) -> Receiver<T, Rt, P>
         requires { IsNewReceiver side }
         ensures channel { result.channel ≡ side.table }
         ensures steps { result.steps ≡ side.steps }
+        ensures about { result.about ≡ side.about }
     {
         Receiver {
             ground: ReceiverOnWord::new(side),
@@ -83,7 +87,7 @@ impl<T, Rt> Receiver<T, Rt> {
     }
 }
 
-impl<T: Drop, Rt: Drop> Receiver<T, Rt> {
+impl<T: Drop, Rt: Drop, P: Promise<T>> Receiver<T, Rt, P> {
     /// Receives the message if it is there. It never blocks and does not allocate.
     ///
     /// - `Ok`: the message. The receiver is closed from then on.
@@ -99,12 +103,14 @@ impl<T: Drop, Rt: Drop> Receiver<T, Rt> {
         ensures stays_open { result ≡ Err Tried.Empty → IsOpen self.new }
         ensures stays_closed { IsClosed self.old → result ≡ Err Tried.Disconnected }
         ensures bounded { GrewAtMost 2 operates self.old.steps self.new.steps }
+        ensures about { self.new.about ≡ self.old.about }
+        ensures kept { IfOk result (λ message. P.keeps self.old.about message) }
     {
         try_recv(&mut self.ground)
     }
 }
 
-impl<T: Drop, Rt: Wait + Clock + Drop> Receiver<T, Rt> {
+impl<T: Drop, Rt: Wait + Clock + Drop, P: Promise<T>> Receiver<T, Rt, P> {
     /// Blocks until the message is there or will never come. It does not allocate.
     ///
     /// It blocks forever if the sender is neither used nor dropped, for example because this thread
@@ -120,6 +126,8 @@ impl<T: Drop, Rt: Wait + Clock + Drop> Receiver<T, Rt> {
         ensures leaves { LeavesClosed result (receiver_at self.new.steps) }
         ensures closes { IsClosed self.new }
         ensures stays_closed { IsClosed self.old → IsErr result }
+        ensures about { self.new.about ≡ self.old.about }
+        ensures kept { IfOk result (λ message. P.keeps self.old.about message) }
     {
         let deadline = Deadline::Never;
         let mut lent = Blocking::lend(&mut self.ground, &self.parker, &self.rt, deadline, None);
@@ -145,6 +153,8 @@ impl<T: Drop, Rt: Wait + Clock + Drop> Receiver<T, Rt> {
         ensures closes { result ≢ Err Timed.Timeout → IsClosed self.new }
         ensures stays_open { result ≡ Err Timed.Timeout → IsOpen self.new }
         ensures stays_closed { IsClosed self.old → result ≡ Err Timed.Disconnected }
+        ensures about { self.new.about ≡ self.old.about }
+        ensures kept { IfOk result (λ message. P.keeps self.old.about message) }
     {
         let deadline = Deadline::At(deadline);
         let mut lent = Blocking::lend(&mut self.ground, &self.parker, &self.rt, deadline, None);
@@ -164,6 +174,8 @@ impl<T: Drop, Rt: Wait + Clock + Drop> Receiver<T, Rt> {
         ensures closes { result ≢ Err Timed.Timeout → IsClosed self.new }
         ensures stays_open { result ≡ Err Timed.Timeout → IsOpen self.new }
         ensures stays_closed { IsClosed self.old → result ≡ Err Timed.Disconnected }
+        ensures about { self.new.about ≡ self.old.about }
+        ensures kept { IfOk result (λ message. P.keeps self.old.about message) }
     {
         let reading = read(&self.rt);
         self.recv_after(reading, timeout)
@@ -178,6 +190,7 @@ impl<T: Drop, Rt: Wait + Clock + Drop> Receiver<T, Rt> {
     /// still holds it.
     pub fn recv(self) -> Result<T, RecvError>
         ensures stays_closed { IsClosed self → IsErr result }
+        ensures kept { IfOk result (λ message. P.keeps self.about message) }
     {
         let Receiver {
             mut ground,
@@ -191,7 +204,7 @@ impl<T: Drop, Rt: Wait + Clock + Drop> Receiver<T, Rt> {
     }
 }
 
-impl<T: Drop, Rt: Wait + Clock + Drop> Receiver<T, Rt> {
+impl<T: Drop, Rt: Wait + Clock + Drop, P: Promise<T>> Receiver<T, Rt, P> {
     // Receives by `timeout` after this reading of the clock, which is `None` where it failed. The ground
     // is told what the reading says of its deadline, so that the clock is not read twice for the sum.
     fn recv_after(
@@ -204,6 +217,8 @@ impl<T: Drop, Rt: Wait + Clock + Drop> Receiver<T, Rt> {
         ensures run { TimeoutRan T timeout reading self.old.steps self.new.steps (timed_reply result) }
         ensures leaves { LeavesTimed result (receiver_at self.new.steps) }
         ensures stays_closed { IsClosed self.old → result ≡ Err Timed.Disconnected }
+        ensures about { self.new.about ≡ self.old.about }
+        ensures kept { IfOk result (λ message. P.keeps self.old.about message) }
     {
         let deadline = Deadline::after(reading, timeout);
         let told = Some(deadline.is_over(reading));
@@ -212,12 +227,13 @@ impl<T: Drop, Rt: Wait + Clock + Drop> Receiver<T, Rt> {
     }
 }
 
-impl<T: Drop, Rt: Drop> Receiver<T, Rt> {
+impl<T: Drop, Rt: Drop, P: Promise<T>> Receiver<T, Rt, P> {
     /// Makes a future of the receiver, which a task can poll. It makes no operation on the word, waits for
     /// nobody and allocates nothing. The receiver's parker is dropped.
-    pub fn into_future(self) -> AsyncReceiver<T, Rt>
+    pub fn into_future(self) -> AsyncReceiver<T, Rt, P>
         ensures channel { result.channel ≡ self.channel }
         ensures steps { result.steps ≡ self.steps }
+        ensures about { result.about ≡ self.about }
     {
         let Receiver {
             ground,
@@ -230,7 +246,7 @@ impl<T: Drop, Rt: Drop> Receiver<T, Rt> {
     }
 }
 
-impl<T: Drop, Rt: Drop> Drop for Receiver<T, Rt> {
+impl<T: Drop, Rt: Drop, P: Promise<T>> Drop for Receiver<T, Rt, P> {
     fn drop(self) {
         let Receiver {
             mut ground,

@@ -13,7 +13,7 @@ use crate::ground::SenderOnWord;
 use crossbeam_utils::sync::Unparker;
 use futures::task::Waker;
 use oneshot_drive::{drop_sender, send};
-use oneshot_word::SenderSide;
+use oneshot_word::{Promise, SenderSide};
 use std::marker::Model;
 
 /// Sends one message to its receiver.
@@ -24,28 +24,31 @@ use std::marker::Model;
 /// A contract sees the channel that the sender belongs to, and the log of its operations on the word,
 /// which is empty until its one call.
 ///
+/// `P` is the promise of a channel of `channel_for`. `Sender<T>` is that of a channel without one.
+///
 /// It may go to another thread where `T` is `Send`. Several threads may share a `&` to it where `T` is
 /// also `Sync`, and ask `is_closed`.
-pub struct Sender<T> {
-    pub(crate) side: SenderSide<T, Unparker, Waker>,
+pub struct Sender<T, P: Promise<T> = ()> {
+    pub(crate) side: SenderSide<T, Unparker, Waker, P>,
 }
 
-impl<T> Model for Sender<T> {
-    ghost use Rattle.oneshot_ends.specs.Ends.{End};
+impl<T, P: Promise<T>> Model for Sender<T, P> {
+    ghost use Rattle.oneshot_ends.specs.Ends.{EndOf};
     ghost use Rattle.oneshot_ends.specs.Grounds.{IsNewSender};
 
-    ghost Value = { End };
+    ghost Value = { EndOf P };
 
-    ghost view = { λ s. record { channel = s.side.table; steps = s.side.steps } };
+    ghost view = { λ s. record { channel = s.side.table; steps = s.side.steps; about = s.side.about } };
 
     ghost invariant = { λ s. IsNewSender s.side };
 }
 
-impl<T> Sender<T> {
-    pub(crate) fn new(side: SenderSide<T, Unparker, Waker>) -> Sender<T>
+impl<T, P: Promise<T>> Sender<T, P> {
+    pub(crate) fn new(side: SenderSide<T, Unparker, Waker, P>) -> Sender<T, P>
         requires { IsNewSender side }
         ensures channel { result.channel ≡ side.table }
         ensures steps { result.steps ≡ side.steps }
+        ensures about { result.about ≡ side.about }
     {
         Sender { side }
     }
@@ -62,6 +65,19 @@ impl<T: Drop> Sender<T> {
         ensures channel { IfErr result (λ error. error.channel ≡ self.channel) }
         ensures run { IfErr result (λ error. SenderGrew T Send self.steps error.steps Refused) }
     {
+        self.send_kept(message)
+    }
+}
+
+impl<T: Drop, P: Promise<T>> Sender<T, P> {
+    /// Sends `message`, which keeps the channel's promise, as `send` does: whoever receives it knows that it
+    /// keeps the promise. The answers are those of `send`, and a refused message comes back in the error.
+    pub fn send_kept(self, message: T) -> Result<(), SendError<T, P>>
+        requires kept { P.keeps self.about message }
+        ensures message { IfErr result (λ error. error.message ≡ message) }
+        ensures channel { IfErr result (λ error. error.channel ≡ self.channel) }
+        ensures run { IfErr result (λ error. SenderGrew T Send self.steps error.steps Refused) }
+    {
         let Sender { side } = self;
         let mut ground = SenderOnWord::new(side);
         if send(&mut ground, message) {
@@ -72,7 +88,7 @@ impl<T: Drop> Sender<T> {
     }
 }
 
-impl<T: Drop> Drop for Sender<T> {
+impl<T: Drop, P: Promise<T>> Drop for Sender<T, P> {
     fn drop(self) {
         let Sender { side } = self;
         drop_sender(&mut SenderOnWord::new(side));

@@ -1,6 +1,7 @@
 -- Which parts of the sender's side may cross threads: they may where the message and the waker may.
+use mathlib.Core.List.{[]}
+use mir.Syntax.{impl, tnil, dnil}
 use denote.RattleType.{RattleType}
-use denote.Builtin.{unit}
 use denote.Param.Send.{IsSend, IsSync, AllSend, AllSync, part_keyless}
 use denote.Struct.Owning.{fields}
 use Rattle.std.specs.contracts.alloc.Global as Global
@@ -13,10 +14,11 @@ use Rattle.atomic_table.specs.contracts.owned.Table as Table
 use Rattle.atomic_table.specs.contracts.shared.Seat as Seat
 use Rattle.atomic_table.proofs.owned.Table.TheSendSync as table
 use Rattle.atomic_table.proofs.shared.Seat.TheSendSync as seat
+use Rattle.oneshot_word.specs.declared.promise.Promise.{Ghosts}
 use Rattle.oneshot_word.specs.contracts.rule.Slot as Slot
 use Rattle.oneshot_word.specs.contracts.rule.View as View
 use Rattle.oneshot_word.specs.contracts.rule.WordRule as WordRule
-use Rattle.oneshot_word.specs.contracts.rule.WordRuleTableRuleSlotViewUnit.TheImpl as rule
+use Rattle.oneshot_word.specs.contracts.rule.WordRuleTableRuleSlotView.TheImpl as rule
 use Rattle.oneshot_word.proofs.rule.Slot.TheSendSync as slot
 use Rattle.oneshot_word.specs.contracts.sender.SenderSide.TheInside.{the_type}
 
@@ -24,36 +26,44 @@ use Rattle.oneshot_word.specs.contracts.sender.SenderSide.TheInside.{the_type}
 seat_sync : (S V : RattleType) → IsSend S → IsSync (Seat.the_row S V)
 seat_sync S V s = record { shared = λ d b o κ q. part_keyless (Seat.the_row S V) (seat.the_send S V s) q d b o }
 
-module _ (T H K : RattleType) where
+abbrev pub WordSeat : RattleType → RattleType → RattleType → RattleType → RattleType
+WordSeat T H K P = Seat.the_row (Slot.the_row T H K) (View.the_row P)
+
+module _ (T H K P : RattleType) (g : Ghosts P.Denot T.Denot) where
   abbrev WordTable : RattleType
-  WordTable = Table.the_row (Slot.the_row T H K) View.the_row unit WordRule.the_row Global.the_row (rule.ghosts T H K) heap.ghosts
+  WordTable =
+      Table.the_row (Slot.the_row T H K) (View.the_row P) P WordRule.the_row Global.the_row
+      (rule.ghosts T H K P g (impl [] tnil dnil)) heap.ghosts
 
   abbrev pub Shared : RattleType
   Shared = Arc.the_row WordTable Global.the_row heap.ghosts
 
-  abbrev pub WordSeat : RattleType
-  WordSeat = Seat.the_row (Slot.the_row T H K) View.the_row
-
-module _ (T H K : RattleType) (s : IsSend T) (u : IsSend H) (v : IsSend K) where
+module _ (T H K P : RattleType) (g : Ghosts P.Denot T.Denot) (s : IsSend T) (u : IsSend H) (v : IsSend K) where
   slot_send : IsSend (Slot.the_row T H K)
   slot_send = slot.the_send T H K s u v
 
-  table_send : IsSend (WordTable T H K)
+  table_send : IsSend (WordTable T H K P g)
   table_send =
-      table.the_send (Slot.the_row T H K) View.the_row unit WordRule.the_row Global.the_row (rule.ghosts T H K) heap.ghosts slot_send global.the_send frees
+      table.the_send (Slot.the_row T H K) (View.the_row P) P WordRule.the_row Global.the_row
+      (rule.ghosts T H K P g (impl [] tnil dnil)) heap.ghosts slot_send global.the_send frees
 
-  table_sync : IsSync (WordTable T H K)
+  table_sync : IsSync (WordTable T H K P g)
   table_sync =
-      table.the_sync (Slot.the_row T H K) View.the_row unit WordRule.the_row Global.the_row (rule.ghosts T H K) heap.ghosts slot_send global.the_send global.the_sync frees
+      table.the_sync (Slot.the_row T H K) (View.the_row P) P WordRule.the_row Global.the_row
+      (rule.ghosts T H K P g (impl [] tnil dnil)) heap.ghosts slot_send global.the_send global.the_sync frees
 
-  shared_send : IsSend (Shared T H K)
-  shared_send = arc.the_send (WordTable T H K) Global.the_row heap.ghosts table_send global.the_send table_sync global.the_sync frees
+  shared_send : IsSend (Shared T H K P g)
+  shared_send =
+      arc.the_send (WordTable T H K P g) Global.the_row heap.ghosts table_send global.the_send table_sync
+      global.the_sync frees
 
-  shared_sync : IsSync (Shared T H K)
-  shared_sync = arc.the_sync (WordTable T H K) Global.the_row heap.ghosts table_send global.the_send table_sync global.the_sync frees
+  shared_sync : IsSync (Shared T H K P g)
+  shared_sync =
+      arc.the_sync (WordTable T H K P g) Global.the_row heap.ghosts table_send global.the_send table_sync
+      global.the_sync frees
 
-  pub parts_send : AllSend (fields (the_type T H K))
-  parts_send = (shared_send, (seat.the_send (Slot.the_row T H K) View.the_row slot_send, tt))
+  pub parts_send : AllSend (fields (the_type T H K P g))
+  parts_send = (shared_send, (seat.the_send (Slot.the_row T H K) (View.the_row P) slot_send, tt))
 
-  pub parts_sync : AllSync (fields (the_type T H K))
-  parts_sync = (shared_sync, (seat_sync (Slot.the_row T H K) View.the_row slot_send, tt))
+  pub parts_sync : AllSync (fields (the_type T H K P g))
+  parts_sync = (shared_sync, (seat_sync (Slot.the_row T H K) (View.the_row P) slot_send, tt))

@@ -20,20 +20,36 @@ module _ {At : Type 0} where
 
   pub data Found (rows : List (Row At)) (op : Op) (before : Slots) (word : ℕ) : Option Slots → Type 0 where
     found_none : Found rows op before word None
-    found_row : {next : At} {after : Slots} → In (op, before, word, next, after) rows → Found rows op before word (Some after)
+    found_row : {next : At} {after : Slots} → In (op, before, word, next, after) rows
+        → Found rows op before word (Some after)
 
-  found_behind : {row : Row At} {rows : List (Row At)} {op : Op} {before : Slots} {word : ℕ} {o : Option Slots} → Found rows op before word o → Found (row ∷ rows) op before word o
+  found_behind : {row : Row At} {rows : List (Row At)} {op : Op} {before : Slots} {word : ℕ} {o : Option Slots}
+      → Found rows op before word o → Found (row ∷ rows) op before word o
   found_behind found_none = found_none
   found_behind (found_row there) = found_row (tail there)
 
-  pub found : (rows : List (Row At)) (op : Op) (before : Slots) (word : ℕ) → Found rows op before word (row_of rows op before word)
+  pub found : (rows : List (Row At)) (op : Op) (before : Slots) (word : ℕ)
+      → Found rows op before word (row_of rows op before word)
   found [] op before word = found_none
   found (row ∷ rows) op before word = by (is_row op before word row) refl (found rows op before word)
     where
-      by : (b : Bool) → is_row op before word row ≡ b → Found rows op before word (row_of rows op before word) → Found (row ∷ rows) op before word (if b then Some row.4 else row_of rows op before word)
+      by : (b : Bool) → is_row op before word row ≡ b → Found rows op before word (row_of rows op before word)
+          → Found (row ∷ rows) op before word (if b then Some row.4 else row_of rows op before word)
       by false e rest = found_behind rest
       by true e rest =
-          let words = and_parts (is_same_op row.0 op && is_same_share row.1.0 before.0 && is_same_share row.1.1 before.1) (row.2 == word) e in
-          let wakers = and_parts (is_same_op row.0 op && is_same_share row.1.0 before.0) (is_same_share row.1.1 before.1) words.0 in
+          let words =
+          and_parts (is_same_op row.0 op && is_same_share row.1.0 before.0 && is_same_share row.1.1 before.1)
+          (row.2 == word) e in
+          let wakers =
+          and_parts (is_same_op row.0 op && is_same_share row.1.0 before.0) (is_same_share row.1.1 before.1)
+          words.0 in
           let parts = and_parts (is_same_op row.0 op) (is_same_share row.1.0 before.0) wakers.0 in
-          found_row (subst (λ (r : Row At). In r (row ∷ rows)) (λ i. (ops_are_same row.0 op parts.0 i, (shares_are_same row.1.0 before.0 parts.1 i, shares_are_same row.1.1 before.1 wakers.1 i), eqb-true row.2 word words.1 i, row.3, row.4)) head)
+          found_row (subst (λ (r : Row At). In r (row ∷ rows))
+          (λ i. (
+            ops_are_same row.0 op parts.0 i,
+            (shares_are_same row.1.0 before.0 parts.1 i, shares_are_same row.1.1 before.1 wakers.1 i),
+            eqb-true row.2
+                word words.1 i,
+            row.3,
+            row.4,
+          )) head)

@@ -10,5 +10,6 @@ pub mod EachStep
 pub mod Opens
 pub mod Trades
 pub mod RuleRead
+pub mod RuleKeeps
 mod Crosses
 mod RuleExamples

@@ -5,7 +5,7 @@ use Rattle.oneshot_machine.specs.Phases.{By, sending, dropping, SenderAt, fresh,
 use Rattle.oneshot_word.specs.declared.rule.Slot.TheVariants.{Message}
 use Rattle.oneshot_word.specs.Lists.{FoundZero, MadeLast, MadeLate, stores_waker, is_overdue, is_gone, wrote_since}
 use Rattle.oneshot_word.specs.Rule.{Home, message_home, waker_home, Lies}
-use Rattle.oneshot_word.specs.Seats.{with_waker}
+use Rattle.oneshot_word.specs.Seats.{any, with_waker}
 
 -- the word that the sender's final operation leaves, but for an add or a flip that found the receiver gone
 abbrev pub final_word : By → ℕ
@@ -51,11 +51,11 @@ pub data Is : Option ℕ → ℕ → Type 0 where
   is : {word : ℕ} → Is (Some word) word
 
 -- the sender, the receiver, the word, and what is at home of the message's slot and of the waker's
-pub data Meet (T H K : Type 0) (p : SenderAt) (q : ReceiverAt)
+pub data Meet (T H K : Type 0) (kept : T → Type 0) (p : SenderAt) (q : ReceiverAt)
     : ℕ → Home T H K → Home T H K → Type 0 where
   meet : {word : ℕ} {h k : Home T H K} → Is (word_between p q) word
-      → Lies Message (message_home p q) h → Lies with_waker (waker_home p q) k
-      → Meet T H K p q word h k
+      → Lies kept Message (message_home p q) h → Lies any with_waker (waker_home p q) k
+      → Meet T H K kept p q word h k
 
 -- what a receiver's log says in a phase
 abbrev pub stores_of : ReceiverAt → Bool

@@ -12,28 +12,38 @@ use Rattle.oneshot_word.specs.Seats.{view, slot_vacant, carried, not_carried, se
 use Rattle.oneshot_word.proofs.Sits.{Sits, maker_sits, dealer_sits, sits}
 use Rattle.oneshot_word.proofs.EachStep.{Holds}
 
-module _ {T H K : Type 0} where
-  abbrev pub dealt_seat : Me (Slot T H K) View
-  dealt_seat = (view Dealer [], (0, Empty) ∷ [])
+abbrev pub dealt_seat : {T H K P : Type 0} → P → Me (Slot T H K) (View P)
+dealt_seat about = (view about Dealer [], (0, Empty) ∷ [])
 
+module _ {T H K P : Type 0} (keeps : P → T → Type 0) (q : P) where
   -- the maker takes the message's slot
-  deals : {ws : List ℕ} {hs : List (Home T H K)} {vs : List View} {id : ℕ} → Sits ws hs vs id Maker []
-      → (v : View) × (a : Act (Slot T H K)) × Valid hs [] a × Tied (set ws 0 (get_or ws 0 0)) (homes_after hs [] a) (set vs id v) × ((v, carried_after [] a) ≡ dealt_seat)
-  deals maker_sits = (view Dealer [], takes 0 Empty, refl, dealt, refl)
+  deals : {ws : List ℕ} {hs : List (Home T H K)} {vs : List (View P)} {id : ℕ} → Sits keeps q ws hs vs id Maker []
+      → (v : View P) × (a : Act (Slot T H K)) × Valid hs [] a
+      × Tied keeps q (set ws 0 (get_or ws 0 0)) (homes_after hs [] a) (set vs id v)
+      × ((v, carried_after [] a) ≡ dealt_seat q)
+  deals maker_sits = (view q Dealer [], takes 0 Empty, refl, dealt, refl)
 
-  pub deal_allowed : (slots id : ℕ) (me : Me (Slot T H K) View) → me ≡ (view Maker [], []) → Allows Holds slots id me 0 (λ n. n) (λ r n. n ≡ dealt_seat)
+  pub deal_allowed : (slots id : ℕ) (me : Me (Slot T H K) (View P)) → me ≡ (view q Maker [], [])
+      → Allows (Holds keeps q) slots id me 0 (λ n. n) (λ r n. n ≡ dealt_seat me.0.about)
   deal_allowed slots id me it =
-      subst (λ (m : Me (Slot T H K) View). Allows Holds slots id m 0 (λ n. n) (λ r n. n ≡ dealt_seat)) (sym it) (λ s tied _ at _. deals (sits tied id at))
+      subst (λ (m : Me (Slot T H K) (View P)). Allows (Holds keeps q) slots id m 0 (λ n. n)
+      (λ r n. n ≡ dealt_seat m.0.about))
+      (sym it) (λ s tied _ at _. deals (sits tied id at))
 
   -- its seat is cut into the sender's and the receiver's
-  splits : {ws : List ℕ} {hs : List (Home T H K)} {vs : List View} {id : ℕ} → Sits ws hs vs id Dealer [] → Tied ws hs (set vs id (view Sender []) ++ view Receiver [] ∷ [])
+  splits : {ws : List ℕ} {hs : List (Home T H K)} {vs : List (View P)} {id : ℕ} → Sits keeps q ws hs vs id Dealer []
+      → Tied keeps q ws hs (set vs id (view q Sender []) ++ view q Receiver [] ∷ [])
   splits dealer_sits = runs [] [] nothing_made lies_out lies_bare
 
-  pub split_allowed : (id : ℕ) (v : View) → v ≡ view Dealer [] → Splits (Holds {T = T} {H = H} {K = K}) id v (view Sender []) (view Receiver [])
-  split_allowed id v it s tied at = splits (sits tied id (at ∙ ap (λ x. maybe.some x) it))
+  pub split_allowed : (id : ℕ) (v : View P) → v ≡ view q Dealer []
+      → Splits (Holds {T = T} {H = H} {K = K} keeps q) id v (view v.about Sender []) (view v.about Receiver [])
+  split_allowed id v it =
+      subst (λ (v : View P). Splits (Holds {T = T} {H = H} {K = K} keeps q) id v (view v.about Sender [])
+      (view v.about Receiver []))
+      (sym it) (λ s tied at. splits (sits tied id at))
 
-  pub sender_seated : SenderSeat {T = T} {H = H} {K = K} (view Sender [], (0, Empty) ∷ [])
+  pub sender_seated : SenderSeat {T = T} {H = H} {K = K} keeps (view q Sender [], (0, Empty) ∷ [])
   sender_seated = record { role = refl; has = seat_of (carried slot_vacant) not_carried }
 
-  pub receiver_seated : ReceiverSeat {T = T} {H = H} {K = K} (view Receiver [], [])
+  pub receiver_seated : ReceiverSeat {T = T} {H = H} {K = K} keeps (view q Receiver [], [])
   receiver_seated = record { role = refl; has = seat_of not_carried not_carried }

@@ -15,7 +15,7 @@ use Rattle.oneshot_machine.proofs.Exactness.{each_passes}
 use Rattle.oneshot_word.specs.declared.rouse.Rouse.{Rouse}
 use Rattle.oneshot_word.specs.declared.rule.Slot.{Slot}
 use Rattle.oneshot_word.specs.declared.rule.Slot.TheVariants.{Message}
-use Rattle.oneshot_word.specs.Seats.{with_waker, Carried, Part, Front, message_first, waker_first, carried_as, SeatOf, seat_of}
+use Rattle.oneshot_word.specs.Seats.{any, with_waker, Carried, Part, Front, message_first, waker_first, carried_as, SeatOf, seat_of}
 use Rattle.oneshot_word.specs.Rule.{Home, message_home, waker_home, Lies}
 use Rattle.oneshot_word.proofs.Alike.{is_bool, bools_are, is_word, words_are}
 use Rattle.oneshot_word.proofs.FoundRow.{row_of, Found, found_none, found_row, found}
@@ -157,51 +157,79 @@ module _ {At : Type 0} (e : OneEnd At) (at : At) (op : Op) (word : ℕ) where
       let kept : Row At → Bool = λ row. is_kept e at row.0 row.1 (e.word at) in
       leaves_from before number (each_passes kept (e.moves at) all row)
 
-module _ {T H K At : Type 0} (e : OneEnd At) where
+module _ {T H K At : Type 0} (kept : T → Type 0) (e : OneEnd At) where
   -- both parts of what its seat carries
-  seated : {o : Option (Bool × Bool)} (after : Slots) {cm cw : Carried T H K} {m : Held T} {w : Held (Rouse H K)} → is_slots o after ≡ true → Part 0 Message (is_owned after.0) cm m → Part 1 with_waker (is_owned after.1) cw w → SeatOf e.front o (carried_as e.front cm cw) m w
+  seated : {o : Option (Bool × Bool)} (after : Slots) {cm cw : Carried T H K} {m : Held T} {w : Held (Rouse H K)}
+      → is_slots o after ≡ true → Part kept 0 Message (is_owned after.0) cm m
+      → Part any 1 with_waker (is_owned after.1) cw w → SeatOf kept e.front o (carried_as e.front cm cw) m w
   seated {o = None} after fits message waker = absurd (cc)
   seated {o = Some slots} after {cm} {cw} {m} {w} fits message waker =
       let parts = and_parts (is_bool slots.0 (is_owned after.0)) (is_bool slots.1 (is_owned after.1)) fits in
-      subst (λ o. SeatOf e.front (Some o) (carried_as e.front cm cw) m w) (λ i. (sym (bools_are slots.0 (is_owned after.0) parts.0) i, sym (bools_are slots.1 (is_owned after.1) parts.1) i)) (seat_of message waker)
+      subst (λ o. SeatOf kept e.front (Some o) (carried_as e.front cm cw) m w)
+      (λ i. (
+        sym (bools_are slots.0 (is_owned after.0) parts.0) i,
+        sym
+            (bools_are slots.1 (is_owned after.1) parts.1) i,
+      )) (seat_of message waker)
 
   -- the end's turn: its act on the slots, and the rule after it
-  pub data Turn (at : At) (op : Op) (word : ℕ) (h k : Home T H K) (c : Carried T H K) (m : Held T) (w : Held (Rouse H K)) : Type 0 where
-    turn : {h' k' : Home T H K} {m' : Held T} {w' : Held (Rouse H K)} (act : Act (Slot T H K)) → Valid (h ∷ k ∷ []) c act → homes_after (h ∷ k ∷ []) c act ≡ h' ∷ k' ∷ []
-        → Is (e.word (e.next at op (saw op word))) (stepped op word) → Lies Message (e.message (e.next at op (saw op word))) h' → Lies with_waker (e.waker (e.next at op (saw op word))) k'
-        → Finds e.moves at op word m w m' w' → SeatOf e.front (e.owns (e.next at op (saw op word))) (carried_after c act) m' w' → word ≤ 4 → Turn at op word h k c m w
+  pub data Turn (at : At) (op : Op) (word : ℕ) (h k : Home T H K) (c : Carried T H K) (m : Held T)
+      (w : Held (Rouse H K)) : Type 0 where
+    turn : {h' k' : Home T H K} {m' : Held T} {w' : Held (Rouse H K)} (act : Act (Slot T H K))
+        → Valid (h ∷ k ∷ []) c act → homes_after (h ∷ k ∷ []) c act ≡ h' ∷ k' ∷ []
+        → Is (e.word (e.next at op (saw op word))) (stepped op word)
+        → Lies kept Message (e.message (e.next at op (saw op word))) h'
+        → Lies any with_waker (e.waker (e.next at op (saw op word))) k'
+        → Finds e.moves at op word m w m' w'
+        → SeatOf kept e.front (e.owns (e.next at op (saw op word))) (carried_after c act) m' w' → word ≤ 4
+        → Turn at op word h k c m w
 
   module _ (at : At) (op : Op) (word : ℕ) {h k : Home T H K} where
-    turned : {before : Slots} (slots : Slots) {at' : At} {cm cw : Carried T H K} {m : Held T} {w : Held (Rouse H K)} → word ≤ 4 → In (op, before, word, at', slots) (e.moves at)
-        → leaves_word e at op before word ≡ true → is_slots (e.owns (after e at op before word)) slots ≡ true → has_act e at op before word slots ≡ true
-        → Went 0 Message before.0 slots.0 (e.message (after e at op before word)) h cm m → Went 1 with_waker before.1 slots.1 (e.waker (after e at op before word)) k cw w → Turn at op word h k (carried_as e.front cm cw) m w
-    turned {before} slots code there leaves owned acted (went {x' = m'} turns moves part lies) (went {x' = w'} turns' moves' part' lies') =
+    turned : {before : Slots} (slots : Slots) {at' : At} {cm cw : Carried T H K} {m : Held T} {w : Held (Rouse H K)}
+        → word ≤ 4 → In (op, before, word, at', slots) (e.moves at)
+        → leaves_word e at op before word ≡ true → is_slots (e.owns (after e at op before word)) slots ≡ true
+        → has_act e at op before word slots ≡ true
+        → Went kept 0 Message before.0 slots.0 (e.message (after e at op before word)) h cm m
+        → Went any 1 with_waker before.1 slots.1 (e.waker (after e at op before word)) k cw w
+        → Turn at op word h k (carried_as e.front cm cw) m w
+    turned {before} slots code there leaves owned acted (went {x' = m'} turns moves part lies)
+        (went {x' = w'} turns' moves' part' lies') =
         let at' = e.next at op (saw op word) in
         elim (both e.front acted moves moves') [
           | acts act valid homes left ↦
               turn act valid homes (leaves_so e at op word before leaves) lies lies' (finds there turns turns')
-              (subst (λ c. SeatOf e.front (e.owns at') c m' w') (sym left) (seated slots owned part part')) code
+              (subst (λ c. SeatOf kept e.front (e.owns at') c m' w') (sym left) (seated slots owned part part')) code
         ]
 
-    right : {before : Slots} {o : Option Slots} {cm cw : Carried T H K} {m : Held T} {w : Held (Rouse H K)} → word ≤ 4 → Found (e.moves at) op before word o → is_right e at op before word o ≡ true
-        → Carries 0 Message before.0 cm m → Carries 1 with_waker before.1 cw w → Lies Message (e.message at) h → Lies with_waker (e.waker at) k → Turn at op word h k (carried_as e.front cm cw) m w
+    right : {before : Slots} {o : Option Slots} {cm cw : Carried T H K} {m : Held T} {w : Held (Rouse H K)} → word ≤ 4
+        → Found (e.moves at) op before word o → is_right e at op before word o ≡ true
+        → Carries kept 0 Message before.0 cm m → Carries any 1 with_waker before.1 cw w
+        → Lies kept Message (e.message at) h → Lies any with_waker (e.waker at) k
+        → Turn at op word h k (carried_as e.front cm cw) m w
     right code found_none fits message waker lies lies' = absurd (cc)
     right {before} code (found_row {after = slots} there) fits message waker lies lies' =
         let at' = e.next at op (saw op word) in
         let so = rightly e at op word before slots fits in
         turned slots code there so.leaves so.owned so.acted
-        (goes 0 Message message slots.0 (e.message at') lies so.of_message)
-        (goes 1 with_waker waker slots.1 (e.waker at') lies' so.of_waker)
+        (goes kept 0 Message message slots.0 (e.message at') lies so.of_message)
+        (goes any 1 with_waker waker slots.1 (e.waker at') lies' so.of_waker)
 
-    turns_from : {before : Slots} {o : Option ℕ} {owns : Option (Bool × Bool)} {c : Carried T H K} {m : Held T} {w : Held (Rouse H K)} → Is o word → is_kept e at op before o ≡ true
-        → IsSlot before.0 m → IsSlot before.1 w → SeatOf e.front owns c m w → Lies Message (e.message at) h → Lies with_waker (e.waker at) k → Turn at op word h k c m w
-    turns_from {before} is kept message waker (seat_of part part') lies lies' =
-        let parts = and_parts (leb word 4) (is_right e at op before word (row_of (e.moves at) op before word)) kept in
-        right (leb-true word 4 parts.0) (found (e.moves at) op before word) parts.1 (carries 0 Message message part) (carries 1 with_waker waker part') lies lies'
+    turns_from : {before : Slots} {o : Option ℕ} {owns : Option (Bool × Bool)} {c : Carried T H K} {m : Held T}
+        {w : Held (Rouse H K)} → Is o word → is_kept e at op before o ≡ true
+        → IsSlot before.0 m → IsSlot before.1 w → SeatOf kept e.front owns c m w → Lies kept Message (e.message at) h
+        → Lies any with_waker (e.waker at) k → Turn at op word h k c m w
+    turns_from {before} is computed message waker (seat_of part part') lies lies' =
+        let parts =
+        and_parts (leb word 4) (is_right e at op before word (row_of (e.moves at) op before word)) computed in
+        right (leb-true word 4 parts.0) (found (e.moves at) op before word) parts.1
+        (carries kept 0 Message message part) (carries any 1 with_waker waker part') lies lies'
 
-    keeps_turn : {c : Carried T H K} {m : Held T} {w : Held (Rouse H K)} → keeps_rule e at ≡ true → May e.moves at op m w → SeatOf e.front (e.owns at) c m w → Is (e.word at) word → Lies Message (e.message at) h → Lies with_waker (e.waker at) k → Turn at op word h k c m w
+    keeps_turn : {c : Carried T H K} {m : Held T} {w : Held (Rouse H K)} → keeps_rule e at ≡ true
+        → May e.moves at op m w → SeatOf kept e.front (e.owns at) c m w → Is (e.word at) word
+        → Lies kept Message (e.message at) h → Lies any with_waker (e.waker at) k → Turn at op word h k c m w
     keeps_turn all (may row message waker) seat number lies lies' =
-        turns_from number (each_passes (λ (row : Row At). is_kept e at row.0 row.1 (e.word at)) (e.moves at) all row) message waker seat lies lies'
+        turns_from number (each_passes (λ (row : Row At). is_kept e at row.0 row.1 (e.word at)) (e.moves at) all row)
+        message waker seat lies lies'
 
 -- every phase of a sender
 abbrev senders : List SenderAt
@@ -249,12 +277,19 @@ receiver_keeps (disconnected found_closed) = refl
 receiver_keeps (resolved found_closed) = refl
 receiver_keeps _ = refl
 
-module _ {T H K : Type 0} {p : SenderAt} {q : ReceiverAt} {op : Op} {word : ℕ} {h k : Home T H K} {c : Carried T H K} {m : Held T} {w : Held (Rouse H K)} where
-  pub sender_turns : SenderMay p op m w → SeatOf waker_first (sender_owns p) c m w → Meet T H K p q word h k → Turn (sender_end q) p op word h k c m w
-  sender_turns asks seat (meet now lies lies') = keeps_turn (sender_end q) p op word (sender_keeps p q) asks seat now lies lies'
+module _ {T H K : Type 0} {kept : T → Type 0} {p : SenderAt} {q : ReceiverAt} {op : Op} {word : ℕ} {h k : Home T H K}
+    {c : Carried T H K} {m : Held T} {w : Held (Rouse H K)} where
+  pub sender_turns : SenderMay p op m w → SeatOf kept waker_first (sender_owns p) c m w → Meet T H K kept p q word h k
+      → Turn kept (sender_end q) p op word h k c m w
+  sender_turns asks seat (meet now lies lies') =
+      keeps_turn kept (sender_end q) p op word (sender_keeps p q) asks seat now lies lies'
 
-  pub receiver_turns : ReceiverMay q op m w → SeatOf message_first (receiver_owns q) c m w → Meet T H K p q word h k → Turn (receiver_end p) q op word h k c m w
-  receiver_turns asks seat (meet now lies lies') = keeps_turn (receiver_end p) q op word (each_passes (λ p. keeps_rule (receiver_end p) q) senders (receiver_keeps q) (is_sender p)) asks seat now lies lies'
+  pub receiver_turns : ReceiverMay q op m w → SeatOf kept message_first (receiver_owns q) c m w
+      → Meet T H K kept p q word h k → Turn kept (receiver_end p) q op word h k c m w
+  receiver_turns asks seat (meet now lies lies') =
+      keeps_turn kept (receiver_end p) q op word
+      (each_passes (λ p. keeps_rule (receiver_end p) q) senders (receiver_keeps q) (is_sender p)) asks seat now lies
+      lies'
 
 module _ (p : SenderAt) (q : ReceiverAt) {op : Op} {before after : Slots} {word : ℕ} where
   pub sender_leaves : {next : SenderAt} → Is (word_between p q) word

@@ -14,63 +14,105 @@ use Rattle.oneshot_word.proofs.Between.{between, sender_told, receiver_told}
 use Rattle.oneshot_word.proofs.Meets.{is, Meet, meet, SenderSays, says_none, says_owes, says_last, says_late, says_overtaken, ReceiverSays}
 
 module _ {T H K : Type 0} where
-  pair_reads : {xs ys : List Noted} {p : SenderAt} {w : ℕ} {h k : Home T H K} → SenderSays xs p → (q : ReceiverAt) → ReceiverSays ys q → Meet T H K p q w h k → Owned xs ys w h k
-  pair_reads says_none first r (meet is lies_out lies_bare) = both_open refl r.stores r.gone sender_has_it left_for_receiver
-  pair_reads says_none (here f) r (meet is lies_out lies_out) = both_open refl r.stores r.gone sender_has_it receiver_has_it
-  pair_reads says_none withdrew r (meet is lies_out lies_out) = both_open refl r.stores r.gone sender_has_it receiver_has_it
-  pair_reads says_none (waits a) r (meet is lies_out (lies_filled k)) = waker_stored refl r.stores r.gone sender_has_it (waker_at_home k)
+  pair_reads : {kept : T → Type 0} {xs ys : List Noted} {p : SenderAt} {w : ℕ} {h k : Home T H K} → SenderSays xs p
+      → (q : ReceiverAt) → ReceiverSays ys q → Meet T H K kept p q w h k → Owned xs ys w h k
+  pair_reads says_none first r (meet is lies_out lies_bare) =
+      both_open refl r.stores r.gone sender_has_it left_for_receiver
+  pair_reads says_none (here f) r (meet is lies_out lies_out) =
+      both_open refl r.stores r.gone sender_has_it receiver_has_it
+  pair_reads says_none withdrew r (meet is lies_out lies_out) =
+      both_open refl r.stores r.gone sender_has_it receiver_has_it
+  pair_reads says_none (waits a) r (meet is lies_out (lies_filled k _)) =
+      waker_stored refl r.stores r.gone sender_has_it (waker_at_home k)
   pair_reads says_none gone r (meet is lies_out lies_bare) = receiver_gone refl r.gone sender_has_it left_for_sender
-  pair_reads (says_owes by found) (waits a) r (meet is lies_out lies_out) = waker_claimed by found r.stores r.gone sender_has_it sender_has_it
-  pair_reads (says_owes by found) claimed r (meet is lies_out lies_out) = waker_claimed by found r.stores r.gone sender_has_it sender_has_it
-  pair_reads (says_owes by found) overdue r (meet is lies_out lies_out) = claimed_overdue by found r.overdue r.gone sender_has_it sender_has_it
-  pair_reads (says_owes by found) gone r (meet is lies_out lies_out) = claimed_gone by found r.gone sender_has_it sender_has_it
-  pair_reads (says_overtaken by made) gone r (meet is lies_out lies_out) = sender_after by made r.gone sender_has_it sender_has_it
-  pair_reads (says_late by made) gone r (meet is lies_out lies_out) = sender_after by made r.gone sender_has_it sender_has_it
-  pair_reads (says_last sending made) first r (meet is (lies_filled m) lies_bare) = sent made r.wrote (waits_for_receiver m) left_for_receiver
-  pair_reads (says_last dropping made) first r (meet is lies_bare lies_bare) = dropped made r.wrote left_for_receiver left_for_receiver
-  pair_reads (says_last sending made) (here f) r (meet is (lies_filled m) lies_out) = sent made r.wrote (waits_for_receiver m) receiver_has_it
-  pair_reads (says_last dropping made) (here f) r (meet is lies_bare lies_out) = dropped made r.wrote left_for_receiver receiver_has_it
-  pair_reads (says_last sending made) (waits a) r (meet is (lies_filled m) lies_bare) = sent made r.wrote (waits_for_receiver m) left_for_receiver
-  pair_reads (says_last dropping made) (waits a) r (meet is lies_bare lies_bare) = dropped made r.wrote left_for_receiver left_for_receiver
-  pair_reads (says_last sending made) claimed r (meet is (lies_filled m) lies_bare) = sent made r.wrote (waits_for_receiver m) left_for_receiver
-  pair_reads (says_last dropping made) claimed r (meet is lies_bare lies_bare) = dropped made r.wrote left_for_receiver left_for_receiver
-  pair_reads (says_last sending made) withdrew r (meet is (lies_filled m) lies_out) = sent made r.wrote (waits_for_receiver m) receiver_has_it
-  pair_reads (says_last dropping made) withdrew r (meet is lies_bare lies_out) = dropped made r.wrote left_for_receiver receiver_has_it
-  pair_reads (says_last sending made) overdue r (meet is (lies_filled m) lies_bare) = sent made r.wrote (waits_for_receiver m) left_for_receiver
-  pair_reads (says_last dropping made) overdue r (meet is lies_bare lies_bare) = dropped made r.wrote left_for_receiver left_for_receiver
-  pair_reads (says_last sending made) (full at_once) r (meet is lies_out lies_out) = sent made r.wrote receiver_found_it receiver_has_it
-  pair_reads (says_last sending made) (full waited) r (meet is lies_out lies_out) = sent made r.wrote receiver_found_it receiver_has_it
-  pair_reads (says_last sending made) (full by_future) r (meet is lies_out lies_out) = sent made r.wrote receiver_found_it receiver_has_it
-  pair_reads (says_last sending made) (full by_poll) r (meet is lies_out lies_out) = sent made r.wrote receiver_found_it receiver_has_it
-  pair_reads (says_last sending made) (full (swapped by)) r (meet is lies_out lies_out) = written sending made r.wrote receiver_has_it receiver_has_it
-  pair_reads (says_last dropping made) (unclosed by) r (meet is lies_out lies_out) = written dropping made r.wrote receiver_has_it receiver_has_it
-  pair_reads (says_last dropping made) (disconnected found_closed) r (meet is lies_out lies_out) = dropped made r.wrote receiver_has_it receiver_has_it
-  pair_reads (says_last sending made) (disconnected closed_itself) r (meet is lies_out lies_out) = written sending made r.wrote receiver_has_it receiver_has_it
-  pair_reads (says_last dropping made) (disconnected closed_itself) r (meet is lies_out lies_out) = written dropping made r.wrote receiver_has_it receiver_has_it
-  pair_reads (says_last dropping made) (resolved found_closed) r (meet is lies_out lies_out) = dropped made r.wrote receiver_has_it receiver_has_it
-  pair_reads (says_last sending made) (resolved closed_itself) r (meet is lies_out lies_out) = written sending made r.wrote receiver_has_it receiver_has_it
-  pair_reads (says_last dropping made) (resolved closed_itself) r (meet is lies_out lies_out) = written dropping made r.wrote receiver_has_it receiver_has_it
-  pair_reads (says_last sending made) ended r (meet is lies_out lies_out) = written sending made r.wrote receiver_has_it receiver_has_it
-  pair_reads (says_last dropping made) ended r (meet is lies_out lies_out) = written dropping made r.wrote receiver_has_it receiver_has_it
+  pair_reads (says_owes by found) (waits a) r (meet is lies_out lies_out) =
+      waker_claimed by found r.stores r.gone sender_has_it sender_has_it
+  pair_reads (says_owes by found) claimed r (meet is lies_out lies_out) =
+      waker_claimed by found r.stores r.gone sender_has_it sender_has_it
+  pair_reads (says_owes by found) overdue r (meet is lies_out lies_out) =
+      claimed_overdue by found r.overdue r.gone sender_has_it sender_has_it
+  pair_reads (says_owes by found) gone r (meet is lies_out lies_out) =
+      claimed_gone by found r.gone sender_has_it sender_has_it
+  pair_reads (says_overtaken by made) gone r (meet is lies_out lies_out) =
+      sender_after by made r.gone sender_has_it sender_has_it
+  pair_reads (says_late by made) gone r (meet is lies_out lies_out) =
+      sender_after by made r.gone sender_has_it sender_has_it
+  pair_reads (says_last sending made) first r (meet is (lies_filled m _) lies_bare) =
+      sent made r.wrote (waits_for_receiver m) left_for_receiver
+  pair_reads (says_last dropping made) first r (meet is lies_bare lies_bare) =
+      dropped made r.wrote left_for_receiver left_for_receiver
+  pair_reads (says_last sending made) (here f) r (meet is (lies_filled m _) lies_out) =
+      sent made r.wrote (waits_for_receiver m) receiver_has_it
+  pair_reads (says_last dropping made) (here f) r (meet is lies_bare lies_out) =
+      dropped made r.wrote left_for_receiver receiver_has_it
+  pair_reads (says_last sending made) (waits a) r (meet is (lies_filled m _) lies_bare) =
+      sent made r.wrote (waits_for_receiver m) left_for_receiver
+  pair_reads (says_last dropping made) (waits a) r (meet is lies_bare lies_bare) =
+      dropped made r.wrote left_for_receiver left_for_receiver
+  pair_reads (says_last sending made) claimed r (meet is (lies_filled m _) lies_bare) =
+      sent made r.wrote (waits_for_receiver m) left_for_receiver
+  pair_reads (says_last dropping made) claimed r (meet is lies_bare lies_bare) =
+      dropped made r.wrote left_for_receiver left_for_receiver
+  pair_reads (says_last sending made) withdrew r (meet is (lies_filled m _) lies_out) =
+      sent made r.wrote (waits_for_receiver m) receiver_has_it
+  pair_reads (says_last dropping made) withdrew r (meet is lies_bare lies_out) =
+      dropped made r.wrote left_for_receiver receiver_has_it
+  pair_reads (says_last sending made) overdue r (meet is (lies_filled m _) lies_bare) =
+      sent made r.wrote (waits_for_receiver m) left_for_receiver
+  pair_reads (says_last dropping made) overdue r (meet is lies_bare lies_bare) =
+      dropped made r.wrote left_for_receiver left_for_receiver
+  pair_reads (says_last sending made) (full at_once) r (meet is lies_out lies_out) =
+      sent made r.wrote receiver_found_it receiver_has_it
+  pair_reads (says_last sending made) (full waited) r (meet is lies_out lies_out) =
+      sent made r.wrote receiver_found_it receiver_has_it
+  pair_reads (says_last sending made) (full by_future) r (meet is lies_out lies_out) =
+      sent made r.wrote receiver_found_it receiver_has_it
+  pair_reads (says_last sending made) (full by_poll) r (meet is lies_out lies_out) =
+      sent made r.wrote receiver_found_it receiver_has_it
+  pair_reads (says_last sending made) (full (swapped by)) r (meet is lies_out lies_out) =
+      written sending made r.wrote receiver_has_it receiver_has_it
+  pair_reads (says_last dropping made) (unclosed by) r (meet is lies_out lies_out) =
+      written dropping made r.wrote receiver_has_it receiver_has_it
+  pair_reads (says_last dropping made) (disconnected found_closed) r (meet is lies_out lies_out) =
+      dropped made r.wrote receiver_has_it receiver_has_it
+  pair_reads (says_last sending made) (disconnected closed_itself) r (meet is lies_out lies_out) =
+      written sending made r.wrote receiver_has_it receiver_has_it
+  pair_reads (says_last dropping made) (disconnected closed_itself) r (meet is lies_out lies_out) =
+      written dropping made r.wrote receiver_has_it receiver_has_it
+  pair_reads (says_last dropping made) (resolved found_closed) r (meet is lies_out lies_out) =
+      dropped made r.wrote receiver_has_it receiver_has_it
+  pair_reads (says_last sending made) (resolved closed_itself) r (meet is lies_out lies_out) =
+      written sending made r.wrote receiver_has_it receiver_has_it
+  pair_reads (says_last dropping made) (resolved closed_itself) r (meet is lies_out lies_out) =
+      written dropping made r.wrote receiver_has_it receiver_has_it
+  pair_reads (says_last sending made) ended r (meet is lies_out lies_out) =
+      written sending made r.wrote receiver_has_it receiver_has_it
+  pair_reads (says_last dropping made) ended r (meet is lies_out lies_out) =
+      written dropping made r.wrote receiver_has_it receiver_has_it
   pair_reads _ _ r (meet none _ _) = elim none [ ]
 
-  pub rule_reads : (words : List ℕ) (homes : List (Home T H K)) (views : List View) → Tied words homes views → Ruled words homes views
-  rule_reads _ _ _ opened = maker_alone
-  rule_reads _ _ _ dealt = dealer_alone
-  rule_reads _ _ _ (runs xs ys order lies lies') =
-      two_ends xs ys (pair_reads (sender_told order) _ (receiver_told order) (meet (between order) lies lies'))
+  -- a table under a promise about this value
+  module _ {P : Type 0} {keeps : P → T → Type 0} (q : P) where
+    pub rule_reads : (words : List ℕ) (homes : List (Home T H K)) (views : List (View P))
+        → Tied keeps q words homes views → Ruled q words homes views
+    rule_reads _ _ _ opened = maker_alone
+    rule_reads _ _ _ dealt = dealer_alone
+    rule_reads _ _ _ (runs xs ys order lies lies') =
+        two_ends xs ys (pair_reads (sender_told order) _ (receiver_told order) (meet (between order) lies lies'))
 
-  -- and both logs have their order
-  pub rule_orders : (words : List ℕ) (homes : List (Home T H K)) (views : List View)
-      → Tied words homes views → Ordered words views
-  rule_orders _ _ _ opened = maker_before
-  rule_orders _ _ _ dealt = dealer_before
-  rule_orders _ _ _ (runs xs ys order lies lies') = in_order xs ys order
+    -- and both logs have their order
+    pub rule_orders : (words : List ℕ) (homes : List (Home T H K)) (views : List (View P))
+        → Tied keeps q words homes views → Ordered q words views
+    rule_orders _ _ _ opened = maker_before
+    rule_orders _ _ _ dealt = dealer_before
+    rule_orders _ _ _ (runs xs ys order lies lies') = in_order xs ys order
 
-  is_own : {X : Type 0} {place : ℕ} {put : X → Slot T H K} {b : Bool} {c : Carried T H K} {x : Held X} → Part place put b c x → IsOwned b x
+  is_own : {X : Type 0} {kept : X → Type 0} {place : ℕ} {put : X → Slot T H K} {b : Bool} {c : Carried T H K}
+      {x : Held X} → Part kept place put b c x → IsOwned b x
   is_own not_carried = not_its_own
   is_own (carried slot_vacant) = own_vacant
-  is_own (carried (slot_held x)) = own_held x
+  is_own (carried (slot_held x _)) = own_held x
 
-  pub seat_owns : {front : Front} {o : Option (Bool × Bool)} {c : Carried T H K} {m : Held T} {w : Held (Rouse H K)} → SeatOf front o c m w → Owns o m w
+  pub seat_owns : {kept : T → Type 0} {front : Front} {o : Option (Bool × Bool)} {c : Carried T H K} {m : Held T}
+      {w : Held (Rouse H K)} → SeatOf kept front o c m w → Owns o m w
   seat_owns (seat_of message waker) = owns (is_own message) (is_own waker)

@@ -12,7 +12,8 @@ use Rattle.oneshot_word.specs.Lists.{send_found, drop_found, sent, sent_to_it, s
 use Rattle.oneshot_word.proofs.Alike.{is_bool, bools_are, is_word, words_are}
 use Rattle.oneshot_word.proofs.Meets.{stores_of, overdue_of, gone_of, wrote_of, SenderSays, says_none, says_owes, says_last, says_late, says_overtaken, ReceiverSays}
 
-along-snoc : {A : Type 0} (next : A → Op → Seen → A) (a : A) (xs : List Noted) (x : Noted) → along next a (xs ++ x ∷ []) ≡ next (along next a xs) x.0 x.1
+along-snoc : {A : Type 0} (next : A → Op → Seen → A) (a : A) (xs : List Noted) (x : Noted)
+    → along next a (xs ++ x ∷ []) ≡ next (along next a xs) x.0 x.1
 along-snoc next a [] x = refl
 along-snoc next a (y ∷ xs) x = along-snoc next (next a y.0 y.1) xs x
 

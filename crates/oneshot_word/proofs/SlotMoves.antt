@@ -18,7 +18,8 @@ is_owned filled = true
 
 -- A slot while an end makes a step: where the end has it and where not, before and after. It stays at
 -- home or with the seat, or it goes from one to the other.
-pub data Goes {T H K : Type 0} (place : ℕ) : Bool → Bool → Home T H K → Home T H K → Carried T H K → Carried T H K → Type 0 where
+pub data Goes {T H K : Type 0} (place : ℕ) : Bool → Bool → Home T H K → Home T H K → Carried T H K → Carried T H K
+    → Type 0 where
   stays_there : {h : Home T H K} → Goes place false false h h [] []
   stays_here : {h : Home T H K} {s : Slot T H K} → Goes place true true h h ((place, s) ∷ []) ((place, s) ∷ [])
   goes_home : {s : Slot T H K} → Goes place true false out (maybe.some s) ((place, s) ∷ []) []
@@ -35,32 +36,36 @@ is_turn none empty none empty = true
 is_turn none filled none filled = true
 is_turn _ _ _ _ = false
 
-module _ {T H K X : Type 0} (place : ℕ) (put : X → Slot T H K) where
+module _ {T H K X : Type 0} (kept : X → Type 0) (place : ℕ) (put : X → Slot T H K) where
   -- what a seat carries of a slot of this share
   pub data Carries : Share → Carried T H K → Held X → Type 0 where
     carries_none : Carries none [] away
     carries_empty : Carries empty ((place, Empty) ∷ []) vacant
-    carries_filled : (x : X) → Carries filled ((place, put x) ∷ []) (held x)
+    carries_filled : (x : X) → kept x → Carries filled ((place, put x) ∷ []) (held x)
 
-  pub carries : {s : Share} {b : Bool} {c : Carried T H K} {x : Held X} → IsSlot s x → Part place put b c x → Carries s c x
+  pub carries : {s : Share} {b : Bool} {c : Carried T H K} {x : Held X} → IsSlot s x → Part kept place put b c x
+      → Carries s c x
   carries is_away not_carried = carries_none
   carries is_away (carried slot) = elim slot [ ]
   carries is_vacant (carried slot_vacant) = carries_empty
-  carries (is_held x) (carried (slot_held _)) = carries_filled x
+  carries (is_held x) (carried (slot_held _ k)) = carries_filled x k
 
   pub data Went (s s' there' : Share) (h : Home T H K) (c : Carried T H K) (x : Held X) : Type 0 where
-    went : {h' : Home T H K} {c' : Carried T H K} {x' : Held X} → Turns s s' x x' → Goes place (is_owned s) (is_owned s') h h' c c' → Part place put (is_owned s') c' x' → Lies put there' h' → Went s s' there' h c x
+    went : {h' : Home T H K} {c' : Carried T H K} {x' : Held X} → Turns s s' x x'
+        → Goes place (is_owned s) (is_owned s') h h' c c' → Part kept place put (is_owned s') c' x'
+        → Lies kept put there' h' → Went s s' there' h c x
 
-  pub goes : {s there : Share} {h : Home T H K} {c : Carried T H K} {x : Held X} → Carries s c x → (s' there' : Share) → Lies put there h → is_turn s s' there' there ≡ true → Went s s' there' h c x
+  pub goes : {s there : Share} {h : Home T H K} {c : Carried T H K} {x : Held X} → Carries s c x → (s' there' : Share)
+      → Lies kept put there h → is_turn s s' there' there ≡ true → Went s s' there' h c x
   goes carries_none none none lies_out e = went stays_away stays_there not_carried lies_out
   goes carries_none none empty lies_bare e = went stays_away stays_there not_carried lies_bare
-  goes carries_none none filled (lies_filled x) e = went stays_away stays_there not_carried (lies_filled x)
+  goes carries_none none filled (lies_filled x k) e = went stays_away stays_there not_carried (lies_filled x k)
   goes carries_empty empty none lies_out e = went stays_vacant stays_here (carried slot_vacant) lies_out
-  goes (carries_filled x) filled none lies_out e = went (stays_held x) stays_here (carried (slot_held x)) lies_out
+  goes (carries_filled x k) filled none lies_out e = went (stays_held x) stays_here (carried (slot_held x k)) lies_out
   goes carries_empty none empty lies_out e = went gives_room goes_home not_carried lies_bare
-  goes (carries_filled x) none filled lies_out e = went (gives_thing x) goes_home not_carried (lies_filled x)
+  goes (carries_filled x k) none filled lies_out e = went (gives_thing x) goes_home not_carried (lies_filled x k)
   goes carries_none empty none lies_bare e = went gets_room comes (carried slot_vacant) lies_out
-  goes carries_none filled none (lies_filled x) e = went (gets_thing x) comes (carried (slot_held x)) lies_out
+  goes carries_none filled none (lies_filled x k) e = went (gets_thing x) comes (carried (slot_held x k)) lies_out
   goes _ _ _ _ e = absurd (cc)
 
 -- the turns of the message's slot and of the waker's for which a seat has an act
@@ -80,9 +85,12 @@ is_act _ _ _ _ _ = false
 
 module _ {T H K : Type 0} where
   pub data Acts (h h' k k' : Home T H K) (c c' : Carried T H K) : Type 0 where
-    acts : (act : Act (Slot T H K)) → Valid (h ∷ k ∷ []) c act → homes_after (h ∷ k ∷ []) c act ≡ h' ∷ k' ∷ [] → carried_after c act ≡ c' → Acts h h' k k' c c'
+    acts : (act : Act (Slot T H K)) → Valid (h ∷ k ∷ []) c act → homes_after (h ∷ k ∷ []) c act ≡ h' ∷ k' ∷ []
+        → carried_after c act ≡ c' → Acts h h' k k' c c'
 
-  pub both : (front : Front) {m m' w w' : Bool} {h h' k k' : Home T H K} {cm cm' cw cw' : Carried T H K} → is_act front m m' w w' ≡ true → Goes 0 m m' h h' cm cm' → Goes 1 w w' k k' cw cw' → Acts h h' k k' (carried_as front cm cw) (carried_as front cm' cw')
+  pub both : (front : Front) {m m' w w' : Bool} {h h' k k' : Home T H K} {cm cm' cw cw' : Carried T H K}
+      → is_act front m m' w w' ≡ true → Goes 0 m m' h h' cm cm' → Goes 1 w w' k k' cw cw'
+      → Acts h h' k k' (carried_as front cm cw) (carried_as front cm' cw')
   both waker_first e goes_home stays_there = acts gives tt refl refl
   both waker_first e stays_here (comes {s}) = acts (takes 1 s) refl refl refl
   both waker_first e goes_home goes_home = acts (chain gives gives) (tt, tt) refl refl

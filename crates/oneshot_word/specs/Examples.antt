@@ -1,4 +1,5 @@
--- What the lists say, and which states of the word and the slots have a row of owners, by examples; and states that have none.
+-- What the lists say, and which states of the word and the slots have a row of owners, by examples; and
+-- states that have none.
 use Rattle.std.specs.Prelude.{◌≡◌, ℕ, true, false, List, [], ◌∷◌, ◌++◌, Some, None}
 use Rattle.oneshot_machine.specs.declared.machine.Seen.TheVariants.{Done, Word}
 use Rattle.oneshot_machine.specs.declared.states.Op.TheVariants.{Load, Store, Swap, Exchange, Add, Xor}

@@ -3,6 +3,7 @@ pub mod Seats
 pub mod Rule
 pub mod ReadRule
 pub mod Ordered
+pub mod Promised
 pub mod Side
 pub mod Plays
 pub mod Examples

@@ -8,15 +8,16 @@ use Rattle.oneshot_word.specs.Rule.{Home, Tied}
 use Rattle.oneshot_word.specs.Seats.{view}
 
 -- the words and the views of all seats
-pub data Ordered : List ℕ → List View → Type 0 where
+pub data Ordered {P : Type 0} (q : P) : List ℕ → List (View P) → Type 0 where
   -- before there are ends
-  maker_before : Ordered (3 ∷ []) (view Maker [] ∷ [])
-  dealer_before : Ordered (3 ∷ []) (view Dealer [] ∷ [])
+  maker_before : Ordered q (3 ∷ []) (view q Maker [] ∷ [])
+  dealer_before : Ordered q (3 ∷ []) (view q Dealer [] ∷ [])
   -- and then always
   in_order : {word : ℕ} (xs ys : List Noted) → Reaches xs ys word
-      → Ordered (word ∷ []) (view Sender xs ∷ view Receiver ys ∷ [])
+      → Ordered q (word ∷ []) (view q Sender xs ∷ view q Receiver ys ∷ [])
 
 -- Whatever the table is under its rule, the operations of both ends have an order.
-abbrev pub RuleOrders : (T H K : Type 0) → Type 0
-RuleOrders T H K =
-    (words : List ℕ) (homes : List (Home T H K)) (views : List View) → Tied words homes views → Ordered words views
+abbrev pub RuleOrders : {T P : Type 0} (H K : Type 0) → (P → T → Type 0) → Type 0
+RuleOrders {T} {P} H K keeps =
+    (q : P) (words : List ℕ) (homes : List (Home T H K)) (views : List (View P))
+    → Tied keeps q words homes views → Ordered q words views

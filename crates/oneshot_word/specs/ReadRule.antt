@@ -1,4 +1,5 @@
--- The rule of the table as its reader wants it: both lists, the word, and whether each slot is out, empty, or holds what.
+-- The rule of the table as its reader wants it: both lists, the word, and whether each slot is out, empty, or
+-- holds what.
 use Rattle.std.specs.Prelude.{◌≡◌, ℕ, true, false, List, [], ◌∷◌, Some, None}
 use Rattle.oneshot_machine.specs.Noted.{Noted}
 use Rattle.oneshot_machine.specs.Phases.{By, sending, dropping}
@@ -64,15 +65,16 @@ pub data Owned {T H K : Type 0} (xs ys : List Noted) : ℕ → Home T H K → Ho
       → IsReceivers h → IsReceivers k → Owned xs ys w h k
 
 -- the words, the slots at home and the views of all seats
-pub data Ruled {T H K : Type 0} : List ℕ → List (Home T H K) → List View → Type 0 where
+pub data Ruled {T H K P : Type 0} (q : P) : List ℕ → List (Home T H K) → List (View P) → Type 0 where
   -- before there are ends
-  maker_alone : Ruled (3 ∷ []) (bare ∷ bare ∷ []) (view Maker [] ∷ [])
-  dealer_alone : Ruled (3 ∷ []) (out ∷ bare ∷ []) (view Dealer [] ∷ [])
+  maker_alone : Ruled q (3 ∷ []) (bare ∷ bare ∷ []) (view q Maker [] ∷ [])
+  dealer_alone : Ruled q (3 ∷ []) (out ∷ bare ∷ []) (view q Dealer [] ∷ [])
   -- and then always
   two_ends : {w : ℕ} {h k : Home T H K} (xs ys : List Noted) → Owned xs ys w h k
-      → Ruled (w ∷ []) (h ∷ k ∷ []) (view Sender xs ∷ view Receiver ys ∷ [])
+      → Ruled q (w ∷ []) (h ∷ k ∷ []) (view q Sender xs ∷ view q Receiver ys ∷ [])
 
 -- Whatever the table is under its rule, it is as the rows say.
-abbrev pub RuleReads : (T H K : Type 0) → Type 0
-RuleReads T H K =
-    (words : List ℕ) (homes : List (Home T H K)) (views : List View) → Tied words homes views → Ruled words homes views
+abbrev pub RuleReads : {T P : Type 0} (H K : Type 0) → (P → T → Type 0) → Type 0
+RuleReads {T} {P} H K keeps =
+    (q : P) (words : List ℕ) (homes : List (Home T H K)) (views : List (View P)) → Tied keeps q words homes views
+    → Ruled q words homes views

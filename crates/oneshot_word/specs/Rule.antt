@@ -9,7 +9,7 @@ use Rattle.oneshot_word.specs.declared.rouse.Rouse.{Rouse}
 use Rattle.oneshot_word.specs.declared.rule.Slot.{Slot}
 use Rattle.oneshot_word.specs.declared.rule.Slot.TheVariants.{Empty, Message}
 use Rattle.oneshot_word.specs.declared.rule.View.{View}
-use Rattle.oneshot_word.specs.Seats.{view, with_waker}
+use Rattle.oneshot_word.specs.Seats.{view, any, with_waker}
 
 -- what of a slot is at home: nothing, where a seat carries it, or its value
 abbrev pub Home : Type 0 → Type 0 → Type 0 → Type 0
@@ -52,21 +52,23 @@ abbrev pub waker_home : SenderAt → ReceiverAt → Share
 waker_home p q =
     if (has_slots (sender_owns p)).1 || (has_slots (receiver_owns q)).1 then none else waker_left p q
 
--- a home of which the table has this share
-pub data Lies {T H K X : Type 0} (put : X → Slot T H K) : Share → Home T H K → Type 0 where
-  lies_out : Lies put none out
-  lies_bare : Lies put empty bare
-  lies_filled : (x : X) → Lies put filled (maybe.some (put x))
+-- a home of which the table has this share, where what is in it keeps this
+pub data Lies {T H K X : Type 0} (kept : X → Type 0) (put : X → Slot T H K) : Share → Home T H K → Type 0 where
+  lies_out : Lies kept put none out
+  lies_bare : Lies kept put empty bare
+  lies_filled : (x : X) → kept x → Lies kept put filled (maybe.some (put x))
 
--- the words, the slots at home and the views of all seats
-pub data Tied {T H K : Type 0} : List ℕ → List (Home T H K) → List View → Type 0 where
+-- The words, the slots at home and the views of all seats. Each view has the value that the channel's
+-- messages keep their promise about, and a message at home keeps it.
+pub data Tied {T H K P : Type 0} (keeps : P → T → Type 0) (q : P)
+    : List ℕ → List (Home T H K) → List (View P) → Type 0 where
   -- the table is new
-  opened : Tied (3 ∷ []) (bare ∷ bare ∷ []) (view Maker [] ∷ [])
+  opened : Tied keeps q (3 ∷ []) (bare ∷ bare ∷ []) (view q Maker [] ∷ [])
   -- its maker has the message's slot
-  dealt : Tied (3 ∷ []) (out ∷ bare ∷ []) (view Dealer [] ∷ [])
+  dealt : Tied keeps q (3 ∷ []) (out ∷ bare ∷ []) (view q Dealer [] ∷ [])
   -- both ends are there: their operations have an order, and each slot is where both phases say
   runs : {w : ℕ} {h k : Home T H K} (xs ys : List Noted)
       → Reaches xs ys w
-      → Lies Message (message_home (sender_at xs) (receiver_at ys)) h
-      → Lies with_waker (waker_home (sender_at xs) (receiver_at ys)) k
-      → Tied (w ∷ []) (h ∷ k ∷ []) (view Sender xs ∷ view Receiver ys ∷ [])
+      → Lies (keeps q) Message (message_home (sender_at xs) (receiver_at ys)) h
+      → Lies any with_waker (waker_home (sender_at xs) (receiver_at ys)) k
+      → Tied keeps q (w ∷ []) (h ∷ k ∷ []) (view q Sender xs ∷ view q Receiver ys ∷ [])

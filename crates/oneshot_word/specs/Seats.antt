@@ -1,5 +1,5 @@
 -- What a seat of the table knows and carries, and what a step does to it.
-use Rattle.std.specs.Prelude.{◌≡◌, ◌≤◌, ℕ, zero, suc, Bool, true, false, List, [], ◌∷◌, ◌++◌, Option, Some}
+use Rattle.std.specs.Prelude.{◌≡◌, ⊤, ◌≤◌, ℕ, zero, suc, Bool, true, false, List, [], ◌∷◌, ◌++◌, Option, Some}
 use Rattle.atomic_table.specs.Seated.{TableId}
 use Rattle.atomic_table.specs.Table.{Me}
 use Rattle.oneshot_machine.specs.declared.states.Op.{Op}
@@ -14,8 +14,18 @@ use Rattle.oneshot_word.specs.declared.rule.Slot.{Slot}
 use Rattle.oneshot_word.specs.declared.rule.Slot.TheVariants.{Empty, Message, Thread, Task, Nobody}
 use Rattle.oneshot_word.specs.declared.rule.View.{View}
 
-abbrev pub view : Role → List Noted → View
-view r xs = record { role = r; steps = xs }
+abbrev pub view : {P : Type 0} → P → Role → List Noted → View P
+view q r xs = record { role = r; steps = xs; about = q }
+
+-- no promise of a value
+abbrev pub any : {X : Type 0} → X → Type 0
+any x = ⊤
+
+-- what is in a slot keeps this, if anything is
+pub data Keeps {X : Type 0} (kept : X → Type 0) : Held X → Type 0 where
+  away_keeps : Keeps kept away
+  vacant_keeps : Keeps kept vacant
+  held_keeps : (x : X) → kept x → Keeps kept (held x)
 
 -- the slots that a seat has taken, each with its value: 0 is the message's, 1 the waker's
 abbrev pub Carried : Type 0 → Type 0 → Type 0 → Type 0
@@ -53,25 +63,25 @@ module _ {T H K : Type 0} where
   waker_in ((zero, s) ∷ c) = waker_in c
   waker_in ((suc n, s) ∷ c) = waker_of s
 
--- a slot as its end sees it: empty, or with a value that was put in so
-pub data SlotOf {T H K X : Type 0} (put : X → Slot T H K) : Slot T H K → Held X → Type 0 where
-  slot_vacant : SlotOf put Empty vacant
-  slot_held : (x : X) → SlotOf put (put x) (held x)
+-- a slot as its end sees it: empty, or with a value that was put in so and keeps its promise
+pub data SlotOf {T H K X : Type 0} (kept : X → Type 0) (put : X → Slot T H K) : Slot T H K → Held X → Type 0 where
+  slot_vacant : SlotOf kept put Empty vacant
+  slot_held : (x : X) → kept x → SlotOf kept put (put x) (held x)
 
 module _ {T H K : Type 0} where
   -- a message's slot never holds a waker
-  abbrev pub MessageSlot : Slot T H K → Held T → Type 0
-  MessageSlot = SlotOf Message
+  abbrev pub MessageSlot : (T → Type 0) → Slot T H K → Held T → Type 0
+  MessageSlot kept = SlotOf kept Message
 
   -- nor a waker's slot a message
   abbrev pub WakerSlot : Slot T H K → Held (Rouse H K) → Type 0
-  WakerSlot = SlotOf with_waker
+  WakerSlot = SlotOf any with_waker
 
 -- what a seat carries of the slot with this number, where it is its end's, and where it is not
-pub data Part {T H K X : Type 0} (place : ℕ) (put : X → Slot T H K)
+pub data Part {T H K X : Type 0} (kept : X → Type 0) (place : ℕ) (put : X → Slot T H K)
     : Bool → Carried T H K → Held X → Type 0 where
-  not_carried : Part place put false [] away
-  carried : {s : Slot T H K} {x : Held X} → SlotOf put s x → Part place put true ((place, s) ∷ []) x
+  not_carried : Part kept place put false [] away
+  carried : {s : Slot T H K} {x : Held X} → SlotOf kept put s x → Part kept place put true ((place, s) ∷ []) x
 
 -- which slot a seat that carries both has in front: the one that it took last
 pub data Front : Type 0 where
@@ -85,11 +95,11 @@ module _ {T H K : Type 0} where
   carried_as waker_first message waker = waker ++ message
 
   -- what a seat carries whose end has these slots
-  pub data SeatOf (front : Front)
+  pub data SeatOf (kept : T → Type 0) (front : Front)
       : Option (Bool × Bool) → Carried T H K → Held T → Held (Rouse H K) → Type 0 where
     seat_of : {message waker : Bool} {cm cw : Carried T H K} {m : Held T} {w : Held (Rouse H K)}
-        → Part 0 Message message cm m → Part 1 with_waker waker cw w
-        → SeatOf front (Some (message, waker)) (carried_as front cm cw) m w
+        → Part kept 0 Message message cm m → Part any 1 with_waker waker cw w
+        → SeatOf kept front (Some (message, waker)) (carried_as front cm cw) m w
 
 -- a seat at a table of one word and two slots
 pub record IsAt (shared seat : TableId) : Type 0 where
@@ -98,22 +108,24 @@ pub record IsAt (shared seat : TableId) : Type 0 where
   pub slots : seat.slots ≡ 2
 
 -- an end's seat: whose it is, and what it carries by how far its end is
-pub record SeatIs {T H K : Type 0} (whose : Role) (front : Front) (owns : List Noted → Option (Bool × Bool))
-    (me : Me (Slot T H K) View) : Type 0 where
+pub record SeatIs {T H K P : Type 0} (keeps : P → T → Type 0) (whose : Role) (front : Front)
+    (owns : List Noted → Option (Bool × Bool))
+    (me : Me (Slot T H K) (View P)) : Type 0 where
   pub role : me.0.role ≡ whose
-  pub has : SeatOf front (owns me.0.steps) me.1 (message_in me.1) (waker_in me.1)
+  pub has : SeatOf (keeps me.0.about) front (owns me.0.steps) me.1 (message_in me.1) (waker_in me.1)
 
-module _ {T H K : Type 0} where
-  abbrev pub SenderSeat : Me (Slot T H K) View → Type 0
-  SenderSeat = SeatIs Sender waker_first (λ xs. sender_owns (sender_at xs))
+module _ {T H K P : Type 0} (keeps : P → T → Type 0) where
+  abbrev pub SenderSeat : Me (Slot T H K) (View P) → Type 0
+  SenderSeat = SeatIs keeps Sender waker_first (λ xs. sender_owns (sender_at xs))
 
-  abbrev pub ReceiverSeat : Me (Slot T H K) View → Type 0
-  ReceiverSeat = SeatIs Receiver message_first (λ ys. receiver_owns (receiver_at ys))
+  abbrev pub ReceiverSeat : Me (Slot T H K) (View P) → Type 0
+  ReceiverSeat = SeatIs keeps Receiver message_first (λ ys. receiver_owns (receiver_at ys))
 
 -- a seat before and after an operation that found this word
-pub record Stepped {T H K At : Type 0} (Seat : Me (Slot T H K) View → Type 0)
+pub record Stepped {T H K P At : Type 0} (Seat : Me (Slot T H K) (View P) → Type 0)
     (at : List Noted → At) (moves : At → List (Row At))
-    (before : Me (Slot T H K) View) (op : Op) (word : ℕ) (after : Me (Slot T H K) View) : Type 0 where
+    (before : Me (Slot T H K) (View P)) (op : Op) (word : ℕ) (after : Me (Slot T H K) (View P)) : Type 0 where
+  pub about : after.0.about ≡ before.0.about
   pub list : after.0.steps ≡ before.0.steps ++ (op, saw op word) ∷ []
   pub seat : Seat after
   -- a store's list does not tell the word
@@ -121,9 +133,9 @@ pub record Stepped {T H K At : Type 0} (Seat : Me (Slot T H K) View → Type 0)
   pub finds : Finds moves (at before.0.steps) op word
       (message_in before.1) (waker_in before.1) (message_in after.1) (waker_in after.1)
 
-module _ {T H K : Type 0} where
-  abbrev pub SenderStepped : Me (Slot T H K) View → Op → ℕ → Me (Slot T H K) View → Type 0
-  SenderStepped = Stepped SenderSeat sender_at sender_moves
+module _ {T H K P : Type 0} (keeps : P → T → Type 0) where
+  abbrev pub SenderStepped : Me (Slot T H K) (View P) → Op → ℕ → Me (Slot T H K) (View P) → Type 0
+  SenderStepped = Stepped (SenderSeat keeps) sender_at sender_moves
 
-  abbrev pub ReceiverStepped : Me (Slot T H K) View → Op → ℕ → Me (Slot T H K) View → Type 0
-  ReceiverStepped = Stepped ReceiverSeat receiver_at receiver_moves
+  abbrev pub ReceiverStepped : Me (Slot T H K) (View P) → Op → ℕ → Me (Slot T H K) (View P) → Type 0
+  ReceiverStepped = Stepped (ReceiverSeat keeps) receiver_at receiver_moves

@@ -2,6 +2,9 @@
 
 ghost use Rattle.oneshot_word.specs.Examples.{ListsSay, StatesThatAre, StatesThatAreNot};
 ghost use Rattle.oneshot_word.specs.Ordered.{RuleOrders};
+ghost use Rattle.oneshot_word.specs.Promised.{RuleKeeps};
+
+use crate::promise::Promise;
 
 /// Which lists say what, which states of the word have a row of owners, and which have none, by examples.
 pub fn examples_are_so<T, H, K>()
@@ -12,6 +15,12 @@ pub fn examples_are_so<T, H, K>()
 
 /// Whenever the table keeps its rule, the operations of both ends have an order in which each one finds what
 /// the one before it left.
-pub fn every_state_is_reached<T, H, K>()
-    ensures { RuleOrders T H K }
+pub fn every_state_is_reached<T, H, K, P: Promise<T>>()
+    ensures { RuleOrders H K P.keeps }
+{}
+
+/// Whenever the table keeps its rule, a message that lies there keeps its channel's promise; and a message
+/// that keeps it may lie there.
+pub fn messages_keep_their_promise<T, H, K, P: Promise<T>>()
+    ensures { RuleKeeps H K P.keeps }
 {}

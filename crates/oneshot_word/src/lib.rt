@@ -5,6 +5,7 @@ pub mod laws;
 mod looks;
 mod opening;
 mod plays;
+mod promise;
 mod receiver;
 mod rouse;
 mod rule;
@@ -13,6 +14,7 @@ mod table;
 
 pub use looks::Peek;
 pub use opening::open;
+pub use promise::Promise;
 pub use receiver::ReceiverSide;
 pub use rouse::Rouse;
 pub use rule::{Role, Slot, View, WordRule};

@@ -6,6 +6,7 @@ ghost use Rattle.oneshot_machine.specs.Phases.{sender_at, receiver_at};
 ghost use Rattle.oneshot_machine.specs.Slots.{SenderOwns, ReceiverOwns};
 ghost use Rattle.oneshot_word.specs.ReadRule.{RuleReads};
 
+use crate::promise::Promise;
 use crate::receiver::ReceiverSide;
 use crate::sender::SenderSide;
 use crate::table::WordTable;
@@ -18,18 +19,18 @@ pub trait Peek {
     fn peek(&self) -> u8;
 }
 
-impl<T, H, K> Peek for SenderSide<T, H, K> {
+impl<T, H, K, P: Promise<T>> Peek for SenderSide<T, H, K, P> {
     fn peek(&self) -> u8
-        ensures rule { RuleReads T H K }
+        ensures rule { RuleReads H K P.keeps }
         ensures slots { SenderOwns (sender_at self.now.steps) self.now.message self.now.waker }
     {
         load(&self.table)
     }
 }
 
-impl<T, H, K> Peek for ReceiverSide<T, H, K> {
+impl<T, H, K, P: Promise<T>> Peek for ReceiverSide<T, H, K, P> {
     fn peek(&self) -> u8
-        ensures rule { RuleReads T H K }
+        ensures rule { RuleReads H K P.keeps }
         ensures slots { ReceiverOwns (receiver_at self.now.steps) self.now.message self.now.waker }
     {
         load(&self.table)
@@ -38,7 +39,7 @@ impl<T, H, K> Peek for ReceiverSide<T, H, K> {
 
 // No proof knows what a load without a seat finds. By the rule it is below 5, so the low byte is
 // all of it.
-fn load<T, H, K>(table: &Arc<WordTable<T, H, K>, Global>) -> u8
+fn load<T, H, K, P: Promise<T>>(table: &Arc<WordTable<T, H, K, P>, Global>) -> u8
     requires { 0 < (arc_value table.now).shared.table_id.words }
 {
     (table.shared.peek(0) & 0xff) as u8

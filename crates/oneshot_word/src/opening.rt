@@ -5,6 +5,7 @@ ghost use Rattle.oneshot_word.specs.Side.{AreEnds};
 ghost use Rattle.oneshot_word.specs.declared.rule.Slot.TheVariants.{Empty};
 
 use crate::plays::{Deals, Halves};
+use crate::promise::Promise;
 use crate::receiver::ReceiverSide;
 use crate::rule::Slot;
 use crate::sender::SenderSide;
@@ -14,12 +15,13 @@ use std::alloc::{AllocError, Global};
 use std::sync::Arc;
 
 /// Both sides of a new table. Where memory is refused nothing is made.
-pub fn open<T: Send + Drop, H: Send + Drop, K: Send + Drop>(
+pub fn open<T: Send + Drop, H: Send + Drop, K: Send + Drop, P: Promise<T>>(
     alloc: Global,
-) -> Result<(SenderSide<T, H, K>, ReceiverSide<T, H, K>), AllocError>
-    ensures { IfOk result (λ sides. AreEnds sides.0 sides.1) }
+    about: &P,
+) -> Result<(SenderSide<T, H, K, P>, ReceiverSide<T, H, K, P>), AllocError>
+    ensures { IfOk result (λ sides. AreEnds about.now sides.0 sides.1) }
 {
-    let Ok((made, mut seat)) = Table::new(alloc, &[EMPTY as u64], empty_slots(alloc)?, &()) else {
+    let Ok((made, mut seat)) = Table::new(alloc, &[EMPTY as u64], empty_slots(alloc)?, about) else {
         return Err(AllocError);
     };
     made.shared.load::<Deals>(&mut seat, 0);

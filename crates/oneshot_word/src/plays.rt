@@ -6,63 +6,64 @@ ghost use Rattle.oneshot_word.specs.declared.rule.Slot.TheVariants.{Empty};
 ghost use Rattle.oneshot_word.specs.Plays.{AddFound, FlipFound, FinalSwapFound, LoadFound, StoreFound, SwapFound, ExchangeFound};
 ghost use Rattle.oneshot_word.specs.Seats.{view};
 
+use crate::promise::Promise;
 use crate::rule::{Slot, View};
 use atomic_table::{Play, Split};
 
 pub(crate) struct Adds;
 
-impl<T, H, K> Play<Slot<T, H, K>, View> for Adds {
-    ghost then = { AddFound };
+impl<T, H, K, P: Promise<T>> Play<Slot<T, H, K>, View<P>> for Adds {
+    ghost then = { AddFound P.keeps };
 }
 
 pub(crate) struct Flips;
 
-impl<T, H, K> Play<Slot<T, H, K>, View> for Flips {
-    ghost then = { FlipFound };
+impl<T, H, K, P: Promise<T>> Play<Slot<T, H, K>, View<P>> for Flips {
+    ghost then = { FlipFound P.keeps };
 }
 
 pub(crate) struct Finishes;
 
-impl<T, H, K> Play<Slot<T, H, K>, View> for Finishes {
-    ghost then = { FinalSwapFound };
+impl<T, H, K, P: Promise<T>> Play<Slot<T, H, K>, View<P>> for Finishes {
+    ghost then = { FinalSwapFound P.keeps };
 }
 
 pub(crate) struct Loads;
 
-impl<T, H, K> Play<Slot<T, H, K>, View> for Loads {
-    ghost then = { LoadFound };
+impl<T, H, K, P: Promise<T>> Play<Slot<T, H, K>, View<P>> for Loads {
+    ghost then = { LoadFound P.keeps };
 }
 
 pub(crate) struct Stores;
 
-impl<T, H, K> Play<Slot<T, H, K>, View> for Stores {
-    ghost then = { StoreFound };
+impl<T, H, K, P: Promise<T>> Play<Slot<T, H, K>, View<P>> for Stores {
+    ghost then = { StoreFound P.keeps };
 }
 
 pub(crate) struct Swaps;
 
-impl<T, H, K> Play<Slot<T, H, K>, View> for Swaps {
-    ghost then = { SwapFound };
+impl<T, H, K, P: Promise<T>> Play<Slot<T, H, K>, View<P>> for Swaps {
+    ghost then = { SwapFound P.keeps };
 }
 
 pub(crate) struct Exchanges;
 
-impl<T, H, K> Play<Slot<T, H, K>, View> for Exchanges {
-    ghost then = { ExchangeFound };
+impl<T, H, K, P: Promise<T>> Play<Slot<T, H, K>, View<P>> for Exchanges {
+    ghost then = { ExchangeFound P.keeps };
 }
 
 // The maker takes the message's slot.
 pub(crate) struct Deals;
 
-impl<T, H, K> Play<Slot<T, H, K>, View> for Deals {
-    ghost then = { λ _ before found after. after ≡ (view Dealer [], (0, Empty) ∷ []) };
+impl<T, H, K, P> Play<Slot<T, H, K>, View<P>> for Deals {
+    ghost then = { λ _ before found after. after ≡ (view before.0.about Dealer [], (0, Empty) ∷ []) };
 }
 
 // The sender's seat keeps the slot, and the receiver has a new seat.
 pub(crate) struct Halves;
 
-impl Split<View> for Halves {
-    ghost left = { λ _. view Sender [] };
+impl<P> Split<View<P>> for Halves {
+    ghost left = { λ v. view v.about Sender [] };
 
-    ghost right = { λ _. view Receiver [] };
+    ghost right = { λ v. view v.about Receiver [] };
 }

@@ -5,10 +5,11 @@ ghost use Rattle.oneshot_machine.specs.declared.states.Op.TheVariants.{Load, Sto
 ghost use Rattle.oneshot_machine.specs.Phases.{receiver_at};
 ghost use Rattle.oneshot_machine.specs.Slots.{ReceiverOwns, away, vacant, held};
 ghost use Rattle.oneshot_word.specs.declared.rouse.Rouse.{Rouse};
-ghost use Rattle.oneshot_word.specs.Seats.{MessageSlot, WakerSlot, message_of, waker_of};
+ghost use Rattle.oneshot_word.specs.Seats.{Keeps, MessageSlot, WakerSlot, message_of, waker_of};
 ghost use Rattle.oneshot_word.specs.Side.{ReceiverCan, ReceiverDid};
 
 use crate::plays::{Exchanges, Loads, Stores, Swaps};
+use crate::promise::Promise;
 use crate::rouse::Rouse;
 use crate::rule::Slot;
 use crate::table::{WordSeat, WordTable};
@@ -17,27 +18,26 @@ use std::marker::Model;
 use std::sync::Arc;
 
 /// The receiver's share of the table, with its seat.
-#[derive(Drop)]
-pub struct ReceiverSide<T, H, K> {
-    pub(crate) table: Arc<WordTable<T, H, K>, Global>,
-    pub(crate) seat: WordSeat<T, H, K>,
+pub struct ReceiverSide<T, H, K, P: Promise<T> = ()> {
+    pub(crate) table: Arc<WordTable<T, H, K, P>, Global>,
+    pub(crate) seat: WordSeat<T, H, K, P>,
 }
 
-impl<T, H, K> Model for ReceiverSide<T, H, K> {
+impl<T, H, K, P: Promise<T>> Model for ReceiverSide<T, H, K, P> {
     ghost use Rattle.std.specs.Arc.{arc_value};
     ghost use Rattle.oneshot_word.specs.Seats.{IsAt, ReceiverSeat};
     ghost use Rattle.oneshot_word.specs.Side.{Side, side_of};
     ghost use Rattle.oneshot_word.specs.declared.rouse.Rouse.{Rouse};
 
-    ghost Value = { Side T (Rouse H K) };
+    ghost Value = { Side T (Rouse H K) P };
 
     ghost view = { λ s. side_of s.seat.table_id s.seat.me };
 
     ghost invariant = { λ s.
-        ReceiverSeat s.seat.me × IsAt (arc_value s.table).shared.table_id s.seat.table_id };
+        ReceiverSeat P.keeps s.seat.me × IsAt (arc_value s.table).shared.table_id s.seat.table_id };
 }
 
-impl<T, H, K> ReceiverSide<T, H, K> {
+impl<T, H, K, P: Promise<T>> ReceiverSide<T, H, K, P> {
     /// Reads the word.
     pub fn load(&mut self) -> u8
         requires { ReceiverCan self.old Load }
@@ -84,11 +84,12 @@ impl<T, H, K> ReceiverSide<T, H, K> {
     }
 }
 
-impl<T: Drop, H: Drop, K: Drop> ReceiverSide<T, H, K> {
+impl<T: Drop, H: Drop, K: Drop, P: Promise<T>> ReceiverSide<T, H, K, P> {
     /// Takes the message out of its slot, which is the receiver's and full.
     pub fn take_message(&mut self) -> T
         requires { (message : T) × (self.old.message ≡ held message) }
         ensures message { self.old.message ≡ held result }
+        ensures kept { P.keeps self.old.about result }
         ensures rest { self.new ≡ record self.old { message = vacant } }
     {
         self.trade_message(Slot::Empty).into_message()
@@ -112,12 +113,13 @@ impl<T: Drop, H: Drop, K: Drop> ReceiverSide<T, H, K> {
     }
 }
 
-impl<T, H, K> ReceiverSide<T, H, K> {
+impl<T, H, K, P: Promise<T>> ReceiverSide<T, H, K, P> {
     // Where the message's slot is the receiver's, it is the one in front.
     fn trade_message(&mut self, new: Slot<T, H, K>) -> Slot<T, H, K>
         requires its_own { self.old.message ≢ away }
         requires no_waker { waker_of new ≡ vacant }
-        ensures was { MessageSlot result self.old.message }
+        requires kept { Keeps (P.keeps self.old.about) (message_of new) }
+        ensures was { MessageSlot (P.keeps self.old.about) result self.old.message }
         ensures has { self.new ≡ record self.old { message = message_of new } }
     {
         self.table.shared.exchange(&mut self.seat, 0, new)
@@ -134,5 +136,12 @@ impl<T, H, K> ReceiverSide<T, H, K> {
         let old = self.table.shared.exchange(&mut self.seat, 1, new);
         self.seat.turn();
         old
+    }
+}
+
+// Written out: a derived `Drop` would want one of `P`, of which a side has no value.
+impl<T: Drop, H: Drop, K: Drop, P: Promise<T>> Drop for ReceiverSide<T, H, K, P> {
+    fn drop(self) {
+        let ReceiverSide { table: _, seat: _ } = self;
     }
 }

@@ -5,6 +5,7 @@ ghost use Rattle.oneshot_machine.specs.Slots.{held};
 ghost use Rattle.oneshot_word.specs.declared.rouse.Rouse.{Rouse};
 ghost use Rattle.oneshot_word.specs.Seats.{with_waker, message_of, waker_of};
 
+use crate::promise::Promise;
 use crate::rouse::Rouse;
 use atomic_table::TableRule;
 use oneshot_machine::machine::Seen;
@@ -78,25 +79,27 @@ pub enum Role {
     Receiver,
 }
 
-/// What a seat knows: whose it is, and the list of its operations on the word, looks apart, each
-/// with what it saw. It is for the proofs alone: no value of it is made.
-pub struct View {
+/// What a seat knows: whose it is, the list of its operations on the word, looks apart, each with what
+/// it saw, and the value that the channel is about. It is for the proofs alone: no value of it is made.
+pub struct View<P> {
     /// Whose seat it is.
     pub role: Role,
     /// Its operations on the word.
     pub steps: LinkedList<(Op, Seen)>,
+    /// What each message keeps its promise about.
+    pub about: P,
 }
 
 /// The rule of the shared word.
 pub struct WordRule;
 
-impl<T, H, K> TableRule<Slot<T, H, K>, View, ()> for WordRule {
+impl<T, H, K, P: Promise<T>> TableRule<Slot<T, H, K>, View<P>, P> for WordRule {
     ghost use Rattle.std.specs.Prelude.{[]};
     ghost use Rattle.oneshot_word.specs.Rule.{Tied};
     ghost use Rattle.oneshot_word.specs.Seats.{view};
     ghost use Rattle.oneshot_word.specs.declared.rule.Role.TheVariants.{Maker};
 
-    ghost holds = { λ _ s. Tied s.words s.homes s.views };
+    ghost holds = { λ q s. Tied P.keeps q s.words s.homes s.views };
 
-    ghost first = { λ _. view Maker [] };
+    ghost first = { λ q. view q Maker [] };
 }

@@ -5,10 +5,11 @@ ghost use Rattle.std.specs.Arc.{arc_value};
 ghost use Rattle.oneshot_machine.specs.declared.states.Op.TheVariants.{Swap, Add, Xor};
 ghost use Rattle.oneshot_machine.specs.Slots.{away, vacant, held};
 ghost use Rattle.oneshot_word.specs.declared.rouse.Rouse.{Rouse};
-ghost use Rattle.oneshot_word.specs.Seats.{IsAt, MessageSlot, SenderSeat, WakerSlot, message_of, waker_of};
+ghost use Rattle.oneshot_word.specs.Seats.{IsAt, Keeps, MessageSlot, SenderSeat, WakerSlot, message_of, waker_of};
 ghost use Rattle.oneshot_word.specs.Side.{SenderCan, SenderDid, side_of};
 
 use crate::plays::{Adds, Finishes, Flips};
+use crate::promise::Promise;
 use crate::rouse::Rouse;
 use crate::rule::Slot;
 use crate::table::{WordSeat, WordTable};
@@ -17,25 +18,24 @@ use std::marker::Model;
 use std::sync::Arc;
 
 /// The sender's share of the table, with its seat.
-#[derive(Drop)]
-pub struct SenderSide<T, H, K> {
-    pub(crate) table: Arc<WordTable<T, H, K>, Global>,
-    pub(crate) seat: WordSeat<T, H, K>,
+pub struct SenderSide<T, H, K, P: Promise<T> = ()> {
+    pub(crate) table: Arc<WordTable<T, H, K, P>, Global>,
+    pub(crate) seat: WordSeat<T, H, K, P>,
 }
 
-impl<T, H, K> Model for SenderSide<T, H, K> {
+impl<T, H, K, P: Promise<T>> Model for SenderSide<T, H, K, P> {
     ghost use base.Fml.{ftrue};
     ghost use Rattle.std.specs.Arc.{arc_value};
     ghost use Rattle.oneshot_word.specs.Seats.{IsAt, SenderSeat};
     ghost use Rattle.oneshot_word.specs.Side.{Side, side_of};
     ghost use Rattle.oneshot_word.specs.declared.rouse.Rouse.{Rouse};
 
-    ghost Value = { Side T (Rouse H K) };
+    ghost Value = { Side T (Rouse H K) P };
 
     ghost view = { λ s. side_of s.seat.table_id s.seat.me };
 
     ghost invariant = { λ s.
-        SenderSeat s.seat.me × IsAt (arc_value s.table).shared.table_id s.seat.table_id };
+        SenderSeat P.keeps s.seat.me × IsAt (arc_value s.table).shared.table_id s.seat.table_id };
 
     // Both say nothing. Only of a struct with `also_owns` can `Sync` be proved by hand, and `peek`
     // reads such a struct where it has `also_shares`.
@@ -46,17 +46,18 @@ impl<T, H, K> Model for SenderSide<T, H, K> {
 
 // Both are proved, in proofs/sender/SenderSide/TheSendSync. The kit has no proof that a seat is
 // `Sync`, so the checker finds none for this struct by itself.
-unsafe impl<T: Send, H: Send, K: Send> Send for SenderSide<T, H, K> {}
+unsafe impl<T: Send, H: Send, K: Send, P: Promise<T>> Send for SenderSide<T, H, K, P> {}
 
-unsafe impl<T: Send + Sync, H: Send + Sync, K: Send + Sync> Sync for SenderSide<T, H, K> {}
+unsafe impl<T: Send + Sync, H: Send + Sync, K: Send + Sync, P: Promise<T>> Sync
+    for SenderSide<T, H, K, P> {}
 
-impl<T, H, K> SenderSide<T, H, K> {
+impl<T, H, K, P: Promise<T>> SenderSide<T, H, K, P> {
     // A side is made here alone, since its `also_owns` wants a proof by hand of what makes one.
     pub(crate) fn new(
-        table: Arc<WordTable<T, H, K>, Global>,
-        seat: WordSeat<T, H, K>,
-    ) -> SenderSide<T, H, K>
-        requires { SenderSeat seat.me × IsAt (arc_value table).shared.table_id seat.table_id }
+        table: Arc<WordTable<T, H, K, P>, Global>,
+        seat: WordSeat<T, H, K, P>,
+    ) -> SenderSide<T, H, K, P>
+        requires { SenderSeat P.keeps seat.me × IsAt (arc_value table).shared.table_id seat.table_id }
         ensures { result ≡ side_of seat.table_id seat.me }
     {
         SenderSide { table, seat }
@@ -89,10 +90,11 @@ impl<T, H, K> SenderSide<T, H, K> {
     }
 }
 
-impl<T: Drop, H: Drop, K: Drop> SenderSide<T, H, K> {
+impl<T: Drop, H: Drop, K: Drop, P: Promise<T>> SenderSide<T, H, K, P> {
     /// Puts the message into its slot, which is the sender's and empty.
     pub fn write_message(&mut self, message: T)
-        requires { self.old.message ≡ vacant }
+        requires slot { self.old.message ≡ vacant }
+        requires kept { P.keeps self.old.about message }
         ensures { self.new ≡ record self.old { message = held message } }
     {
         self.trade_message(Slot::Message(message));
@@ -102,6 +104,7 @@ impl<T: Drop, H: Drop, K: Drop> SenderSide<T, H, K> {
     pub fn take_message(&mut self) -> T
         requires { (message : T) × (self.old.message ≡ held message) }
         ensures message { self.old.message ≡ held result }
+        ensures kept { P.keeps self.old.about result }
         ensures rest { self.new ≡ record self.old { message = vacant } }
     {
         self.trade_message(Slot::Empty).into_message()
@@ -117,12 +120,13 @@ impl<T: Drop, H: Drop, K: Drop> SenderSide<T, H, K> {
     }
 }
 
-impl<T, H, K> SenderSide<T, H, K> {
+impl<T, H, K, P: Promise<T>> SenderSide<T, H, K, P> {
     // Only the slot in front can be read, so the message's is turned there, and then back.
     fn trade_message(&mut self, new: Slot<T, H, K>) -> Slot<T, H, K>
         requires its_own { self.old.message ≢ away }
         requires no_waker { waker_of new ≡ vacant }
-        ensures was { MessageSlot result self.old.message }
+        requires kept { Keeps (P.keeps self.old.about) (message_of new) }
+        ensures was { MessageSlot (P.keeps self.old.about) result self.old.message }
         ensures has { self.new ≡ record self.old { message = message_of new } }
     {
         self.seat.turn();
@@ -139,5 +143,12 @@ impl<T, H, K> SenderSide<T, H, K> {
         ensures has { self.new ≡ record self.old { waker = waker_of new } }
     {
         self.table.shared.exchange(&mut self.seat, 1, new)
+    }
+}
+
+// Written out: a derived `Drop` would want one of `P`, of which a side has no value.
+impl<T: Drop, H: Drop, K: Drop, P: Promise<T>> Drop for SenderSide<T, H, K, P> {
+    fn drop(self) {
+        let SenderSide { table: _, seat: _ } = self;
     }
 }

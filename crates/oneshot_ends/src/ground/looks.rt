@@ -5,23 +5,23 @@ use crate::future::AsyncReceiver;
 use crate::receiver::Receiver;
 use crate::sender::Sender;
 use oneshot_machine::states::{DISCONNECTED, MESSAGE};
-use oneshot_word::Peek;
+use oneshot_word::{Peek, Promise};
 
-impl<T, H, K> ReceiverOnWord<T, H, K> {
+impl<T, H, K, P: Promise<T>> ReceiverOnWord<T, H, K, P> {
     // Private here, so that no call of a receiver but its looks can make it.
     fn peek(&self) -> u8 {
         self.side.peek()
     }
 }
 
-impl<T> Sender<T> {
+impl<T, P: Promise<T>> Sender<T, P> {
     /// Whether the receiver is gone. A `send` is refused then. It is one load and never blocks.
     pub fn is_closed(&self) -> bool {
         self.side.peek() == DISCONNECTED
     }
 }
 
-impl<T, Rt> Receiver<T, Rt> {
+impl<T, Rt, P: Promise<T>> Receiver<T, Rt, P> {
     /// Whether the sender is gone without a message, or the message was received. Every later receive
     /// says `Disconnected` then. It is one load and never blocks.
     pub fn is_closed(&self) -> bool {
@@ -34,7 +34,7 @@ impl<T, Rt> Receiver<T, Rt> {
     }
 }
 
-impl<T, Rt> AsyncReceiver<T, Rt> {
+impl<T, Rt, P: Promise<T>> AsyncReceiver<T, Rt, P> {
     /// Whether the sender is gone without a message, or the message was received, by one load.
     pub fn is_closed(&self) -> bool {
         self.ground.peek() == DISCONNECTED

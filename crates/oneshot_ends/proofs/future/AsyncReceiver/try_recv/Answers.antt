@@ -4,14 +4,14 @@ use Rattle.oneshot_machine.specs.declared.machine.receiver.ReceiverStart.TheVari
 use Rattle.oneshot_machine.specs.Phases.{receiver_at}
 use Rattle.oneshot_drive.specs.BetweenCalls.{IsClosed}
 use Rattle.oneshot_drive.specs.Polls.{LeavesTried}
-use Rattle.oneshot_ends.specs.Ends.{FutureEnd}
+use Rattle.oneshot_ends.proofs.EndViews.{future_steps, future_about, kept_about}
 use Rattle.oneshot_ends.proofs.GrewByRuns.{words_of, receiver_grew, async_try_recv_few}
 use Rattle.oneshot_ends.proofs.PolledEnds.{closed_tried, open_tried, registered_by}
 use Rattle.oneshot_ends.proofs.future.AsyncReceiver.try_recv.Goals as goal
 
 pub returns-clause-run : goal.returns-clause-run
 returns-clause-run g c =
-    receiver_grew (words_of _ _ c.self.inside.ground.steps ∙ ap (λ (e : FutureEnd). e.steps) c.self.view_is) (words_of _ _ c.async_try_recv.new.g.steps) AsyncTryRecv c.async_try_recv.ensures.run
+    receiver_grew (words_of _ _ c.self.inside.ground.steps ∙ future_steps c.self.view_is) (words_of _ _ c.async_try_recv.new.g.steps) AsyncTryRecv c.async_try_recv.ensures.run
 
 pub returns-clause-leaves : goal.returns-clause-leaves
 returns-clause-leaves g c =
@@ -20,11 +20,11 @@ returns-clause-leaves g c =
 pub returns-clause-stays_closed : goal.returns-clause-stays_closed
 returns-clause-stays_closed g c = λ closed.
     c.async_try_recv.ensures.stays
-    (subst (λ xs. IsClosed (receiver_at xs)) (ap (λ (e : FutureEnd). e.steps) (sym c.self.view_is) ∙ sym (words_of _ _ c.self.inside.ground.steps)) closed)
+    (subst (λ xs. IsClosed (receiver_at xs)) (future_steps (sym c.self.view_is) ∙ sym (words_of _ _ c.self.inside.ground.steps)) closed)
 
 pub returns-clause-registered : goal.returns-clause-registered
 returns-clause-registered g c =
-    registered_by c.async_try_recv.result (words_of _ _ c.self.inside.ground.steps ∙ ap (λ (e : FutureEnd). e.steps) c.self.view_is) (words_of _ _ c.async_try_recv.new.g.steps) c.async_try_recv.ensures.registered
+    registered_by c.async_try_recv.result (words_of _ _ c.self.inside.ground.steps ∙ future_steps c.self.view_is) (words_of _ _ c.async_try_recv.new.g.steps) c.async_try_recv.ensures.registered
 
 pub returns-clause-closes : goal.returns-clause-closes
 returns-clause-closes g c = closed_tried (returns-clause-leaves g c)
@@ -34,3 +34,9 @@ returns-clause-stays_open g c = open_tried (returns-clause-leaves g c)
 
 pub returns-clause-bounded : goal.returns-clause-bounded
 returns-clause-bounded g c = async_try_recv_few (returns-clause-run g c)
+
+pub returns-clause-about : goal.returns-clause-about
+returns-clause-about g c = c.async_try_recv.ensures.keeps ∙ future_about c.self.view_is
+
+pub returns-clause-kept : goal.returns-clause-kept
+returns-clause-kept g c = kept_about g.P.Promise.keeps c.async_try_recv.result (future_about c.self.view_is) c.async_try_recv.ensures.given

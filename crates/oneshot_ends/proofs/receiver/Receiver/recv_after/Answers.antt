@@ -1,12 +1,12 @@
 -- The goals that `recv_after` of `Receiver` leaves.
-use Rattle.std.proofs.Common.{sym, ap, subst}
+use Rattle.std.proofs.Common.{sym, ap, ◌∙◌, subst}
 use Rattle.oneshot_machine.specs.Phases.{receiver_at}
 use Rattle.std.specs.Prelude.{◌↔◌, IsTrue}
 use Rattle.oneshot_machine.specs.declared.machine.receiver.ReceiverStart.TheVariants.{RecvTimeout}
 use Rattle.oneshot_drive.specs.BetweenCalls.{IsClosed, LeavesTimed}
 use Rattle.oneshot_drive.proofs.ReadyHands.{ready_timed}
 use Rattle.oneshot_ends.specs.Deadlines.{HasEnd}
-use Rattle.oneshot_ends.specs.Ends.{End}
+use Rattle.oneshot_ends.proofs.EndViews.{same_steps, same_about, lent_about, kept_about}
 use Rattle.oneshot_ends.proofs.GrewByRuns.{words_of, began_at, receiver_grew}
 use Rattle.oneshot_ends.proofs.LentGrounds.{as_lent, given_back, hand_lent}
 use Rattle.oneshot_ends.proofs.TimeoutEnds.{ends_where_held}
@@ -26,7 +26,7 @@ returns-clause-run g c =
     record {
       has_end = c.has_end.result;
       held = subst (λ ends. IsTrue ends ↔ HasEnd c.args.timeout c.args.reading) (sym c.has_end.ensures) (ends_where_held c.args.timeout c.args.reading c.after-deadline.result c.after-deadline.ensures);
-      grew = receiver_grew (began_at (ap (λ r. r.now) c.lend-lent.ensures) (ap (λ (e : End). e.steps) c.self.view_is)) (words_of _ _ c.recv_timeout.new.g.ground.now.steps) (RecvTimeout c.has_end.result) c.recv_timeout.ensures.run;
+      grew = receiver_grew (began_at (ap (λ r. r.now) c.lend-lent.ensures) (same_steps c.self.view_is)) (words_of _ _ c.recv_timeout.new.g.ground.now.steps) (RecvTimeout c.has_end.result) c.recv_timeout.ensures.run;
     }
 
 pub returns-clause-leaves : goal.returns-clause-leaves
@@ -36,4 +36,12 @@ returns-clause-leaves g c =
 pub returns-clause-stays_closed : goal.returns-clause-stays_closed
 returns-clause-stays_closed g c = λ closed.
     c.recv_timeout.ensures.stays
-    (subst (λ xs. IsClosed (receiver_at xs)) (sym (began_at (ap (λ r. r.now) c.lend-lent.ensures) (ap (λ (e : End). e.steps) c.self.view_is))) closed)
+    (subst (λ xs. IsClosed (receiver_at xs)) (sym (began_at (ap (λ r. r.now) c.lend-lent.ensures) (same_steps c.self.view_is))) closed)
+
+pub returns-clause-about : goal.returns-clause-about
+returns-clause-about g c =
+    c.recv_timeout.ensures.keeps ∙ lent_about (ap (λ r. r.now) c.lend-lent.ensures) (same_about c.self.view_is)
+
+pub returns-clause-kept : goal.returns-clause-kept
+returns-clause-kept g c =
+    kept_about g.P.Promise.keeps c.recv_timeout.result (lent_about (ap (λ r. r.now) c.lend-lent.ensures) (same_about c.self.view_is)) c.recv_timeout.ensures.given

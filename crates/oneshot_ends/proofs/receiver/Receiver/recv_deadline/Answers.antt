@@ -1,10 +1,10 @@
 -- The goals that `recv_deadline` of `Receiver` leaves.
-use Rattle.std.proofs.Common.{sym, ap, subst}
+use Rattle.std.proofs.Common.{sym, ap, ◌∙◌, subst}
 use Rattle.oneshot_machine.specs.Phases.{receiver_at}
 use Rattle.oneshot_machine.specs.declared.machine.receiver.ReceiverStart.TheVariants.{RecvDeadline}
 use Rattle.oneshot_drive.specs.BetweenCalls.{IsClosed, LeavesTimed}
 use Rattle.oneshot_drive.proofs.ReadyHands.{closed_in_time, open_too_late, ready_timed}
-use Rattle.oneshot_ends.specs.Ends.{End}
+use Rattle.oneshot_ends.proofs.EndViews.{same_steps, same_about, lent_about, kept_about}
 use Rattle.oneshot_ends.proofs.GrewByRuns.{words_of, began_at, receiver_grew}
 use Rattle.oneshot_ends.proofs.LentGrounds.{as_lent, given_back, hand_lent}
 use Rattle.oneshot_ends.proofs.receiver.Receiver.recv_deadline.Goals as goal
@@ -20,7 +20,7 @@ invariant_of-self g c = (
 
 pub returns-clause-run : goal.returns-clause-run
 returns-clause-run g c =
-    receiver_grew (began_at (ap (λ r. r.now) c.lend-lent.ensures) (ap (λ (e : End). e.steps) c.self.view_is)) (words_of _ _ c.recv_deadline.new.g.ground.now.steps) RecvDeadline c.recv_deadline.ensures.run
+    receiver_grew (began_at (ap (λ r. r.now) c.lend-lent.ensures) (same_steps c.self.view_is)) (words_of _ _ c.recv_deadline.new.g.ground.now.steps) RecvDeadline c.recv_deadline.ensures.run
 
 pub returns-clause-leaves : goal.returns-clause-leaves
 returns-clause-leaves g c =
@@ -29,10 +29,18 @@ returns-clause-leaves g c =
 pub returns-clause-stays_closed : goal.returns-clause-stays_closed
 returns-clause-stays_closed g c = λ closed.
     c.recv_deadline.ensures.stays
-    (subst (λ xs. IsClosed (receiver_at xs)) (sym (began_at (ap (λ r. r.now) c.lend-lent.ensures) (ap (λ (e : End). e.steps) c.self.view_is))) closed)
+    (subst (λ xs. IsClosed (receiver_at xs)) (sym (began_at (ap (λ r. r.now) c.lend-lent.ensures) (same_steps c.self.view_is))) closed)
 
 pub returns-clause-closes : goal.returns-clause-closes
 returns-clause-closes g c = closed_in_time (returns-clause-leaves g c)
 
 pub returns-clause-stays_open : goal.returns-clause-stays_open
 returns-clause-stays_open g c = open_too_late (returns-clause-leaves g c)
+
+pub returns-clause-about : goal.returns-clause-about
+returns-clause-about g c =
+    c.recv_deadline.ensures.keeps ∙ lent_about (ap (λ r. r.now) c.lend-lent.ensures) (same_about c.self.view_is)
+
+pub returns-clause-kept : goal.returns-clause-kept
+returns-clause-kept g c =
+    kept_about g.P.Promise.keeps c.recv_deadline.result (lent_about (ap (λ r. r.now) c.lend-lent.ensures) (same_about c.self.view_is)) c.recv_deadline.ensures.given

@@ -1,10 +1,10 @@
 -- The goals that `recv_ref` of `Receiver` leaves.
-use Rattle.std.proofs.Common.{sym, ap, subst}
+use Rattle.std.proofs.Common.{sym, ap, ◌∙◌, subst}
 use Rattle.oneshot_machine.specs.Phases.{receiver_at}
 use Rattle.oneshot_machine.specs.declared.machine.receiver.ReceiverStart.TheVariants.{RecvRef}
 use Rattle.oneshot_drive.specs.BetweenCalls.{IsClosed, LeavesClosed}
 use Rattle.oneshot_drive.proofs.ReadyHands.{closed_by, ready_closed}
-use Rattle.oneshot_ends.specs.Ends.{End}
+use Rattle.oneshot_ends.proofs.EndViews.{same_steps, same_about, lent_about, kept_about}
 use Rattle.oneshot_ends.proofs.GrewByRuns.{words_of, began_at, receiver_grew}
 use Rattle.oneshot_ends.proofs.LentGrounds.{as_lent, given_back}
 use Rattle.oneshot_ends.proofs.receiver.Receiver.recv_ref.Goals as goal
@@ -18,7 +18,7 @@ invariant_of-self g c =
 
 pub returns-clause-run : goal.returns-clause-run
 returns-clause-run g c =
-    receiver_grew (began_at (ap (λ r. r.now) c.lend-lent.ensures) (ap (λ (e : End). e.steps) c.self.view_is)) (words_of _ _ c.recv_ref.new.g.ground.now.steps) RecvRef c.recv_ref.ensures.run
+    receiver_grew (began_at (ap (λ r. r.now) c.lend-lent.ensures) (same_steps c.self.view_is)) (words_of _ _ c.recv_ref.new.g.ground.now.steps) RecvRef c.recv_ref.ensures.run
 
 pub returns-clause-leaves : goal.returns-clause-leaves
 returns-clause-leaves g c =
@@ -27,7 +27,15 @@ returns-clause-leaves g c =
 pub returns-clause-stays_closed : goal.returns-clause-stays_closed
 returns-clause-stays_closed g c = λ closed.
     c.recv_ref.ensures.stays
-    (subst (λ xs. IsClosed (receiver_at xs)) (sym (began_at (ap (λ r. r.now) c.lend-lent.ensures) (ap (λ (e : End). e.steps) c.self.view_is))) closed)
+    (subst (λ xs. IsClosed (receiver_at xs)) (sym (began_at (ap (λ r. r.now) c.lend-lent.ensures) (same_steps c.self.view_is))) closed)
 
 pub returns-clause-closes : goal.returns-clause-closes
 returns-clause-closes g c = closed_by _ _ (returns-clause-leaves g c)
+
+pub returns-clause-about : goal.returns-clause-about
+returns-clause-about g c =
+    c.recv_ref.ensures.keeps ∙ lent_about (ap (λ r. r.now) c.lend-lent.ensures) (same_about c.self.view_is)
+
+pub returns-clause-kept : goal.returns-clause-kept
+returns-clause-kept g c =
+    kept_about g.P.Promise.keeps c.recv_ref.result (lent_about (ap (λ r. r.now) c.lend-lent.ensures) (same_about c.self.view_is)) c.recv_ref.ensures.given

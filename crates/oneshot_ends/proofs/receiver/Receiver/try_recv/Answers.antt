@@ -4,7 +4,7 @@ use Rattle.oneshot_machine.specs.Phases.{receiver_at}
 use Rattle.oneshot_machine.specs.declared.machine.receiver.ReceiverStart.TheVariants.{TryRecv}
 use Rattle.oneshot_drive.specs.BetweenCalls.{IsClosed, Leaves}
 use Rattle.oneshot_drive.proofs.ReadyHands.{closed_tried, open_tried, ready_still}
-use Rattle.oneshot_ends.specs.Ends.{End}
+use Rattle.oneshot_ends.proofs.EndViews.{same_steps, same_about, kept_about}
 use Rattle.oneshot_ends.proofs.GrewByRuns.{words_of, receiver_grew, try_recv_few}
 use Rattle.oneshot_ends.proofs.receiver.Receiver.try_recv.Goals as goal
 
@@ -16,7 +16,7 @@ invariant_of-self g c = (
 
 pub returns-clause-run : goal.returns-clause-run
 returns-clause-run g c =
-    receiver_grew (words_of _ _ c.self.inside.ground.steps ∙ ap (λ (e : End). e.steps) c.self.view_is) (words_of _ _ c.try_recv.new.g.steps) TryRecv c.try_recv.ensures.run
+    receiver_grew (words_of _ _ c.self.inside.ground.steps ∙ same_steps c.self.view_is) (words_of _ _ c.try_recv.new.g.steps) TryRecv c.try_recv.ensures.run
 
 pub returns-clause-leaves : goal.returns-clause-leaves
 returns-clause-leaves g c =
@@ -25,7 +25,7 @@ returns-clause-leaves g c =
 pub returns-clause-stays_closed : goal.returns-clause-stays_closed
 returns-clause-stays_closed g c = λ closed.
     c.try_recv.ensures.stays
-    (subst (λ xs. IsClosed (receiver_at xs)) (ap (λ (e : End). e.steps) (sym c.self.view_is) ∙ sym (words_of _ _ c.self.inside.ground.steps)) closed)
+    (subst (λ xs. IsClosed (receiver_at xs)) (same_steps (sym c.self.view_is) ∙ sym (words_of _ _ c.self.inside.ground.steps)) closed)
 
 pub returns-clause-closes : goal.returns-clause-closes
 returns-clause-closes g c = closed_tried (returns-clause-leaves g c)
@@ -35,3 +35,9 @@ returns-clause-stays_open g c = open_tried (returns-clause-leaves g c)
 
 pub returns-clause-bounded : goal.returns-clause-bounded
 returns-clause-bounded g c = try_recv_few (returns-clause-run g c)
+
+pub returns-clause-about : goal.returns-clause-about
+returns-clause-about g c = c.try_recv.ensures.keeps ∙ same_about c.self.view_is
+
+pub returns-clause-kept : goal.returns-clause-kept
+returns-clause-kept g c = kept_about g.P.Promise.keeps c.try_recv.result (same_about c.self.view_is) c.try_recv.ensures.given

@@ -2,12 +2,20 @@
 use denote.RattleType.{RattleType}
 use denote.Param.Send.{IsSend, struct_send}
 use denote.Struct.Owning.{shape, to}
+use Rattle.oneshot_word.specs.declared.promise.Promise.{Ghosts}
 use Rattle.oneshot_word.specs.contracts.sender.SenderSide.{the_row}
 use Rattle.oneshot_word.specs.contracts.sender.SenderSide.TheInside.{the_type}
 use Rattle.oneshot_word.proofs.Crosses.{parts_send}
 
-pub send : (T H K : RattleType) → IsSend T → IsSend H → IsSend K → IsSend (the_row T H K)
-send T H K s u v = record {
-  owned = λ d vs x. (((struct_send (shape (the_type T H K)) (parts_send T H K s u v)).owned (to (the_type T H K) x.0) vs, tt), tt);
+pub send : (T H K P : RattleType) (g : Ghosts P.Denot T.Denot) → IsSend T → IsSend H → IsSend K
+    → IsSend (the_row T H K P g)
+send T H K P g s u v = record {
+  owned = λ d vs x. (
+    (
+      (struct_send (shape (the_type T H K P g)) (parts_send T H K P g s u v)).owned (to (the_type T H K P g) x.0) vs,
+      tt,
+    ),
+    tt,
+  );
   leaving = λ k d w. tt;
 }

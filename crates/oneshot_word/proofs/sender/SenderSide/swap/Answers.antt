@@ -6,5 +6,9 @@ use Rattle.oneshot_word.proofs.EachStep.{sender_allowed}
 use Rattle.oneshot_word.proofs.sender.SenderSide.swap.Goals as goal
 
 pub swap-requires : goal.swap-requires
-swap-requires g c =
-    (search rules, search rules, sender_allowed _ (Swap c.args.new) _ _ c.self.invariant.0 (subst (λ s. SenderCan s (Swap c.args.new)) (sym c.self.view_is) c.requires))
+swap-requires g c = (
+  search rules,
+  search rules,
+  sender_allowed g.P.Promise.keeps _ _ (Swap c.args.new) _ _ c.self.invariant.0
+      (subst (λ s. SenderCan s (Swap c.args.new)) (sym c.self.view_is) c.requires),
+)

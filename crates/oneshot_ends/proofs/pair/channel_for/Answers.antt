@@ -1,6 +1,6 @@
--- The goals that `channel` leaves.
+-- The goals that `channel_for` leaves.
 use Rattle.oneshot_ends.proofs.NewEnds.{new_sender, new_receiver}
-use Rattle.oneshot_ends.proofs.pair.channel.Goals as goal
+use Rattle.oneshot_ends.proofs.pair.channel_for.Goals as goal
 
 pub new-requires-2 : goal.new-requires-2
 new-requires-2 g c = new_sender c.in_ok-near.ensures

@@ -1,7 +1,7 @@
 -- The goals that `take_message` of `Polling` as a `ReceiverGround` leaves.
 use Rattle.std.proofs.Common.{refl, [], ◌∷◌}
 use Rattle.oneshot_ends.proofs.PollingTokens.{told}
-use Rattle.oneshot_ends.proofs.polling.PollingReceiverGroundCopied.take_message.Goals as goal
+use Rattle.oneshot_ends.proofs.polling.PollingOnWordReceiverGroundCopied.take_message.Goals as goal
 
 pub returns-clause-list : goal.returns-clause-list
 returns-clause-list g c = told (_ ∷ _ ∷ _ ∷ []) c.args.self.now.ground.now c.take_message.new.self _ _ refl c.take_message.ensures.list

@@ -1,7 +1,7 @@
 -- The goals that `word` of `Polling` as a `ReceiverGround` leaves.
 use Rattle.std.proofs.Common.{refl, [], ◌∷◌}
 use Rattle.oneshot_ends.proofs.PollingTokens.{told, token_can, token_found}
-use Rattle.oneshot_ends.proofs.polling.PollingReceiverGroundCopied.word.Goals as goal
+use Rattle.oneshot_ends.proofs.polling.PollingOnWordReceiverGroundCopied.word.Goals as goal
 
 pub word-requires : goal.word-requires
 word-requires g c = token_can [] c.args.self.now.ground.now c.args.op c.requires

@@ -1,0 +1,35 @@
+-- What two views of one end have alike, and what a receive keeps as the caller sees it.
+use Rattle.std.proofs.Common.{◌≡◌, Result, ap, ◌∙◌, subst}
+use Rattle.std.specs.Prelude.{IfOk}
+use Rattle.futures.specs.declared.task.Poll.{Poll}
+use Rattle.futures.specs.Poll.{IfReady}
+use Rattle.oneshot_word.specs.Side.{Side}
+use Rattle.oneshot_ends.specs.Ends.{EndOf, FutureEndOf}
+
+module _ {P : Type 0} where
+  pub same_steps : {a b : EndOf P} → a ≡ b → a.steps ≡ b.steps
+  same_steps is = ap (λ (e : EndOf P). e.steps) is
+
+  pub same_about : {a b : EndOf P} → a ≡ b → a.about ≡ b.about
+  same_about is = ap (λ (e : EndOf P). e.about) is
+
+  pub future_steps : {a b : FutureEndOf P} → a ≡ b → a.steps ≡ b.steps
+  future_steps is = ap (λ (e : FutureEndOf P). e.steps) is
+
+  pub future_about : {a b : FutureEndOf P} → a ≡ b → a.about ≡ b.about
+  future_about is = ap (λ (e : FutureEndOf P). e.about) is
+
+  -- a side that was lent is about what its end is about
+  pub lent_about : {T W : Type 0} {own s : Side T W P} {about : P} → s ≡ own → own.about ≡ about → s.about ≡ about
+  lent_about is shown = ap (λ s. s.about) is ∙ shown
+
+  -- the message keeps its promise about the same value, by whichever name
+  pub kept_about : {T E : Type 0} (keeps : P → T → Type 0) (result : Result T E) {a b : P}
+      → a ≡ b → IfOk result (λ message. keeps a message) → IfOk result (λ message. keeps b message)
+  kept_about keeps result same kept = subst (λ q. IfOk result (λ message. keeps q message)) same kept
+
+  pub polled_about : {T E : Type 0} (keeps : P → T → Type 0) (result : Poll (Result T E)) {a b : P}
+      → a ≡ b → IfReady result (λ answer. IfOk answer (λ message. keeps a message))
+      → IfReady result (λ answer. IfOk answer (λ message. keeps b message))
+  polled_about keeps result same kept =
+      subst (λ q. IfReady result (λ answer. IfOk answer (λ message. keeps q message))) same kept
