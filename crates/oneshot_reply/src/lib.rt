@@ -2,7 +2,15 @@
 #![tactic(auto)]
 
 mod answer;
+mod asked;
 mod length;
+mod pair;
+mod requests;
+mod ticket;
 
 pub use answer::Answer;
+pub use asked::Asked;
 pub use length::Length;
+pub use pair::request;
+pub use requests::Request;
+pub use ticket::Ticket;
