@@ -29,26 +29,35 @@ Ends n next after =
 
 module _ {T W : Type 0} where
   -- `take_back`: the exchange of the copy
-  module _ {n : ℕ} {s : State T W} (found : Lands receiver_of n s (landings (Exchange 0 3) (receiver_moves (waits again)))) where
+  module _ {n : ℕ} {s : State T W}
+      (found : Lands receiver_of n s (landings (Exchange 0 3) (receiver_moves (waits again)))) where
     pub backed_end : ¬ (n ≡ 0) → OneOf receiver_of n s Ends
     backed_end a = one_of Ends ((refl, refl), ((refl, refl), ((refl, refl), tt))) (not_at 0 a found)
 
     pub backed_asks : ¬ (n ≡ 0) → ReceiverAsks (Swap 2) s
     backed_asks a = let end = backed_end a in asks (Swap 2) end.stands end.is_so.0
 
-    pub withdrawn_ends : {z : State T W} {k : W} → n ≡ 0 → Grows s.log z.log (handed Steps.Withdraw k ∷ []) → z.message ≡ s.message → z.waker ≡ vacant → Stands withdrew z
+    pub withdrawn_ends : {z : State T W} {k : W} → n ≡ 0 → Grows s.log z.log (handed Steps.Withdraw k ∷ [])
+        → z.message ≡ s.message → z.waker ≡ vacant → Stands withdrew z
     withdrawn_ends e back message waker = withdrew_waker (backed_copy found e) back message waker
 
-  pub backed_out : {s : State T W} {l k : Log T W} (n : ℕ) → OneOf receiver_of n s Ends → Grows l k (worded (Exchange 0 3) n ∷ []) → Went (AsyncDrop AsyncExchange) (Goes (AsyncDrop AsyncSwap)) l k
+  pub backed_out : {s : State T W} {l k : Log T W} (n : ℕ) → OneOf receiver_of n s Ends
+      → Grows l k (worded (Exchange 0 3) n ∷ []) → Went (AsyncDrop AsyncExchange) (Goes (AsyncDrop AsyncSwap)) l k
   backed_out n found s = by_word _ (Exchange 0 3) n s refl found.is_so.1
 
-  pub withdrawn_went : {l k j : Log T W} (z : W) (n : ℕ) → n ≡ 0 → Grows l k (worded (Exchange 0 3) n ∷ []) → Grows k j (handed Steps.Withdraw z ∷ []) → Went (AsyncDrop AsyncExchange) (Goes (AsyncDrop AsyncSwap)) l j
-  withdrawn_went z n e s t = on (exchanged_to 0 3 (Goes (AsyncDrop AsyncBack)) n 0 refl refl e s) (by_withdraw _ z t refl refl)
+  pub withdrawn_went : {l k j : Log T W} (z : W) (n : ℕ) → n ≡ 0 → Grows l k (worded (Exchange 0 3) n ∷ [])
+      → Grows k j (handed Steps.Withdraw z ∷ []) → Went (AsyncDrop AsyncExchange) (Goes (AsyncDrop AsyncSwap)) l j
+  withdrawn_went z n e s t =
+      on (exchanged_to 0 3 (Goes (AsyncDrop AsyncBack)) n 0 refl refl e s) (by_withdraw _ z t refl refl)
 
   -- `drop_async`: what it does before its swap
   module _ {l k : Log T W} (n : ℕ) (s : Grows l k (worded Load n ∷ [])) where
-    pub drop_after : {j z : Log T W} → n ≡ 0 → Went (AsyncDrop AsyncExchange) (Goes (AsyncDrop AsyncSwap)) k j → Ran receiver_step receiver_row (AsyncDrop AsyncSwap) j z R.Done [] [] → ReceiverRan C.DropAsync l z R.Done [] []
+    pub drop_after : {j z : Log T W} → n ≡ 0 → Went (AsyncDrop AsyncExchange) (Goes (AsyncDrop AsyncSwap)) k j
+        → Ran receiver_step receiver_row (AsyncDrop AsyncSwap) j z R.Done [] []
+        → ReceiverRan C.DropAsync l z R.Done [] []
     drop_after e went run = before (on (loaded_to (Goes (AsyncDrop AsyncExchange)) n 0 refl refl e s) went) run
 
-    pub drop_at_once : {z : Log T W} → receiver_row (AsyncDrop AsyncLoad) (S.Word n) ≡ Some (Goes (AsyncDrop AsyncSwap)) → Ran receiver_step receiver_row (AsyncDrop AsyncSwap) k z R.Done [] [] → ReceiverRan C.DropAsync l z R.Done [] []
+    pub drop_at_once : {z : Log T W} → receiver_row (AsyncDrop AsyncLoad) (S.Word n) ≡ Some (Goes (AsyncDrop AsyncSwap))
+        → Ran receiver_step receiver_row (AsyncDrop AsyncSwap) k z R.Done [] []
+        → ReceiverRan C.DropAsync l z R.Done [] []
     drop_at_once leads run = before (by_word (Goes (AsyncDrop AsyncSwap)) Load n s refl leads) run

@@ -60,18 +60,21 @@ closed_word swapped_empty a b c = absurd (b refl)
 closed_word swapped_sender a b c = absurd (c refl)
 closed_word swapped_closed a b c = refl
 
-left_row : {n : ℕ} {slots : Slots} → Swapped n slots → ¬ (n ≡ 4) → ¬ (n ≡ 2) → receiver_row (AsyncDrop AsyncSwap) (S.Word n) ≡ Some (Answers R.Done)
+left_row : {n : ℕ} {slots : Slots} → Swapped n slots → ¬ (n ≡ 4) → ¬ (n ≡ 2)
+    → receiver_row (AsyncDrop AsyncSwap) (S.Word n) ≡ Some (Answers R.Done)
 left_row swapped_message a b = absurd (a refl)
 left_row swapped_empty a b = refl
 left_row swapped_sender a b = refl
 left_row swapped_closed a b = absurd (b refl)
 
 -- a row for a word that is known
-pub row_at : (p : ReceiverPos) {o : Outcome ReceiverPos} {n : ℕ} (word : ℕ) → receiver_row p (S.Word word) ≡ Some o → n ≡ word → receiver_row p (S.Word n) ≡ Some o
+pub row_at : (p : ReceiverPos) {o : Outcome ReceiverPos} {n : ℕ} (word : ℕ) → receiver_row p (S.Word word) ≡ Some o
+    → n ≡ word → receiver_row p (S.Word n) ≡ Some o
 row_at p word leads e = ap (λ n. receiver_row p (S.Word n)) e ∙ leads
 
 module _ {T W : Type 0} where
-  module _ {n : ℕ} {at : ReceiverAt} {m m' : Held T} {w w' : Held W} (made : ReceiverFinds at (Swap 2) n m w m' w') where
+  module _ {n : ℕ} {at : ReceiverAt} {m m' : Held T} {w w' : Held W}
+      (made : ReceiverFinds at (Swap 2) n m w m' w') where
     swapped : FoundSo {At = ReceiverAt} (λ n next after. Swapped n after) n m' w'
     swapped = found_so (is_same_op (Swap 2)) (λ n next after. Swapped n after) refl (swaps at) made
 
@@ -92,13 +95,18 @@ module _ {T W : Type 0} where
     pub swapped_open : ¬ (n ≡ 4) → ¬ (n ≡ 2) → receiver_row (AsyncDrop AsyncSwap) (S.Word n) ≡ Some (Answers R.Done)
     swapped_open = left_row swapped.is_so
 
-  pub past_1 : {b : State T W} {n : ℕ} {m : Held T} {w : Held W} → AtRest b → ReceiverFinds (receiver_of b.log) (Swap 2) n b.message b.waker m w → ¬ (n ≡ 1)
+  pub past_1 : {b : State T W} {n : ℕ} {m : Held T} {w : Held W} → AtRest b
+      → ReceiverFinds (receiver_of b.log) (Swap 2) n b.message b.waker m w → ¬ (n ≡ 1)
   past_1 rests made =
-      (found_so (is_same_op (Swap 2)) (λ n next after. ¬ (n ≡ 1)) refl (subst (λ at. Each (λ n next after. ¬ (n ≡ 1)) (landings (Swap 2) (receiver_moves at))) (sym rests.stands.phase) (rests_swaps rests.is_one)) made).is_so
+      (found_so (is_same_op (Swap 2)) (λ n next after. ¬ (n ≡ 1)) refl
+      (subst (λ at. Each (λ n next after. ¬ (n ≡ 1)) (landings (Swap 2) (receiver_moves at)))
+      (sym rests.stands.phase) (rests_swaps rests.is_one)) made).is_so
 
   -- the runs of both drops, from the position of their swap
   module _ (p : ReceiverPos) (at : Steps.Word (Swap 2) ≡ receiver_step p) (n : ℕ) where
-    pub dropped_message : {l k j z : Log T W} → receiver_row p (S.Word n) ≡ Some (Goes (Drop DropMessage)) → Grows l k (worded (Swap 2) n ∷ []) → Grows k j (did Steps.DropMessage ∷ []) → Grows j z (did Steps.Free ∷ []) → Ran receiver_step receiver_row p l z R.Done [] []
+    pub dropped_message : {l k j z : Log T W} → receiver_row p (S.Word n) ≡ Some (Goes (Drop DropMessage))
+        → Grows l k (worded (Swap 2) n ∷ []) → Grows k j (did Steps.DropMessage ∷ []) → Grows j z (did Steps.Free ∷ [])
+        → Ran receiver_step receiver_row p l z R.Done [] []
     dropped_message row s t u =
         record {
           run = worded (Swap 2) n ∷ did Steps.DropMessage ∷ did Steps.Free ∷ [];
@@ -108,10 +116,14 @@ module _ {T W : Type 0} where
           gets = refl;
         }
 
-    pub dropped_open : {l k : Log T W} → receiver_row p (S.Word n) ≡ Some (Answers R.Done) → Grows l k (worded (Swap 2) n ∷ []) → Ran receiver_step receiver_row p l k R.Done [] []
-    dropped_open row s = record { run = worded (Swap 2) n ∷ []; is_run = last _ at row; grows = s; gives = refl; gets = refl }
+    pub dropped_open : {l k : Log T W} → receiver_row p (S.Word n) ≡ Some (Answers R.Done)
+        → Grows l k (worded (Swap 2) n ∷ []) → Ran receiver_step receiver_row p l k R.Done [] []
+    dropped_open row s =
+        record { run = worded (Swap 2) n ∷ []; is_run = last _ at row; grows = s; gives = refl; gets = refl }
 
-    pub dropped_last : {l k j : Log T W} → receiver_row p (S.Word n) ≡ Some (Goes (Drop DropFree)) → Grows l k (worded (Swap 2) n ∷ []) → Grows k j (did Steps.Free ∷ []) → Ran receiver_step receiver_row p l j R.Done [] []
+    pub dropped_last : {l k j : Log T W} → receiver_row p (S.Word n) ≡ Some (Goes (Drop DropFree))
+        → Grows l k (worded (Swap 2) n ∷ []) → Grows k j (did Steps.Free ∷ [])
+        → Ran receiver_step receiver_row p l j R.Done [] []
     dropped_last row s t =
         record {
           run = worded (Swap 2) n ∷ did Steps.Free ∷ [];

@@ -37,46 +37,67 @@ leaves _ = tt
 
 module _ {T W : Type 0} where
   -- a copy, or a refusal
-  refuses : {p : ReceiverPos} {l k z : Log T W} → Steps.Copy ≡ receiver_step p → receiver_row p (S.Refused true) ≡ Some (Goes (Future PollOwn)) → Grows l k (copied None ∷ []) → Grows k z (did Steps.WakeOwn ∷ []) → Went p (Answers R.Pending) l z
+  refuses : {p : ReceiverPos} {l k z : Log T W} → Steps.Copy ≡ receiver_step p
+      → receiver_row p (S.Refused true) ≡ Some (Goes (Future PollOwn)) → Grows l k (copied None ∷ [])
+      → Grows k z (did Steps.WakeOwn ∷ []) → Went p (Answers R.Pending) l z
   refuses at leads s t = on (by_refusal (Goes (Future PollOwn)) s at leads) (by_own _ t refl refl)
 
-  pub refused : {p : ReceiverPos} {l k z : Log T W} (c : Option W) → c ≡ None → Steps.Copy ≡ receiver_step p → receiver_row p (S.Refused true) ≡ Some (Goes (Future PollOwn)) → Grows l k (copied c ∷ []) → Grows k z (did Steps.WakeOwn ∷ []) → Went p (Answers R.Pending) l z
+  pub refused : {p : ReceiverPos} {l k z : Log T W} (c : Option W) → c ≡ None → Steps.Copy ≡ receiver_step p
+      → receiver_row p (S.Refused true) ≡ Some (Goes (Future PollOwn)) → Grows l k (copied c ∷ [])
+      → Grows k z (did Steps.WakeOwn ∷ []) → Went p (Answers R.Pending) l z
   refused {l} {k} c no_copy at leads s t = refuses at leads (subst (λ c. Grows l k (copied c ∷ [])) no_copy s) t
 
-  pub copies : {p r : ReceiverPos} {l k : Log T W} (c : Option W) (y : W) → c ≡ Some y → Steps.Copy ≡ receiver_step p → receiver_row p (S.Refused false) ≡ Some (Goes r) → Grows l k (copied c ∷ []) → Went p (Goes r) l k
+  pub copies : {p r : ReceiverPos} {l k : Log T W} (c : Option W) (y : W) → c ≡ Some y → Steps.Copy ≡ receiver_step p
+      → receiver_row p (S.Refused false) ≡ Some (Goes r) → Grows l k (copied c ∷ []) → Went p (Goes r) l k
   copies {r} {l} {k} c y made at leads s = by_copy (Goes r) y (subst (λ c. Grows l k (copied c ∷ [])) made s) at leads
 
   -- the task woke itself: the poll ends with nothing found, where it stands
-  pub owned_ends : {at : ReceiverAt} {b a : State T W} → LeavesPolled {T = T} Pending at → Stands at b → Grows b.log a.log (did Steps.WakeOwn ∷ []) → a.message ≡ b.message → a.waker ≡ b.waker → EndsPoll F.Nothing a
-  owned_ends {at} leaves is s message waker = record { at = at; is_one = leaves; stands = stands_on (did Steps.WakeOwn ∷ []) refl is s message waker }
+  pub owned_ends : {at : ReceiverAt} {b a : State T W} → LeavesPolled {T = T} Pending at → Stands at b
+      → Grows b.log a.log (did Steps.WakeOwn ∷ []) → a.message ≡ b.message → a.waker ≡ b.waker → EndsPoll F.Nothing a
+  owned_ends {at} leaves is s message waker =
+      record { at = at; is_one = leaves; stands = stands_on (did Steps.WakeOwn ∷ []) refl is s message waker }
 
   -- `leave`: it may store a copy where its slot is empty
-  pub may_leave : {at : ReceiverAt} {share : Share} {s : State T W} → StandsWith receiver_of at (share, empty) s → has_row (Exchange 3 0) (share, filled) (receiver_moves at) ≡ true → MayLeave s
+  pub may_leave : {at : ReceiverAt} {share : Share} {s : State T W} → StandsWith receiver_of at (share, empty) s
+      → has_row (Exchange 3 0) (share, filled) (receiver_moves at) ≡ true → MayLeave s
   may_leave {s} is has =
       record {
         room = is_room is.waker;
-        asks = λ copy. asks {s = record { log = s.log; message = s.message; waker = held copy }} (Exchange 3 0) (record { phase = is.phase; message = is.message; waker = is_held copy }) has;
+        asks = λ copy. asks {s = record { log = s.log; message = s.message; waker = held copy }} (Exchange 3 0)
+            (record { phase = is.phase; message = is.message; waker = is_held copy }) has;
       }
 
-  pub leave_asks : {b : State T W} {k : Log T W} {m : Held T} {w : Held W} (y : W) → MayLeave b → Grows b.log k (handed Steps.WriteWaker y ∷ []) → m ≡ b.message → w ≡ held y → ReceiverMay (receiver_of k) (Exchange 3 0) m w
+  pub leave_asks : {b : State T W} {k : Log T W} {m : Held T} {w : Held W} (y : W) → MayLeave b
+      → Grows b.log k (handed Steps.WriteWaker y ∷ []) → m ≡ b.message → w ≡ held y
+      → ReceiverMay (receiver_of k) (Exchange 3 0) m w
   leave_asks y may s message waker =
-      subst (λ (z : ReceiverAt × Held T × Held W). ReceiverMay z.0 (Exchange 3 0) z.1 z.2) (λ i. (sym (still (handed Steps.WriteWaker y ∷ []) refl s) i, sym message i, sym waker i)) (may.asks y)
+      subst (λ (z : ReceiverAt × Held T × Held W). ReceiverMay z.0 (Exchange 3 0) z.1 z.2)
+      (λ i. (sym (still (handed Steps.WriteWaker y ∷ []) refl s) i, sym message i, sym waker i)) (may.asks y)
 
-  pub left : {l k : Log T W} {m m' : Held T} {w w' : Held W} (n : ℕ) → ReceiverFinds (receiver_of l) (Exchange 3 0) n m w m' w' → Grows l k (worded (Exchange 3 0) n ∷ []) → OneOf receiver_of n (record { log = k; message = m'; waker = w' }) Left
-  left {l} {m} {w} n made grows = one_of Left (leaves (receiver_of l)) (lands (record { log = l; message = m; waker = w }) (Exchange 3 0) n refl made grows)
+  pub left : {l k : Log T W} {m m' : Held T} {w w' : Held W} (n : ℕ)
+      → ReceiverFinds (receiver_of l) (Exchange 3 0) n m w m' w' → Grows l k (worded (Exchange 3 0) n ∷ [])
+      → OneOf receiver_of n (record { log = k; message = m'; waker = w' }) Left
+  left {l} {m} {w} n made grows =
+      one_of Left (leaves (receiver_of l))
+      (lands (record { log = l; message = m; waker = w }) (Exchange 3 0) n refl made grows)
 
-  waits_with : {at : ReceiverAt} {slots : Slots} {s : State T W} → Left 3 at slots → StandsWith receiver_of at slots s → EndsPoll F.Nothing s
+  waits_with : {at : ReceiverAt} {slots : Slots} {s : State T W} → Left 3 at slots → StandsWith receiver_of at slots s
+      → EndsPoll F.Nothing s
   waits_with left_copy is = record { at = waits polled; is_one = leaves_waiting; stands = is }
 
-  full_with : {at : ReceiverAt} {slots : Slots} {s : State T W} → Left 4 at slots → StandsWith receiver_of at slots s → StandsWith receiver_of (full by_poll) (filled, filled) s
+  full_with : {at : ReceiverAt} {slots : Slots} {s : State T W} → Left 4 at slots → StandsWith receiver_of at slots s
+      → StandsWith receiver_of (full by_poll) (filled, filled) s
   full_with left_full is = is
 
-  over_with : {n : ℕ} {at : ReceiverAt} {slots : Slots} {s : State T W} → Left n at slots → StandsWith receiver_of at slots s → ¬ (n ≡ 3) → ¬ (n ≡ 4) → Lone receiver_of n s (2, resolved found_closed, (empty, filled))
+  over_with : {n : ℕ} {at : ReceiverAt} {slots : Slots} {s : State T W} → Left n at slots
+      → StandsWith receiver_of at slots s → ¬ (n ≡ 3) → ¬ (n ≡ 4)
+      → Lone receiver_of n s (2, resolved found_closed, (empty, filled))
   over_with left_copy is a b = absurd (a refl)
   over_with left_full is a b = absurd (b refl)
   over_with left_over is a b = record { word = refl; stands = is }
 
-  there_with : {n : ℕ} {at : ReceiverAt} {slots : Slots} {s : State T W} → Left n at slots → StandsWith receiver_of at slots s → ¬ (n ≡ 3) → IsSlot filled s.waker
+  there_with : {n : ℕ} {at : ReceiverAt} {slots : Slots} {s : State T W} → Left n at slots
+      → StandsWith receiver_of at slots s → ¬ (n ≡ 3) → IsSlot filled s.waker
   there_with left_copy is a = absurd (a refl)
   there_with left_full is a = is.waker
   there_with left_over is a = is.waker
@@ -95,33 +116,56 @@ module _ {T W : Type 0} where
     none_left a b = (over_with found.is_so found.stands a b).word
 
     -- once the copy is taken back
-    module _ {z : State T W} {k : W} (back : Grows s.log z.log (handed Steps.Withdraw k ∷ [])) (message : z.message ≡ s.message) (waker : z.waker ≡ vacant) where
+    module _ {z : State T W} {k : W} (back : Grows s.log z.log (handed Steps.Withdraw k ∷ []))
+        (message : z.message ≡ s.message) (waker : z.waker ≡ vacant) where
       pub withdrew_full : n ≡ 4 → EndsPoll F.Message z
       withdrew_full e = (by_poll, refl, withdrew_waker (full_with (left_with 4 e) found.stands) back message waker)
 
       pub withdrew_over : ¬ (n ≡ 3) → ¬ (n ≡ 4) → EndsPoll F.Closed z
-      withdrew_over a b = record { at = resolved found_closed; is_one = refl; stands = withdrew_waker (over_with found.is_so found.stands a b).stands back message waker }
+      withdrew_over a b =
+          record {
+            at = resolved found_closed;
+            is_one = refl;
+            stands = withdrew_waker
+                (over_with found.is_so found.stands a b).stands back message waker;
+          }
 
-  writes : {l k : Log T W} (y : W) → Grows l k (handed Steps.WriteWaker y ∷ []) → Went (Future PollWrite) (Goes (Future PollExchange)) l k
+  writes : {l k : Log T W} (y : W) → Grows l k (handed Steps.WriteWaker y ∷ [])
+      → Went (Future PollWrite) (Goes (Future PollExchange)) l k
   writes y s = by_write _ y s refl refl
 
-  pub exchanged_to : {l k : Log T W} {p : ReceiverPos} (a b : ℕ) (o : Outcome ReceiverPos) (n found : ℕ) → Steps.Word (Exchange a b) ≡ receiver_step p → receiver_row p (S.Word found) ≡ Some o → n ≡ found → Grows l k (worded (Exchange a b) n ∷ []) → Went p o l k
-  exchanged_to {p} a b o n found at leads e s = by_word o (Exchange a b) n s at (ap (λ n. receiver_row p (S.Word n)) e ∙ leads)
+  pub exchanged_to : {l k : Log T W} {p : ReceiverPos} (a b : ℕ) (o : Outcome ReceiverPos) (n found : ℕ)
+      → Steps.Word (Exchange a b) ≡ receiver_step p → receiver_row p (S.Word found) ≡ Some o → n ≡ found
+      → Grows l k (worded (Exchange a b) n ∷ []) → Went p o l k
+  exchanged_to {p} a b o n found at leads e s =
+      by_word o (Exchange a b) n s at (ap (λ n. receiver_row p (S.Word n)) e ∙ leads)
 
-  pub leave_waits : {l k j : Log T W} (y : W) (n : ℕ) → n ≡ 3 → Grows l k (handed Steps.WriteWaker y ∷ []) → Grows k j (worded (Exchange 3 0) n ∷ []) → Went (Future PollWrite) (poll_end F.Nothing) l j
+  pub leave_waits : {l k j : Log T W} (y : W) (n : ℕ) → n ≡ 3 → Grows l k (handed Steps.WriteWaker y ∷ [])
+      → Grows k j (worded (Exchange 3 0) n ∷ []) → Went (Future PollWrite) (poll_end F.Nothing) l j
   leave_waits y n e s t = on (writes y s) (exchanged_to 3 0 _ n 3 refl refl e t)
 
-  pub leave_full : {l k j z : Log T W} (y u : W) (n : ℕ) → n ≡ 4 → Grows l k (handed Steps.WriteWaker y ∷ []) → Grows k j (worded (Exchange 3 0) n ∷ []) → Grows j z (handed Steps.Withdraw u ∷ []) → Went (Future PollWrite) (poll_end F.Message) l z
-  leave_full y u n e s t v = on (writes y s) (on (exchanged_to 3 0 (Goes (Future PollBackFull)) n 4 refl refl e t) (by_withdraw _ u v refl refl))
+  pub leave_full : {l k j z : Log T W} (y u : W) (n : ℕ) → n ≡ 4 → Grows l k (handed Steps.WriteWaker y ∷ [])
+      → Grows k j (worded (Exchange 3 0) n ∷ []) → Grows j z (handed Steps.Withdraw u ∷ [])
+      → Went (Future PollWrite) (poll_end F.Message) l z
+  leave_full y u n e s t v =
+      on (writes y s) (on (exchanged_to 3 0 (Goes (Future PollBackFull)) n 4 refl refl e t)
+      (by_withdraw _ u v refl refl))
 
-  pub leave_over : {l k j z : Log T W} (y u : W) (n : ℕ) → n ≡ 2 → Grows l k (handed Steps.WriteWaker y ∷ []) → Grows k j (worded (Exchange 3 0) n ∷ []) → Grows j z (handed Steps.Withdraw u ∷ []) → Went (Future PollWrite) (poll_end F.Closed) l z
-  leave_over y u n e s t v = on (writes y s) (on (exchanged_to 3 0 (Goes (Future PollBackClosed)) n 2 refl refl e t) (by_withdraw _ u v refl refl))
+  pub leave_over : {l k j z : Log T W} (y u : W) (n : ℕ) → n ≡ 2 → Grows l k (handed Steps.WriteWaker y ∷ [])
+      → Grows k j (worded (Exchange 3 0) n ∷ []) → Grows j z (handed Steps.Withdraw u ∷ [])
+      → Went (Future PollWrite) (poll_end F.Closed) l z
+  leave_over y u n e s t v =
+      on (writes y s) (on (exchanged_to 3 0 (Goes (Future PollBackClosed)) n 2 refl refl e t)
+      (by_withdraw _ u v refl refl))
 
   -- `leave_again`: where the exchange of the earlier copy landed
-  pub backed : {b a : State T W} (n : ℕ) → Stands (waits again) b → ReceiverMakes (Exchange 0 3) n b a → Grows b.log a.log (worded (Exchange 0 3) n ∷ []) → Lands receiver_of n a (landings (Exchange 0 3) (receiver_moves (waits again)))
+  pub backed : {b a : State T W} (n : ℕ) → Stands (waits again) b → ReceiverMakes (Exchange 0 3) n b a
+      → Grows b.log a.log (worded (Exchange 0 3) n ∷ [])
+      → Lands receiver_of n a (landings (Exchange 0 3) (receiver_moves (waits again)))
   backed {b} n is made grows = lands b (Exchange 0 3) n is.phase made grows
 
-  module _ {n : ℕ} {s : State T W} (found : Lands receiver_of n s (landings (Exchange 0 3) (receiver_moves (waits again)))) where
+  module _ {n : ℕ} {s : State T W}
+      (found : Lands receiver_of n s (landings (Exchange 0 3) (receiver_moves (waits again)))) where
     pub backed_copy : n ≡ 0 → StandsWith receiver_of withdrew (none, filled) s
     backed_copy e = (lone (at_word 0 e found)).stands
 
@@ -138,14 +182,22 @@ module _ {T W : Type 0} where
     backed_late a b c = lone (not_at 2 c (not_at 4 b (not_at 0 a found)))
 
   module _ {l k : Log T W} (c : Option W) (y : W) (made : c ≡ Some y) (s : Grows l k (copied c ∷ [])) where
-    pub again_to : {j : Log T W} (o : Outcome ReceiverPos) (n found : ℕ) → receiver_row (Future AgainExchange) (S.Word found) ≡ Some o → n ≡ found → Grows k j (worded (Exchange 0 3) n ∷ []) → Went (Future AgainCopy) o l j
+    pub again_to : {j : Log T W} (o : Outcome ReceiverPos) (n found : ℕ)
+        → receiver_row (Future AgainExchange) (S.Word found) ≡ Some o → n ≡ found
+        → Grows k j (worded (Exchange 0 3) n ∷ []) → Went (Future AgainCopy) o l j
     again_to o n found leads e t = on (copies c y made refl refl s) (exchanged_to 0 3 o n found refl leads e t)
 
-    pub again_left : {j i z : Log T W} (f : Found) (n : ℕ) (u : W) → n ≡ 0 → Grows k j (worded (Exchange 0 3) n ∷ []) → Grows j i (handed Steps.Withdraw u ∷ []) → Went (Future PollWrite) (poll_end f) i z → Went (Future AgainCopy) (poll_end f) l z
-    again_left f n u e t v went = on (again_to (Goes (Future AgainBack)) n 0 refl e t) (on (by_withdraw (Goes (Future PollWrite)) u v refl refl) went)
+    pub again_left : {j i z : Log T W} (f : Found) (n : ℕ) (u : W) → n ≡ 0 → Grows k j (worded (Exchange 0 3) n ∷ [])
+        → Grows j i (handed Steps.Withdraw u ∷ []) → Went (Future PollWrite) (poll_end f) i z
+        → Went (Future AgainCopy) (poll_end f) l z
+    again_left f n u e t v went =
+        on (again_to (Goes (Future AgainBack)) n 0 refl e t)
+        (on (by_withdraw (Goes (Future PollWrite)) u v refl refl) went)
 
-    pub again_late : {j z : Log T W} (n : ℕ) → n ≡ 1 → Grows k j (worded (Exchange 0 3) n ∷ []) → Grows j z (did Steps.WakeOwn ∷ []) → Went (Future AgainCopy) (poll_end F.Nothing) l z
+    pub again_late : {j z : Log T W} (n : ℕ) → n ≡ 1 → Grows k j (worded (Exchange 0 3) n ∷ [])
+        → Grows j z (did Steps.WakeOwn ∷ []) → Went (Future AgainCopy) (poll_end F.Nothing) l z
     again_late n e t v = on (again_to (Goes (Future PollOwn)) n 1 refl e t) (by_own _ v refl refl)
 
-    pub first_left : {z : Log T W} (f : Found) → Went (Future PollWrite) (poll_end f) k z → Went (Future PollCopy) (poll_end f) l z
+    pub first_left : {z : Log T W} (f : Found) → Went (Future PollWrite) (poll_end f) k z
+        → Went (Future PollCopy) (poll_end f) l z
     first_left f went = on (copies c y made refl refl s) went

@@ -51,13 +51,18 @@ pub data Met : ℕ → ReceiverAt → Type 0 where
   met_copy : Met 0 (waits again)
   met_sender : Met 1 claimed
 
-meets : {at : ReceiverAt} → Polled at → Each (λ n next after. Met n next × (after ≡ receiver_slots next)) (landings Load (receiver_moves at))
+meets : {at : ReceiverAt} → Polled at
+    → Each (λ n next after. Met n next × (after ≡ receiver_slots next)) (landings Load (receiver_moves at))
 meets (unpolled rests_new) = ((met_empty, refl), ((met_message refl refl, refl), ((met_closed found_closed, refl), tt)))
-meets (unpolled (rests_open looked)) = ((met_empty, refl), ((met_message refl refl, refl), ((met_closed found_closed, refl), tt)))
-meets (unpolled (rests_open between)) = ((met_empty, refl), ((met_message refl refl, refl), ((met_closed found_closed, refl), tt)))
+meets (unpolled (rests_open looked)) =
+    ((met_empty, refl), ((met_message refl refl, refl), ((met_closed found_closed, refl), tt)))
+meets (unpolled (rests_open between)) =
+    ((met_empty, refl), ((met_message refl refl, refl), ((met_closed found_closed, refl), tt)))
 meets (unpolled (rests_closed c)) = ((met_closed c, refl), tt)
-meets left_copy = ((met_copy, refl), ((met_sender, refl), ((met_message refl refl, refl), ((met_closed found_closed, refl), tt))))
-meets kept_copy = ((met_copy, refl), ((met_sender, refl), ((met_message refl refl, refl), ((met_closed found_closed, refl), tt))))
+meets left_copy =
+    ((met_copy, refl), ((met_sender, refl), ((met_message refl refl, refl), ((met_closed found_closed, refl), tt))))
+meets kept_copy =
+    ((met_copy, refl), ((met_sender, refl), ((met_message refl refl, refl), ((met_closed found_closed, refl), tt))))
 meets found_sender = ((met_sender, refl), ((met_message refl refl, refl), ((met_closed found_closed, refl), tt)))
 meets (has_resolved c) = ((met_closed c, refl), tt)
 
@@ -78,7 +83,8 @@ leaves_taken (swapped by) x = leaves_received x
 leaves_taken by_future x = leaves_resolved x
 leaves_taken by_poll x = leaves_resolved x
 
-pub taken_leaves : {T : Type 0} {at : ReceiverAt} (g : Got) (x : T) → at ≡ receiver_next (full g) (Store 2) S.Done → LeavesPolled (Ready (Ok x)) at
+pub taken_leaves : {T : Type 0} {at : ReceiverAt} (g : Got) (x : T) → at ≡ receiver_next (full g) (Store 2) S.Done
+    → LeavesPolled (Ready (Ok x)) at
 taken_leaves g x is = subst (λ at. LeavesPolled (Ready (Ok x)) at) (sym is) (leaves_taken g x)
 
 pending_polled : {T : Type 0} {at : ReceiverAt} → LeavesPolled {T = T} Pending at → Polled at
@@ -110,7 +116,8 @@ module _ {T W : Type 0} where
   full_met : {at : ReceiverAt} {s : State T W} → Met 4 at → Stands at s → EndsPoll F.Message s
   full_met (met_message {g} word drops) stands = (g, word, stands)
 
-  closed_met : {n : ℕ} {at : ReceiverAt} {s : State T W} → Met n at → Stands at s → ¬ (n ≡ 3) → ¬ (n ≡ 0) → ¬ (n ≡ 4) → ¬ (n ≡ 1) → (n ≡ 2) × EndsPoll F.Closed s
+  closed_met : {n : ℕ} {at : ReceiverAt} {s : State T W} → Met n at → Stands at s → ¬ (n ≡ 3) → ¬ (n ≡ 0) → ¬ (n ≡ 4)
+      → ¬ (n ≡ 1) → (n ≡ 2) × EndsPoll F.Closed s
   closed_met met_empty stands a b c d = absurd (a refl)
   closed_met met_copy stands a b c d = absurd (b refl)
   closed_met (met_message word drops) stands a b c d = absurd (c refl)
@@ -120,7 +127,8 @@ module _ {T W : Type 0} where
   pub meet_asks : {s : State T W} → IsPolled s → ReceiverAsks Load s
   meet_asks is = asks Load is.stands (polled_loads is.is_one)
 
-  pub met : {b a : State T W} (n : ℕ) → IsPolled b → ReceiverMakes Load n b a → Grows b.log a.log (worded Load n ∷ []) → Came Met n a
+  pub met : {b a : State T W} (n : ℕ) → IsPolled b → ReceiverMakes Load n b a → Grows b.log a.log (worded Load n ∷ [])
+      → Came Met n a
   met {b} n is made grows = came Met (meets is.is_one) (lands b Load n is.stands.phase made grows)
 
   module _ {n : ℕ} {s : State T W} (found : Came Met n s) where
@@ -142,29 +150,42 @@ module _ {T W : Type 0} where
     pub met_none : ¬ (n ≡ 3) → ¬ (n ≡ 0) → ¬ (n ≡ 4) → ¬ (n ≡ 1) → (n ≡ 2) × EndsPoll F.Closed s
     met_none a b c d = closed_met found.is_so found.stands a b c d
 
-    pub met_end : ¬ (n ≡ 0) → ReceiverAsks (Swap 2) s × (receiver_row (AsyncDrop AsyncLoad) (S.Word n) ≡ Some (Goes (AsyncDrop AsyncSwap)))
+    pub met_end : ¬ (n ≡ 0) → ReceiverAsks (Swap 2) s
+        × (receiver_row (AsyncDrop AsyncLoad) (S.Word n) ≡ Some (Goes (AsyncDrop AsyncSwap)))
     met_end a = let ends = ends_met found.is_so a in (asks (Swap 2) found.stands ends.0, ends.1)
 
-  pub loaded_to : {l k : Log T W} {p : ReceiverPos} (o : Outcome ReceiverPos) (n found : ℕ) → Steps.Word Load ≡ receiver_step p → receiver_row p (S.Word found) ≡ Some o → n ≡ found → Grows l k (worded Load n ∷ []) → Went p o l k
+  pub loaded_to : {l k : Log T W} {p : ReceiverPos} (o : Outcome ReceiverPos) (n found : ℕ)
+      → Steps.Word Load ≡ receiver_step p → receiver_row p (S.Word found) ≡ Some o → n ≡ found
+      → Grows l k (worded Load n ∷ []) → Went p o l k
   loaded_to {p} o n found at leads e s = by_word o Load n s at (ap (λ n. receiver_row p (S.Word n)) e ∙ leads)
 
-  pub met_went : {l k z : Log T W} {p : ReceiverPos} {o : Outcome ReceiverPos} (n found : ℕ) → receiver_row (Future PollLoad) (S.Word found) ≡ Some (Goes p) → n ≡ found → Grows l k (worded Load n ∷ []) → Went p o k z → Went (Future PollLoad) o l z
+  pub met_went : {l k z : Log T W} {p : ReceiverPos} {o : Outcome ReceiverPos} (n found : ℕ)
+      → receiver_row (Future PollLoad) (S.Word found) ≡ Some (Goes p) → n ≡ found → Grows l k (worded Load n ∷ [])
+      → Went p o k z → Went (Future PollLoad) o l z
   met_went {p} n found leads e s went = on (loaded_to (Goes p) n found refl leads e s) went
 
   -- it finds the sender about to finish, and wakes its own task
-  pub met_own : {l k z : Log T W} (n : ℕ) → n ≡ 1 → Grows l k (worded Load n ∷ []) → Grows k z (did Steps.WakeOwn ∷ []) → Went (Future PollLoad) (Answers R.Pending) l z
+  pub met_own : {l k z : Log T W} (n : ℕ) → n ≡ 1 → Grows l k (worded Load n ∷ []) → Grows k z (did Steps.WakeOwn ∷ [])
+      → Went (Future PollLoad) (Answers R.Pending) l z
   met_own n e s t = met_went n 1 refl e s (by_own _ t refl refl)
 
   -- `poll`: it closes over the message, and takes it
-  pub taken_rests : {s : State T W} (g : Got) → StandsWith receiver_of (receiver_next (full g) (Store 2) S.Done) (empty, empty) s → IsPolled s
-  taken_rests at_once is = record { at = disconnected closed_itself; is_one = unpolled (rests_closed closed_itself); stands = is }
-  taken_rests waited is = record { at = disconnected closed_itself; is_one = unpolled (rests_closed closed_itself); stands = is }
-  taken_rests (swapped by) is = record { at = disconnected closed_itself; is_one = unpolled (rests_closed closed_itself); stands = is }
+  pub taken_rests : {s : State T W} (g : Got)
+      → StandsWith receiver_of (receiver_next (full g) (Store 2) S.Done) (empty, empty) s → IsPolled s
+  taken_rests at_once is =
+      record { at = disconnected closed_itself; is_one = unpolled (rests_closed closed_itself); stands = is }
+  taken_rests waited is =
+      record { at = disconnected closed_itself; is_one = unpolled (rests_closed closed_itself); stands = is }
+  taken_rests (swapped by) is =
+      record { at = disconnected closed_itself; is_one = unpolled (rests_closed closed_itself); stands = is }
   taken_rests by_future is = record { at = resolved closed_itself; is_one = has_resolved closed_itself; stands = is }
   taken_rests by_poll is = record { at = resolved closed_itself; is_one = has_resolved closed_itself; stands = is }
 
-  pub poll_ran : {l k j z : Log T W} (n : ℕ) (x : T) → Went (Future PollLoad) (Goes (Look Close)) l k → Grows k j (worded (Store 2) n ∷ []) → Grows j z (took x ∷ []) → ReceiverRan C.Poll l z R.Message [] (x ∷ [])
-  poll_ran n x went s t = ran went (worded (Store 2) n ∷ took x ∷ []) (more (Look Take) _ _ refl refl (last _ refl refl)) (and_then (worded (Store 2) n ∷ []) _ s t) refl refl
+  pub poll_ran : {l k j z : Log T W} (n : ℕ) (x : T) → Went (Future PollLoad) (Goes (Look Close)) l k
+      → Grows k j (worded (Store 2) n ∷ []) → Grows j z (took x ∷ []) → ReceiverRan C.Poll l z R.Message [] (x ∷ [])
+  poll_ran n x went s t =
+      ran went (worded (Store 2) n ∷ took x ∷ []) (more (Look Take) _ _ refl refl (last _ refl refl))
+      (and_then (worded (Store 2) n ∷ []) _ s t) refl refl
 
   -- or leaves the future open
   pub pending_rests : {s : State T W} → EndsPoll F.Nothing s → IsPolled s
@@ -177,10 +198,13 @@ module _ {T W : Type 0} where
   pub gone_rests : {s : State T W} → StandsIn IsClosed s → IsPolled s
   gone_rests is = record { at = is.at; is_one = closed_polled is.at is.is_one; stands = is.stands }
 
-  pub gone_leaves : {s : State T W} (e : RecvError) → StandsIn IsClosed s → LeavesPolled {T = T} (Ready (Err e)) (receiver_of s.log)
-  gone_leaves e is = subst (λ at. LeavesPolled {T = T} (Ready (Err e)) at) (sym is.stands.phase) (closed_leaves is.at e is.is_one)
+  pub gone_leaves : {s : State T W} (e : RecvError) → StandsIn IsClosed s
+      → LeavesPolled {T = T} (Ready (Err e)) (receiver_of s.log)
+  gone_leaves e is =
+      subst (λ at. LeavesPolled {T = T} (Ready (Err e)) at) (sym is.stands.phase) (closed_leaves is.at e is.is_one)
 
-  pub gone : (s : State T W) (f : Found) → EndsPoll f s → ¬ (f ≡ F.Message) → ¬ (f ≡ F.Nothing) → (f ≡ F.Closed) × StandsIn IsClosed s
+  pub gone : (s : State T W) (f : Found) → EndsPoll f s → ¬ (f ≡ F.Message) → ¬ (f ≡ F.Nothing)
+      → (f ≡ F.Closed) × StandsIn IsClosed s
   gone s F.Message ends a b = absurd (a refl)
   gone s F.Closed ends a b = (refl, ends)
   gone s F.Unclosed ends a b = absurd ends

@@ -60,27 +60,47 @@ module _ {T W : Type 0} where
   pub has_message : {g : Got} {s : State T W} → Stands (full g) s → StandsWith receiver_of (full g) (filled, empty) s
   has_message {g} {s} is = subst (λ slots. StandsWith receiver_of (full g) slots s) (slots_full g) is
 
-  pub closed_over : {g : Got} {b a : State T W} (n : ℕ) → Stands (full g) b → ReceiverMakes (Store 2) n b a → Grows b.log a.log (worded (Store 2) n ∷ []) → StandsWith receiver_of (receiver_next (full g) (Store 2) S.Done) (filled, empty) a
+  pub closed_over : {g : Got} {b a : State T W} (n : ℕ) → Stands (full g) b → ReceiverMakes (Store 2) n b a
+      → Grows b.log a.log (worded (Store 2) n ∷ [])
+      → StandsWith receiver_of (receiver_next (full g) (Store 2) S.Done) (filled, empty) a
   closed_over {g} {b} {a} n is made grows =
-      let found = one_of (λ n next after. after ≡ (filled, empty)) (keeps_full g) (lands b (Store 2) n is.phase made grows) in
-      let has : StandsWith receiver_of found.next (filled, empty) a = subst (λ slots. StandsWith receiver_of found.next slots a) found.is_so found.stands in
-      record { phase = subst (λ at. receiver_of a.log ≡ receiver_next at (Store 2) S.Done) is.phase (receiver_moved (Store 2) n grows); message = has.message; waker = has.waker }
+      let found =
+      one_of (λ n next after. after ≡ (filled, empty)) (keeps_full g) (lands b (Store 2) n is.phase made grows) in
+      let has : StandsWith receiver_of found.next (filled, empty) a =
+      subst (λ slots. StandsWith receiver_of found.next slots a) found.is_so found.stands in
+      record {
+        phase = subst (λ at. receiver_of a.log ≡ receiver_next at (Store 2) S.Done) is.phase
+            (receiver_moved (Store 2) n grows);
+        message = has.message;
+        waker = has.waker;
+      }
 
   -- `receive`: it closes over the message
-  pub ended_full : {b a : State T W} (n : ℕ) → (g : Got) × (receiver_next (full g) (Store 2) S.Done ≡ disconnected closed_itself) × Stands (full g) b → ReceiverMakes (Store 2) n b a → Grows b.log a.log (worded (Store 2) n ∷ []) → StandsWith receiver_of (disconnected closed_itself) (filled, empty) a
-  ended_full {a} n ends made grows = subst (λ at. StandsWith receiver_of at (filled, empty) a) ends.1 (closed_over n ends.2 made grows)
+  pub ended_full : {b a : State T W} (n : ℕ)
+      → (g : Got) × (receiver_next (full g) (Store 2) S.Done ≡ disconnected closed_itself) × Stands (full g) b
+      → ReceiverMakes (Store 2) n b a → Grows b.log a.log (worded (Store 2) n ∷ [])
+      → StandsWith receiver_of (disconnected closed_itself) (filled, empty) a
+  ended_full {a} n ends made grows =
+      subst (λ at. StandsWith receiver_of at (filled, empty) a) ends.1 (closed_over n ends.2 made grows)
 
-  pub full_ran : {p : ReceiverPos} {l k j z : Log T W} (n : ℕ) (x : T) → Went p (Goes (Look Close)) l k → Grows k j (worded (Store 2) n ∷ []) → Grows j z (took x ∷ []) → Ran receiver_step receiver_row p l z R.Message [] (x ∷ [])
-  full_ran n x went s t = ran went (worded (Store 2) n ∷ took x ∷ []) (more (Look Take) _ _ refl refl (last _ refl refl)) (and_then (worded (Store 2) n ∷ []) _ s t) refl refl
+  pub full_ran : {p : ReceiverPos} {l k j z : Log T W} (n : ℕ) (x : T) → Went p (Goes (Look Close)) l k
+      → Grows k j (worded (Store 2) n ∷ []) → Grows j z (took x ∷ [])
+      → Ran receiver_step receiver_row p l z R.Message [] (x ∷ [])
+  full_ran n x went s t =
+      ran went (worded (Store 2) n ∷ took x ∷ []) (more (Look Take) _ _ refl refl (last _ refl refl))
+      (and_then (worded (Store 2) n ∷ []) _ s t) refl refl
 
   -- or where the sender is gone
-  pub shut : {by : Swapping} {b a : State T W} (n : ℕ) → Stands (unclosed by) b → ReceiverMakes (Store 2) n b a → Grows b.log a.log (worded (Store 2) n ∷ []) → Stands (disconnected closed_itself) a
+  pub shut : {by : Swapping} {b a : State T W} (n : ℕ) → Stands (unclosed by) b → ReceiverMakes (Store 2) n b a
+      → Grows b.log a.log (worded (Store 2) n ∷ []) → Stands (disconnected closed_itself) a
   shut {b} n is made grows = (lone (lands b (Store 2) n is.phase made grows)).stands
 
-  pub over_leaves : {c : Closing} {s : State T W} → Stands (disconnected c) s → LeavesTimed {T = T} (Err Timed.Disconnected) (receiver_of s.log)
+  pub over_leaves : {c : Closing} {s : State T W} → Stands (disconnected c) s
+      → LeavesTimed {T = T} (Err Timed.Disconnected) (receiver_of s.log)
   over_leaves {c} is = subst (λ at. LeavesTimed {T = T} (Err Timed.Disconnected) at) (sym is.phase) (timed_closed c)
 
-  pub shut_ran : {p : ReceiverPos} {l k j : Log T W} (n : ℕ) → Went p (Goes (Look CloseOnly)) l k → Grows k j (worded (Store 2) n ∷ []) → Ran receiver_step receiver_row p l j R.Disconnected [] []
+  pub shut_ran : {p : ReceiverPos} {l k j : Log T W} (n : ℕ) → Went p (Goes (Look CloseOnly)) l k
+      → Grows k j (worded (Store 2) n ∷ []) → Ran receiver_step receiver_row p l j R.Disconnected [] []
   shut_ran n went s = ran went (worded (Store 2) n ∷ []) (last _ refl refl) s refl refl
 
   -- or its deadline is over
@@ -88,25 +108,40 @@ module _ {T W : Type 0} where
   out_rests is = record { at = here between; is_one = rests_open between; stands = is }
 
   -- `recv_timeout`: its read of the clock leaves it where it was
-  pub clock_rests : {b a : State T W} → AtRest b → (past : Bool) → Grows b.log a.log (clocked past ∷ []) → a.message ≡ b.message → a.waker ≡ b.waker → AtRest a
-  clock_rests rests past s message waker = record { at = rests.at; is_one = rests.is_one; stands = stands_on (clocked past ∷ []) refl rests.stands s message waker }
+  pub clock_rests : {b a : State T W} → AtRest b → (past : Bool) → Grows b.log a.log (clocked past ∷ [])
+      → a.message ≡ b.message → a.waker ≡ b.waker → AtRest a
+  clock_rests rests past s message waker =
+      record {
+        at = rests.at;
+        is_one = rests.is_one;
+        stands = stands_on (clocked past ∷ []) refl rests.stands s message
+            waker;
+      }
 
-  pub clock_ready : {l k : Log T W} {hand : Option W} → IsReady hand (receiver_of l) → (past : Bool) → Grows l k (clocked past ∷ []) → IsReady hand (receiver_of k)
+  pub clock_ready : {l k : Log T W} {hand : Option W} → IsReady hand (receiver_of l) → (past : Bool)
+      → Grows l k (clocked past ∷ []) → IsReady hand (receiver_of k)
   clock_ready is past s none = subst IsClosed (sym (still (clocked past ∷ []) refl s)) (is none)
 
-  pub clock_closed : {l k : Log T W} (past : Bool) → Grows l k (clocked past ∷ []) → IsClosed (receiver_of l) → IsClosed (receiver_of k)
+  pub clock_closed : {l k : Log T W} (past : Bool) → Grows l k (clocked past ∷ []) → IsClosed (receiver_of l)
+      → IsClosed (receiver_of k)
   clock_closed past s is = subst IsClosed (sym (still (clocked past ∷ []) refl s)) is
 
-  sums : {representable : Bool} {l k : Log T W} (past : Bool) → Grows l k (clocked past ∷ []) → Went (Timed (SumClock representable)) (Goes (Ref (StartLoad representable))) l k
+  sums : {representable : Bool} {l k : Log T W} (past : Bool) → Grows l k (clocked past ∷ [])
+      → Went (Timed (SumClock representable)) (Goes (Ref (StartLoad representable))) l k
   sums true s = by_clock _ true s refl refl
   sums false s = by_clock _ false s refl refl
 
-  pub sum_ran : {representable : Bool} {reply : Reply} {got : List T} {l k z : Log T W} (past : Bool) → Grows l k (clocked past ∷ []) → Ran receiver_step receiver_row (Ref (StartLoad representable)) k z reply [] got → ReceiverRan (RecvTimeout representable) l z reply [] got
+  pub sum_ran : {representable : Bool} {reply : Reply} {got : List T} {l k z : Log T W} (past : Bool)
+      → Grows l k (clocked past ∷ []) → Ran receiver_step receiver_row (Ref (StartLoad representable)) k z reply [] got
+      → ReceiverRan (RecvTimeout representable) l z reply [] got
   sum_ran past s run = before (sums past s) run
 
   -- `recv`
-  pub full_freed : {l k j z : Log T W} (x : T) → Went (Value RecvLoad) (Goes (Value RecvTake)) l k → Grows k j (took x ∷ []) → Grows j z (did Steps.Free ∷ []) → ReceiverRan Recv l z R.Message [] (x ∷ [])
-  full_freed x went s t = ran went (took x ∷ did Steps.Free ∷ []) (more (Value RecvFreeGot) _ _ refl refl (last _ refl refl)) (and_then (took x ∷ []) _ s t) refl refl
+  pub full_freed : {l k j z : Log T W} (x : T) → Went (Value RecvLoad) (Goes (Value RecvTake)) l k
+      → Grows k j (took x ∷ []) → Grows j z (did Steps.Free ∷ []) → ReceiverRan Recv l z R.Message [] (x ∷ [])
+  full_freed x went s t =
+      ran went (took x ∷ did Steps.Free ∷ []) (more (Value RecvFreeGot) _ _ refl refl (last _ refl refl))
+      (and_then (took x ∷ []) _ s t) refl refl
 
   -- without a message the sender is gone: both slots are empty, and the block is to be freed
   pub record Gone (f : Found) (s : State T W) : Type 0 where
@@ -120,22 +155,27 @@ module _ {T W : Type 0} where
   gone s F.Unclosed a ends = record { message = is_room ends.1.message; waker = is_room ends.1.waker; leads = refl }
   gone s F.Nothing a ends = let timed = ends.0 in absurd (cc)
 
-  pub gone_freed : {l k j : Log T W} {f : Found} {s : State T W} → Gone f s → Went (Value RecvLoad) (value_end f) l k → Grows k j (did Steps.Free ∷ []) → ReceiverRan Recv l j R.Disconnected [] []
-  gone_freed {l} {k} is went s = ran (subst (λ o. Went (Value RecvLoad) o l k) is.leads went) (did Steps.Free ∷ []) (last _ refl refl) s refl refl
+  pub gone_freed : {l k j : Log T W} {f : Found} {s : State T W} → Gone f s → Went (Value RecvLoad) (value_end f) l k
+      → Grows k j (did Steps.Free ∷ []) → ReceiverRan Recv l j R.Disconnected [] []
+  gone_freed {l} {k} is went s =
+      ran (subst (λ o. Went (Value RecvLoad) o l k) is.leads went) (did Steps.Free ∷ []) (last _ refl refl) s refl refl
 
   -- its hand: without a deadline no waker comes back from the wait
-  pub hand_back : (s : State T W) {hand after : Option W} (f : Found) → EndsAt false f s → HandAt f hand after → Returns hand after
+  pub hand_back : (s : State T W) {hand after : Option W} (f : Found) → EndsAt false f s → HandAt f hand after
+      → Returns hand after
   hand_back s F.Message at hand = hand
   hand_back s F.Closed at hand = hand
   hand_back s F.Unclosed at hand = hand
   hand_back s F.Nothing at hand = let timed = at.0 in absurd (cc)
 
 -- the hand after the call
-pub hands : {W : Type 0} {hand after : Option W} {q : ReceiverAt} → Returns hand after → (c : Closing) → q ≡ disconnected c → Hands hand after q
+pub hands : {W : Type 0} {hand after : Option W} {q : ReceiverAt} → Returns hand after → (c : Closing)
+    → q ≡ disconnected c → Hands hand after q
 hands {q} (returned hand) c at = as_it_was hand q
 hands (taken k) c at = rw at (sender_took k c)
 
-pub out_hands : {W : Type 0} {hand after : Option W} {q : ReceiverAt} → Refills hand after → q ≡ here between → Hands hand after q
+pub out_hands : {W : Type 0} {hand after : Option W} {q : ReceiverAt} → Refills hand after → q ≡ here between
+    → Hands hand after q
 out_hands (refilled k back) at = rw at (came_back k back)
 
 pub full_leaves : {T : Type 0} {q : ReceiverAt} (x : T) → q ≡ disconnected closed_itself → LeavesTimed (Ok x) q
@@ -145,11 +185,13 @@ pub out_leaves : {T : Type 0} {q : ReceiverAt} → q ≡ here between → Leaves
 out_leaves at = rw at timed_out
 
 -- `recv_ref`: without a deadline the receiver is closed then
-pub untimed_full : {T : Type 0} {r : Result T RecvTimeoutError} {q : ReceiverAt} (x : T) → r ≡ Ok x → LeavesTimed r q → LeavesClosed (Ok x) q
+pub untimed_full : {T : Type 0} {r : Result T RecvTimeoutError} {q : ReceiverAt} (x : T) → r ≡ Ok x → LeavesTimed r q
+    → LeavesClosed (Ok x) q
 untimed_full x is (timed_received y) = left_received x
 untimed_full x is _ = absurd (cc)
 
-pub untimed_gone : {T : Type 0} {r : Result T RecvTimeoutError} {q : ReceiverAt} (e : RecvError) (d : RecvTimeoutError) → r ≡ Err d → ¬ (r ≡ Err Timed.Timeout) → LeavesTimed r q → LeavesClosed {T = T} (Err e) q
+pub untimed_gone : {T : Type 0} {r : Result T RecvTimeoutError} {q : ReceiverAt} (e : RecvError) (d : RecvTimeoutError)
+    → r ≡ Err d → ¬ (r ≡ Err Timed.Timeout) → LeavesTimed r q → LeavesClosed {T = T} (Err e) q
 untimed_gone e d is endless (timed_received y) = absurd (cc)
 untimed_gone e d is endless timed_out = absurd (endless refl)
 untimed_gone e d is endless (timed_closed c) = left_closed e c

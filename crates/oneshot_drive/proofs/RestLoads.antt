@@ -38,10 +38,13 @@ pub data Looked : ℕ → ReceiverAt → Type 0 where
   looked_message : Looked 4 (full at_once)
   looked_closed : (c : Closing) → Looked 2 (disconnected c)
 
-rests_look : {at : ReceiverAt} → Rests at → Each (λ n next after. Looked n next × (after ≡ receiver_slots next)) (landings Load (receiver_moves at))
+rests_look : {at : ReceiverAt} → Rests at
+    → Each (λ n next after. Looked n next × (after ≡ receiver_slots next)) (landings Load (receiver_moves at))
 rests_look rests_new = ((looked_empty, refl), ((looked_message, refl), ((looked_closed found_closed, refl), tt)))
-rests_look (rests_open looked) = ((looked_empty, refl), ((looked_message, refl), ((looked_closed found_closed, refl), tt)))
-rests_look (rests_open between) = ((looked_empty, refl), ((looked_message, refl), ((looked_closed found_closed, refl), tt)))
+rests_look (rests_open looked) =
+    ((looked_empty, refl), ((looked_message, refl), ((looked_closed found_closed, refl), tt)))
+rests_look (rests_open between) =
+    ((looked_empty, refl), ((looked_message, refl), ((looked_closed found_closed, refl), tt)))
 rests_look (rests_closed c) = ((looked_closed c, refl), tt)
 
 at_message : {at : ReceiverAt} → Looked 4 at → at ≡ full at_once
@@ -50,7 +53,8 @@ at_message looked_message = refl
 at_empty : {at : ReceiverAt} → Looked 3 at → at ≡ here looked
 at_empty looked_empty = refl
 
-at_closed : {n : ℕ} {at : ReceiverAt} → Looked n at → ¬ (n ≡ 4) → ¬ (n ≡ 3) → (n ≡ 2) × (c : Closing) × (at ≡ disconnected c)
+at_closed : {n : ℕ} {at : ReceiverAt} → Looked n at → ¬ (n ≡ 4) → ¬ (n ≡ 3)
+    → (n ≡ 2) × (c : Closing) × (at ≡ disconnected c)
 at_closed looked_message a b = absurd (a refl)
 at_closed looked_empty a b = absurd (b refl)
 at_closed (looked_closed c) a b = (refl, c, refl)
@@ -68,7 +72,8 @@ module _ {T W : Type 0} where
   pub swap_asks : {s : State T W} → AtRest s → ReceiverAsks (Swap 2) s
   swap_asks rests = asks (Swap 2) rests.stands (rests_swap rests.is_one)
 
-  pub loaded : {b a : State T W} (n : ℕ) → AtRest b → ReceiverMakes Load n b a → Grows b.log a.log (worded Load n ∷ []) → Came Looked n a
+  pub loaded : {b a : State T W} (n : ℕ) → AtRest b → ReceiverMakes Load n b a → Grows b.log a.log (worded Load n ∷ [])
+      → Came Looked n a
   loaded {b} n rests made grows = came Looked (rests_look rests.is_one) (lands b Load n rests.stands.phase made grows)
 
   module _ {n : ℕ} {s : State T W} (found : Came Looked n s) where
@@ -81,17 +86,22 @@ module _ {T W : Type 0} where
     pub loaded_none : ¬ (n ≡ 4) → ¬ (n ≡ 3) → (n ≡ 2) × (c : Closing) × Stands (disconnected c) s
     loaded_none a b = let is = at_closed found.is_so a b in (is.0, is.1, subst (λ at. Stands at s) is.2 found.stands)
 
-  pub closed_finds : {n : ℕ} {at : ReceiverAt} {m m' : Held T} {w w' : Held W} → IsClosed at → ReceiverFinds at Load n m w m' w' → n ≡ 2
-  closed_finds {at} is_closed made = (found_so (is_same_op Load) (λ n next after. n ≡ 2) refl (closed_loads at is_closed) made).is_so
+  pub closed_finds : {n : ℕ} {at : ReceiverAt} {m m' : Held T} {w w' : Held W} → IsClosed at
+      → ReceiverFinds at Load n m w m' w' → n ≡ 2
+  closed_finds {at} is_closed made =
+      (found_so (is_same_op Load) (λ n next after. n ≡ 2) refl (closed_loads at is_closed) made).is_so
 
-  pub never : {X : Type 0} {n : ℕ} {at : ReceiverAt} {m m' : Held T} {w w' : Held W} (word : ℕ) → (word == 2) ≡ false → n ≡ word → IsClosed at → ReceiverFinds at Load n m w m' w' → X
+  pub never : {X : Type 0} {n : ℕ} {at : ReceiverAt} {m m' : Held T} {w w' : Held W} (word : ℕ) → (word == 2) ≡ false
+      → n ≡ word → IsClosed at → ReceiverFinds at Load n m w m' w' → X
   never word other e is_closed made =
       let closed : word ≡ 2 = sym e ∙ closed_finds is_closed made in
       let same : (word == 2) ≡ true = eq-eqb word 2 closed in
       absurd (cc)
 
   -- `try_recv`: it closes over the message
-  pub closed : {b a : State T W} (n : ℕ) → Stands (full at_once) b → ReceiverMakes (Store 2) n b a → Grows b.log a.log (worded (Store 2) n ∷ []) → StandsWith receiver_of (disconnected closed_itself) (filled, empty) a
+  pub closed : {b a : State T W} (n : ℕ) → Stands (full at_once) b → ReceiverMakes (Store 2) n b a
+      → Grows b.log a.log (worded (Store 2) n ∷ [])
+      → StandsWith receiver_of (disconnected closed_itself) (filled, empty) a
   closed {b} n is made grows = (lone (lands b (Store 2) n is.phase made grows)).stands
 
   pub rests_over : {c : Closing} {s : State T W} → Stands (disconnected c) s → AtRest s
@@ -107,11 +117,13 @@ module _ {T W : Type 0} where
   pub open_leaves : {s : State T W} → Stands (here looked) s → Leaves {T = T} (Err E.Empty) (receiver_of s.log)
   open_leaves here_looked = subst (λ at. Leaves {T = T} (Err E.Empty) at) (sym here_looked.phase) leaves_open
 
-  pub closed_leaves : {c : Closing} {s : State T W} → Stands (disconnected c) s → Leaves {T = T} (Err E.Disconnected) (receiver_of s.log)
+  pub closed_leaves : {c : Closing} {s : State T W} → Stands (disconnected c) s
+      → Leaves {T = T} (Err E.Disconnected) (receiver_of s.log)
   closed_leaves {c} is = subst (λ at. Leaves {T = T} (Err E.Disconnected) at) (sym is.phase) (leaves_closed c)
 
   -- its runs
-  pub took_ran : {l k j z : Log T W} (n r : ℕ) (x : T) → n ≡ 4 → Grows l k (worded Load n ∷ []) → Grows k j (worded (Store 2) r ∷ []) → Grows j z (took x ∷ []) → ReceiverRan TryRecv l z R.Message [] (x ∷ [])
+  pub took_ran : {l k j z : Log T W} (n r : ℕ) (x : T) → n ≡ 4 → Grows l k (worded Load n ∷ [])
+      → Grows k j (worded (Store 2) r ∷ []) → Grows j z (took x ∷ []) → ReceiverRan TryRecv l z R.Message [] (x ∷ [])
   took_ran n r x e s t u =
       record {
         run = worded Load n ∷ worded (Store 2) r ∷ took x ∷ [];
@@ -121,8 +133,12 @@ module _ {T W : Type 0} where
         gets = refl;
       }
 
-  pub empty_ran : {l k : Log T W} (n : ℕ) → n ≡ 3 → Grows l k (worded Load n ∷ []) → ReceiverRan TryRecv l k R.Empty [] []
-  empty_ran n e s = record { run = worded Load n ∷ []; is_run = last _ refl (rw e); grows = s; gives = refl; gets = refl }
+  pub empty_ran : {l k : Log T W} (n : ℕ) → n ≡ 3 → Grows l k (worded Load n ∷ [])
+      → ReceiverRan TryRecv l k R.Empty [] []
+  empty_ran n e s =
+      record { run = worded Load n ∷ []; is_run = last _ refl (rw e); grows = s; gives = refl; gets = refl }
 
-  pub gone_ran : {l k : Log T W} (n : ℕ) → n ≡ 2 → Grows l k (worded Load n ∷ []) → ReceiverRan TryRecv l k R.Disconnected [] []
-  gone_ran n e s = record { run = worded Load n ∷ []; is_run = last _ refl (rw e); grows = s; gives = refl; gets = refl }
+  pub gone_ran : {l k : Log T W} (n : ℕ) → n ≡ 2 → Grows l k (worded Load n ∷ [])
+      → ReceiverRan TryRecv l k R.Disconnected [] []
+  gone_ran n e s =
+      record { run = worded Load n ∷ []; is_run = last _ refl (rw e); grows = s; gives = refl; gets = refl }

@@ -62,10 +62,20 @@ still_here : {n : ℕ} {next : SenderAt} {after : Slots} → LastFinds n true �
 still_here it = record { here = true; finds = it; late = λ e. cc }
 
 last_ends : (at : SenderAt) → Each EndsAt (landings_of is_swap (sender_moves at))
-last_ends (owes sending) =
-    (still_here finds_waiting, (still_here finds_overdue, (record { here = false; finds = finds_gone; late = λ e. (is_overtaken sending, refl, λ e. cc) }, tt)))
-last_ends (owes dropping) =
-    (still_here finds_waiting, (still_here finds_overdue, (record { here = false; finds = finds_gone; late = λ e. (is_overtaken dropping, refl, λ e. cc) }, tt)))
+last_ends (owes sending) = (
+  still_here finds_waiting,
+  (
+    still_here finds_overdue,
+    (record { here = false; finds = finds_gone; late = λ e. (is_overtaken sending, refl, λ e. cc) }, tt),
+  ),
+)
+last_ends (owes dropping) = (
+  still_here finds_waiting,
+  (
+    still_here finds_overdue,
+    (record { here = false; finds = finds_gone; late = λ e. (is_overtaken dropping, refl, λ e. cc) }, tt),
+  ),
+)
 last_ends _ = tt
 
 -- a slot that is the end's before and after holds the same
@@ -91,60 +101,101 @@ here_by finds_gone = refl
 
 module _ {T W : Type 0} where
   -- a sender that wrote its message
-  pub written : {b a : State T W} (x : T) → IsFresh b → Grows b.log a.log (wrote x ∷ []) → a.message ≡ held x → a.waker ≡ b.waker → StandsWith sender_of fresh (filled, none) a
-  written x is grows message waker = record { phase = sender_still (wrote x ∷ []) refl grows ∙ is.phase; message = put_in x message; waker = as_before is.waker waker }
+  pub written : {b a : State T W} (x : T) → IsFresh b → Grows b.log a.log (wrote x ∷ []) → a.message ≡ held x
+      → a.waker ≡ b.waker → StandsWith sender_of fresh (filled, none) a
+  written x is grows message waker =
+      record {
+        phase = sender_still (wrote x ∷ []) refl grows
+            ∙ is.phase;
+        message = put_in x message;
+        waker = as_before is.waker waker;
+      }
 
   module _ {slots : Slots} {b a : State T W} (n : ℕ) (is : StandsWith sender_of fresh slots b) where
     -- it found a receiver that waits, or none
-    pub added : ¬ (n ≡ 3) → ¬ (n ≡ 0) → SenderMakes Add n b a → Grows b.log a.log (worded Add n ∷ []) → Lone sender_of n a (2, late sending, (filled, empty))
+    pub added : ¬ (n ≡ 3) → ¬ (n ≡ 0) → SenderMakes Add n b a → Grows b.log a.log (worded Add n ∷ [])
+        → Lone sender_of n a (2, late sending, (filled, empty))
     added not_3 not_0 made grows = lone (not_at 0 not_0 (not_at 3 not_3 (sender_lands b Add n is.phase made grows)))
 
-    pub flipped : ¬ (n ≡ 3) → ¬ (n ≡ 0) → SenderMakes Xor n b a → Grows b.log a.log (worded Xor n ∷ []) → Lone sender_of n a (2, late dropping, (empty, empty))
+    pub flipped : ¬ (n ≡ 3) → ¬ (n ≡ 0) → SenderMakes Xor n b a → Grows b.log a.log (worded Xor n ∷ [])
+        → Lone sender_of n a (2, late dropping, (empty, empty))
     flipped not_3 not_0 made grows = lone (not_at 0 not_0 (not_at 3 not_3 (sender_lands b Xor n is.phase made grows)))
 
-    owed : {at : SenderAt} {share : Share} (word : ℕ) → ¬ (share ≡ none) → StandsWith sender_of at (share, filled) a → has_row (Swap word) (share, empty) (sender_moves at) ≡ true → Owes word a
+    owed : {at : SenderAt} {share : Share} (word : ℕ) → ¬ (share ≡ none) → StandsWith sender_of at (share, filled) a
+        → has_row (Swap word) (share, empty) (sender_moves at) ≡ true → Owes word a
     owed word own stands has =
         let k = is_in stands.waker in
         record {
           waker = k.0;
           has_waker = k.1;
           has_slot = not_away own stands.message;
-          asks = sender_asks {s = record { log = a.log; message = a.message; waker = vacant }} (Swap word) (record { phase = stands.phase; message = stands.message; waker = is_vacant }) has;
+          asks = sender_asks {s = record { log = a.log; message = a.message; waker = vacant }} (Swap word)
+              (record { phase = stands.phase; message = stands.message; waker = is_vacant }) has;
         }
 
     pub send_owes : n ≡ 0 → SenderMakes Add n b a → Grows b.log a.log (worded Add n ∷ []) → Owes 4 a
-    send_owes e made grows = owed 4 (λ e. cc) (lone (at_word 0 e (sender_lands b Add n is.phase made grows))).stands refl
+    send_owes e made grows =
+        owed 4 (λ e. cc) (lone (at_word 0 e (sender_lands b Add n is.phase made grows))).stands refl
 
     -- the message that it wrote is where it was
-    pub added_kept : {x : T} → n ≡ 0 → SenderMakes Add n b a → Grows b.log a.log (worded Add n ∷ []) → b.message ≡ held x → a.message ≡ held x
-    added_kept e made grows message = message_kept made message (lone (at_word 0 e (sender_lands b Add n is.phase made grows))).stands.message
+    pub added_kept : {x : T} → n ≡ 0 → SenderMakes Add n b a → Grows b.log a.log (worded Add n ∷ [])
+        → b.message ≡ held x → a.message ≡ held x
+    added_kept e made grows message =
+        message_kept made message (lone (at_word 0 e (sender_lands b Add n is.phase made grows))).stands.message
 
     pub drop_owes : n ≡ 0 → SenderMakes Xor n b a → Grows b.log a.log (worded Xor n ∷ []) → Owes 2 a
-    drop_owes e made grows = owed 2 (λ e. cc) (lone (at_word 0 e (sender_lands b Xor n is.phase made grows))).stands refl
+    drop_owes e made grows =
+        owed 2 (λ e. cc) (lone (at_word 0 e (sender_lands b Xor n is.phase made grows))).stands refl
 
     -- its slot is as empty as it was
     pub flipped_room : n ≡ 0 → SenderMakes Xor n b a → Grows b.log a.log (worded Xor n ∷ []) → a.message ≡ vacant
     flipped_room e made grows = is_room (lone (at_word 0 e (sender_lands b Xor n is.phase made grows))).stands.message
 
   -- a refused `send`
-  pub refused : {by : By} {a : State T W} (x : T) → StandsWith sender_of (late by) (filled, empty) a → a.message ≡ held x → IsError (held x) a
+  pub refused : {by : By} {a : State T W} (x : T) → StandsWith sender_of (late by) (filled, empty) a
+      → a.message ≡ held x → IsError (held x) a
   refused x stands message = record { keeps = message; no_waker = is_room stands.waker }
 
-  pub is_too_late : {by : By} {slots : Slots} {a : State T W} → StandsWith sender_of (late by) slots a → IsLate (sender_of a.log)
+  pub is_too_late : {by : By} {slots : Slots} {a : State T W} → StandsWith sender_of (late by) slots a
+      → IsLate (sender_of a.log)
   is_too_late {by} stands = subst IsLate (sym stands.phase) (is_late by)
 
   -- the runs of `send`
-  pub send_ran : {l k j : Log T W} {x : T} (n : ℕ) → n ≡ 3 → Grows l k (wrote x ∷ []) → Grows k j (worded Add n ∷ []) → SenderRan Send l j R.Sent (x ∷ []) []
-  send_ran {x} n e s t = record { run = wrote x ∷ worded Add n ∷ []; is_run = more SendAdd _ _ refl refl (last _ refl (rw e)); grows = and_then _ _ s t; gives = refl; gets = refl }
+  pub send_ran : {l k j : Log T W} {x : T} (n : ℕ) → n ≡ 3 → Grows l k (wrote x ∷ []) → Grows k j (worded Add n ∷ [])
+      → SenderRan Send l j R.Sent (x ∷ []) []
+  send_ran {x} n e s t =
+      record {
+        run = wrote x ∷ worded Add n
+            ∷ [];
+        is_run =
+            more SendAdd _ _ refl refl (last _ refl (rw e));
+        grows = and_then _ _ s t;
+        gives = refl;
+        gets = refl;
+      }
 
-  pub send_refused : {l k j : Log T W} {x : T} (n : ℕ) → n ≡ 2 → Grows l k (wrote x ∷ []) → Grows k j (worded Add n ∷ []) → SenderRan Send l j R.Refused (x ∷ []) []
-  send_refused {x} n e s t = record { run = wrote x ∷ worded Add n ∷ []; is_run = more SendAdd _ _ refl refl (last _ refl (rw e)); grows = and_then _ _ s t; gives = refl; gets = refl }
+  pub send_refused : {l k j : Log T W} {x : T} (n : ℕ) → n ≡ 2 → Grows l k (wrote x ∷ [])
+      → Grows k j (worded Add n ∷ []) → SenderRan Send l j R.Refused (x ∷ []) []
+  send_refused {x} n e s t =
+      record {
+        run = wrote x ∷ worded Add n
+            ∷ [];
+        is_run =
+            more SendAdd _ _ refl refl (last _ refl (rw e));
+        grows = and_then _ _ s t;
+        gives = refl;
+        gets = refl;
+      }
 
-  pub send_woke : {l k j z : Log T W} {x : T} (n : ℕ) (here : Bool) → n ≡ 0 → Grows l k (wrote x ∷ []) → Grows k j (worded Add n ∷ []) → Finishes 4 here j z → SenderRan Send l z (send_reply here) (x ∷ []) []
+  pub send_woke : {l k j z : Log T W} {x : T} (n : ℕ) (here : Bool) → n ≡ 0 → Grows l k (wrote x ∷ [])
+      → Grows k j (worded Add n ∷ []) → Finishes 4 here j z → SenderRan Send l z (send_reply here) (x ∷ []) []
   send_woke {x} n here e s t f =
       record {
         run = wrote x ∷ worded Add n ∷ finishing 4 f.found f.waker;
-        is_run = more SendAdd _ _ refl refl (more SendTakeWaker _ _ refl (rw e) (more SendFinal _ _ refl refl (more (send_wake here) _ _ refl (send_final f.finds) (last _ (wake_is here) (woke here)))));
+        is_run = more SendAdd _ _ refl refl
+            (more SendTakeWaker _ _ refl (rw e)
+            (more SendFinal _ _ refl refl (more (send_wake here) _ _ refl (send_final f.finds)
+            (last _ (wake_is here) (woke here)))));
         grows = and_then (wrote x ∷ []) _ s (and_then (worded Add n ∷ []) _ t f.grows);
         gives = refl;
         gets = refl;
@@ -154,35 +205,55 @@ module _ {T W : Type 0} where
   pub drop_ran : {l k : Log T W} (n : ℕ) → n ≡ 3 → Grows l k (worded Xor n ∷ []) → SenderRan Drop l k R.Done [] []
   drop_ran n e s = record { run = worded Xor n ∷ []; is_run = last _ refl (rw e); grows = s; gives = refl; gets = refl }
 
-  pub drop_woke : {l k j : Log T W} (n : ℕ) → n ≡ 0 → Grows l k (worded Xor n ∷ []) → Finishes 2 true k j → SenderRan Drop l j R.Done [] []
+  pub drop_woke : {l k j : Log T W} (n : ℕ) → n ≡ 0 → Grows l k (worded Xor n ∷ []) → Finishes 2 true k j
+      → SenderRan Drop l j R.Done [] []
   drop_woke n e s f =
       record {
         run = worded Xor n ∷ finishing 2 f.found f.waker;
-        is_run = more DropTakeWaker _ _ refl (rw e) (more DropFinal _ _ refl refl (more DropWake _ _ refl (drop_final f.finds) (last _ refl refl)));
+        is_run = more DropTakeWaker _ _ refl (rw e)
+            (more DropFinal _ _ refl refl (more DropWake _ _ refl (drop_final f.finds) (last _ refl refl)));
         grows = and_then _ _ s f.grows;
         gives = refl;
         gets = refl;
       }
 
-  pub drop_freed_late : {l k j z : Log T W} (n : ℕ) → n ≡ 0 → Grows l k (worded Xor n ∷ []) → Finishes 2 false k j → Grows j z (did Free ∷ []) → SenderRan Drop l z R.Done [] []
+  pub drop_freed_late : {l k j z : Log T W} (n : ℕ) → n ≡ 0 → Grows l k (worded Xor n ∷ []) → Finishes 2 false k j
+      → Grows j z (did Free ∷ []) → SenderRan Drop l z R.Done [] []
   drop_freed_late n e s f t =
       record {
         run = worded Xor n ∷ handed TakeWaker f.waker ∷ worded (Swap 2) f.found ∷ handed Wake f.waker ∷ did Free ∷ [];
-        is_run = more DropTakeWaker _ _ refl (rw e) (more DropFinal _ _ refl refl (more DropLateWake _ _ refl (drop_late f.finds) (more DropFree _ _ refl refl (last _ refl refl))));
+        is_run = more DropTakeWaker _ _ refl (rw e)
+            (more DropFinal _ _ refl refl (more DropLateWake _ _ refl (drop_late f.finds)
+            (more DropFree _ _ refl refl (last _ refl refl))));
         grows = and_then (worded Xor n ∷ []) _ s (and_then (finishing 2 f.found f.waker) _ f.grows t);
         gives = refl;
         gets = refl;
       }
 
-  pub drop_freed : {l k j : Log T W} (n : ℕ) → n ≡ 2 → Grows l k (worded Xor n ∷ []) → Grows k j (did Free ∷ []) → SenderRan Drop l j R.Done [] []
-  drop_freed n e s t = record { run = worded Xor n ∷ did Free ∷ []; is_run = more DropFree _ _ refl (rw e) (last _ refl refl); grows = and_then _ _ s t; gives = refl; gets = refl }
+  pub drop_freed : {l k j : Log T W} (n : ℕ) → n ≡ 2 → Grows l k (worded Xor n ∷ []) → Grows k j (did Free ∷ [])
+      → SenderRan Drop l j R.Done [] []
+  drop_freed n e s t =
+      record {
+        run = worded Xor n ∷ did Free
+            ∷ [];
+        is_run =
+            more DropFree _ _ refl (rw e) (last _ refl refl);
+        grows = and_then _ _ s t;
+        gives = refl;
+        gets = refl;
+      }
 
   -- the last word to a receiver that waits
-  module _ {b : State T W} {k : Log T W} {m : Held T} {w : Held W} {word : ℕ} (y : W) (is : Owes word b) (s : Grows b.log k (handed TakeWaker y ∷ [])) (message : m ≡ b.message) (waker : w ≡ vacant) where
+  module _ {b : State T W} {k : Log T W} {m : Held T} {w : Held W} {word : ℕ} (y : W) (is : Owes word b)
+      (s : Grows b.log k (handed TakeWaker y ∷ [])) (message : m ≡ b.message) (waker : w ≡ vacant) where
     pub finish_asks : SenderMay (sender_of k) (Swap word) m w
-    finish_asks = subst (λ (z : SenderAt × Held T × Held W). SenderMay z.0 (Swap word) z.1 z.2) (λ i. (sym (sender_still (handed TakeWaker y ∷ []) refl s) i, sym message i, sym waker i)) is.asks
+    finish_asks =
+        subst (λ (z : SenderAt × Held T × Held W). SenderMay z.0 (Swap word) z.1 z.2)
+        (λ i. (sym (sender_still (handed TakeWaker y ∷ []) refl s) i, sym message i, sym waker i)) is.asks
 
-    pub finished_as : {m' : Held T} {w' : Held W} {j z : Log T W} (n : ℕ) → SenderFinds (sender_of k) (Swap word) n m w m' w' → Grows k j (worded (Swap word) n ∷ []) → Grows j z (handed Wake y ∷ []) → Finishes word (not (n == 2)) b.log z
+    pub finished_as : {m' : Held T} {w' : Held W} {j z : Log T W} (n : ℕ)
+        → SenderFinds (sender_of k) (Swap word) n m w m' w' → Grows k j (worded (Swap word) n ∷ [])
+        → Grows j z (handed Wake y ∷ []) → Finishes word (not (n == 2)) b.log z
     finished_as n made t u =
         let ends = (found_so is_swap EndsAt refl (last_ends (sender_of k)) made).is_so in
         record {
@@ -193,16 +264,30 @@ module _ {T W : Type 0} where
         }
 
   -- where that found the receiver gone
-  late_over : {at then : SenderAt} {new n : ℕ} {m m' : Held T} {w w' : Held W} → ((next : SenderAt) (before after : Slots) → In (Swap new, before, n, next, after) (sender_moves at) → then ≡ next) → SenderFinds at (Swap new) n m w m' w' → not (n == 2) ≡ false → ¬ (m ≡ away) → IsLate then × (m' ≡ m) × (w' ≡ vacant)
+  late_over : {at then : SenderAt} {new n : ℕ} {m m' : Held T} {w w' : Held W}
+      → ((next : SenderAt) (before after : Slots) → In (Swap new, before, n, next, after) (sender_moves at)
+      → then ≡ next) → SenderFinds at (Swap new) n m w m' w' → not (n == 2) ≡ false → ¬ (m ≡ away)
+      → IsLate then × (m' ≡ m) × (w' ≡ vacant)
   late_over {at} {w'} leads_to (finds {before} {after} {next} row message waker) e has =
-      let ends = each EndsAt (landings_of is_swap (sender_moves at)) (last_ends at) (landed is_swap (sender_moves at) refl row) in
-      let late = ends.late (here_by ends.finds ∙ e) in
-      (subst IsLate (sym (leads_to next before after row)) late.0, unmoved message late.2 has, is_room (subst (λ s. IsSlot s w') late.1 (turned waker)))
+      let ends =
+      each EndsAt (landings_of is_swap (sender_moves at)) (last_ends at)
+      (landed is_swap (sender_moves at) refl row) in
+      let late = ends.late (here_by ends.finds ∙ e) in (
+        subst IsLate (sym (leads_to next before after row)) late.0,
+        unmoved message late.2 has,
+        is_room
+            (subst (λ s. IsSlot s w') late.1 (turned waker)),
+      )
 
   module _ {b k j z : State T W} {word : ℕ} (y : W) (is : Owes word b) (message : k.message ≡ b.message) where
-    pub overtaken_as : (n : ℕ) → SenderMakes (Swap word) n k j → Grows k.log j.log (worded (Swap word) n ∷ []) → Grows j.log z.log (handed Wake y ∷ []) → z.message ≡ j.message → z.waker ≡ j.waker → not (n == 2) ≡ false → IsOvertaken b z
+    pub overtaken_as : (n : ℕ) → SenderMakes (Swap word) n k j → Grows k.log j.log (worded (Swap word) n ∷ [])
+        → Grows j.log z.log (handed Wake y ∷ []) → z.message ≡ j.message → z.waker ≡ j.waker → not (n == 2) ≡ false
+        → IsOvertaken b z
     overtaken_as n made t u kept waker e =
-        let late = late_over (λ next before after row. sender_moved (Swap word) n t ∙ leads no_sender (sender_moves (sender_of k.log)) (sender_apart (sender_of k.log)) row) made e (λ gone. is.has_slot (sym message ∙ gone)) in
+        let late =
+        late_over (λ next before after row. sender_moved (Swap word) n t ∙ leads no_sender
+        (sender_moves (sender_of k.log)) (sender_apart (sender_of k.log)) row) made e
+        (λ gone. is.has_slot (sym message ∙ gone)) in
         record {
           late = subst IsLate (sym (sender_still (handed Wake y ∷ []) refl u)) late.0;
           message = kept ∙ late.1 ∙ message;
@@ -210,8 +295,28 @@ module _ {T W : Type 0} where
         }
 
   -- the error's calls
-  pub into_ran : {l k j : Log T W} (x : T) → Grows l k (took x ∷ []) → Grows k j (did Free ∷ []) → SenderRan IntoInner l j R.Message [] (x ∷ [])
-  into_ran x s t = record { run = took x ∷ did Free ∷ []; is_run = more IntoFree _ _ refl refl (last _ refl refl); grows = and_then _ _ s t; gives = refl; gets = refl }
+  pub into_ran : {l k j : Log T W} (x : T) → Grows l k (took x ∷ []) → Grows k j (did Free ∷ [])
+      → SenderRan IntoInner l j R.Message [] (x ∷ [])
+  into_ran x s t =
+      record {
+        run = took x ∷ did Free
+            ∷ [];
+        is_run =
+            more IntoFree _ _ refl refl (last _ refl refl);
+        grows = and_then _ _ s t;
+        gives = refl;
+        gets = refl;
+      }
 
-  pub error_ran : {l k j : Log T W} → Grows l k (did DropMessage ∷ []) → Grows k j (did Free ∷ []) → SenderRan DropError l j R.Done [] []
-  error_ran s t = record { run = did DropMessage ∷ did Free ∷ []; is_run = more ErrorFree _ _ refl refl (last _ refl refl); grows = and_then _ _ s t; gives = refl; gets = refl }
+  pub error_ran : {l k j : Log T W} → Grows l k (did DropMessage ∷ []) → Grows k j (did Free ∷ [])
+      → SenderRan DropError l j R.Done [] []
+  error_ran s t =
+      record {
+        run = did DropMessage ∷ did Free
+            ∷ [];
+        is_run =
+            more ErrorFree _ _ refl refl (last _ refl refl);
+        grows = and_then _ _ s t;
+        gives = refl;
+        gets = refl;
+      }

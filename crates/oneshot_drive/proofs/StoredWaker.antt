@@ -26,30 +26,38 @@ swap_of by_value = Value RecvSwap
 
 module _ {T W : Type 0} where
   -- `find`: its load
-  pub full_at_once : {timed : Bool} {l k : Log T W} (way : Way timed) (n : ℕ) → n ≡ 4 → Grows l k (worded Load n ∷ []) → Went (load_of way) (end_of way F.Message) l k
+  pub full_at_once : {timed : Bool} {l k : Log T W} (way : Way timed) (n : ℕ) → n ≡ 4 → Grows l k (worded Load n ∷ [])
+      → Went (load_of way) (end_of way F.Message) l k
   full_at_once (by_ref timed) n e s = by_word _ Load n s refl (rw e)
   full_at_once by_value n e s = by_word _ Load n s refl (rw e)
 
-  pub over_at_once : {timed : Bool} {l k : Log T W} (way : Way timed) (n : ℕ) → n ≡ 2 → Grows l k (worded Load n ∷ []) → Went (load_of way) (end_of way F.Closed) l k
+  pub over_at_once : {timed : Bool} {l k : Log T W} (way : Way timed) (n : ℕ) → n ≡ 2 → Grows l k (worded Load n ∷ [])
+      → Went (load_of way) (end_of way F.Closed) l k
   over_at_once (by_ref timed) n e s = by_word _ Load n s refl (rw e)
   over_at_once by_value n e s = by_word _ Load n s refl (rw e)
 
-  loads_none : {timed : Bool} {l k : Log T W} (way : Way timed) (n : ℕ) → n ≡ 3 → Grows l k (worded Load n ∷ []) → Went (load_of way) (Goes (write_of way)) l k
+  loads_none : {timed : Bool} {l k : Log T W} (way : Way timed) (n : ℕ) → n ≡ 3 → Grows l k (worded Load n ∷ [])
+      → Went (load_of way) (Goes (write_of way)) l k
   loads_none (by_ref timed) n e s = by_word _ Load n s refl (rw e)
   loads_none by_value n e s = by_word _ Load n s refl (rw e)
 
-  pub found_none : {timed : Bool} {o : Outcome ReceiverPos} {l k z : Log T W} (way : Way timed) (n : ℕ) → n ≡ 3 → Grows l k (worded Load n ∷ []) → Went (write_of way) o k z → Went (load_of way) o l z
+  pub found_none : {timed : Bool} {o : Outcome ReceiverPos} {l k z : Log T W} (way : Way timed) (n : ℕ) → n ≡ 3
+      → Grows l k (worded Load n ∷ []) → Went (write_of way) o k z → Went (load_of way) o l z
   found_none way n e s went = on (loads_none way n e s) went
 
-  pub ready_waker : {at : ReceiverAt} {m m' : Held T} {w w' : Held W} (hand : Option W) (n : ℕ) → IsReady hand at → ReceiverFinds at Load n m w m' w' → n ≡ 3 → (k : W) × (hand ≡ Some k)
+  pub ready_waker : {at : ReceiverAt} {m m' : Held T} {w w' : Held W} (hand : Option W) (n : ℕ) → IsReady hand at
+      → ReceiverFinds at Load n m w m' w' → n ≡ 3 → (k : W) × (hand ≡ Some k)
   ready_waker (Some k) n ready made e = (k, refl)
   ready_waker None n ready made e = never 3 refl e (ready refl) made
 
   -- `store_and_wait`: where its swap landed, with the waker in the slot
-  pub stored : {b a : State T W} (n : ℕ) → StandsWith receiver_of (here looked) (none, filled) b → ReceiverMakes (Swap 0) n b a → Grows b.log a.log (worded (Swap 0) n ∷ []) → Lands receiver_of n a (landings (Swap 0) (receiver_moves (here looked)))
+  pub stored : {b a : State T W} (n : ℕ) → StandsWith receiver_of (here looked) (none, filled) b
+      → ReceiverMakes (Swap 0) n b a → Grows b.log a.log (worded (Swap 0) n ∷ [])
+      → Lands receiver_of n a (landings (Swap 0) (receiver_moves (here looked)))
   stored {b} n is made grows = lands b (Swap 0) n is.phase made grows
 
-  module _ {n : ℕ} {s : State T W} (found : Lands receiver_of n s (landings (Swap 0) (receiver_moves (here looked)))) where
+  module _ {n : ℕ} {s : State T W}
+      (found : Lands receiver_of n s (landings (Swap 0) (receiver_moves (here looked)))) where
     pub stored_waits : n ≡ 3 → Stands (waits blocked) s
     stored_waits e = (lone (at_word 3 e found)).stands
 
@@ -65,46 +73,69 @@ module _ {T W : Type 0} where
     pub over_word : ¬ (n ≡ 3) → ¬ (n ≡ 4) → n ≡ 2
     over_word no_empty no_message = (stored_over no_empty no_message).word
 
-    module _ {z : State T W} {k : W} (back : Grows s.log z.log (handed Steps.Withdraw k ∷ [])) (message : z.message ≡ s.message) (waker : z.waker ≡ vacant) where
+    module _ {z : State T W} {k : W} (back : Grows s.log z.log (handed Steps.Withdraw k ∷ []))
+        (message : z.message ≡ s.message) (waker : z.waker ≡ vacant) where
       pub withdrew_full : (timed : Bool) → n ≡ 4 → EndsAt timed F.Message z
-      withdrew_full timed e = (swapped storing, refl, withdrew_waker (lone (at_word 4 e found)).stands back message waker)
+      withdrew_full timed e =
+          (swapped storing, refl, withdrew_waker (lone (at_word 4 e found)).stands back message waker)
 
       pub withdrew_over : (timed : Bool) → ¬ (n ≡ 3) → ¬ (n ≡ 4) → EndsAt timed F.Unclosed z
-      withdrew_over timed no_empty no_message = (storing, withdrew_waker (stored_over no_empty no_message).stands back message waker)
+      withdrew_over timed no_empty no_message =
+          (storing, withdrew_waker (stored_over no_empty no_message).stands back message waker)
 
-  writes : {timed : Bool} {l k : Log T W} (way : Way timed) (y : W) → Grows l k (handed Steps.WriteWaker y ∷ []) → Went (write_of way) (Goes (swap_of way)) l k
+  writes : {timed : Bool} {l k : Log T W} (way : Way timed) (y : W) → Grows l k (handed Steps.WriteWaker y ∷ [])
+      → Went (write_of way) (Goes (swap_of way)) l k
   writes (by_ref timed) y s = by_write _ y s refl refl
   writes by_value y s = by_write _ y s refl refl
 
-  swaps_open : {timed : Bool} {l k : Log T W} (way : Way timed) (n : ℕ) → n ≡ 3 → Grows l k (worded (Swap 0) n ∷ []) → Went (swap_of way) (Goes (wait_of way)) l k
+  swaps_open : {timed : Bool} {l k : Log T W} (way : Way timed) (n : ℕ) → n ≡ 3 → Grows l k (worded (Swap 0) n ∷ [])
+      → Went (swap_of way) (Goes (wait_of way)) l k
   swaps_open (by_ref false) n e s = by_word _ (Swap 0) n s refl (rw e)
   swaps_open (by_ref true) n e s = by_word _ (Swap 0) n s refl (rw e)
   swaps_open by_value n e s = by_word _ (Swap 0) n s refl (rw e)
 
-  swaps_full : {timed : Bool} {k j z : Log T W} (way : Way timed) (u : W) (n : ℕ) → n ≡ 4 → Grows k j (worded (Swap 0) n ∷ []) → Grows j z (handed Steps.Withdraw u ∷ []) → Went (swap_of way) (end_of way F.Message) k z
-  swaps_full (by_ref false) u n e s t = on (by_word (Goes (Ref BackFull)) (Swap 0) n s refl (rw e)) (by_withdraw _ u t refl refl)
-  swaps_full (by_ref true) u n e s t = on (by_word (Goes (Ref BackFull)) (Swap 0) n s refl (rw e)) (by_withdraw _ u t refl refl)
-  swaps_full by_value u n e s t = on (by_word (Goes (Value RecvBackFull)) (Swap 0) n s refl (rw e)) (by_withdraw _ u t refl refl)
+  swaps_full : {timed : Bool} {k j z : Log T W} (way : Way timed) (u : W) (n : ℕ) → n ≡ 4
+      → Grows k j (worded (Swap 0) n ∷ []) → Grows j z (handed Steps.Withdraw u ∷ [])
+      → Went (swap_of way) (end_of way F.Message) k z
+  swaps_full (by_ref false) u n e s t =
+      on (by_word (Goes (Ref BackFull)) (Swap 0) n s refl (rw e)) (by_withdraw _ u t refl refl)
+  swaps_full (by_ref true) u n e s t =
+      on (by_word (Goes (Ref BackFull)) (Swap 0) n s refl (rw e)) (by_withdraw _ u t refl refl)
+  swaps_full by_value u n e s t =
+      on (by_word (Goes (Value RecvBackFull)) (Swap 0) n s refl (rw e)) (by_withdraw _ u t refl refl)
 
-  swaps_over : {timed : Bool} {k j z : Log T W} (way : Way timed) (u : W) (n : ℕ) → n ≡ 2 → Grows k j (worded (Swap 0) n ∷ []) → Grows j z (handed Steps.Withdraw u ∷ []) → Went (swap_of way) (end_of way F.Unclosed) k z
-  swaps_over (by_ref false) u n e s t = on (by_word (Goes (Ref BackClosed)) (Swap 0) n s refl (rw e)) (by_withdraw _ u t refl refl)
-  swaps_over (by_ref true) u n e s t = on (by_word (Goes (Ref BackClosed)) (Swap 0) n s refl (rw e)) (by_withdraw _ u t refl refl)
-  swaps_over by_value u n e s t = on (by_word (Goes (Value RecvBackClosed)) (Swap 0) n s refl (rw e)) (by_withdraw _ u t refl refl)
+  swaps_over : {timed : Bool} {k j z : Log T W} (way : Way timed) (u : W) (n : ℕ) → n ≡ 2
+      → Grows k j (worded (Swap 0) n ∷ []) → Grows j z (handed Steps.Withdraw u ∷ [])
+      → Went (swap_of way) (end_of way F.Unclosed) k z
+  swaps_over (by_ref false) u n e s t =
+      on (by_word (Goes (Ref BackClosed)) (Swap 0) n s refl (rw e)) (by_withdraw _ u t refl refl)
+  swaps_over (by_ref true) u n e s t =
+      on (by_word (Goes (Ref BackClosed)) (Swap 0) n s refl (rw e)) (by_withdraw _ u t refl refl)
+  swaps_over by_value u n e s t =
+      on (by_word (Goes (Value RecvBackClosed)) (Swap 0) n s refl (rw e)) (by_withdraw _ u t refl refl)
 
-  pub stored_went : {timed : Bool} {o : Outcome ReceiverPos} {l k j z : Log T W} (way : Way timed) (y : W) (n : ℕ) → n ≡ 3 → Grows l k (handed Steps.WriteWaker y ∷ []) → Grows k j (worded (Swap 0) n ∷ []) → Went (wait_of way) o j z → Went (write_of way) o l z
+  pub stored_went : {timed : Bool} {o : Outcome ReceiverPos} {l k j z : Log T W} (way : Way timed) (y : W) (n : ℕ)
+      → n ≡ 3 → Grows l k (handed Steps.WriteWaker y ∷ []) → Grows k j (worded (Swap 0) n ∷ [])
+      → Went (wait_of way) o j z → Went (write_of way) o l z
   stored_went way y n e s t went = on (writes way y s) (on (swaps_open way n e t) went)
 
-  pub full_went : {timed : Bool} {l k j z : Log T W} (way : Way timed) (y u : W) (n : ℕ) → n ≡ 4 → Grows l k (handed Steps.WriteWaker y ∷ []) → Grows k j (worded (Swap 0) n ∷ []) → Grows j z (handed Steps.Withdraw u ∷ []) → Went (write_of way) (end_of way F.Message) l z
+  pub full_went : {timed : Bool} {l k j z : Log T W} (way : Way timed) (y u : W) (n : ℕ) → n ≡ 4
+      → Grows l k (handed Steps.WriteWaker y ∷ []) → Grows k j (worded (Swap 0) n ∷ [])
+      → Grows j z (handed Steps.Withdraw u ∷ []) → Went (write_of way) (end_of way F.Message) l z
   full_went way y u n e s t v = on (writes way y s) (swaps_full way u n e t v)
 
-  pub over_went : {timed : Bool} {l k j z : Log T W} (way : Way timed) (y u : W) (n : ℕ) → n ≡ 2 → Grows l k (handed Steps.WriteWaker y ∷ []) → Grows k j (worded (Swap 0) n ∷ []) → Grows j z (handed Steps.Withdraw u ∷ []) → Went (write_of way) (end_of way F.Unclosed) l z
+  pub over_went : {timed : Bool} {l k j z : Log T W} (way : Way timed) (y u : W) (n : ℕ) → n ≡ 2
+      → Grows l k (handed Steps.WriteWaker y ∷ []) → Grows k j (worded (Swap 0) n ∷ [])
+      → Grows j z (handed Steps.Withdraw u ∷ []) → Went (write_of way) (end_of way F.Unclosed) l z
   over_went way y u n e s t v = on (writes way y s) (swaps_over way u n e t v)
 
 -- the hand has its waker again, or the sender took it, or it came back at the deadline
-pub back : {W : Type 0} {hand : Option W} {w : Held W} (y z : W) → hand ≡ Some y → w ≡ held y → w ≡ held z → Returns hand (Some z)
+pub back : {W : Type 0} {hand : Option W} {w : Held W} (y z : W) → hand ≡ Some y → w ≡ held y → w ≡ held z
+    → Returns hand (Some z)
 back {hand} y z is has was = let same : Some z ≡ hand = cc in subst (λ h. Returns hand h) (sym same) (returned hand)
 
-pub waited_hand : {W : Type 0} {hand before : Option W} (after : Option W) (f : Found) (y : W) → hand ≡ Some y → before ≡ None → WaitedHand f before after → HandAt f hand after
+pub waited_hand : {W : Type 0} {hand before : Option W} (after : Option W) (f : Found) (y : W) → hand ≡ Some y
+    → before ≡ None → WaitedHand f before after → HandAt f hand after
 waited_hand _ F.Message y is empty_hand hand = rw (is, hand, empty_hand) (taken y)
 waited_hand _ F.Closed y is empty_hand hand = rw (is, hand, empty_hand) (taken y)
 waited_hand _ F.Unclosed y is empty_hand hand = rw (is, hand, empty_hand) (taken y)

@@ -38,14 +38,16 @@ over (met_closed c) e = (c, refl)
 over _ e = absurd (cc)
 
 -- the rows of the words that leave it open
-empty_row : {n : ℕ} {at : ReceiverAt} → Met n at → ¬ (n ≡ 4) → ¬ (n ≡ 2) → receiver_row (Future AsyncTryLoad) (S.Word n) ≡ Some (Answers R.Empty)
+empty_row : {n : ℕ} {at : ReceiverAt} → Met n at → ¬ (n ≡ 4) → ¬ (n ≡ 2)
+    → receiver_row (Future AsyncTryLoad) (S.Word n) ≡ Some (Answers R.Empty)
 empty_row met_empty a b = refl
 empty_row (met_message word drops) a b = absurd (a refl)
 empty_row (met_closed c) a b = absurd (b refl)
 empty_row met_copy a b = refl
 empty_row met_sender a b = refl
 
-unsent : {T : Type 0} {n : ℕ} {at : ReceiverAt} → Met n at → ¬ (n ≡ 4) → ¬ (n ≡ 2) → LeavesTried {T = T} (Err E.Empty) at
+unsent : {T : Type 0} {n : ℕ} {at : ReceiverAt} → Met n at → ¬ (n ≡ 4) → ¬ (n ≡ 2)
+    → LeavesTried {T = T} (Err E.Empty) at
 unsent met_empty a b = tried_uncopied
 unsent (met_message word drops) a b = absurd (a refl)
 unsent (met_closed c) a b = absurd (b refl)
@@ -68,7 +70,9 @@ unmoved (has_resolved c) = (λ a b. refl, tt)
 
 module _ {T W : Type 0} where
   -- how it ends: with the message, without one that comes, or with none yet
-  pub taken_ends : {s : State T W} (g : Got) (x : T) → StandsWith receiver_of (receiver_next (full g) (Store 2) S.Done) (empty, empty) s → StandsIn (LeavesTried (Ok x)) s
+  pub taken_ends : {s : State T W} (g : Got) (x : T)
+      → StandsWith receiver_of (receiver_next (full g) (Store 2) S.Done) (empty, empty) s
+      → StandsIn (LeavesTried (Ok x)) s
   taken_ends at_once x is = record { at = disconnected closed_itself; is_one = tried_received x; stands = is }
   taken_ends waited x is = record { at = disconnected closed_itself; is_one = tried_received x; stands = is }
   taken_ends (swapped by) x is = record { at = disconnected closed_itself; is_one = tried_received x; stands = is }
@@ -78,9 +82,15 @@ module _ {T W : Type 0} where
   pub over_ends : {n : ℕ} {s : State T W} → Came Met n s → n ≡ 2 → StandsIn (LeavesTried {T = T} (Err E.Disconnected)) s
   over_ends {s} found e =
       let closed = over found.is_so e in
-      record { at = disconnected closed.0; is_one = tried_closed closed.0; stands = subst (λ at. Stands at s) closed.1 found.stands }
+      record {
+        at = disconnected closed.0;
+        is_one = tried_closed closed.0;
+        stands = subst (λ at. Stands at s) closed.1
+            found.stands;
+      }
 
-  pub unsent_ends : {n : ℕ} {s : State T W} → Came Met n s → ¬ (n ≡ 4) → ¬ (n ≡ 2) → StandsIn (LeavesTried {T = T} (Err E.Empty)) s
+  pub unsent_ends : {n : ℕ} {s : State T W} → Came Met n s → ¬ (n ≡ 4) → ¬ (n ≡ 2)
+      → StandsIn (LeavesTried {T = T} (Err E.Empty)) s
   unsent_ends found a b = record { at = found.at; is_one = unsent found.is_so a b; stands = found.stands }
 
   module _ {result : Result T TryRecvError} {s : State T W} (ends : StandsIn (LeavesTried result) s) where
@@ -90,26 +100,36 @@ module _ {T W : Type 0} where
     pub tried_leaves : LeavesTried result (receiver_of s.log)
     tried_leaves = subst (λ at. LeavesTried result at) (sym ends.stands.phase) ends.is_one
 
-  pub stays_registered : {b a : State T W} (n : ℕ) → IsPolled b → ReceiverMakes Load n b a → Grows b.log a.log (worded Load n ∷ []) → ¬ (n ≡ 4) → ¬ (n ≡ 2) → is_registered (receiver_of a.log) ≡ is_registered (receiver_of b.log)
+  pub stays_registered : {b a : State T W} (n : ℕ) → IsPolled b → ReceiverMakes Load n b a
+      → Grows b.log a.log (worded Load n ∷ []) → ¬ (n ≡ 4) → ¬ (n ≡ 2)
+      → is_registered (receiver_of a.log) ≡ is_registered (receiver_of b.log)
   stays_registered {b} n is made grows not_sent not_over =
-      let found = one_of (λ n next after. Unmoved is.at n next) (unmoved is.is_one) (lands b Load n is.stands.phase made grows) in
+      let found =
+      one_of (λ n next after. Unmoved is.at n next) (unmoved is.is_one)
+      (lands b Load n is.stands.phase made grows) in
       ap is_registered found.stands.phase ∙ found.is_so not_sent not_over ∙ sym (ap is_registered is.stands.phase)
 
   -- its runs
-  pub taken_ran : {l k j z : Log T W} (n r : ℕ) (x : T) → n ≡ 4 → Grows l k (worded Load n ∷ []) → Grows k j (worded (Store 2) r ∷ []) → Grows j z (took x ∷ []) → ReceiverRan AsyncTryRecv l z R.Message [] (x ∷ [])
+  pub taken_ran : {l k j z : Log T W} (n r : ℕ) (x : T) → n ≡ 4 → Grows l k (worded Load n ∷ [])
+      → Grows k j (worded (Store 2) r ∷ []) → Grows j z (took x ∷ [])
+      → ReceiverRan AsyncTryRecv l z R.Message [] (x ∷ [])
   taken_ran n r x e s t u = full_ran r x (loaded_to {p = Future AsyncTryLoad} (Goes (Look Close)) n 4 refl refl e s) t u
 
-  pub over_ran : {l k : Log T W} (n : ℕ) → n ≡ 2 → Grows l k (worded Load n ∷ []) → ReceiverRan AsyncTryRecv l k R.Disconnected [] []
+  pub over_ran : {l k : Log T W} (n : ℕ) → n ≡ 2 → Grows l k (worded Load n ∷ [])
+      → ReceiverRan AsyncTryRecv l k R.Disconnected [] []
   over_ran n e s = whole (loaded_to {p = Future AsyncTryLoad} (Answers R.Disconnected) n 2 refl refl e s)
 
-  pub unsent_ran : {l k : Log T W} {s : State T W} (n : ℕ) → Came Met n s → ¬ (n ≡ 4) → ¬ (n ≡ 2) → Grows l k (worded Load n ∷ []) → ReceiverRan AsyncTryRecv l k R.Empty [] []
-  unsent_ran n found a b s = whole (by_word {p = Future AsyncTryLoad} (Answers R.Empty) Load n s refl (empty_row found.is_so a b))
+  pub unsent_ran : {l k : Log T W} {s : State T W} (n : ℕ) → Came Met n s → ¬ (n ≡ 4) → ¬ (n ≡ 2)
+      → Grows l k (worded Load n ∷ []) → ReceiverRan AsyncTryRecv l k R.Empty [] []
+  unsent_ran n found a b s =
+      whole (by_word {p = Future AsyncTryLoad} (Answers R.Empty) Load n s refl (empty_row found.is_so a b))
 
   -- and which wakers they hand on
   pub load_alone : {l k : Log T W} (n : ℕ) → Grows l k (worded Load n ∷ []) → HandsNoWaker l k
   load_alone n s = record { steps = worded Load n ∷ []; grows = s; none = refl }
 
-  pub words_alone : {l k j z : Log T W} (n r : ℕ) (x : T) → Grows l k (worded Load n ∷ []) → Grows k j (worded (Store 2) r ∷ []) → Grows j z (took x ∷ []) → HandsNoWaker l z
+  pub words_alone : {l k j z : Log T W} (n r : ℕ) (x : T) → Grows l k (worded Load n ∷ [])
+      → Grows k j (worded (Store 2) r ∷ []) → Grows j z (took x ∷ []) → HandsNoWaker l z
   words_alone n r x s t u =
       record {
         steps = worded Load n ∷ worded (Store 2) r ∷ took x ∷ [];

@@ -33,7 +33,10 @@ woken_loads (by_ref false) = refl
 woken_loads (by_ref true) = refl
 woken_loads by_value = refl
 
-woken_rows : {timed : Bool} (way : Way timed) → receiver_rows (woken_of way) ≡ (S.Word 4, end_of way F.Message) ∷ (S.Word 2, end_of way F.Closed) ∷ (S.Word 0, Goes (wait_of way)) ∷ (S.Word 1, Goes (wait_of way)) ∷ []
+woken_rows : {timed : Bool} (way : Way timed)
+    → receiver_rows (woken_of way)
+    ≡ (S.Word 4, end_of way F.Message) ∷ (S.Word 2, end_of way F.Closed) ∷ (S.Word 0, Goes (wait_of way))
+    ∷ (S.Word 1, Goes (wait_of way)) ∷ []
 woken_rows (by_ref false) = refl
 woken_rows (by_ref true) = refl
 woken_rows by_value = refl
@@ -43,7 +46,8 @@ data Longer : ℕ → ReceiverAt → Type 0 where
   longer : Longer 0 (waits blocked)
   claimed : Longer 1 (waits blocked)
 
-longer_row : {timed : Bool} {n : ℕ} {at : ReceiverAt} (way : Way timed) → Longer n at → receiver_row (woken_of way) (S.Word n) ≡ Some (Goes (wait_of way))
+longer_row : {timed : Bool} {n : ℕ} {at : ReceiverAt} (way : Way timed) → Longer n at
+    → receiver_row (woken_of way) (S.Word n) ≡ Some (Goes (wait_of way))
 longer_row way longer = ap (row_for (S.Word 0)) (woken_rows way)
 longer_row way claimed = ap (row_for (S.Word 1)) (woken_rows way)
 
@@ -53,12 +57,14 @@ longer_waits claimed = refl
 
 module _ {T W : Type 0} where
   -- `is_over`: a read of the clock, where there is a deadline
-  pub asked : {l k : Log T W} {timed : Bool} (way : Way timed) (past : Bool) → timed ≡ true → Grows l k (clocked past ∷ []) → Went (wait_of way) (Goes (asked_of way past)) l k
+  pub asked : {l k : Log T W} {timed : Bool} (way : Way timed) (past : Bool) → timed ≡ true
+      → Grows l k (clocked past ∷ []) → Went (wait_of way) (Goes (asked_of way past)) l k
   asked (by_ref true) true e s = by_clock _ true s refl refl
   asked (by_ref true) false e s = by_clock _ false s refl refl
   asked _ past e s = absurd (cc)
 
-  pub not_asked : {timed : Bool} (way : Way timed) (l : Log T W) → timed ≡ false → Went (wait_of way) (Goes (asked_of way false)) l l
+  pub not_asked : {timed : Bool} (way : Way timed) (l : Log T W) → timed ≡ false
+      → Went (wait_of way) (Goes (asked_of way false)) l l
   not_asked (by_ref true) l e = absurd (cc)
   not_asked (by_ref false) l e = begun (Ref Park) l
   not_asked by_value l e = begun (Value RecvPark) l
@@ -71,10 +77,12 @@ module _ {T W : Type 0} where
   may_park_late is = subst (Parks false) (sym is.phase) parks_overdue
 
   -- `wait`: where its load landed
-  pub woke : {b a : State T W} (n : ℕ) → Stands (waits blocked) b → ReceiverMakes Load n b a → Grows b.log a.log (worded Load n ∷ []) → Lands receiver_of n a (landings Load (receiver_moves (waits blocked)))
+  pub woke : {b a : State T W} (n : ℕ) → Stands (waits blocked) b → ReceiverMakes Load n b a
+      → Grows b.log a.log (worded Load n ∷ []) → Lands receiver_of n a (landings Load (receiver_moves (waits blocked)))
   woke {b} n is made grows = lands b Load n is.phase made grows
 
-  module _ {n : ℕ} {s : State T W} (found : Lands receiver_of n s (landings Load (receiver_moves (waits blocked)))) where
+  module _ {n : ℕ} {s : State T W}
+      (found : Lands receiver_of n s (landings Load (receiver_moves (waits blocked)))) where
     pub woke_full : (timed : Bool) → n ≡ 4 → EndsAt timed F.Message s
     woke_full timed e = (waited, refl, (lone (at_word 4 e found)).stands)
 
@@ -82,44 +90,62 @@ module _ {T W : Type 0} where
     woke_over timed e = (found_closed, (lone (at_word 2 e found)).stands)
 
     again : ¬ (n ≡ 4) → ¬ (n ≡ 2) → Came Longer n s
-    again no_message not_closed = came Longer ((longer, refl), ((claimed, refl), tt)) (not_at 2 not_closed (not_at 4 no_message found))
+    again no_message not_closed =
+        came Longer ((longer, refl), ((claimed, refl), tt)) (not_at 2 not_closed (not_at 4 no_message found))
 
     pub woke_again : ¬ (n ≡ 4) → ¬ (n ≡ 2) → Stands (waits blocked) s
-    woke_again no_message not_closed = let on = again no_message not_closed in subst (λ at. Stands at s) (longer_waits on.is_so) on.stands
+    woke_again no_message not_closed =
+        let on = again no_message not_closed in subst (λ at. Stands at s) (longer_waits on.is_so) on.stands
 
   -- a park, and where the load after it leads
-  parks : {timed : Bool} {k j : Log T W} (way : Way timed) (woken : Bool) → Grows k j (parked woken ∷ []) → Went (asked_of way false) (Goes (woken_of way)) k j
+  parks : {timed : Bool} {k j : Log T W} (way : Way timed) (woken : Bool) → Grows k j (parked woken ∷ [])
+      → Went (asked_of way false) (Goes (woken_of way)) k j
   parks (by_ref false) woken s = by_park _ woken s refl refl refl
   parks (by_ref true) woken s = by_park _ woken s refl refl refl
   parks by_value woken s = by_park _ woken s refl refl refl
 
   -- it knows that its deadline is not over
-  on_time : {timed past : Bool} {l i k : Log T W} (way : Way timed) → Went (wait_of way) (Goes (wait_of way)) l i → Went (wait_of way) (Goes (asked_of way past)) i k → past ≡ false → Went (wait_of way) (Goes (asked_of way false)) l k
+  on_time : {timed past : Bool} {l i k : Log T W} (way : Way timed) → Went (wait_of way) (Goes (wait_of way)) l i
+      → Went (wait_of way) (Goes (asked_of way past)) i k → past ≡ false
+      → Went (wait_of way) (Goes (asked_of way false)) l k
   on_time {i} {k} way went asks e = on went (subst (λ past. Went (wait_of way) (Goes (asked_of way past)) i k) e asks)
 
-  module _ {timed past : Bool} {l i k j z : Log T W} (way : Way timed) (went : Went (wait_of way) (Goes (wait_of way)) l i) (asks : Went (wait_of way) (Goes (asked_of way past)) i k) (no : past ≡ false) (woken : Bool) (s : Grows k j (parked woken ∷ [])) (n : ℕ) (t : Grows j z (worded Load n ∷ [])) where
+  module _ {timed past : Bool} {l i k j z : Log T W} (way : Way timed)
+      (went : Went (wait_of way) (Goes (wait_of way)) l i) (asks : Went (wait_of way) (Goes (asked_of way past)) i k)
+      (no : past ≡ false) (woken : Bool) (s : Grows k j (parked woken ∷ [])) (n : ℕ)
+      (t : Grows j z (worded Load n ∷ [])) where
     parks_to : (o : Outcome ReceiverPos) → receiver_row (woken_of way) (S.Word n) ≡ Some o → Went (wait_of way) o l z
-    parks_to o leads = on (on_time way went asks no) (on (parks way woken s) (by_word o Load n t (woken_loads way) leads))
+    parks_to o leads =
+        on (on_time way went asks no) (on (parks way woken s) (by_word o Load n t (woken_loads way) leads))
 
-    pub parks_again : {state : State T W} → Lands receiver_of n state (landings Load (receiver_moves (waits blocked))) → ¬ (n ≡ 4) → ¬ (n ≡ 2) → Went (wait_of way) (Goes (wait_of way)) l z
+    pub parks_again : {state : State T W} → Lands receiver_of n state (landings Load (receiver_moves (waits blocked)))
+        → ¬ (n ≡ 4) → ¬ (n ≡ 2) → Went (wait_of way) (Goes (wait_of way)) l z
     parks_again found no_message not_closed = parks_to _ (longer_row way (again found no_message not_closed).is_so)
 
     pub parks_full : n ≡ 4 → Went (wait_of way) (end_of way F.Message) l z
-    parks_full e = parks_to _ (ap (λ n. receiver_row (woken_of way) (S.Word n)) e ∙ ap (row_for (S.Word 4)) (woken_rows way))
+    parks_full e =
+        parks_to _ (ap (λ n. receiver_row (woken_of way) (S.Word n)) e ∙ ap (row_for (S.Word 4)) (woken_rows way))
 
     pub parks_over : n ≡ 2 → Went (wait_of way) (end_of way F.Closed) l z
-    parks_over e = parks_to _ (ap (λ n. receiver_row (woken_of way) (S.Word n)) e ∙ ap (row_for (S.Word 2)) (woken_rows way))
+    parks_over e =
+        parks_to _ (ap (λ n. receiver_row (woken_of way) (S.Word n)) e ∙ ap (row_for (S.Word 2)) (woken_rows way))
 
   -- or that it is over
-  pub stops_went : {timed past : Bool} {l i k z : Log T W} (f : Found) (way : Way timed) → Went (wait_of way) (Goes (wait_of way)) l i → Went (wait_of way) (Goes (asked_of way past)) i k → past ≡ true → timed ≡ true → Went (Timed EndSwap) (ref_end f) k z → Went (wait_of way) (end_of way f) l z
-  stops_went {i} {k} f (by_ref true) went asks e is stops = on went (on (subst (λ past. Went (Timed Clock) (Goes (asked_of (by_ref true) past)) i k) e asks) stops)
+  pub stops_went : {timed past : Bool} {l i k z : Log T W} (f : Found) (way : Way timed)
+      → Went (wait_of way) (Goes (wait_of way)) l i → Went (wait_of way) (Goes (asked_of way past)) i k → past ≡ true
+      → timed ≡ true → Went (Timed EndSwap) (ref_end f) k z → Went (wait_of way) (end_of way f) l z
+  stops_went {i} {k} f (by_ref true) went asks e is stops =
+      on went (on (subst (λ past. Went (Timed Clock) (Goes (asked_of (by_ref true) past)) i k) e asks) stops)
   stops_went f _ went asks e is stops = absurd (cc)
 
   -- `stop`: where its swap landed
-  pub stopped : {b a : State T W} (n : ℕ) → Stands (waits blocked) b → ReceiverMakes (Swap 3) n b a → Grows b.log a.log (worded (Swap 3) n ∷ []) → Lands receiver_of n a (landings (Swap 3) (receiver_moves (waits blocked)))
+  pub stopped : {b a : State T W} (n : ℕ) → Stands (waits blocked) b → ReceiverMakes (Swap 3) n b a
+      → Grows b.log a.log (worded (Swap 3) n ∷ [])
+      → Lands receiver_of n a (landings (Swap 3) (receiver_moves (waits blocked)))
   stopped {b} n is made grows = lands b (Swap 3) n is.phase made grows
 
-  module _ {n : ℕ} {s : State T W} (found : Lands receiver_of n s (landings (Swap 3) (receiver_moves (waits blocked)))) where
+  module _ {n : ℕ} {s : State T W}
+      (found : Lands receiver_of n s (landings (Swap 3) (receiver_moves (waits blocked)))) where
     pub stopped_open : n ≡ 0 → StandsWith receiver_of (here between) (none, filled) s
     stopped_open e = (lone (at_word 0 e found)).stands
 
@@ -130,23 +156,31 @@ module _ {T W : Type 0} where
     stopped_over e = (stopping, (lone (at_word 2 e found)).stands)
 
     pub stopped_late : ¬ (n ≡ 0) → ¬ (n ≡ 4) → ¬ (n ≡ 2) → Lone receiver_of n s (1, overdue, (none, none))
-    stopped_late not_waiting no_message not_closed = lone (not_at 2 not_closed (not_at 4 no_message (not_at 0 not_waiting found)))
+    stopped_late not_waiting no_message not_closed =
+        lone (not_at 2 not_closed (not_at 4 no_message (not_at 0 not_waiting found)))
 
     -- its waker is in its hand again
-    pub withdrew_nothing : {z : State T W} {k : W} → n ≡ 0 → Grows s.log z.log (handed Steps.Withdraw k ∷ []) → z.message ≡ s.message → z.waker ≡ vacant → EndsAt true F.Nothing z
+    pub withdrew_nothing : {z : State T W} {k : W} → n ≡ 0 → Grows s.log z.log (handed Steps.Withdraw k ∷ [])
+        → z.message ≡ s.message → z.waker ≡ vacant → EndsAt true F.Nothing z
     withdrew_nothing e back message waker = (refl, withdrew_waker (stopped_open e) back message waker)
 
-  pub stops_to : {l k : Log T W} (o : Outcome ReceiverPos) (n found : ℕ) → receiver_row (Timed EndSwap) (S.Word found) ≡ Some o → n ≡ found → Grows l k (worded (Swap 3) n ∷ []) → Went (Timed EndSwap) o l k
-  stops_to o n found leads e s = by_word o (Swap 3) n s refl (ap (λ n. receiver_row (Timed EndSwap) (S.Word n)) e ∙ leads)
+  pub stops_to : {l k : Log T W} (o : Outcome ReceiverPos) (n found : ℕ)
+      → receiver_row (Timed EndSwap) (S.Word found) ≡ Some o → n ≡ found → Grows l k (worded (Swap 3) n ∷ [])
+      → Went (Timed EndSwap) o l k
+  stops_to o n found leads e s =
+      by_word o (Swap 3) n s refl (ap (λ n. receiver_row (Timed EndSwap) (S.Word n)) e ∙ leads)
 
-  pub nothing_went : {l k j : Log T W} (z : W) (n : ℕ) → n ≡ 0 → Grows l k (worded (Swap 3) n ∷ []) → Grows k j (handed Steps.Withdraw z ∷ []) → Went (Timed EndSwap) (ref_end F.Nothing) l j
+  pub nothing_went : {l k j : Log T W} (z : W) (n : ℕ) → n ≡ 0 → Grows l k (worded (Swap 3) n ∷ [])
+      → Grows k j (handed Steps.Withdraw z ∷ []) → Went (Timed EndSwap) (ref_end F.Nothing) l j
   nothing_went z n e s t = on (stops_to (Goes (Timed EndBack)) n 0 refl e s) (by_withdraw _ z t refl refl)
 
-  pub late_went : {l k z : Log T W} (f : Found) (n : ℕ) → n ≡ 1 → Grows l k (worded (Swap 3) n ∷ []) → Went (Timed LatePark) (ref_end f) k z → Went (Timed EndSwap) (ref_end f) l z
+  pub late_went : {l k z : Log T W} (f : Found) (n : ℕ) → n ≡ 1 → Grows l k (worded (Swap 3) n ∷ [])
+      → Went (Timed LatePark) (ref_end f) k z → Went (Timed EndSwap) (ref_end f) l z
   late_went f n e s went = on (stops_to (Goes (Timed LatePark)) n 1 refl e s) went
 
   -- `wait_late`: where its load landed
-  pub ended : {b a : State T W} (n : ℕ) → Stands overdue b → ReceiverMakes Load n b a → Grows b.log a.log (worded Load n ∷ []) → Lands receiver_of n a (landings Load (receiver_moves overdue))
+  pub ended : {b a : State T W} (n : ℕ) → Stands overdue b → ReceiverMakes Load n b a
+      → Grows b.log a.log (worded Load n ∷ []) → Lands receiver_of n a (landings Load (receiver_moves overdue))
   ended {b} n is made grows = lands b Load n is.phase made grows
 
   module _ {n : ℕ} {s : State T W} (found : Lands receiver_of n s (landings Load (receiver_moves overdue))) where
@@ -159,5 +193,10 @@ module _ {T W : Type 0} where
     pub ended_again : ¬ (n ≡ 4) → ¬ (n ≡ 2) → Lone receiver_of n s (3, overdue, (none, none))
     ended_again no_message not_closed = lone (not_at 2 not_closed (not_at 4 no_message found))
 
-  pub late_to : {l k j z : Log T W} (o : Outcome ReceiverPos) (n found : ℕ) → receiver_row (Timed LateLoad) (S.Word found) ≡ Some o → n ≡ found → Went (Timed LatePark) (Goes (Timed LatePark)) l k → (woken : Bool) → Grows k j (parked woken ∷ []) → Grows j z (worded Load n ∷ []) → Went (Timed LatePark) o l z
-  late_to o n found leads e went woken s t = on went (on (by_park (Goes (Timed LateLoad)) woken s refl refl refl) (by_word o Load n t refl (ap (λ n. receiver_row (Timed LateLoad) (S.Word n)) e ∙ leads)))
+  pub late_to : {l k j z : Log T W} (o : Outcome ReceiverPos) (n found : ℕ)
+      → receiver_row (Timed LateLoad) (S.Word found) ≡ Some o → n ≡ found
+      → Went (Timed LatePark) (Goes (Timed LatePark)) l k → (woken : Bool) → Grows k j (parked woken ∷ [])
+      → Grows j z (worded Load n ∷ []) → Went (Timed LatePark) o l z
+  late_to o n found leads e went woken s t =
+      on went (on (by_park (Goes (Timed LateLoad)) woken s refl refl refl)
+      (by_word o Load n t refl (ap (λ n. receiver_row (Timed LateLoad) (S.Word n)) e ∙ leads)))

@@ -1,4 +1,5 @@
--- What is computed for each phase of an end: a ground in memory finds what the table says, and its cells stand as they may after each operation and after each other change.
+-- What is computed for each phase of an end: a ground in memory finds what the table says, and its cells
+-- stand as they may after each operation and after each other change.
 use Rattle.std.proofs.Common.{◌≡◌, ℕ, ◌≤◌, Bool, true, false, ◌&&◌, List, Option, Some, None, refl, subst}
 use Rattle.std.specs.Prelude.{◌==◌, is_some, leb}
 use Rattle.std.specs.List.{list_all, list_any}
@@ -29,7 +30,8 @@ both_pass : (p : Bool → Bool) → both p ≡ true → (b : Bool) → p b ≡ t
 both_pass p all true = (and_parts (p true) (p false) all).0
 both_pass p all false = (and_parts (p true) (p false) all).1
 
-code_passes : (p : ℕ → Bool) (xs : List ℕ) (word : ℕ) → list_all p xs ≡ true → list_any (λ code. code == word) xs ≡ true → p word ≡ true
+code_passes : (p : ℕ → Bool) (xs : List ℕ) (word : ℕ) → list_all p xs ≡ true → list_any (λ code. code == word) xs ≡ true
+    → p word ≡ true
 code_passes p xs word all is =
     let found : Passing (λ code. code == word) xs = some_passes (λ code. code == word) xs is in
     subst (λ word. p word ≡ true) (eqb-true found.one word found.passes) (each_passes p xs all found.among)
@@ -39,16 +41,23 @@ is_at_most_4 word is = leb-true word 4 (code_passes (λ word. leb word 4) codes 
 
 abbrev with_word : (Cells → Bool) → ℕ → Bool
 with_word p word =
-    both (λ a. both (λ b. both (λ c. both (λ d. p (record { word = word; owns_message = a; owns_waker = b; has_message = c; has_waker = d })))))
+    both (λ a. both (λ b. both
+    (λ c. both (λ d. p
+    (record { word = word; owns_message = a; owns_waker = b; has_message = c; has_waker = d })))))
 
 abbrev pub each_cells : (Cells → Bool) → Bool
 each_cells p = list_all (with_word p) codes
 
 cells_pass : (p : Cells → Bool) → each_cells p ≡ true → (c : Cells) → is_code c.word ≡ true → p c ≡ true
 cells_pass p all c is =
-    let at : Bool → Bool → Bool → Bool → Bool = λ a b m w. p (record { word = c.word; owns_message = a; owns_waker = b; has_message = m; has_waker = w }) in
+    let at : Bool → Bool → Bool → Bool → Bool =
+    λ a b m w. p (record { word = c.word; owns_message = a; owns_waker = b; has_message = m; has_waker = w }) in
     let here : with_word p c.word ≡ true = code_passes (with_word p) codes c.word all is in
-    both_pass (λ w. at c.owns_message c.owns_waker c.has_message w) (both_pass (λ m. both (λ w. at c.owns_message c.owns_waker m w)) (both_pass (λ b. both (λ m. both (λ w. at c.owns_message b m w))) (both_pass (λ a. both (λ b. both (λ m. both (λ w. at a b m w)))) here c.owns_message) c.owns_waker) c.has_message) c.has_waker
+    both_pass (λ w. at c.owns_message c.owns_waker c.has_message w)
+    (both_pass (λ m. both (λ w. at c.owns_message c.owns_waker m w))
+    (both_pass (λ b. both (λ m. both (λ w. at c.owns_message b m w)))
+    (both_pass (λ a. both (λ b. both (λ m. both (λ w. at a b m w)))) here c.owns_message) c.owns_waker)
+    c.has_message) c.has_waker
 
 -- the share of a slot, by whose it is and whether there is something in its cell
 abbrev pub share_of : Bool → Bool → Share
@@ -68,13 +77,15 @@ slots_are_same a b e =
     λ i. (shares_are_same a.0 b.0 parts.0 i, shares_are_same a.1 b.1 parts.1 i)
 
 module _ {X : Type 0} where
-  share_is : {s : Share} (own : Bool) (cell : Option X) → IsSlot s (slot_of own cell) → is_same_share s (share_of own (is_some cell)) ≡ true
+  share_is : {s : Share} (own : Bool) (cell : Option X) → IsSlot s (slot_of own cell)
+      → is_same_share s (share_of own (is_some cell)) ≡ true
   share_is false cell is_away = refl
   share_is true None is_vacant = refl
   share_is true (Some x) (is_held _) = refl
 
   -- a slot turns with whose it is, and its cell stays
-  turns : (own owns : Bool) (cell : Option X) → Turns (share_of own (is_some cell)) (share_of owns (is_some cell)) (slot_of own cell) (slot_of owns cell)
+  turns : (own owns : Bool) (cell : Option X)
+      → Turns (share_of own (is_some cell)) (share_of owns (is_some cell)) (slot_of own cell) (slot_of owns cell)
   turns false false cell = stays_away
   turns false true None = gets_room
   turns false true (Some x) = gets_thing x
@@ -94,7 +105,8 @@ module _ {X : Type 0} where
 
 -- An end: its table and where that leads, which cells it has at a phase, and of an operation which slots it
 -- leaves the end, and whether a waker stays in its cell.
-module _ {At : Type 0} (next : At → Op → Seen → At) (rows : At → List (Row At)) (has : At → Cells → Bool) (keeps : Op → Cells → Bool × Bool × Bool) where
+module _ {At : Type 0} (next : At → Op → Seen → At) (rows : At → List (Row At)) (has : At → Cells → Bool)
+    (keeps : Op → Cells → Bool × Bool × Bool) where
   abbrev stands : At → Cells → Bool
   stands at c = is_code c.word && has at c
 
@@ -131,7 +143,8 @@ module _ {At : Type 0} (next : At → Op → Seen → At) (rows : At → List (R
   -- where the row's operation may be made
   abbrev is_met : At → Cells → Row At → Bool
   is_met at c row =
-      implies (is_same_slots row.1 (shares_of c)) (list_any (is_found row.0 c) (rows at) && stands (next at row.0 (saw row.0 c.word)) (left row.0 c))
+      implies (is_same_slots row.1 (shares_of c))
+      (list_any (is_found row.0 c) (rows at) && stands (next at row.0 (saw row.0 c.word)) (left row.0 c))
 
   -- A change is a table's row: where it may come about, by a truth that its maker chooses, and the cells
   -- then.
@@ -150,41 +163,66 @@ module _ {At : Type 0} (next : At → Op → Seen → At) (rows : At → List (R
     IsSteady = (at : At) → is_steady at ≡ true
 
     module _ (steady : IsSteady) where
-      at_cells : (at : At) (c : Cells) → stands at c ≡ true → (list_all (is_met at c) (rows at) ≡ true) × (list_all (comes at c) changes ≡ true)
+      at_cells : (at : At) (c : Cells) → stands at c ≡ true
+          → (list_all (is_met at c) (rows at) ≡ true) × (list_all (comes at c) changes ≡ true)
       at_cells at c is =
-          let all : implies (stands at c) (is_steady_with at c) ≡ true = cells_pass (λ c. implies (stands at c) (is_steady_with at c)) (steady at) c (and_parts (is_code c.word) (has at c) is).0 in
-          and_parts (list_all (is_met at c) (rows at)) (list_all (comes at c) changes) (implied (stands at c) (is_steady_with at c) all is)
+          let all : implies (stands at c) (is_steady_with at c) ≡ true =
+          cells_pass (λ c. implies (stands at c) (is_steady_with at c)) (steady at) c
+          (and_parts (is_code c.word) (has at c) is).0 in
+          and_parts (list_all (is_met at c) (rows at)) (list_all (comes at c) changes)
+          (implied (stands at c) (is_steady_with at c) all is)
 
-      pub comes_about : (at : At) (c : Cells) {change : Bool → Cells → Bool × Cells} (b : Bool) → In change changes → stands at c ≡ true → (change b c).0 ≡ true → stands at (change b c).1 ≡ true
+      pub comes_about : (at : At) (c : Cells) {change : Bool → Cells → Bool × Cells} (b : Bool) → In change changes
+          → stands at c ≡ true → (change b c).0 ≡ true → stands at (change b c).1 ≡ true
       comes_about at c {change} b among is come =
           let each : comes at c change ≡ true = each_passes (comes at c) changes (at_cells at c is).1 among in
-          implied (change b c).0 (stands at (change b c).1) (both_pass (λ b. implies (change b c).0 (stands at (change b c).1)) each b) come
+          implied (change b c).0 (stands at (change b c).1)
+          (both_pass (λ b. implies (change b c).0 (stands at (change b c).1)) each b) come
 
       module _ {T W : Type 0} where
         -- an operation: its word is a code, it finds what it may, and the ground stands on
-        pub record Operated (at : At) (op : Op) (word : ℕ) (own own_waker : Bool) (cell : Option T) (waker : Option W) : Type 0 where
+        pub record Operated (at : At) (op : Op) (word : ℕ) (own own_waker : Bool) (cell : Option T)
+            (waker : Option W) : Type 0 where
           pub code : word ≤ 4
-          pub found : Finds rows at op word (slot_of own cell) (slot_of own_waker waker) (slot_of (keeps op (cells_of word own own_waker cell waker)).0 cell) (slot_of (keeps op (cells_of word own own_waker cell waker)).1 waker)
+          pub found : Finds rows at op word (slot_of own cell) (slot_of own_waker waker)
+              (slot_of (keeps op (cells_of word own own_waker cell waker)).0 cell)
+              (slot_of (keeps op (cells_of word own own_waker cell waker)).1 waker)
           pub goes_on : stands (next at op (saw op word)) (left op (cells_of word own own_waker cell waker)) ≡ true
 
-        row_finds : (at : At) (op : Op) (word : ℕ) (own own_waker : Bool) (cell : Option T) (waker : Option W) {row : Row At} → In row (rows at) → is_found op (cells_of word own own_waker cell waker) row ≡ true
-            → Finds rows at op word (slot_of own cell) (slot_of own_waker waker) (slot_of (keeps op (cells_of word own own_waker cell waker)).0 cell) (slot_of (keeps op (cells_of word own own_waker cell waker)).1 waker)
+        row_finds : (at : At) (op : Op) (word : ℕ) (own own_waker : Bool) (cell : Option T) (waker : Option W)
+            {row : Row At} → In row (rows at) → is_found op (cells_of word own own_waker cell waker) row ≡ true
+            → Finds rows at op word (slot_of own cell) (slot_of own_waker waker)
+            (slot_of (keeps op (cells_of word own own_waker cell waker)).0 cell)
+            (slot_of (keeps op (cells_of word own own_waker cell waker)).1 waker)
         row_finds at op word own own_waker cell waker {row} among found =
             let c : Cells = cells_of word own own_waker cell waker in
             let turned = and_parts (is_such op c row) (is_same_slots (shares_of (after op c)) row.4) found in
             let such = and_parts (is_same_op row.0 op && row.2 == word) (is_same_slots (shares_of c) row.1) turned.0 in
             let same = and_parts (is_same_op row.0 op) (row.2 == word) such.0 in
-            let slots : (shares_of c ≡ row.1) × (shares_of (after op c) ≡ row.4) = (slots_are_same _ _ such.1, slots_are_same _ _ turned.1) in
-            let message : Turns row.1.0 row.4.0 (slot_of own cell) (slot_of (keeps op c).0 cell) = subst (λ (z : Slots × Slots). Turns z.0.0 z.1.0 (slot_of own cell) (slot_of (keeps op c).0 cell)) (λ i. (slots.0 i, slots.1 i)) (turns own (keeps op c).0 cell) in
-            let also : Turns row.1.1 row.4.1 (slot_of own_waker waker) (slot_of (keeps op c).1 waker) = subst (λ (z : Slots × Slots). Turns z.0.1 z.1.1 (slot_of own_waker waker) (slot_of (keeps op c).1 waker)) (λ i. (slots.0 i, slots.1 i)) (turns own_waker (keeps op c).1 waker) in
-            subst (λ (z : Op × ℕ). Finds rows at z.0 z.1 (slot_of own cell) (slot_of own_waker waker) (slot_of (keeps op c).0 cell) (slot_of (keeps op c).1 waker)) (λ i. (ops_are_same row.0 op same.0 i, eqb-true row.2 word same.1 i)) (finds among message also)
+            let slots : (shares_of c ≡ row.1) × (shares_of (after op c) ≡ row.4) =
+            (slots_are_same _ _ such.1, slots_are_same _ _ turned.1) in
+            let message : Turns row.1.0 row.4.0 (slot_of own cell) (slot_of (keeps op c).0 cell) =
+            subst (λ (z : Slots × Slots). Turns z.0.0 z.1.0 (slot_of own cell) (slot_of (keeps op c).0 cell))
+            (λ i. (slots.0 i, slots.1 i)) (turns own (keeps op c).0 cell) in
+            let also : Turns row.1.1 row.4.1 (slot_of own_waker waker) (slot_of (keeps op c).1 waker) =
+            subst (λ (z : Slots × Slots). Turns z.0.1 z.1.1 (slot_of own_waker waker)
+            (slot_of (keeps op c).1 waker)) (λ i. (slots.0 i, slots.1 i)) (turns own_waker (keeps op c).1 waker) in
+            subst (λ (z : Op × ℕ). Finds rows at z.0 z.1 (slot_of own cell) (slot_of own_waker waker)
+            (slot_of (keeps op c).0 cell) (slot_of (keeps op c).1 waker))
+            (λ i. (ops_are_same row.0 op same.0 i, eqb-true row.2 word same.1 i)) (finds among message also)
 
-        pub operates : (at : At) {op : Op} (word : ℕ) (own own_waker : Bool) (cell : Option T) (waker : Option W) → stands at (cells_of word own own_waker cell waker) ≡ true → May rows at op (slot_of own cell) (slot_of own_waker waker) → Operated at op word own own_waker cell waker
+        pub operates : (at : At) {op : Op} (word : ℕ) (own own_waker : Bool) (cell : Option T) (waker : Option W)
+            → stands at (cells_of word own own_waker cell waker) ≡ true
+            → May rows at op (slot_of own cell) (slot_of own_waker waker) → Operated at op word own own_waker cell waker
         operates at {op} word own own_waker cell waker is (may {before} among message was) =
             let c : Cells = cells_of word own own_waker cell waker in
-            let fits : is_same_slots before (shares_of c) ≡ true = and_from (is_same_share before.0 (shares_of c).0) (is_same_share before.1 (shares_of c).1) (share_is own cell message) (share_is own_waker waker was) in
+            let fits : is_same_slots before (shares_of c) ≡ true =
+            and_from (is_same_share before.0 (shares_of c).0) (is_same_share before.1 (shares_of c).1)
+            (share_is own cell message) (share_is own_waker waker was) in
             let goes = stands (next at op (saw op word)) (left op c) in
-            let met : (list_any (is_found op c) (rows at) && goes) ≡ true = implied (is_same_slots before (shares_of c)) (list_any (is_found op c) (rows at) && goes) (each_passes (is_met at c) (rows at) (at_cells at c is).0 among) fits in
+            let met : (list_any (is_found op c) (rows at) && goes) ≡ true =
+            implied (is_same_slots before (shares_of c)) (list_any (is_found op c) (rows at) && goes)
+            (each_passes (is_met at c) (rows at) (at_cells at c is).0 among) fits in
             let parts = and_parts (list_any (is_found op c) (rows at)) goes met in
             let some : Passing (is_found op c) (rows at) = some_passes (is_found op c) (rows at) parts.0 in
             record {

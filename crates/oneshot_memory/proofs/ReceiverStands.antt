@@ -36,8 +36,14 @@ abbrev pub changes : List (Bool → Cells → Bool × Cells)
 changes =
     (λ b c. (c.owns_message, record c { has_message = false }))
     ∷ (λ there c. (c.owns_waker, record c { has_waker = there }))
-    ∷ (λ b c. (c.owns_message && c.owns_waker && not c.has_message && not c.has_waker, record c { owns_message = false; owns_waker = false }))
-    ∷ (λ sent c. (is_quiet c.word && not c.owns_message && not (lies_in c), record c { word = word_by_act sent; has_message = sent }))
+    ∷ (λ b c. (
+      c.owns_message && c.owns_waker && not c.has_message && not c.has_waker,
+      record c { owns_message = false; owns_waker = false },
+    ))
+    ∷ (λ sent c. (
+      is_quiet c.word && not c.owns_message && not (lies_in c),
+      record c { word = word_by_act sent; has_message = sent },
+    ))
     ∷ (λ sent c. (lies_in c, record c { word = word_by_act sent; has_message = sent; has_waker = false }))
     ∷ (λ b c. ((c.word == 0) && lies_in c, record c { word = 1 }))
     ∷ []
@@ -68,22 +74,27 @@ steady ended = refl
 steady no_receiver = refl
 
 -- so each of the changes, by its row, leaves the ground as it may stand
-changes_to : (q : ReceiverAt) (c : Cells) {change : Bool → Cells → Bool × Cells} (b : Bool) → In change changes → receiver_stands q c ≡ true → (change b c).0 ≡ true → receiver_stands q (change b c).1 ≡ true
+changes_to : (q : ReceiverAt) (c : Cells) {change : Bool → Cells → Bool × Cells} (b : Bool) → In change changes
+    → receiver_stands q c ≡ true → (change b c).0 ≡ true → receiver_stands q (change b c).1 ≡ true
 changes_to = comes_about receiver_next receiver_moves has keeps changes steady
 
 -- a waker that is not used up stays in its cell
-stays_there : {W : Type 0} (used : Bool) (waker : Option W) → is_some (if used then None else waker) ≡ (not used && is_some waker)
+stays_there : {W : Type 0} (used : Bool) (waker : Option W)
+    → is_some (if used then None else waker) ≡ (not used && is_some waker)
 stays_there true waker = refl
 stays_there false waker = refl
 
 -- and one that is used up is in a cell that the operation leaves to the sender
-used_away : {W : Type 0} (closes finishing idle : Bool) (waker : Option W) → slot_of (not (idle || finishing)) (if closes && finishing then None else waker) ≡ slot_of (not (idle || finishing)) waker
+used_away : {W : Type 0} (closes finishing idle : Bool) (waker : Option W)
+    → slot_of (not (idle || finishing)) (if closes && finishing then None else waker)
+    ≡ slot_of (not (idle || finishing)) waker
 used_away true true true waker = refl
 used_away true true false waker = refl
 used_away true false idle waker = refl
 used_away false finishing idle waker = refl
 
-slot_after : {W : Type 0} (op : Op) (word : ℕ) (lying : Bool) (waker : Option W) → slot_of (keeps_waker op word lying) (waker_after op word waker) ≡ slot_of (keeps_waker op word lying) waker
+slot_after : {W : Type 0} (op : Op) (word : ℕ) (lying : Bool) (waker : Option W)
+    → slot_of (keeps_waker op word lying) (waker_after op word waker) ≡ slot_of (keeps_waker op word lying) waker
 slot_after (Swap new) word lying waker = used_away (new == 2) (word == 1) (word == 3) waker
 slot_after Load word lying waker = refl
 slot_after (Store new) word lying waker = refl
@@ -93,67 +104,129 @@ slot_after Xor word lying waker = refl
 
 module _ {T W : Type 0} where
   -- a step that is no operation on the word
-  pub receiver_stays : (xs ys : List (Event T W)) (e : Event T W) {word : ℕ} {own own_waker : Bool} {cell : Option T} {waker : Option W} → ys ≡ xs ++ e ∷ [] → words (event_of e ∷ []) ≡ []
-      → ReceiverStands (receiver_of (logged xs)) word own own_waker cell waker → ReceiverStands (receiver_of (logged ys)) word own own_waker cell waker
-  receiver_stays xs ys e {word} {own} {own_waker} {cell} {waker} is none = subst (λ q. ReceiverStands q word own own_waker cell waker) (ap receiver_at (sym (words_same xs ys e is none)))
+  pub receiver_stays : (xs ys : List (Event T W)) (e : Event T W) {word : ℕ} {own own_waker : Bool} {cell : Option T}
+      {waker : Option W} → ys ≡ xs ++ e ∷ [] → words (event_of e ∷ []) ≡ []
+      → ReceiverStands (receiver_of (logged xs)) word own own_waker cell waker
+      → ReceiverStands (receiver_of (logged ys)) word own own_waker cell waker
+  receiver_stays xs ys e {word} {own} {own_waker} {cell} {waker} is none =
+      subst (λ q. ReceiverStands q word own own_waker cell waker) (ap receiver_at (sym (words_same xs ys e is none)))
 
   -- an operation
   abbrev pub ReceiverOperated : ReceiverAt → Op → ℕ → Bool → Bool → Option T → Option W → Type 0
   ReceiverOperated = Operated receiver_next receiver_moves has keeps changes steady
 
-  pub receiver_operates : {q : ReceiverAt} {op : Op} (word : ℕ) (own own_waker : Bool) (cell : Option T) (waker : Option W) → ReceiverStands q word own own_waker cell waker → ReceiverMay q op (slot_of own cell) (slot_of own_waker waker) → ReceiverOperated q op word own own_waker cell waker
-  receiver_operates {q} word own own_waker cell waker stands = operates receiver_next receiver_moves has keeps changes steady q word own own_waker cell waker stands.is_so
+  pub receiver_operates : {q : ReceiverAt} {op : Op} (word : ℕ) (own own_waker : Bool) (cell : Option T)
+      (waker : Option W) → ReceiverStands q word own own_waker cell waker
+      → ReceiverMay q op (slot_of own cell) (slot_of own_waker waker)
+      → ReceiverOperated q op word own own_waker cell waker
+  receiver_operates {q} word own own_waker cell waker stands =
+      operates receiver_next receiver_moves has keeps changes steady q word own own_waker cell waker stands.is_so
 
-  pub receiver_found : {q : ReceiverAt} {op : Op} (word : ℕ) (own own_waker : Bool) (cell : Option T) (waker : Option W) → ReceiverOperated q op word own own_waker cell waker
-      → ReceiverFinds q op word (slot_of own cell) (slot_of own_waker waker) (slot_of (keeps_message op word) cell) (slot_of (keeps_waker op word (lies own_waker waker)) (waker_after op word waker))
+  pub receiver_found : {q : ReceiverAt} {op : Op} (word : ℕ) (own own_waker : Bool) (cell : Option T) (waker : Option W)
+      → ReceiverOperated q op word own own_waker cell waker
+      → ReceiverFinds q op word (slot_of own cell) (slot_of own_waker waker) (slot_of (keeps_message op word) cell)
+      (slot_of (keeps_waker op word (lies own_waker waker)) (waker_after op word waker))
   receiver_found {q} {op} word own own_waker cell waker operated =
-      subst (λ left. ReceiverFinds q op word (slot_of own cell) (slot_of own_waker waker) (slot_of (keeps_message op word) cell) left) (sym (slot_after op word (lies own_waker waker) waker)) operated.found
+      subst (λ left. ReceiverFinds q op word (slot_of own cell) (slot_of own_waker waker)
+      (slot_of (keeps_message op word) cell) left) (sym (slot_after op word (lies own_waker waker) waker))
+      operated.found
 
-  pub receiver_worded : (xs ys : List (Event T W)) (op : Op) (word left : ℕ) (was own_was own own_waker : Bool) {cell : Option T} (waker after : Option W) → Grows (logged xs) (logged ys) (worded op word ∷ []) → ReceiverOperated (receiver_of (logged xs)) op word was own_was cell waker → left ≡ word_after op word → own ≡ keeps_message op word → own_waker ≡ keeps_waker op word (lies own_was waker) → after ≡ waker_after op word waker
+  pub receiver_worded : (xs ys : List (Event T W)) (op : Op) (word left : ℕ) (was own_was own own_waker : Bool)
+      {cell : Option T} (waker after : Option W) → Grows (logged xs) (logged ys) (worded op word ∷ [])
+      → ReceiverOperated (receiver_of (logged xs)) op word was own_was cell waker → left ≡ word_after op word
+      → own ≡ keeps_message op word → own_waker ≡ keeps_waker op word (lies own_was waker)
+      → after ≡ waker_after op word waker
       → ReceiverStands (receiver_of (logged ys)) left own own_waker cell after
   receiver_worded xs ys op word left was own_was own own_waker {cell} waker after grows found is kept kept_too used =
       let stands : Bool → Bool = λ there.
-      receiver_stands (receiver_next (receiver_of (logged xs)) op (saw op word)) (record { word = word_after op word; owns_message = keeps_message op word; owns_waker = keeps_waker op word (lies own_was waker); has_message = is_some cell; has_waker = there }) in
-      let goes_on : stands (is_some (waker_after op word waker)) ≡ true = subst (λ there. stands there ≡ true) (sym (stays_there (overtakes op word) waker)) found.goes_on in
+      receiver_stands (receiver_next (receiver_of (logged xs)) op (saw op word))
+      (record {
+        word = word_after op word;
+        owns_message = keeps_message op word;
+        owns_waker = keeps_waker op word
+            (lies own_was waker);
+        has_message = is_some cell;
+        has_waker = there;
+      }) in
+      let goes_on : stands (is_some (waker_after op word waker)) ≡ true =
+      subst (λ there. stands there ≡ true) (sym (stays_there (overtakes op word) waker)) found.goes_on in
       rw (receiver_moved op word grows, is, kept, kept_too, used) (record { is_so = goes_on })
 
-  module _ {q : ReceiverAt} {word : ℕ} {own own_waker : Bool} {cell : Option T} {waker : Option W} (stands : ReceiverStands q word own own_waker cell waker) where
+  module _ {q : ReceiverAt} {word : ℕ} {own own_waker : Bool} {cell : Option T} {waker : Option W}
+      (stands : ReceiverStands q word own own_waker cell waker) where
     -- what is taken out of the message's slot, or dropped there, leaves it empty
     pub receiver_emptied : (x : T) → slot_of own cell ≡ held x → ReceiverStands {T = T} q word own own_waker None waker
-    receiver_emptied x e = record { is_so = changes_to q (cells_of word own own_waker cell waker) true head stands.is_so (slot_held own cell x e) }
+    receiver_emptied x e =
+        record {
+          is_so = changes_to q (cells_of word own own_waker cell waker) true head stands.is_so
+              (slot_held own cell x e);
+        }
 
     -- what is put into the waker's cell, or taken out of it
     pub receiver_wakers : (after : Option W) → own_waker ≡ true → ReceiverStands q word own own_waker cell after
-    receiver_wakers after e = record { is_so = changes_to q (cells_of word own own_waker cell waker) (is_some after) (tail head) stands.is_so e }
+    receiver_wakers after e =
+        record {
+          is_so = changes_to q (cells_of word own own_waker cell waker) (is_some after) (tail head) stands.is_so
+              e;
+        }
 
     -- a free gives up both slots
-    pub receiver_freed : slot_of own cell ≡ vacant → slot_of own_waker waker ≡ vacant → ReceiverStands q word false false cell waker
-    receiver_freed e f = record { is_so = changes_to q (cells_of word own own_waker cell waker) true (tail (tail head)) stands.is_so (both_empty own own_waker cell waker e f) }
+    pub receiver_freed : slot_of own cell ≡ vacant → slot_of own_waker waker ≡ vacant
+        → ReceiverStands q word false false cell waker
+    receiver_freed e f =
+        record {
+          is_so = changes_to q (cells_of word own own_waker cell waker) true (tail (tail head)) stands.is_so
+              (both_empty own own_waker cell waker e f);
+        }
       where
-        both_empty : (own own_waker : Bool) (cell : Option T) (waker : Option W) → slot_of own cell ≡ vacant → slot_of own_waker waker ≡ vacant → (own && own_waker && not (is_some cell) && not (is_some waker)) ≡ true
+        both_empty : (own own_waker : Bool) (cell : Option T) (waker : Option W) → slot_of own cell ≡ vacant
+            → slot_of own_waker waker ≡ vacant → (own && own_waker && not (is_some cell) && not (is_some waker)) ≡ true
         both_empty true true None None e f = refl
         both_empty _ _ _ _ e f = absurd (cc)
 
     -- the sender acts there, unless a waker lies in the cell
-    pub left_open : (act : Act T) → is_quiet word ≡ true → own ≡ false → lies own_waker waker ≡ false → ReceiverStands q (word_left act) own own_waker (message_left act) waker
-    left_open (A.Send x) e f none = record { is_so = changes_to q (cells_of word own own_waker cell waker) true (tail (tail (tail head))) stands.is_so (rw (e, f, none) refl) }
-    left_open A.Drop e f none = record { is_so = changes_to q (cells_of word own own_waker cell waker) false (tail (tail (tail head))) stands.is_so (rw (e, f, none) refl) }
+    pub left_open : (act : Act T) → is_quiet word ≡ true → own ≡ false → lies own_waker waker ≡ false
+        → ReceiverStands q (word_left act) own own_waker (message_left act) waker
+    left_open (A.Send x) e f none =
+        record {
+          is_so = changes_to q (cells_of word own own_waker cell waker) true (tail (tail (tail head)))
+              stands.is_so (rw (e, f, none) refl);
+        }
+    left_open A.Drop e f none =
+        record {
+          is_so = changes_to q (cells_of word own own_waker cell waker) false (tail (tail (tail head)))
+              stands.is_so (rw (e, f, none) refl);
+        }
 
     -- and where one lies there
-    pub left_waiting : (act : Act T) → lies own_waker waker ≡ true → ReceiverStands {T = T} {W = W} q (word_left act) own own_waker (message_left act) None
-    left_waiting (A.Send x) lying = record { is_so = changes_to q (cells_of word own own_waker cell waker) true (tail (tail (tail (tail head)))) stands.is_so lying }
-    left_waiting A.Drop lying = record { is_so = changes_to q (cells_of word own own_waker cell waker) false (tail (tail (tail (tail head)))) stands.is_so lying }
+    pub left_waiting : (act : Act T) → lies own_waker waker ≡ true
+        → ReceiverStands {T = T} {W = W} q (word_left act) own own_waker (message_left act) None
+    left_waiting (A.Send x) lying =
+        record {
+          is_so = changes_to q (cells_of word own own_waker cell waker) true (tail (tail (tail (tail head))))
+              stands.is_so lying;
+        }
+    left_waiting A.Drop lying =
+        record {
+          is_so = changes_to q (cells_of word own own_waker cell waker) false (tail (tail (tail (tail head))))
+              stands.is_so lying;
+        }
 
     -- or it lingers there
     pub lingering : word ≡ 0 → lies own_waker waker ≡ true → ReceiverStands q 1 own own_waker cell waker
-    lingering e lying = record { is_so = changes_to q (cells_of word own own_waker cell waker) true (tail (tail (tail (tail (tail head))))) stands.is_so (rw (e, lying) refl) }
+    lingering e lying =
+        record {
+          is_so = changes_to q (cells_of word own own_waker cell waker) true
+              (tail (tail (tail (tail (tail head))))) stands.is_so (rw (e, lying) refl);
+        }
 
 -- both ends are here, by the ground's own fields
 pub record IsOpen (word : ℕ) (own : Bool) : Type 0 where
   pub quiet : is_quiet word ≡ true
   pub away : own ≡ false
 
-pub is_open_by : {X : Type 0} (word : ℕ) (own : Bool) (cell : Option X) → is_open word (slot_of own cell) ≡ true → IsOpen word own
+pub is_open_by : {X : Type 0} (word : ℕ) (own : Bool) (cell : Option X) → is_open word (slot_of own cell) ≡ true
+    → IsOpen word own
 is_open_by word false cell e = record { quiet = e; away = refl }
 is_open_by word true None e = absurd (cc)
 is_open_by word true (Some x) e = absurd (cc)

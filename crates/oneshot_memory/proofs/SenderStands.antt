@@ -47,41 +47,75 @@ steady (overtaken dropping) = refl
 steady no_sender = refl
 
 -- so each of the changes, by its row, leaves the ground as it may stand
-changes_to : (p : SenderAt) (c : Cells) {change : Bool → Cells → Bool × Cells} (b : Bool) → In change changes → sender_stands p c ≡ true → (change b c).0 ≡ true → sender_stands p (change b c).1 ≡ true
+changes_to : (p : SenderAt) (c : Cells) {change : Bool → Cells → Bool × Cells} (b : Bool) → In change changes
+    → sender_stands p c ≡ true → (change b c).0 ≡ true → sender_stands p (change b c).1 ≡ true
 changes_to = comes_about sender_next sender_moves has keeps changes steady
 
 module _ {T W : Type 0} where
   -- a step that is no operation on the word
-  pub sender_stays : (xs ys : List (Event T W)) (e : Event T W) {word : ℕ} {own own_waker : Bool} {cell : Option T} {waker : Option W} → ys ≡ xs ++ e ∷ [] → words (event_of e ∷ []) ≡ []
-      → SenderStands (sender_of (logged xs)) word own own_waker cell waker → SenderStands (sender_of (logged ys)) word own own_waker cell waker
-  sender_stays xs ys e {word} {own} {own_waker} {cell} {waker} is none = subst (λ p. SenderStands p word own own_waker cell waker) (ap sender_at (sym (words_same xs ys e is none)))
+  pub sender_stays : (xs ys : List (Event T W)) (e : Event T W) {word : ℕ} {own own_waker : Bool} {cell : Option T}
+      {waker : Option W} → ys ≡ xs ++ e ∷ [] → words (event_of e ∷ []) ≡ []
+      → SenderStands (sender_of (logged xs)) word own own_waker cell waker
+      → SenderStands (sender_of (logged ys)) word own own_waker cell waker
+  sender_stays xs ys e {word} {own} {own_waker} {cell} {waker} is none =
+      subst (λ p. SenderStands p word own own_waker cell waker) (ap sender_at (sym (words_same xs ys e is none)))
 
   -- an operation
   abbrev pub SenderOperated : SenderAt → Op → ℕ → Bool → Bool → Option T → Option W → Type 0
   SenderOperated = Operated sender_next sender_moves has keeps changes steady
 
-  pub sender_operates : {p : SenderAt} {op : Op} (word : ℕ) (own own_waker : Bool) (cell : Option T) (waker : Option W) → SenderStands p word own own_waker cell waker → SenderMay p op (slot_of own cell) (slot_of own_waker waker) → SenderOperated p op word own own_waker cell waker
-  sender_operates {p} word own own_waker cell waker stands = operates sender_next sender_moves has keeps changes steady p word own own_waker cell waker stands.is_so
+  pub sender_operates : {p : SenderAt} {op : Op} (word : ℕ) (own own_waker : Bool) (cell : Option T) (waker : Option W)
+      → SenderStands p word own own_waker cell waker → SenderMay p op (slot_of own cell) (slot_of own_waker waker)
+      → SenderOperated p op word own own_waker cell waker
+  sender_operates {p} word own own_waker cell waker stands =
+      operates sender_next sender_moves has keeps changes steady p word own own_waker cell waker stands.is_so
 
-  pub sender_worded : (xs ys : List (Event T W)) (op : Op) (word left : ℕ) (was own_was own own_waker : Bool) {cell : Option T} {waker : Option W} → Grows (logged xs) (logged ys) (worded op word ∷ []) → SenderOperated (sender_of (logged xs)) op word was own_was cell waker → left ≡ word_after op word → own ≡ keeps_both word → own_waker ≡ keeps_both word
+  pub sender_worded : (xs ys : List (Event T W)) (op : Op) (word left : ℕ) (was own_was own own_waker : Bool)
+      {cell : Option T} {waker : Option W} → Grows (logged xs) (logged ys) (worded op word ∷ [])
+      → SenderOperated (sender_of (logged xs)) op word was own_was cell waker → left ≡ word_after op word
+      → own ≡ keeps_both word → own_waker ≡ keeps_both word
       → SenderStands (sender_of (logged ys)) left own own_waker cell waker
-  sender_worded xs ys op word left was own_was own own_waker grows found is kept kept_too = rw (sender_moved op word grows, is, kept, kept_too) (record { is_so = found.goes_on })
+  sender_worded xs ys op word left was own_was own own_waker grows found is kept kept_too =
+      rw (sender_moved op word grows, is, kept, kept_too) (record { is_so = found.goes_on })
 
-  module _ {p : SenderAt} {word : ℕ} {own own_waker : Bool} {cell : Option T} {waker : Option W} (stands : SenderStands p word own own_waker cell waker) where
+  module _ {p : SenderAt} {word : ℕ} {own own_waker : Bool} {cell : Option T} {waker : Option W}
+      (stands : SenderStands p word own own_waker cell waker) where
     -- what is put into the message's cell, or taken out of it
     pub sender_messages : (after : Option T) → SenderStands p word own own_waker after waker
-    sender_messages after = record { is_so = changes_to p (cells_of word own own_waker cell waker) (is_some after) head stands.is_so refl }
+    sender_messages after =
+        record { is_so = changes_to p (cells_of word own own_waker cell waker) (is_some after) head stands.is_so refl }
 
     -- the waker that is taken leaves its cell empty
-    pub sender_emptied : (k : W) → slot_of own_waker waker ≡ held k → SenderStands {W = W} p word own own_waker cell None
-    sender_emptied k e = record { is_so = changes_to p (cells_of word own own_waker cell waker) true (tail head) stands.is_so (slot_held own_waker waker k e) }
+    pub sender_emptied : (k : W) → slot_of own_waker waker ≡ held k
+        → SenderStands {W = W} p word own own_waker cell None
+    sender_emptied k e =
+        record {
+          is_so = changes_to p (cells_of word own own_waker cell waker) true (tail head) stands.is_so
+              (slot_held own_waker waker k e);
+        }
 
     -- a free gives up both slots
     pub sender_freed : slot_of own_waker waker ≡ vacant → SenderStands p word false false cell waker
-    sender_freed e = record { is_so = changes_to p (cells_of word own own_waker cell waker) true (tail (tail head)) stands.is_so (slot_vacant own_waker waker e) }
+    sender_freed e =
+        record {
+          is_so = changes_to p (cells_of word own own_waker cell waker) true (tail (tail head)) stands.is_so
+              (slot_vacant own_waker waker e);
+        }
 
     -- what a receiver may do whose waker the sender took
     pub sender_outlasts : (meanwhile : Meanwhile) → SenderStands p (word_then meanwhile word) own own_waker cell waker
-    sender_outlasts Waits = record { is_so = changes_to p (cells_of word own own_waker cell waker) true (tail (tail (tail head))) stands.is_so refl }
-    sender_outlasts Stops = record { is_so = changes_to p (cells_of word own own_waker cell waker) true (tail (tail (tail (tail head)))) stands.is_so refl }
-    sender_outlasts Leaves = record { is_so = changes_to p (cells_of word own own_waker cell waker) true (tail (tail (tail (tail (tail head))))) stands.is_so refl }
+    sender_outlasts Waits =
+        record {
+          is_so = changes_to p (cells_of word own own_waker cell waker) true (tail (tail (tail head)))
+              stands.is_so refl;
+        }
+    sender_outlasts Stops =
+        record {
+          is_so = changes_to p (cells_of word own own_waker cell waker) true (tail (tail (tail (tail head))))
+              stands.is_so refl;
+        }
+    sender_outlasts Leaves =
+        record {
+          is_so = changes_to p (cells_of word own own_waker cell waker) true
+              (tail (tail (tail (tail (tail head))))) stands.is_so refl;
+        }

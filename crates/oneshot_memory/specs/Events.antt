@@ -15,7 +15,13 @@ slot_of true (Some x) = held x
 module _ {T W : Type 0} where
   abbrev pub event_of : Event T W → logs.Event T W
   event_of e =
-      record { step = e.step; seen = e.seen; message = option_map (λ s. s.value) e.message; waker = option_map (λ s. s.value) e.waker }
+      record {
+        step = e.step;
+        seen = e.seen;
+        message = option_map (λ s. s.value) e.message;
+        waker = option_map
+            (λ s. s.value) e.waker;
+      }
 
   -- a ground in memory is whole, and is of no channel
   abbrev pub logged : List (Event T W) → logs.Log T W

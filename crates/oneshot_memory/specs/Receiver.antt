@@ -60,7 +60,8 @@ receiver_stands q c = is_code c.word && receiver_has (receiver_owns q) (receiver
 
 -- How far a receiver is, its word, which slots are its own, the message in its slot and the waker in
 -- its cell.
-pub record ReceiverStands {T W : Type 0} (q : ReceiverAt) (word : ℕ) (owns_message owns_waker : Bool) (message : Option T) (waker : Option W) : Type 0 where
+pub record ReceiverStands {T W : Type 0} (q : ReceiverAt) (word : ℕ) (owns_message owns_waker : Bool)
+    (message : Option T) (waker : Option W) : Type 0 where
   pub is_so : receiver_stands q (cells_of word owns_message owns_waker message waker) ≡ true
 
 -- whether the message's slot is the receiver's after an operation that found this word

@@ -51,7 +51,8 @@ abbrev pub sender_stands : SenderAt → Cells → Bool
 sender_stands p c = is_code c.word && sender_has (last_word p) (sender_owns p) (sender_moves p) c
 
 -- how far a sender is, its word, which slots are its own, the message in its slot and the waker in its cell
-pub record SenderStands {T W : Type 0} (p : SenderAt) (word : ℕ) (owns_message owns_waker : Bool) (message : Option T) (waker : Option W) : Type 0 where
+pub record SenderStands {T W : Type 0} (p : SenderAt) (word : ℕ) (owns_message owns_waker : Bool) (message : Option T)
+    (waker : Option W) : Type 0 where
   pub is_so : sender_stands p (cells_of word owns_message owns_waker message waker) ≡ true
 
 -- whether both slots are the sender's after an operation that found this word

@@ -14,25 +14,38 @@ pub word-requires : goal.word-requires
 word-requires g c = (let ends = rw c.in-Message.is at c.find.ensures.ends in full_asks ends.2)
 
 pub take_message-requires : goal.take_message-requires
-take_message-requires g c = is_in (ended_full c.word.result (rw c.in-Message.is at c.find.ensures.ends) c.word.ensures.finds c.word.ensures.list).message
+take_message-requires g c =
+    is_in (ended_full c.word.result (rw c.in-Message.is at c.find.ensures.ends) c.word.ensures.finds
+    c.word.ensures.list).message
 
 pub returns-in-Message-clause-run : goal.returns-in-Message-clause-run
-returns-in-Message-clause-run g c = full_ran c.word.result c.take_message.result (rw c.in-Message.is at (c.find.ensures.went (by_ref c.args.timed))) c.word.ensures.list c.take_message.ensures.list
+returns-in-Message-clause-run g c =
+    full_ran c.word.result c.take_message.result (rw c.in-Message.is at (c.find.ensures.went (by_ref c.args.timed)))
+    c.word.ensures.list c.take_message.ensures.list
 
 pub returns-in-Message-clause-rests : goal.returns-in-Message-clause-rests
 returns-in-Message-clause-rests g c =
-    rests_over (took_message (ended_full c.word.result (rw c.in-Message.is at c.find.ensures.ends) c.word.ensures.finds c.word.ensures.list) c.take_message.ensures.list c.take_message.ensures.message c.take_message.ensures.waker)
+    rests_over (took_message
+    (ended_full c.word.result (rw c.in-Message.is at c.find.ensures.ends) c.word.ensures.finds c.word.ensures.list)
+    c.take_message.ensures.list c.take_message.ensures.message c.take_message.ensures.waker)
 
 pub returns-in-Message-clause-leaves : goal.returns-in-Message-clause-leaves
 returns-in-Message-clause-leaves g c =
-    full_leaves c.take_message.result (took_message (ended_full c.word.result (rw c.in-Message.is at c.find.ensures.ends) c.word.ensures.finds c.word.ensures.list) c.take_message.ensures.list c.take_message.ensures.message c.take_message.ensures.waker).phase
+    full_leaves c.take_message.result
+    (took_message (ended_full c.word.result (rw c.in-Message.is at c.find.ensures.ends) c.word.ensures.finds
+    c.word.ensures.list) c.take_message.ensures.list c.take_message.ensures.message
+    c.take_message.ensures.waker).phase
 
 pub returns-in-Message-clause-stays : goal.returns-in-Message-clause-stays
-returns-in-Message-clause-stays g c is_closed = let e = sym c.in-Message.is ∙ c.find.ensures.stays is_closed in absurd (cc)
+returns-in-Message-clause-stays g c is_closed =
+    let e = sym c.in-Message.is ∙ c.find.ensures.stays is_closed in absurd (cc)
 
 pub returns-in-Message-clause-hand : goal.returns-in-Message-clause-hand
 returns-in-Message-clause-hand g c =
-    hands (rw c.in-Message.is at c.find.ensures.hand) closed_itself (took_message (ended_full c.word.result (rw c.in-Message.is at c.find.ensures.ends) c.word.ensures.finds c.word.ensures.list) c.take_message.ensures.list c.take_message.ensures.message c.take_message.ensures.waker).phase
+    hands (rw c.in-Message.is at c.find.ensures.hand) closed_itself
+    (took_message (ended_full c.word.result (rw c.in-Message.is at c.find.ensures.ends) c.word.ensures.finds
+    c.word.ensures.list) c.take_message.ensures.list c.take_message.ensures.message
+    c.take_message.ensures.waker).phase
 
 pub returns-in-Closed-clause-run : goal.returns-in-Closed-clause-run
 returns-in-Closed-clause-run g c = whole (rw c.in-Closed.is at (c.find.ensures.went (by_ref c.args.timed)))
@@ -44,24 +57,34 @@ pub returns-in-Closed-clause-leaves : goal.returns-in-Closed-clause-leaves
 returns-in-Closed-clause-leaves g c = (let ends = rw c.in-Closed.is at c.find.ensures.ends in over_leaves ends.1)
 
 pub returns-in-Closed-clause-hand : goal.returns-in-Closed-clause-hand
-returns-in-Closed-clause-hand g c = let ends = rw c.in-Closed.is at c.find.ensures.ends in hands (rw c.in-Closed.is at c.find.ensures.hand) ends.0 ends.1.phase
+returns-in-Closed-clause-hand g c =
+    let ends = rw c.in-Closed.is at c.find.ensures.ends in
+    hands (rw c.in-Closed.is at c.find.ensures.hand) ends.0 ends.1.phase
 
 pub word-requires-in-Unclosed : goal.word-requires-in-Unclosed
 word-requires-in-Unclosed g c = (let ends = rw c.in-Unclosed.is at c.find.ensures.ends in asks (Store 2) ends.1 refl)
 
 pub returns-in-Unclosed-clause-run : goal.returns-in-Unclosed-clause-run
-returns-in-Unclosed-clause-run g c = shut_ran c.word-in-Unclosed.result (rw c.in-Unclosed.is at (c.find.ensures.went (by_ref c.args.timed))) c.word-in-Unclosed.ensures.list
+returns-in-Unclosed-clause-run g c =
+    shut_ran c.word-in-Unclosed.result (rw c.in-Unclosed.is at (c.find.ensures.went (by_ref c.args.timed)))
+    c.word-in-Unclosed.ensures.list
 
 pub returns-in-Unclosed-clause-rests : goal.returns-in-Unclosed-clause-rests
-returns-in-Unclosed-clause-rests g c = (let ends = rw c.in-Unclosed.is at c.find.ensures.ends in rests_over (shut c.word-in-Unclosed.result ends.1 c.word-in-Unclosed.ensures.finds c.word-in-Unclosed.ensures.list))
+returns-in-Unclosed-clause-rests g c =
+    (let ends = rw c.in-Unclosed.is at c.find.ensures.ends in
+    rests_over (shut c.word-in-Unclosed.result ends.1 c.word-in-Unclosed.ensures.finds c.word-in-Unclosed.ensures.list))
 
 pub returns-in-Unclosed-clause-leaves : goal.returns-in-Unclosed-clause-leaves
-returns-in-Unclosed-clause-leaves g c = (let ends = rw c.in-Unclosed.is at c.find.ensures.ends in over_leaves (shut c.word-in-Unclosed.result ends.1 c.word-in-Unclosed.ensures.finds c.word-in-Unclosed.ensures.list))
+returns-in-Unclosed-clause-leaves g c =
+    (let ends = rw c.in-Unclosed.is at c.find.ensures.ends in
+    over_leaves (shut c.word-in-Unclosed.result ends.1 c.word-in-Unclosed.ensures.finds
+    c.word-in-Unclosed.ensures.list))
 
 pub returns-in-Unclosed-clause-hand : goal.returns-in-Unclosed-clause-hand
 returns-in-Unclosed-clause-hand g c =
     let ends = rw c.in-Unclosed.is at c.find.ensures.ends in
-    hands (rw c.in-Unclosed.is at c.find.ensures.hand) closed_itself (shut c.word-in-Unclosed.result ends.1 c.word-in-Unclosed.ensures.finds c.word-in-Unclosed.ensures.list).phase
+    hands (rw c.in-Unclosed.is at c.find.ensures.hand) closed_itself
+    (shut c.word-in-Unclosed.result ends.1 c.word-in-Unclosed.ensures.finds c.word-in-Unclosed.ensures.list).phase
 
 pub returns-in-Nothing-clause-run : goal.returns-in-Nothing-clause-run
 returns-in-Nothing-clause-run g c = whole (rw c.in-Nothing.is at (c.find.ensures.went (by_ref c.args.timed)))
@@ -73,13 +96,17 @@ pub returns-in-Nothing-clause-leaves : goal.returns-in-Nothing-clause-leaves
 returns-in-Nothing-clause-leaves g c = (let ends = rw c.in-Nothing.is at c.find.ensures.ends in out_leaves ends.1.phase)
 
 pub returns-in-Nothing-clause-stays : goal.returns-in-Nothing-clause-stays
-returns-in-Nothing-clause-stays g c is_closed = let e = sym c.in-Nothing.is ∙ c.find.ensures.stays is_closed in absurd (cc)
+returns-in-Nothing-clause-stays g c is_closed =
+    let e = sym c.in-Nothing.is ∙ c.find.ensures.stays is_closed in absurd (cc)
 
 pub returns-in-Nothing-clause-hand : goal.returns-in-Nothing-clause-hand
-returns-in-Nothing-clause-hand g c = (let ends = rw c.in-Nothing.is at c.find.ensures.ends in out_hands (rw c.in-Nothing.is at c.find.ensures.hand) ends.1.phase)
+returns-in-Nothing-clause-hand g c =
+    (let ends = rw c.in-Nothing.is at c.find.ensures.ends in
+    out_hands (rw c.in-Nothing.is at c.find.ensures.hand) ends.1.phase)
 
 pub returns-in-Nothing-clause-endless : goal.returns-in-Nothing-clause-endless
-returns-in-Nothing-clause-endless g c untimed out = let ends = rw c.in-Nothing.is at c.find.ensures.ends in let timed = ends.0 in absurd (cc)
+returns-in-Nothing-clause-endless g c untimed out =
+    let ends = rw c.in-Nothing.is at c.find.ensures.ends in let timed = ends.0 in absurd (cc)
 
 pub returns-in-Message-clause-given : goal.returns-in-Message-clause-given
 returns-in-Message-clause-given g c =

@@ -7,23 +7,38 @@ use Rattle.oneshot_drive.proofs.blocking.recv.Goals as goal
 
 pub free-requires : goal.free-requires
 free-requires g c =
-    let none = gone (g.G.ReceiverGround.state c.find.new.g) c.find.result c.in_default.not-Message c.find.ensures.ends in
+    let none =
+    gone (g.G.ReceiverGround.state c.find.new.g) c.find.result c.in_default.not-Message c.find.ensures.ends in
     record { message = none.message; waker = none.waker }
 
 pub returns-in_default : goal.returns-in_default
-returns-in_default g c = record { run = gone_freed (gone (g.G.ReceiverGround.state c.find.new.g) c.find.result c.in_default.not-Message c.find.ensures.ends) (c.find.ensures.went by_value) c.free.ensures.list; stays = λ _. refl; hand = hand_back (g.G.ReceiverGround.state c.find.new.g) c.find.result c.find.ensures.ends c.find.ensures.hand; given = tt }
+returns-in_default g c =
+    record {
+      run = gone_freed (gone (g.G.ReceiverGround.state c.find.new.g) c.find.result c.in_default.not-Message
+          c.find.ensures.ends) (c.find.ensures.went by_value) c.free.ensures.list;
+      stays = λ _. refl;
+      hand = hand_back
+          (g.G.ReceiverGround.state c.find.new.g) c.find.result c.find.ensures.ends c.find.ensures.hand;
+      given = tt;
+    }
 
 pub take_message-message-requires : goal.take_message-message-requires
-take_message-message-requires g c = (let ends = rw c.in-Message.is at c.find.ensures.ends in is_in (has_message ends.2).message)
+take_message-message-requires g c =
+    (let ends = rw c.in-Message.is at c.find.ensures.ends in is_in (has_message ends.2).message)
 
 pub free-requires-2-clause-waker : goal.free-requires-2-clause-waker
-free-requires-2-clause-waker g c = (let ends = rw c.in-Message.is at c.find.ensures.ends in c.take_message-message.ensures.waker ∙ is_room (has_message ends.2).waker)
+free-requires-2-clause-waker g c =
+    (let ends = rw c.in-Message.is at c.find.ensures.ends in
+    c.take_message-message.ensures.waker ∙ is_room (has_message ends.2).waker)
 
 pub returns-clause-run : goal.returns-clause-run
-returns-clause-run g c = full_freed c.take_message-message.result (rw c.in-Message.is at (c.find.ensures.went by_value)) c.take_message-message.ensures.list c.free-2.ensures.list
+returns-clause-run g c =
+    full_freed c.take_message-message.result (rw c.in-Message.is at (c.find.ensures.went by_value))
+    c.take_message-message.ensures.list c.free-2.ensures.list
 
 pub returns-clause-hand : goal.returns-clause-hand
-returns-clause-hand g c = hand_back (g.G.ReceiverGround.state c.find.new.g) c.find.result c.find.ensures.ends c.find.ensures.hand
+returns-clause-hand g c =
+    hand_back (g.G.ReceiverGround.state c.find.new.g) c.find.result c.find.ensures.ends c.find.ensures.hand
 
 pub returns-clause-given : goal.returns-clause-given
 returns-clause-given g c =

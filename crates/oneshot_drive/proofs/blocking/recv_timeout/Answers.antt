@@ -4,7 +4,8 @@ use Rattle.oneshot_drive.proofs.Receives.{clock_rests, clock_ready, clock_closed
 use Rattle.oneshot_drive.proofs.blocking.recv_timeout.Goals as goal
 
 pub receive-requires-clause-rests : goal.receive-requires-clause-rests
-receive-requires-clause-rests g c = clock_rests c.requires.rests c.over.result c.over.ensures.list c.over.ensures.message c.over.ensures.waker
+receive-requires-clause-rests g c =
+    clock_rests c.requires.rests c.over.result c.over.ensures.list c.over.ensures.message c.over.ensures.waker
 
 pub receive-requires-clause-ready : goal.receive-requires-clause-ready
 receive-requires-clause-ready g c = clock_ready c.requires.ready c.over.result c.over.ensures.list

@@ -20,12 +20,15 @@ free-requires-in-2-clause-waker g c = is_room (swapped_over c.word.ensures.finds
 
 pub returns-in-4 : goal.returns-in-4
 returns-in-4 g c =
-    dropped_message (AsyncDrop AsyncSwap) refl c.word.result (row_at (AsyncDrop AsyncSwap) 4 refl c.in-4.is) c.word.ensures.list c.drop_message.ensures.list c.free.ensures.list
+    dropped_message (AsyncDrop AsyncSwap) refl c.word.result (row_at (AsyncDrop AsyncSwap) 4 refl c.in-4.is)
+    c.word.ensures.list c.drop_message.ensures.list c.free.ensures.list
 
 pub returns-in-2 : goal.returns-in-2
 returns-in-2 g c =
-    dropped_last (AsyncDrop AsyncSwap) refl c.word.result (row_at (AsyncDrop AsyncSwap) 2 refl c.in-2.is) c.word.ensures.list c.free-in-2.ensures.list
+    dropped_last (AsyncDrop AsyncSwap) refl c.word.result (row_at (AsyncDrop AsyncSwap) 2 refl c.in-2.is)
+    c.word.ensures.list c.free-in-2.ensures.list
 
 pub returns-in_default : goal.returns-in_default
 returns-in_default g c =
-    dropped_open (AsyncDrop AsyncSwap) refl c.word.result (swapped_open c.word.ensures.finds (search rules) (search rules)) c.word.ensures.list
+    dropped_open (AsyncDrop AsyncSwap) refl c.word.result
+    (swapped_open c.word.ensures.finds (search rules) (search rules)) c.word.ensures.list

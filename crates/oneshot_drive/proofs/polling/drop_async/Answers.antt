@@ -12,14 +12,18 @@ pub take_back-requires : goal.take_back-requires
 take_back-requires g c = met_copied (met c.word.result c.requires c.word.ensures.finds c.word.ensures.list) c.in-0.is
 
 pub close-requires-in_default : goal.close-requires-in_default
-close-requires-in_default g c = (met_end (met c.word.result c.requires c.word.ensures.finds c.word.ensures.list) (search rules)).0
+close-requires-in_default g c =
+    (met_end (met c.word.result c.requires c.word.ensures.finds c.word.ensures.list) (search rules)).0
 
 pub returns-in-0-clause-run : goal.returns-in-0-clause-run
-returns-in-0-clause-run g c = drop_after c.word.result c.word.ensures.list c.in-0.is c.take_back.ensures.went c.close.ensures
+returns-in-0-clause-run g c =
+    drop_after c.word.result c.word.ensures.list c.in-0.is c.take_back.ensures.went c.close.ensures
 
 pub returns-in_default-clause-run : goal.returns-in_default-clause-run
 returns-in_default-clause-run g c =
-    drop_at_once c.word.result c.word.ensures.list (met_end (met c.word.result c.requires c.word.ensures.finds c.word.ensures.list) (search rules)).1 c.close-in_default.ensures
+    drop_at_once c.word.result c.word.ensures.list
+    (met_end (met c.word.result c.requires c.word.ensures.finds c.word.ensures.list) (search rules)).1
+    c.close-in_default.ensures
 
 pub returns-in-0-clause-bounded : goal.returns-in-0-clause-bounded
 returns-in-0-clause-bounded g c = drop_async_few (returns-in-0-clause-run g c)

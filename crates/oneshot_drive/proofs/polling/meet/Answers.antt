@@ -32,7 +32,8 @@ pub returns-in-4-clause-went : goal.returns-in-4-clause-went
 returns-in-4-clause-went g c = loaded_to _ c.word.result 4 refl refl c.in-4.is c.word.ensures.list
 
 pub returns-in-4-clause-ends : goal.returns-in-4-clause-ends
-returns-in-4-clause-ends g c = met_full (met c.word.result c.requires c.word.ensures.finds c.word.ensures.list) c.in-4.is
+returns-in-4-clause-ends g c =
+    met_full (met c.word.result c.requires c.word.ensures.finds c.word.ensures.list) c.in-4.is
 
 pub returns-in-4-clause-stays : goal.returns-in-4-clause-stays
 returns-in-4-clause-stays g c is_closed = never 4 refl c.in-4.is is_closed c.word.ensures.finds
@@ -42,16 +43,22 @@ returns-in-1-clause-went g c = met_own c.word.result c.in-1.is c.word.ensures.li
 
 pub returns-in-1-clause-ends : goal.returns-in-1-clause-ends
 returns-in-1-clause-ends g c =
-    owned_ends leaves_claimed (met_claimed (met c.word.result c.requires c.word.ensures.finds c.word.ensures.list) c.in-1.is) c.wake_own.ensures.list c.wake_own.ensures.message c.wake_own.ensures.waker
+    owned_ends leaves_claimed (met_claimed (met c.word.result c.requires c.word.ensures.finds c.word.ensures.list)
+    c.in-1.is) c.wake_own.ensures.list c.wake_own.ensures.message c.wake_own.ensures.waker
 
 pub returns-in-1-clause-stays : goal.returns-in-1-clause-stays
 returns-in-1-clause-stays g c is_closed = never 1 refl c.in-1.is is_closed c.word.ensures.finds
 
 pub returns-in_default-clause-went : goal.returns-in_default-clause-went
-returns-in_default-clause-went g c = loaded_to _ c.word.result 2 refl refl (met_none (met c.word.result c.requires c.word.ensures.finds c.word.ensures.list) (search rules) (search rules) (search rules) (search rules)).0 c.word.ensures.list
+returns-in_default-clause-went g c =
+    loaded_to _ c.word.result 2 refl refl
+    (met_none (met c.word.result c.requires c.word.ensures.finds c.word.ensures.list) (search rules) (search rules)
+    (search rules) (search rules)).0 c.word.ensures.list
 
 pub returns-in_default-clause-ends : goal.returns-in_default-clause-ends
-returns-in_default-clause-ends g c = (met_none (met c.word.result c.requires c.word.ensures.finds c.word.ensures.list) (search rules) (search rules) (search rules) (search rules)).1
+returns-in_default-clause-ends g c =
+    (met_none (met c.word.result c.requires c.word.ensures.finds c.word.ensures.list) (search rules) (search rules)
+    (search rules) (search rules)).1
 
 pub returns-in-3-clause-own : goal.returns-in-3-clause-own
 returns-in-3-clause-own g c = on_word _ c.word.result c.word.ensures.list c.leave_first.ensures.own
@@ -60,7 +67,8 @@ pub returns-in-0-clause-own : goal.returns-in-0-clause-own
 returns-in-0-clause-own g c = on_word _ c.word.result c.word.ensures.list c.leave_again.ensures.own
 
 pub returns-in-1-clause-own : goal.returns-in-1-clause-own
-returns-in-1-clause-own g c = on_word _ c.word.result c.word.ensures.list (on_own c.wake_own.ensures.list (wrote_none _))
+returns-in-1-clause-own g c =
+    on_word _ c.word.result c.word.ensures.list (on_own c.wake_own.ensures.list (wrote_none _))
 
 pub returns-in-4-clause-own : goal.returns-in-4-clause-own
 returns-in-4-clause-own g c = on_word _ c.word.result c.word.ensures.list (wrote_none _)

@@ -13,20 +13,28 @@ pub word-requires : goal.word-requires
 word-requires g c = let ends = rw c.in-Message.is at c.meet.ensures.ends in full_asks ends.2
 
 pub take_message-requires : goal.take_message-requires
-take_message-requires g c = let ends = rw c.in-Message.is at c.meet.ensures.ends in is_in (closed_over c.word.result ends.2 c.word.ensures.finds c.word.ensures.list).message
+take_message-requires g c =
+    let ends =
+    rw c.in-Message.is at c.meet.ensures.ends in
+    is_in (closed_over c.word.result ends.2 c.word.ensures.finds c.word.ensures.list).message
 
 pub returns-in-Message-clause-run : goal.returns-in-Message-clause-run
-returns-in-Message-clause-run g c = poll_ran c.word.result c.take_message.result (rw c.in-Message.is at c.meet.ensures.went) c.word.ensures.list c.take_message.ensures.list
+returns-in-Message-clause-run g c =
+    poll_ran c.word.result c.take_message.result (rw c.in-Message.is at c.meet.ensures.went) c.word.ensures.list
+    c.take_message.ensures.list
 
 pub returns-in-Message-clause-rests : goal.returns-in-Message-clause-rests
 returns-in-Message-clause-rests g c =
     let ends = rw c.in-Message.is at c.meet.ensures.ends in
-    taken_rests ends.0 (took_message (closed_over c.word.result ends.2 c.word.ensures.finds c.word.ensures.list) c.take_message.ensures.list c.take_message.ensures.message c.take_message.ensures.waker)
+    taken_rests ends.0 (took_message (closed_over c.word.result ends.2 c.word.ensures.finds c.word.ensures.list)
+    c.take_message.ensures.list c.take_message.ensures.message c.take_message.ensures.waker)
 
 pub returns-in-Message-clause-leaves : goal.returns-in-Message-clause-leaves
 returns-in-Message-clause-leaves g c =
     let ends = rw c.in-Message.is at c.meet.ensures.ends in
-    taken_leaves ends.0 c.take_message.result (took_message (closed_over c.word.result ends.2 c.word.ensures.finds c.word.ensures.list) c.take_message.ensures.list c.take_message.ensures.message c.take_message.ensures.waker).phase
+    taken_leaves ends.0 c.take_message.result
+    (took_message (closed_over c.word.result ends.2 c.word.ensures.finds c.word.ensures.list)
+    c.take_message.ensures.list c.take_message.ensures.message c.take_message.ensures.waker).phase
 
 pub returns-in-Message-clause-keeps : goal.returns-in-Message-clause-keeps
 returns-in-Message-clause-keeps g c =
@@ -43,19 +51,27 @@ pub returns-in-Nothing-clause-leaves : goal.returns-in-Nothing-clause-leaves
 returns-in-Nothing-clause-leaves g c = pending_leaves (rw c.in-Nothing.is at c.meet.ensures.ends)
 
 pub returns-in_default-clause-run : goal.returns-in_default-clause-run
-returns-in_default-clause-run g c = whole (rw (gone (g.G.ReceiverGround.state c.meet.new.g) c.meet.result c.meet.ensures.ends c.in_default.not-Message c.in_default.not-Nothing).0 at c.meet.ensures.went)
+returns-in_default-clause-run g c =
+    whole (rw (gone (g.G.ReceiverGround.state c.meet.new.g) c.meet.result c.meet.ensures.ends c.in_default.not-Message
+    c.in_default.not-Nothing).0 at c.meet.ensures.went)
 
 pub returns-in_default-clause-rests : goal.returns-in_default-clause-rests
-returns-in_default-clause-rests g c = gone_rests (gone (g.G.ReceiverGround.state c.meet.new.g) c.meet.result c.meet.ensures.ends c.in_default.not-Message c.in_default.not-Nothing).1
+returns-in_default-clause-rests g c =
+    gone_rests (gone (g.G.ReceiverGround.state c.meet.new.g) c.meet.result c.meet.ensures.ends c.in_default.not-Message
+    c.in_default.not-Nothing).1
 
 pub returns-in_default-clause-leaves : goal.returns-in_default-clause-leaves
-returns-in_default-clause-leaves g c = gone_leaves _ (gone (g.G.ReceiverGround.state c.meet.new.g) c.meet.result c.meet.ensures.ends c.in_default.not-Message c.in_default.not-Nothing).1
+returns-in_default-clause-leaves g c =
+    gone_leaves _ (gone (g.G.ReceiverGround.state c.meet.new.g) c.meet.result c.meet.ensures.ends
+    c.in_default.not-Message c.in_default.not-Nothing).1
 
 pub returns-in_default-clause-stays : goal.returns-in_default-clause-stays
 returns-in_default-clause-stays g c is_closed = is_disconnected _
 
 pub returns-in-Message-clause-own_copy : goal.returns-in-Message-clause-own_copy
-returns-in-Message-clause-own_copy g c = then_took c.take_message.result (then_word _ c.word.result c.meet.ensures.own c.word.ensures.list) c.take_message.ensures.list
+returns-in-Message-clause-own_copy g c =
+    then_took c.take_message.result (then_word _ c.word.result c.meet.ensures.own c.word.ensures.list)
+    c.take_message.ensures.list
 
 pub returns-in-Message-clause-bounded : goal.returns-in-Message-clause-bounded
 returns-in-Message-clause-bounded g c = poll_few (returns-in-Message-clause-run g c)

@@ -18,22 +18,28 @@ free-requires-clause-waker g c = c.drop_message.ensures.waker ∙ is_room (swapp
 
 pub free-requires-in_default-clause-message : goal.free-requires-in_default-clause-message
 free-requires-in_default-clause-message g c =
-    let closed = swapped_last c.word.ensures.finds (search rules) (search rules) (past_1 c.requires c.word.ensures.finds) in
+    let closed =
+    swapped_last c.word.ensures.finds (search rules) (search rules) (past_1 c.requires c.word.ensures.finds) in
     is_room (swapped_over c.word.ensures.finds closed).0
 
 pub free-requires-in_default-clause-waker : goal.free-requires-in_default-clause-waker
 free-requires-in_default-clause-waker g c =
-    let closed = swapped_last c.word.ensures.finds (search rules) (search rules) (past_1 c.requires c.word.ensures.finds) in
+    let closed =
+    swapped_last c.word.ensures.finds (search rules) (search rules) (past_1 c.requires c.word.ensures.finds) in
     is_room (swapped_over c.word.ensures.finds closed).1
 
 pub returns-in-4 : goal.returns-in-4
 returns-in-4 g c =
-    dropped_message (Drop DropSwap) refl c.word.result (row_at (Drop DropSwap) 4 refl c.in-4.is) c.word.ensures.list c.drop_message.ensures.list c.free.ensures.list
+    dropped_message (Drop DropSwap) refl c.word.result (row_at (Drop DropSwap) 4 refl c.in-4.is) c.word.ensures.list
+    c.drop_message.ensures.list c.free.ensures.list
 
 pub returns-in-3 : goal.returns-in-3
-returns-in-3 g c = dropped_open (Drop DropSwap) refl c.word.result (row_at (Drop DropSwap) 3 refl c.in-3.is) c.word.ensures.list
+returns-in-3 g c =
+    dropped_open (Drop DropSwap) refl c.word.result (row_at (Drop DropSwap) 3 refl c.in-3.is) c.word.ensures.list
 
 pub returns-in_default : goal.returns-in_default
 returns-in_default g c =
-    let closed = swapped_last c.word.ensures.finds (search rules) (search rules) (past_1 c.requires c.word.ensures.finds) in
-    dropped_last (Drop DropSwap) refl c.word.result (row_at (Drop DropSwap) 2 refl closed) c.word.ensures.list c.free-in_default.ensures.list
+    let closed =
+    swapped_last c.word.ensures.finds (search rules) (search rules) (past_1 c.requires c.word.ensures.finds) in
+    dropped_last (Drop DropSwap) refl c.word.result (row_at (Drop DropSwap) 2 refl closed) c.word.ensures.list
+    c.free-in_default.ensures.list

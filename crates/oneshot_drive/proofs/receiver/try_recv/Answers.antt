@@ -11,7 +11,9 @@ pub word-requires : goal.word-requires
 word-requires g c = load_asks c.requires
 
 pub word-requires-in-4 : goal.word-requires-in-4
-word-requires-in-4 g c = asks (Store 2) (loaded_full (loaded c.word.result c.requires c.word.ensures.finds c.word.ensures.list) c.in-4.is) refl
+word-requires-in-4 g c =
+    asks (Store 2) (loaded_full (loaded c.word.result c.requires c.word.ensures.finds c.word.ensures.list) c.in-4.is)
+    refl
 
 pub take_message-requires : goal.take_message-requires
 take_message-requires g c =
@@ -19,17 +21,22 @@ take_message-requires g c =
     is_in (closed c.word-in-4.result full c.word-in-4.ensures.finds c.word-in-4.ensures.list).message
 
 pub returns-in-4-clause-run : goal.returns-in-4-clause-run
-returns-in-4-clause-run g c = took_ran c.word.result c.word-in-4.result c.take_message.result c.in-4.is c.word.ensures.list c.word-in-4.ensures.list c.take_message.ensures.list
+returns-in-4-clause-run g c =
+    took_ran c.word.result c.word-in-4.result c.take_message.result c.in-4.is c.word.ensures.list
+    c.word-in-4.ensures.list c.take_message.ensures.list
 
 pub returns-in-4-clause-rests : goal.returns-in-4-clause-rests
 returns-in-4-clause-rests g c =
     let full = loaded_full (loaded c.word.result c.requires c.word.ensures.finds c.word.ensures.list) c.in-4.is in
-    rests_over (took_message (closed c.word-in-4.result full c.word-in-4.ensures.finds c.word-in-4.ensures.list) c.take_message.ensures.list c.take_message.ensures.message c.take_message.ensures.waker)
+    rests_over (took_message (closed c.word-in-4.result full c.word-in-4.ensures.finds c.word-in-4.ensures.list)
+    c.take_message.ensures.list c.take_message.ensures.message c.take_message.ensures.waker)
 
 pub returns-in-4-clause-leaves : goal.returns-in-4-clause-leaves
 returns-in-4-clause-leaves g c =
     let full = loaded_full (loaded c.word.result c.requires c.word.ensures.finds c.word.ensures.list) c.in-4.is in
-    took_leaves c.take_message.result (took_message (closed c.word-in-4.result full c.word-in-4.ensures.finds c.word-in-4.ensures.list) c.take_message.ensures.list c.take_message.ensures.message c.take_message.ensures.waker)
+    took_leaves c.take_message.result
+    (took_message (closed c.word-in-4.result full c.word-in-4.ensures.finds c.word-in-4.ensures.list)
+    c.take_message.ensures.list c.take_message.ensures.message c.take_message.ensures.waker)
 
 pub returns-in-4-clause-stays : goal.returns-in-4-clause-stays
 returns-in-4-clause-stays g c is_closed = never 4 refl c.in-4.is is_closed c.word.ensures.finds
@@ -38,22 +45,30 @@ pub returns-in-3-clause-run : goal.returns-in-3-clause-run
 returns-in-3-clause-run g c = empty_ran c.word.result c.in-3.is c.word.ensures.list
 
 pub returns-in-3-clause-rests : goal.returns-in-3-clause-rests
-returns-in-3-clause-rests g c = rests_here (loaded_open (loaded c.word.result c.requires c.word.ensures.finds c.word.ensures.list) c.in-3.is)
+returns-in-3-clause-rests g c =
+    rests_here (loaded_open (loaded c.word.result c.requires c.word.ensures.finds c.word.ensures.list) c.in-3.is)
 
 pub returns-in-3-clause-leaves : goal.returns-in-3-clause-leaves
-returns-in-3-clause-leaves g c = open_leaves (loaded_open (loaded c.word.result c.requires c.word.ensures.finds c.word.ensures.list) c.in-3.is)
+returns-in-3-clause-leaves g c =
+    open_leaves (loaded_open (loaded c.word.result c.requires c.word.ensures.finds c.word.ensures.list) c.in-3.is)
 
 pub returns-in-3-clause-stays : goal.returns-in-3-clause-stays
 returns-in-3-clause-stays g c is_closed = never 3 refl c.in-3.is is_closed c.word.ensures.finds
 
 pub returns-in_default-clause-run : goal.returns-in_default-clause-run
-returns-in_default-clause-run g c = gone_ran c.word.result (loaded_none (loaded c.word.result c.requires c.word.ensures.finds c.word.ensures.list) (search rules) (search rules)).0 c.word.ensures.list
+returns-in_default-clause-run g c =
+    gone_ran c.word.result (loaded_none (loaded c.word.result c.requires c.word.ensures.finds c.word.ensures.list)
+    (search rules) (search rules)).0 c.word.ensures.list
 
 pub returns-in_default-clause-rests : goal.returns-in_default-clause-rests
-returns-in_default-clause-rests g c = rests_over (loaded_none (loaded c.word.result c.requires c.word.ensures.finds c.word.ensures.list) (search rules) (search rules)).2
+returns-in_default-clause-rests g c =
+    rests_over (loaded_none (loaded c.word.result c.requires c.word.ensures.finds c.word.ensures.list) (search rules)
+    (search rules)).2
 
 pub returns-in_default-clause-leaves : goal.returns-in_default-clause-leaves
-returns-in_default-clause-leaves g c = closed_leaves (loaded_none (loaded c.word.result c.requires c.word.ensures.finds c.word.ensures.list) (search rules) (search rules)).2
+returns-in_default-clause-leaves g c =
+    closed_leaves (loaded_none (loaded c.word.result c.requires c.word.ensures.finds c.word.ensures.list) (search rules)
+    (search rules)).2
 
 pub returns-in-4-clause-bounded : goal.returns-in-4-clause-bounded
 returns-in-4-clause-bounded g c = try_recv_few (returns-in-4-clause-run g c)

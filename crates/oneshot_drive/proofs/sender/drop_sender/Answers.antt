@@ -17,26 +17,36 @@ pub returns-in-3-clause-run : goal.returns-in-3-clause-run
 returns-in-3-clause-run g c = drop_ran c.word.result c.in-3.is c.word.ensures.list
 
 pub free-requires-clause-message : goal.free-requires-clause-message
-free-requires-clause-message g c = let gone = c.finish.ensures.gone (search rules) in gone.message ∙ flipped_room c.word.result c.requires c.in-0.is c.word.ensures.finds c.word.ensures.list
+free-requires-clause-message g c =
+    let gone =
+    c.finish.ensures.gone (search rules) in
+    gone.message ∙ flipped_room c.word.result c.requires c.in-0.is c.word.ensures.finds c.word.ensures.list
 
 pub free-requires-clause-waker : goal.free-requires-clause-waker
 free-requires-clause-waker g c = (c.finish.ensures.gone (search rules)).waker
 
 pub returns-then-not-finish-clause-run : goal.returns-then-not-finish-clause-run
-returns-then-not-finish-clause-run g c = drop_freed_late c.word.result c.in-0.is c.word.ensures.list c.if-not-finish.ensures.finishes c.free.ensures.list
+returns-then-not-finish-clause-run g c =
+    drop_freed_late c.word.result c.in-0.is c.word.ensures.list c.if-not-finish.ensures.finishes c.free.ensures.list
 
 pub returns-else-not-finish-clause-run : goal.returns-else-not-finish-clause-run
-returns-else-not-finish-clause-run g c = drop_woke c.word.result c.in-0.is c.word.ensures.list c.if-not-finish.ensures.finishes
+returns-else-not-finish-clause-run g c =
+    drop_woke c.word.result c.in-0.is c.word.ensures.list c.if-not-finish.ensures.finishes
 
 pub free-requires-in_default-clause-message : goal.free-requires-in_default-clause-message
-free-requires-in_default-clause-message g c = is_room (flipped c.word.result c.requires (search rules) (search rules) c.word.ensures.finds c.word.ensures.list).stands.message
+free-requires-in_default-clause-message g c =
+    is_room (flipped c.word.result c.requires (search rules) (search rules) c.word.ensures.finds
+    c.word.ensures.list).stands.message
 
 pub free-requires-in_default-clause-waker : goal.free-requires-in_default-clause-waker
-free-requires-in_default-clause-waker g c = is_room (flipped c.word.result c.requires (search rules) (search rules) c.word.ensures.finds c.word.ensures.list).stands.waker
+free-requires-in_default-clause-waker g c =
+    is_room (flipped c.word.result c.requires (search rules) (search rules) c.word.ensures.finds
+    c.word.ensures.list).stands.waker
 
 pub returns-in_default-clause-run : goal.returns-in_default-clause-run
 returns-in_default-clause-run g c =
-    drop_freed c.word.result (flipped c.word.result c.requires (search rules) (search rules) c.word.ensures.finds c.word.ensures.list).word c.word.ensures.list c.free-in_default.ensures.list
+    drop_freed c.word.result (flipped c.word.result c.requires (search rules) (search rules) c.word.ensures.finds
+    c.word.ensures.list).word c.word.ensures.list c.free-in_default.ensures.list
 
 pub returns-in-3-clause-bounded : goal.returns-in-3-clause-bounded
 returns-in-3-clause-bounded g c = drop_few (returns-in-3-clause-run g c)

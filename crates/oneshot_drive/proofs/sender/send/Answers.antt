@@ -8,41 +8,60 @@ use Rattle.oneshot_machine.proofs.CallBounds.{send_few}
 use Rattle.oneshot_drive.proofs.sender.send.Goals as goal
 
 pub word-requires : goal.word-requires
-word-requires g c = sender_asks Add (written c.args.message c.requires.fresh c.write_message.ensures.list c.write_message.ensures.message c.write_message.ensures.waker) refl
+word-requires g c =
+    sender_asks Add (written c.args.message c.requires.fresh c.write_message.ensures.list
+    c.write_message.ensures.message c.write_message.ensures.waker) refl
 
 pub finish-requires : goal.finish-requires
 finish-requires g c =
-    send_owes c.word.result (written c.args.message c.requires.fresh c.write_message.ensures.list c.write_message.ensures.message c.write_message.ensures.waker) c.in-0.is c.word.ensures.finds c.word.ensures.list
+    send_owes c.word.result (written c.args.message c.requires.fresh c.write_message.ensures.list
+    c.write_message.ensures.message c.write_message.ensures.waker) c.in-0.is c.word.ensures.finds
+    c.word.ensures.list
 
 pub returns-in-3-clause-run : goal.returns-in-3-clause-run
 returns-in-3-clause-run g c = send_ran c.word.result c.in-3.is c.write_message.ensures.list c.word.ensures.list
 
 pub returns-in-0-clause-run : goal.returns-in-0-clause-run
-returns-in-0-clause-run g c = send_woke c.word.result c.finish.result c.in-0.is c.write_message.ensures.list c.word.ensures.list c.finish.ensures.finishes
+returns-in-0-clause-run g c =
+    send_woke c.word.result c.finish.result c.in-0.is c.write_message.ensures.list c.word.ensures.list
+    c.finish.ensures.finishes
 
 pub returns-in-0-clause-refused : goal.returns-in-0-clause-refused
 returns-in-0-clause-refused g c gone =
     let overtaken = c.finish.ensures.gone gone in
-    record { keeps = overtaken.message ∙ added_kept c.word.result (written c.args.message c.requires.fresh c.write_message.ensures.list c.write_message.ensures.message c.write_message.ensures.waker) c.in-0.is c.word.ensures.finds c.word.ensures.list c.write_message.ensures.message; no_waker = overtaken.waker }
+    record {
+      keeps = overtaken.message
+          ∙ added_kept c.word.result (written c.args.message c.requires.fresh c.write_message.ensures.list
+          c.write_message.ensures.message c.write_message.ensures.waker) c.in-0.is c.word.ensures.finds
+          c.word.ensures.list c.write_message.ensures.message;
+      no_waker = overtaken.waker;
+    }
 
 pub returns-in-0-clause-late : goal.returns-in-0-clause-late
 returns-in-0-clause-late g c gone = (c.finish.ensures.gone gone).late
 
 pub returns-in_default-clause-run : goal.returns-in_default-clause-run
 returns-in_default-clause-run g c =
-    let fresh = written c.args.message c.requires.fresh c.write_message.ensures.list c.write_message.ensures.message c.write_message.ensures.waker in
+    let fresh =
+    written c.args.message c.requires.fresh c.write_message.ensures.list c.write_message.ensures.message
+    c.write_message.ensures.waker in
     let gone = added c.word.result fresh (search rules) (search rules) c.word.ensures.finds c.word.ensures.list in
     send_refused c.word.result gone.word c.write_message.ensures.list c.word.ensures.list
 
 pub returns-in_default-clause-refused : goal.returns-in_default-clause-refused
 returns-in_default-clause-refused g c _ =
-    let fresh = written c.args.message c.requires.fresh c.write_message.ensures.list c.write_message.ensures.message c.write_message.ensures.waker in
+    let fresh =
+    written c.args.message c.requires.fresh c.write_message.ensures.list c.write_message.ensures.message
+    c.write_message.ensures.waker in
     let gone = added c.word.result fresh (search rules) (search rules) c.word.ensures.finds c.word.ensures.list in
-    refused c.args.message gone.stands (message_kept c.word.ensures.finds c.write_message.ensures.message gone.stands.message)
+    refused c.args.message gone.stands
+    (message_kept c.word.ensures.finds c.write_message.ensures.message gone.stands.message)
 
 pub returns-in_default-clause-late : goal.returns-in_default-clause-late
 returns-in_default-clause-late g c _ =
-    let fresh = written c.args.message c.requires.fresh c.write_message.ensures.list c.write_message.ensures.message c.write_message.ensures.waker in
+    let fresh =
+    written c.args.message c.requires.fresh c.write_message.ensures.list c.write_message.ensures.message
+    c.write_message.ensures.waker in
     let gone = added c.word.result fresh (search rules) (search rules) c.word.ensures.finds c.word.ensures.list in
     is_too_late gone.stands
 

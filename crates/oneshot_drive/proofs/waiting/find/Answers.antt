@@ -13,7 +13,12 @@ pub returns-in-4-clause-went : goal.returns-in-4-clause-went
 returns-in-4-clause-went g c way = full_at_once way c.word.result c.in-4.is c.word.ensures.list
 
 pub returns-in-4-clause-ends : goal.returns-in-4-clause-ends
-returns-in-4-clause-ends g c = (at_once, refl, loaded_full (loaded c.word.result c.requires.rests c.word.ensures.finds c.word.ensures.list) c.in-4.is)
+returns-in-4-clause-ends g c = (
+  at_once,
+  refl,
+  loaded_full (loaded c.word.result c.requires.rests c.word.ensures.finds c.word.ensures.list)
+      c.in-4.is,
+)
 
 pub returns-in-4-clause-stays : goal.returns-in-4-clause-stays
 returns-in-4-clause-stays g c is_closed = never 4 refl c.in-4.is is_closed c.word.ensures.finds
@@ -22,23 +27,31 @@ pub returns-in-4-clause-hand : goal.returns-in-4-clause-hand
 returns-in-4-clause-hand g c = returned c.args.hand.now
 
 pub store_and_wait-requires-clause-open : goal.store_and_wait-requires-clause-open
-store_and_wait-requires-clause-open g c = loaded_open (loaded c.word.result c.requires.rests c.word.ensures.finds c.word.ensures.list) c.in-3.is
+store_and_wait-requires-clause-open g c =
+    loaded_open (loaded c.word.result c.requires.rests c.word.ensures.finds c.word.ensures.list) c.in-3.is
 
 pub store_and_wait-requires-clause-ready : goal.store_and_wait-requires-clause-ready
-store_and_wait-requires-clause-ready g c = ready_waker c.args.hand.now c.word.result c.requires.ready c.word.ensures.finds c.in-3.is
+store_and_wait-requires-clause-ready g c =
+    ready_waker c.args.hand.now c.word.result c.requires.ready c.word.ensures.finds c.in-3.is
 
 pub returns-in-3-clause-went : goal.returns-in-3-clause-went
-returns-in-3-clause-went g c way = found_none way c.word.result c.in-3.is c.word.ensures.list (c.store_and_wait.ensures.went way)
+returns-in-3-clause-went g c way =
+    found_none way c.word.result c.in-3.is c.word.ensures.list (c.store_and_wait.ensures.went way)
 
 pub returns-in-3-clause-stays : goal.returns-in-3-clause-stays
 returns-in-3-clause-stays g c is_closed = never 3 refl c.in-3.is is_closed c.word.ensures.finds
 
 pub returns-in_default-clause-went : goal.returns-in_default-clause-went
-returns-in_default-clause-went g c way = over_at_once way c.word.result (loaded_none (loaded c.word.result c.requires.rests c.word.ensures.finds c.word.ensures.list) (search rules) (search rules)).0 c.word.ensures.list
+returns-in_default-clause-went g c way =
+    over_at_once way c.word.result
+    (loaded_none (loaded c.word.result c.requires.rests c.word.ensures.finds c.word.ensures.list) (search rules)
+    (search rules)).0 c.word.ensures.list
 
 pub returns-in_default-clause-ends : goal.returns-in_default-clause-ends
 returns-in_default-clause-ends g c =
-    let none = loaded_none (loaded c.word.result c.requires.rests c.word.ensures.finds c.word.ensures.list) (search rules) (search rules) in
+    let none =
+    loaded_none (loaded c.word.result c.requires.rests c.word.ensures.finds c.word.ensures.list) (search rules)
+    (search rules) in
     (none.1, none.2)
 
 pub returns-in_default-clause-hand : goal.returns-in_default-clause-hand

@@ -9,7 +9,9 @@ pub returns-then-timed-clause-went : goal.returns-then-timed-clause-went
 returns-then-timed-clause-went g c way = asked way c.over.result c.if-timed.true c.over.ensures.list
 
 pub returns-then-timed-clause-waits : goal.returns-then-timed-clause-waits
-returns-then-timed-clause-waits g c = stands_on (clocked c.over.result ∷ []) refl c.requires c.over.ensures.list c.over.ensures.message c.over.ensures.waker
+returns-then-timed-clause-waits g c =
+    stands_on (clocked c.over.result ∷ []) refl c.requires c.over.ensures.list c.over.ensures.message
+    c.over.ensures.waker
 
 pub returns-else-timed-clause-went : goal.returns-else-timed-clause-went
 returns-else-timed-clause-went g c way = not_asked way (g.G.ReceiverGround.state c.args.g.now).log c.if-timed.false

@@ -11,7 +11,8 @@ invariant-loop g l =
     record {
       can_next : (goal.iterator-loop g).can_next l.iterator';
       is_finite : (goal.iterator-loop g).is_finite l.iterator';
-      went : (way : Way l.fn.timed) → Went (wait_of way) (Goes (wait_of way)) (g.G.ReceiverGround.state l.fn.g).log (g.G.ReceiverGround.state l.g).log;
+      went : (way : Way l.fn.timed) → Went (wait_of way) (Goes (wait_of way)) (g.G.ReceiverGround.state l.fn.g).log
+          (g.G.ReceiverGround.state l.g).log;
       waits : Stands (waits blocked) (g.G.ReceiverGround.state l.g);
       hand : l.hand ≡ l.fn.hand;
       keeps : g.G.ReceiverGround.keeps l.fn.g l.g;

@@ -10,39 +10,61 @@ use Rattle.oneshot_drive.proofs.Waits.{may_park_late, ended, ended_full, ended_o
 use Rattle.oneshot_drive.proofs.waiting.wait_late.Goals as goal
 
 pub loop-init : goal.loop-init
-loop-init g c = record { can_next = tt; is_finite = tt; went = begun (Timed LatePark) (g.G.ReceiverGround.state c.args.g.now).log; overdue = c.requires; keeps = g.G.ReceiverGround.keeps_same _ }
+loop-init g c =
+    record {
+      can_next = tt;
+      is_finite = tt;
+      went = begun (Timed LatePark) (g.G.ReceiverGround.state c.args.g.now).log;
+      overdue = c.requires;
+      keeps = g.G.ReceiverGround.keeps_same _;
+    }
 
 pub park-requires : goal.park-requires
 park-requires g c = may_park_late c.loop.invariant.overdue
 
 pub word-requires : goal.word-requires
-word-requires g c = asks Load (stands_on (parked c.park.ensures.list.0 ∷ []) refl c.loop.invariant.overdue c.park.ensures.list.1 c.park.ensures.message c.park.ensures.waker) refl
+word-requires g c =
+    asks Load (stands_on (parked c.park.ensures.list.0 ∷ []) refl c.loop.invariant.overdue c.park.ensures.list.1
+    c.park.ensures.message c.park.ensures.waker) refl
 
 pub returns-in-4-clause-went : goal.returns-in-4-clause-went
-returns-in-4-clause-went g c = late_to _ c.word.result 4 refl c.in-4.is c.loop.invariant.went c.park.ensures.list.0 c.park.ensures.list.1 c.word.ensures.list
+returns-in-4-clause-went g c =
+    late_to _ c.word.result 4 refl c.in-4.is c.loop.invariant.went c.park.ensures.list.0 c.park.ensures.list.1
+    c.word.ensures.list
 
 pub returns-in-4-clause-ends : goal.returns-in-4-clause-ends
 returns-in-4-clause-ends g c =
-    let still = stands_on (parked c.park.ensures.list.0 ∷ []) refl c.loop.invariant.overdue c.park.ensures.list.1 c.park.ensures.message c.park.ensures.waker in
+    let still =
+    stands_on (parked c.park.ensures.list.0 ∷ []) refl c.loop.invariant.overdue c.park.ensures.list.1
+    c.park.ensures.message c.park.ensures.waker in
     ended_full (ended c.word.result still c.word.ensures.finds c.word.ensures.list) c.in-4.is
 
 pub returns-in-2-clause-went : goal.returns-in-2-clause-went
-returns-in-2-clause-went g c = late_to _ c.word.result 2 refl c.in-2.is c.loop.invariant.went c.park.ensures.list.0 c.park.ensures.list.1 c.word.ensures.list
+returns-in-2-clause-went g c =
+    late_to _ c.word.result 2 refl c.in-2.is c.loop.invariant.went c.park.ensures.list.0 c.park.ensures.list.1
+    c.word.ensures.list
 
 pub returns-in-2-clause-ends : goal.returns-in-2-clause-ends
 returns-in-2-clause-ends g c =
-    let still = stands_on (parked c.park.ensures.list.0 ∷ []) refl c.loop.invariant.overdue c.park.ensures.list.1 c.park.ensures.message c.park.ensures.waker in
+    let still =
+    stands_on (parked c.park.ensures.list.0 ∷ []) refl c.loop.invariant.overdue c.park.ensures.list.1
+    c.park.ensures.message c.park.ensures.waker in
     ended_over (ended c.word.result still c.word.ensures.finds c.word.ensures.list) c.in-2.is
 
 pub loop-preserved : goal.loop-preserved
 loop-preserved g c =
-    let still = stands_on (parked c.park.ensures.list.0 ∷ []) refl c.loop.invariant.overdue c.park.ensures.list.1 c.park.ensures.message c.park.ensures.waker in
+    let still =
+    stands_on (parked c.park.ensures.list.0 ∷ []) refl c.loop.invariant.overdue c.park.ensures.list.1
+    c.park.ensures.message c.park.ensures.waker in
     let on = g.G.ReceiverGround.keeps_on in
-    let again = ended_again (ended c.word.result still c.word.ensures.finds c.word.ensures.list) (search rules) (search rules) in
+    let again =
+    ended_again (ended c.word.result still c.word.ensures.finds c.word.ensures.list) (search rules)
+    (search rules) in
     record {
       can_next = tt;
       is_finite = tt;
-      went = late_to _ c.word.result 3 refl again.word c.loop.invariant.went c.park.ensures.list.0 c.park.ensures.list.1 c.word.ensures.list;
+      went = late_to _ c.word.result 3 refl again.word c.loop.invariant.went c.park.ensures.list.0 c.park.ensures.list.1
+          c.word.ensures.list;
       overdue = again.stands;
       keeps = on _ _ _ c.loop.invariant.keeps (on _ _ _ c.park.ensures.keeps c.word.ensures.keeps);
     }

@@ -12,7 +12,8 @@ invariant-loop g l =
     record {
       can_next : (goal.iterator-loop g).can_next l.iterator';
       is_finite : (goal.iterator-loop g).is_finite l.iterator';
-      went : Went (Timed LatePark) (Goes (Timed LatePark)) (g.G.ReceiverGround.state l.fn.g).log (g.G.ReceiverGround.state l.g).log;
+      went : Went (Timed LatePark) (Goes (Timed LatePark)) (g.G.ReceiverGround.state l.fn.g).log
+          (g.G.ReceiverGround.state l.g).log;
       overdue : Stands overdue (g.G.ReceiverGround.state l.g);
       keeps : g.G.ReceiverGround.keeps l.fn.g l.g;
     }

@@ -7,9 +7,12 @@ use Rattle.oneshot_memory.proofs.receiver.MemoryReceiver.note_copy.Goals as goal
 
 pub invariant_of-self : goal.invariant_of-self
 invariant_of-self g c =
-    receiver_stays c.self.inside.events.items c.record.new.events.items c.copied-event.result c.record.ensures (ap (λ x. words (x ∷ [])) c.copied-event.ensures) c.self.invariant
+    receiver_stays c.self.inside.events.items c.record.new.events.items c.copied-event.result c.record.ensures
+    (ap (λ x. words (x ∷ [])) c.copied-event.ensures) c.self.invariant
 
 pub returns-clause-list : goal.returns-clause-list
 returns-clause-list g c =
-    let noted = step_grows c.self.inside.events.items c.record.new.events.items c.copied-event.result (copied c.args.copy.now) c.record.ensures c.copied-event.ensures (ap (λ s. s.state.log) c.self.view_is) in
+    let noted =
+    step_grows c.self.inside.events.items c.record.new.events.items c.copied-event.result (copied c.args.copy.now)
+    c.record.ensures c.copied-event.ensures (ap (λ s. s.state.log) c.self.view_is) in
     rw (ap (λ s. s.state.log) c.pause.ensures) noted

@@ -5,4 +5,5 @@ use Rattle.oneshot_memory.proofs.receiver.MemoryReceiverBlockGround.over.Goals a
 
 pub invariant_of-self : goal.invariant_of-self
 invariant_of-self g c =
-    receiver_stays c.self.inside.events.items c.record.new.events.items _ (c.record.ensures ∙ ap (λ e. c.self.inside.events.items ++ e ∷ []) c.of-event.ensures) refl c.self.invariant
+    receiver_stays c.self.inside.events.items c.record.new.events.items _
+    (c.record.ensures ∙ ap (λ e. c.self.inside.events.items ++ e ∷ []) c.of-event.ensures) refl c.self.invariant

@@ -8,8 +8,13 @@ use Rattle.oneshot_memory.proofs.receiver.MemoryReceiverBlockGround.park.Goals a
 
 pub invariant_of-self : goal.invariant_of-self
 invariant_of-self g c =
-    receiver_stays c.self.inside.events.items c.record.new.events.items _ (c.record.ensures ∙ ap (λ e. c.self.inside.events.items ++ e ∷ []) c.of-event.ensures) refl c.self.invariant
+    receiver_stays c.self.inside.events.items c.record.new.events.items _
+    (c.record.ensures ∙ ap (λ e. c.self.inside.events.items ++ e ∷ []) c.of-event.ensures) refl c.self.invariant
 
 pub returns-clause-list : goal.returns-clause-list
-returns-clause-list g c =
-    (c.self.inside.token, step_grows c.self.inside.events.items c.record.new.events.items c.of-event.result (parked c.self.inside.token) c.record.ensures (ap event_of c.of-event.ensures) (ap (λ s. s.state.log) (c.self.view_is ∙ c.pause.ensures)))
+returns-clause-list g c = (
+  c.self.inside.token,
+  step_grows c.self.inside.events.items c.record.new.events.items c.of-event.result
+      (parked c.self.inside.token) c.record.ensures (ap event_of c.of-event.ensures)
+      (ap (λ s. s.state.log) (c.self.view_is ∙ c.pause.ensures)),
+)

@@ -5,5 +5,7 @@ use Rattle.oneshot_memory.proofs.receiver.MemoryReceiverReceiverGround.free.Goal
 
 pub invariant_of-self : goal.invariant_of-self
 invariant_of-self g c =
-    receiver_stays c.self.inside.events.items c.record.new.events.items _ (c.record.ensures ∙ ap (λ e. c.self.inside.events.items ++ e ∷ []) c.of-event.ensures) refl
-    (receiver_freed c.self.invariant (ap (λ s. s.state.message) c.self.view_is ∙ c.requires.message) (ap (λ s. s.state.waker) c.self.view_is ∙ c.requires.waker))
+    receiver_stays c.self.inside.events.items c.record.new.events.items _
+    (c.record.ensures ∙ ap (λ e. c.self.inside.events.items ++ e ∷ []) c.of-event.ensures) refl
+    (receiver_freed c.self.invariant (ap (λ s. s.state.message) c.self.view_is ∙ c.requires.message)
+    (ap (λ s. s.state.waker) c.self.view_is ∙ c.requires.waker))

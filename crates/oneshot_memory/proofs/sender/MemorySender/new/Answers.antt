@@ -7,7 +7,11 @@ use Rattle.oneshot_memory.proofs.sender.MemorySender.new.Goals.{then-receiver_is
 pub invariant_of-result : goal.invariant_of-result
 invariant_of-result g c =
     let none : c.new.result.items ≡ [] = search rules in
-    rw none (elim c.if-receiver_is_here.branch [ then-receiver_is_here w ↦ rw w.result-is record { is_so = refl } | else-receiver_is_here w ↦ rw w.result-is record { is_so = refl } ])
+    rw none (elim c.if-receiver_is_here.branch [
+      | then-receiver_is_here w ↦ rw w.result-is record { is_so = refl }
+      | else-receiver_is_here w ↦ rw w.result-is
+          record { is_so = refl }
+    ])
 
 pub returns-clause-fresh : goal.returns-clause-fresh
 returns-clause-fresh g c =

@@ -5,4 +5,6 @@ use Rattle.oneshot_memory.proofs.sender.MemorySenderSenderGround.drop_message.Go
 
 pub invariant_of-self : goal.invariant_of-self
 invariant_of-self g c =
-    sender_stays c.self.inside.events.items c.record.new.events.items _ (c.record.ensures ∙ ap (λ e. c.self.inside.events.items ++ e ∷ []) c.of-event.ensures) refl (sender_messages c.self.invariant None)
+    sender_stays c.self.inside.events.items c.record.new.events.items _
+    (c.record.ensures ∙ ap (λ e. c.self.inside.events.items ++ e ∷ []) c.of-event.ensures) refl
+    (sender_messages c.self.invariant None)

@@ -6,4 +6,5 @@ use Rattle.oneshot_memory.proofs.sender.MemorySenderSenderGround.take_message.Go
 pub invariant_of-self : goal.invariant_of-self
 invariant_of-self g c =
     let empty : c.take.new.self ≡ None = search rules in
-    rw empty (sender_stays c.self.inside.events.items c.record.new.events.items _ c.record.ensures refl (sender_messages c.self.invariant None))
+    rw empty (sender_stays c.self.inside.events.items c.record.new.events.items _ c.record.ensures refl
+    (sender_messages c.self.invariant None))

@@ -7,4 +7,8 @@ use Rattle.oneshot_memory.proofs.sender.MemorySenderSenderGround.take_waker.Goal
 pub invariant_of-self : goal.invariant_of-self
 invariant_of-self g c =
     let empty : c.take.new.self ≡ None = search rules in
-    rw (empty, c.outlasted-self-inside.ensures) (sender_outlasts (sender_stays c.self.inside.events.items c.record.new.events.items c.handing-event.result c.record.ensures (no_word c.handing-event.result _ _ c.handing-event.ensures refl) (sender_emptied c.self.invariant c.requires.0 (ap (λ s. s.state.waker) c.self.view_is ∙ c.requires.1))) c.self.inside.meanwhile)
+    rw (empty, c.outlasted-self-inside.ensures)
+    (sender_outlasts (sender_stays c.self.inside.events.items c.record.new.events.items c.handing-event.result
+    c.record.ensures (no_word c.handing-event.result _ _ c.handing-event.ensures refl)
+    (sender_emptied c.self.invariant c.requires.0 (ap (λ s. s.state.waker) c.self.view_is ∙ c.requires.1)))
+    c.self.inside.meanwhile)

@@ -4,4 +4,6 @@ use Rattle.oneshot_memory.proofs.SenderStands.{sender_stays, sender_messages}
 use Rattle.oneshot_memory.proofs.sender.MemorySenderSenderGround.write_message.Goals as goal
 
 pub invariant_of-self : goal.invariant_of-self
-invariant_of-self g c = sender_stays c.self.inside.events.items c.record.new.events.items _ c.record.ensures refl (sender_messages c.self.invariant (Some c.args.message))
+invariant_of-self g c =
+    sender_stays c.self.inside.events.items c.record.new.events.items _ c.record.ensures refl
+    (sender_messages c.self.invariant (Some c.args.message))

@@ -1,0 +1,46 @@
+//! The length of a text as the answer to it.
+
+ghost use Rattle.std.specs.Prelude.{◌≡◌, string_len};
+
+use crate::answer::Answer;
+
+/// How many bytes a text has.
+#[derive(Drop)]
+pub struct Length {
+    /// The text.
+    pub question: String,
+    /// The count of its bytes.
+    pub bytes: usize,
+    ghost counted: { bytes ≡ string_len question },
+}
+
+impl Length {
+    /// Counts the bytes of `question`.
+    pub fn of(question: String) -> Length
+        ensures { result.question ≡ question }
+    {
+        let bytes = question.len();
+        Length { question, bytes }
+    }
+
+    /// The count of the question's bytes.
+    pub fn bytes(&self) -> usize
+        ensures { result ≡ string_len self.now.question }
+    {
+        self.bytes
+    }
+}
+
+impl Answer<String> for Length {
+    ghost use Rattle.std.specs.Prelude.{◌≡◌, string_len};
+
+    ghost asked = { λ length. length.question };
+
+    ghost answers = { λ question length. length.bytes ≡ string_len question };
+
+    ghost is_right = { λ length. length.counted };
+
+    fn question(&self) -> &String {
+        &self.question
+    }
+}

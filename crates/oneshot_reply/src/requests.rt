@@ -1,0 +1,78 @@
+//! A request: a question, with where its reply goes.
+
+ghost use Rattle.std.specs.Prelude.{◌≡◌, true, IfErr};
+
+use crate::answer::Answer;
+use crate::asked::Asked;
+use oneshot_ends::{SendError, Sender};
+use std::marker::Model;
+
+/// A question, with where its reply goes.
+///
+/// Dropping it without an answer drops the sender of its reply: a ticket that waits is woken, and learns that
+/// no reply will come. The drop never blocks.
+///
+/// A contract sees what it sees of that sender; what its channel is about has the question.
+#[derive(Drop)]
+pub struct Request<Q: Eq, A: Answer<Q>> {
+    asked: Asked<Q>,
+    reply: Sender<A, Asked<Q>>,
+}
+
+impl<Q: Eq, A: Answer<Q>> Model for Request<Q, A> {
+    ghost use Rattle.std.specs.Prelude.{◌≡◌};
+    ghost use Rattle.oneshot_ends.specs.Ends.{EndOf};
+    ghost use Rattle.oneshot_reply.specs.declared.asked.Asked.{Asked};
+
+    ghost Value = { EndOf (Asked Q) };
+
+    ghost view = { λ r. r.reply };
+
+    ghost invariant = { λ r. r.reply.about ≡ r.asked };
+}
+
+impl<Q: Eq, A: Answer<Q>> Request<Q, A> {
+    pub(crate) fn new(asked: Asked<Q>, reply: Sender<A, Asked<Q>>) -> Request<Q, A>
+        requires { reply.about ≡ asked }
+        ensures { result ≡ reply }
+    {
+        Request { asked, reply }
+    }
+
+    /// The question.
+    pub fn question(&self) -> &Q
+        ensures { result.now ≡ self.now.about.question }
+    {
+        &self.asked.question
+    }
+
+    /// Whether the question that this reply names is equal to that of the request.
+    pub fn fits(&self, reply: &A) -> bool
+        ensures { result ≡ Q.eq (A.asked reply.now) self.now.about.question }
+    {
+        *reply.question() == self.asked.question
+    }
+
+    /// Whether the ticket is gone. An answer is refused then. It is one load and never blocks.
+    pub fn is_cancelled(&self) -> bool {
+        self.reply.is_closed()
+    }
+}
+
+impl<Q: Eq + Drop, A: Answer<Q> + Drop> Request<Q, A> {
+    /// Answers with a reply that fits, and wakes a ticket that waits. It never blocks and does not allocate.
+    ///
+    /// - `Ok`: the ticket was there. It may still be dropped before it takes the reply.
+    /// - `Err`: the ticket was gone. The error has the reply.
+    pub fn answer(self, reply: A) -> Result<(), SendError<A, Asked<Q>>>
+        requires fits { Q.eq (A.asked reply) self.about.question ≡ true }
+        ensures reply { IfErr result (λ error. error.message ≡ reply) }
+        ensures channel { IfErr result (λ error. error.channel ≡ self.channel) }
+    {
+        let Request {
+            asked: _,
+            reply: sender,
+        } = self;
+        sender.send_kept(reply)
+    }
+}

@@ -1,0 +1,121 @@
+//! A ticket: where the reply to a question comes.
+
+ghost use Rattle.std.specs.Prelude.{◌≡◌, ◌≢◌, true, Err, IsErr, IfOk};
+ghost use Rattle.oneshot_errors.specs.declared.recv_timeout.RecvTimeoutError.TheVariants as Timed;
+ghost use Rattle.oneshot_errors.specs.declared.try_recv.TryRecvError.TheVariants as Tried;
+ghost use Rattle.oneshot_ends.specs.Ends.{IsClosed, IsOpen};
+
+use crate::answer::Answer;
+use crate::asked::Asked;
+use oneshot_ends::{AsyncReceiver, Receiver};
+use oneshot_errors::{RecvError, RecvTimeoutError, TryRecvError};
+use std::marker::Model;
+use std::sync::Wait;
+use std::time::{Clock, Duration};
+
+/// Where the reply to a question comes.
+///
+/// Each reply that it gives names a question equal to its own, and is right for the question that it names.
+///
+/// Dropping it drops a reply that came and was not taken, and a later answer is refused: its error gives the
+/// reply back. The drop never blocks. `rt` is dropped with the ticket.
+///
+/// A contract sees what it sees of a receiver; what its channel is about has the question.
+#[derive(Drop)]
+pub struct Ticket<Q: Eq, A: Answer<Q>, Rt> {
+    replies: Receiver<A, Rt, Asked<Q>>,
+}
+
+impl<Q: Eq, A: Answer<Q>, Rt> Model for Ticket<Q, A, Rt> {
+    ghost use Rattle.oneshot_ends.specs.Ends.{EndOf};
+    ghost use Rattle.oneshot_reply.specs.declared.asked.Asked.{Asked};
+
+    ghost Value = { EndOf (Asked Q) };
+
+    ghost view = { λ t. t.replies };
+}
+
+impl<Q: Eq, A: Answer<Q>, Rt> Ticket<Q, A, Rt> {
+    pub(crate) fn new(replies: Receiver<A, Rt, Asked<Q>>) -> Ticket<Q, A, Rt>
+        ensures { result ≡ replies }
+    {
+        Ticket { replies }
+    }
+
+    /// Whether the request is gone without a reply, or the reply was taken. Every later call says that none will
+    /// come then. It is one load and never blocks.
+    pub fn is_closed(&self) -> bool {
+        self.replies.is_closed()
+    }
+}
+
+impl<Q: Eq, A: Answer<Q> + Drop, Rt: Drop> Ticket<Q, A, Rt> {
+    /// Takes the reply if it is there. It never blocks and does not allocate.
+    ///
+    /// - `Ok`: the reply. The ticket is closed from then on.
+    /// - `Err(Empty)`: no reply came yet, and the request is there. The ticket stays open.
+    /// - `Err(Disconnected)`: the request is gone without a reply, or the reply was taken before. Every later
+    ///   call says the same.
+    pub fn try_take(&mut self) -> Result<A, TryRecvError>
+        ensures own { IfOk result (λ reply. Q.eq (A.asked reply) self.old.about.question ≡ true) }
+        ensures right { IfOk result (λ reply. A.answers (A.asked reply) reply) }
+        ensures about { self.new.about ≡ self.old.about }
+        ensures channel { self.new.channel ≡ self.old.channel }
+        ensures closes { result ≢ Err Tried.Empty → IsClosed self.new }
+        ensures stays_open { result ≡ Err Tried.Empty → IsOpen self.new }
+        ensures stays_closed { IsClosed self.old → result ≡ Err Tried.Disconnected }
+    {
+        self.replies.try_recv()
+    }
+
+    /// Makes a future of the ticket, which a task can poll: each reply that it gives keeps what a ticket's does.
+    /// It waits for nobody and allocates nothing.
+    pub fn into_future(self) -> AsyncReceiver<A, Rt, Asked<Q>>
+        ensures about { result.about ≡ self.about }
+        ensures channel { result.channel ≡ self.channel }
+        ensures steps { result.steps ≡ self.steps }
+    {
+        let Ticket { replies } = self;
+        replies.into_future()
+    }
+}
+
+impl<Q: Eq, A: Answer<Q> + Drop, Rt: Wait + Clock + Drop> Ticket<Q, A, Rt> {
+    /// Blocks until the reply is there or will never come, and ends the ticket. It does not allocate.
+    ///
+    /// - `Ok`: the reply.
+    /// - `Err`: the request is gone without a reply, or the reply was taken before.
+    ///
+    /// It blocks forever if the request is neither answered nor dropped, for example because this thread still
+    /// holds it.
+    pub fn wait(self) -> Result<A, RecvError>
+        ensures own { IfOk result (λ reply. Q.eq (A.asked reply) self.about.question ≡ true) }
+        ensures right { IfOk result (λ reply. A.answers (A.asked reply) reply) }
+        ensures stays_closed { IsClosed self → IsErr result }
+    {
+        let Ticket { replies } = self;
+        replies.recv()
+    }
+
+    /// Blocks until the reply is there or will never come, or until the runtime's clock has gone on by more
+    /// than `timeout`. It does not allocate.
+    ///
+    /// - `Ok`: the reply. The ticket is closed from then on.
+    /// - `Err(Timeout)`: no reply came in time, and the request is there. The ticket stays open.
+    /// - `Err(Disconnected)`: the request is gone without a reply, or the reply was taken before. Every later
+    ///   call says the same.
+    ///
+    /// If no instant can hold the sum of now and `timeout`, the call never answers `Timeout`. If the clock
+    /// fails, the deadline is over at once.
+    pub fn wait_for(&mut self, timeout: Duration) -> Result<A, RecvTimeoutError>
+        ensures own { IfOk result (λ reply. Q.eq (A.asked reply) self.old.about.question ≡ true) }
+        ensures right { IfOk result (λ reply. A.answers (A.asked reply) reply) }
+        ensures about { self.new.about ≡ self.old.about }
+        ensures channel { self.new.channel ≡ self.old.channel }
+        ensures closes { result ≢ Err Timed.Timeout → IsClosed self.new }
+        ensures stays_open { result ≡ Err Timed.Timeout → IsOpen self.new }
+        ensures stays_closed { IsClosed self.old → result ≡ Err Timed.Disconnected }
+    {
+        self.replies.recv_timeout(timeout)
+    }
+}
