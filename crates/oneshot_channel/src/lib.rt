@@ -2,6 +2,7 @@
 #![tactic(auto)]
 
 pub use oneshot_ends::{
-    AsyncReceiver, RawReceiver, RawSender, Receiver, SendError, Sender, async_channel, channel,
+    AsyncReceiver, Promise, RawReceiver, RawSender, Receiver, SendError, Sender, async_channel,
+    async_channel_for, channel, channel_for,
 };
 pub use oneshot_errors::{RecvError, RecvTimeoutError, TryRecvError};
