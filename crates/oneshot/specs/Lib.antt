@@ -61,3 +61,5 @@ pub use Rattle.oneshot_laws.specs.Object
 pub use Rattle.oneshot_laws.specs.Replies
 pub use Rattle.oneshot_laws.specs.Unwoken
 pub use Rattle.oneshot_laws.specs.WakerPlaces
+-- what those of `reply` name
+pub use Rattle.oneshot_reply.specs.declared.asked.Asked

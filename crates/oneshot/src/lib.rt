@@ -26,3 +26,4 @@ pub use oneshot_drive as drive;
 pub use oneshot_machine::{machine, states};
 pub use oneshot_memory as memory;
 pub use oneshot_replay as replay;
+pub use oneshot_reply as reply;
