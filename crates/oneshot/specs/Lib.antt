@@ -38,6 +38,7 @@ pub use Rattle.oneshot_machine.specs.declared.machine.receiver.ReceiverStart
 pub use Rattle.oneshot_machine.specs.declared.machine.sender.SenderCall
 -- what those of `replay` name
 pub use Rattle.oneshot_replay.specs.Rest
+pub use Rattle.oneshot_replay.specs.Right
 pub use Rattle.oneshot_replay.specs.Run
 pub use Rattle.oneshot_replay.specs.Scene
 pub use Rattle.oneshot_replay.specs.TraceView
@@ -61,3 +62,5 @@ pub use Rattle.oneshot_laws.specs.Object
 pub use Rattle.oneshot_laws.specs.Replies
 pub use Rattle.oneshot_laws.specs.Unwoken
 pub use Rattle.oneshot_laws.specs.WakerPlaces
+-- what those of `reply` name
+pub use Rattle.oneshot_reply.specs.declared.asked.Asked
