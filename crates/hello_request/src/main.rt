@@ -1,6 +1,9 @@
-//! Sends a request with the sender of its reply, and waits a minute for the reply.
+//! Sends a request to a server, and waits a minute for its reply, which is proved to be the square that was asked for.
 #![tactic(auto)]
 
+ghost use Rattle.std.specs.Prelude.{◌≡◌, ◌*◌, IfOk};
+
+use oneshot::reply::{Answer, Request, request};
 use oneshot::{Receiver, RecvTimeoutError, Sender, channel};
 use std::alloc::{AllocError, Global};
 use std::io;
@@ -8,17 +11,34 @@ use std::sync::Wait;
 use std::thread::join;
 use std::time::{Clock, Duration};
 
-/// Asks for the square of a number, and has the sender of the reply.
+/// The square of a number, which it names.
 #[derive(Drop)]
-struct Request {
+struct Square {
     root: u32,
-    reply: Sender<u64>,
+    value: u64,
+    ghost squared: { value ≡ root * root },
 }
 
-/// Waits for a request and replies to it.
-fn serve<Rt: Wait + Clock + Drop>(requests: Receiver<Request, Rt>) {
-    if let Ok(Request { root, reply }) = requests.recv() {
-        let _ = reply.send(u64::from(root) * u64::from(root));
+impl Answer<u32> for Square {
+    ghost use Rattle.std.specs.Prelude.{◌≡◌, ◌*◌};
+
+    ghost asked = { λ square. square.root };
+
+    ghost answers = { λ root square. square.value ≡ root * root };
+
+    ghost is_right = { λ square. square.squared };
+
+    fn question(&self) -> &u32 {
+        &self.root
+    }
+}
+
+/// Waits for a request and answers it.
+fn serve<Rt: Wait + Clock + Drop>(requests: Receiver<Request<u32, Square>, Rt>) {
+    if let Ok(request) = requests.recv() {
+        let root = *request.question();
+        let value = u64::from(root) * u64::from(root);
+        let _ = request.answer(Square { root, value });
     }
 }
 
@@ -26,12 +46,17 @@ fn serve<Rt: Wait + Clock + Drop>(requests: Receiver<Request, Rt>) {
 fn ask<R: Wait + Clock>(
     rt: &R,
     alloc: Global,
-    requests: Sender<Request>,
+    requests: Sender<Request<u32, Square>>,
     root: u32,
-) -> Result<Result<u64, RecvTimeoutError>, AllocError> {
-    let (reply, mut replies) = channel(rt, alloc)?;
-    let _ = requests.send(Request { root, reply });
-    Ok(replies.recv_timeout(Duration::from_secs(60)))
+) -> Result<Result<u64, RecvTimeoutError>, AllocError>
+    ensures { IfOk result (λ reply. IfOk reply (λ value. value ≡ root * root)) }
+{
+    let (request, mut ticket) = request(rt, alloc, root).map_err(|_| AllocError)?;
+    let _ = requests.send(request);
+    match ticket.wait_for(Duration::from_secs(60)) {
+        Ok(square) => Ok(Ok(square.value)),
+        Err(why) => Ok(Err(why)),
+    }
 }
 
 fn main(rt: HostRuntime) -> io::Result<()> {
