@@ -1,5 +1,5 @@
-//! Six uses of a channel for one message: replies to requests, a task's result, a signal to stop, a pool of workers,
-//! and, with a future, two replies that one task awaits and a search on another thread.
+//! Seven uses of a channel for one message: replies to requests, a task's result, a signal to stop, a pool of workers,
+//! one whose requests have tickets, and, with a future, two replies that one task awaits and a search on another thread.
 #![tactic(auto)]
 
 mod divisor;
@@ -10,6 +10,7 @@ mod shutdown;
 mod task;
 #[cfg(test)]
 mod tests;
+mod tickets;
 
 use divisor::divisor_of;
 use pool::pooled;
@@ -22,6 +23,7 @@ use std::sync::Wait;
 use std::thread::Threads;
 use std::time::{Clock, Duration};
 use task::{awaited, unclaimed};
+use tickets::asked;
 
 // The sum of the numbers from 1 to 100.
 const SUM: u32 = 5050;
@@ -31,6 +33,7 @@ fn main(rt: HostRuntime) -> io::Result<()> {
     show_tasks(&rt)?;
     show_shutdown(&rt)?;
     show_pool(&rt)?;
+    show_tickets(&rt)?;
     show_replies(&rt)?;
     show_divisors(&rt)
 }
@@ -76,6 +79,16 @@ fn show_pool<R: AllocGlobal + Print + Threads + Wait + Clock + Sync>(rt: &R) -> 
         Some(served) => println!(rt; "pool: {served} served"),
         None => println!(rt; "pool: a worker did not end"),
     }
+}
+
+fn show_tickets<R: AllocGlobal + Print + Threads + Wait + Clock + Sync>(rt: &R) -> io::Result<()> {
+    for answer in asked(rt, rt.alloc(), 2, &[9, 10], Duration::from_secs(60))? {
+        match answer.square {
+            Ok(square) => println!(rt; "tickets: {square}")?,
+            Err(why) => println!(rt; "tickets: {why:?}")?,
+        }
+    }
+    Ok(())
 }
 
 fn show_replies<R: AllocGlobal + Print + Threads + Wait + RandomSource + Sync>(

@@ -11,13 +11,16 @@ use std::time::{Clock, Duration};
 /// A number and its square.
 #[derive(Drop)]
 pub struct Square {
-    root: u32,
-    value: u64,
+    /// The number.
+    pub root: u32,
+    /// Its square.
+    pub value: u64,
     ghost squared: { value ≡ root * root },
 }
 
 impl Square {
-    fn of(root: u32) -> Square
+    /// Squares a number.
+    pub fn of(root: u32) -> Square
         ensures { result.root ≡ root }
     {
         let value = u64::from(root) * u64::from(root);

@@ -1,0 +1,146 @@
+//! Workers that serve one queue of requests with a ticket each. No reply is compared with its request: a ticket gives
+//! the reply to its own question alone.
+
+ghost use Rattle.std.specs.Prelude.{◌≡◌, ◌*◌, IfOk, length, vec_len};
+
+use crate::request::{Answer, Square, Unanswered};
+use crossbeam_channel as queue;
+use oneshot::reply::{Request, Ticket};
+use oneshot::{RecvTimeoutError, reply};
+use std::alloc::{AllocError, Global};
+use std::sync::Wait;
+use std::thread;
+use std::thread::Threads;
+use std::time::{Clock, Duration};
+
+impl reply::Answer<u32> for Square {
+    ghost use Rattle.std.specs.Prelude.{◌≡◌, ◌*◌};
+
+    ghost asked = { λ square. square.root };
+
+    ghost answers = { λ root square. square.value ≡ root * root };
+
+    ghost is_right = { λ square. square.squared };
+
+    fn question(&self) -> &u32 {
+        &self.root
+    }
+}
+
+/// A number whose square was asked for, with the ticket for its square.
+#[derive(Drop)]
+pub struct Pending<Rt> {
+    /// The number.
+    pub root: u32,
+    /// Where its square comes.
+    pub ticket: Ticket<u32, Square, Rt>,
+    ghost own: { ticket.about.question ≡ root },
+}
+
+/// Answers a request. `false` if nobody waits for the reply.
+pub fn serve(request: Request<u32, Square>) -> bool {
+    let square = Square::of(*request.question());
+    request.answer(square).is_ok()
+}
+
+/// Serves requests until the queue is closed and empty.
+pub fn serve_queue(rt: &impl Wait, requests: &queue::Receiver<Request<u32, Square>>) {
+    for _ in rt.forever() {
+        let Ok(request) = requests.recv(rt) else {
+            break;
+        };
+        serve(request);
+    }
+}
+
+/// The square that the ticket gives, waited for within `limit`.
+pub fn square_within<Rt: Wait + Clock + Drop>(
+    ticket: &mut Ticket<u32, Square, Rt>,
+    limit: Duration,
+) -> Result<u64, Unanswered>
+    ensures { IfOk result (λ value. value ≡ ticket.old.about.question * ticket.old.about.question) }
+{
+    match ticket.wait_for(limit) {
+        Ok(square) => Ok(square.value),
+        Err(RecvTimeoutError::Timeout) => Err(Unanswered::Late),
+        Err(RecvTimeoutError::Disconnected) => Err(Unanswered::Lost),
+    }
+}
+
+/// Puts a request for each square into the queue. `Err`: an allocation failed.
+pub fn ask_each<'r, R: Wait + Clock>(
+    rt: &'r R,
+    alloc: Global,
+    requests: &queue::Sender<Request<u32, Square>>,
+    roots: &[u32],
+) -> Result<Vec<Pending<&'r R>>, AllocError>
+    ensures { IfOk result (λ all. vec_len all ≡ length roots.now) }
+{
+    let mut all = Vec::new(alloc);
+    for root in roots {
+        let (request, ticket) = reply::request(rt, alloc, *root).map_err(|_| AllocError)?;
+        // A request that the queue refuses is dropped here, and so its answer is `Lost`.
+        let _ = requests.send(rt, request);
+        all.push(Pending {
+            root: *root,
+            ticket,
+        })?;
+    }
+    Ok(all)
+}
+
+/// Waits for each square in turn, for `limit` at most.
+pub fn squares_within<Rt: Wait + Clock + Drop>(
+    alloc: Global,
+    all: Vec<Pending<Rt>>,
+    limit: Duration,
+) -> Result<Vec<Answer>, AllocError>
+    ensures { IfOk result (λ answers. vec_len answers ≡ vec_len all) }
+{
+    let mut answers = Vec::new(alloc);
+    for pending in all {
+        answers.push(pending.wait_within(limit))?;
+    }
+    Ok(answers)
+}
+
+impl<Rt: Wait + Clock + Drop> Pending<Rt> {
+    /// Waits for the square, for `limit` at most.
+    pub fn wait_within(self, limit: Duration) -> Answer
+        ensures { result.root ≡ self.root }
+    {
+        let Pending { root, mut ticket } = self;
+        let square = square_within(&mut ticket, limit);
+        Answer { root, square }
+    }
+}
+
+/// Starts so many workers, has them answer a request for the square of each number, and shuts them down.
+pub fn asked<R: Threads + Wait + Clock + Sync>(
+    rt: &R,
+    alloc: Global,
+    workers: usize,
+    roots: &[u32],
+    limit: Duration,
+) -> Result<Vec<Answer>, AllocError>
+    ensures { IfOk result (λ answers. vec_len answers ≡ length roots.now) }
+{
+    let (requests, taken) = queue::unbounded(alloc)?;
+    let taken = &taken;
+    thread::scope(
+        thread::scope_env(),
+        rt,
+        |scope| -> Result<Vec<Answer>, AllocError>
+            ensures { IfOk result (λ answers. vec_len answers ≡ length roots.entry.now) }
+        {
+            for _ in 0..workers {
+                // Where no worker can be started, each answer is `Late`.
+                let _ = scope.spawn(move || serve_queue(rt, taken));
+            }
+            let all = ask_each(rt, alloc, &requests, roots)?;
+            // The workers end once the queue is empty.
+            drop(requests);
+            squares_within(alloc, all, limit)
+        },
+    )
+}
