@@ -19,8 +19,8 @@ mod rehearsal;
 mod stepped;
 
 pub use oneshot_channel::{
-    AsyncReceiver, RawReceiver, RawSender, Receiver, RecvError, RecvTimeoutError, SendError,
-    Sender, TryRecvError, async_channel, channel,
+    AsyncReceiver, Promise, RawReceiver, RawSender, Receiver, RecvError, RecvTimeoutError,
+    SendError, Sender, TryRecvError, async_channel, async_channel_for, channel, channel_for,
 };
 pub use oneshot_drive as drive;
 pub use oneshot_machine::{machine, states};
