@@ -13,7 +13,7 @@ use std::test::Fail;
 
 #[test]
 fn a_new_table_reads_3_at_both_ends(rt: HostRuntime) -> Result<(), Fail> {
-    let (sender, receiver) = open::<u64, u64, u64>(rt.alloc())?;
+    let (sender, receiver) = open::<u64, u64, u64, ()>(rt.alloc(), &())?;
     assert_eq!(rt; sender.peek(), 3);
     assert_eq!(rt; receiver.peek(), 3);
     Ok(())
@@ -28,7 +28,7 @@ fn a_slot_has_one_tag_beside_the_larger_of_its_values(rt: HostRuntime) -> Result
 
 #[test]
 fn a_waker_goes_one_way_and_a_message_the_other(rt: HostRuntime) -> Result<(), Fail> {
-    let (mut sender, mut receiver) = open::<u8, u8, u8>(rt.alloc())?;
+    let (mut sender, mut receiver) = open::<u8, u8, u8, ()>(rt.alloc(), &())?;
     look(&rt, &mut receiver);
     store_waker(&rt, &mut receiver, Rouse::Thread(5));
     assert!(rt; matches!(begin_send(&rt, &mut sender, 7), Rouse::Thread(5)));
@@ -39,7 +39,7 @@ fn a_waker_goes_one_way_and_a_message_the_other(rt: HostRuntime) -> Result<(), F
 
 #[test]
 fn a_receiver_that_stops_waiting_goes_on(rt: HostRuntime) -> Result<(), Fail> {
-    let (mut sender, mut receiver) = open::<u8, u8, u8>(rt.alloc())?;
+    let (mut sender, mut receiver) = open::<u8, u8, u8, ()>(rt.alloc(), &())?;
     look(&rt, &mut receiver);
     store_waker(&rt, &mut receiver, Rouse::Thread(5));
     assert!(rt; matches!(stop(&rt, &mut receiver), Rouse::Thread(5)));
@@ -53,7 +53,7 @@ fn a_receiver_that_stops_waiting_goes_on(rt: HostRuntime) -> Result<(), Fail> {
 
 #[test]
 fn an_overdue_receiver_gets_the_message(rt: HostRuntime) -> Result<(), Fail> {
-    let (mut sender, mut receiver) = open::<u8, u8, u8>(rt.alloc())?;
+    let (mut sender, mut receiver) = open::<u8, u8, u8, ()>(rt.alloc(), &())?;
     look(&rt, &mut receiver);
     store_waker(&rt, &mut receiver, Rouse::Thread(5));
     assert!(rt; matches!(begin_send(&rt, &mut sender, 7), Rouse::Thread(5)));
@@ -65,7 +65,7 @@ fn an_overdue_receiver_gets_the_message(rt: HostRuntime) -> Result<(), Fail> {
 
 #[test]
 fn an_overdue_receiver_finds_the_sender_gone(rt: HostRuntime) -> Result<(), Fail> {
-    let (mut sender, mut receiver) = open::<u8, u8, u8>(rt.alloc())?;
+    let (mut sender, mut receiver) = open::<u8, u8, u8, ()>(rt.alloc(), &())?;
     look(&rt, &mut receiver);
     store_waker(&rt, &mut receiver, Rouse::Nobody);
     assert!(rt; matches!(begin_drop(&rt, &mut sender), Rouse::Nobody));
@@ -77,7 +77,7 @@ fn an_overdue_receiver_finds_the_sender_gone(rt: HostRuntime) -> Result<(), Fail
 
 #[test]
 fn a_receiver_that_stops_over_the_message_gets_it(rt: HostRuntime) -> Result<(), Fail> {
-    let (mut sender, mut receiver) = open::<u8, u8, u8>(rt.alloc())?;
+    let (mut sender, mut receiver) = open::<u8, u8, u8, ()>(rt.alloc(), &())?;
     look(&rt, &mut receiver);
     store_waker(&rt, &mut receiver, Rouse::Thread(5));
     assert!(rt; matches!(begin_send(&rt, &mut sender, 7), Rouse::Thread(5)));
@@ -89,7 +89,7 @@ fn a_receiver_that_stops_over_the_message_gets_it(rt: HostRuntime) -> Result<(),
 
 #[test]
 fn a_receiver_that_stops_over_an_end_closes(rt: HostRuntime) -> Result<(), Fail> {
-    let (mut sender, mut receiver) = open::<u8, u8, u8>(rt.alloc())?;
+    let (mut sender, mut receiver) = open::<u8, u8, u8, ()>(rt.alloc(), &())?;
     look(&rt, &mut receiver);
     store_waker(&rt, &mut receiver, Rouse::Thread(5));
     assert!(rt; matches!(begin_drop(&rt, &mut sender), Rouse::Thread(5)));

@@ -3,17 +3,16 @@ use Rattle.std.proofs.Common.{rules, ◌≡◌, ap, ◌∙◌}
 use Rattle.oneshot_machine.specs.declared.states.Op.TheVariants.{Swap, Add}
 use Rattle.oneshot_machine.specs.Phases.{fresh, sender_at}
 use Rattle.oneshot_machine.specs.Slots.{away, vacant, held, is_away, is_vacant, is_held, head, may, SenderOwns}
-use Rattle.oneshot_word.specs.Side.{Side}
-use Rattle.oneshot_model_tests.proofs.Shown.{SenderIs, sender_can, sender_changed, begins_fresh, finds_waker}
+use Rattle.oneshot_model_tests.proofs.Shown.{Plain, SenderIs, sender_can, sender_changed, begins_fresh, finds_waker}
 use Rattle.oneshot_model_tests.proofs.word.begin_send.Goals as goal
 
 module _ {T W : Type 0} where
-  writes : (s t : Side T W) (x : T) → sender_at s.steps ≡ fresh → t ≡ record s { message = held x } → SenderOwns (sender_at t.steps) t.message t.waker → SenderIs t fresh (held x) away
+  writes : (s t : Plain T W) (x : T) → sender_at s.steps ≡ fresh → t ≡ record s { message = held x } → SenderOwns (sender_at t.steps) t.message t.waker → SenderIs t fresh (held x) away
   writes s t x at e owns =
-      begins_fresh t (ap (λ (s : Side T W). sender_at s.steps) e ∙ at) (ap (λ (s : Side T W). s.message) e) owns
+      begins_fresh t (ap (λ (s : Plain T W). sender_at s.steps) e ∙ at) (ap (λ (s : Plain T W). s.message) e) owns
 
 pub write_message-requires : goal.write_message-requires
-write_message-requires g c = c.requires.1
+write_message-requires g c = record { slot = c.requires.1; kept = tt }
 
 pub add-found-requires : goal.add-found-requires
 add-found-requires g c =

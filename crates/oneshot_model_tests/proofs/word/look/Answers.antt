@@ -3,8 +3,7 @@ use Rattle.std.proofs.Common.{rules, ◌≡◌, refl, subst}
 use Rattle.oneshot_machine.specs.declared.states.Op.TheVariants.{Load}
 use Rattle.oneshot_machine.specs.Phases.{first, receiver_at}
 use Rattle.oneshot_machine.specs.Slots.{Held, away, vacant, is_away, stays_away, gets_room, head, tail, may, finds, ReceiverFinds, not_its_own, owns, ReceiverOwns}
-use Rattle.oneshot_word.specs.Side.{Side}
-use Rattle.oneshot_model_tests.proofs.Shown.{ReceiverIs, receiver_can, receiver_told, receiver_went}
+use Rattle.oneshot_model_tests.proofs.Shown.{Plain, ReceiverIs, receiver_can, receiver_told, receiver_went}
 use Rattle.oneshot_model_tests.proofs.word.look.Goals as goal
 
 module _ {T W : Type 0} where
@@ -15,7 +14,7 @@ module _ {T W : Type 0} where
   found_none (finds head stays_away gets_room) = refl
   found_none (finds (tail (tail (tail (tail (tail (tail there)))))) _ _) = elim there [ ]
 
-  begins : (s : Side T W) → receiver_at s.steps ≡ first → ReceiverOwns (receiver_at s.steps) s.message s.waker → ReceiverIs s first away away
+  begins : (s : Plain T W) → receiver_at s.steps ≡ first → ReceiverOwns (receiver_at s.steps) s.message s.waker → ReceiverIs s first away away
   begins s at its =
       let none = owns_none (subst (λ q. ReceiverOwns q s.message s.waker) at its) in
       record { at = at; message = none.0; waker = none.1 }

@@ -9,8 +9,8 @@ use Rattle.oneshot_machine.specs.Noted.{is_same_op}
 use Rattle.oneshot_machine.specs.Phases.{Share, empty, Row, Got, full, looked, here, blocked, waits, storing, swapped, unclosed, found_closed, disconnected, resolved, ReceiverAt, receiver_moves, receiver_next, receiver_at}
 use Rattle.oneshot_machine.specs.Slots.{Held, vacant, held, Turns, stays_vacant, stays_held, gets_room, gets_thing, finds, ReceiverFinds}
 use Rattle.oneshot_machine.proofs.Exactness.{each_passes}
-use Rattle.oneshot_word.specs.Side.{Side, ReceiverDid}
-use Rattle.oneshot_model_tests.proofs.Shown.{ReceiverIs, receiver_can, receiver_told, receiver_went, receiver_is, is_filled, closes, keeps_message}
+use Rattle.oneshot_word.specs.Side.{ReceiverDid}
+use Rattle.oneshot_model_tests.proofs.Shown.{Plain, ReceiverIs, receiver_can, receiver_told, receiver_went, receiver_is, is_filled, closes, keeps_message}
 use Rattle.oneshot_model_tests.proofs.word.receive.Goals as goal
 
 -- a load that finds 4 leaves the receiver with the message, and with no waker: computed for each phase
@@ -65,7 +65,7 @@ module _ {T W : Type 0} where
       let it = message_is parts.1 message in
       record { got = got.0; message = it.0; at = got.1; holds = it.1; no_waker = waker_is wakers.1 waker }
 
-  gets : {s t : Side T W} {found : ℕ} → ReceiverDid s Load found t → found ≡ 4 → (g : Got) × (x : T) × ReceiverIs t (full g) (held x) vacant
+  gets : {s t : Plain T W} {found : ℕ} → ReceiverDid s Load found t → found ≡ 4 → (g : Got) × (x : T) × ReceiverIs t (full g) (held x) vacant
   gets {s} did same =
       let it = found_message (receiver_at s.steps) (receiver_told Load 4 (receiver_is s refl) did same) in
       (it.got, it.message, record { at = receiver_went Load 4 (receiver_is s refl) did same ∙ it.at; message = it.holds; waker = it.no_waker })

@@ -3,8 +3,8 @@ use Rattle.std.proofs.Common.{rules, ◌≡◌, ℕ, refl}
 use Rattle.oneshot_machine.specs.declared.states.Op.TheVariants.{Load, Swap}
 use Rattle.oneshot_machine.specs.Phases.{blocked, waits, here, between, receiver_at}
 use Rattle.oneshot_machine.specs.Slots.{Held, away, vacant, held, is_away, is_vacant, stays_away, stays_vacant, gets_thing, head, tail, may, finds, ReceiverFinds}
-use Rattle.oneshot_word.specs.Side.{Side, ReceiverDid}
-use Rattle.oneshot_model_tests.proofs.Shown.{stops_only, ReceiverIs, receiver_can, receiver_told, receiver_went, receiver_is, receiver_changed}
+use Rattle.oneshot_word.specs.Side.{ReceiverDid}
+use Rattle.oneshot_model_tests.proofs.Shown.{Plain, stops_only, ReceiverIs, receiver_can, receiver_told, receiver_went, receiver_is, receiver_changed}
 use Rattle.oneshot_model_tests.proofs.word.stop.Goals as goal
 
 module _ {T W : Type 0} where
@@ -16,12 +16,12 @@ module _ {T W : Type 0} where
   found_none (finds head stays_away stays_vacant) = refl
   found_none (finds (tail (tail (tail (tail (tail (tail there)))))) _ _) = elim there [ ]
 
-  stops : {s t : Side T W} {found : ℕ} → receiver_at s.steps ≡ waits blocked → ReceiverDid s (Swap 3) found t → found ≡ 0 → (k : W) × ReceiverIs t (here between) away (held k)
+  stops : {s t : Plain T W} {found : ℕ} → receiver_at s.steps ≡ waits blocked → ReceiverDid s (Swap 3) found t → found ≡ 0 → (k : W) × ReceiverIs t (here between) away (held k)
   stops {s} at did same =
       let it = found_waiting (receiver_told (Swap 3) 0 (receiver_is s at) did same) in
       (it.0, record { at = receiver_went (Swap 3) 0 (receiver_is s at) did same; message = it.1; waker = it.2 })
 
-  takes : {s t u : Side T W} {found : ℕ} → receiver_at s.steps ≡ waits blocked → ReceiverDid s (Swap 3) found t → found ≡ 0 → u ≡ record t { waker = vacant } → ReceiverIs u (here between) away vacant
+  takes : {s t u : Plain T W} {found : ℕ} → receiver_at s.steps ≡ waits blocked → ReceiverDid s (Swap 3) found t → found ≡ 0 → u ≡ record t { waker = vacant } → ReceiverIs u (here between) away vacant
   takes {t} {u} at did same e = receiver_changed t u vacant (stops at did same).1 e
 
 pub take_waker-waker-requires : goal.take_waker-waker-requires

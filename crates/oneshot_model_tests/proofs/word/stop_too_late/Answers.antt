@@ -3,8 +3,8 @@ use Rattle.std.proofs.Common.{rules, ◌≡◌, ℕ, refl}
 use Rattle.oneshot_machine.specs.declared.states.Op.TheVariants.{Load, Swap}
 use Rattle.oneshot_machine.specs.Phases.{blocked, waits, overdue, receiver_at}
 use Rattle.oneshot_machine.specs.Slots.{Held, away, is_away, stays_away, head, tail, may, finds, ReceiverFinds}
-use Rattle.oneshot_word.specs.Side.{Side, ReceiverDid}
-use Rattle.oneshot_model_tests.proofs.Shown.{stops_only, ReceiverIs, receiver_can, receiver_told, receiver_went, receiver_is}
+use Rattle.oneshot_word.specs.Side.{ReceiverDid}
+use Rattle.oneshot_model_tests.proofs.Shown.{Plain, stops_only, ReceiverIs, receiver_can, receiver_told, receiver_went, receiver_is}
 use Rattle.oneshot_model_tests.proofs.word.stop_too_late.Goals as goal
 
 module _ {T W : Type 0} where
@@ -16,12 +16,12 @@ module _ {T W : Type 0} where
   found_nothing (finds head stays_away stays_away) = (refl, refl)
   found_nothing (finds (tail (tail (tail there))) _ _) = elim there [ ]
 
-  stops : {s t : Side T W} {found : ℕ} → receiver_at s.steps ≡ waits blocked → ReceiverDid s (Swap 3) found t → found ≡ 1 → ReceiverIs t overdue away away
+  stops : {s t : Plain T W} {found : ℕ} → receiver_at s.steps ≡ waits blocked → ReceiverDid s (Swap 3) found t → found ≡ 1 → ReceiverIs t overdue away away
   stops {s} at did same =
       let it = found_claimed (receiver_told (Swap 3) 1 (receiver_is s at) did same) in
       record { at = receiver_went (Swap 3) 1 (receiver_is s at) did same; message = it.0; waker = it.1 }
 
-  waits_on : {s t : Side T W} {found : ℕ} → ReceiverIs s overdue away away → ReceiverDid s Load found t → found ≡ 3 → ReceiverIs t overdue away away
+  waits_on : {s t : Plain T W} {found : ℕ} → ReceiverIs s overdue away away → ReceiverDid s Load found t → found ≡ 3 → ReceiverIs t overdue away away
   waits_on is did same =
       let none = found_nothing (receiver_told Load 3 is did same) in
       record { at = receiver_went Load 3 is did same; message = none.0; waker = none.1 }

@@ -3,8 +3,8 @@ use Rattle.std.proofs.Common.{rules, ◌≡◌, ℕ, refl, subst}
 use Rattle.oneshot_machine.specs.declared.states.Op.TheVariants.{Load, Swap}
 use Rattle.oneshot_machine.specs.Phases.{here, looked, blocked, waits, receiver_at}
 use Rattle.oneshot_machine.specs.Slots.{Held, away, vacant, held, is_away, is_held, stays_away, gives_thing, head, tail, may, finds, ReceiverFinds, not_its_own, owns, ReceiverOwns}
-use Rattle.oneshot_word.specs.Side.{Side, ReceiverDid}
-use Rattle.oneshot_model_tests.proofs.Shown.{ReceiverIs, receiver_can, receiver_told, receiver_went, receiver_changed}
+use Rattle.oneshot_word.specs.Side.{ReceiverDid}
+use Rattle.oneshot_model_tests.proofs.Shown.{Plain, ReceiverIs, receiver_can, receiver_told, receiver_went, receiver_changed}
 use Rattle.oneshot_model_tests.proofs.word.store_waker.Goals as goal
 
 module _ {T W : Type 0} where
@@ -15,11 +15,11 @@ module _ {T W : Type 0} where
   gave_both (finds (tail (tail (tail head))) stays_away (gives_thing k)) = (refl, refl)
   gave_both (finds (tail (tail (tail (tail (tail (tail (tail (tail (tail (tail (tail (tail there)))))))))))) _ _) = elim there [ ]
 
-  begins : (s : Side T W) → receiver_at s.steps ≡ here looked → s.waker ≡ vacant → ReceiverOwns (receiver_at s.steps) s.message s.waker → ReceiverIs s (here looked) away vacant
+  begins : (s : Plain T W) → receiver_at s.steps ≡ here looked → s.waker ≡ vacant → ReceiverOwns (receiver_at s.steps) s.message s.waker → ReceiverIs s (here looked) away vacant
   begins s at waker its =
       record { at = at; message = owns_no_message (subst (λ q. ReceiverOwns q s.message s.waker) at its); waker = waker }
 
-  stores : {s t u : Side T W} {k : W} {found : ℕ} → ReceiverIs s (here looked) away vacant → t ≡ record s { waker = held k } → ReceiverDid t (Swap 0) found u → found ≡ 3 → ReceiverIs u (waits blocked) away away
+  stores : {s t u : Plain T W} {k : W} {found : ℕ} → ReceiverIs s (here looked) away vacant → t ≡ record s { waker = held k } → ReceiverDid t (Swap 0) found u → found ≡ 3 → ReceiverIs u (waits blocked) away away
   stores {s} {t} {k} is e did same =
       let written = receiver_changed s t (held k) is e in
       let none = gave_both (receiver_told (Swap 0) 3 written did same) in
