@@ -41,10 +41,12 @@ where_it_stops (here looked) = stops_nowhere refl
 where_it_stops (full at_once) = stops_nowhere refl
 where_it_stops _ = stops_nowhere refl
 
-pub stops_only : {T W : Type 0} {q : ReceiverAt} {m : Held T} {w : Held W} → ReceiverMay q (Swap 3) m w → q ≡ waits blocked
+pub stops_only : {T W : Type 0} {q : ReceiverAt} {m : Held T} {w : Held W} → ReceiverMay q (Swap 3) m w
+    → q ≡ waits blocked
 stops_only {q} asks = by (where_it_stops q) asks
   where
-    by : {T W : Type 0} {q : ReceiverAt} {m : Held T} {w : Held W} → StopsWhere q → ReceiverMay q (Swap 3) m w → q ≡ waits blocked
+    by : {T W : Type 0} {q : ReceiverAt} {m : Held T} {w : Held W} → StopsWhere q → ReceiverMay q (Swap 3) m w
+        → q ≡ waits blocked
     by stops_waiting asks = refl
     by {q} (stops_nowhere none) (may row _ _) =
         absurd (true≢false (sym (each_passes (λ row. not (is_same_op (Swap 3) row.0)) (receiver_moves q) none row)))
@@ -61,36 +63,52 @@ module _ {T W : Type 0} where
     pub message : s.message ≡ m
     pub waker : s.waker ≡ w
 
-  pub sender_can : {s : Plain T W} {p : SenderAt} {m : Held T} {w : Held W} (op : Op) → SenderIs s p m w → SenderMay p op m w → SenderCan s op
-  sender_can op is asks = subst (λ (z : SenderAt × Held T × Held W). SenderMay z.0 op z.1 z.2) (λ i. (sym is.at i, sym is.message i, sym is.waker i)) asks
+  pub sender_can : {s : Plain T W} {p : SenderAt} {m : Held T} {w : Held W} (op : Op) → SenderIs s p m w
+      → SenderMay p op m w → SenderCan s op
+  sender_can op is asks =
+      subst (λ (z : SenderAt × Held T × Held W). SenderMay z.0 op z.1 z.2)
+      (λ i. (sym is.at i, sym is.message i, sym is.waker i)) asks
 
-  pub receiver_can : {s : Plain T W} {q : ReceiverAt} {m : Held T} {w : Held W} (op : Op) → ReceiverIs s q m w → ReceiverMay q op m w → ReceiverCan s op
-  receiver_can op is asks = subst (λ (z : ReceiverAt × Held T × Held W). ReceiverMay z.0 op z.1 z.2) (λ i. (sym is.at i, sym is.message i, sym is.waker i)) asks
+  pub receiver_can : {s : Plain T W} {q : ReceiverAt} {m : Held T} {w : Held W} (op : Op) → ReceiverIs s q m w
+      → ReceiverMay q op m w → ReceiverCan s op
+  receiver_can op is asks =
+      subst (λ (z : ReceiverAt × Held T × Held W). ReceiverMay z.0 op z.1 z.2)
+      (λ i. (sym is.at i, sym is.message i, sym is.waker i)) asks
 
   -- what it found
-  pub sender_told : {s t : Plain T W} {p : SenderAt} {m : Held T} {w : Held W} (op : Op) (word : ℕ) {found : ℕ} → SenderIs s p m w → SenderDid s op found t → found ≡ word → SenderFinds p op word m w t.message t.waker
+  pub sender_told : {s t : Plain T W} {p : SenderAt} {m : Held T} {w : Held W} (op : Op) (word : ℕ) {found : ℕ}
+      → SenderIs s p m w → SenderDid s op found t → found ≡ word → SenderFinds p op word m w t.message t.waker
   sender_told {t} op word is did same =
-      subst (λ (z : SenderAt × Held T × Held W × ℕ). SenderFinds z.0 op z.3 z.1 z.2 t.message t.waker) (λ i. (is.at i, is.message i, is.waker i, same i)) did.finds
+      subst (λ (z : SenderAt × Held T × Held W × ℕ). SenderFinds z.0 op z.3 z.1 z.2 t.message t.waker)
+      (λ i. (is.at i, is.message i, is.waker i, same i)) did.finds
 
-  pub receiver_told : {s t : Plain T W} {q : ReceiverAt} {m : Held T} {w : Held W} (op : Op) (word : ℕ) {found : ℕ} → ReceiverIs s q m w → ReceiverDid s op found t → found ≡ word → ReceiverFinds q op word m w t.message t.waker
+  pub receiver_told : {s t : Plain T W} {q : ReceiverAt} {m : Held T} {w : Held W} (op : Op) (word : ℕ) {found : ℕ}
+      → ReceiverIs s q m w → ReceiverDid s op found t → found ≡ word → ReceiverFinds q op word m w t.message t.waker
   receiver_told {t} op word is did same =
-      subst (λ (z : ReceiverAt × Held T × Held W × ℕ). ReceiverFinds z.0 op z.3 z.1 z.2 t.message t.waker) (λ i. (is.at i, is.message i, is.waker i, same i)) did.finds
+      subst (λ (z : ReceiverAt × Held T × Held W × ℕ). ReceiverFinds z.0 op z.3 z.1 z.2 t.message t.waker)
+      (λ i. (is.at i, is.message i, is.waker i, same i)) did.finds
 
   -- and how far it is then
-  pub sender_went : {s t : Plain T W} {p : SenderAt} {m : Held T} {w : Held W} (op : Op) (word : ℕ) {found : ℕ} → SenderIs s p m w → SenderDid s op found t → found ≡ word → sender_at t.steps ≡ sender_next p op (saw op word)
+  pub sender_went : {s t : Plain T W} {p : SenderAt} {m : Held T} {w : Held W} (op : Op) (word : ℕ) {found : ℕ}
+      → SenderIs s p m w → SenderDid s op found t → found ≡ word → sender_at t.steps ≡ sender_next p op (saw op word)
   sender_went {s} op word {found} is did same =
-      ap sender_at did.list ∙ phase_from-snoc sender_next fresh s.steps (op, saw op found) ∙ (λ i. sender_next (is.at i) op (saw op (same i)))
+      ap sender_at did.list ∙ phase_from-snoc sender_next fresh s.steps (op, saw op found)
+      ∙ (λ i. sender_next (is.at i) op (saw op (same i)))
 
-  pub receiver_went : {s t : Plain T W} {q : ReceiverAt} {m : Held T} {w : Held W} (op : Op) (word : ℕ) {found : ℕ} → ReceiverIs s q m w → ReceiverDid s op found t → found ≡ word → receiver_at t.steps ≡ receiver_next q op (saw op word)
+  pub receiver_went : {s t : Plain T W} {q : ReceiverAt} {m : Held T} {w : Held W} (op : Op) (word : ℕ) {found : ℕ}
+      → ReceiverIs s q m w → ReceiverDid s op found t → found ≡ word
+      → receiver_at t.steps ≡ receiver_next q op (saw op word)
   receiver_went {s} op word {found} is did same =
-      ap receiver_at did.list ∙ phase_from-snoc receiver_next first s.steps (op, saw op found) ∙ (λ i. receiver_next (is.at i) op (saw op (same i)))
+      ap receiver_at did.list ∙ phase_from-snoc receiver_next first s.steps (op, saw op found)
+      ∙ (λ i. receiver_next (is.at i) op (saw op (same i)))
 
   -- where it is, as it stands
   pub receiver_is : {q : ReceiverAt} (s : Plain T W) → receiver_at s.steps ≡ q → ReceiverIs s q s.message s.waker
   receiver_is s at = record { at = at; message = refl; waker = refl }
 
   -- and with something else in the waker's slot
-  pub sender_changed : {p : SenderAt} {m : Held T} {w : Held W} (s t : Plain T W) (w' : Held W) → SenderIs s p m w → t ≡ record s { waker = w' } → SenderIs t p m w'
+  pub sender_changed : {p : SenderAt} {m : Held T} {w : Held W} (s t : Plain T W) (w' : Held W) → SenderIs s p m w
+      → t ≡ record s { waker = w' } → SenderIs t p m w'
   sender_changed s t w' is e =
       record {
         at = ap (λ (s : Plain T W). sender_at s.steps) e ∙ is.at;
@@ -98,7 +116,8 @@ module _ {T W : Type 0} where
         waker = ap (λ (s : Plain T W). s.waker) e;
       }
 
-  pub receiver_changed : {q : ReceiverAt} {m : Held T} {w : Held W} (s t : Plain T W) (w' : Held W) → ReceiverIs s q m w → t ≡ record s { waker = w' } → ReceiverIs t q m w'
+  pub receiver_changed : {q : ReceiverAt} {m : Held T} {w : Held W} (s t : Plain T W) (w' : Held W) → ReceiverIs s q m w
+      → t ≡ record s { waker = w' } → ReceiverIs t q m w'
   receiver_changed s t w' is e =
       record {
         at = ap (λ (s : Plain T W). receiver_at s.steps) e ∙ is.at;
@@ -110,17 +129,20 @@ module _ {T W : Type 0} where
   no_waker_yet : {m : Held T} {w : Held W} → SenderOwns fresh m w → w ≡ away
   no_waker_yet (owns own not_its_own) = refl
 
-  pub begins_fresh : (s : Plain T W) {m : Held T} → sender_at s.steps ≡ fresh → s.message ≡ m → SenderOwns (sender_at s.steps) s.message s.waker → SenderIs s fresh m away
+  pub begins_fresh : (s : Plain T W) {m : Held T} → sender_at s.steps ≡ fresh → s.message ≡ m
+      → SenderOwns (sender_at s.steps) s.message s.waker → SenderIs s fresh m away
   begins_fresh s at message its =
       record { at = at; message = message; waker = no_waker_yet (subst (λ p. SenderOwns p s.message s.waker) at its) }
 
   -- where it finds 0 it has the receiver's
-  found_waker : {op : Op} {m m' : Held T} {w : Held W} → SenderFinds fresh op 0 m away m' w → (m' ≡ m) × (k : W) × (w ≡ held k)
+  found_waker : {op : Op} {m m' : Held T} {w : Held W} → SenderFinds fresh op 0 m away m' w
+      → (m' ≡ m) × (k : W) × (w ≡ held k)
   found_waker (finds (tail head) (stays_held x) (gets_thing k)) = (refl, k, refl)
   found_waker (finds (tail (tail (tail (tail head)))) stays_vacant (gets_thing k)) = (refl, k, refl)
   found_waker (finds (tail (tail (tail (tail (tail (tail there)))))) _ _) = elim there [ ]
 
-  pub finds_waker : {s t : Plain T W} {m : Held T} {found : ℕ} (op : Op) → SenderIs s fresh m away → SenderDid s op found t → found ≡ 0 → (k : W) × SenderIs t (sender_next fresh op (saw op 0)) m (held k)
+  pub finds_waker : {s t : Plain T W} {m : Held T} {found : ℕ} (op : Op) → SenderIs s fresh m away
+      → SenderDid s op found t → found ≡ 0 → (k : W) × SenderIs t (sender_next fresh op (saw op 0)) m (held k)
   finds_waker op is did same =
       let it = found_waker (sender_told op 0 is did same) in
       (it.1, record { at = sender_went op 0 is did same; message = it.0; waker = it.2 })
@@ -130,5 +152,7 @@ module _ {T W : Type 0} where
   closes at_once x = may head (is_held x) is_vacant
   closes _ x = may head (is_held x) is_vacant
 
-  pub keeps_message : {g : Got} {found : ℕ} {x : T} {m : Held T} {w : Held W} → ReceiverFinds (full g) (Store 2) found (held x) vacant m w → m ≡ held x
-  keeps_message {g} (finds row turns _) = kept (each_passes (λ row. is_filled row.4.0) (receiver_moves (full g)) (stays_full g) row) turns
+  pub keeps_message : {g : Got} {found : ℕ} {x : T} {m : Held T} {w : Held W}
+      → ReceiverFinds (full g) (Store 2) found (held x) vacant m w → m ≡ held x
+  keeps_message {g} (finds row turns _) =
+      kept (each_passes (λ row. is_filled row.4.0) (receiver_moves (full g)) (stays_full g) row) turns

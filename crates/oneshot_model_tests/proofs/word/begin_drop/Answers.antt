@@ -7,7 +7,8 @@ use Rattle.oneshot_model_tests.proofs.word.begin_drop.Goals as goal
 
 pub flip-found-requires : goal.flip-found-requires
 flip-found-requires g c =
-    sender_can Xor (begins_fresh c.args.sender.now c.requires.0 c.requires.1 c.peek.ensures.slots) (may (tail (tail (tail head))) is_vacant is_away)
+    sender_can Xor (begins_fresh c.args.sender.now c.requires.0 c.requires.1 c.peek.ensures.slots)
+    (may (tail (tail (tail head))) is_vacant is_away)
 
 pub take_waker-requires : goal.take_waker-requires
 take_waker-requires g c =
@@ -19,4 +20,5 @@ pub returns : goal.returns
 returns g c =
     let is = begins_fresh c.args.sender.now c.requires.0 c.requires.1 c.peek.ensures.slots in
     let it = finds_waker Xor is c.flip-found.ensures (search rules) in
-    sender_can (Swap 2) (sender_changed _ c.take_waker.new.self vacant it.1 c.take_waker.ensures.rest) (may head is_vacant is_vacant)
+    sender_can (Swap 2) (sender_changed _ c.take_waker.new.self vacant it.1 c.take_waker.ensures.rest)
+    (may head is_vacant is_vacant)

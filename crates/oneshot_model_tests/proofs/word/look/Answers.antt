@@ -14,13 +14,15 @@ module _ {T W : Type 0} where
   found_none (finds head stays_away gets_room) = refl
   found_none (finds (tail (tail (tail (tail (tail (tail there)))))) _ _) = elim there [ ]
 
-  begins : (s : Plain T W) → receiver_at s.steps ≡ first → ReceiverOwns (receiver_at s.steps) s.message s.waker → ReceiverIs s first away away
+  begins : (s : Plain T W) → receiver_at s.steps ≡ first → ReceiverOwns (receiver_at s.steps) s.message s.waker
+      → ReceiverIs s first away away
   begins s at its =
       let none = owns_none (subst (λ q. ReceiverOwns q s.message s.waker) at its) in
       record { at = at; message = none.0; waker = none.1 }
 
 pub load-found-requires : goal.load-found-requires
-load-found-requires g c = receiver_can Load (begins c.args.receiver.now c.requires c.slots.ensures) (may head is_away is_away)
+load-found-requires g c =
+    receiver_can Load (begins c.args.receiver.now c.requires c.slots.ensures) (may head is_away is_away)
 
 pub returns-clause-at : goal.returns-clause-at
 returns-clause-at g c =
@@ -28,4 +30,5 @@ returns-clause-at g c =
 
 pub returns-clause-waker : goal.returns-clause-waker
 returns-clause-waker g c =
-    found_none (receiver_told Load 3 (begins c.args.receiver.now c.requires c.slots.ensures) c.load-found.ensures (search rules))
+    found_none (receiver_told Load 3 (begins c.args.receiver.now c.requires c.slots.ensures) c.load-found.ensures
+    (search rules))

@@ -24,7 +24,8 @@ is_full _ = false
 
 abbrev has_it : ReceiverAt → Row ReceiverAt → Bool
 has_it q row =
-    if is_same_op row.0 Load && row.2 == 4 then is_full (receiver_next q Load (Word 4)) && is_filled row.4.0 && is_empty row.4.1 else true
+    if is_same_op row.0 Load && row.2 == 4 then is_full (receiver_next q Load (Word 4)) && is_filled row.4.0
+    && is_empty row.4.1 else true
 
 each_has_it : (q : ReceiverAt) → list_all (has_it q) (receiver_moves q) ≡ true
 each_has_it (here looked) = refl
@@ -59,16 +60,26 @@ module _ {T W : Type 0} where
 
   found_message : (q : ReceiverAt) {m m' : Held T} {w w' : Held W} → ReceiverFinds q Load 4 m w m' w' → HasIt q m' w'
   found_message q (finds {after} row message waker) =
-      let wakers = and_parts (is_full (receiver_next q Load (Word 4)) && is_filled after.0) (is_empty after.1) (each_passes (has_it q) (receiver_moves q) (each_has_it q) row) in
+      let wakers =
+      and_parts (is_full (receiver_next q Load (Word 4)) && is_filled after.0) (is_empty after.1)
+      (each_passes (has_it q) (receiver_moves q) (each_has_it q) row) in
       let parts = and_parts (is_full (receiver_next q Load (Word 4))) (is_filled after.0) wakers.0 in
       let got = full_is (receiver_next q Load (Word 4)) parts.0 in
       let it = message_is parts.1 message in
       record { got = got.0; message = it.0; at = got.1; holds = it.1; no_waker = waker_is wakers.1 waker }
 
-  gets : {s t : Plain T W} {found : ℕ} → ReceiverDid s Load found t → found ≡ 4 → (g : Got) × (x : T) × ReceiverIs t (full g) (held x) vacant
+  gets : {s t : Plain T W} {found : ℕ} → ReceiverDid s Load found t → found ≡ 4
+      → (g : Got) × (x : T) × ReceiverIs t (full g) (held x) vacant
   gets {s} did same =
-      let it = found_message (receiver_at s.steps) (receiver_told Load 4 (receiver_is s refl) did same) in
-      (it.got, it.message, record { at = receiver_went Load 4 (receiver_is s refl) did same ∙ it.at; message = it.holds; waker = it.no_waker })
+      let it = found_message (receiver_at s.steps) (receiver_told Load 4 (receiver_is s refl) did same) in (
+        it.got,
+        it.message,
+        record {
+          at = receiver_went Load 4 (receiver_is s refl) did same ∙ it.at;
+          message = it.holds;
+          waker = it.no_waker;
+        },
+      )
 
 pub load-found-requires : goal.load-found-requires
 load-found-requires g c = c.requires

@@ -8,7 +8,8 @@ use Rattle.oneshot_model_tests.proofs.Shown.{Plain, stops_only, ReceiverIs, rece
 use Rattle.oneshot_model_tests.proofs.word.stop.Goals as goal
 
 module _ {T W : Type 0} where
-  found_waiting : {m m' : Held T} {w w' : Held W} → ReceiverFinds (waits blocked) (Swap 3) 0 m w m' w' → (k : W) × (m' ≡ away) × (w' ≡ held k)
+  found_waiting : {m m' : Held T} {w w' : Held W} → ReceiverFinds (waits blocked) (Swap 3) 0 m w m' w'
+      → (k : W) × (m' ≡ away) × (w' ≡ held k)
   found_waiting (finds (tail (tail (tail (tail head)))) stays_away (gets_thing k)) = (k, refl, refl)
   found_waiting (finds (tail (tail (tail (tail (tail (tail (tail (tail there)))))))) _ _) = elim there [ ]
 
@@ -16,12 +17,14 @@ module _ {T W : Type 0} where
   found_none (finds head stays_away stays_vacant) = refl
   found_none (finds (tail (tail (tail (tail (tail (tail there)))))) _ _) = elim there [ ]
 
-  stops : {s t : Plain T W} {found : ℕ} → receiver_at s.steps ≡ waits blocked → ReceiverDid s (Swap 3) found t → found ≡ 0 → (k : W) × ReceiverIs t (here between) away (held k)
+  stops : {s t : Plain T W} {found : ℕ} → receiver_at s.steps ≡ waits blocked → ReceiverDid s (Swap 3) found t
+      → found ≡ 0 → (k : W) × ReceiverIs t (here between) away (held k)
   stops {s} at did same =
       let it = found_waiting (receiver_told (Swap 3) 0 (receiver_is s at) did same) in
       (it.0, record { at = receiver_went (Swap 3) 0 (receiver_is s at) did same; message = it.1; waker = it.2 })
 
-  takes : {s t u : Plain T W} {found : ℕ} → receiver_at s.steps ≡ waits blocked → ReceiverDid s (Swap 3) found t → found ≡ 0 → u ≡ record t { waker = vacant } → ReceiverIs u (here between) away vacant
+  takes : {s t u : Plain T W} {found : ℕ} → receiver_at s.steps ≡ waits blocked → ReceiverDid s (Swap 3) found t
+      → found ≡ 0 → u ≡ record t { waker = vacant } → ReceiverIs u (here between) away vacant
   takes {t} {u} at did same e = receiver_changed t u vacant (stops at did same).1 e
 
 pub take_waker-waker-requires : goal.take_waker-waker-requires
@@ -31,12 +34,16 @@ take_waker-waker-requires g c =
 
 pub load-found-requires : goal.load-found-requires
 load-found-requires g c =
-    receiver_can Load (takes (stops_only c.requires) c.swap-found.ensures (search rules) c.take_waker-waker.ensures.rest) (may head is_away is_vacant)
+    receiver_can Load (takes (stops_only c.requires) c.swap-found.ensures (search rules)
+    c.take_waker-waker.ensures.rest) (may head is_away is_vacant)
 
 pub returns-clause-at : goal.returns-clause-at
 returns-clause-at g c =
-    receiver_went Load 3 (takes (stops_only c.requires) c.swap-found.ensures (search rules) c.take_waker-waker.ensures.rest) c.load-found.ensures (search rules)
+    receiver_went Load 3 (takes (stops_only c.requires) c.swap-found.ensures (search rules)
+    c.take_waker-waker.ensures.rest) c.load-found.ensures (search rules)
 
 pub returns-clause-waker : goal.returns-clause-waker
 returns-clause-waker g c =
-    found_none (receiver_told Load 3 (takes (stops_only c.requires) c.swap-found.ensures (search rules) c.take_waker-waker.ensures.rest) c.load-found.ensures (search rules))
+    found_none (receiver_told Load 3
+    (takes (stops_only c.requires) c.swap-found.ensures (search rules) c.take_waker-waker.ensures.rest)
+    c.load-found.ensures (search rules))

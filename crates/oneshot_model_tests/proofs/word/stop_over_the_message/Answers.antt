@@ -8,11 +8,13 @@ use Rattle.oneshot_model_tests.proofs.Shown.{Plain, stops_only, ReceiverIs, rece
 use Rattle.oneshot_model_tests.proofs.word.stop_over_the_message.Goals as goal
 
 module _ {T W : Type 0} where
-  found_message : {m m' : Held T} {w w' : Held W} → ReceiverFinds (waits blocked) (Swap 3) 4 m w m' w' → (x : T) × (m' ≡ held x) × (w' ≡ vacant)
+  found_message : {m m' : Held T} {w w' : Held W} → ReceiverFinds (waits blocked) (Swap 3) 4 m w m' w'
+      → (x : T) × (m' ≡ held x) × (w' ≡ vacant)
   found_message (finds (tail (tail (tail (tail (tail (tail head)))))) (gets_thing x) gets_room) = (x, refl, refl)
   found_message (finds (tail (tail (tail (tail (tail (tail (tail (tail there)))))))) _ _) = elim there [ ]
 
-  stops : {s t : Plain T W} {found : ℕ} → receiver_at s.steps ≡ waits blocked → ReceiverDid s (Swap 3) found t → found ≡ 4 → (x : T) × ReceiverIs t (full (swapped stopping)) (held x) vacant
+  stops : {s t : Plain T W} {found : ℕ} → receiver_at s.steps ≡ waits blocked → ReceiverDid s (Swap 3) found t
+      → found ≡ 4 → (x : T) × ReceiverIs t (full (swapped stopping)) (held x) vacant
   stops {s} at did same =
       let it = found_message (receiver_told (Swap 3) 4 (receiver_is s at) did same) in
       (it.0, record { at = receiver_went (Swap 3) 4 (receiver_is s at) did same; message = it.1; waker = it.2 })

@@ -11,15 +11,24 @@ module _ {T W : Type 0} where
   owns_no_message : {m : Held T} {w : Held W} → ReceiverOwns (here looked) m w → m ≡ away
   owns_no_message (owns not_its_own own) = refl
 
-  gave_both : {k : W} {m : Held T} {w : Held W} → ReceiverFinds (here looked) (Swap 0) 3 away (held k) m w → (m ≡ away) × (w ≡ away)
+  gave_both : {k : W} {m : Held T} {w : Held W} → ReceiverFinds (here looked) (Swap 0) 3 away (held k) m w
+      → (m ≡ away) × (w ≡ away)
   gave_both (finds (tail (tail (tail head))) stays_away (gives_thing k)) = (refl, refl)
-  gave_both (finds (tail (tail (tail (tail (tail (tail (tail (tail (tail (tail (tail (tail there)))))))))))) _ _) = elim there [ ]
+  gave_both (finds (tail (tail (tail (tail (tail (tail (tail (tail (tail (tail (tail (tail there)))))))))))) _ _) =
+      elim there [ ]
 
-  begins : (s : Plain T W) → receiver_at s.steps ≡ here looked → s.waker ≡ vacant → ReceiverOwns (receiver_at s.steps) s.message s.waker → ReceiverIs s (here looked) away vacant
+  begins : (s : Plain T W) → receiver_at s.steps ≡ here looked → s.waker ≡ vacant
+      → ReceiverOwns (receiver_at s.steps) s.message s.waker → ReceiverIs s (here looked) away vacant
   begins s at waker its =
-      record { at = at; message = owns_no_message (subst (λ q. ReceiverOwns q s.message s.waker) at its); waker = waker }
+      record {
+        at = at;
+        message = owns_no_message (subst (λ q. ReceiverOwns q s.message s.waker) at its);
+        waker = waker;
+      }
 
-  stores : {s t u : Plain T W} {k : W} {found : ℕ} → ReceiverIs s (here looked) away vacant → t ≡ record s { waker = held k } → ReceiverDid t (Swap 0) found u → found ≡ 3 → ReceiverIs u (waits blocked) away away
+  stores : {s t u : Plain T W} {k : W} {found : ℕ} → ReceiverIs s (here looked) away vacant
+      → t ≡ record s { waker = held k } → ReceiverDid t (Swap 0) found u → found ≡ 3
+      → ReceiverIs u (waits blocked) away away
   stores {s} {t} {k} is e did same =
       let written = receiver_changed s t (held k) is e in
       let none = gave_both (receiver_told (Swap 0) 3 written did same) in
@@ -28,7 +37,8 @@ module _ {T W : Type 0} where
 pub swap-found-requires : goal.swap-found-requires
 swap-found-requires g c =
     let is = begins c.args.receiver.now c.requires.at c.requires.waker c.slots.ensures in
-    receiver_can (Swap 0) (receiver_changed _ c.write_waker.new.self (held c.args.waker) is c.write_waker.ensures) (may (tail (tail (tail head))) is_away (is_held c.args.waker))
+    receiver_can (Swap 0) (receiver_changed _ c.write_waker.new.self (held c.args.waker) is c.write_waker.ensures)
+    (may (tail (tail (tail head))) is_away (is_held c.args.waker))
 
 pub returns-clause-at : goal.returns-clause-at
 returns-clause-at g c =
@@ -43,4 +53,5 @@ returns-clause-loads g c =
 pub returns-clause-stops : goal.returns-clause-stops
 returns-clause-stops g c =
     let is = begins c.args.receiver.now c.requires.at c.requires.waker c.slots.ensures in
-    receiver_can (Swap 3) (stores is c.write_waker.ensures c.swap-found.ensures (search rules)) (may (tail (tail (tail (tail head)))) is_away is_away)
+    receiver_can (Swap 3) (stores is c.write_waker.ensures c.swap-found.ensures (search rules))
+    (may (tail (tail (tail (tail head)))) is_away is_away)

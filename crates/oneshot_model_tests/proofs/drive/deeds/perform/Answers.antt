@@ -11,8 +11,10 @@ returns-in-RecvRef-clause-ready g c = ready_closed _ _ _ c.recv_ref.ensures.leav
 
 pub returns-in-RecvDeadline-clause-ready : goal.returns-in-RecvDeadline-clause-ready
 returns-in-RecvDeadline-clause-ready g c =
-    ready_timed _ _ _ _ _ c.requires.ready c.recv_deadline.ensures.stays c.recv_deadline.ensures.leaves c.recv_deadline.ensures.hand
+    ready_timed _ _ _ _ _ c.requires.ready c.recv_deadline.ensures.stays c.recv_deadline.ensures.leaves
+    c.recv_deadline.ensures.hand
 
 pub returns-in-RecvTimeout-clause-ready : goal.returns-in-RecvTimeout-clause-ready
 returns-in-RecvTimeout-clause-ready g c =
-    ready_timed _ _ _ _ _ c.requires.ready c.recv_timeout.ensures.stays c.recv_timeout.ensures.leaves c.recv_timeout.ensures.hand
+    ready_timed _ _ _ _ _ c.requires.ready c.recv_timeout.ensures.stays c.recv_timeout.ensures.leaves
+    c.recv_timeout.ensures.hand
