@@ -1,10 +1,13 @@
 //! The example in the crate's documentation: a thread that answers texts by their lengths, to one who
-//! blocks and to one who awaits.
+//! blocks and to one who awaits; and the same by typed requests.
 
-use super::times::{answers, in_time, second};
+use super::times::{answers, in_time, patience, second};
 use crossbeam_channel as queue;
 use futures::executor::block_on;
+use oneshot::reply::{self, Length};
 use oneshot::{Sender, channel};
+use std::alloc::AllocError;
+use std::process::Abort;
 use std::sync::Wait;
 use std::test::Fail;
 use std::thread::spawn;
@@ -50,6 +53,37 @@ fn a_processing_thread_answers_lengths(rt: HostRuntime) -> Result<(), Fail> {
         let request = String::from_str(rt.alloc(), text)?;
         assert!(rt; ask(&rt, &requests, request, reply));
         assert_eq!(rt; block_on(&rt, answer.into_future())?, Ok(length));
+    }
+    drop(requests);
+    processor.join(&rt);
+    Ok(())
+}
+
+/// Answers each text by its length, as a reply to a typed request, until nobody can ask any more.
+fn process_typed(
+    rt: &(impl Wait + Abort),
+    requests: queue::Receiver<reply::Request<String, Length>>,
+) {
+    for request in requests.iter(rt) {
+        let length = Length::of(request.question().clone().ok().expect(rt, "memory"));
+        if request.fits(&length) {
+            // A ticket that is gone needs no answer.
+            let _ = request.answer(length);
+        }
+    }
+}
+
+#[test]
+fn a_processing_thread_answers_typed_requests(rt: HostRuntime) -> Result<(), Fail> {
+    let (requests, taken) = queue::unbounded(rt.alloc())?;
+    let processor = spawn(&rt, move || process_typed(&rt, taken))?;
+    for (text, bytes) in [("", 0), ("t", 1), ("data from sync thread", 21)] {
+        let question = String::from_str(rt.alloc(), text)?;
+        let made = reply::request(&rt, rt.alloc(), question);
+        let (request, mut ticket) = made.map_err(|_| AllocError)?;
+        assert!(rt; requests.send(&rt, request).is_ok());
+        let reply = ticket.wait_for(patience());
+        assert_eq!(rt; reply.map(|length| length.bytes()), Ok(bytes));
     }
     drop(requests);
     processor.join(&rt);

@@ -1,7 +1,8 @@
-//! Channels.
+//! Channels, and requests with a channel each.
 
 use crate::outcome::{Outcome, Wrong, ensure};
 use futures::executor::block_on;
+use oneshot::reply::{Length, request};
 use oneshot::{async_channel, channel};
 use std::random::RandomSource;
 use std::sync::Wait;
@@ -25,6 +26,9 @@ impl<'a, R> Counted<'a, R> {
         Counted { _rt: rt, drops }
     }
 }
+
+/// The question of a request.
+const TEXT: &str = "data from sync thread";
 
 /// `channel`. A refusal drops the runtime.
 pub(crate) fn make_channel(rt: &impl AllocGlobal) -> Result<Outcome, Wrong> {
@@ -52,5 +56,25 @@ pub(crate) fn make_async_channel(
     ensure(sender.send(7).is_ok(), Wrong::Broken)?;
     let received = block_on(rt, receiver).map_err(|_| Wrong::RefusedAgain)?;
     ensure(received == Ok(7), Wrong::Broken)?;
+    Ok(Outcome::Refused)
+}
+
+/// `request`. A refusal gives the question back, and drops the runtime. The question makes the first allocation.
+pub(crate) fn make_request(rt: &impl AllocGlobal) -> Result<Outcome, Wrong> {
+    let drops = AtomicU64::new(0);
+    let question = String::from_str(rt.alloc(), TEXT)?;
+    let first = request::<_, Length, _>(Counted::new(rt, &drops), rt.alloc(), question);
+    let Err(question) = first else {
+        return Ok(Outcome::Made);
+    };
+    ensure(question.as_str() == TEXT, Wrong::QuestionChanged)?;
+    ensure(drops.load(Ordering::SeqCst) == 1, Wrong::RuntimeKept)?;
+    let second = request(Counted::new(rt, &drops), rt.alloc(), question);
+    let (request, mut ticket) = second.map_err(|_| Wrong::RefusedAgain)?;
+    let length = Length::of(request.question().clone()?);
+    ensure(request.fits(&length), Wrong::Broken)?;
+    ensure(request.answer(length).is_ok(), Wrong::Broken)?;
+    let bytes = ticket.try_take().map(|reply| reply.bytes());
+    ensure(bytes == Ok(21), Wrong::Broken)?;
     Ok(Outcome::Refused)
 }

@@ -1,4 +1,4 @@
-//! Makes channels and traces where an allocation may be refused, and prints whether one was.
+//! Makes channels, requests and traces where an allocation may be refused, and prints whether one was.
 //!
 //! Standard input names what is made, a line each, and may give a number after the name: so many allocations come before it.
 //! After a refusal it looks at what is kept, and makes the same again: with memory for it the second attempt has to succeed.
@@ -39,6 +39,7 @@ fn answer(rt: &(impl Print + Wait + RandomSource + AllocGlobal), line: &str) -> 
     let outcome = match name {
         "channel" => channels::make_channel(rt),
         "async_channel" => channels::make_async_channel(rt),
+        "request" => channels::make_request(rt),
         "replay" => traces::make_trace(rt),
         _ => Err(Wrong::UnknownName),
     }?;

@@ -37,6 +37,9 @@ pub(crate) enum Wrong {
     /// The scripts that came back are not those that were handed in.
     #[error("the scripts have changed")]
     ScriptsChanged,
+    /// The question that came back is not the one that was handed in.
+    #[error("the question has changed")]
+    QuestionChanged,
     /// The second attempt was refused too.
     #[error("refused again")]
     RefusedAgain,

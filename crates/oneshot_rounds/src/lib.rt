@@ -32,6 +32,8 @@ mod races;
 #[cfg(test)]
 mod receives;
 #[cfg(test)]
+mod replies;
+#[cfg(test)]
 mod sizes;
 #[cfg(test)]
 mod tries;

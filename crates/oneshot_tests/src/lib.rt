@@ -5,3 +5,5 @@
 mod ends;
 #[cfg(test)]
 mod errors;
+#[cfg(test)]
+mod reply;

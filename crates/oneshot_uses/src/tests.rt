@@ -6,3 +6,4 @@ mod replies;
 mod request;
 mod shutdown;
 mod task;
+mod tickets;

@@ -1,0 +1,116 @@
+//! Requests, their tickets and the replies, of which each answers the ticket's own question.
+
+use futures::executor::block_on;
+use oneshot::reply::{Answer, Length, Request, Ticket, request};
+use oneshot::{RecvError, RecvTimeoutError, TryRecvError};
+use std::alloc::{AllocError, Global};
+use std::test::Fail;
+use std::time::Duration;
+
+/// A text of 21 bytes.
+const TEXT: &str = "data from sync thread";
+
+type Ends<Rt> = (Request<String, Length>, Ticket<String, Length, Rt>);
+
+/// A request for the length of `TEXT`.
+fn ask<Rt: Drop>(rt: Rt, alloc: Global) -> Result<Ends<Rt>, AllocError> {
+    request(rt, alloc, String::from_str(alloc, TEXT)?).map_err(|_| AllocError)
+}
+
+/// Counts the bytes of the text and answers so. `Err`: the ticket was gone, and the reply came back.
+fn answer(request: Request<String, Length>) -> Result<Result<(), Length>, AllocError> {
+    let length = Length::of(request.question().clone()?);
+    if !request.fits(&length) {
+        return Err(AllocError);
+    }
+    match request.answer(length) {
+        Ok(()) => Ok(Ok(())),
+        Err(refused) => Ok(Err(refused.into_inner())),
+    }
+}
+
+fn bytes_of(length: Length) -> usize {
+    length.bytes()
+}
+
+#[test]
+fn a_reply_is_taken_once(rt: HostRuntime) -> Result<(), Fail> {
+    let (request, mut ticket) = ask((), rt.alloc())?;
+    assert_eq!(rt; request.question().as_str(), TEXT);
+    assert!(rt; !request.is_cancelled() && !ticket.is_closed());
+    assert!(rt; answer(request)?.is_ok());
+    assert!(rt; !ticket.is_closed());
+    assert_eq!(rt; ticket.try_take().map(bytes_of), Ok(21));
+    assert_eq!(rt;
+        ticket.try_take().map(bytes_of),
+        Err(TryRecvError::Disconnected)
+    );
+    assert!(rt; ticket.is_closed());
+    Ok(())
+}
+
+#[test]
+fn an_answer_without_a_ticket_gives_the_reply_back(rt: HostRuntime) -> Result<(), Fail> {
+    let (request, ticket) = ask((), rt.alloc())?;
+    drop(ticket);
+    assert!(rt; request.is_cancelled());
+    let Err(length) = answer(request)? else {
+        return Err(Fail::new("an answer without a ticket"));
+    };
+    assert_eq!(rt; length.bytes(), 21);
+    assert_eq!(rt; length.question().as_str(), TEXT);
+    Ok(())
+}
+
+#[test]
+fn a_dropped_request_has_no_reply(rt: HostRuntime) -> Result<(), Fail> {
+    let (request, ticket) = ask(&rt, rt.alloc())?;
+    drop(request);
+    assert!(rt; ticket.is_closed());
+    assert_eq!(rt; ticket.wait().map(bytes_of), Err(RecvError));
+    Ok(())
+}
+
+#[test]
+fn a_request_that_is_there_has_no_reply_yet(rt: HostRuntime) -> Result<(), Fail> {
+    let (request, mut ticket) = ask(&rt, rt.alloc())?;
+    assert_eq!(rt; ticket.try_take().map(bytes_of), Err(TryRecvError::Empty));
+    let moment = Duration::from_millis(1);
+    assert_eq!(rt;
+        ticket.wait_for(moment).map(bytes_of),
+        Err(RecvTimeoutError::Timeout)
+    );
+    assert!(rt; !request.is_cancelled());
+    assert!(rt; answer(request)?.is_ok());
+    assert_eq!(rt; ticket.wait_for(moment).map(bytes_of), Ok(21));
+    assert_eq!(rt;
+        ticket.wait_for(moment).map(bytes_of),
+        Err(RecvTimeoutError::Disconnected)
+    );
+    Ok(())
+}
+
+#[test]
+fn a_reply_is_waited_for(rt: HostRuntime) -> Result<(), Fail> {
+    let (request, ticket) = ask(&rt, rt.alloc())?;
+    assert!(rt; answer(request)?.is_ok());
+    assert_eq!(rt; ticket.wait().map(bytes_of), Ok(21));
+    Ok(())
+}
+
+#[test]
+fn a_reply_is_awaited(rt: HostRuntime) -> Result<(), Fail> {
+    let (request, ticket) = ask((), rt.alloc())?;
+    assert!(rt; answer(request)?.is_ok());
+    assert_eq!(rt; block_on(&rt, ticket.into_future())?.map(bytes_of), Ok(21));
+    Ok(())
+}
+
+#[test]
+fn a_reply_to_another_text_does_not_fit(rt: HostRuntime) -> Result<(), Fail> {
+    let (request, _) = ask((), rt.alloc())?;
+    assert!(rt; request.fits(&Length::of(String::from_str(rt.alloc(), TEXT)?)));
+    let other = "data from sync threads";
+    assert!(rt; !request.fits(&Length::of(String::from_str(rt.alloc(), other)?)));
+    Ok(())
+}
