@@ -8,7 +8,7 @@ use Rattle.oneshot_bench.specs.declared.channels.Channel.TheVariants.{Oneshot, F
 use Rattle.oneshot_bench.specs.declared.channels.TheConstants.{CHANNELS}
 use Rattle.oneshot_bench.specs.declared.loops.Awaited.TheVariants.{MakeSendBlockOn, MakeSendAwait, PollPending, JoinTwo, RoundTripAwait}
 use Rattle.oneshot_bench.specs.declared.loops.Loop.{Loop}
-use Rattle.oneshot_bench.specs.declared.loops.Loop.TheVariants.{MakeSendReceiveDrop, MakeDrop, MakeSendRecv, MakePollSendPoll, MakeSendReceiveDropLarge, MakeDropLarge, MakeSendRecvLarge, MakePollSendPollLarge, RoundTrip, Awaited}
+use Rattle.oneshot_bench.specs.declared.loops.Loop.TheVariants.{MakeSendReceiveDrop, MakeDrop, MakeSendRecv, MakePollSendPoll, MakeSendReceiveDropLarge, MakeDropLarge, MakeSendRecvLarge, MakePollSendPollLarge, MakeAnswerWait, RoundTrip, Awaited}
 use Rattle.oneshot_bench.specs.declared.loops.TheConstants.{LOOPS}
 use Rattle.oneshot_bench.specs.Channel.{channel_name}
 use Rattle.oneshot_bench.specs.Loop.{name_of}
@@ -25,6 +25,7 @@ loop_named-name MakeSendReceiveDropLarge = refl
 loop_named-name MakeDropLarge = refl
 loop_named-name MakeSendRecvLarge = refl
 loop_named-name MakePollSendPollLarge = refl
+loop_named-name MakeAnswerWait = refl
 loop_named-name RoundTrip = refl
 loop_named-name (Awaited MakeSendBlockOn) = refl
 loop_named-name (Awaited MakeSendAwait) = refl

@@ -3,7 +3,7 @@ use Rattle.std.specs.Prelude.{ℕ, List, codes}
 use Rattle.oneshot_bench.specs.declared.loops.Awaited.{Awaited as AwaitedLoop}
 use Rattle.oneshot_bench.specs.declared.loops.Awaited.TheVariants.{MakeSendBlockOn, MakeSendAwait, PollPending, JoinTwo, RoundTripAwait}
 use Rattle.oneshot_bench.specs.declared.loops.Loop.{Loop}
-use Rattle.oneshot_bench.specs.declared.loops.Loop.TheVariants.{MakeSendReceiveDrop, MakeDrop, MakeSendRecv, MakePollSendPoll, MakeSendReceiveDropLarge, MakeDropLarge, MakeSendRecvLarge, MakePollSendPollLarge, RoundTrip, Awaited}
+use Rattle.oneshot_bench.specs.declared.loops.Loop.TheVariants.{MakeSendReceiveDrop, MakeDrop, MakeSendRecv, MakePollSendPoll, MakeSendReceiveDropLarge, MakeDropLarge, MakeSendRecvLarge, MakePollSendPollLarge, MakeAnswerWait, RoundTrip, Awaited}
 
 abbrev pub awaited_name : AwaitedLoop → List ℕ
 awaited_name MakeSendBlockOn = codes "make_send_block_on"
@@ -21,5 +21,6 @@ name_of MakeSendReceiveDropLarge = codes "make_send_receive_drop_4096"
 name_of MakeDropLarge = codes "make_drop_4096"
 name_of MakeSendRecvLarge = codes "make_send_recv_4096"
 name_of MakePollSendPollLarge = codes "make_poll_send_poll_4096"
+name_of MakeAnswerWait = codes "make_answer_wait"
 name_of RoundTrip = codes "round_trip"
 name_of (Awaited kind) = awaited_name kind

@@ -26,6 +26,8 @@ pub enum Loop {
     MakeSendRecvLarge,
     /// `MakePollSendPoll` with 4,096 bytes.
     MakePollSendPollLarge,
+    /// It makes a request, answers it with 8 bytes, and waits for them by its ticket.
+    MakeAnswerWait,
     /// It asks another thread, and waits for the reply.
     RoundTrip,
     /// It awaits futures.
@@ -48,7 +50,7 @@ pub enum Awaited {
 }
 
 /// Every loop.
-const LOOPS: [Loop; 14] = [
+const LOOPS: [Loop; 15] = [
     Loop::MakeSendReceiveDrop,
     Loop::MakeDrop,
     Loop::MakeSendRecv,
@@ -57,6 +59,7 @@ const LOOPS: [Loop; 14] = [
     Loop::MakeDropLarge,
     Loop::MakeSendRecvLarge,
     Loop::MakePollSendPollLarge,
+    Loop::MakeAnswerWait,
     Loop::RoundTrip,
     Loop::Awaited(Awaited::MakeSendBlockOn),
     Loop::Awaited(Awaited::MakeSendAwait),
@@ -79,6 +82,7 @@ impl Loop {
             Loop::MakeDropLarge => "make_drop_4096",
             Loop::MakeSendRecvLarge => "make_send_recv_4096",
             Loop::MakePollSendPollLarge => "make_poll_send_poll_4096",
+            Loop::MakeAnswerWait => "make_answer_wait",
             Loop::RoundTrip => "round_trip",
             Loop::Awaited(kind) => kind.name(),
         }

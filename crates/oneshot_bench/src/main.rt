@@ -22,6 +22,7 @@ mod run;
 mod tally;
 #[cfg(test)]
 mod tests;
+mod ticket_rounds;
 
 use command::{Command, USAGE, parse_command};
 use fault::Fault;

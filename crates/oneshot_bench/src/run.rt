@@ -9,7 +9,7 @@ use crate::rounds::repeat;
 use crate::tally::Tally;
 use crate::{
     awaited_rounds, awaited_trips, crossbeam_rounds, crossbeam_trips, futures_awaited_rounds,
-    futures_rounds, futures_trips, round_trip, rounds,
+    futures_rounds, futures_trips, round_trip, rounds, ticket_rounds,
 };
 use std::alloc::AllocGlobal;
 use std::random::RandomSource;
@@ -20,8 +20,11 @@ use std::time::Clock;
 /// A message of 8 bytes.
 const SMALL: u64 = 7;
 
+// A function: each use of a constant array would be read as its 4,096 elements.
 /// A message of 4,096 bytes.
-const LARGE: [u8; 4096] = [7; 4096];
+fn large() -> [u8; 4096] {
+    [7; 4096]
+}
 
 /// Makes `count` rounds of a loop over a channel, and counts what they did.
 ///
@@ -61,16 +64,19 @@ fn run_oneshot<R: AllocGlobal + RandomSource + Threads + Wait + Clock + Sync>(
             repeat_in_task(rt, count, round, tally)
         }
         Loop::MakeSendReceiveDropLarge => repeat(count, || {
-            rounds::make_send_receive_drop(alloc, LARGE, tally)
+            rounds::make_send_receive_drop(alloc, large(), tally)
         }),
         Loop::MakeDropLarge => repeat(count, || { rounds::make_drop::<[u8; 4096]>(alloc, tally) }),
         Loop::MakeSendRecvLarge => repeat(count, || {
-            rounds::make_send_recv(rt, alloc, LARGE, tally)
+            rounds::make_send_recv(rt, alloc, large(), tally)
         }),
         Loop::MakePollSendPollLarge => {
-            let round = rounds::MakePollSendPoll::new(alloc, LARGE);
+            let round = rounds::MakePollSendPoll::new(alloc, large());
             repeat_in_task(rt, count, round, tally)
         }
+        Loop::MakeAnswerWait => repeat(count, || {
+            ticket_rounds::make_answer_wait(rt, alloc, SMALL, tally)
+        }),
         Loop::RoundTrip => round_trip::round_trips(rt, alloc, count, tally).map(|_| ()),
         Loop::Awaited(kind) => run_oneshot_awaited(rt, kind, count, tally),
     }
@@ -95,16 +101,17 @@ fn run_futures<R: AllocGlobal + RandomSource + Threads + Wait + Sync>(
             repeat_in_task(rt, count, round, tally)
         }
         Loop::MakeSendReceiveDropLarge => repeat(count, || {
-            futures_rounds::make_send_receive_drop(alloc, LARGE, tally)
+            futures_rounds::make_send_receive_drop(alloc, large(), tally)
         }),
         Loop::MakeDropLarge => repeat(count, || {
             futures_rounds::make_drop::<[u8; 4096]>(alloc, tally)
         }),
         Loop::MakeSendRecvLarge => Err(Fault::CannotRun),
         Loop::MakePollSendPollLarge => {
-            let round = futures_rounds::MakePollSendPoll::new(alloc, LARGE);
+            let round = futures_rounds::MakePollSendPoll::new(alloc, large());
             repeat_in_task(rt, count, round, tally)
         }
+        Loop::MakeAnswerWait => Err(Fault::CannotRun),
         Loop::RoundTrip => Err(Fault::CannotRun),
         Loop::Awaited(kind) => run_futures_awaited(rt, kind, count, tally),
     }
@@ -130,15 +137,16 @@ fn run_crossbeam<R: AllocGlobal + Threads + Wait + Sync>(
         }),
         Loop::MakePollSendPoll => Err(Fault::CannotRun),
         Loop::MakeSendReceiveDropLarge => repeat(count, || {
-            crossbeam_rounds::make_send_receive_drop(rt, alloc, LARGE, tally)
+            crossbeam_rounds::make_send_receive_drop(rt, alloc, large(), tally)
         }),
         Loop::MakeDropLarge => repeat(count, || {
             crossbeam_rounds::make_drop::<[u8; 4096]>(alloc, tally)
         }),
         Loop::MakeSendRecvLarge => repeat(count, || {
-            crossbeam_rounds::make_send_recv(rt, alloc, LARGE, tally)
+            crossbeam_rounds::make_send_recv(rt, alloc, large(), tally)
         }),
         Loop::MakePollSendPollLarge => Err(Fault::CannotRun),
+        Loop::MakeAnswerWait => Err(Fault::CannotRun),
         Loop::RoundTrip => crossbeam_trips::round_trips(rt, alloc, count, tally).map(|_| ()),
         Loop::Awaited(_) => Err(Fault::CannotRun),
     }

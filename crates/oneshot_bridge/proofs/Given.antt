@@ -6,12 +6,15 @@ use Rattle.std.specs.Option.{option_map}
 use Rattle.std.proofs.lemmas.Bool.{and_parts}
 use Rattle.oneshot_machine.specs.declared.machine.End.TheVariants.{Sender, Receiver}
 use Rattle.oneshot_machine.specs.declared.machine.Reply.{Reply}
+use Rattle.oneshot_machine.specs.Noted.{Noted}
 use Rattle.oneshot_machine.specs.Receiver.{receiver_step}
 use Rattle.oneshot_world.specs.Ahead.{ahead_of, is_some_park}
 use Rattle.oneshot_world.specs.Calls.{Call}
 use Rattle.oneshot_world.specs.Scripts.{calls_of}
 use Rattle.oneshot_world.specs.World.{World, opening, Tells_from}
 use Rattle.oneshot_world.specs.declared.script.Move.{Move}
+use Rattle.oneshot_world.specs.declared.script.ReceiverScript.{ReceiverScript}
+use Rattle.oneshot_world.specs.declared.script.SenderScript.{SenderScript}
 use Rattle.oneshot_world.specs.declared.trace.Entry.{Entry}
 use Rattle.oneshot_world.proofs.WorldDetermined.{run_is}
 use Rattle.oneshot_laws.specs.Actions.{is_end_of_sender}
@@ -20,11 +23,14 @@ use Rattle.oneshot_laws.specs.Entries.{is_same_end}
 use Rattle.oneshot_laws.specs.Holders.{both_hold, is_held, is_free_last, is_freed_at_end}
 use Rattle.oneshot_laws.specs.Marks.{Mark, marks, side}
 use Rattle.oneshot_laws.specs.Unwoken.{is_unwoken, is_never_unwoken, waits_in_task}
+use Rattle.oneshot_replay.specs.Right.{IsRight}
+use Rattle.oneshot_replay.specs.Run.{HasRun, told_at}
+use Rattle.oneshot_replay.specs.Scene.{Scene}
 use Rattle.oneshot_replay.specs.TraceView.{last_of}
-use Rattle.oneshot_bridge.specs.Gives.{gave_message, OneReceiveGets, NoWakeupIsLost, IsFreedOnce}
+use Rattle.oneshot_bridge.specs.Gives.{gave_message, OneReceiveGets, NoWakeupIsLost, IsFreedOnce, IsFreedLast, IsFreedByItsHolder}
 use Rattle.oneshot_bridge.specs.OrdersRun.{answered_by, RunsTo}
 use Rattle.oneshot_bridge.specs.Walks.{Answered, the_receiver, ReceiverStand, SenderStand}
-use Rattle.oneshot_bridge.proofs.OneReceive.{one_gets, freed_once}
+use Rattle.oneshot_bridge.proofs.OneReceive.{one_gets, freed_once, unused_after}
 use Rattle.oneshot_bridge.proofs.StatesRun.{orders_run}
 
 pub one_receive_gets : (T : Type 0) → OneReceiveGets T
@@ -35,11 +41,27 @@ one_receive_gets T a b xs ys word s r come =
     subst (λ told. length (filter gave_message told) ≤ 1) told
     (one_gets (marks (calls_of a b) run.entries) run.right.gone_after_got)
 
+-- the block, from the run
+module _ {T : Type 0} {a : SenderScript T} {b : ReceiverScript} {xs ys : List Noted} {word : ℕ} {s : SenderStand}
+    {r : ReceiverStand} (run : RunsTo a b xs ys word s r) where
+  abbrev its_marks : List Mark
+  its_marks = marks (calls_of a b) run.entries
+
+  held_and_last : (is_held both_hold its_marks ≡ true) × (is_free_last its_marks ≡ true)
+  held_and_last =
+      and_parts (is_held both_hold its_marks) (is_free_last its_marks)
+      (and_parts (is_held both_hold its_marks && is_free_last its_marks) (is_freed_at_end its_marks)
+      run.right.freed_right).0
+
 pub is_freed_once : (T : Type 0) → IsFreedOnce T
-is_freed_once T a b xs ys word s r come run =
-    let ms = marks (calls_of a b) run.entries in
-    freed_once ms (and_parts (is_held both_hold ms) (is_free_last ms)
-    (and_parts (is_held both_hold ms && is_free_last ms) (is_freed_at_end ms) run.right.freed_right).0).1
+is_freed_once T a b xs ys word s r come run = freed_once (its_marks run) (held_and_last run).1
+
+pub is_freed_last : (T : Type 0) → IsFreedLast T
+is_freed_last T a b xs ys word s r come run earlier later m is freeing =
+    unused_after earlier later m (subst (λ ms. is_free_last ms ≡ true) is (held_and_last run).1) freeing
+
+pub is_freed_by_its_holder : (T : Type 0) → IsFreedByItsHolder T
+is_freed_by_its_holder T a b xs ys word s r come run = (held_and_last run).0
 
 -- never unwoken, at the last moment of a run
 last_woken : (so_far : List Entry → List Mark) (k : ℕ) (w : World) (worlds : List World) (moves : List Move)
@@ -70,7 +92,7 @@ ended_by true (Some reply) call xs rest later any = by (is_end_of_sender call) a
 ended_by true None call xs rest later any = later any
 ended_by false o call xs rest later any = or_so (is_some o && is_end_of_sender call) rest (later any)
 
-has_ended : (ms : List Mark) → list_any (λ (x : Answered). is_end_of_sender x.0) (answered_by Sender ms) ≡ true
+pub has_ended : (ms : List Mark) → list_any (λ (x : Answered). is_end_of_sender x.0) (answered_by Sender ms) ≡ true
     → has_answered is_end_of_sender ms ≡ true
 has_ended [] any = any
 has_ended (m ∷ later) any =
@@ -84,22 +106,26 @@ token_there true true false task e p woken = absurd (cc woken)
 token_there false parks false task e p woken = absurd (cc e)
 token_there true false false task e p woken = absurd (cc p)
 
-same_value : {X : Type 0} {a b : X} → Some a ≡ Some b → a ≡ b
+pub same_value : {X : Type 0} {a b : X} → Some a ≡ Some b → a ≡ b
 same_value is = cc
+
+-- nor is it at the end of a run
+pub woken_at : {T : Type 0} (a : SenderScript T) (b : ReceiverScript) (moves : List Move) (entries : List Entry)
+    (now : Scene T) → HasRun a b moves entries now → IsRight a b moves (told_at entries now)
+    → not (is_unwoken (marks (calls_of a b) entries) (ahead_of now.world)) ≡ true
+woken_at a b moves entries now ran right =
+    let never = right.never_unwoken in
+    let same : (entries, never.worlds) ≡ (entries, ran.worlds) =
+    same_value (sym (run_is 1 (opening a b) never.worlds moves entries never.tells)
+    ∙ run_is 1 (opening a b) ran.worlds moves entries ran.tells) in
+    let last : last_of (opening a b) never.worlds ≡ now.world =
+    ap (λ (told : List Entry × List World). last_of (opening a b) told.1) same ∙ ran.ends in
+    subst (λ w. not (is_unwoken (marks (calls_of a b) entries) (ahead_of w)) ≡ true) last
+    (last_woken (marks (calls_of a b)) 1 (opening a b) never.worlds moves entries never.tells never.woken)
 
 pub no_wakeup_is_lost : (T : Type 0) → NoWakeupIsLost T
 no_wakeup_is_lost T a b xs ys word s r come answered parks run =
     let ms = marks (calls_of a b) run.entries in
-    let never = run.right.never_unwoken in
-    let ran = run.run.run in
-    let same : (run.entries, never.worlds) ≡ (run.entries, ran.worlds) =
-    same_value (sym (run_is 1 (opening a b) never.worlds run.moves run.entries never.tells)
-    ∙ run_is 1 (opening a b) ran.worlds run.moves run.entries ran.tells) in
-    let last : last_of (opening a b) never.worlds ≡ run.now.world =
-    ap (λ (told : List Entry × List World). last_of (opening a b) told.1) same ∙ ran.ends in
-    let woken : not (is_unwoken ms (ahead_of run.now.world)) ≡ true =
-    subst (λ w. not (is_unwoken ms (ahead_of w)) ≡ true) last
-    (last_woken (marks (calls_of a b)) 1 (opening a b) never.worlds run.moves run.entries never.tells never.woken) in
     let told : answered_by Sender ms ≡ s.2 = ap (λ (z : SenderStand). z.2) run.sender in
     let ended : has_answered is_end_of_sender ms ≡ true =
     has_ended ms (subst (λ told. list_any (λ (x : Answered). is_end_of_sender x.0) told ≡ true) (sym told) answered) in
@@ -108,4 +134,4 @@ no_wakeup_is_lost T a b xs ys word s r come answered parks run =
     ap (λ (z : ReceiverStand). is_some_park (option_map receiver_step (the_receiver.position z))) run.receiver
     ∙ ap is_some_park parks in
     token_there (has_answered is_end_of_sender ms) (ahead_of run.now.world).parks run.now.world.state.wakers.token
-    (waits_in_task ms) ended ahead woken
+    (waits_in_task ms) ended ahead (woken_at a b run.moves run.entries run.now run.run.run run.right)

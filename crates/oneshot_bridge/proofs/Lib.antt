@@ -1,3 +1,7 @@
+pub mod PhaseCodes
+pub mod PhasesBeside
+pub mod PhasesRead
+pub mod CellsRun
 pub mod Interleaves
 pub mod Seen
 pub mod Told
@@ -13,4 +17,7 @@ pub mod ReceiverLogs
 pub mod StatesRun
 pub mod OneReceive
 pub mod Given
+pub mod Woken
+pub mod Joined
 pub mod Examples
+pub mod CellExamples

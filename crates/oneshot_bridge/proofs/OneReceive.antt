@@ -1,5 +1,5 @@
--- At most one receive is answered with the message, and at most one entry frees the block.
-use Rattle.std.proofs.Common.{arith, ◌≡◌, ◌≤◌, ℕ, ◌+◌, Bool, true, false, not, ◌&&◌, ◌||◌, List, [], ◌∷◌, Option, Some, None, cond, refl, sym, ap, if◌then◌else◌, length}
+-- At most one receive is answered with the message, and at most one entry frees the block, the last that uses it.
+use Rattle.std.proofs.Common.{arith, ◌≡◌, ◌≤◌, ℕ, ◌+◌, Bool, true, false, not, ◌&&◌, ◌||◌, List, [], ◌∷◌, ◌++◌, Option, Some, None, cond, refl, sym, ap, subst, if◌then◌else◌, length}
 use Rattle.std.specs.Prelude.{filter}
 use Rattle.std.specs.List.{list_all, list_any, cons_option}
 use Rattle.std.specs.Option.{option_map}
@@ -128,3 +128,14 @@ freed_once (m ∷ later) last =
     by false is none rest =
         let more : length (filter frees (m ∷ later)) ≤ 0 + length (filter frees later) =
         one_more (frees m) false m (filter frees later) is in omega (arith, more, rest)
+
+-- nothing uses it after that
+pub unused_after : (earlier later : List Mark) (m : Mark) → is_free_last (earlier ++ m ∷ later) ≡ true → frees m ≡ true
+    → list_any uses_block later ≡ false
+unused_after [] later m last is =
+    let parts = and_parts (only_if (frees m) (not (list_any uses_block later))) (is_free_last later) last in
+    not_so (list_any uses_block later)
+    (subst (λ b. only_if b (not (list_any uses_block later)) ≡ true) is parts.0)
+unused_after (first ∷ earlier) later m last is =
+    unused_after earlier later m
+    (and_parts (only_if (frees first) (not (list_any uses_block (earlier ++ m ∷ later)))) _ last).1 is

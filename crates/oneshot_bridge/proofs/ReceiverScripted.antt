@@ -41,51 +41,34 @@ Came ys s (Goes next) = Comes ys next
 Came ys s (Answers reply) = stays_on s reply ≡ true → IsReady ys (after_of s)
 
 module _ {ys zs : List Noted} {seen : Seen} where
-  -- by a row of a receiver, or of a future
-  steps_plainly : (p : ReceiverPos) (row : Option (Outcome ReceiverPos)) (o : Outcome Standpoint)
-      → Comes ys (plainly p) → Steps ys p seen zs → receiver_row p seen ≡ row
-      → option_map (outcome_at plainly) row ≡ Some o → keeps (plainly p) o ≡ true → Came zs (plainly p) o
-  steps_plainly p None o comes steps rows is kept = absurd (cc is)
-  steps_plainly p (Some (Goes next)) o comes steps rows is kept =
-      let same : Goes (plainly next) ≡ o = cc is in
-      let kept_so = and_parts (is_same_after (after_of (plainly p)) (after_of (plainly next))) (is_met (plainly next))
-      (subst (λ o. keeps (plainly p) o ≡ true) (sym same) kept) in
-      subst (Came zs (plainly p)) same
+  -- by a row of either kind of standpoint
+  steps_by : (kind : ReceiverPos → Standpoint) → ((p : ReceiverPos) → pos_of (kind p) ≡ p) → (s : Standpoint)
+      (row : Option (Outcome ReceiverPos)) (o : Outcome Standpoint) → Comes ys s → Steps ys (pos_of s) seen zs
+      → receiver_row (pos_of s) seen ≡ row → option_map (outcome_at kind) row ≡ Some o → keeps s o ≡ true
+      → Came zs s o
+  steps_by kind at s None o comes steps rows is kept = absurd (cc is)
+  steps_by kind at s (Some (Goes next)) o comes steps rows is kept =
+      let same : Goes (kind next) ≡ o = cc is in
+      let kept_so = and_parts (is_same_after (after_of s) (after_of (kind next))) (is_met (kind next))
+      (subst (λ o. keeps s o ≡ true) (sym same) kept) in
+      subst (Came zs s) same
       (record {
         met = kept_so.1;
         stands =
-            subst (Stands zs next) (after_is (after_of (plainly p)) (after_of (plainly next)) kept_so.0)
-            (goes next comes.stands steps rows);
+            subst (λ p. Stands zs p (after_of (kind next))) (sym (at next))
+            (subst (Stands zs next) (after_is (after_of s) (after_of (kind next)) kept_so.0)
+            (goes next comes.stands steps rows));
       })
-  steps_plainly p (Some (Answers reply)) o comes steps rows is kept =
+  steps_by kind at s (Some (Answers reply)) o comes steps rows is kept =
       let same : Answers reply ≡ o = cc is in
-      subst (Came zs (plainly p)) same
-      (λ stays. answers reply comes.stands steps rows (stays_ready (plainly p) reply stays))
-
-  steps_as_future : (p : ReceiverPos) (row : Option (Outcome ReceiverPos)) (o : Outcome Standpoint)
-      → Comes ys (as_future p) → Steps ys p seen zs → receiver_row p seen ≡ row
-      → option_map (outcome_at as_future) row ≡ Some o → keeps (as_future p) o ≡ true → Came zs (as_future p) o
-  steps_as_future p None o comes steps rows is kept = absurd (cc is)
-  steps_as_future p (Some (Goes next)) o comes steps rows is kept =
-      let same : Goes (as_future next) ≡ o = cc is in
-      let kept_so = and_parts (is_same_after (after_of (as_future p)) (after_of (as_future next)))
-      (is_met (as_future next)) (subst (λ o. keeps (as_future p) o ≡ true) (sym same) kept) in
-      subst (Came zs (as_future p)) same
-      (record {
-        met = kept_so.1;
-        stands =
-            subst (Stands zs next) (after_is (after_of (as_future p)) (after_of (as_future next)) kept_so.0)
-            (goes next comes.stands steps rows);
-      })
-  steps_as_future p (Some (Answers reply)) o comes steps rows is kept =
-      let same : Answers reply ≡ o = cc is in
-      subst (Came zs (as_future p)) same
-      (λ stays. answers reply comes.stands steps rows (stays_ready (as_future p) reply stays))
+      subst (Came zs s) same (λ stays. answers reply comes.stands steps rows (stays_ready s reply stays))
 
   pub steps_on : (s : Standpoint) (o : Outcome Standpoint) → Comes ys s → Steps ys (pos_of s) seen zs
       → standpoint_row s seen ≡ Some o → keeps s o ≡ true → Came zs s o
-  steps_on (plainly p) o comes steps = steps_plainly p (receiver_row p seen) o comes steps refl
-  steps_on (as_future p) o comes steps = steps_as_future p (receiver_row p seen) o comes steps refl
+  steps_on (plainly p) o comes steps =
+      steps_by plainly (λ p. refl) (plainly p) (receiver_row p seen) o comes steps refl
+  steps_on (as_future p) o comes steps =
+      steps_by as_future (λ p. refl) (as_future p) (receiver_row p seen) o comes steps refl
 
 -- What is computed of each row: the steps that are no operations lead on as walks do, until the next operation.
 abbrev sees_well : (Standpoint → Outcome Standpoint → Bool) → Standpoint → Seen → Option (Outcome Standpoint) → Bool

@@ -114,74 +114,52 @@ some_walk {after} row stands steps rows = (
 pub opens : IsReady [] calls
 opens = record { told = []; script = λ rest. record { calls = rest.0; last = rest.1 }; walk = λ rest. begins }
 
--- the next call: one that leaves the receiver in place, its last, or the one that makes it a future
+-- the next call, whose rest of a script makes one of the calls that may follow
+call_begins : {ys : List Noted} {from to : After} → IsReady ys from → (call : Call) (p : ReceiverPos)
+    → receiver_position RS.Ready (as_receiver_call call) ≡ Some p → (more : Rest to → Rest from)
+    → ((rest : Rest to) → calls_in from (more rest) ≡ call ∷ calls_in to rest) → Stands ys p to
+call_begins {ys} {from} {to} ready call p at more same =
+    record {
+      call = call;
+      state = RS.Ready;
+      told = ready.told;
+      position = at;
+      script = λ rest. ready.script (more rest);
+      walk =
+          λ rest. subst
+          (λ calls. ReceiverWalk (ready.script (more rest)) ys
+          (RS.Ready, record { calls = calls; error = [] }, ready.told))
+          (same rest) (ready.walk (more rest));
+    }
+
+-- of a receiver: one that leaves it in place, its last, or the one that makes it a future
 module _ {ys : List Noted} (ready : IsReady ys calls) where
-  pub call_begins : (call : ReceiverCall) (p : ReceiverPos)
+  pub receive_begins : (call : ReceiverCall) (p : ReceiverPos)
       → receiver_position RS.Ready (as_receiver_call (receiver_call call)) ≡ Some p → Stands ys p calls
-  call_begins call p at =
-      record {
-        call = receiver_call call;
-        state = RS.Ready;
-        told = ready.told;
-        position = at;
-        script = λ rest. ready.script (call ∷ rest.0, rest.1);
-        walk = λ rest. ready.walk (call ∷ rest.0, rest.1);
-      }
+  receive_begins call p at =
+      call_begins ready (receiver_call call) p at (λ rest. (call ∷ rest.0, rest.1)) (λ rest. refl)
 
   pub recv_begins : Stands ys (receiver_start RC.Recv) nothing
   recv_begins =
-      record {
-        call = Of_receiver RC.Recv;
-        state = RS.Ready;
-        told = ready.told;
-        position = refl;
-        script = λ rest. ready.script ([], RL.Recv);
-        walk = λ rest. ready.walk ([], RL.Recv);
-      }
+      call_begins ready (Of_receiver RC.Recv) (receiver_start RC.Recv) refl (λ rest. ([], RL.Recv)) (λ rest. refl)
 
   pub drop_begins : Stands ys (receiver_start RC.Drop) nothing
   drop_begins =
-      record {
-        call = Of_receiver RC.Drop;
-        state = RS.Ready;
-        told = ready.told;
-        position = refl;
-        script = λ rest. ready.script ([], RL.Drop);
-        walk = λ rest. ready.walk ([], RL.Drop);
-      }
+      call_begins ready (Of_receiver RC.Drop) (receiver_start RC.Drop) refl (λ rest. ([], RL.Drop)) (λ rest. refl)
 
   pub future_begins : Stands ys (receiver_start RC.IntoFuture) polls
   future_begins =
-      record {
-        call = Of_receiver RC.IntoFuture;
-        state = RS.Ready;
-        told = ready.told;
-        position = refl;
-        script = λ rest. ready.script ([], RL.IntoFuture (record { calls = rest.0; last = rest.1 }));
-        walk = λ rest. ready.walk ([], RL.IntoFuture (record { calls = rest.0; last = rest.1 }));
-      }
+      call_begins ready (Of_receiver RC.IntoFuture) (receiver_start RC.IntoFuture) refl
+      (λ rest. ([], RL.IntoFuture (record { calls = rest.0; last = rest.1 }))) (λ rest. refl)
 
 -- the same of a future
 module _ {ys : List Noted} (ready : IsReady ys polls) where
   pub poll_begins : (call : AsyncCall) (p : ReceiverPos)
       → receiver_position RS.Ready (as_receiver_call (async_call call)) ≡ Some p → Stands ys p polls
   poll_begins call p at =
-      record {
-        call = async_call call;
-        state = RS.Ready;
-        told = ready.told;
-        position = at;
-        script = λ rest. ready.script (call ∷ rest.0, rest.1);
-        walk = λ rest. ready.walk (call ∷ rest.0, rest.1);
-      }
+      call_begins ready (async_call call) p at (λ rest. (call ∷ rest.0, rest.1)) (λ rest. refl)
 
   pub async_drop_begins : Stands ys (receiver_start RC.DropAsync) nothing
   async_drop_begins =
-      record {
-        call = Of_receiver RC.DropAsync;
-        state = RS.Ready;
-        told = ready.told;
-        position = refl;
-        script = λ rest. ready.script ([], AL.Drop);
-        walk = λ rest. ready.walk ([], AL.Drop);
-      }
+      call_begins ready (Of_receiver RC.DropAsync) (receiver_start RC.DropAsync) refl (λ rest. ([], AL.Drop))
+      (λ rest. refl)

@@ -16,7 +16,7 @@ use Rattle.oneshot_world.specs.declared.script.ErrorLast.TheVariants as EL
 use Rattle.oneshot_world.specs.declared.script.SenderLast.TheVariants as SL
 use Rattle.oneshot_world.specs.declared.script.SenderScript.{SenderScript}
 use Rattle.oneshot_world.specs.declared.state.SenderState.TheVariants as SS
-use Rattle.oneshot_bridge.specs.Scripted.{SenderIsScripted}
+use Rattle.oneshot_bridge.specs.Scripted.{SendsOnly, SenderIsScripted}
 use Rattle.oneshot_bridge.specs.Walks.{begins, quietly, by_one, quiet, operates, opening_sender, SenderStand, SenderWalk}
 
 module _ {T : Type 0} (m : T) where
@@ -98,11 +98,15 @@ module _ {T : Type 0} (m : T) where
       (more word (scripted order) row)
   scripted (receiver_makes op order row) = scripted order
 
+  sends_only : (by : By) → SendsOnly m (script_of by)
+  sends_only sending other is = cc is
+  sends_only dropping other is = absurd (cc is)
+
   walk_of : {xs : List Noted} {at : SenderAt} → Scripted xs at
-      → (s : SenderScript T) × (stand : SenderStand) × SenderWalk s xs stand
-  walk_of not_begun = (script_of dropping, opening_sender (script_of dropping), begins)
-  walk_of (owing by walk) = (script_of by, _, walk)
-  walk_of (over by s none walk) = (script_of by, s, walk)
+      → (s : SenderScript T) × SendsOnly m s × (stand : SenderStand) × SenderWalk s xs stand
+  walk_of not_begun = (script_of dropping, sends_only dropping, opening_sender (script_of dropping), begins)
+  walk_of (owing by walk) = (script_of by, sends_only by, _, walk)
+  walk_of (over by s none walk) = (script_of by, sends_only by, s, walk)
 
 pub sender_scripted : (T : Type 0) → SenderIsScripted T
 sender_scripted T m xs ys word order = walk_of m (scripted m order)

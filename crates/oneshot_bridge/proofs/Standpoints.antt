@@ -23,7 +23,7 @@ use Rattle.oneshot_world.specs.declared.script.ReceiverCall.TheVariants as Scrip
 use Rattle.oneshot_world.specs.declared.state.ReceiverState.{ReceiverState}
 use Rattle.oneshot_world.specs.declared.state.ReceiverState.TheVariants as RS
 use Rattle.oneshot_world.proofs.ControlCodes.{same_by}
-use Rattle.oneshot_bridge.proofs.ReceiverStands.{After, calls, polls, nothing, Stands, IsReady, call_begins, recv_begins, drop_begins, future_begins, poll_begins, async_drop_begins}
+use Rattle.oneshot_bridge.proofs.ReceiverStands.{After, calls, polls, nothing, Stands, IsReady, receive_begins, recv_begins, drop_begins, future_begins, poll_begins, async_drop_begins}
 
 abbrev pub pos_of : Standpoint → ReceiverPos
 pos_of (plainly p) = p
@@ -56,14 +56,14 @@ pub record Comes (ys : List Noted) (s : Standpoint) : Type 0 where
 -- a call begins, of a receiver and of a future
 module _ {ys : List Noted} where
   pub receiver_begins : {s : Standpoint} → IsReady ys calls → In s (map plainly receiver_opens) → Comes ys s
-  receiver_begins ready head = record { met = refl; stands = call_begins ready Script.TryRecv _ refl }
-  receiver_begins ready (tail head) = record { met = refl; stands = call_begins ready Script.RecvRef _ refl }
+  receiver_begins ready head = record { met = refl; stands = receive_begins ready Script.TryRecv _ refl }
+  receiver_begins ready (tail head) = record { met = refl; stands = receive_begins ready Script.RecvRef _ refl }
   receiver_begins ready (tail (tail head)) =
-      record { met = refl; stands = call_begins ready Script.RecvDeadline _ refl }
+      record { met = refl; stands = receive_begins ready Script.RecvDeadline _ refl }
   receiver_begins ready (tail (tail (tail head))) =
-      record { met = refl; stands = call_begins ready (Script.RecvTimeout true) _ refl }
+      record { met = refl; stands = receive_begins ready (Script.RecvTimeout true) _ refl }
   receiver_begins ready (tail (tail (tail (tail head)))) =
-      record { met = refl; stands = call_begins ready (Script.RecvTimeout false) _ refl }
+      record { met = refl; stands = receive_begins ready (Script.RecvTimeout false) _ refl }
   receiver_begins ready (tail (tail (tail (tail (tail head))))) = record { met = refl; stands = recv_begins ready }
   receiver_begins ready (tail (tail (tail (tail (tail (tail head)))))) =
       record { met = refl; stands = future_begins ready }

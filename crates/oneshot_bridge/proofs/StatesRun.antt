@@ -2,13 +2,17 @@
 -- and their order is a run.
 use Rattle.oneshot_machine.specs.declared.machine.End.TheVariants.{Sender, Receiver}
 use Rattle.oneshot_replay.proofs.RunLaws.{is_right}
-use Rattle.oneshot_bridge.specs.OrdersRun.{RunsTo, OrdersAreRuns}
+use Rattle.oneshot_bridge.specs.OrdersRun.{RunsTo, RunsHaveCells, OrdersAreRuns}
 use Rattle.oneshot_bridge.specs.Scripted.{StatesAreOfRuns}
+use Rattle.oneshot_bridge.proofs.CellsRun.{cells_run}
 use Rattle.oneshot_bridge.proofs.Interleaves.{interleaves}
 use Rattle.oneshot_bridge.proofs.ReceiverLogs.{receiver_scripted}
 use Rattle.oneshot_bridge.proofs.SenderScripted.{sender_scripted}
 use Rattle.oneshot_bridge.proofs.Told.{told_in}
 use Rattle.oneshot_bridge.proofs.Worlds.{Got, the_model}
+
+pub runs_have_cells : (T : Type 0) → RunsHaveCells T
+runs_have_cells T a b moves entries now xs ys word run order = cells_run a b run order
 
 pub orders_run : (T : Type 0) → OrdersAreRuns T
 orders_run T a b xs ys n s r order sender receiver =
@@ -22,6 +26,7 @@ orders_run T a b xs ys n s r order sender receiver =
           λ i. (got.sender i, got.sender_left i, told i);
       receiver = let told = told_in a b got.entries Receiver r.1 r.2 got.receiver_told in
           λ i. (got.receiver i, got.receiver_left i, told i);
+      cells = cells_run a b got.run order;
       right = is_right a b got.moves got.entries got.now got.run.run;
     }
 
@@ -29,13 +34,15 @@ pub states_run : (T : Type 0) → StatesAreOfRuns T
 states_run T message xs ys word order =
     let a = sender_scripted T message xs ys word order in
     let b = receiver_scripted xs ys word order in
-    let run : RunsTo a.0 b.0 xs ys word a.1 b.1 = orders_run T a.0 b.0 xs ys word a.1 b.1 order a.2 b.2 in
+    let run : RunsTo a.0 b.0 xs ys word a.2 b.1 = orders_run T a.0 b.0 xs ys word a.2 b.1 order a.3 b.2 in
     record {
       sender = a.0;
+      sends = a.1;
       receiver = b.0;
       moves = run.moves;
       entries = run.entries;
       now = run.now;
       run = run.run;
+      cells = run.cells;
       right = run.right;
     }

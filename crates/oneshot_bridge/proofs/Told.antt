@@ -1,5 +1,5 @@
 -- The answered calls of a trace that grows at its end, and those that its marks show.
-use Rattle.std.proofs.Common.{◌≡◌, ℕ, ◌+◌, List, [], ◌∷◌, ◌++◌, Option, Some, None, refl, sym, ap, ◌∙◌, if◌then◌else◌}
+use Rattle.std.proofs.Common.{◌≡◌, ℕ, ◌+◌, Bool, true, false, List, [], ◌∷◌, ◌++◌, Option, Some, None, refl, sym, ap, ◌∙◌, if◌then◌else◌}
 use Rattle.std.proofs.lemmas.List.{append_assoc, append-nil}
 use Rattle.std.specs.List.{cons_option}
 use Rattle.std.specs.Option.{option_map}
@@ -47,6 +47,28 @@ module _ (end : End) (entry : Entry) (entries : List Entry) where
       ap (told_by end from) (append_assoc entries (entry ∷ []) more) ∙ before (entry ∷ more)
       ∙ ap (λ l. told ++ l) (last more)
 
+-- what an end has left after these entries, and what it answers from there on
+abbrev pub left_all : End → Unanswered → List Entry → Unanswered
+left_all end left [] = left
+left_all end left (Idle side ∷ entries) = left_all end left entries
+left_all end left (Made_entry e ∷ entries) =
+    if is_same_end e.side end then left_all end (left_by end e.reply left) entries else left_all end left entries
+
+either_more : {X : Type 0} (f : X → List Answered) (b : Bool) (own xs ys us vs : List Answered) (m n : X)
+    → xs ≡ ys ++ f m → us ≡ vs ++ f n
+    → (if b then own ++ xs else us) ≡ (if b then own ++ ys else vs) ++ f (if b then m else n)
+either_more f true own xs ys us vs m n later skipped = ap (λ l. own ++ l) later ∙ sym (append_assoc own ys (f m))
+either_more f false own xs ys us vs m n later skipped = skipped
+
+pub told_more : (end : End) (left : Unanswered) (entries more : List Entry)
+    → told_by end left (entries ++ more) ≡ told_by end left entries ++ told_by end (left_all end left entries) more
+told_more end left [] more = refl
+told_more end left (Idle side ∷ entries) more = told_more end left entries more
+told_more end left (Made_entry e ∷ entries) more =
+    either_more (λ left. told_by end left more) (is_same_end e.side end) (answers_with left e.reply) _ _ _ _
+    (left_all end (left_by end e.reply left) entries) (left_all end left entries)
+    (told_more end (left_by end e.reply left) entries more) (told_more end left entries more)
+
 -- the marks of these entries show the same
 abbrev Shown : End → List Entry → Type 0
 Shown end entries =
@@ -83,7 +105,7 @@ shows end (Made_entry e ∷ entries) s r n o =
 
 -- so of a whole trace
 module _ {T : Type 0} (a : SenderScript T) (b : ReceiverScript) (entries : List Entry) where
-  shown : (end : End) → answered_by end (marks (calls_of a b) entries)
+  pub shown : (end : End) → answered_by end (marks (calls_of a b) entries)
       ≡ told_by end (by_end end (opening_sender a).1 (opening_receiver b).1) entries
   shown Sender = shows Sender entries (sender_reading (calls_of a b)) (receiver_reading (calls_of a b)) 1 new_object
   shown Receiver = shows Receiver entries (sender_reading (calls_of a b)) (receiver_reading (calls_of a b)) 1 new_object

@@ -1,5 +1,5 @@
 -- What the laws of the model say of both ends, once what these did is a run of it.
-use Rattle.std.specs.Prelude.{◌≡◌, ◌≤◌, ℕ, Bool, true, ◌&&◌, List, Some, filter, length, IsTrue}
+use Rattle.std.specs.Prelude.{◌≡◌, ◌≤◌, ℕ, Bool, true, ◌&&◌, List, ◌∷◌, ◌++◌, Some, filter, length, IsTrue, IsFalse}
 use Rattle.std.specs.List.{list_any}
 use Rattle.std.specs.Option.{option_map}
 use Rattle.oneshot_machine.specs.declared.machine.Reply.TheVariants as R
@@ -12,8 +12,8 @@ use Rattle.oneshot_world.specs.declared.script.ReceiverScript.{ReceiverScript}
 use Rattle.oneshot_world.specs.declared.script.SenderScript.{SenderScript}
 use Rattle.oneshot_laws.specs.Actions.{is_receive, is_end_of_sender}
 use Rattle.oneshot_laws.specs.Entries.{is_same_reply}
-use Rattle.oneshot_laws.specs.Holders.{frees}
-use Rattle.oneshot_laws.specs.Marks.{marks}
+use Rattle.oneshot_laws.specs.Holders.{both_hold, frees, uses_block, is_held}
+use Rattle.oneshot_laws.specs.Marks.{Mark, marks}
 use Rattle.oneshot_bridge.specs.OrdersRun.{RunsTo}
 use Rattle.oneshot_bridge.specs.Walks.{Answered, the_receiver, SenderStand, ReceiverStand, SenderWalk, ReceiverWalk}
 
@@ -52,3 +52,15 @@ abbrev pub IsFreedOnce : (T : Type 0) → Type 0
 IsFreedOnce T =
     WhereverTheyCome T (λ a b xs ys word s r. (run : RunsTo a b xs ys word s r)
     → length (filter frees (marks (calls_of a b) run.entries)) ≤ 1)
+
+-- no entry uses the block after the one that frees it
+abbrev pub IsFreedLast : (T : Type 0) → Type 0
+IsFreedLast T =
+    WhereverTheyCome T (λ a b xs ys word s r. (run : RunsTo a b xs ys word s r) (earlier later : List Mark) (m : Mark)
+    → marks (calls_of a b) run.entries ≡ earlier ++ m ∷ later → IsTrue (frees m) → IsFalse (list_any uses_block later))
+
+-- only an end that holds the block uses it, and the one that frees it is the only one that holds it
+abbrev pub IsFreedByItsHolder : (T : Type 0) → Type 0
+IsFreedByItsHolder T =
+    WhereverTheyCome T (λ a b xs ys word s r. (run : RunsTo a b xs ys word s r)
+    → IsTrue (is_held both_hold (marks (calls_of a b) run.entries)))

@@ -1,5 +1,9 @@
+pub mod Homes
 pub mod Walks
 pub mod OrdersRun
 pub mod Scripted
 pub mod Examples
 pub mod Gives
+pub mod Woken
+pub mod Joined
+pub mod CellExamples

@@ -19,6 +19,7 @@ use Rattle.oneshot_laws.specs.Marks.{Mark, marks, side}
 use Rattle.oneshot_replay.specs.Right.{IsRight}
 use Rattle.oneshot_replay.specs.Run.{HasRun, told_at}
 use Rattle.oneshot_replay.specs.Scene.{Scene}
+use Rattle.oneshot_bridge.specs.Homes.{CellsAreSo}
 use Rattle.oneshot_bridge.specs.Walks.{Answered, SenderStand, ReceiverStand, SenderWalk, ReceiverWalk}
 
 -- the operation on the word of an entry, with what it saw
@@ -59,7 +60,15 @@ pub record RunsTo {T : Type 0} (a : SenderScript T) (b : ReceiverScript) (xs ys 
   pub run : RunsSo a b moves entries now xs ys word
   pub sender : (now.world.state.sender, now.world.sender, answered_by Sender (marks (calls_of a b) entries)) ≡ s
   pub receiver : (now.world.state.receiver, now.world.receiver, answered_by Receiver (marks (calls_of a b) entries)) ≡ r
+  pub cells : CellsAreSo xs ys now.world.state
   pub right : IsRight a b moves (told_at entries now)
+
+-- The cells of each run that has the logs of an order, and not only of one of them.
+abbrev pub RunsHaveCells : (T : Type 0) → Type 0
+RunsHaveCells T =
+    (a : SenderScript T) (b : ReceiverScript) (moves : List Move) (entries : List Entry) (now : Scene T)
+    (xs ys : List Noted) (word : ℕ)
+    → RunsSo a b moves entries now xs ys word → Reaches xs ys word → CellsAreSo xs ys now.world.state
 
 -- Whatever order the operations of both ends had: where each end alone carries out its script, a schedule
 -- leads the model through the same operations, which find the same words, to where both ends stand, with the

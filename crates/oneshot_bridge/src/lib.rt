@@ -1,15 +1,26 @@
 //! What the ends of the channel do is a run of the model: each function's contract is a law, its body nothing.
 #![tactic(auto)]
 
+ghost use Rattle.oneshot_bridge.specs.CellExamples.{WorkedCells, WrongCells, WrongUses};
 ghost use Rattle.oneshot_bridge.specs.Examples.{WorkedRun, WrongRuns};
-ghost use Rattle.oneshot_bridge.specs.Gives.{OneReceiveGets, NoWakeupIsLost, IsFreedOnce};
-ghost use Rattle.oneshot_bridge.specs.OrdersRun.{OrdersAreRuns};
+ghost use Rattle.oneshot_bridge.specs.Gives.{OneReceiveGets, NoWakeupIsLost, IsFreedOnce, IsFreedLast, IsFreedByItsHolder};
+ghost use Rattle.oneshot_bridge.specs.Joined.{TablesAreOfRuns};
+ghost use Rattle.oneshot_bridge.specs.OrdersRun.{OrdersAreRuns, RunsHaveCells};
 ghost use Rattle.oneshot_bridge.specs.Scripted.{SenderIsScripted, ReceiverIsScripted, StatesAreOfRuns};
+ghost use Rattle.oneshot_bridge.specs.Woken.{NobodyWaits, WakeIsUnderWay, WasDropped, NobodyIsLeft};
+
+use oneshot_word::Promise;
 
 /// Each order of both ends' operations is that of a run of the model, where each end alone carries out its
 /// script; and the run keeps every law of a trace.
 pub fn orders_are_runs<T>()
     ensures { OrdersAreRuns T }
+{}
+
+/// Each run of the model that has the logs of an order comes to a world whose cells are as the rule of the word
+/// says of the slots at home; and it frees the block only where one end has both slots.
+pub fn runs_have_cells<T>()
+    ensures { RunsHaveCells T }
 {}
 
 /// For each log that an order allows an end there is a script, and a walk of it that has this log.
@@ -19,22 +30,47 @@ pub fn ends_are_scripted<T>()
 {}
 
 /// For each state that the rule of the word allows there are two scripts and a schedule. The run of the model
-/// has these operations of the sender, these of the receiver, and this word; and it keeps every law of a trace.
+/// has these operations of the sender, these of the receiver, this word, and these slots at home; and it keeps
+/// every law of a trace.
 pub fn every_state_is_of_a_run<T>()
     ensures { StatesAreOfRuns T }
 {}
 
+/// Whatever the shared table is under its rule, once both ends are there: a run of the model has the operations of
+/// both views, this word, and these slots at home. A message that lies at home, that the sender gave or that the
+/// receiver took is the message of that run.
+pub fn every_table_is_of_a_run<T, H, K, P: Promise<T>>()
+    ensures { TablesAreOfRuns H K P.keeps }
+{}
+
 /// What the laws of the model say of both ends, wherever each has come to by its script, in an order of the
 /// operations of both: at most one receive was answered with the message; once the sender's `send` or drop has
-/// answered, a receiver that is about to park has its token; and the block is freed at most once.
+/// answered, a receiver that is about to park has its token; and the block is freed at most once, by the only end
+/// that holds it, and nothing uses it after that.
 pub fn laws_of_both_ends<T>()
     ensures one_receive_gets { OneReceiveGets T }
     ensures no_wakeup_is_lost { NoWakeupIsLost T }
     ensures is_freed_once { IsFreedOnce T }
+    ensures is_freed_last { IsFreedLast T }
+    ensures is_freed_by_its_holder { IsFreedByItsHolder T }
 {}
 
-/// What the definitions are of, by a worked run, and what they are not.
+/// What they say of a receiver that waits, in a park or in a task. Once the sender's `send` or drop has answered,
+/// it does not wait. Where the sender's last operation found the receiver here and the call is under way, the
+/// sender's next step is a wake, after which the receiver does not wait. Where that operation found the receiver
+/// gone, the receiver was dropped, and has ended.
+pub fn wakes_are_made<T>()
+    ensures nobody_waits { NobodyWaits T }
+    ensures wake_is_under_way { WakeIsUnderWay T }
+    ensures was_dropped { WasDropped T }
+    ensures nobody_is_left { NobodyIsLeft T }
+{}
+
+/// What the definitions are of, by worked runs, and what they are not.
 pub fn examples_are_so<T>()
     ensures run { (m : T) → WorkedRun m }
     ensures wrong { (m : T) → WrongRuns m }
+    ensures cells { (m : T) → WorkedCells m }
+    ensures wrong_cells { (m : T) → WrongCells m }
+    ensures wrong_uses { (m : T) → WrongUses m }
 {}

@@ -14,7 +14,7 @@ ghost use Rattle.oneshot_drive.specs.BetweenCalls.{AtRest, IsClosed, LeavesClose
 use crate::ground::BlockGround;
 use crate::waiting::{Found, find};
 use oneshot_errors::{RecvError, RecvTimeoutError};
-use oneshot_machine::states::{DISCONNECTED, Op};
+use oneshot_machine::states::DISCONNECTED;
 use std::sync::Wait;
 
 /// Blocks until the message is there or will never come. Then the receiver is closed.
@@ -125,12 +125,12 @@ fn receive<T, W: Drop, G: BlockGround<T, W>>(
 {
     match find(g, rt, hand, timed) {
         Found::Message => {
-            g.word(Op::Store(DISCONNECTED));
+            g.store(DISCONNECTED);
             Ok(g.take_message())
         }
         Found::Closed => Err(RecvTimeoutError::Disconnected),
         Found::Unclosed => {
-            g.word(Op::Store(DISCONNECTED));
+            g.store(DISCONNECTED);
             Err(RecvTimeoutError::Disconnected)
         }
         Found::Nothing => Err(RecvTimeoutError::Timeout),

@@ -2,12 +2,11 @@
 
 ghost use Rattle.std.specs.Prelude.{◌≡◌, Bool, ◌∷◌, [], IfSome};
 ghost use Rattle.oneshot_machine.specs.declared.machine.Step.TheVariants.{DropMessage, WriteWaker, TakeWaker, Withdraw, Wake, WakeOwn, Free};
+ghost use Rattle.oneshot_machine.specs.declared.states.Op.TheVariants.{Load, Store, Swap, Exchange, Add, Xor};
 ghost use Rattle.oneshot_machine.specs.Logs.{Grows, receiver_of, did, wrote, took, handed, parked, clocked, copied, worded};
 ghost use Rattle.oneshot_machine.specs.Slots.{away, vacant, held};
 ghost use Rattle.oneshot_drive.specs.Blocking.{Parks};
 ghost use Rattle.oneshot_drive.specs.Grounds.{State, SenderAsks, SenderMakes, ReceiverAsks, ReceiverMakes};
-
-use oneshot_machine::states::Op;
 
 /// What the sender, or the error of its refused `send`, does to the world.
 pub trait SenderGround<T, W> {
@@ -17,11 +16,23 @@ pub trait SenderGround<T, W> {
     // What the ground asks of a message that it takes in.
     ghost admits: { Self → T → Type 0 };
 
-    /// Makes an operation on the word, and gives the word before.
-    fn word(&mut self, op: Op) -> u8
-        requires { SenderAsks op (state self.old) }
-        ensures list { Grows (state self.old).log (state self.new).log (worded op result ∷ []) }
-        ensures finds { SenderMakes op result (state self.old) (state self.new) };
+    /// Adds one to the word, and gives the word before.
+    fn add(&mut self) -> u8
+        requires { SenderAsks Add (state self.old) }
+        ensures list { Grows (state self.old).log (state self.new).log (worded Add result ∷ []) }
+        ensures finds { SenderMakes Add result (state self.old) (state self.new) };
+
+    /// Flips the word's lowest bit, and gives the word before.
+    fn flip(&mut self) -> u8
+        requires { SenderAsks Xor (state self.old) }
+        ensures list { Grows (state self.old).log (state self.new).log (worded Xor result ∷ []) }
+        ensures finds { SenderMakes Xor result (state self.old) (state self.new) };
+
+    /// Puts `last` into the word, the last that it does with it, and gives the word before.
+    fn swap(&mut self, last: u8) -> u8
+        requires { SenderAsks (Swap last) (state self.old) }
+        ensures list { Grows (state self.old).log (state self.new).log (worded (Swap last) result ∷ []) }
+        ensures finds { SenderMakes (Swap last) result (state self.old) (state self.new) };
 
     /// Puts the message into its slot, which is the end's and empty.
     fn write_message(&mut self, message: T)
@@ -87,11 +98,32 @@ pub trait ReceiverGround<T, W> {
     // What a later state says of a message, an earlier one says of it too.
     ghost gives_on: { (a b : Self) (x : T) → keeps a b → gives b x → gives a x };
 
-    /// Makes an operation on the word, and gives the word before.
-    fn word(&mut self, op: Op) -> u8
-        requires { ReceiverAsks op (state self.old) }
-        ensures list { Grows (state self.old).log (state self.new).log (worded op result ∷ []) }
-        ensures finds { ReceiverMakes op result (state self.old) (state self.new) }
+    /// Reads the word.
+    fn load(&mut self) -> u8
+        requires { ReceiverAsks Load (state self.old) }
+        ensures list { Grows (state self.old).log (state self.new).log (worded Load result ∷ []) }
+        ensures finds { ReceiverMakes Load result (state self.old) (state self.new) }
+        ensures keeps { keeps self.old self.new };
+
+    /// Puts `new` into the word, and gives the word before.
+    fn store(&mut self, new: u8) -> u8
+        requires { ReceiverAsks (Store new) (state self.old) }
+        ensures list { Grows (state self.old).log (state self.new).log (worded (Store new) result ∷ []) }
+        ensures finds { ReceiverMakes (Store new) result (state self.old) (state self.new) }
+        ensures keeps { keeps self.old self.new };
+
+    /// Puts `new` into the word, and gives the word before.
+    fn swap(&mut self, new: u8) -> u8
+        requires { ReceiverAsks (Swap new) (state self.old) }
+        ensures list { Grows (state self.old).log (state self.new).log (worded (Swap new) result ∷ []) }
+        ensures finds { ReceiverMakes (Swap new) result (state self.old) (state self.new) }
+        ensures keeps { keeps self.old self.new };
+
+    /// Puts `new` into the word where it is `expected`, and gives the word before.
+    fn exchange(&mut self, expected: u8, new: u8) -> u8
+        requires { ReceiverAsks (Exchange expected new) (state self.old) }
+        ensures list { Grows (state self.old).log (state self.new).log (worded (Exchange expected new) result ∷ []) }
+        ensures finds { ReceiverMakes (Exchange expected new) result (state self.old) (state self.new) }
         ensures keeps { keeps self.old self.new };
 
     /// Takes the message out of its slot.

@@ -25,7 +25,7 @@ use crate::ground::{ReceiverGround, TaskGround};
 use crate::waiting::Found;
 use futures::task::Poll;
 use oneshot_errors::{RecvError, TryRecvError};
-use oneshot_machine::states::{DISCONNECTED, EMPTY, MESSAGE, Op, RECEIVING, UNPARKING};
+use oneshot_machine::states::{DISCONNECTED, EMPTY, MESSAGE, RECEIVING, UNPARKING};
 
 /// Polls the receiver once. It waits for nobody.
 ///
@@ -48,7 +48,7 @@ pub fn poll<T, W: Drop, G: TaskGround<T, W>>(g: &mut G) -> Poll<Result<T, RecvEr
 {
     match meet(g) {
         Found::Message => {
-            g.word(Op::Store(DISCONNECTED));
+            g.store(DISCONNECTED);
             Poll::Ready(Ok(g.take_message()))
         }
         Found::Nothing => Poll::Pending,
@@ -66,7 +66,7 @@ fn meet<T, W: Drop, G: TaskGround<T, W>>(g: &mut G) -> Found
     ensures own { WritesItsCopy (G.state g.old).log (G.state g.new).log }
     ensures keeps { G.keeps g.old g.new }
 {
-    match g.word(Op::Load) {
+    match g.load() {
         EMPTY => leave_first(g),
         RECEIVING => leave_again(g),
         MESSAGE => Found::Message,
@@ -105,7 +105,7 @@ fn leave<T, W: Drop, G: TaskGround<T, W>>(g: &mut G, copy: W) -> Found
     ensures keeps { G.keeps g.old g.new }
 {
     g.write_waker(copy);
-    let word = g.word(Op::Exchange(EMPTY, RECEIVING));
+    let word = g.exchange(EMPTY, RECEIVING);
     if word == EMPTY {
         return Found::Nothing;
     }
@@ -130,7 +130,7 @@ fn leave_again<T, W: Drop, G: TaskGround<T, W>>(g: &mut G) -> Found
         g.wake_own();
         return Found::Nothing;
     };
-    match g.word(Op::Exchange(RECEIVING, EMPTY)) {
+    match g.exchange(RECEIVING, EMPTY) {
         RECEIVING => {
             let stored = g.withdraw();
             drop(stored);
@@ -165,9 +165,9 @@ pub fn async_try_recv<T, W, G: ReceiverGround<T, W>>(g: &mut G) -> Result<T, Try
     ensures given { IfOk result (λ message. G.gives g.old message) }
     ensures keeps { G.keeps g.old g.new }
 {
-    match g.word(Op::Load) {
+    match g.load() {
         MESSAGE => {
-            g.word(Op::Store(DISCONNECTED));
+            g.store(DISCONNECTED);
             Ok(g.take_message())
         }
         DISCONNECTED => Err(TryRecvError::Disconnected),
@@ -183,7 +183,7 @@ pub fn drop_async<T, W: Drop, G: ReceiverGround<T, W>>(g: &mut G)
     ensures run { ReceiverRan C.DropAsync (G.state g.old).log (G.state g.new).log R.Done [] [] }
     ensures bounded { MakesAtMost 3 operates (G.state g.old).log (G.state g.new).log }
 {
-    match g.word(Op::Load) {
+    match g.load() {
         RECEIVING => {
             take_back(g);
             close(g);
@@ -198,7 +198,7 @@ fn take_back<T, W: Drop, G: ReceiverGround<T, W>>(g: &mut G)
     ensures went { Went (AsyncDrop AsyncExchange) (Goes (AsyncDrop AsyncSwap)) (G.state g.old).log (G.state g.new).log }
     ensures ends { ReceiverAsks (Swap 2) (G.state g.new) }
 {
-    match g.word(Op::Exchange(RECEIVING, EMPTY)) {
+    match g.exchange(RECEIVING, EMPTY) {
         RECEIVING => drop(g.withdraw()),
         _ => {}
     }
@@ -209,7 +209,7 @@ fn close<T, W, G: ReceiverGround<T, W>>(g: &mut G)
     requires { ReceiverAsks (Swap 2) (G.state g.old) }
     ensures { Ran receiver_step receiver_row (AsyncDrop AsyncSwap) (G.state g.old).log (G.state g.new).log R.Done [] [] }
 {
-    match g.word(Op::Swap(DISCONNECTED)) {
+    match g.swap(DISCONNECTED) {
         MESSAGE => {
             g.drop_message();
             g.free();

@@ -11,7 +11,7 @@ ghost use Rattle.oneshot_drive.specs.BetweenCalls.{AtRest, IsClosed, Leaves, try
 
 use crate::ground::ReceiverGround;
 use oneshot_errors::TryRecvError;
-use oneshot_machine::states::{DISCONNECTED, EMPTY, MESSAGE, Op};
+use oneshot_machine::states::{DISCONNECTED, EMPTY, MESSAGE};
 
 /// Receives the message on `g`, where no receive is under way, if it is there. It never blocks and frees
 /// nothing.
@@ -30,9 +30,9 @@ pub fn try_recv<T, W, G: ReceiverGround<T, W>>(g: &mut G) -> Result<T, TryRecvEr
     ensures given { IfOk result (λ message. G.gives g.old message) }
     ensures keeps { G.keeps g.old g.new }
 {
-    match g.word(Op::Load) {
+    match g.load() {
         MESSAGE => {
-            g.word(Op::Store(DISCONNECTED));
+            g.store(DISCONNECTED);
             Ok(g.take_message())
         }
         EMPTY => Err(TryRecvError::Empty),
@@ -48,7 +48,7 @@ pub fn drop_receiver<T, W, G: ReceiverGround<T, W>>(g: &mut G)
     requires { AtRest (G.state g.old) }
     ensures { ReceiverRan Drop (G.state g.old).log (G.state g.new).log R.Done [] [] }
 {
-    match g.word(Op::Swap(DISCONNECTED)) {
+    match g.swap(DISCONNECTED) {
         MESSAGE => {
             g.drop_message();
             g.free();

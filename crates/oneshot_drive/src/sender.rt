@@ -10,7 +10,7 @@ ghost use Rattle.oneshot_machine.specs.Slots.{held};
 ghost use Rattle.oneshot_drive.specs.BetweenCalls.{IsFresh, IsError, IsLate, Owes, Finishes, IsOvertaken, send_reply};
 
 use crate::ground::SenderGround;
-use oneshot_machine::states::{DISCONNECTED, EMPTY, MESSAGE, Op, RECEIVING};
+use oneshot_machine::states::{DISCONNECTED, EMPTY, MESSAGE, RECEIVING};
 
 /// Sends `message` on `g`, which has made no operation yet, and wakes a receiver that waits. It never
 /// blocks.
@@ -28,7 +28,7 @@ pub fn send<T, W, G: SenderGround<T, W>>(g: &mut G, message: T) -> bool
     ensures bounded { MakesAtMost 2 operates (G.state g.old).log (G.state g.new).log }
 {
     g.write_message(message);
-    match g.word(Op::Add) {
+    match g.add() {
         EMPTY => true,
         RECEIVING => finish(g, MESSAGE),
         _ => false,
@@ -45,7 +45,7 @@ pub fn drop_sender<T, W, G: SenderGround<T, W>>(g: &mut G)
     ensures run { SenderRan Drop (G.state g.old).log (G.state g.new).log Done [] [] }
     ensures bounded { MakesAtMost 2 operates (G.state g.old).log (G.state g.new).log }
 {
-    match g.word(Op::Xor) {
+    match g.flip() {
         EMPTY => {}
         RECEIVING => {
             if !finish(g, DISCONNECTED) {
@@ -63,7 +63,7 @@ fn finish<T, W, G: SenderGround<T, W>>(g: &mut G, last: u8) -> bool
     ensures gone { result ≡ false → IsOvertaken (G.state g.old) (G.state g.new) }
 {
     let waker = g.take_waker();
-    let found = g.word(Op::Swap(last));
+    let found = g.swap(last);
     g.wake(waker);
     found != DISCONNECTED
 }

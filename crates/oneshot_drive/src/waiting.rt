@@ -12,7 +12,7 @@ ghost use Rattle.oneshot_drive.specs.BetweenCalls.{AtRest, IsClosed, IsReady};
 ghost use Rattle.oneshot_drive.specs.Grounds.{Stands};
 
 use crate::ground::BlockGround;
-use oneshot_machine::states::{DISCONNECTED, EMPTY, MESSAGE, Op, RECEIVING};
+use oneshot_machine::states::{DISCONNECTED, EMPTY, MESSAGE, RECEIVING};
 use std::sync::Wait;
 
 // The word that decides a receive.
@@ -43,7 +43,7 @@ pub(crate) fn find<T, W: Drop, G: BlockGround<T, W>>(
     ensures hand { HandAt result hand.old hand.new }
     ensures keeps { G.keeps g.old g.new }
 {
-    match g.word(Op::Load) {
+    match g.load() {
         MESSAGE => Found::Message,
         EMPTY => store_and_wait(g, rt, hand, timed),
         _ => Found::Closed,
@@ -68,7 +68,7 @@ fn store_and_wait<T, W: Drop, G: BlockGround<T, W>>(
         unreachable!()
     };
     g.write_waker(waker);
-    let word = g.word(Op::Swap(RECEIVING));
+    let word = g.swap(RECEIVING);
     if word == EMPTY {
         return wait(g, rt, hand, timed);
     }
@@ -98,7 +98,7 @@ fn wait<T, W: Drop, G: BlockGround<T, W>>(
             return stop(g, rt, hand);
         }
         g.park(timed);
-        match g.word(Op::Load) {
+        match g.load() {
             MESSAGE => return Found::Message,
             DISCONNECTED => return Found::Closed,
             _ => {}
@@ -126,7 +126,7 @@ fn stop<T, W: Drop, G: BlockGround<T, W>>(g: &mut G, rt: &impl Wait, hand: &mut 
     ensures hand { WaitedHand result hand.old hand.new }
     ensures keeps { G.keeps g.old g.new }
 {
-    match g.word(Op::Swap(EMPTY)) {
+    match g.swap(EMPTY) {
         RECEIVING => {
             *hand = Some(g.withdraw());
             Found::Nothing
@@ -147,7 +147,7 @@ fn wait_late<T, W, G: BlockGround<T, W>>(g: &mut G, rt: &impl Wait) -> Found
 {
     for _ in rt.forever() {
         g.park(false);
-        match g.word(Op::Load) {
+        match g.load() {
             MESSAGE => return Found::Message,
             DISCONNECTED => return Found::Closed,
             _ => {}

@@ -2,12 +2,11 @@
 
 ghost use Rattle.std.specs.Prelude.{◌≡◌};
 
-use crate::deadline::{Deadline, read};
+use crate::deadline::{Deadline, Reading, read};
 use crate::ground::OnWord;
 use crate::rouse::Rouse;
 use crossbeam_utils::sync::Parker;
 use oneshot_drive::{BlockGround, ReceiverGround};
-use oneshot_machine::states::Op;
 use oneshot_word::Promise;
 use std::sync::Wait;
 use std::thread::yield_now;
@@ -22,20 +21,20 @@ pub(crate) struct Blocking<'g, 'p, 'r, G, Rt> {
     parker: &'p Parker,
     rt: &'r Rt,
     deadline: Deadline,
-    /// What the first read of the clock tells, where the call made it before it lent its ground.
-    told: Option<bool>,
+    /// The first reading of the clock, where the call made it before it lent its ground.
+    made: Option<Reading>,
     /// Whether at the last reading of the clock much was left of the deadline.
     lasts: bool,
 }
 
 impl<'g, 'p, 'r, G, Rt> Blocking<'g, 'p, 'r, G, Rt> {
-    /// Lends the ground, with this deadline, and what a first read of the clock told of it.
+    /// Lends the ground, with this deadline, and the reading of the clock that the call has made, if it has.
     pub(crate) fn lend(
         ground: &'g mut G,
         parker: &'p Parker,
         rt: &'r Rt,
         deadline: Deadline,
-        told: Option<bool>,
+        made: Option<Reading>,
     ) -> Blocking<'g, 'p, 'r, G, Rt>
         ensures { result.ground ≡ ground.entry }
     {
@@ -44,7 +43,7 @@ impl<'g, 'p, 'r, G, Rt> Blocking<'g, 'p, 'r, G, Rt> {
             parker,
             rt,
             deadline,
-            told,
+            made,
             lasts: false,
         }
     }
@@ -69,8 +68,20 @@ impl<'g, 'p, 'r, T: Drop, Rt, P: Promise<T>> ReceiverGround<T, Rouse>
 
     ghost gives_on = { λ _ _ message e kept. subst (λ q. P.keeps q message) e kept };
 
-    fn word(&mut self, op: Op) -> u8 {
-        self.ground.word(op)
+    fn load(&mut self) -> u8 {
+        self.ground.load()
+    }
+
+    fn store(&mut self, new: u8) -> u8 {
+        self.ground.store(new)
+    }
+
+    fn swap(&mut self, new: u8) -> u8 {
+        self.ground.swap(new)
+    }
+
+    fn exchange(&mut self, expected: u8, new: u8) -> u8 {
+        self.ground.exchange(expected, new)
     }
 
     fn take_message(&mut self) -> T {
@@ -112,13 +123,11 @@ impl<'g, 'p, 'r, T: Drop, Rt: Wait + Clock, P: Promise<T>> BlockGround<T, Rouse>
     }
 
     fn over(&mut self) -> bool {
-        match self.told.take() {
-            Some(over) => over,
-            None => {
-                let reading = read(self.rt);
-                self.lasts = self.deadline.lasts(reading);
-                self.deadline.is_over(reading)
-            }
-        }
+        let reading = match self.made.take() {
+            Some(reading) => reading,
+            None => read(self.rt),
+        };
+        self.lasts = self.deadline.lasts(reading);
+        self.deadline.is_over(reading)
     }
 }

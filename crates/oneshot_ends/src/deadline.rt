@@ -10,8 +10,11 @@ use std::time::{Clock, Duration, Instant};
 /// the scheduler lets some other threads run, a few milliseconds each, and must not make a receive late.
 const LONG: u64 = 100;
 
-/// Reads the clock; `None` where it cannot be read.
-pub(crate) fn read(clock: &impl Clock) -> Option<Instant>
+/// A reading of the clock: `None` where it failed.
+pub(crate) type Reading = Option<Instant>;
+
+/// Reads the clock.
+pub(crate) fn read(clock: &impl Clock) -> Reading
     ensures { IfSome result (λ now. FitsClock (instant_nanos now)) }
 {
     Instant::now(clock).ok()
@@ -29,10 +32,10 @@ pub(crate) enum Deadline {
 }
 
 impl Deadline {
-    /// The instant that is `timeout` after the clock's reading, which is `None` where it failed.
+    /// The instant that is `timeout` after the clock's reading.
     ///
     /// `Passed` after a failed reading, and `Never` where no instant can hold the sum.
-    pub(crate) fn after(reading: Option<Instant>, timeout: Duration) -> Deadline
+    pub(crate) fn after(reading: Reading, timeout: Duration) -> Deadline
         ensures { IsAfter timeout reading result }
     {
         let Some(now) = reading else {
@@ -44,9 +47,9 @@ impl Deadline {
         }
     }
 
-    /// Whether it is over for this reading of the clock, which is `None` where it failed. An instant is
-    /// not over at itself, and a failed reading counts as over.
-    pub(crate) fn is_over(self, reading: Option<Instant>) -> bool
+    /// Whether it is over for this reading of the clock. An instant is not over at itself, and a failed
+    /// reading counts as over.
+    pub(crate) fn is_over(self, reading: Reading) -> bool
         ensures { IsTrue result ↔ IsOver self reading }
     {
         match self {
@@ -60,7 +63,7 @@ impl Deadline {
     }
 
     /// Whether an instant is so far after this reading of the clock that a yield before it does no harm.
-    pub(crate) fn lasts(self, reading: Option<Instant>) -> bool
+    pub(crate) fn lasts(self, reading: Reading) -> bool
         ensures { result ≡ true → ¬ IsOver self reading }
     {
         match (self, reading) {
@@ -72,7 +75,7 @@ impl Deadline {
         }
     }
 
-    /// Whether there is one.
+    /// Whether a call with this deadline can run out.
     pub(crate) fn has_end(self) -> bool
         ensures { result ≡ has_end self }
     {

@@ -2,9 +2,10 @@
 
 ghost use Rattle.std.specs.Prelude.{◌≡◌};
 ghost use Rattle.oneshot_machine.specs.Phases.{sender_at};
+ghost use Rattle.oneshot_machine.specs.Slots.{held};
 ghost use Rattle.oneshot_drive.specs.BetweenCalls.{IsLate};
 
-use crate::ground::ErrorOffWord;
+use crate::ground::{ErrorOffWord, SenderOnWord};
 use crossbeam_utils::sync::Unparker;
 use futures::task::Waker;
 use oneshot_drive::{drop_error, into_inner};
@@ -38,13 +39,6 @@ impl<T, P: Promise<T>> Model for SendError<T, P> {
 }
 
 impl<T, P: Promise<T>> SendError<T, P> {
-    pub(crate) fn new(message: T, side: SenderSide<T, Unparker, Waker, P>) -> SendError<T, P>
-        requires { IsLate (sender_at side.steps) }
-        ensures { result ≡ record { message = message; channel = side.table; steps = side.steps } }
-    {
-        SendError { message, side }
-    }
-
     /// The message, which stays in the error.
     pub fn as_inner(&self) -> &T
         ensures { result.now ≡ self.now.message }
@@ -54,6 +48,18 @@ impl<T, P: Promise<T>> SendError<T, P> {
 }
 
 impl<T: Drop, P: Promise<T>> SendError<T, P> {
+    /// The error of a `send` that was refused on this ground.
+    pub(crate) fn refused(ground: SenderOnWord<T, Unparker, Waker, P>) -> SendError<T, P>
+        requires full { (message : T) × (ground.message ≡ held message) }
+        requires late { IsLate (sender_at ground.steps) }
+        ensures message { ground.message ≡ held result.message }
+        ensures channel { result.channel ≡ ground.table }
+        ensures steps { result.steps ≡ ground.steps }
+    {
+        let (message, side) = ground.into_refused();
+        SendError { message, side }
+    }
+
     /// Gives the message back, and gives up the error's share of the channel's memory.
     pub fn into_inner(self) -> T
         ensures { result ≡ self.message }

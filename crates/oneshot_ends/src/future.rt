@@ -16,11 +16,11 @@ ghost use Rattle.oneshot_ends.specs.Grounds.{state_of};
 
 use crate::copies::Copies;
 use crate::ground::ReceiverOnWord;
-use crate::polling::poll_once;
+use crate::polling::Polling;
 use crossbeam_utils::sync::Unparker;
 use futures::Future;
 use futures::task::{Context, Poll, Source, Waker};
-use oneshot_drive::{async_try_recv, drop_async};
+use oneshot_drive::{async_try_recv, drop_async, poll};
 use oneshot_errors::{RecvError, TryRecvError};
 use oneshot_word::Promise;
 use std::marker::Model;
@@ -119,8 +119,8 @@ impl<T: Drop, Rt: Drop, P: Promise<T>> Future for AsyncReceiver<T, Rt, P> {
     /// - `Ready(Ok)`: the message.
     /// - `Ready(Err)`: the sender was dropped without a message, or the message was received before. A
     ///   future that was ready answers this from then on.
-    /// - `Pending`: nothing is there yet. The task was registered to be woken when that changes, or woke
-    ///   itself, where no copy of its waker could be made or the sender is about to finish.
+    /// - `Pending`: nothing is there yet. The task is registered, and woken when that changes. Where no copy of
+    ///   its waker could be made, or the sender is about to finish, it is woken at once.
     fn poll(&mut self, cx: &mut Context<'_>) -> Poll<Result<T, RecvError>>
         ensures value { IfReady result (λ _. ⊤) }
         ensures again { OnPending result ⊤ }
@@ -138,7 +138,13 @@ impl<T: Drop, Rt: Drop, P: Promise<T>> Future for AsyncReceiver<T, Rt, P> {
         ensures about { self.new.about ≡ self.old.about }
         ensures promise { IfReady result (λ answer. IfOk answer (λ message. P.keeps self.old.about message)) }
     {
-        poll_once(&mut self.ground, cx, &self.source, &mut self.copies)
+        let mut lent = Polling {
+            ground: &mut self.ground,
+            cx: &mut *cx,
+            source: &self.source,
+            copies: &mut self.copies,
+        };
+        poll(&mut lent)
     }
 }
 

@@ -14,7 +14,6 @@ use crate::rouse::wake;
 use crossbeam_utils::sync::Unparker;
 use futures::task::Waker;
 use oneshot_drive::{ReceiverGround, SenderGround};
-use oneshot_machine::states::Op;
 use oneshot_word::{Promise, ReceiverSide, Rouse, SenderSide};
 use std::marker::Model;
 
@@ -68,13 +67,16 @@ impl<T: Drop, P: Promise<T>> SenderGround<T, Rouse<Unparker, Waker>>
 
     ghost admits = { λ s message. P.keeps s.about message };
 
-    fn word(&mut self, op: Op) -> u8 {
-        match op {
-            Op::Add => self.side.add(),
-            Op::Xor => self.side.flip(),
-            Op::Swap(last) => self.side.swap(last),
-            _ => unreachable!(),
-        }
+    fn add(&mut self) -> u8 {
+        self.side.add()
+    }
+
+    fn flip(&mut self) -> u8 {
+        self.side.flip()
+    }
+
+    fn swap(&mut self, last: u8) -> u8 {
+        self.side.swap(last)
     }
 
     fn write_message(&mut self, message: T) {
@@ -157,7 +159,19 @@ impl<T: Drop, P: Promise<T>> SenderGround<T, Rouse<Unparker, Waker>>
     ghost admits = { λ _ _. ⊤ };
 
     // No operation on the word follows a refused `send`.
-    fn word(&mut self, _: Op) -> u8 {
+    fn add(&mut self) -> u8 {
+        // Mentions `self`, so that the prover may use its invariant here.
+        let _side = &self.side;
+        unreachable!()
+    }
+
+    fn flip(&mut self) -> u8 {
+        // Mentions `self`, so that the prover may use its invariant here.
+        let _side = &self.side;
+        unreachable!()
+    }
+
+    fn swap(&mut self, _: u8) -> u8 {
         // Mentions `self`, so that the prover may use its invariant here.
         let _side = &self.side;
         unreachable!()
@@ -253,14 +267,20 @@ impl<T: Drop, H: Drop, K: Drop, P: Promise<T>> ReceiverGround<T, Rouse<H, K>>
 
     ghost gives_on = { λ _ _ message e kept. subst (λ q. P.keeps q message) e kept };
 
-    fn word(&mut self, op: Op) -> u8 {
-        match op {
-            Op::Load => self.side.load(),
-            Op::Store(new) => self.side.store(new),
-            Op::Swap(new) => self.side.swap(new),
-            Op::Exchange(expected, new) => self.side.exchange(expected, new),
-            _ => unreachable!(),
-        }
+    fn load(&mut self) -> u8 {
+        self.side.load()
+    }
+
+    fn store(&mut self, new: u8) -> u8 {
+        self.side.store(new)
+    }
+
+    fn swap(&mut self, new: u8) -> u8 {
+        self.side.swap(new)
+    }
+
+    fn exchange(&mut self, expected: u8, new: u8) -> u8 {
+        self.side.exchange(expected, new)
     }
 
     fn take_message(&mut self) -> T {

@@ -27,7 +27,14 @@ pub fn channel<T: Send + Drop, Rt: Drop>(
     ensures new_receiver { IfOk result (λ ends. ends.1.steps ≡ []) }
     ensures open { IfOk result (λ ends. IsOpen ends.1) }
 {
-    channel_for(rt, alloc, &())
+    // A body of its own: through `channel_for` both ends would be copied once more.
+    let (sender, receiver) = open(alloc, &())?;
+    let parker = Parker::new(alloc)?;
+    let half = Rouse::Thread(parker.unparker().clone()?);
+    Ok((
+        Sender::new(sender),
+        Receiver::new(receiver, parker, half, rt),
+    ))
 }
 
 /// Makes a channel whose every message keeps a promise about `about`: `Sender::send_kept` requires it, and
@@ -66,7 +73,8 @@ pub fn async_channel<T: Send + Drop, Rt: Drop>(
     ensures new_receiver { IfOk result (λ ends. ends.1.steps ≡ []) }
     ensures open { IfOk result (λ ends. IsUnfinished ends.1) }
 {
-    async_channel_for(rt, alloc, &())
+    let (sender, receiver) = channel(rt, alloc)?;
+    Ok((sender, receiver.into_future()))
 }
 
 /// Makes a channel under a promise about `about`, whose receiver is a future: `channel_for` followed by

@@ -1,22 +1,14 @@
 //! What a receiver does to the world in a poll: its ground, with the task of the poll beside it.
 
-ghost use Rattle.std.specs.Prelude.{◌≡◌, true, false, [], ◌∷◌, IfOk};
-ghost use Rattle.futures.specs.Poll.{IfReady, OnPending};
-ghost use Rattle.futures.specs.Task.{IsArmed, Hears, Covers, Keeps};
-ghost use Rattle.oneshot_machine.specs.Phases.{receiver_at};
-ghost use Rattle.oneshot_drive.specs.BetweenCalls.{IsClosed};
-ghost use Rattle.oneshot_drive.specs.Polls.{IsPolled, IsDisconnected};
+ghost use Rattle.std.specs.Prelude.{◌≡◌, true, false, [], ◌∷◌};
+ghost use Rattle.futures.specs.Task.{IsArmed, Hears, Keeps};
 ghost use Rattle.oneshot_ends.specs.Copies.{HasMade, HasNoneOf};
-ghost use Rattle.oneshot_ends.specs.Grounds.{state_of};
-ghost use Rattle.oneshot_ends.specs.Polling.{PolledOnce};
 
 use crate::copies::Copies;
 use crate::ground::OnWord;
 use crate::rouse::Rouse;
 use futures::task::{Context, Poll, Source, Waker};
-use oneshot_drive::{ReceiverGround, TaskGround, poll};
-use oneshot_errors::RecvError;
-use oneshot_machine::states::Op;
+use oneshot_drive::{ReceiverGround, TaskGround};
 use oneshot_word::Promise;
 
 /// Stands for a copy of a waker that the ground keeps. Dropping it ends no copy.
@@ -24,17 +16,18 @@ use oneshot_word::Promise;
 pub(crate) struct Copied;
 
 // The drivers have a token for each copy, and a copy whose token they drop stays among the copies.
-/// The ground of a receiver, lent for one poll, with the poll's task.
+/// The ground of a receiver, lent for one poll, with the poll's task. All that is the receiver's has one lifetime,
+/// or the borrow checker would not cover the future's `poll`.
 #[derive(Drop)]
-pub(crate) struct Polling<'g, 'c, 'x, 'o, 'k, G> {
-    ground: &'g mut G,
-    cx: &'c mut Context<'x>,
-    source: &'o Source,
-    copies: &'k mut Copies<Waker>,
+pub(crate) struct Polling<'g, 'c, 'x, G> {
+    pub(crate) ground: &'g mut G,
+    pub(crate) cx: &'c mut Context<'x>,
+    pub(crate) source: &'g Source,
+    pub(crate) copies: &'g mut Copies<Waker>,
 }
 
-impl<'g, 'c, 'x, 'o, 'k, T: Drop, P: Promise<T>> ReceiverGround<T, Copied>
-    for Polling<'g, 'c, 'x, 'o, 'k, OnWord<T, P>> {
+impl<'g, 'c, 'x, T: Drop, P: Promise<T>> ReceiverGround<T, Copied>
+    for Polling<'g, 'c, 'x, OnWord<T, P>> {
     ghost use Rattle.oneshot_ends.specs.Polling.{polled_state};
     ghost use Rattle.std.proofs.Common.{◌∙◌, refl, subst};
 
@@ -54,8 +47,20 @@ impl<'g, 'c, 'x, 'o, 'k, T: Drop, P: Promise<T>> ReceiverGround<T, Copied>
 
     ghost gives_on = { λ _ _ message e kept. subst (λ q. P.keeps q message) e.2 kept };
 
-    fn word(&mut self, op: Op) -> u8 {
-        self.ground.word(op)
+    fn load(&mut self) -> u8 {
+        self.ground.load()
+    }
+
+    fn store(&mut self, new: u8) -> u8 {
+        self.ground.store(new)
+    }
+
+    fn swap(&mut self, new: u8) -> u8 {
+        self.ground.swap(new)
+    }
+
+    fn exchange(&mut self, expected: u8, new: u8) -> u8 {
+        self.ground.exchange(expected, new)
     }
 
     fn take_message(&mut self) -> T {
@@ -82,8 +87,8 @@ impl<'g, 'c, 'x, 'o, 'k, T: Drop, P: Promise<T>> ReceiverGround<T, Copied>
     }
 }
 
-impl<'g, 'c, 'x, 'o, 'k, T: Drop, P: Promise<T>> TaskGround<T, Copied>
-    for Polling<'g, 'c, 'x, 'o, 'k, OnWord<T, P>> {
+impl<'g, 'c, 'x, T: Drop, P: Promise<T>> TaskGround<T, Copied>
+    for Polling<'g, 'c, 'x, OnWord<T, P>> {
     ghost use Rattle.std.proofs.Common.{subst};
 
     ghost heard = { λ b. IsArmed b.cx.now × Hears b.cx.now b.source.now.id };
@@ -101,32 +106,6 @@ impl<'g, 'c, 'x, 'o, 'k, T: Drop, P: Promise<T>> TaskGround<T, Copied>
     fn wake_own(&mut self) {
         let _again: Poll<()> = self.cx.yield_now();
     }
-}
-
-// A function of its own: the toolchain's borrow checker does not cover this call inside the future's `poll`.
-/// Polls a receiver by this ground once, for the task of `cx`, whose registration is at `source`.
-pub(crate) fn poll_once<T: Drop, P: Promise<T>>(
-    ground: &mut OnWord<T, P>,
-    cx: &mut Context<'_>,
-    source: &Source,
-    copies: &mut Copies<Waker>,
-) -> Poll<Result<T, RecvError>>
-    requires { IsPolled (state_of ground.old) }
-    ensures once { PolledOnce result ground.old ground.new }
-    ensures registered { OnPending result (Covers cx.new (λ s. s ≡ source.now.id)) }
-    ensures kept { Keeps cx.old cx.new }
-    ensures channel { ground.new.table ≡ ground.old.table }
-    ensures stays_closed { IsClosed (receiver_at ground.old.steps) → IsDisconnected result }
-    ensures about { ground.new.about ≡ ground.old.about }
-    ensures promise { IfReady result (λ answer. IfOk answer (λ message. P.keeps ground.old.about message)) }
-{
-    let mut lent = Polling {
-        ground: &mut *ground,
-        cx: &mut *cx,
-        source,
-        copies: &mut *copies,
-    };
-    poll(&mut lent)
 }
 
 /// Registers the task of the poll. `false` where no copy of its waker can be made; then the task is woken, and

@@ -7,13 +7,12 @@ use crate::sender::Sender;
 use oneshot_word::Promise;
 use std::marker::Model;
 
-/// A sender as an opaque value, which only `Sender::from_raw` makes a sender again. The Rust crate has a
-/// pointer here.
+/// An opaque sender, which `Sender::from_raw` turns back. The Rust crate has a pointer here.
 ///
 /// Dropping it drops the sender: a receiver that waits is woken, and learns that no message will come.
 /// The drop never blocks.
 ///
-/// A contract sees what it sees of the sender. It may go to another thread where `T` is `Send`.
+/// Its contracts speak of the channel and the log of the sender. It may go to another thread where `T` is `Send`.
 pub struct RawSender<T, P: Promise<T> = ()> {
     sender: Sender<T, P>,
 }
@@ -64,13 +63,13 @@ impl<T: Drop, P: Promise<T>> Drop for RawSender<T, P> {
     }
 }
 
-/// A receiver as an opaque value, which only `Receiver::from_raw` makes a receiver again. The Rust crate
-/// has a pointer here.
+/// An opaque receiver, which `Receiver::from_raw` turns back. The Rust crate has a pointer here.
 ///
 /// Dropping it drops the receiver with its `rt`, and a message that was sent and not received. A later
 /// `send` is refused: its error gives the message back. The drop never blocks.
 ///
-/// A contract sees what it sees of the receiver. It may go to another thread where `T` and `Rt` are `Send`.
+/// Its contracts speak of the channel and the log of the receiver. It may go to another thread where `T` and
+/// `Rt` are `Send`.
 pub struct RawReceiver<T, Rt, P: Promise<T> = ()> {
     receiver: Receiver<T, Rt, P>,
 }

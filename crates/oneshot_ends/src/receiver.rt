@@ -1,4 +1,4 @@
-//! The receiver.
+//! The end that receives, and may block until a message comes.
 
 ghost use Rattle.std.specs.Prelude.{◌≡◌, ◌≢◌, Err, IsErr, IfOk, IfSome};
 ghost use Rattle.std.specs.Time.{instant_nanos, FitsClock};
@@ -12,7 +12,7 @@ ghost use Rattle.oneshot_ends.specs.Ends.{ReceiverGrew, TimeoutGrew, TimeoutRan,
 ghost use Rattle.oneshot_ends.specs.Grounds.{IsNewReceiver};
 
 use crate::blocking::Blocking;
-use crate::deadline::{Deadline, read};
+use crate::deadline::{Deadline, Reading, read};
 use crate::future::AsyncReceiver;
 use crate::ground::ReceiverOnWord;
 use crate::rouse::Rouse;
@@ -205,13 +205,9 @@ impl<T: Drop, Rt: Wait + Clock + Drop, P: Promise<T>> Receiver<T, Rt, P> {
 }
 
 impl<T: Drop, Rt: Wait + Clock + Drop, P: Promise<T>> Receiver<T, Rt, P> {
-    // Receives by `timeout` after this reading of the clock, which is `None` where it failed. The ground
-    // is told what the reading says of its deadline, so that the clock is not read twice for the sum.
-    fn recv_after(
-        &mut self,
-        reading: Option<Instant>,
-        timeout: Duration,
-    ) -> Result<T, RecvTimeoutError>
+    // Receives by `timeout` after this reading of the clock. The ground has the reading too, so that the
+    // clock is not read twice for the sum.
+    fn recv_after(&mut self, reading: Reading, timeout: Duration) -> Result<T, RecvTimeoutError>
         requires { IfSome reading (λ now. FitsClock (instant_nanos now)) }
         ensures channel { self.new.channel ≡ self.old.channel }
         ensures run { TimeoutRan T timeout reading self.old.steps self.new.steps (timed_reply result) }
@@ -221,8 +217,8 @@ impl<T: Drop, Rt: Wait + Clock + Drop, P: Promise<T>> Receiver<T, Rt, P> {
         ensures kept { IfOk result (λ message. P.keeps self.old.about message) }
     {
         let deadline = Deadline::after(reading, timeout);
-        let told = Some(deadline.is_over(reading));
-        let mut lent = Blocking::lend(&mut self.ground, &self.parker, &self.rt, deadline, told);
+        let made = Some(reading);
+        let mut lent = Blocking::lend(&mut self.ground, &self.parker, &self.rt, deadline, made);
         recv_timeout(&mut lent, &self.rt, &mut self.hand, deadline.has_end())
     }
 }

@@ -1,4 +1,4 @@
-//! The sender.
+//! The end that sends: one message, or none where it is dropped.
 
 ghost use Rattle.std.specs.Prelude.{◌≡◌, IfErr};
 ghost use Rattle.oneshot_machine.specs.declared.machine.Reply.TheVariants.{Refused};
@@ -65,7 +65,13 @@ impl<T: Drop> Sender<T> {
         ensures channel { IfErr result (λ error. error.channel ≡ self.channel) }
         ensures run { IfErr result (λ error. SenderGrew T Send self.steps error.steps Refused) }
     {
-        self.send_kept(message)
+        let Sender { side } = self;
+        let mut ground = SenderOnWord::new(side);
+        // A body of its own: a call of `send_kept` would copy the message once more.
+        if send(&mut ground, message) {
+            return Ok(());
+        }
+        Err(SendError::refused(ground))
     }
 }
 
@@ -81,10 +87,10 @@ impl<T: Drop, P: Promise<T>> Sender<T, P> {
         let Sender { side } = self;
         let mut ground = SenderOnWord::new(side);
         if send(&mut ground, message) {
-            return Ok(());
+            Ok(())
+        } else {
+            Err(SendError::refused(ground))
         }
-        let (message, side) = ground.into_refused();
-        Err(SendError::new(message, side))
     }
 }
 

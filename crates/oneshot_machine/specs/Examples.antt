@@ -21,7 +21,7 @@ use Rattle.oneshot_machine.specs.Phases.{sending, dropping, fresh, owes, finishe
 use Rattle.oneshot_machine.specs.Logs.{Event, did, wrote, took, handed, parked, clocked, worded, words, kept, messages_given, messages_got}
 use Rattle.oneshot_machine.specs.Runs.{Run}
 
--- how far a sender's list takes it
+-- how far a sender's log takes it
 pub record SenderLists : Type 0 where
   pub nothing_yet : sender_at [] ≡ fresh
   pub sent : sender_at ((Add, Word 3) ∷ []) ≡ finished sending
@@ -44,7 +44,7 @@ pub record SenderLists : Type 0 where
   pub swaps : sender_at ((Swap 4, Word 3) ∷ []) ≡ no_sender
   pub does_not_look : sender_at ((Add, Done) ∷ []) ≡ no_sender
 
--- how far a receiver's list takes it
+-- how far a receiver's log takes it
 pub record ReceiverLists : Type 0 where
   pub nothing_yet : receiver_at [] ≡ first
   pub looked_in_vain : receiver_at ((Load, Word 3) ∷ (Load, Word 3) ∷ []) ≡ here looked

@@ -17,7 +17,7 @@ use Rattle.oneshot_machine.specs.Examples.{ReceiverRun}
 abbrev pub once_polled : List Noted
 once_polled = (Load, Word 3) ∷ (Exchange 3 0, Word 3) ∷ []
 
--- how far a future's list takes it
+-- how far a future's log takes it
 pub record FutureLists : Type 0 where
   pub polls : receiver_at once_polled ≡ waits polled
   pub polls_again : receiver_at (once_polled ++ (Load, Word 0) ∷ []) ≡ waits again

@@ -23,7 +23,7 @@ pub data SenderAt : Type 0 where
   late : By → SenderAt
   -- its last operation is made, a final swap that found 2: the receiver went while that was to come
   overtaken : By → SenderAt
-  -- no sender makes such a list
+  -- no sender makes such a log
   no_sender : SenderAt
 
 -- a receiver that is open
@@ -91,7 +91,7 @@ pub data ReceiverAt : Type 0 where
   gone : ReceiverAt
   -- it was dropped after the sender's last operation
   ended : ReceiverAt
-  -- no receiver makes such a list
+  -- no receiver makes such a log
   no_receiver : ReceiverAt
 
 -- the word that a swap of a receiver leaves

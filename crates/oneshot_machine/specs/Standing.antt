@@ -24,7 +24,7 @@ use Rattle.oneshot_machine.specs.Noted.{Noted, op_of, is_same_op}
 
 -- An end's table, with all its positions and a number for each. `opens` are those at which a new
 -- end's calls begin, and `follows` those at which a call may begin where another has answered; looks
--- stand in neither, since no list has them.
+-- stand in neither, since no log has them.
 pub record Table (P : Type 0) : Type 0 where
   pub step : P → Step
   pub row : P → Seen → Option (Outcome P)

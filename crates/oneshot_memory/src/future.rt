@@ -6,7 +6,6 @@ ghost use Rattle.oneshot_drive.specs.Polls.{IsPolled};
 use crate::receiver::MemoryReceiver;
 use crate::task::{MemoryTask, TaskWaker};
 use oneshot_drive::{ReceiverGround, TaskGround};
-use oneshot_machine::states::Op;
 use std::alloc::Global;
 use std::sync::Wait;
 
@@ -51,8 +50,20 @@ impl<'a, 't, T: Drop, R: Wait> ReceiverGround<T, TaskWaker<'t>> for MemoryFuture
 
     ghost gives_on = { λ a b m k g. tt };
 
-    fn word(&mut self, op: Op) -> u8 {
-        self.receiver.word(op)
+    fn load(&mut self) -> u8 {
+        self.receiver.load()
+    }
+
+    fn store(&mut self, new: u8) -> u8 {
+        self.receiver.store(new)
+    }
+
+    fn swap(&mut self, new: u8) -> u8 {
+        self.receiver.swap(new)
+    }
+
+    fn exchange(&mut self, expected: u8, new: u8) -> u8 {
+        self.receiver.exchange(expected, new)
     }
 
     fn take_message(&mut self) -> T {

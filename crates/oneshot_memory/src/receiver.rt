@@ -177,6 +177,7 @@ impl<'a, T: Drop, W: Drop + Wakes, R: Wait> MemoryReceiver<'a, T, W, R> {
         ensures list { Grows self.old.state.log self.new.state.log (worded op result ∷ []) }
         ensures finds { ReceiverMakes op result self.old.state self.new.state }
     {
+        self.parked = false;
         let before = self.word;
         self.word = op.after(before);
         self.owns_message = has_message(op, before);
@@ -280,14 +281,26 @@ impl<'a, T: Drop, W: Drop + Wakes, R: Wait> ReceiverGround<T, W> for MemoryRecei
 
     ghost gives_on = { λ a b m k g. tt };
 
-    fn word(&mut self, op: Op) -> u8 {
-        let before = self.operate(op);
+    fn load(&mut self) -> u8 {
+        let parked = self.parked;
+        let found = self.operate(Op::Load);
         // One that waits makes its pause in its next park.
-        if op == Op::Load && (before == RECEIVING || before == UNPARKING) && !self.parked {
+        if (found == RECEIVING || found == UNPARKING) && !parked {
             self.pause();
         }
-        self.parked = false;
-        before
+        found
+    }
+
+    fn store(&mut self, new: u8) -> u8 {
+        self.operate(Op::Store(new))
+    }
+
+    fn swap(&mut self, new: u8) -> u8 {
+        self.operate(Op::Swap(new))
+    }
+
+    fn exchange(&mut self, expected: u8, new: u8) -> u8 {
+        self.operate(Op::Exchange(expected, new))
     }
 
     fn take_message(&mut self) -> T {

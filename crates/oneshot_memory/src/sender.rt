@@ -1,7 +1,9 @@
 //! A sender's ground in memory.
 
-ghost use Rattle.std.specs.Prelude.{◌≡◌, ⊤, map, if◌then◌else◌};
+ghost use Rattle.std.specs.Prelude.{◌≡◌, ⊤, map, if◌then◌else◌, [], ◌∷◌};
+ghost use Rattle.oneshot_machine.specs.Logs.{Grows, worded};
 ghost use Rattle.oneshot_drive.specs.BetweenCalls.{IsFresh};
+ghost use Rattle.oneshot_drive.specs.Grounds.{SenderAsks, SenderMakes};
 ghost use Rattle.oneshot_memory.specs.declared.sender.Meanwhile.TheVariants.{Waits, Stops, Leaves};
 ghost use Rattle.oneshot_memory.specs.Events.{event_of};
 ghost use Rattle.oneshot_memory.specs.Sender.{keeps_both, word_then};
@@ -115,15 +117,13 @@ impl<'a, T, W, R: Wait> MemorySender<'a, T, W, R> {
     {
         &self.events
     }
-}
 
-impl<'a, T: Drop, W: Drop, R: Wait> SenderGround<T, W> for MemorySender<'a, T, W, R> {
-    ghost state = { λ s. s.state };
-
-    // It takes in any message.
-    ghost admits = { λ s m. ⊤ };
-
-    fn word(&mut self, op: Op) -> u8 {
+    // Makes an operation on the word, and gives the word before.
+    fn operate(&mut self, op: Op) -> u8
+        requires { SenderAsks op self.old.state }
+        ensures list { Grows self.old.state.log self.new.state.log (worded op result ∷ []) }
+        ensures finds { SenderMakes op result self.old.state self.new.state }
+    {
         let before = self.word;
         self.word = op.after(before);
         let keeps = keeps_slots(before);
@@ -132,6 +132,25 @@ impl<'a, T: Drop, W: Drop, R: Wait> SenderGround<T, W> for MemorySender<'a, T, W
         let event = Event::of(Step::Word(op), sight(op, before));
         record(self.rt, &mut self.events, event);
         before
+    }
+}
+
+impl<'a, T: Drop, W: Drop, R: Wait> SenderGround<T, W> for MemorySender<'a, T, W, R> {
+    ghost state = { λ s. s.state };
+
+    // It takes in any message.
+    ghost admits = { λ s m. ⊤ };
+
+    fn add(&mut self) -> u8 {
+        self.operate(Op::Add)
+    }
+
+    fn flip(&mut self) -> u8 {
+        self.operate(Op::Xor)
+    }
+
+    fn swap(&mut self, last: u8) -> u8 {
+        self.operate(Op::Swap(last))
     }
 
     fn write_message(&mut self, message: T) {

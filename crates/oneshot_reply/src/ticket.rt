@@ -3,7 +3,9 @@
 ghost use Rattle.std.specs.Prelude.{◌≡◌, ◌≢◌, true, Err, IsErr, IfOk};
 ghost use Rattle.oneshot_errors.specs.declared.recv_timeout.RecvTimeoutError.TheVariants as Timed;
 ghost use Rattle.oneshot_errors.specs.declared.try_recv.TryRecvError.TheVariants as Tried;
-ghost use Rattle.oneshot_ends.specs.Ends.{IsClosed, IsOpen};
+ghost use Rattle.oneshot_machine.specs.declared.machine.receiver.ReceiverStart.TheVariants.{TryRecv};
+ghost use Rattle.oneshot_drive.specs.BetweenCalls.{try_recv_reply, timed_reply};
+ghost use Rattle.oneshot_ends.specs.Ends.{IsClosed, IsOpen, ReceiverGrew, TimeoutGrew};
 
 use crate::answer::Answer;
 use crate::asked::Asked;
@@ -61,6 +63,7 @@ impl<Q: Eq, A: Answer<Q> + Drop, Rt: Drop> Ticket<Q, A, Rt> {
         ensures right { IfOk result (λ reply. A.answers (A.asked reply) reply) }
         ensures about { self.new.about ≡ self.old.about }
         ensures channel { self.new.channel ≡ self.old.channel }
+        ensures run { ReceiverGrew A TryRecv self.old.steps self.new.steps (try_recv_reply result) }
         ensures closes { result ≢ Err Tried.Empty → IsClosed self.new }
         ensures stays_open { result ≡ Err Tried.Empty → IsOpen self.new }
         ensures stays_closed { IsClosed self.old → result ≡ Err Tried.Disconnected }
@@ -112,6 +115,7 @@ impl<Q: Eq, A: Answer<Q> + Drop, Rt: Wait + Clock + Drop> Ticket<Q, A, Rt> {
         ensures right { IfOk result (λ reply. A.answers (A.asked reply) reply) }
         ensures about { self.new.about ≡ self.old.about }
         ensures channel { self.new.channel ≡ self.old.channel }
+        ensures run { TimeoutGrew A timeout self.old.steps self.new.steps (timed_reply result) }
         ensures closes { result ≢ Err Timed.Timeout → IsClosed self.new }
         ensures stays_open { result ≡ Err Timed.Timeout → IsOpen self.new }
         ensures stays_closed { IsClosed self.old → result ≡ Err Timed.Disconnected }

@@ -32,7 +32,10 @@ const SECONDS: u64 = 30;
 /// A message that fills some pages.
 type Wide = [u64; 1024];
 
-const WIDE: Wide = [999; 1024];
+// A function: a constant array would be read as its elements.
+fn wide() -> Wide {
+    [999; 1024]
+}
 
 /// How many more pages a process may have at the end of a test. As many blocks of wide messages as the calls
 /// have to meet are more.
@@ -168,7 +171,7 @@ fn batch_of_wide_sends<R: Threads + Abort + Clock + AllocGlobal + RandomSource +
         polled.senders,
         polled.futures,
         polled.tasks,
-        |sender| sender.send(WIDE).is_err(),
+        |sender| sender.send(wide()).is_err(),
         true,
     )
 }

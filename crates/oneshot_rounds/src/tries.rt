@@ -8,6 +8,7 @@ use super::races::race;
 use futures::task::Poll;
 use futures::test::MockTask;
 use oneshot::{AsyncReceiver, Sender, async_channel};
+use oneshot_asserts::assert_equal;
 use std::alloc::AllocGlobal;
 use std::process::Abort;
 use std::random::RandomSource;
@@ -45,7 +46,7 @@ fn waiting_channels<R: AllocGlobal + RandomSource + Abort>(
         let task = MockTask::new(rt)?;
         let (sender, future) = async_channel(rt, rt.alloc())?;
         let mut waiting = Waiting { task, future };
-        assert_eq!(rt; waiting.poll(), Err(NothingYet));
+        assert_equal(rt, waiting.poll(), Err(NothingYet));
         assert!(rt; !waiting.task.is_woken());
         senders.push(sender)?;
         receivers.push(waiting)?;
@@ -68,7 +69,7 @@ fn assert_woken<Rt: Drop>(
         } else {
             Err(Disconnected)
         };
-        assert_eq!(rt; waiting.poll(), wanted);
+        assert_equal(rt, waiting.poll(), wanted);
     }
 }
 

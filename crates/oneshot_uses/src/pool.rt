@@ -22,6 +22,9 @@ pub struct Outcome {
 }
 
 /// Serves requests until the queue is closed and empty, and then reports how many were waited for.
+///
+/// `rt` is the runtime of the thread, which blocks while the queue is empty, `requests` the queue's receiver, and
+/// `report` the sender of the number.
 pub fn work(rt: &impl Wait, requests: &queue::Receiver<Request>, report: Sender<u64>) {
     let mut served = 0u64;
     for _ in rt.forever() {
@@ -37,6 +40,10 @@ pub fn work(rt: &impl Wait, requests: &queue::Receiver<Request>, report: Sender<
 }
 
 /// Puts a request for each square into the queue.
+///
+/// `rt` is the runtime on which each reply is waited for, `alloc` the allocator of the channels and of the answer,
+/// `requests` the queue's sender, and `roots` has the numbers. `Ok`: what waits for each reply, in the order of the
+/// numbers. `Err`: an allocation was refused.
 pub fn ask_all<'r, R: Wait + Clock>(
     rt: &'r R,
     alloc: Global,
@@ -56,6 +63,9 @@ pub fn ask_all<'r, R: Wait + Clock>(
 }
 
 /// Waits for each reply in turn, for `limit` at most.
+///
+/// `alloc` is the allocator of the answers, and `all` has what waits for each reply. `Ok`: an answer for each, in
+/// their order. `Err`: an allocation was refused.
 pub fn answers_to<Rt: Wait + Clock + Drop>(
     alloc: Global,
     all: Vec<Asked<Rt>>,
@@ -70,7 +80,10 @@ pub fn answers_to<Rt: Wait + Clock + Drop>(
     Ok(answers)
 }
 
-/// Adds up the workers' reports, each of which is waited for within `limit`.
+/// Adds up the workers' reports.
+///
+/// `reports` has the receiver of each report, and `limit` is how long each is waited for. `None`: a report did not
+/// come in time, or its worker dropped it.
 pub fn total<Rt: Wait + Clock + Drop>(
     reports: Vec<Receiver<u64, Rt>>,
     limit: Duration,
@@ -84,6 +97,10 @@ pub fn total<Rt: Wait + Clock + Drop>(
 }
 
 /// Starts so many workers, has them answer a request for the square of each number, and shuts them down.
+///
+/// `rt` is the runtime of the threads, `alloc` the allocator of the queue and of the channels, `workers` how many
+/// workers there are, `roots` has the numbers, and `limit` is how long each reply and each report is waited for.
+/// `Ok`: an answer for each number, and how many were served. `Err`: an allocation was refused.
 pub fn pooled<R: Threads + Wait + Clock + Sync>(
     rt: &R,
     alloc: Global,

@@ -18,7 +18,8 @@ pub type Answers = (Option<u64>, Option<u64>);
 /// Awaits the replies to two requests, in whichever order they come.
 ///
 /// `rt` is the runtime of the executor, and `first` and `second` have the receivers. An answer is `None`
-/// if its request was dropped without a reply. `Err` comes only from the executor.
+/// if its request was dropped without a reply, or its reply is of another number. `Err` comes only from
+/// the executor.
 pub fn both_replies<R, Rt>(rt: &R, first: Asked<Rt>, second: Asked<Rt>) -> io::Result<Answers>
 where
     R: Wait + RandomSource + AllocGlobal,
@@ -78,8 +79,9 @@ fn beside_servers<R: Threads + Sync, A, F: FnOnce() -> A>(
 
 /// Asks a thread of its own for the square of each of two numbers, and awaits both replies.
 ///
-/// `rt` is the runtime of the threads and of the executor, and `alloc` the allocator of both channels. An
-/// answer is `None` if its square did not come. `Err`: an allocation was refused, or the executor failed.
+/// `rt` is the runtime of the threads and of the executor, `alloc` the allocator of both channels, and `first`
+/// and `second` are the numbers. An answer is `None` if its square did not come. `Err`: an allocation was
+/// refused, or the executor failed.
 pub fn both_squares<R: Threads + Wait + RandomSource + AllocGlobal + Sync>(
     rt: &R,
     alloc: Global,

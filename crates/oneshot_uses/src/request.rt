@@ -20,7 +20,7 @@ pub struct Square {
 
 impl Square {
     /// Squares a number.
-    pub fn of(root: u32) -> Square
+    pub(crate) fn of(root: u32) -> Square
         ensures { result.root ≡ root }
     {
         let value = u64::from(root) * u64::from(root);
@@ -66,6 +66,9 @@ pub struct Answer {
 }
 
 /// Makes a request for the square of `root`, and what waits for its reply.
+///
+/// `rt` is the runtime on which the reply is waited for (`()` if it is awaited as a future), and `alloc` the
+/// allocator of the channel. `Err`: the allocation was refused.
 pub fn ask<Rt: Drop>(rt: Rt, alloc: Global, root: u32) -> Result<(Request, Asked<Rt>), AllocError>
     ensures request { IfOk result (λ both. both.0.root ≡ root) }
     ensures asked { IfOk result (λ both. both.1.root ≡ root) }
@@ -83,7 +86,7 @@ pub fn ask<Rt: Drop>(rt: Rt, alloc: Global, root: u32) -> Result<(Request, Asked
 }
 
 impl Request {
-    /// Replies. `false` if nobody waits for the reply.
+    /// Sends the square to whoever waits for it. `false`: nobody waits for the reply.
     pub fn serve(self) -> bool {
         let Request { root, reply } = self;
         reply.send(Square::of(root)).is_ok()
@@ -93,7 +96,7 @@ impl Request {
 /// The value of the square that came. `None` if none came, or one of another number.
 ///
 /// `root` is the number that was asked for, and `reply` is what the receiver of its square gave.
-pub fn answer_to(root: u32, reply: Result<Square, RecvError>) -> Option<u64>
+pub(crate) fn answer_to(root: u32, reply: Result<Square, RecvError>) -> Option<u64>
     ensures { IfSome result (λ value. value ≡ root * root) }
 {
     match reply {
@@ -103,7 +106,7 @@ pub fn answer_to(root: u32, reply: Result<Square, RecvError>) -> Option<u64>
 }
 
 impl<Rt: Wait + Clock + Drop> Asked<Rt> {
-    /// Waits for the reply. `None` if none comes, or one to another request.
+    /// Waits for the reply, and gives the square. `None`: none comes, or one to another request.
     pub fn wait(self) -> Option<u64>
         ensures { IfSome result (λ value. value ≡ self.root * self.root) }
     {
@@ -113,7 +116,8 @@ impl<Rt: Wait + Clock + Drop> Asked<Rt> {
 }
 
 impl<Rt: Wait + Clock + Drop> Asked<Rt> {
-    /// Waits for the reply, for `limit` at most.
+    /// Waits for the reply, for `limit` at most, and gives the answer with its number: the square; `Late`: no
+    /// reply came in time; `Lost`: none will come, or one to another request came.
     pub fn wait_within(self, limit: Duration) -> Answer
         ensures { result.root ≡ self.root }
     {
@@ -127,7 +131,7 @@ impl<Rt: Wait + Clock + Drop> Asked<Rt> {
     }
 }
 
-/// Serves each request in turn, and counts those whose reply was waited for.
+/// Serves each of `requests` in turn, and counts those whose reply was waited for.
 pub fn serve_all(requests: Vec<Request>) -> usize
     ensures { result ≤ vec_len requests }
 {
@@ -140,8 +144,8 @@ pub fn serve_all(requests: Vec<Request>) -> usize
     served
 }
 
-/// Waits for each reply in turn.
-pub fn wait_all<Rt: Wait + Clock + Drop>(
+/// Waits for each reply in turn. `Err`: an allocation was refused.
+fn wait_all<Rt: Wait + Clock + Drop>(
     alloc: Global,
     all: Vec<Asked<Rt>>,
 ) -> Result<Vec<Option<u64>>, AllocError>
@@ -155,6 +159,10 @@ pub fn wait_all<Rt: Wait + Clock + Drop>(
 }
 
 /// Asks a worker on another thread for the square of each number, and waits for its replies.
+///
+/// `rt` is the runtime of the thread, `alloc` the allocator of the channels and of the answer, and `roots` has the
+/// numbers. `Ok`: a square for each number, in their order, and `None` for a reply that did not come. `Err`: an
+/// allocation was refused.
 pub fn squares_of<R: Threads + Wait + Clock + Sync>(
     rt: &R,
     alloc: Global,

@@ -29,6 +29,9 @@ pub struct Report {
 }
 
 /// Makes turns until the signal comes or its sender is gone, and no more than `limit`.
+///
+/// `stop` is the receiver of the signal, `limit` the greatest number of turns, and `turn` makes one. Answers how
+/// many turns it made, and why it made no more.
 pub fn work_until<Rt: Drop, F: FnMut()>(
     stop: &mut Receiver<(), Rt>,
     limit: u64,
@@ -72,7 +75,7 @@ pub enum Order {
 }
 
 /// Ends a worker that has this signal's receiver.
-pub fn end(stop: Sender<()>, order: Order) {
+fn end(stop: Sender<()>, order: Order) {
     match order {
         Order::Stop => {
             // A worker that is gone needs not be told.
@@ -82,7 +85,10 @@ pub fn end(stop: Sender<()>, order: Order) {
     }
 }
 
-/// Makes turns until an owner on another thread ends them, and tells what was done.
+/// Makes turns until an owner on another thread ends them.
+///
+/// `rt` is the runtime of the threads, `alloc` the allocator of the channel, and `order` how the owner ends them.
+/// `Ok`: what was done. `Err`: the allocation was refused.
 pub fn watched<R: Threads>(rt: &R, alloc: Global, order: Order) -> Result<Report, AllocError> {
     let (stop, mut stopped) = channel::<(), ()>((), alloc)?;
     let ((), report) = join(

@@ -8,7 +8,10 @@ use std::sync::Wait;
 use std::thread::{JoinHandle, Threads, join, spawn};
 use std::time::Clock;
 
-/// Does the work, and sends its result. The result comes back if nobody waits for it.
+/// Does the work, and sends its result.
+///
+/// `work` gives the result, and `waiter` is the sender to whoever waits for it. `Some`: the result, which nobody
+/// waits for. `None`: it was sent.
 pub fn perform<T: Drop, F: FnOnce() -> T>(work: F, waiter: Sender<T>) -> Option<T>
     requires { F.pre work }
     ensures { IfSome result (F.post work) }
@@ -19,7 +22,11 @@ pub fn perform<T: Drop, F: FnOnce() -> T>(work: F, waiter: Sender<T>) -> Option<
     }
 }
 
-/// Starts `work` on a thread of its own. Who joins the thread gets the result if nobody waited for it.
+/// Starts `work` on a thread of its own.
+///
+/// `rt` is the runtime of the thread, `work` gives the result, and `waiter` is the sender to whoever waits for it.
+/// `Ok`: the thread; who joins it gets the result if nobody waited for it. `Err`: no thread could be started, and
+/// the sender was dropped.
 pub fn start<R: Threads, T: Send + Drop + 'static, F: FnOnce() -> T + Send + Drop + 'static>(
     rt: &R,
     work: F,
@@ -40,6 +47,9 @@ pub struct Joined<T> {
 }
 
 /// Starts `work`, waits for its result, and joins its thread.
+///
+/// `rt` is the runtime of the thread, `alloc` the allocator of the channel, and `work` gives the result. `Ok`: what
+/// came of the task. `Err`: the allocation was refused, or no thread could be started.
 pub fn awaited<
     R: Threads + Wait + Clock,
     T: Send + Drop + 'static,
@@ -57,7 +67,10 @@ pub fn awaited<
     })
 }
 
-/// Has `work` done on another thread, though nobody waits for its result, and gives what came back.
+/// Has `work` done on another thread, though nobody waits for its result.
+///
+/// `rt` is the runtime of the thread, `alloc` the allocator of the channel, and `work` gives the result. `Ok`: the
+/// result that came back, or `None` if none did. `Err`: the allocation was refused.
 pub fn unclaimed<R: Threads, T: Send + Drop, F: FnOnce() -> T + Send>(
     rt: &R,
     alloc: Global,

@@ -29,22 +29,22 @@ impl reply::Answer<u32> for Square {
 
 /// A number whose square was asked for, with the ticket for its square.
 #[derive(Drop)]
-pub struct Pending<Rt> {
+struct Pending<Rt> {
     /// The number.
-    pub root: u32,
+    root: u32,
     /// Where its square comes.
-    pub ticket: Ticket<u32, Square, Rt>,
+    ticket: Ticket<u32, Square, Rt>,
     ghost own: { ticket.about.question ≡ root },
 }
 
-/// Answers a request. `false` if nobody waits for the reply.
+/// Answers `request` with the square of its number. `false`: nobody waits for the reply.
 pub fn serve(request: Request<u32, Square>) -> bool {
     let square = Square::of(*request.question());
     request.answer(square).is_ok()
 }
 
 /// Serves requests until the queue is closed and empty.
-pub fn serve_queue(rt: &impl Wait, requests: &queue::Receiver<Request<u32, Square>>) {
+fn serve_queue(rt: &impl Wait, requests: &queue::Receiver<Request<u32, Square>>) {
     for _ in rt.forever() {
         let Ok(request) = requests.recv(rt) else {
             break;
@@ -53,7 +53,10 @@ pub fn serve_queue(rt: &impl Wait, requests: &queue::Receiver<Request<u32, Squar
     }
 }
 
-/// The square that the ticket gives, waited for within `limit`.
+/// The square that `ticket` gives, waited for within `limit`.
+///
+/// `Ok`: the square of the number that the ticket's request asks about. `Err(Late)`: no reply came in time.
+/// `Err(Lost)`: none will come.
 pub fn square_within<Rt: Wait + Clock + Drop>(
     ticket: &mut Ticket<u32, Square, Rt>,
     limit: Duration,
@@ -68,7 +71,7 @@ pub fn square_within<Rt: Wait + Clock + Drop>(
 }
 
 /// Puts a request for each square into the queue. `Err`: an allocation failed.
-pub fn ask_each<'r, R: Wait + Clock>(
+fn ask_each<'r, R: Wait + Clock>(
     rt: &'r R,
     alloc: Global,
     requests: &queue::Sender<Request<u32, Square>>,
@@ -90,7 +93,7 @@ pub fn ask_each<'r, R: Wait + Clock>(
 }
 
 /// Waits for each square in turn, for `limit` at most.
-pub fn squares_within<Rt: Wait + Clock + Drop>(
+fn squares_within<Rt: Wait + Clock + Drop>(
     alloc: Global,
     all: Vec<Pending<Rt>>,
     limit: Duration,
@@ -106,7 +109,7 @@ pub fn squares_within<Rt: Wait + Clock + Drop>(
 
 impl<Rt: Wait + Clock + Drop> Pending<Rt> {
     /// Waits for the square, for `limit` at most.
-    pub fn wait_within(self, limit: Duration) -> Answer
+    fn wait_within(self, limit: Duration) -> Answer
         ensures { result.root ≡ self.root }
     {
         let Pending { root, mut ticket } = self;
@@ -116,6 +119,10 @@ impl<Rt: Wait + Clock + Drop> Pending<Rt> {
 }
 
 /// Starts so many workers, has them answer a request for the square of each number, and shuts them down.
+///
+/// `rt` is the runtime of the threads, `alloc` the allocator of the queue and of the channels, `workers` how many
+/// workers there are, `roots` has the numbers, and `limit` is how long each square is waited for. `Ok`: an answer
+/// for each number, in their order. `Err`: an allocation was refused.
 pub fn asked<R: Threads + Wait + Clock + Sync>(
     rt: &R,
     alloc: Global,

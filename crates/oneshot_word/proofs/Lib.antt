@@ -13,5 +13,7 @@ pub mod SlotReads
 pub mod Trades
 pub mod RuleRead
 pub mod RuleKeeps
+pub mod RuleReceives
+pub mod Passes
 mod Crosses
 mod RuleExamples

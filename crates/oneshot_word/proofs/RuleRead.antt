@@ -93,19 +93,19 @@ module _ {T H K : Type 0} where
 
   -- a table under a promise about this value
   module _ {P : Type 0} {keeps : P → T → Type 0} (q : P) where
-    pub rule_reads : (words : List ℕ) (homes : List (Home T H K)) (views : List (View P))
+    pub rule_reads : (words : List ℕ) (homes : List (Home T H K)) (views : List (View T P))
         → Tied keeps q words homes views → Ruled q words homes views
     rule_reads _ _ _ opened = maker_alone
     rule_reads _ _ _ dealt = dealer_alone
-    rule_reads _ _ _ (runs xs ys order lies lies') =
+    rule_reads _ _ _ (runs xs ys order lies lies' same) =
         two_ends xs ys (pair_reads (sender_told order) _ (receiver_told order) (meet (between order) lies lies'))
 
     -- and both logs have their order
-    pub rule_orders : (words : List ℕ) (homes : List (Home T H K)) (views : List (View P))
+    pub rule_orders : (words : List ℕ) (homes : List (Home T H K)) (views : List (View T P))
         → Tied keeps q words homes views → Ordered q words views
     rule_orders _ _ _ opened = maker_before
     rule_orders _ _ _ dealt = dealer_before
-    rule_orders _ _ _ (runs xs ys order lies lies') = in_order xs ys order
+    rule_orders _ _ _ (runs xs ys order lies lies' same) = in_order xs ys order
 
   is_own : {X : Type 0} {kept : X → Type 0} {place : ℕ} {put : X → Slot T H K} {b : Bool} {c : Carried T H K}
       {x : Held X} → Part kept place put b c x → IsOwned b x

@@ -8,9 +8,14 @@ use Rattle.oneshot_word.specs.declared.rouse.Rouse.{Rouse}
 use Rattle.oneshot_word.specs.declared.rule.Slot.{Slot}
 use Rattle.oneshot_word.specs.declared.rule.View.{View}
 use Rattle.oneshot_word.specs.declared.rule.Role.{Role}
-use Rattle.oneshot_word.specs.Seats.{Carried, message_in, waker_in, MessageSlot, WakerSlot, slot_vacant, not_carried, carried, Front, message_first, waker_first, SeatOf, seat_of, SeatIs, SenderSeat, ReceiverSeat}
+use Rattle.oneshot_word.specs.Seats.{Carried, message_in, waker_in, MessageSlot, WakerSlot, slot_vacant, not_carried, carried, Front, message_first, waker_first, SeatOf, seat_of, GivesOnce, has_given, gave_none, HoldsTaken, SeatIs, SenderSeat, ReceiverSeat}
 use Rattle.oneshot_word.specs.Side.{Side, side_of}
 use Rattle.oneshot_word.proofs.SlotReads.{Reads, reads, as_seat}
+
+-- while the sender has the slot it has given none, whatever it puts there
+gives_none : {T : Type 0} {given : Option T} {m m' : Held T} → GivesOnce given m → m ≢ away → GivesOnce given m'
+gives_none has_given its = absurd (its refl)
+gives_none gave_none its = gave_none
 
 module _ {T H K : Type 0} where
   -- with something else in front
@@ -77,8 +82,8 @@ module _ {T H K : Type 0} where
   same_front {s} here there = ap (slot_in_front s) (sym here ∙ there)
 
   -- what a trade leaves that gave `old`, seen at the seats
-  pub record Traded {P : Type 0} (Fits : Slot T H K → Type 0) (Seat : Me (Slot T H K) (View P) → Type 0)
-      (before after : Me (Slot T H K) (View P)) (old : Slot T H K) (m : Held T) (w : Held (Rouse H K)) : Type 0 where
+  pub record Traded {P : Type 0} (Fits : Slot T H K → Type 0) (Seat : Me (Slot T H K) (View T P) → Type 0)
+      (before after : Me (Slot T H K) (View T P)) (old : Slot T H K) (m : Held T) (w : Held (Rouse H K)) : Type 0 where
     pub was : Fits old
     pub seat : Seat after
     pub view : after.0 ≡ before.0
@@ -86,143 +91,153 @@ module _ {T H K : Type 0} where
     pub waker : waker_in after.1 ≡ w
 
   -- the seat that an end has then
-  record Seated {P : Type 0} (Seat : Me (Slot T H K) (View P) → Type 0) (v : View P) (c : Carried T H K) (m : Held T)
-      (w : Held (Rouse H K)) : Type 0 where
+  record Seated {P : Type 0} (Seat : Me (Slot T H K) (View T P) → Type 0) (v : View T P) (c : Carried T H K)
+      (m : Held T) (w : Held (Rouse H K)) : Type 0 where
     seat : Seat (v, c)
     reads : Reads c m w
 
   seated : {P : Type 0} {keeps : P → T → Type 0} {whose : Role} {front : Front}
-      {owns : List Noted → Option (Bool × Bool)} (before : Me (Slot T H K) (View P)) (c : Carried T H K) {m : Held T}
-      {w : Held (Rouse H K)} → SeatIs keeps whose front owns before
-      → SeatOf (keeps before.0.about) front (owns before.0.steps) c m w
-      → Seated (SeatIs keeps whose front owns) before.0 c m w
-  seated {owns} before c seat has =
-      record { seat = as_seat {owns = owns} {me = (before.0, c)} seat.role has; reads = reads has }
+      {owns : List Noted → Option (Bool × Bool)} {Passed : Option T → Held T → Type 0}
+      (before : Me (Slot T H K) (View T P)) (c : Carried T H K) {m : Held T}
+      {w : Held (Rouse H K)} → SeatIs keeps whose front owns Passed before
+      → SeatOf (keeps before.0.about) front (owns before.0.steps) c m w → Passed before.0.passed m
+      → Seated (SeatIs keeps whose front owns Passed) before.0 c m w
+  seated {owns} {Passed} before c seat has passed =
+      record {
+        seat = as_seat {owns = owns} {Passed = Passed} {me = (before.0, c)} seat.role has passed;
+        reads = reads has;
+      }
 
-  trade_done : {P : Type 0} {place : ℕ} {Fits : Slot T H K → Type 0} {Seat : Me (Slot T H K) (View P) → Type 0}
+  trade_done : {P : Type 0} {place : ℕ} {Fits : Slot T H K → Type 0} {Seat : Me (Slot T H K) (View T P) → Type 0}
       {Has : Carried T H K → Type 0} {front c : Carried T H K} {old : Slot T H K} {m : Held T} {w : Held (Rouse H K)}
-      (before after : Me (Slot T H K) (View P)) → Trade place Fits Has front c → Seated Seat before.0 c m w
+      (before after : Me (Slot T H K) (View T P)) → Trade place Fits Has front c → Seated Seat before.0 c m w
       → front ≡ renewed place front old → after ≡ (before.0, c) → Traded Fits Seat before after old m w
   trade_done {P} {Fits} {Seat} before after t s here is =
       record {
         was = subst Fits (same_front t.in_front here) t.fits;
         seat = subst Seat (sym is) s.seat;
-        view = ap (λ (m : Me (Slot T H K) (View P)). m.0) is;
-        message = ap (λ (m : Me (Slot T H K) (View P)). message_in m.1) is ∙ s.reads.0;
-        waker = ap (λ (m : Me (Slot T H K) (View P)). waker_in m.1) is ∙ s.reads.1;
+        view = ap (λ (m : Me (Slot T H K) (View T P)). m.0) is;
+        message = ap (λ (m : Me (Slot T H K) (View T P)). message_in m.1) is ∙ s.reads.0;
+        waker = ap (λ (m : Me (Slot T H K) (View T P)). waker_in m.1) is ∙ s.reads.1;
       }
 
   -- the seats of a trade behind: as it was, turned, traded, and turned back
-  pub record Turned {P : Type 0} (place : ℕ) (before there traded after : Me (Slot T H K) (View P))
+  pub record Turned {P : Type 0} (place : ℕ) (before there traded after : Me (Slot T H K) (View T P))
       (old new : Slot T H K) : Type 0 where
     pub turn : there ≡ (before.0, turned before.1)
     pub front : there.1 ≡ renewed place there.1 old
     pub trade : traded ≡ (there.0, renewed place there.1 new)
     pub back : after ≡ (traded.0, turned traded.1)
 
-  turned_front : {P : Type 0} {place : ℕ} {before there traded after : Me (Slot T H K) (View P)} {old new : Slot T H K}
-      → Turned place before there traded after old new → turned before.1 ≡ renewed place (turned before.1) old
+  turned_front : {P : Type 0} {place : ℕ} {before there traded after : Me (Slot T H K) (View T P)}
+      {old new : Slot T H K} → Turned place before there traded after old new
+      → turned before.1 ≡ renewed place (turned before.1) old
   turned_front {P} {place} {old} t =
-      subst (λ (l : Carried T H K). l ≡ renewed place l old) (ap (λ (m : Me (Slot T H K) (View P)). m.1) t.turn) t.front
+      subst (λ (l : Carried T H K). l ≡ renewed place l old)
+      (ap (λ (m : Me (Slot T H K) (View T P)). m.1) t.turn) t.front
 
-  turned_back : {P : Type 0} {place : ℕ} {before there traded after : Me (Slot T H K) (View P)} {old new : Slot T H K}
+  turned_back : {P : Type 0} {place : ℕ} {before there traded after : Me (Slot T H K) (View T P)} {old new : Slot T H K}
       → Turned place before there traded after old new
       → after ≡ (before.0, turned (renewed place (turned before.1) new))
   turned_back {P} {place} {new} t =
-      t.back ∙ ap (λ (m : Me (Slot T H K) (View P)). (m.0, turned m.1)) t.trade
-      ∙ ap (λ (m : Me (Slot T H K) (View P)). (m.0, turned (renewed place m.1 new))) t.turn
+      t.back ∙ ap (λ (m : Me (Slot T H K) (View T P)). (m.0, turned m.1)) t.trade
+      ∙ ap (λ (m : Me (Slot T H K) (View T P)). (m.0, turned (renewed place m.1 new))) t.turn
 
   -- what is in front once a seat is turned
   front_there : {P : Type 0} {place : ℕ} {Fits : Slot T H K → Type 0} {Has : Carried T H K → Type 0} {c : Carried T H K}
-      (before there : Me (Slot T H K) (View P)) → Trade place Fits Has (turned before.1) c
+      (before there : Me (Slot T H K) (View T P)) → Trade place Fits Has (turned before.1) c
       → there ≡ (before.0, turned before.1) → (old : Slot T H K) × (there.1 ≡ renewed place there.1 old)
   front_there {P} {place} before there t turn = (
     t.was,
     subst (λ (l : Carried T H K). l ≡ renewed place l t.was)
-        (sym (ap (λ (m : Me (Slot T H K) (View P)). m.1) turn)) t.in_front,
+        (sym (ap (λ (m : Me (Slot T H K) (View T P)). m.1) turn)) t.in_front,
   )
 
-  pub sender_message_front : {P : Type 0} {keeps : P → T → Type 0} (before there : Me (Slot T H K) (View P))
+  pub sender_message_front : {P : Type 0} {keeps : P → T → Type 0} (before there : Me (Slot T H K) (View T P))
       → SenderSeat keeps before → message_in before.1 ≢ away → there ≡ (before.0, turned before.1)
       → (old : Slot T H K) × (there.1 ≡ renewed 0 there.1 old)
   sender_message_front before there seat its turn =
       front_there before there (sender_trades_message seat.has its slot_vacant) turn
 
   pub sender_message_traded : {P : Type 0} {keeps : P → T → Type 0}
-      (before there traded after : Me (Slot T H K) (View P)) {old new : Slot T H K} {m : Held T}
+      (before there traded after : Me (Slot T H K) (View T P)) {old new : Slot T H K} {m : Held T}
       → SenderSeat keeps before → message_in before.1 ≢ away → MessageSlot (keeps before.0.about) new m
       → Turned 0 before there traded after old new
       → Traded (λ s. MessageSlot (keeps before.0.about) s (message_in before.1)) (SenderSeat keeps) before after old m
       (waker_in before.1)
   sender_message_traded before there traded after seat its fits turns =
       let t = sender_trades_message seat.has its fits in
-      trade_done before after t (seated before _ seat t.has) (turned_front turns) (turned_back turns)
+      trade_done before after t (seated before _ seat t.has (gives_none seat.passed its)) (turned_front turns)
+      (turned_back turns)
 
-  pub sender_waker_front : {P : Type 0} {keeps : P → T → Type 0} (before : Me (Slot T H K) (View P))
+  pub sender_waker_front : {P : Type 0} {keeps : P → T → Type 0} (before : Me (Slot T H K) (View T P))
       → SenderSeat keeps before → waker_in before.1 ≢ away → (old : Slot T H K) × (before.1 ≡ renewed 1 before.1 old)
   sender_waker_front before seat its = let t = sender_trades_waker seat.has its slot_vacant in (t.was, t.in_front)
 
-  pub sender_waker_traded : {P : Type 0} {keeps : P → T → Type 0} (before after : Me (Slot T H K) (View P))
+  pub sender_waker_traded : {P : Type 0} {keeps : P → T → Type 0} (before after : Me (Slot T H K) (View T P))
       {old new : Slot T H K} {w : Held (Rouse H K)} → SenderSeat keeps before → waker_in before.1 ≢ away
       → WakerSlot new w → before.1 ≡ renewed 1 before.1 old → after ≡ (before.0, renewed 1 before.1 new)
       → Traded (λ s. WakerSlot s (waker_in before.1)) (SenderSeat keeps) before after old (message_in before.1) w
   sender_waker_traded before after seat its fits front is =
-      let t = sender_trades_waker seat.has its fits in trade_done before after t (seated before _ seat t.has) front is
+      let t = sender_trades_waker seat.has its fits in
+      trade_done before after t (seated before _ seat t.has seat.passed) front is
 
-  pub receiver_message_front : {P : Type 0} {keeps : P → T → Type 0} (before : Me (Slot T H K) (View P))
+  pub receiver_message_front : {P : Type 0} {keeps : P → T → Type 0} (before : Me (Slot T H K) (View T P))
       → ReceiverSeat keeps before → message_in before.1 ≢ away
       → (old : Slot T H K) × (before.1 ≡ renewed 0 before.1 old)
   receiver_message_front before seat its =
       let t = receiver_trades_message seat.has its slot_vacant in (t.was, t.in_front)
 
-  pub receiver_message_traded : {P : Type 0} {keeps : P → T → Type 0} (before after : Me (Slot T H K) (View P))
+  pub receiver_message_traded : {P : Type 0} {keeps : P → T → Type 0} (before after : Me (Slot T H K) (View T P))
       {old new : Slot T H K} {m : Held T} → ReceiverSeat keeps before → message_in before.1 ≢ away
-      → MessageSlot (keeps before.0.about) new m → before.1 ≡ renewed 0 before.1 old
+      → MessageSlot (keeps before.0.about) new m → HoldsTaken before.0.passed m → before.1 ≡ renewed 0 before.1 old
       → after ≡ (before.0, renewed 0 before.1 new)
       → Traded (λ s. MessageSlot (keeps before.0.about) s (message_in before.1)) (ReceiverSeat keeps) before after old m
       (waker_in before.1)
-  receiver_message_traded before after seat its fits front is =
+  receiver_message_traded before after seat its fits holds front is =
       let t = receiver_trades_message seat.has its fits in
-      trade_done before after t (seated before _ seat t.has) front is
+      trade_done before after t (seated before _ seat t.has holds) front is
 
-  pub receiver_waker_front : {P : Type 0} {keeps : P → T → Type 0} (before there : Me (Slot T H K) (View P))
+  pub receiver_waker_front : {P : Type 0} {keeps : P → T → Type 0} (before there : Me (Slot T H K) (View T P))
       → ReceiverSeat keeps before → waker_in before.1 ≢ away → there ≡ (before.0, turned before.1)
       → (old : Slot T H K) × (there.1 ≡ renewed 1 there.1 old)
   receiver_waker_front before there seat its turn =
       front_there before there (receiver_trades_waker seat.has its slot_vacant) turn
 
   pub receiver_waker_traded : {P : Type 0} {keeps : P → T → Type 0}
-      (before there traded after : Me (Slot T H K) (View P)) {old new : Slot T H K} {w : Held (Rouse H K)}
+      (before there traded after : Me (Slot T H K) (View T P)) {old new : Slot T H K} {w : Held (Rouse H K)}
       → ReceiverSeat keeps before → waker_in before.1 ≢ away → WakerSlot new w
       → Turned 1 before there traded after old new
       → Traded (λ s. WakerSlot s (waker_in before.1)) (ReceiverSeat keeps) before after old (message_in before.1) w
   receiver_waker_traded before there traded after seat its fits turns =
       let t = receiver_trades_waker seat.has its fits in
-      trade_done before after t (seated before _ seat t.has) (turned_front turns) (turned_back turns)
+      trade_done before after t (seated before _ seat t.has seat.passed) (turned_front turns) (turned_back turns)
 
   -- and what their ends' sides show then
-  pub message_side : {P : Type 0} {Fits : Slot T H K → Type 0} {Seat : Me (Slot T H K) (View P) → Type 0}
-      (table table' : TableId) (before after : Me (Slot T H K) (View P)) {old : Slot T H K} {m : Held T}
+  pub message_side : {P : Type 0} {Fits : Slot T H K → Type 0} {Seat : Me (Slot T H K) (View T P) → Type 0}
+      (table table' : TableId) (before after : Me (Slot T H K) (View T P)) {old : Slot T H K} {m : Held T}
       (now : Side T (Rouse H K) P) → side_of table before ≡ now → table' ≡ table
       → Traded Fits Seat before after old m (waker_in before.1) → side_of table' after ≡ record now { message = m }
   message_side {P} table table' before after now is same t =
       λ i. record {
         table = (same ∙ ap (λ (s : Side T (Rouse H K) P). s.table) is) i;
-        steps = (ap (λ (v : View P). v.steps) t.view ∙ ap (λ (s : Side T (Rouse H K) P). s.steps) is) i;
-        about = (ap (λ (v : View P). v.about) t.view ∙ ap (λ (s : Side T (Rouse H K) P). s.about) is) i;
+        steps = (ap (λ (v : View T P). v.steps) t.view ∙ ap (λ (s : Side T (Rouse H K) P). s.steps) is) i;
+        passed = (ap (λ (v : View T P). v.passed) t.view ∙ ap (λ (s : Side T (Rouse H K) P). s.passed) is) i;
+        about = (ap (λ (v : View T P). v.about) t.view ∙ ap (λ (s : Side T (Rouse H K) P). s.about) is) i;
         message = t.message i;
         waker = (t.waker ∙ ap (λ (s : Side T (Rouse H K) P). s.waker) is) i;
       }
 
-  pub waker_side : {P : Type 0} {Fits : Slot T H K → Type 0} {Seat : Me (Slot T H K) (View P) → Type 0}
-      (table table' : TableId) (before after : Me (Slot T H K) (View P)) {old : Slot T H K} {w : Held (Rouse H K)}
+  pub waker_side : {P : Type 0} {Fits : Slot T H K → Type 0} {Seat : Me (Slot T H K) (View T P) → Type 0}
+      (table table' : TableId) (before after : Me (Slot T H K) (View T P)) {old : Slot T H K} {w : Held (Rouse H K)}
       (now : Side T (Rouse H K) P) → side_of table before ≡ now → table' ≡ table
       → Traded Fits Seat before after old (message_in before.1) w → side_of table' after ≡ record now { waker = w }
   waker_side {P} table table' before after now is same t =
       λ i. record {
         table = (same ∙ ap (λ (s : Side T (Rouse H K) P). s.table) is) i;
-        steps = (ap (λ (v : View P). v.steps) t.view ∙ ap (λ (s : Side T (Rouse H K) P). s.steps) is) i;
+        steps = (ap (λ (v : View T P). v.steps) t.view ∙ ap (λ (s : Side T (Rouse H K) P). s.steps) is) i;
         message = (t.message ∙ ap (λ (s : Side T (Rouse H K) P). s.message) is) i;
         waker = t.waker i;
-        about = (ap (λ (v : View P). v.about) t.view ∙ ap (λ (s : Side T (Rouse H K) P). s.about) is) i;
+        passed = (ap (λ (v : View T P). v.passed) t.view ∙ ap (λ (s : Side T (Rouse H K) P). s.passed) is) i;
+        about = (ap (λ (v : View T P). v.about) t.view ∙ ap (λ (s : Side T (Rouse H K) P). s.about) is) i;
       }

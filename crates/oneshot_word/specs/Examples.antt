@@ -72,7 +72,7 @@ pub record ListsSay : Type 0 where
   pub left_and_wrote_before_the_end : wrote_since left_meanwhile ≡ None
   pub exchanged_and_closed : wrote_since (polled_over 4 ++ (Store 2, Done) ∷ []) ≡ Some 2
 
--- the sender's list, the receiver's list, the word, and what of both slots is at home
+-- the sender's log, the receiver's log, the word, and what of both slots is at home
 pub record StatesThatAre (T H K : Type 0) : Type 0 where
   pub new : Owned {T = T} {H = H} {K = K} [] [] 3 out bare
   pub waiting : (k : Rouse H K) → Owned {T = T} [] waits 0 out (has_waker k)

@@ -4,6 +4,7 @@ pub mod Rule
 pub mod ReadRule
 pub mod Ordered
 pub mod Promised
+pub mod Received
 pub mod Side
 pub mod Plays
 pub mod Examples

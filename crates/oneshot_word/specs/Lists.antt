@@ -1,4 +1,4 @@
--- What each end's list of operations says, read off it alone.
+-- What each end's log says, read off it alone.
 use Rattle.std.specs.Prelude.{ℕ, Bool, false, ◌&&◌, ◌||◌, ◌==◌, if◌then◌else◌, List, [], ◌∷◌, Option, Some, None}
 use Rattle.oneshot_machine.specs.declared.machine.Seen.{Seen}
 use Rattle.oneshot_machine.specs.declared.machine.Seen.TheVariants.{Word}
@@ -28,7 +28,7 @@ pub data MadeLate : By → ℕ → List Noted → Type 0 where
   sent_overtaken : MadeLate sending 4 ((Add, Word 0) ∷ (Swap 4, Word 2) ∷ [])
   dropped_overtaken : MadeLate dropping 2 ((Xor, Word 0) ∷ (Swap 2, Word 2) ∷ [])
 
--- a value carried along a list, from its first operation on
+-- a value carried along a log, from its first operation on
 abbrev pub along : {A : Type 0} → (A → Op → Seen → A) → A → List Noted → A
 along next a [] = a
 along next a (x ∷ xs) = along next (next a x.0 x.1) xs

@@ -1,5 +1,5 @@
 -- What the rule says of both logs: their operations have an order in which each finds what the one before it left.
-use Rattle.std.specs.Prelude.{ℕ, List, [], ◌∷◌}
+use Rattle.std.specs.Prelude.{ℕ, List, [], ◌∷◌, Option, None}
 use Rattle.oneshot_machine.specs.Noted.{Noted}
 use Rattle.oneshot_machine.specs.Orders.{Reaches}
 use Rattle.oneshot_word.specs.declared.rule.Role.TheVariants.{Maker, Dealer, Sender, Receiver}
@@ -8,16 +8,16 @@ use Rattle.oneshot_word.specs.Rule.{Home, Tied}
 use Rattle.oneshot_word.specs.Seats.{view}
 
 -- the words and the views of all seats
-pub data Ordered {P : Type 0} (q : P) : List ℕ → List (View P) → Type 0 where
+pub data Ordered {T P : Type 0} (q : P) : List ℕ → List (View T P) → Type 0 where
   -- before there are ends
-  maker_before : Ordered q (3 ∷ []) (view q Maker [] ∷ [])
-  dealer_before : Ordered q (3 ∷ []) (view q Dealer [] ∷ [])
+  maker_before : Ordered q (3 ∷ []) (view q Maker [] None ∷ [])
+  dealer_before : Ordered q (3 ∷ []) (view q Dealer [] None ∷ [])
   -- and then always
-  in_order : {word : ℕ} (xs ys : List Noted) → Reaches xs ys word
-      → Ordered q (word ∷ []) (view q Sender xs ∷ view q Receiver ys ∷ [])
+  in_order : {word : ℕ} (xs ys : List Noted) {given taken : Option T} → Reaches xs ys word
+      → Ordered q (word ∷ []) (view q Sender xs given ∷ view q Receiver ys taken ∷ [])
 
 -- Whatever the table is under its rule, the operations of both ends have an order.
 abbrev pub RuleOrders : {T P : Type 0} (H K : Type 0) → (P → T → Type 0) → Type 0
 RuleOrders {T} {P} H K keeps =
-    (q : P) (words : List ℕ) (homes : List (Home T H K)) (views : List (View P))
+    (q : P) (words : List ℕ) (homes : List (Home T H K)) (views : List (View T P))
     → Tied keeps q words homes views → Ordered q words views

@@ -1,6 +1,6 @@
 -- What each step on the word notes of its seat: the operation with the word that was found.
--- The table calls a note with the number that the word really held, and nothing else says that a list tells
--- what was found: the rule speaks of lists alone. So each is to be read.
+-- The table calls a note with the number that the word really held, and nothing else says that a log tells
+-- what was found: the rule speaks of logs alone. So each is to be read.
 use Rattle.std.specs.Prelude.{ℕ}
 use Rattle.atomic_table.specs.Table.{Me, Step}
 use Rattle.oneshot_machine.specs.declared.states.Op.TheVariants.{Load, Store, Swap, Exchange, Add, Xor}
@@ -10,7 +10,7 @@ use Rattle.oneshot_word.specs.Seats.{SenderStepped, ReceiverStepped}
 
 -- what a step notes of its seat: the seat before, the word that was found, and the seat after
 abbrev pub Note : Type 0 → Type 0 → Type 0 → Type 0 → Type 1
-Note T H K P = Step (Slot T H K) → Me (Slot T H K) (View P) → ℕ → Me (Slot T H K) (View P) → Type 0
+Note T H K P = Step (Slot T H K) → Me (Slot T H K) (View T P) → ℕ → Me (Slot T H K) (View T P) → Type 0
 
 module _ {T H K P : Type 0} (keeps : P → T → Type 0) where
   abbrev pub AddFound : Note T H K P

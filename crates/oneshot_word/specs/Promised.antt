@@ -1,5 +1,5 @@
 -- What the rule says of a message that lies in the table: it keeps its channel's promise.
-use Rattle.std.specs.Prelude.{ℕ, List, [], ◌∷◌}
+use Rattle.std.specs.Prelude.{ℕ, List, [], ◌∷◌, Some, None}
 use Rattle.oneshot_machine.specs.declared.machine.Seen.TheVariants.{Word}
 use Rattle.oneshot_machine.specs.declared.states.Op.TheVariants.{Add}
 use Rattle.oneshot_word.specs.declared.rule.Role.TheVariants.{Sender, Receiver}
@@ -9,9 +9,9 @@ use Rattle.oneshot_word.specs.Seats.{view}
 
 pub record RuleKeeps {T P : Type 0} (H K : Type 0) (keeps : P → T → Type 0) : Type 0 where
   -- whatever the table is under its rule
-  pub kept : (q : P) (words : List ℕ) (k : Home T H K) (views : List (View P)) (m : T)
+  pub kept : (q : P) (words : List ℕ) (k : Home T H K) (views : List (View T P)) (m : T)
       → Tied keeps q words (has_message m ∷ k ∷ []) views → keeps q m
   -- after a `send` that found the receiver there, and has made no operation
   pub sent : (q : P) (m : T) → keeps q m
       → Tied {H = H} {K = K} keeps q (4 ∷ []) (has_message m ∷ bare ∷ [])
-      (view q Sender ((Add, Word 3) ∷ []) ∷ view q Receiver [] ∷ [])
+      (view q Sender ((Add, Word 3) ∷ []) (Some m) ∷ view q Receiver [] None ∷ [])

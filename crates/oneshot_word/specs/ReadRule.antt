@@ -1,6 +1,6 @@
 -- The rule of the table as its reader wants it: both lists, the word, and whether each slot is out, empty, or
 -- holds what.
-use Rattle.std.specs.Prelude.{◌≡◌, ℕ, true, false, List, [], ◌∷◌, Some, None}
+use Rattle.std.specs.Prelude.{◌≡◌, ℕ, true, false, List, [], ◌∷◌, Option, Some, None}
 use Rattle.oneshot_machine.specs.Noted.{Noted}
 use Rattle.oneshot_machine.specs.Phases.{By, sending, dropping}
 use Rattle.oneshot_word.specs.declared.rouse.Rouse.{Rouse}
@@ -31,7 +31,7 @@ pub data IsReceiversFull {T H K : Type 0} : Home T H K → Type 0 where
 pub data IsWords {T H K : Type 0} : Home T H K → Type 0 where
   waker_at_home : (k : Rouse H K) → IsWords (has_waker k)
 
--- the sender's list, the receiver's list, the word, the message's slot and the waker's
+-- the sender's log, the receiver's log, the word, the message's slot and the waker's
 pub data Owned {T H K : Type 0} (xs ys : List Noted) : ℕ → Home T H K → Home T H K → Type 0 where
   -- the sender has made no operation, and the receiver is here and stores no waker
   both_open : {h k : Home T H K} → xs ≡ [] → stores_waker ys ≡ false → is_gone ys ≡ false
@@ -65,16 +65,16 @@ pub data Owned {T H K : Type 0} (xs ys : List Noted) : ℕ → Home T H K → Ho
       → IsReceivers h → IsReceivers k → Owned xs ys w h k
 
 -- the words, the slots at home and the views of all seats
-pub data Ruled {T H K P : Type 0} (q : P) : List ℕ → List (Home T H K) → List (View P) → Type 0 where
+pub data Ruled {T H K P : Type 0} (q : P) : List ℕ → List (Home T H K) → List (View T P) → Type 0 where
   -- before there are ends
-  maker_alone : Ruled q (3 ∷ []) (bare ∷ bare ∷ []) (view q Maker [] ∷ [])
-  dealer_alone : Ruled q (3 ∷ []) (out ∷ bare ∷ []) (view q Dealer [] ∷ [])
+  maker_alone : Ruled q (3 ∷ []) (bare ∷ bare ∷ []) (view q Maker [] None ∷ [])
+  dealer_alone : Ruled q (3 ∷ []) (out ∷ bare ∷ []) (view q Dealer [] None ∷ [])
   -- and then always
-  two_ends : {w : ℕ} {h k : Home T H K} (xs ys : List Noted) → Owned xs ys w h k
-      → Ruled q (w ∷ []) (h ∷ k ∷ []) (view q Sender xs ∷ view q Receiver ys ∷ [])
+  two_ends : {w : ℕ} {h k : Home T H K} (xs ys : List Noted) {given taken : Option T} → Owned xs ys w h k
+      → Ruled q (w ∷ []) (h ∷ k ∷ []) (view q Sender xs given ∷ view q Receiver ys taken ∷ [])
 
 -- Whatever the table is under its rule, it is as the rows say.
 abbrev pub RuleReads : {T P : Type 0} (H K : Type 0) → (P → T → Type 0) → Type 0
 RuleReads {T} {P} H K keeps =
-    (q : P) (words : List ℕ) (homes : List (Home T H K)) (views : List (View P)) → Tied keeps q words homes views
+    (q : P) (words : List ℕ) (homes : List (Home T H K)) (views : List (View T P)) → Tied keeps q words homes views
     → Ruled q words homes views

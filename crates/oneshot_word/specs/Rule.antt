@@ -1,5 +1,6 @@
--- The rule of the table as its steps keep it: the operations of both ends have an order, and where each slot is.
-use Rattle.std.specs.Prelude.{ℕ, Bool, false, ◌||◌, if◌then◌else◌, List, [], ◌∷◌, Option, Some, None}
+-- The rule of the table as its steps keep it: the operations of both ends have an order, where each slot is, and
+-- which message passes.
+use Rattle.std.specs.Prelude.{◌≡◌, ℕ, Bool, false, ◌||◌, if◌then◌else◌, List, [], ◌∷◌, Option, Some, None}
 use mathlib.Core.Option as maybe
 use Rattle.oneshot_machine.specs.Noted.{Noted}
 use Rattle.oneshot_machine.specs.Orders.{Reaches}
@@ -58,17 +59,28 @@ pub data Lies {T H K X : Type 0} (kept : X → Type 0) (put : X → Slot T H K) 
   lies_bare : Lies kept put empty bare
   lies_filled : (x : X) → kept x → Lies kept put filled (maybe.some (put x))
 
+-- a message at home keeps its channel's promise, and is the one that the sender gave
+abbrev pub IsGiven : {T P : Type 0} → (P → T → Type 0) → P → Option T → T → Type 0
+IsGiven keeps q given m = keeps q m × (given ≡ Some m)
+
+-- what the receiver took: no message, or the one that the sender gave
+pub data IsTaken {T : Type 0} (given : Option T) : Option T → Type 0 where
+  took_none : IsTaken given None
+  took_it : (m : T) → given ≡ Some m → IsTaken given (Some m)
+
 -- The words, the slots at home and the views of all seats. Each view has the value that the channel's
--- messages keep their promise about, and a message at home keeps it.
+-- messages keep their promise about.
 pub data Tied {T H K P : Type 0} (keeps : P → T → Type 0) (q : P)
-    : List ℕ → List (Home T H K) → List (View P) → Type 0 where
+    : List ℕ → List (Home T H K) → List (View T P) → Type 0 where
   -- the table is new
-  opened : Tied keeps q (3 ∷ []) (bare ∷ bare ∷ []) (view q Maker [] ∷ [])
+  opened : Tied keeps q (3 ∷ []) (bare ∷ bare ∷ []) (view q Maker [] None ∷ [])
   -- its maker has the message's slot
-  dealt : Tied keeps q (3 ∷ []) (out ∷ bare ∷ []) (view q Dealer [] ∷ [])
-  -- both ends are there: their operations have an order, and each slot is where both phases say
-  runs : {w : ℕ} {h k : Home T H K} (xs ys : List Noted)
+  dealt : Tied keeps q (3 ∷ []) (out ∷ bare ∷ []) (view q Dealer [] None ∷ [])
+  -- both ends are there: their operations have an order, each slot is where both phases say, and a message
+  -- that lies at home or that the receiver took is the one that the sender gave
+  runs : {w : ℕ} {h k : Home T H K} (xs ys : List Noted) {given taken : Option T}
       → Reaches xs ys w
-      → Lies (keeps q) Message (message_home (sender_at xs) (receiver_at ys)) h
+      → Lies (IsGiven keeps q given) Message (message_home (sender_at xs) (receiver_at ys)) h
       → Lies any with_waker (waker_home (sender_at xs) (receiver_at ys)) k
-      → Tied keeps q (w ∷ []) (h ∷ k ∷ []) (view q Sender xs ∷ view q Receiver ys ∷ [])
+      → IsTaken given taken
+      → Tied keeps q (w ∷ []) (h ∷ k ∷ []) (view q Sender xs given ∷ view q Receiver ys taken ∷ [])

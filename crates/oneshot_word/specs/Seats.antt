@@ -1,5 +1,5 @@
 -- What a seat of the table knows and carries, and what a step does to it.
-use Rattle.std.specs.Prelude.{◌≡◌, ⊤, ◌≤◌, ℕ, zero, suc, Bool, true, false, List, [], ◌∷◌, ◌++◌, Option, Some}
+use Rattle.std.specs.Prelude.{◌≡◌, ⊤, ◌≤◌, ℕ, zero, suc, Bool, true, false, List, [], ◌∷◌, ◌++◌, Option, Some, None}
 use Rattle.atomic_table.specs.Seated.{TableId}
 use Rattle.atomic_table.specs.Table.{Me}
 use Rattle.oneshot_machine.specs.declared.states.Op.{Op}
@@ -14,8 +14,8 @@ use Rattle.oneshot_word.specs.declared.rule.Slot.{Slot}
 use Rattle.oneshot_word.specs.declared.rule.Slot.TheVariants.{Empty, Message, Thread, Task, Nobody}
 use Rattle.oneshot_word.specs.declared.rule.View.{View}
 
-abbrev pub view : {P : Type 0} → P → Role → List Noted → View P
-view q r xs = record { role = r; steps = xs; about = q }
+abbrev pub view : {T P : Type 0} → P → Role → List Noted → Option T → View T P
+view q r xs m = record { role = r; steps = xs; passed = m; about = q }
 
 -- no promise of a value
 abbrev pub any : {X : Type 0} → X → Type 0
@@ -107,35 +107,60 @@ pub record IsAt (shared seat : TableId) : Type 0 where
   pub words : seat.words ≡ 1
   pub slots : seat.slots ≡ 2
 
--- an end's seat: whose it is, and what it carries by how far its end is
+-- The message that passed and the sender's slot: while the sender has the slot it has given none, so it gives
+-- one at most.
+pub data GivesOnce {T : Type 0} : Option T → Held T → Type 0 where
+  has_given : {given : Option T} → GivesOnce given away
+  gave_none : {slot : Held T} → GivesOnce None slot
+
+-- the message that passed and the receiver's slot: a message that lies there is the one that the receiver took
+pub data HoldsTaken {T : Type 0} : Option T → Held T → Type 0 where
+  holds_no_slot : {taken : Option T} → HoldsTaken taken away
+  holds_none : {taken : Option T} → HoldsTaken taken vacant
+  holds_it : (m : T) → HoldsTaken (Some m) (held m)
+
+-- an end's seat: whose it is, what it carries by how far its end is, and which message passed
 pub record SeatIs {T H K P : Type 0} (keeps : P → T → Type 0) (whose : Role) (front : Front)
-    (owns : List Noted → Option (Bool × Bool))
-    (me : Me (Slot T H K) (View P)) : Type 0 where
+    (owns : List Noted → Option (Bool × Bool)) (Passed : Option T → Held T → Type 0)
+    (me : Me (Slot T H K) (View T P)) : Type 0 where
   pub role : me.0.role ≡ whose
   pub has : SeatOf (keeps me.0.about) front (owns me.0.steps) me.1 (message_in me.1) (waker_in me.1)
+  pub passed : Passed me.0.passed (message_in me.1)
 
 module _ {T H K P : Type 0} (keeps : P → T → Type 0) where
-  abbrev pub SenderSeat : Me (Slot T H K) (View P) → Type 0
-  SenderSeat = SeatIs keeps Sender waker_first (λ xs. sender_owns (sender_at xs))
+  abbrev pub SenderSeat : Me (Slot T H K) (View T P) → Type 0
+  SenderSeat = SeatIs keeps Sender waker_first (λ xs. sender_owns (sender_at xs)) GivesOnce
 
-  abbrev pub ReceiverSeat : Me (Slot T H K) (View P) → Type 0
-  ReceiverSeat = SeatIs keeps Receiver message_first (λ ys. receiver_owns (receiver_at ys))
+  abbrev pub ReceiverSeat : Me (Slot T H K) (View T P) → Type 0
+  ReceiverSeat = SeatIs keeps Receiver message_first (λ ys. receiver_owns (receiver_at ys)) HoldsTaken
+
+-- The message that passed after an operation, by the end's slot before and after, and by what passed till then:
+-- a sender gives a message where its slot is full before and gone after.
+abbrev pub gave : {T : Type 0} → Held T → Held T → Option T → Option T
+gave (held m) away given = Some m
+gave _ _ given = given
+
+-- a receiver takes one where it has no slot before and a full one after
+abbrev pub took : {T : Type 0} → Held T → Held T → Option T → Option T
+took away (held m) taken = Some m
+took _ _ taken = taken
 
 -- a seat before and after an operation that found this word
-pub record Stepped {T H K P At : Type 0} (Seat : Me (Slot T H K) (View P) → Type 0)
-    (at : List Noted → At) (moves : At → List (Row At))
-    (before : Me (Slot T H K) (View P)) (op : Op) (word : ℕ) (after : Me (Slot T H K) (View P)) : Type 0 where
+pub record Stepped {T H K P At : Type 0} (Seat : Me (Slot T H K) (View T P) → Type 0)
+    (at : List Noted → At) (moves : At → List (Row At)) (passes : Held T → Held T → Option T → Option T)
+    (before : Me (Slot T H K) (View T P)) (op : Op) (word : ℕ) (after : Me (Slot T H K) (View T P)) : Type 0 where
   pub about : after.0.about ≡ before.0.about
   pub list : after.0.steps ≡ before.0.steps ++ (op, saw op word) ∷ []
+  pub passed : after.0.passed ≡ passes (message_in before.1) (message_in after.1) before.0.passed
   pub seat : Seat after
-  -- a store's list does not tell the word
+  -- a store's log does not tell the word
   pub code : word ≤ 4
   pub finds : Finds moves (at before.0.steps) op word
       (message_in before.1) (waker_in before.1) (message_in after.1) (waker_in after.1)
 
 module _ {T H K P : Type 0} (keeps : P → T → Type 0) where
-  abbrev pub SenderStepped : Me (Slot T H K) (View P) → Op → ℕ → Me (Slot T H K) (View P) → Type 0
-  SenderStepped = Stepped (SenderSeat keeps) sender_at sender_moves
+  abbrev pub SenderStepped : Me (Slot T H K) (View T P) → Op → ℕ → Me (Slot T H K) (View T P) → Type 0
+  SenderStepped = Stepped (SenderSeat keeps) sender_at sender_moves gave
 
-  abbrev pub ReceiverStepped : Me (Slot T H K) (View P) → Op → ℕ → Me (Slot T H K) (View P) → Type 0
-  ReceiverStepped = Stepped (ReceiverSeat keeps) receiver_at receiver_moves
+  abbrev pub ReceiverStepped : Me (Slot T H K) (View T P) → Op → ℕ → Me (Slot T H K) (View T P) → Type 0
+  ReceiverStepped = Stepped (ReceiverSeat keeps) receiver_at receiver_moves took

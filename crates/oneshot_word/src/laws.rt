@@ -3,6 +3,7 @@
 ghost use Rattle.oneshot_word.specs.Examples.{ListsSay, StatesThatAre, StatesThatAreNot};
 ghost use Rattle.oneshot_word.specs.Ordered.{RuleOrders};
 ghost use Rattle.oneshot_word.specs.Promised.{RuleKeeps};
+ghost use Rattle.oneshot_word.specs.Received.{ReceivedIsSent, MessagesThatPass, MessagesThatDoNot};
 
 use crate::promise::Promise;
 
@@ -23,4 +24,12 @@ pub fn every_state_is_reached<T, H, K, P: Promise<T>>()
 /// that keeps it may lie there.
 pub fn messages_keep_their_promise<T, H, K, P: Promise<T>>()
     ensures { RuleKeeps H K P.keeps }
+{}
+
+/// Whenever the table keeps its rule, a message that the receiver took is the one that the sender gave, and so
+/// is a message that lies there; with examples of both, and of states that are none.
+pub fn what_is_received_was_sent<T, H, K, P: Promise<T>>()
+    ensures law { ReceivedIsSent H K P.keeps }
+    ensures messages { MessagesThatPass H K P.keeps }
+    ensures no_messages { MessagesThatDoNot H K P.keeps }
 {}

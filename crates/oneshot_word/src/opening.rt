@@ -1,6 +1,7 @@
 //! How a channel's table is made.
 
 ghost use Rattle.std.specs.Prelude.{◌≡◌, [], ◌∷◌, IfOk};
+ghost use Rattle.std.specs.Arc.{arc_value};
 ghost use Rattle.oneshot_word.specs.Side.{AreEnds};
 ghost use Rattle.oneshot_word.specs.declared.rule.Slot.TheVariants.{Empty};
 
@@ -9,12 +10,14 @@ use crate::promise::Promise;
 use crate::receiver::ReceiverSide;
 use crate::rule::Slot;
 use crate::sender::SenderSide;
+use crate::table::WordTable;
 use atomic_table::Table;
 use oneshot_machine::states::EMPTY;
 use std::alloc::{AllocError, Global};
 use std::sync::Arc;
 
 /// Both sides of a new table. Where memory is refused nothing is made.
+#[inline(always)]
 pub fn open<T: Send + Drop, H: Send + Drop, K: Send + Drop, P: Promise<T>>(
     alloc: Global,
     about: &P,
@@ -26,14 +29,41 @@ pub fn open<T: Send + Drop, H: Send + Drop, K: Send + Drop, P: Promise<T>>(
     };
     made.shared.load::<Deals>(&mut seat, 0);
     let other = made.shared.split_seat::<Halves>(&mut seat);
+    match shared(alloc, made) {
+        Ok((table, shared)) => {
+            let sender = SenderSide::new(table, seat);
+            let receiver = ReceiverSide {
+                table: shared,
+                seat: other,
+            };
+            Ok((sender, receiver))
+        }
+        // Dropped by hand: else the borrow checker does not cover this function.
+        Err(error) => {
+            drop(seat);
+            drop(other);
+            Err(error)
+        }
+    }
+}
+
+// The table, for each side.
+#[inline(always)]
+fn shared<T: Send + Drop, H: Send + Drop, K: Send + Drop, P: Promise<T>>(
+    alloc: Global,
+    made: WordTable<T, H, K, P>,
+) -> Result<
+    (
+        Arc<WordTable<T, H, K, P>, Global>,
+        Arc<WordTable<T, H, K, P>, Global>,
+    ),
+    AllocError,
+>
+    ensures { IfOk result (λ two. (arc_value two.0 ≡ made) × (arc_value two.1 ≡ made)) }
+{
     let table = Arc::new(alloc, made)?;
     let shared = Arc::try_clone(&table)?;
-    let sender = SenderSide::new(table, seat);
-    let receiver = ReceiverSide {
-        table: shared,
-        seat: other,
-    };
-    Ok((sender, receiver))
+    Ok((table, shared))
 }
 
 fn empty_slots<T: Drop, H: Drop, K: Drop>(alloc: Global) -> Result<Vec<Slot<T, H, K>>, AllocError>

@@ -1,6 +1,6 @@
 //! What each step notes of the seat that makes it. These types are for the proofs alone.
 
-ghost use Rattle.std.specs.Prelude.{◌≡◌, ◌∷◌, []};
+ghost use Rattle.std.specs.Prelude.{◌≡◌, ◌∷◌, [], None};
 ghost use Rattle.oneshot_word.specs.declared.rule.Role.TheVariants.{Dealer, Sender, Receiver};
 ghost use Rattle.oneshot_word.specs.declared.rule.Slot.TheVariants.{Empty};
 ghost use Rattle.oneshot_word.specs.Plays.{AddFound, FlipFound, FinalSwapFound, LoadFound, StoreFound, SwapFound, ExchangeFound};
@@ -12,58 +12,58 @@ use atomic_table::{Play, Split};
 
 pub(crate) struct Adds;
 
-impl<T, H, K, P: Promise<T>> Play<Slot<T, H, K>, View<P>> for Adds {
+impl<T, H, K, P: Promise<T>> Play<Slot<T, H, K>, View<T, P>> for Adds {
     ghost then = { AddFound P.keeps };
 }
 
 pub(crate) struct Flips;
 
-impl<T, H, K, P: Promise<T>> Play<Slot<T, H, K>, View<P>> for Flips {
+impl<T, H, K, P: Promise<T>> Play<Slot<T, H, K>, View<T, P>> for Flips {
     ghost then = { FlipFound P.keeps };
 }
 
 pub(crate) struct Finishes;
 
-impl<T, H, K, P: Promise<T>> Play<Slot<T, H, K>, View<P>> for Finishes {
+impl<T, H, K, P: Promise<T>> Play<Slot<T, H, K>, View<T, P>> for Finishes {
     ghost then = { FinalSwapFound P.keeps };
 }
 
 pub(crate) struct Loads;
 
-impl<T, H, K, P: Promise<T>> Play<Slot<T, H, K>, View<P>> for Loads {
+impl<T, H, K, P: Promise<T>> Play<Slot<T, H, K>, View<T, P>> for Loads {
     ghost then = { LoadFound P.keeps };
 }
 
 pub(crate) struct Stores;
 
-impl<T, H, K, P: Promise<T>> Play<Slot<T, H, K>, View<P>> for Stores {
+impl<T, H, K, P: Promise<T>> Play<Slot<T, H, K>, View<T, P>> for Stores {
     ghost then = { StoreFound P.keeps };
 }
 
 pub(crate) struct Swaps;
 
-impl<T, H, K, P: Promise<T>> Play<Slot<T, H, K>, View<P>> for Swaps {
+impl<T, H, K, P: Promise<T>> Play<Slot<T, H, K>, View<T, P>> for Swaps {
     ghost then = { SwapFound P.keeps };
 }
 
 pub(crate) struct Exchanges;
 
-impl<T, H, K, P: Promise<T>> Play<Slot<T, H, K>, View<P>> for Exchanges {
+impl<T, H, K, P: Promise<T>> Play<Slot<T, H, K>, View<T, P>> for Exchanges {
     ghost then = { ExchangeFound P.keeps };
 }
 
 // The maker takes the message's slot.
 pub(crate) struct Deals;
 
-impl<T, H, K, P> Play<Slot<T, H, K>, View<P>> for Deals {
-    ghost then = { λ _ before found after. after ≡ (view before.0.about Dealer [], (0, Empty) ∷ []) };
+impl<T, H, K, P> Play<Slot<T, H, K>, View<T, P>> for Deals {
+    ghost then = { λ _ before found after. after ≡ (view before.0.about Dealer [] None, (0, Empty) ∷ []) };
 }
 
 // The sender's seat keeps the slot, and the receiver has a new seat.
 pub(crate) struct Halves;
 
-impl<P> Split<View<P>> for Halves {
-    ghost left = { λ v. view v.about Sender [] };
+impl<T, P> Split<View<T, P>> for Halves {
+    ghost left = { λ v. view v.about Sender [] None };
 
-    ghost right = { λ v. view v.about Receiver [] };
+    ghost right = { λ v. view v.about Receiver [] None };
 }

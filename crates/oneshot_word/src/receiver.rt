@@ -1,11 +1,11 @@
 //! The receiver's side of the shared word.
 
-ghost use Rattle.std.specs.Prelude.{◌≡◌, ◌≢◌};
+ghost use Rattle.std.specs.Prelude.{◌≡◌, ◌≢◌, Some};
 ghost use Rattle.oneshot_machine.specs.declared.states.Op.TheVariants.{Load, Store, Swap, Exchange};
 ghost use Rattle.oneshot_machine.specs.Phases.{receiver_at};
 ghost use Rattle.oneshot_machine.specs.Slots.{ReceiverOwns, away, vacant, held};
 ghost use Rattle.oneshot_word.specs.declared.rouse.Rouse.{Rouse};
-ghost use Rattle.oneshot_word.specs.Seats.{Keeps, MessageSlot, WakerSlot, message_of, waker_of};
+ghost use Rattle.oneshot_word.specs.Seats.{HoldsTaken, Keeps, MessageSlot, WakerSlot, message_of, waker_of};
 ghost use Rattle.oneshot_word.specs.Side.{ReceiverCan, ReceiverDid};
 
 use crate::plays::{Exchanges, Loads, Stores, Swaps};
@@ -89,6 +89,7 @@ impl<T: Drop, H: Drop, K: Drop, P: Promise<T>> ReceiverSide<T, H, K, P> {
     pub fn take_message(&mut self) -> T
         requires { (message : T) × (self.old.message ≡ held message) }
         ensures message { self.old.message ≡ held result }
+        ensures passed { self.old.passed ≡ Some result }
         ensures kept { P.keeps self.old.about result }
         ensures rest { self.new ≡ record self.old { message = vacant } }
     {
@@ -119,7 +120,9 @@ impl<T, H, K, P: Promise<T>> ReceiverSide<T, H, K, P> {
         requires its_own { self.old.message ≢ away }
         requires no_waker { waker_of new ≡ vacant }
         requires kept { Keeps (P.keeps self.old.about) (message_of new) }
+        requires passed { HoldsTaken self.old.passed (message_of new) }
         ensures was { MessageSlot (P.keeps self.old.about) result self.old.message }
+        ensures taken { HoldsTaken self.old.passed self.old.message }
         ensures has { self.new ≡ record self.old { message = message_of new } }
     {
         self.table.shared.exchange(&mut self.seat, 0, new)

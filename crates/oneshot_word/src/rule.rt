@@ -79,13 +79,16 @@ pub enum Role {
     Receiver,
 }
 
-/// What a seat knows: whose it is, the list of its operations on the word, looks apart, each with what
-/// it saw, and the value that the channel is about. It is for the proofs alone: no value of it is made.
-pub struct View<P> {
+/// What a seat knows: whose it is, the log of its operations on the word, looks apart, each with what
+/// it saw, the message that passed, and the value that the channel is about. It is for the proofs alone: no
+/// value of it is made.
+pub struct View<T, P> {
     /// Whose seat it is.
     pub role: Role,
     /// Its operations on the word.
     pub steps: LinkedList<(Op, Seen)>,
+    /// The message that its end gave to the table or took from it, once it has.
+    pub passed: Option<T>,
     /// What each message keeps its promise about.
     pub about: P,
 }
@@ -93,13 +96,13 @@ pub struct View<P> {
 /// The rule of the shared word.
 pub struct WordRule;
 
-impl<T, H, K, P: Promise<T>> TableRule<Slot<T, H, K>, View<P>, P> for WordRule {
-    ghost use Rattle.std.specs.Prelude.{[]};
+impl<T, H, K, P: Promise<T>> TableRule<Slot<T, H, K>, View<T, P>, P> for WordRule {
+    ghost use Rattle.std.specs.Prelude.{[], None};
     ghost use Rattle.oneshot_word.specs.Rule.{Tied};
     ghost use Rattle.oneshot_word.specs.Seats.{view};
     ghost use Rattle.oneshot_word.specs.declared.rule.Role.TheVariants.{Maker};
 
     ghost holds = { λ q s. Tied P.keeps q s.words s.homes s.views };
 
-    ghost first = { λ q. view q Maker [] };
+    ghost first = { λ q. view q Maker [] None };
 }

@@ -29,6 +29,7 @@ fn each_name_is_read(rt: HostRuntime) -> Result<(), Fail> {
         ("make_drop_4096", Loop::MakeDropLarge),
         ("make_send_recv_4096", Loop::MakeSendRecvLarge),
         ("make_poll_send_poll_4096", Loop::MakePollSendPollLarge),
+        ("make_answer_wait", Loop::MakeAnswerWait),
         ("round_trip", Loop::RoundTrip),
         (
             "make_send_block_on",

@@ -197,6 +197,7 @@ fn each_loop_makes_its_rounds(rt: HostRuntime) -> Result<(), Fail> {
         (Channel::Oneshot, Loop::MakeDropLarge, made(4096)),
         (Channel::Oneshot, Loop::MakeSendRecvLarge, waited(4096)),
         (Channel::Oneshot, Loop::MakePollSendPollLarge, polled(4096)),
+        (Channel::Oneshot, Loop::MakeAnswerWait, waited(8)),
         (Channel::Futures, Loop::MakeSendReceiveDrop, tried(8)),
         (Channel::Futures, Loop::MakeDrop, made(8)),
         (Channel::Futures, Loop::MakePollSendPoll, polled(8)),
@@ -236,9 +237,11 @@ fn a_channel_refuses_a_loop_that_it_has_no_call_for(rt: HostRuntime) {
     let kinds = [
         (Channel::Futures, Loop::MakeSendRecv),
         (Channel::Futures, Loop::MakeSendRecvLarge),
+        (Channel::Futures, Loop::MakeAnswerWait),
         (Channel::Futures, Loop::RoundTrip),
         (Channel::Crossbeam, Loop::MakePollSendPoll),
         (Channel::Crossbeam, Loop::MakePollSendPollLarge),
+        (Channel::Crossbeam, Loop::MakeAnswerWait),
         (Channel::Crossbeam, Loop::Awaited(Awaited::MakeSendBlockOn)),
         (Channel::Crossbeam, Loop::Awaited(Awaited::RoundTripAwait)),
     ];

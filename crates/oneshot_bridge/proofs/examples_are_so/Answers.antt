@@ -1,6 +1,14 @@
--- The worked run, and why the others are none.
+-- The worked runs, and why the others are none.
+use Rattle.oneshot_bridge.proofs.CellExamples.{worked_cells, wrong_cells, wrong_uses}
 use Rattle.oneshot_bridge.proofs.Examples.{worked_run, wrong_runs}
 use Rattle.oneshot_bridge.proofs.examples_are_so.Goals as goal
 
 pub returns : goal.returns
-returns g c = record { run = worked_run; wrong = wrong_runs }
+returns g c =
+    record {
+      run = worked_run;
+      wrong = wrong_runs;
+      cells = worked_cells;
+      wrong_cells = wrong_cells;
+      wrong_uses = wrong_uses;
+    }

@@ -35,12 +35,12 @@ impl<T, Rt, P: Promise<T>> Receiver<T, Rt, P> {
 }
 
 impl<T, Rt, P: Promise<T>> AsyncReceiver<T, Rt, P> {
-    /// Whether the sender is gone without a message, or the message was received, by one load.
+    /// Whether the sender is gone without a message, or the message was received. One load, which never blocks.
     pub fn is_closed(&self) -> bool {
         self.ground.peek() == DISCONNECTED
     }
 
-    /// Whether the message is there, by one load; the next poll gives it then.
+    /// Whether the message is there; if so, the next poll gives it. One load, which never blocks.
     pub fn has_message(&self) -> bool {
         self.ground.peek() == MESSAGE
     }

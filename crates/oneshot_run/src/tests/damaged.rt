@@ -9,6 +9,7 @@ mod place;
 mod reading;
 
 use crate::tests::told;
+use oneshot_asserts::{assert_equal, assert_equal_of};
 use reading::{Asked, Kind, read};
 use std::process::Abort;
 use std::test::Fail;
@@ -24,7 +25,7 @@ fn assert_as_read(rt: &(impl Abort + AllocGlobal), input: &[u8]) -> Result<Kind,
         }
         Err(flaw) => {
             let fault = format!(in rt.alloc(); "2 {flaw}")?;
-            assert_eq!(rt; output, fault, "{}", input.escape_ascii());
+            assert_equal_of(rt, output, fault, input.escape_ascii());
             Ok(flaw.kind())
         }
     }
@@ -44,7 +45,7 @@ fn assert_trace(
     assert_rest(rt, lines.next().expect(rt, "a rest"), asked.message)?;
     let block = lines.next().expect(rt, "a block");
     assert!(rt; block == "block here" || block == "block freed", "{block}");
-    assert_eq!(rt; lines.next(), None);
+    assert_equal(rt, lines.next(), None);
     Ok(())
 }
 
@@ -68,7 +69,7 @@ fn assert_rest(
     message: Option<&str>,
 ) -> Result<(), Fail> {
     let Some(message) = message else {
-        assert_eq!(rt; rest, "rest none");
+        assert_equal(rt, rest, "rest none");
         return Ok(());
     };
     let end = format!(in rt.alloc(); "({message})")?;

@@ -2,6 +2,7 @@
 //! its lines.
 
 use crate::tests::told;
+use oneshot_asserts::{assert_equal, assert_equal_of};
 use std::test::Fail;
 
 #[test]
@@ -46,32 +47,36 @@ fn each_fault_of_the_three_lines(rt: HostRuntime) {
         ("S\nR\nX\n\n", "2 input after line 3"),
     ];
     for (input, fault) in faults {
-        assert_eq!(rt; told(&rt, input.as_bytes()).as_str(), fault, "{input:?}");
+        assert_equal_of(&rt, told(&rt, input.as_bytes()).as_str(), fault, input);
     }
 }
 
 #[test]
 fn bytes_above_127_are_not_ascii(rt: HostRuntime) {
-    assert_eq!(rt;
+    assert_equal(
+        &rt,
         told(&rt, b"S\nR\nX\n\x80").as_str(),
-        "2 input is not ASCII"
+        "2 input is not ASCII",
     );
-    assert_eq!(rt;
+    assert_equal(
+        &rt,
         told(&rt, "S é\nR\nX\n".as_bytes()).as_str(),
-        "2 input is not ASCII"
+        "2 input is not ASCII",
     );
-    assert_eq!(rt;
+    assert_equal(
+        &rt,
         told(&rt, b"S \x7f\nR\nX\n").as_str(),
-        "2 line 1: unknown word 1"
+        "2 line 1: unknown word 1",
     );
 }
 
 #[test]
 fn a_byte_above_127_is_told_before_any_line(rt: HostRuntime) {
-    assert_eq!(rt; told(&rt, b"\xff").as_str(), "2 input is not ASCII");
-    assert_eq!(rt;
+    assert_equal(&rt, told(&rt, b"\xff").as_str(), "2 input is not ASCII");
+    assert_equal(
+        &rt,
         told(&rt, b"Q\nR\nX\n\xff").as_str(),
-        "2 input is not ASCII"
+        "2 input is not ASCII",
     );
 }
 
@@ -83,9 +88,9 @@ fn a_long_input_is_told_before_all_else(rt: HostRuntime) -> Result<(), Fail> {
     ];
     for (byte, fault) in fitting {
         let mut input = vec![in rt.alloc(); byte; 1_048_577]?;
-        assert_eq!(rt; told(&rt, &input).as_str(), "2 input too long", "of {byte}");
+        assert_equal_of(&rt, told(&rt, &input).as_str(), "2 input too long", byte);
         input.pop();
-        assert_eq!(rt; told(&rt, &input).as_str(), fault, "of {byte}");
+        assert_equal_of(&rt, told(&rt, &input).as_str(), fault, byte);
     }
     Ok(())
 }

@@ -14,7 +14,7 @@ use std::process::Abort;
 const INTERRUPTS: usize = 20;
 
 /// How a call of a stream fails, so that it is not to be made again.
-const FAILURES: [ErrorKind; 5] = [
+const FAILURES: &[ErrorKind] = &[
     ErrorKind::BrokenPipe,
     ErrorKind::ConnectionReset,
     ErrorKind::StorageFull,

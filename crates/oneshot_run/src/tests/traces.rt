@@ -1,6 +1,7 @@
 //! Inputs that are run.
 
 use crate::tests::{SENT, SENT_TRACE, assert_traces, told};
+use oneshot_asserts::assert_equal_of;
 use std::test::Fail;
 
 #[test]
@@ -671,7 +672,7 @@ block here
         "S\nR deadline\nX onornor\n",
     ];
     for input in schedules {
-        assert_eq!(rt; told(&rt, input.as_bytes()).as_str(), trace, "{input}");
+        assert_equal_of(&rt, told(&rt, input.as_bytes()).as_str(), trace, input);
     }
 }
 
@@ -696,7 +697,7 @@ fn traces_of_fronts_of_a_schedule(rt: HostRuntime) -> Result<(), Fail> {
             writeln!(output, "{line}")?;
         }
         writeln!(output, "rest {rest}\n{block}")?;
-        assert_eq!(rt; told(&rt, input.as_bytes()), output, "{moves}");
+        assert_equal_of(&rt, told(&rt, input.as_bytes()), output, moves);
     }
     Ok(())
 }

@@ -1,6 +1,7 @@
 //! A message is dropped once, whichever end goes first; an `Arc` counts who holds it.
 
 use oneshot::channel;
+use oneshot_asserts::assert_equal;
 use std::sync::Arc;
 use std::test::Fail;
 
@@ -11,9 +12,9 @@ fn a_received_message_is_the_tests_to_drop(rt: HostRuntime) -> Result<(), Fail> 
     assert!(rt; sender.send(Arc::try_clone(&shared)?).is_ok());
     let received = receiver.try_recv();
     drop(receiver);
-    assert_eq!(rt; Arc::strong_count(&shared), 2);
+    assert_equal(&rt, Arc::strong_count(&shared), 2);
     drop(received);
-    assert_eq!(rt; Arc::strong_count(&shared), 1);
+    assert_equal(&rt, Arc::strong_count(&shared), 1);
     Ok(())
 }
 
@@ -22,9 +23,9 @@ fn the_receiver_drops_an_unread_message(rt: HostRuntime) -> Result<(), Fail> {
     let shared = Arc::new(rt.alloc(), 7u8)?;
     let (sender, receiver) = channel((), rt.alloc())?;
     assert!(rt; sender.send(Arc::try_clone(&shared)?).is_ok());
-    assert_eq!(rt; Arc::strong_count(&shared), 2);
+    assert_equal(&rt, Arc::strong_count(&shared), 2);
     drop(receiver);
-    assert_eq!(rt; Arc::strong_count(&shared), 1);
+    assert_equal(&rt, Arc::strong_count(&shared), 1);
     Ok(())
 }
 
@@ -35,9 +36,9 @@ fn the_error_drops_a_refused_message(rt: HostRuntime) -> Result<(), Fail> {
     drop(receiver);
     let refused = sender.send(Arc::try_clone(&shared)?);
     assert!(rt; refused.is_err());
-    assert_eq!(rt; Arc::strong_count(&shared), 2);
+    assert_equal(&rt, Arc::strong_count(&shared), 2);
     drop(refused);
-    assert_eq!(rt; Arc::strong_count(&shared), 1);
+    assert_equal(&rt, Arc::strong_count(&shared), 1);
     Ok(())
 }
 
@@ -50,9 +51,9 @@ fn a_message_given_back_is_the_tests_to_drop(rt: HostRuntime) -> Result<(), Fail
         panic!(rt; "the receiver is gone")
     };
     let message = error.into_inner();
-    assert_eq!(rt; Arc::strong_count(&shared), 2);
+    assert_equal(&rt, Arc::strong_count(&shared), 2);
     drop(message);
-    assert_eq!(rt; Arc::strong_count(&shared), 1);
+    assert_equal(&rt, Arc::strong_count(&shared), 1);
     Ok(())
 }
 
@@ -66,8 +67,8 @@ fn the_ends_drop_nothing_that_was_not_sent(rt: HostRuntime) -> Result<(), Fail> 
     let (sender, receiver) = channel::<Arc<u8>, ()>((), rt.alloc())?;
     drop(receiver);
     drop(sender);
-    assert_eq!(rt; Arc::strong_count(&shared), 2);
+    assert_equal(&rt, Arc::strong_count(&shared), 2);
     drop(message);
-    assert_eq!(rt; Arc::strong_count(&shared), 1);
+    assert_equal(&rt, Arc::strong_count(&shared), 1);
     Ok(())
 }

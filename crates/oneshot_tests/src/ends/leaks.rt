@@ -5,6 +5,7 @@ use super::lives::{DROPPED, LIVES, Life, RAW, READY, TRIED, live};
 use super::steps::{Ends, Look};
 use futures::test::MockTask;
 use oneshot::{RecvError, channel};
+use oneshot_asserts::{assert_equal, assert_equal_of};
 use std::process::Abort;
 use std::random::RandomSource;
 use std::rt::Files;
@@ -176,22 +177,22 @@ fn a_receiver_that_was_woken_leaves_nothing(rt: HostRuntime) -> Result<(), Fail>
 
 #[test]
 fn a_future_that_was_ready_leaves_nothing(rt: HostRuntime) -> Result<(), Fail> {
-    assert_none_leaks(&rt, &READY)
+    assert_none_leaks(&rt, READY)
 }
 
 #[test]
 fn a_future_that_is_looked_at_leaves_nothing(rt: HostRuntime) -> Result<(), Fail> {
-    assert_none_leaks(&rt, &TRIED)
+    assert_none_leaks(&rt, TRIED)
 }
 
 #[test]
 fn a_future_that_is_dropped_leaves_nothing(rt: HostRuntime) -> Result<(), Fail> {
-    assert_none_leaks(&rt, &DROPPED)
+    assert_none_leaks(&rt, DROPPED)
 }
 
 #[test]
 fn raw_ends_leave_nothing(rt: HostRuntime) -> Result<(), Fail> {
-    assert_none_leaks(&rt, &RAW)
+    assert_none_leaks(&rt, RAW)
 }
 
 /// A runtime that is alive as long as its `Arc` is.
@@ -224,18 +225,18 @@ fn the_runtime_is_dropped_with_the_receiver(rt: HostRuntime) -> Result<(), Fail>
         channel::<u8, _>(counted, rt.alloc())
     };
     let (sender, receiver) = ends()?;
-    assert_eq!(rt; Arc::strong_count(&alive), 2);
+    assert_equal(&rt, Arc::strong_count(&alive), 2);
     drop(receiver);
-    assert_eq!(rt; Arc::strong_count(&alive), 1);
+    assert_equal(&rt, Arc::strong_count(&alive), 1);
     drop(sender);
     let (sender, receiver) = ends()?;
     assert!(rt; sender.send(19).is_ok());
-    assert_eq!(rt; receiver.recv(), Ok(19));
-    assert_eq!(rt; Arc::strong_count(&alive), 1);
+    assert_equal(&rt, receiver.recv(), Ok(19));
+    assert_equal(&rt, Arc::strong_count(&alive), 1);
     let (sender, receiver) = ends()?;
     drop(sender);
-    assert_eq!(rt; receiver.recv(), Err(RecvError));
-    assert_eq!(rt; Arc::strong_count(&alive), 1);
+    assert_equal(&rt, receiver.recv(), Err(RecvError));
+    assert_equal(&rt, Arc::strong_count(&alive), 1);
     Ok(())
 }
 
@@ -244,7 +245,7 @@ fn the_runtime_is_dropped_with_the_receiver(rt: HostRuntime) -> Result<(), Fail>
 fn the_runtime_is_dropped_with_a_receiver_of_each_life(rt: HostRuntime) -> Result<(), Fail> {
     let alive = Arc::new(rt.alloc(), 0u8)?;
     let task = MockTask::new(&rt)?;
-    for life in LIVES.into_iter().flatten() {
+    for life in LIVES.iter().copied().flatten() {
         let counted = Counted {
             rt: &rt,
             _alive: Arc::try_clone(&alive)?,
@@ -253,14 +254,10 @@ fn the_runtime_is_dropped_with_a_receiver_of_each_life(rt: HostRuntime) -> Resul
         for (number, (step, _, _, receiver)) in life.iter().enumerate() {
             ends.make(&task, *step)?;
             let owners = if *receiver == Look::Gone { 1 } else { 2 };
-            assert_eq!(rt;
-                Arc::strong_count(&alive),
-                owners,
-                "after step {number}, {step:?}"
-            );
+            assert_equal_of(&rt, Arc::strong_count(&alive), owners, (number, step));
         }
         drop(ends);
-        assert_eq!(rt; Arc::strong_count(&alive), 1, "after {life:?}");
+        assert_equal_of(&rt, Arc::strong_count(&alive), 1, life);
     }
     Ok(())
 }

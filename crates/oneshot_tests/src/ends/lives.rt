@@ -8,6 +8,7 @@ use super::steps::Step::{
 };
 use super::steps::{Answer, Ends, Look, Step};
 use futures::test::MockTask;
+use oneshot_asserts::assert_equal_of;
 use std::alloc::AllocGlobal;
 use std::io;
 use std::process::Abort;
@@ -20,7 +21,7 @@ use std::time::Clock;
 pub(super) type Life<'a> = &'a [(Step, Answer, Look, Look)];
 
 /// A future that comes to its end.
-pub(super) const READY: [Life<'static>; 4] = [
+pub(super) const READY: &[Life<'static>] = &[
     &[
         (MakeAsync, Done, Open, Open),
         (SendMessage, Sent, Gone, Full),
@@ -50,7 +51,7 @@ pub(super) const READY: [Life<'static>; 4] = [
 ];
 
 /// A future that is asked by `try_recv` before its polls, between them and after them.
-pub(super) const TRIED: [Life<'static>; 5] = [
+pub(super) const TRIED: &[Life<'static>] = &[
     &[
         (MakeAsync, Done, Open, Open),
         (TryRecv, NothingYet, Open, Open),
@@ -98,7 +99,7 @@ pub(super) const TRIED: [Life<'static>; 5] = [
 ];
 
 /// A future that is dropped before.
-pub(super) const DROPPED: [Life<'static>; 6] = [
+pub(super) const DROPPED: &[Life<'static>] = &[
     &[
         (MakeAsync, Done, Open, Open),
         (DropReceiver, Done, Closed, Gone),
@@ -139,7 +140,7 @@ pub(super) const DROPPED: [Life<'static>; 6] = [
 ];
 
 /// Ends that were opaque values.
-pub(super) const RAW: [Life<'static>; 4] = [
+pub(super) const RAW: &[Life<'static>] = &[
     &[
         (Make, Done, Open, Open),
         (SenderThroughRaw, Done, Open, Open),
@@ -168,7 +169,7 @@ pub(super) const RAW: [Life<'static>; 4] = [
 ];
 
 /// A receiver that is no future. The word is that of one that waits only while `recv_timeout` is under way.
-const BLOCKING: [Life<'static>; 4] = [
+const BLOCKING: &[Life<'static>] = &[
     &[
         (Make, Done, Open, Open),
         (TryRecv, NothingYet, Open, Open),
@@ -202,7 +203,7 @@ const BLOCKING: [Life<'static>; 4] = [
 ];
 
 /// Every life.
-pub(super) const LIVES: [&[Life<'static>]; 5] = [&READY, &TRIED, &DROPPED, &RAW, &BLOCKING];
+pub(super) const LIVES: &[&[Life<'static>]] = &[READY, TRIED, DROPPED, RAW, BLOCKING];
 
 /// Makes the steps of a life, polls as a task of their own. The ends that are left are dropped. Fails unless
 /// each step answers what the life says.
@@ -213,7 +214,7 @@ pub(super) fn live(
     let task = MockTask::new(rt)?;
     let mut ends = Ends::new(rt.alloc(), rt);
     for (step, answer, _, _) in life {
-        assert_eq!(rt; ends.make(&task, *step)?, *answer, "{step:?}");
+        assert_equal_of(rt, ends.make(&task, *step)?, *answer, step);
     }
     Ok(())
 }
@@ -221,20 +222,12 @@ pub(super) fn live(
 #[test]
 fn the_looks_of_both_ends(rt: HostRuntime) -> Result<(), Fail> {
     let task = MockTask::new(&rt)?;
-    for life in LIVES.into_iter().flatten() {
+    for life in LIVES.iter().copied().flatten() {
         let mut ends = Ends::new(rt.alloc(), &rt);
         for (number, (step, answer, sender, receiver)) in life.iter().enumerate() {
-            assert_eq!(rt;
-                ends.make(&task, *step)?,
-                *answer,
-                "step {number}, {step:?}"
-            );
+            assert_equal_of(&rt, ends.make(&task, *step)?, *answer, (number, step));
             let looks = (ends.sender_look(), ends.receiver_look());
-            assert_eq!(rt;
-                looks,
-                (*sender, *receiver),
-                "after step {number}, {step:?}"
-            );
+            assert_equal_of(&rt, looks, (*sender, *receiver), (number, step));
         }
     }
     Ok(())

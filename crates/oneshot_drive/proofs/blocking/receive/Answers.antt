@@ -10,30 +10,30 @@ use Rattle.oneshot_drive.proofs.Receives.{full_asks, ended_full, full_ran, full_
 use Rattle.oneshot_drive.proofs.Stretches.{whole}
 use Rattle.oneshot_drive.proofs.blocking.receive.Goals as goal
 
-pub word-requires : goal.word-requires
-word-requires g c = (let ends = rw c.in-Message.is at c.find.ensures.ends in full_asks ends.2)
+pub store-requires : goal.store-requires
+store-requires g c = (let ends = rw c.in-Message.is at c.find.ensures.ends in full_asks ends.2)
 
 pub take_message-requires : goal.take_message-requires
 take_message-requires g c =
-    is_in (ended_full c.word.result (rw c.in-Message.is at c.find.ensures.ends) c.word.ensures.finds
-    c.word.ensures.list).message
+    is_in (ended_full c.store.result (rw c.in-Message.is at c.find.ensures.ends) c.store.ensures.finds
+    c.store.ensures.list).message
 
 pub returns-in-Message-clause-run : goal.returns-in-Message-clause-run
 returns-in-Message-clause-run g c =
-    full_ran c.word.result c.take_message.result (rw c.in-Message.is at (c.find.ensures.went (by_ref c.args.timed)))
-    c.word.ensures.list c.take_message.ensures.list
+    full_ran c.store.result c.take_message.result (rw c.in-Message.is at (c.find.ensures.went (by_ref c.args.timed)))
+    c.store.ensures.list c.take_message.ensures.list
 
 pub returns-in-Message-clause-rests : goal.returns-in-Message-clause-rests
 returns-in-Message-clause-rests g c =
     rests_over (took_message
-    (ended_full c.word.result (rw c.in-Message.is at c.find.ensures.ends) c.word.ensures.finds c.word.ensures.list)
+    (ended_full c.store.result (rw c.in-Message.is at c.find.ensures.ends) c.store.ensures.finds c.store.ensures.list)
     c.take_message.ensures.list c.take_message.ensures.message c.take_message.ensures.waker)
 
 pub returns-in-Message-clause-leaves : goal.returns-in-Message-clause-leaves
 returns-in-Message-clause-leaves g c =
     full_leaves c.take_message.result
-    (took_message (ended_full c.word.result (rw c.in-Message.is at c.find.ensures.ends) c.word.ensures.finds
-    c.word.ensures.list) c.take_message.ensures.list c.take_message.ensures.message
+    (took_message (ended_full c.store.result (rw c.in-Message.is at c.find.ensures.ends) c.store.ensures.finds
+    c.store.ensures.list) c.take_message.ensures.list c.take_message.ensures.message
     c.take_message.ensures.waker).phase
 
 pub returns-in-Message-clause-stays : goal.returns-in-Message-clause-stays
@@ -43,8 +43,8 @@ returns-in-Message-clause-stays g c is_closed =
 pub returns-in-Message-clause-hand : goal.returns-in-Message-clause-hand
 returns-in-Message-clause-hand g c =
     hands (rw c.in-Message.is at c.find.ensures.hand) closed_itself
-    (took_message (ended_full c.word.result (rw c.in-Message.is at c.find.ensures.ends) c.word.ensures.finds
-    c.word.ensures.list) c.take_message.ensures.list c.take_message.ensures.message
+    (took_message (ended_full c.store.result (rw c.in-Message.is at c.find.ensures.ends) c.store.ensures.finds
+    c.store.ensures.list) c.take_message.ensures.list c.take_message.ensures.message
     c.take_message.ensures.waker).phase
 
 pub returns-in-Closed-clause-run : goal.returns-in-Closed-clause-run
@@ -61,30 +61,31 @@ returns-in-Closed-clause-hand g c =
     let ends = rw c.in-Closed.is at c.find.ensures.ends in
     hands (rw c.in-Closed.is at c.find.ensures.hand) ends.0 ends.1.phase
 
-pub word-requires-in-Unclosed : goal.word-requires-in-Unclosed
-word-requires-in-Unclosed g c = (let ends = rw c.in-Unclosed.is at c.find.ensures.ends in asks (Store 2) ends.1 refl)
+pub store-requires-in-Unclosed : goal.store-requires-in-Unclosed
+store-requires-in-Unclosed g c = (let ends = rw c.in-Unclosed.is at c.find.ensures.ends in asks (Store 2) ends.1 refl)
 
 pub returns-in-Unclosed-clause-run : goal.returns-in-Unclosed-clause-run
 returns-in-Unclosed-clause-run g c =
-    shut_ran c.word-in-Unclosed.result (rw c.in-Unclosed.is at (c.find.ensures.went (by_ref c.args.timed)))
-    c.word-in-Unclosed.ensures.list
+    shut_ran c.store-in-Unclosed.result (rw c.in-Unclosed.is at (c.find.ensures.went (by_ref c.args.timed)))
+    c.store-in-Unclosed.ensures.list
 
 pub returns-in-Unclosed-clause-rests : goal.returns-in-Unclosed-clause-rests
 returns-in-Unclosed-clause-rests g c =
     (let ends = rw c.in-Unclosed.is at c.find.ensures.ends in
-    rests_over (shut c.word-in-Unclosed.result ends.1 c.word-in-Unclosed.ensures.finds c.word-in-Unclosed.ensures.list))
+    rests_over (shut c.store-in-Unclosed.result ends.1 c.store-in-Unclosed.ensures.finds
+    c.store-in-Unclosed.ensures.list))
 
 pub returns-in-Unclosed-clause-leaves : goal.returns-in-Unclosed-clause-leaves
 returns-in-Unclosed-clause-leaves g c =
     (let ends = rw c.in-Unclosed.is at c.find.ensures.ends in
-    over_leaves (shut c.word-in-Unclosed.result ends.1 c.word-in-Unclosed.ensures.finds
-    c.word-in-Unclosed.ensures.list))
+    over_leaves (shut c.store-in-Unclosed.result ends.1 c.store-in-Unclosed.ensures.finds
+    c.store-in-Unclosed.ensures.list))
 
 pub returns-in-Unclosed-clause-hand : goal.returns-in-Unclosed-clause-hand
 returns-in-Unclosed-clause-hand g c =
     let ends = rw c.in-Unclosed.is at c.find.ensures.ends in
     hands (rw c.in-Unclosed.is at c.find.ensures.hand) closed_itself
-    (shut c.word-in-Unclosed.result ends.1 c.word-in-Unclosed.ensures.finds c.word-in-Unclosed.ensures.list).phase
+    (shut c.store-in-Unclosed.result ends.1 c.store-in-Unclosed.ensures.finds c.store-in-Unclosed.ensures.list).phase
 
 pub returns-in-Nothing-clause-run : goal.returns-in-Nothing-clause-run
 returns-in-Nothing-clause-run g c = whole (rw c.in-Nothing.is at (c.find.ensures.went (by_ref c.args.timed)))
@@ -111,13 +112,13 @@ returns-in-Nothing-clause-endless g c untimed out =
 pub returns-in-Message-clause-given : goal.returns-in-Message-clause-given
 returns-in-Message-clause-given g c =
     let on = g.G.ReceiverGround.gives_on in
-    on _ _ _ c.find.ensures.keeps (on _ _ _ c.word.ensures.keeps c.take_message.ensures.given)
+    on _ _ _ c.find.ensures.keeps (on _ _ _ c.store.ensures.keeps c.take_message.ensures.given)
 
 pub returns-in-Message-clause-keeps : goal.returns-in-Message-clause-keeps
 returns-in-Message-clause-keeps g c =
     let on = g.G.ReceiverGround.keeps_on in
-    on _ _ _ c.find.ensures.keeps (on _ _ _ c.word.ensures.keeps c.take_message.ensures.keeps)
+    on _ _ _ c.find.ensures.keeps (on _ _ _ c.store.ensures.keeps c.take_message.ensures.keeps)
 
 pub returns-in-Unclosed-clause-keeps : goal.returns-in-Unclosed-clause-keeps
 returns-in-Unclosed-clause-keeps g c =
-    g.G.ReceiverGround.keeps_on _ _ _ c.find.ensures.keeps c.word-in-Unclosed.ensures.keeps
+    g.G.ReceiverGround.keeps_on _ _ _ c.find.ensures.keeps c.store-in-Unclosed.ensures.keeps

@@ -1,28 +1,28 @@
 -- The goals that `drop_async` leaves.
-use Rattle.std.proofs.Common.{rules, refl}
+use Rattle.std.proofs.Common.{rules}
 use Rattle.oneshot_drive.proofs.PollLoads.{meet_asks, met, met_copied, met_end}
 use Rattle.oneshot_drive.proofs.DroppedFutures.{drop_after, drop_at_once}
 use Rattle.oneshot_machine.proofs.CallBounds.{drop_async_few}
 use Rattle.oneshot_drive.proofs.polling.drop_async.Goals as goal
 
-pub word-requires : goal.word-requires
-word-requires g c = meet_asks c.requires
+pub load-requires : goal.load-requires
+load-requires g c = meet_asks c.requires
 
 pub take_back-requires : goal.take_back-requires
-take_back-requires g c = met_copied (met c.word.result c.requires c.word.ensures.finds c.word.ensures.list) c.in-0.is
+take_back-requires g c = met_copied (met c.load.result c.requires c.load.ensures.finds c.load.ensures.list) c.in-0.is
 
 pub close-requires-in_default : goal.close-requires-in_default
 close-requires-in_default g c =
-    (met_end (met c.word.result c.requires c.word.ensures.finds c.word.ensures.list) (search rules)).0
+    (met_end (met c.load.result c.requires c.load.ensures.finds c.load.ensures.list) (search rules)).0
 
 pub returns-in-0-clause-run : goal.returns-in-0-clause-run
 returns-in-0-clause-run g c =
-    drop_after c.word.result c.word.ensures.list c.in-0.is c.take_back.ensures.went c.close.ensures
+    drop_after c.load.result c.load.ensures.list c.in-0.is c.take_back.ensures.went c.close.ensures
 
 pub returns-in_default-clause-run : goal.returns-in_default-clause-run
 returns-in_default-clause-run g c =
-    drop_at_once c.word.result c.word.ensures.list
-    (met_end (met c.word.result c.requires c.word.ensures.finds c.word.ensures.list) (search rules)).1
+    drop_at_once c.load.result c.load.ensures.list
+    (met_end (met c.load.result c.requires c.load.ensures.finds c.load.ensures.list) (search rules)).1
     c.close-in_default.ensures
 
 pub returns-in-0-clause-bounded : goal.returns-in-0-clause-bounded

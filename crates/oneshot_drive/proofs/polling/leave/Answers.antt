@@ -4,69 +4,73 @@ use Rattle.oneshot_drive.proofs.LeftCopies.{leave_asks, left, left_waits, left_t
 use Rattle.oneshot_drive.proofs.OwnCopies.{wrote_none, on_word, on_withdraw, on_write}
 use Rattle.oneshot_drive.proofs.polling.leave.Goals as goal
 
-pub word-word-requires : goal.word-word-requires
-word-word-requires g c =
+pub exchange-word-requires : goal.exchange-word-requires
+exchange-word-requires g c =
     leave_asks c.args.copy c.requires.open c.write_waker.ensures.list c.write_waker.ensures.message
     c.write_waker.ensures.waker
 
 pub returns-then-word-eq-EMPTY-clause-went : goal.returns-then-word-eq-EMPTY-clause-went
 returns-then-word-eq-EMPTY-clause-went g c =
-    leave_waits c.args.copy c.word-word.result c.if-word-eq-EMPTY.true c.write_waker.ensures.list
-    c.word-word.ensures.list
+    leave_waits c.args.copy c.exchange-word.result c.if-word-eq-EMPTY.true c.write_waker.ensures.list
+    c.exchange-word.ensures.list
 
 pub returns-then-word-eq-EMPTY-clause-ends : goal.returns-then-word-eq-EMPTY-clause-ends
 returns-then-word-eq-EMPTY-clause-ends g c =
-    left_waits (left c.word-word.result c.word-word.ensures.finds c.word-word.ensures.list) c.if-word-eq-EMPTY.true
+    left_waits (left c.exchange-word.result c.exchange-word.ensures.finds c.exchange-word.ensures.list)
+    c.if-word-eq-EMPTY.true
 
 pub withdraw-requires : goal.withdraw-requires
 withdraw-requires g c =
-    is_in (left_there (left c.word-word.result c.word-word.ensures.finds c.word-word.ensures.list)
+    is_in (left_there (left c.exchange-word.result c.exchange-word.ensures.finds c.exchange-word.ensures.list)
     c.if-word-eq-EMPTY.false)
 
 pub returns-then-word-eq-MESSAGE-clause-went : goal.returns-then-word-eq-MESSAGE-clause-went
 returns-then-word-eq-MESSAGE-clause-went g c =
-    leave_full c.args.copy c.withdraw.result c.word-word.result c.if-word-eq-MESSAGE.true c.write_waker.ensures.list
-    c.word-word.ensures.list c.withdraw.ensures.list
+    leave_full c.args.copy c.withdraw.result c.exchange-word.result c.if-word-eq-MESSAGE.true c.write_waker.ensures.list
+    c.exchange-word.ensures.list c.withdraw.ensures.list
 
 pub returns-then-word-eq-MESSAGE-clause-ends : goal.returns-then-word-eq-MESSAGE-clause-ends
 returns-then-word-eq-MESSAGE-clause-ends g c =
-    withdrew_full (left c.word-word.result c.word-word.ensures.finds c.word-word.ensures.list) c.withdraw.ensures.list
+    withdrew_full (left c.exchange-word.result c.exchange-word.ensures.finds c.exchange-word.ensures.list)
+    c.withdraw.ensures.list
     c.withdraw.ensures.message c.withdraw.ensures.waker c.if-word-eq-MESSAGE.true
 
 pub returns-then-word-eq-MESSAGE-clause-keeps : goal.returns-then-word-eq-MESSAGE-clause-keeps
 returns-then-word-eq-MESSAGE-clause-keeps g c =
     g.G.ReceiverGround.keeps_on _ _ _ c.write_waker.ensures.keeps
-    (g.G.ReceiverGround.keeps_on _ _ _ c.word-word.ensures.keeps c.withdraw.ensures.keeps)
+    (g.G.ReceiverGround.keeps_on _ _ _ c.exchange-word.ensures.keeps c.withdraw.ensures.keeps)
 
 pub returns-else-word-eq-MESSAGE-clause-went : goal.returns-else-word-eq-MESSAGE-clause-went
 returns-else-word-eq-MESSAGE-clause-went g c =
-    leave_over c.args.copy c.withdraw.result c.word-word.result
-    (none_left (left c.word-word.result c.word-word.ensures.finds c.word-word.ensures.list) c.if-word-eq-EMPTY.false
-    c.if-word-eq-MESSAGE.false) c.write_waker.ensures.list c.word-word.ensures.list c.withdraw.ensures.list
+    leave_over c.args.copy c.withdraw.result c.exchange-word.result
+    (none_left (left c.exchange-word.result c.exchange-word.ensures.finds c.exchange-word.ensures.list)
+    c.if-word-eq-EMPTY.false
+    c.if-word-eq-MESSAGE.false) c.write_waker.ensures.list c.exchange-word.ensures.list c.withdraw.ensures.list
 
 pub returns-else-word-eq-MESSAGE-clause-ends : goal.returns-else-word-eq-MESSAGE-clause-ends
 returns-else-word-eq-MESSAGE-clause-ends g c =
-    withdrew_over (left c.word-word.result c.word-word.ensures.finds c.word-word.ensures.list) c.withdraw.ensures.list
+    withdrew_over (left c.exchange-word.result c.exchange-word.ensures.finds c.exchange-word.ensures.list)
+    c.withdraw.ensures.list
     c.withdraw.ensures.message c.withdraw.ensures.waker c.if-word-eq-EMPTY.false c.if-word-eq-MESSAGE.false
 
 pub returns-else-word-eq-MESSAGE-clause-keeps : goal.returns-else-word-eq-MESSAGE-clause-keeps
 returns-else-word-eq-MESSAGE-clause-keeps g c =
     g.G.ReceiverGround.keeps_on _ _ _ c.write_waker.ensures.keeps
-    (g.G.ReceiverGround.keeps_on _ _ _ c.word-word.ensures.keeps c.withdraw.ensures.keeps)
+    (g.G.ReceiverGround.keeps_on _ _ _ c.exchange-word.ensures.keeps c.withdraw.ensures.keeps)
 
 pub returns-then-word-eq-EMPTY-clause-own : goal.returns-then-word-eq-EMPTY-clause-own
 returns-then-word-eq-EMPTY-clause-own g c =
     on_write c.args.copy c.write_waker.ensures.list
-    (on_word _ c.word-word.result c.word-word.ensures.list (wrote_none _))
+    (on_word _ c.exchange-word.result c.exchange-word.ensures.list (wrote_none _))
 
 pub returns-then-word-eq-MESSAGE-clause-own : goal.returns-then-word-eq-MESSAGE-clause-own
 returns-then-word-eq-MESSAGE-clause-own g c =
     on_write c.args.copy c.write_waker.ensures.list
-    (on_word _ c.word-word.result c.word-word.ensures.list
+    (on_word _ c.exchange-word.result c.exchange-word.ensures.list
     (on_withdraw c.withdraw.result c.withdraw.ensures.list (wrote_none _)))
 
 pub returns-else-word-eq-MESSAGE-clause-own : goal.returns-else-word-eq-MESSAGE-clause-own
 returns-else-word-eq-MESSAGE-clause-own g c =
     on_write c.args.copy c.write_waker.ensures.list
-    (on_word _ c.word-word.result c.word-word.ensures.list
+    (on_word _ c.exchange-word.result c.exchange-word.ensures.list
     (on_withdraw c.withdraw.result c.withdraw.ensures.list (wrote_none _)))

@@ -19,78 +19,80 @@ returns-in_default-clause-ends g c =
     c.copy.ensures.message c.copy.ensures.waker) c.wake_own.ensures.list c.wake_own.ensures.message
     c.wake_own.ensures.waker
 
-pub word-requires : goal.word-requires
-word-requires g c =
+pub exchange-requires : goal.exchange-requires
+exchange-requires g c =
     asks (Exchange 0 3) (stands_on (copied c.copy.result ∷ []) refl c.requires c.copy.ensures.list
     c.copy.ensures.message c.copy.ensures.waker) refl
 
 pub withdraw-stored-requires : goal.withdraw-stored-requires
 withdraw-stored-requires g c =
-    is_in (backed_copy (backed c.word.result
+    is_in (backed_copy (backed c.exchange.result
     (stands_on (copied c.copy.result ∷ []) refl c.requires c.copy.ensures.list c.copy.ensures.message
-    c.copy.ensures.waker) c.word.ensures.finds c.word.ensures.list) c.in-0.is).waker
+    c.copy.ensures.waker) c.exchange.ensures.finds c.exchange.ensures.list) c.in-0.is).waker
 
 pub leave-requires-clause-open : goal.leave-requires-clause-open
 leave-requires-clause-open g c =
     may_leave (withdrew_waker
-    (backed_copy (backed c.word.result
+    (backed_copy (backed c.exchange.result
     (stands_on (copied c.copy.result ∷ []) refl c.requires c.copy.ensures.list c.copy.ensures.message
-    c.copy.ensures.waker) c.word.ensures.finds c.word.ensures.list) c.in-0.is) c.withdraw-stored.ensures.list
+    c.copy.ensures.waker) c.exchange.ensures.finds c.exchange.ensures.list) c.in-0.is) c.withdraw-stored.ensures.list
     c.withdraw-stored.ensures.message c.withdraw-stored.ensures.waker) refl
 
 pub returns-in-0-clause-went : goal.returns-in-0-clause-went
 returns-in-0-clause-went g c =
-    again_left c.copy.result c.in-Some.copy c.in-Some.is c.copy.ensures.list c.leave.result c.word.result
-    c.withdraw-stored.result c.in-0.is c.word.ensures.list c.withdraw-stored.ensures.list c.leave.ensures.went
+    again_left c.copy.result c.in-Some.copy c.in-Some.is c.copy.ensures.list c.leave.result c.exchange.result
+    c.withdraw-stored.result c.in-0.is c.exchange.ensures.list c.withdraw-stored.ensures.list c.leave.ensures.went
 
 pub returns-in-0-clause-keeps : goal.returns-in-0-clause-keeps
 returns-in-0-clause-keeps g c =
     let on = g.G.ReceiverGround.keeps_on in
-    on _ _ _ c.copy.ensures.keeps (on _ _ _ c.word.ensures.keeps
+    on _ _ _ c.copy.ensures.keeps (on _ _ _ c.exchange.ensures.keeps
     (on _ _ _ c.withdraw-stored.ensures.keeps c.leave.ensures.keeps))
 
 pub returns-in-4-clause-went : goal.returns-in-4-clause-went
 returns-in-4-clause-went g c =
-    again_to c.copy.result c.in-Some.copy c.in-Some.is c.copy.ensures.list _ c.word.result 4 refl c.in-4.is
-    c.word.ensures.list
+    again_to c.copy.result c.in-Some.copy c.in-Some.is c.copy.ensures.list _ c.exchange.result 4 refl c.in-4.is
+    c.exchange.ensures.list
 
 pub returns-in-4-clause-ends : goal.returns-in-4-clause-ends
 returns-in-4-clause-ends g c =
-    backed_full (backed c.word.result
+    backed_full (backed c.exchange.result
     (stands_on (copied c.copy.result ∷ []) refl c.requires c.copy.ensures.list c.copy.ensures.message
-    c.copy.ensures.waker) c.word.ensures.finds c.word.ensures.list) c.in-4.is
+    c.copy.ensures.waker) c.exchange.ensures.finds c.exchange.ensures.list) c.in-4.is
 
 pub returns-in-2-clause-went : goal.returns-in-2-clause-went
 returns-in-2-clause-went g c =
-    again_to c.copy.result c.in-Some.copy c.in-Some.is c.copy.ensures.list _ c.word.result 2 refl c.in-2.is
-    c.word.ensures.list
+    again_to c.copy.result c.in-Some.copy c.in-Some.is c.copy.ensures.list _ c.exchange.result 2 refl c.in-2.is
+    c.exchange.ensures.list
 
 pub returns-in-2-clause-ends : goal.returns-in-2-clause-ends
 returns-in-2-clause-ends g c =
-    backed_none (backed c.word.result
+    backed_none (backed c.exchange.result
     (stands_on (copied c.copy.result ∷ []) refl c.requires c.copy.ensures.list c.copy.ensures.message
-    c.copy.ensures.waker) c.word.ensures.finds c.word.ensures.list) c.in-2.is
+    c.copy.ensures.waker) c.exchange.ensures.finds c.exchange.ensures.list) c.in-2.is
 
-pub returns-in_default-word-clause-went : goal.returns-in_default-word-clause-went
-returns-in_default-word-clause-went g c =
-    again_late c.copy.result c.in-Some.copy c.in-Some.is c.copy.ensures.list c.word.result
-    (backed_late (backed c.word.result
+pub returns-in_default-exchange-clause-went : goal.returns-in_default-exchange-clause-went
+returns-in_default-exchange-clause-went g c =
+    again_late c.copy.result c.in-Some.copy c.in-Some.is c.copy.ensures.list c.exchange.result
+    (backed_late (backed c.exchange.result
     (stands_on (copied c.copy.result ∷ []) refl c.requires c.copy.ensures.list c.copy.ensures.message
-    c.copy.ensures.waker) c.word.ensures.finds c.word.ensures.list) (search rules) (search rules) (search rules)).word
-    c.word.ensures.list c.wake_own-in_default-word.ensures.list
+    c.copy.ensures.waker) c.exchange.ensures.finds c.exchange.ensures.list) (search rules) (search rules) (search
+    rules)).word
+    c.exchange.ensures.list c.wake_own-in_default-exchange.ensures.list
 
-pub returns-in_default-word-clause-ends : goal.returns-in_default-word-clause-ends
-returns-in_default-word-clause-ends g c =
+pub returns-in_default-exchange-clause-ends : goal.returns-in_default-exchange-clause-ends
+returns-in_default-exchange-clause-ends g c =
     owned_ends leaves_claimed (backed_late
-    (backed c.word.result (stands_on (copied c.copy.result ∷ []) refl c.requires c.copy.ensures.list
-    c.copy.ensures.message c.copy.ensures.waker) c.word.ensures.finds c.word.ensures.list) (search rules) (search rules)
-    (search rules)).stands c.wake_own-in_default-word.ensures.list c.wake_own-in_default-word.ensures.message
-    c.wake_own-in_default-word.ensures.waker
+    (backed c.exchange.result (stands_on (copied c.copy.result ∷ []) refl c.requires c.copy.ensures.list
+    c.copy.ensures.message c.copy.ensures.waker) c.exchange.ensures.finds c.exchange.ensures.list) (search rules)
+    (search rules)
+    (search rules)).stands c.wake_own-in_default-exchange.ensures.list c.wake_own-in_default-exchange.ensures.message
+    c.wake_own-in_default-exchange.ensures.waker
 
-pub returns-in_default-word-clause-keeps : goal.returns-in_default-word-clause-keeps
-returns-in_default-word-clause-keeps g c =
+pub returns-in_default-exchange-clause-keeps : goal.returns-in_default-exchange-clause-keeps
+returns-in_default-exchange-clause-keeps g c =
     let on = g.G.ReceiverGround.keeps_on in
-    on _ _ _ c.copy.ensures.keeps (on _ _ _ c.word.ensures.keeps c.wake_own-in_default-word.ensures.keeps)
+    on _ _ _ c.copy.ensures.keeps (on _ _ _ c.exchange.ensures.keeps c.wake_own-in_default-exchange.ensures.keeps)
 
 pub returns-in_default-clause-own : goal.returns-in_default-clause-own
 returns-in_default-clause-own g c = on_refusal c.copy.ensures.list (on_own c.wake_own.ensures.list (wrote_none _))
@@ -98,18 +100,21 @@ returns-in_default-clause-own g c = on_refusal c.copy.ensures.list (on_own c.wak
 pub returns-in-0-clause-own : goal.returns-in-0-clause-own
 returns-in-0-clause-own g c =
     on_copy c.in-Some.copy c.in-Some.is c.copy.ensures.list
-    (on_word _ c.word.result c.word.ensures.list
+    (on_word _ c.exchange.result c.exchange.ensures.list
     (on_withdraw c.withdraw-stored.result c.withdraw-stored.ensures.list c.leave.ensures.own))
 
 pub returns-in-4-clause-own : goal.returns-in-4-clause-own
 returns-in-4-clause-own g c =
-    on_copy c.in-Some.copy c.in-Some.is c.copy.ensures.list (on_word _ c.word.result c.word.ensures.list (wrote_none _))
+    on_copy c.in-Some.copy c.in-Some.is c.copy.ensures.list (on_word _ c.exchange.result c.exchange.ensures.list
+    (wrote_none _))
 
 pub returns-in-2-clause-own : goal.returns-in-2-clause-own
 returns-in-2-clause-own g c =
-    on_copy c.in-Some.copy c.in-Some.is c.copy.ensures.list (on_word _ c.word.result c.word.ensures.list (wrote_none _))
+    on_copy c.in-Some.copy c.in-Some.is c.copy.ensures.list (on_word _ c.exchange.result c.exchange.ensures.list
+    (wrote_none _))
 
-pub returns-in_default-word-clause-own : goal.returns-in_default-word-clause-own
-returns-in_default-word-clause-own g c =
+pub returns-in_default-exchange-clause-own : goal.returns-in_default-exchange-clause-own
+returns-in_default-exchange-clause-own g c =
     on_copy c.in-Some.copy c.in-Some.is c.copy.ensures.list
-    (on_word _ c.word.result c.word.ensures.list (on_own c.wake_own-in_default-word.ensures.list (wrote_none _)))
+    (on_word _ c.exchange.result c.exchange.ensures.list (on_own c.wake_own-in_default-exchange.ensures.list
+    (wrote_none _)))

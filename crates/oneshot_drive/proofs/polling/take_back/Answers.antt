@@ -7,27 +7,30 @@ use Rattle.oneshot_drive.proofs.LeftCopies.{backed, backed_copy}
 use Rattle.oneshot_drive.proofs.DroppedFutures.{backed_end, backed_asks, backed_out, withdrawn_ends, withdrawn_went}
 use Rattle.oneshot_drive.proofs.polling.take_back.Goals as goal
 
-pub word-requires : goal.word-requires
-word-requires g c = asks (Exchange 0 3) c.requires refl
+pub exchange-requires : goal.exchange-requires
+exchange-requires g c = asks (Exchange 0 3) c.requires refl
 
 pub withdraw-requires : goal.withdraw-requires
 withdraw-requires g c =
-    is_in (backed_copy (backed c.word.result c.requires c.word.ensures.finds c.word.ensures.list) c.in-0.is).waker
+    is_in (backed_copy (backed c.exchange.result c.requires c.exchange.ensures.finds c.exchange.ensures.list)
+    c.in-0.is).waker
 
 pub returns-in-0-clause-went : goal.returns-in-0-clause-went
 returns-in-0-clause-went g c =
-    withdrawn_went c.withdraw.result c.word.result c.in-0.is c.word.ensures.list c.withdraw.ensures.list
+    withdrawn_went c.withdraw.result c.exchange.result c.in-0.is c.exchange.ensures.list c.withdraw.ensures.list
 
 pub returns-in-0-clause-ends : goal.returns-in-0-clause-ends
 returns-in-0-clause-ends g c =
-    asks (Swap 2) (withdrawn_ends (backed c.word.result c.requires c.word.ensures.finds c.word.ensures.list) c.in-0.is
+    asks (Swap 2) (withdrawn_ends (backed c.exchange.result c.requires c.exchange.ensures.finds
+    c.exchange.ensures.list) c.in-0.is
     c.withdraw.ensures.list c.withdraw.ensures.message c.withdraw.ensures.waker) refl
 
 pub returns-in_default-clause-went : goal.returns-in_default-clause-went
 returns-in_default-clause-went g c =
-    backed_out c.word.result (backed_end (backed c.word.result c.requires c.word.ensures.finds c.word.ensures.list)
-    (search rules)) c.word.ensures.list
+    backed_out c.exchange.result (backed_end (backed c.exchange.result c.requires c.exchange.ensures.finds
+    c.exchange.ensures.list)
+    (search rules)) c.exchange.ensures.list
 
 pub returns-in_default-clause-ends : goal.returns-in_default-clause-ends
 returns-in_default-clause-ends g c =
-    backed_asks (backed c.word.result c.requires c.word.ensures.finds c.word.ensures.list) (search rules)
+    backed_asks (backed c.exchange.result c.requires c.exchange.ensures.finds c.exchange.ensures.list) (search rules)

@@ -7,39 +7,39 @@ use Rattle.oneshot_drive.proofs.RestLoads.{swap_asks}
 use Rattle.oneshot_drive.proofs.LastSwap.{swapped_full, swapped_over, swapped_last, past_1, row_at, dropped_message, dropped_open, dropped_last}
 use Rattle.oneshot_drive.proofs.receiver.drop_receiver.Goals as goal
 
-pub word-requires : goal.word-requires
-word-requires g c = swap_asks c.requires
+pub swap-requires : goal.swap-requires
+swap-requires g c = swap_asks c.requires
 
 pub drop_message-requires : goal.drop_message-requires
-drop_message-requires g c = is_in (swapped_full c.word.ensures.finds c.in-4.is).0
+drop_message-requires g c = is_in (swapped_full c.swap.ensures.finds c.in-4.is).0
 
 pub free-requires-clause-waker : goal.free-requires-clause-waker
-free-requires-clause-waker g c = c.drop_message.ensures.waker ∙ is_room (swapped_full c.word.ensures.finds c.in-4.is).1
+free-requires-clause-waker g c = c.drop_message.ensures.waker ∙ is_room (swapped_full c.swap.ensures.finds c.in-4.is).1
 
 pub free-requires-in_default-clause-message : goal.free-requires-in_default-clause-message
 free-requires-in_default-clause-message g c =
     let closed =
-    swapped_last c.word.ensures.finds (search rules) (search rules) (past_1 c.requires c.word.ensures.finds) in
-    is_room (swapped_over c.word.ensures.finds closed).0
+    swapped_last c.swap.ensures.finds (search rules) (search rules) (past_1 c.requires c.swap.ensures.finds) in
+    is_room (swapped_over c.swap.ensures.finds closed).0
 
 pub free-requires-in_default-clause-waker : goal.free-requires-in_default-clause-waker
 free-requires-in_default-clause-waker g c =
     let closed =
-    swapped_last c.word.ensures.finds (search rules) (search rules) (past_1 c.requires c.word.ensures.finds) in
-    is_room (swapped_over c.word.ensures.finds closed).1
+    swapped_last c.swap.ensures.finds (search rules) (search rules) (past_1 c.requires c.swap.ensures.finds) in
+    is_room (swapped_over c.swap.ensures.finds closed).1
 
 pub returns-in-4 : goal.returns-in-4
 returns-in-4 g c =
-    dropped_message (Drop DropSwap) refl c.word.result (row_at (Drop DropSwap) 4 refl c.in-4.is) c.word.ensures.list
+    dropped_message (Drop DropSwap) refl c.swap.result (row_at (Drop DropSwap) 4 refl c.in-4.is) c.swap.ensures.list
     c.drop_message.ensures.list c.free.ensures.list
 
 pub returns-in-3 : goal.returns-in-3
 returns-in-3 g c =
-    dropped_open (Drop DropSwap) refl c.word.result (row_at (Drop DropSwap) 3 refl c.in-3.is) c.word.ensures.list
+    dropped_open (Drop DropSwap) refl c.swap.result (row_at (Drop DropSwap) 3 refl c.in-3.is) c.swap.ensures.list
 
 pub returns-in_default : goal.returns-in_default
 returns-in_default g c =
     let closed =
-    swapped_last c.word.ensures.finds (search rules) (search rules) (past_1 c.requires c.word.ensures.finds) in
-    dropped_last (Drop DropSwap) refl c.word.result (row_at (Drop DropSwap) 2 refl closed) c.word.ensures.list
+    swapped_last c.swap.ensures.finds (search rules) (search rules) (past_1 c.requires c.swap.ensures.finds) in
+    dropped_last (Drop DropSwap) refl c.swap.result (row_at (Drop DropSwap) 2 refl closed) c.swap.ensures.list
     c.free-in_default.ensures.list

@@ -1,5 +1,5 @@
 -- The goals that `drop_error` leaves.
-use Rattle.oneshot_drive.proofs.SenderCalls.{error_ran}
+use Rattle.oneshot_drive.proofs.SenderRuns.{error_ran}
 use Rattle.oneshot_drive.proofs.sender.drop_error.Goals as goal
 
 pub returns : goal.returns

@@ -1,5 +1,5 @@
 -- The goals that `into_inner` leaves.
-use Rattle.oneshot_drive.proofs.SenderCalls.{into_ran}
+use Rattle.oneshot_drive.proofs.SenderRuns.{into_ran}
 use Rattle.oneshot_drive.proofs.sender.into_inner.Goals as goal
 
 pub returns-clause-run : goal.returns-clause-run

@@ -3,27 +3,28 @@ use Rattle.std.proofs.Common.{rules, refl, ◌∙◌}
 use Rattle.oneshot_machine.proofs.Landings.{message_kept}
 use Rattle.oneshot_drive.proofs.AfterOperations.{sender_asks}
 use Rattle.oneshot_machine.specs.declared.states.Op.TheVariants.{Add}
-use Rattle.oneshot_drive.proofs.SenderCalls.{written, send_owes, added_kept, added, refused, is_too_late, send_ran, send_refused, send_woke}
+use Rattle.oneshot_drive.proofs.SenderCalls.{written, send_owes, added_kept, added, refused, is_too_late}
+use Rattle.oneshot_drive.proofs.SenderRuns.{send_ran, send_refused, send_woke}
 use Rattle.oneshot_machine.proofs.CallBounds.{send_few}
 use Rattle.oneshot_drive.proofs.sender.send.Goals as goal
 
-pub word-requires : goal.word-requires
-word-requires g c =
+pub add-requires : goal.add-requires
+add-requires g c =
     sender_asks Add (written c.args.message c.requires.fresh c.write_message.ensures.list
     c.write_message.ensures.message c.write_message.ensures.waker) refl
 
 pub finish-requires : goal.finish-requires
 finish-requires g c =
-    send_owes c.word.result (written c.args.message c.requires.fresh c.write_message.ensures.list
-    c.write_message.ensures.message c.write_message.ensures.waker) c.in-0.is c.word.ensures.finds
-    c.word.ensures.list
+    send_owes c.add.result (written c.args.message c.requires.fresh c.write_message.ensures.list
+    c.write_message.ensures.message c.write_message.ensures.waker) c.in-0.is c.add.ensures.finds
+    c.add.ensures.list
 
 pub returns-in-3-clause-run : goal.returns-in-3-clause-run
-returns-in-3-clause-run g c = send_ran c.word.result c.in-3.is c.write_message.ensures.list c.word.ensures.list
+returns-in-3-clause-run g c = send_ran c.add.result c.in-3.is c.write_message.ensures.list c.add.ensures.list
 
 pub returns-in-0-clause-run : goal.returns-in-0-clause-run
 returns-in-0-clause-run g c =
-    send_woke c.word.result c.finish.result c.in-0.is c.write_message.ensures.list c.word.ensures.list
+    send_woke c.add.result c.finish.result c.in-0.is c.write_message.ensures.list c.add.ensures.list
     c.finish.ensures.finishes
 
 pub returns-in-0-clause-refused : goal.returns-in-0-clause-refused
@@ -31,9 +32,9 @@ returns-in-0-clause-refused g c gone =
     let overtaken = c.finish.ensures.gone gone in
     record {
       keeps = overtaken.message
-          ∙ added_kept c.word.result (written c.args.message c.requires.fresh c.write_message.ensures.list
-          c.write_message.ensures.message c.write_message.ensures.waker) c.in-0.is c.word.ensures.finds
-          c.word.ensures.list c.write_message.ensures.message;
+          ∙ added_kept c.add.result (written c.args.message c.requires.fresh c.write_message.ensures.list
+          c.write_message.ensures.message c.write_message.ensures.waker) c.in-0.is c.add.ensures.finds
+          c.add.ensures.list c.write_message.ensures.message;
       no_waker = overtaken.waker;
     }
 
@@ -45,24 +46,24 @@ returns-in_default-clause-run g c =
     let fresh =
     written c.args.message c.requires.fresh c.write_message.ensures.list c.write_message.ensures.message
     c.write_message.ensures.waker in
-    let gone = added c.word.result fresh (search rules) (search rules) c.word.ensures.finds c.word.ensures.list in
-    send_refused c.word.result gone.word c.write_message.ensures.list c.word.ensures.list
+    let gone = added c.add.result fresh (search rules) (search rules) c.add.ensures.finds c.add.ensures.list in
+    send_refused c.add.result gone.word c.write_message.ensures.list c.add.ensures.list
 
 pub returns-in_default-clause-refused : goal.returns-in_default-clause-refused
 returns-in_default-clause-refused g c _ =
     let fresh =
     written c.args.message c.requires.fresh c.write_message.ensures.list c.write_message.ensures.message
     c.write_message.ensures.waker in
-    let gone = added c.word.result fresh (search rules) (search rules) c.word.ensures.finds c.word.ensures.list in
+    let gone = added c.add.result fresh (search rules) (search rules) c.add.ensures.finds c.add.ensures.list in
     refused c.args.message gone.stands
-    (message_kept c.word.ensures.finds c.write_message.ensures.message gone.stands.message)
+    (message_kept c.add.ensures.finds c.write_message.ensures.message gone.stands.message)
 
 pub returns-in_default-clause-late : goal.returns-in_default-clause-late
 returns-in_default-clause-late g c _ =
     let fresh =
     written c.args.message c.requires.fresh c.write_message.ensures.list c.write_message.ensures.message
     c.write_message.ensures.waker in
-    let gone = added c.word.result fresh (search rules) (search rules) c.word.ensures.finds c.word.ensures.list in
+    let gone = added c.add.result fresh (search rules) (search rules) c.add.ensures.finds c.add.ensures.list in
     is_too_late gone.stands
 
 pub returns-in-3-clause-bounded : goal.returns-in-3-clause-bounded

@@ -6,55 +6,55 @@ use Rattle.oneshot_drive.proofs.AfterOperations.{asks}
 use Rattle.oneshot_drive.proofs.Waits.{stopped, stopped_open, stopped_full, stopped_over, stopped_late, withdrew_nothing, stops_to, nothing_went, late_went}
 use Rattle.oneshot_drive.proofs.waiting.stop.Goals as goal
 
-pub word-requires : goal.word-requires
-word-requires g c = asks (Swap 3) c.requires refl
+pub swap-requires : goal.swap-requires
+swap-requires g c = asks (Swap 3) c.requires refl
 
 pub withdraw-requires : goal.withdraw-requires
 withdraw-requires g c =
-    is_in (stopped_open (stopped c.word.result c.requires c.word.ensures.finds c.word.ensures.list) c.in-0.is).waker
+    is_in (stopped_open (stopped c.swap.result c.requires c.swap.ensures.finds c.swap.ensures.list) c.in-0.is).waker
 
 pub returns-in-0-clause-went : goal.returns-in-0-clause-went
 returns-in-0-clause-went g c =
-    nothing_went c.withdraw.result c.word.result c.in-0.is c.word.ensures.list c.withdraw.ensures.list
+    nothing_went c.withdraw.result c.swap.result c.in-0.is c.swap.ensures.list c.withdraw.ensures.list
 
 pub returns-in-0-clause-ends : goal.returns-in-0-clause-ends
 returns-in-0-clause-ends g c =
-    withdrew_nothing (stopped c.word.result c.requires c.word.ensures.finds c.word.ensures.list) c.in-0.is
+    withdrew_nothing (stopped c.swap.result c.requires c.swap.ensures.finds c.swap.ensures.list) c.in-0.is
     c.withdraw.ensures.list c.withdraw.ensures.message c.withdraw.ensures.waker
 
 pub returns-in-0-clause-hand : goal.returns-in-0-clause-hand
 returns-in-0-clause-hand g c = (c.withdraw.result, refl)
 
 pub returns-in-4-clause-went : goal.returns-in-4-clause-went
-returns-in-4-clause-went g c = stops_to _ c.word.result 4 refl c.in-4.is c.word.ensures.list
+returns-in-4-clause-went g c = stops_to _ c.swap.result 4 refl c.in-4.is c.swap.ensures.list
 
 pub returns-in-4-clause-ends : goal.returns-in-4-clause-ends
 returns-in-4-clause-ends g c =
-    stopped_full (stopped c.word.result c.requires c.word.ensures.finds c.word.ensures.list) c.in-4.is
+    stopped_full (stopped c.swap.result c.requires c.swap.ensures.finds c.swap.ensures.list) c.in-4.is
 
 pub returns-in-2-clause-went : goal.returns-in-2-clause-went
-returns-in-2-clause-went g c = stops_to _ c.word.result 2 refl c.in-2.is c.word.ensures.list
+returns-in-2-clause-went g c = stops_to _ c.swap.result 2 refl c.in-2.is c.swap.ensures.list
 
 pub returns-in-2-clause-ends : goal.returns-in-2-clause-ends
 returns-in-2-clause-ends g c =
-    stopped_over (stopped c.word.result c.requires c.word.ensures.finds c.word.ensures.list) c.in-2.is
+    stopped_over (stopped c.swap.result c.requires c.swap.ensures.finds c.swap.ensures.list) c.in-2.is
 
 pub wait_late-requires : goal.wait_late-requires
 wait_late-requires g c =
-    (stopped_late (stopped c.word.result c.requires c.word.ensures.finds c.word.ensures.list) (search rules)
+    (stopped_late (stopped c.swap.result c.requires c.swap.ensures.finds c.swap.ensures.list) (search rules)
     (search rules) (search rules)).stands
 
 pub returns-in_default-clause-went : goal.returns-in_default-clause-went
 returns-in_default-clause-went g c =
     let late =
-    stopped_late (stopped c.word.result c.requires c.word.ensures.finds c.word.ensures.list) (search rules)
+    stopped_late (stopped c.swap.result c.requires c.swap.ensures.finds c.swap.ensures.list) (search rules)
     (search rules) (search rules) in
-    late_went c.wait_late.result c.word.result late.word c.word.ensures.list c.wait_late.ensures.went
+    late_went c.wait_late.result c.swap.result late.word c.swap.ensures.list c.wait_late.ensures.went
 
 pub returns-in-0-clause-keeps : goal.returns-in-0-clause-keeps
 returns-in-0-clause-keeps g c =
-    g.G.ReceiverGround.keeps_on _ _ _ c.word.ensures.keeps c.withdraw.ensures.keeps
+    g.G.ReceiverGround.keeps_on _ _ _ c.swap.ensures.keeps c.withdraw.ensures.keeps
 
 pub returns-in_default-clause-keeps : goal.returns-in_default-clause-keeps
 returns-in_default-clause-keeps g c =
-    g.G.ReceiverGround.keeps_on _ _ _ c.word.ensures.keeps c.wait_late.ensures.keeps
+    g.G.ReceiverGround.keeps_on _ _ _ c.swap.ensures.keeps c.wait_late.ensures.keeps

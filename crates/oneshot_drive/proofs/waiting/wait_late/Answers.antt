@@ -22,34 +22,34 @@ loop-init g c =
 pub park-requires : goal.park-requires
 park-requires g c = may_park_late c.loop.invariant.overdue
 
-pub word-requires : goal.word-requires
-word-requires g c =
+pub load-requires : goal.load-requires
+load-requires g c =
     asks Load (stands_on (parked c.park.ensures.list.0 ∷ []) refl c.loop.invariant.overdue c.park.ensures.list.1
     c.park.ensures.message c.park.ensures.waker) refl
 
 pub returns-in-4-clause-went : goal.returns-in-4-clause-went
 returns-in-4-clause-went g c =
-    late_to _ c.word.result 4 refl c.in-4.is c.loop.invariant.went c.park.ensures.list.0 c.park.ensures.list.1
-    c.word.ensures.list
+    late_to _ c.load.result 4 refl c.in-4.is c.loop.invariant.went c.park.ensures.list.0 c.park.ensures.list.1
+    c.load.ensures.list
 
 pub returns-in-4-clause-ends : goal.returns-in-4-clause-ends
 returns-in-4-clause-ends g c =
     let still =
     stands_on (parked c.park.ensures.list.0 ∷ []) refl c.loop.invariant.overdue c.park.ensures.list.1
     c.park.ensures.message c.park.ensures.waker in
-    ended_full (ended c.word.result still c.word.ensures.finds c.word.ensures.list) c.in-4.is
+    ended_full (ended c.load.result still c.load.ensures.finds c.load.ensures.list) c.in-4.is
 
 pub returns-in-2-clause-went : goal.returns-in-2-clause-went
 returns-in-2-clause-went g c =
-    late_to _ c.word.result 2 refl c.in-2.is c.loop.invariant.went c.park.ensures.list.0 c.park.ensures.list.1
-    c.word.ensures.list
+    late_to _ c.load.result 2 refl c.in-2.is c.loop.invariant.went c.park.ensures.list.0 c.park.ensures.list.1
+    c.load.ensures.list
 
 pub returns-in-2-clause-ends : goal.returns-in-2-clause-ends
 returns-in-2-clause-ends g c =
     let still =
     stands_on (parked c.park.ensures.list.0 ∷ []) refl c.loop.invariant.overdue c.park.ensures.list.1
     c.park.ensures.message c.park.ensures.waker in
-    ended_over (ended c.word.result still c.word.ensures.finds c.word.ensures.list) c.in-2.is
+    ended_over (ended c.load.result still c.load.ensures.finds c.load.ensures.list) c.in-2.is
 
 pub loop-preserved : goal.loop-preserved
 loop-preserved g c =
@@ -58,23 +58,23 @@ loop-preserved g c =
     c.park.ensures.message c.park.ensures.waker in
     let on = g.G.ReceiverGround.keeps_on in
     let again =
-    ended_again (ended c.word.result still c.word.ensures.finds c.word.ensures.list) (search rules)
+    ended_again (ended c.load.result still c.load.ensures.finds c.load.ensures.list) (search rules)
     (search rules) in
     record {
       can_next = tt;
       is_finite = tt;
-      went = late_to _ c.word.result 3 refl again.word c.loop.invariant.went c.park.ensures.list.0 c.park.ensures.list.1
-          c.word.ensures.list;
+      went = late_to _ c.load.result 3 refl again.word c.loop.invariant.went c.park.ensures.list.0 c.park.ensures.list.1
+          c.load.ensures.list;
       overdue = again.stands;
-      keeps = on _ _ _ c.loop.invariant.keeps (on _ _ _ c.park.ensures.keeps c.word.ensures.keeps);
+      keeps = on _ _ _ c.loop.invariant.keeps (on _ _ _ c.park.ensures.keeps c.load.ensures.keeps);
     }
 
 pub returns-in-4-clause-keeps : goal.returns-in-4-clause-keeps
 returns-in-4-clause-keeps g c =
     let on = g.G.ReceiverGround.keeps_on in
-    on _ _ _ c.loop.invariant.keeps (on _ _ _ c.park.ensures.keeps c.word.ensures.keeps)
+    on _ _ _ c.loop.invariant.keeps (on _ _ _ c.park.ensures.keeps c.load.ensures.keeps)
 
 pub returns-in-2-clause-keeps : goal.returns-in-2-clause-keeps
 returns-in-2-clause-keeps g c =
     let on = g.G.ReceiverGround.keeps_on in
-    on _ _ _ c.loop.invariant.keeps (on _ _ _ c.park.ensures.keeps c.word.ensures.keeps)
+    on _ _ _ c.loop.invariant.keeps (on _ _ _ c.park.ensures.keeps c.load.ensures.keeps)

@@ -43,7 +43,7 @@ fn assert_drawn(rt: &(impl Abort + AllocGlobal), seed: u64) -> Result<(), Fail> 
         let text = drawn(rt.alloc(), &mut draws)?;
         kinds.push(assert_as_read(rt, &text)?)?;
     }
-    for kind in Kind::ALL {
+    for &kind in Kind::ALL {
         let count = kinds.iter().filter(|came| **came == kind).count();
         assert!(rt; count >= OFTEN, "seed {seed}: {count} of {kind:?}");
     }

@@ -3,12 +3,13 @@
 use crate::tests::damaged::assert_as_read;
 use crate::tests::damaged::reading::Kind;
 use crate::tests::told;
+use oneshot_asserts::{assert_equal, assert_equal_of};
 use std::alloc::AllocGlobal;
 use std::process::Abort;
 use std::test::Fail;
 
 /// Texts that make an input in their order, each with what is told of the fronts that end in it.
-const FRONTS: [(&str, &str); 14] = [
+const FRONTS: &[(&str, &str)] = &[
     ("S", "2 line 2 is missing"),
     (" sen", "2 line 1: unknown word 1"),
     ("d ", "2 line 1: bad number at word 2"),
@@ -32,7 +33,7 @@ const SCHEDULE: &str = "rrrrrssrrssrrrrs";
 fn each_front_of_an_input(rt: HostRuntime) -> Result<(), Fail> {
     let mut front = Vec::new(rt.alloc());
     assert_told(&rt, &front, "2 line 1 is missing")?;
-    for (text, output) in FRONTS {
+    for &(text, output) in FRONTS {
         for byte in text.as_bytes() {
             front.push(*byte)?;
             assert_told(&rt, &front, output)?;
@@ -40,9 +41,9 @@ fn each_front_of_an_input(rt: HostRuntime) -> Result<(), Fail> {
     }
     for (index, letter) in SCHEDULE.as_bytes().iter().enumerate() {
         front.push(*letter)?;
-        assert_eq!(rt; assert_as_read(&rt, &front)?, Kind::Trace);
+        assert_equal(&rt, assert_as_read(&rt, &front)?, Kind::Trace);
         let lines = told(&rt, &front).lines().count();
-        assert_eq!(rt; lines, index.saturating_add(3));
+        assert_equal(&rt, lines, index.saturating_add(3));
     }
     let trace = told(&rt, &front);
     front.push(b'\n')?;
@@ -51,18 +52,13 @@ fn each_front_of_an_input(rt: HostRuntime) -> Result<(), Fail> {
 
 /// The program tells this of the input, and so does the reading.
 fn assert_told(rt: &(impl Abort + AllocGlobal), input: &[u8], output: &str) -> Result<(), Fail> {
-    assert_eq!(rt;
-        told(rt, input).as_str(),
-        output,
-        "{}",
-        input.escape_ascii()
-    );
+    assert_equal_of(rt, told(rt, input).as_str(), output, input.escape_ascii());
     let _ = assert_as_read(rt, input)?;
     Ok(())
 }
 
 /// Faults of the three lines, beside input behind them.
-const BEFORE_MORE_INPUT: [(&str, &str); 12] = [
+const BEFORE_MORE_INPUT: &[(&str, &str)] = &[
     ("S\nR\nX\ns", "2 input after line 3"),
     ("s\nR\nX\ns", "2 line 1: must begin with S"),
     ("S\ns\nX\ns", "2 line 2: must begin with R"),
@@ -85,7 +81,7 @@ const BEFORE_MORE_INPUT: [(&str, &str); 12] = [
 
 #[test]
 fn input_behind_the_lines_is_told_after_each_of_their_faults(rt: HostRuntime) -> Result<(), Fail> {
-    for (input, fault) in BEFORE_MORE_INPUT {
+    for &(input, fault) in BEFORE_MORE_INPUT {
         assert_told(&rt, input.as_bytes(), fault)?;
     }
     Ok(())

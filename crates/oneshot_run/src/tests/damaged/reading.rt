@@ -46,7 +46,7 @@ pub(super) enum Kind {
 }
 
 impl Kind {
-    pub(super) const ALL: [Kind; 8] = [
+    pub(super) const ALL: &'static [Kind] = &[
         Kind::Trace,
         Kind::NotAscii,
         Kind::Missing,

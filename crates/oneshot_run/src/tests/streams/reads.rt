@@ -3,6 +3,7 @@
 use super::{FAILURES, Failures, INTERRUPTS, Reader, ending};
 use crate::tests::{SENT, SENT_TRACE, assert_trace, idle};
 use crate::{Fault, run};
+use oneshot_asserts::assert_equal_of;
 use std::io;
 use std::io::{ErrorKind, Read};
 use std::test::Fail;
@@ -11,17 +12,13 @@ use std::test::Fail;
 fn a_failed_read_is_told_alone(rt: HostRuntime) {
     // The read after all bytes were given is the one that would find the end.
     for before in 0..=SENT.len() {
-        for kind in FAILURES {
+        for &kind in FAILURES {
             let mut reader = Reader::new(SENT, Failures::of(before, 1, kind));
             let mut written = Vec::new(rt.alloc());
             let ended = ending(&rt, &mut reader, &mut written);
-            assert_eq!(rt;
-                ended.as_str(),
-                "1 read failed\n",
-                "{kind:?} after {before} reads"
-            );
+            assert_equal_of(&rt, ended.as_str(), "1 read failed\n", (kind, before));
             assert!(rt; written.is_empty(), "{kind:?} after {before} reads");
-            assert_eq!(rt; reader.failures.after, 0, "reads after {kind:?}");
+            assert_equal_of(&rt, reader.failures.after, 0, kind);
         }
     }
 }
@@ -33,11 +30,12 @@ fn an_interrupted_read_is_made_again(rt: HostRuntime) {
             let interrupts = Failures::of(before, count, ErrorKind::Interrupted);
             let mut written = Vec::new(rt.alloc());
             let ended = ending(&rt, &mut Reader::new(SENT, interrupts), &mut written);
-            assert_eq!(rt; ended.as_str(), "0 ", "{count} after {before} reads");
-            assert_eq!(rt;
+            assert_equal_of(&rt, ended.as_str(), "0 ", (count, before));
+            assert_equal_of(
+                &rt,
                 written.as_slice(),
                 SENT_TRACE.as_bytes(),
-                "{count} after {before} reads"
+                (count, before),
             );
         }
     }

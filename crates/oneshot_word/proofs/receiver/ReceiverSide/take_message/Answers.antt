@@ -1,6 +1,23 @@
 -- The goals that `take_message` of `ReceiverSide` leaves.
-use Rattle.oneshot_word.specs.Seats.{vacant_keeps}
+use Rattle.std.proofs.Common.{◌≡◌, Option, Some, sym, ap, ◌∙◌}
+use Rattle.oneshot_machine.specs.Slots.{Held, held}
+use Rattle.oneshot_word.specs.Seats.{vacant_keeps, HoldsTaken, holds_no_slot, holds_none, holds_it}
+use Rattle.oneshot_word.proofs.SlotReads.{message_reads}
 use Rattle.oneshot_word.proofs.receiver.ReceiverSide.take_message.Goals as goal
 
 pub trade_message-requires-clause-kept : goal.trade_message-requires-clause-kept
 trade_message-requires-clause-kept g c = vacant_keeps
+
+pub trade_message-requires-clause-passed : goal.trade_message-requires-clause-passed
+trade_message-requires-clause-passed g c = holds_none
+
+-- what lies in its slot is what it took
+holds_so : {T : Type 0} {taken : Option T} {slot : Held T} {m : T} → HoldsTaken taken slot → slot ≡ held m
+    → taken ≡ Some m
+holds_so holds_no_slot is = absurd (cc is)
+holds_so holds_none is = absurd (cc is)
+holds_so (holds_it m) is = ap Some (cc is)
+
+pub returns-clause-passed : goal.returns-clause-passed
+returns-clause-passed g c =
+    holds_so c.trade_message.ensures.taken (sym (message_reads c.trade_message.ensures.was) ∙ c.into_message.ensures)

@@ -1,7 +1,7 @@
 -- The goals that `trade_message` of `ReceiverSide` leaves.
 use Rattle.std.proofs.Common.{◌≢◌, rules, sym, subst}
 use Rattle.oneshot_machine.specs.Slots.{away}
-use Rattle.oneshot_word.specs.Seats.{Keeps, message_of, message_in, waker_in, MessageSlot, ReceiverSeat}
+use Rattle.oneshot_word.specs.Seats.{HoldsTaken, Keeps, message_of, message_in, waker_in, MessageSlot, ReceiverSeat}
 use Rattle.oneshot_word.proofs.SlotReads.{fits_message}
 use Rattle.oneshot_word.proofs.Trades.{receiver_message_front, Traded, receiver_message_traded, message_side}
 use Rattle.oneshot_word.proofs.receiver.ReceiverSide.trade_message.Given as given
@@ -23,6 +23,7 @@ traded g c =
     (subst (λ s. s.message ≢ away) (sym c.self.view_is) c.requires.its_own)
     (fits_message c.args.new c.requires.no_waker
     (subst (λ s. Keeps (g.P.Promise.keeps s.about) (message_of c.args.new)) (sym c.self.view_is) c.requires.kept))
+    (subst (λ s. HoldsTaken s.passed (message_of c.args.new)) (sym c.self.view_is) c.requires.passed)
     c.exchange.ensures.2 c.exchange.ensures.3
 
 pub invariant_of-self : goal.invariant_of-self
@@ -36,3 +37,6 @@ pub returns-clause-has : goal.returns-clause-has
 returns-clause-has g c =
     message_side c.self.inside.seat.table_id c.exchange.new.seat.table_id c.self.inside.seat.me c.exchange.new.seat.me
     c.args.self.now c.self.view_is (search rules) (traded g c)
+
+pub returns-clause-taken : goal.returns-clause-taken
+returns-clause-taken g c = subst (λ s. HoldsTaken s.passed s.message) c.self.view_is c.self.invariant.0.passed

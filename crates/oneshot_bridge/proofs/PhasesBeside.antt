@@ -1,0 +1,138 @@
+-- The phases of both ends beside the machines: the checker explores both together, and the cells of all that it
+-- finds are as the rule of the word has it.
+use Rattle.std.proofs.Common.{◌≡◌, Bool, true, false, not, ◌&&◌, Option, Some, None, is_some, refl}
+use Rattle.oneshot_machine.specs.declared.machine.End.{End}
+use Rattle.oneshot_machine.specs.declared.machine.End.TheVariants.{Sender, Receiver}
+use Rattle.oneshot_machine.specs.declared.machine.Seen.TheVariants.{Done}
+use Rattle.oneshot_machine.specs.declared.machine.Step.{Step}
+use Rattle.oneshot_machine.specs.declared.machine.Step.TheVariants.{Wake}
+use Rattle.oneshot_machine.specs.declared.machine.sender.SenderPos.{SenderPos}
+use Rattle.oneshot_machine.specs.Noted.{Noted}
+use Rattle.oneshot_machine.specs.Phases.{SenderAt, fresh, finished, no_sender, sender_next, ReceiverAt, first, gone, no_receiver, receiver_next, Share, none, empty, filled}
+use Rattle.oneshot_machine.specs.Sender.{sender_step, sender_row}
+use Rattle.oneshot_machine.specs.TableRows.{Outcome, Answers}
+use Rattle.oneshot_world.specs.Calls.{Call}
+use Rattle.oneshot_world.specs.Explore.{all_in}
+use Rattle.oneshot_world.specs.State.{is_in_cell}
+use Rattle.oneshot_world.specs.declared.state.ReceiverState.{ReceiverState}
+use Rattle.oneshot_world.specs.declared.state.ReceiverState.TheVariants as RS
+use Rattle.oneshot_world.specs.declared.state.SenderState.{SenderState}
+use Rattle.oneshot_world.specs.declared.state.SenderState.TheVariants as SS
+use Rattle.oneshot_world.specs.declared.state.State.{State}
+use Rattle.oneshot_world.specs.declared.trace.Made.{Made}
+use Rattle.oneshot_laws.specs.Actions.{is_end_of_sender}
+use Rattle.oneshot_laws.specs.Entries.{only_if}
+use Rattle.oneshot_laws.specs.Marks.{or_stray}
+use Rattle.oneshot_laws.proofs.Watched.{Watched, Automaton, Explored, no_names, all_watched}
+use Rattle.oneshot_word.specs.Rule.{message_home, waker_home}
+use Rattle.oneshot_bridge.specs.Homes.{one_has_both}
+use Rattle.oneshot_bridge.specs.OrdersRun.{operation_of}
+use Rattle.oneshot_bridge.specs.Woken.{found_it_gone}
+use Rattle.oneshot_bridge.proofs.PhaseCodes.{Phases, phases}
+
+-- both phases, if they are an end's
+abbrev pub with_phases : SenderAt → ReceiverAt → Phases
+with_phases no_sender q = None
+with_phases p no_receiver = None
+with_phases p q = Some (p, q)
+
+-- the phase after an entry, by its operation
+abbrev pub sender_after : Option Noted → SenderAt → SenderAt
+sender_after None p = p
+sender_after (Some x) p = sender_next p x.0 x.1
+
+abbrev pub receiver_after : Option Noted → ReceiverAt → ReceiverAt
+receiver_after None q = q
+receiver_after (Some x) q = receiver_next q x.0 x.1
+
+abbrev pub reads_phases : End → Option Noted → Phases → Phases
+reads_phases end x None = None
+reads_phases Sender x (Some m) = with_phases (sender_after x m.0) m.1
+reads_phases Receiver x (Some m) = with_phases m.0 (receiver_after x m.1)
+
+abbrev accepts_all : End → Call → Made → Phases → Bool
+accepts_all side call e m = true
+
+abbrev reads_made : End → Call → Made → Phases → Phases
+reads_made side call e m = reads_phases side (operation_of e) m
+
+abbrev pub phase_reader : Automaton Phases
+phase_reader =
+    record {
+      coding = phases;
+      accepts = accepts_all;
+      reads = reads_made;
+      names = no_names;
+      first = λ place. Some (fresh, first);
+    }
+
+-- WHAT IS COMPUTED: the cells of all that a run can reach
+abbrev pub is_so : Share → Bool → Bool
+is_so none full = true
+is_so empty full = not full
+is_so filled full = full
+
+abbrev pub cells_are_so : State → SenderAt → ReceiverAt → Bool
+cells_are_so s p q =
+    is_so (message_home p q) (is_in_cell s.message)
+    && (is_so (waker_home p q) (is_some s.wakers.cell)
+    && only_if s.freed (one_has_both p q))
+
+abbrev pub phases_are_so : State → Phases → Bool
+phases_are_so s None = true
+phases_are_so s (Some m) = cells_are_so s m.0 m.1
+
+abbrev pub is_right : Watched Phases → Bool
+is_right x = phases_are_so x.control.state x.reader
+
+pub explored : Explored phase_reader
+explored = record { found = all_watched phase_reader; all = refl }
+
+pub all_right : all_in is_right explored.found ≡ true
+unfolding explored
+all_right = refl
+
+-- The sender whose last operation found the receiver here is about to wake it, if its call is under way, and
+-- answers by that step.
+abbrev pub is_wake : Step → Bool
+is_wake Wake = true
+is_wake _ = false
+
+abbrev pub answers : Option (Outcome SenderPos) → Bool
+answers (Some (Answers reply)) = true
+answers _ = false
+
+abbrev pub wakes_at : SenderState → Option Call → Bool
+wakes_at (SS.At p) call = is_wake (sender_step p) && (answers (sender_row p Done) && is_end_of_sender (or_stray call))
+wakes_at _ call = true
+
+abbrev pub wakes_if_finished : SenderState → Option Call → Phases → Bool
+wakes_if_finished s call (Some (finished by, q)) = wakes_at s call
+wakes_if_finished s call _ = true
+
+abbrev pub wakes_well : Watched Phases → Bool
+wakes_well x = wakes_if_finished x.control.state.sender x.control.sender x.reader
+
+pub all_wake : all_in wakes_well explored.found ≡ true
+unfolding explored
+all_wake = refl
+
+-- a receiver that the sender's last operation found gone
+abbrev pub is_gone : ReceiverAt → Bool
+is_gone gone = true
+is_gone _ = false
+
+abbrev pub has_ended : ReceiverState → Bool
+has_ended RS.Ended = true
+has_ended _ = false
+
+abbrev pub ended_if_gone : ReceiverState → Phases → Bool
+ended_if_gone s None = true
+ended_if_gone s (Some m) = only_if (found_it_gone m.0) (is_gone m.1 && has_ended s)
+
+abbrev pub ends_well : Watched Phases → Bool
+ends_well x = ended_if_gone x.control.state.receiver x.reader
+
+pub all_end : all_in ends_well explored.found ≡ true
+unfolding explored
+all_end = refl

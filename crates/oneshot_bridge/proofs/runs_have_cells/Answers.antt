@@ -1,0 +1,6 @@
+-- The cells of each run, in one.
+use Rattle.oneshot_bridge.proofs.StatesRun.{runs_have_cells}
+use Rattle.oneshot_bridge.proofs.runs_have_cells.Goals as goal
+
+pub returns : goal.returns
+returns g c = runs_have_cells _

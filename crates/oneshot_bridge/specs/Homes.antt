@@ -1,0 +1,42 @@
+-- What the cells of a run's world have, by what the rule of the word says of the slots at home, and when the
+-- block may be freed.
+use Rattle.std.specs.Prelude.{◌≡◌, Bool, true, false, ◌&&◌, ◌||◌, List, [], ◌∷◌, Option, Some, None, is_some, IsTrue, IsFalse}
+use Rattle.oneshot_machine.specs.Noted.{Noted}
+use Rattle.oneshot_machine.specs.Phases.{SenderAt, sender_at, sender_moves, sender_owns, ReceiverAt, receiver_at, receiver_moves, receiver_owns, Share, empty, filled}
+use Rattle.oneshot_world.specs.State.{is_in_cell}
+use Rattle.oneshot_world.specs.declared.state.State.{State}
+use Rattle.oneshot_world.specs.declared.trace.Place.TheVariants.{InCell}
+use Rattle.oneshot_word.specs.Rule.{message_home, waker_home}
+
+-- what the rule says is at home of both slots: nothing while an end has the slot
+abbrev pub message_of_logs : List Noted → List Noted → Share
+message_of_logs xs ys = message_home (sender_at xs) (receiver_at ys)
+
+abbrev pub waker_of_logs : List Noted → List Noted → Share
+waker_of_logs xs ys = waker_home (sender_at xs) (receiver_at ys)
+
+-- one end has both slots, and the other makes no operation any more
+abbrev pub has_both : Option (Bool × Bool) → Bool
+has_both (Some (message, waker)) = message && waker
+has_both None = false
+
+abbrev pub has_no_more : {X : Type 0} → List X → Bool
+has_no_more [] = true
+has_no_more (row ∷ rows) = false
+
+abbrev pub one_has_both : SenderAt → ReceiverAt → Bool
+one_has_both p q =
+    has_both (sender_owns p) && has_no_more (receiver_moves q)
+    || has_both (receiver_owns q) && has_no_more (sender_moves p)
+
+-- The cells of a world to which a run leads that has these logs. A slot that an end has is in this world full or
+-- empty, since the end fills and empties it by steps that are in no log.
+pub record CellsAreSo (xs ys : List Noted) (s : State) : Type 0 where
+  -- a message that lies at home is in its cell, and in a home that is empty lies none
+  pub message : message_of_logs xs ys ≡ filled → s.message ≡ Some InCell
+  pub no_message : message_of_logs xs ys ≡ empty → IsFalse (is_in_cell s.message)
+  -- a waker that lies at home is in its cell, and in a home that is empty lies none
+  pub waker : waker_of_logs xs ys ≡ filled → IsTrue (is_some s.wakers.cell)
+  pub no_waker : waker_of_logs xs ys ≡ empty → s.wakers.cell ≡ None
+  -- the block is freed only where one end has both slots, and the other makes no operation any more
+  pub freed : IsTrue s.freed → IsTrue (one_has_both (sender_at xs) (receiver_at ys))

@@ -1,0 +1,151 @@
+-- What each call of the sender makes is a run.
+use Rattle.std.proofs.Common.{◌≡◌, ℕ, Bool, true, false, [], ◌∷◌, Some, refl}
+use Rattle.oneshot_machine.specs.declared.machine.Reply.TheVariants as R
+use Rattle.oneshot_machine.specs.declared.machine.Seen.TheVariants as S
+use Rattle.oneshot_machine.specs.declared.machine.Step.TheVariants.{DropMessage, TakeWaker, Wake, Free}
+use Rattle.oneshot_machine.specs.declared.machine.sender.SenderCall.TheVariants.{Send, Drop, IntoInner, DropError}
+use Rattle.oneshot_machine.specs.declared.machine.sender.SenderPos.TheVariants.{SendAdd, SendTakeWaker, SendFinal, SendWake, SendLateWake, DropTakeWaker, DropFinal, DropWake, DropLateWake, DropFree, IntoFree, ErrorFree}
+use Rattle.oneshot_machine.specs.declared.machine.sender.SenderPos.{SenderPos}
+use Rattle.oneshot_machine.specs.declared.states.Op.TheVariants.{Swap, Add, Xor}
+use Rattle.oneshot_machine.specs.Logs.{Log, Grows, did, wrote, took, handed, worded}
+use Rattle.oneshot_machine.specs.TableRows.{Goes, Answers}
+use Rattle.oneshot_machine.specs.Runs.{last, more, SenderRan}
+use Rattle.oneshot_machine.specs.Sender.{sender_step, sender_row}
+use Rattle.oneshot_machine.proofs.GrownLists.{and_then}
+use Rattle.oneshot_drive.specs.BetweenCalls.{finishing, LastFinds, finds_waiting, finds_overdue, finds_gone, Finishes, send_reply}
+
+-- after its last operation a sender wakes, and then answers whether the receiver was here
+abbrev send_wake : Bool → SenderPos
+send_wake true = SendWake
+send_wake false = SendLateWake
+
+send_final : {n : ℕ} {here : Bool} → LastFinds n here → sender_row SendFinal (S.Word n) ≡ Some (Goes (send_wake here))
+send_final finds_waiting = refl
+send_final finds_overdue = refl
+send_final finds_gone = refl
+
+wake_is : (here : Bool) → Wake ≡ sender_step (send_wake here)
+wake_is true = refl
+wake_is false = refl
+
+woke : (here : Bool) → sender_row (send_wake here) S.Done ≡ Some (Answers (send_reply here))
+woke true = refl
+woke false = refl
+
+drop_final : {n : ℕ} → LastFinds n true → sender_row DropFinal (S.Word n) ≡ Some (Goes DropWake)
+drop_final finds_waiting = refl
+drop_final finds_overdue = refl
+
+drop_late : {n : ℕ} → LastFinds n false → sender_row DropFinal (S.Word n) ≡ Some (Goes DropLateWake)
+drop_late finds_gone = refl
+
+module _ {T W : Type 0} where
+  -- the runs of `send`
+  pub send_ran : {l k j : Log T W} {x : T} (n : ℕ) → n ≡ 3 → Grows l k (wrote x ∷ []) → Grows k j (worded Add n ∷ [])
+      → SenderRan Send l j R.Sent (x ∷ []) []
+  send_ran {x} n e s t =
+      record {
+        run = wrote x ∷ worded Add n
+            ∷ [];
+        is_run =
+            more SendAdd _ _ refl refl (last _ refl (rw e));
+        grows = and_then _ _ s t;
+        gives = refl;
+        gets = refl;
+      }
+
+  pub send_refused : {l k j : Log T W} {x : T} (n : ℕ) → n ≡ 2 → Grows l k (wrote x ∷ [])
+      → Grows k j (worded Add n ∷ []) → SenderRan Send l j R.Refused (x ∷ []) []
+  send_refused {x} n e s t =
+      record {
+        run = wrote x ∷ worded Add n
+            ∷ [];
+        is_run =
+            more SendAdd _ _ refl refl (last _ refl (rw e));
+        grows = and_then _ _ s t;
+        gives = refl;
+        gets = refl;
+      }
+
+  pub send_woke : {l k j z : Log T W} {x : T} (n : ℕ) (here : Bool) → n ≡ 0 → Grows l k (wrote x ∷ [])
+      → Grows k j (worded Add n ∷ []) → Finishes 4 here j z → SenderRan Send l z (send_reply here) (x ∷ []) []
+  send_woke {x} n here e s t f =
+      record {
+        run = wrote x ∷ worded Add n ∷ finishing 4 f.found f.waker;
+        is_run = more SendAdd _ _ refl refl
+            (more SendTakeWaker _ _ refl (rw e)
+            (more SendFinal _ _ refl refl (more (send_wake here) _ _ refl (send_final f.finds)
+            (last _ (wake_is here) (woke here)))));
+        grows = and_then (wrote x ∷ []) _ s (and_then (worded Add n ∷ []) _ t f.grows);
+        gives = refl;
+        gets = refl;
+      }
+
+  -- those of the drop
+  pub drop_ran : {l k : Log T W} (n : ℕ) → n ≡ 3 → Grows l k (worded Xor n ∷ []) → SenderRan Drop l k R.Done [] []
+  drop_ran n e s = record { run = worded Xor n ∷ []; is_run = last _ refl (rw e); grows = s; gives = refl; gets = refl }
+
+  pub drop_woke : {l k j : Log T W} (n : ℕ) → n ≡ 0 → Grows l k (worded Xor n ∷ []) → Finishes 2 true k j
+      → SenderRan Drop l j R.Done [] []
+  drop_woke n e s f =
+      record {
+        run = worded Xor n ∷ finishing 2 f.found f.waker;
+        is_run = more DropTakeWaker _ _ refl (rw e)
+            (more DropFinal _ _ refl refl (more DropWake _ _ refl (drop_final f.finds) (last _ refl refl)));
+        grows = and_then _ _ s f.grows;
+        gives = refl;
+        gets = refl;
+      }
+
+  pub drop_freed_late : {l k j z : Log T W} (n : ℕ) → n ≡ 0 → Grows l k (worded Xor n ∷ []) → Finishes 2 false k j
+      → Grows j z (did Free ∷ []) → SenderRan Drop l z R.Done [] []
+  drop_freed_late n e s f t =
+      record {
+        run = worded Xor n ∷ handed TakeWaker f.waker ∷ worded (Swap 2) f.found ∷ handed Wake f.waker ∷ did Free ∷ [];
+        is_run = more DropTakeWaker _ _ refl (rw e)
+            (more DropFinal _ _ refl refl (more DropLateWake _ _ refl (drop_late f.finds)
+            (more DropFree _ _ refl refl (last _ refl refl))));
+        grows = and_then (worded Xor n ∷ []) _ s (and_then (finishing 2 f.found f.waker) _ f.grows t);
+        gives = refl;
+        gets = refl;
+      }
+
+  pub drop_freed : {l k j : Log T W} (n : ℕ) → n ≡ 2 → Grows l k (worded Xor n ∷ []) → Grows k j (did Free ∷ [])
+      → SenderRan Drop l j R.Done [] []
+  drop_freed n e s t =
+      record {
+        run = worded Xor n ∷ did Free
+            ∷ [];
+        is_run =
+            more DropFree _ _ refl (rw e) (last _ refl refl);
+        grows = and_then _ _ s t;
+        gives = refl;
+        gets = refl;
+      }
+
+  -- the error's calls
+  pub into_ran : {l k j : Log T W} (x : T) → Grows l k (took x ∷ []) → Grows k j (did Free ∷ [])
+      → SenderRan IntoInner l j R.Message [] (x ∷ [])
+  into_ran x s t =
+      record {
+        run = took x ∷ did Free
+            ∷ [];
+        is_run =
+            more IntoFree _ _ refl refl (last _ refl refl);
+        grows = and_then _ _ s t;
+        gives = refl;
+        gets = refl;
+      }
+
+  pub error_ran : {l k j : Log T W} → Grows l k (did DropMessage ∷ []) → Grows k j (did Free ∷ [])
+      → SenderRan DropError l j R.Done [] []
+  error_ran s t =
+      record {
+        run = did DropMessage ∷ did Free
+            ∷ [];
+        is_run =
+            more ErrorFree _ _ refl refl (last _ refl refl);
+        grows = and_then _ _ s t;
+        gives = refl;
+        gets = refl;
+      }
