@@ -23,6 +23,7 @@ pub use Rattle.oneshot_memory.specs.Receiver as ReceiverMemory
 pub use Rattle.oneshot_memory.specs.Sender as SenderMemory
 -- what those of the machines name
 pub use Rattle.oneshot_machine.specs.Look
+pub use Rattle.oneshot_machine.specs.TryRecv
 pub use Rattle.oneshot_machine.specs.ByRef
 pub use Rattle.oneshot_machine.specs.Timed
 pub use Rattle.oneshot_machine.specs.Value

@@ -20,7 +20,7 @@ fn glance<T: Drop, Rt: Drop>(receiver: &mut AsyncReceiver<T, Rt>) -> Option<Resu
     ensures open { result ≡ None → IsUnfinished receiver.new }
     ensures done { result ≢ None → IsDone receiver.new }
     ensures registered { result ≡ None
-        → is_registered (receiver_at receiver.new.steps) ≡ is_registered (receiver_at receiver.old.steps) }
+        → is_registered (receiver_at receiver.new.log) ≡ is_registered (receiver_at receiver.old.log) }
 {
     match receiver.try_recv() {
         Ok(message) => Some(Ok(message)),

@@ -18,7 +18,7 @@ use Rattle.oneshot_machine.specs.Slots.{In, head, tail}
 use Rattle.oneshot_machine.specs.Standing.{Table, Standpoint, plainly, as_future, standpoint_row, standpoint_step, standpoint_number, outcome_at, receiver_table, is_op, onward, onward_all, in_order, moved, made_at, operations, standing, standing_from}
 use Rattle.oneshot_machine.specs.TableRows.{Outcome, Goes, row_for}
 use Rattle.oneshot_machine.proofs.ExactTables.{receiver_exact}
-use Rattle.oneshot_machine.proofs.Exactness.{each_passes, some_passes, ops_are_same}
+use Rattle.oneshot_machine.proofs.Sameness.{each_passes, some_passes, ops_are_same}
 use Rattle.oneshot_world.specs.declared.script.ReceiverLast.TheVariants as RL
 use Rattle.oneshot_world.specs.declared.script.ReceiverScript.{ReceiverScript}
 use Rattle.oneshot_bridge.specs.Scripted.{ReceiverIsScripted}

@@ -12,7 +12,7 @@ use Rattle.oneshot_machine.specs.Receiver.{receiver_step, receiver_row}
 use Rattle.oneshot_machine.specs.Slots.{In}
 use Rattle.oneshot_machine.specs.Standing.{Standpoint, plainly, as_future, standpoint_row, standpoint_step, standpoint_follows, outcome_at, receiver_table, sights, onward}
 use Rattle.oneshot_machine.specs.TableRows.{Outcome, Goes, Answers}
-use Rattle.oneshot_machine.proofs.Exactness.{each_passes}
+use Rattle.oneshot_machine.proofs.Sameness.{each_passes}
 use Rattle.oneshot_bridge.specs.Walks.{may_see}
 use Rattle.oneshot_bridge.proofs.Among.{only, AmongEach, in_each}
 use Rattle.oneshot_bridge.proofs.ReceiverStands.{After, calls, polls, nothing, Stands, IsReady, Steps, rests, goes, answers}

@@ -9,7 +9,7 @@ use Rattle.oneshot_machine.specs.Noted.{Noted}
 use Rattle.oneshot_machine.specs.Orders.{Reaches, has_row, nothing_made, sender_makes, receiver_makes}
 use Rattle.oneshot_machine.specs.Phases.{ReceiverAt, first, here, looked, between, waits, blocked, polled, again, full, at_once, waited, swapped, by_future, by_poll, unclosed, disconnected, resolved, receiver_at, receiver_moves, Share, none, empty, filled, Slots, Row}
 use Rattle.oneshot_machine.specs.Slots.{Held, away, vacant, held, IsSlot, is_away, is_vacant, is_held, Turns, stays_away, stays_vacant, stays_held, gives_room, gives_thing, gets_room, gets_thing, In, ReceiverMay, may, ReceiverFinds, finds}
-use Rattle.oneshot_machine.proofs.Exactness.{each_passes}
+use Rattle.oneshot_machine.proofs.Sameness.{each_passes}
 
 -- the slots of a row stay, are given up or come
 abbrev can_turn : Share → Share → Bool

@@ -9,9 +9,10 @@ use Rattle.oneshot_machine.specs.declared.machine.by_ref.RefPos.TheVariants.{Par
 use Rattle.oneshot_machine.specs.declared.machine.async_drop.AsyncDropPos.TheVariants.{AsyncLoad}
 use Rattle.oneshot_machine.specs.declared.machine.drop.DropPos.TheVariants.{DropSwap}
 use Rattle.oneshot_machine.specs.declared.machine.future.FuturePos.TheVariants as F
-use Rattle.oneshot_machine.specs.declared.machine.look.LookPos.TheVariants.{TryLoad}
+use Rattle.oneshot_machine.specs.declared.machine.look.LookPos.TheVariants.{LookFull}
+use Rattle.oneshot_machine.specs.declared.machine.try_recv.TryPos.TheVariants.{TryLoad}
 use Rattle.oneshot_machine.specs.declared.machine.receiver.ReceiverPos.{ReceiverPos}
-use Rattle.oneshot_machine.specs.declared.machine.receiver.ReceiverPos.TheVariants.{Look, Ref, Timed, Value, Future, AsyncDrop, Drop}
+use Rattle.oneshot_machine.specs.declared.machine.receiver.ReceiverPos.TheVariants.{Look, Try, Ref, Timed, Value, Future, AsyncDrop, Drop}
 use Rattle.oneshot_machine.specs.declared.machine.sender.SenderPos.{SenderPos}
 use Rattle.oneshot_machine.specs.declared.machine.sender.SenderPos.TheVariants as SP
 use Rattle.oneshot_machine.specs.declared.machine.timed.TimedPos.TheVariants.{TimedPark, LatePark}
@@ -72,8 +73,10 @@ park_leads (Ref Park) false e = refl
 park_leads (Timed TimedPark) false e = refl
 park_leads (Timed LatePark) false e = refl
 park_leads (Value RecvPark) false e = refl
-park_leads (Look TryLoad) false e = absurd (cc)
+park_leads (Look LookFull) false e = absurd (cc)
 park_leads (Look _) false e = absurd (cc)
+park_leads (Try TryLoad) false e = absurd (cc)
+park_leads (Try _) false e = absurd (cc)
 park_leads (Ref _) false e = absurd (cc)
 park_leads (Timed _) false e = absurd (cc)
 park_leads (Value _) false e = absurd (cc)

@@ -7,9 +7,10 @@ use Rattle.oneshot_machine.specs.declared.machine.async_drop.AsyncDropPos.TheVar
 use Rattle.oneshot_machine.specs.declared.machine.by_ref.RefPos.TheVariants.{StartLoad, StartWrite, StartSwap, ParkLoad}
 use Rattle.oneshot_machine.specs.declared.machine.drop.DropPos.TheVariants.{DropSwap}
 use Rattle.oneshot_machine.specs.declared.machine.future.FuturePos.TheVariants.{IntoFuture}
-use Rattle.oneshot_machine.specs.declared.machine.look.LookPos.TheVariants.{LookFull, TryLoad, Take, CloseOnly}
+use Rattle.oneshot_machine.specs.declared.machine.look.LookPos.TheVariants.{LookFull}
+use Rattle.oneshot_machine.specs.declared.machine.try_recv.TryPos.TheVariants.{TryLoad, Take, CloseOnly}
 use Rattle.oneshot_machine.specs.declared.machine.receiver.ReceiverPos.{ReceiverPos}
-use Rattle.oneshot_machine.specs.declared.machine.receiver.ReceiverPos.TheVariants.{Look, Ref, Timed, Value, Future, AsyncDrop, Drop}
+use Rattle.oneshot_machine.specs.declared.machine.receiver.ReceiverPos.TheVariants.{Look, Try, Ref, Timed, Value, Future, AsyncDrop, Drop}
 use Rattle.oneshot_machine.specs.declared.machine.timed.TimedPos.TheVariants.{SumClock, TimedLoad, EndBack, LateLoad}
 use Rattle.oneshot_machine.specs.declared.machine.value.ValuePos.TheVariants.{RecvLoad}
 use Rattle.oneshot_machine.specs.Noted.{Noted}
@@ -32,10 +33,12 @@ pos_of (as_future p) = p
 -- the calls that may follow at a standpoint, and the standpoints that walks meet
 abbrev pub after_of : Standpoint → After
 after_of (plainly (Look at)) = calls
+after_of (plainly (Try at)) = calls
 after_of (plainly (Ref at)) = calls
 after_of (plainly (Timed at)) = calls
 after_of (plainly (Future at)) = polls
 after_of (as_future (Look at)) = polls
+after_of (as_future (Try at)) = polls
 after_of (as_future (Future at)) = polls
 after_of _ = nothing
 
@@ -96,6 +99,7 @@ pub stays_ready : (s : Standpoint) (reply : Reply) → stays_on s reply ≡ true
 stays_ready (as_future (AsyncDrop at)) reply e = absurd (cc e)
 stays_ready (as_future (Drop at)) reply e = absurd (cc e)
 stays_ready (as_future (Look at)) reply e = is_ready_so _ e
+stays_ready (as_future (Try at)) reply e = is_ready_so _ e
 stays_ready (as_future _) reply e = is_ready_so _ e
 stays_ready (plainly p) reply e = is_ready_so _ e
 
@@ -103,9 +107,9 @@ stays_ready (plainly p) reply e = is_ready_so _ e
 module _ {ys : List Noted} where
   pub follows : {q : Standpoint} (s : Standpoint) (reply : Reply) → is_met s ≡ true → stays_on s reply ≡ true
       → IsReady ys (after_of s) → In q (standpoint_follows s reply) → Comes ys q
-  follows (plainly (Look TryLoad)) reply met stays ready there = receiver_begins ready there
-  follows (plainly (Look Take)) reply met stays ready there = receiver_begins ready there
-  follows (plainly (Look CloseOnly)) reply met stays ready there = receiver_begins ready there
+  follows (plainly (Try TryLoad)) reply met stays ready there = receiver_begins ready there
+  follows (plainly (Try Take)) reply met stays ready there = receiver_begins ready there
+  follows (plainly (Try CloseOnly)) reply met stays ready there = receiver_begins ready there
   follows (plainly (Ref (StartLoad timed))) reply met stays ready there = receiver_begins ready there
   follows (plainly (Ref ParkLoad)) reply met stays ready there = receiver_begins ready there
   follows (plainly (Timed TimedLoad)) reply met stays ready there = receiver_begins ready there
@@ -113,6 +117,7 @@ module _ {ys : List Noted} where
   follows (plainly (Timed LateLoad)) reply met stays ready there = receiver_begins ready there
   follows (plainly (Future IntoFuture)) reply met stays ready there = polls_begin ready there
   follows (plainly (Look _)) reply met stays ready there = elim there [ ]
+  follows (plainly (Try _)) reply met stays ready there = elim there [ ]
   follows (plainly (Ref _)) reply met stays ready there = elim there [ ]
   follows (plainly (Timed _)) reply met stays ready there = elim there [ ]
   follows (plainly (Future _)) reply met stays ready there = elim there [ ]
@@ -121,6 +126,8 @@ module _ {ys : List Noted} where
   follows (plainly (Drop at)) reply met stays ready there = elim there [ ]
   follows (as_future (Look at)) R.Done met stays ready there = elim there [ ]
   follows (as_future (Look at)) _ met stays ready there = polls_begin ready there
+  follows (as_future (Try at)) R.Done met stays ready there = elim there [ ]
+  follows (as_future (Try at)) _ met stays ready there = polls_begin ready there
   follows (as_future (Future at)) R.Done met stays ready there = elim there [ ]
   follows (as_future (Future at)) _ met stays ready there = polls_begin ready there
   follows (as_future (AsyncDrop at)) reply met stays ready there = absurd (cc stays)
@@ -136,6 +143,8 @@ nowhere = plainly (Look LookFull)
 back : (s : Standpoint) → get_or receiver_table.positions (standpoint_number s) nowhere ≡ s
 back (plainly (Look LookFull)) = refl
 back (plainly (Look _)) = refl
+back (plainly (Try TryLoad)) = refl
+back (plainly (Try _)) = refl
 back (plainly (Ref (StartLoad false))) = refl
 back (plainly (Ref (StartLoad true))) = refl
 back (plainly (Ref (StartWrite false))) = refl
@@ -156,6 +165,8 @@ back (plainly (Drop DropSwap)) = refl
 back (plainly (Drop _)) = refl
 back (as_future (Look LookFull)) = refl
 back (as_future (Look _)) = refl
+back (as_future (Try TryLoad)) = refl
+back (as_future (Try _)) = refl
 back (as_future (Ref (StartLoad false))) = refl
 back (as_future (Ref (StartLoad true))) = refl
 back (as_future (Ref (StartWrite false))) = refl

@@ -8,25 +8,26 @@ use Rattle.oneshot_machine.specs.Logs.{Event, Log, Grows, words, sender_of, rece
 use Rattle.oneshot_machine.specs.Phases.{SenderAt, no_sender, sender_moves, sender_at, ReceiverAt, no_receiver, receiver_moves, receiver_at, Share, empty, filled, Slots, Row, next_by}
 use Rattle.oneshot_machine.specs.Slots.{vacant, held, In, head, tail, May, may, Finds, finds}
 use Rattle.oneshot_machine.specs.Noted.{saw, is_same_op}
-use Rattle.oneshot_machine.proofs.Exactness.{same_op, differ, leads}
+use Rattle.oneshot_machine.proofs.Sameness.{same_op}
+use Rattle.oneshot_machine.proofs.Exactness.{differ, leads}
 use Rattle.oneshot_machine.proofs.GrownLists.{words_stay, sender_moved, receiver_moved}
 use Rattle.oneshot_machine.proofs.Landings.{put_in, emptied, as_before, turned, has_row, row_of, Landing, landings, landed, Each, each, among, is_among, differs, sender_apart, receiver_apart}
-use Rattle.oneshot_drive.specs.Grounds.{State, StandsWith, Stands, receiver_slots, SenderAsks, SenderMakes, ReceiverAsks, ReceiverMakes}
+use Rattle.oneshot_drive.specs.Grounds.{GroundState, StandsWith, Stands, receiver_slots, SenderAsks, SenderMakes, ReceiverAsks, ReceiverMakes}
 
 -- an operation that found this word landed at one of these
-pub record Lands {At T W : Type 0} (of : Log T W → At) (n : ℕ) (s : State T W) (ls : List (Landing At)) : Type 0 where
+pub record Lands {At T W : Type 0} (of : Log T W → At) (n : ℕ) (s : GroundState T W) (ls : List (Landing At)) : Type 0 where
   next : At
   after : Slots
   landing : In (n, next, after) ls
   stands : StandsWith of next after s
 
 -- at this one
-pub record Lone {At T W : Type 0} (of : Log T W → At) (n : ℕ) (s : State T W) (l : Landing At) : Type 0 where
+pub record Lone {At T W : Type 0} (of : Log T W → At) (n : ℕ) (s : GroundState T W) (l : Landing At) : Type 0 where
   pub word : n ≡ l.0
   pub stands : StandsWith of l.1 l.2 s
 
 -- or at one for which this holds
-pub record OneOf {At T W : Type 0} (of : Log T W → At) (n : ℕ) (s : State T W) (fact : ℕ → At → Slots → Type 0) : Type
+pub record OneOf {At T W : Type 0} (of : Log T W → At) (n : ℕ) (s : GroundState T W) (fact : ℕ → At → Slots → Type 0) : Type
     0 where
   pub next : At
   pub after : Slots
@@ -34,13 +35,13 @@ pub record OneOf {At T W : Type 0} (of : Log T W → At) (n : ℕ) (s : State T 
   pub stands : StandsWith of next after s
 
 module _ {At T W : Type 0} {of : Log T W → At} where
-  the_lone : {n : ℕ} {next : At} {after : Slots} {s : State T W} (word : ℕ) (at : At) (slots : Slots)
+  the_lone : {n : ℕ} {next : At} {after : Slots} {s : GroundState T W} (word : ℕ) (at : At) (slots : Slots)
       → In {X = Landing At} (n, next, after) ((word, at, slots) ∷ []) → StandsWith of next after s
       → Lone of n s (word, at, slots)
   the_lone word at slots head stands = record { word = refl; stands = stands }
   the_lone word at slots (tail there) stands = elim there [ ]
 
-  module _ {n : ℕ} {s : State T W} where
+  module _ {n : ℕ} {s : GroundState T W} where
     -- the word is known, or it is another
     pub at_word : {ls : List (Landing At)} (word : ℕ) → n ≡ word → Lands of n s ls
         → Lands of n s (among (λ found. found == word) ls)
@@ -77,7 +78,7 @@ module _ {At T W : Type 0} {of : Log T W → At} where
       (moved : (l k : Log T W) (op : Op) (word : ℕ) → Grows l k (worded op word ∷ [])
       → of k ≡ next_by nowhere (moves (of l)) op (saw op word))
       (apart : (at : At) → differ nowhere (moves at) ≡ true) where
-    lands_by : (b a : State T W) (op : Op) (n : ℕ) → Finds moves (of b.log) op n b.message b.waker a.message a.waker
+    lands_by : (b a : GroundState T W) (op : Op) (n : ℕ) → Finds moves (of b.log) op n b.message b.waker a.message a.waker
         → Grows b.log a.log (worded op n ∷ []) → Lands of n a (landings op (moves (of b.log)))
     lands_by b a op n (finds {after} {next} row message waker) grows =
         record {
@@ -93,7 +94,7 @@ module _ {At T W : Type 0} {of : Log T W → At} where
           };
         }
 
-  asks_by : {at : At} {slots : Slots} {s : State T W} (moves : At → List (Row At)) (op : Op) → StandsWith of at slots s
+  asks_by : {at : At} {slots : Slots} {s : GroundState T W} (moves : At → List (Row At)) (op : Op) → StandsWith of at slots s
       → has_row op slots (moves at) ≡ true → May moves (of s.log) op s.message s.waker
   asks_by {at} {slots} {s} moves op is has =
       subst (λ q. May moves q op s.message s.waker) (sym is.phase)
@@ -101,23 +102,23 @@ module _ {At T W : Type 0} {of : Log T W → At} where
 
 module _ {T W : Type 0} where
   -- what a ground may do where it stands
-  pub sender_asks : {at : SenderAt} {slots : Slots} {s : State T W} (op : Op) → StandsWith sender_of at slots s
+  pub sender_asks : {at : SenderAt} {slots : Slots} {s : GroundState T W} (op : Op) → StandsWith sender_of at slots s
       → has_row op slots (sender_moves at) ≡ true → SenderAsks op s
   sender_asks op is has = asks_by sender_moves op is has
 
-  pub asks : {at : ReceiverAt} {slots : Slots} {s : State T W} (op : Op) → StandsWith receiver_of at slots s
+  pub asks : {at : ReceiverAt} {slots : Slots} {s : GroundState T W} (op : Op) → StandsWith receiver_of at slots s
       → has_row op slots (receiver_moves at) ≡ true → ReceiverAsks op s
   asks op is has = asks_by receiver_moves op is has
 
   -- where an operation landed, from a phase
-  pub sender_lands : {at : SenderAt} (b : State T W) {a : State T W} (op : Op) (n : ℕ) → sender_of b.log ≡ at
+  pub sender_lands : {at : SenderAt} (b : GroundState T W) {a : GroundState T W} (op : Op) (n : ℕ) → sender_of b.log ≡ at
       → SenderMakes op n b a → Grows b.log a.log (worded op n ∷ [])
       → Lands sender_of n a (landings op (sender_moves at))
   sender_lands b {a} op n at made grows =
       subst (λ at. Lands sender_of n a (landings op (sender_moves at))) at (lands_by no_sender sender_moves
       (λ l k op n s. sender_moved op n s) sender_apart b a op n made grows)
 
-  pub lands : {at : ReceiverAt} (b : State T W) {a : State T W} (op : Op) (n : ℕ) → receiver_of b.log ≡ at
+  pub lands : {at : ReceiverAt} (b : GroundState T W) {a : GroundState T W} (op : Op) (n : ℕ) → receiver_of b.log ≡ at
       → ReceiverMakes op n b a → Grows b.log a.log (worded op n ∷ [])
       → Lands receiver_of n a (landings op (receiver_moves at))
   lands b {a} op n at made grows =
@@ -134,7 +135,7 @@ module _ {T W : Type 0} where
   still steps no_word grows = ap receiver_at (words_stay steps no_word grows)
 
   -- and where they leave its slots too, as it stood
-  pub stands_on : {at : ReceiverAt} {slots : Slots} {b a : State T W} (steps : List (Event T W)) → words steps ≡ []
+  pub stands_on : {at : ReceiverAt} {slots : Slots} {b a : GroundState T W} (steps : List (Event T W)) → words steps ≡ []
       → StandsWith receiver_of at slots b → Grows b.log a.log steps → a.message ≡ b.message → a.waker ≡ b.waker
       → StandsWith receiver_of at slots a
   stands_on steps no_word is grows message waker =
@@ -146,12 +147,12 @@ module _ {T W : Type 0} where
       }
 
   -- an operation after which the slots are as a receiver stands at the phase
-  pub record Came (fact : ℕ → ReceiverAt → Type 0) (n : ℕ) (s : State T W) : Type 0 where
+  pub record Came (fact : ℕ → ReceiverAt → Type 0) (n : ℕ) (s : GroundState T W) : Type 0 where
     pub at : ReceiverAt
     pub is_so : fact n at
     pub stands : Stands at s
 
-  pub came : {n : ℕ} {s : State T W} {ls : List (Landing ReceiverAt)} (fact : ℕ → ReceiverAt → Type 0)
+  pub came : {n : ℕ} {s : GroundState T W} {ls : List (Landing ReceiverAt)} (fact : ℕ → ReceiverAt → Type 0)
       → Each (λ n next after. fact n next × (after ≡ receiver_slots next)) ls → Lands receiver_of n s ls → Came fact n s
   came {s} fact all lands =
       let found = one_of (λ n next after. fact n next × (after ≡ receiver_slots next)) all lands in
@@ -163,7 +164,7 @@ module _ {T W : Type 0} where
       }
 
   -- what is put into the slots, or taken out, leaves the phase
-  module _ {at : ReceiverAt} {b a : State T W} where
+  module _ {at : ReceiverAt} {b a : GroundState T W} where
     pub took_message : {w : Share} {x : T} → StandsWith receiver_of at (filled, w) b → Grows b.log a.log (took x ∷ [])
         → a.message ≡ vacant → a.waker ≡ b.waker → StandsWith receiver_of at (empty, w) a
     took_message {x} is grows message waker =

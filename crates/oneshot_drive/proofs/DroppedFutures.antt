@@ -13,7 +13,7 @@ use Rattle.oneshot_machine.specs.Receiver.{receiver_step, receiver_row}
 use Rattle.oneshot_machine.specs.TableRows.{Goes}
 use Rattle.oneshot_machine.specs.Runs.{Ran, ReceiverRan}
 use Rattle.oneshot_machine.specs.Slots.{vacant}
-use Rattle.oneshot_drive.specs.Grounds.{State, Stands, ReceiverAsks}
+use Rattle.oneshot_drive.specs.Grounds.{GroundState, Stands, ReceiverAsks}
 use Rattle.oneshot_drive.specs.Blocking.{Went}
 use Rattle.oneshot_machine.proofs.Landings.{has_row, landings}
 use Rattle.oneshot_drive.proofs.AfterOperations.{Lands, OneOf, one_of, not_at, asks, withdrew_waker}
@@ -29,7 +29,7 @@ Ends n next after =
 
 module _ {T W : Type 0} where
   -- `take_back`: the exchange of the copy
-  module _ {n : ℕ} {s : State T W}
+  module _ {n : ℕ} {s : GroundState T W}
       (found : Lands receiver_of n s (landings (Exchange 0 3) (receiver_moves (waits again)))) where
     pub backed_end : ¬ (n ≡ 0) → OneOf receiver_of n s Ends
     backed_end a = one_of Ends ((refl, refl), ((refl, refl), ((refl, refl), tt))) (not_at 0 a found)
@@ -37,11 +37,11 @@ module _ {T W : Type 0} where
     pub backed_asks : ¬ (n ≡ 0) → ReceiverAsks (Swap 2) s
     backed_asks a = let end = backed_end a in asks (Swap 2) end.stands end.is_so.0
 
-    pub withdrawn_ends : {z : State T W} {k : W} → n ≡ 0 → Grows s.log z.log (handed Steps.Withdraw k ∷ [])
+    pub withdrawn_ends : {z : GroundState T W} {k : W} → n ≡ 0 → Grows s.log z.log (handed Steps.Withdraw k ∷ [])
         → z.message ≡ s.message → z.waker ≡ vacant → Stands withdrew z
     withdrawn_ends e back message waker = withdrew_waker (backed_copy found e) back message waker
 
-  pub backed_out : {s : State T W} {l k : Log T W} (n : ℕ) → OneOf receiver_of n s Ends
+  pub backed_out : {s : GroundState T W} {l k : Log T W} (n : ℕ) → OneOf receiver_of n s Ends
       → Grows l k (worded (Exchange 0 3) n ∷ []) → Went (AsyncDrop AsyncExchange) (Goes (AsyncDrop AsyncSwap)) l k
   backed_out n found s = by_word _ (Exchange 0 3) n s refl found.is_so.1
 

@@ -17,7 +17,7 @@ use Rattle.oneshot_machine.proofs.GrownLists.{and_then}
 use Rattle.oneshot_machine.specs.Slots.{Held, IsSlot, ReceiverFinds}
 use Rattle.oneshot_machine.specs.Noted.{is_same_op}
 use Rattle.oneshot_machine.proofs.Landings.{Each, landings, FoundSo, found_so}
-use Rattle.oneshot_drive.specs.Grounds.{State}
+use Rattle.oneshot_drive.specs.Grounds.{GroundState}
 use Rattle.oneshot_drive.specs.BetweenCalls.{Rests, rests_new, rests_open, rests_closed, AtRest}
 
 -- the word that it finds, with the slots then
@@ -95,7 +95,7 @@ module _ {T W : Type 0} where
     pub swapped_open : ¬ (n ≡ 4) → ¬ (n ≡ 2) → receiver_row (AsyncDrop AsyncSwap) (S.Word n) ≡ Some (Answers R.Done)
     swapped_open = left_row swapped.is_so
 
-  pub past_1 : {b : State T W} {n : ℕ} {m : Held T} {w : Held W} → AtRest b
+  pub past_1 : {b : GroundState T W} {n : ℕ} {m : Held T} {w : Held W} → AtRest b
       → ReceiverFinds (receiver_of b.log) (Swap 2) n b.message b.waker m w → ¬ (n ≡ 1)
   past_1 rests made =
       (found_so (is_same_op (Swap 2)) (λ n next after. ¬ (n ≡ 1)) refl

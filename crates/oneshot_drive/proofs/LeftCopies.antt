@@ -15,7 +15,7 @@ use Rattle.oneshot_machine.specs.Phases.{ReceiverAt, here, looked, waits, polled
 use Rattle.oneshot_machine.specs.Receiver.{receiver_step, receiver_row}
 use Rattle.oneshot_machine.specs.TableRows.{Outcome, Goes, Answers}
 use Rattle.oneshot_machine.specs.Slots.{Held, vacant, held, IsSlot, is_held, ReceiverMay, ReceiverFinds}
-use Rattle.oneshot_drive.specs.Grounds.{State, StandsWith, Stands, ReceiverMakes}
+use Rattle.oneshot_drive.specs.Grounds.{GroundState, StandsWith, Stands, ReceiverMakes}
 use Rattle.oneshot_drive.specs.Blocking.{Went}
 use Rattle.oneshot_drive.specs.Polls.{LeavesPolled, leaves_waiting, poll_end, EndsPoll, MayLeave}
 use Rattle.oneshot_machine.proofs.Landings.{is_room, has_row, Each, landings}
@@ -52,13 +52,13 @@ module _ {T W : Type 0} where
   copies {r} {l} {k} c y made at leads s = by_copy (Goes r) y (subst (λ c. Grows l k (copied c ∷ [])) made s) at leads
 
   -- the task woke itself: the poll ends with nothing found, where it stands
-  pub owned_ends : {at : ReceiverAt} {b a : State T W} → LeavesPolled {T = T} Pending at → Stands at b
+  pub owned_ends : {at : ReceiverAt} {b a : GroundState T W} → LeavesPolled {T = T} Pending at → Stands at b
       → Grows b.log a.log (did Steps.WakeOwn ∷ []) → a.message ≡ b.message → a.waker ≡ b.waker → EndsPoll F.Nothing a
   owned_ends {at} leaves is s message waker =
       record { at = at; is_one = leaves; stands = stands_on (did Steps.WakeOwn ∷ []) refl is s message waker }
 
   -- `leave`: it may store a copy where its slot is empty
-  pub may_leave : {at : ReceiverAt} {share : Share} {s : State T W} → StandsWith receiver_of at (share, empty) s
+  pub may_leave : {at : ReceiverAt} {share : Share} {s : GroundState T W} → StandsWith receiver_of at (share, empty) s
       → has_row (Exchange 3 0) (share, filled) (receiver_moves at) ≡ true → MayLeave s
   may_leave {s} is has =
       record {
@@ -67,7 +67,7 @@ module _ {T W : Type 0} where
             (record { phase = is.phase; message = is.message; waker = is_held copy }) has;
       }
 
-  pub leave_asks : {b : State T W} {k : Log T W} {m : Held T} {w : Held W} (y : W) → MayLeave b
+  pub leave_asks : {b : GroundState T W} {k : Log T W} {m : Held T} {w : Held W} (y : W) → MayLeave b
       → Grows b.log k (handed Steps.WriteWaker y ∷ []) → m ≡ b.message → w ≡ held y
       → ReceiverMay (receiver_of k) (Exchange 3 0) m w
   leave_asks y may s message waker =
@@ -81,28 +81,28 @@ module _ {T W : Type 0} where
       one_of Left (leaves (receiver_of l))
       (lands (record { log = l; message = m; waker = w }) (Exchange 3 0) n refl made grows)
 
-  waits_with : {at : ReceiverAt} {slots : Slots} {s : State T W} → Left 3 at slots → StandsWith receiver_of at slots s
+  waits_with : {at : ReceiverAt} {slots : Slots} {s : GroundState T W} → Left 3 at slots → StandsWith receiver_of at slots s
       → EndsPoll F.Nothing s
   waits_with left_copy is = record { at = waits polled; is_one = leaves_waiting; stands = is }
 
-  full_with : {at : ReceiverAt} {slots : Slots} {s : State T W} → Left 4 at slots → StandsWith receiver_of at slots s
+  full_with : {at : ReceiverAt} {slots : Slots} {s : GroundState T W} → Left 4 at slots → StandsWith receiver_of at slots s
       → StandsWith receiver_of (full by_poll) (filled, filled) s
   full_with left_full is = is
 
-  over_with : {n : ℕ} {at : ReceiverAt} {slots : Slots} {s : State T W} → Left n at slots
+  over_with : {n : ℕ} {at : ReceiverAt} {slots : Slots} {s : GroundState T W} → Left n at slots
       → StandsWith receiver_of at slots s → ¬ (n ≡ 3) → ¬ (n ≡ 4)
       → Lone receiver_of n s (2, resolved found_closed, (empty, filled))
   over_with left_copy is a b = absurd (a refl)
   over_with left_full is a b = absurd (b refl)
   over_with left_over is a b = record { word = refl; stands = is }
 
-  there_with : {n : ℕ} {at : ReceiverAt} {slots : Slots} {s : State T W} → Left n at slots
+  there_with : {n : ℕ} {at : ReceiverAt} {slots : Slots} {s : GroundState T W} → Left n at slots
       → StandsWith receiver_of at slots s → ¬ (n ≡ 3) → IsSlot filled s.waker
   there_with left_copy is a = absurd (a refl)
   there_with left_full is a = is.waker
   there_with left_over is a = is.waker
 
-  module _ {n : ℕ} {s : State T W} (found : OneOf receiver_of n s Left) where
+  module _ {n : ℕ} {s : GroundState T W} (found : OneOf receiver_of n s Left) where
     left_with : (word : ℕ) → n ≡ word → Left word found.next found.after
     left_with word e = subst (λ n. Left n found.next found.after) e found.is_so
 
@@ -116,7 +116,7 @@ module _ {T W : Type 0} where
     none_left a b = (over_with found.is_so found.stands a b).word
 
     -- once the copy is taken back
-    module _ {z : State T W} {k : W} (back : Grows s.log z.log (handed Steps.Withdraw k ∷ []))
+    module _ {z : GroundState T W} {k : W} (back : Grows s.log z.log (handed Steps.Withdraw k ∷ []))
         (message : z.message ≡ s.message) (waker : z.waker ≡ vacant) where
       pub withdrew_full : n ≡ 4 → EndsPoll F.Message z
       withdrew_full e = (by_poll, refl, withdrew_waker (full_with (left_with 4 e) found.stands) back message waker)
@@ -159,12 +159,12 @@ module _ {T W : Type 0} where
       (by_withdraw _ u v refl refl))
 
   -- `leave_again`: where the exchange of the earlier copy landed
-  pub backed : {b a : State T W} (n : ℕ) → Stands (waits again) b → ReceiverMakes (Exchange 0 3) n b a
+  pub backed : {b a : GroundState T W} (n : ℕ) → Stands (waits again) b → ReceiverMakes (Exchange 0 3) n b a
       → Grows b.log a.log (worded (Exchange 0 3) n ∷ [])
       → Lands receiver_of n a (landings (Exchange 0 3) (receiver_moves (waits again)))
   backed {b} n is made grows = lands b (Exchange 0 3) n is.phase made grows
 
-  module _ {n : ℕ} {s : State T W}
+  module _ {n : ℕ} {s : GroundState T W}
       (found : Lands receiver_of n s (landings (Exchange 0 3) (receiver_moves (waits again)))) where
     pub backed_copy : n ≡ 0 → StandsWith receiver_of withdrew (none, filled) s
     backed_copy e = (lone (at_word 0 e found)).stands

@@ -8,8 +8,8 @@ use Rattle.oneshot_machine.specs.declared.machine.Reply.TheVariants as R
 use Rattle.oneshot_machine.specs.declared.machine.Seen.TheVariants as S
 use Rattle.oneshot_machine.specs.declared.machine.Step.TheVariants as Steps
 use Rattle.oneshot_machine.specs.declared.machine.receiver.ReceiverPos.{ReceiverPos}
-use Rattle.oneshot_machine.specs.declared.machine.receiver.ReceiverPos.TheVariants.{Look, Future, AsyncDrop}
-use Rattle.oneshot_machine.specs.declared.machine.look.LookPos.TheVariants.{Close, Take}
+use Rattle.oneshot_machine.specs.declared.machine.receiver.ReceiverPos.TheVariants.{Try, Future, AsyncDrop}
+use Rattle.oneshot_machine.specs.declared.machine.try_recv.TryPos.TheVariants.{Close, Take}
 use Rattle.oneshot_machine.specs.declared.machine.future.FuturePos.TheVariants.{PollLoad}
 use Rattle.oneshot_machine.specs.declared.machine.async_drop.AsyncDropPos.TheVariants.{AsyncLoad, AsyncSwap}
 use Rattle.oneshot_machine.specs.declared.machine.receiver.ReceiverStart.TheVariants as C
@@ -20,9 +20,9 @@ use Rattle.oneshot_machine.specs.Receiver.{receiver_step, receiver_row}
 use Rattle.oneshot_machine.specs.TableRows.{Outcome, Goes, Answers}
 use Rattle.oneshot_machine.specs.Runs.{last, more, ReceiverRan}
 use Rattle.oneshot_machine.proofs.GrownLists.{and_then}
-use Rattle.oneshot_drive.specs.Grounds.{State, StandsWith, Stands, StandsIn, receiver_slots, ReceiverAsks, ReceiverMakes}
+use Rattle.oneshot_drive.specs.Grounds.{GroundState, StandsWith, Stands, StandsIn, receiver_slots, ReceiverAsks, ReceiverMakes}
 use Rattle.oneshot_drive.specs.Blocking.{Went}
-use Rattle.oneshot_drive.specs.BetweenCalls.{rests_new, rests_open, rests_closed, IsClosed}
+use Rattle.oneshot_drive.specs.BetweenCalls.{rests_new, rests_open, rests_closed, IsClosedAt}
 use Rattle.oneshot_drive.specs.Polls.{Polled, unpolled, left_copy, kept_copy, found_sender, has_resolved, IsPolled, LeavesPolled, leaves_received, leaves_resolved, leaves_over, leaves_gone, leaves_uncopied, leaves_waiting, leaves_its_copy, leaves_claimed, EndsPoll}
 use Rattle.oneshot_machine.proofs.Landings.{has_row, Each, landings}
 use Rattle.oneshot_drive.proofs.AfterOperations.{Came, came, asks, lands}
@@ -93,30 +93,30 @@ pending_polled leaves_waiting = left_copy
 pending_polled leaves_its_copy = kept_copy
 pending_polled leaves_claimed = found_sender
 
-closed_polled : (at : ReceiverAt) → IsClosed at → Polled at
+closed_polled : (at : ReceiverAt) → IsClosedAt at → Polled at
 closed_polled (disconnected c) is = unpolled (rests_closed c)
 closed_polled (resolved c) is = has_resolved c
 closed_polled _ is = absurd (cc is)
 
-closed_leaves : {T : Type 0} (at : ReceiverAt) (e : RecvError) → IsClosed at → LeavesPolled {T = T} (Ready (Err e)) at
+closed_leaves : {T : Type 0} (at : ReceiverAt) (e : RecvError) → IsClosedAt at → LeavesPolled {T = T} (Ready (Err e)) at
 closed_leaves (disconnected c) e is = leaves_over e c
 closed_leaves (resolved c) e is = leaves_gone e c
 closed_leaves _ e is = absurd (cc is)
 
 module _ {T W : Type 0} where
-  open_met : {at : ReceiverAt} {s : State T W} → Met 3 at → Stands at s → Stands (here looked) s
+  open_met : {at : ReceiverAt} {s : GroundState T W} → Met 3 at → Stands at s → Stands (here looked) s
   open_met met_empty stands = stands
 
-  copy_met : {at : ReceiverAt} {s : State T W} → Met 0 at → Stands at s → Stands (waits again) s
+  copy_met : {at : ReceiverAt} {s : GroundState T W} → Met 0 at → Stands at s → Stands (waits again) s
   copy_met met_copy stands = stands
 
-  sender_met : {at : ReceiverAt} {s : State T W} → Met 1 at → Stands at s → Stands claimed s
+  sender_met : {at : ReceiverAt} {s : GroundState T W} → Met 1 at → Stands at s → Stands claimed s
   sender_met met_sender stands = stands
 
-  full_met : {at : ReceiverAt} {s : State T W} → Met 4 at → Stands at s → EndsPoll F.Message s
+  full_met : {at : ReceiverAt} {s : GroundState T W} → Met 4 at → Stands at s → EndsPoll F.Message s
   full_met (met_message {g} word drops) stands = (g, word, stands)
 
-  closed_met : {n : ℕ} {at : ReceiverAt} {s : State T W} → Met n at → Stands at s → ¬ (n ≡ 3) → ¬ (n ≡ 0) → ¬ (n ≡ 4)
+  closed_met : {n : ℕ} {at : ReceiverAt} {s : GroundState T W} → Met n at → Stands at s → ¬ (n ≡ 3) → ¬ (n ≡ 0) → ¬ (n ≡ 4)
       → ¬ (n ≡ 1) → (n ≡ 2) × EndsPoll F.Closed s
   closed_met met_empty stands a b c d = absurd (a refl)
   closed_met met_copy stands a b c d = absurd (b refl)
@@ -124,14 +124,14 @@ module _ {T W : Type 0} where
   closed_met met_sender stands a b c d = absurd (d refl)
   closed_met (met_closed k) stands a b c d = (refl, record { at = disconnected k; is_one = refl; stands = stands })
 
-  pub meet_asks : {s : State T W} → IsPolled s → ReceiverAsks Load s
+  pub meet_asks : {s : GroundState T W} → IsPolled s → ReceiverAsks Load s
   meet_asks is = asks Load is.stands (polled_loads is.is_one)
 
-  pub met : {b a : State T W} (n : ℕ) → IsPolled b → ReceiverMakes Load n b a → Grows b.log a.log (worded Load n ∷ [])
+  pub met : {b a : GroundState T W} (n : ℕ) → IsPolled b → ReceiverMakes Load n b a → Grows b.log a.log (worded Load n ∷ [])
       → Came Met n a
   met {b} n is made grows = came Met (meets is.is_one) (lands b Load n is.stands.phase made grows)
 
-  module _ {n : ℕ} {s : State T W} (found : Came Met n s) where
+  module _ {n : ℕ} {s : GroundState T W} (found : Came Met n s) where
     met_with : (word : ℕ) → n ≡ word → Met word found.at
     met_with word e = subst (λ n. Met n found.at) e found.is_so
 
@@ -170,7 +170,7 @@ module _ {T W : Type 0} where
   met_own n e s t = met_went n 1 refl e s (by_own _ t refl refl)
 
   -- `poll`: it closes over the message, and takes it
-  pub taken_rests : {s : State T W} (g : Got)
+  pub taken_rests : {s : GroundState T W} (g : Got)
       → StandsWith receiver_of (receiver_next (full g) (Store 2) S.Done) (empty, empty) s → IsPolled s
   taken_rests at_once is =
       record { at = disconnected closed_itself; is_one = unpolled (rests_closed closed_itself); stands = is }
@@ -181,30 +181,30 @@ module _ {T W : Type 0} where
   taken_rests by_future is = record { at = resolved closed_itself; is_one = has_resolved closed_itself; stands = is }
   taken_rests by_poll is = record { at = resolved closed_itself; is_one = has_resolved closed_itself; stands = is }
 
-  pub poll_ran : {l k j z : Log T W} (n : ℕ) (x : T) → Went (Future PollLoad) (Goes (Look Close)) l k
+  pub poll_ran : {l k j z : Log T W} (n : ℕ) (x : T) → Went (Future PollLoad) (Goes (Try Close)) l k
       → Grows k j (worded (Store 2) n ∷ []) → Grows j z (took x ∷ []) → ReceiverRan C.Poll l z R.Message [] (x ∷ [])
   poll_ran n x went s t =
-      ran went (worded (Store 2) n ∷ took x ∷ []) (more (Look Take) _ _ refl refl (last _ refl refl))
+      ran went (worded (Store 2) n ∷ took x ∷ []) (more (Try Take) _ _ refl refl (last _ refl refl))
       (and_then (worded (Store 2) n ∷ []) _ s t) refl refl
 
   -- or leaves the future open
-  pub pending_rests : {s : State T W} → EndsPoll F.Nothing s → IsPolled s
+  pub pending_rests : {s : GroundState T W} → EndsPoll F.Nothing s → IsPolled s
   pending_rests ends = record { at = ends.at; is_one = pending_polled ends.is_one; stands = ends.stands }
 
-  pub pending_leaves : {s : State T W} → EndsPoll F.Nothing s → LeavesPolled {T = T} Pending (receiver_of s.log)
+  pub pending_leaves : {s : GroundState T W} → EndsPoll F.Nothing s → LeavesPolled {T = T} Pending (receiver_of s.log)
   pending_leaves ends = subst (λ at. LeavesPolled {T = T} Pending at) (sym ends.stands.phase) ends.is_one
 
   -- or finds it closed
-  pub gone_rests : {s : State T W} → StandsIn IsClosed s → IsPolled s
+  pub gone_rests : {s : GroundState T W} → StandsIn IsClosedAt s → IsPolled s
   gone_rests is = record { at = is.at; is_one = closed_polled is.at is.is_one; stands = is.stands }
 
-  pub gone_leaves : {s : State T W} (e : RecvError) → StandsIn IsClosed s
+  pub gone_leaves : {s : GroundState T W} (e : RecvError) → StandsIn IsClosedAt s
       → LeavesPolled {T = T} (Ready (Err e)) (receiver_of s.log)
   gone_leaves e is =
       subst (λ at. LeavesPolled {T = T} (Ready (Err e)) at) (sym is.stands.phase) (closed_leaves is.at e is.is_one)
 
-  pub gone : (s : State T W) (f : Found) → EndsPoll f s → ¬ (f ≡ F.Message) → ¬ (f ≡ F.Nothing)
-      → (f ≡ F.Closed) × StandsIn IsClosed s
+  pub gone : (s : GroundState T W) (f : Found) → EndsPoll f s → ¬ (f ≡ F.Message) → ¬ (f ≡ F.Nothing)
+      → (f ≡ F.Closed) × StandsIn IsClosedAt s
   gone s F.Message ends a b = absurd (a refl)
   gone s F.Closed ends a b = (refl, ends)
   gone s F.Unclosed ends a b = absurd ends

@@ -1,7 +1,7 @@
 -- After a call that leaves the receiver in place its hand is ready again: the waker is in it, or the receiver
 -- is closed.
 use Rattle.std.proofs.Common.{◌≡◌, ◌≢◌, Option, Result, Err, refl}
-use Rattle.oneshot_drive.specs.BetweenCalls.{IsClosed, IsOpen, Leaves, leaves_received, leaves_open, leaves_closed, LeavesClosed, left_received, left_closed, LeavesTimed, timed_received, timed_out, timed_closed, Hands, as_it_was, sender_took, came_back, IsReady}
+use Rattle.oneshot_drive.specs.BetweenCalls.{IsClosedAt, IsOpenAt, Leaves, leaves_received, leaves_open, leaves_closed, LeavesClosed, left_received, left_closed, LeavesTimed, timed_received, timed_out, timed_closed, Hands, as_it_was, sender_took, came_back, IsReady}
 use Rattle.oneshot_errors.specs.declared.recv.RecvError.{RecvError}
 use Rattle.oneshot_errors.specs.declared.recv_timeout.RecvTimeoutError.{RecvTimeoutError}
 use Rattle.oneshot_errors.specs.declared.recv_timeout.RecvTimeoutError.TheVariants as Timed
@@ -10,30 +10,30 @@ use Rattle.oneshot_errors.specs.declared.try_recv.TryRecvError.TheVariants as Tr
 use Rattle.oneshot_machine.specs.Phases.{ReceiverAt}
 
 closed_still : {T : Type 0} (result : Result T TryRecvError) (at : ReceiverAt) → result ≡ Err Tried.Disconnected
-    → Leaves result at → IsClosed at
+    → Leaves result at → IsClosedAt at
 closed_still _ _ is (leaves_closed c) = refl
 closed_still _ _ is _ = absurd (cc is)
 
 -- `try_recv` leaves the receiver open where it found nothing, and else closed
 pub closed_tried : {T : Type 0} {result : Result T TryRecvError} {at : ReceiverAt} → Leaves result at
-    → result ≢ Err Tried.Empty → IsClosed at
+    → result ≢ Err Tried.Empty → IsClosedAt at
 closed_tried (leaves_received x) found = refl
 closed_tried leaves_open found = absurd (found refl)
 closed_tried (leaves_closed c) found = refl
 
 pub open_tried : {T : Type 0} {result : Result T TryRecvError} {at : ReceiverAt} → Leaves result at
-    → result ≡ Err Tried.Empty → IsOpen at
+    → result ≡ Err Tried.Empty → IsOpenAt at
 open_tried leaves_open nothing = refl
 open_tried _ nothing = absurd (cc nothing)
 
 -- after `try_recv`, which leaves the hand as it is
 pub ready_still : {T W : Type 0} (hand : Option W) (result : Result T TryRecvError) (before after : ReceiverAt)
-    → IsReady hand before → (IsClosed before → result ≡ Err Tried.Disconnected) → Leaves result after
+    → IsReady hand before → (IsClosedAt before → result ≡ Err Tried.Disconnected) → Leaves result after
     → IsReady hand after
 ready_still hand result before after ready stays leaves = λ none. closed_still result after (stays (ready none)) leaves
 
 -- `recv_ref` closes it
-pub closed_by : {T : Type 0} (result : Result T RecvError) (at : ReceiverAt) → LeavesClosed result at → IsClosed at
+pub closed_by : {T : Type 0} (result : Result T RecvError) (at : ReceiverAt) → LeavesClosed result at → IsClosedAt at
 closed_by _ _ (left_received x) = refl
 closed_by _ _ (left_closed e c) = refl
 
@@ -43,26 +43,26 @@ pub ready_closed : {T W : Type 0} (hand : Option W) (result : Result T RecvError
 ready_closed hand result at leaves = λ none. closed_by result at leaves
 
 closed_timed : {T : Type 0} (result : Result T RecvTimeoutError) (at : ReceiverAt) → result ≡ Err Timed.Disconnected
-    → LeavesTimed result at → IsClosed at
+    → LeavesTimed result at → IsClosedAt at
 closed_timed _ _ is (timed_received x) = refl
 closed_timed _ _ is timed_out = absurd (cc is)
 closed_timed _ _ is (timed_closed c) = refl
 
 -- a receive with a deadline leaves it open where the deadline was over, and else closed
 pub closed_in_time : {T : Type 0} {result : Result T RecvTimeoutError} {at : ReceiverAt} → LeavesTimed result at
-    → result ≢ Err Timed.Timeout → IsClosed at
+    → result ≢ Err Timed.Timeout → IsClosedAt at
 closed_in_time (timed_received x) found = refl
 closed_in_time timed_out found = absurd (found refl)
 closed_in_time (timed_closed c) found = refl
 
 pub open_too_late : {T : Type 0} {result : Result T RecvTimeoutError} {at : ReceiverAt} → LeavesTimed result at
-    → result ≡ Err Timed.Timeout → IsOpen at
+    → result ≡ Err Timed.Timeout → IsOpenAt at
 open_too_late timed_out late = refl
 open_too_late _ late = absurd (cc late)
 
 -- after a receive with a deadline
 pub ready_timed : {T W : Type 0} (result : Result T RecvTimeoutError) (before after : Option W) (at at' : ReceiverAt)
-    → IsReady before at → (IsClosed at → result ≡ Err Timed.Disconnected) → LeavesTimed result at'
+    → IsReady before at → (IsClosedAt at → result ≡ Err Timed.Disconnected) → LeavesTimed result at'
     → Hands before after at' → IsReady after at'
 ready_timed result _ _ at _ ready stays leaves (as_it_was hand q) =
     λ none. closed_timed result q (stays (ready none)) leaves

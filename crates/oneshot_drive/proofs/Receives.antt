@@ -10,8 +10,8 @@ use Rattle.oneshot_machine.specs.declared.machine.Reply.TheVariants as R
 use Rattle.oneshot_machine.specs.declared.machine.Seen.TheVariants as S
 use Rattle.oneshot_machine.specs.declared.machine.Step.TheVariants as Steps
 use Rattle.oneshot_machine.specs.declared.machine.receiver.ReceiverPos.{ReceiverPos}
-use Rattle.oneshot_machine.specs.declared.machine.receiver.ReceiverPos.TheVariants.{Look, Ref, Timed, Value}
-use Rattle.oneshot_machine.specs.declared.machine.look.LookPos.TheVariants.{Close, Take, CloseOnly}
+use Rattle.oneshot_machine.specs.declared.machine.receiver.ReceiverPos.TheVariants.{Try, Ref, Timed, Value}
+use Rattle.oneshot_machine.specs.declared.machine.try_recv.TryPos.TheVariants.{Close, Take, CloseOnly}
 use Rattle.oneshot_machine.specs.declared.machine.by_ref.RefPos.TheVariants.{StartLoad}
 use Rattle.oneshot_machine.specs.declared.machine.timed.TimedPos.TheVariants.{SumClock}
 use Rattle.oneshot_machine.specs.declared.machine.value.ValuePos.TheVariants.{RecvLoad, RecvTake, RecvFreeGot, RecvFreeGone}
@@ -24,9 +24,9 @@ use Rattle.oneshot_machine.specs.TableRows.{Goes}
 use Rattle.oneshot_machine.specs.Runs.{last, more, Ran, ReceiverRan}
 use Rattle.oneshot_machine.specs.Slots.{vacant}
 use Rattle.oneshot_machine.proofs.GrownLists.{receiver_moved, and_then}
-use Rattle.oneshot_drive.specs.Grounds.{State, StandsWith, Stands, receiver_slots, ReceiverAsks, ReceiverMakes}
+use Rattle.oneshot_drive.specs.Grounds.{GroundState, StandsWith, Stands, receiver_slots, ReceiverAsks, ReceiverMakes}
 use Rattle.oneshot_drive.specs.Blocking.{Went, value_end, EndsAt, Returns, returned, taken, Refills, refilled, HandAt}
-use Rattle.oneshot_drive.specs.BetweenCalls.{AtRest, rests_open, IsClosed, LeavesClosed, left_received, left_closed, LeavesTimed, timed_received, timed_out, timed_closed, IsReady, Hands, as_it_was, sender_took, came_back}
+use Rattle.oneshot_drive.specs.BetweenCalls.{AtRest, rests_open, IsClosedAt, LeavesClosed, left_received, left_closed, LeavesTimed, timed_received, timed_out, timed_closed, IsReady, Hands, as_it_was, sender_took, came_back}
 use Rattle.oneshot_machine.proofs.Landings.{is_room, has_row, Each, landings}
 use Rattle.oneshot_drive.proofs.AfterOperations.{lone, asks, lands, one_of, stands_on, still}
 use Rattle.oneshot_drive.proofs.Stretches.{by_clock, ran, before}
@@ -54,13 +54,13 @@ slots_full by_future = refl
 slots_full by_poll = refl
 
 module _ {T W : Type 0} where
-  pub full_asks : {g : Got} {s : State T W} → Stands (full g) s → ReceiverAsks (Store 2) s
+  pub full_asks : {g : Got} {s : GroundState T W} → Stands (full g) s → ReceiverAsks (Store 2) s
   full_asks {g} is = asks (Store 2) is (stores_full g)
 
-  pub has_message : {g : Got} {s : State T W} → Stands (full g) s → StandsWith receiver_of (full g) (filled, empty) s
+  pub has_message : {g : Got} {s : GroundState T W} → Stands (full g) s → StandsWith receiver_of (full g) (filled, empty) s
   has_message {g} {s} is = subst (λ slots. StandsWith receiver_of (full g) slots s) (slots_full g) is
 
-  pub closed_over : {g : Got} {b a : State T W} (n : ℕ) → Stands (full g) b → ReceiverMakes (Store 2) n b a
+  pub closed_over : {g : Got} {b a : GroundState T W} (n : ℕ) → Stands (full g) b → ReceiverMakes (Store 2) n b a
       → Grows b.log a.log (worded (Store 2) n ∷ [])
       → StandsWith receiver_of (receiver_next (full g) (Store 2) S.Done) (filled, empty) a
   closed_over {g} {b} {a} n is made grows =
@@ -76,39 +76,39 @@ module _ {T W : Type 0} where
       }
 
   -- `receive`: it closes over the message
-  pub ended_full : {b a : State T W} (n : ℕ)
+  pub ended_full : {b a : GroundState T W} (n : ℕ)
       → (g : Got) × (receiver_next (full g) (Store 2) S.Done ≡ disconnected closed_itself) × Stands (full g) b
       → ReceiverMakes (Store 2) n b a → Grows b.log a.log (worded (Store 2) n ∷ [])
       → StandsWith receiver_of (disconnected closed_itself) (filled, empty) a
   ended_full {a} n ends made grows =
       subst (λ at. StandsWith receiver_of at (filled, empty) a) ends.1 (closed_over n ends.2 made grows)
 
-  pub full_ran : {p : ReceiverPos} {l k j z : Log T W} (n : ℕ) (x : T) → Went p (Goes (Look Close)) l k
+  pub full_ran : {p : ReceiverPos} {l k j z : Log T W} (n : ℕ) (x : T) → Went p (Goes (Try Close)) l k
       → Grows k j (worded (Store 2) n ∷ []) → Grows j z (took x ∷ [])
       → Ran receiver_step receiver_row p l z R.Message [] (x ∷ [])
   full_ran n x went s t =
-      ran went (worded (Store 2) n ∷ took x ∷ []) (more (Look Take) _ _ refl refl (last _ refl refl))
+      ran went (worded (Store 2) n ∷ took x ∷ []) (more (Try Take) _ _ refl refl (last _ refl refl))
       (and_then (worded (Store 2) n ∷ []) _ s t) refl refl
 
   -- or where the sender is gone
-  pub shut : {by : Swapping} {b a : State T W} (n : ℕ) → Stands (unclosed by) b → ReceiverMakes (Store 2) n b a
+  pub shut : {by : Swapping} {b a : GroundState T W} (n : ℕ) → Stands (unclosed by) b → ReceiverMakes (Store 2) n b a
       → Grows b.log a.log (worded (Store 2) n ∷ []) → Stands (disconnected closed_itself) a
   shut {b} n is made grows = (lone (lands b (Store 2) n is.phase made grows)).stands
 
-  pub over_leaves : {c : Closing} {s : State T W} → Stands (disconnected c) s
+  pub over_leaves : {c : Closing} {s : GroundState T W} → Stands (disconnected c) s
       → LeavesTimed {T = T} (Err Timed.Disconnected) (receiver_of s.log)
   over_leaves {c} is = subst (λ at. LeavesTimed {T = T} (Err Timed.Disconnected) at) (sym is.phase) (timed_closed c)
 
-  pub shut_ran : {p : ReceiverPos} {l k j : Log T W} (n : ℕ) → Went p (Goes (Look CloseOnly)) l k
+  pub shut_ran : {p : ReceiverPos} {l k j : Log T W} (n : ℕ) → Went p (Goes (Try CloseOnly)) l k
       → Grows k j (worded (Store 2) n ∷ []) → Ran receiver_step receiver_row p l j R.Disconnected [] []
   shut_ran n went s = ran went (worded (Store 2) n ∷ []) (last _ refl refl) s refl refl
 
   -- or its deadline is over
-  pub out_rests : {s : State T W} → Stands (here between) s → AtRest s
+  pub out_rests : {s : GroundState T W} → Stands (here between) s → AtRest s
   out_rests is = record { at = here between; is_one = rests_open between; stands = is }
 
   -- `recv_timeout`: its read of the clock leaves it where it was
-  pub clock_rests : {b a : State T W} → AtRest b → (past : Bool) → Grows b.log a.log (clocked past ∷ [])
+  pub clock_rests : {b a : GroundState T W} → AtRest b → (past : Bool) → Grows b.log a.log (clocked past ∷ [])
       → a.message ≡ b.message → a.waker ≡ b.waker → AtRest a
   clock_rests rests past s message waker =
       record {
@@ -120,11 +120,11 @@ module _ {T W : Type 0} where
 
   pub clock_ready : {l k : Log T W} {hand : Option W} → IsReady hand (receiver_of l) → (past : Bool)
       → Grows l k (clocked past ∷ []) → IsReady hand (receiver_of k)
-  clock_ready is past s none = subst IsClosed (sym (still (clocked past ∷ []) refl s)) (is none)
+  clock_ready is past s none = subst IsClosedAt (sym (still (clocked past ∷ []) refl s)) (is none)
 
-  pub clock_closed : {l k : Log T W} (past : Bool) → Grows l k (clocked past ∷ []) → IsClosed (receiver_of l)
-      → IsClosed (receiver_of k)
-  clock_closed past s is = subst IsClosed (sym (still (clocked past ∷ []) refl s)) is
+  pub clock_closed : {l k : Log T W} (past : Bool) → Grows l k (clocked past ∷ []) → IsClosedAt (receiver_of l)
+      → IsClosedAt (receiver_of k)
+  clock_closed past s is = subst IsClosedAt (sym (still (clocked past ∷ []) refl s)) is
 
   sums : {representable : Bool} {l k : Log T W} (past : Bool) → Grows l k (clocked past ∷ [])
       → Went (Timed (SumClock representable)) (Goes (Ref (StartLoad representable))) l k
@@ -144,24 +144,24 @@ module _ {T W : Type 0} where
       (and_then (took x ∷ []) _ s t) refl refl
 
   -- without a message the sender is gone: both slots are empty, and the block is to be freed
-  pub record Gone (f : Found) (s : State T W) : Type 0 where
+  pub record Gone (f : Found) (s : GroundState T W) : Type 0 where
     pub message : s.message ≡ vacant
     pub waker : s.waker ≡ vacant
     pub leads : value_end f ≡ Goes (Value RecvFreeGone)
 
-  pub gone : (s : State T W) (f : Found) → ¬ (f ≡ F.Message) → EndsAt false f s → Gone f s
+  pub gone : (s : GroundState T W) (f : Found) → ¬ (f ≡ F.Message) → EndsAt false f s → Gone f s
   gone s F.Message a ends = absurd (a refl)
   gone s F.Closed a ends = record { message = is_room ends.1.message; waker = is_room ends.1.waker; leads = refl }
   gone s F.Unclosed a ends = record { message = is_room ends.1.message; waker = is_room ends.1.waker; leads = refl }
   gone s F.Nothing a ends = let timed = ends.0 in absurd (cc)
 
-  pub gone_freed : {l k j : Log T W} {f : Found} {s : State T W} → Gone f s → Went (Value RecvLoad) (value_end f) l k
+  pub gone_freed : {l k j : Log T W} {f : Found} {s : GroundState T W} → Gone f s → Went (Value RecvLoad) (value_end f) l k
       → Grows k j (did Steps.Free ∷ []) → ReceiverRan Recv l j R.Disconnected [] []
   gone_freed {l} {k} is went s =
       ran (subst (λ o. Went (Value RecvLoad) o l k) is.leads went) (did Steps.Free ∷ []) (last _ refl refl) s refl refl
 
   -- its hand: without a deadline no waker comes back from the wait
-  pub hand_back : (s : State T W) {hand after : Option W} (f : Found) → EndsAt false f s → HandAt f hand after
+  pub hand_back : (s : GroundState T W) {hand after : Option W} (f : Found) → EndsAt false f s → HandAt f hand after
       → Returns hand after
   hand_back s F.Message at hand = hand
   hand_back s F.Closed at hand = hand

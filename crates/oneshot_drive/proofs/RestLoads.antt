@@ -4,8 +4,8 @@ use Rattle.std.specs.Prelude.{◌==◌}
 use Rattle.std.proofs.lemmas.Bool.{eq-eqb}
 use Rattle.oneshot_errors.specs.declared.try_recv.TryRecvError.TheVariants as E
 use Rattle.oneshot_machine.specs.declared.machine.Reply.TheVariants as R
-use Rattle.oneshot_machine.specs.declared.machine.receiver.ReceiverPos.TheVariants.{Look}
-use Rattle.oneshot_machine.specs.declared.machine.look.LookPos.TheVariants.{Close, Take}
+use Rattle.oneshot_machine.specs.declared.machine.receiver.ReceiverPos.TheVariants.{Try}
+use Rattle.oneshot_machine.specs.declared.machine.try_recv.TryPos.TheVariants.{Close, Take}
 use Rattle.oneshot_machine.specs.declared.machine.receiver.ReceiverStart.TheVariants.{TryRecv}
 use Rattle.oneshot_machine.specs.declared.states.Op.TheVariants.{Load, Store, Swap}
 use Rattle.oneshot_machine.specs.Logs.{Log, Grows, receiver_of, took, worded}
@@ -14,8 +14,8 @@ use Rattle.oneshot_machine.specs.Runs.{last, more, ReceiverRan}
 use Rattle.oneshot_machine.specs.Slots.{Held, ReceiverFinds}
 use Rattle.oneshot_machine.specs.Noted.{is_same_op}
 use Rattle.oneshot_machine.proofs.GrownLists.{and_then}
-use Rattle.oneshot_drive.specs.Grounds.{State, StandsWith, Stands, receiver_slots, ReceiverAsks, ReceiverMakes}
-use Rattle.oneshot_drive.specs.BetweenCalls.{Rests, rests_new, rests_open, rests_closed, AtRest, IsClosed, Leaves, leaves_received, leaves_open, leaves_closed}
+use Rattle.oneshot_drive.specs.Grounds.{GroundState, StandsWith, Stands, receiver_slots, ReceiverAsks, ReceiverMakes}
+use Rattle.oneshot_drive.specs.BetweenCalls.{Rests, rests_new, rests_open, rests_closed, AtRest, IsClosedAt, Leaves, leaves_received, leaves_open, leaves_closed}
 use Rattle.oneshot_machine.proofs.Landings.{has_row, Each, landings, found_so}
 use Rattle.oneshot_drive.proofs.AfterOperations.{lone, Came, came, asks, lands}
 
@@ -60,23 +60,23 @@ at_closed looked_empty a b = absurd (b refl)
 at_closed (looked_closed c) a b = (refl, c, refl)
 
 -- a closed receiver finds 2, and no other word
-closed_loads : (at : ReceiverAt) → IsClosed at → Each (λ n next after. n ≡ 2) (landings Load (receiver_moves at))
+closed_loads : (at : ReceiverAt) → IsClosedAt at → Each (λ n next after. n ≡ 2) (landings Load (receiver_moves at))
 closed_loads (disconnected c) is = (refl, tt)
 closed_loads (resolved c) is = (refl, tt)
 closed_loads _ is = absurd (cc is)
 
 module _ {T W : Type 0} where
-  pub load_asks : {s : State T W} → AtRest s → ReceiverAsks Load s
+  pub load_asks : {s : GroundState T W} → AtRest s → ReceiverAsks Load s
   load_asks rests = asks Load rests.stands (rests_load rests.is_one)
 
-  pub swap_asks : {s : State T W} → AtRest s → ReceiverAsks (Swap 2) s
+  pub swap_asks : {s : GroundState T W} → AtRest s → ReceiverAsks (Swap 2) s
   swap_asks rests = asks (Swap 2) rests.stands (rests_swap rests.is_one)
 
-  pub loaded : {b a : State T W} (n : ℕ) → AtRest b → ReceiverMakes Load n b a → Grows b.log a.log (worded Load n ∷ [])
+  pub loaded : {b a : GroundState T W} (n : ℕ) → AtRest b → ReceiverMakes Load n b a → Grows b.log a.log (worded Load n ∷ [])
       → Came Looked n a
   loaded {b} n rests made grows = came Looked (rests_look rests.is_one) (lands b Load n rests.stands.phase made grows)
 
-  module _ {n : ℕ} {s : State T W} (found : Came Looked n s) where
+  module _ {n : ℕ} {s : GroundState T W} (found : Came Looked n s) where
     pub loaded_full : n ≡ 4 → Stands (full at_once) s
     loaded_full e = subst (λ at. Stands at s) (at_message (subst (λ n. Looked n found.at) e found.is_so)) found.stands
 
@@ -86,38 +86,38 @@ module _ {T W : Type 0} where
     pub loaded_none : ¬ (n ≡ 4) → ¬ (n ≡ 3) → (n ≡ 2) × (c : Closing) × Stands (disconnected c) s
     loaded_none a b = let is = at_closed found.is_so a b in (is.0, is.1, subst (λ at. Stands at s) is.2 found.stands)
 
-  pub closed_finds : {n : ℕ} {at : ReceiverAt} {m m' : Held T} {w w' : Held W} → IsClosed at
+  pub closed_finds : {n : ℕ} {at : ReceiverAt} {m m' : Held T} {w w' : Held W} → IsClosedAt at
       → ReceiverFinds at Load n m w m' w' → n ≡ 2
   closed_finds {at} is_closed made =
       (found_so (is_same_op Load) (λ n next after. n ≡ 2) refl (closed_loads at is_closed) made).is_so
 
   pub never : {X : Type 0} {n : ℕ} {at : ReceiverAt} {m m' : Held T} {w w' : Held W} (word : ℕ) → (word == 2) ≡ false
-      → n ≡ word → IsClosed at → ReceiverFinds at Load n m w m' w' → X
+      → n ≡ word → IsClosedAt at → ReceiverFinds at Load n m w m' w' → X
   never word other e is_closed made =
       let closed : word ≡ 2 = sym e ∙ closed_finds is_closed made in
       let same : (word == 2) ≡ true = eq-eqb word 2 closed in
       absurd (cc)
 
   -- `try_recv`: it closes over the message
-  pub closed : {b a : State T W} (n : ℕ) → Stands (full at_once) b → ReceiverMakes (Store 2) n b a
+  pub closed : {b a : GroundState T W} (n : ℕ) → Stands (full at_once) b → ReceiverMakes (Store 2) n b a
       → Grows b.log a.log (worded (Store 2) n ∷ [])
       → StandsWith receiver_of (disconnected closed_itself) (filled, empty) a
   closed {b} n is made grows = (lone (lands b (Store 2) n is.phase made grows)).stands
 
-  pub rests_over : {c : Closing} {s : State T W} → Stands (disconnected c) s → AtRest s
+  pub rests_over : {c : Closing} {s : GroundState T W} → Stands (disconnected c) s → AtRest s
   rests_over {c} stands = record { at = disconnected c; is_one = rests_closed c; stands = stands }
 
-  pub took_leaves : {s : State T W} (x : T) → Stands (disconnected closed_itself) s → Leaves (Ok x) (receiver_of s.log)
+  pub took_leaves : {s : GroundState T W} (x : T) → Stands (disconnected closed_itself) s → Leaves (Ok x) (receiver_of s.log)
   took_leaves x is = subst (λ at. Leaves (Ok x) at) (sym is.phase) (leaves_received x)
 
   -- or finds none
-  pub rests_here : {s : State T W} → Stands (here looked) s → AtRest s
+  pub rests_here : {s : GroundState T W} → Stands (here looked) s → AtRest s
   rests_here here_looked = record { at = here looked; is_one = rests_open looked; stands = here_looked }
 
-  pub open_leaves : {s : State T W} → Stands (here looked) s → Leaves {T = T} (Err E.Empty) (receiver_of s.log)
+  pub open_leaves : {s : GroundState T W} → Stands (here looked) s → Leaves {T = T} (Err E.Empty) (receiver_of s.log)
   open_leaves here_looked = subst (λ at. Leaves {T = T} (Err E.Empty) at) (sym here_looked.phase) leaves_open
 
-  pub closed_leaves : {c : Closing} {s : State T W} → Stands (disconnected c) s
+  pub closed_leaves : {c : Closing} {s : GroundState T W} → Stands (disconnected c) s
       → Leaves {T = T} (Err E.Disconnected) (receiver_of s.log)
   closed_leaves {c} is = subst (λ at. Leaves {T = T} (Err E.Disconnected) at) (sym is.phase) (leaves_closed c)
 
@@ -127,7 +127,7 @@ module _ {T W : Type 0} where
   took_ran n r x e s t u =
       record {
         run = worded Load n ∷ worded (Store 2) r ∷ took x ∷ [];
-        is_run = more (Look Close) _ _ refl (rw e) (more (Look Take) _ _ refl refl (last _ refl refl));
+        is_run = more (Try Close) _ _ refl (rw e) (more (Try Take) _ _ refl refl (last _ refl refl));
         grows = and_then (worded Load n ∷ []) _ s (and_then (worded (Store 2) r ∷ []) _ t u);
         gives = refl;
         gets = refl;

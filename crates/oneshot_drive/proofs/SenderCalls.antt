@@ -9,7 +9,7 @@ use Rattle.oneshot_machine.specs.Phases.{By, sending, dropping, SenderAt, fresh,
 use Rattle.oneshot_machine.specs.Slots.{Held, away, vacant, held, IsSlot, is_away, is_vacant, is_held, Turns, stays_away, stays_vacant, stays_held, gives_room, gives_thing, gets_room, gets_thing, In, finds, SenderMay, SenderFinds}
 use Rattle.oneshot_machine.proofs.Exactness.{leads}
 use Rattle.oneshot_machine.proofs.GrownLists.{and_then, sender_moved}
-use Rattle.oneshot_drive.specs.Grounds.{State, StandsWith, SenderMakes}
+use Rattle.oneshot_drive.specs.Grounds.{GroundState, StandsWith, SenderMakes}
 use Rattle.oneshot_drive.specs.BetweenCalls.{IsFresh, IsError, IsLate, is_late, is_overtaken, Owes, LastFinds, finds_waiting, finds_overdue, finds_gone, Finishes, IsOvertaken}
 use Rattle.oneshot_machine.proofs.Landings.{is_in, is_room, put_in, as_before, turned, message_kept, has_row, landings_of, landed, Each, each, found_so, sender_apart}
 use Rattle.oneshot_drive.proofs.AfterOperations.{Lone, lone, at_word, not_at, sender_asks, sender_lands, sender_still}
@@ -68,7 +68,7 @@ here_by finds_gone = refl
 
 module _ {T W : Type 0} where
   -- a sender that wrote its message
-  pub written : {b a : State T W} (x : T) → IsFresh b → Grows b.log a.log (wrote x ∷ []) → a.message ≡ held x
+  pub written : {b a : GroundState T W} (x : T) → IsFresh b → Grows b.log a.log (wrote x ∷ []) → a.message ≡ held x
       → a.waker ≡ b.waker → StandsWith sender_of fresh (filled, none) a
   written x is grows message waker =
       record {
@@ -78,7 +78,7 @@ module _ {T W : Type 0} where
         waker = as_before is.waker waker;
       }
 
-  module _ {slots : Slots} {b a : State T W} (n : ℕ) (is : StandsWith sender_of fresh slots b) where
+  module _ {slots : Slots} {b a : GroundState T W} (n : ℕ) (is : StandsWith sender_of fresh slots b) where
     -- it found a receiver that waits, or none
     pub added : ¬ (n ≡ 3) → ¬ (n ≡ 0) → SenderMakes Add n b a → Grows b.log a.log (worded Add n ∷ [])
         → Lone sender_of n a (2, late sending, (filled, empty))
@@ -119,16 +119,16 @@ module _ {T W : Type 0} where
     flipped_room e made grows = is_room (lone (at_word 0 e (sender_lands b Xor n is.phase made grows))).stands.message
 
   -- a refused `send`
-  pub refused : {by : By} {a : State T W} (x : T) → StandsWith sender_of (late by) (filled, empty) a
+  pub refused : {by : By} {a : GroundState T W} (x : T) → StandsWith sender_of (late by) (filled, empty) a
       → a.message ≡ held x → IsError (held x) a
   refused x stands message = record { keeps = message; no_waker = is_room stands.waker }
 
-  pub is_too_late : {by : By} {slots : Slots} {a : State T W} → StandsWith sender_of (late by) slots a
+  pub is_too_late : {by : By} {slots : Slots} {a : GroundState T W} → StandsWith sender_of (late by) slots a
       → IsLate (sender_of a.log)
   is_too_late {by} stands = subst IsLate (sym stands.phase) (is_late by)
 
   -- the last word to a receiver that waits
-  module _ {b : State T W} {k : Log T W} {m : Held T} {w : Held W} {word : ℕ} (y : W) (is : Owes word b)
+  module _ {b : GroundState T W} {k : Log T W} {m : Held T} {w : Held W} {word : ℕ} (y : W) (is : Owes word b)
       (s : Grows b.log k (handed TakeWaker y ∷ [])) (message : m ≡ b.message) (waker : w ≡ vacant) where
     pub finish_asks : SenderMay (sender_of k) (Swap word) m w
     finish_asks =
@@ -163,7 +163,7 @@ module _ {T W : Type 0} where
             (subst (λ s. IsSlot s w') late.1 (turned waker)),
       )
 
-  module _ {b k j z : State T W} {word : ℕ} (y : W) (is : Owes word b) (message : k.message ≡ b.message) where
+  module _ {b k j z : GroundState T W} {word : ℕ} (y : W) (is : Owes word b) (message : k.message ≡ b.message) where
     pub overtaken_as : (n : ℕ) → SenderMakes (Swap word) n k j → Grows k.log j.log (worded (Swap word) n ∷ [])
         → Grows j.log z.log (handed Wake y ∷ []) → z.message ≡ j.message → z.waker ≡ j.waker → not (n == 2) ≡ false
         → IsOvertaken b z

@@ -12,7 +12,7 @@ use Rattle.oneshot_machine.specs.Logs.{Log, Grows, receiver_of, handed, worded}
 use Rattle.oneshot_machine.specs.Phases.{ReceiverAt, here, looked, waits, blocked, swapped, storing, unclosed, receiver_moves, none, empty, filled}
 use Rattle.oneshot_machine.specs.TableRows.{Outcome, Goes}
 use Rattle.oneshot_machine.specs.Slots.{Held, vacant, held, IsSlot, ReceiverFinds}
-use Rattle.oneshot_drive.specs.Grounds.{State, StandsWith, Stands, ReceiverMakes}
+use Rattle.oneshot_drive.specs.Grounds.{GroundState, StandsWith, Stands, ReceiverMakes}
 use Rattle.oneshot_drive.specs.BetweenCalls.{IsReady}
 use Rattle.oneshot_drive.specs.Blocking.{Went, Way, by_ref, by_value, load_of, write_of, wait_of, end_of, EndsAt, Returns, returned, taken, refilled, HandAt, WaitedHand}
 use Rattle.oneshot_machine.proofs.Landings.{landings}
@@ -51,12 +51,12 @@ module _ {T W : Type 0} where
   ready_waker None n ready made e = never 3 refl e (ready refl) made
 
   -- `store_and_wait`: where its swap landed, with the waker in the slot
-  pub stored : {b a : State T W} (n : ℕ) → StandsWith receiver_of (here looked) (none, filled) b
+  pub stored : {b a : GroundState T W} (n : ℕ) → StandsWith receiver_of (here looked) (none, filled) b
       → ReceiverMakes (Swap 0) n b a → Grows b.log a.log (worded (Swap 0) n ∷ [])
       → Lands receiver_of n a (landings (Swap 0) (receiver_moves (here looked)))
   stored {b} n is made grows = lands b (Swap 0) n is.phase made grows
 
-  module _ {n : ℕ} {s : State T W}
+  module _ {n : ℕ} {s : GroundState T W}
       (found : Lands receiver_of n s (landings (Swap 0) (receiver_moves (here looked)))) where
     pub stored_waits : n ≡ 3 → Stands (waits blocked) s
     stored_waits e = (lone (at_word 3 e found)).stands
@@ -73,7 +73,7 @@ module _ {T W : Type 0} where
     pub over_word : ¬ (n ≡ 3) → ¬ (n ≡ 4) → n ≡ 2
     over_word no_empty no_message = (stored_over no_empty no_message).word
 
-    module _ {z : State T W} {k : W} (back : Grows s.log z.log (handed Steps.Withdraw k ∷ []))
+    module _ {z : GroundState T W} {k : W} (back : Grows s.log z.log (handed Steps.Withdraw k ∷ []))
         (message : z.message ≡ s.message) (waker : z.waker ≡ vacant) where
       pub withdrew_full : (timed : Bool) → n ≡ 4 → EndsAt timed F.Message z
       withdrew_full timed e =

@@ -4,8 +4,8 @@ use Rattle.oneshot_errors.specs.declared.try_recv.TryRecvError.{TryRecvError}
 use Rattle.oneshot_errors.specs.declared.try_recv.TryRecvError.TheVariants as E
 use Rattle.oneshot_machine.specs.declared.machine.Reply.TheVariants as R
 use Rattle.oneshot_machine.specs.declared.machine.Seen.TheVariants as S
-use Rattle.oneshot_machine.specs.declared.machine.receiver.ReceiverPos.TheVariants.{Look, Future}
-use Rattle.oneshot_machine.specs.declared.machine.look.LookPos.TheVariants.{Close}
+use Rattle.oneshot_machine.specs.declared.machine.receiver.ReceiverPos.TheVariants.{Try, Future}
+use Rattle.oneshot_machine.specs.declared.machine.try_recv.TryPos.TheVariants.{Close}
 use Rattle.oneshot_machine.specs.declared.machine.future.FuturePos.TheVariants.{AsyncTryLoad}
 use Rattle.oneshot_machine.specs.declared.machine.receiver.ReceiverStart.TheVariants.{AsyncTryRecv}
 use Rattle.oneshot_machine.specs.declared.states.Op.TheVariants.{Load, Store}
@@ -15,7 +15,7 @@ use Rattle.oneshot_machine.specs.Receiver.{receiver_row}
 use Rattle.oneshot_machine.specs.TableRows.{Goes, Answers}
 use Rattle.oneshot_machine.specs.Runs.{ReceiverRan}
 use Rattle.oneshot_machine.proofs.GrownLists.{and_then}
-use Rattle.oneshot_drive.specs.Grounds.{State, StandsWith, Stands, StandsIn, ReceiverMakes}
+use Rattle.oneshot_drive.specs.Grounds.{GroundState, StandsWith, Stands, StandsIn, ReceiverMakes}
 use Rattle.oneshot_drive.specs.BetweenCalls.{rests_new, rests_open, rests_closed}
 use Rattle.oneshot_drive.specs.Polls.{Polled, unpolled, left_copy, kept_copy, found_sender, has_resolved, IsPolled, LeavesTried, tried_received, tried_resolved, tried_closed, tried_uncopied, tried_its_copy, tried_claimed, is_registered, HandsNoWaker}
 use Rattle.oneshot_machine.proofs.Landings.{Each, landings}
@@ -70,7 +70,7 @@ unmoved (has_resolved c) = (λ a b. refl, tt)
 
 module _ {T W : Type 0} where
   -- how it ends: with the message, without one that comes, or with none yet
-  pub taken_ends : {s : State T W} (g : Got) (x : T)
+  pub taken_ends : {s : GroundState T W} (g : Got) (x : T)
       → StandsWith receiver_of (receiver_next (full g) (Store 2) S.Done) (empty, empty) s
       → StandsIn (LeavesTried (Ok x)) s
   taken_ends at_once x is = record { at = disconnected closed_itself; is_one = tried_received x; stands = is }
@@ -79,7 +79,7 @@ module _ {T W : Type 0} where
   taken_ends by_future x is = record { at = resolved closed_itself; is_one = tried_resolved x; stands = is }
   taken_ends by_poll x is = record { at = resolved closed_itself; is_one = tried_resolved x; stands = is }
 
-  pub over_ends : {n : ℕ} {s : State T W} → Came Met n s → n ≡ 2 → StandsIn (LeavesTried {T = T} (Err E.Disconnected)) s
+  pub over_ends : {n : ℕ} {s : GroundState T W} → Came Met n s → n ≡ 2 → StandsIn (LeavesTried {T = T} (Err E.Disconnected)) s
   over_ends {s} found e =
       let closed = over found.is_so e in
       record {
@@ -89,18 +89,18 @@ module _ {T W : Type 0} where
             found.stands;
       }
 
-  pub unsent_ends : {n : ℕ} {s : State T W} → Came Met n s → ¬ (n ≡ 4) → ¬ (n ≡ 2)
+  pub unsent_ends : {n : ℕ} {s : GroundState T W} → Came Met n s → ¬ (n ≡ 4) → ¬ (n ≡ 2)
       → StandsIn (LeavesTried {T = T} (Err E.Empty)) s
   unsent_ends found a b = record { at = found.at; is_one = unsent found.is_so a b; stands = found.stands }
 
-  module _ {result : Result T TryRecvError} {s : State T W} (ends : StandsIn (LeavesTried result) s) where
+  module _ {result : Result T TryRecvError} {s : GroundState T W} (ends : StandsIn (LeavesTried result) s) where
     pub tried_rests : IsPolled s
     tried_rests = record { at = ends.at; is_one = tried_polled ends.is_one; stands = ends.stands }
 
     pub tried_leaves : LeavesTried result (receiver_of s.log)
     tried_leaves = subst (λ at. LeavesTried result at) (sym ends.stands.phase) ends.is_one
 
-  pub stays_registered : {b a : State T W} (n : ℕ) → IsPolled b → ReceiverMakes Load n b a
+  pub stays_registered : {b a : GroundState T W} (n : ℕ) → IsPolled b → ReceiverMakes Load n b a
       → Grows b.log a.log (worded Load n ∷ []) → ¬ (n ≡ 4) → ¬ (n ≡ 2)
       → is_registered (receiver_of a.log) ≡ is_registered (receiver_of b.log)
   stays_registered {b} n is made grows not_sent not_over =
@@ -113,13 +113,13 @@ module _ {T W : Type 0} where
   pub taken_ran : {l k j z : Log T W} (n r : ℕ) (x : T) → n ≡ 4 → Grows l k (worded Load n ∷ [])
       → Grows k j (worded (Store 2) r ∷ []) → Grows j z (took x ∷ [])
       → ReceiverRan AsyncTryRecv l z R.Message [] (x ∷ [])
-  taken_ran n r x e s t u = full_ran r x (loaded_to {p = Future AsyncTryLoad} (Goes (Look Close)) n 4 refl refl e s) t u
+  taken_ran n r x e s t u = full_ran r x (loaded_to {p = Future AsyncTryLoad} (Goes (Try Close)) n 4 refl refl e s) t u
 
   pub over_ran : {l k : Log T W} (n : ℕ) → n ≡ 2 → Grows l k (worded Load n ∷ [])
       → ReceiverRan AsyncTryRecv l k R.Disconnected [] []
   over_ran n e s = whole (loaded_to {p = Future AsyncTryLoad} (Answers R.Disconnected) n 2 refl refl e s)
 
-  pub unsent_ran : {l k : Log T W} {s : State T W} (n : ℕ) → Came Met n s → ¬ (n ≡ 4) → ¬ (n ≡ 2)
+  pub unsent_ran : {l k : Log T W} {s : GroundState T W} (n : ℕ) → Came Met n s → ¬ (n ≡ 4) → ¬ (n ≡ 2)
       → Grows l k (worded Load n ∷ []) → ReceiverRan AsyncTryRecv l k R.Empty [] []
   unsent_ran n found a b s =
       whole (by_word {p = Future AsyncTryLoad} (Answers R.Empty) Load n s refl (empty_row found.is_so a b))

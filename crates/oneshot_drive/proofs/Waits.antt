@@ -15,7 +15,7 @@ use Rattle.oneshot_machine.specs.Phases.{ReceiverAt, here, between, waits, block
 use Rattle.oneshot_machine.specs.Receiver.{receiver_row, receiver_rows, receiver_step}
 use Rattle.oneshot_machine.specs.TableRows.{Outcome, Goes, row_for}
 use Rattle.oneshot_machine.specs.Slots.{vacant}
-use Rattle.oneshot_drive.specs.Grounds.{State, StandsWith, Stands, ReceiverMakes}
+use Rattle.oneshot_drive.specs.Grounds.{GroundState, StandsWith, Stands, ReceiverMakes}
 use Rattle.oneshot_drive.specs.Blocking.{Went, Way, by_ref, by_value, wait_of, asked_of, ref_end, end_of, EndsAt, Parks, parks_waiting, parks_overdue}
 use Rattle.oneshot_machine.proofs.Landings.{landings}
 use Rattle.oneshot_drive.proofs.AfterOperations.{Lands, Lone, lone, at_word, not_at, Came, came, lands, withdrew_waker}
@@ -70,18 +70,18 @@ module _ {T W : Type 0} where
   not_asked by_value l e = begun (Value RecvPark) l
 
   -- one that waits may park, until its deadline or without; one that is overdue parks without
-  pub may_park : {s : State T W} (timed : Bool) → Stands (waits blocked) s → Parks timed (receiver_of s.log)
+  pub may_park : {s : GroundState T W} (timed : Bool) → Stands (waits blocked) s → Parks timed (receiver_of s.log)
   may_park timed is = subst (Parks timed) (sym is.phase) (parks_waiting timed blocked)
 
-  pub may_park_late : {s : State T W} → Stands overdue s → Parks false (receiver_of s.log)
+  pub may_park_late : {s : GroundState T W} → Stands overdue s → Parks false (receiver_of s.log)
   may_park_late is = subst (Parks false) (sym is.phase) parks_overdue
 
   -- `wait`: where its load landed
-  pub woke : {b a : State T W} (n : ℕ) → Stands (waits blocked) b → ReceiverMakes Load n b a
+  pub woke : {b a : GroundState T W} (n : ℕ) → Stands (waits blocked) b → ReceiverMakes Load n b a
       → Grows b.log a.log (worded Load n ∷ []) → Lands receiver_of n a (landings Load (receiver_moves (waits blocked)))
   woke {b} n is made grows = lands b Load n is.phase made grows
 
-  module _ {n : ℕ} {s : State T W}
+  module _ {n : ℕ} {s : GroundState T W}
       (found : Lands receiver_of n s (landings Load (receiver_moves (waits blocked)))) where
     pub woke_full : (timed : Bool) → n ≡ 4 → EndsAt timed F.Message s
     woke_full timed e = (waited, refl, (lone (at_word 4 e found)).stands)
@@ -118,7 +118,7 @@ module _ {T W : Type 0} where
     parks_to o leads =
         on (on_time way went asks no) (on (parks way woken s) (by_word o Load n t (woken_loads way) leads))
 
-    pub parks_again : {state : State T W} → Lands receiver_of n state (landings Load (receiver_moves (waits blocked)))
+    pub parks_again : {state : GroundState T W} → Lands receiver_of n state (landings Load (receiver_moves (waits blocked)))
         → ¬ (n ≡ 4) → ¬ (n ≡ 2) → Went (wait_of way) (Goes (wait_of way)) l z
     parks_again found no_message not_closed = parks_to _ (longer_row way (again found no_message not_closed).is_so)
 
@@ -139,12 +139,12 @@ module _ {T W : Type 0} where
   stops_went f _ went asks e is stops = absurd (cc)
 
   -- `stop`: where its swap landed
-  pub stopped : {b a : State T W} (n : ℕ) → Stands (waits blocked) b → ReceiverMakes (Swap 3) n b a
+  pub stopped : {b a : GroundState T W} (n : ℕ) → Stands (waits blocked) b → ReceiverMakes (Swap 3) n b a
       → Grows b.log a.log (worded (Swap 3) n ∷ [])
       → Lands receiver_of n a (landings (Swap 3) (receiver_moves (waits blocked)))
   stopped {b} n is made grows = lands b (Swap 3) n is.phase made grows
 
-  module _ {n : ℕ} {s : State T W}
+  module _ {n : ℕ} {s : GroundState T W}
       (found : Lands receiver_of n s (landings (Swap 3) (receiver_moves (waits blocked)))) where
     pub stopped_open : n ≡ 0 → StandsWith receiver_of (here between) (none, filled) s
     stopped_open e = (lone (at_word 0 e found)).stands
@@ -160,7 +160,7 @@ module _ {T W : Type 0} where
         lone (not_at 2 not_closed (not_at 4 no_message (not_at 0 not_waiting found)))
 
     -- its waker is in its hand again
-    pub withdrew_nothing : {z : State T W} {k : W} → n ≡ 0 → Grows s.log z.log (handed Steps.Withdraw k ∷ [])
+    pub withdrew_nothing : {z : GroundState T W} {k : W} → n ≡ 0 → Grows s.log z.log (handed Steps.Withdraw k ∷ [])
         → z.message ≡ s.message → z.waker ≡ vacant → EndsAt true F.Nothing z
     withdrew_nothing e back message waker = (refl, withdrew_waker (stopped_open e) back message waker)
 
@@ -179,11 +179,11 @@ module _ {T W : Type 0} where
   late_went f n e s went = on (stops_to (Goes (Timed LatePark)) n 1 refl e s) went
 
   -- `wait_late`: where its load landed
-  pub ended : {b a : State T W} (n : ℕ) → Stands overdue b → ReceiverMakes Load n b a
+  pub ended : {b a : GroundState T W} (n : ℕ) → Stands overdue b → ReceiverMakes Load n b a
       → Grows b.log a.log (worded Load n ∷ []) → Lands receiver_of n a (landings Load (receiver_moves overdue))
   ended {b} n is made grows = lands b Load n is.phase made grows
 
-  module _ {n : ℕ} {s : State T W} (found : Lands receiver_of n s (landings Load (receiver_moves overdue))) where
+  module _ {n : ℕ} {s : GroundState T W} (found : Lands receiver_of n s (landings Load (receiver_moves overdue))) where
     pub ended_full : n ≡ 4 → EndsAt true F.Message s
     ended_full e = (waited, refl, (lone (at_word 4 e found)).stands)
 

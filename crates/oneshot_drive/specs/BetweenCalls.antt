@@ -12,14 +12,14 @@ use Rattle.oneshot_machine.specs.declared.states.Op.TheVariants.{Swap}
 use Rattle.oneshot_machine.specs.Logs.{Event, Log, Grows, sender_of, handed, worded}
 use Rattle.oneshot_machine.specs.Phases.{By, SenderAt, fresh, late, overtaken, Closing, closed_itself, Open, looked, between, ReceiverAt, first, here, waits, claimed, disconnected, resolved}
 use Rattle.oneshot_machine.specs.Slots.{Held, away, vacant, held, SenderMay}
-use Rattle.oneshot_drive.specs.Grounds.{State, SenderStands, StandsIn}
+use Rattle.oneshot_drive.specs.Grounds.{GroundState, SenderStands, StandsIn}
 
 -- a sender that has made no operation: the message's slot is its own and empty
-abbrev pub IsFresh : {T W : Type 0} → State T W → Type 0
+abbrev pub IsFresh : {T W : Type 0} → GroundState T W → Type 0
 IsFresh = SenderStands fresh
 
 -- The end of a refused `send`: both slots are its own, with this in the message's.
-pub record IsError {T W : Type 0} (refused : Held T) (s : State T W) : Type 0 where
+pub record IsError {T W : Type 0} (refused : Held T) (s : GroundState T W) : Type 0 where
   pub keeps : s.message ≡ refused
   pub no_waker : s.waker ≡ vacant
 
@@ -30,7 +30,7 @@ pub data IsLate : SenderAt → Type 0 where
 
 -- A sender that found a receiver that waits: it has its waker, and owes it this last word once it has
 -- taken that out of its slot.
-pub record Owes {T W : Type 0} (last : ℕ) (s : State T W) : Type 0 where
+pub record Owes {T W : Type 0} (last : ℕ) (s : GroundState T W) : Type 0 where
   pub waker : W
   pub has_waker : s.waker ≡ held waker
   pub has_slot : ¬ (s.message ≡ away)
@@ -54,7 +54,7 @@ pub record Finishes {T W : Type 0} (last : ℕ) (here : Bool) (before after : Lo
   pub grows : Grows before after (finishing last found waker)
 
 -- Between the two states it found the receiver gone: both slots are its own, and the message is where it was.
-pub record IsOvertaken {T W : Type 0} (before after : State T W) : Type 0 where
+pub record IsOvertaken {T W : Type 0} (before after : GroundState T W) : Type 0 where
   pub late : IsLate (sender_of after.log)
   pub message : after.message ≡ before.message
   pub waker : after.waker ≡ vacant
@@ -66,7 +66,7 @@ pub data Rests : ReceiverAt → Type 0 where
   rests_closed : (c : Closing) → Rests (disconnected c)
 
 -- a receiver between two calls
-abbrev pub AtRest : {T W : Type 0} → State T W → Type 0
+abbrev pub AtRest : {T W : Type 0} → GroundState T W → Type 0
 AtRest = StandsIn Rests
 
 abbrev pub is_closed : ReceiverAt → Bool
@@ -75,8 +75,8 @@ is_closed (resolved c) = true
 is_closed _ = false
 
 -- a receiver that is closed: no message comes any more
-abbrev pub IsClosed : ReceiverAt → Type 0
-IsClosed at = IsTrue (is_closed at)
+abbrev pub IsClosedAt : ReceiverAt → Type 0
+IsClosedAt at = IsTrue (is_closed at)
 
 abbrev pub is_open : ReceiverAt → Bool
 is_open first = true
@@ -87,8 +87,8 @@ is_open claimed = true
 is_open _ = false
 
 -- one that is open between two calls: a later receive may give a message
-abbrev pub IsOpen : ReceiverAt → Type 0
-IsOpen at = IsTrue (is_open at)
+abbrev pub IsOpenAt : ReceiverAt → Type 0
+IsOpenAt at = IsTrue (is_open at)
 
 -- The message and the disconnected error leave a receiver closed, and `Empty` leaves it open.
 pub data Leaves {T : Type 0} : Result T TryRecvError → ReceiverAt → Type 0 where
@@ -109,7 +109,7 @@ pub data LeavesTimed {T : Type 0} : Result T RecvTimeoutError → ReceiverAt →
 
 -- The hand of a receiver that may block: its waker is in it, unless the receiver is closed.
 abbrev pub IsReady : {W : Type 0} → Option W → ReceiverAt → Type 0
-IsReady hand q = hand ≡ None → IsClosed q
+IsReady hand q = hand ≡ None → IsClosedAt q
 
 -- The hand before and after a call that blocks: as it was; or the sender took the waker out of its
 -- cell, and then the receiver is closed; or the deadline was over, and there is a waker in

@@ -5,8 +5,8 @@ use Rattle.oneshot_drive.specs.declared.waiting.Found.TheVariants as F
 use Rattle.oneshot_machine.specs.declared.machine.Reply.{Reply}
 use Rattle.oneshot_machine.specs.declared.machine.Reply.TheVariants as R
 use Rattle.oneshot_machine.specs.declared.machine.receiver.ReceiverPos.{ReceiverPos}
-use Rattle.oneshot_machine.specs.declared.machine.receiver.ReceiverPos.TheVariants.{Look, Ref, Timed, Value}
-use Rattle.oneshot_machine.specs.declared.machine.look.LookPos.TheVariants.{Close, CloseOnly}
+use Rattle.oneshot_machine.specs.declared.machine.receiver.ReceiverPos.TheVariants.{Try, Ref, Timed, Value}
+use Rattle.oneshot_machine.specs.declared.machine.try_recv.TryPos.TheVariants.{Close, CloseOnly}
 use Rattle.oneshot_machine.specs.declared.machine.by_ref.RefPos.TheVariants.{StartLoad, StartWrite, Park}
 use Rattle.oneshot_machine.specs.declared.machine.timed.TimedPos.TheVariants.{Clock, TimedPark, EndSwap}
 use Rattle.oneshot_machine.specs.declared.machine.value.ValuePos.TheVariants.{RecvLoad, RecvWrite, RecvPark, RecvTake, RecvFreeGone}
@@ -16,7 +16,7 @@ use Rattle.oneshot_machine.specs.Logs.{Event, Log, Grows, messages_given, messag
 use Rattle.oneshot_machine.specs.Phases.{Closing, closed_itself, Got, Swapping, Waiting, between, ReceiverAt, here, waits, overdue, full, unclosed, disconnected, receiver_next}
 use Rattle.oneshot_machine.specs.Receiver.{receiver_step, receiver_row}
 use Rattle.oneshot_machine.specs.TableRows.{Outcome, Goes, Answers}
-use Rattle.oneshot_drive.specs.Grounds.{State, Stands}
+use Rattle.oneshot_drive.specs.Grounds.{GroundState, Stands}
 
 -- From this position these steps lead on: to another position, or to a reply.
 pub data Stretch {T W : Type 0} : ReceiverPos → List (Event T W) → Outcome ReceiverPos → Type 0 where
@@ -64,9 +64,9 @@ asked_of by_value is_over = Value RecvPark
 
 -- where the word that decides it leads it
 abbrev pub ref_end : Found → Outcome ReceiverPos
-ref_end F.Message = Goes (Look Close)
+ref_end F.Message = Goes (Try Close)
 ref_end F.Closed = Answers R.Disconnected
-ref_end F.Unclosed = Goes (Look CloseOnly)
+ref_end F.Unclosed = Goes (Try CloseOnly)
 ref_end F.Nothing = Answers R.Timeout
 
 abbrev pub value_end : Found → Outcome ReceiverPos
@@ -78,7 +78,7 @@ end_of (by_ref timed) = ref_end
 end_of by_value = value_end
 
 -- how the receiver stands then: only a deadline ends a receive with nothing found
-abbrev pub EndsAt : {T W : Type 0} → Bool → Found → State T W → Type 0
+abbrev pub EndsAt : {T W : Type 0} → Bool → Found → GroundState T W → Type 0
 EndsAt timed F.Message s =
     (g : Got) × (receiver_next (full g) (Store 2) Done ≡ disconnected closed_itself) × Stands (full g) s
 EndsAt timed F.Closed s = (c : Closing) × Stands (disconnected c) s

@@ -6,25 +6,25 @@ use Rattle.oneshot_machine.specs.Phases.{SenderAt, sender_moves, ReceiverAt, rec
 use Rattle.oneshot_machine.specs.Slots.{Held, IsSlot, SenderMay, SenderFinds, ReceiverMay, ReceiverFinds}
 
 -- what a ground has done, and the message's slot and the waker's as its end sees them
-pub record State (T W : Type 0) : Type 0 where
+pub record GroundState (T W : Type 0) : Type 0 where
   pub log : Log T W
   pub message : Held T
   pub waker : Held W
 
 module _ {T W : Type 0} where
   -- a ground may make this operation on the word
-  abbrev pub SenderAsks : Op → State T W → Type 0
+  abbrev pub SenderAsks : Op → GroundState T W → Type 0
   SenderAsks op s = SenderMay (sender_of s.log) op s.message s.waker
 
-  abbrev pub ReceiverAsks : Op → State T W → Type 0
+  abbrev pub ReceiverAsks : Op → GroundState T W → Type 0
   ReceiverAsks op s = ReceiverMay (receiver_of s.log) op s.message s.waker
 
   -- between the two it made this operation, which found this word
-  abbrev pub SenderMakes : Op → ℕ → State T W → State T W → Type 0
+  abbrev pub SenderMakes : Op → ℕ → GroundState T W → GroundState T W → Type 0
   SenderMakes op word before after =
       SenderFinds (sender_of before.log) op word before.message before.waker after.message after.waker
 
-  abbrev pub ReceiverMakes : Op → ℕ → State T W → State T W → Type 0
+  abbrev pub ReceiverMakes : Op → ℕ → GroundState T W → GroundState T W → Type 0
   ReceiverMakes op word before after =
       ReceiverFinds (receiver_of before.log) op word before.message before.waker after.message after.waker
 
@@ -52,21 +52,21 @@ abbrev pub receiver_slots : ReceiverAt → Slots
 receiver_slots at = slots_by (receiver_moves at)
 
 -- a ground at this phase, with these shares of its slots
-pub record StandsWith {At T W : Type 0} (of : Log T W → At) (at : At) (slots : Slots) (s : State T W) : Type 0 where
+pub record StandsWith {At T W : Type 0} (of : Log T W → At) (at : At) (slots : Slots) (s : GroundState T W) : Type 0 where
   pub phase : of s.log ≡ at
   pub message : IsSlot slots.0 s.message
   pub waker : IsSlot slots.1 s.waker
 
 module _ {T W : Type 0} where
   -- a ground at this phase, with its slots as the table has them there
-  abbrev pub SenderStands : SenderAt → State T W → Type 0
+  abbrev pub SenderStands : SenderAt → GroundState T W → Type 0
   SenderStands at = StandsWith sender_of at (sender_slots at)
 
-  abbrev pub Stands : ReceiverAt → State T W → Type 0
+  abbrev pub Stands : ReceiverAt → GroundState T W → Type 0
   Stands at = StandsWith receiver_of at (receiver_slots at)
 
 -- at one of these phases
-pub record StandsIn {T W : Type 0} (Phases : ReceiverAt → Type 0) (s : State T W) : Type 0 where
+pub record StandsIn {T W : Type 0} (Phases : ReceiverAt → Type 0) (s : GroundState T W) : Type 0 where
   pub at : ReceiverAt
   pub is_one : Phases at
   pub stands : Stands at s

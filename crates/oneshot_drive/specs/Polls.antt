@@ -11,8 +11,8 @@ use Rattle.oneshot_drive.specs.declared.waiting.Found.TheVariants as F
 use Rattle.oneshot_machine.specs.declared.machine.Reply.{Reply}
 use Rattle.oneshot_machine.specs.declared.machine.Reply.TheVariants as R
 use Rattle.oneshot_machine.specs.declared.machine.receiver.ReceiverPos.{ReceiverPos}
-use Rattle.oneshot_machine.specs.declared.machine.receiver.ReceiverPos.TheVariants.{Look}
-use Rattle.oneshot_machine.specs.declared.machine.look.LookPos.TheVariants.{Close}
+use Rattle.oneshot_machine.specs.declared.machine.receiver.ReceiverPos.TheVariants.{Try}
+use Rattle.oneshot_machine.specs.declared.machine.try_recv.TryPos.TheVariants.{Close}
 use Rattle.oneshot_machine.specs.Phases.{Closing, closed_itself, Got, looked, polled, again, ReceiverAt, here, waits, claimed, full, disconnected, resolved, word_of}
 use Rattle.oneshot_machine.specs.declared.machine.Step.{Step}
 use Rattle.oneshot_machine.specs.declared.machine.Step.TheVariants.{WriteWaker, Copy}
@@ -20,8 +20,8 @@ use Rattle.oneshot_machine.specs.declared.states.Op.TheVariants.{Exchange}
 use Rattle.oneshot_machine.specs.Logs.{Event, Log, Grows, receiver_of}
 use Rattle.oneshot_machine.specs.TableRows.{Outcome, Goes, Answers}
 use Rattle.oneshot_machine.specs.Slots.{vacant, held, ReceiverMay}
-use Rattle.oneshot_drive.specs.Grounds.{State, Stands, StandsIn}
-use Rattle.oneshot_drive.specs.BetweenCalls.{Rests, IsClosed, received}
+use Rattle.oneshot_drive.specs.Grounds.{GroundState, Stands, StandsIn}
+use Rattle.oneshot_drive.specs.BetweenCalls.{Rests, IsClosedAt, received}
 
 -- the phases of a future between two calls
 pub data Polled : ReceiverAt → Type 0 where
@@ -37,7 +37,7 @@ pub data Polled : ReceiverAt → Type 0 where
   has_resolved : (c : Closing) → Polled (resolved c)
 
 -- a future between two calls
-abbrev pub IsPolled : {T W : Type 0} → State T W → Type 0
+abbrev pub IsPolled : {T W : Type 0} → GroundState T W → Type 0
 IsPolled = StandsIn Polled
 
 -- The message and the disconnected error leave it closed, and `Pending` leaves it open.
@@ -82,19 +82,19 @@ poll_received Pending = []
 
 -- where the word that decides a poll leads it
 abbrev pub poll_end : Found → Outcome ReceiverPos
-poll_end F.Message = Goes (Look Close)
+poll_end F.Message = Goes (Try Close)
 poll_end F.Nothing = Answers R.Pending
 poll_end _ = Answers R.Disconnected
 
 -- how the receiver stands then
-abbrev pub EndsPoll : {T W : Type 0} → Found → State T W → Type 0
+abbrev pub EndsPoll : {T W : Type 0} → Found → GroundState T W → Type 0
 EndsPoll F.Message s = (g : Got) × (word_of g ≡ 4) × Stands (full g) s
-EndsPoll F.Closed s = StandsIn IsClosed s
+EndsPoll F.Closed s = StandsIn IsClosedAt s
 EndsPoll F.Unclosed s = ⊥
 EndsPoll {T} F.Nothing s = StandsIn (LeavesPolled {T = T} Pending) s
 
 -- one that may store a copy of its waker, once that is in its slot
-pub record MayLeave {T W : Type 0} (s : State T W) : Type 0 where
+pub record MayLeave {T W : Type 0} (s : GroundState T W) : Type 0 where
   pub room : s.waker ≡ vacant
   pub asks : (copy : W) → ReceiverMay (receiver_of s.log) (Exchange 3 0) s.message (held copy)
 

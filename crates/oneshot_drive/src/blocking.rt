@@ -9,7 +9,7 @@ ghost use Rattle.oneshot_machine.specs.Logs.{receiver_of};
 ghost use Rattle.oneshot_machine.specs.Receiver.{receiver_step, receiver_row};
 ghost use Rattle.oneshot_machine.specs.Runs.{Ran, ReceiverRan};
 ghost use Rattle.oneshot_drive.specs.Blocking.{Returns};
-ghost use Rattle.oneshot_drive.specs.BetweenCalls.{AtRest, IsClosed, LeavesClosed, LeavesTimed, IsReady, Hands, recv_reply, timed_reply, received};
+ghost use Rattle.oneshot_drive.specs.BetweenCalls.{AtRest, IsClosedAt, LeavesClosed, LeavesTimed, IsReady, Hands, recv_reply, timed_reply, received};
 
 use crate::ground::BlockGround;
 use crate::waiting::{Found, find};
@@ -35,7 +35,7 @@ pub fn recv_ref<T, W: Drop, G: BlockGround<T, W>>(
         (recv_reply result) [] (received result) }
     ensures rests { AtRest (G.state g.new) }
     ensures leaves { LeavesClosed result (receiver_of (G.state g.new).log) }
-    ensures stays { IsClosed (receiver_of (G.state g.old).log) → IsErr result }
+    ensures stays { IsClosedAt (receiver_of (G.state g.old).log) → IsErr result }
     ensures hand { Hands hand.old hand.new (receiver_of (G.state g.new).log) }
     ensures given { IfOk result (λ message. G.gives g.old message) }
     ensures keeps { G.keeps g.old g.new }
@@ -68,7 +68,7 @@ pub fn recv_deadline<T, W: Drop, G: BlockGround<T, W>>(
         (timed_reply result) [] (received result) }
     ensures rests { AtRest (G.state g.new) }
     ensures leaves { LeavesTimed result (receiver_of (G.state g.new).log) }
-    ensures stays { IsClosed (receiver_of (G.state g.old).log) → result ≡ Err Disconnected }
+    ensures stays { IsClosedAt (receiver_of (G.state g.old).log) → result ≡ Err Disconnected }
     ensures hand { Hands hand.old hand.new (receiver_of (G.state g.new).log) }
     ensures given { IfOk result (λ message. G.gives g.old message) }
     ensures keeps { G.keeps g.old g.new }
@@ -94,7 +94,7 @@ pub fn recv_timeout<T, W: Drop, G: BlockGround<T, W>>(
         (timed_reply result) [] (received result) }
     ensures rests { AtRest (G.state g.new) }
     ensures leaves { LeavesTimed result (receiver_of (G.state g.new).log) }
-    ensures stays { IsClosed (receiver_of (G.state g.old).log) → result ≡ Err Disconnected }
+    ensures stays { IsClosedAt (receiver_of (G.state g.old).log) → result ≡ Err Disconnected }
     ensures hand { Hands hand.old hand.new (receiver_of (G.state g.new).log) }
     ensures endless { representable ≡ false → ¬ (result ≡ Err Timeout) }
     ensures given { IfOk result (λ message. G.gives g.old message) }
@@ -117,7 +117,7 @@ fn receive<T, W: Drop, G: BlockGround<T, W>>(
         (timed_reply result) [] (received result) }
     ensures rests { AtRest (G.state g.new) }
     ensures leaves { LeavesTimed result (receiver_of (G.state g.new).log) }
-    ensures stays { IsClosed (receiver_of (G.state g.old).log) → result ≡ Err Disconnected }
+    ensures stays { IsClosedAt (receiver_of (G.state g.old).log) → result ≡ Err Disconnected }
     ensures hand { Hands hand.old hand.new (receiver_of (G.state g.new).log) }
     ensures endless { timed ≡ false → ¬ (result ≡ Err Timeout) }
     ensures given { IfOk result (λ message. G.gives g.old message) }
@@ -153,7 +153,7 @@ pub fn recv<T, W: Drop, G: BlockGround<T, W>>(
     requires ready { IsReady hand.old (receiver_of (G.state g.old).log) }
     ensures run { ReceiverRan Recv (G.state g.old).log (G.state g.new).log
         (recv_reply result) [] (received result) }
-    ensures stays { IsClosed (receiver_of (G.state g.old).log) → IsErr result }
+    ensures stays { IsClosedAt (receiver_of (G.state g.old).log) → IsErr result }
     ensures hand { Returns hand.old hand.new }
     ensures given { IfOk result (λ message. G.gives g.old message) }
 {

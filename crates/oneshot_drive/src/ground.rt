@@ -6,12 +6,12 @@ ghost use Rattle.oneshot_machine.specs.declared.states.Op.TheVariants.{Load, Sto
 ghost use Rattle.oneshot_machine.specs.Logs.{Grows, receiver_of, did, wrote, took, handed, parked, clocked, copied, worded};
 ghost use Rattle.oneshot_machine.specs.Slots.{away, vacant, held};
 ghost use Rattle.oneshot_drive.specs.Blocking.{Parks};
-ghost use Rattle.oneshot_drive.specs.Grounds.{State, SenderAsks, SenderMakes, ReceiverAsks, ReceiverMakes};
+ghost use Rattle.oneshot_drive.specs.Grounds.{GroundState, SenderAsks, SenderMakes, ReceiverAsks, ReceiverMakes};
 
 /// What the sender, or the error of its refused `send`, does to the world.
 pub trait SenderGround<T, W> {
     // What the ground has done, with the message's slot and the waker's as the end sees them.
-    ghost state: { Self → State T W };
+    ghost state: { Self → GroundState T W };
 
     // What the ground asks of a message that it takes in.
     ghost admits: { Self → T → Type 0 };
@@ -83,7 +83,7 @@ pub trait SenderGround<T, W> {
 /// What the receiver does to the world.
 pub trait ReceiverGround<T, W> {
     // What the ground has done, with the message's slot and the waker's as the end sees them.
-    ghost state: { Self → State T W };
+    ghost state: { Self → GroundState T W };
 
     // What the ground has beside the channel stays so, from one state to a later one.
     ghost keeps: { Self → Self → Type 0 };

@@ -9,7 +9,7 @@ ghost use Rattle.oneshot_machine.specs.declared.machine.future.FuturePos.TheVari
 ghost use Rattle.oneshot_machine.specs.declared.machine.async_drop.AsyncDropPos.TheVariants.{AsyncExchange, AsyncSwap};
 ghost use Rattle.oneshot_machine.specs.declared.machine.receiver.ReceiverStart.TheVariants as C;
 ghost use Rattle.oneshot_machine.specs.declared.states.Op.TheVariants.{Swap};
-ghost use Rattle.oneshot_machine.specs.Counts.{operates, MakesAtMost};
+ghost use Rattle.oneshot_machine.specs.Counts.{receiver_bound, MakesWithin};
 ghost use Rattle.oneshot_machine.specs.Logs.{receiver_of};
 ghost use Rattle.oneshot_machine.specs.Phases.{here, looked, waits, again};
 ghost use Rattle.oneshot_machine.specs.Receiver.{receiver_step, receiver_row};
@@ -17,7 +17,7 @@ ghost use Rattle.oneshot_machine.specs.Runs.{Ran, ReceiverRan};
 ghost use Rattle.oneshot_machine.specs.TableRows.{Goes};
 ghost use Rattle.oneshot_drive.specs.declared.waiting.Found.TheVariants as F;
 ghost use Rattle.oneshot_drive.specs.Blocking.{Went};
-ghost use Rattle.oneshot_drive.specs.BetweenCalls.{IsClosed, try_recv_reply, received};
+ghost use Rattle.oneshot_drive.specs.BetweenCalls.{IsClosedAt, try_recv_reply, received};
 ghost use Rattle.oneshot_drive.specs.Grounds.{Stands, ReceiverAsks};
 ghost use Rattle.oneshot_drive.specs.Polls.{IsPolled, LeavesPolled, LeavesTried, StaysRegistered, poll_reply, poll_received, poll_end, EndsPoll, MayLeave, IsDisconnected, WroteCopies, WritesItsCopy, HandsNoWaker};
 
@@ -39,8 +39,8 @@ pub fn poll<T, W: Drop, G: TaskGround<T, W>>(g: &mut G) -> Poll<Result<T, RecvEr
     ensures run { ReceiverRan C.Poll (G.state g.old).log (G.state g.new).log (poll_reply result) [] (poll_received result) }
     ensures rests { IsPolled (G.state g.new) }
     ensures leaves { LeavesPolled result (receiver_of (G.state g.new).log) }
-    ensures stays { IsClosed (receiver_of (G.state g.old).log) → IsDisconnected result }
-    ensures bounded { MakesAtMost 4 operates (G.state g.old).log (G.state g.new).log }
+    ensures stays { IsClosedAt (receiver_of (G.state g.old).log) → IsDisconnected result }
+    ensures bounded { MakesWithin (receiver_bound C.Poll) (G.state g.old).log (G.state g.new).log }
     ensures own_copy { WritesItsCopy (G.state g.old).log (G.state g.new).log }
     ensures heard { OnPending result (G.heard g.new) }
     ensures given { IfReady result (λ answer. IfOk answer (λ message. G.gives g.old message)) }
@@ -61,7 +61,7 @@ fn meet<T, W: Drop, G: TaskGround<T, W>>(g: &mut G) -> Found
     requires { IsPolled (G.state g.old) }
     ensures went { Went (Future PollLoad) (poll_end result) (G.state g.old).log (G.state g.new).log }
     ensures ends { EndsPoll result (G.state g.new) }
-    ensures stays { IsClosed (receiver_of (G.state g.old).log) → result ≡ F.Closed }
+    ensures stays { IsClosedAt (receiver_of (G.state g.old).log) → result ≡ F.Closed }
     ensures heard { result ≡ F.Nothing → G.heard g.new }
     ensures own { WritesItsCopy (G.state g.old).log (G.state g.new).log }
     ensures keeps { G.keeps g.old g.new }
@@ -157,8 +157,8 @@ pub fn async_try_recv<T, W, G: ReceiverGround<T, W>>(g: &mut G) -> Result<T, Try
         (try_recv_reply result) [] (received result) }
     ensures rests { IsPolled (G.state g.new) }
     ensures leaves { LeavesTried result (receiver_of (G.state g.new).log) }
-    ensures stays { IsClosed (receiver_of (G.state g.old).log) → result ≡ Err Tried.Disconnected }
-    ensures bounded { MakesAtMost 2 operates (G.state g.old).log (G.state g.new).log }
+    ensures stays { IsClosedAt (receiver_of (G.state g.old).log) → result ≡ Err Tried.Disconnected }
+    ensures bounded { MakesWithin (receiver_bound C.AsyncTryRecv) (G.state g.old).log (G.state g.new).log }
     ensures registered { StaysRegistered result (receiver_of (G.state g.old).log)
         (receiver_of (G.state g.new).log) }
     ensures wakers { HandsNoWaker (G.state g.old).log (G.state g.new).log }
@@ -181,7 +181,7 @@ pub fn async_try_recv<T, W, G: ReceiverGround<T, W>>(g: &mut G) -> Result<T, Try
 pub fn drop_async<T, W: Drop, G: ReceiverGround<T, W>>(g: &mut G)
     requires { IsPolled (G.state g.old) }
     ensures run { ReceiverRan C.DropAsync (G.state g.old).log (G.state g.new).log R.Done [] [] }
-    ensures bounded { MakesAtMost 3 operates (G.state g.old).log (G.state g.new).log }
+    ensures bounded { MakesWithin (receiver_bound C.DropAsync) (G.state g.old).log (G.state g.new).log }
 {
     match g.load() {
         RECEIVING => {

@@ -3,7 +3,7 @@
 ghost use Rattle.std.specs.Prelude.{◌≡◌, false, [], ◌∷◌};
 ghost use Rattle.oneshot_machine.specs.declared.machine.Reply.TheVariants.{Message, Done};
 ghost use Rattle.oneshot_machine.specs.declared.machine.sender.SenderCall.TheVariants.{Send, Drop, IntoInner, DropError};
-ghost use Rattle.oneshot_machine.specs.Counts.{operates, MakesAtMost};
+ghost use Rattle.oneshot_machine.specs.Counts.{sender_bound, MakesWithin};
 ghost use Rattle.oneshot_machine.specs.Logs.{sender_of, Grows};
 ghost use Rattle.oneshot_machine.specs.Runs.{SenderRan};
 ghost use Rattle.oneshot_machine.specs.Slots.{held};
@@ -25,7 +25,7 @@ pub fn send<T, W, G: SenderGround<T, W>>(g: &mut G, message: T) -> bool
     ensures refused { result ≡ false →
         IsError (held message) (G.state g.new) }
     ensures late { result ≡ false → IsLate (sender_of (G.state g.new).log) }
-    ensures bounded { MakesAtMost 2 operates (G.state g.old).log (G.state g.new).log }
+    ensures bounded { MakesWithin (sender_bound Send) (G.state g.old).log (G.state g.new).log }
 {
     g.write_message(message);
     match g.add() {
@@ -43,7 +43,7 @@ pub fn send<T, W, G: SenderGround<T, W>>(g: &mut G, message: T) -> bool
 pub fn drop_sender<T, W, G: SenderGround<T, W>>(g: &mut G)
     requires { IsFresh (G.state g.old) }
     ensures run { SenderRan Drop (G.state g.old).log (G.state g.new).log Done [] [] }
-    ensures bounded { MakesAtMost 2 operates (G.state g.old).log (G.state g.new).log }
+    ensures bounded { MakesWithin (sender_bound Drop) (G.state g.old).log (G.state g.new).log }
 {
     match g.flip() {
         EMPTY => {}

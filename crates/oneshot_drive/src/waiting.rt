@@ -8,7 +8,7 @@ ghost use Rattle.oneshot_machine.specs.Phases.{here, looked, waits, blocked, ove
 ghost use Rattle.oneshot_machine.specs.TableRows.{Goes};
 ghost use Rattle.oneshot_drive.specs.declared.waiting.Found.TheVariants as F;
 ghost use Rattle.oneshot_drive.specs.Blocking.{Went, Way, load_of, write_of, wait_of, asked_of, ref_end, end_of, EndsAt, HandAt, WaitedHand};
-ghost use Rattle.oneshot_drive.specs.BetweenCalls.{AtRest, IsClosed, IsReady};
+ghost use Rattle.oneshot_drive.specs.BetweenCalls.{AtRest, IsClosedAt, IsReady};
 ghost use Rattle.oneshot_drive.specs.Grounds.{Stands};
 
 use crate::ground::BlockGround;
@@ -39,7 +39,7 @@ pub(crate) fn find<T, W: Drop, G: BlockGround<T, W>>(
     requires ready { IsReady hand.old (receiver_of (G.state g.old).log) }
     ensures went { (way : Way timed) → Went (load_of way) (end_of way result) (G.state g.old).log (G.state g.new).log }
     ensures ends { EndsAt timed result (G.state g.new) }
-    ensures stays { IsClosed (receiver_of (G.state g.old).log) → result ≡ F.Closed }
+    ensures stays { IsClosedAt (receiver_of (G.state g.old).log) → result ≡ F.Closed }
     ensures hand { HandAt result hand.old hand.new }
     ensures keeps { G.keeps g.old g.new }
 {

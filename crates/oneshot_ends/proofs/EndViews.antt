@@ -7,14 +7,14 @@ use Rattle.oneshot_word.specs.Side.{Side}
 use Rattle.oneshot_ends.specs.Ends.{EndOf, FutureEndOf}
 
 module _ {P : Type 0} where
-  pub same_steps : {a b : EndOf P} → a ≡ b → a.steps ≡ b.steps
-  same_steps is = ap (λ (e : EndOf P). e.steps) is
+  pub same_steps : {a b : EndOf P} → a ≡ b → a.log ≡ b.log
+  same_steps is = ap (λ (e : EndOf P). e.log) is
 
   pub same_about : {a b : EndOf P} → a ≡ b → a.about ≡ b.about
   same_about is = ap (λ (e : EndOf P). e.about) is
 
-  pub future_steps : {a b : FutureEndOf P} → a ≡ b → a.steps ≡ b.steps
-  future_steps is = ap (λ (e : FutureEndOf P). e.steps) is
+  pub future_steps : {a b : FutureEndOf P} → a ≡ b → a.log ≡ b.log
+  future_steps is = ap (λ (e : FutureEndOf P). e.log) is
 
   pub future_about : {a b : FutureEndOf P} → a ≡ b → a.about ≡ b.about
   future_about is = ap (λ (e : FutureEndOf P). e.about) is

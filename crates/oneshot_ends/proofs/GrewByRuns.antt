@@ -14,7 +14,7 @@ use Rattle.oneshot_machine.specs.Runs.{Run, last, more, SenderRan, ReceiverRan}
 use Rattle.oneshot_machine.specs.Receiver.{receiver_start, receiver_step, receiver_row}
 use Rattle.oneshot_machine.specs.Sender.{sender_start, sender_step, sender_row}
 use Rattle.oneshot_machine.specs.Noted.{Noted}
-use Rattle.oneshot_machine.specs.Counts.{operates, GrewAtMost}
+use Rattle.oneshot_machine.specs.Counts.{receiver_bound, GrewWithin}
 use Rattle.oneshot_machine.proofs.CallBounds.{try_recv_makes, async_try_recv_makes, poll_makes}
 use Rattle.oneshot_machine.proofs.GrownLists.{words_after}
 use Rattle.oneshot_word.specs.Side.{Side}
@@ -26,9 +26,9 @@ pub words_of : (T W : Type 0) (xs : List Noted) → words (events_of {T = T} {W 
 words_of T W [] = refl
 words_of T W (x ∷ xs) = ap (λ noted. x ∷ noted) (words_of T W xs)
 
-pub began_at : {T W P : Type 0} {own s : Side T W P} {steps : List Noted} → s ≡ own → own.steps ≡ steps
-    → words (events_of {T = T} {W = W} s.steps) ≡ steps
-began_at {T} {W} {s} is has = words_of T W s.steps ∙ ap (λ s. s.steps) is ∙ has
+pub began_at : {T W P : Type 0} {own s : Side T W P} {log : List Noted} → s ≡ own → own.log ≡ log
+    → words (events_of {T = T} {W = W} s.log) ≡ log
+began_at {T} {W} {s} is has = words_of T W s.log ∙ ap (λ s. s.log) is ∙ has
 
 module _ {T W : Type 0} where
   -- a run, whichever wakers it hands in and out
@@ -73,12 +73,13 @@ module _ {T W : Type 0} where
 
 -- and by no more operations than a run of the call makes
 module _ {T : Type 0} {before after : List Noted} {reply : Reply} where
-  pub try_recv_few : ReceiverGrew T TryRecv before after reply → GrewAtMost 2 operates before after
+  pub try_recv_few : ReceiverGrew T TryRecv before after reply → GrewWithin (receiver_bound TryRecv) before after
   try_recv_few grew = record { added = words grew.run; list = grew.list; few = try_recv_makes grew.run grew.is_run }
 
-  pub async_try_recv_few : ReceiverGrew T AsyncTryRecv before after reply → GrewAtMost 2 operates before after
+  pub async_try_recv_few : ReceiverGrew T AsyncTryRecv before after reply
+      → GrewWithin (receiver_bound AsyncTryRecv) before after
   async_try_recv_few grew =
       record { added = words grew.run; list = grew.list; few = async_try_recv_makes grew.run grew.is_run }
 
-  pub poll_few : ReceiverGrew T Poll before after reply → GrewAtMost 4 operates before after
+  pub poll_few : ReceiverGrew T Poll before after reply → GrewWithin (receiver_bound Poll) before after
   poll_few grew = record { added = words grew.run; list = grew.list; few = poll_makes grew.run grew.is_run }

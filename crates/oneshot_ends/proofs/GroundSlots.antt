@@ -30,28 +30,28 @@ module _ {At : Type 0} (moves : At → List (Row At)) (at : List Noted → At) {
   unfreed true q op m w needs (may there message waker) = absurd (not_away message (needs refl _ there))
 
   can : {P : Type 0} (freed : Bool) (s : Side T W P) {now : Side T W P} {op : Op}
-      → (freed ≡ true → Need (moves (at s.steps))) → left_of freed s ≡ now
-      → May moves (at (words (events_of {T = T} {W = W} now.steps))) op now.message now.waker
-      → (freed ≡ false) × May moves (at s.steps) op s.message s.waker
+      → (freed ≡ true → Need (moves (at s.log))) → left_of freed s ≡ now
+      → May moves (at (words (events_of {T = T} {W = W} now.log))) op now.message now.waker
+      → (freed ≡ false) × May moves (at s.log) op s.message s.waker
   can freed s {now} {op} needs is asks =
-      unfreed freed (at s.steps) op s.message s.waker needs
+      unfreed freed (at s.log) op s.message s.waker needs
       (subst (λ xs. May moves (at xs) op (unless_freed freed s.message) (unless_freed freed s.waker))
-      (words_of T W s.steps)
-      (subst (λ now. May moves (at (words (events_of {T = T} {W = W} now.steps))) op now.message now.waker) (sym is)
+      (words_of T W s.log)
+      (subst (λ now. May moves (at (words (events_of {T = T} {W = W} now.log))) op now.message now.waker) (sym is)
       asks))
 
   -- what it found, as its ground shows it
   found : {P : Type 0} (freed : Bool) (s next : Side T W P) {now : Side T W P} {op : Op} {word : ℕ}
       → left_of freed s ≡ now → freed ≡ false
-      → Finds moves (at s.steps) op word s.message s.waker next.message next.waker
-      → Finds moves (at (words (events_of {T = T} {W = W} now.steps))) op word now.message now.waker
+      → Finds moves (at s.log) op word s.message s.waker next.message next.waker
+      → Finds moves (at (words (events_of {T = T} {W = W} now.log))) op word now.message now.waker
       (unless_freed freed next.message) (unless_freed freed next.waker)
   found freed s next {now} {op} {word} is unfreed makes =
-      subst (λ now. Finds moves (at (words (events_of {T = T} {W = W} now.steps))) op word now.message now.waker
+      subst (λ now. Finds moves (at (words (events_of {T = T} {W = W} now.log))) op word now.message now.waker
       (unless_freed freed next.message) (unless_freed freed next.waker)) is
-      (subst (λ f. Finds moves (at (words (events_of {T = T} {W = W} s.steps))) op word (unless_freed f s.message)
+      (subst (λ f. Finds moves (at (words (events_of {T = T} {W = W} s.log))) op word (unless_freed f s.message)
       (unless_freed f s.waker) (unless_freed f next.message) (unless_freed f next.waker)) (sym unfreed)
-      (subst (λ xs. Finds moves (at xs) op word s.message s.waker next.message next.waker) (sym (words_of T W s.steps))
+      (subst (λ xs. Finds moves (at xs) op word s.message s.waker next.message next.waker) (sym (words_of T W s.log))
       makes))
 
 -- a receiver that has not freed may be anywhere
@@ -62,25 +62,25 @@ stays_unfreed freed at unfreed = subst (λ f. MayBeFreed f at) (sym unfreed) tt
 module _ {T W P : Type 0} (freed : Bool) (s : Side T W P) {now : Side T W P} {op : Op}
     (is : left_of freed s ≡ now) (asks : SenderAsks op (state_of now)) where
   sender_unfreed : (freed ≡ false) × SenderCan s op
-  sender_unfreed = can sender_moves sender_at freed s (λ is. sender_needs (sender_at s.steps)) is asks
+  sender_unfreed = can sender_moves sender_at freed s (λ is. sender_needs (sender_at s.log)) is asks
 
   pub sender_can : SenderCan s op
   sender_can = sender_unfreed.1
 
   pub sender_found : {word : ℕ} (next : Side T W P)
-      → Finds sender_moves (sender_at s.steps) op word s.message s.waker next.message next.waker
-      → Finds sender_moves (sender_at (words (events_of {T = T} {W = W} now.steps))) op word now.message now.waker
+      → Finds sender_moves (sender_at s.log) op word s.message s.waker next.message next.waker
+      → Finds sender_moves (sender_at (words (events_of {T = T} {W = W} now.log))) op word now.message now.waker
       (unless_freed freed next.message) (unless_freed freed next.waker)
   sender_found next = found sender_moves sender_at freed s next is sender_unfreed.0
 
 -- and a receiver's, which has not freed after it either
 module _ {T W P : Type 0} (freed : Bool) (s : Side T W P) {now : Side T W P} {op : Op}
-    (stands : MayBeFreed freed (receiver_at s.steps)) (is : left_of freed s ≡ now) (asks : ReceiverAsks op
+    (stands : MayBeFreed freed (receiver_at s.log)) (is : left_of freed s ≡ now) (asks : ReceiverAsks op
     (state_of now)) where
   receiver_unfreed : (freed ≡ false) × ReceiverCan s op
   receiver_unfreed =
       can receiver_moves receiver_at freed s
-      (λ is. receiver_needs (receiver_at s.steps) (subst (λ f. MayBeFreed f (receiver_at s.steps)) is stands)) is
+      (λ is. receiver_needs (receiver_at s.log) (subst (λ f. MayBeFreed f (receiver_at s.log)) is stands)) is
       asks
 
   pub receiver_can : ReceiverCan s op
@@ -90,8 +90,8 @@ module _ {T W P : Type 0} (freed : Bool) (s : Side T W P) {now : Side T W P} {op
   receiver_stays at = stays_unfreed freed at receiver_unfreed.0
 
   pub receiver_found : {word : ℕ} (next : Side T W P)
-      → Finds receiver_moves (receiver_at s.steps) op word s.message s.waker next.message next.waker
-      → Finds receiver_moves (receiver_at (words (events_of {T = T} {W = W} now.steps))) op word now.message
+      → Finds receiver_moves (receiver_at s.log) op word s.message s.waker next.message next.waker
+      → Finds receiver_moves (receiver_at (words (events_of {T = T} {W = W} now.log))) op word now.message
       now.waker (unless_freed freed next.message) (unless_freed freed next.waker)
   receiver_found next = found receiver_moves receiver_at freed s next is receiver_unfreed.0
 
@@ -101,11 +101,11 @@ module _ {T W : Type 0} where
   never_late (is_late by) (may there message waker) = elim there [ ]
   never_late (is_overtaken by) (may there message waker) = elim there [ ]
 
-  pub late_never : {P : Type 0} (s now : Side T W P) (op : Op) {m : Held T} {w : Held W} → IsLate (sender_at s.steps)
+  pub late_never : {P : Type 0} (s now : Side T W P) (op : Op) {m : Held T} {w : Held W} → IsLate (sender_at s.log)
       → record s { message = m; waker = w } ≡ now → SenderAsks op (state_of now) → ⊥
   late_never s now op {m} {w} came_late is asks =
       never_late came_late
-      (subst (λ xs. SenderMay (sender_at xs) op m w) (words_of T W s.steps)
+      (subst (λ xs. SenderMay (sender_at xs) op m w) (words_of T W s.log)
       (subst (λ now. SenderAsks op (state_of now)) (sym is) asks))
 
   -- what it frees by

@@ -4,12 +4,12 @@ use Rattle.oneshot_machine.specs.Logs.{receiver_of}
 use Rattle.oneshot_machine.specs.Phases.{ReceiverAt, Share}
 use Rattle.oneshot_machine.specs.Slots.{IsSlot}
 use Rattle.oneshot_drive.specs.BetweenCalls.{IsReady}
-use Rattle.oneshot_drive.specs.Grounds.{State, StandsIn}
+use Rattle.oneshot_drive.specs.Grounds.{GroundState, StandsIn}
 use Rattle.oneshot_word.specs.Side.{Side}
 use Rattle.oneshot_ends.specs.Grounds.{state_of, lent}
 
 -- one ground stands as another does that is as far and has the same of its slots
-pub stands_again : {Phases : ReceiverAt → Type 0} {T W V : Type 0} {s : State T W} {t : State T V}
+pub stands_again : {Phases : ReceiverAt → Type 0} {T W V : Type 0} {s : GroundState T W} {t : GroundState T V}
     → receiver_of t.log ≡ receiver_of s.log → ((share : Share) → IsSlot share s.message → IsSlot share t.message)
     → ((share : Share) → IsSlot share s.waker → IsSlot share t.waker) → StandsIn Phases s → StandsIn Phases t
 stands_again as_far message waker is =

@@ -14,7 +14,7 @@ module _ {T W P : Type 0} {about : P} {sender receiver : Side T W P} (are : AreE
   pub new_sender : IsNewSender sender
   new_sender =
       record {
-        steps = are.sender_steps;
+        log = are.sender_log;
         message = subst (IsSlot empty) (sym are.sender_slots.0) is_vacant;
         waker = subst (IsSlot none) (sym are.sender_slots.1) is_away;
       }
@@ -22,7 +22,7 @@ module _ {T W P : Type 0} {about : P} {sender receiver : Side T W P} (are : AreE
   pub new_receiver : IsNewReceiver receiver
   new_receiver =
       record {
-        steps = are.receiver_steps;
+        log = are.receiver_log;
         message = subst (IsSlot none) (sym are.receiver_slots.0) is_away;
         waker = subst (IsSlot none) (sym are.receiver_slots.1) is_away;
       }
@@ -33,7 +33,7 @@ module _ {T W P : Type 0} where
       → StandsWith (λ (l : Log T W). at (words l.list)) (at []) slots (state_of s)
   new_stands at s new =
       record {
-        phase = ap (λ xs. at (words (events_of {T = T} {W = W} xs))) new.steps;
+        phase = ap (λ xs. at (words (events_of {T = T} {W = W} xs))) new.log;
         message = new.message;
         waker = new.waker;
       }

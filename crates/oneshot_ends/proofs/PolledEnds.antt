@@ -5,14 +5,14 @@ use Rattle.futures.specs.declared.task.Poll.TheVariants.{Ready, Pending}
 use Rattle.oneshot_errors.specs.declared.recv.RecvError.{RecvError}
 use Rattle.oneshot_errors.specs.declared.try_recv.TryRecvError.{TryRecvError}
 use Rattle.oneshot_errors.specs.declared.try_recv.TryRecvError.TheVariants as Tried
-use Rattle.oneshot_drive.specs.BetweenCalls.{IsClosed, IsOpen}
+use Rattle.oneshot_drive.specs.BetweenCalls.{IsClosedAt, IsOpenAt}
 use Rattle.oneshot_drive.specs.Polls.{LeavesPolled, leaves_received, leaves_resolved, leaves_over, leaves_gone, leaves_uncopied, leaves_waiting, leaves_its_copy, leaves_claimed, LeavesTried, tried_received, tried_resolved, tried_closed, tried_uncopied, tried_its_copy, tried_claimed, is_registered, StaysRegistered}
 use Rattle.oneshot_machine.specs.Noted.{Noted}
 use Rattle.oneshot_machine.specs.Phases.{ReceiverAt, receiver_at}
 
 abbrev Leaving : {X : Type 0} → Poll X → ReceiverAt → Type 0
-Leaving (Ready x) = IsClosed
-Leaving Pending = IsOpen
+Leaving (Ready x) = IsClosedAt
+Leaving Pending = IsOpenAt
 
 module _ {T : Type 0} where
   leaving : {result : Poll (Result T RecvError)} {at : ReceiverAt} → LeavesPolled result at → Leaving result at
@@ -26,16 +26,16 @@ module _ {T : Type 0} where
   leaving leaves_claimed = refl
 
   pub closed_polled : (result : Poll (Result T RecvError)) {at : ReceiverAt} → LeavesPolled result at → result ≢ Pending
-      → IsClosed at
+      → IsClosedAt at
   closed_polled (Ready x) leaves ready = leaving leaves
   closed_polled Pending leaves ready = absurd (ready refl)
 
   pub open_polled : {result : Poll (Result T RecvError)} {at : ReceiverAt} → LeavesPolled result at → result ≡ Pending
-      → IsOpen at
+      → IsOpenAt at
   open_polled {at} leaves pending = subst (λ result. Leaving result at) pending (leaving leaves)
 
   pub closed_tried : {result : Result T TryRecvError} {at : ReceiverAt} → LeavesTried result at
-      → result ≢ Err Tried.Empty → IsClosed at
+      → result ≢ Err Tried.Empty → IsClosedAt at
   closed_tried (tried_received x) found = refl
   closed_tried (tried_resolved x) found = refl
   closed_tried (tried_closed c) found = refl
@@ -44,7 +44,7 @@ module _ {T : Type 0} where
   closed_tried tried_claimed found = absurd (found refl)
 
   pub open_tried : {result : Result T TryRecvError} {at : ReceiverAt} → LeavesTried result at → result ≡ Err Tried.Empty
-      → IsOpen at
+      → IsOpenAt at
   open_tried tried_uncopied nothing = refl
   open_tried tried_its_copy nothing = refl
   open_tried tried_claimed nothing = refl

@@ -47,18 +47,18 @@ module _ {T W : Type 0} where
   pub token_can : {P : Type 0} (names : List ℕ) (s : Side T W P) (op : Op) → ReceiverAsks op (polled_state names s)
       → ReceiverAsks op (state_of s)
   token_can names s op asks =
-      subst (λ xs. ReceiverMay (receiver_at xs) op s.message s.waker) (sym (words_of T W s.steps))
+      subst (λ xs. ReceiverMay (receiver_at xs) op s.message s.waker) (sym (words_of T W s.log))
       (token_may s.waker (subst
       (λ xs. ReceiverMay {T = T} {W = Copied} (receiver_at xs) op s.message (token_of s.waker))
-      (words_of T Copied s.steps) asks))
+      (words_of T Copied s.log) asks))
 
   pub token_found : {P : Type 0} (names : List ℕ) (s t : Side T W P) (op : Op) (n : ℕ)
       → ReceiverMakes op n (state_of s) (state_of t) → ReceiverMakes op n (polled_state names s) (polled_state names t)
   token_found names s t op n makes =
       subst (λ xs. ReceiverFinds {T = T} {W = Copied} (receiver_at xs) op n s.message (token_of s.waker) t.message
-      (token_of t.waker)) (sym (words_of T Copied s.steps))
+      (token_of t.waker)) (sym (words_of T Copied s.log))
       (token_finds (subst (λ xs. ReceiverFinds (receiver_at xs) op n s.message s.waker t.message t.waker)
-      (words_of T W s.steps) makes))
+      (words_of T W s.log) makes))
 
   -- what the log of the receiver's own ground says, its own does
   pub told : {P : Type 0} (names : List ℕ) (before after : Side T W P) (run : List (Event T W))
@@ -70,20 +70,20 @@ module _ {T W : Type 0} where
         whole = refl;
         channel = ap (λ p. names ++ p) grows.channel;
         list = ap (λ xs. events_of {T = T} {W = Copied} xs)
-            (grown (words_of T W before.steps) (words_of T W after.steps) run grows)
-            ∙ map-append (event_of {T = T} {W = Copied}) before.steps (words run)
-            ∙ ap (λ ys. events_of {T = T} {W = Copied} before.steps ++ ys) same;
+            (grown (words_of T W before.log) (words_of T W after.log) run grows)
+            ∙ map-append (event_of {T = T} {W = Copied}) before.log (words run)
+            ∙ ap (λ ys. events_of {T = T} {W = Copied} before.log ++ ys) same;
       }
 
   -- and it stands as that does
   pub stands_by_tokens : {P : Type 0} {Phases : ReceiverAt → Type 0} (names : List ℕ) (s : Side T W P)
       → StandsIn Phases (state_of s) → StandsIn Phases (polled_state names s)
   stands_by_tokens names s =
-      stands_again (ap receiver_at (words_of T Copied s.steps ∙ sym (words_of T W s.steps))) (λ share m. m)
+      stands_again (ap receiver_at (words_of T Copied s.log ∙ sym (words_of T W s.log))) (λ share m. m)
       (λ share. token_slot)
 
   pub stands_as_told : {P : Type 0} {Phases : ReceiverAt → Type 0} (names : List ℕ) (s : Side T W P)
       → StandsIn Phases (polled_state names s) → StandsIn Phases (state_of s)
   stands_as_told names s =
-      stands_again (ap receiver_at (words_of T W s.steps ∙ sym (words_of T Copied s.steps))) (λ share m. m)
+      stands_again (ap receiver_at (words_of T W s.log ∙ sym (words_of T Copied s.log))) (λ share m. m)
       (λ share. slot_of_token s.waker)

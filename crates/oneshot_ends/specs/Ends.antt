@@ -14,7 +14,7 @@ use Rattle.oneshot_machine.specs.Receiver.{receiver_start, receiver_step, receiv
 use Rattle.oneshot_machine.specs.Runs.{Run}
 use Rattle.oneshot_machine.specs.Sender.{sender_start, sender_step, sender_row}
 use Rattle.oneshot_machine.specs.Noted.{Noted}
-use Rattle.oneshot_drive.specs.BetweenCalls.{IsClosed as Closed, IsOpen as Open}
+use Rattle.oneshot_drive.specs.BetweenCalls.{IsClosedAt, IsOpenAt}
 use Rattle.oneshot_ends.specs.Deadlines.{HasEnd}
 
 -- a waker of a run: which one it is, no contract says
@@ -24,7 +24,7 @@ Waking = Unit {0}
 -- with the value that its channel is about, by which each message keeps a promise
 pub record EndOf (P : Type 0) : Type 0 where
   pub channel : TableId
-  pub steps : List Noted
+  pub log : List Noted
   pub about : P
 
 -- of a channel without a promise
@@ -34,7 +34,7 @@ End = EndOf (Unit {0})
 -- the same of a future, with the source at which its polls register
 pub record FutureEndOf (P : Type 0) : Type 0 where
   pub channel : TableId
-  pub steps : List Noted
+  pub log : List Noted
   pub source : ℕ
   pub about : P
 
@@ -45,7 +45,7 @@ FutureEnd = FutureEndOf (Unit {0})
 pub record Failed (T : Type 0) : Type 0 where
   pub message : T
   pub channel : TableId
-  pub steps : List Noted
+  pub log : List Noted
 
 -- the log grew by the operations of one run of this call, which answers this reply
 pub record SenderGrew (T : Type 0) (call : SenderCall) (before after : List Noted) (reply : Reply) : Type 0 where
@@ -74,15 +74,15 @@ pub record TimeoutGrew (T : Type 0) (timeout : Duration) (before after : List No
 
 -- a receiver that is closed, or open
 abbrev pub IsClosed : {P : Type 0} → EndOf P → Type 0
-IsClosed receiver = Closed (receiver_at receiver.steps)
+IsClosed receiver = IsClosedAt (receiver_at receiver.log)
 
 abbrev pub IsOpen : {P : Type 0} → EndOf P → Type 0
-IsOpen receiver = Open (receiver_at receiver.steps)
+IsOpen receiver = IsOpenAt (receiver_at receiver.log)
 
 -- the same of a future
 abbrev pub IsDone : {P : Type 0} → FutureEndOf P → Type 0
-IsDone future = Closed (receiver_at future.steps)
+IsDone future = IsClosedAt (receiver_at future.log)
 
 -- one that is not done: a later poll may give the message
 abbrev pub IsUnfinished : {P : Type 0} → FutureEndOf P → Type 0
-IsUnfinished future = Open (receiver_at future.steps)
+IsUnfinished future = IsOpenAt (receiver_at future.log)

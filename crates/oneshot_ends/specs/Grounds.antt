@@ -6,7 +6,7 @@ use Rattle.oneshot_machine.specs.Logs.{Event}
 use Rattle.oneshot_machine.specs.Phases.{fresh, ReceiverAt, first, receiver_owns, Slots}
 use Rattle.oneshot_machine.specs.Slots.{Held, away, vacant, held, IsSlot}
 use Rattle.oneshot_machine.specs.Noted.{Noted}
-use Rattle.oneshot_drive.specs.Grounds.{State, sender_slots, receiver_slots}
+use Rattle.oneshot_drive.specs.Grounds.{GroundState, sender_slots, receiver_slots}
 use Rattle.oneshot_word.specs.Side.{Side}
 
 -- a table as a list of numbers, which tell it from any other
@@ -48,26 +48,26 @@ module _ {T W : Type 0} where
 
 -- The state of a ground over an end's side: it stands on the table, beside what has these names, and shows
 -- the waker's slot so.
-abbrev pub state_beside : {T W V P : Type 0} → (Held W → Held V) → List ℕ → Side T W P → State T V
+abbrev pub state_beside : {T W V P : Type 0} → (Held W → Held V) → List ℕ → Side T W P → GroundState T V
 state_beside shown names s =
     record {
-      log = record { whole = false; channel = names ++ channel_of s.table; list = events_of s.steps };
+      log = record { whole = false; channel = names ++ channel_of s.table; list = events_of s.log };
       message = s.message;
       waker = shown s.waker;
     }
 
 module _ {T W P : Type 0} where
   -- of one that shows the waker's slot as it is
-  abbrev pub state_of : Side T W P → State T W
+  abbrev pub state_of : Side T W P → GroundState T W
   state_of = state_beside (λ slot. slot) []
 
   -- the same of one that was lent under this name
-  abbrev pub lent : ℕ → Side T W P → State T W
+  abbrev pub lent : ℕ → Side T W P → GroundState T W
   lent name = state_beside (λ slot. slot) (name ∷ [])
 
   -- a side that has made no operation, with these shares of its slots
   pub record IsNew (slots : Slots) (s : Side T W P) : Type 0 where
-    pub steps : s.steps ≡ []
+    pub log : s.log ≡ []
     pub message : IsSlot slots.0 s.message
     pub waker : IsSlot slots.1 s.waker
 

@@ -1,6 +1,6 @@
 -- What the ground of a poll shows.
 use Rattle.std.specs.Prelude.{ℕ, List}
-use Rattle.oneshot_drive.specs.Grounds.{State}
+use Rattle.oneshot_drive.specs.Grounds.{GroundState}
 use Rattle.oneshot_machine.specs.Slots.{Held, away, vacant, held}
 use Rattle.oneshot_word.specs.Side.{Side}
 use Rattle.oneshot_ends.specs.declared.polling.Copied.{Copied}
@@ -13,5 +13,5 @@ token_of vacant = vacant
 token_of (held waker) = held (record {})
 
 -- the state of a ground that was lent beside the task of a poll, under these names
-abbrev pub polled_state : {T W P : Type 0} → List ℕ → Side T W P → State T Copied
+abbrev pub polled_state : {T W P : Type 0} → List ℕ → Side T W P → GroundState T Copied
 polled_state = state_beside token_of

@@ -33,9 +33,9 @@ impl<T, P: Promise<T>> Model for SendError<T, P> {
 
     ghost Value = { Failed T };
 
-    ghost view = { λ e. record { message = e.message; channel = e.side.table; steps = e.side.steps } };
+    ghost view = { λ e. record { message = e.message; channel = e.side.table; log = e.side.log } };
 
-    ghost invariant = { λ e. IsLate (sender_at e.side.steps) };
+    ghost invariant = { λ e. IsLate (sender_at e.side.log) };
 }
 
 impl<T, P: Promise<T>> SendError<T, P> {
@@ -51,10 +51,10 @@ impl<T: Drop, P: Promise<T>> SendError<T, P> {
     /// The error of a `send` that was refused on this ground.
     pub(crate) fn refused(ground: SenderOnWord<T, Unparker, Waker, P>) -> SendError<T, P>
         requires full { (message : T) × (ground.message ≡ held message) }
-        requires late { IsLate (sender_at ground.steps) }
+        requires late { IsLate (sender_at ground.log) }
         ensures message { ground.message ≡ held result.message }
         ensures channel { result.channel ≡ ground.table }
-        ensures steps { result.steps ≡ ground.steps }
+        ensures log { result.log ≡ ground.log }
     {
         let (message, side) = ground.into_refused();
         SendError { message, side }

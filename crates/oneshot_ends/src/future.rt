@@ -7,7 +7,7 @@ ghost use Rattle.futures.specs.declared.task.Poll.TheVariants.{Pending};
 ghost use Rattle.futures.specs.Poll.{IfReady, OnPending};
 ghost use Rattle.futures.specs.Task.{Covers, Keeps};
 ghost use Rattle.oneshot_machine.specs.declared.machine.receiver.ReceiverStart.TheVariants as C;
-ghost use Rattle.oneshot_machine.specs.Counts.{operates, GrewAtMost};
+ghost use Rattle.oneshot_machine.specs.Counts.{receiver_bound, GrewWithin};
 ghost use Rattle.oneshot_machine.specs.Phases.{receiver_at};
 ghost use Rattle.oneshot_drive.specs.BetweenCalls.{AtRest, try_recv_reply};
 ghost use Rattle.oneshot_drive.specs.Polls.{LeavesPolled, LeavesTried, StaysRegistered, IsDisconnected, poll_reply};
@@ -52,7 +52,7 @@ impl<T, Rt, P: Promise<T>> Model for AsyncReceiver<T, Rt, P> {
 
     ghost view = { λ r. record {
       channel = r.ground.table;
-      steps = r.ground.steps;
+      log = r.ground.log;
       source = r.source.id;
       about = r.ground.about;
     } };
@@ -68,7 +68,7 @@ impl<T, Rt, P: Promise<T>> AsyncReceiver<T, Rt, P> {
     ) -> AsyncReceiver<T, Rt, P>
         requires { AtRest (state_of ground) }
         ensures channel { result.channel ≡ ground.table }
-        ensures steps { result.steps ≡ ground.steps }
+        ensures log { result.log ≡ ground.log }
         ensures about { result.about ≡ ground.about }
     {
         AsyncReceiver {
@@ -95,13 +95,13 @@ impl<T: Drop, Rt: Drop, P: Promise<T>> AsyncReceiver<T, Rt, P> {
     pub fn try_recv(&mut self) -> Result<T, TryRecvError>
         ensures channel { self.new.channel ≡ self.old.channel }
         ensures source { self.new.source ≡ self.old.source }
-        ensures run { ReceiverGrew T C.AsyncTryRecv self.old.steps self.new.steps (try_recv_reply result) }
-        ensures leaves { LeavesTried result (receiver_at self.new.steps) }
+        ensures run { ReceiverGrew T C.AsyncTryRecv self.old.log self.new.log (try_recv_reply result) }
+        ensures leaves { LeavesTried result (receiver_at self.new.log) }
         ensures closes { result ≢ Err Tried.Empty → IsDone self.new }
         ensures stays_open { result ≡ Err Tried.Empty → IsUnfinished self.new }
         ensures stays_closed { IsDone self.old → result ≡ Err Tried.Disconnected }
-        ensures registered { StaysRegistered result (receiver_at self.old.steps) (receiver_at self.new.steps) }
-        ensures bounded { GrewAtMost 2 operates self.old.steps self.new.steps }
+        ensures registered { StaysRegistered result (receiver_at self.old.log) (receiver_at self.new.log) }
+        ensures bounded { GrewWithin (receiver_bound C.AsyncTryRecv) self.old.log self.new.log }
         ensures about { self.new.about ≡ self.old.about }
         ensures kept { IfOk result (λ message. P.keeps self.old.about message) }
     {
@@ -129,12 +129,12 @@ impl<T: Drop, Rt: Drop, P: Promise<T>> Future for AsyncReceiver<T, Rt, P> {
         ensures kept { Keeps cx.old cx.new }
         ensures channel { self.new.channel ≡ self.old.channel }
         ensures source { self.new.source ≡ self.old.source }
-        ensures run { ReceiverGrew T C.Poll self.old.steps self.new.steps (poll_reply result) }
-        ensures leaves { LeavesPolled result (receiver_at self.new.steps) }
+        ensures run { ReceiverGrew T C.Poll self.old.log self.new.log (poll_reply result) }
+        ensures leaves { LeavesPolled result (receiver_at self.new.log) }
         ensures closes { result ≢ Pending → IsDone self.new }
         ensures stays_open { result ≡ Pending → IsUnfinished self.new }
         ensures stays_closed { IsDone self.old → IsDisconnected result }
-        ensures bounded { GrewAtMost 4 operates self.old.steps self.new.steps }
+        ensures bounded { GrewWithin (receiver_bound C.Poll) self.old.log self.new.log }
         ensures about { self.new.about ≡ self.old.about }
         ensures promise { IfReady result (λ answer. IfOk answer (λ message. P.keeps self.old.about message)) }
     {

@@ -51,7 +51,7 @@ impl<T: Drop, H: Drop, K: Drop, P: Promise<T>> SenderOnWord<T, H, K, P> {
         ensures message { self.message ≡ held result.0 }
         ensures about { result.1.about ≡ self.about }
         ensures table { result.1.table ≡ self.table }
-        ensures steps { result.1.steps ≡ self.steps }
+        ensures log { result.1.log ≡ self.log }
     {
         let SenderOnWord { mut side, freed: _ } = self;
         let message = side.take_message();
@@ -132,13 +132,13 @@ impl<T, H, K, P: Promise<T>> Model for ErrorOffWord<T, H, K, P> {
 
     ghost view = { λ e. record e.side { message = unless_freed e.freed.value (slot_of e.message); waker = unless_freed e.freed.value vacant } };
 
-    ghost invariant = { λ e. IsLate (sender_at e.side.steps) };
+    ghost invariant = { λ e. IsLate (sender_at e.side.log) };
 }
 
 impl<T, H, K, P: Promise<T>> ErrorOffWord<T, H, K, P> {
     /// The ground of an error that has freed nothing.
     pub(crate) fn new(message: T, side: SenderSide<T, H, K, P>) -> ErrorOffWord<T, H, K, P>
-        requires { IsLate (sender_at side.steps) }
+        requires { IsLate (sender_at side.log) }
         ensures { IsError (held message) (state_of result) }
     {
         let freed = Freed::of(false);
@@ -236,7 +236,7 @@ impl<T, H, K, P: Promise<T>> Model for ReceiverOnWord<T, H, K, P> {
 
     ghost view = { λ s. left_of s.freed.value s.side };
 
-    ghost invariant = { λ s. MayBeFreed s.freed.value (receiver_at s.side.steps) };
+    ghost invariant = { λ s. MayBeFreed s.freed.value (receiver_at s.side.log) };
 }
 
 impl<T, H, K, P: Promise<T>> ReceiverOnWord<T, H, K, P> {

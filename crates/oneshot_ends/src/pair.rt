@@ -23,8 +23,8 @@ pub fn channel<T: Send + Drop, Rt: Drop>(
     alloc: Global,
 ) -> Result<(Sender<T>, Receiver<T, Rt>), AllocError>
     ensures one_channel { IfOk result (λ ends. ends.0.channel ≡ ends.1.channel) }
-    ensures new_sender { IfOk result (λ ends. ends.0.steps ≡ []) }
-    ensures new_receiver { IfOk result (λ ends. ends.1.steps ≡ []) }
+    ensures new_sender { IfOk result (λ ends. ends.0.log ≡ []) }
+    ensures new_receiver { IfOk result (λ ends. ends.1.log ≡ []) }
     ensures open { IfOk result (λ ends. IsOpen ends.1) }
 {
     // A body of its own: through `channel_for` both ends would be copied once more.
@@ -48,8 +48,8 @@ pub fn channel_for<T: Send + Drop, Rt: Drop, P: Promise<T>>(
     about: &P,
 ) -> Result<(Sender<T, P>, Receiver<T, Rt, P>), AllocError>
     ensures one_channel { IfOk result (λ ends. ends.0.channel ≡ ends.1.channel) }
-    ensures new_sender { IfOk result (λ ends. ends.0.steps ≡ []) }
-    ensures new_receiver { IfOk result (λ ends. ends.1.steps ≡ []) }
+    ensures new_sender { IfOk result (λ ends. ends.0.log ≡ []) }
+    ensures new_receiver { IfOk result (λ ends. ends.1.log ≡ []) }
     ensures open { IfOk result (λ ends. IsOpen ends.1) }
     ensures sender_about { IfOk result (λ ends. ends.0.about ≡ about.now) }
     ensures receiver_about { IfOk result (λ ends. ends.1.about ≡ about.now) }
@@ -69,8 +69,8 @@ pub fn async_channel<T: Send + Drop, Rt: Drop>(
     alloc: Global,
 ) -> Result<(Sender<T>, AsyncReceiver<T, Rt>), AllocError>
     ensures one_channel { IfOk result (λ ends. ends.0.channel ≡ ends.1.channel) }
-    ensures new_sender { IfOk result (λ ends. ends.0.steps ≡ []) }
-    ensures new_receiver { IfOk result (λ ends. ends.1.steps ≡ []) }
+    ensures new_sender { IfOk result (λ ends. ends.0.log ≡ []) }
+    ensures new_receiver { IfOk result (λ ends. ends.1.log ≡ []) }
     ensures open { IfOk result (λ ends. IsUnfinished ends.1) }
 {
     let (sender, receiver) = channel(rt, alloc)?;
@@ -85,8 +85,8 @@ pub fn async_channel_for<T: Send + Drop, Rt: Drop, P: Promise<T>>(
     about: &P,
 ) -> Result<(Sender<T, P>, AsyncReceiver<T, Rt, P>), AllocError>
     ensures one_channel { IfOk result (λ ends. ends.0.channel ≡ ends.1.channel) }
-    ensures new_sender { IfOk result (λ ends. ends.0.steps ≡ []) }
-    ensures new_receiver { IfOk result (λ ends. ends.1.steps ≡ []) }
+    ensures new_sender { IfOk result (λ ends. ends.0.log ≡ []) }
+    ensures new_receiver { IfOk result (λ ends. ends.1.log ≡ []) }
     ensures open { IfOk result (λ ends. IsUnfinished ends.1) }
     ensures sender_about { IfOk result (λ ends. ends.0.about ≡ about.now) }
     ensures receiver_about { IfOk result (λ ends. ends.1.about ≡ about.now) }

@@ -5,7 +5,7 @@ ghost use Rattle.std.specs.Time.{instant_nanos, FitsClock};
 ghost use Rattle.oneshot_errors.specs.declared.recv_timeout.RecvTimeoutError.TheVariants as Timed;
 ghost use Rattle.oneshot_errors.specs.declared.try_recv.TryRecvError.TheVariants as Tried;
 ghost use Rattle.oneshot_machine.specs.declared.machine.receiver.ReceiverStart.TheVariants.{TryRecv, RecvRef, RecvDeadline};
-ghost use Rattle.oneshot_machine.specs.Counts.{operates, GrewAtMost};
+ghost use Rattle.oneshot_machine.specs.Counts.{receiver_bound, GrewWithin};
 ghost use Rattle.oneshot_machine.specs.Phases.{receiver_at};
 ghost use Rattle.oneshot_drive.specs.BetweenCalls.{Leaves, LeavesClosed, LeavesTimed, try_recv_reply, recv_reply, timed_reply};
 ghost use Rattle.oneshot_ends.specs.Ends.{ReceiverGrew, TimeoutGrew, TimeoutRan, IsClosed, IsOpen};
@@ -59,7 +59,7 @@ impl<T, Rt, P: Promise<T>> Model for Receiver<T, Rt, P> {
 
     ghost Value = { EndOf P };
 
-    ghost view = { λ r. record { channel = r.ground.table; steps = r.ground.steps; about = r.ground.about } };
+    ghost view = { λ r. record { channel = r.ground.table; log = r.ground.log; about = r.ground.about } };
 
     ghost invariant = { λ r.
         AtRest (state_of r.ground) × IsReady r.hand (receiver_of (state_of r.ground).log) };
@@ -74,7 +74,7 @@ impl<T, Rt, P: Promise<T>> Receiver<T, Rt, P> {
     ) -> Receiver<T, Rt, P>
         requires { IsNewReceiver side }
         ensures channel { result.channel ≡ side.table }
-        ensures steps { result.steps ≡ side.steps }
+        ensures log { result.log ≡ side.log }
         ensures about { result.about ≡ side.about }
     {
         Receiver {
@@ -97,12 +97,12 @@ impl<T: Drop, Rt: Drop, P: Promise<T>> Receiver<T, Rt, P> {
     ///   Every later receive says the same.
     pub fn try_recv(&mut self) -> Result<T, TryRecvError>
         ensures channel { self.new.channel ≡ self.old.channel }
-        ensures run { ReceiverGrew T TryRecv self.old.steps self.new.steps (try_recv_reply result) }
-        ensures leaves { Leaves result (receiver_at self.new.steps) }
+        ensures run { ReceiverGrew T TryRecv self.old.log self.new.log (try_recv_reply result) }
+        ensures leaves { Leaves result (receiver_at self.new.log) }
         ensures closes { result ≢ Err Tried.Empty → IsClosed self.new }
         ensures stays_open { result ≡ Err Tried.Empty → IsOpen self.new }
         ensures stays_closed { IsClosed self.old → result ≡ Err Tried.Disconnected }
-        ensures bounded { GrewAtMost 2 operates self.old.steps self.new.steps }
+        ensures bounded { GrewWithin (receiver_bound TryRecv) self.old.log self.new.log }
         ensures about { self.new.about ≡ self.old.about }
         ensures kept { IfOk result (λ message. P.keeps self.old.about message) }
     {
@@ -122,8 +122,8 @@ impl<T: Drop, Rt: Wait + Clock + Drop, P: Promise<T>> Receiver<T, Rt, P> {
     /// Either way the receiver is closed, and every later receive says that no message will come.
     pub fn recv_ref(&mut self) -> Result<T, RecvError>
         ensures channel { self.new.channel ≡ self.old.channel }
-        ensures run { ReceiverGrew T RecvRef self.old.steps self.new.steps (recv_reply result) }
-        ensures leaves { LeavesClosed result (receiver_at self.new.steps) }
+        ensures run { ReceiverGrew T RecvRef self.old.log self.new.log (recv_reply result) }
+        ensures leaves { LeavesClosed result (receiver_at self.new.log) }
         ensures closes { IsClosed self.new }
         ensures stays_closed { IsClosed self.old → IsErr result }
         ensures about { self.new.about ≡ self.old.about }
@@ -148,8 +148,8 @@ impl<T: Drop, Rt: Wait + Clock + Drop, P: Promise<T>> Receiver<T, Rt, P> {
     /// `send` or its drop is waited for, also past the deadline, as in the Rust crate.
     pub fn recv_deadline(&mut self, deadline: Instant) -> Result<T, RecvTimeoutError>
         ensures channel { self.new.channel ≡ self.old.channel }
-        ensures run { ReceiverGrew T RecvDeadline self.old.steps self.new.steps (timed_reply result) }
-        ensures leaves { LeavesTimed result (receiver_at self.new.steps) }
+        ensures run { ReceiverGrew T RecvDeadline self.old.log self.new.log (timed_reply result) }
+        ensures leaves { LeavesTimed result (receiver_at self.new.log) }
         ensures closes { result ≢ Err Timed.Timeout → IsClosed self.new }
         ensures stays_open { result ≡ Err Timed.Timeout → IsOpen self.new }
         ensures stays_closed { IsClosed self.old → result ≡ Err Timed.Disconnected }
@@ -169,8 +169,8 @@ impl<T: Drop, Rt: Wait + Clock + Drop, P: Promise<T>> Receiver<T, Rt, P> {
     /// at once.
     pub fn recv_timeout(&mut self, timeout: Duration) -> Result<T, RecvTimeoutError>
         ensures channel { self.new.channel ≡ self.old.channel }
-        ensures run { TimeoutGrew T timeout self.old.steps self.new.steps (timed_reply result) }
-        ensures leaves { LeavesTimed result (receiver_at self.new.steps) }
+        ensures run { TimeoutGrew T timeout self.old.log self.new.log (timed_reply result) }
+        ensures leaves { LeavesTimed result (receiver_at self.new.log) }
         ensures closes { result ≢ Err Timed.Timeout → IsClosed self.new }
         ensures stays_open { result ≡ Err Timed.Timeout → IsOpen self.new }
         ensures stays_closed { IsClosed self.old → result ≡ Err Timed.Disconnected }
@@ -210,8 +210,8 @@ impl<T: Drop, Rt: Wait + Clock + Drop, P: Promise<T>> Receiver<T, Rt, P> {
     fn recv_after(&mut self, reading: Reading, timeout: Duration) -> Result<T, RecvTimeoutError>
         requires { IfSome reading (λ now. FitsClock (instant_nanos now)) }
         ensures channel { self.new.channel ≡ self.old.channel }
-        ensures run { TimeoutRan T timeout reading self.old.steps self.new.steps (timed_reply result) }
-        ensures leaves { LeavesTimed result (receiver_at self.new.steps) }
+        ensures run { TimeoutRan T timeout reading self.old.log self.new.log (timed_reply result) }
+        ensures leaves { LeavesTimed result (receiver_at self.new.log) }
         ensures stays_closed { IsClosed self.old → result ≡ Err Timed.Disconnected }
         ensures about { self.new.about ≡ self.old.about }
         ensures kept { IfOk result (λ message. P.keeps self.old.about message) }
@@ -228,7 +228,7 @@ impl<T: Drop, Rt: Drop, P: Promise<T>> Receiver<T, Rt, P> {
     /// nobody and allocates nothing. The receiver's parker is dropped.
     pub fn into_future(self) -> AsyncReceiver<T, Rt, P>
         ensures channel { result.channel ≡ self.channel }
-        ensures steps { result.steps ≡ self.steps }
+        ensures log { result.log ≡ self.log }
         ensures about { result.about ≡ self.about }
     {
         let Receiver {

@@ -38,7 +38,7 @@ impl<T, P: Promise<T>> Model for Sender<T, P> {
 
     ghost Value = { EndOf P };
 
-    ghost view = { λ s. record { channel = s.side.table; steps = s.side.steps; about = s.side.about } };
+    ghost view = { λ s. record { channel = s.side.table; log = s.side.log; about = s.side.about } };
 
     ghost invariant = { λ s. IsNewSender s.side };
 }
@@ -47,7 +47,7 @@ impl<T, P: Promise<T>> Sender<T, P> {
     pub(crate) fn new(side: SenderSide<T, Unparker, Waker, P>) -> Sender<T, P>
         requires { IsNewSender side }
         ensures channel { result.channel ≡ side.table }
-        ensures steps { result.steps ≡ side.steps }
+        ensures log { result.log ≡ side.log }
         ensures about { result.about ≡ side.about }
     {
         Sender { side }
@@ -63,7 +63,7 @@ impl<T: Drop> Sender<T> {
     pub fn send(self, message: T) -> Result<(), SendError<T>>
         ensures message { IfErr result (λ error. error.message ≡ message) }
         ensures channel { IfErr result (λ error. error.channel ≡ self.channel) }
-        ensures run { IfErr result (λ error. SenderGrew T Send self.steps error.steps Refused) }
+        ensures run { IfErr result (λ error. SenderGrew T Send self.log error.log Refused) }
     {
         let Sender { side } = self;
         let mut ground = SenderOnWord::new(side);
@@ -82,7 +82,7 @@ impl<T: Drop, P: Promise<T>> Sender<T, P> {
         requires kept { P.keeps self.about message }
         ensures message { IfErr result (λ error. error.message ≡ message) }
         ensures channel { IfErr result (λ error. error.channel ≡ self.channel) }
-        ensures run { IfErr result (λ error. SenderGrew T Send self.steps error.steps Refused) }
+        ensures run { IfErr result (λ error. SenderGrew T Send self.log error.log Refused) }
     {
         let Sender { side } = self;
         let mut ground = SenderOnWord::new(side);

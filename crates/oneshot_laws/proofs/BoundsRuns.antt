@@ -1,22 +1,20 @@
 -- Each call makes no more operations on the word than its bound: the reader counts down, for each end, what
 -- its call has left.
-use Rattle.std.proofs.Common.{◌≡◌, ℕ, zero, suc, Bool, true, false, not, ◌&&◌, ◌||◌, List, [], ◌∷◌, map, Some, None, refl, ◌∙◌, ap, if◌then◌else◌}
+use Rattle.std.proofs.Common.{◌≡◌, ℕ, zero, suc, Bool, true, false, not, ◌&&◌, ◌||◌, List, [], ◌∷◌, map, Option, Some, None, refl, ◌∙◌, ap, if◌then◌else◌}
 use Rattle.oneshot_machine.specs.declared.machine.End.{End}
 use Rattle.oneshot_machine.specs.declared.machine.End.TheVariants.{Sender, Receiver}
-use Rattle.oneshot_machine.specs.declared.machine.receiver.ReceiverStart.TheVariants as RC
-use Rattle.oneshot_machine.specs.declared.machine.sender.SenderCall.TheVariants as SC
-use Rattle.oneshot_world.specs.Calls.{Call, Of_sender, Of_receiver, Poll}
+use Rattle.oneshot_world.specs.Calls.{Call}
 use Rattle.oneshot_world.specs.Classes.{Classes, as_call, as_made}
 use Rattle.oneshot_world.specs.declared.trace.Made.{Made}
 use Rattle.oneshot_world.proofs.Bools.{and_left, and_right, both}
 use Rattle.oneshot_laws.specs.Entries.{is_same_end}
 use Rattle.oneshot_laws.specs.Object.{is_same_flag}
 use Rattle.oneshot_laws.specs.Marks.{Mark, side, call_marks, until_reply}
-use Rattle.oneshot_laws.specs.Bounds.{at_most, operates, is_within_its_bound, is_bounded, are_calls_bounded}
+use Rattle.oneshot_laws.specs.Bounds.{at_most, operates, bound_of, is_within, is_bounded, are_calls_bounded}
 use Rattle.oneshot_laws.proofs.Glanced.{Passes, Nameless, of_call, LawExplored, all_glanced, passed, holds_by}
 use Rattle.oneshot_laws.proofs.Glances.{glance_of}
 use Rattle.oneshot_laws.proofs.WatchedRuns.{EachRun}
-use Rattle.oneshot_laws.proofs.Budgets.{Left, Resting, Unbounded, Counted, begun, under_way, is_resting, can, spend, may_make, spent, left_then, Budget, left_by, left_at, fits, budget_then, at_rest, budget_law}
+use Rattle.oneshot_laws.proofs.Budgets.{Left, Resting, Unbounded, Counted, counted, begun, under_way, is_resting, can, spend, may_make, spent, left_then, Budget, left_by, left_at, fits, budget_then, at_rest, budget_law}
 
 -- one more mark of a call
 pub pay : (test : Mark → Bool) (n : ℕ) (m : Mark) (later : List Mark) → can n (test m) ≡ true
@@ -99,20 +97,15 @@ claims [] x Receiver p = nothing_left x.receiver
 claims (m ∷ ms) x end p = either m.entry.side end m ms x p.0 (claims ms (budget_then x (glance_of m)) end p.1)
 
 -- the bound of the call that begins
-within : (call : Call) (own : List Mark) → covers (begun call) own ≡ true → is_within_its_bound call own ≡ true
-within (Of_sender SC.Send) own h = h
-within (Of_sender SC.Drop) own h = h
-within (Of_receiver RC.TryRecv) own h = h
-within (Of_receiver RC.AsyncTryRecv) own h = h
-within (Of_receiver RC.DropAsync) own h = h
-within (Poll number) own h = h
-within _ own h = refl
+within : (bound : Option ℕ) (own : List Mark) → covers (counted bound) own ≡ true → is_within bound own ≡ true
+within None own h = refl
+within (Some limit) own h = h
 
 begins_at_rest : (begins : Bool) (call : Call) (left : Left) (own : List Mark)
     → is_same_flag begins (is_resting left) ≡ true → covers (under_way call left) own ≡ true
-    → (not begins || is_within_its_bound call own) ≡ true
+    → (not begins || is_within (bound_of call) own) ≡ true
 begins_at_rest false call left own h k = refl
-begins_at_rest true call Resting own h k = within call own k
+begins_at_rest true call Resting own h k = within (bound_of call) own k
 begins_at_rest true call Unbounded own h k = cc
 begins_at_rest true call (Counted n) own h k = cc
 

@@ -2,10 +2,9 @@
 use Rattle.std.proofs.Common.{◌≡◌, ℕ, zero, suc, Bool, true, false, not, ◌&&◌, Option, Some, None, refl, if◌then◌else◌}
 use Rattle.oneshot_machine.specs.declared.machine.End.{End}
 use Rattle.oneshot_machine.specs.declared.machine.End.TheVariants.{Sender, Receiver}
-use Rattle.oneshot_machine.specs.declared.machine.receiver.ReceiverStart.TheVariants as RC
-use Rattle.oneshot_machine.specs.declared.machine.sender.SenderCall.TheVariants as SC
-use Rattle.oneshot_world.specs.Calls.{Call, Of_sender, Of_receiver, Poll}
+use Rattle.oneshot_world.specs.Calls.{Call}
 use Rattle.oneshot_world.specs.declared.trace.Made.{Made}
+use Rattle.oneshot_laws.specs.Bounds.{bound_of}
 use Rattle.oneshot_laws.specs.Entries.{is_word}
 use Rattle.oneshot_laws.specs.Object.{is_same_flag}
 use Rattle.oneshot_laws.specs.Marks.{until_reply}
@@ -20,15 +19,13 @@ pub data Left : Type 0 where
   Unbounded : Left
   Counted : ℕ → Left
 
--- what a call has that begins
+-- what a call has that begins, by its bound
+abbrev pub counted : Option ℕ → Left
+counted None = Unbounded
+counted (Some limit) = Counted limit
+
 abbrev pub begun : Call → Left
-begun (Of_sender SC.Send) = Counted 2
-begun (Of_sender SC.Drop) = Counted 2
-begun (Of_receiver RC.TryRecv) = Counted 2
-begun (Of_receiver RC.AsyncTryRecv) = Counted 2
-begun (Poll number) = Counted 4
-begun (Of_receiver RC.DropAsync) = Counted 3
-begun _ = Unbounded
+begun call = counted (bound_of call)
 
 abbrev pub under_way : Call → Left → Left
 under_way call Resting = begun call

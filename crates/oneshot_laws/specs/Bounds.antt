@@ -1,10 +1,10 @@
 -- How many operations on the word a call makes, and how soon a receiver's call ends once the sender is done
 -- with the word.
-use Rattle.std.specs.Prelude.{ℕ, zero, suc, Bool, true, not, ◌&&◌, List, [], ◌∷◌, if◌then◌else◌}
+use Rattle.std.specs.Prelude.{ℕ, zero, suc, Bool, true, not, ◌&&◌, List, [], ◌∷◌, Option, Some, None, if◌then◌else◌}
 use Rattle.oneshot_machine.specs.declared.machine.End.TheVariants.{Sender, Receiver}
 use Rattle.oneshot_machine.specs.declared.machine.receiver.ReceiverStart.TheVariants as RC
-use Rattle.oneshot_machine.specs.declared.machine.sender.SenderCall.TheVariants as SC
-use Rattle.oneshot_world.specs.Calls.{Call, Of_sender, Of_receiver, Poll}
+use Rattle.oneshot_machine.specs.Counts.{sender_bound, receiver_bound}
+use Rattle.oneshot_world.specs.Calls.{Call, Of_sender, Of_receiver, Poll, Stray}
 use Rattle.oneshot_laws.specs.Entries.{is_same_end, is_word}
 use Rattle.oneshot_laws.specs.Marks.{Mark, finishes, side, call_marks, each_call, after_each}
 
@@ -18,19 +18,20 @@ at_most (suc limit) test (m ∷ ms) = if test m then at_most limit test ms else 
 abbrev pub operates : Mark → Bool
 operates m = is_word m.entry.step
 
--- the most operations that a call makes, for the calls that have a bound
-abbrev pub is_within_its_bound : Call → List Mark → Bool
-is_within_its_bound (Of_sender SC.Send) own = at_most 2 operates own
-is_within_its_bound (Of_sender SC.Drop) own = at_most 2 operates own
-is_within_its_bound (Of_receiver RC.TryRecv) own = at_most 2 operates own
-is_within_its_bound (Of_receiver RC.AsyncTryRecv) own = at_most 2 operates own
-is_within_its_bound (Poll number) own = at_most 4 operates own
-is_within_its_bound (Of_receiver RC.DropAsync) own = at_most 3 operates own
-is_within_its_bound _ own = true
+-- the most operations that a call makes, where it has a bound
+abbrev pub bound_of : Call → Option ℕ
+bound_of (Of_sender call) = sender_bound call
+bound_of (Of_receiver call) = receiver_bound call
+bound_of (Poll number) = receiver_bound RC.Poll
+bound_of Stray = None
+
+abbrev pub is_within : Option ℕ → List Mark → Bool
+is_within None own = true
+is_within (Some limit) own = at_most limit operates own
 
 abbrev pub is_bounded : List Mark → Bool
 is_bounded [] = true
-is_bounded (m ∷ later) = is_within_its_bound m.call (m ∷ later)
+is_bounded (m ∷ later) = is_within (bound_of m.call) (m ∷ later)
 
 abbrev pub are_calls_bounded : List Mark → Bool
 are_calls_bounded ms = each_call is_bounded ms

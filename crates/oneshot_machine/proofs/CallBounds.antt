@@ -1,14 +1,14 @@
 -- The most operations that are left at each position of the calls that have a bound, and what a run of such a
 -- call makes.
 use Rattle.std.proofs.Common.{◌≡◌, ℕ, ◌≤◌, Bool, true, List, Option, Some, None, refl}
-use Rattle.std.specs.Prelude.{count_by}
+use Rattle.std.specs.Prelude.{length}
 use Rattle.oneshot_machine.specs.declared.machine.Reply.{Reply}
 use Rattle.oneshot_machine.specs.declared.machine.Seen.{Seen}
 use Rattle.oneshot_machine.specs.declared.machine.Step.{Step}
 use Rattle.oneshot_machine.specs.declared.machine.receiver.ReceiverStart.TheVariants as C
 use Rattle.oneshot_machine.specs.declared.machine.receiver.ReceiverPos.{ReceiverPos}
-use Rattle.oneshot_machine.specs.declared.machine.receiver.ReceiverPos.TheVariants.{Look, Future, AsyncDrop, Drop}
-use Rattle.oneshot_machine.specs.declared.machine.look.LookPos.TheVariants.{TryLoad, Close, Take}
+use Rattle.oneshot_machine.specs.declared.machine.receiver.ReceiverPos.TheVariants.{Try, Future, AsyncDrop, Drop}
+use Rattle.oneshot_machine.specs.declared.machine.try_recv.TryPos.TheVariants.{TryLoad, Close, Take}
 use Rattle.oneshot_machine.specs.declared.machine.future.FuturePos.TheVariants.{PollLoad, PollCopy, PollWrite, PollExchange, PollBackFull, PollBackClosed, AgainCopy, AgainExchange, AgainBack, PollOwn, AsyncTryLoad}
 use Rattle.oneshot_machine.specs.declared.machine.async_drop.AsyncDropPos.TheVariants.{AsyncLoad, AsyncExchange, AsyncBack, AsyncSwap}
 use Rattle.oneshot_machine.specs.declared.machine.drop.DropPos.TheVariants.{DropMessage, DropFree}
@@ -20,8 +20,7 @@ use Rattle.oneshot_machine.specs.Receiver.{receiver_start, receiver_step, receiv
 use Rattle.oneshot_machine.specs.Runs.{Run, Ran, SenderRan, ReceiverRan}
 use Rattle.oneshot_machine.specs.Sender.{sender_step, sender_rows, sender_row}
 use Rattle.oneshot_machine.specs.TableRows.{Outcome}
-use Rattle.oneshot_machine.specs.Noted.{Noted}
-use Rattle.oneshot_machine.specs.Counts.{operates, MakesAtMost}
+use Rattle.oneshot_machine.specs.Counts.{sender_bound, receiver_bound, MakesWithin}
 use Rattle.oneshot_machine.proofs.GrownLists.{words_after}
 use Rattle.oneshot_machine.proofs.CountedRuns.{pays, at_most}
 
@@ -42,9 +41,9 @@ sender_most _ = None
 
 -- of the receiver's calls that never wait
 abbrev receiver_most : ReceiverPos → Option ℕ
-receiver_most (Look TryLoad) = Some 2
-receiver_most (Look Close) = Some 1
-receiver_most (Look Take) = Some 0
+receiver_most (Try TryLoad) = Some 2
+receiver_most (Try Close) = Some 1
+receiver_most (Try Take) = Some 0
 receiver_most (Future PollLoad) = Some 4
 receiver_most (Future PollCopy) = Some 2
 receiver_most (Future PollWrite) = Some 2
@@ -65,7 +64,7 @@ receiver_most (Drop DropFree) = Some 0
 receiver_most _ = None
 
 -- each row pays for its step
-sender_pays : (p : SenderPos) → pays operates sender_step sender_rows sender_most p ≡ true
+sender_pays : (p : SenderPos) → pays sender_step sender_rows sender_most p ≡ true
 sender_pays SendWrite = refl
 sender_pays SendAdd = refl
 sender_pays SendTakeWaker = refl
@@ -80,10 +79,10 @@ sender_pays DropLateWake = refl
 sender_pays SenderFree = refl
 sender_pays _ = refl
 
-receiver_pays : (p : ReceiverPos) → pays operates receiver_step receiver_rows receiver_most p ≡ true
-receiver_pays (Look TryLoad) = refl
-receiver_pays (Look Close) = refl
-receiver_pays (Look Take) = refl
+receiver_pays : (p : ReceiverPos) → pays receiver_step receiver_rows receiver_most p ≡ true
+receiver_pays (Try TryLoad) = refl
+receiver_pays (Try Close) = refl
+receiver_pays (Try Take) = refl
 receiver_pays (Future PollLoad) = refl
 receiver_pays (Future PollCopy) = refl
 receiver_pays (Future PollWrite) = refl
@@ -106,51 +105,51 @@ receiver_pays _ = refl
 module _ {T W : Type 0} {reply : Reply} where
   -- what a run makes
   sender_makes : (p : SenderPos) (limit : ℕ) → sender_most p ≡ Some limit
-      → (xs : List (Event T W)) → Run sender_step sender_row p xs reply → count_by operates (words xs) ≤ limit
+      → (xs : List (Event T W)) → Run sender_step sender_row p xs reply → length (words xs) ≤ limit
   sender_makes p limit is xs run =
-      at_most operates sender_step sender_rows sender_most sender_pays p xs reply limit is run
+      at_most sender_step sender_rows sender_most sender_pays p xs reply limit is run
 
   receiver_makes : (p : ReceiverPos) (limit : ℕ) → receiver_most p ≡ Some limit
-      → (xs : List (Event T W)) → Run receiver_step receiver_row p xs reply → count_by operates (words xs) ≤ limit
+      → (xs : List (Event T W)) → Run receiver_step receiver_row p xs reply → length (words xs) ≤ limit
   receiver_makes p limit is xs run =
-      at_most operates receiver_step receiver_rows receiver_most receiver_pays p xs reply limit is run
+      at_most receiver_step receiver_rows receiver_most receiver_pays p xs reply limit is run
 
   -- of each call
   pub try_recv_makes : (xs : List (Event T W)) → Run receiver_step receiver_row (receiver_start C.TryRecv) xs reply
-      → count_by operates (words xs) ≤ 2
-  try_recv_makes = receiver_makes (Look TryLoad) 2 refl
+      → length (words xs) ≤ 2
+  try_recv_makes = receiver_makes (Try TryLoad) 2 refl
 
   pub poll_makes : (xs : List (Event T W)) → Run receiver_step receiver_row (receiver_start C.Poll) xs reply
-      → count_by operates (words xs) ≤ 4
+      → length (words xs) ≤ 4
   poll_makes = receiver_makes (Future PollLoad) 4 refl
 
   pub async_try_recv_makes : (xs : List (Event T W))
-      → Run receiver_step receiver_row (receiver_start C.AsyncTryRecv) xs reply → count_by operates (words xs) ≤ 2
+      → Run receiver_step receiver_row (receiver_start C.AsyncTryRecv) xs reply → length (words xs) ≤ 2
   async_try_recv_makes = receiver_makes (Future AsyncTryLoad) 2 refl
 
   module _ {given got : List T} {before after : Log T W} where
     -- and so the ground that ran it
-    ran_few : {P : Type 0} {step : P → Step} {row : P → Seen → Option (Outcome P)} {from : P} {counts : Noted → Bool}
-        {limit : ℕ} → ((xs : List (Event T W)) → Run step row from xs reply → count_by counts (words xs) ≤ limit)
-        → Ran step row from before after reply given got → MakesAtMost limit counts before after
+    ran_few : {P : Type 0} {step : P → Step} {row : P → Seen → Option (Outcome P)} {from : P}
+        {limit : ℕ} → ((xs : List (Event T W)) → Run step row from xs reply → length (words xs) ≤ limit)
+        → Ran step row from before after reply given got → MakesWithin (Some limit) before after
     ran_few makes ran =
         record { added = words ran.run; list = words_after ran.run ran.grows; few = makes ran.run ran.is_run }
 
-    pub send_few : SenderRan S.Send before after reply given got → MakesAtMost 2 operates before after
+    pub send_few : SenderRan S.Send before after reply given got → MakesWithin (sender_bound S.Send) before after
     send_few ran = ran_few (sender_makes SendWrite 2 refl) ran
 
-    pub drop_few : SenderRan S.Drop before after reply given got → MakesAtMost 2 operates before after
+    pub drop_few : SenderRan S.Drop before after reply given got → MakesWithin (sender_bound S.Drop) before after
     drop_few ran = ran_few (sender_makes DropXor 2 refl) ran
 
-    pub try_recv_few : ReceiverRan C.TryRecv before after reply given got → MakesAtMost 2 operates before after
+    pub try_recv_few : ReceiverRan C.TryRecv before after reply given got → MakesWithin (receiver_bound C.TryRecv) before after
     try_recv_few ran = ran_few try_recv_makes ran
 
     pub async_try_recv_few : ReceiverRan C.AsyncTryRecv before after reply given got
-        → MakesAtMost 2 operates before after
+        → MakesWithin (receiver_bound C.AsyncTryRecv) before after
     async_try_recv_few ran = ran_few async_try_recv_makes ran
 
-    pub poll_few : ReceiverRan C.Poll before after reply given got → MakesAtMost 4 operates before after
+    pub poll_few : ReceiverRan C.Poll before after reply given got → MakesWithin (receiver_bound C.Poll) before after
     poll_few ran = ran_few poll_makes ran
 
-    pub drop_async_few : ReceiverRan C.DropAsync before after reply given got → MakesAtMost 3 operates before after
+    pub drop_async_few : ReceiverRan C.DropAsync before after reply given got → MakesWithin (receiver_bound C.DropAsync) before after
     drop_async_few ran = ran_few (receiver_makes (AsyncDrop AsyncLoad) 3 refl) ran

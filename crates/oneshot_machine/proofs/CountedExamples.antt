@@ -1,6 +1,5 @@
 -- The examples of counts, computed.
-use Rattle.std.proofs.Common.{ℕ, ◌≤◌, Bool, List, [], ◌∷◌, refl, sym, arith, subst}
-use Rattle.std.specs.Prelude.{count_by}
+use Rattle.std.proofs.Common.{ℕ, ◌≤◌, List, [], ◌∷◌, length, refl, sym, arith, subst}
 use Rattle.oneshot_machine.specs.Noted.{Noted}
 use Rattle.oneshot_machine.specs.Counts.{GrewAtMost}
 use Rattle.oneshot_machine.specs.CountExamples.{CountsThatAre, CountsThatAreNot}
@@ -15,9 +14,8 @@ counts_that_are =
     }
 
 -- all that a list has that was empty was added
-all_added : {limit : ℕ} {counts : Noted → Bool} {xs : List Noted} → GrewAtMost limit counts [] xs
-    → count_by counts xs ≤ limit
-all_added {limit} {counts} grew = subst (λ xs. count_by counts xs ≤ limit) (sym grew.list) grew.few
+all_added : {limit : ℕ} {xs : List Noted} → GrewAtMost limit [] xs → length xs ≤ limit
+all_added {limit} grew = subst (λ xs. length xs ≤ limit) (sym grew.list) grew.few
 
 pub counts_that_are_not : CountsThatAreNot
 counts_that_are_not =

@@ -1,8 +1,8 @@
 -- What the definitions allow is what the tables make: where an end may stand at each phase, and the law,
 -- computed for each.
 use Rattle.std.proofs.Common.{List, [], ◌∷◌, ◌++◌, refl}
-use Rattle.oneshot_machine.specs.declared.machine.receiver.ReceiverPos.TheVariants.{Look, Ref, Timed, Value, Future, AsyncDrop, Drop}
-use Rattle.oneshot_machine.specs.declared.machine.look.LookPos.TheVariants.{TryLoad, Close, CloseOnly}
+use Rattle.oneshot_machine.specs.declared.machine.receiver.ReceiverPos.TheVariants.{Try, Ref, Timed, Value, Future, AsyncDrop, Drop}
+use Rattle.oneshot_machine.specs.declared.machine.try_recv.TryPos.TheVariants.{TryLoad, Close, CloseOnly}
 use Rattle.oneshot_machine.specs.declared.machine.by_ref.RefPos.TheVariants.{StartLoad, StartSwap, ParkLoad}
 use Rattle.oneshot_machine.specs.declared.machine.timed.TimedPos.TheVariants.{TimedLoad, EndSwap, LateLoad}
 use Rattle.oneshot_machine.specs.declared.machine.value.ValuePos.TheVariants.{RecvLoad, RecvSwap, RecvParkLoad}
@@ -29,7 +29,7 @@ sender_stands no_sender = []
 
 -- where a receiver may between its calls, and a future
 abbrev calls : List Standpoint
-calls = plainly (Look TryLoad) ∷ plainly (Ref (StartLoad false)) ∷ plainly (Ref (StartLoad true))
+calls = plainly (Try TryLoad) ∷ plainly (Ref (StartLoad false)) ∷ plainly (Ref (StartLoad true))
     ∷ plainly (Value RecvLoad) ∷ plainly (Drop DropSwap) ∷ []
 
 abbrev polls : List Standpoint
@@ -60,12 +60,12 @@ receiver_stands claimed = (as_future (AsyncDrop AsyncSwap) ∷ polls) ∷ []
 receiver_stands withdrew = (as_future (Future F.PollExchange) ∷ as_future (AsyncDrop AsyncSwap) ∷ []) ∷ []
 receiver_stands overdue = (plainly (Timed LateLoad) ∷ []) ∷ []
 receiver_stands (full at_once) =
-    (plainly (Look Close) ∷ as_future (Look Close) ∷ as_future (AsyncDrop AsyncSwap) ∷ []) ∷ []
-receiver_stands (full waited) = (plainly (Look Close) ∷ []) ∷ []
-receiver_stands (full (swapped by)) = (plainly (Look Close) ∷ []) ∷ []
-receiver_stands (full by_future) = (as_future (Look Close) ∷ as_future (AsyncDrop AsyncSwap) ∷ []) ∷ []
-receiver_stands (full by_poll) = (as_future (Look Close) ∷ []) ∷ []
-receiver_stands (unclosed by) = (plainly (Look CloseOnly) ∷ []) ∷ []
+    (plainly (Try Close) ∷ as_future (Try Close) ∷ as_future (AsyncDrop AsyncSwap) ∷ []) ∷ []
+receiver_stands (full waited) = (plainly (Try Close) ∷ []) ∷ []
+receiver_stands (full (swapped by)) = (plainly (Try Close) ∷ []) ∷ []
+receiver_stands (full by_future) = (as_future (Try Close) ∷ as_future (AsyncDrop AsyncSwap) ∷ []) ∷ []
+receiver_stands (full by_poll) = (as_future (Try Close) ∷ []) ∷ []
+receiver_stands (unclosed by) = (plainly (Try CloseOnly) ∷ []) ∷ []
 receiver_stands (disconnected closing) =
     (calls ++ polls)
     ∷ (as_future (AsyncDrop AsyncSwap) ∷ calls ++ polls)

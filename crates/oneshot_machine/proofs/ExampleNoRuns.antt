@@ -3,8 +3,8 @@ use Rattle.std.proofs.Common.{◌≡◌, ℕ, List, [], ◌∷◌, ◌++◌, Opt
 use Rattle.oneshot_machine.specs.declared.machine.Reply.{Reply}
 use Rattle.oneshot_machine.specs.declared.machine.Seen.{Seen}
 use Rattle.oneshot_machine.specs.declared.machine.Step.{Step}
-use Rattle.oneshot_machine.specs.declared.machine.receiver.ReceiverPos.TheVariants.{Look, Ref, Timed, Drop}
-use Rattle.oneshot_machine.specs.declared.machine.look.LookPos.TheVariants.{Close}
+use Rattle.oneshot_machine.specs.declared.machine.receiver.ReceiverPos.TheVariants.{Try, Ref, Timed, Drop}
+use Rattle.oneshot_machine.specs.declared.machine.try_recv.TryPos.TheVariants.{Close}
 use Rattle.oneshot_machine.specs.declared.machine.by_ref.RefPos.TheVariants.{StartLoad, StartWrite, StartSwap, Park, ParkLoad}
 use Rattle.oneshot_machine.specs.declared.machine.timed.TimedPos.TheVariants.{Clock, TimedPark, TimedLoad, EndSwap}
 use Rattle.oneshot_machine.specs.declared.machine.drop.DropPos.TheVariants.{DropMessage}
@@ -62,7 +62,7 @@ runs_that_are_not =
       stops_halfway = λ r run. let e = answers run in cc;
       does_not_free = λ r run. let e = answers run in cc;
       frees_unasked = λ r run. let e = (does_go_on run).1 in cc;
-      takes_and_leaves_4 = λ r run. let e = begins (goes_on (Look Close) refl run) in cc;
+      takes_and_leaves_4 = λ r run. let e = begins (goes_on (Try Close) refl run) in cc;
       says_that_all_are_gone = λ run. let e = answers run in cc;
       wakes_before_its_swap =
           λ r run. let e =

@@ -1,7 +1,7 @@
 -- The examples, computed.
 use Rattle.std.proofs.Common.{true, false, refl}
-use Rattle.oneshot_machine.specs.declared.machine.receiver.ReceiverPos.TheVariants.{Look, Ref, Timed, Value, Drop}
-use Rattle.oneshot_machine.specs.declared.machine.look.LookPos.TheVariants.{Close, Take, CloseOnly}
+use Rattle.oneshot_machine.specs.declared.machine.receiver.ReceiverPos.TheVariants.{Try, Ref, Timed, Value, Drop}
+use Rattle.oneshot_machine.specs.declared.machine.try_recv.TryPos.TheVariants.{Close, Take, CloseOnly}
 use Rattle.oneshot_machine.specs.declared.machine.by_ref.RefPos.TheVariants.{StartLoad, StartWrite, StartSwap, BackFull, BackClosed, Park, ParkLoad}
 use Rattle.oneshot_machine.specs.declared.machine.timed.TimedPos.TheVariants.{Clock, TimedPark, TimedLoad, EndSwap, EndBack, LatePark, LateLoad}
 use Rattle.oneshot_machine.specs.declared.machine.value.ValuePos.TheVariants.{RecvWrite, RecvSwap, RecvBackClosed, RecvPark, RecvParkLoad, RecvTake, RecvFreeGot, RecvFreeGone}
@@ -100,7 +100,7 @@ runs_that_are =
       gives_it_back = more IntoFree _ _ refl refl (last _ refl refl);
       drops_the_error = more ErrorFree _ _ refl refl (last _ refl refl);
       drops_the_sender = more SP.DropFree _ _ refl refl (last _ refl refl);
-      receives = more (Look Close) _ _ refl refl (more (Look Take) _ _ refl refl (last _ refl refl));
+      receives = more (Try Close) _ _ refl refl (more (Try Take) _ _ refl refl (last _ refl refl));
       finds_nothing = last _ refl refl;
       finds_no_sender = last _ refl refl;
       waits_for_it =
@@ -110,21 +110,21 @@ runs_that_are =
           (more (Ref ParkLoad) _ _ refl refl
           (more (Ref Park) _ _ refl refl
           (more (Ref ParkLoad) _ _ refl refl
-          (more (Look Close) _ _ refl refl
-          (more (Look Take) _ _ refl refl
+          (more (Try Close) _ _ refl refl
+          (more (Try Take) _ _ refl refl
           (last _ refl refl))))))));
       need_not_wait =
           more (Ref (StartWrite false)) _ _ refl refl
           (more (Ref (StartSwap false)) _ _ refl refl
           (more (Ref BackFull) _ _ refl refl
-          (more (Look Close) _ _ refl refl
-          (more (Look Take) _ _ refl refl
+          (more (Try Close) _ _ refl refl
+          (more (Try Take) _ _ refl refl
           (last _ refl refl)))));
       waits_for_nobody =
           more (Ref (StartWrite false)) _ _ refl refl
           (more (Ref (StartSwap false)) _ _ refl refl
           (more (Ref BackClosed) _ _ refl refl
-          (more (Look CloseOnly) _ _ refl refl
+          (more (Try CloseOnly) _ _ refl refl
           (last _ refl refl))));
       runs_out =
           more (Ref (StartWrite true)) _ _ refl refl
@@ -155,8 +155,8 @@ runs_that_are =
           (more (Timed TimedLoad) _ _ refl refl
           (more (Timed Clock) _ _ refl refl
           (more (Timed EndSwap) _ _ refl refl
-          (more (Look Close) _ _ refl refl
-          (more (Look Take) _ _ refl refl
+          (more (Try Close) _ _ refl refl
+          (more (Try Take) _ _ refl refl
           (last _ refl refl)))))))));
       runs_out_over_a_drop =
           more (Ref (StartWrite true)) _ _ refl refl
@@ -166,7 +166,7 @@ runs_that_are =
           (more (Timed TimedLoad) _ _ refl refl
           (more (Timed Clock) _ _ refl refl
           (more (Timed EndSwap) _ _ refl refl
-          (more (Look CloseOnly) _ _ refl refl
+          (more (Try CloseOnly) _ _ refl refl
           (last _ refl refl))))))));
       waits_for_the_sender =
           more (Ref (StartWrite true)) _ _ refl refl

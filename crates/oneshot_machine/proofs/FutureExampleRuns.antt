@@ -1,7 +1,7 @@
 -- The examples of a future, computed.
 use Rattle.std.proofs.Common.{refl}
-use Rattle.oneshot_machine.specs.declared.machine.receiver.ReceiverPos.TheVariants.{Look, Future, AsyncDrop, Drop}
-use Rattle.oneshot_machine.specs.declared.machine.look.LookPos.TheVariants.{Close, Take}
+use Rattle.oneshot_machine.specs.declared.machine.receiver.ReceiverPos.TheVariants.{Try, Future, AsyncDrop, Drop}
+use Rattle.oneshot_machine.specs.declared.machine.try_recv.TryPos.TheVariants.{Close, Take}
 use Rattle.oneshot_machine.specs.declared.machine.future.FuturePos.TheVariants.{PollCopy, PollWrite, PollExchange, PollBackFull, PollBackClosed, AgainCopy, AgainExchange, AgainBack, PollOwn}
 use Rattle.oneshot_machine.specs.declared.machine.async_drop.AsyncDropPos.TheVariants.{AsyncExchange, AsyncBack, AsyncSwap}
 use Rattle.oneshot_machine.specs.declared.machine.drop.DropPos.TheVariants.{DropFree}
@@ -54,8 +54,8 @@ future_runs =
           (more (Future PollWrite) _ _ refl refl
           (more (Future PollExchange) _ _ refl refl
           (more (Future PollBackFull) _ _ refl refl
-          (more (Look Close) _ _ refl refl
-          (more (Look Take) _ _ refl refl
+          (more (Try Close) _ _ refl refl
+          (more (Try Take) _ _ refl refl
           (last _ refl refl))))));
       finds_no_sender_by_its_exchange =
           more (Future PollCopy) _ _ refl refl
@@ -78,7 +78,7 @@ future_runs =
       polls_while_the_sender_finishes = more (Future PollOwn) _ _ refl refl (last _ refl refl);
       tries_in_vain = last _ refl refl;
       tries_while_the_sender_finishes = last _ refl refl;
-      receives_by_a_try = more (Look Close) _ _ refl refl (more (Look Take) _ _ refl refl (last _ refl refl));
+      receives_by_a_try = more (Try Close) _ _ refl refl (more (Try Take) _ _ refl refl (last _ refl refl));
       drops_its_copy =
           more (AsyncDrop AsyncExchange) _ _ refl refl
           (more (AsyncDrop AsyncBack) _ _ refl refl

@@ -9,12 +9,23 @@ use Rattle.oneshot_machine.specs.declared.machine.Seen.{Seen}
 use Rattle.oneshot_machine.specs.declared.states.Op.{Op}
 use Rattle.oneshot_machine.specs.Noted.{Noted, saw, op_of}
 use Rattle.oneshot_machine.specs.Phases.{fresh, sender_next, sender_at, first, receiver_next, receiver_at, phase_from}
+use Rattle.oneshot_machine.specs.Standing.{Table, moved, standing_from, standing}
 use Rattle.oneshot_machine.specs.Logs.{Event, worded, noted, words, kept, Log, Grows, sender_of, receiver_of}
 
 pub phase_from-snoc : {At : Type 0} (next : At → Op → Seen → At) (at : At) (xs : List Noted) (x : Noted)
     → phase_from next at (xs ++ x ∷ []) ≡ next (phase_from next at xs) x.0 x.1
 phase_from-snoc next at [] x = refl
 phase_from-snoc next at (y ∷ xs) x = phase_from-snoc next (next at y.0 y.1) xs x
+
+-- where an end stands after one operation more
+standing_from-snoc : {P : Type 0} (t : Table P) (ps : List P) (xs : List Noted) (x : Noted)
+    → standing_from t ps (xs ++ x ∷ []) ≡ moved t (standing_from t ps xs) x
+standing_from-snoc t ps [] x = refl
+standing_from-snoc t ps (y ∷ xs) x = standing_from-snoc t (moved t ps y) xs x
+
+pub standing-snoc : {P : Type 0} (t : Table P) (xs : List Noted) (x : Noted)
+    → standing t (xs ++ x ∷ []) ≡ moved t (standing t xs) x
+standing-snoc t xs x = standing_from-snoc t (standing t []) xs x
 
 module _ {T W : Type 0} where
   pub kept-append : (whole : Bool) (xs ys : List (Event T W)) → kept whole (xs ++ ys) ≡ kept whole xs ++ kept whole ys

@@ -1,10 +1,10 @@
 -- The table of the receives by reference.
 use Rattle.std.specs.Prelude.{ℕ, true, false, List, [], ◌∷◌}
 use Rattle.oneshot_machine.specs.declared.machine.receiver.ReceiverPos.{ReceiverPos}
-use Rattle.oneshot_machine.specs.declared.machine.receiver.ReceiverPos.TheVariants.{Look, Ref, Timed}
+use Rattle.oneshot_machine.specs.declared.machine.receiver.ReceiverPos.TheVariants.{Try, Ref, Timed}
 use Rattle.oneshot_machine.specs.declared.machine.by_ref.RefPos.{RefPos}
 use Rattle.oneshot_machine.specs.declared.machine.by_ref.RefPos.TheVariants.{StartLoad, StartWrite, StartSwap, BackFull, BackClosed, Park, ParkLoad}
-use Rattle.oneshot_machine.specs.declared.machine.look.LookPos.TheVariants.{Close, CloseOnly}
+use Rattle.oneshot_machine.specs.declared.machine.try_recv.TryPos.TheVariants.{Close, CloseOnly}
 use Rattle.oneshot_machine.specs.declared.machine.timed.TimedPos.TheVariants.{Clock}
 use Rattle.oneshot_machine.specs.declared.machine.Reply.TheVariants as R
 use Rattle.oneshot_machine.specs.declared.machine.Seen.TheVariants.{Done, Word, Token}
@@ -24,17 +24,17 @@ ref_step ParkLoad = T.Word O.Load
 
 abbrev pub ref_rows : RefPos → Rows ReceiverPos
 ref_rows (StartLoad timed) =
-    (Word 4, Goes (Look Close)) ∷ (Word 2, Answers R.Disconnected) ∷ (Word 3, Goes (Ref (StartWrite timed))) ∷ []
+    (Word 4, Goes (Try Close)) ∷ (Word 2, Answers R.Disconnected) ∷ (Word 3, Goes (Ref (StartWrite timed))) ∷ []
 ref_rows (StartWrite timed) = (Done, Goes (Ref (StartSwap timed))) ∷ []
 ref_rows (StartSwap false) =
     (Word 3, Goes (Ref Park)) ∷ (Word 4, Goes (Ref BackFull)) ∷ (Word 2, Goes (Ref BackClosed)) ∷ []
 ref_rows (StartSwap true) =
     (Word 3, Goes (Timed Clock)) ∷ (Word 4, Goes (Ref BackFull)) ∷ (Word 2, Goes (Ref BackClosed)) ∷ []
-ref_rows BackFull = (Done, Goes (Look Close)) ∷ []
-ref_rows BackClosed = (Done, Goes (Look CloseOnly)) ∷ []
+ref_rows BackFull = (Done, Goes (Try Close)) ∷ []
+ref_rows BackClosed = (Done, Goes (Try CloseOnly)) ∷ []
 ref_rows Park = (Token true, Goes (Ref ParkLoad)) ∷ (Token false, Goes (Ref ParkLoad)) ∷ []
 ref_rows ParkLoad =
-    (Word 4, Goes (Look Close)) ∷ (Word 2, Answers R.Disconnected) ∷ (Word 0, Goes (Ref Park))
+    (Word 4, Goes (Try Close)) ∷ (Word 2, Answers R.Disconnected) ∷ (Word 0, Goes (Ref Park))
     ∷ (Word 1, Goes (Ref Park)) ∷ []
 
 -- the positions, and the number of each in their list

@@ -1,18 +1,36 @@
--- How many operations on the word a call makes.
-use Rattle.std.specs.Prelude.{◌≡◌, ℕ, ◌≤◌, Bool, true, List, ◌++◌, count_by}
+-- The most operations on the word that a call makes.
+use Rattle.std.specs.Prelude.{◌≡◌, ℕ, ⊤, ◌≤◌, List, ◌++◌, length, Option, Some, None}
+use Rattle.oneshot_machine.specs.declared.machine.receiver.ReceiverStart.{ReceiverStart}
+use Rattle.oneshot_machine.specs.declared.machine.receiver.ReceiverStart.TheVariants as RS
+use Rattle.oneshot_machine.specs.declared.machine.sender.SenderCall.{SenderCall}
+use Rattle.oneshot_machine.specs.declared.machine.sender.SenderCall.TheVariants as SC
 use Rattle.oneshot_machine.specs.Noted.{Noted}
 use Rattle.oneshot_machine.specs.Logs.{Log, words}
 
--- each operation counts
-abbrev pub operates : Noted → Bool
-operates x = true
+-- the bound of each call that has one
+abbrev pub sender_bound : SenderCall → Option ℕ
+sender_bound SC.Send = Some 2
+sender_bound SC.Drop = Some 2
+sender_bound _ = None
 
--- A log of operations grew, and of those that were added at most so many count.
-pub record GrewAtMost (limit : ℕ) (counts : Noted → Bool) (before after : List Noted) : Type 0 where
+abbrev pub receiver_bound : ReceiverStart → Option ℕ
+receiver_bound RS.TryRecv = Some 2
+receiver_bound RS.AsyncTryRecv = Some 2
+receiver_bound RS.Poll = Some 4
+receiver_bound RS.DropAsync = Some 3
+receiver_bound _ = None
+
+-- A log of operations grew by so many at most.
+pub record GrewAtMost (limit : ℕ) (before after : List Noted) : Type 0 where
   pub added : List Noted
   pub list : after ≡ before ++ added
-  pub few : count_by counts added ≤ limit
+  pub few : length added ≤ limit
 
--- Between the two logs a ground made at most so many operations on the word that count.
-abbrev pub MakesAtMost : {T W : Type 0} → ℕ → (Noted → Bool) → Log T W → Log T W → Type 0
-MakesAtMost limit counts before after = GrewAtMost limit counts (words before.list) (words after.list)
+-- It grew within this bound, if it is one.
+abbrev pub GrewWithin : Option ℕ → List Noted → List Noted → Type 0
+GrewWithin None before after = ⊤
+GrewWithin (Some limit) before after = GrewAtMost limit before after
+
+-- Between the two logs a ground's operations on the word grew within this bound.
+abbrev pub MakesWithin : {T W : Type 0} → Option ℕ → Log T W → Log T W → Type 0
+MakesWithin bound before after = GrewWithin bound (words before.list) (words after.list)

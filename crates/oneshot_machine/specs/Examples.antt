@@ -6,8 +6,8 @@ use Rattle.oneshot_machine.specs.declared.machine.Reply.TheVariants as R
 use Rattle.oneshot_machine.specs.declared.machine.Seen.TheVariants.{Done, Word}
 use Rattle.oneshot_machine.specs.declared.machine.Step.TheVariants.{DropMessage, WriteWaker, TakeWaker, Withdraw, Wake, Free}
 use Rattle.oneshot_machine.specs.declared.machine.receiver.ReceiverPos.{ReceiverPos}
-use Rattle.oneshot_machine.specs.declared.machine.receiver.ReceiverPos.TheVariants.{Look, Ref, Timed, Value, Drop}
-use Rattle.oneshot_machine.specs.declared.machine.look.LookPos.TheVariants.{TryLoad}
+use Rattle.oneshot_machine.specs.declared.machine.receiver.ReceiverPos.TheVariants.{Try, Ref, Timed, Value, Drop}
+use Rattle.oneshot_machine.specs.declared.machine.try_recv.TryPos.TheVariants.{TryLoad}
 use Rattle.oneshot_machine.specs.declared.machine.by_ref.RefPos.TheVariants.{StartLoad}
 use Rattle.oneshot_machine.specs.declared.machine.timed.TimedPos.TheVariants.{SumClock}
 use Rattle.oneshot_machine.specs.declared.machine.value.ValuePos.TheVariants.{RecvLoad}
@@ -149,9 +149,9 @@ pub record RunsThatAre : Type 0 where
   pub gives_it_back : SenderRun IntoTake (took 7 ∷ did Free ∷ []) Message
   pub drops_the_error : SenderRun ErrorDrop (did DropMessage ∷ did Free ∷ []) R.Done
   pub drops_the_sender : SenderRun DropXor (worded Xor 2 ∷ did Free ∷ []) R.Done
-  pub receives : ReceiverRun (Look TryLoad) receiving_7 Message
-  pub finds_nothing : ReceiverRun (Look TryLoad) (worded Load 3 ∷ []) Empty
-  pub finds_no_sender : ReceiverRun (Look TryLoad) (worded Load 2 ∷ []) Disconnected
+  pub receives : ReceiverRun (Try TryLoad) receiving_7 Message
+  pub finds_nothing : ReceiverRun (Try TryLoad) (worded Load 3 ∷ []) Empty
+  pub finds_no_sender : ReceiverRun (Try TryLoad) (worded Load 2 ∷ []) Disconnected
   pub waits_for_it :
       ReceiverRun (Ref (StartLoad false)) (waiting ++ worded (Store 2) 4 ∷ took 7 ∷ []) Message
   pub need_not_wait :
@@ -192,8 +192,8 @@ pub record RunsThatAreNot : Type 0 where
   pub stops_halfway : (r : Reply) → SenderRun SendWrite (wrote 7 ∷ []) r → ⊥
   pub does_not_free : (r : Reply) → SenderRun DropXor (worded Xor 2 ∷ []) r → ⊥
   pub frees_unasked : (r : Reply) → SenderRun DropXor (worded Xor 3 ∷ did Free ∷ []) r → ⊥
-  pub takes_and_leaves_4 : (r : Reply) → ReceiverRun (Look TryLoad) (worded Load 4 ∷ took 7 ∷ []) r → ⊥
-  pub says_that_all_are_gone : ReceiverRun (Look TryLoad) (worded Load 3 ∷ []) Disconnected → ⊥
+  pub takes_and_leaves_4 : (r : Reply) → ReceiverRun (Try TryLoad) (worded Load 4 ∷ took 7 ∷ []) r → ⊥
+  pub says_that_all_are_gone : ReceiverRun (Try TryLoad) (worded Load 3 ∷ []) Disconnected → ⊥
   pub wakes_before_its_swap :
       (r : Reply) → SenderRun SendWrite (wrote 7 ∷ worded Add 0 ∷ handed TakeWaker 1 ∷ handed Wake 1 ∷ []) r → ⊥
   pub answers_unwoken : (r : Reply) → ReceiverRun (Ref (StartLoad false)) waiting r → ⊥

@@ -1,10 +1,10 @@
 -- The table of the receiver as a future.
 use Rattle.std.specs.Prelude.{ℕ, true, false, List, [], ◌∷◌}
 use Rattle.oneshot_machine.specs.declared.machine.receiver.ReceiverPos.{ReceiverPos}
-use Rattle.oneshot_machine.specs.declared.machine.receiver.ReceiverPos.TheVariants.{Look, Future}
+use Rattle.oneshot_machine.specs.declared.machine.receiver.ReceiverPos.TheVariants.{Try, Future}
 use Rattle.oneshot_machine.specs.declared.machine.future.FuturePos.{FuturePos}
 use Rattle.oneshot_machine.specs.declared.machine.future.FuturePos.TheVariants.{IntoFuture, PollLoad, PollCopy, PollWrite, PollExchange, PollBackFull, PollBackClosed, AgainCopy, AgainExchange, AgainBack, PollOwn, AsyncTryLoad}
-use Rattle.oneshot_machine.specs.declared.machine.look.LookPos.TheVariants.{Close}
+use Rattle.oneshot_machine.specs.declared.machine.try_recv.TryPos.TheVariants.{Close}
 use Rattle.oneshot_machine.specs.declared.machine.Reply.TheVariants as R
 use Rattle.oneshot_machine.specs.declared.machine.Seen.TheVariants.{Done, Word, Refused}
 use Rattle.oneshot_machine.specs.declared.machine.Step.{Step}
@@ -29,24 +29,24 @@ future_step AsyncTryLoad = T.Word O.Load
 abbrev pub future_rows : FuturePos → Rows ReceiverPos
 future_rows IntoFuture = (Done, Answers R.Future) ∷ []
 future_rows PollLoad =
-    (Word 3, Goes (Future PollCopy)) ∷ (Word 0, Goes (Future AgainCopy)) ∷ (Word 4, Goes (Look Close))
+    (Word 3, Goes (Future PollCopy)) ∷ (Word 0, Goes (Future AgainCopy)) ∷ (Word 4, Goes (Try Close))
     ∷ (Word 2, Answers R.Disconnected) ∷ (Word 1, Goes (Future PollOwn)) ∷ []
 future_rows PollCopy =
     (Refused false, Goes (Future PollWrite)) ∷ (Refused true, Goes (Future PollOwn)) ∷ []
 future_rows PollWrite = (Done, Goes (Future PollExchange)) ∷ []
 future_rows PollExchange =
     (Word 3, Answers R.Pending) ∷ (Word 4, Goes (Future PollBackFull)) ∷ (Word 2, Goes (Future PollBackClosed)) ∷ []
-future_rows PollBackFull = (Done, Goes (Look Close)) ∷ []
+future_rows PollBackFull = (Done, Goes (Try Close)) ∷ []
 future_rows PollBackClosed = (Done, Answers R.Disconnected) ∷ []
 future_rows AgainCopy =
     (Refused false, Goes (Future AgainExchange)) ∷ (Refused true, Goes (Future PollOwn)) ∷ []
 future_rows AgainExchange =
-    (Word 0, Goes (Future AgainBack)) ∷ (Word 4, Goes (Look Close)) ∷ (Word 2, Answers R.Disconnected)
+    (Word 0, Goes (Future AgainBack)) ∷ (Word 4, Goes (Try Close)) ∷ (Word 2, Answers R.Disconnected)
     ∷ (Word 1, Goes (Future PollOwn)) ∷ []
 future_rows AgainBack = (Done, Goes (Future PollWrite)) ∷ []
 future_rows PollOwn = (Done, Answers R.Pending) ∷ []
 future_rows AsyncTryLoad =
-    (Word 4, Goes (Look Close)) ∷ (Word 2, Answers R.Disconnected) ∷ (Word 3, Answers R.Empty)
+    (Word 4, Goes (Try Close)) ∷ (Word 2, Answers R.Disconnected) ∷ (Word 3, Answers R.Empty)
     ∷ (Word 0, Answers R.Empty) ∷ (Word 1, Answers R.Empty) ∷ []
 
 -- the positions, and the number of each in their list

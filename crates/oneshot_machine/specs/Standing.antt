@@ -10,7 +10,7 @@ use Rattle.oneshot_machine.specs.declared.machine.Seen.TheVariants.{Done, Over, 
 use Rattle.oneshot_machine.specs.declared.machine.Step.{Step}
 use Rattle.oneshot_machine.specs.declared.machine.receiver.ReceiverPos.{ReceiverPos}
 use Rattle.oneshot_machine.specs.declared.machine.receiver.ReceiverPos.TheVariants as RP
-use Rattle.oneshot_machine.specs.declared.machine.look.LookPos.TheVariants.{TryLoad, Take, CloseOnly}
+use Rattle.oneshot_machine.specs.declared.machine.try_recv.TryPos.TheVariants.{TryLoad, Take, CloseOnly}
 use Rattle.oneshot_machine.specs.declared.machine.by_ref.RefPos.TheVariants.{StartLoad, ParkLoad}
 use Rattle.oneshot_machine.specs.declared.machine.timed.TimedPos.TheVariants.{TimedLoad, EndBack, LateLoad}
 use Rattle.oneshot_machine.specs.declared.machine.future.FuturePos.TheVariants.{IntoFuture}
@@ -119,9 +119,9 @@ standpoint_number (as_future p) = receiver_count + receiver_number p
 
 -- after `recv` and a drop no call, after `into_future` those of a future, after any other each
 abbrev pub receiver_follows : ReceiverPos → Reply → List Standpoint
-receiver_follows (RP.Look TryLoad) reply = map plainly receiver_opens
-receiver_follows (RP.Look Take) reply = map plainly receiver_opens
-receiver_follows (RP.Look CloseOnly) reply = map plainly receiver_opens
+receiver_follows (RP.Try TryLoad) reply = map plainly receiver_opens
+receiver_follows (RP.Try Take) reply = map plainly receiver_opens
+receiver_follows (RP.Try CloseOnly) reply = map plainly receiver_opens
 receiver_follows (RP.Ref (StartLoad timed)) reply = map plainly receiver_opens
 receiver_follows (RP.Ref ParkLoad) reply = map plainly receiver_opens
 receiver_follows (RP.Timed TimedLoad) reply = map plainly receiver_opens

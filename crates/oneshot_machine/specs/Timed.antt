@@ -1,10 +1,10 @@
 -- The table of the receives with a deadline.
 use Rattle.std.specs.Prelude.{ℕ, true, false, List, [], ◌∷◌}
 use Rattle.oneshot_machine.specs.declared.machine.receiver.ReceiverPos.{ReceiverPos}
-use Rattle.oneshot_machine.specs.declared.machine.receiver.ReceiverPos.TheVariants.{Look, Ref, Timed}
+use Rattle.oneshot_machine.specs.declared.machine.receiver.ReceiverPos.TheVariants.{Try, Ref, Timed}
 use Rattle.oneshot_machine.specs.declared.machine.timed.TimedPos.{TimedPos}
 use Rattle.oneshot_machine.specs.declared.machine.timed.TimedPos.TheVariants.{SumClock, Clock, TimedPark, TimedLoad, EndSwap, EndBack, LatePark, LateLoad}
-use Rattle.oneshot_machine.specs.declared.machine.look.LookPos.TheVariants.{Close, CloseOnly}
+use Rattle.oneshot_machine.specs.declared.machine.try_recv.TryPos.TheVariants.{Close, CloseOnly}
 use Rattle.oneshot_machine.specs.declared.machine.by_ref.RefPos.TheVariants.{StartLoad}
 use Rattle.oneshot_machine.specs.declared.machine.Reply.TheVariants as R
 use Rattle.oneshot_machine.specs.declared.machine.Seen.TheVariants.{Done, Word, Over, Token}
@@ -30,16 +30,16 @@ timed_rows Clock = (Over false, Goes (Timed TimedPark)) ∷ (Over true, Goes (Ti
 timed_rows TimedPark =
     (Token true, Goes (Timed TimedLoad)) ∷ (Token false, Goes (Timed TimedLoad)) ∷ []
 timed_rows TimedLoad =
-    (Word 4, Goes (Look Close)) ∷ (Word 2, Answers R.Disconnected) ∷ (Word 0, Goes (Timed Clock))
+    (Word 4, Goes (Try Close)) ∷ (Word 2, Answers R.Disconnected) ∷ (Word 0, Goes (Timed Clock))
     ∷ (Word 1, Goes (Timed Clock)) ∷ []
 timed_rows EndSwap =
-    (Word 0, Goes (Timed EndBack)) ∷ (Word 4, Goes (Look Close)) ∷ (Word 2, Goes (Look CloseOnly))
+    (Word 0, Goes (Timed EndBack)) ∷ (Word 4, Goes (Try Close)) ∷ (Word 2, Goes (Try CloseOnly))
     ∷ (Word 1, Goes (Timed LatePark)) ∷ []
 timed_rows EndBack = (Done, Answers R.Timeout) ∷ []
 timed_rows LatePark =
     (Token true, Goes (Timed LateLoad)) ∷ (Token false, Goes (Timed LateLoad)) ∷ []
 timed_rows LateLoad =
-    (Word 4, Goes (Look Close)) ∷ (Word 2, Answers R.Disconnected) ∷ (Word 3, Goes (Timed LatePark)) ∷ []
+    (Word 4, Goes (Try Close)) ∷ (Word 2, Answers R.Disconnected) ∷ (Word 3, Goes (Timed LatePark)) ∷ []
 
 -- the positions, and the number of each in their list
 abbrev pub timed_positions : List TimedPos

@@ -8,6 +8,7 @@ mod look;
 mod receiver;
 mod sender;
 mod timed;
+mod try_recv;
 mod value;
 
 use crate::states::Op;
@@ -19,6 +20,7 @@ pub use look::LookPos;
 pub use receiver::{ReceiverPos, ReceiverStart};
 pub use sender::{SenderCall, SenderPos};
 pub use timed::TimedPos;
+pub use try_recv::TryPos;
 pub use value::ValuePos;
 
 /// An end of the channel.

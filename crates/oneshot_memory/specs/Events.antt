@@ -3,7 +3,7 @@ use Rattle.std.specs.Prelude.{Bool, true, false, List, [], map, Option, Some, No
 use Rattle.std.specs.Option.{option_map}
 use Rattle.oneshot_machine.specs.Logs as logs
 use Rattle.oneshot_machine.specs.Slots.{Held, away, vacant, held}
-use Rattle.oneshot_drive.specs.Grounds.{State}
+use Rattle.oneshot_drive.specs.Grounds.{GroundState}
 use Rattle.oneshot_memory.specs.declared.Event.{Event}
 
 -- a slot with this in it, if it is the end's
@@ -28,6 +28,6 @@ module _ {T W : Type 0} where
   logged events = record { whole = true; channel = []; list = map event_of events }
 
   -- with both slots as the end sees them
-  abbrev pub state_of : List (Event T W) → Option T → Option W → Bool → Bool → State T W
+  abbrev pub state_of : List (Event T W) → Option T → Option W → Bool → Bool → GroundState T W
   state_of events message waker owns_message owns_waker =
       record { log = logged events; message = slot_of owns_message message; waker = slot_of owns_waker waker }

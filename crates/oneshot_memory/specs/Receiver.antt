@@ -6,7 +6,7 @@ use Rattle.oneshot_machine.specs.declared.states.Op.{Op}
 use Rattle.oneshot_machine.specs.declared.states.Op.TheVariants.{Load, Store, Swap, Exchange}
 use Rattle.oneshot_machine.specs.Phases.{ReceiverAt, receiver_moves, receiver_owns, Share, none, empty, filled, Row, is_row_for}
 use Rattle.oneshot_machine.specs.Slots.{Held, away}
-use Rattle.oneshot_drive.specs.Grounds.{State}
+use Rattle.oneshot_drive.specs.Grounds.{GroundState}
 use Rattle.oneshot_memory.specs.declared.Event.{Event}
 use Rattle.oneshot_memory.specs.declared.receiver.Act.{Act}
 use Rattle.oneshot_memory.specs.declared.receiver.Act.TheVariants as A
@@ -24,7 +24,7 @@ pub record Plan (T : Type 0) : Type 0 where
 
 -- what a receiver's ground has done, with both slots as the receiver sees them, its word, and its plan
 pub record Receiving (T W : Type 0) : Type 0 where
-  pub state : State T W
+  pub state : GroundState T W
   pub word : ℕ
   pub plan : Plan T
 

@@ -2,7 +2,7 @@
 use Rattle.std.specs.Prelude.{◌≡◌, ℕ, Bool, true, false, ◌&&◌, ◌||◌, ◌==◌, if◌then◌else◌, List, [], ◌∷◌, Option, Some, None}
 use Rattle.std.specs.List.{list_any}
 use Rattle.oneshot_machine.specs.Phases.{sending, dropping, SenderAt, overtaken, sender_moves, sender_owns, Share, none, empty, filled, Row}
-use Rattle.oneshot_drive.specs.Grounds.{State}
+use Rattle.oneshot_drive.specs.Grounds.{GroundState}
 use Rattle.oneshot_memory.specs.declared.Event.{Event}
 use Rattle.oneshot_memory.specs.declared.sender.Meanwhile.{Meanwhile}
 use Rattle.oneshot_memory.specs.declared.sender.Meanwhile.TheVariants.{Waits, Stops, Leaves}
@@ -12,7 +12,7 @@ use Rattle.oneshot_memory.specs.Events.{state_of}
 -- what it has done, with both slots as the sender sees them, its word, and what a receiver that waits is to
 -- do before the sender finishes
 pub record Sending (T W : Type 0) : Type 0 where
-  pub state : State T W
+  pub state : GroundState T W
   pub word : ℕ
   pub meanwhile : Meanwhile
 

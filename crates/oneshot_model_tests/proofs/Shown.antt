@@ -6,7 +6,7 @@ use Rattle.oneshot_machine.specs.declared.states.Op.TheVariants.{Store, Swap}
 use Rattle.oneshot_machine.specs.Noted.{saw, is_same_op}
 use Rattle.oneshot_machine.specs.Phases.{Share, filled, Got, at_once, full, here, looked, waits, blocked, SenderAt, fresh, sender_next, sender_at, ReceiverAt, first, receiver_moves, receiver_next, receiver_at}
 use Rattle.oneshot_machine.specs.Slots.{Held, away, vacant, held, is_held, is_vacant, Turns, stays_vacant, stays_held, gets_thing, head, tail, may, finds, SenderMay, SenderFinds, ReceiverMay, ReceiverFinds, not_its_own, owns, SenderOwns}
-use Rattle.oneshot_machine.proofs.Exactness.{each_passes}
+use Rattle.oneshot_machine.proofs.Sameness.{each_passes}
 use Rattle.oneshot_machine.proofs.GrownLists.{phase_from-snoc}
 use Rattle.oneshot_word.specs.Side.{Side, SenderCan, SenderDid, ReceiverCan, ReceiverDid}
 
@@ -54,12 +54,12 @@ stops_only {q} asks = by (where_it_stops q) asks
 module _ {T W : Type 0} where
   -- how far the end is, and its slots
   pub record SenderIs (s : Plain T W) (p : SenderAt) (m : Held T) (w : Held W) : Type 0 where
-    pub at : sender_at s.steps ≡ p
+    pub at : sender_at s.log ≡ p
     pub message : s.message ≡ m
     pub waker : s.waker ≡ w
 
   pub record ReceiverIs (s : Plain T W) (q : ReceiverAt) (m : Held T) (w : Held W) : Type 0 where
-    pub at : receiver_at s.steps ≡ q
+    pub at : receiver_at s.log ≡ q
     pub message : s.message ≡ m
     pub waker : s.waker ≡ w
 
@@ -90,20 +90,20 @@ module _ {T W : Type 0} where
 
   -- and how far it is then
   pub sender_went : {s t : Plain T W} {p : SenderAt} {m : Held T} {w : Held W} (op : Op) (word : ℕ) {found : ℕ}
-      → SenderIs s p m w → SenderDid s op found t → found ≡ word → sender_at t.steps ≡ sender_next p op (saw op word)
+      → SenderIs s p m w → SenderDid s op found t → found ≡ word → sender_at t.log ≡ sender_next p op (saw op word)
   sender_went {s} op word {found} is did same =
-      ap sender_at did.list ∙ phase_from-snoc sender_next fresh s.steps (op, saw op found)
+      ap sender_at did.list ∙ phase_from-snoc sender_next fresh s.log (op, saw op found)
       ∙ (λ i. sender_next (is.at i) op (saw op (same i)))
 
   pub receiver_went : {s t : Plain T W} {q : ReceiverAt} {m : Held T} {w : Held W} (op : Op) (word : ℕ) {found : ℕ}
       → ReceiverIs s q m w → ReceiverDid s op found t → found ≡ word
-      → receiver_at t.steps ≡ receiver_next q op (saw op word)
+      → receiver_at t.log ≡ receiver_next q op (saw op word)
   receiver_went {s} op word {found} is did same =
-      ap receiver_at did.list ∙ phase_from-snoc receiver_next first s.steps (op, saw op found)
+      ap receiver_at did.list ∙ phase_from-snoc receiver_next first s.log (op, saw op found)
       ∙ (λ i. receiver_next (is.at i) op (saw op (same i)))
 
   -- where it is, as it stands
-  pub receiver_is : {q : ReceiverAt} (s : Plain T W) → receiver_at s.steps ≡ q → ReceiverIs s q s.message s.waker
+  pub receiver_is : {q : ReceiverAt} (s : Plain T W) → receiver_at s.log ≡ q → ReceiverIs s q s.message s.waker
   receiver_is s at = record { at = at; message = refl; waker = refl }
 
   -- and with something else in the waker's slot
@@ -111,7 +111,7 @@ module _ {T W : Type 0} where
       → t ≡ record s { waker = w' } → SenderIs t p m w'
   sender_changed s t w' is e =
       record {
-        at = ap (λ (s : Plain T W). sender_at s.steps) e ∙ is.at;
+        at = ap (λ (s : Plain T W). sender_at s.log) e ∙ is.at;
         message = ap (λ (s : Plain T W). s.message) e ∙ is.message;
         waker = ap (λ (s : Plain T W). s.waker) e;
       }
@@ -120,7 +120,7 @@ module _ {T W : Type 0} where
       → t ≡ record s { waker = w' } → ReceiverIs t q m w'
   receiver_changed s t w' is e =
       record {
-        at = ap (λ (s : Plain T W). receiver_at s.steps) e ∙ is.at;
+        at = ap (λ (s : Plain T W). receiver_at s.log) e ∙ is.at;
         message = ap (λ (s : Plain T W). s.message) e ∙ is.message;
         waker = ap (λ (s : Plain T W). s.waker) e;
       }
@@ -129,8 +129,8 @@ module _ {T W : Type 0} where
   no_waker_yet : {m : Held T} {w : Held W} → SenderOwns fresh m w → w ≡ away
   no_waker_yet (owns own not_its_own) = refl
 
-  pub begins_fresh : (s : Plain T W) {m : Held T} → sender_at s.steps ≡ fresh → s.message ≡ m
-      → SenderOwns (sender_at s.steps) s.message s.waker → SenderIs s fresh m away
+  pub begins_fresh : (s : Plain T W) {m : Held T} → sender_at s.log ≡ fresh → s.message ≡ m
+      → SenderOwns (sender_at s.log) s.message s.waker → SenderIs s fresh m away
   begins_fresh s at message its =
       record { at = at; message = message; waker = no_waker_yet (subst (λ p. SenderOwns p s.message s.waker) at its) }
 

@@ -101,8 +101,8 @@ fn a_receiver_that_stops_over_an_end_closes(rt: HostRuntime) -> Result<(), Fail>
 }
 
 fn look(rt: &impl Abort, receiver: &mut ReceiverSide<u8, u8, u8>)
-    requires { receiver_at receiver.old.steps ≡ first }
-    ensures at { receiver_at receiver.new.steps ≡ here looked }
+    requires { receiver_at receiver.old.log ≡ first }
+    ensures at { receiver_at receiver.new.log ≡ here looked }
     ensures waker { receiver.new.waker ≡ vacant }
 {
     receiver.slots();
@@ -111,9 +111,9 @@ fn look(rt: &impl Abort, receiver: &mut ReceiverSide<u8, u8, u8>)
 }
 
 fn store_waker(rt: &impl Abort, receiver: &mut ReceiverSide<u8, u8, u8>, waker: Rouse<u8, u8>)
-    requires at { receiver_at receiver.old.steps ≡ here looked }
+    requires at { receiver_at receiver.old.log ≡ here looked }
     requires waker { receiver.old.waker ≡ vacant }
-    ensures at { receiver_at receiver.new.steps ≡ waits blocked }
+    ensures at { receiver_at receiver.new.log ≡ waits blocked }
     ensures loads { ReceiverCan receiver.new Load }
     ensures stops { ReceiverCan receiver.new (Swap 3) }
 {
@@ -126,7 +126,7 @@ fn store_waker(rt: &impl Abort, receiver: &mut ReceiverSide<u8, u8, u8>, waker: 
 // It gives its waker.
 fn stop(rt: &impl Abort, receiver: &mut ReceiverSide<u8, u8, u8>) -> Rouse<u8, u8>
     requires { ReceiverCan receiver.old (Swap 3) }
-    ensures at { receiver_at receiver.new.steps ≡ here looked }
+    ensures at { receiver_at receiver.new.log ≡ here looked }
     ensures waker { receiver.new.waker ≡ vacant }
 {
     let found = receiver.swap(3);
@@ -168,7 +168,7 @@ fn stop_over_the_end(rt: &impl Abort, receiver: &mut ReceiverSide<u8, u8, u8>)
 
 // It gives the waker that it found.
 fn begin_send(rt: &impl Abort, sender: &mut SenderSide<u8, u8, u8>, message: u8) -> Rouse<u8, u8>
-    requires { (sender_at sender.old.steps ≡ fresh) × (sender.old.message ≡ vacant) }
+    requires { (sender_at sender.old.log ≡ fresh) × (sender.old.message ≡ vacant) }
     ensures { SenderCan sender.new (Swap 4) }
 {
     sender.write_message(message);
@@ -180,7 +180,7 @@ fn begin_send(rt: &impl Abort, sender: &mut SenderSide<u8, u8, u8>, message: u8)
 
 // It gives the waker that it found.
 fn begin_drop(rt: &impl Abort, sender: &mut SenderSide<u8, u8, u8>) -> Rouse<u8, u8>
-    requires { (sender_at sender.old.steps ≡ fresh) × (sender.old.message ≡ vacant) }
+    requires { (sender_at sender.old.log ≡ fresh) × (sender.old.message ≡ vacant) }
     ensures { SenderCan sender.new (Swap 2) }
 {
     sender.peek();

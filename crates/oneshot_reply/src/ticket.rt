@@ -63,7 +63,7 @@ impl<Q: Eq, A: Answer<Q> + Drop, Rt: Drop> Ticket<Q, A, Rt> {
         ensures right { IfOk result (λ reply. A.answers (A.asked reply) reply) }
         ensures about { self.new.about ≡ self.old.about }
         ensures channel { self.new.channel ≡ self.old.channel }
-        ensures run { ReceiverGrew A TryRecv self.old.steps self.new.steps (try_recv_reply result) }
+        ensures run { ReceiverGrew A TryRecv self.old.log self.new.log (try_recv_reply result) }
         ensures closes { result ≢ Err Tried.Empty → IsClosed self.new }
         ensures stays_open { result ≡ Err Tried.Empty → IsOpen self.new }
         ensures stays_closed { IsClosed self.old → result ≡ Err Tried.Disconnected }
@@ -76,7 +76,7 @@ impl<Q: Eq, A: Answer<Q> + Drop, Rt: Drop> Ticket<Q, A, Rt> {
     pub fn into_future(self) -> AsyncReceiver<A, Rt, Asked<Q>>
         ensures about { result.about ≡ self.about }
         ensures channel { result.channel ≡ self.channel }
-        ensures steps { result.steps ≡ self.steps }
+        ensures log { result.log ≡ self.log }
     {
         let Ticket { replies } = self;
         replies.into_future()
@@ -115,7 +115,7 @@ impl<Q: Eq, A: Answer<Q> + Drop, Rt: Wait + Clock + Drop> Ticket<Q, A, Rt> {
         ensures right { IfOk result (λ reply. A.answers (A.asked reply) reply) }
         ensures about { self.new.about ≡ self.old.about }
         ensures channel { self.new.channel ≡ self.old.channel }
-        ensures run { TimeoutGrew A timeout self.old.steps self.new.steps (timed_reply result) }
+        ensures run { TimeoutGrew A timeout self.old.log self.new.log (timed_reply result) }
         ensures closes { result ≢ Err Timed.Timeout → IsClosed self.new }
         ensures stays_open { result ≡ Err Timed.Timeout → IsOpen self.new }
         ensures stays_closed { IsClosed self.old → result ≡ Err Timed.Disconnected }

@@ -9,7 +9,7 @@ use Rattle.oneshot_machine.specs.Orders.{has_row, Reaches, nothing_made, sender_
 use Rattle.oneshot_machine.specs.Phases.{Row, Slots, sending, dropping, SenderAt, fresh, owes, sender_at, sender_next, sender_moves, looked, blocked, storing, swapped, found_closed, ReceiverAt, first, here, waits, full, unclosed, disconnected, resolved, receiver_at, receiver_next, receiver_moves}
 use Rattle.oneshot_machine.specs.Slots.{Held, In, Finds, finds}
 use Rattle.oneshot_machine.specs.States.{word_after}
-use Rattle.oneshot_machine.proofs.Exactness.{each_passes}
+use Rattle.oneshot_machine.proofs.Sameness.{each_passes}
 use Rattle.oneshot_machine.proofs.GrownLists.{phase_from-snoc}
 use Rattle.oneshot_word.proofs.KeptRows.{stepped}
 use Rattle.oneshot_word.proofs.RuleKept.{sender_leaves, receiver_leaves}

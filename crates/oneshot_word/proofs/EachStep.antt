@@ -58,10 +58,10 @@ module _ {T H K P : Type 0} (keeps : P → T → Type 0) (q : P) where
 
   -- a seat's end may make the operation
   abbrev SenderAsks : Me (Slot T H K) (View T P) → Op → Type 0
-  SenderAsks me op = SenderMay (sender_at me.0.steps) op (message_in me.1) (waker_in me.1)
+  SenderAsks me op = SenderMay (sender_at me.0.log) op (message_in me.1) (waker_in me.1)
 
   abbrev ReceiverAsks : Me (Slot T H K) (View T P) → Op → Type 0
-  ReceiverAsks me op = ReceiverMay (receiver_at me.0.steps) op (message_in me.1) (waker_in me.1)
+  ReceiverAsks me op = ReceiverMay (receiver_at me.0.log) op (message_in me.1) (waker_in me.1)
 
   module _ (me : Me (Slot T H K) (View T P)) (op : Op) where
     -- what `Allows` asks of a state that was found
@@ -76,20 +76,20 @@ module _ {T H K P : Type 0} (keeps : P → T → Type 0) (q : P) where
     Has front owned about = SeatOf (keeps about) front owned me.1 (message_in me.1) (waker_in me.1)
 
     sender_goes : {ws : List ℕ} {hs : List (Home T H K)} {vs : List (View T P)} {id : ℕ} → me.0.about ≡ q
-        → SenderSeat keeps me → SenderAsks me op → Sits keeps q ws hs vs id Sender me.0.steps me.0.passed
+        → SenderSeat keeps me → SenderAsks me op → Sits keeps q ws hs vs id Sender me.0.log me.0.passed
         → Goes (SenderStepped keeps me op) ws hs vs id
     sender_goes same seat may (sender_sits {w = found} {h} {k} ys taken order there there' one) =
         let m : Held T = message_in me.1 in
-        let has = subst (Has waker_first (sender_owns (sender_at me.0.steps))) same seat.has in
-        let none = gave_no (sender_at me.0.steps) may has seat.passed in
+        let has = subst (Has waker_first (sender_owns (sender_at me.0.log))) same seat.has in
+        let none = gave_no (sender_at me.0.log) may has seat.passed in
         let offers = seat_as {kept' = Offers keeps q m}
         (λ x is k. (k, subst (λ m. gave m away None ≡ Some x) (sym is) refl)) has in
         let lies = lies_as {kept' = Offers keeps q m} (λ x k. let is = sym none ∙ k.1 in absurd (cc is)) there in
         elim (sender_turns {kept = Offers keeps q m} {word = found} may offers (meet (between order) lies there')) [
           | turn {h'} {k'} {m'} {w'} act valid homes word lies lies' found_so has code ↦
               let x : Noted = (op, saw op found) in
-              let after = phase_from-snoc sender_next fresh me.0.steps x in
-              let xs : List Noted = me.0.steps ++ x ∷ [] in (
+              let after = phase_from-snoc sender_next fresh me.0.log x in
+              let xs : List Noted = me.0.log ++ x ∷ [] in (
                 view q Sender xs (gave m m' None),
                 act,
                 valid,
@@ -97,7 +97,7 @@ module _ {T H K P : Type 0} (keeps : P → T → Type 0) (q : P) where
                     (view q Sender xs (gave m m' None) ∷ view q Receiver ys taken ∷ []))
                     (sym homes)
                     (sender_runs order found_so
-                    (gave_what_lies keeps q (sender_next (sender_at me.0.steps) op (saw op found)) (receiver_at ys) m
+                    (gave_what_lies keeps q (sender_next (sender_at me.0.log) op (saw op found)) (receiver_at ys) m
                     has lies) lies' (none_taken (gave m m' None) one none)),
                 record {
                   about = sym same;
@@ -108,18 +108,18 @@ module _ {T H K P : Type 0} (keeps : P → T → Type 0) (q : P) where
                       (sym after) (seat_as (λ x is k. k.0) has)) (gives_once m m');
                   code = code;
                   finds = as_read (carried_after me.1 act)
-                      (λ m w. Finds sender_moves (sender_at me.0.steps) op found (message_in me.1) (waker_in me.1) m w)
+                      (λ m w. Finds sender_moves (sender_at me.0.log) op found (message_in me.1) (waker_in me.1) m w)
                       (reads has) found_so;
                 },
               )
         ]
 
     receiver_goes : {ws : List ℕ} {hs : List (Home T H K)} {vs : List (View T P)} {id : ℕ} → me.0.about ≡ q
-        → ReceiverSeat keeps me → ReceiverAsks me op → Sits keeps q ws hs vs id Receiver me.0.steps me.0.passed
+        → ReceiverSeat keeps me → ReceiverAsks me op → Sits keeps q ws hs vs id Receiver me.0.log me.0.passed
         → Goes (ReceiverStepped keeps me op) ws hs vs id
     receiver_goes same seat may (receiver_sits {w = found} {h} {k} xs given order there there' one) =
         let m : Held T = message_in me.1 in
-        let has = subst (Has message_first (receiver_owns (receiver_at me.0.steps))) same seat.has in
+        let has = subst (Has message_first (receiver_owns (receiver_at me.0.log))) same seat.has in
         let holds = seat_as {kept' = IsGiven keeps q given} (λ x is k. (k, holds_given seat.passed one is)) has in
         elim (receiver_turns {kept = IsGiven keeps q given} {word = found} may holds
         (meet (between order) there there')) [
@@ -127,8 +127,8 @@ module _ {T H K P : Type 0} (keeps : P → T → Type 0) (q : P) where
               let found_so = finds row turns turns' in
               let taken : Option T = took m m' me.0.passed in
               let x : Noted = (op, saw op found) in
-              let after = phase_from-snoc receiver_next first me.0.steps x in
-              let ys : List Noted = me.0.steps ++ x ∷ [] in (
+              let after = phase_from-snoc receiver_next first me.0.log x in
+              let ys : List Noted = me.0.log ++ x ∷ [] in (
                 view q Receiver ys taken,
                 act,
                 valid,
@@ -146,7 +146,7 @@ module _ {T H K P : Type 0} (keeps : P → T → Type 0) (q : P) where
                       (sym after) (seat_as (λ x is k. k.0) has)) (holds_taken turns seat.passed);
                   code = code;
                   finds = as_read (carried_after me.1 act)
-                      (λ m w. Finds receiver_moves (receiver_at me.0.steps) op found (message_in me.1) (waker_in me.1) m
+                      (λ m w. Finds receiver_moves (receiver_at me.0.log) op found (message_in me.1) (waker_in me.1) m
                       w) (reads has) found_so;
                 },
               )
@@ -157,11 +157,11 @@ module _ {T H K P : Type 0} (keeps : P → T → Type 0) (q : P) where
     sender_allowed slots id seat may s tied _ at _ =
         let same = knows tied id at in
         sender_goes same seat may
-        (sits tied id (at ∙ (λ i. maybe.some (view (same i) (seat.role i) me.0.steps me.0.passed))))
+        (sits tied id (at ∙ (λ i. maybe.some (view (same i) (seat.role i) me.0.log me.0.passed))))
 
     pub receiver_allowed : (slots id : ℕ) → ReceiverSeat keeps me → ReceiverAsks me op
         → Allows Holds slots id me 0 (stepped op) (ReceiverStepped keeps me op)
     receiver_allowed slots id seat may s tied _ at _ =
         let same = knows tied id at in
         receiver_goes same seat may
-        (sits tied id (at ∙ (λ i. maybe.some (view (same i) (seat.role i) me.0.steps me.0.passed))))
+        (sits tied id (at ∙ (λ i. maybe.some (view (same i) (seat.role i) me.0.log me.0.passed))))

@@ -6,8 +6,8 @@ use Rattle.oneshot_machine.specs.declared.states.Op.{Op}
 use Rattle.oneshot_machine.specs.Noted.{is_same_op}
 use Rattle.oneshot_machine.specs.Phases.{Slots, Row}
 use Rattle.oneshot_machine.specs.Slots.{In, head, tail}
-use Rattle.oneshot_machine.proofs.Exactness.{ops_are_same}
-use Rattle.oneshot_machine.proofs.Exactness.{is_same_share, shares_are_same}
+use Rattle.oneshot_machine.proofs.Sameness.{ops_are_same}
+use Rattle.oneshot_machine.proofs.Sameness.{is_same_share, shares_are_same}
 
 module _ {At : Type 0} where
   abbrev pub is_row : Op → Slots → ℕ → Row At → Bool

@@ -10,7 +10,7 @@ use Rattle.oneshot_machine.specs.declared.states.Op.TheVariants.{Load, Store, Sw
 use Rattle.oneshot_machine.specs.Noted.{saw}
 use Rattle.oneshot_machine.specs.Phases.{Share, Slots, Row, SenderAt, sender_moves, sender_owns, sender_next, ReceiverAt, receiver_moves, receiver_owns, receiver_next}
 use Rattle.oneshot_machine.specs.Slots.{In}
-use Rattle.oneshot_machine.proofs.Exactness.{each_passes}
+use Rattle.oneshot_machine.proofs.Sameness.{each_passes}
 use Rattle.oneshot_word.specs.Seats.{Front, message_first, waker_first}
 use Rattle.oneshot_word.specs.Rule.{message_home, waker_home}
 use Rattle.oneshot_word.proofs.Alike.{is_bool, is_word, words_are}

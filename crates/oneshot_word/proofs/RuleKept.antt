@@ -8,7 +8,7 @@ use Rattle.oneshot_machine.specs.declared.states.Op.{Op}
 use Rattle.oneshot_machine.specs.Noted.{saw}
 use Rattle.oneshot_machine.specs.Phases.{Slots, Row, sending, dropping, SenderAt, fresh, owes, finished, late, overtaken, no_sender, sender_moves, sender_owns, sender_next, looked, blocked, storing, swapped, found_closed, ReceiverAt, first, here, waits, full, unclosed, disconnected, resolved, receiver_moves, receiver_owns, receiver_next}
 use Rattle.oneshot_machine.specs.Slots.{Held, IsSlot, In, head, tail, May, may, SenderMay, ReceiverMay, Finds, finds}
-use Rattle.oneshot_machine.proofs.Exactness.{each_passes}
+use Rattle.oneshot_machine.proofs.Sameness.{each_passes}
 use Rattle.oneshot_word.specs.declared.rouse.Rouse.{Rouse}
 use Rattle.oneshot_word.specs.declared.rule.Slot.{Slot}
 use Rattle.oneshot_word.specs.declared.rule.Slot.TheVariants.{Message}

@@ -7,7 +7,7 @@ use Rattle.oneshot_machine.specs.declared.states.Op.{Op}
 use Rattle.oneshot_machine.specs.Noted.{Noted, saw}
 use Rattle.oneshot_machine.specs.Phases.{sending, dropping, SenderAt, sender_moves, sender_next, Slots, Row, looked, blocked, storing, swapped, found_closed, ReceiverAt, here, waits, full, unclosed, disconnected, resolved, receiver_moves, receiver_next}
 use Rattle.oneshot_machine.specs.Slots.{In, head, tail}
-use Rattle.oneshot_machine.proofs.Exactness.{each_passes}
+use Rattle.oneshot_machine.proofs.Sameness.{each_passes}
 use Rattle.oneshot_word.specs.Lists.{send_found, drop_found, sent, sent_to_it, sent_to_overdue, dropped, dropped_before_it, dropped_before_overdue, sent_late, dropped_late, sent_overtaken, dropped_overtaken, along, stores_next, overdue_next, gone_next, wrote_next}
 use Rattle.oneshot_word.proofs.Alike.{is_bool, bools_are, is_word, words_are}
 use Rattle.oneshot_word.proofs.Meets.{stores_of, overdue_of, gone_of, wrote_of, SenderSays, says_none, says_owes, says_last, says_late, says_overtaken, ReceiverSays}

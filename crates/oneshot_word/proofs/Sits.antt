@@ -36,17 +36,17 @@ module _ {T H K P : Type 0} {keeps : P → T → Type 0} where
       → Sits keeps q ws hs vs id r xs passed
   sits {q} opened zero at =
       subst (λ (v : View T P). Sits {T = T} {H = H} {K = K} keeps q (3 ∷ []) (bare ∷ bare ∷ [])
-      (view q Maker [] None ∷ []) 0 v.role v.steps v.passed) (some-injective _ _ at) maker_sits
+      (view q Maker [] None ∷ []) 0 v.role v.log v.passed) (some-injective _ _ at) maker_sits
   sits {q} dealt zero at =
       subst (λ (v : View T P). Sits {T = T} {H = H} {K = K} keeps q (3 ∷ []) (out ∷ bare ∷ [])
-      (view q Dealer [] None ∷ []) 0 v.role v.steps v.passed) (some-injective _ _ at) dealer_sits
+      (view q Dealer [] None ∷ []) 0 v.role v.log v.passed) (some-injective _ _ at) dealer_sits
   sits {q} (runs {w} {h} {k} xs ys {given} {taken} order lies lies' same) zero at =
       subst (λ (v : View T P). Sits {T = T} {H = H} {K = K} keeps q (w ∷ []) (h ∷ k ∷ [])
-      (view q Sender xs given ∷ view q Receiver ys taken ∷ []) 0 v.role v.steps v.passed)
+      (view q Sender xs given ∷ view q Receiver ys taken ∷ []) 0 v.role v.log v.passed)
       (some-injective _ _ at) (sender_sits ys taken order lies lies' same)
   sits {q} (runs {w} {h} {k} xs ys {given} {taken} order lies lies' same) (suc zero) at =
       subst (λ (v : View T P). Sits {T = T} {H = H} {K = K} keeps q (w ∷ []) (h ∷ k ∷ [])
-      (view q Sender xs given ∷ view q Receiver ys taken ∷ []) 1 v.role v.steps v.passed)
+      (view q Sender xs given ∷ view q Receiver ys taken ∷ []) 1 v.role v.log v.passed)
       (some-injective _ _ at) (receiver_sits xs given order lies lies' same)
   sits _ _ at = absurd (some-ne-none _ (sym at))
 

@@ -8,7 +8,7 @@ use Rattle.oneshot_word.specs.declared.rule.Slot.{Slot}
 use Rattle.oneshot_word.specs.declared.rule.Slot.TheVariants.{Empty}
 use Rattle.oneshot_word.specs.Seats.{Carried, slot_vacant, slot_held, Part, not_carried, carried, Front, message_first, waker_first, carried_as}
 use Rattle.oneshot_word.specs.Rule.{Home, out, Lies, lies_out, lies_bare, lies_filled}
-use Rattle.oneshot_machine.proofs.Exactness.{is_same_share}
+use Rattle.oneshot_machine.proofs.Sameness.{is_same_share}
 
 -- whether an end has such a slot
 abbrev pub is_owned : Share → Bool

@@ -62,12 +62,12 @@ module _ {T H K : Type 0} where
   pub as_seat : {P : Type 0} {keeps : P → T → Type 0} {whose : Role} {front : Front}
       {owns : List Noted → Option (Bool × Bool)} {Passed : Option T → Held T → Type 0}
       {me : Me (Slot T H K) (View T P)} {m : Held T} {w : Held (Rouse H K)}
-      → me.0.role ≡ whose → SeatOf (keeps me.0.about) front (owns me.0.steps) me.1 m w → Passed me.0.passed m
+      → me.0.role ≡ whose → SeatOf (keeps me.0.about) front (owns me.0.log) me.1 m w → Passed me.0.passed m
       → SeatIs keeps whose front owns Passed me
   as_seat {keeps} {front} {owns} {Passed} {me} role has passed =
       record {
         role = role;
-        has = as_read me.1 (λ m w. SeatOf (keeps me.0.about) front (owns me.0.steps) me.1 m w)
+        has = as_read me.1 (λ m w. SeatOf (keeps me.0.about) front (owns me.0.log) me.1 m w)
             (reads has) has;
         passed = subst (Passed me.0.passed) (sym (reads has).0) passed;
       }

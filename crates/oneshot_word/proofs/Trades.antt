@@ -100,7 +100,7 @@ module _ {T H K : Type 0} where
       {owns : List Noted → Option (Bool × Bool)} {Passed : Option T → Held T → Type 0}
       (before : Me (Slot T H K) (View T P)) (c : Carried T H K) {m : Held T}
       {w : Held (Rouse H K)} → SeatIs keeps whose front owns Passed before
-      → SeatOf (keeps before.0.about) front (owns before.0.steps) c m w → Passed before.0.passed m
+      → SeatOf (keeps before.0.about) front (owns before.0.log) c m w → Passed before.0.passed m
       → Seated (SeatIs keeps whose front owns Passed) before.0 c m w
   seated {owns} {Passed} before c seat has passed =
       record {
@@ -221,7 +221,7 @@ module _ {T H K : Type 0} where
   message_side {P} table table' before after now is same t =
       λ i. record {
         table = (same ∙ ap (λ (s : Side T (Rouse H K) P). s.table) is) i;
-        steps = (ap (λ (v : View T P). v.steps) t.view ∙ ap (λ (s : Side T (Rouse H K) P). s.steps) is) i;
+        log = (ap (λ (v : View T P). v.log) t.view ∙ ap (λ (s : Side T (Rouse H K) P). s.log) is) i;
         passed = (ap (λ (v : View T P). v.passed) t.view ∙ ap (λ (s : Side T (Rouse H K) P). s.passed) is) i;
         about = (ap (λ (v : View T P). v.about) t.view ∙ ap (λ (s : Side T (Rouse H K) P). s.about) is) i;
         message = t.message i;
@@ -235,7 +235,7 @@ module _ {T H K : Type 0} where
   waker_side {P} table table' before after now is same t =
       λ i. record {
         table = (same ∙ ap (λ (s : Side T (Rouse H K) P). s.table) is) i;
-        steps = (ap (λ (v : View T P). v.steps) t.view ∙ ap (λ (s : Side T (Rouse H K) P). s.steps) is) i;
+        log = (ap (λ (v : View T P). v.log) t.view ∙ ap (λ (s : Side T (Rouse H K) P). s.log) is) i;
         message = (t.message ∙ ap (λ (s : Side T (Rouse H K) P). s.message) is) i;
         waker = t.waker i;
         passed = (ap (λ (v : View T P). v.passed) t.view ∙ ap (λ (s : Side T (Rouse H K) P). s.passed) is) i;

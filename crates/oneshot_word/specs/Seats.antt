@@ -15,7 +15,7 @@ use Rattle.oneshot_word.specs.declared.rule.Slot.TheVariants.{Empty, Message, Th
 use Rattle.oneshot_word.specs.declared.rule.View.{View}
 
 abbrev pub view : {T P : Type 0} → P → Role → List Noted → Option T → View T P
-view q r xs m = record { role = r; steps = xs; passed = m; about = q }
+view q r xs m = record { role = r; log = xs; passed = m; about = q }
 
 -- no promise of a value
 abbrev pub any : {X : Type 0} → X → Type 0
@@ -124,7 +124,7 @@ pub record SeatIs {T H K P : Type 0} (keeps : P → T → Type 0) (whose : Role)
     (owns : List Noted → Option (Bool × Bool)) (Passed : Option T → Held T → Type 0)
     (me : Me (Slot T H K) (View T P)) : Type 0 where
   pub role : me.0.role ≡ whose
-  pub has : SeatOf (keeps me.0.about) front (owns me.0.steps) me.1 (message_in me.1) (waker_in me.1)
+  pub has : SeatOf (keeps me.0.about) front (owns me.0.log) me.1 (message_in me.1) (waker_in me.1)
   pub passed : Passed me.0.passed (message_in me.1)
 
 module _ {T H K P : Type 0} (keeps : P → T → Type 0) where
@@ -150,12 +150,12 @@ pub record Stepped {T H K P At : Type 0} (Seat : Me (Slot T H K) (View T P) → 
     (at : List Noted → At) (moves : At → List (Row At)) (passes : Held T → Held T → Option T → Option T)
     (before : Me (Slot T H K) (View T P)) (op : Op) (word : ℕ) (after : Me (Slot T H K) (View T P)) : Type 0 where
   pub about : after.0.about ≡ before.0.about
-  pub list : after.0.steps ≡ before.0.steps ++ (op, saw op word) ∷ []
+  pub list : after.0.log ≡ before.0.log ++ (op, saw op word) ∷ []
   pub passed : after.0.passed ≡ passes (message_in before.1) (message_in after.1) before.0.passed
   pub seat : Seat after
   -- a store's log does not tell the word
   pub code : word ≤ 4
-  pub finds : Finds moves (at before.0.steps) op word
+  pub finds : Finds moves (at before.0.log) op word
       (message_in before.1) (waker_in before.1) (message_in after.1) (waker_in after.1)
 
 module _ {T H K P : Type 0} (keeps : P → T → Type 0) where

@@ -14,7 +14,7 @@ use Rattle.oneshot_word.specs.Seats.{message_in, waker_in, gave, took}
 -- the table, the log of the end's operations on the word, and the two slots as the end sees them
 pub record Side (T W P : Type 0) : Type 0 where
   pub table : TableId
-  pub steps : List Noted
+  pub log : List Noted
   pub message : Held T
   pub waker : Held W
   -- the message that the end gave to the table or took from it, once it has
@@ -27,7 +27,7 @@ abbrev pub side_of : {T H K P : Type 0} → TableId → Me (Slot T H K) (View T 
 side_of table me =
     record {
       table = table;
-      steps = me.0.steps;
+      log = me.0.log;
       message = message_in me.1;
       waker = waker_in me.1;
       passed = me.0.passed;
@@ -40,20 +40,20 @@ pub record AreEnds {T W P : Type 0} (about : P) (sender receiver : Side T W P) :
   pub sender_about : sender.about ≡ about
   pub receiver_about : receiver.about ≡ about
   pub table : sender.table ≡ receiver.table
-  pub sender_steps : sender.steps ≡ []
+  pub sender_log : sender.log ≡ []
   pub sender_slots : (sender.message ≡ vacant) × (sender.waker ≡ away)
   pub sender_passed : sender.passed ≡ None
-  pub receiver_steps : receiver.steps ≡ []
+  pub receiver_log : receiver.log ≡ []
   pub receiver_slots : (receiver.message ≡ away) × (receiver.waker ≡ away)
   pub receiver_passed : receiver.passed ≡ None
 
 module _ {T W P : Type 0} where
   -- the end's table allows the operation after its log
   abbrev pub SenderCan : Side T W P → Op → Type 0
-  SenderCan s op = SenderMay (sender_at s.steps) op s.message s.waker
+  SenderCan s op = SenderMay (sender_at s.log) op s.message s.waker
 
   abbrev pub ReceiverCan : Side T W P → Op → Type 0
-  ReceiverCan s op = ReceiverMay (receiver_at s.steps) op s.message s.waker
+  ReceiverCan s op = ReceiverMay (receiver_at s.log) op s.message s.waker
 
 -- The end made the operation, which found this word: its log is longer by it, and its slots are
 -- as what it found says, and so is the message that passed.
@@ -62,8 +62,8 @@ pub record Did {T W P At : Type 0} (at : List Noted → At) (moves : At → List
     (before : Side T W P) (op : Op) (word : ℕ) (after : Side T W P) : Type 0 where
   pub about : after.about ≡ before.about
   pub table : after.table ≡ before.table
-  pub list : after.steps ≡ before.steps ++ (op, saw op word) ∷ []
-  pub finds : Finds moves (at before.steps) op word before.message before.waker after.message after.waker
+  pub list : after.log ≡ before.log ++ (op, saw op word) ∷ []
+  pub finds : Finds moves (at before.log) op word before.message before.waker after.message after.waker
   pub passed : after.passed ≡ passes before.message after.message before.passed
 
 module _ {T W P : Type 0} where

@@ -22,7 +22,7 @@ pub trait Peek {
 impl<T, H, K, P: Promise<T>> Peek for SenderSide<T, H, K, P> {
     fn peek(&self) -> u8
         ensures rule { RuleReads H K P.keeps }
-        ensures slots { SenderOwns (sender_at self.now.steps) self.now.message self.now.waker }
+        ensures slots { SenderOwns (sender_at self.now.log) self.now.message self.now.waker }
     {
         load(&self.table)
     }
@@ -31,7 +31,7 @@ impl<T, H, K, P: Promise<T>> Peek for SenderSide<T, H, K, P> {
 impl<T, H, K, P: Promise<T>> Peek for ReceiverSide<T, H, K, P> {
     fn peek(&self) -> u8
         ensures rule { RuleReads H K P.keeps }
-        ensures slots { ReceiverOwns (receiver_at self.now.steps) self.now.message self.now.waker }
+        ensures slots { ReceiverOwns (receiver_at self.now.log) self.now.message self.now.waker }
     {
         load(&self.table)
     }

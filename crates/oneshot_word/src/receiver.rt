@@ -78,7 +78,7 @@ impl<T, H, K, P: Promise<T>> ReceiverSide<T, H, K, P> {
 
     /// Does nothing. Its contract tells which slots are the receiver's by what it did.
     pub fn slots(&self)
-        ensures { ReceiverOwns (receiver_at self.now.steps) self.now.message self.now.waker }
+        ensures { ReceiverOwns (receiver_at self.now.log) self.now.message self.now.waker }
     {
         let _seat = &self.seat;
     }

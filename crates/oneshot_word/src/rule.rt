@@ -86,7 +86,7 @@ pub struct View<T, P> {
     /// Whose seat it is.
     pub role: Role,
     /// Its operations on the word.
-    pub steps: LinkedList<(Op, Seen)>,
+    pub log: LinkedList<(Op, Seen)>,
     /// The message that its end gave to the table or took from it, once it has.
     pub passed: Option<T>,
     /// What each message keeps its promise about.

@@ -6,6 +6,7 @@ use Rattle.oneshot_machine.specs.Receiver.{receiver_positions}
 use Rattle.oneshot_machine.specs.declared.machine.future.FuturePos.TheVariants as F
 use Rattle.oneshot_machine.specs.declared.machine.receiver.ReceiverPos.TheVariants as R
 use Rattle.oneshot_machine.specs.declared.machine.look.LookPos.TheVariants.{LookFull}
+use Rattle.oneshot_machine.specs.declared.machine.try_recv.TryPos.TheVariants.{TryLoad}
 use Rattle.oneshot_machine.specs.declared.machine.by_ref.RefPos.TheVariants.{StartLoad, StartWrite, StartSwap}
 use Rattle.oneshot_machine.specs.declared.machine.timed.TimedPos.TheVariants.{SumClock}
 use Rattle.oneshot_machine.specs.declared.machine.value.ValuePos.TheVariants.{RecvLoad}
@@ -57,6 +58,8 @@ receiver_back RS.Ready = refl
 receiver_back RS.Ended = refl
 receiver_back (RS.At (R.Look LookFull)) = refl
 receiver_back (RS.At (R.Look _)) = refl
+receiver_back (RS.At (R.Try TryLoad)) = refl
+receiver_back (RS.At (R.Try _)) = refl
 receiver_back (RS.At (R.Ref (StartLoad false))) = refl
 receiver_back (RS.At (R.Ref (StartLoad true))) = refl
 receiver_back (RS.At (R.Ref (StartWrite false))) = refl

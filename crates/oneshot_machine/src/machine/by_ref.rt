@@ -6,10 +6,10 @@ ghost use Rattle.oneshot_machine.specs.TableRows.{leads, row_for};
 ghost use Rattle.oneshot_machine.specs.ByRef.{ref_step, ref_rows};
 
 use crate::machine::RowEnd::{Answers, Goes};
-use crate::machine::look::LookPos;
 use crate::machine::receiver::ReceiverPos;
-use crate::machine::receiver::ReceiverPos::{Look, Ref, Timed};
+use crate::machine::receiver::ReceiverPos::{Ref, Timed, Try};
 use crate::machine::timed::TimedPos;
+use crate::machine::try_recv::TryPos;
 use crate::machine::{Reply, RowEnd, Seen, Step};
 use crate::states::{DISCONNECTED, EMPTY, MESSAGE, Op, RECEIVING, UNPARKING};
 
@@ -61,7 +61,7 @@ impl RefPos {
         ensures { option_map leads result ≡ row_for seen (ref_rows self.now) }
     {
         let end = match (self, seen) {
-            (RefPos::StartLoad { .. }, Seen::Word(MESSAGE)) => Goes(Look(LookPos::Close)),
+            (RefPos::StartLoad { .. }, Seen::Word(MESSAGE)) => Goes(Try(TryPos::Close)),
             (RefPos::StartLoad { .. }, Seen::Word(DISCONNECTED)) => Answers(Reply::Disconnected),
             (RefPos::StartLoad { timed }, Seen::Word(EMPTY)) => Goes(Ref(RefPos::StartWrite {
                 timed: *timed,
@@ -73,11 +73,11 @@ impl RefPos {
             (RefPos::StartSwap { timed: true }, Seen::Word(EMPTY)) => Goes(Timed(TimedPos::Clock)),
             (RefPos::StartSwap { .. }, Seen::Word(MESSAGE)) => Goes(Ref(RefPos::BackFull)),
             (RefPos::StartSwap { .. }, Seen::Word(DISCONNECTED)) => Goes(Ref(RefPos::BackClosed)),
-            (RefPos::BackFull, Seen::Done) => Goes(Look(LookPos::Close)),
-            (RefPos::BackClosed, Seen::Done) => Goes(Look(LookPos::CloseOnly)),
+            (RefPos::BackFull, Seen::Done) => Goes(Try(TryPos::Close)),
+            (RefPos::BackClosed, Seen::Done) => Goes(Try(TryPos::CloseOnly)),
             (RefPos::Park, Seen::Token(true)) => Goes(Ref(RefPos::ParkLoad)),
             (RefPos::Park, Seen::Token(false)) => Goes(Ref(RefPos::ParkLoad)),
-            (RefPos::ParkLoad, Seen::Word(MESSAGE)) => Goes(Look(LookPos::Close)),
+            (RefPos::ParkLoad, Seen::Word(MESSAGE)) => Goes(Try(TryPos::Close)),
             (RefPos::ParkLoad, Seen::Word(DISCONNECTED)) => Answers(Reply::Disconnected),
             (RefPos::ParkLoad, Seen::Word(RECEIVING)) => Goes(Ref(RefPos::Park)),
             (RefPos::ParkLoad, Seen::Word(UNPARKING)) => Goes(Ref(RefPos::Park)),

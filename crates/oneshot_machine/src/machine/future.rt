@@ -6,9 +6,9 @@ ghost use Rattle.oneshot_machine.specs.TableRows.{leads, row_for};
 ghost use Rattle.oneshot_machine.specs.Future.{future_step, future_rows};
 
 use crate::machine::RowEnd::{Answers, Goes};
-use crate::machine::look::LookPos;
 use crate::machine::receiver::ReceiverPos;
-use crate::machine::receiver::ReceiverPos::{Future, Look};
+use crate::machine::receiver::ReceiverPos::{Future, Try};
+use crate::machine::try_recv::TryPos;
 use crate::machine::{Reply, RowEnd, Seen, Step};
 use crate::states::{DISCONNECTED, EMPTY, MESSAGE, Op, RECEIVING, UNPARKING};
 
@@ -69,7 +69,7 @@ impl FuturePos {
             (FuturePos::IntoFuture, Seen::Done) => Answers(Reply::Future),
             (FuturePos::PollLoad, Seen::Word(EMPTY)) => Goes(Future(FuturePos::PollCopy)),
             (FuturePos::PollLoad, Seen::Word(RECEIVING)) => Goes(Future(FuturePos::AgainCopy)),
-            (FuturePos::PollLoad, Seen::Word(MESSAGE)) => Goes(Look(LookPos::Close)),
+            (FuturePos::PollLoad, Seen::Word(MESSAGE)) => Goes(Try(TryPos::Close)),
             (FuturePos::PollLoad, Seen::Word(DISCONNECTED)) => Answers(Reply::Disconnected),
             (FuturePos::PollLoad, Seen::Word(UNPARKING)) => Goes(Future(FuturePos::PollOwn)),
             (FuturePos::PollCopy, Seen::Refused(false)) => Goes(Future(FuturePos::PollWrite)),
@@ -80,17 +80,17 @@ impl FuturePos {
             (FuturePos::PollExchange, Seen::Word(DISCONNECTED)) => Goes(Future(
                 FuturePos::PollBackClosed,
             )),
-            (FuturePos::PollBackFull, Seen::Done) => Goes(Look(LookPos::Close)),
+            (FuturePos::PollBackFull, Seen::Done) => Goes(Try(TryPos::Close)),
             (FuturePos::PollBackClosed, Seen::Done) => Answers(Reply::Disconnected),
             (FuturePos::AgainCopy, Seen::Refused(false)) => Goes(Future(FuturePos::AgainExchange)),
             (FuturePos::AgainCopy, Seen::Refused(true)) => Goes(Future(FuturePos::PollOwn)),
             (FuturePos::AgainExchange, Seen::Word(RECEIVING)) => Goes(Future(FuturePos::AgainBack)),
-            (FuturePos::AgainExchange, Seen::Word(MESSAGE)) => Goes(Look(LookPos::Close)),
+            (FuturePos::AgainExchange, Seen::Word(MESSAGE)) => Goes(Try(TryPos::Close)),
             (FuturePos::AgainExchange, Seen::Word(DISCONNECTED)) => Answers(Reply::Disconnected),
             (FuturePos::AgainExchange, Seen::Word(UNPARKING)) => Goes(Future(FuturePos::PollOwn)),
             (FuturePos::AgainBack, Seen::Done) => Goes(Future(FuturePos::PollWrite)),
             (FuturePos::PollOwn, Seen::Done) => Answers(Reply::Pending),
-            (FuturePos::AsyncTryLoad, Seen::Word(MESSAGE)) => Goes(Look(LookPos::Close)),
+            (FuturePos::AsyncTryLoad, Seen::Word(MESSAGE)) => Goes(Try(TryPos::Close)),
             (FuturePos::AsyncTryLoad, Seen::Word(DISCONNECTED)) => Answers(Reply::Disconnected),
             (FuturePos::AsyncTryLoad, Seen::Word(EMPTY)) => Answers(Reply::Empty),
             (FuturePos::AsyncTryLoad, Seen::Word(RECEIVING)) => Answers(Reply::Empty),

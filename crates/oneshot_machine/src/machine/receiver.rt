@@ -12,6 +12,7 @@ use crate::machine::drop::DropPos;
 use crate::machine::future::FuturePos;
 use crate::machine::look::LookPos;
 use crate::machine::timed::TimedPos;
+use crate::machine::try_recv::TryPos;
 use crate::machine::value::ValuePos;
 use crate::machine::{Reply, RowEnd, Seen, Step};
 
@@ -51,8 +52,10 @@ pub enum ReceiverStart {
 /// Where a call of the receiver stands: a position of its table.
 #[derive(Clone, Copy)]
 pub enum ReceiverPos {
-    /// A look or `try_recv`, or an ending that receives share.
+    /// A look.
     Look(LookPos),
+    /// A `try_recv`, or the end of another receive, which is as that of `try_recv`.
+    Try(TryPos),
     /// A receive by reference.
     Ref(RefPos),
     /// A receive with a deadline.
@@ -73,7 +76,7 @@ impl ReceiverPos {
         ensures { result ≡ receiver_start call }
     {
         match call {
-            ReceiverStart::TryRecv => ReceiverPos::Look(LookPos::TryLoad),
+            ReceiverStart::TryRecv => ReceiverPos::Try(TryPos::TryLoad),
             ReceiverStart::Recv => ReceiverPos::Value(ValuePos::RecvLoad),
             ReceiverStart::RecvRef => ReceiverPos::Ref(RefPos::StartLoad { timed: false }),
             ReceiverStart::RecvDeadline => ReceiverPos::Ref(RefPos::StartLoad { timed: true }),
@@ -96,6 +99,7 @@ impl ReceiverPos {
     {
         match self {
             ReceiverPos::Look(at) => at.step(),
+            ReceiverPos::Try(at) => at.step(),
             ReceiverPos::Ref(at) => at.step(),
             ReceiverPos::Timed(at) => at.step(),
             ReceiverPos::Value(at) => at.step(),
@@ -132,6 +136,7 @@ impl ReceiverPos {
     {
         match self {
             ReceiverPos::Look(at) => at.row(seen),
+            ReceiverPos::Try(at) => at.row(seen),
             ReceiverPos::Ref(at) => at.row(seen),
             ReceiverPos::Timed(at) => at.row(seen),
             ReceiverPos::Value(at) => at.row(seen),

@@ -7,9 +7,9 @@ ghost use Rattle.oneshot_machine.specs.Timed.{timed_step, timed_rows};
 
 use crate::machine::RowEnd::{Answers, Goes};
 use crate::machine::by_ref::RefPos;
-use crate::machine::look::LookPos;
 use crate::machine::receiver::ReceiverPos;
-use crate::machine::receiver::ReceiverPos::{Look, Ref, Timed};
+use crate::machine::receiver::ReceiverPos::{Ref, Timed, Try};
+use crate::machine::try_recv::TryPos;
 use crate::machine::{Reply, RowEnd, Seen, Step};
 use crate::states::{DISCONNECTED, EMPTY, MESSAGE, Op, RECEIVING, UNPARKING};
 
@@ -72,18 +72,18 @@ impl TimedPos {
             (TimedPos::Clock, Seen::Over(true)) => Goes(Timed(TimedPos::EndSwap)),
             (TimedPos::TimedPark, Seen::Token(true)) => Goes(Timed(TimedPos::TimedLoad)),
             (TimedPos::TimedPark, Seen::Token(false)) => Goes(Timed(TimedPos::TimedLoad)),
-            (TimedPos::TimedLoad, Seen::Word(MESSAGE)) => Goes(Look(LookPos::Close)),
+            (TimedPos::TimedLoad, Seen::Word(MESSAGE)) => Goes(Try(TryPos::Close)),
             (TimedPos::TimedLoad, Seen::Word(DISCONNECTED)) => Answers(Reply::Disconnected),
             (TimedPos::TimedLoad, Seen::Word(RECEIVING)) => Goes(Timed(TimedPos::Clock)),
             (TimedPos::TimedLoad, Seen::Word(UNPARKING)) => Goes(Timed(TimedPos::Clock)),
             (TimedPos::EndSwap, Seen::Word(RECEIVING)) => Goes(Timed(TimedPos::EndBack)),
-            (TimedPos::EndSwap, Seen::Word(MESSAGE)) => Goes(Look(LookPos::Close)),
-            (TimedPos::EndSwap, Seen::Word(DISCONNECTED)) => Goes(Look(LookPos::CloseOnly)),
+            (TimedPos::EndSwap, Seen::Word(MESSAGE)) => Goes(Try(TryPos::Close)),
+            (TimedPos::EndSwap, Seen::Word(DISCONNECTED)) => Goes(Try(TryPos::CloseOnly)),
             (TimedPos::EndSwap, Seen::Word(UNPARKING)) => Goes(Timed(TimedPos::LatePark)),
             (TimedPos::EndBack, Seen::Done) => Answers(Reply::Timeout),
             (TimedPos::LatePark, Seen::Token(true)) => Goes(Timed(TimedPos::LateLoad)),
             (TimedPos::LatePark, Seen::Token(false)) => Goes(Timed(TimedPos::LateLoad)),
-            (TimedPos::LateLoad, Seen::Word(MESSAGE)) => Goes(Look(LookPos::Close)),
+            (TimedPos::LateLoad, Seen::Word(MESSAGE)) => Goes(Try(TryPos::Close)),
             (TimedPos::LateLoad, Seen::Word(DISCONNECTED)) => Answers(Reply::Disconnected),
             (TimedPos::LateLoad, Seen::Word(EMPTY)) => Goes(Timed(TimedPos::LatePark)),
             _ => return None,

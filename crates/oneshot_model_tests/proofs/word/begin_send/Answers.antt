@@ -7,10 +7,10 @@ use Rattle.oneshot_model_tests.proofs.Shown.{Plain, SenderIs, sender_can, sender
 use Rattle.oneshot_model_tests.proofs.word.begin_send.Goals as goal
 
 module _ {T W : Type 0} where
-  writes : (s t : Plain T W) (x : T) → sender_at s.steps ≡ fresh → t ≡ record s { message = held x }
-      → SenderOwns (sender_at t.steps) t.message t.waker → SenderIs t fresh (held x) away
+  writes : (s t : Plain T W) (x : T) → sender_at s.log ≡ fresh → t ≡ record s { message = held x }
+      → SenderOwns (sender_at t.log) t.message t.waker → SenderIs t fresh (held x) away
   writes s t x at e owns =
-      begins_fresh t (ap (λ (s : Plain T W). sender_at s.steps) e ∙ at) (ap (λ (s : Plain T W). s.message) e) owns
+      begins_fresh t (ap (λ (s : Plain T W). sender_at s.log) e ∙ at) (ap (λ (s : Plain T W). s.message) e) owns
 
 pub write_message-requires : goal.write_message-requires
 write_message-requires g c = record { slot = c.requires.1; kept = tt }

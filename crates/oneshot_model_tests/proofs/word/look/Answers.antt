@@ -14,7 +14,7 @@ module _ {T W : Type 0} where
   found_none (finds head stays_away gets_room) = refl
   found_none (finds (tail (tail (tail (tail (tail (tail there)))))) _ _) = elim there [ ]
 
-  begins : (s : Plain T W) → receiver_at s.steps ≡ first → ReceiverOwns (receiver_at s.steps) s.message s.waker
+  begins : (s : Plain T W) → receiver_at s.log ≡ first → ReceiverOwns (receiver_at s.log) s.message s.waker
       → ReceiverIs s first away away
   begins s at its =
       let none = owns_none (subst (λ q. ReceiverOwns q s.message s.waker) at its) in

@@ -8,7 +8,7 @@ use Rattle.oneshot_machine.specs.declared.states.Op.TheVariants.{Load, Store}
 use Rattle.oneshot_machine.specs.Noted.{is_same_op}
 use Rattle.oneshot_machine.specs.Phases.{Share, empty, Row, Got, full, looked, here, blocked, waits, storing, swapped, unclosed, found_closed, disconnected, resolved, ReceiverAt, receiver_moves, receiver_next, receiver_at}
 use Rattle.oneshot_machine.specs.Slots.{Held, vacant, held, Turns, stays_vacant, stays_held, gets_room, gets_thing, finds, ReceiverFinds}
-use Rattle.oneshot_machine.proofs.Exactness.{each_passes}
+use Rattle.oneshot_machine.proofs.Sameness.{each_passes}
 use Rattle.oneshot_word.specs.Side.{ReceiverDid}
 use Rattle.oneshot_model_tests.proofs.Shown.{Plain, ReceiverIs, receiver_can, receiver_told, receiver_went, receiver_is, is_filled, closes, keeps_message}
 use Rattle.oneshot_model_tests.proofs.word.receive.Goals as goal
@@ -71,7 +71,7 @@ module _ {T W : Type 0} where
   gets : {s t : Plain T W} {found : ℕ} → ReceiverDid s Load found t → found ≡ 4
       → (g : Got) × (x : T) × ReceiverIs t (full g) (held x) vacant
   gets {s} did same =
-      let it = found_message (receiver_at s.steps) (receiver_told Load 4 (receiver_is s refl) did same) in (
+      let it = found_message (receiver_at s.log) (receiver_told Load 4 (receiver_is s refl) did same) in (
         it.got,
         it.message,
         record {

@@ -17,13 +17,13 @@ module _ {T W : Type 0} where
   found_none (finds head stays_away stays_vacant) = refl
   found_none (finds (tail (tail (tail (tail (tail (tail there)))))) _ _) = elim there [ ]
 
-  stops : {s t : Plain T W} {found : ℕ} → receiver_at s.steps ≡ waits blocked → ReceiverDid s (Swap 3) found t
+  stops : {s t : Plain T W} {found : ℕ} → receiver_at s.log ≡ waits blocked → ReceiverDid s (Swap 3) found t
       → found ≡ 0 → (k : W) × ReceiverIs t (here between) away (held k)
   stops {s} at did same =
       let it = found_waiting (receiver_told (Swap 3) 0 (receiver_is s at) did same) in
       (it.0, record { at = receiver_went (Swap 3) 0 (receiver_is s at) did same; message = it.1; waker = it.2 })
 
-  takes : {s t u : Plain T W} {found : ℕ} → receiver_at s.steps ≡ waits blocked → ReceiverDid s (Swap 3) found t
+  takes : {s t u : Plain T W} {found : ℕ} → receiver_at s.log ≡ waits blocked → ReceiverDid s (Swap 3) found t
       → found ≡ 0 → u ≡ record t { waker = vacant } → ReceiverIs u (here between) away vacant
   takes {t} {u} at did same e = receiver_changed t u vacant (stops at did same).1 e
 

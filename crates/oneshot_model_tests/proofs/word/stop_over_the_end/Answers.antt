@@ -13,7 +13,7 @@ module _ {T W : Type 0} where
   found_end (finds (tail (tail (tail (tail (tail (tail (tail head))))))) gets_room gets_room) = (refl, refl)
   found_end (finds (tail (tail (tail (tail (tail (tail (tail (tail there)))))))) _ _) = elim there [ ]
 
-  stops : {s t : Plain T W} {found : ℕ} → receiver_at s.steps ≡ waits blocked → ReceiverDid s (Swap 3) found t
+  stops : {s t : Plain T W} {found : ℕ} → receiver_at s.log ≡ waits blocked → ReceiverDid s (Swap 3) found t
       → found ≡ 2 → ReceiverIs t (unclosed stopping) vacant vacant
   stops {s} at did same =
       let it = found_end (receiver_told (Swap 3) 2 (receiver_is s at) did same) in

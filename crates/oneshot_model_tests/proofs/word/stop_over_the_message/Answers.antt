@@ -13,7 +13,7 @@ module _ {T W : Type 0} where
   found_message (finds (tail (tail (tail (tail (tail (tail head)))))) (gets_thing x) gets_room) = (x, refl, refl)
   found_message (finds (tail (tail (tail (tail (tail (tail (tail (tail there)))))))) _ _) = elim there [ ]
 
-  stops : {s t : Plain T W} {found : ℕ} → receiver_at s.steps ≡ waits blocked → ReceiverDid s (Swap 3) found t
+  stops : {s t : Plain T W} {found : ℕ} → receiver_at s.log ≡ waits blocked → ReceiverDid s (Swap 3) found t
       → found ≡ 4 → (x : T) × ReceiverIs t (full (swapped stopping)) (held x) vacant
   stops {s} at did same =
       let it = found_message (receiver_told (Swap 3) 4 (receiver_is s at) did same) in

@@ -17,7 +17,7 @@ module _ {T W : Type 0} where
   found_nothing (finds head stays_away stays_away) = (refl, refl)
   found_nothing (finds (tail (tail (tail there))) _ _) = elim there [ ]
 
-  stops : {s t : Plain T W} {found : ℕ} → receiver_at s.steps ≡ waits blocked → ReceiverDid s (Swap 3) found t
+  stops : {s t : Plain T W} {found : ℕ} → receiver_at s.log ≡ waits blocked → ReceiverDid s (Swap 3) found t
       → found ≡ 1 → ReceiverIs t overdue away away
   stops {s} at did same =
       let it = found_claimed (receiver_told (Swap 3) 1 (receiver_is s at) did same) in

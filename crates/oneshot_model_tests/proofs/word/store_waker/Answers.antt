@@ -17,8 +17,8 @@ module _ {T W : Type 0} where
   gave_both (finds (tail (tail (tail (tail (tail (tail (tail (tail (tail (tail (tail (tail there)))))))))))) _ _) =
       elim there [ ]
 
-  begins : (s : Plain T W) → receiver_at s.steps ≡ here looked → s.waker ≡ vacant
-      → ReceiverOwns (receiver_at s.steps) s.message s.waker → ReceiverIs s (here looked) away vacant
+  begins : (s : Plain T W) → receiver_at s.log ≡ here looked → s.waker ≡ vacant
+      → ReceiverOwns (receiver_at s.log) s.message s.waker → ReceiverIs s (here looked) away vacant
   begins s at waker its =
       record {
         at = at;

@@ -2,7 +2,7 @@
 use Rattle.std.proofs.Common.{sym, ◌∙◌, subst}
 use Rattle.oneshot_machine.specs.declared.machine.receiver.ReceiverStart.TheVariants.{AsyncTryRecv}
 use Rattle.oneshot_machine.specs.Phases.{receiver_at}
-use Rattle.oneshot_drive.specs.BetweenCalls.{IsClosed}
+use Rattle.oneshot_drive.specs.BetweenCalls.{IsClosedAt}
 use Rattle.oneshot_drive.specs.Polls.{LeavesTried}
 use Rattle.oneshot_ends.proofs.EndViews.{future_steps, future_about, kept_about}
 use Rattle.oneshot_ends.proofs.GrewByRuns.{words_of, receiver_grew, async_try_recv_few}
@@ -11,24 +11,24 @@ use Rattle.oneshot_ends.proofs.future.AsyncReceiver.try_recv.Goals as goal
 
 pub returns-clause-run : goal.returns-clause-run
 returns-clause-run g c =
-    receiver_grew (words_of _ _ c.self.inside.ground.steps ∙ future_steps c.self.view_is)
-    (words_of _ _ c.async_try_recv.new.g.steps) AsyncTryRecv c.async_try_recv.ensures.run
+    receiver_grew (words_of _ _ c.self.inside.ground.log ∙ future_steps c.self.view_is)
+    (words_of _ _ c.async_try_recv.new.g.log) AsyncTryRecv c.async_try_recv.ensures.run
 
 pub returns-clause-leaves : goal.returns-clause-leaves
 returns-clause-leaves g c =
-    subst (λ xs. LeavesTried c.async_try_recv.result (receiver_at xs)) (words_of _ _ c.async_try_recv.new.g.steps)
+    subst (λ xs. LeavesTried c.async_try_recv.result (receiver_at xs)) (words_of _ _ c.async_try_recv.new.g.log)
     c.async_try_recv.ensures.leaves
 
 pub returns-clause-stays_closed : goal.returns-clause-stays_closed
 returns-clause-stays_closed g c = λ closed.
     c.async_try_recv.ensures.stays
-    (subst (λ xs. IsClosed (receiver_at xs))
-    (future_steps (sym c.self.view_is) ∙ sym (words_of _ _ c.self.inside.ground.steps)) closed)
+    (subst (λ xs. IsClosedAt (receiver_at xs))
+    (future_steps (sym c.self.view_is) ∙ sym (words_of _ _ c.self.inside.ground.log)) closed)
 
 pub returns-clause-registered : goal.returns-clause-registered
 returns-clause-registered g c =
-    registered_by c.async_try_recv.result (words_of _ _ c.self.inside.ground.steps ∙ future_steps c.self.view_is)
-    (words_of _ _ c.async_try_recv.new.g.steps) c.async_try_recv.ensures.registered
+    registered_by c.async_try_recv.result (words_of _ _ c.self.inside.ground.log ∙ future_steps c.self.view_is)
+    (words_of _ _ c.async_try_recv.new.g.log) c.async_try_recv.ensures.registered
 
 pub returns-clause-closes : goal.returns-clause-closes
 returns-clause-closes g c = closed_tried (returns-clause-leaves g c)

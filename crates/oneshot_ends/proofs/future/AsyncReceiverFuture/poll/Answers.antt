@@ -2,7 +2,7 @@
 use Rattle.std.proofs.Common.{[], ◌∷◌, sym, ◌∙◌, subst}
 use Rattle.oneshot_machine.specs.declared.machine.receiver.ReceiverStart.TheVariants as C
 use Rattle.oneshot_machine.specs.Phases.{receiver_at}
-use Rattle.oneshot_drive.specs.BetweenCalls.{IsClosed}
+use Rattle.oneshot_drive.specs.BetweenCalls.{IsClosedAt}
 use Rattle.oneshot_drive.specs.Polls.{LeavesPolled}
 use Rattle.oneshot_ends.proofs.EndViews.{future_steps, future_about, polled_about}
 use Rattle.oneshot_ends.proofs.GrewByRuns.{words_of, receiver_grew, poll_few}
@@ -18,19 +18,19 @@ invariant_of-self g c = stands_as_told (_ ∷ _ ∷ _ ∷ []) c.poll.new.g.groun
 
 pub returns-clause-run : goal.returns-clause-run
 returns-clause-run g c =
-    receiver_grew (words_of _ _ c.self.inside.ground.steps ∙ future_steps c.self.view_is)
-    (words_of _ _ c.poll.new.g.ground.now.steps) C.Poll c.poll.ensures.run
+    receiver_grew (words_of _ _ c.self.inside.ground.log ∙ future_steps c.self.view_is)
+    (words_of _ _ c.poll.new.g.ground.now.log) C.Poll c.poll.ensures.run
 
 pub returns-clause-leaves : goal.returns-clause-leaves
 returns-clause-leaves g c =
-    subst (λ xs. LeavesPolled c.poll.result (receiver_at xs)) (words_of _ _ c.poll.new.g.ground.now.steps)
+    subst (λ xs. LeavesPolled c.poll.result (receiver_at xs)) (words_of _ _ c.poll.new.g.ground.now.log)
     c.poll.ensures.leaves
 
 pub returns-clause-stays_closed : goal.returns-clause-stays_closed
 returns-clause-stays_closed g c closed =
     c.poll.ensures.stays
-    (subst (λ xs. IsClosed (receiver_at xs))
-    (future_steps (sym c.self.view_is) ∙ sym (words_of _ _ c.self.inside.ground.steps)) closed)
+    (subst (λ xs. IsClosedAt (receiver_at xs))
+    (future_steps (sym c.self.view_is) ∙ sym (words_of _ _ c.self.inside.ground.log)) closed)
 
 pub returns-clause-closes : goal.returns-clause-closes
 returns-clause-closes g c = closed_polled c.poll.result (returns-clause-leaves g c)

@@ -7,6 +7,6 @@ use Rattle.oneshot_ends.proofs.ground.ReceiverOnWordReceiverGroundRouse.free.Goa
 
 pub invariant_of-self : goal.invariant_of-self
 invariant_of-self g c =
-    subst (λ freed. MayBeFreed freed (receiver_at c.self.inside.side.steps)) (sym c.of-self-inside.ensures)
+    subst (λ freed. MayBeFreed freed (receiver_at c.self.inside.side.log)) (sym c.of-self-inside.ensures)
     (may_free c.self.inside.freed.value _ _ _ c.slots.ensures (ap (λ s. s.message) c.self.view_is ∙ c.requires.message)
     (ap (λ s. s.waker) c.self.view_is ∙ c.requires.waker))

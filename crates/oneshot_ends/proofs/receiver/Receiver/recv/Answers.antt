@@ -1,7 +1,7 @@
 -- The goals that `recv` of `Receiver` leaves.
 use Rattle.std.proofs.Common.{sym, ap, subst}
 use Rattle.oneshot_machine.specs.Phases.{receiver_at}
-use Rattle.oneshot_drive.specs.BetweenCalls.{IsClosed}
+use Rattle.oneshot_drive.specs.BetweenCalls.{IsClosedAt}
 use Rattle.oneshot_ends.proofs.EndViews.{same_steps, same_about, lent_about, kept_about}
 use Rattle.oneshot_ends.proofs.GrewByRuns.{began_at}
 use Rattle.oneshot_ends.proofs.LentGrounds.{as_lent}
@@ -15,7 +15,7 @@ returns g c =
     record {
       stays_closed = λ closed.
           c.recv.ensures.stays
-          (subst (λ xs. IsClosed (receiver_at xs))
+          (subst (λ xs. IsClosedAt (receiver_at xs))
           (sym (began_at (ap (λ r. r.now) c.lend-lent.ensures) (same_steps c.self.view_is))) closed);
       kept = kept_about g.P.Promise.keeps c.recv.result
           (lent_about (ap (λ r. r.now) c.lend-lent.ensures) (same_about c.self.view_is)) c.recv.ensures.given;

@@ -3,7 +3,7 @@ use Rattle.std.proofs.Common.{sym, ap, ◌∙◌, subst}
 use Rattle.oneshot_machine.specs.Phases.{receiver_at}
 use Rattle.std.specs.Prelude.{◌↔◌, IsTrue}
 use Rattle.oneshot_machine.specs.declared.machine.receiver.ReceiverStart.TheVariants.{RecvTimeout}
-use Rattle.oneshot_drive.specs.BetweenCalls.{IsClosed, LeavesTimed}
+use Rattle.oneshot_drive.specs.BetweenCalls.{IsClosedAt, LeavesTimed}
 use Rattle.oneshot_drive.proofs.ReadyHands.{ready_timed}
 use Rattle.oneshot_ends.specs.Deadlines.{HasEnd}
 use Rattle.oneshot_ends.proofs.EndViews.{same_steps, same_about, lent_about, kept_about}
@@ -30,19 +30,19 @@ returns-clause-run g c =
       held = subst (λ ends. IsTrue ends ↔ HasEnd c.args.timeout c.args.reading) (sym c.has_end.ensures)
           (ends_where_held c.args.timeout c.args.reading c.after-deadline.result c.after-deadline.ensures);
       grew = receiver_grew (began_at (ap (λ r. r.now) c.lend-lent.ensures) (same_steps c.self.view_is))
-          (words_of _ _ c.recv_timeout.new.g.ground.now.steps) (RecvTimeout c.has_end.result)
+          (words_of _ _ c.recv_timeout.new.g.ground.now.log) (RecvTimeout c.has_end.result)
           c.recv_timeout.ensures.run;
     }
 
 pub returns-clause-leaves : goal.returns-clause-leaves
 returns-clause-leaves g c =
     subst (λ xs. LeavesTimed c.recv_timeout.result (receiver_at xs))
-    (words_of _ _ c.recv_timeout.new.g.ground.now.steps) c.recv_timeout.ensures.leaves
+    (words_of _ _ c.recv_timeout.new.g.ground.now.log) c.recv_timeout.ensures.leaves
 
 pub returns-clause-stays_closed : goal.returns-clause-stays_closed
 returns-clause-stays_closed g c = λ closed.
     c.recv_timeout.ensures.stays
-    (subst (λ xs. IsClosed (receiver_at xs))
+    (subst (λ xs. IsClosedAt (receiver_at xs))
     (sym (began_at (ap (λ r. r.now) c.lend-lent.ensures) (same_steps c.self.view_is))) closed)
 
 pub returns-clause-about : goal.returns-clause-about

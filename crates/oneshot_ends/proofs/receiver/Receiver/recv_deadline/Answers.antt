@@ -2,7 +2,7 @@
 use Rattle.std.proofs.Common.{sym, ap, ◌∙◌, subst}
 use Rattle.oneshot_machine.specs.Phases.{receiver_at}
 use Rattle.oneshot_machine.specs.declared.machine.receiver.ReceiverStart.TheVariants.{RecvDeadline}
-use Rattle.oneshot_drive.specs.BetweenCalls.{IsClosed, LeavesTimed}
+use Rattle.oneshot_drive.specs.BetweenCalls.{IsClosedAt, LeavesTimed}
 use Rattle.oneshot_drive.proofs.ReadyHands.{closed_in_time, open_too_late, ready_timed}
 use Rattle.oneshot_ends.proofs.EndViews.{same_steps, same_about, lent_about, kept_about}
 use Rattle.oneshot_ends.proofs.GrewByRuns.{words_of, began_at, receiver_grew}
@@ -23,17 +23,17 @@ invariant_of-self g c = (
 pub returns-clause-run : goal.returns-clause-run
 returns-clause-run g c =
     receiver_grew (began_at (ap (λ r. r.now) c.lend-lent.ensures) (same_steps c.self.view_is))
-    (words_of _ _ c.recv_deadline.new.g.ground.now.steps) RecvDeadline c.recv_deadline.ensures.run
+    (words_of _ _ c.recv_deadline.new.g.ground.now.log) RecvDeadline c.recv_deadline.ensures.run
 
 pub returns-clause-leaves : goal.returns-clause-leaves
 returns-clause-leaves g c =
     subst (λ xs. LeavesTimed c.recv_deadline.result (receiver_at xs))
-    (words_of _ _ c.recv_deadline.new.g.ground.now.steps) c.recv_deadline.ensures.leaves
+    (words_of _ _ c.recv_deadline.new.g.ground.now.log) c.recv_deadline.ensures.leaves
 
 pub returns-clause-stays_closed : goal.returns-clause-stays_closed
 returns-clause-stays_closed g c = λ closed.
     c.recv_deadline.ensures.stays
-    (subst (λ xs. IsClosed (receiver_at xs))
+    (subst (λ xs. IsClosedAt (receiver_at xs))
     (sym (began_at (ap (λ r. r.now) c.lend-lent.ensures) (same_steps c.self.view_is))) closed)
 
 pub returns-clause-closes : goal.returns-clause-closes

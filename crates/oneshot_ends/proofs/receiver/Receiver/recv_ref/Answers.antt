@@ -2,7 +2,7 @@
 use Rattle.std.proofs.Common.{sym, ap, ◌∙◌, subst}
 use Rattle.oneshot_machine.specs.Phases.{receiver_at}
 use Rattle.oneshot_machine.specs.declared.machine.receiver.ReceiverStart.TheVariants.{RecvRef}
-use Rattle.oneshot_drive.specs.BetweenCalls.{IsClosed, LeavesClosed}
+use Rattle.oneshot_drive.specs.BetweenCalls.{IsClosedAt, LeavesClosed}
 use Rattle.oneshot_drive.proofs.ReadyHands.{closed_by, ready_closed}
 use Rattle.oneshot_ends.proofs.EndViews.{same_steps, same_about, lent_about, kept_about}
 use Rattle.oneshot_ends.proofs.GrewByRuns.{words_of, began_at, receiver_grew}
@@ -22,17 +22,17 @@ invariant_of-self g c = (
 pub returns-clause-run : goal.returns-clause-run
 returns-clause-run g c =
     receiver_grew (began_at (ap (λ r. r.now) c.lend-lent.ensures) (same_steps c.self.view_is))
-    (words_of _ _ c.recv_ref.new.g.ground.now.steps) RecvRef c.recv_ref.ensures.run
+    (words_of _ _ c.recv_ref.new.g.ground.now.log) RecvRef c.recv_ref.ensures.run
 
 pub returns-clause-leaves : goal.returns-clause-leaves
 returns-clause-leaves g c =
-    subst (λ xs. LeavesClosed c.recv_ref.result (receiver_at xs)) (words_of _ _ c.recv_ref.new.g.ground.now.steps)
+    subst (λ xs. LeavesClosed c.recv_ref.result (receiver_at xs)) (words_of _ _ c.recv_ref.new.g.ground.now.log)
     c.recv_ref.ensures.leaves
 
 pub returns-clause-stays_closed : goal.returns-clause-stays_closed
 returns-clause-stays_closed g c = λ closed.
     c.recv_ref.ensures.stays
-    (subst (λ xs. IsClosed (receiver_at xs))
+    (subst (λ xs. IsClosedAt (receiver_at xs))
     (sym (began_at (ap (λ r. r.now) c.lend-lent.ensures) (same_steps c.self.view_is))) closed)
 
 pub returns-clause-closes : goal.returns-clause-closes

@@ -2,7 +2,7 @@
 use Rattle.std.proofs.Common.{sym, ◌∙◌, subst}
 use Rattle.oneshot_machine.specs.Phases.{receiver_at}
 use Rattle.oneshot_machine.specs.declared.machine.receiver.ReceiverStart.TheVariants.{TryRecv}
-use Rattle.oneshot_drive.specs.BetweenCalls.{IsClosed, Leaves}
+use Rattle.oneshot_drive.specs.BetweenCalls.{IsClosedAt, Leaves}
 use Rattle.oneshot_drive.proofs.ReadyHands.{closed_tried, open_tried, ready_still}
 use Rattle.oneshot_ends.proofs.EndViews.{same_steps, same_about, kept_about}
 use Rattle.oneshot_ends.proofs.GrewByRuns.{words_of, receiver_grew, try_recv_few}
@@ -17,19 +17,19 @@ invariant_of-self g c = (
 
 pub returns-clause-run : goal.returns-clause-run
 returns-clause-run g c =
-    receiver_grew (words_of _ _ c.self.inside.ground.steps ∙ same_steps c.self.view_is)
-    (words_of _ _ c.try_recv.new.g.steps) TryRecv c.try_recv.ensures.run
+    receiver_grew (words_of _ _ c.self.inside.ground.log ∙ same_steps c.self.view_is)
+    (words_of _ _ c.try_recv.new.g.log) TryRecv c.try_recv.ensures.run
 
 pub returns-clause-leaves : goal.returns-clause-leaves
 returns-clause-leaves g c =
-    subst (λ xs. Leaves c.try_recv.result (receiver_at xs)) (words_of _ _ c.try_recv.new.g.steps)
+    subst (λ xs. Leaves c.try_recv.result (receiver_at xs)) (words_of _ _ c.try_recv.new.g.log)
     c.try_recv.ensures.leaves
 
 pub returns-clause-stays_closed : goal.returns-clause-stays_closed
 returns-clause-stays_closed g c = λ closed.
     c.try_recv.ensures.stays
-    (subst (λ xs. IsClosed (receiver_at xs))
-    (same_steps (sym c.self.view_is) ∙ sym (words_of _ _ c.self.inside.ground.steps)) closed)
+    (subst (λ xs. IsClosedAt (receiver_at xs))
+    (same_steps (sym c.self.view_is) ∙ sym (words_of _ _ c.self.inside.ground.log)) closed)
 
 pub returns-clause-closes : goal.returns-clause-closes
 returns-clause-closes g c = closed_tried (returns-clause-leaves g c)

@@ -13,13 +13,13 @@ use Rattle.oneshot_ends.proofs.sender.Sender.send_kept.Goals as goal
 pub returns-else-send-clause-run : goal.returns-else-send-clause-run
 returns-else-send-clause-run g c =
     sender_grew
-    (words_of _ _ c.new-ground.result.steps ∙ ap (λ (s : Side _ _ _). s.steps) c.new-ground.ensures ∙ same_steps
+    (words_of _ _ c.new-ground.result.log ∙ ap (λ (s : Side _ _ _). s.log) c.new-ground.ensures ∙ same_steps
     c.self.view_is)
-    (words_of _ _ c.send.new.g.steps ∙ sym c.refused.ensures.steps)
+    (words_of _ _ c.send.new.g.log ∙ sym c.refused.ensures.log)
     Send
     (subst (λ sent. SenderRan Send (state_of c.new-ground.result).log (state_of c.send.new.g).log (send_reply sent)
     (c.args.message ∷ []) []) c.if-send.false c.send.ensures.run)
 
 pub refused-requires-clause-late : goal.refused-requires-clause-late
 refused-requires-clause-late g c =
-    subst (λ xs. IsLate (sender_at xs)) (words_of _ _ c.send.new.g.steps) (c.send.ensures.late c.if-send.false)
+    subst (λ xs. IsLate (sender_at xs)) (words_of _ _ c.send.new.g.log) (c.send.ensures.late c.if-send.false)

@@ -10,4 +10,4 @@ returns-clause-rule g c = rule_reads
 
 pub returns-clause-slots : goal.returns-clause-slots
 returns-clause-slots g c =
-    subst (λ s. ReceiverOwns (receiver_at s.steps) s.message s.waker) c.self.view_is (seat_owns c.self.invariant.0.has)
+    subst (λ s. ReceiverOwns (receiver_at s.log) s.message s.waker) c.self.view_is (seat_owns c.self.invariant.0.has)

@@ -7,4 +7,4 @@ use Rattle.oneshot_word.proofs.receiver.ReceiverSide.slots.Goals as goal
 
 pub returns : goal.returns
 returns g c =
-    subst (λ s. ReceiverOwns (receiver_at s.steps) s.message s.waker) c.self.view_is (seat_owns c.self.invariant.0.has)
+    subst (λ s. ReceiverOwns (receiver_at s.log) s.message s.waker) c.self.view_is (seat_owns c.self.invariant.0.has)
