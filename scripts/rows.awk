@@ -16,7 +16,7 @@ function position(text) {
     gsub(/  +/, " ", text)
     sub(/^ /, "", text)
     sub(/ $/, "", text)
-    sub(/^(Look|Ref|Timed|Value|Future|AsyncDrop|Drop) /, "", text)
+    sub(/^(Look|Try|Ref|Timed|Value|Future|AsyncDrop|Drop) /, "", text)
     if (text ~ / /) { sub(/ /, "(", text); text = text ")" }
     return text
 }
