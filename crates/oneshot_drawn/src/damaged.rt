@@ -11,7 +11,6 @@ use crate::damage::{Edit, apply};
 use crate::moves::move_of;
 use crate::run::{run, scripts_of};
 use crate::scripts::{Receiving, Sending};
-use oneshot_asserts::assert_equal_of;
 use std::alloc::AllocGlobal;
 use std::process::Abort;
 use std::test::Fail;
@@ -41,7 +40,7 @@ fn assert_refused(rt: &(impl Abort + AllocGlobal), damaged: Damaged) -> Result<(
         let Err(found) = audit(&scripts, &told) else {
             panic!(rt; "{name} is accepted")
         };
-        assert_equal_of(rt, found.to_string(rt.alloc())?.as_str(), *finding, name);
+        assert_eq!(rt; found.to_string(rt.alloc())?.as_str(), *finding, "{name}");
     }
     Ok(())
 }

@@ -1,7 +1,6 @@
 //! A number for all that traces tell, in its order, or for a text: a guard against change.
 
 use crate::auditor::Told;
-use oneshot_asserts::assert_equal_of;
 use oneshot_machine::machine::{Seen, Step};
 use oneshot_machine::states::Op;
 use oneshot_replay::{Entry, Made, Place, WakerName, WakerPlace};
@@ -169,7 +168,7 @@ fn texts_have_their_digests(rt: HostRuntime) -> Result<(), Fail> {
     for (text, digest) in rows {
         let mut met = Digest::new();
         met.write_all(text.as_bytes())?;
-        assert_equal_of(&rt, met.value(), digest, text);
+        assert_eq!(rt; met.value(), digest, "{text}");
     }
     Ok(())
 }

@@ -6,7 +6,6 @@ use crate::digest::Digest;
 use crate::moves::Draws;
 use crate::run::{print_run, run, scripts_of};
 use crate::scripts::{Receiving, Sending};
-use oneshot_asserts::assert_equal_of;
 use oneshot_replay::Move;
 use std::alloc::AllocGlobal;
 use std::process::Abort;
@@ -38,8 +37,16 @@ fn assert_drawn(rt: &(impl Abort + AllocGlobal), pair: Pair) -> Result<(), Fail>
         let played = scripts_of(rt.alloc(), sender, receiver)?;
         print_run(&mut printed, played, &moves)?;
     }
-    assert_equal_of(rt, told_all.value(), traces, (sender, receiver));
-    assert_equal_of(rt, printed.value(), texts, (sender, receiver));
+    assert_eq!(rt;
+        told_all.value(),
+        traces,
+        "traces of {sender:?} beside {receiver:?}"
+    );
+    assert_eq!(rt;
+        printed.value(),
+        texts,
+        "texts of {sender:?} beside {receiver:?}"
+    );
     Ok(())
 }
 

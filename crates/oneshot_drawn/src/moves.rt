@@ -1,6 +1,5 @@
 //! Moves: of letters, and drawn from a seed.
 
-use oneshot_asserts::assert_equal_of;
 use oneshot_replay::Move;
 use std::process::Abort;
 
@@ -72,7 +71,7 @@ fn seeds_draw_their_moves(rt: HostRuntime) {
     for (seed, letters) in rows {
         let mut draws = Draws::new(seed);
         for letter in letters.chars() {
-            assert_equal_of(&rt, draws.draw(), move_of(&rt, letter), seed);
+            assert_eq!(rt; draws.draw(), move_of(&rt, letter), "seed {seed}");
         }
     }
 }

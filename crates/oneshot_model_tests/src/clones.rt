@@ -1,6 +1,5 @@
 //! The clones that a future has beside its channel, over tasks that may make no waker.
 
-use oneshot_asserts::assert_equal;
 use oneshot_ends::Copies;
 use std::sync::atomic::{AtomicU64, Ordering};
 
@@ -77,12 +76,12 @@ fn a_refused_copy_keeps_the_spare_of_another_task(rt: HostRuntime) {
     let channel = stored(&mut copies, channel);
     // The third poll, with the first task's clone in hand: that is no clone of the second task.
     assert!(rt; !second.copy(&mut copies, false));
-    assert_equal(&rt, (first.wakes(), second.wakes()), (0, 1));
+    assert_eq!(rt; (first.wakes(), second.wakes()), (0, 1));
     let spare = copies.take_of(1);
     assert!(rt; spare.is_some());
     assert!(rt; channel.is_some());
     drop((spare, channel));
-    assert_equal(&rt, (first.wakes(), second.wakes()), (1, 2));
+    assert_eq!(rt; (first.wakes(), second.wakes()), (1, 2));
 }
 
 #[test]
@@ -94,12 +93,12 @@ fn a_copy_that_was_made_wakes_the_other_task_of_the_spare(rt: HostRuntime) {
     assert!(rt; second.copy(&mut copies, true));
     let channel = stored(&mut copies, channel);
     assert!(rt; second.copy(&mut copies, true));
-    assert_equal(&rt, (first.wakes(), second.wakes()), (1, 0));
+    assert_eq!(rt; (first.wakes(), second.wakes()), (1, 0));
     let channel = stored(&mut copies, channel);
     assert!(rt; channel.is_some());
     // Its own spare is the clone that is made next: nobody is woken.
     assert!(rt; second.copy(&mut copies, false));
-    assert_equal(&rt, (first.wakes(), second.wakes()), (1, 0));
+    assert_eq!(rt; (first.wakes(), second.wakes()), (1, 0));
     drop(channel);
-    assert_equal(&rt, (first.wakes(), second.wakes()), (1, 1));
+    assert_eq!(rt; (first.wakes(), second.wakes()), (1, 1));
 }

@@ -1,6 +1,5 @@
 //! Runs that are stepped by hand.
 
-use oneshot_asserts::{assert_equal, assert_equal_of};
 use oneshot_machine::machine::{End, ReceiverStart, Seen, SenderCall, Step};
 use oneshot_machine::states::Op;
 use oneshot_replay::{
@@ -42,15 +41,15 @@ fn a_refused_message_is_followed_move_by_move(rt: HostRuntime) {
         last: ReceiverLast::Drop,
     };
     let mut replayer = Replayer::new(send(7, ErrorLast::IntoInner), receiver);
-    assert_equal(&rt, replayer.sender_call(), Some(SenderCall::Send));
-    assert_equal(&rt, replayer.receiver_call(), Some(ReceiverStart::Drop));
+    assert_eq!(rt; replayer.sender_call(), Some(SenderCall::Send));
+    assert_eq!(rt; replayer.receiver_call(), Some(ReceiverStart::Drop));
     for (i, (made, sender, receiver, freed)) in cases.iter().enumerate() {
         let number = i + 1;
         let _ = replayer.step(*made);
-        assert_equal(&rt, replayer.count(), number);
-        assert_equal_of(&rt, replayer.sender_call(), *sender, number);
-        assert_equal_of(&rt, replayer.receiver_call(), *receiver, number);
-        assert_equal_of(&rt, replayer.block_freed(), *freed, number);
+        assert_eq!(rt; replayer.count(), number);
+        assert_eq!(rt; replayer.sender_call(), *sender, "after move {number}");
+        assert_eq!(rt; replayer.receiver_call(), *receiver, "after move {number}");
+        assert_eq!(rt; replayer.block_freed(), *freed, "after move {number}");
     }
     assert!(rt; matches!(replayer.into_rest(), Some(Rest::FromError(7))));
 }
@@ -90,8 +89,8 @@ fn a_receiver_that_nobody_wakes_parks_and_loads_in_turn(rt: HostRuntime) -> Resu
     let mut replayer = Replayer::new(send(7, ErrorLast::Stop), receiver);
     for i in 0..MOVES {
         let number = i + 1;
-        assert_equal_of(&rt, replayer.step(RECEIVER), waiting(number), number);
+        assert_eq!(rt; replayer.step(RECEIVER), waiting(number), "entry {number}");
     }
-    assert_equal(&rt, replayer.count(), MOVES);
+    assert_eq!(rt; replayer.count(), MOVES);
     Ok(())
 }

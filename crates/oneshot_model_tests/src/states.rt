@@ -1,6 +1,5 @@
 //! The operations on the word.
 
-use oneshot_asserts::assert_equal_of;
 use oneshot_machine::states::Op;
 
 #[test]
@@ -15,7 +14,7 @@ fn each_operation_leaves_its_word(rt: HostRuntime) {
     ];
     for (op, left) in rows {
         for word in 0..5u8 {
-            assert_equal_of(&rt, op.after(word), left[word as usize], (op, word));
+            assert_eq!(rt; op.after(word), left[word as usize], "{op:?} of {word}");
         }
     }
 }

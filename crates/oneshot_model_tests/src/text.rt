@@ -5,7 +5,6 @@ mod faults;
 mod fronts;
 mod order;
 
-use oneshot_asserts::assert_equal_of;
 use oneshot_text::parse_request;
 use std::alloc::AllocGlobal;
 use std::process::Abort;
@@ -19,7 +18,7 @@ fn assert_faults(rt: &(impl Abort + AllocGlobal), cases: &[Case]) -> Result<(), 
         let Err(error) = parse_request(rt.alloc(), text) else {
             panic!(rt; "{text:?} asks for a run")
         };
-        assert_equal_of(rt, error.to_string(rt.alloc())?.as_str(), *fault, text);
+        assert_eq!(rt; error.to_string(rt.alloc())?.as_str(), *fault, "{text:?}");
     }
     Ok(())
 }

@@ -3,17 +3,16 @@
 use futures::task::Poll;
 use oneshot::drive::poll;
 use oneshot::memory::{MemoryFuture, MemoryTask};
-use oneshot_asserts::assert_equal;
 
 #[test]
 fn multiple_receiver_polls_keeps_only_latest_waker(rt: HostRuntime) {
     let first = MemoryTask::new();
     let second = MemoryTask::new();
     let mut receiver = MemoryFuture::<'_, '_, (), _>::new(&rt, rt.alloc(), &first);
-    assert_equal(&rt, poll(&mut receiver), Poll::Pending);
-    assert_equal(&rt, (first.copies(), first.ended()), (1, 0));
+    assert_eq!(rt; poll(&mut receiver), Poll::Pending);
+    assert_eq!(rt; (first.copies(), first.ended()), (1, 0));
     receiver.task = &second;
-    assert_equal(&rt, poll(&mut receiver), Poll::Pending);
-    assert_equal(&rt, (second.copies(), second.ended()), (1, 0));
-    assert_equal(&rt, (first.copies(), first.ended()), (1, 1));
+    assert_eq!(rt; poll(&mut receiver), Poll::Pending);
+    assert_eq!(rt; (second.copies(), second.ended()), (1, 0));
+    assert_eq!(rt; (first.copies(), first.ended()), (1, 1));
 }

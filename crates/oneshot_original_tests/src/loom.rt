@@ -10,7 +10,6 @@ use futures::task::Poll;
 use futures::test::MockTask;
 use oneshot::memory::{MemoryFuture, MemoryTask};
 use oneshot::{async_channel, channel, drive};
-use oneshot_asserts::assert_equal;
 use std::test::Fail;
 use std::time::Duration;
 
@@ -24,7 +23,7 @@ fn try_recv(rt: HostRuntime) -> Result<(), Fail> {
             |mut receiver| poll(&rt, &mut receiver),
         );
         assert!(rt; sent);
-        assert_equal(&rt, received, Ok(19));
+        assert_eq!(rt; received, Ok(19));
     }
     Ok(())
 }
@@ -40,7 +39,7 @@ fn send_recv_different_threads(rt: HostRuntime) -> Result<(), Fail> {
             |mut receiver| receiver.recv_timeout(patience()),
         );
         assert!(rt; sent);
-        assert_equal(&rt, received, Ok(9));
+        assert_eq!(rt; received, Ok(9));
     }
     Ok(())
 }
@@ -69,7 +68,7 @@ fn async_recv(rt: HostRuntime) -> Result<(), Fail> {
             |receiver| block_on(&rt, receiver.into_future()),
         );
         assert!(rt; sent);
-        assert_equal(&rt, received?, Ok(987));
+        assert_eq!(rt; received?, Ok(987));
     }
     Ok(())
 }
@@ -84,14 +83,14 @@ fn send_then_poll(rt: HostRuntime) -> Result<(), Fail> {
     let task = MockTask::new(&rt)?;
     let (sender, mut receiver) = async_channel(&rt, rt.alloc())?;
     assert!(rt; sender.send(1234u128).is_ok());
-    assert_equal(&rt, task.poll(&mut receiver), Poll::Ready(Ok(1234)));
+    assert_eq!(rt; task.poll(&mut receiver), Poll::Ready(Ok(1234)));
     assert!(rt; !task.is_woken());
 
     let task = MemoryTask::new();
     let mut receiver = MemoryFuture::<'_, '_, u128, _>::new(&rt, rt.alloc(), &task);
     receiver.receiver.sender_sends(1234);
-    assert_equal(&rt, drive::poll(&mut receiver), Poll::Ready(Ok(1234)));
-    assert_equal(&rt, counts(&task), (0, 0, 0));
+    assert_eq!(rt; drive::poll(&mut receiver), Poll::Ready(Ok(1234)));
+    assert_eq!(rt; counts(&task), (0, 0, 0));
     Ok(())
 }
 
@@ -101,7 +100,7 @@ fn poll_then_drop_receiver_during_send(rt: HostRuntime) -> Result<(), Fail> {
     let task = MockTask::new(&rt)?;
     for _ in 0..ROUNDS {
         let (sender, mut receiver) = async_channel(&rt, rt.alloc())?;
-        assert_equal(&rt, task.poll(&mut receiver), Poll::Pending);
+        assert_eq!(rt; task.poll(&mut receiver), Poll::Pending);
         on_two_threads(
             &rt,
             (sender, receiver),
@@ -116,21 +115,21 @@ fn poll_then_drop_receiver_during_send(rt: HostRuntime) -> Result<(), Fail> {
 fn poll_then_send(rt: HostRuntime) -> Result<(), Fail> {
     let task = MockTask::new(&rt)?;
     let (sender, mut receiver) = async_channel(&rt, rt.alloc())?;
-    assert_equal(&rt, task.poll(&mut receiver), Poll::Pending);
+    assert_eq!(rt; task.poll(&mut receiver), Poll::Pending);
     assert!(rt; !task.is_woken());
     assert!(rt; sender.send(1234u128).is_ok());
     assert!(rt; task.is_woken());
-    assert_equal(&rt, task.poll(&mut receiver), Poll::Ready(Ok(1234)));
+    assert_eq!(rt; task.poll(&mut receiver), Poll::Ready(Ok(1234)));
     assert!(rt; !task.is_woken());
 
     let task = MemoryTask::new();
     let mut receiver = MemoryFuture::<'_, '_, u128, _>::new(&rt, rt.alloc(), &task);
-    assert_equal(&rt, drive::poll(&mut receiver), Poll::Pending);
-    assert_equal(&rt, counts(&task), (1, 0, 0));
+    assert_eq!(rt; drive::poll(&mut receiver), Poll::Pending);
+    assert_eq!(rt; counts(&task), (1, 0, 0));
     receiver.receiver.sender_sends(1234);
-    assert_equal(&rt, counts(&task), (1, 1, 1));
-    assert_equal(&rt, drive::poll(&mut receiver), Poll::Ready(Ok(1234)));
-    assert_equal(&rt, counts(&task), (1, 1, 1));
+    assert_eq!(rt; counts(&task), (1, 1, 1));
+    assert_eq!(rt; drive::poll(&mut receiver), Poll::Ready(Ok(1234)));
+    assert_eq!(rt; counts(&task), (1, 1, 1));
     Ok(())
 }
 
@@ -139,29 +138,21 @@ fn poll_with_different_wakers(rt: HostRuntime) -> Result<(), Fail> {
     let first = MockTask::new(&rt)?;
     let second = MockTask::new(&rt)?;
     let (sender, mut receiver) = async_channel(&rt, rt.alloc())?;
-    assert_equal(&rt, first.poll(&mut receiver), Poll::Pending);
-    assert_equal(&rt, second.poll(&mut receiver), Poll::Pending);
-    assert_equal(&rt, (first.is_woken(), second.is_woken()), (false, false));
+    assert_eq!(rt; first.poll(&mut receiver), Poll::Pending);
+    assert_eq!(rt; second.poll(&mut receiver), Poll::Pending);
+    assert_eq!(rt; (first.is_woken(), second.is_woken()), (false, false));
     assert!(rt; sender.send(1234u128).is_ok());
-    assert_equal(&rt, (first.is_woken(), second.is_woken()), (false, true));
+    assert_eq!(rt; (first.is_woken(), second.is_woken()), (false, true));
 
     let first = MemoryTask::new();
     let second = MemoryTask::new();
     let mut receiver = MemoryFuture::<'_, '_, u128, _>::new(&rt, rt.alloc(), &first);
-    assert_equal(&rt, drive::poll(&mut receiver), Poll::Pending);
-    assert_equal(&rt, counts(&first), (1, 0, 0));
+    assert_eq!(rt; drive::poll(&mut receiver), Poll::Pending);
+    assert_eq!(rt; counts(&first), (1, 0, 0));
     receiver.task = &second;
-    assert_equal(&rt, drive::poll(&mut receiver), Poll::Pending);
-    assert_equal(
-        &rt,
-        (counts(&first), counts(&second)),
-        ((1, 1, 0), (1, 0, 0)),
-    );
+    assert_eq!(rt; drive::poll(&mut receiver), Poll::Pending);
+    assert_eq!(rt; (counts(&first), counts(&second)), ((1, 1, 0), (1, 0, 0)));
     receiver.receiver.sender_sends(1234);
-    assert_equal(
-        &rt,
-        (counts(&first), counts(&second)),
-        ((1, 1, 0), (1, 1, 1)),
-    );
+    assert_eq!(rt; (counts(&first), counts(&second)), ((1, 1, 0), (1, 1, 1)));
     Ok(())
 }

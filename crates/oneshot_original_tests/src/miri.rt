@@ -8,7 +8,6 @@ use futures::test::MockTask;
 use oneshot::{
     AsyncReceiver, RecvError, RecvTimeoutError, Sender, TryRecvError, async_channel, channel,
 };
-use oneshot_asserts::assert_equal;
 use std::alloc::AllocGlobal;
 use std::hint::spin_loop;
 use std::io;
@@ -70,7 +69,7 @@ fn tx_send_rx_drop(rt: HostRuntime) -> Result<(), Fail> {
 fn tx_send_rx_recv_done(rt: HostRuntime) -> Result<(), Fail> {
     for _ in 0..ROUNDS {
         let answers = beside_a_send(&rt, channel(&rt, rt.alloc())?, |receiver| receiver.recv());
-        assert_equal(&rt, answers, (Ok(999), None));
+        assert_eq!(rt; answers, (Ok(999), None));
     }
     Ok(())
 }
@@ -83,7 +82,7 @@ fn tx_send_rx_recv_ref(rt: HostRuntime) -> Result<(), Fail> {
             channel(&rt, rt.alloc())?,
             |mut receiver| receiver.recv_ref(),
         );
-        assert_equal(&rt, answers, (Ok(999), None));
+        assert_eq!(rt; answers, (Ok(999), None));
     }
     Ok(())
 }
@@ -111,7 +110,7 @@ fn tx_send_rx_try_recv_to_completion(rt: HostRuntime) -> Result<(), Fail> {
             channel(&rt, rt.alloc())?,
             |mut receiver| poll(&rt, &mut receiver),
         );
-        assert_equal(&rt, answers, (Ok(999), None));
+        assert_eq!(rt; answers, (Ok(999), None));
     }
     Ok(())
 }
@@ -137,7 +136,7 @@ fn tx_send_rx_poll_to_completion(rt: HostRuntime) -> Result<(), Fail> {
             async_channel(&rt, rt.alloc())?,
             |receiver| poll_to_completion(&rt, receiver),
         );
-        assert_equal(&rt, (received?, back), (Ok(999), None));
+        assert_eq!(rt; (received?, back), (Ok(999), None));
     }
     Ok(())
 }
@@ -168,7 +167,7 @@ fn tx_drop_rx_drop(rt: HostRuntime) -> Result<(), Fail> {
 fn tx_drop_rx_recv_done(rt: HostRuntime) -> Result<(), Fail> {
     for _ in 0..ROUNDS {
         let received = beside_a_drop(&rt, channel(&rt, rt.alloc())?, |receiver| receiver.recv());
-        assert_equal(&rt, received, Err(RecvError));
+        assert_eq!(rt; received, Err(RecvError));
     }
     Ok(())
 }
@@ -181,7 +180,7 @@ fn tx_drop_rx_recv_ref(rt: HostRuntime) -> Result<(), Fail> {
             channel(&rt, rt.alloc())?,
             |mut receiver| receiver.recv_ref(),
         );
-        assert_equal(&rt, received, Err(RecvError));
+        assert_eq!(rt; received, Err(RecvError));
     }
     Ok(())
 }
@@ -207,7 +206,7 @@ fn tx_drop_rx_try_recv_to_completion(rt: HostRuntime) -> Result<(), Fail> {
             channel(&rt, rt.alloc())?,
             |mut receiver| poll(&rt, &mut receiver),
         );
-        assert_equal(&rt, received, Err(TryRecvError::Disconnected));
+        assert_eq!(rt; received, Err(TryRecvError::Disconnected));
     }
     Ok(())
 }
@@ -233,7 +232,7 @@ fn tx_drop_rx_poll_to_completion(rt: HostRuntime) -> Result<(), Fail> {
             async_channel(&rt, rt.alloc())?,
             |receiver| poll_to_completion(&rt, receiver),
         );
-        assert_equal(&rt, received?, Err(RecvError));
+        assert_eq!(rt; received?, Err(RecvError));
     }
     Ok(())
 }

@@ -1,7 +1,6 @@
 //! How long the tests wait, how late a receive may answer, and what they do on a busy machine.
 
 use oneshot::RecvTimeoutError;
-use oneshot_asserts::assert_equal;
 use std::fmt::Debug;
 use std::process::Abort;
 use std::test::Fail;
@@ -51,7 +50,7 @@ pub(super) fn answers<T: Debug + Drop + PartialEq>(
     if received == Err(RecvTimeoutError::Timeout) {
         return false;
     }
-    assert_equal(rt, received, wanted);
+    assert_eq!(rt; received, wanted);
     true
 }
 

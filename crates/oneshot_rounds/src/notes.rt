@@ -5,7 +5,6 @@ use super::channels::channels;
 use super::races::race;
 use super::receives::{PollUntil, Receives, Recv, RecvRef, RecvTimeout, TryUntil};
 use futures::test::MockTask;
-use oneshot_asserts::assert_equal;
 use std::alloc::{AllocError, Global};
 use std::process::Abort;
 use std::sync::Wait;
@@ -52,7 +51,7 @@ fn assert_finds_notes<R: Threads + Wait + Abort + Clock + AllocGlobal + Sync>(
         },
         |(round, receiver)| {
             let received = receives.receive(receiver);
-            assert_equal(rt, round.note.load(Ordering::SeqCst), round.number);
+            assert_eq!(rt; round.note.load(Ordering::SeqCst), round.number);
             received
         },
     );

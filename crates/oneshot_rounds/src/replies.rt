@@ -4,7 +4,6 @@ use super::answers::Outcome;
 use super::races::race;
 use oneshot::reply::{Answer, Length, Request, Ticket, request};
 use oneshot::{RecvError, RecvTimeoutError};
-use oneshot_asserts::assert_equal;
 use std::alloc::{AllocError, AllocGlobal};
 use std::hint::spin_loop;
 use std::process::Abort;
@@ -70,14 +69,14 @@ fn answer_late(rt: &impl Abort, request: Asking) -> Result<(), Told> {
 fn assert_own<A: Copy, F: Fn(A) -> Option<Told>>(rt: &impl Abort, outcomes: &[Outcome<A>], said: F)
     requires { F.IsAlwaysCallable said }
 {
-    assert_equal(rt, outcomes.len(), 1_000);
+    assert_eq!(rt; outcomes.len(), 1_000);
     for (round, outcome) in (0u64..).zip(outcomes) {
         let digits = match round {
             0..=9 => 1,
             10..=99 => 2,
             _ => 3,
         };
-        assert_equal(rt, said(outcome.answer), Some((round, digits)));
+        assert_eq!(rt; said(outcome.answer), Some((round, digits)));
     }
 }
 
@@ -108,7 +107,7 @@ fn no_ticket_of_a_dropped_request_gets_a_reply(rt: HostRuntime) -> Result<(), Fa
         |request| drop(request),
         |ticket| ticket.wait().map(|length| length.bytes()),
     );
-    assert_equal(&rt, replies.len(), 1_000);
+    assert_eq!(rt; replies.len(), 1_000);
     assert!(rt;
         replies
             .iter()

@@ -8,7 +8,6 @@ use super::races::race;
 use futures::task::Poll;
 use futures::test::MockTask;
 use oneshot::{AsyncReceiver, Sender, async_channel};
-use oneshot_asserts::assert_equal;
 use std::alloc::AllocGlobal;
 use std::process::Abort;
 use std::random::RandomSource;
@@ -46,7 +45,7 @@ fn waiting_channels<R: AllocGlobal + RandomSource + Abort>(
         let task = MockTask::new(rt)?;
         let (sender, future) = async_channel(rt, rt.alloc())?;
         let mut waiting = Waiting { task, future };
-        assert_equal(rt, waiting.poll(), Err(NothingYet));
+        assert_eq!(rt; waiting.poll(), Err(NothingYet));
         assert!(rt; !waiting.task.is_woken());
         senders.push(sender)?;
         receivers.push(waiting)?;
@@ -69,7 +68,7 @@ fn assert_woken<Rt: Drop>(
         } else {
             Err(Disconnected)
         };
-        assert_equal(rt, waiting.poll(), wanted);
+        assert_eq!(rt; waiting.poll(), wanted);
     }
 }
 

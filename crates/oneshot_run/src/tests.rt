@@ -9,7 +9,6 @@ mod streams;
 mod traces;
 
 use crate::answer;
-use oneshot_asserts::assert_equal_of;
 use std::alloc::{AllocError, Global};
 use std::process::Abort;
 
@@ -32,7 +31,7 @@ fn told(rt: &(impl Abort + AllocGlobal), input: &[u8]) -> String {
 
 /// Fails unless this input has this output.
 fn assert_trace(rt: &(impl Abort + AllocGlobal), input: &str, output: &str) {
-    assert_equal_of(rt, told(rt, input.as_bytes()).as_str(), output, input);
+    assert_eq!(rt; told(rt, input.as_bytes()).as_str(), output, "{input}");
 }
 
 /// Fails unless each input has its output.

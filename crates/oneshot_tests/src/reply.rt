@@ -3,7 +3,6 @@
 use futures::executor::block_on;
 use oneshot::reply::{Answer, Length, Request, Ticket, request};
 use oneshot::{RecvError, RecvTimeoutError, TryRecvError};
-use oneshot_asserts::assert_equal;
 use std::alloc::{AllocError, Global};
 use std::test::Fail;
 use std::time::Duration;
@@ -37,15 +36,14 @@ fn bytes_of(length: Length) -> usize {
 #[test]
 fn a_reply_is_taken_once(rt: HostRuntime) -> Result<(), Fail> {
     let (request, mut ticket) = ask((), rt.alloc())?;
-    assert_equal(&rt, request.question().as_str(), TEXT);
+    assert_eq!(rt; request.question().as_str(), TEXT);
     assert!(rt; !request.is_cancelled() && !ticket.is_closed());
     assert!(rt; answer(request)?.is_ok());
     assert!(rt; !ticket.is_closed());
-    assert_equal(&rt, ticket.try_take().map(bytes_of), Ok(21));
-    assert_equal(
-        &rt,
+    assert_eq!(rt; ticket.try_take().map(bytes_of), Ok(21));
+    assert_eq!(rt;
         ticket.try_take().map(bytes_of),
-        Err(TryRecvError::Disconnected),
+        Err(TryRecvError::Disconnected)
     );
     assert!(rt; ticket.is_closed());
     Ok(())
@@ -59,8 +57,8 @@ fn an_answer_without_a_ticket_gives_the_reply_back(rt: HostRuntime) -> Result<()
     let Err(length) = answer(request)? else {
         return Err(Fail::new("an answer without a ticket"));
     };
-    assert_equal(&rt, length.bytes(), 21);
-    assert_equal(&rt, length.question().as_str(), TEXT);
+    assert_eq!(rt; length.bytes(), 21);
+    assert_eq!(rt; length.question().as_str(), TEXT);
     Ok(())
 }
 
@@ -69,31 +67,25 @@ fn a_dropped_request_has_no_reply(rt: HostRuntime) -> Result<(), Fail> {
     let (request, ticket) = ask(&rt, rt.alloc())?;
     drop(request);
     assert!(rt; ticket.is_closed());
-    assert_equal(&rt, ticket.wait().map(bytes_of), Err(RecvError));
+    assert_eq!(rt; ticket.wait().map(bytes_of), Err(RecvError));
     Ok(())
 }
 
 #[test]
 fn a_request_that_is_there_has_no_reply_yet(rt: HostRuntime) -> Result<(), Fail> {
     let (request, mut ticket) = ask(&rt, rt.alloc())?;
-    assert_equal(
-        &rt,
-        ticket.try_take().map(bytes_of),
-        Err(TryRecvError::Empty),
-    );
+    assert_eq!(rt; ticket.try_take().map(bytes_of), Err(TryRecvError::Empty));
     let moment = Duration::from_millis(1);
-    assert_equal(
-        &rt,
+    assert_eq!(rt;
         ticket.wait_for(moment).map(bytes_of),
-        Err(RecvTimeoutError::Timeout),
+        Err(RecvTimeoutError::Timeout)
     );
     assert!(rt; !request.is_cancelled());
     assert!(rt; answer(request)?.is_ok());
-    assert_equal(&rt, ticket.wait_for(moment).map(bytes_of), Ok(21));
-    assert_equal(
-        &rt,
+    assert_eq!(rt; ticket.wait_for(moment).map(bytes_of), Ok(21));
+    assert_eq!(rt;
         ticket.wait_for(moment).map(bytes_of),
-        Err(RecvTimeoutError::Disconnected),
+        Err(RecvTimeoutError::Disconnected)
     );
     Ok(())
 }
@@ -102,7 +94,7 @@ fn a_request_that_is_there_has_no_reply_yet(rt: HostRuntime) -> Result<(), Fail>
 fn a_reply_is_waited_for(rt: HostRuntime) -> Result<(), Fail> {
     let (request, ticket) = ask(&rt, rt.alloc())?;
     assert!(rt; answer(request)?.is_ok());
-    assert_equal(&rt, ticket.wait().map(bytes_of), Ok(21));
+    assert_eq!(rt; ticket.wait().map(bytes_of), Ok(21));
     Ok(())
 }
 
@@ -110,11 +102,7 @@ fn a_reply_is_waited_for(rt: HostRuntime) -> Result<(), Fail> {
 fn a_reply_is_awaited(rt: HostRuntime) -> Result<(), Fail> {
     let (request, ticket) = ask((), rt.alloc())?;
     assert!(rt; answer(request)?.is_ok());
-    assert_equal(
-        &rt,
-        block_on(&rt, ticket.into_future())?.map(bytes_of),
-        Ok(21),
-    );
+    assert_eq!(rt; block_on(&rt, ticket.into_future())?.map(bytes_of), Ok(21));
     Ok(())
 }
 

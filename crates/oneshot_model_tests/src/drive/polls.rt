@@ -3,7 +3,6 @@
 
 use crate::drive::steps::steps_of;
 use futures::task::Poll;
-use oneshot_asserts::assert_equal;
 use oneshot_drive::{async_try_recv, drop_async, poll};
 use oneshot_errors::{RecvError, TryRecvError};
 use oneshot_memory::{MemoryFuture, MemoryTask};
@@ -50,7 +49,7 @@ fn a_refused_copy_wakes_its_task(rt: HostRuntime) -> Result<(), Fail> {
     assert!(rt; matches!(&poll(&mut g), Poll::Pending));
     assert!(rt; counts(&task) == (0, 0, 1));
     let steps = steps_of(rt.alloc(), g.receiver.events())?;
-    assert_equal(&rt, steps.as_str(), "load:3, copy:refused, wake-own");
+    assert_eq!(rt; steps.as_str(), "load:3, copy:refused, wake-own");
     g.receiver.sender_sends(1234);
     assert!(rt; matches!(&poll(&mut g), Poll::Ready(Ok(1234))));
     Ok(())
@@ -67,10 +66,9 @@ fn a_refused_copy_leaves_the_stored_one(rt: HostRuntime) -> Result<(), Fail> {
     assert!(rt; matches!(&poll(&mut g), Poll::Pending));
     assert!(rt; counts(&second) == (0, 0, 1));
     let steps = steps_of(rt.alloc(), g.receiver.events())?;
-    assert_equal(
-        &rt,
+    assert_eq!(rt;
         steps.as_str(),
-        "load:3, copy:made, write-waker, exchange 3 0:3, load:0, copy:refused, wake-own",
+        "load:3, copy:made, write-waker, exchange 3 0:3, load:0, copy:refused, wake-own"
     );
     g.receiver.sender_drops();
     assert!(rt; counts(&first) == (1, 1, 1));
@@ -100,16 +98,15 @@ fn a_dropped_future_ends_its_copy(rt: HostRuntime) {
 fn a_future_that_was_not_polled_finds_3_4_and_2(rt: HostRuntime) -> Result<(), Fail> {
     let task = MemoryTask::new();
     let mut g = MemoryFuture::<'_, '_, u64, _>::new(&rt, rt.alloc(), &task);
-    assert_equal(&rt, async_try_recv(&mut g), Err(TryRecvError::Empty));
+    assert_eq!(rt; async_try_recv(&mut g), Err(TryRecvError::Empty));
     g.receiver.sender_sends(1234);
-    assert_equal(&rt, async_try_recv(&mut g), Ok(1234));
-    assert_equal(&rt, async_try_recv(&mut g), Err(TryRecvError::Disconnected));
+    assert_eq!(rt; async_try_recv(&mut g), Ok(1234));
+    assert_eq!(rt; async_try_recv(&mut g), Err(TryRecvError::Disconnected));
     assert!(rt; counts(&task) == (0, 0, 0));
     let steps = steps_of(rt.alloc(), g.receiver.events())?;
-    assert_equal(
-        &rt,
+    assert_eq!(rt;
         steps.as_str(),
-        "load:3, load:4, store 2, take-message, load:2",
+        "load:3, load:4, store 2, take-message, load:2"
     );
     Ok(())
 }
@@ -120,17 +117,16 @@ fn a_look_leaves_the_copy_in_its_slot(rt: HostRuntime) -> Result<(), Fail> {
     let task = MemoryTask::new();
     let mut g = MemoryFuture::<'_, '_, u64, _>::new(&rt, rt.alloc(), &task);
     assert!(rt; matches!(&poll(&mut g), Poll::Pending));
-    assert_equal(&rt, async_try_recv(&mut g), Err(TryRecvError::Empty));
-    assert_equal(&rt, async_try_recv(&mut g), Err(TryRecvError::Empty));
+    assert_eq!(rt; async_try_recv(&mut g), Err(TryRecvError::Empty));
+    assert_eq!(rt; async_try_recv(&mut g), Err(TryRecvError::Empty));
     assert!(rt; counts(&task) == (1, 0, 0));
     g.receiver.sender_drops();
     assert!(rt; counts(&task) == (1, 1, 1));
-    assert_equal(&rt, async_try_recv(&mut g), Err(TryRecvError::Disconnected));
+    assert_eq!(rt; async_try_recv(&mut g), Err(TryRecvError::Disconnected));
     let steps = steps_of(rt.alloc(), g.receiver.events())?;
-    assert_equal(
-        &rt,
+    assert_eq!(rt;
         steps.as_str(),
-        "load:3, copy:made, write-waker, exchange 3 0:3, load:0, load:0, load:2",
+        "load:3, copy:made, write-waker, exchange 3 0:3, load:0, load:0, load:2"
     );
     Ok(())
 }
@@ -144,15 +140,14 @@ fn a_look_does_not_wait_for_a_sender_about_to_finish(rt: HostRuntime) -> Result<
     g.receiver.sender_will_send(0, 7);
     g.receiver.sender_will_linger(3);
     assert!(rt; matches!(&poll(&mut g), Poll::Pending));
-    assert_equal(&rt, async_try_recv(&mut g), Err(TryRecvError::Empty));
-    assert_equal(&rt, async_try_recv(&mut g), Err(TryRecvError::Empty));
-    assert_equal(&rt, async_try_recv(&mut g), Ok(7));
+    assert_eq!(rt; async_try_recv(&mut g), Err(TryRecvError::Empty));
+    assert_eq!(rt; async_try_recv(&mut g), Err(TryRecvError::Empty));
+    assert_eq!(rt; async_try_recv(&mut g), Ok(7));
     let steps = steps_of(rt.alloc(), g.receiver.events())?;
-    assert_equal(
-        &rt,
+    assert_eq!(rt;
         steps.as_str(),
         "load:3, copy:made, write-waker, exchange 3 0:3, load:0, copy:made, exchange 0 3:1, \
-        wake-own, load:1, load:1, load:4, store 2, take-message",
+        wake-own, load:1, load:1, load:4, store 2, take-message"
     );
     Ok(())
 }
@@ -167,16 +162,15 @@ fn no_poll_takes_longer_because_the_sender_is_between_its_two_swaps(
     assert!(rt; matches!(&poll(&mut g), Poll::Pending));
     g.receiver.sender_will_send(0, 7);
     g.receiver.sender_will_linger(u64::MAX);
-    assert_equal(&rt, async_try_recv(&mut g), Err(TryRecvError::Empty));
+    assert_eq!(rt; async_try_recv(&mut g), Err(TryRecvError::Empty));
     assert!(rt; matches!(&poll(&mut g), Poll::Pending));
     assert!(rt; matches!(&poll(&mut g), Poll::Pending));
     assert!(rt; matches!(&poll(&mut g), Poll::Pending));
     let steps = steps_of(rt.alloc(), g.receiver.events())?;
-    assert_equal(
-        &rt,
+    assert_eq!(rt;
         steps.as_str(),
         "load:3, copy:made, write-waker, exchange 3 0:3, load:0, load:1, wake-own, load:1, \
-        wake-own, load:1, wake-own",
+        wake-own, load:1, wake-own"
     );
     assert!(rt; counts(&task) == (1, 0, 3));
     Ok(())
@@ -189,7 +183,7 @@ fn a_poll_meets_the_sender_once_it_has_finished(rt: HostRuntime) {
     assert!(rt; matches!(&poll(&mut g), Poll::Pending));
     g.receiver.sender_will_send(0, 7);
     g.receiver.sender_will_linger(2);
-    assert_equal(&rt, async_try_recv(&mut g), Err(TryRecvError::Empty));
+    assert_eq!(rt; async_try_recv(&mut g), Err(TryRecvError::Empty));
     assert!(rt; matches!(&poll(&mut g), Poll::Pending));
     assert!(rt; counts(&task) == (1, 0, 1));
     assert!(rt; matches!(&poll(&mut g), Poll::Pending));
@@ -205,14 +199,13 @@ fn a_future_that_finds_1_leaves_its_copy_to_the_sender(rt: HostRuntime) -> Resul
     assert!(rt; matches!(&poll(&mut g), Poll::Pending));
     g.receiver.sender_will_send(0, 7);
     g.receiver.sender_will_linger(9);
-    assert_equal(&rt, async_try_recv(&mut g), Err(TryRecvError::Empty));
+    assert_eq!(rt; async_try_recv(&mut g), Err(TryRecvError::Empty));
     drop_async(&mut g);
     assert!(rt; counts(&task) == (1, 1, 1));
     let steps = steps_of(rt.alloc(), g.receiver.events())?;
-    assert_equal(
-        &rt,
+    assert_eq!(rt;
         steps.as_str(),
-        "load:3, copy:made, write-waker, exchange 3 0:3, load:0, load:1, swap 2:1",
+        "load:3, copy:made, write-waker, exchange 3 0:3, load:0, load:1, swap 2:1"
     );
     Ok(())
 }
@@ -230,10 +223,9 @@ fn a_future_whose_exchange_finds_1_leaves_its_copy_to_the_sender(
     drop_async(&mut g);
     assert!(rt; counts(&task) == (1, 1, 1));
     let steps = steps_of(rt.alloc(), g.receiver.events())?;
-    assert_equal(
-        &rt,
+    assert_eq!(rt;
         steps.as_str(),
-        "load:3, copy:made, write-waker, exchange 3 0:3, load:0, exchange 0 3:1, swap 2:1",
+        "load:3, copy:made, write-waker, exchange 3 0:3, load:0, exchange 0 3:1, swap 2:1"
     );
     Ok(())
 }
@@ -248,11 +240,10 @@ fn a_future_whose_exchange_finds_the_message_drops_it(rt: HostRuntime) -> Result
     drop_async(&mut g);
     assert!(rt; counts(&task) == (1, 1, 1));
     let steps = steps_of(rt.alloc(), g.receiver.events())?;
-    assert_equal(
-        &rt,
+    assert_eq!(rt;
         steps.as_str(),
         "load:3, copy:made, write-waker, exchange 3 0:3, load:0, exchange 0 3:4, swap 2:4, \
-        drop-message, free",
+        drop-message, free"
     );
     Ok(())
 }

@@ -4,7 +4,6 @@ use crate::drive::deeds::Deed::{
     Goes, OverAfter, RecvDeadline, RecvRef, RecvTimeout, Sends, TryRecv, WillGo, WillSend,
 };
 use crate::drive::deeds::{Deed, Last, outcome_of};
-use oneshot_asserts::assert_equal_of;
 use std::alloc::AllocGlobal;
 use std::process::Abort;
 use std::sync::Wait;
@@ -22,9 +21,9 @@ type Case = (
 fn assert_all<R: Wait + Abort + AllocGlobal>(rt: &R, cases: &[Case]) -> Result<(), Fail> {
     for (number, (deeds, last, answers, hand, steps)) in cases.iter().enumerate() {
         let outcome = outcome_of(rt, rt.alloc(), deeds, *last)?;
-        assert_equal_of(rt, outcome.answers.as_str(), *answers, number);
-        assert_equal_of(rt, outcome.hand, *hand, number);
-        assert_equal_of(rt, outcome.steps.as_str(), *steps, number);
+        assert_eq!(rt; outcome.answers.as_str(), *answers, "case {number}");
+        assert_eq!(rt; outcome.hand, *hand, "case {number}");
+        assert_eq!(rt; outcome.steps.as_str(), *steps, "case {number}");
     }
     Ok(())
 }

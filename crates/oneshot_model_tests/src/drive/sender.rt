@@ -3,7 +3,6 @@
 ghost use Rattle.oneshot_drive.specs.BetweenCalls.{IsFresh};
 
 use crate::drive::steps::steps_of;
-use oneshot_asserts::{assert_equal, assert_equal_of};
 use oneshot_drive::{drop_error, drop_sender, into_inner, send};
 use oneshot_memory::MemorySender;
 use std::alloc::Global;
@@ -75,13 +74,12 @@ fn send_makes_its_steps(rt: HostRuntime) -> Result<(), Fail> {
             assert!(rt; sent, "case {number}");
         } else {
             assert!(rt; !sent, "case {number}");
-            assert_equal(&rt, into_inner(&mut g), 7);
+            assert_eq!(rt; into_inner(&mut g), 7);
         }
-        assert_equal_of(
-            &rt,
+        assert_eq!(rt;
             steps_of(rt.alloc(), g.events())?.as_str(),
             steps,
-            number,
+            "case {number}"
         );
     }
     Ok(())
@@ -93,16 +91,14 @@ fn the_error_of_a_receiver_that_left_meanwhile_frees_once(rt: HostRuntime) -> Re
     if send(&mut g, 7) {
         panic!(rt; "the receiver left")
     }
-    assert_equal(
-        &rt,
+    assert_eq!(rt;
         steps_of(rt.alloc(), g.events())?.as_str(),
-        "write-message, add:0, take-waker, swap 4:2, wake",
+        "write-message, add:0, take-waker, swap 4:2, wake"
     );
     drop_error(&mut g);
-    assert_equal(
-        &rt,
+    assert_eq!(rt;
         steps_of(rt.alloc(), g.events())?.as_str(),
-        "write-message, add:0, take-waker, swap 4:2, wake, drop-message, free",
+        "write-message, add:0, take-waker, swap 4:2, wake, drop-message, free"
     );
     Ok(())
 }
@@ -119,11 +115,10 @@ fn the_senders_drop_makes_its_steps(rt: HostRuntime) -> Result<(), Fail> {
     for (number, (receiver, steps)) in cases.into_iter().enumerate() {
         let mut g = ground(&rt, rt.alloc(), receiver);
         drop_sender(&mut g);
-        assert_equal_of(
-            &rt,
+        assert_eq!(rt;
             steps_of(rt.alloc(), g.events())?.as_str(),
             steps,
-            number,
+            "case {number}"
         );
     }
     Ok(())

@@ -9,7 +9,6 @@ mod place;
 mod reading;
 
 use crate::tests::told;
-use oneshot_asserts::{assert_equal, assert_equal_of};
 use reading::{Asked, Kind, read};
 use std::process::Abort;
 use std::test::Fail;
@@ -25,7 +24,7 @@ fn assert_as_read(rt: &(impl Abort + AllocGlobal), input: &[u8]) -> Result<Kind,
         }
         Err(flaw) => {
             let fault = format!(in rt.alloc(); "2 {flaw}")?;
-            assert_equal_of(rt, output, fault, input.escape_ascii());
+            assert_eq!(rt; output, fault, "{}", input.escape_ascii());
             Ok(flaw.kind())
         }
     }
@@ -45,7 +44,7 @@ fn assert_trace(
     assert_rest(rt, lines.next().expect(rt, "a rest"), asked.message)?;
     let block = lines.next().expect(rt, "a block");
     assert!(rt; block == "block here" || block == "block freed", "{block}");
-    assert_equal(rt, lines.next(), None);
+    assert_eq!(rt; lines.next(), None);
     Ok(())
 }
 
@@ -69,7 +68,7 @@ fn assert_rest(
     message: Option<&str>,
 ) -> Result<(), Fail> {
     let Some(message) = message else {
-        assert_equal(rt, rest, "rest none");
+        assert_eq!(rt; rest, "rest none");
         return Ok(());
     };
     let end = format!(in rt.alloc(); "({message})")?;

@@ -2,7 +2,6 @@
 //! its lines.
 
 use crate::tests::told;
-use oneshot_asserts::{assert_equal, assert_equal_of};
 use std::test::Fail;
 
 #[test]
@@ -47,36 +46,32 @@ fn each_fault_of_the_three_lines(rt: HostRuntime) {
         ("S\nR\nX\n\n", "2 input after line 3"),
     ];
     for (input, fault) in faults {
-        assert_equal_of(&rt, told(&rt, input.as_bytes()).as_str(), fault, input);
+        assert_eq!(rt; told(&rt, input.as_bytes()).as_str(), fault, "{input:?}");
     }
 }
 
 #[test]
 fn bytes_above_127_are_not_ascii(rt: HostRuntime) {
-    assert_equal(
-        &rt,
+    assert_eq!(rt;
         told(&rt, b"S\nR\nX\n\x80").as_str(),
-        "2 input is not ASCII",
+        "2 input is not ASCII"
     );
-    assert_equal(
-        &rt,
+    assert_eq!(rt;
         told(&rt, "S é\nR\nX\n".as_bytes()).as_str(),
-        "2 input is not ASCII",
+        "2 input is not ASCII"
     );
-    assert_equal(
-        &rt,
+    assert_eq!(rt;
         told(&rt, b"S \x7f\nR\nX\n").as_str(),
-        "2 line 1: unknown word 1",
+        "2 line 1: unknown word 1"
     );
 }
 
 #[test]
 fn a_byte_above_127_is_told_before_any_line(rt: HostRuntime) {
-    assert_equal(&rt, told(&rt, b"\xff").as_str(), "2 input is not ASCII");
-    assert_equal(
-        &rt,
+    assert_eq!(rt; told(&rt, b"\xff").as_str(), "2 input is not ASCII");
+    assert_eq!(rt;
         told(&rt, b"Q\nR\nX\n\xff").as_str(),
-        "2 input is not ASCII",
+        "2 input is not ASCII"
     );
 }
 
@@ -88,9 +83,9 @@ fn a_long_input_is_told_before_all_else(rt: HostRuntime) -> Result<(), Fail> {
     ];
     for (byte, fault) in fitting {
         let mut input = vec![in rt.alloc(); byte; 1_048_577]?;
-        assert_equal_of(&rt, told(&rt, &input).as_str(), "2 input too long", byte);
+        assert_eq!(rt; told(&rt, &input).as_str(), "2 input too long", "of {byte}");
         input.pop();
-        assert_equal_of(&rt, told(&rt, &input).as_str(), fault, byte);
+        assert_eq!(rt; told(&rt, &input).as_str(), fault, "of {byte}");
     }
     Ok(())
 }

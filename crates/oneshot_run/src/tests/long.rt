@@ -1,7 +1,6 @@
 //! Long inputs: all is told of them, and the time grows with their length.
 
 use crate::tests::{receives, told};
-use oneshot_asserts::assert_equal;
 use std::process::Abort;
 use std::test::Fail;
 use std::time::{Clock, Duration, Instant};
@@ -9,7 +8,7 @@ use std::time::{Clock, Duration, Instant};
 #[test]
 fn as_many_bytes_as_an_input_may_have(rt: HostRuntime) -> Result<(), Fail> {
     let (input, output) = receives(rt.alloc(), 260_000, 8_563)?;
-    assert_equal(&rt, input.len(), 1_048_576);
+    assert_eq!(rt; input.len(), 1_048_576);
     assert!(rt; told(&rt, input.as_bytes()) == output);
     Ok(())
 }

@@ -1,7 +1,6 @@
 //! Inputs that are run.
 
 use crate::tests::{SENT, SENT_TRACE, assert_traces, told};
-use oneshot_asserts::assert_equal_of;
 use std::test::Fail;
 
 #[test]
@@ -672,7 +671,7 @@ block here
         "S\nR deadline\nX onornor\n",
     ];
     for input in schedules {
-        assert_equal_of(&rt, told(&rt, input.as_bytes()).as_str(), trace, input);
+        assert_eq!(rt; told(&rt, input.as_bytes()).as_str(), trace, "{input}");
     }
 }
 
@@ -697,7 +696,7 @@ fn traces_of_fronts_of_a_schedule(rt: HostRuntime) -> Result<(), Fail> {
             writeln!(output, "{line}")?;
         }
         writeln!(output, "rest {rest}\n{block}")?;
-        assert_equal_of(&rt, told(&rt, input.as_bytes()), output, moves);
+        assert_eq!(rt; told(&rt, input.as_bytes()), output, "{moves}");
     }
     Ok(())
 }

@@ -2,7 +2,6 @@
 
 use futures::executor::block_on;
 use oneshot::{Receiver, channel};
-use oneshot_asserts::assert_equal_of;
 use std::alloc::AllocGlobal;
 use std::io;
 use std::process::Abort;
@@ -81,7 +80,7 @@ fn a_receive_that_waits_uses_little_processor_time(rt: HostRuntime) -> Result<()
     ];
     for by in receives {
         let (received, used) = time_of(&rt, by)?;
-        assert_equal_of(&rt, received, Some(19), by);
+        assert_eq!(rt; received, Some(19), "{by:?}");
         assert!(rt; used < Duration::from_millis(FEW), "{by:?} used {used:?}");
     }
     Ok(())

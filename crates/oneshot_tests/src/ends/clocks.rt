@@ -1,7 +1,6 @@
 //! Receives by a clock that answers what the test wrote down, and fails afterwards.
 
 use oneshot::{Receiver, RecvTimeoutError, Sender, channel};
-use oneshot_asserts::assert_equal;
 use std::alloc::{AllocError, Global};
 use std::cell::Cell;
 use std::io;
@@ -67,8 +66,8 @@ fn an_instant_is_not_over_at_itself(rt: HostRuntime) -> Result<(), Fail> {
     let clock = Written::new(&rt, &[5, 5, 6, 7]);
     let (_sender, mut receiver) = by_clock(&clock, rt.alloc())?;
     let received = receiver.recv_deadline(five(&rt)?);
-    assert_equal(&rt, received, Err(RecvTimeoutError::Timeout));
-    assert_equal(&rt, clock.left(), 1);
+    assert_eq!(rt; received, Err(RecvTimeoutError::Timeout));
+    assert_eq!(rt; clock.left(), 1);
     Ok(())
 }
 
@@ -79,8 +78,8 @@ fn each_turn_of_a_wait_parks(rt: HostRuntime) -> Result<(), Fail> {
     let clock = Written::new(&rt, &[1, 7, 2, 7, 3, 7, 6, 8]);
     let (_sender, mut receiver) = by_clock(&clock, rt.alloc())?;
     let received = receiver.recv_deadline(five(&rt)?);
-    assert_equal(&rt, received, Err(RecvTimeoutError::Timeout));
-    assert_equal(&rt, clock.left(), 1);
+    assert_eq!(rt; received, Err(RecvTimeoutError::Timeout));
+    assert_eq!(rt; clock.left(), 1);
     Ok(())
 }
 
@@ -89,8 +88,8 @@ fn a_later_instant_is_over_at_once(rt: HostRuntime) -> Result<(), Fail> {
     let clock = Written::new(&rt, &[6, 7]);
     let (_sender, mut receiver) = by_clock(&clock, rt.alloc())?;
     let received = receiver.recv_deadline(five(&rt)?);
-    assert_equal(&rt, received, Err(RecvTimeoutError::Timeout));
-    assert_equal(&rt, clock.left(), 1);
+    assert_eq!(rt; received, Err(RecvTimeoutError::Timeout));
+    assert_eq!(rt; clock.left(), 1);
     Ok(())
 }
 
@@ -102,8 +101,8 @@ fn a_clock_that_fails_counts_as_past_the_deadline(rt: HostRuntime) -> Result<(),
         let clock = Written::new(&rt, written);
         let (_sender, mut receiver) = by_clock(&clock, rt.alloc())?;
         let received = receiver.recv_deadline(five(&rt)?);
-        assert_equal(&rt, received, Err(RecvTimeoutError::Timeout));
-        assert_equal(&rt, clock.left(), 0);
+        assert_eq!(rt; received, Err(RecvTimeoutError::Timeout));
+        assert_eq!(rt; clock.left(), 0);
     }
     Ok(())
 }
@@ -122,8 +121,8 @@ fn a_timeout_counts_from_one_reading(rt: HostRuntime) -> Result<(), Fail> {
         let clock = Written::new(&rt, written);
         let (_sender, mut receiver) = by_clock(&clock, rt.alloc())?;
         let received = receiver.recv_timeout(Duration::from_nanos(5));
-        assert_equal(&rt, received, Err(RecvTimeoutError::Timeout));
-        assert_equal(&rt, clock.left(), left);
+        assert_eq!(rt; received, Err(RecvTimeoutError::Timeout));
+        assert_eq!(rt; clock.left(), left);
     }
     Ok(())
 }
@@ -133,11 +132,10 @@ fn a_clock_that_fails_hides_no_message(rt: HostRuntime) -> Result<(), Fail> {
     let clock = Written::new(&rt, &[]);
     let (sender, mut receiver) = by_clock(&clock, rt.alloc())?;
     assert!(rt; sender.send(19).is_ok());
-    assert_equal(&rt, receiver.recv_timeout(Duration::from_nanos(5)), Ok(19));
-    assert_equal(
-        &rt,
+    assert_eq!(rt; receiver.recv_timeout(Duration::from_nanos(5)), Ok(19));
+    assert_eq!(rt;
         receiver.recv_timeout(Duration::from_nanos(5)),
-        Err(RecvTimeoutError::Disconnected),
+        Err(RecvTimeoutError::Disconnected)
     );
     Ok(())
 }
@@ -171,11 +169,11 @@ fn a_receive_that_waits_reads_the_clock_few_times(rt: HostRuntime) -> Result<(),
     };
     let (_sender, mut receiver) = channel::<u8, _>(&counting, rt.alloc())?;
     let received = receiver.recv_timeout(Duration::from_millis(20));
-    assert_equal(&rt, received, Err(RecvTimeoutError::Timeout));
+    assert_eq!(rt; received, Err(RecvTimeoutError::Timeout));
     assert!(rt; counting.readings.get() < 100);
     let end = Instant::now(&rt)?.checked_add(Duration::from_millis(20));
     let received = receiver.recv_deadline(end.ok_or("an instant can hold it")?);
-    assert_equal(&rt, received, Err(RecvTimeoutError::Timeout));
+    assert_eq!(rt; received, Err(RecvTimeoutError::Timeout));
     assert!(rt; counting.readings.get() < 200);
     Ok(())
 }
@@ -233,12 +231,12 @@ fn what_comes_at_the_deadline_is_found(rt: HostRuntime) -> Result<(), Fail> {
     let clock = Meanwhile::new(&rt);
     let (sender, mut receiver) = channel::<u8, _>(&clock, rt.alloc())?;
     clock.will(Act::Send(sender, 19));
-    assert_equal(&rt, receiver.recv_deadline(five(&rt)?), Ok(19));
+    assert_eq!(rt; receiver.recv_deadline(five(&rt)?), Ok(19));
     assert!(rt; receiver.is_closed());
     let (sender, mut receiver) = channel::<u8, _>(&clock, rt.alloc())?;
     clock.will(Act::Go(sender));
     let received = receiver.recv_deadline(five(&rt)?);
-    assert_equal(&rt, received, Err(RecvTimeoutError::Disconnected));
+    assert_eq!(rt; received, Err(RecvTimeoutError::Disconnected));
     assert!(rt; receiver.is_closed());
     Ok(())
 }

@@ -1,7 +1,6 @@
 //! What each end finds on the way of one message, and of none.
 
 use oneshot::{Receiver, TryRecvError, channel};
-use oneshot_asserts::assert_equal;
 use std::process::Abort;
 use std::test::Fail;
 
@@ -12,22 +11,22 @@ fn assert_finds<T>(
     has_message: bool,
     is_closed: bool,
 ) {
-    assert_equal(rt, receiver.has_message(), has_message);
-    assert_equal(rt, receiver.is_closed(), is_closed);
+    assert_eq!(rt; receiver.has_message(), has_message);
+    assert_eq!(rt; receiver.is_closed(), is_closed);
 }
 
 #[test]
 fn a_message_crosses_once(rt: HostRuntime) -> Result<(), Fail> {
     let (sender, mut receiver) = channel::<u8, ()>((), rt.alloc())?;
     assert_finds(&rt, &receiver, false, false);
-    assert_equal(&rt, receiver.try_recv(), Err(TryRecvError::Empty));
-    assert_equal(&rt, receiver.try_recv(), Err(TryRecvError::Empty));
+    assert_eq!(rt; receiver.try_recv(), Err(TryRecvError::Empty));
+    assert_eq!(rt; receiver.try_recv(), Err(TryRecvError::Empty));
     assert!(rt; sender.send(19).is_ok());
     assert_finds(&rt, &receiver, true, false);
-    assert_equal(&rt, receiver.try_recv(), Ok(19));
+    assert_eq!(rt; receiver.try_recv(), Ok(19));
     assert_finds(&rt, &receiver, false, true);
-    assert_equal(&rt, receiver.try_recv(), Err(TryRecvError::Disconnected));
-    assert_equal(&rt, receiver.try_recv(), Err(TryRecvError::Disconnected));
+    assert_eq!(rt; receiver.try_recv(), Err(TryRecvError::Disconnected));
+    assert_eq!(rt; receiver.try_recv(), Err(TryRecvError::Disconnected));
     Ok(())
 }
 
@@ -45,7 +44,7 @@ fn the_receiver_sees_the_senders_drop(rt: HostRuntime) -> Result<(), Fail> {
     let (sender, mut receiver) = channel::<u8, ()>((), rt.alloc())?;
     drop(sender);
     assert_finds(&rt, &receiver, false, true);
-    assert_equal(&rt, receiver.try_recv(), Err(TryRecvError::Disconnected));
+    assert_eq!(rt; receiver.try_recv(), Err(TryRecvError::Disconnected));
     assert_finds(&rt, &receiver, false, true);
     Ok(())
 }

@@ -1,7 +1,6 @@
 //! Receives with a deadline or a timeout, alone and against a sender on another thread.
 
 use oneshot::{Receiver, RecvError, RecvTimeoutError, TryRecvError, channel};
-use oneshot_asserts::assert_equal;
 use std::io;
 use std::process::Abort;
 use std::sync::{Arc, Wait};
@@ -34,21 +33,19 @@ fn a_message_that_is_there_is_received_whatever_the_deadline(rt: HostRuntime) ->
     for deadline in around_now(&rt)? {
         let (sender, mut receiver) = channel::<u8, _>(&rt, rt.alloc())?;
         assert!(rt; sender.send(19).is_ok());
-        assert_equal(&rt, receiver.recv_deadline(deadline), Ok(19));
-        assert_equal(
-            &rt,
+        assert_eq!(rt; receiver.recv_deadline(deadline), Ok(19));
+        assert_eq!(rt;
             receiver.recv_deadline(deadline),
-            Err(RecvTimeoutError::Disconnected),
+            Err(RecvTimeoutError::Disconnected)
         );
     }
     for timeout in [Duration::ZERO, hour(), Duration::MAX] {
         let (sender, mut receiver) = channel::<u8, _>(&rt, rt.alloc())?;
         assert!(rt; sender.send(19).is_ok());
-        assert_equal(&rt, receiver.recv_timeout(timeout), Ok(19));
-        assert_equal(
-            &rt,
+        assert_eq!(rt; receiver.recv_timeout(timeout), Ok(19));
+        assert_eq!(rt;
             receiver.recv_timeout(timeout),
-            Err(RecvTimeoutError::Disconnected),
+            Err(RecvTimeoutError::Disconnected)
         );
     }
     Ok(())
@@ -59,19 +56,17 @@ fn a_sender_that_is_gone_is_told_whatever_the_deadline(rt: HostRuntime) -> Resul
     for deadline in around_now(&rt)? {
         let (sender, mut receiver) = channel::<u8, _>(&rt, rt.alloc())?;
         drop(sender);
-        assert_equal(
-            &rt,
+        assert_eq!(rt;
             receiver.recv_deadline(deadline),
-            Err(RecvTimeoutError::Disconnected),
+            Err(RecvTimeoutError::Disconnected)
         );
     }
     for timeout in [Duration::ZERO, hour(), Duration::MAX] {
         let (sender, mut receiver) = channel::<u8, _>(&rt, rt.alloc())?;
         drop(sender);
-        assert_equal(
-            &rt,
+        assert_eq!(rt;
             receiver.recv_timeout(timeout),
-            Err(RecvTimeoutError::Disconnected),
+            Err(RecvTimeoutError::Disconnected)
         );
     }
     Ok(())
@@ -81,31 +76,24 @@ fn a_sender_that_is_gone_is_told_whatever_the_deadline(rt: HostRuntime) -> Resul
 fn a_deadline_that_runs_out_leaves_the_receiver_open(rt: HostRuntime) -> Result<(), Fail> {
     let [past, now, _] = around_now(&rt)?;
     let (sender, mut receiver) = channel::<u8, _>(&rt, rt.alloc())?;
-    assert_equal(
-        &rt,
+    assert_eq!(rt;
         receiver.recv_deadline(past),
-        Err(RecvTimeoutError::Timeout),
+        Err(RecvTimeoutError::Timeout)
     );
-    assert_equal(
-        &rt,
-        receiver.recv_deadline(now),
-        Err(RecvTimeoutError::Timeout),
-    );
-    assert_equal(
-        &rt,
+    assert_eq!(rt; receiver.recv_deadline(now), Err(RecvTimeoutError::Timeout));
+    assert_eq!(rt;
         receiver.recv_timeout(Duration::ZERO),
-        Err(RecvTimeoutError::Timeout),
+        Err(RecvTimeoutError::Timeout)
     );
     let short = Duration::from_millis(2);
     let start = Instant::now(&rt)?;
-    assert_equal(
-        &rt,
+    assert_eq!(rt;
         receiver.recv_timeout(short),
-        Err(RecvTimeoutError::Timeout),
+        Err(RecvTimeoutError::Timeout)
     );
     assert!(rt; Instant::now(&rt)?.duration_since(start) > short);
     assert!(rt; !receiver.is_closed() && !sender.is_closed());
-    assert_equal(&rt, receiver.try_recv(), Err(TryRecvError::Empty));
+    assert_eq!(rt; receiver.try_recv(), Err(TryRecvError::Empty));
     // Its waker came back each time, so that it can wait again and be woken.
     let ((), received) = join(
         &rt,
@@ -115,7 +103,7 @@ fn a_deadline_that_runs_out_leaves_the_receiver_open(rt: HostRuntime) -> Result<
         },
         || receiver.recv_ref(),
     );
-    assert_equal(&rt, received, Ok(19));
+    assert_eq!(rt; received, Ok(19));
     Ok(())
 }
 
@@ -125,15 +113,14 @@ fn every_receive_of_a_message_that_crossed(rt: HostRuntime) -> Result<(), Fail> 
     assert!(rt; !receiver.has_message());
     assert!(rt; sender.send(19).is_ok());
     assert!(rt; receiver.has_message());
-    assert_equal(&rt, receiver.try_recv(), Ok(19));
+    assert_eq!(rt; receiver.try_recv(), Ok(19));
     assert!(rt; !receiver.has_message());
-    assert_equal(&rt, receiver.try_recv(), Err(TryRecvError::Disconnected));
-    assert_equal(&rt, receiver.recv_ref(), Err(RecvError));
+    assert_eq!(rt; receiver.try_recv(), Err(TryRecvError::Disconnected));
+    assert_eq!(rt; receiver.recv_ref(), Err(RecvError));
     let second = Duration::from_secs(1);
-    assert_equal(
-        &rt,
+    assert_eq!(rt;
         receiver.recv_timeout(second),
-        Err(RecvTimeoutError::Disconnected),
+        Err(RecvTimeoutError::Disconnected)
     );
     Ok(())
 }
@@ -155,7 +142,7 @@ fn a_deadline_in_an_hour_waits_for_the_message(rt: HostRuntime) -> Result<(), Fa
             },
         );
         assert!(rt; sent);
-        assert_equal(&rt, received, Ok(19));
+        assert_eq!(rt; received, Ok(19));
     }
     Ok(())
 }
@@ -172,7 +159,7 @@ fn a_deadline_in_an_hour_waits_for_the_senders_drop(rt: HostRuntime) -> Result<(
         },
         || receiver.recv_deadline(deadline),
     );
-    assert_equal(&rt, received, Err(RecvTimeoutError::Disconnected));
+    assert_eq!(rt; received, Err(RecvTimeoutError::Disconnected));
     Ok(())
 }
 
@@ -206,8 +193,8 @@ fn two_threads_answer_each_other_promptly(rt: HostRuntime) -> Result<(), Fail> {
             (to_left.send(2).is_ok(), received)
         },
     );
-    assert_equal(&rt, left, (true, (Ok(2), true)));
-    assert_equal(&rt, right, (true, (Ok(1), true)));
+    assert_eq!(rt; left, (true, (Ok(2), true)));
+    assert_eq!(rt; right, (true, (Ok(1), true)));
     Ok(())
 }
 
@@ -254,10 +241,10 @@ fn a_message_beside_a_limit_is_received_once(rt: HostRuntime) -> Result<(), Fail
         let Ok(message) = received? else {
             panic!(rt; "the message comes")
         };
-        assert_equal(&rt, *message, round);
-        assert_equal(&rt, Arc::strong_count(&shared), 2);
+        assert_eq!(rt; *message, round);
+        assert_eq!(rt; Arc::strong_count(&shared), 2);
         drop(message);
-        assert_equal(&rt, Arc::strong_count(&shared), 1);
+        assert_eq!(rt; Arc::strong_count(&shared), 1);
     }
     Ok(())
 }
@@ -274,7 +261,7 @@ fn a_drop_beside_a_limit_is_told(rt: HostRuntime) -> Result<(), Fail> {
             },
             || within(&rt, receiver, round),
         );
-        assert_equal(&rt, received?, Err(RecvError));
+        assert_eq!(rt; received?, Err(RecvError));
     }
     Ok(())
 }

@@ -1,7 +1,6 @@
 //! A message is dropped once, whichever end goes first; an `Arc` counts who holds it.
 
 use oneshot::channel;
-use oneshot_asserts::assert_equal;
 use std::sync::Arc;
 use std::test::Fail;
 
@@ -12,9 +11,9 @@ fn a_received_message_is_the_tests_to_drop(rt: HostRuntime) -> Result<(), Fail> 
     assert!(rt; sender.send(Arc::try_clone(&shared)?).is_ok());
     let received = receiver.try_recv();
     drop(receiver);
-    assert_equal(&rt, Arc::strong_count(&shared), 2);
+    assert_eq!(rt; Arc::strong_count(&shared), 2);
     drop(received);
-    assert_equal(&rt, Arc::strong_count(&shared), 1);
+    assert_eq!(rt; Arc::strong_count(&shared), 1);
     Ok(())
 }
 
@@ -23,9 +22,9 @@ fn the_receiver_drops_an_unread_message(rt: HostRuntime) -> Result<(), Fail> {
     let shared = Arc::new(rt.alloc(), 7u8)?;
     let (sender, receiver) = channel((), rt.alloc())?;
     assert!(rt; sender.send(Arc::try_clone(&shared)?).is_ok());
-    assert_equal(&rt, Arc::strong_count(&shared), 2);
+    assert_eq!(rt; Arc::strong_count(&shared), 2);
     drop(receiver);
-    assert_equal(&rt, Arc::strong_count(&shared), 1);
+    assert_eq!(rt; Arc::strong_count(&shared), 1);
     Ok(())
 }
 
@@ -36,9 +35,9 @@ fn the_error_drops_a_refused_message(rt: HostRuntime) -> Result<(), Fail> {
     drop(receiver);
     let refused = sender.send(Arc::try_clone(&shared)?);
     assert!(rt; refused.is_err());
-    assert_equal(&rt, Arc::strong_count(&shared), 2);
+    assert_eq!(rt; Arc::strong_count(&shared), 2);
     drop(refused);
-    assert_equal(&rt, Arc::strong_count(&shared), 1);
+    assert_eq!(rt; Arc::strong_count(&shared), 1);
     Ok(())
 }
 
@@ -51,9 +50,9 @@ fn a_message_given_back_is_the_tests_to_drop(rt: HostRuntime) -> Result<(), Fail
         panic!(rt; "the receiver is gone")
     };
     let message = error.into_inner();
-    assert_equal(&rt, Arc::strong_count(&shared), 2);
+    assert_eq!(rt; Arc::strong_count(&shared), 2);
     drop(message);
-    assert_equal(&rt, Arc::strong_count(&shared), 1);
+    assert_eq!(rt; Arc::strong_count(&shared), 1);
     Ok(())
 }
 
@@ -67,8 +66,8 @@ fn the_ends_drop_nothing_that_was_not_sent(rt: HostRuntime) -> Result<(), Fail> 
     let (sender, receiver) = channel::<Arc<u8>, ()>((), rt.alloc())?;
     drop(receiver);
     drop(sender);
-    assert_equal(&rt, Arc::strong_count(&shared), 2);
+    assert_eq!(rt; Arc::strong_count(&shared), 2);
     drop(message);
-    assert_equal(&rt, Arc::strong_count(&shared), 1);
+    assert_eq!(rt; Arc::strong_count(&shared), 1);
     Ok(())
 }

@@ -5,7 +5,6 @@ use super::lives::{DROPPED, LIVES, Life, RAW, READY, TRIED, live};
 use super::steps::{Ends, Look};
 use futures::test::MockTask;
 use oneshot::{RecvError, channel};
-use oneshot_asserts::{assert_equal, assert_equal_of};
 use std::process::Abort;
 use std::random::RandomSource;
 use std::rt::Files;
@@ -225,18 +224,18 @@ fn the_runtime_is_dropped_with_the_receiver(rt: HostRuntime) -> Result<(), Fail>
         channel::<u8, _>(counted, rt.alloc())
     };
     let (sender, receiver) = ends()?;
-    assert_equal(&rt, Arc::strong_count(&alive), 2);
+    assert_eq!(rt; Arc::strong_count(&alive), 2);
     drop(receiver);
-    assert_equal(&rt, Arc::strong_count(&alive), 1);
+    assert_eq!(rt; Arc::strong_count(&alive), 1);
     drop(sender);
     let (sender, receiver) = ends()?;
     assert!(rt; sender.send(19).is_ok());
-    assert_equal(&rt, receiver.recv(), Ok(19));
-    assert_equal(&rt, Arc::strong_count(&alive), 1);
+    assert_eq!(rt; receiver.recv(), Ok(19));
+    assert_eq!(rt; Arc::strong_count(&alive), 1);
     let (sender, receiver) = ends()?;
     drop(sender);
-    assert_equal(&rt, receiver.recv(), Err(RecvError));
-    assert_equal(&rt, Arc::strong_count(&alive), 1);
+    assert_eq!(rt; receiver.recv(), Err(RecvError));
+    assert_eq!(rt; Arc::strong_count(&alive), 1);
     Ok(())
 }
 
@@ -254,10 +253,14 @@ fn the_runtime_is_dropped_with_a_receiver_of_each_life(rt: HostRuntime) -> Resul
         for (number, (step, _, _, receiver)) in life.iter().enumerate() {
             ends.make(&task, *step)?;
             let owners = if *receiver == Look::Gone { 1 } else { 2 };
-            assert_equal_of(&rt, Arc::strong_count(&alive), owners, (number, step));
+            assert_eq!(rt;
+                Arc::strong_count(&alive),
+                owners,
+                "after step {number}, {step:?}"
+            );
         }
         drop(ends);
-        assert_equal_of(&rt, Arc::strong_count(&alive), 1, life);
+        assert_eq!(rt; Arc::strong_count(&alive), 1, "after {life:?}");
     }
     Ok(())
 }

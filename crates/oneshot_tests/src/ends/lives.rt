@@ -8,7 +8,6 @@ use super::steps::Step::{
 };
 use super::steps::{Answer, Ends, Look, Step};
 use futures::test::MockTask;
-use oneshot_asserts::assert_equal_of;
 use std::alloc::AllocGlobal;
 use std::io;
 use std::process::Abort;
@@ -214,7 +213,7 @@ pub(super) fn live(
     let task = MockTask::new(rt)?;
     let mut ends = Ends::new(rt.alloc(), rt);
     for (step, answer, _, _) in life {
-        assert_equal_of(rt, ends.make(&task, *step)?, *answer, step);
+        assert_eq!(rt; ends.make(&task, *step)?, *answer, "{step:?}");
     }
     Ok(())
 }
@@ -225,9 +224,17 @@ fn the_looks_of_both_ends(rt: HostRuntime) -> Result<(), Fail> {
     for life in LIVES.iter().copied().flatten() {
         let mut ends = Ends::new(rt.alloc(), &rt);
         for (number, (step, answer, sender, receiver)) in life.iter().enumerate() {
-            assert_equal_of(&rt, ends.make(&task, *step)?, *answer, (number, step));
+            assert_eq!(rt;
+                ends.make(&task, *step)?,
+                *answer,
+                "step {number}, {step:?}"
+            );
             let looks = (ends.sender_look(), ends.receiver_look());
-            assert_equal_of(&rt, looks, (*sender, *receiver), (number, step));
+            assert_eq!(rt;
+                looks,
+                (*sender, *receiver),
+                "after step {number}, {step:?}"
+            );
         }
     }
     Ok(())

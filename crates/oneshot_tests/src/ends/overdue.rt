@@ -2,7 +2,6 @@
 //! waits once more than it is woken, these tests do not end.
 
 use oneshot::{Receiver, RecvError, RecvTimeoutError, channel};
-use oneshot_asserts::assert_equal;
 use std::io;
 use std::process::Abort;
 use std::sync::Wait;
@@ -88,7 +87,7 @@ fn a_message_that_comes_at_the_deadline_is_received_once(rt: HostRuntime) -> Res
             },
         );
         assert!(rt; sent);
-        assert_equal(&rt, received?, Ok(round));
+        assert_eq!(rt; received?, Ok(round));
     }
     Ok(())
 }
@@ -114,7 +113,7 @@ fn a_sender_that_goes_at_the_deadline_is_told(rt: HostRuntime) -> Result<(), Fai
                 just_in_time(&rt, receiver, round)
             },
         );
-        assert_equal(&rt, received?, Err(RecvError));
+        assert_eq!(rt; received?, Err(RecvError));
     }
     Ok(())
 }

@@ -8,7 +8,6 @@ use futures::future::join;
 use futures::task::{Context, Poll};
 use futures::test::MockTask;
 use oneshot::{AsyncReceiver, RecvError, TryRecvError, async_channel};
-use oneshot_asserts::assert_equal;
 use std::random::RandomSource;
 use std::sync::Wait;
 use std::sync::atomic::{AtomicU64, Ordering};
@@ -68,7 +67,7 @@ fn a_send_of_another_thread_wakes_the_task(rt: HostRuntime) -> Result<(), Fail> 
         },
     );
     assert!(rt; sent);
-    assert_equal(&rt, received?, Ok(19));
+    assert_eq!(rt; received?, Ok(19));
     assert!(rt; polls.load(Ordering::SeqCst) <= 10);
     Ok(())
 }
@@ -99,7 +98,7 @@ fn two_joined_receivers_are_polled_as_often_as_they_are_woken(rt: HostRuntime) -
         },
     );
     assert!(rt; sent);
-    assert_equal(&rt, received?, (Ok(19), Ok(1)));
+    assert_eq!(rt; received?, (Ok(19), Ok(1)));
     assert!(rt; polls.load(Ordering::SeqCst) <= 10);
     Ok(())
 }
@@ -115,7 +114,7 @@ fn a_sender_that_is_dropped_ends_the_wait(rt: HostRuntime) -> Result<(), Fail> {
             drop(sender);
         },
     );
-    assert_equal(&rt, received?, Err(RecvError));
+    assert_eq!(rt; received?, Err(RecvError));
     Ok(())
 }
 
@@ -145,7 +144,7 @@ fn two_threads_and_two_executors_poll_one_receiver(rt: HostRuntime) -> Result<()
         },
     );
     assert!(rt; sent);
-    assert_equal(&rt, received?, Ok(19));
+    assert_eq!(rt; received?, Ok(19));
     Ok(())
 }
 
@@ -158,8 +157,8 @@ fn a_message_that_was_sent_before_is_ready_at_once(rt: HostRuntime) -> Result<()
         receiver,
         polls: &polls,
     };
-    assert_equal(&rt, block_on(&rt, counted)?, Ok(19));
-    assert_equal(&rt, polls.load(Ordering::SeqCst), 1);
+    assert_eq!(rt; block_on(&rt, counted)?, Ok(19));
+    assert_eq!(rt; polls.load(Ordering::SeqCst), 1);
     Ok(())
 }
 
@@ -188,11 +187,11 @@ fn a_task_that_looks_is_woken_by_the_sender_alone(rt: HostRuntime) -> Result<(),
         let task = MockTask::new(&rt)?;
         let (sender, mut receiver) = async_channel(&rt, rt.alloc())?;
         for _ in 0..*before {
-            assert_equal(&rt, receiver.try_recv(), Err(TryRecvError::Empty));
+            assert_eq!(rt; receiver.try_recv(), Err(TryRecvError::Empty));
         }
-        assert_equal(&rt, task.poll(&mut receiver), Poll::Pending);
+        assert_eq!(rt; task.poll(&mut receiver), Poll::Pending);
         for _ in 0..*after {
-            assert_equal(&rt, receiver.try_recv(), Err(TryRecvError::Empty));
+            assert_eq!(rt; receiver.try_recv(), Err(TryRecvError::Empty));
         }
         assert!(rt; !task.is_woken());
         match ending {
@@ -200,7 +199,7 @@ fn a_task_that_looks_is_woken_by_the_sender_alone(rt: HostRuntime) -> Result<(),
             Ending::Goes => drop(sender),
         }
         assert!(rt; task.is_woken());
-        assert_equal(&rt, receiver.try_recv(), *found);
+        assert_eq!(rt; receiver.try_recv(), *found);
     }
     Ok(())
 }

@@ -1,7 +1,6 @@
 //! The ends as opaque values: made of an end, made an end again, moved between threads, and dropped.
 
 use oneshot::{RawReceiver, RawSender, Receiver, RecvError, Sender, TryRecvError, channel};
-use oneshot_asserts::assert_equal;
 use std::sync::Arc;
 use std::test::Fail;
 use std::thread::{Threads, join};
@@ -13,10 +12,10 @@ fn both_ends_come_out_as_they_went_in(rt: HostRuntime) -> Result<(), Fail> {
     let raw_receiver = receiver.into_raw();
     let sender = Sender::from_raw(raw_sender);
     let mut receiver = Receiver::from_raw(raw_receiver);
-    assert_equal(&rt, receiver.try_recv(), Err(TryRecvError::Empty));
+    assert_eq!(rt; receiver.try_recv(), Err(TryRecvError::Empty));
     assert!(rt; !sender.is_closed());
     assert!(rt; sender.send(100).is_ok());
-    assert_equal(&rt, receiver.try_recv(), Ok(100));
+    assert_eq!(rt; receiver.try_recv(), Ok(100));
     Ok(())
 }
 
@@ -26,10 +25,10 @@ fn a_message_waits_in_a_raw_receiver(rt: HostRuntime) -> Result<(), Fail> {
     assert!(rt; sender.send(100).is_ok());
     let mut receiver = Receiver::from_raw(receiver.into_raw());
     assert!(rt; receiver.has_message());
-    assert_equal(&rt, receiver.try_recv(), Ok(100));
+    assert_eq!(rt; receiver.try_recv(), Ok(100));
     let mut receiver = Receiver::from_raw(receiver.into_raw());
     assert!(rt; receiver.is_closed());
-    assert_equal(&rt, receiver.try_recv(), Err(TryRecvError::Disconnected));
+    assert_eq!(rt; receiver.try_recv(), Err(TryRecvError::Disconnected));
     Ok(())
 }
 
@@ -43,7 +42,7 @@ fn a_send_to_a_dropped_raw_receiver_is_refused(rt: HostRuntime) -> Result<(), Fa
     let Err(error) = sender.send(5) else {
         panic!(rt; "the receiver is gone")
     };
-    assert_equal(&rt, error.into_inner(), 5);
+    assert_eq!(rt; error.into_inner(), 5);
     Ok(())
 }
 
@@ -51,9 +50,9 @@ fn a_send_to_a_dropped_raw_receiver_is_refused(rt: HostRuntime) -> Result<(), Fa
 fn a_receiver_of_a_dropped_raw_sender_is_disconnected(rt: HostRuntime) -> Result<(), Fail> {
     let (sender, mut receiver) = channel::<u32, ()>((), rt.alloc())?;
     let raw = sender.into_raw();
-    assert_equal(&rt, receiver.try_recv(), Err(TryRecvError::Empty));
+    assert_eq!(rt; receiver.try_recv(), Err(TryRecvError::Empty));
     drop(raw);
-    assert_equal(&rt, receiver.try_recv(), Err(TryRecvError::Disconnected));
+    assert_eq!(rt; receiver.try_recv(), Err(TryRecvError::Disconnected));
     Ok(())
 }
 
@@ -62,7 +61,7 @@ fn a_dropped_raw_sender_wakes_its_receiver(rt: HostRuntime) -> Result<(), Fail> 
     let (sender, receiver) = channel::<u32, _>(&rt, rt.alloc())?;
     let raw = sender.into_raw();
     let ((), received) = join(&rt, move || drop(raw), || receiver.recv());
-    assert_equal(&rt, received, Err(RecvError));
+    assert_eq!(rt; received, Err(RecvError));
     Ok(())
 }
 
@@ -86,7 +85,7 @@ fn raw_ends_go_to_other_threads_and_back(rt: HostRuntime) -> Result<(), Fail> {
     let (sender, receiver) = channel::<u32, ()>((), rt.alloc())?;
     let (sender, receiver) = both_there_and_back(&rt, sender.into_raw(), receiver.into_raw());
     assert!(rt; Sender::from_raw(sender).send(100).is_ok());
-    assert_equal(&rt, Receiver::from_raw(receiver).try_recv(), Ok(100));
+    assert_eq!(rt; Receiver::from_raw(receiver).try_recv(), Ok(100));
     Ok(())
 }
 
@@ -106,7 +105,7 @@ fn raw_ends_are_used_on_other_threads(rt: HostRuntime) -> Result<(), Fail> {
         move || Receiver::from_raw(raw_receiver).try_recv(),
         || (),
     );
-    assert_equal(&rt, received, Ok(100));
+    assert_eq!(rt; received, Ok(100));
     Ok(())
 }
 
@@ -117,11 +116,11 @@ fn a_raw_receiver_drops_its_message_and_its_runtime(rt: HostRuntime) -> Result<(
     let (sender, receiver) = channel(Arc::try_clone(&runtime)?, rt.alloc())?;
     assert!(rt; sender.send(Arc::try_clone(&message)?).is_ok());
     let raw = receiver.into_raw();
-    assert_equal(&rt, Arc::strong_count(&message), 2);
-    assert_equal(&rt, Arc::strong_count(&runtime), 2);
+    assert_eq!(rt; Arc::strong_count(&message), 2);
+    assert_eq!(rt; Arc::strong_count(&runtime), 2);
     drop(raw);
-    assert_equal(&rt, Arc::strong_count(&message), 1);
-    assert_equal(&rt, Arc::strong_count(&runtime), 1);
+    assert_eq!(rt; Arc::strong_count(&message), 1);
+    assert_eq!(rt; Arc::strong_count(&runtime), 1);
     Ok(())
 }
 
@@ -139,8 +138,8 @@ fn raw_ends_drop_nothing_that_was_not_sent(rt: HostRuntime) -> Result<(), Fail> 
     let Err(error) = Sender::from_raw(raw_sender).send(message) else {
         panic!(rt; "the receiver is gone")
     };
-    assert_equal(&rt, Arc::strong_count(&shared), 2);
+    assert_eq!(rt; Arc::strong_count(&shared), 2);
     drop(error);
-    assert_equal(&rt, Arc::strong_count(&shared), 1);
+    assert_eq!(rt; Arc::strong_count(&shared), 1);
     Ok(())
 }

@@ -1,7 +1,6 @@
 //! A message that is refused comes back in its error.
 
 use oneshot::{SendError, channel};
-use oneshot_asserts::assert_equal;
 use std::alloc::Global;
 use std::process::Abort;
 use std::test::Fail;
@@ -18,8 +17,8 @@ fn refused(rt: &impl Abort, alloc: Global, message: u8) -> Result<SendError<u8>,
 #[test]
 fn the_error_gives_the_message_back(rt: HostRuntime) -> Result<(), Fail> {
     let error = refused(&rt, rt.alloc(), 5)?;
-    assert_equal(&rt, *error.as_inner(), 5);
-    assert_equal(&rt, error.into_inner(), 5);
+    assert_eq!(rt; *error.as_inner(), 5);
+    assert_eq!(rt; error.into_inner(), 5);
     Ok(())
 }
 
@@ -27,10 +26,10 @@ fn the_error_gives_the_message_back(rt: HostRuntime) -> Result<(), Fail> {
 fn the_errors_texts_are_printed(rt: HostRuntime) -> Result<(), Fail> {
     let error = refused(&rt, rt.alloc(), 5)?;
     let shown = format!(in rt.alloc(); "{error}")?;
-    assert_equal(&rt, shown.as_str(), "sending on a closed channel");
+    assert_eq!(rt; shown.as_str(), "sending on a closed channel");
     let wide = format!(in rt.alloc(); "{error:>30}")?;
-    assert_equal(&rt, wide.as_str(), "   sending on a closed channel");
+    assert_eq!(rt; wide.as_str(), "   sending on a closed channel");
     let debugged = format!(in rt.alloc(); "{error:?}")?;
-    assert_equal(&rt, debugged.as_str(), "SendError(_)");
+    assert_eq!(rt; debugged.as_str(), "SendError(_)");
     Ok(())
 }

@@ -1,7 +1,6 @@
 //! Receives that wait, against a sender on another thread. Where a wake does nothing they do not end.
 
 use oneshot::{Receiver, RecvError, TryRecvError, channel};
-use oneshot_asserts::assert_equal;
 use std::sync::{Arc, Wait};
 use std::test::Fail;
 use std::thread::{join, sleep};
@@ -20,13 +19,13 @@ fn linger(rt: &impl Clock, round: u64) {
 fn a_message_that_is_there_is_received(rt: HostRuntime) -> Result<(), Fail> {
     let (sender, receiver) = channel::<u8, _>(&rt, rt.alloc())?;
     assert!(rt; sender.send(19).is_ok());
-    assert_equal(&rt, receiver.recv(), Ok(19));
+    assert_eq!(rt; receiver.recv(), Ok(19));
     let (sender, mut receiver) = channel::<u8, _>(&rt, rt.alloc())?;
     assert!(rt; sender.send(19).is_ok());
-    assert_equal(&rt, receiver.recv_ref(), Ok(19));
-    assert_equal(&rt, receiver.recv_ref(), Err(RecvError));
-    assert_equal(&rt, receiver.try_recv(), Err(TryRecvError::Disconnected));
-    assert_equal(&rt, receiver.recv(), Err(RecvError));
+    assert_eq!(rt; receiver.recv_ref(), Ok(19));
+    assert_eq!(rt; receiver.recv_ref(), Err(RecvError));
+    assert_eq!(rt; receiver.try_recv(), Err(TryRecvError::Disconnected));
+    assert_eq!(rt; receiver.recv(), Err(RecvError));
     Ok(())
 }
 
@@ -34,8 +33,8 @@ fn a_message_that_is_there_is_received(rt: HostRuntime) -> Result<(), Fail> {
 fn nobody_is_waited_for_once_the_sender_is_gone(rt: HostRuntime) -> Result<(), Fail> {
     let (sender, mut receiver) = channel::<u8, _>(&rt, rt.alloc())?;
     drop(sender);
-    assert_equal(&rt, receiver.recv_ref(), Err(RecvError));
-    assert_equal(&rt, receiver.recv(), Err(RecvError));
+    assert_eq!(rt; receiver.recv_ref(), Err(RecvError));
+    assert_eq!(rt; receiver.recv(), Err(RecvError));
     Ok(())
 }
 
@@ -66,10 +65,10 @@ fn recv_gets_each_message_once(rt: HostRuntime) -> Result<(), Fail> {
         let Ok(message) = received else {
             panic!(rt; "the message comes")
         };
-        assert_equal(&rt, *message, round);
-        assert_equal(&rt, Arc::strong_count(&shared), 2);
+        assert_eq!(rt; *message, round);
+        assert_eq!(rt; Arc::strong_count(&shared), 2);
         drop(message);
-        assert_equal(&rt, Arc::strong_count(&shared), 1);
+        assert_eq!(rt; Arc::strong_count(&shared), 1);
     }
     Ok(())
 }
@@ -92,10 +91,10 @@ fn recv_ref_gets_each_message_once(rt: HostRuntime) -> Result<(), Fail> {
         let Ok(message) = received else {
             panic!(rt; "the message comes")
         };
-        assert_equal(&rt, *message, round);
-        assert_equal(&rt, Arc::strong_count(&shared), 2);
+        assert_eq!(rt; *message, round);
+        assert_eq!(rt; Arc::strong_count(&shared), 2);
         drop(message);
-        assert_equal(&rt, Arc::strong_count(&shared), 1);
+        assert_eq!(rt; Arc::strong_count(&shared), 1);
     }
     Ok(())
 }
@@ -112,7 +111,7 @@ fn recv_sees_each_drop_of_the_sender(rt: HostRuntime) -> Result<(), Fail> {
             },
             || receiver.recv(),
         );
-        assert_equal(&rt, received, Err(RecvError));
+        assert_eq!(rt; received, Err(RecvError));
     }
     Ok(())
 }
@@ -129,7 +128,7 @@ fn recv_ref_sees_each_drop_of_the_sender(rt: HostRuntime) -> Result<(), Fail> {
             },
             || by_ref(receiver),
         );
-        assert_equal(&rt, received, Err(RecvError));
+        assert_eq!(rt; received, Err(RecvError));
         assert!(rt; over);
     }
     Ok(())

@@ -1,7 +1,6 @@
 //! The texts that `{:?}` prints.
 
 use oneshot::{RecvError, RecvTimeoutError, TryRecvError};
-use oneshot_asserts::assert_equal;
 use std::alloc::Global;
 use std::fmt::Debug;
 use std::process::Abort;
@@ -14,7 +13,7 @@ fn debug_is<E: Debug>(
     expected: &str,
 ) -> Result<(), Fail> {
     let text = format!(in alloc; "{error:?}")?;
-    assert_equal(rt, text.as_str(), expected);
+    assert_eq!(rt; text.as_str(), expected);
     Ok(())
 }
 

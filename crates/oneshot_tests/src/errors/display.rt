@@ -1,7 +1,6 @@
 //! The texts that `{}` prints, asked of each error through the trait `Error`.
 
 use oneshot::{RecvError, RecvTimeoutError, TryRecvError};
-use oneshot_asserts::assert_equal;
 use std::alloc::Global;
 use std::error::Error;
 use std::process::Abort;
@@ -14,7 +13,7 @@ fn display_is<E: Error>(
     expected: &str,
 ) -> Result<(), Fail> {
     let text = format!(in alloc; "{error}")?;
-    assert_equal(rt, text.as_str(), expected);
+    assert_eq!(rt; text.as_str(), expected);
     Ok(())
 }
 

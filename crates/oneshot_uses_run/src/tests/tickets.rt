@@ -1,7 +1,6 @@
 //! Tickets whose reply comes, comes too late or never comes.
 
 use oneshot::reply::{Request, Ticket, request};
-use oneshot_asserts::assert_equal;
 use oneshot_uses::request::{Square, Unanswered};
 use oneshot_uses::tickets::{asked, serve, square_within};
 use std::alloc::{AllocError, Global};
@@ -26,9 +25,9 @@ fn ask<Rt: Drop>(rt: Rt, alloc: Global, root: u32) -> Result<Ends<Rt>, AllocErro
 fn each_ticket_has_its_square(rt: HostRuntime) -> Result<(), Fail> {
     let squares = [(2, 4), (4, 16), (6, 36), (8, 64), (10, 100)];
     let answers = asked(&rt, rt.alloc(), 3, &[2, 4, 6, 8, 10], minute())?;
-    assert_equal(&rt, answers.len(), 5);
+    assert_eq!(rt; answers.len(), 5);
     for (answer, (root, square)) in answers.iter().zip(squares) {
-        assert_equal(&rt, (answer.root, answer.square), (root, Ok(square)));
+        assert_eq!(rt; (answer.root, answer.square), (root, Ok(square)));
     }
     Ok(())
 }
@@ -36,7 +35,7 @@ fn each_ticket_has_its_square(rt: HostRuntime) -> Result<(), Fail> {
 #[test]
 fn without_a_worker_each_square_is_late(rt: HostRuntime) -> Result<(), Fail> {
     for answer in asked(&rt, rt.alloc(), 0, &[3, 5], moment())? {
-        assert_equal(&rt, answer.square, Err(Unanswered::Late));
+        assert_eq!(rt; answer.square, Err(Unanswered::Late));
     }
     Ok(())
 }
@@ -44,11 +43,7 @@ fn without_a_worker_each_square_is_late(rt: HostRuntime) -> Result<(), Fail> {
 #[test]
 fn a_late_answer_is_refused(rt: HostRuntime) -> Result<(), Fail> {
     let (request, mut ticket) = ask(&rt, rt.alloc(), 3)?;
-    assert_equal(
-        &rt,
-        square_within(&mut ticket, moment()),
-        Err(Unanswered::Late),
-    );
+    assert_eq!(rt; square_within(&mut ticket, moment()), Err(Unanswered::Late));
     drop(ticket);
     assert!(rt; !serve(request));
     Ok(())
@@ -58,10 +53,6 @@ fn a_late_answer_is_refused(rt: HostRuntime) -> Result<(), Fail> {
 fn a_dropped_request_loses_its_square(rt: HostRuntime) -> Result<(), Fail> {
     let (request, mut ticket) = ask(&rt, rt.alloc(), 3)?;
     drop(request);
-    assert_equal(
-        &rt,
-        square_within(&mut ticket, minute()),
-        Err(Unanswered::Lost),
-    );
+    assert_eq!(rt; square_within(&mut ticket, minute()), Err(Unanswered::Lost));
     Ok(())
 }

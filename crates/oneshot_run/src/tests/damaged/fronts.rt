@@ -3,7 +3,6 @@
 use crate::tests::damaged::assert_as_read;
 use crate::tests::damaged::reading::Kind;
 use crate::tests::told;
-use oneshot_asserts::{assert_equal, assert_equal_of};
 use std::alloc::AllocGlobal;
 use std::process::Abort;
 use std::test::Fail;
@@ -41,9 +40,9 @@ fn each_front_of_an_input(rt: HostRuntime) -> Result<(), Fail> {
     }
     for (index, letter) in SCHEDULE.as_bytes().iter().enumerate() {
         front.push(*letter)?;
-        assert_equal(&rt, assert_as_read(&rt, &front)?, Kind::Trace);
+        assert_eq!(rt; assert_as_read(&rt, &front)?, Kind::Trace);
         let lines = told(&rt, &front).lines().count();
-        assert_equal(&rt, lines, index.saturating_add(3));
+        assert_eq!(rt; lines, index.saturating_add(3));
     }
     let trace = told(&rt, &front);
     front.push(b'\n')?;
@@ -52,7 +51,12 @@ fn each_front_of_an_input(rt: HostRuntime) -> Result<(), Fail> {
 
 /// The program tells this of the input, and so does the reading.
 fn assert_told(rt: &(impl Abort + AllocGlobal), input: &[u8], output: &str) -> Result<(), Fail> {
-    assert_equal_of(rt, told(rt, input).as_str(), output, input.escape_ascii());
+    assert_eq!(rt;
+        told(rt, input).as_str(),
+        output,
+        "{}",
+        input.escape_ascii()
+    );
     let _ = assert_as_read(rt, input)?;
     Ok(())
 }

@@ -3,7 +3,6 @@
 use super::{FAILURES, Failures, INTERRUPTS, Reader, ending};
 use crate::tests::{SENT, SENT_TRACE, assert_trace, idle};
 use crate::{Fault, run};
-use oneshot_asserts::assert_equal_of;
 use std::io;
 use std::io::{ErrorKind, Read};
 use std::test::Fail;
@@ -16,9 +15,13 @@ fn a_failed_read_is_told_alone(rt: HostRuntime) {
             let mut reader = Reader::new(SENT, Failures::of(before, 1, kind));
             let mut written = Vec::new(rt.alloc());
             let ended = ending(&rt, &mut reader, &mut written);
-            assert_equal_of(&rt, ended.as_str(), "1 read failed\n", (kind, before));
+            assert_eq!(rt;
+                ended.as_str(),
+                "1 read failed\n",
+                "{kind:?} after {before} reads"
+            );
             assert!(rt; written.is_empty(), "{kind:?} after {before} reads");
-            assert_equal_of(&rt, reader.failures.after, 0, kind);
+            assert_eq!(rt; reader.failures.after, 0, "reads after {kind:?}");
         }
     }
 }
@@ -30,12 +33,11 @@ fn an_interrupted_read_is_made_again(rt: HostRuntime) {
             let interrupts = Failures::of(before, count, ErrorKind::Interrupted);
             let mut written = Vec::new(rt.alloc());
             let ended = ending(&rt, &mut Reader::new(SENT, interrupts), &mut written);
-            assert_equal_of(&rt, ended.as_str(), "0 ", (count, before));
-            assert_equal_of(
-                &rt,
+            assert_eq!(rt; ended.as_str(), "0 ", "{count} after {before} reads");
+            assert_eq!(rt;
                 written.as_slice(),
                 SENT_TRACE.as_bytes(),
-                (count, before),
+                "{count} after {before} reads"
             );
         }
     }

@@ -3,7 +3,6 @@
 use super::{FAILURES, Failures, INTERRUPTS, Reader, Writer, ending};
 use crate::answer;
 use crate::tests::{SENT, SENT_TRACE, idle};
-use oneshot_asserts::{assert_equal, assert_equal_of};
 use std::io::ErrorKind;
 use std::test::Fail;
 
@@ -30,8 +29,8 @@ fn short_reads_and_writes_move_all(rt: HostRuntime) {
     for &(input, trace) in TRACES {
         let mut writer = Writer::new(rt.alloc(), 1, Failures::none());
         let mut reader = Reader::new(input, Failures::none());
-        assert_equal(&rt, ending(&rt, &mut reader, &mut writer).as_str(), "0 ");
-        assert_equal(&rt, writer.written.as_slice(), trace.as_bytes());
+        assert_eq!(rt; ending(&rt, &mut reader, &mut writer).as_str(), "0 ");
+        assert_eq!(rt; writer.written.as_slice(), trace.as_bytes());
     }
 }
 
@@ -44,10 +43,18 @@ fn a_failed_write_ends_the_output(rt: HostRuntime) {
                 let failures = Failures::of(before, 1, kind);
                 let mut writer = Writer::new(rt.alloc(), 1, failures);
                 let ended = ending(&rt, &mut input.as_bytes(), &mut writer);
-                assert_equal_of(&rt, ended.as_str(), "1 write failed\n", (kind, before));
-                assert_equal_of(&rt, writer.written.len(), before, kind);
+                assert_eq!(rt;
+                    ended.as_str(),
+                    "1 write failed\n",
+                    "{kind:?} after {before} writes"
+                );
+                assert_eq!(rt; writer.written.len(), before, "{kind:?}");
                 assert!(rt; trace.as_bytes().starts_with(&writer.written));
-                assert_equal_of(&rt, writer.failures.after, 0, (kind, before));
+                assert_eq!(rt;
+                    writer.failures.after,
+                    0,
+                    "calls after {kind:?}, after {before} writes"
+                );
             }
         }
     }
@@ -61,12 +68,11 @@ fn an_interrupted_write_is_made_again(rt: HostRuntime) {
                 let interrupts = Failures::of(before, count, ErrorKind::Interrupted);
                 let mut writer = Writer::new(rt.alloc(), 1, interrupts);
                 let ended = ending(&rt, &mut input.as_bytes(), &mut writer);
-                assert_equal_of(&rt, ended.as_str(), "0 ", (count, before));
-                assert_equal_of(
-                    &rt,
+                assert_eq!(rt; ended.as_str(), "0 ", "{count} after {before} writes");
+                assert_eq!(rt;
                     writer.written.as_slice(),
                     trace.as_bytes(),
-                    (count, before),
+                    "{count} after {before} writes"
                 );
             }
         }
@@ -81,15 +87,19 @@ fn a_long_output_ends_where_a_write_fails(rt: HostRuntime) -> Result<(), Fail> {
         let mut writer = Writer::new(rt.alloc(), 1000, failures);
         let ended = ending(&rt, &mut input.as_bytes(), &mut writer);
         if ended.as_str() == "0 " {
-            assert_equal(&rt, writer.written.as_slice(), output.as_bytes());
+            assert_eq!(rt; writer.written.as_slice(), output.as_bytes());
             return Ok(());
         }
-        assert_equal_of(&rt, ended.as_str(), "1 write failed\n", before);
+        assert_eq!(rt; ended.as_str(), "1 write failed\n", "after {before} writes");
         assert!(rt;
             output.as_bytes().starts_with(&writer.written),
             "after {before} writes"
         );
-        assert_equal_of(&rt, writer.failures.after, 0, before);
+        assert_eq!(rt;
+            writer.failures.after,
+            0,
+            "calls after the failure, after {before} writes"
+        );
     }
     Err(Fail::from("100 calls were too few"))
 }
@@ -98,7 +108,7 @@ fn a_long_output_ends_where_a_write_fails(rt: HostRuntime) -> Result<(), Fail> {
 fn a_writer_that_takes_nothing_has_failed(rt: HostRuntime) {
     let mut writer = Writer::new(rt.alloc(), 0, Failures::none());
     let ended = ending(&rt, &mut SENT.as_bytes(), &mut writer);
-    assert_equal(&rt, ended.as_str(), "1 write failed\n");
+    assert_eq!(rt; ended.as_str(), "1 write failed\n");
 }
 
 #[test]
@@ -107,6 +117,6 @@ fn where_a_fault_cannot_be_told_the_status_tells(rt: HostRuntime) {
     let mut errors = Writer::new(rt.alloc(), 100, broken);
     let mut written = Vec::new(rt.alloc());
     let status = answer(rt.alloc(), &mut &b"Q"[..], &mut written, &mut errors);
-    assert_equal(&rt, status, 2);
+    assert_eq!(rt; status, 2);
     assert!(rt; written.is_empty() && errors.written.is_empty());
 }
