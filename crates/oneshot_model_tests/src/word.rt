@@ -21,8 +21,8 @@ fn a_new_table_reads_3_at_both_ends(rt: HostRuntime) -> Result<(), Fail> {
 
 #[test]
 fn a_slot_has_one_tag_beside_the_larger_of_its_values(rt: HostRuntime) -> Result<(), Fail> {
-    assert_eq!(rt; size_of::<Slot<u64, u64);
-    assert_eq!(rt; size_of::<Slot<[u64; 4], u64);
+    assert_eq!(rt; size_of::<Slot<u64, u64, [u64; 2]>>(), 24);
+    assert_eq!(rt; size_of::<Slot<[u64; 4], u64, [u64; 2]>>(), 40);
     Ok(())
 }
 
