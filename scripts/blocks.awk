@@ -1,5 +1,5 @@
 # Reads source files (.rt) and then documents (.md): whether each block of Rust of a document stands in one source
-# file. scripts/compare-documents says what a block is.
+# file. scripts/compare-documents says what a block is. The blocks under "The contracts" are for contracts.awk.
 function fold(text) {
     gsub(/[ \t\n]+/, " ", text)
     sub(/^ /, "", text)
@@ -18,7 +18,7 @@ function stands(text, i, at) {
 }
 function end_piece() {
     part = fold(part)
-    if (part != "") piece[++pieces] = part (contracts ? " {" : "")
+    if (part != "") piece[++pieces] = part
     part = ""
 }
 function end_block(file) {
@@ -35,7 +35,7 @@ FILENAME ~ /\.rt$/ { source[FILENAME] = source[FILENAME] "\n" $0; next }
 FNR == 1 { contracts = 0 }
 !inside && /^## / { contracts = ($0 == "## The contracts") }
 /^```/ {
-    if (inside) { if (inside == "rust") end_block(); inside = ""; next }
+    if (inside) { if (inside == "rust" && !contracts) end_block(); inside = ""; next }
     inside = substr($0, 4)
     begun = FNR
     pieces = 0

@@ -3,9 +3,9 @@
 
 ghost use Rattle.std.specs.Prelude.{◌≡◌, ◌*◌, IfOk};
 
-use oneshot::reply::{Answer, Request, request};
-use oneshot::{Receiver, RecvTimeoutError, Sender, channel};
-use std::alloc::{AllocError, Global};
+use oneshot::RecvTimeoutError;
+use oneshot::reply::{Answer, Request, Ticket, request};
+use std::alloc::AllocError;
 use std::io;
 use std::sync::Wait;
 use std::thread::join;
@@ -33,36 +33,26 @@ impl Answer<u32> for Square {
     }
 }
 
-/// Waits for a request and answers it.
-fn serve<Rt: Wait + Clock + Drop>(requests: Receiver<Request<u32, Square>, Rt>) {
-    if let Ok(request) = requests.recv() {
-        let root = *request.question();
-        let value = u64::from(root) * u64::from(root);
-        let _ = request.answer(Square { root, value });
-    }
+/// Answers a request.
+fn serve(request: Request<u32, Square>) {
+    let root = *request.question();
+    let value = u64::from(root) * u64::from(root);
+    let _ = request.answer(Square { root, value });
 }
 
-/// Asks for the square of `root`. A refused request is dropped with its sender: then no reply will come.
-fn ask<R: Wait + Clock>(
-    rt: &R,
-    alloc: Global,
-    requests: Sender<Request<u32, Square>>,
-    root: u32,
-) -> Result<Result<u64, RecvTimeoutError>, AllocError>
-    ensures { IfOk result (λ reply. IfOk reply (λ value. value ≡ root * root)) }
+/// Waits a minute for the square that the ticket is for.
+fn square_of<Rt: Wait + Clock + Drop>(
+    mut ticket: Ticket<u32, Square, Rt>,
+) -> Result<u64, RecvTimeoutError>
+    ensures { IfOk result (λ value. value ≡ ticket.about.question * ticket.about.question) }
 {
-    let (request, mut ticket) = request(rt, alloc, root).map_err(|_| AllocError)?;
-    let _ = requests.send(request);
-    match ticket.wait_for(Duration::from_secs(60)) {
-        Ok(square) => Ok(Ok(square.value)),
-        Err(why) => Ok(Err(why)),
-    }
+    Ok(ticket.wait_for(Duration::from_secs(60))?.value)
 }
 
 fn main(rt: HostRuntime) -> io::Result<()> {
-    let (sender, requests) = channel(&rt, rt.alloc())?;
-    let (reply, ()) = join(&rt, || ask(&rt, rt.alloc(), sender, 12), || serve(requests));
-    match reply? {
+    let (request, ticket) = request(&rt, rt.alloc(), 12).map_err(|_| AllocError)?;
+    let (square, ()) = join(&rt, || square_of(ticket), || serve(request));
+    match square {
         Ok(square) => println!(rt; "the square is {square}"),
         Err(error) => println!(rt; "{error}"),
     }

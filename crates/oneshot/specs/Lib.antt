@@ -11,13 +11,14 @@ pub use Rattle.oneshot_drive.specs.BetweenCalls
 pub use Rattle.oneshot_drive.specs.Blocking
 pub use Rattle.oneshot_drive.specs.Grounds
 pub use Rattle.oneshot_drive.specs.Polls
+pub use Rattle.oneshot_machine.specs.Called
 pub use Rattle.oneshot_machine.specs.Counts
 pub use Rattle.oneshot_machine.specs.Logs
 pub use Rattle.oneshot_machine.specs.Phases
 pub use Rattle.oneshot_machine.specs.Runs
 pub use Rattle.oneshot_machine.specs.Slots
 pub use Rattle.oneshot_machine.specs.Noted
-pub use Rattle.oneshot_memory.specs.Cells
+pub use Rattle.oneshot_memory.specs.Memory
 pub use Rattle.oneshot_memory.specs.Events
 pub use Rattle.oneshot_memory.specs.Receiver as ReceiverMemory
 pub use Rattle.oneshot_memory.specs.Sender as SenderMemory

@@ -17,6 +17,8 @@ mod inbox;
 mod rehearsal;
 #[cfg(test)]
 mod stepped;
+#[cfg(test)]
+mod tallied;
 
 pub use oneshot_channel::{
     AsyncReceiver, Promise, RawReceiver, RawSender, Receiver, RecvError, RecvTimeoutError,

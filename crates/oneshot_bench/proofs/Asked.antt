@@ -1,38 +1,44 @@
 -- A channel's name, a loop's name and a count ask for just one command.
 use Rattle.std.proofs.Common.{◌≡◌, ◌↔◌, ◌⊎◌, inl, inr, ℕ, List, [], ◌∷◌, Some, length, get_or, map, ap, refl, sym, subst, arith}
-use Rattle.oneshot_bench.specs.declared.channels.Channel.{Channel}
-use Rattle.oneshot_bench.specs.declared.channels.Channel.TheVariants.{Oneshot}
+use Rattle.oneshot_loops.specs.declared.channels.Channel.{Channel}
+use Rattle.oneshot_loops.specs.declared.channels.Channel.TheVariants.{Oneshot}
 use Rattle.oneshot_bench.specs.declared.command.Command.{Command}
 use Rattle.oneshot_bench.specs.declared.command.Command.TheVariants.{Usage, Measure}
-use Rattle.oneshot_bench.specs.declared.loops.Loop.{Loop}
-use Rattle.oneshot_bench.specs.Channel.{channel_name}
-use Rattle.oneshot_bench.specs.Loop.{name_of}
+use Rattle.oneshot_loops.specs.declared.loops.Loop.{Loop}
+use Rattle.oneshot_loops.specs.Channel.{channel_name}
+use Rattle.oneshot_loops.specs.Loop.{name_of}
 use Rattle.oneshot_bench.specs.Command.{Asks, AsksOver, Writes}
-use Rattle.oneshot_bench.proofs.Names.{loop_named, loop_named-finds, loop_named-found, channel_named, channel_named-finds, channel_named-found}
+
+-- the loop, or the channel, of this name
+abbrev IsLoop : Loop → List ℕ → Type 0
+IsLoop kind name = (other : Loop) → (Some kind ≡ Some other) ↔ (name_of other ≡ name)
+
+abbrev IsChannel : Channel → List ℕ → Type 0
+IsChannel channel name = (other : Channel) → (Some channel ≡ Some other) ↔ (channel_name other ≡ name)
 
 -- a word writes one number
 writes-one : (word : List ℕ) (m n : ℕ) → Writes word m → Writes word n → m ≡ n
 writes-one word m n one other = cc (one.value, other.value)
 
 asked-measure : (over : Channel) (name word : List ℕ) (kind : Loop) (count : ℕ) (command : Command)
-    → loop_named name ≡ Some kind
+    → IsLoop kind name
     → Writes word count → AsksOver over (name ∷ word ∷ []) command → Measure over kind count ≡ command
-asked-measure over name word kind count Usage found writes asks = absurd asks
-asked-measure over name word kind count (Measure channel other number) found writes (text, same_channel, is, wrote) =
+asked-measure over name word kind count Usage named writes asks = absurd asks
+asked-measure over name word kind count (Measure channel other number) named writes (text, same_channel, is, wrote) =
     let same : text ≡ word = cc in
-    let named : loop_named name ≡ Some other = loop_named-finds other name (cc) in
+    let found : Some kind ≡ Some other = (named other).1 (cc) in
     let value : count ≡ number = writes-one word count number writes (rw same at wrote) in
     cc
 
 pub measure-asked : (over : Channel) (name word : List ℕ) (kind : Loop) (count : ℕ) (command : Command)
-    → loop_named name ≡ Some kind
+    → IsLoop kind name
     → Writes word count → (Some (Measure over kind count) ≡ Some command) ↔ AsksOver over (name ∷ word ∷ []) command
-measure-asked over name word kind count command found writes =
+measure-asked over name word kind count command named writes =
     let asks : AsksOver over (name ∷ word ∷ []) (Measure over kind count) =
-    (word, refl, (cc (loop_named-found kind name found)), writes) in (
+    (word, refl, (cc ((named kind).0 refl)), writes) in (
       (λ is. let same : Measure over kind count ≡ command = cc in
           subst (λ asked. AsksOver over (name ∷ word ∷ []) asked) same asks),
-      (λ asked. ap Some (asked-measure over name word kind count command found writes asked)),
+      (λ asked. ap Some (asked-measure over name word kind count command named writes asked)),
     )
 
 -- the words name this channel, or none and mean `Oneshot`
@@ -45,12 +51,12 @@ over-two : (name word text : List ℕ) (channel : Channel) (kind : Loop)
 over-two name word text channel kind (inl long) = absurd cc
 over-two name word text channel kind (inr short) = (sym short.0, short.1)
 
-over-three : (first name word text : List ℕ) (over channel : Channel) (kind : Loop) → channel_named first ≡ Some over
+over-three : (first name word text : List ℕ) (over channel : Channel) (kind : Loop) → IsChannel over first
     → Over (first ∷ name ∷ word ∷ []) channel (name_of kind ∷ text ∷ [])
     → (over ≡ channel) × (name ∷ word ∷ [] ≡ name_of kind ∷ text ∷ [])
-over-three first name word text over channel kind found (inl long) =
-    let named : channel_named first ≡ Some channel = channel_named-finds channel first (cc) in (cc, cc)
-over-three first name word text over channel kind found (inr short) = let long = short.1 in absurd cc
+over-three first name word text over channel kind named (inl long) =
+    let found : Some over ≡ Some channel = (named channel).1 (cc) in (cc, cc)
+over-three first name word text over channel kind named (inr short) = let long = short.1 in absurd cc
 
 -- two words are read as those over `Oneshot`
 pub asks-two : (name word : List ℕ) (command : Command)
@@ -62,13 +68,13 @@ asks-two name word (Measure channel kind count) = (
 )
 
 -- three words are read as the last two over the channel that the first names
-pub asks-three : (first name word : List ℕ) (over : Channel) (command : Command) → channel_named first ≡ Some over
+pub asks-three : (first name word : List ℕ) (over : Channel) (command : Command) → IsChannel over first
     → AsksOver over (name ∷ word ∷ []) command ↔ Asks (first ∷ name ∷ word ∷ []) command
-asks-three first name word over Usage found = ((λ asks. absurd asks), (λ is. absurd cc))
-asks-three first name word over (Measure channel kind count) found = (
-  (λ asks. let named = channel_named-found over first found in let same = asks.1 in let rest = asks.2 in
+asks-three first name word over Usage named = ((λ asks. absurd asks), (λ is. absurd cc))
+asks-three first name word over (Measure channel kind count) named = (
+  (λ asks. let its = (named over).0 refl in let same = asks.1 in let rest = asks.2 in
       (asks.0, inl (cc), asks.3)),
-  (λ asks. let over = over-three first name word asks.0 over channel kind found asks.1 in
+  (λ asks. let over = over-three first name word asks.0 over channel kind named asks.1 in
       (asks.0, over.0, over.1, asks.2)),
 )
 

@@ -1,12 +1,12 @@
 -- The arguments that ask for each command.
 use Rattle.std.specs.Prelude.{◌≡◌, ℕ, ◌^◌, ◌<◌, ◌⊎◌, List, [], ◌∷◌}
 use Rattle.std.specs.Str.Parse.{IsNumeral, digits_value, without_leading_plus}
-use Rattle.oneshot_bench.specs.declared.channels.Channel.{Channel}
-use Rattle.oneshot_bench.specs.declared.channels.Channel.TheVariants.{Oneshot}
+use Rattle.oneshot_loops.specs.declared.channels.Channel.{Channel}
+use Rattle.oneshot_loops.specs.declared.channels.Channel.TheVariants.{Oneshot}
 use Rattle.oneshot_bench.specs.declared.command.Command.{Command}
 use Rattle.oneshot_bench.specs.declared.command.Command.TheVariants.{Usage, Measure}
-use Rattle.oneshot_bench.specs.Channel.{channel_name}
-use Rattle.oneshot_bench.specs.Loop.{name_of}
+use Rattle.oneshot_loops.specs.Channel.{channel_name}
+use Rattle.oneshot_loops.specs.Loop.{name_of}
 
 -- the word writes the number in decimal digits, before which a plus may stand
 pub record Writes (word : List ℕ) (count : ℕ) : Type 0 where

@@ -1,14 +1,20 @@
 -- The exit status of each fault: 1 where the system or the channel failed, 2 where the arguments are at
 -- fault, 3 where memory was refused.
 use Rattle.std.specs.Prelude.{ℕ}
+use Rattle.oneshot_loops.specs.declared.fault.Fault.{Fault as RoundsFault}
+use Rattle.oneshot_loops.specs.declared.fault.Fault.TheVariants as R
 use Rattle.oneshot_bench.specs.declared.fault.Fault.{Fault}
-use Rattle.oneshot_bench.specs.declared.fault.Fault.TheVariants.{BadArguments, ClockFailed, WriteFailed, MessageLost, CannotRun, TaskFailed, OutOfMemory}
+use Rattle.oneshot_bench.specs.declared.fault.Fault.TheVariants.{BadArguments, WriteFailed, Rounds, OutOfMemory}
+
+abbrev pub status_of_rounds : RoundsFault → ℕ
+status_of_rounds R.ClockFailed = 1
+status_of_rounds R.MessageLost = 1
+status_of_rounds R.CannotRun = 2
+status_of_rounds R.TaskFailed = 1
+status_of_rounds (R.OutOfMemory refused) = 3
 
 abbrev pub status_of : Fault → ℕ
 status_of BadArguments = 2
-status_of ClockFailed = 1
 status_of WriteFailed = 1
-status_of MessageLost = 1
-status_of CannotRun = 2
-status_of TaskFailed = 1
-status_of OutOfMemory = 3
+status_of (Rounds fault) = status_of_rounds fault
+status_of (OutOfMemory refused) = 3

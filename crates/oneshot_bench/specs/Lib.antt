@@ -1,5 +1,2 @@
-pub mod Channel
 pub mod Command
 pub mod Fault
-pub mod Loop
-pub mod Rounds

@@ -4,8 +4,8 @@ ghost use Rattle.std.specs.Prelude.{◌≡◌, ◌<◌, ◌^◌, ◌↔◌, Some
 ghost use Rattle.std.specs.Str.Parse.{IsNumeral, digits_value, without_leading_plus};
 ghost use Rattle.oneshot_bench.specs.Command.{Asks, AsksOver};
 
-use crate::channels::Channel;
-use crate::loops::Loop;
+use oneshot_loops::channels::Channel;
+use oneshot_loops::loops::Loop;
 
 /// How the program is called.
 pub const USAGE: &str =

@@ -1,11 +1,11 @@
 //! Why nothing was measured.
 
 ghost use Rattle.std.specs.Prelude.{◌≡◌};
-ghost use Rattle.oneshot_bench.specs.declared.fault.Fault.TheVariants.{OutOfMemory};
 ghost use Rattle.oneshot_bench.specs.Fault.{status_of};
 
 use crate::command::USAGE;
-use std::alloc::{AllocError, AllocFailed};
+use oneshot_loops::fault as rounds;
+use std::alloc::AllocError;
 use thiserror::Error;
 
 /// Why nothing was measured.
@@ -14,40 +14,15 @@ pub enum Fault {
     /// The arguments are not a loop's name and a count, with or without a channel's name before them.
     #[error("{USAGE}")]
     BadArguments,
-    /// The clock could not be read.
-    #[error("clock failed")]
-    ClockFailed,
     /// The output could not be written.
     #[error("write failed")]
     WriteFailed,
-    /// A message that was sent was not received.
-    #[error("message lost")]
-    MessageLost,
-    /// The channel has no call that the loop needs.
-    #[error("channel cannot run this loop")]
-    CannotRun,
-    /// A task could not be made.
-    #[error("task failed")]
-    TaskFailed,
+    /// The rounds ended early, or none was made.
+    #[error(transparent)]
+    Rounds(#[from] rounds::Fault),
     /// A request for memory was refused.
     #[error("out of memory")]
-    OutOfMemory,
-}
-
-impl From<AllocError> for Fault {
-    ghost from_gives = { λ _ fault. fault ≡ OutOfMemory };
-
-    fn from(_: AllocError) -> Fault {
-        Fault::OutOfMemory
-    }
-}
-
-impl<T: Drop> From<AllocFailed<T>> for Fault {
-    ghost from_gives = { λ _ fault. fault ≡ OutOfMemory };
-
-    fn from(_: AllocFailed<T>) -> Fault {
-        Fault::OutOfMemory
-    }
+    OutOfMemory(#[from(alloc)] AllocError),
 }
 
 impl Fault {
@@ -57,12 +32,13 @@ impl Fault {
     {
         match self {
             Fault::BadArguments => 2,
-            Fault::ClockFailed => 1,
             Fault::WriteFailed => 1,
-            Fault::MessageLost => 1,
-            Fault::CannotRun => 2,
-            Fault::TaskFailed => 1,
-            Fault::OutOfMemory => 3,
+            Fault::Rounds(rounds::Fault::ClockFailed) => 1,
+            Fault::Rounds(rounds::Fault::MessageLost) => 1,
+            Fault::Rounds(rounds::Fault::CannotRun) => 2,
+            Fault::Rounds(rounds::Fault::TaskFailed) => 1,
+            Fault::Rounds(rounds::Fault::OutOfMemory(_)) => 3,
+            Fault::OutOfMemory(_) => 3,
         }
     }
 }

@@ -1,32 +1,15 @@
 //! Measures a channel: one of its loops by name, how many rounds of it, and over which channel.
 #![tactic(auto)]
 
-mod awaited_rounds;
-mod awaited_trips;
-mod channels;
 mod command;
-mod crossbeam_rounds;
-mod crossbeam_trips;
 mod fault;
-mod futures_awaited_rounds;
-mod futures_rounds;
-mod futures_trips;
-mod loops;
-mod measure;
-mod message;
-mod polled;
-mod queues;
-mod round_trip;
-mod rounds;
-mod run;
-mod tally;
 #[cfg(test)]
 mod tests;
-mod ticket_rounds;
 
 use command::{Command, USAGE, parse_command};
 use fault::Fault;
-use measure::measure;
+use oneshot_loops::measure::measure;
+use std::alloc::AllocError;
 use std::env;
 use std::io::ErrorKind;
 use std::process::ExitCode;
@@ -71,7 +54,7 @@ fn answer<R: Env + Print + AllocGlobal + Clock + RandomSource + Threads + Wait +
 /// The program's arguments, without its own name.
 fn arguments<R: Env + AllocGlobal>(rt: &R) -> Result<Vec<String>, Fault> {
     let mut words = env::args(rt).map_err(|error| match error.kind() {
-        ErrorKind::OutOfMemory => Fault::OutOfMemory,
+        ErrorKind::OutOfMemory => Fault::OutOfMemory(AllocError),
         _ => Fault::BadArguments,
     })?;
     let _name = words.next();

@@ -1,8 +1,10 @@
 -- What is in a list that was made from another one.
-use Rattle.std.proofs.Common.{◌≡◌, Bool, true, false, List, [], ◌∷◌, ◌++◌, Some, cond, refl, subst}
+use Rattle.std.proofs.Common.{◌≡◌, Bool, true, false, List, [], ◌∷◌, ◌++◌, Some, cond, refl, ap, subst}
 use Rattle.std.specs.Prelude.{filter, if◌then◌else◌}
 use Rattle.std.specs.List.{flat_map}
+use Rattle.std.proofs.lemmas.Bool.{eqb-true}
 use Rattle.oneshot_machine.specs.declared.machine.Seen.{Seen}
+use Rattle.oneshot_machine.specs.declared.machine.Seen.TheVariants.{Done, Word, Over, Refused, Token}
 use Rattle.oneshot_machine.specs.Slots.{In, head, tail}
 use Rattle.oneshot_machine.specs.TableRows.{Outcome, Rows, row_for, is_same_seen}
 
@@ -49,18 +51,28 @@ module _ {X : Type 0} (test : X → Bool) {x : X} where
   in_such [] there = elim there [ ]
   in_such (y ∷ xs) there = such_of (test y) y xs (filter test xs) refl (in_such xs) there
 
--- a row that was found is in its list
-pub record RowFor {P : Type 0} (rows : Rows P) (o : Outcome P) : Type 0 where
-  pub seen : Seen
-  pub among : In (seen, o) rows
+-- what was seen is told apart by its test
+seen_is : (a b : Seen) → is_same_seen a b ≡ true → a ≡ b
+seen_is Done Done e = refl
+seen_is (Word a) (Word b) e = ap Word (eqb-true a b e)
+seen_is (Over true) (Over true) e = refl
+seen_is (Over false) (Over false) e = refl
+seen_is (Refused true) (Refused true) e = refl
+seen_is (Refused false) (Refused false) e = refl
+seen_is (Token true) (Token true) e = refl
+seen_is (Token false) (Token false) e = refl
+seen_is _ _ e = absurd (cc e)
 
-pub row_among : {P : Type 0} (seen : Seen) (rows : Rows P) {o : Outcome P} → row_for seen rows ≡ Some o → RowFor rows o
+-- a row that was found is in its list
+pub row_among : {P : Type 0} (seen : Seen) (rows : Rows P) {o : Outcome P} → row_for seen rows ≡ Some o
+    → In (seen, o) rows
 row_among seen [] e = absurd (cc e)
-row_among {P} seen (row ∷ rows) {o} e = by (is_same_seen row.0 seen) e (row_among seen rows)
+row_among {P} seen (row ∷ rows) {o} e = by (is_same_seen row.0 seen) refl e (row_among seen rows)
   where
-    by : (b : Bool) → (if b then Some row.1 else row_for seen rows) ≡ Some o
-        → (row_for seen rows ≡ Some o → RowFor rows o) → RowFor (row ∷ rows) o
-    by true e later =
-        let same : row.1 ≡ o =
-        cc e in record { seen = row.0; among = subst (λ o. In (row.0, o) (row ∷ rows)) same head }
-    by false e later = let found = later e in record { seen = found.seen; among = tail found.among }
+    by : (b : Bool) → is_same_seen row.0 seen ≡ b → (if b then Some row.1 else row_for seen rows) ≡ Some o
+        → (row_for seen rows ≡ Some o → In (seen, o) rows) → In (seen, o) (row ∷ rows)
+    by true same e later =
+        let leads : row.1 ≡ o = cc e in
+        let it : row ≡ (seen, o) = λ i. (seen_is row.0 seen same i, leads i) in
+        subst (λ x. In x (row ∷ rows)) it head
+    by false same e later = tail (later e)

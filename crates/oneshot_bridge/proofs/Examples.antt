@@ -1,7 +1,8 @@
 -- The examples: each walk step by step, the order operation by operation, and why the others are none.
-use Rattle.std.proofs.Common.{◌≡◌, true, false, List, [], ◌∷◌, Some, refl, sym, ap, subst, ◌∙◌}
+use Rattle.std.proofs.Common.{◌≡◌, ℕ, true, false, List, [], ◌∷◌, Some, get_or, refl, sym, ap, subst, ◌∙◌}
 use Rattle.std.specs.Option.{IsSome}
 use Rattle.oneshot_machine.specs.declared.machine.Reply.TheVariants as R
+use Rattle.oneshot_machine.specs.declared.machine.Seen.{Seen}
 use Rattle.oneshot_machine.specs.declared.machine.Seen.TheVariants.{Done, Word, Token}
 use Rattle.oneshot_machine.specs.declared.machine.Step.TheVariants as Steps
 use Rattle.oneshot_machine.specs.declared.machine.receiver.ReceiverPos.TheVariants.{Value}
@@ -131,14 +132,26 @@ skips_its_load first = let swaps : Load ≡ Swap 0 = first.0 in cc swaps
 finds_a_waker : IsFirst (Load, Word 0) → ⊥
 finds_a_waker first = let no_row : IsSome (receiver_row (Value RecvLoad) (Word 0)) = first.1 in cc no_row
 
+-- logs that differ from those of the run in one word, or by one operation
+abbrev seen_at : ℕ → List Noted → Seen
+seen_at n log = (get_or log n (Load, Done)).1
+
+adds_elsewhere : sent ≡ (Add, Word 3) ∷ (Swap 4, Word 1) ∷ [] → ⊥
+adds_elsewhere is = let found : Word 0 ≡ Word 3 = ap (seen_at 0) is in cc found
+
+wakes_before : received ≡ (Load, Word 3) ∷ (Swap 0, Word 3) ∷ (Load, Word 0) ∷ (Load, Word 4) ∷ [] → ⊥
+wakes_before is = let found : Word 1 ≡ Word 0 = ap (seen_at 2) is in cc found
+
+has_no_swap : sent ≡ (Add, Word 0) ∷ [] → ⊥
+has_no_swap is = cc
+
 pub wrong_runs : {T : Type 0} (m : T) → WrongRuns m
 wrong_runs m =
     record {
       skips_its_load = λ s walk. skips_its_load (begins_so _ walk refl);
       finds_a_waker = λ s walk. finds_a_waker (begins_so _ walk refl);
-      adds_to_another_word = λ now ys word runs. let log : sent ≡ (Add, Word 3) ∷ [] = runs.sender_log in cc log;
-      wakes_in_time =
-          λ now xs word runs. let log : received ≡ (Load, Word 3) ∷ (Swap 0, Word 3) ∷ (Load, Word 4) ∷ [] =
-          runs.receiver_log in cc log;
+      adds_to_another_word = λ now ys word runs. adds_elsewhere runs.sender_log;
+      wakes_before_the_add = λ now xs word runs. wakes_before runs.receiver_log;
+      skips_the_swap = λ now ys word runs. has_no_swap runs.sender_log;
       leaves_another_word = λ word runs. sym runs.leaves;
     }

@@ -3,7 +3,7 @@
 use Rattle.std.proofs.Common.{◌≡◌, ℕ, List, [], ◌∷◌, ◌++◌, refl, sym, subst}
 use Rattle.oneshot_machine.specs.declared.states.Op.{Op}
 use Rattle.oneshot_machine.specs.Noted.{Noted, saw}
-use Rattle.oneshot_machine.specs.Orders.{Reaches, nothing_made, sender_makes, receiver_makes}
+use Rattle.oneshot_machine.specs.Orders.{InOrder, none_made, by_sender, by_receiver}
 use Rattle.oneshot_machine.specs.States.{word_after}
 use Rattle.oneshot_bridge.specs.Walks.{Walk, begins, quietly, by_one}
 
@@ -82,8 +82,8 @@ module _ {S R : Type 0} {SRests : S → S → Type 0} {SMakes : S → Noted → 
         (before _ r1 a (subst (λ l. Walk RRests RMakes r0 l r1) (same_start zs ys y (op, saw op word) e) b))
         (subst (λ y. RMakes r1 y r) (same_last zs ys y (op, saw op word) e) m)
 
-  pub interleaves : {xs ys : List Noted} {word : ℕ} {s : S} {r : R} → Reaches xs ys word
+  pub interleaves : {xs ys : List Noted} {word : ℕ} {s : S} {r : R} → InOrder xs ys word
       → Walk SRests SMakes s0 xs s → Walk RRests RMakes r0 ys r → Ran xs ys word s r
-  interleaves nothing_made a b = both_rest a refl b refl
-  interleaves (sender_makes op order row) a b = sender_then op (λ s r a b. interleaves order a b) a refl b
-  interleaves (receiver_makes op order row) a b = receiver_then op (λ s r a b. interleaves order a b) a b refl
+  interleaves none_made a b = both_rest a refl b refl
+  interleaves (by_sender op order) a b = sender_then op (λ s r a b. interleaves order a b) a refl b
+  interleaves (by_receiver op order) a b = receiver_then op (λ s r a b. interleaves order a b) a b refl

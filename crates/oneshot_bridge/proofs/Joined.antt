@@ -3,6 +3,7 @@ use Rattle.std.proofs.Common.{◌≡◌, ℕ, ◌+◌, List, [], ◌∷◌, Opti
 use mathlib.Core.Option as maybe
 use Rattle.oneshot_machine.specs.declared.machine.End.{End}
 use Rattle.oneshot_machine.specs.Noted.{Noted}
+use Rattle.oneshot_machine.specs.Orders.{Reaches}
 use Rattle.oneshot_machine.specs.Phases.{Share, empty, filled}
 use Rattle.oneshot_machine.specs.Receiver.{receiver_step}
 use Rattle.oneshot_machine.specs.Sender.{sender_step}
@@ -27,9 +28,10 @@ use Rattle.oneshot_word.specs.declared.rule.Slot.{Slot}
 use Rattle.oneshot_word.specs.declared.rule.Slot.TheVariants.{Empty, Message}
 use Rattle.oneshot_word.specs.Rule.{Home, bare, has_message, Lies, lies_out, lies_bare, lies_filled, IsGiven, IsTaken, took_none, took_it, opened, dealt, runs}
 use Rattle.oneshot_word.specs.Seats.{any, with_waker}
-use Rattle.oneshot_bridge.specs.Homes.{message_of_logs, waker_of_logs}
+use Rattle.oneshot_bridge.specs.Homes.{message_of_logs, waker_of_logs, CellsAreSo}
 use Rattle.oneshot_bridge.specs.Joined.{SlotsAreSo, Passed, none_passed, it_passed, maker_before, dealer_before, is_run, TablesAreOfRuns}
 use Rattle.oneshot_bridge.specs.Scripted.{IsOfARun}
+use Rattle.oneshot_bridge.proofs.CellsRun.{cells_run}
 use Rattle.oneshot_bridge.proofs.StatesRun.{states_run}
 
 -- a world without a message stays so
@@ -134,18 +136,19 @@ passes keeps q (Some x) m lies same =
 
 -- the slots of a run, by its cells
 slots_so : {T H K : Type 0} {kept : T → Type 0} {h k : Home T H K} {xs ys : List Noted} {word : ℕ} (m : T)
-    (run : IsOfARun m xs ys word) → ((other : T) → h ≡ has_message other → other ≡ m)
+    (run : IsOfARun m xs ys word) → Reaches xs ys word → ((other : T) → h ≡ has_message other → other ≡ m)
     → Lies kept Message (message_of_logs xs ys) h → Lies any with_waker (waker_of_logs xs ys) k → SlotsAreSo h k run.now
-slots_so m run only message waker =
+slots_so {xs} {ys} m run order only message waker =
+    let cells : CellsAreSo xs ys run.now.world.state = cells_run run.sender run.receiver run.run order in
     record {
       has_it =
           λ other is. subst (λ other. rest_at run.now.world.state.message run.now.message ≡ Some (InCell other))
           (sym (only other is))
           (lies_there run.sender run.receiver m run.run.run run.sends
-          (run.cells.message (is_filled (Message other) (full_message other) message is)));
-      has_none = λ is. run.cells.no_message (is_empty full_message message is);
-      has_one = λ k is. run.cells.waker (is_filled (with_waker k) (full_waker k) waker is);
-      has_no_waker = λ is. run.cells.no_waker (is_empty full_waker waker is);
+          (cells.message (is_filled (Message other) (full_message other) message is)));
+      has_none = λ is. cells.no_message (is_empty full_message message is);
+      has_one = λ k is. cells.waker (is_filled (with_waker k) (full_waker k) waker is);
+      has_no_waker = λ is. cells.no_waker (is_empty full_waker waker is);
     }
 
 pub passed_one : {T : Type 0} {m other : T} {o : Option T} → Passed m o → o ≡ Some other → other ≡ m
@@ -158,4 +161,4 @@ tables_are_of_runs H K keeps m q _ _ _ dealt = dealer_before
 tables_are_of_runs {T} H K keeps m q _ _ _ (runs {w} {h} xs ys {given} {taken} order message waker same) =
     let sent : Passes h given taken = passes keeps q given m message same in
     let run : IsOfARun sent.it xs ys w = states_run T sent.it xs ys w order in
-    is_run sent.it xs ys run (slots_so sent.it run sent.only message waker) sent.gave sent.took
+    is_run sent.it xs ys run (slots_so sent.it run order sent.only message waker) sent.gave sent.took

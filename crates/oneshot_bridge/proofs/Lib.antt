@@ -18,6 +18,11 @@ pub mod StatesRun
 pub mod OneReceive
 pub mod Given
 pub mod Woken
+pub mod CallsWalk
+pub mod ReceiverCalls
+pub mod SenderCalls
+pub mod CallsRun
 pub mod Joined
 pub mod Examples
 pub mod CellExamples
+pub mod CallExamples

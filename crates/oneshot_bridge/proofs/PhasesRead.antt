@@ -7,7 +7,7 @@ use Rattle.oneshot_machine.specs.Noted.{Noted, saw}
 use Rattle.oneshot_machine.specs.Orders.{Reaches, has_row, nothing_made, sender_makes, receiver_makes}
 use Rattle.oneshot_machine.specs.Phases.{sending, dropping, SenderAt, fresh, owes, no_sender, sender_next, sender_moves, sender_at, looked, between, blocked, polled, again, at_once, waited, swapped, by_future, by_poll, ReceiverAt, first, here, waits, full, no_receiver, receiver_next, receiver_moves, receiver_at, Row, phase_from}
 use Rattle.oneshot_machine.proofs.Sameness.{each_passes}
-use Rattle.oneshot_machine.proofs.GrownLists.{phase_from-snoc}
+use Rattle.oneshot_machine.proofs.GrownLogs.{phase_from-snoc}
 use Rattle.oneshot_world.specs.World.{by_end}
 use Rattle.oneshot_world.specs.declared.trace.Entry.{Entry}
 use Rattle.oneshot_world.specs.declared.trace.Entry.TheVariants.{Idle, Made as Made_entry}

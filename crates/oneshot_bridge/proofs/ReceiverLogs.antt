@@ -23,7 +23,7 @@ use Rattle.oneshot_world.specs.declared.script.ReceiverLast.TheVariants as RL
 use Rattle.oneshot_world.specs.declared.script.ReceiverScript.{ReceiverScript}
 use Rattle.oneshot_bridge.specs.Scripted.{ReceiverIsScripted}
 use Rattle.oneshot_bridge.specs.Walks.{ReceiverStand, ReceiverWalk, opening_receiver, begins}
-use Rattle.oneshot_bridge.proofs.Among.{in_each, in_such, RowFor, row_among}
+use Rattle.oneshot_bridge.proofs.Among.{in_each, in_such, row_among}
 use Rattle.oneshot_bridge.proofs.ReceiverScripted.{Came, keeps, leads_well, nothing_onward, comes_onward, steps_on}
 use Rattle.oneshot_bridge.proofs.ReceiverStands.{makes, opens, some_walk}
 use Rattle.oneshot_bridge.proofs.RowsTurn.{row_found, is_found}
@@ -64,13 +64,11 @@ row_of s seen o = by s (row_for seen (receiver_rows (pos_of s))) refl
     by (plainly p) None is rows = absurd (cc (rw is at rows))
     by (as_future p) None is rows = absurd (cc (rw is at rows))
     by (plainly p) (Some row) is rows =
-        let found : RowFor (receiver_rows p) row = row_among seen (receiver_rows p) is in
         let same : Some (outcome_at plainly row) ≡ Some o = rw is at rows in
-        record { seen = found.seen; row = row; among = found.among; leads = cc same }
+        record { seen = seen; row = row; among = row_among seen (receiver_rows p) is; leads = cc same }
     by (as_future p) (Some row) is rows =
-        let found : RowFor (receiver_rows p) row = row_among seen (receiver_rows p) is in
         let same : Some (outcome_at as_future row) ≡ Some o = rw is at rows in
-        record { seen = found.seen; row = row; among = found.among; leads = cc same }
+        record { seen = seen; row = row; among = row_among seen (receiver_rows p) is; leads = cc same }
 
 or_so : (b c : Bool) → (not b || c) ≡ true → b ≡ true → c ≡ true
 or_so true c h e = h

@@ -96,7 +96,7 @@ module _ {ys zs : List Noted} {p : ReceiverPos} {seen : Seen} {after : After} wh
             ready (walks (stands.script rest) (Answers reply) steps stands.position rows (stands.walk rest));
       }
 
-some_rest : (after : After) → Rest after
+abbrev pub some_rest : (after : After) → Rest after
 some_rest calls = ([], RL.Stop)
 some_rest polls = ([], AL.Stop)
 some_rest nothing = tt

@@ -10,7 +10,7 @@ use Rattle.oneshot_machine.specs.Orders.{Reaches, has_row, nothing_made, sender_
 use Rattle.oneshot_machine.specs.Phases.{By, sending, dropping, SenderAt, fresh, owes, sender_at, sender_next, sender_moves, Slots, Row}
 use Rattle.oneshot_machine.specs.Slots.{In, head, tail}
 use Rattle.oneshot_machine.specs.TableRows.{Goes, Answers}
-use Rattle.oneshot_machine.proofs.GrownLists.{phase_from-snoc}
+use Rattle.oneshot_machine.proofs.GrownLogs.{phase_from-snoc}
 use Rattle.oneshot_machine.specs.declared.machine.sender.SenderPos.{SenderPos}
 use Rattle.oneshot_world.specs.declared.script.ErrorLast.TheVariants as EL
 use Rattle.oneshot_world.specs.declared.script.SenderLast.TheVariants as SL

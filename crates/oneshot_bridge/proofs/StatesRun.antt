@@ -1,8 +1,10 @@
 -- Each order is a run, and each state that the rule of the word allows is one of a run: both ends are scripted,
 -- and their order is a run.
 use Rattle.oneshot_machine.specs.declared.machine.End.TheVariants.{Sender, Receiver}
+use Rattle.oneshot_machine.proofs.InOrders.{in_order}
 use Rattle.oneshot_replay.proofs.RunLaws.{is_right}
-use Rattle.oneshot_bridge.specs.OrdersRun.{RunsTo, RunsHaveCells, OrdersAreRuns}
+use Rattle.oneshot_bridge.specs.Homes.{RunsHaveCells}
+use Rattle.oneshot_bridge.specs.OrdersRun.{RunsTo, OrdersAreRuns}
 use Rattle.oneshot_bridge.specs.Scripted.{StatesAreOfRuns}
 use Rattle.oneshot_bridge.proofs.CellsRun.{cells_run}
 use Rattle.oneshot_bridge.proofs.Interleaves.{interleaves}
@@ -26,7 +28,6 @@ orders_run T a b xs ys n s r order sender receiver =
           λ i. (got.sender i, got.sender_left i, told i);
       receiver = let told = told_in a b got.entries Receiver r.1 r.2 got.receiver_told in
           λ i. (got.receiver i, got.receiver_left i, told i);
-      cells = cells_run a b got.run order;
       right = is_right a b got.moves got.entries got.now got.run.run;
     }
 
@@ -34,7 +35,7 @@ pub states_run : (T : Type 0) → StatesAreOfRuns T
 states_run T message xs ys word order =
     let a = sender_scripted T message xs ys word order in
     let b = receiver_scripted xs ys word order in
-    let run : RunsTo a.0 b.0 xs ys word a.2 b.1 = orders_run T a.0 b.0 xs ys word a.2 b.1 order a.3 b.2 in
+    let run : RunsTo a.0 b.0 xs ys word a.2 b.1 = orders_run T a.0 b.0 xs ys word a.2 b.1 (in_order order) a.3 b.2 in
     record {
       sender = a.0;
       sends = a.1;
@@ -43,6 +44,5 @@ states_run T message xs ys word order =
       entries = run.entries;
       now = run.now;
       run = run.run;
-      cells = run.cells;
       right = run.right;
     }

@@ -74,10 +74,13 @@ module _ {T : Type 0} (m : T) where
     pub finds_a_waker : (s : ReceiverStand) → ReceiverWalk receives ((Load, Word 0) ∷ []) s → ⊥
     -- the words of the run are not those of the log: its add found 0, and its second load 1
     pub adds_to_another_word : (now : Scene T) (ys : List Noted) (word : ℕ)
-        → RunsSo (sends m) receives schedule entries now ((Add, Word 3) ∷ []) ys word → ⊥
-    pub wakes_in_time : (now : Scene T) (xs : List Noted) (word : ℕ)
+        → RunsSo (sends m) receives schedule entries now ((Add, Word 3) ∷ (Swap 4, Word 1) ∷ []) ys word → ⊥
+    pub wakes_before_the_add : (now : Scene T) (xs : List Noted) (word : ℕ)
         → RunsSo (sends m) receives schedule entries now xs
-        ((Load, Word 3) ∷ (Swap 0, Word 3) ∷ (Load, Word 4) ∷ []) word → ⊥
+        ((Load, Word 3) ∷ (Swap 0, Word 3) ∷ (Load, Word 0) ∷ (Load, Word 4) ∷ []) word → ⊥
+    -- nor does it lack an operation
+    pub skips_the_swap : (now : Scene T) (ys : List Noted) (word : ℕ)
+        → RunsSo (sends m) receives schedule entries now ((Add, Word 0) ∷ []) ys word → ⊥
     -- nor is the last word of the run another one
     pub leaves_another_word : (word : ℕ) → RunsSo (sends m) receives schedule entries last sent received word
         → word ≡ 4

@@ -5,7 +5,7 @@ use Rattle.std.specs.Option.{option_map}
 use Rattle.oneshot_machine.specs.declared.machine.Reply.TheVariants as R
 use Rattle.oneshot_machine.specs.declared.machine.Step.TheVariants.{Park}
 use Rattle.oneshot_machine.specs.Noted.{Noted}
-use Rattle.oneshot_machine.specs.Orders.{Reaches}
+use Rattle.oneshot_machine.specs.Orders.{InOrder}
 use Rattle.oneshot_machine.specs.Receiver.{receiver_step}
 use Rattle.oneshot_world.specs.Scripts.{calls_of}
 use Rattle.oneshot_world.specs.declared.script.ReceiverScript.{ReceiverScript}
@@ -20,7 +20,7 @@ use Rattle.oneshot_bridge.specs.Walks.{Answered, the_receiver, SenderStand, Rece
 -- each end alone has carried out its script up to here, and the operations of both have an order
 pub record HaveCome {T : Type 0} (a : SenderScript T) (b : ReceiverScript) (xs ys : List Noted) (word : ℕ)
     (s : SenderStand) (r : ReceiverStand) : Type 0 where
-  pub order : Reaches xs ys word
+  pub order : InOrder xs ys word
   pub sender : SenderWalk a xs s
   pub receiver : ReceiverWalk b ys r
 

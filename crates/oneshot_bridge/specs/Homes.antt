@@ -1,12 +1,19 @@
 -- What the cells of a run's world have, by what the rule of the word says of the slots at home, and when the
 -- block may be freed.
-use Rattle.std.specs.Prelude.{◌≡◌, Bool, true, false, ◌&&◌, ◌||◌, List, [], ◌∷◌, Option, Some, None, is_some, IsTrue, IsFalse}
+use Rattle.std.specs.Prelude.{◌≡◌, ℕ, Bool, true, false, ◌&&◌, ◌||◌, List, [], ◌∷◌, Option, Some, None, is_some, IsTrue, IsFalse}
 use Rattle.oneshot_machine.specs.Noted.{Noted}
+use Rattle.oneshot_machine.specs.Orders.{Reaches}
 use Rattle.oneshot_machine.specs.Phases.{SenderAt, sender_at, sender_moves, sender_owns, ReceiverAt, receiver_at, receiver_moves, receiver_owns, Share, empty, filled}
 use Rattle.oneshot_world.specs.State.{is_in_cell}
+use Rattle.oneshot_world.specs.declared.script.Move.{Move}
+use Rattle.oneshot_world.specs.declared.script.ReceiverScript.{ReceiverScript}
+use Rattle.oneshot_world.specs.declared.script.SenderScript.{SenderScript}
 use Rattle.oneshot_world.specs.declared.state.State.{State}
+use Rattle.oneshot_world.specs.declared.trace.Entry.{Entry}
 use Rattle.oneshot_world.specs.declared.trace.Place.TheVariants.{InCell}
+use Rattle.oneshot_replay.specs.Scene.{Scene}
 use Rattle.oneshot_word.specs.Rule.{message_home, waker_home}
+use Rattle.oneshot_bridge.specs.OrdersRun.{RunsSo}
 
 -- what the rule says is at home of both slots: nothing while an end has the slot
 abbrev pub message_of_logs : List Noted → List Noted → Share
@@ -40,3 +47,10 @@ pub record CellsAreSo (xs ys : List Noted) (s : State) : Type 0 where
   pub no_waker : waker_of_logs xs ys ≡ empty → s.wakers.cell ≡ None
   -- the block is freed only where one end has both slots, and the other makes no operation any more
   pub freed : IsTrue s.freed → IsTrue (one_has_both (sender_at xs) (receiver_at ys))
+
+-- The cells of each run that has the logs of an order by both phases' tables.
+abbrev pub RunsHaveCells : (T : Type 0) → Type 0
+RunsHaveCells T =
+    (a : SenderScript T) (b : ReceiverScript) (moves : List Move) (entries : List Entry) (now : Scene T)
+    (xs ys : List Noted) (word : ℕ)
+    → RunsSo a b moves entries now xs ys word → Reaches xs ys word → CellsAreSo xs ys now.world.state

@@ -1,9 +1,11 @@
-pub mod Homes
 pub mod Walks
 pub mod OrdersRun
+pub mod Homes
 pub mod Scripted
 pub mod Examples
 pub mod Gives
 pub mod Woken
+pub mod CallsRun
 pub mod Joined
 pub mod CellExamples
+pub mod CallExamples

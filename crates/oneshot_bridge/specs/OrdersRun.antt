@@ -5,7 +5,7 @@ use Rattle.std.specs.Option.{option_map}
 use Rattle.oneshot_machine.specs.declared.machine.End.{End}
 use Rattle.oneshot_machine.specs.declared.machine.End.TheVariants.{Sender, Receiver}
 use Rattle.oneshot_machine.specs.Noted.{Noted, op_of}
-use Rattle.oneshot_machine.specs.Orders.{Reaches}
+use Rattle.oneshot_machine.specs.Orders.{InOrder}
 use Rattle.oneshot_world.specs.Scripts.{calls_of}
 use Rattle.oneshot_world.specs.World.{by_end}
 use Rattle.oneshot_world.specs.declared.script.Move.{Move}
@@ -19,7 +19,6 @@ use Rattle.oneshot_laws.specs.Marks.{Mark, marks, side}
 use Rattle.oneshot_replay.specs.Right.{IsRight}
 use Rattle.oneshot_replay.specs.Run.{HasRun, told_at}
 use Rattle.oneshot_replay.specs.Scene.{Scene}
-use Rattle.oneshot_bridge.specs.Homes.{CellsAreSo}
 use Rattle.oneshot_bridge.specs.Walks.{Answered, SenderStand, ReceiverStand, SenderWalk, ReceiverWalk}
 
 -- the operation on the word of an entry, with what it saw
@@ -60,15 +59,7 @@ pub record RunsTo {T : Type 0} (a : SenderScript T) (b : ReceiverScript) (xs ys 
   pub run : RunsSo a b moves entries now xs ys word
   pub sender : (now.world.state.sender, now.world.sender, answered_by Sender (marks (calls_of a b) entries)) ≡ s
   pub receiver : (now.world.state.receiver, now.world.receiver, answered_by Receiver (marks (calls_of a b) entries)) ≡ r
-  pub cells : CellsAreSo xs ys now.world.state
   pub right : IsRight a b moves (told_at entries now)
-
--- The cells of each run that has the logs of an order, and not only of one of them.
-abbrev pub RunsHaveCells : (T : Type 0) → Type 0
-RunsHaveCells T =
-    (a : SenderScript T) (b : ReceiverScript) (moves : List Move) (entries : List Entry) (now : Scene T)
-    (xs ys : List Noted) (word : ℕ)
-    → RunsSo a b moves entries now xs ys word → Reaches xs ys word → CellsAreSo xs ys now.world.state
 
 -- Whatever order the operations of both ends had: where each end alone carries out its script, a schedule
 -- leads the model through the same operations, which find the same words, to where both ends stand, with the
@@ -76,4 +67,4 @@ RunsHaveCells T =
 abbrev pub OrdersAreRuns : (T : Type 0) → Type 0
 OrdersAreRuns T =
     (a : SenderScript T) (b : ReceiverScript) (xs ys : List Noted) (word : ℕ) (s : SenderStand) (r : ReceiverStand)
-    → Reaches xs ys word → SenderWalk a xs s → ReceiverWalk b ys r → RunsTo a b xs ys word s r
+    → InOrder xs ys word → SenderWalk a xs s → ReceiverWalk b ys r → RunsTo a b xs ys word s r

@@ -10,7 +10,6 @@ use Rattle.oneshot_replay.specs.Rest.{message_of}
 use Rattle.oneshot_replay.specs.Right.{IsRight}
 use Rattle.oneshot_replay.specs.Run.{told_at}
 use Rattle.oneshot_replay.specs.Scene.{Scene}
-use Rattle.oneshot_bridge.specs.Homes.{CellsAreSo}
 use Rattle.oneshot_bridge.specs.OrdersRun.{RunsSo}
 use Rattle.oneshot_bridge.specs.Walks.{SenderStand, ReceiverStand, SenderWalk, ReceiverWalk}
 
@@ -31,7 +30,7 @@ ReceiverIsScripted =
     → Reaches xs ys word → (r : ReceiverScript) × (at : ReceiverStand) × ReceiverWalk r ys at
 
 -- There are two scripts and a schedule. The run of the model has these operations of the sender, these of the
--- receiver, this word, and these slots at home; and it keeps every law of a trace.
+-- receiver and this word, and it keeps every law of a trace.
 pub record IsOfARun {T : Type 0} (message : T) (xs ys : List Noted) (word : ℕ) : Type 0 where
   pub sender : SenderScript T
   pub sends : SendsOnly message sender
@@ -40,7 +39,6 @@ pub record IsOfARun {T : Type 0} (message : T) (xs ys : List Noted) (word : ℕ)
   pub entries : List Entry
   pub now : Scene T
   pub run : RunsSo sender receiver moves entries now xs ys word
-  pub cells : CellsAreSo xs ys now.world.state
   pub right : IsRight sender receiver moves (told_at entries now)
 
 -- Each state that the rule of the word allows is one of a run.

@@ -5,6 +5,7 @@ use Rattle.std.specs.List.{list_any}
 use Rattle.oneshot_machine.specs.declared.machine.End.TheVariants as End
 use Rattle.oneshot_machine.specs.declared.machine.Step.TheVariants.{Wake}
 use Rattle.oneshot_machine.specs.declared.machine.sender.SenderPos.{SenderPos}
+use Rattle.oneshot_machine.specs.Orders.{Reaches}
 use Rattle.oneshot_machine.specs.Phases.{By, SenderAt, finished, late, overtaken, sender_at, gone, receiver_at}
 use Rattle.oneshot_world.specs.Ahead.{ahead_of}
 use Rattle.oneshot_world.specs.Scripts.{calls_of}
@@ -49,7 +50,7 @@ NobodyWaits T =
 abbrev pub WakeIsUnderWay : (T : Type 0) → Type 0
 WakeIsUnderWay T =
     WhereverTheyCome T (λ a b xs ys word s r. (by : By) (p : SenderPos)
-    → sender_at xs ≡ finished by → s.0 ≡ At p
+    → Reaches xs ys word → sender_at xs ≡ finished by → s.0 ≡ At p
     → (run : RunsTo a b xs ys word s r) → WakesNext a b run.entries (run.now.count + 1) run.now.world)
 
 -- Where the sender's last operation found the receiver gone, the receiver's last operation is that of its drop,
@@ -59,8 +60,12 @@ found_it_gone (overtaken by) = true
 found_it_gone _ = false
 
 abbrev pub WasDropped : (T : Type 0) → Type 0
-WasDropped T = WhereverTheyCome T (λ a b xs ys word s r. IsTrue (found_it_gone (sender_at xs)) → receiver_at ys ≡ gone)
+WasDropped T =
+    WhereverTheyCome T (λ a b xs ys word s r. Reaches xs ys word → IsTrue (found_it_gone (sender_at xs))
+    → receiver_at ys ≡ gone)
 
 -- and the receiver has ended: nobody is left to wait.
 abbrev pub NobodyIsLeft : (T : Type 0) → Type 0
-NobodyIsLeft T = WhereverTheyCome T (λ a b xs ys word s r. IsTrue (found_it_gone (sender_at xs)) → r.0 ≡ Ended)
+NobodyIsLeft T =
+    WhereverTheyCome T (λ a b xs ys word s r. Reaches xs ys word → IsTrue (found_it_gone (sender_at xs))
+    → r.0 ≡ Ended)

@@ -1,11 +1,14 @@
 //! What the ends of the channel do is a run of the model: each function's contract is a law, its body nothing.
 #![tactic(auto)]
 
+ghost use Rattle.oneshot_bridge.specs.CallExamples.{WorkedCalls, WrongCalls};
+ghost use Rattle.oneshot_bridge.specs.CallsRun.{CallsAreRuns, BothCallsAreRuns, OneCallGets};
 ghost use Rattle.oneshot_bridge.specs.CellExamples.{WorkedCells, WrongCells, WrongUses};
 ghost use Rattle.oneshot_bridge.specs.Examples.{WorkedRun, WrongRuns};
 ghost use Rattle.oneshot_bridge.specs.Gives.{OneReceiveGets, NoWakeupIsLost, IsFreedOnce, IsFreedLast, IsFreedByItsHolder};
 ghost use Rattle.oneshot_bridge.specs.Joined.{TablesAreOfRuns};
-ghost use Rattle.oneshot_bridge.specs.OrdersRun.{OrdersAreRuns, RunsHaveCells};
+ghost use Rattle.oneshot_bridge.specs.Homes.{RunsHaveCells};
+ghost use Rattle.oneshot_bridge.specs.OrdersRun.{OrdersAreRuns};
 ghost use Rattle.oneshot_bridge.specs.Scripted.{SenderIsScripted, ReceiverIsScripted, StatesAreOfRuns};
 ghost use Rattle.oneshot_bridge.specs.Woken.{NobodyWaits, WakeIsUnderWay, WasDropped, NobodyIsLeft};
 
@@ -17,8 +20,8 @@ pub fn orders_are_runs<T>()
     ensures { OrdersAreRuns T }
 {}
 
-/// Each run of the model that has the logs of an order comes to a world whose cells are as the rule of the word
-/// says of the slots at home; and it frees the block only where one end has both slots.
+/// Each run of the model whose logs the rule of the word allows comes to a world whose cells are as the rule says
+/// of the slots at home; and it frees the block only where one end has both slots.
 pub fn runs_have_cells<T>()
     ensures { RunsHaveCells T }
 {}
@@ -30,8 +33,8 @@ pub fn ends_are_scripted<T>()
 {}
 
 /// For each state that the rule of the word allows there are two scripts and a schedule. The run of the model
-/// has these operations of the sender, these of the receiver, this word, and these slots at home; and it keeps
-/// every law of a trace.
+/// has these operations of the sender, these of the receiver and this word, and it keeps every law of a trace.
+/// `runs_have_cells` says which cells it has.
 pub fn every_state_is_of_a_run<T>()
     ensures { StatesAreOfRuns T }
 {}
@@ -41,6 +44,16 @@ pub fn every_state_is_of_a_run<T>()
 /// receiver took is the message of that run.
 pub fn every_table_is_of_a_run<T, H, K, P: Promise<T>>()
     ensures { TablesAreOfRuns H K P.keeps }
+{}
+
+/// Between calls: a run of the model makes a program's own calls. Where a receiver, or a future, has answered some
+/// calls, each of which left the operations of one run of its table in the log, a run of the model has answered the
+/// same calls with the same replies (`received`). Where the sender is between its calls too, the run has answered
+/// the calls of both (`both`). At most one call of the receiver was answered with the message (`one_gets`).
+pub fn calls_are_of_a_run<T, W>()
+    ensures received { CallsAreRuns T W }
+    ensures both { BothCallsAreRuns T W }
+    ensures one_gets { OneCallGets T W }
 {}
 
 /// What the laws of the model say of both ends, wherever each has come to by its script, in an order of the
@@ -73,4 +86,6 @@ pub fn examples_are_so<T>()
     ensures cells { (m : T) → WorkedCells m }
     ensures wrong_cells { (m : T) → WrongCells m }
     ensures wrong_uses { (m : T) → WrongUses m }
+    ensures calls { WorkedCalls T (Unit {0}) }
+    ensures wrong_calls { WrongCalls T (Unit {0}) }
 {}

@@ -10,12 +10,13 @@ use Rattle.oneshot_machine.specs.Slots.{vacant, held, In, head, tail, May, may, 
 use Rattle.oneshot_machine.specs.Noted.{saw, is_same_op}
 use Rattle.oneshot_machine.proofs.Sameness.{same_op}
 use Rattle.oneshot_machine.proofs.Exactness.{differ, leads}
-use Rattle.oneshot_machine.proofs.GrownLists.{words_stay, sender_moved, receiver_moved}
+use Rattle.oneshot_machine.proofs.GrownLogs.{words_stay, sender_moved, receiver_moved}
 use Rattle.oneshot_machine.proofs.Landings.{put_in, emptied, as_before, turned, has_row, row_of, Landing, landings, landed, Each, each, among, is_among, differs, sender_apart, receiver_apart}
 use Rattle.oneshot_drive.specs.Grounds.{GroundState, StandsWith, Stands, receiver_slots, SenderAsks, SenderMakes, ReceiverAsks, ReceiverMakes}
 
 -- an operation that found this word landed at one of these
-pub record Lands {At T W : Type 0} (of : Log T W → At) (n : ℕ) (s : GroundState T W) (ls : List (Landing At)) : Type 0 where
+pub record Lands {At T W : Type 0} (of : Log T W → At) (n : ℕ) (s : GroundState T W) (ls : List (Landing At))
+    : Type 0 where
   next : At
   after : Slots
   landing : In (n, next, after) ls
@@ -27,8 +28,8 @@ pub record Lone {At T W : Type 0} (of : Log T W → At) (n : ℕ) (s : GroundSta
   pub stands : StandsWith of l.1 l.2 s
 
 -- or at one for which this holds
-pub record OneOf {At T W : Type 0} (of : Log T W → At) (n : ℕ) (s : GroundState T W) (fact : ℕ → At → Slots → Type 0) : Type
-    0 where
+pub record OneOf {At T W : Type 0} (of : Log T W → At) (n : ℕ) (s : GroundState T W) (fact : ℕ → At → Slots → Type 0)
+    : Type 0 where
   pub next : At
   pub after : Slots
   pub is_so : fact n next after
@@ -78,7 +79,8 @@ module _ {At T W : Type 0} {of : Log T W → At} where
       (moved : (l k : Log T W) (op : Op) (word : ℕ) → Grows l k (worded op word ∷ [])
       → of k ≡ next_by nowhere (moves (of l)) op (saw op word))
       (apart : (at : At) → differ nowhere (moves at) ≡ true) where
-    lands_by : (b a : GroundState T W) (op : Op) (n : ℕ) → Finds moves (of b.log) op n b.message b.waker a.message a.waker
+    lands_by : (b a : GroundState T W) (op : Op) (n : ℕ)
+        → Finds moves (of b.log) op n b.message b.waker a.message a.waker
         → Grows b.log a.log (worded op n ∷ []) → Lands of n a (landings op (moves (of b.log)))
     lands_by b a op n (finds {after} {next} row message waker) grows =
         record {
@@ -94,8 +96,8 @@ module _ {At T W : Type 0} {of : Log T W → At} where
           };
         }
 
-  asks_by : {at : At} {slots : Slots} {s : GroundState T W} (moves : At → List (Row At)) (op : Op) → StandsWith of at slots s
-      → has_row op slots (moves at) ≡ true → May moves (of s.log) op s.message s.waker
+  asks_by : {at : At} {slots : Slots} {s : GroundState T W} (moves : At → List (Row At)) (op : Op)
+      → StandsWith of at slots s → has_row op slots (moves at) ≡ true → May moves (of s.log) op s.message s.waker
   asks_by {at} {slots} {s} moves op is has =
       subst (λ q. May moves q op s.message s.waker) (sym is.phase)
       (may (row_of op slots (moves at) has).row is.message is.waker)
@@ -111,8 +113,8 @@ module _ {T W : Type 0} where
   asks op is has = asks_by receiver_moves op is has
 
   -- where an operation landed, from a phase
-  pub sender_lands : {at : SenderAt} (b : GroundState T W) {a : GroundState T W} (op : Op) (n : ℕ) → sender_of b.log ≡ at
-      → SenderMakes op n b a → Grows b.log a.log (worded op n ∷ [])
+  pub sender_lands : {at : SenderAt} (b : GroundState T W) {a : GroundState T W} (op : Op) (n : ℕ)
+      → sender_of b.log ≡ at → SenderMakes op n b a → Grows b.log a.log (worded op n ∷ [])
       → Lands sender_of n a (landings op (sender_moves at))
   sender_lands b {a} op n at made grows =
       subst (λ at. Lands sender_of n a (landings op (sender_moves at))) at (lands_by no_sender sender_moves
@@ -135,9 +137,9 @@ module _ {T W : Type 0} where
   still steps no_word grows = ap receiver_at (words_stay steps no_word grows)
 
   -- and where they leave its slots too, as it stood
-  pub stands_on : {at : ReceiverAt} {slots : Slots} {b a : GroundState T W} (steps : List (Event T W)) → words steps ≡ []
-      → StandsWith receiver_of at slots b → Grows b.log a.log steps → a.message ≡ b.message → a.waker ≡ b.waker
-      → StandsWith receiver_of at slots a
+  pub stands_on : {at : ReceiverAt} {slots : Slots} {b a : GroundState T W} (steps : List (Event T W))
+      → words steps ≡ [] → StandsWith receiver_of at slots b → Grows b.log a.log steps
+      → a.message ≡ b.message → a.waker ≡ b.waker → StandsWith receiver_of at slots a
   stands_on steps no_word is grows message waker =
       record {
         phase = still steps no_word grows

@@ -13,7 +13,7 @@ use Rattle.oneshot_machine.specs.Phases.{ReceiverAt, first, here, looked, betwee
 use Rattle.oneshot_machine.specs.Receiver.{receiver_step, receiver_row}
 use Rattle.oneshot_machine.specs.TableRows.{Outcome, Goes, Answers}
 use Rattle.oneshot_machine.specs.Runs.{last, more, Ran}
-use Rattle.oneshot_machine.proofs.GrownLists.{and_then}
+use Rattle.oneshot_machine.proofs.GrownLogs.{and_then}
 use Rattle.oneshot_machine.specs.Slots.{Held, IsSlot, ReceiverFinds}
 use Rattle.oneshot_machine.specs.Noted.{is_same_op}
 use Rattle.oneshot_machine.proofs.Landings.{Each, landings, FoundSo, found_so}

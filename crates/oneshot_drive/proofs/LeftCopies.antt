@@ -51,6 +51,11 @@ module _ {T W : Type 0} where
       → receiver_row p (S.Refused false) ≡ Some (Goes r) → Grows l k (copied c ∷ []) → Went p (Goes r) l k
   copies {r} {l} {k} c y made at leads s = by_copy (Goes r) y (subst (λ c. Grows l k (copied c ∷ [])) made s) at leads
 
+  -- a copy, or its refusal, leaves a future where it is
+  pub copied_on : {at : ReceiverAt} {b a : GroundState T W} (c : Option W) → Stands at b
+      → Grows b.log a.log (copied c ∷ []) → a.message ≡ b.message → a.waker ≡ b.waker → Stands at a
+  copied_on c is s message waker = stands_on (copied c ∷ []) refl is s message waker
+
   -- the task woke itself: the poll ends with nothing found, where it stands
   pub owned_ends : {at : ReceiverAt} {b a : GroundState T W} → LeavesPolled {T = T} Pending at → Stands at b
       → Grows b.log a.log (did Steps.WakeOwn ∷ []) → a.message ≡ b.message → a.waker ≡ b.waker → EndsPoll F.Nothing a
@@ -81,12 +86,12 @@ module _ {T W : Type 0} where
       one_of Left (leaves (receiver_of l))
       (lands (record { log = l; message = m; waker = w }) (Exchange 3 0) n refl made grows)
 
-  waits_with : {at : ReceiverAt} {slots : Slots} {s : GroundState T W} → Left 3 at slots → StandsWith receiver_of at slots s
-      → EndsPoll F.Nothing s
+  waits_with : {at : ReceiverAt} {slots : Slots} {s : GroundState T W} → Left 3 at slots
+      → StandsWith receiver_of at slots s → EndsPoll F.Nothing s
   waits_with left_copy is = record { at = waits polled; is_one = leaves_waiting; stands = is }
 
-  full_with : {at : ReceiverAt} {slots : Slots} {s : GroundState T W} → Left 4 at slots → StandsWith receiver_of at slots s
-      → StandsWith receiver_of (full by_poll) (filled, filled) s
+  full_with : {at : ReceiverAt} {slots : Slots} {s : GroundState T W} → Left 4 at slots
+      → StandsWith receiver_of at slots s → StandsWith receiver_of (full by_poll) (filled, filled) s
   full_with left_full is = is
 
   over_with : {n : ℕ} {at : ReceiverAt} {slots : Slots} {s : GroundState T W} → Left n at slots
@@ -163,6 +168,12 @@ module _ {T W : Type 0} where
       → Grows b.log a.log (worded (Exchange 0 3) n ∷ [])
       → Lands receiver_of n a (landings (Exchange 0 3) (receiver_moves (waits again)))
   backed {b} n is made grows = lands b (Exchange 0 3) n is.phase made grows
+
+  pub again_backed : {b k a : GroundState T W} (c : Option W) (n : ℕ) → Stands (waits again) b
+      → Grows b.log k.log (copied c ∷ []) → k.message ≡ b.message → k.waker ≡ b.waker
+      → ReceiverMakes (Exchange 0 3) n k a → Grows k.log a.log (worded (Exchange 0 3) n ∷ [])
+      → Lands receiver_of n a (landings (Exchange 0 3) (receiver_moves (waits again)))
+  again_backed c n is s message waker made grows = backed n (copied_on c is s message waker) made grows
 
   module _ {n : ℕ} {s : GroundState T W}
       (found : Lands receiver_of n s (landings (Exchange 0 3) (receiver_moves (waits again)))) where

@@ -3,7 +3,7 @@ use Rattle.std.proofs.Common.{◌≡◌, ℕ, List, [], ◌∷◌, ◌++◌, Opt
 use Rattle.oneshot_machine.specs.declared.machine.Step.TheVariants.{WakeOwn, WriteWaker, Withdraw}
 use Rattle.oneshot_machine.specs.declared.states.Op.{Op}
 use Rattle.oneshot_machine.specs.Logs.{Event, Log, Grows, did, took, handed, copied, worded}
-use Rattle.oneshot_machine.proofs.GrownLists.{and_then}
+use Rattle.oneshot_machine.proofs.GrownLogs.{and_then}
 use Rattle.oneshot_drive.specs.Polls.{hand_after, WritesHand, WritesCopies, WroteCopies}
 use Rattle.oneshot_drive.proofs.Stretches.{stays}
 

@@ -19,7 +19,7 @@ use Rattle.oneshot_machine.specs.Phases.{ReceiverAt, here, looked, between, wait
 use Rattle.oneshot_machine.specs.Receiver.{receiver_step, receiver_row}
 use Rattle.oneshot_machine.specs.TableRows.{Outcome, Goes, Answers}
 use Rattle.oneshot_machine.specs.Runs.{last, more, ReceiverRan}
-use Rattle.oneshot_machine.proofs.GrownLists.{and_then}
+use Rattle.oneshot_machine.proofs.GrownLogs.{and_then}
 use Rattle.oneshot_drive.specs.Grounds.{GroundState, StandsWith, Stands, StandsIn, receiver_slots, ReceiverAsks, ReceiverMakes}
 use Rattle.oneshot_drive.specs.Blocking.{Went}
 use Rattle.oneshot_drive.specs.BetweenCalls.{rests_new, rests_open, rests_closed, IsClosedAt}
@@ -116,8 +116,8 @@ module _ {T W : Type 0} where
   full_met : {at : ReceiverAt} {s : GroundState T W} → Met 4 at → Stands at s → EndsPoll F.Message s
   full_met (met_message {g} word drops) stands = (g, word, stands)
 
-  closed_met : {n : ℕ} {at : ReceiverAt} {s : GroundState T W} → Met n at → Stands at s → ¬ (n ≡ 3) → ¬ (n ≡ 0) → ¬ (n ≡ 4)
-      → ¬ (n ≡ 1) → (n ≡ 2) × EndsPoll F.Closed s
+  closed_met : {n : ℕ} {at : ReceiverAt} {s : GroundState T W} → Met n at → Stands at s
+      → ¬ (n ≡ 3) → ¬ (n ≡ 0) → ¬ (n ≡ 4) → ¬ (n ≡ 1) → (n ≡ 2) × EndsPoll F.Closed s
   closed_met met_empty stands a b c d = absurd (a refl)
   closed_met met_copy stands a b c d = absurd (b refl)
   closed_met (met_message word drops) stands a b c d = absurd (c refl)
@@ -127,8 +127,8 @@ module _ {T W : Type 0} where
   pub meet_asks : {s : GroundState T W} → IsPolled s → ReceiverAsks Load s
   meet_asks is = asks Load is.stands (polled_loads is.is_one)
 
-  pub met : {b a : GroundState T W} (n : ℕ) → IsPolled b → ReceiverMakes Load n b a → Grows b.log a.log (worded Load n ∷ [])
-      → Came Met n a
+  pub met : {b a : GroundState T W} (n : ℕ) → IsPolled b → ReceiverMakes Load n b a
+      → Grows b.log a.log (worded Load n ∷ []) → Came Met n a
   met {b} n is made grows = came Met (meets is.is_one) (lands b Load n is.stands.phase made grows)
 
   module _ {n : ℕ} {s : GroundState T W} (found : Came Met n s) where

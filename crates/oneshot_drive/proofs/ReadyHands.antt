@@ -9,11 +9,6 @@ use Rattle.oneshot_errors.specs.declared.try_recv.TryRecvError.{TryRecvError}
 use Rattle.oneshot_errors.specs.declared.try_recv.TryRecvError.TheVariants as Tried
 use Rattle.oneshot_machine.specs.Phases.{ReceiverAt}
 
-closed_still : {T : Type 0} (result : Result T TryRecvError) (at : ReceiverAt) → result ≡ Err Tried.Disconnected
-    → Leaves result at → IsClosedAt at
-closed_still _ _ is (leaves_closed c) = refl
-closed_still _ _ is _ = absurd (cc is)
-
 -- `try_recv` leaves the receiver open where it found nothing, and else closed
 pub closed_tried : {T : Type 0} {result : Result T TryRecvError} {at : ReceiverAt} → Leaves result at
     → result ≢ Err Tried.Empty → IsClosedAt at
@@ -30,7 +25,8 @@ open_tried _ nothing = absurd (cc nothing)
 pub ready_still : {T W : Type 0} (hand : Option W) (result : Result T TryRecvError) (before after : ReceiverAt)
     → IsReady hand before → (IsClosedAt before → result ≡ Err Tried.Disconnected) → Leaves result after
     → IsReady hand after
-ready_still hand result before after ready stays leaves = λ none. closed_still result after (stays (ready none)) leaves
+ready_still hand result before after ready stays leaves =
+    λ none. let is = stays (ready none) in closed_tried leaves (λ empty. absurd (cc))
 
 -- `recv_ref` closes it
 pub closed_by : {T : Type 0} (result : Result T RecvError) (at : ReceiverAt) → LeavesClosed result at → IsClosedAt at
@@ -41,12 +37,6 @@ closed_by _ _ (left_closed e c) = refl
 pub ready_closed : {T W : Type 0} (hand : Option W) (result : Result T RecvError) (at : ReceiverAt)
     → LeavesClosed result at → IsReady hand at
 ready_closed hand result at leaves = λ none. closed_by result at leaves
-
-closed_timed : {T : Type 0} (result : Result T RecvTimeoutError) (at : ReceiverAt) → result ≡ Err Timed.Disconnected
-    → LeavesTimed result at → IsClosedAt at
-closed_timed _ _ is (timed_received x) = refl
-closed_timed _ _ is timed_out = absurd (cc is)
-closed_timed _ _ is (timed_closed c) = refl
 
 -- a receive with a deadline leaves it open where the deadline was over, and else closed
 pub closed_in_time : {T : Type 0} {result : Result T RecvTimeoutError} {at : ReceiverAt} → LeavesTimed result at
@@ -65,6 +55,6 @@ pub ready_timed : {T W : Type 0} (result : Result T RecvTimeoutError) (before af
     → IsReady before at → (IsClosedAt at → result ≡ Err Timed.Disconnected) → LeavesTimed result at'
     → Hands before after at' → IsReady after at'
 ready_timed result _ _ at _ ready stays leaves (as_it_was hand q) =
-    λ none. closed_timed result q (stays (ready none)) leaves
+    λ none. let is = stays (ready none) in closed_in_time leaves (λ late. absurd (cc))
 ready_timed result _ _ at _ ready stays leaves (sender_took k c) = λ none. refl
 ready_timed result _ _ at _ ready stays leaves (came_back k back) = λ none. absurd (cc none)

@@ -23,7 +23,7 @@ use Rattle.oneshot_machine.specs.Receiver.{receiver_step, receiver_row}
 use Rattle.oneshot_machine.specs.TableRows.{Goes}
 use Rattle.oneshot_machine.specs.Runs.{last, more, Ran, ReceiverRan}
 use Rattle.oneshot_machine.specs.Slots.{vacant}
-use Rattle.oneshot_machine.proofs.GrownLists.{receiver_moved, and_then}
+use Rattle.oneshot_machine.proofs.GrownLogs.{receiver_moved, and_then}
 use Rattle.oneshot_drive.specs.Grounds.{GroundState, StandsWith, Stands, receiver_slots, ReceiverAsks, ReceiverMakes}
 use Rattle.oneshot_drive.specs.Blocking.{Went, value_end, EndsAt, Returns, returned, taken, Refills, refilled, HandAt}
 use Rattle.oneshot_drive.specs.BetweenCalls.{AtRest, rests_open, IsClosedAt, LeavesClosed, left_received, left_closed, LeavesTimed, timed_received, timed_out, timed_closed, IsReady, Hands, as_it_was, sender_took, came_back}
@@ -57,7 +57,8 @@ module _ {T W : Type 0} where
   pub full_asks : {g : Got} {s : GroundState T W} → Stands (full g) s → ReceiverAsks (Store 2) s
   full_asks {g} is = asks (Store 2) is (stores_full g)
 
-  pub has_message : {g : Got} {s : GroundState T W} → Stands (full g) s → StandsWith receiver_of (full g) (filled, empty) s
+  pub has_message : {g : Got} {s : GroundState T W} → Stands (full g) s
+      → StandsWith receiver_of (full g) (filled, empty) s
   has_message {g} {s} is = subst (λ slots. StandsWith receiver_of (full g) slots s) (slots_full g) is
 
   pub closed_over : {g : Got} {b a : GroundState T W} (n : ℕ) → Stands (full g) b → ReceiverMakes (Store 2) n b a
@@ -155,8 +156,9 @@ module _ {T W : Type 0} where
   gone s F.Unclosed a ends = record { message = is_room ends.1.message; waker = is_room ends.1.waker; leads = refl }
   gone s F.Nothing a ends = let timed = ends.0 in absurd (cc)
 
-  pub gone_freed : {l k j : Log T W} {f : Found} {s : GroundState T W} → Gone f s → Went (Value RecvLoad) (value_end f) l k
-      → Grows k j (did Steps.Free ∷ []) → ReceiverRan Recv l j R.Disconnected [] []
+  pub gone_freed : {l k j : Log T W} {f : Found} {s : GroundState T W} → Gone f s
+      → Went (Value RecvLoad) (value_end f) l k → Grows k j (did Steps.Free ∷ [])
+      → ReceiverRan Recv l j R.Disconnected [] []
   gone_freed {l} {k} is went s =
       ran (subst (λ o. Went (Value RecvLoad) o l k) is.leads went) (did Steps.Free ∷ []) (last _ refl refl) s refl refl
 

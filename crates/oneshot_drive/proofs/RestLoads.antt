@@ -13,7 +13,7 @@ use Rattle.oneshot_machine.specs.Phases.{ReceiverAt, here, looked, between, full
 use Rattle.oneshot_machine.specs.Runs.{last, more, ReceiverRan}
 use Rattle.oneshot_machine.specs.Slots.{Held, ReceiverFinds}
 use Rattle.oneshot_machine.specs.Noted.{is_same_op}
-use Rattle.oneshot_machine.proofs.GrownLists.{and_then}
+use Rattle.oneshot_machine.proofs.GrownLogs.{and_then}
 use Rattle.oneshot_drive.specs.Grounds.{GroundState, StandsWith, Stands, receiver_slots, ReceiverAsks, ReceiverMakes}
 use Rattle.oneshot_drive.specs.BetweenCalls.{Rests, rests_new, rests_open, rests_closed, AtRest, IsClosedAt, Leaves, leaves_received, leaves_open, leaves_closed}
 use Rattle.oneshot_machine.proofs.Landings.{has_row, Each, landings, found_so}
@@ -72,8 +72,8 @@ module _ {T W : Type 0} where
   pub swap_asks : {s : GroundState T W} → AtRest s → ReceiverAsks (Swap 2) s
   swap_asks rests = asks (Swap 2) rests.stands (rests_swap rests.is_one)
 
-  pub loaded : {b a : GroundState T W} (n : ℕ) → AtRest b → ReceiverMakes Load n b a → Grows b.log a.log (worded Load n ∷ [])
-      → Came Looked n a
+  pub loaded : {b a : GroundState T W} (n : ℕ) → AtRest b → ReceiverMakes Load n b a
+      → Grows b.log a.log (worded Load n ∷ []) → Came Looked n a
   loaded {b} n rests made grows = came Looked (rests_look rests.is_one) (lands b Load n rests.stands.phase made grows)
 
   module _ {n : ℕ} {s : GroundState T W} (found : Came Looked n s) where
@@ -107,7 +107,8 @@ module _ {T W : Type 0} where
   pub rests_over : {c : Closing} {s : GroundState T W} → Stands (disconnected c) s → AtRest s
   rests_over {c} stands = record { at = disconnected c; is_one = rests_closed c; stands = stands }
 
-  pub took_leaves : {s : GroundState T W} (x : T) → Stands (disconnected closed_itself) s → Leaves (Ok x) (receiver_of s.log)
+  pub took_leaves : {s : GroundState T W} (x : T) → Stands (disconnected closed_itself) s
+      → Leaves (Ok x) (receiver_of s.log)
   took_leaves x is = subst (λ at. Leaves (Ok x) at) (sym is.phase) (leaves_received x)
 
   -- or finds none

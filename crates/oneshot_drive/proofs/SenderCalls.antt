@@ -8,7 +8,7 @@ use Rattle.oneshot_machine.specs.Logs.{Log, Grows, sender_of, wrote, handed, wor
 use Rattle.oneshot_machine.specs.Phases.{By, sending, dropping, SenderAt, fresh, owes, late, no_sender, sender_moves, Share, none, empty, filled, Slots}
 use Rattle.oneshot_machine.specs.Slots.{Held, away, vacant, held, IsSlot, is_away, is_vacant, is_held, Turns, stays_away, stays_vacant, stays_held, gives_room, gives_thing, gets_room, gets_thing, In, finds, SenderMay, SenderFinds}
 use Rattle.oneshot_machine.proofs.Exactness.{leads}
-use Rattle.oneshot_machine.proofs.GrownLists.{and_then, sender_moved}
+use Rattle.oneshot_machine.proofs.GrownLogs.{and_then, sender_moved}
 use Rattle.oneshot_drive.specs.Grounds.{GroundState, StandsWith, SenderMakes}
 use Rattle.oneshot_drive.specs.BetweenCalls.{IsFresh, IsError, IsLate, is_late, is_overtaken, Owes, LastFinds, finds_waiting, finds_overdue, finds_gone, Finishes, IsOvertaken}
 use Rattle.oneshot_machine.proofs.Landings.{is_in, is_room, put_in, as_before, turned, message_kept, has_row, landings_of, landed, Each, each, found_so, sender_apart}

@@ -11,7 +11,7 @@ use Rattle.oneshot_machine.specs.Logs.{Log, Grows, did, wrote, took, handed, wor
 use Rattle.oneshot_machine.specs.TableRows.{Goes, Answers}
 use Rattle.oneshot_machine.specs.Runs.{last, more, SenderRan}
 use Rattle.oneshot_machine.specs.Sender.{sender_step, sender_row}
-use Rattle.oneshot_machine.proofs.GrownLists.{and_then}
+use Rattle.oneshot_machine.proofs.GrownLogs.{and_then}
 use Rattle.oneshot_drive.specs.BetweenCalls.{finishing, LastFinds, finds_waiting, finds_overdue, finds_gone, Finishes, send_reply}
 
 -- after its last operation a sender wakes, and then answers whether the receiver was here

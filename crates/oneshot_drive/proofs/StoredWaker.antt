@@ -1,28 +1,35 @@
 -- What a receive that blocks does before it waits: its load, its waker in the slot, and its first swap.
-use Rattle.std.proofs.Common.{◌≡◌, ℕ, Bool, true, false, [], ◌∷◌, Option, Some, None, refl, sym, subst}
+use Rattle.std.proofs.Common.{◌≡◌, ℕ, Bool, true, false, [], ◌∷◌, Option, Some, None, refl, sym, ap, ◌∙◌, subst}
 use Rattle.oneshot_drive.specs.declared.waiting.Found.{Found}
 use Rattle.oneshot_drive.specs.declared.waiting.Found.TheVariants as F
+use Rattle.oneshot_machine.specs.declared.machine.Seen.TheVariants as S
 use Rattle.oneshot_machine.specs.declared.machine.Step.TheVariants as Steps
 use Rattle.oneshot_machine.specs.declared.machine.receiver.ReceiverPos.{ReceiverPos}
 use Rattle.oneshot_machine.specs.declared.machine.receiver.ReceiverPos.TheVariants.{Ref, Value}
-use Rattle.oneshot_machine.specs.declared.machine.by_ref.RefPos.TheVariants.{StartSwap, BackFull, BackClosed}
-use Rattle.oneshot_machine.specs.declared.machine.value.ValuePos.TheVariants.{RecvSwap, RecvBackFull, RecvBackClosed}
+use Rattle.oneshot_machine.specs.declared.machine.by_ref.RefPos.TheVariants.{StartSwap}
+use Rattle.oneshot_machine.specs.declared.machine.value.ValuePos.TheVariants.{RecvSwap}
 use Rattle.oneshot_machine.specs.declared.states.Op.TheVariants.{Load, Swap}
 use Rattle.oneshot_machine.specs.Logs.{Log, Grows, receiver_of, handed, worded}
 use Rattle.oneshot_machine.specs.Phases.{ReceiverAt, here, looked, waits, blocked, swapped, storing, unclosed, receiver_moves, none, empty, filled}
+use Rattle.oneshot_machine.specs.Receiver.{receiver_step, receiver_row}
 use Rattle.oneshot_machine.specs.TableRows.{Outcome, Goes}
 use Rattle.oneshot_machine.specs.Slots.{Held, vacant, held, IsSlot, ReceiverFinds}
-use Rattle.oneshot_drive.specs.Grounds.{GroundState, StandsWith, Stands, ReceiverMakes}
+use Rattle.oneshot_drive.specs.Grounds.{GroundState, StandsWith, Stands, ReceiverAsks, ReceiverMakes}
 use Rattle.oneshot_drive.specs.BetweenCalls.{IsReady}
 use Rattle.oneshot_drive.specs.Blocking.{Went, Way, by_ref, by_value, load_of, write_of, wait_of, end_of, EndsAt, Returns, returned, taken, refilled, HandAt, WaitedHand}
 use Rattle.oneshot_machine.proofs.Landings.{landings}
-use Rattle.oneshot_drive.proofs.AfterOperations.{Lands, Lone, lone, at_word, not_at, one_of, lands, withdrew_waker}
+use Rattle.oneshot_drive.proofs.AfterOperations.{Lands, Lone, lone, at_word, not_at, one_of, asks, lands, wrote_waker, withdrew_waker}
 use Rattle.oneshot_drive.proofs.RestLoads.{never}
 use Rattle.oneshot_drive.proofs.Stretches.{on, by_word, by_write, by_withdraw}
 
 abbrev swap_of : {timed : Bool} → Way timed → ReceiverPos
 swap_of (by_ref timed) = Ref (StartSwap timed)
 swap_of by_value = Value RecvSwap
+
+-- the words over which it takes its waker back, and what it found then
+pub data TakesBack : ℕ → Found → Type 0 where
+  over_message : TakesBack 4 F.Message
+  over_end : TakesBack 2 F.Unclosed
 
 module _ {T W : Type 0} where
   -- `find`: its load
@@ -50,11 +57,21 @@ module _ {T W : Type 0} where
   ready_waker (Some k) n ready made e = (k, refl)
   ready_waker None n ready made e = never 3 refl e (ready refl) made
 
-  -- `store_and_wait`: where its swap landed, with the waker in the slot
-  pub stored : {b a : GroundState T W} (n : ℕ) → StandsWith receiver_of (here looked) (none, filled) b
-      → ReceiverMakes (Swap 0) n b a → Grows b.log a.log (worded (Swap 0) n ∷ [])
-      → Lands receiver_of n a (landings (Swap 0) (receiver_moves (here looked)))
-  stored {b} n is made grows = lands b (Swap 0) n is.phase made grows
+  -- `store_and_wait`: its waker is in the slot, and there it swaps
+  module _ {b k : GroundState T W} {y : W} (is : Stands (here looked) b)
+      (write : Grows b.log k.log (handed Steps.WriteWaker y ∷ [])) (message : k.message ≡ b.message)
+      (waker : k.waker ≡ held y) where
+    has_written : StandsWith receiver_of (here looked) (none, filled) k
+    has_written = wrote_waker is write message waker
+
+    pub stored_asks : ReceiverAsks (Swap 0) k
+    stored_asks = asks (Swap 0) has_written refl
+
+    -- where the swap landed
+    pub stored : {a : GroundState T W} (n : ℕ) → ReceiverMakes (Swap 0) n k a
+        → Grows k.log a.log (worded (Swap 0) n ∷ [])
+        → Lands receiver_of n a (landings (Swap 0) (receiver_moves (here looked)))
+    stored n made grows = lands k (Swap 0) n has_written.phase made grows
 
   module _ {n : ℕ} {s : GroundState T W}
       (found : Lands receiver_of n s (landings (Swap 0) (receiver_moves (here looked)))) where
@@ -94,40 +111,35 @@ module _ {T W : Type 0} where
   swaps_open (by_ref true) n e s = by_word _ (Swap 0) n s refl (rw e)
   swaps_open by_value n e s = by_word _ (Swap 0) n s refl (rw e)
 
-  swaps_full : {timed : Bool} {k j z : Log T W} (way : Way timed) (u : W) (n : ℕ) → n ≡ 4
-      → Grows k j (worded (Swap 0) n ∷ []) → Grows j z (handed Steps.Withdraw u ∷ [])
-      → Went (swap_of way) (end_of way F.Message) k z
-  swaps_full (by_ref false) u n e s t =
-      on (by_word (Goes (Ref BackFull)) (Swap 0) n s refl (rw e)) (by_withdraw _ u t refl refl)
-  swaps_full (by_ref true) u n e s t =
-      on (by_word (Goes (Ref BackFull)) (Swap 0) n s refl (rw e)) (by_withdraw _ u t refl refl)
-  swaps_full by_value u n e s t =
-      on (by_word (Goes (Value RecvBackFull)) (Swap 0) n s refl (rw e)) (by_withdraw _ u t refl refl)
+  -- a swap after which it takes its waker back
+  took_back : {p r : ReceiverPos} {o : Outcome ReceiverPos} {k j z : Log T W} (u : W) (n word : ℕ) → n ≡ word
+      → Steps.Word (Swap 0) ≡ receiver_step p → receiver_row p (S.Word word) ≡ Some (Goes r)
+      → Steps.Withdraw ≡ receiver_step r → receiver_row r S.Done ≡ Some o → Grows k j (worded (Swap 0) n ∷ [])
+      → Grows j z (handed Steps.Withdraw u ∷ []) → Went p o k z
+  took_back {p} {r} u n word e swaps leads withdraws ends s t =
+      on (by_word (Goes r) (Swap 0) n s swaps (ap (λ n. receiver_row p (S.Word n)) e ∙ leads))
+      (by_withdraw _ u t withdraws ends)
 
-  swaps_over : {timed : Bool} {k j z : Log T W} (way : Way timed) (u : W) (n : ℕ) → n ≡ 2
-      → Grows k j (worded (Swap 0) n ∷ []) → Grows j z (handed Steps.Withdraw u ∷ [])
-      → Went (swap_of way) (end_of way F.Unclosed) k z
-  swaps_over (by_ref false) u n e s t =
-      on (by_word (Goes (Ref BackClosed)) (Swap 0) n s refl (rw e)) (by_withdraw _ u t refl refl)
-  swaps_over (by_ref true) u n e s t =
-      on (by_word (Goes (Ref BackClosed)) (Swap 0) n s refl (rw e)) (by_withdraw _ u t refl refl)
-  swaps_over by_value u n e s t =
-      on (by_word (Goes (Value RecvBackClosed)) (Swap 0) n s refl (rw e)) (by_withdraw _ u t refl refl)
+  swaps_back : {timed : Bool} {word : ℕ} {f : Found} {k j z : Log T W} (way : Way timed) → TakesBack word f → (u : W)
+      (n : ℕ) → n ≡ word → Grows k j (worded (Swap 0) n ∷ []) → Grows j z (handed Steps.Withdraw u ∷ [])
+      → Went (swap_of way) (end_of way f) k z
+  swaps_back (by_ref false) over_message u n e s t = took_back u n 4 e refl refl refl refl s t
+  swaps_back (by_ref true) over_message u n e s t = took_back u n 4 e refl refl refl refl s t
+  swaps_back by_value over_message u n e s t = took_back u n 4 e refl refl refl refl s t
+  swaps_back (by_ref false) over_end u n e s t = took_back u n 2 e refl refl refl refl s t
+  swaps_back (by_ref true) over_end u n e s t = took_back u n 2 e refl refl refl refl s t
+  swaps_back by_value over_end u n e s t = took_back u n 2 e refl refl refl refl s t
 
   pub stored_went : {timed : Bool} {o : Outcome ReceiverPos} {l k j z : Log T W} (way : Way timed) (y : W) (n : ℕ)
       → n ≡ 3 → Grows l k (handed Steps.WriteWaker y ∷ []) → Grows k j (worded (Swap 0) n ∷ [])
       → Went (wait_of way) o j z → Went (write_of way) o l z
   stored_went way y n e s t went = on (writes way y s) (on (swaps_open way n e t) went)
 
-  pub full_went : {timed : Bool} {l k j z : Log T W} (way : Way timed) (y u : W) (n : ℕ) → n ≡ 4
-      → Grows l k (handed Steps.WriteWaker y ∷ []) → Grows k j (worded (Swap 0) n ∷ [])
-      → Grows j z (handed Steps.Withdraw u ∷ []) → Went (write_of way) (end_of way F.Message) l z
-  full_went way y u n e s t v = on (writes way y s) (swaps_full way u n e t v)
-
-  pub over_went : {timed : Bool} {l k j z : Log T W} (way : Way timed) (y u : W) (n : ℕ) → n ≡ 2
-      → Grows l k (handed Steps.WriteWaker y ∷ []) → Grows k j (worded (Swap 0) n ∷ [])
-      → Grows j z (handed Steps.Withdraw u ∷ []) → Went (write_of way) (end_of way F.Unclosed) l z
-  over_went way y u n e s t v = on (writes way y s) (swaps_over way u n e t v)
+  pub back_went : {timed : Bool} {word : ℕ} {f : Found} {l k j z : Log T W} (way : Way timed) → TakesBack word f
+      → (y u : W) (n : ℕ) → n ≡ word → Grows l k (handed Steps.WriteWaker y ∷ [])
+      → Grows k j (worded (Swap 0) n ∷ []) → Grows j z (handed Steps.Withdraw u ∷ [])
+      → Went (write_of way) (end_of way f) l z
+  back_went way over y u n e s t v = on (writes way y s) (swaps_back way over u n e t v)
 
 -- the hand has its waker again, or the sender took it, or it came back at the deadline
 pub back : {W : Type 0} {hand : Option W} {w : Held W} (y z : W) → hand ≡ Some y → w ≡ held y → w ≡ held z

@@ -12,7 +12,7 @@ use Rattle.oneshot_machine.specs.Receiver.{receiver_step, receiver_row}
 use Rattle.oneshot_machine.specs.TableRows.{Outcome, Goes, Answers}
 use Rattle.oneshot_machine.specs.Runs.{Run, last, more, Ran}
 use Rattle.oneshot_machine.specs.Noted.{saw}
-use Rattle.oneshot_machine.proofs.GrownLists.{and_then}
+use Rattle.oneshot_machine.proofs.GrownLogs.{and_then}
 use Rattle.oneshot_drive.specs.Blocking.{Stretch, nothing, answers, onward, Went}
 
 module _ {T W : Type 0} where

@@ -14,7 +14,7 @@ use Rattle.oneshot_machine.specs.Phases.{ReceiverAt, looked, between, full, Got,
 use Rattle.oneshot_machine.specs.Receiver.{receiver_row}
 use Rattle.oneshot_machine.specs.TableRows.{Goes, Answers}
 use Rattle.oneshot_machine.specs.Runs.{ReceiverRan}
-use Rattle.oneshot_machine.proofs.GrownLists.{and_then}
+use Rattle.oneshot_machine.proofs.GrownLogs.{and_then}
 use Rattle.oneshot_drive.specs.Grounds.{GroundState, StandsWith, Stands, StandsIn, ReceiverMakes}
 use Rattle.oneshot_drive.specs.BetweenCalls.{rests_new, rests_open, rests_closed}
 use Rattle.oneshot_drive.specs.Polls.{Polled, unpolled, left_copy, kept_copy, found_sender, has_resolved, IsPolled, LeavesTried, tried_received, tried_resolved, tried_closed, tried_uncopied, tried_its_copy, tried_claimed, is_registered, HandsNoWaker}
@@ -79,7 +79,8 @@ module _ {T W : Type 0} where
   taken_ends by_future x is = record { at = resolved closed_itself; is_one = tried_resolved x; stands = is }
   taken_ends by_poll x is = record { at = resolved closed_itself; is_one = tried_resolved x; stands = is }
 
-  pub over_ends : {n : ℕ} {s : GroundState T W} → Came Met n s → n ≡ 2 → StandsIn (LeavesTried {T = T} (Err E.Disconnected)) s
+  pub over_ends : {n : ℕ} {s : GroundState T W} → Came Met n s → n ≡ 2
+      → StandsIn (LeavesTried {T = T} (Err E.Disconnected)) s
   over_ends {s} found e =
       let closed = over found.is_so e in
       record {

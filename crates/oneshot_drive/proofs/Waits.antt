@@ -15,10 +15,10 @@ use Rattle.oneshot_machine.specs.Phases.{ReceiverAt, here, between, waits, block
 use Rattle.oneshot_machine.specs.Receiver.{receiver_row, receiver_rows, receiver_step}
 use Rattle.oneshot_machine.specs.TableRows.{Outcome, Goes, row_for}
 use Rattle.oneshot_machine.specs.Slots.{vacant}
-use Rattle.oneshot_drive.specs.Grounds.{GroundState, StandsWith, Stands, ReceiverMakes}
+use Rattle.oneshot_drive.specs.Grounds.{GroundState, StandsWith, Stands, receiver_slots, ReceiverAsks, ReceiverMakes}
 use Rattle.oneshot_drive.specs.Blocking.{Went, Way, by_ref, by_value, wait_of, asked_of, ref_end, end_of, EndsAt, Parks, parks_waiting, parks_overdue}
-use Rattle.oneshot_machine.proofs.Landings.{landings}
-use Rattle.oneshot_drive.proofs.AfterOperations.{Lands, Lone, lone, at_word, not_at, Came, came, lands, withdrew_waker}
+use Rattle.oneshot_machine.proofs.Landings.{has_row, landings}
+use Rattle.oneshot_drive.proofs.AfterOperations.{Lands, Lone, lone, at_word, not_at, Came, came, asks, lands, stands_on, withdrew_waker}
 use Rattle.oneshot_drive.proofs.Stretches.{on, begun, by_word, by_withdraw, by_park, by_clock}
 
 -- where the load after a park stands, of each way
@@ -40,6 +40,21 @@ woken_rows : {timed : Bool} (way : Way timed)
 woken_rows (by_ref false) = refl
 woken_rows (by_ref true) = refl
 woken_rows by_value = refl
+
+-- the words that decide one that waits, and what it found then
+pub data Decides : ℕ → Found → Type 0 where
+  by_message : Decides 4 F.Message
+  by_end : Decides 2 F.Closed
+
+decided_row : {timed : Bool} {word : ℕ} {f : Found} (way : Way timed) → Decides word f
+    → receiver_row (woken_of way) (S.Word word) ≡ Some (end_of way f)
+decided_row way by_message = ap (row_for (S.Word 4)) (woken_rows way)
+decided_row way by_end = ap (row_for (S.Word 2)) (woken_rows way)
+
+decided_late : {word : ℕ} {f : Found} → Decides word f
+    → receiver_row (Timed LateLoad) (S.Word word) ≡ Some (ref_end f)
+decided_late by_message = refl
+decided_late by_end = refl
 
 -- the words by which one that waits, or that is overdue, has to wait on
 data Longer : ℕ → ReceiverAt → Type 0 where
@@ -76,18 +91,27 @@ module _ {T W : Type 0} where
   pub may_park_late : {s : GroundState T W} → Stands overdue s → Parks false (receiver_of s.log)
   may_park_late is = subst (Parks false) (sym is.phase) parks_overdue
 
-  -- `wait`: where its load landed
-  pub woke : {b a : GroundState T W} (n : ℕ) → Stands (waits blocked) b → ReceiverMakes Load n b a
-      → Grows b.log a.log (worded Load n ∷ []) → Lands receiver_of n a (landings Load (receiver_moves (waits blocked)))
-  woke {b} n is made grows = lands b Load n is.phase made grows
+  -- a park leaves it where it was, and there it loads
+  module _ {at : ReceiverAt} {b k : GroundState T W} (woken : Bool) (is : Stands at b)
+      (park : Grows b.log k.log (parked woken ∷ [])) (message : k.message ≡ b.message) (waker : k.waker ≡ b.waker) where
+    has_parked : Stands at k
+    has_parked = stands_on (parked woken ∷ []) refl is park message waker
+
+    pub parked_asks : has_row Load (receiver_slots at) (receiver_moves at) ≡ true → ReceiverAsks Load k
+    parked_asks has = asks Load has_parked has
+
+    -- where the load landed
+    pub woke : {a : GroundState T W} (n : ℕ) → ReceiverMakes Load n k a → Grows k.log a.log (worded Load n ∷ [])
+        → Lands receiver_of n a (landings Load (receiver_moves at))
+    woke n made grows = lands k Load n has_parked.phase made grows
+
+  -- `wait`: each word that its load may find
 
   module _ {n : ℕ} {s : GroundState T W}
       (found : Lands receiver_of n s (landings Load (receiver_moves (waits blocked)))) where
-    pub woke_full : (timed : Bool) → n ≡ 4 → EndsAt timed F.Message s
-    woke_full timed e = (waited, refl, (lone (at_word 4 e found)).stands)
-
-    pub woke_over : (timed : Bool) → n ≡ 2 → EndsAt timed F.Closed s
-    woke_over timed e = (found_closed, (lone (at_word 2 e found)).stands)
+    pub woke_at : {word : ℕ} {f : Found} (timed : Bool) → Decides word f → n ≡ word → EndsAt timed f s
+    woke_at timed by_message e = (waited, refl, (lone (at_word 4 e found)).stands)
+    woke_at timed by_end e = (found_closed, (lone (at_word 2 e found)).stands)
 
     again : ¬ (n ≡ 4) → ¬ (n ≡ 2) → Came Longer n s
     again no_message not_closed =
@@ -118,17 +142,13 @@ module _ {T W : Type 0} where
     parks_to o leads =
         on (on_time way went asks no) (on (parks way woken s) (by_word o Load n t (woken_loads way) leads))
 
-    pub parks_again : {state : GroundState T W} → Lands receiver_of n state (landings Load (receiver_moves (waits blocked)))
-        → ¬ (n ≡ 4) → ¬ (n ≡ 2) → Went (wait_of way) (Goes (wait_of way)) l z
+    pub parks_again : {state : GroundState T W}
+        → Lands receiver_of n state (landings Load (receiver_moves (waits blocked))) → ¬ (n ≡ 4) → ¬ (n ≡ 2)
+        → Went (wait_of way) (Goes (wait_of way)) l z
     parks_again found no_message not_closed = parks_to _ (longer_row way (again found no_message not_closed).is_so)
 
-    pub parks_full : n ≡ 4 → Went (wait_of way) (end_of way F.Message) l z
-    parks_full e =
-        parks_to _ (ap (λ n. receiver_row (woken_of way) (S.Word n)) e ∙ ap (row_for (S.Word 4)) (woken_rows way))
-
-    pub parks_over : n ≡ 2 → Went (wait_of way) (end_of way F.Closed) l z
-    parks_over e =
-        parks_to _ (ap (λ n. receiver_row (woken_of way) (S.Word n)) e ∙ ap (row_for (S.Word 2)) (woken_rows way))
+    pub parks_decided : {word : ℕ} {f : Found} → Decides word f → n ≡ word → Went (wait_of way) (end_of way f) l z
+    parks_decided by e = parks_to _ (ap (λ n. receiver_row (woken_of way) (S.Word n)) e ∙ decided_row way by)
 
   -- or that it is over
   pub stops_went : {timed past : Bool} {l i k z : Log T W} (f : Found) (way : Way timed)
@@ -178,17 +198,11 @@ module _ {T W : Type 0} where
       → Went (Timed LatePark) (ref_end f) k z → Went (Timed EndSwap) (ref_end f) l z
   late_went f n e s went = on (stops_to (Goes (Timed LatePark)) n 1 refl e s) went
 
-  -- `wait_late`: where its load landed
-  pub ended : {b a : GroundState T W} (n : ℕ) → Stands overdue b → ReceiverMakes Load n b a
-      → Grows b.log a.log (worded Load n ∷ []) → Lands receiver_of n a (landings Load (receiver_moves overdue))
-  ended {b} n is made grows = lands b Load n is.phase made grows
-
+  -- `wait_late`: each word that its load may find
   module _ {n : ℕ} {s : GroundState T W} (found : Lands receiver_of n s (landings Load (receiver_moves overdue))) where
-    pub ended_full : n ≡ 4 → EndsAt true F.Message s
-    ended_full e = (waited, refl, (lone (at_word 4 e found)).stands)
-
-    pub ended_over : n ≡ 2 → EndsAt true F.Closed s
-    ended_over e = (found_closed, (lone (at_word 2 e found)).stands)
+    pub ended_at : {word : ℕ} {f : Found} → Decides word f → n ≡ word → EndsAt true f s
+    ended_at by_message e = (waited, refl, (lone (at_word 4 e found)).stands)
+    ended_at by_end e = (found_closed, (lone (at_word 2 e found)).stands)
 
     pub ended_again : ¬ (n ≡ 4) → ¬ (n ≡ 2) → Lone receiver_of n s (3, overdue, (none, none))
     ended_again no_message not_closed = lone (not_at 2 not_closed (not_at 4 no_message found))
@@ -200,3 +214,8 @@ module _ {T W : Type 0} where
   late_to o n found leads e went woken s t =
       on went (on (by_park (Goes (Timed LateLoad)) woken s refl refl refl)
       (by_word o Load n t refl (ap (λ n. receiver_row (Timed LateLoad) (S.Word n)) e ∙ leads)))
+
+  pub late_decided : {word : ℕ} {f : Found} {l k j z : Log T W} → Decides word f → (n : ℕ) → n ≡ word
+      → Went (Timed LatePark) (Goes (Timed LatePark)) l k → (woken : Bool) → Grows k j (parked woken ∷ [])
+      → Grows j z (worded Load n ∷ []) → Went (Timed LatePark) (ref_end f) l z
+  late_decided {word} {f} by n e went woken s t = late_to (ref_end f) n word (decided_late by) e went woken s t

@@ -69,26 +69,26 @@ pub data Rests : ReceiverAt → Type 0 where
 abbrev pub AtRest : {T W : Type 0} → GroundState T W → Type 0
 AtRest = StandsIn Rests
 
-abbrev pub is_closed : ReceiverAt → Bool
-is_closed (disconnected c) = true
-is_closed (resolved c) = true
-is_closed _ = false
+abbrev pub is_closed_at : ReceiverAt → Bool
+is_closed_at (disconnected c) = true
+is_closed_at (resolved c) = true
+is_closed_at _ = false
 
 -- a receiver that is closed: no message comes any more
 abbrev pub IsClosedAt : ReceiverAt → Type 0
-IsClosedAt at = IsTrue (is_closed at)
+IsClosedAt at = IsTrue (is_closed_at at)
 
-abbrev pub is_open : ReceiverAt → Bool
-is_open first = true
-is_open (here o) = true
+abbrev pub is_open_at : ReceiverAt → Bool
+is_open_at first = true
+is_open_at (here o) = true
 -- a future, with its copy in the cell, or with the sender about to finish
-is_open (waits w) = true
-is_open claimed = true
-is_open _ = false
+is_open_at (waits w) = true
+is_open_at claimed = true
+is_open_at _ = false
 
 -- one that is open between two calls: a later receive may give a message
 abbrev pub IsOpenAt : ReceiverAt → Type 0
-IsOpenAt at = IsTrue (is_open at)
+IsOpenAt at = IsTrue (is_open_at at)
 
 -- The message and the disconnected error leave a receiver closed, and `Empty` leaves it open.
 pub data Leaves {T : Type 0} : Result T TryRecvError → ReceiverAt → Type 0 where

@@ -52,7 +52,8 @@ abbrev pub receiver_slots : ReceiverAt → Slots
 receiver_slots at = slots_by (receiver_moves at)
 
 -- a ground at this phase, with these shares of its slots
-pub record StandsWith {At T W : Type 0} (of : Log T W → At) (at : At) (slots : Slots) (s : GroundState T W) : Type 0 where
+pub record StandsWith {At T W : Type 0} (of : Log T W → At) (at : At) (slots : Slots) (s : GroundState T W)
+    : Type 0 where
   pub phase : of s.log ≡ at
   pub message : IsSlot slots.0 s.message
   pub waker : IsSlot slots.1 s.waker

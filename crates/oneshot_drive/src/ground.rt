@@ -19,33 +19,33 @@ pub trait SenderGround<T, W> {
     /// Adds one to the word, and gives the word before.
     fn add(&mut self) -> u8
         requires { SenderAsks Add (state self.old) }
-        ensures list { Grows (state self.old).log (state self.new).log (worded Add result ∷ []) }
+        ensures log { Grows (state self.old).log (state self.new).log (worded Add result ∷ []) }
         ensures finds { SenderMakes Add result (state self.old) (state self.new) };
 
     /// Flips the word's lowest bit, and gives the word before.
     fn flip(&mut self) -> u8
         requires { SenderAsks Xor (state self.old) }
-        ensures list { Grows (state self.old).log (state self.new).log (worded Xor result ∷ []) }
+        ensures log { Grows (state self.old).log (state self.new).log (worded Xor result ∷ []) }
         ensures finds { SenderMakes Xor result (state self.old) (state self.new) };
 
     /// Puts `last` into the word, the last that it does with it, and gives the word before.
     fn swap(&mut self, last: u8) -> u8
         requires { SenderAsks (Swap last) (state self.old) }
-        ensures list { Grows (state self.old).log (state self.new).log (worded (Swap last) result ∷ []) }
+        ensures log { Grows (state self.old).log (state self.new).log (worded (Swap last) result ∷ []) }
         ensures finds { SenderMakes (Swap last) result (state self.old) (state self.new) };
 
     /// Puts the message into its slot, which is the end's and empty.
     fn write_message(&mut self, message: T)
         requires slot { (state self.old).message ≡ vacant }
         requires kept { admits self.old message }
-        ensures list { Grows (state self.old).log (state self.new).log (wrote message ∷ []) }
+        ensures log { Grows (state self.old).log (state self.new).log (wrote message ∷ []) }
         ensures message { (state self.new).message ≡ held message }
         ensures waker { (state self.new).waker ≡ (state self.old).waker };
 
     /// Takes the message out of its slot.
     fn take_message(&mut self) -> T
         requires { (x : T) × ((state self.old).message ≡ held x) }
-        ensures list { Grows (state self.old).log (state self.new).log (took result ∷ []) }
+        ensures log { Grows (state self.old).log (state self.new).log (took result ∷ []) }
         ensures was { (state self.old).message ≡ held result }
         ensures message { (state self.new).message ≡ vacant }
         ensures waker { (state self.new).waker ≡ (state self.old).waker };
@@ -53,21 +53,21 @@ pub trait SenderGround<T, W> {
     /// Drops the message in its slot.
     fn drop_message(&mut self)
         requires { (x : T) × ((state self.old).message ≡ held x) }
-        ensures list { Grows (state self.old).log (state self.new).log (did DropMessage ∷ []) }
+        ensures log { Grows (state self.old).log (state self.new).log (did DropMessage ∷ []) }
         ensures message { (state self.new).message ≡ vacant }
         ensures waker { (state self.new).waker ≡ (state self.old).waker };
 
     /// Takes the waker of the receiver that waits out of its slot, and gives it.
     fn take_waker(&mut self) -> W
         requires { (k : W) × ((state self.old).waker ≡ held k) }
-        ensures list { Grows (state self.old).log (state self.new).log (handed TakeWaker result ∷ []) }
+        ensures log { Grows (state self.old).log (state self.new).log (handed TakeWaker result ∷ []) }
         ensures was { (state self.old).waker ≡ held result }
         ensures message { (state self.new).message ≡ (state self.old).message }
         ensures waker { (state self.new).waker ≡ vacant };
 
     /// Wakes the receiver by its waker, which is used up.
     fn wake(&mut self, waker: W)
-        ensures list { Grows (state self.old).log (state self.new).log (handed Wake waker ∷ []) }
+        ensures log { Grows (state self.old).log (state self.new).log (handed Wake waker ∷ []) }
         ensures message { (state self.new).message ≡ (state self.old).message }
         ensures waker { (state self.new).waker ≡ (state self.old).waker };
 
@@ -75,7 +75,7 @@ pub trait SenderGround<T, W> {
     fn free(&mut self)
         requires message { (state self.old).message ≡ vacant }
         requires waker { (state self.old).waker ≡ vacant }
-        ensures list { Grows (state self.old).log (state self.new).log (did Free ∷ []) }
+        ensures log { Grows (state self.old).log (state self.new).log (did Free ∷ []) }
         ensures message { (state self.new).message ≡ away }
         ensures waker { (state self.new).waker ≡ away };
 }
@@ -101,35 +101,35 @@ pub trait ReceiverGround<T, W> {
     /// Reads the word.
     fn load(&mut self) -> u8
         requires { ReceiverAsks Load (state self.old) }
-        ensures list { Grows (state self.old).log (state self.new).log (worded Load result ∷ []) }
+        ensures log { Grows (state self.old).log (state self.new).log (worded Load result ∷ []) }
         ensures finds { ReceiverMakes Load result (state self.old) (state self.new) }
         ensures keeps { keeps self.old self.new };
 
     /// Puts `new` into the word, and gives the word before.
     fn store(&mut self, new: u8) -> u8
         requires { ReceiverAsks (Store new) (state self.old) }
-        ensures list { Grows (state self.old).log (state self.new).log (worded (Store new) result ∷ []) }
+        ensures log { Grows (state self.old).log (state self.new).log (worded (Store new) result ∷ []) }
         ensures finds { ReceiverMakes (Store new) result (state self.old) (state self.new) }
         ensures keeps { keeps self.old self.new };
 
     /// Puts `new` into the word, and gives the word before.
     fn swap(&mut self, new: u8) -> u8
         requires { ReceiverAsks (Swap new) (state self.old) }
-        ensures list { Grows (state self.old).log (state self.new).log (worded (Swap new) result ∷ []) }
+        ensures log { Grows (state self.old).log (state self.new).log (worded (Swap new) result ∷ []) }
         ensures finds { ReceiverMakes (Swap new) result (state self.old) (state self.new) }
         ensures keeps { keeps self.old self.new };
 
     /// Puts `new` into the word where it is `expected`, and gives the word before.
     fn exchange(&mut self, expected: u8, new: u8) -> u8
         requires { ReceiverAsks (Exchange expected new) (state self.old) }
-        ensures list { Grows (state self.old).log (state self.new).log (worded (Exchange expected new) result ∷ []) }
+        ensures log { Grows (state self.old).log (state self.new).log (worded (Exchange expected new) result ∷ []) }
         ensures finds { ReceiverMakes (Exchange expected new) result (state self.old) (state self.new) }
         ensures keeps { keeps self.old self.new };
 
     /// Takes the message out of its slot.
     fn take_message(&mut self) -> T
         requires { (x : T) × ((state self.old).message ≡ held x) }
-        ensures list { Grows (state self.old).log (state self.new).log (took result ∷ []) }
+        ensures log { Grows (state self.old).log (state self.new).log (took result ∷ []) }
         ensures was { (state self.old).message ≡ held result }
         ensures given { gives self.old result }
         ensures message { (state self.new).message ≡ vacant }
@@ -139,7 +139,7 @@ pub trait ReceiverGround<T, W> {
     /// Drops the message in its slot.
     fn drop_message(&mut self)
         requires { (x : T) × ((state self.old).message ≡ held x) }
-        ensures list { Grows (state self.old).log (state self.new).log (did DropMessage ∷ []) }
+        ensures log { Grows (state self.old).log (state self.new).log (did DropMessage ∷ []) }
         ensures message { (state self.new).message ≡ vacant }
         ensures waker { (state self.new).waker ≡ (state self.old).waker }
         ensures keeps { keeps self.old self.new };
@@ -147,7 +147,7 @@ pub trait ReceiverGround<T, W> {
     /// Puts the waker into its slot, which is the end's and empty.
     fn write_waker(&mut self, waker: W)
         requires { (state self.old).waker ≡ vacant }
-        ensures list { Grows (state self.old).log (state self.new).log (handed WriteWaker waker ∷ []) }
+        ensures log { Grows (state self.old).log (state self.new).log (handed WriteWaker waker ∷ []) }
         ensures message { (state self.new).message ≡ (state self.old).message }
         ensures waker { (state self.new).waker ≡ held waker }
         ensures keeps { keeps self.old self.new };
@@ -155,7 +155,7 @@ pub trait ReceiverGround<T, W> {
     /// Takes the waker back out of its slot, and gives it.
     fn withdraw(&mut self) -> W
         requires { (k : W) × ((state self.old).waker ≡ held k) }
-        ensures list { Grows (state self.old).log (state self.new).log (handed Withdraw result ∷ []) }
+        ensures log { Grows (state self.old).log (state self.new).log (handed Withdraw result ∷ []) }
         ensures was { (state self.old).waker ≡ held result }
         ensures message { (state self.new).message ≡ (state self.old).message }
         ensures waker { (state self.new).waker ≡ vacant }
@@ -165,7 +165,7 @@ pub trait ReceiverGround<T, W> {
     fn free(&mut self)
         requires message { (state self.old).message ≡ vacant }
         requires waker { (state self.old).waker ≡ vacant }
-        ensures list { Grows (state self.old).log (state self.new).log (did Free ∷ []) }
+        ensures log { Grows (state self.old).log (state self.new).log (did Free ∷ []) }
         ensures message { (state self.new).message ≡ away }
         ensures waker { (state self.new).waker ≡ away }
         ensures keeps { keeps self.old self.new };
@@ -178,7 +178,7 @@ pub trait BlockGround<T, W>: ReceiverGround<T, W> {
     /// deadline is over parks without it, or it would not block at all.
     fn park(&mut self, timed: bool)
         requires { Parks timed (receiver_of (Self.state self.old).log) }
-        ensures list { (woken : Bool) × Grows (Self.state self.old).log (Self.state self.new).log (parked woken ∷ []) }
+        ensures log { (woken : Bool) × Grows (Self.state self.old).log (Self.state self.new).log (parked woken ∷ []) }
         ensures message { (Self.state self.new).message ≡ (Self.state self.old).message }
         ensures waker { (Self.state self.new).waker ≡ (Self.state self.old).waker }
         ensures keeps { Self.keeps self.old self.new };
@@ -186,7 +186,7 @@ pub trait BlockGround<T, W>: ReceiverGround<T, W> {
     /// Whether the deadline is over, by a reading of the clock. A reading that fails counts as past every
     /// deadline. The first answer of a timeout may rest on the reading that its sum was made from.
     fn over(&mut self) -> bool
-        ensures list { Grows (Self.state self.old).log (Self.state self.new).log (clocked result ∷ []) }
+        ensures log { Grows (Self.state self.old).log (Self.state self.new).log (clocked result ∷ []) }
         ensures message { (Self.state self.new).message ≡ (Self.state self.old).message }
         ensures waker { (Self.state self.new).waker ≡ (Self.state self.old).waker }
         ensures keeps { Self.keeps self.old self.new };
@@ -199,7 +199,7 @@ pub trait TaskGround<T, W>: ReceiverGround<T, W> {
 
     /// Copies the waker of the task, and gives the copy. `None` where it is refused.
     fn copy(&mut self) -> Option<W>
-        ensures list { Grows (Self.state self.old).log (Self.state self.new).log (copied result ∷ []) }
+        ensures log { Grows (Self.state self.old).log (Self.state self.new).log (copied result ∷ []) }
         ensures message { (Self.state self.new).message ≡ (Self.state self.old).message }
         ensures waker { (Self.state self.new).waker ≡ (Self.state self.old).waker }
         ensures heard { IfSome result (λ _. heard self.new) }
@@ -207,7 +207,7 @@ pub trait TaskGround<T, W>: ReceiverGround<T, W> {
 
     /// Wakes the task of the poll by its own waker.
     fn wake_own(&mut self)
-        ensures list { Grows (Self.state self.old).log (Self.state self.new).log (did WakeOwn ∷ []) }
+        ensures log { Grows (Self.state self.old).log (Self.state self.new).log (did WakeOwn ∷ []) }
         ensures message { (Self.state self.new).message ≡ (Self.state self.old).message }
         ensures waker { (Self.state self.new).waker ≡ (Self.state self.old).waker }
         ensures heard { heard self.new }

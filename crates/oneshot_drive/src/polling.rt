@@ -36,7 +36,8 @@ use oneshot_machine::states::{DISCONNECTED, EMPTY, MESSAGE, RECEIVING, UNPARKING
 ///   to finish.
 pub fn poll<T, W: Drop, G: TaskGround<T, W>>(g: &mut G) -> Poll<Result<T, RecvError>>
     requires { IsPolled (G.state g.old) }
-    ensures run { ReceiverRan C.Poll (G.state g.old).log (G.state g.new).log (poll_reply result) [] (poll_received result) }
+    ensures run { ReceiverRan C.Poll (G.state g.old).log (G.state g.new).log
+        (poll_reply result) [] (poll_received result) }
     ensures rests { IsPolled (G.state g.new) }
     ensures leaves { LeavesPolled result (receiver_of (G.state g.new).log) }
     ensures stays { IsClosedAt (receiver_of (G.state g.old).log) → IsDisconnected result }
@@ -207,7 +208,8 @@ fn take_back<T, W: Drop, G: ReceiverGround<T, W>>(g: &mut G)
 // Closes the channel, and drops the message that it finds.
 fn close<T, W, G: ReceiverGround<T, W>>(g: &mut G)
     requires { ReceiverAsks (Swap 2) (G.state g.old) }
-    ensures { Ran receiver_step receiver_row (AsyncDrop AsyncSwap) (G.state g.old).log (G.state g.new).log R.Done [] [] }
+    ensures { Ran receiver_step receiver_row (AsyncDrop AsyncSwap) (G.state g.old).log (G.state g.new).log
+        R.Done [] [] }
 {
     match g.swap(DISCONNECTED) {
         MESSAGE => {

@@ -110,7 +110,8 @@ fn wait<T, W: Drop, G: BlockGround<T, W>>(
 // Whether there is a deadline that is over. Only where there is one, the clock is read.
 fn is_over<T, W, G: BlockGround<T, W>>(g: &mut G, timed: bool) -> bool
     requires { Stands (waits blocked) (G.state g.old) }
-    ensures went { (way : Way timed) → Went (wait_of way) (Goes (asked_of way result)) (G.state g.old).log (G.state g.new).log }
+    ensures went { (way : Way timed)
+        → Went (wait_of way) (Goes (asked_of way result)) (G.state g.old).log (G.state g.new).log }
     ensures waits { Stands (waits blocked) (G.state g.new) }
     ensures deadline { result ≡ true → timed ≡ true }
     ensures keeps { G.keeps g.old g.new }

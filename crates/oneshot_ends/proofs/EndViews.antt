@@ -2,7 +2,8 @@
 use Rattle.std.proofs.Common.{◌≡◌, Result, ap, ◌∙◌, subst}
 use Rattle.std.specs.Prelude.{IfOk}
 use Rattle.futures.specs.declared.task.Poll.{Poll}
-use Rattle.futures.specs.Poll.{IfReady}
+use Rattle.futures.specs.declared.task.Poll.TheVariants.{Ready, Pending}
+use Rattle.futures.specs.Poll.{IfReady, OnPending}
 use Rattle.oneshot_word.specs.Side.{Side}
 use Rattle.oneshot_ends.specs.Ends.{EndOf, FutureEndOf}
 
@@ -33,3 +34,10 @@ module _ {P : Type 0} where
       → IfReady result (λ answer. IfOk answer (λ message. keeps b message))
   polled_about keeps result same kept =
       subst (λ q. IfReady result (λ answer. IfOk answer (λ message. keeps q message))) same kept
+
+  -- and what a pending future will give stays the same
+  pub pending_about : {T E : Type 0} (keeps : P → T → Type 0) (result : Poll (Result T E)) {a b : P} → b ≡ a
+      → OnPending result ((answer : Result T E) → IfOk answer (λ message. keeps b message)
+      → IfOk answer (λ message. keeps a message))
+  pending_about keeps (Ready answer) same = tt
+  pending_about keeps Pending same = λ answer. kept_about keeps answer same

@@ -1,13 +1,15 @@
 -- What a driver's run on a real end's ground tells of the end's own log: it grew by the run's operations.
-use Rattle.std.proofs.Common.{◌≡◌, List, [], ◌∷◌, ◌++◌, Option, map, refl, sym, ap, ◌∙◌}
+use Rattle.std.proofs.Common.{◌≡◌, Bool, false, List, [], ◌∷◌, ◌++◌, Option, map, refl, sym, ap, ◌∙◌, subst}
 use Rattle.std.specs.List.{cons_option}
 use Rattle.std.specs.Option.{option_map}
 use Rattle.oneshot_machine.specs.declared.machine.Reply.{Reply}
+use Rattle.oneshot_machine.specs.declared.machine.Reply.TheVariants.{Refused}
 use Rattle.oneshot_machine.specs.declared.machine.Seen.{Seen}
 use Rattle.oneshot_machine.specs.declared.machine.Step.{Step}
 use Rattle.oneshot_machine.specs.declared.machine.receiver.ReceiverStart.{ReceiverStart}
 use Rattle.oneshot_machine.specs.declared.machine.receiver.ReceiverStart.TheVariants.{TryRecv, AsyncTryRecv, Poll}
 use Rattle.oneshot_machine.specs.declared.machine.sender.SenderCall.{SenderCall}
+use Rattle.oneshot_machine.specs.declared.machine.sender.SenderCall.TheVariants.{Send}
 use Rattle.oneshot_machine.specs.Logs.{Event, Log, Grows, noted, words}
 use Rattle.oneshot_machine.specs.TableRows.{Outcome}
 use Rattle.oneshot_machine.specs.Runs.{Run, last, more, SenderRan, ReceiverRan}
@@ -16,10 +18,11 @@ use Rattle.oneshot_machine.specs.Sender.{sender_start, sender_step, sender_row}
 use Rattle.oneshot_machine.specs.Noted.{Noted}
 use Rattle.oneshot_machine.specs.Counts.{receiver_bound, GrewWithin}
 use Rattle.oneshot_machine.proofs.CallBounds.{try_recv_makes, async_try_recv_makes, poll_makes}
-use Rattle.oneshot_machine.proofs.GrownLists.{words_after}
+use Rattle.oneshot_machine.proofs.GrownLogs.{words_after}
+use Rattle.oneshot_drive.specs.BetweenCalls.{send_reply}
 use Rattle.oneshot_word.specs.Side.{Side}
 use Rattle.oneshot_ends.specs.Ends.{Waking, SenderGrew, ReceiverGrew}
-use Rattle.oneshot_ends.specs.Grounds.{events_of}
+use Rattle.oneshot_ends.specs.Grounds.{events_of, state_of}
 
 -- the operations in a ground's log are those of its end's
 pub words_of : (T W : Type 0) (xs : List Noted) → words (events_of {T = T} {W = W} xs) ≡ xs
@@ -70,6 +73,15 @@ module _ {T W : Type 0} where
           is_run = run_unnamed receiver_step receiver_row (receiver_start call) ran.run reply ran.is_run;
           list = grown_unnamed ran.run ran.grows;
         }
+
+-- a `send` whose driver found the receiver gone
+pub send_refused : {T W P : Type 0} {own ground : Side T W P} {before last : List Noted} {sent : Bool}
+    {given got : List T} (after : Side T W P) → ground ≡ own → own.log ≡ before → after.log ≡ last → sent ≡ false
+    → SenderRan Send (state_of ground).log (state_of after).log (send_reply sent) given got
+    → SenderGrew T Send before last Refused
+send_refused {T} {W} {ground = ground} {given = given} {got = got} after is was ends found ran =
+    sender_grew (began_at is was) (words_of T W after.log ∙ ends) Send
+    (subst (λ sent. SenderRan Send (state_of ground).log (state_of after).log (send_reply sent) given got) found ran)
 
 -- and by no more operations than a run of the call makes
 module _ {T : Type 0} {before after : List Noted} {reply : Reply} where

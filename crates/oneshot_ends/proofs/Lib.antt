@@ -7,3 +7,4 @@ mod LentGrounds
 mod TimeoutEnds
 mod PollingTokens
 mod PolledEnds
+pub mod CallsAnswered

@@ -1,13 +1,16 @@
 -- What a contract sees of an end: the channel that it belongs to, and the log of its operations on the word.
-use Rattle.std.specs.Prelude.{◌≡◌, ◌↔◌, ℕ, Bool, List, ◌++◌, Option, IfSome, IsTrue}
+use Rattle.std.specs.Prelude.{◌≡◌, ◌↔◌, ℕ, Bool, List, [], ◌∷◌, ◌++◌, Option, IfSome, IsTrue}
 use Rattle.std.specs.Time.{instant_nanos, FitsClock}
 use Rattle.std.specs.declared.time.Duration.{Duration}
 use Rattle.std.specs.declared.time.Instant.{Instant}
 use Rattle.atomic_table.specs.Seated.{TableId}
 use Rattle.oneshot_machine.specs.declared.machine.Reply.{Reply}
+use Rattle.oneshot_machine.specs.declared.machine.Reply.TheVariants.{Refused}
 use Rattle.oneshot_machine.specs.declared.machine.receiver.ReceiverStart.{ReceiverStart}
 use Rattle.oneshot_machine.specs.declared.machine.receiver.ReceiverStart.TheVariants.{RecvTimeout}
 use Rattle.oneshot_machine.specs.declared.machine.sender.SenderCall.{SenderCall}
+use Rattle.oneshot_machine.specs.declared.machine.sender.SenderCall.TheVariants.{Send}
+use Rattle.oneshot_machine.specs.Called.{Form, ReceiverCalled, SenderCalled}
 use Rattle.oneshot_machine.specs.Logs.{Event, words}
 use Rattle.oneshot_machine.specs.Phases.{receiver_at}
 use Rattle.oneshot_machine.specs.Receiver.{receiver_start, receiver_step, receiver_row}
@@ -71,6 +74,14 @@ pub record TimeoutGrew (T : Type 0) (timeout : Duration) (before after : List No
   pub reading : Option Instant
   pub readable : IfSome reading (λ now. FitsClock (instant_nanos now))
   pub ran : TimeoutRan T timeout reading before after reply
+
+-- A receiver between two calls, or a future: its log is that of some calls, which it has answered.
+abbrev pub HasCalls : (T : Type 0) → Form → List Noted → Type 0
+HasCalls T form log = (calls : List (ReceiverStart × Reply)) × ReceiverCalled T Waking form calls log
+
+-- the error of a `send`: its log is that of one call, which was refused
+abbrev pub WasRefused : (T : Type 0) → List Noted → Type 0
+WasRefused T log = SenderCalled T Waking ((Send, Refused) ∷ []) log
 
 -- a receiver that is closed, or open
 abbrev pub IsClosed : {P : Type 0} → EndOf P → Type 0

@@ -12,7 +12,7 @@ use std::sync::Wait;
 use std::thread::yield_now;
 use std::time::Clock;
 
-// It names the ground as one type `G`, since a derived `Drop` wants one of each parameter: no channel has a
+// It names the ground as one type `G`, since a derived `Drop` needs one of each parameter: no channel has a
 // value of its `P`.
 /// The ground of a receiver, lent for one call, with what it parks by.
 #[derive(Drop)]

@@ -24,7 +24,7 @@ pub struct Copies<K> {
 }
 
 impl<K: Drop> Copies<K> {
-    /// None.
+    /// No copy: none in hand, none spare, and none in the channel.
     pub fn new() -> Copies<K> {
         Copies {
             hand: None,
@@ -33,8 +33,10 @@ impl<K: Drop> Copies<K> {
         }
     }
 
-    /// Takes the copy in hand, if it wakes the task of this number. Another task's copy stays there: in its
-    /// place no refusal could be told.
+    /// Takes the copy in hand, if it wakes the task of this number.
+    ///
+    /// - `Some`: that copy. None is in hand then.
+    /// - `None`: there is none, or it is another task's, which stays there: in its place no refusal could be told.
     ///
     /// Tasks of two executors may have one number; no call of the toolchain tells them apart.
     pub fn take_of(&mut self, task: usize) -> Option<K>
@@ -67,7 +69,7 @@ impl<K: Drop> Copies<K> {
         }
     }
 
-    /// Gives the copy in hand to the channel, and takes the spare one in its place.
+    /// Gives the copy in hand to the channel, and takes the spare one in its place. `None`: none was in hand.
     pub fn give(&mut self) -> Option<K> {
         let given = self.hand.take();
         self.hand = self.spare.take();

@@ -6,8 +6,9 @@ ghost use Rattle.oneshot_ends.specs.Deadlines.{IsAfter, IsOver, has_end};
 
 use std::time::{Clock, Duration, Instant};
 
-/// How many milliseconds a deadline has to last for a receive to yield before it sleeps. A yield may take as long as
-/// the scheduler lets some other threads run, a few milliseconds each, and must not make a receive late.
+/// How many milliseconds have to be left for a receive to yield before it parks until a deadline. A yield may take as
+/// long as the scheduler lets some other threads run, a few milliseconds each, and must not make a receive late. Before
+/// a park without a deadline, also one past the deadline, a receive always yields.
 const LONG: u64 = 100;
 
 /// A reading of the clock: `None` where it failed.

@@ -4,6 +4,7 @@ ghost use Rattle.std.specs.Prelude.{◌≡◌};
 ghost use Rattle.oneshot_machine.specs.Phases.{sender_at};
 ghost use Rattle.oneshot_machine.specs.Slots.{held};
 ghost use Rattle.oneshot_drive.specs.BetweenCalls.{IsLate};
+ghost use Rattle.oneshot_ends.specs.Ends.{WasRefused};
 
 use crate::ground::{ErrorOffWord, SenderOnWord};
 use crossbeam_utils::sync::Unparker;
@@ -18,7 +19,9 @@ use std::marker::Model;
 /// The message of a `send` that was refused, since the receiver was gone.
 ///
 /// The error owns the message, and the channel's memory in the sender's place. Dropping it drops both;
-/// `into_inner` gives the message back and gives up the memory.
+/// `into_inner` gives the message back and gives up the memory. No call of the error blocks or allocates.
+///
+/// It may go to another thread where `T` is `Send`.
 ///
 /// A contract sees the message, the channel, and the sender's log of operations on the word.
 pub struct SendError<T, P: Promise<T> = ()> {
@@ -29,13 +32,13 @@ pub struct SendError<T, P: Promise<T> = ()> {
 impl<T, P: Promise<T>> Model for SendError<T, P> {
     ghost use Rattle.oneshot_machine.specs.Phases.{sender_at};
     ghost use Rattle.oneshot_drive.specs.BetweenCalls.{IsLate};
-    ghost use Rattle.oneshot_ends.specs.Ends.{Failed};
+    ghost use Rattle.oneshot_ends.specs.Ends.{Failed, WasRefused};
 
     ghost Value = { Failed T };
 
     ghost view = { λ e. record { message = e.message; channel = e.side.table; log = e.side.log } };
 
-    ghost invariant = { λ e. IsLate (sender_at e.side.log) };
+    ghost invariant = { λ e. IsLate (sender_at e.side.log) × WasRefused T e.side.log };
 }
 
 impl<T, P: Promise<T>> SendError<T, P> {
@@ -47,11 +50,21 @@ impl<T, P: Promise<T>> SendError<T, P> {
     }
 }
 
+impl<T, P: Promise<T>> SendError<T, P> {
+    // Mentions the side, so that the prover may use the type's invariant.
+    pub(crate) fn was_refused(&self)
+        ensures { WasRefused T self.now.log }
+    {
+        let _side = &self.side;
+    }
+}
+
 impl<T: Drop, P: Promise<T>> SendError<T, P> {
     /// The error of a `send` that was refused on this ground.
     pub(crate) fn refused(ground: SenderOnWord<T, Unparker, Waker, P>) -> SendError<T, P>
         requires full { (message : T) × (ground.message ≡ held message) }
         requires late { IsLate (sender_at ground.log) }
+        requires refused { WasRefused T ground.log }
         ensures message { ground.message ≡ held result.message }
         ensures channel { result.channel ≡ ground.table }
         ensures log { result.log ≡ ground.log }

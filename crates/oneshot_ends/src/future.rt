@@ -11,7 +11,8 @@ ghost use Rattle.oneshot_machine.specs.Counts.{receiver_bound, GrewWithin};
 ghost use Rattle.oneshot_machine.specs.Phases.{receiver_at};
 ghost use Rattle.oneshot_drive.specs.BetweenCalls.{AtRest, try_recv_reply};
 ghost use Rattle.oneshot_drive.specs.Polls.{LeavesPolled, LeavesTried, StaysRegistered, IsDisconnected, poll_reply};
-ghost use Rattle.oneshot_ends.specs.Ends.{ReceiverGrew, IsDone, IsUnfinished};
+ghost use Rattle.oneshot_machine.specs.Called.{as_receiver};
+ghost use Rattle.oneshot_ends.specs.Ends.{ReceiverGrew, HasCalls, IsDone, IsUnfinished};
 ghost use Rattle.oneshot_ends.specs.Grounds.{state_of};
 
 use crate::copies::Copies;
@@ -28,12 +29,16 @@ use std::marker::Model;
 /// Receives one message from its sender, as a future: `Ok` with the message, or `Err` where the sender
 /// was dropped without a message or the message was received before.
 ///
+/// Dropping it drops a message that was sent and not received, and a later `send` is refused: its error
+/// gives the message back. The drop never blocks: where the sender is about to finish, it leaves at once, and the
+/// sender frees the memory; a `send` is refused then too. `rt` is dropped with the future.
+///
 /// A contract sees the channel that it belongs to, the log of its operations on the word, from which it
 /// reads whether the future is done, and the source at which its polls register.
 ///
 /// `P` is the promise of its channel, which the message that it gives keeps.
 ///
-/// Where `T` and `Rt` are `Send` it may go to another thread between two polls.
+/// Where `T` and `Rt` are `Send` it may go to another thread between two polls. Two threads may not share it.
 pub struct AsyncReceiver<T, Rt, P: Promise<T> = ()> {
     pub(crate) ground: ReceiverOnWord<T, Unparker, Waker, P>,
     source: Source,
@@ -45,7 +50,8 @@ pub struct AsyncReceiver<T, Rt, P: Promise<T> = ()> {
 
 impl<T, Rt, P: Promise<T>> Model for AsyncReceiver<T, Rt, P> {
     ghost use Rattle.oneshot_drive.specs.Polls.{IsPolled};
-    ghost use Rattle.oneshot_ends.specs.Ends.{FutureEndOf};
+    ghost use Rattle.oneshot_machine.specs.Called.{as_future};
+    ghost use Rattle.oneshot_ends.specs.Ends.{FutureEndOf, HasCalls};
     ghost use Rattle.oneshot_ends.specs.Grounds.{state_of};
 
     ghost Value = { FutureEndOf P };
@@ -57,7 +63,7 @@ impl<T, Rt, P: Promise<T>> Model for AsyncReceiver<T, Rt, P> {
       about = r.ground.about;
     } };
 
-    ghost invariant = { λ r. IsPolled (state_of r.ground) };
+    ghost invariant = { λ r. IsPolled (state_of r.ground) × HasCalls T as_future r.ground.log };
 }
 
 impl<T, Rt, P: Promise<T>> AsyncReceiver<T, Rt, P> {
@@ -66,7 +72,8 @@ impl<T, Rt, P: Promise<T>> AsyncReceiver<T, Rt, P> {
         source: Source,
         rt: Rt,
     ) -> AsyncReceiver<T, Rt, P>
-        requires { AtRest (state_of ground) }
+        requires rests { AtRest (state_of ground) }
+        requires calls { HasCalls T as_receiver ground.log }
         ensures channel { result.channel ≡ ground.table }
         ensures log { result.log ≡ ground.log }
         ensures about { result.about ≡ ground.about }
@@ -114,6 +121,9 @@ impl<T: Drop, Rt: Drop, P: Promise<T>> Future for AsyncReceiver<T, Rt, P> {
 
     ghost needs = { λ r s. s ≡ r.source };
 
+    // The message that comes keeps the promise, also as an executor or a combinator hands it on.
+    ghost gives = { λ r answer. IfOk answer (λ message. P.keeps r.about message) };
+
     /// Polls once. It allocates nothing and never blocks: no poll waits for the sender.
     ///
     /// - `Ready(Ok)`: the message.
@@ -122,9 +132,11 @@ impl<T: Drop, Rt: Drop, P: Promise<T>> Future for AsyncReceiver<T, Rt, P> {
     /// - `Pending`: nothing is there yet. The task is registered, and woken when that changes. Where no copy of
     ///   its waker could be made, or the sender is about to finish, it is woken at once.
     fn poll(&mut self, cx: &mut Context<'_>) -> Poll<Result<T, RecvError>>
-        ensures value { IfReady result (λ _. ⊤) }
+        ensures value { IfReady result (λ answer. IfOk answer (λ message. P.keeps self.old.about message)) }
         ensures again { OnPending result ⊤ }
-        ensures same { OnPending result (Result T RecvError → ⊤ → ⊤) }
+        ensures same { OnPending result ((answer : Result T RecvError)
+            → IfOk answer (λ message. P.keeps self.new.about message)
+            → IfOk answer (λ message. P.keeps self.old.about message)) }
         ensures registered { OnPending result (Covers cx.new (λ s. s ≡ self.new.source)) }
         ensures kept { Keeps cx.old cx.new }
         ensures channel { self.new.channel ≡ self.old.channel }
@@ -136,7 +148,6 @@ impl<T: Drop, Rt: Drop, P: Promise<T>> Future for AsyncReceiver<T, Rt, P> {
         ensures stays_closed { IsDone self.old → IsDisconnected result }
         ensures bounded { GrewWithin (receiver_bound C.Poll) self.old.log self.new.log }
         ensures about { self.new.about ≡ self.old.about }
-        ensures promise { IfReady result (λ answer. IfOk answer (λ message. P.keeps self.old.about message)) }
     {
         let mut lent = Polling {
             ground: &mut self.ground,

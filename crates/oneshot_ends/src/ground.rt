@@ -17,6 +17,43 @@ use oneshot_drive::{ReceiverGround, SenderGround};
 use oneshot_word::{Promise, ReceiverSide, Rouse, SenderSide};
 use std::marker::Model;
 
+/// The side of a sender that has made no operation. Only its look can load the word.
+pub(crate) struct Unsent<T, H, K, P: Promise<T>> {
+    side: SenderSide<T, H, K, P>,
+}
+
+impl<T, H, K, P: Promise<T>> Model for Unsent<T, H, K, P> {
+    ghost use Rattle.oneshot_word.specs.Side.{Side};
+    ghost use Rattle.oneshot_word.specs.declared.rouse.Rouse.{Rouse};
+
+    ghost Value = { Side T (Rouse H K) P };
+
+    ghost view = { λ s. s.side };
+}
+
+impl<T, H, K, P: Promise<T>> Unsent<T, H, K, P> {
+    pub(crate) fn new(side: SenderSide<T, H, K, P>) -> Unsent<T, H, K, P>
+        ensures { result ≡ side }
+    {
+        Unsent { side }
+    }
+
+    /// The ground of the sender's one call.
+    pub(crate) fn into_ground(self) -> SenderOnWord<T, H, K, P>
+        ensures { result ≡ self }
+    {
+        let Unsent { side } = self;
+        SenderOnWord::new(side)
+    }
+}
+
+// Written out, as below: a derived `Drop` would need one of `P`, of which a channel has no value.
+impl<T: Drop, H: Drop, K: Drop, P: Promise<T>> Drop for Unsent<T, H, K, P> {
+    fn drop(self) {
+        let Unsent { side: _ } = self;
+    }
+}
+
 /// The sender's ground.
 pub(crate) struct SenderOnWord<T, H, K, P: Promise<T>> {
     side: SenderSide<T, H, K, P>,
@@ -36,7 +73,7 @@ impl<T, H, K, P: Promise<T>> Model for SenderOnWord<T, H, K, P> {
 
 impl<T, H, K, P: Promise<T>> SenderOnWord<T, H, K, P> {
     /// The ground of a sender that has freed nothing.
-    pub(crate) fn new(side: SenderSide<T, H, K, P>) -> SenderOnWord<T, H, K, P>
+    fn new(side: SenderSide<T, H, K, P>) -> SenderOnWord<T, H, K, P>
         ensures { result ≡ side }
     {
         let freed = Freed::of(false);
@@ -106,7 +143,6 @@ impl<T: Drop, P: Promise<T>> SenderGround<T, Rouse<Unparker, Waker>>
     }
 }
 
-// Written out, as both below: a derived `Drop` would want one of `P`, of which a channel has no value.
 impl<T: Drop, H: Drop, K: Drop, P: Promise<T>> Drop for SenderOnWord<T, H, K, P> {
     fn drop(self) {
         let SenderOnWord { side: _, freed: _ } = self;
@@ -130,7 +166,10 @@ impl<T, H, K, P: Promise<T>> Model for ErrorOffWord<T, H, K, P> {
 
     ghost Value = { Side T (Rouse H K) P };
 
-    ghost view = { λ e. record e.side { message = unless_freed e.freed.value (slot_of e.message); waker = unless_freed e.freed.value vacant } };
+    ghost view = { λ e. record e.side {
+      message = unless_freed e.freed.value (slot_of e.message);
+      waker = unless_freed e.freed.value vacant;
+    } };
 
     ghost invariant = { λ e. IsLate (sender_at e.side.log) };
 }

@@ -8,6 +8,7 @@ mod error;
 mod freed;
 mod future;
 mod ground;
+pub mod laws;
 mod pair;
 mod polling;
 mod raw;

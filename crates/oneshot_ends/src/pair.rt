@@ -13,7 +13,7 @@ use std::alloc::{AllocError, Global};
 
 /// Makes a channel for one message: its sender and its receiver.
 ///
-/// `rt` is the runtime of the receives that block, which want `Rt: Wait + Clock`. The receiver keeps it.
+/// `rt` is the runtime of the receives that block, which need `Rt: Wait + Clock`. The receiver keeps it.
 /// Pass `()` for a receiver that never blocks. `alloc` is the allocator of the channel's memory; no later
 /// call allocates.
 ///

@@ -1,8 +1,10 @@
 //! What a receiver does to the world in a poll: its ground, with the task of the poll beside it.
 
-ghost use Rattle.std.specs.Prelude.{◌≡◌, true, false, [], ◌∷◌};
+ghost use Rattle.std.specs.Prelude.{◌≡◌, true, false, [], ◌∷◌, IfSome, IfNone};
 ghost use Rattle.futures.specs.Task.{IsArmed, Hears, Keeps};
+ghost use Rattle.oneshot_machine.specs.Logs.{Grows, copied};
 ghost use Rattle.oneshot_ends.specs.Copies.{HasMade, HasNoneOf};
+ghost use Rattle.oneshot_ends.specs.Polling.{polled_state, token_of};
 
 use crate::copies::Copies;
 use crate::ground::OnWord;
@@ -95,7 +97,25 @@ impl<'g, 'c, 'x, T: Drop, P: Promise<T>> TaskGround<T, Copied>
 
     ghost heard_on = { λ a b h k. (k.0 _ h.0, subst (λ id. Hears b.cx.now id) k.1 (k.0 _ h.1)) };
 
-    fn copy(&mut self) -> Option<Copied> {
+    /// As the ground of any poll. A copy that is told as made is in hand, and is of the poll's task. A refused one
+    /// leaves the copies as they were, unless one in hand has the task's number.
+    fn copy(&mut self) -> Option<Copied>
+        ensures log { Grows
+            (polled_state (self.old.ground.ghost_name ∷ self.old.cx.ghost_name ∷ self.old.copies.ghost_name ∷ [])
+            self.old.ground.now).log
+            (polled_state (self.new.ground.ghost_name ∷ self.new.cx.ghost_name ∷ self.new.copies.ghost_name ∷ [])
+            self.new.ground.now).log
+            (copied result ∷ []) }
+        ensures message { self.new.ground.now.message ≡ self.old.ground.now.message }
+        ensures waker { token_of self.new.ground.now.waker ≡ token_of self.old.ground.now.waker }
+        ensures heard { IfSome result (λ _. IsArmed self.new.cx.now × Hears self.new.cx.now self.new.source.now.id) }
+        ensures keeps { Keeps self.old.cx.now self.new.cx.now
+            × (self.old.source.now.id ≡ self.new.source.now.id)
+            × (self.new.ground.now.about ≡ self.old.ground.now.about) }
+        ensures made { IfSome result (λ _. HasMade self.old.cx.now self.new.cx.now self.new.copies.now) }
+        ensures refused { IfNone result (HasNoneOf self.old.cx.now.turn.task self.old.copies.now
+            → self.new.copies.now ≡ self.old.copies.now) }
+    {
         if register(self.copies, self.cx, self.source) {
             Some(Copied)
         } else {

@@ -56,7 +56,7 @@ impl<T, P: Promise<T>> RawSender<T, P> {
     }
 }
 
-// Written out: a derived `Drop` would want one of `P`, of which a channel has no value.
+// Written out: a derived `Drop` would need one of `P`, of which a channel has no value.
 impl<T: Drop, P: Promise<T>> Drop for RawSender<T, P> {
     fn drop(self) {
         let RawSender { sender: _ } = self;

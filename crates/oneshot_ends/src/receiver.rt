@@ -30,8 +30,8 @@ use std::time::{Clock, Duration, Instant};
 /// Dropping it drops a message that was sent and not received, and a later `send` is refused: its error
 /// gives the message back. The drop never blocks. `rt` is dropped with the receiver.
 ///
-/// The receives that block (`recv`, `recv_ref`, `recv_deadline`, `recv_timeout`) want `Rt: Wait + Clock`.
-/// The others want nothing of `Rt`, which may be `()` then.
+/// The receives that block (`recv`, `recv_ref`, `recv_deadline`, `recv_timeout`) need `Rt: Wait + Clock`.
+/// The others need nothing of `Rt`, which may be `()` then.
 ///
 /// A contract sees the channel that the receiver belongs to, and the log of its operations on the word.
 /// Whether the receiver is closed is read off that log.
@@ -54,7 +54,8 @@ pub struct Receiver<T, Rt, P: Promise<T> = ()> {
 impl<T, Rt, P: Promise<T>> Model for Receiver<T, Rt, P> {
     ghost use Rattle.oneshot_machine.specs.Logs.{receiver_of};
     ghost use Rattle.oneshot_drive.specs.BetweenCalls.{AtRest, IsReady};
-    ghost use Rattle.oneshot_ends.specs.Ends.{EndOf};
+    ghost use Rattle.oneshot_machine.specs.Called.{as_receiver};
+    ghost use Rattle.oneshot_ends.specs.Ends.{EndOf, HasCalls};
     ghost use Rattle.oneshot_ends.specs.Grounds.{state_of};
 
     ghost Value = { EndOf P };
@@ -62,7 +63,8 @@ impl<T, Rt, P: Promise<T>> Model for Receiver<T, Rt, P> {
     ghost view = { λ r. record { channel = r.ground.table; log = r.ground.log; about = r.ground.about } };
 
     ghost invariant = { λ r.
-        AtRest (state_of r.ground) × IsReady r.hand (receiver_of (state_of r.ground).log) };
+        AtRest (state_of r.ground) × IsReady r.hand (receiver_of (state_of r.ground).log)
+        × HasCalls T as_receiver r.ground.log };
 }
 
 impl<T, Rt, P: Promise<T>> Receiver<T, Rt, P> {

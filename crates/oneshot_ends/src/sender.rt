@@ -9,7 +9,7 @@ ghost use Rattle.oneshot_ends.specs.Ends.{SenderGrew};
 ghost use Rattle.oneshot_ends.specs.Grounds.{IsNewSender};
 
 use crate::error::SendError;
-use crate::ground::SenderOnWord;
+use crate::ground::Unsent;
 use crossbeam_utils::sync::Unparker;
 use futures::task::Waker;
 use oneshot_drive::{drop_sender, send};
@@ -29,7 +29,7 @@ use std::marker::Model;
 /// It may go to another thread where `T` is `Send`. Several threads may share a `&` to it where `T` is
 /// also `Sync`, and ask `is_closed`.
 pub struct Sender<T, P: Promise<T> = ()> {
-    pub(crate) side: SenderSide<T, Unparker, Waker, P>,
+    pub(crate) side: Unsent<T, Unparker, Waker, P>,
 }
 
 impl<T, P: Promise<T>> Model for Sender<T, P> {
@@ -50,7 +50,9 @@ impl<T, P: Promise<T>> Sender<T, P> {
         ensures log { result.log ≡ side.log }
         ensures about { result.about ≡ side.about }
     {
-        Sender { side }
+        Sender {
+            side: Unsent::new(side),
+        }
     }
 }
 
@@ -66,7 +68,7 @@ impl<T: Drop> Sender<T> {
         ensures run { IfErr result (λ error. SenderGrew T Send self.log error.log Refused) }
     {
         let Sender { side } = self;
-        let mut ground = SenderOnWord::new(side);
+        let mut ground = side.into_ground();
         // A body of its own: a call of `send_kept` would copy the message once more.
         if send(&mut ground, message) {
             return Ok(());
@@ -85,7 +87,7 @@ impl<T: Drop, P: Promise<T>> Sender<T, P> {
         ensures run { IfErr result (λ error. SenderGrew T Send self.log error.log Refused) }
     {
         let Sender { side } = self;
-        let mut ground = SenderOnWord::new(side);
+        let mut ground = side.into_ground();
         if send(&mut ground, message) {
             Ok(())
         } else {
@@ -97,6 +99,6 @@ impl<T: Drop, P: Promise<T>> Sender<T, P> {
 impl<T: Drop, P: Promise<T>> Drop for Sender<T, P> {
     fn drop(self) {
         let Sender { side } = self;
-        drop_sender(&mut SenderOnWord::new(side));
+        drop_sender(&mut side.into_ground());
     }
 }

@@ -7,7 +7,7 @@ use Rattle.oneshot_world.specs.Calls.{Call, Of_receiver, Poll, is_none_left}
 use Rattle.oneshot_world.specs.declared.trace.Made.{Made}
 use Rattle.oneshot_world.proofs.Bools.{and_left, and_right}
 use Rattle.oneshot_laws.specs.Entries.{only_if, says_nothing_yet, is_nothing_yet}
-use Rattle.oneshot_laws.specs.Object.{Object, Content, Open, Full, Closed, Take, is_open, object_after}
+use Rattle.oneshot_laws.specs.Object.{Object, Content, Open, Full, Closed, Take, is_open_content, object_after}
 use Rattle.oneshot_laws.specs.Actions.{action_of, nothing_yet_of, reply_on, stepped}
 use Rattle.oneshot_laws.specs.Marks.{Rule, First, Last, acts, has_acted, receive_rule, works_on_word, finds_full_or_closed}
 use Rattle.oneshot_laws.specs.History.{agrees, is_object_step}
@@ -66,23 +66,23 @@ takes (Poll number) n h = refl
 takes (Of_receiver RC.AsyncTryRecv) n h = refl
 takes _ n h = cc
 
-open_stays_at : (c : Content) (s r : Bool) → is_open c ≡ true
+open_stays_at : (c : Content) (s r : Bool) → is_open_content c ≡ true
     → object_after Take (record { content = c; sender_here = s; receiver_here = r })
     ≡ record { content = c; sender_here = s; receiver_here = r }
 open_stays_at Open s r h = refl
 open_stays_at Full s r h = cc
 open_stays_at Closed s r h = cc
 
-open_stays : (o : Object) → is_open o.content ≡ true → object_after Take o ≡ o
+open_stays : (o : Object) → is_open_content o.content ≡ true → object_after Take o ≡ o
 open_stays o h = open_stays_at o.content o.sender_here o.receiver_here h
 
-open_gives_at : (call : Call) (c : Content) (s r : Bool) → is_open c ≡ true
+open_gives_at : (call : Call) (c : Content) (s r : Bool) → is_open_content c ≡ true
     → reply_on call (record { content = c; sender_here = s; receiver_here = r }) (Some Take) ≡ nothing_yet_of call
 open_gives_at call Open s r h = refl
 open_gives_at call Full s r h = cc
 open_gives_at call Closed s r h = cc
 
-open_gives : (call : Call) (o : Object) → is_open o.content ≡ true → reply_on call o (Some Take) ≡ nothing_yet_of call
+open_gives : (c : Call) (o : Object) → is_open_content o.content ≡ true → reply_on c o (Some Take) ≡ nothing_yet_of c
 open_gives call o h = open_gives_at call o.content o.sender_here o.receiver_here h
 
 -- An entry of a call, with what the definition says of it: its reply is the object's, the object goes on as
@@ -97,8 +97,8 @@ pub record EntryRight (by : Rule) (call : Call) (o next : Object) (acting : Bool
   pub acts : nothing_yet_of call ≡ None → acts by earlier e later ≡ acting
 
 -- where a call acts at its first entry that passes a test
-pub first_right : (test : Made → Bool) (call : Call) (o : Object) (owes answer reply : Option Reply) (earlier : List Made)
-    (e : Made) (later : List Made) → list_any test earlier ≡ is_some owes
+pub first_right : (test : Made → Bool) (call : Call) (o : Object) (owes answer reply : Option Reply)
+    (earlier : List Made) (e : Made) (later : List Made) → list_any test earlier ≡ is_some owes
     → has_reply (test e && not (is_some owes)) (due call o) ≡ true
     → ((y : Reply) → owed (test e) owes (due call o) ≡ Some y → agrees answer (Some y) ≡ true)
     → (is_some reply ≡ true → is_some (owed (test e) owes (due call o)) ≡ true)
@@ -170,14 +170,14 @@ nothing_right call o answer reply worked earlier e later did nothing own paid ma
     let says : nothing_yet_of call ≡ Some word.0 = word.1 in
     record {
       legal =
-          elim (works_on_word e) as (λ b. (not b || is_open o.content) ≡ true → only_if
+          elim (works_on_word e) as (λ b. (not b || is_open_content o.content) ≡ true → only_if
           (b && not (list_any works_on_word later)) (agrees answer (due call o)) ≡ true) [
             | true ↦ λ opened. implied (not (list_any works_on_word later)) (agrees answer (due call o))
                 (rw (taken, open_gives call o opened) own)
             | false ↦ λ opened. refl
           ] may;
       object =
-          elim (works_on_word e) as (λ b. (not b || is_open o.content) ≡ true
+          elim (works_on_word e) as (λ b. (not b || is_open_content o.content) ≡ true
           → (elim (b && not (list_any works_on_word later)) as (λ _. Object)
           [ true ↦ stepped (action_of call) o | false ↦ o ]) ≡ o) [
             | true ↦ λ opened.

@@ -10,7 +10,7 @@ use Rattle.oneshot_world.specs.Calls.{Call, Of_sender, Of_receiver, Poll, Stray}
 use Rattle.oneshot_world.specs.Classes.{Classes, as_call, as_made}
 use Rattle.oneshot_world.specs.declared.trace.Made.{Made}
 use Rattle.oneshot_laws.specs.Entries.{is_same_reply, says_nothing_yet}
-use Rattle.oneshot_laws.specs.Object.{Action, Send, Sender_gone, Take, Take_and_go, Look_full, Look_closed, Look_receiver_gone, Receiver_gone, Object, Content, new_object, is_open}
+use Rattle.oneshot_laws.specs.Object.{Action, Send, Sender_gone, Take, Take_and_go, Look_full, Look_closed, Look_receiver_gone, Receiver_gone, Object, Content, new_object, is_open_content}
 use Rattle.oneshot_laws.specs.Actions.{action_of, nothing_yet_of, reply_on, stepped, fixed_reply_of}
 use Rattle.oneshot_laws.specs.Marks.{loads, finishes, swaps_closed_in, works_on_word, finds_full_or_closed, until_reply}
 use Rattle.oneshot_laws.specs.History.{agrees}
@@ -106,7 +106,7 @@ pays_receive call worked (Some owes) (Some reply) = is_same_reply reply owes
 
 -- a receive that owes nothing meets an open object wherever it works on the word, and never owes "nothing yet"
 abbrev pub may_owe : Bool → Content → Option Reply → Bool
-may_owe works content None = not works || is_open content
+may_owe works content None = not works || is_open_content content
 may_owe works content (Some reply) = not (says_nothing_yet reply)
 
 -- where a call acts the object has a reply for it

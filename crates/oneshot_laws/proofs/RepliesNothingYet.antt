@@ -6,7 +6,7 @@ use Rattle.oneshot_machine.specs.declared.machine.End.TheVariants.{Sender, Recei
 use Rattle.oneshot_machine.specs.declared.machine.Reply.{Reply}
 use Rattle.oneshot_world.proofs.Bools.{both}
 use Rattle.oneshot_laws.specs.Entries.{only_if, is_nothing_yet, is_same_end}
-use Rattle.oneshot_laws.specs.Object.{is_open}
+use Rattle.oneshot_laws.specs.Object.{is_open_content}
 use Rattle.oneshot_laws.specs.Marks.{Mark, side, call_marks, until_reply}
 use Rattle.oneshot_laws.specs.Replies.{is_nothing_only_if_open}
 use Rattle.oneshot_laws.proofs.Coding.{Coding, pairs, by_parts, flags}
@@ -29,7 +29,7 @@ abbrev before : Bool → Bool → Bool
 before begins met = not begins && met
 
 abbrev met_here : Met → Glance → Bool
-met_here met g = before g.begins (met_by g.entry.side met) || is_open g.object.content
+met_here met g = before g.begins (met_by g.entry.side met) || is_open_content g.object.content
 
 abbrev says_nothing_rightly : Met → Glance → Bool
 says_nothing_rightly met g = only_if (is_nothing_yet g.entry.reply) (met_here met g)
@@ -63,7 +63,8 @@ met_law =
 -- a call's marks from here on, where it has met so much
 abbrev Claim : Bool → List Mark → Type 0
 Claim met own =
-    only_if (list_any (λ m. is_nothing_yet m.entry.reply) own) (met || list_any (λ m. is_open m.object.content) own)
+    only_if (list_any (λ m. is_nothing_yet m.entry.reply) own)
+    (met || list_any (λ m. is_open_content m.object.content) own)
     ≡ true
 
 ends_here : (met opened : Bool) (r : Reply) → only_if (is_nothing_yet (Some r)) (met || opened) ≡ true
@@ -83,14 +84,15 @@ goes_on false opened nothing later h = h
 
 -- the mark of a call, and the call's marks after it
 own_mark : (met : Bool) (m : Mark) (later : List Mark)
-    → only_if (is_nothing_yet m.entry.reply) (met || is_open m.object.content) ≡ true
-    → Claim (met || is_open m.object.content) later → Claim met (m ∷ until_reply m.entry.reply later [])
+    → only_if (is_nothing_yet m.entry.reply) (met || is_open_content m.object.content) ≡ true
+    → Claim (met || is_open_content m.object.content) later → Claim met (m ∷ until_reply m.entry.reply later [])
 own_mark met m later h k =
-    elim m.entry.reply as (λ a. only_if (is_nothing_yet a) (met || is_open m.object.content) ≡ true → only_if
+    elim m.entry.reply as (λ a. only_if (is_nothing_yet a) (met || is_open_content m.object.content) ≡ true → only_if
     (is_nothing_yet a || list_any (λ m. is_nothing_yet m.entry.reply) (until_reply a later []))
-    (met || (is_open m.object.content || list_any (λ m. is_open m.object.content) (until_reply a later []))) ≡ true) [
-      | None ↦ λ h. goes_on met (is_open m.object.content) _ _ k
-      | Some r ↦ λ h. ends_here met (is_open m.object.content) r h
+    (met || (is_open_content m.object.content
+    || list_any (λ m. is_open_content m.object.content) (until_reply a later []))) ≡ true) [
+      | None ↦ λ h. goes_on met (is_open_content m.object.content) _ _ k
+      | Some r ↦ λ h. ends_here met (is_open_content m.object.content) r h
     ] h
 
 met_more : (begins met : Bool) (own : List Mark) → Claim (before begins met) own → Claim met own
@@ -102,8 +104,9 @@ met_more true true own h =
 
 -- a mark of this end's call
 here : (end : End) (m : Mark) (ms : List Mark) (met : Met)
-    → only_if (is_nothing_yet m.entry.reply) (before m.begins (met_by end met) || is_open m.object.content) ≡ true
-    → Claim (met_by end (met_at end (before m.begins (met_by end met) || is_open m.object.content) met))
+    → only_if (is_nothing_yet m.entry.reply)
+    (before m.begins (met_by end met) || is_open_content m.object.content) ≡ true
+    → Claim (met_by end (met_at end (before m.begins (met_by end met) || is_open_content m.object.content) met))
     (call_marks end ms) → Claim (before m.begins (met_by end met))
     (elim (is_same_end end end) as (λ _. List Mark)
     [ true ↦ m ∷ until_reply m.entry.reply (call_marks end ms) [] | false ↦ call_marks end ms ])
@@ -112,8 +115,9 @@ here Receiver m ms met h k = own_mark (before m.begins met.receiver) m (call_mar
 
 -- a mark of either end, for the call of this one
 either : (mover end : End) (m : Mark) (ms : List Mark) (met : Met)
-    → only_if (is_nothing_yet m.entry.reply) (before m.begins (met_by mover met) || is_open m.object.content) ≡ true
-    → Claim (met_by end (met_at mover (before m.begins (met_by mover met) || is_open m.object.content) met))
+    → only_if (is_nothing_yet m.entry.reply)
+    (before m.begins (met_by mover met) || is_open_content m.object.content) ≡ true
+    → Claim (met_by end (met_at mover (before m.begins (met_by mover met) || is_open_content m.object.content) met))
     (call_marks end ms) → Claim (met_by end met)
     (elim (is_same_end mover end) as (λ _. List Mark)
     [ true ↦ m ∷ until_reply m.entry.reply (call_marks end ms) [] | false ↦ call_marks end ms ])
@@ -133,7 +137,7 @@ claims (m ∷ ms) met end p = either m.entry.side end m ms met p.0 (claims ms (m
 -- a call that begins has met nothing
 begins_with : (begins met : Bool) (own : List Mark) → Claim (before begins met) own
     → only_if begins (only_if (list_any (λ m. is_nothing_yet m.entry.reply) own)
-    (list_any (λ m. is_open m.object.content) own)) ≡ true
+    (list_any (λ m. is_open_content m.object.content) own)) ≡ true
 begins_with true met own h = h
 begins_with false met own h = refl
 

@@ -18,7 +18,7 @@ use Rattle.oneshot_laws.specs.Object.{Object}
 use Rattle.oneshot_laws.specs.Marks.{Reading, Mark, marks, marks_from}
 use Rattle.oneshot_laws.specs.Ended.{all_ended}
 use Rattle.oneshot_laws.specs.MessagePlaces.{is_path, last_place}
-use Rattle.oneshot_laws.specs.WakerPlaces.{waker_place_code, is_same_waker_place, is_waker_move, first_waker_place, waker_moves, moves_of, is_waker_followed, is_waker_end, is_waker_ended}
+use Rattle.oneshot_laws.specs.WakerPlaces.{waker_place_code, is_same_waker_place, is_waker_move, first_waker_place, waker_moves, moves_of_waker, is_waker_followed, is_waker_end, is_waker_ended}
 use Rattle.oneshot_laws.proofs.Coding.{listed}
 use Rattle.oneshot_laws.proofs.EndedRuns.{Ending, Asked, own_after}
 use Rattle.oneshot_laws.proofs.Glanced.{as_glance}
@@ -71,7 +71,7 @@ moves_of_one this names =
     }
 
 abbrev IsPath : WakerName → WakerPlace → List WakerMove → Type 0
-IsPath name place moves = is_path is_same_waker_place (is_waker_move name) place (moves_of name moves) ≡ true
+IsPath name place moves = is_path is_same_waker_place (is_waker_move name) place (moves_of_waker name moves) ≡ true
 
 -- A name whose class, `this`, is that of no other name, and moves as it does.
 pub record IsFollowed (k : Classes) (name this : WakerName) : Type 0 where
@@ -84,7 +84,7 @@ module _ (k : Classes) (name this : WakerName) (names : Names WakerPlace) (follo
   if_this : (same : Bool) (from to place : WakerPlace) (later : List WakerMove)
       → (if same then is_same_waker_place from place && is_waker_move this from to else true) ≡ true
       → IsPath name (if same then to else place) later → is_path is_same_waker_place (is_waker_move name) place
-      (cons_option (if same then Some (from, to) else None) (moves_of name later)) ≡ true
+      (cons_option (if same then Some (from, to) else None) (moves_of_waker name later)) ≡ true
   if_this true from to place later h p =
       both (is_same_waker_place from place && is_waker_move name from to) _ (rw (followed.same_move from to) at h) p
   if_this false from to place later h p = p
@@ -107,22 +107,22 @@ module _ (k : Classes) (name this : WakerName) (names : Names WakerPlace) (follo
 
   -- where it is at the end
   last_if : (same : Bool) (from to place : WakerPlace) (later : List WakerMove)
-      → last_place (if same then to else place) (moves_of name later)
-      ≡ last_place place (cons_option (if same then Some (from, to) else None) (moves_of name later))
+      → last_place (if same then to else place) (moves_of_waker name later)
+      ≡ last_place place (cons_option (if same then Some (from, to) else None) (moves_of_waker name later))
   last_if true from to place later = refl
   last_if false from to place later = refl
 
   last_after : (x : Option WakerMove) (place : WakerPlace) (later : List WakerMove)
-      → last_place (goes_to this place (option_map (as_move k) x)) (moves_of name later)
-      ≡ last_place place (moves_of name (cons_option x later))
+      → last_place (goes_to this place (option_map (as_move k) x)) (moves_of_waker name later)
+      ≡ last_place place (moves_of_waker name (cons_option x later))
   last_after None place later = refl
   last_after (Some (other, from, to)) place later =
-      ap (λ same. last_place (if same then to else place) (moves_of name later)) (followed.same_name other)
+      ap (λ same. last_place (if same then to else place) (moves_of_waker name later)) (followed.same_name other)
       ∙ last_if (is_same_waker other name) from to place later
 
   place_after : (ms : List Mark) (place : WakerPlace)
       → own_after (place_then this) place (map (as_glance k) (map glance_of ms))
-      ≡ last_place place (moves_of name (shown_by ms))
+      ≡ last_place place (moves_of_waker name (shown_by ms))
   place_after [] place = refl
   place_after (m ∷ ms) place =
       place_after ms (place_then this place (as_glance k (glance_of m))) ∙ last_after m.entry.waker place (shown_by ms)
@@ -149,5 +149,5 @@ module _ {T : Type 0} (s : SenderScript T) (r : ReceiverScript) (entries : List 
         subst (λ good. only_if (all_ended MarksOfRun) good ≡ true)
         (followed.same_end _
         ∙ ap (is_waker_end name) (place_after k name this names followed MarksOfRun (first_waker_place name) ∙ ap
-        (λ ms. last_place (first_waker_place name) (moves_of name ms)) (sym same_moves)))
+        (λ ms. last_place (first_waker_place name) (moves_of_waker name ms)) (sym same_moves)))
         h

@@ -17,17 +17,17 @@ pub record Object : Type 0 where
 abbrev pub new_object : Object
 new_object = record { content = Open; sender_here = true; receiver_here = true }
 
-abbrev pub is_open : Content → Bool
-is_open Open = true
-is_open _ = false
+abbrev pub is_open_content : Content → Bool
+is_open_content Open = true
+is_open_content _ = false
 
-abbrev pub is_full : Content → Bool
-is_full Full = true
-is_full _ = false
+abbrev pub is_full_content : Content → Bool
+is_full_content Full = true
+is_full_content _ = false
 
-abbrev pub is_closed : Content → Bool
-is_closed Closed = true
-is_closed _ = false
+abbrev pub is_closed_content : Content → Bool
+is_closed_content Closed = true
+is_closed_content _ = false
 
 -- the object's steps
 pub data Action : Type 0 where
@@ -87,8 +87,8 @@ answer_of Send o = if o.receiver_here then Accepted else Returned
 answer_of Sender_gone o = Finished
 answer_of Take o = taken_from o.content
 answer_of Take_and_go o = taken_from o.content
-answer_of Look_full o = yes_if (is_full o.content)
-answer_of Look_closed o = yes_if (is_closed o.content)
+answer_of Look_full o = yes_if (is_full_content o.content)
+answer_of Look_closed o = yes_if (is_closed_content o.content)
 answer_of Look_receiver_gone o = yes_if (not o.receiver_here)
 answer_of Receiver_gone o = Finished
 

@@ -7,7 +7,7 @@ use Rattle.oneshot_world.specs.Calls.{Call}
 use Rattle.oneshot_world.specs.declared.trace.Place.{Place}
 use Rattle.oneshot_world.specs.declared.trace.Place.TheVariants as P
 use Rattle.oneshot_laws.specs.Entries.{only_if, is_reply, is_nothing_yet}
-use Rattle.oneshot_laws.specs.Object.{is_open}
+use Rattle.oneshot_laws.specs.Object.{is_open_content}
 use Rattle.oneshot_laws.specs.Actions.{is_receive, is_send, is_sender_look, is_full_look, is_closed_look, is_drop_of_receiver}
 use Rattle.oneshot_laws.specs.Marks.{Mark, after_each, each_call}
 use Rattle.oneshot_laws.specs.History.{agrees}
@@ -54,7 +54,7 @@ is_refused_after_closed ms = after_each (answers is_sender_look R.Yes) (list_all
 abbrev pub is_nothing_only_if_open : List Mark → Bool
 is_nothing_only_if_open ms =
     each_call (λ own. only_if (list_any (λ m. is_nothing_yet m.entry.reply) own)
-    (list_any (λ m. is_open m.object.content) own)) ms
+    (list_any (λ m. is_open_content m.object.content) own)) ms
 
 abbrev pub is_dropped : Place → Bool
 is_dropped P.Dropped = true

@@ -43,16 +43,17 @@ abbrev pub waker_moves : List Entry → List WakerMove
 waker_moves entries = filter_map (λ e. e.waker) (made_entries entries)
 
 -- the moves of one waker
-abbrev pub move_of : WakerName → WakerMove → Option (WakerPlace × WakerPlace)
-move_of name move = if is_same_waker move.0 name then Some (move.1, move.2) else None
+abbrev pub move_of_waker : WakerName → WakerMove → Option (WakerPlace × WakerPlace)
+move_of_waker name move = if is_same_waker move.0 name then Some (move.1, move.2) else None
 
-abbrev pub moves_of : WakerName → List WakerMove → List (WakerPlace × WakerPlace)
-moves_of name moves = filter_map (move_of name) moves
+abbrev pub moves_of_waker : WakerName → List WakerMove → List (WakerPlace × WakerPlace)
+moves_of_waker name moves = filter_map (move_of_waker name) moves
 
 -- it begins there, and follows a path
 abbrev pub is_waker_followed : List Entry → WakerName → Bool
 is_waker_followed entries name =
-    is_path is_same_waker_place (is_waker_move name) (first_waker_place name) (moves_of name (waker_moves entries))
+    is_path is_same_waker_place (is_waker_move name) (first_waker_place name)
+    (moves_of_waker name (waker_moves entries))
 
 -- where a waker is once all have ended; a copy that was never made is still new
 abbrev pub is_waker_end : WakerName → WakerPlace → Bool
@@ -66,7 +67,7 @@ is_waker_end _ _ = false
 abbrev pub is_waker_ended : List Entry → List Mark → WakerName → Bool
 is_waker_ended entries ms name =
     only_if (all_ended ms) (is_waker_end name
-    (last_place (first_waker_place name) (moves_of name (waker_moves entries))))
+    (last_place (first_waker_place name) (moves_of_waker name (waker_moves entries))))
 
 -- each waker follows its path, and has ended once all have
 abbrev pub AreWakersRight : List Entry → List Mark → Type 0

@@ -21,7 +21,7 @@ use Rattle.oneshot_machine.specs.Runs.{Run, Ran, SenderRan, ReceiverRan}
 use Rattle.oneshot_machine.specs.Sender.{sender_step, sender_rows, sender_row}
 use Rattle.oneshot_machine.specs.TableRows.{Outcome}
 use Rattle.oneshot_machine.specs.Counts.{sender_bound, receiver_bound, MakesWithin}
-use Rattle.oneshot_machine.proofs.GrownLists.{words_after}
+use Rattle.oneshot_machine.proofs.GrownLogs.{words_after}
 use Rattle.oneshot_machine.proofs.CountedRuns.{pays, at_most}
 
 abbrev sender_most : SenderPos → Option ℕ
@@ -141,7 +141,8 @@ module _ {T W : Type 0} {reply : Reply} where
     pub drop_few : SenderRan S.Drop before after reply given got → MakesWithin (sender_bound S.Drop) before after
     drop_few ran = ran_few (sender_makes DropXor 2 refl) ran
 
-    pub try_recv_few : ReceiverRan C.TryRecv before after reply given got → MakesWithin (receiver_bound C.TryRecv) before after
+    pub try_recv_few : ReceiverRan C.TryRecv before after reply given got
+        → MakesWithin (receiver_bound C.TryRecv) before after
     try_recv_few ran = ran_few try_recv_makes ran
 
     pub async_try_recv_few : ReceiverRan C.AsyncTryRecv before after reply given got
@@ -151,5 +152,6 @@ module _ {T W : Type 0} {reply : Reply} where
     pub poll_few : ReceiverRan C.Poll before after reply given got → MakesWithin (receiver_bound C.Poll) before after
     poll_few ran = ran_few poll_makes ran
 
-    pub drop_async_few : ReceiverRan C.DropAsync before after reply given got → MakesWithin (receiver_bound C.DropAsync) before after
+    pub drop_async_few : ReceiverRan C.DropAsync before after reply given got
+        → MakesWithin (receiver_bound C.DropAsync) before after
     drop_async_few ran = ran_few (receiver_makes (AsyncDrop AsyncLoad) 3 refl) ran

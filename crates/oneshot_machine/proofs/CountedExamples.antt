@@ -13,7 +13,7 @@ counts_that_are =
       polls_too_late = record { added = _; list = refl; few = omega arith };
     }
 
--- all that a list has that was empty was added
+-- all that a log has that was empty was added
 all_added : {limit : ℕ} {xs : List Noted} → GrewAtMost limit [] xs → length xs ≤ limit
 all_added {limit} grew = subst (λ xs. length xs ≤ limit) (sym grew.list) grew.few
 

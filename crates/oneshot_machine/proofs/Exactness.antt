@@ -11,7 +11,7 @@ use Rattle.oneshot_machine.specs.Noted.{Noted, saw, op_of, is_same_op}
 use Rattle.oneshot_machine.specs.Phases.{Slots, Row, is_row_for, next_by, phase_from}
 use Rattle.oneshot_machine.specs.Slots.{Held, IsSlot, Turns, In, head, tail, May, may, Finds, finds}
 use Rattle.oneshot_machine.specs.Standing.{Table, is_op, onward, onward_all, in_order, moved, standing, made_at, operations}
-use Rattle.oneshot_machine.proofs.GrownLists.{phase_from-snoc, standing-snoc}
+use Rattle.oneshot_machine.proofs.GrownLogs.{phase_from-snoc, standing-snoc}
 use Rattle.oneshot_machine.proofs.Sameness.{each_passes, thrice, five, some_passes, same_op, ops_are_same, same_sight, is_same_share, shares_are_same, fill, fills, is_plain, turns_plainly}
 use Rattle.oneshot_machine.specs.Exact.{IsFound, none_yet, one_more, IsAllowed, Accepts, IsExact}
 

@@ -9,10 +9,10 @@ use Rattle.oneshot_machine.specs.declared.machine.drop.DropPos.TheVariants.{Drop
 use Rattle.oneshot_machine.specs.declared.machine.sender.SenderPos.TheVariants.{SendAdd, SendTakeWaker, SendFinal, SendWake, SendLateWake, DropTakeWaker, DropFinal, DropWake, DropLateWake, IntoFree, ErrorFree}
 use Rattle.oneshot_machine.specs.declared.machine.sender.SenderPos.TheVariants as SP
 use Rattle.oneshot_machine.specs.Runs.{last, more}
-use Rattle.oneshot_machine.specs.Examples.{SenderLists, ReceiverLists, RunsThatAre}
+use Rattle.oneshot_machine.specs.Examples.{LogsOfSender, LogsOfReceiver, RunsThatAre}
 
-pub sender_lists : SenderLists
-sender_lists =
+pub logs_of_sender : LogsOfSender
+logs_of_sender =
     record {
       nothing_yet = refl;
       sent = refl;
@@ -35,8 +35,8 @@ sender_lists =
       does_not_look = refl;
     }
 
-pub receiver_lists : ReceiverLists
-receiver_lists =
+pub logs_of_receiver : LogsOfReceiver
+logs_of_receiver =
     record {
       nothing_yet = refl;
       looked_in_vain = refl;

@@ -6,11 +6,11 @@ use Rattle.oneshot_machine.specs.declared.machine.future.FuturePos.TheVariants.{
 use Rattle.oneshot_machine.specs.declared.machine.async_drop.AsyncDropPos.TheVariants.{AsyncExchange, AsyncBack, AsyncSwap}
 use Rattle.oneshot_machine.specs.declared.machine.drop.DropPos.TheVariants.{DropFree}
 use Rattle.oneshot_machine.specs.Runs.{last, more}
-use Rattle.oneshot_machine.specs.FutureExamples.{FutureLists, FutureRuns, FutureRunsThatAreNot}
+use Rattle.oneshot_machine.specs.FutureExamples.{LogsOfFuture, FutureRuns, FutureRunsThatAreNot}
 use Rattle.oneshot_machine.proofs.ExampleNoRuns.{begins, answers, does_go_on, goes_on}
 
-pub future_lists : FutureLists
-future_lists =
+pub logs_of_future : LogsOfFuture
+logs_of_future =
     record {
       polls = refl;
       polls_again = refl;

@@ -4,7 +4,6 @@ use Rattle.oneshot_machine.specs.declared.machine.Seen.TheVariants.{Word}
 use Rattle.oneshot_machine.specs.declared.states.Op.TheVariants.{Load, Store, Swap, Exchange, Add, Xor}
 use Rattle.oneshot_machine.specs.Orders.{Reaches, has_row, nothing_made, sender_makes, receiver_makes}
 use Rattle.oneshot_machine.specs.OrderExamples.{waits, sent_over, OrdersThatAre, OrdersThatAreNot}
-use Rattle.oneshot_machine.specs.Phases.{fresh, first}
 use Rattle.oneshot_machine.specs.Slots.{head, tail}
 use Rattle.oneshot_machine.proofs.OrdersAhead.{Goes, sender_first, receiver_first, ahead}
 
@@ -44,39 +43,39 @@ orders_that_are =
       sent_too_late = sender_makes Add gone (has_row (tail (tail head)));
     }
 
-begins_at_another_word : Goes fresh first 3 [] [] 0 → ⊥
+begins_at_another_word : Goes 3 [] [] 0 → ⊥
 begins_at_another_word goes = elim goes [ ]
 
-finds_what_nobody_left : {word : ℕ} → Goes fresh first 3 [] ((Load, Word 4) ∷ []) word → ⊥
-finds_what_nobody_left (receiver_first _ saw_so _ _) = cc
+finds_what_nobody_left : {word : ℕ} → Goes 3 [] ((Load, Word 4) ∷ []) word → ⊥
+finds_what_nobody_left (receiver_first _ saw_so _) = cc
 
-finds_no_waker : {word : ℕ} → Goes fresh first 3 ((Add, Word 0) ∷ []) ((Load, Word 3) ∷ []) word → ⊥
-finds_no_waker (sender_first _ saw_so _ _) = cc
-finds_no_waker (receiver_first _ _ _ (sender_first _ saw_so _ _)) = cc
+finds_no_waker : {word : ℕ} → Goes 3 ((Add, Word 0) ∷ []) ((Load, Word 3) ∷ []) word → ⊥
+finds_no_waker (sender_first _ saw_so _) = cc
+finds_no_waker (receiver_first _ _ (sender_first _ saw_so _)) = cc
 
-skips_the_last : Goes fresh first 3 ((Add, Word 3) ∷ []) ((Load, Word 3) ∷ []) 3 → ⊥
-skips_the_last (sender_first _ _ _ (receiver_first _ saw_so _ _)) = cc
-skips_the_last (receiver_first _ _ _ (sender_first _ _ _ goes)) = elim goes [ ]
+skips_the_last : Goes 3 ((Add, Word 3) ∷ []) ((Load, Word 3) ∷ []) 3 → ⊥
+skips_the_last (sender_first _ _ (receiver_first _ saw_so _)) = cc
+skips_the_last (receiver_first _ _ (sender_first _ _ goes)) = elim goes [ ]
 
-skips_a_swap : {word : ℕ} → Goes fresh first 3 ((Add, Word 3) ∷ []) waits word → ⊥
-skips_a_swap (sender_first _ _ _ (receiver_first _ saw_so _ _)) = cc
-skips_a_swap (receiver_first _ _ _ (sender_first _ _ _ (receiver_first _ saw_so _ _))) = cc
-skips_a_swap (receiver_first _ _ _ (receiver_first _ _ _ (sender_first _ saw_so _ _))) = cc
+skips_a_swap : {word : ℕ} → Goes 3 ((Add, Word 3) ∷ []) waits word → ⊥
+skips_a_swap (sender_first _ _ (receiver_first _ saw_so _)) = cc
+skips_a_swap (receiver_first _ _ (sender_first _ _ (receiver_first _ saw_so _))) = cc
+skips_a_swap (receiver_first _ _ (receiver_first _ _ (sender_first _ saw_so _))) = cc
 
-skips_a_stop : {word : ℕ} → Goes fresh first 3 (sent_over 3) (waits ++ (Load, Word 4) ∷ []) word → ⊥
-skips_a_stop (sender_first _ saw_so _ _) = cc
-skips_a_stop (receiver_first _ _ _ (sender_first _ saw_so _ _)) = cc
-skips_a_stop (receiver_first _ _ _ (receiver_first _ _ _ (receiver_first _ saw_so _ _))) = cc
-skips_a_stop (receiver_first _ _ _ (receiver_first _ _ _ (sender_first _ _ _ (sender_first _ saw_so _ _)))) = cc
-skips_a_stop (receiver_first _ _ _ (receiver_first _ _ _ (sender_first _ _ _ (receiver_first _ saw_so _ _)))) = cc
+skips_a_stop : {word : ℕ} → Goes 3 (sent_over 3) (waits ++ (Load, Word 4) ∷ []) word → ⊥
+skips_a_stop (sender_first _ saw_so _) = cc
+skips_a_stop (receiver_first _ _ (sender_first _ saw_so _)) = cc
+skips_a_stop (receiver_first _ _ (receiver_first _ _ (receiver_first _ saw_so _))) = cc
+skips_a_stop (receiver_first _ _ (receiver_first _ _ (sender_first _ _ (sender_first _ saw_so _)))) = cc
+skips_a_stop (receiver_first _ _ (receiver_first _ _ (sender_first _ _ (receiver_first _ saw_so _)))) = cc
 
 pub orders_that_are_not : OrdersThatAreNot
 orders_that_are_not =
     record {
-      begins_at_another_word = λ run. begins_at_another_word (ahead run);
-      finds_what_nobody_left = λ run. finds_what_nobody_left (ahead run);
-      finds_no_waker = λ run. finds_no_waker (ahead run);
-      skips_the_last = λ run. skips_the_last (ahead run);
-      skips_a_swap = λ run. skips_a_swap (ahead run);
-      skips_a_stop = λ run. skips_a_stop (ahead run);
+      begins_at_another_word = λ order. begins_at_another_word (ahead order);
+      finds_what_nobody_left = λ order. finds_what_nobody_left (ahead order);
+      finds_no_waker = λ order. finds_no_waker (ahead order);
+      skips_the_last = λ order. skips_the_last (ahead order);
+      skips_a_swap = λ order. skips_a_swap (ahead order);
+      skips_a_stop = λ order. skips_a_stop (ahead order);
     }

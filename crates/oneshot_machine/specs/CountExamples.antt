@@ -1,4 +1,4 @@
--- Lists of operations that are so many at most, and some that are more.
+-- Logs that grow by so many operations at most, and some that grow by more.
 use Rattle.std.specs.Prelude.{[], ◌∷◌}
 use Rattle.oneshot_machine.specs.declared.machine.Seen.TheVariants.{Done, Word}
 use Rattle.oneshot_machine.specs.declared.states.Op.TheVariants.{Load, Store, Swap, Exchange, Add}

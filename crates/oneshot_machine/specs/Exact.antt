@@ -1,4 +1,4 @@
--- The law that ties what the definitions allow after a list to what the tables make there.
+-- The law that ties what the definitions allow after a log to what the tables make there.
 use Rattle.std.specs.Prelude.{◌≡◌, ℕ, List, [], ◌∷◌, ◌++◌, All, Contains, IsSome}
 use Rattle.oneshot_machine.specs.declared.machine.Step.TheVariants.{Word}
 use Rattle.oneshot_machine.specs.declared.states.Op.{Op}
@@ -9,7 +9,7 @@ use Rattle.oneshot_machine.specs.Standing.{Table, standing, operations, sender_t
 
 module _ {At T W : Type 0} (at : List Noted → At)
     (Finds : At → Op → ℕ → Held T → Held W → Held T → Held W → Type 0) where
-  -- a list of operations, each with a word that it may find
+  -- a log of operations, each with a word that it may find
   pub data IsFound : List Noted → Type 0 where
     none_yet : IsFound []
     one_more : {xs : List Noted} {op : Op} {m m' : Held T} {w w' : Held W} (word : ℕ)
@@ -27,7 +27,7 @@ Accepts t op word p = t.step p ≡ Word op → IsSome (t.row p (saw op word))
 pub record IsExact {P At T W : Type 0} (t : Table P) (at : List Noted → At)
     (May : At → Op → Held T → Held W → Type 0)
     (Finds : At → Op → ℕ → Held T → Held W → Held T → Held W → Type 0) : Type 0 where
-  -- each operation that the table makes after such a list is allowed, where there is some message
+  -- each operation that the table makes after such a log is allowed, where there is some message
   -- and some waker
   pub no_less : T → W → {xs : List Noted} → IsFound at Finds xs
       → All (IsAllowed May (at xs)) (operations t xs)

@@ -1,4 +1,4 @@
--- Lists and runs that an end makes, and some that none makes.
+-- Logs and runs that an end makes, and some that none makes.
 use Rattle.std.specs.Prelude.{◌≡◌, ℕ, true, false, List, [], ◌∷◌, ◌++◌}
 use Rattle.oneshot_machine.specs.declared.machine.Reply.{Reply}
 use Rattle.oneshot_machine.specs.declared.machine.Reply.TheVariants.{Sent, Refused, Message, Empty, Timeout, Disconnected}
@@ -22,7 +22,7 @@ use Rattle.oneshot_machine.specs.Logs.{Event, did, wrote, took, handed, parked, 
 use Rattle.oneshot_machine.specs.Runs.{Run}
 
 -- how far a sender's log takes it
-pub record SenderLists : Type 0 where
+pub record LogsOfSender : Type 0 where
   pub nothing_yet : sender_at [] ≡ fresh
   pub sent : sender_at ((Add, Word 3) ∷ []) ≡ finished sending
   pub sent_too_late : sender_at ((Add, Word 2) ∷ []) ≡ late sending
@@ -34,7 +34,7 @@ pub record SenderLists : Type 0 where
   pub dropped_before_it : sender_at ((Xor, Word 0) ∷ (Swap 2, Word 1) ∷ []) ≡ finished dropping
   pub dropped_too_late : sender_at ((Xor, Word 2) ∷ []) ≡ late dropping
   pub dropped_after_one_that_left_meanwhile : sender_at ((Xor, Word 0) ∷ (Swap 2, Word 2) ∷ []) ≡ overtaken dropping
-  -- and lists that no sender makes
+  -- and logs that no sender makes
   pub sends_over_a_message : sender_at ((Add, Word 4) ∷ []) ≡ no_sender
   pub sends_twice : sender_at ((Add, Word 3) ∷ (Add, Word 3) ∷ []) ≡ no_sender
   pub drops_after_it_sent : sender_at ((Add, Word 3) ∷ (Xor, Word 3) ∷ []) ≡ no_sender
@@ -45,7 +45,7 @@ pub record SenderLists : Type 0 where
   pub does_not_look : sender_at ((Add, Done) ∷ []) ≡ no_sender
 
 -- how far a receiver's log takes it
-pub record ReceiverLists : Type 0 where
+pub record LogsOfReceiver : Type 0 where
   pub nothing_yet : receiver_at [] ≡ first
   pub looked_in_vain : receiver_at ((Load, Word 3) ∷ (Load, Word 3) ∷ []) ≡ here looked
   pub found_it : receiver_at ((Load, Word 3) ∷ (Load, Word 4) ∷ []) ≡ full at_once
@@ -75,7 +75,7 @@ pub record ReceiverLists : Type 0 where
   pub dropped_early : receiver_at ((Load, Word 3) ∷ (Swap 2, Word 3) ∷ []) ≡ gone
   pub dropped_over_a_message : receiver_at ((Swap 2, Word 4) ∷ []) ≡ ended
   pub dropped_after_all : receiver_at ((Load, Word 2) ∷ (Swap 2, Word 2) ∷ []) ≡ ended
-  -- and lists that no receiver makes
+  -- and logs that no receiver makes
   pub leaves_the_message : receiver_at ((Load, Word 4) ∷ (Load, Word 4) ∷ []) ≡ no_receiver
   pub drops_in_its_call : receiver_at ((Load, Word 3) ∷ (Swap 0, Word 4) ∷ (Swap 2, Word 0) ∷ []) ≡ no_receiver
   pub stores_another_word : receiver_at ((Load, Word 4) ∷ (Store 3, Done) ∷ []) ≡ no_receiver

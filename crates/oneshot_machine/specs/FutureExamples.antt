@@ -1,4 +1,4 @@
--- Lists and runs that a future makes, and some that none makes.
+-- Logs and runs that a future makes, and some that none makes.
 use Rattle.std.specs.Prelude.{◌≡◌, ℕ, List, [], ◌∷◌, ◌++◌, Some, None}
 use Rattle.oneshot_machine.specs.declared.machine.Reply.TheVariants.{Message, Disconnected, Pending}
 use Rattle.oneshot_machine.specs.declared.machine.Reply.TheVariants as R
@@ -18,7 +18,7 @@ abbrev pub once_polled : List Noted
 once_polled = (Load, Word 3) ∷ (Exchange 3 0, Word 3) ∷ []
 
 -- how far a future's log takes it
-pub record FutureLists : Type 0 where
+pub record LogsOfFuture : Type 0 where
   pub polls : receiver_at once_polled ≡ waits polled
   pub polls_again : receiver_at (once_polled ++ (Load, Word 0) ∷ []) ≡ waits again
   pub takes_its_copy_back :
@@ -45,7 +45,7 @@ pub record FutureLists : Type 0 where
       receiver_at (once_polled ++ (Load, Word 1) ∷ (Swap 2, Word 1) ∷ []) ≡ gone
   pub is_dropped_when_it_has_finished :
       receiver_at (once_polled ++ (Load, Word 1) ∷ (Swap 2, Word 4) ∷ []) ≡ ended
-  -- and lists that no future makes
+  -- and logs that no future makes
   pub stores_without_a_look : receiver_at ((Exchange 3 0, Word 3) ∷ []) ≡ no_receiver
   pub takes_back_without_a_look : receiver_at (once_polled ++ (Exchange 0 3, Word 0) ∷ []) ≡ no_receiver
   pub blocks : receiver_at (once_polled ++ (Swap 0, Word 0) ∷ []) ≡ no_receiver

@@ -64,7 +64,7 @@ module _ {T W : Type 0} where
   abbrev pub words : List (Event T W) → List Noted
   words = filter_map noted
 
-  -- What of these steps the list of a ground has: of a whole ground all, of any other those on the
+  -- What of these steps the log of a ground has: of a whole ground all, of any other those on the
   -- word.
   abbrev pub kept : Bool → List (Event T W) → List (Event T W)
   kept true xs = xs
@@ -91,7 +91,7 @@ pub record Grows {T W : Type 0} (before after : Log T W) (steps : List (Event T 
   pub list : after.list ≡ before.list ++ kept before.whole steps
 
 module _ {T W : Type 0} where
-  -- how far a ground's list takes its end
+  -- how far a ground's log takes its end
   abbrev pub sender_of : Log T W → SenderAt
   sender_of l = sender_at (words l.list)
 

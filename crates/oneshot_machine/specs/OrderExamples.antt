@@ -3,7 +3,7 @@ use Rattle.std.specs.Prelude.{ℕ, List, [], ◌∷◌, ◌++◌}
 use Rattle.oneshot_machine.specs.declared.machine.Seen.TheVariants.{Done, Word}
 use Rattle.oneshot_machine.specs.declared.states.Op.TheVariants.{Load, Store, Swap, Exchange, Add, Xor}
 use Rattle.oneshot_machine.specs.Noted.{Noted}
-use Rattle.oneshot_machine.specs.Orders.{Reaches}
+use Rattle.oneshot_machine.specs.Orders.{InOrder, Reaches}
 
 -- a receiver that waits in a call that blocks
 abbrev pub waits : List Noted
@@ -13,7 +13,7 @@ waits = (Load, Word 3) ∷ (Swap 0, Word 3) ∷ []
 abbrev pub sent_over : ℕ → List Noted
 sent_over word = (Add, Word 0) ∷ (Swap 4, Word word) ∷ []
 
--- the sender's log, the receiver's, and the word
+-- the sender's log, the receiver's, and the word, in an order by both phases' tables
 pub record OrdersThatAre : Type 0 where
   pub new : Reaches [] [] 3
   pub received : Reaches ((Add, Word 3) ∷ []) ((Load, Word 4) ∷ (Store 2, Done) ∷ []) 2
@@ -22,16 +22,17 @@ pub record OrdersThatAre : Type 0 where
   pub polled : Reaches ((Xor, Word 3) ∷ []) ((Load, Word 3) ∷ (Exchange 3 0, Word 2) ∷ []) 2
   pub sent_too_late : Reaches ((Add, Word 2) ∷ []) ((Swap 2, Word 3) ∷ []) 3
 
+-- and logs that have no order, whatever the phases are
 pub record OrdersThatAreNot : Type 0 where
   -- a new channel has one word
-  pub begins_at_another_word : Reaches [] [] 0 → ⊥
+  pub begins_at_another_word : InOrder [] [] 0 → ⊥
   -- an operation finds a word that nobody left
-  pub finds_what_nobody_left : {word : ℕ} → Reaches [] ((Load, Word 4) ∷ []) word → ⊥
-  pub finds_no_waker : {word : ℕ} → Reaches ((Add, Word 0) ∷ []) ((Load, Word 3) ∷ []) word → ⊥
+  pub finds_what_nobody_left : {word : ℕ} → InOrder [] ((Load, Word 4) ∷ []) word → ⊥
+  pub finds_no_waker : {word : ℕ} → InOrder ((Add, Word 0) ∷ []) ((Load, Word 3) ∷ []) word → ⊥
   -- the last operation is skipped
-  pub skips_the_last : Reaches ((Add, Word 3) ∷ []) ((Load, Word 3) ∷ []) 3 → ⊥
+  pub skips_the_last : InOrder ((Add, Word 3) ∷ []) ((Load, Word 3) ∷ []) 3 → ⊥
   -- Each log is one of its end, and both phases can be together. But whichever of the add and the swap comes
   -- last skips the other.
-  pub skips_a_swap : {word : ℕ} → Reaches ((Add, Word 3) ∷ []) waits word → ⊥
+  pub skips_a_swap : {word : ℕ} → InOrder ((Add, Word 3) ∷ []) waits word → ⊥
   -- the final swap finds a receiver that stopped, and this receiver never did
-  pub skips_a_stop : {word : ℕ} → Reaches (sent_over 3) (waits ++ (Load, Word 4) ∷ []) word → ⊥
+  pub skips_a_stop : {word : ℕ} → InOrder (sent_over 3) (waits ++ (Load, Word 4) ∷ []) word → ⊥

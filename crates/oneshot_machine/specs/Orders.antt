@@ -6,19 +6,33 @@ use Rattle.oneshot_machine.specs.Phases.{sender_at, sender_moves, receiver_at, r
 use Rattle.oneshot_machine.specs.Slots.{In}
 use Rattle.oneshot_machine.specs.States.{word_after}
 
+-- The sender's log, the receiver's, and the word that they leave: the operations of both have an order.
+pub data InOrder : List Noted → List Noted → ℕ → Type 0 where
+  -- a new channel is empty
+  none_made : InOrder [] [] 3
+  -- one end makes one operation more, which finds this word, and notes what it saw
+  by_sender : {xs ys : List Noted} {word : ℕ} (op : Op)
+      → InOrder xs ys word → InOrder (xs ++ (op, saw op word) ∷ []) ys (word_after op word)
+  by_receiver : {xs ys : List Noted} {word : ℕ} (op : Op)
+      → InOrder xs ys word → InOrder xs (ys ++ (op, saw op word) ∷ []) (word_after op word)
+
 -- these rows have the operation, where it finds this word
 pub data HasRow {At : Type 0} (rows : List (Row At)) (op : Op) (word : ℕ) : Type 0 where
   has_row : {before after : Slots} {next : At}
       → In (op, before, word, next, after) rows → HasRow rows op word
 
--- The sender's log, the receiver's, and the word that they leave: the operations of both have an order.
+-- Such an order, in which each end makes only operations of its phase, where they find a word of a row of it.
 pub data Reaches : List Noted → List Noted → ℕ → Type 0 where
   -- a new channel is empty
   nothing_made : Reaches [] [] 3
-  -- an end whose phase has a row for the word makes one operation more, and notes what it saw
+  -- an end whose phase has a row for the word makes one operation more
   sender_makes : {xs ys : List Noted} {word : ℕ} (op : Op)
       → Reaches xs ys word → HasRow (sender_moves (sender_at xs)) op word
       → Reaches (xs ++ (op, saw op word) ∷ []) ys (word_after op word)
   receiver_makes : {xs ys : List Noted} {word : ℕ} (op : Op)
       → Reaches xs ys word → HasRow (receiver_moves (receiver_at ys)) op word
       → Reaches xs (ys ++ (op, saw op word) ∷ []) (word_after op word)
+
+-- it is an order
+abbrev pub ReachedInOrder : Type 0
+ReachedInOrder = (xs ys : List Noted) (word : ℕ) → Reaches xs ys word → InOrder xs ys word

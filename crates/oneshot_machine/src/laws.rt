@@ -1,9 +1,10 @@
 //! Laws of the definitions that contracts cite: each function's contract is the law, its body nothing.
 
 ghost use Rattle.oneshot_machine.specs.Exact.{SenderIsExact, ReceiverIsExact};
-ghost use Rattle.oneshot_machine.specs.Examples.{SenderLists, ReceiverLists, RunsThatAre, RunsThatAreNot};
-ghost use Rattle.oneshot_machine.specs.FutureExamples.{FutureLists, FutureRuns, FutureRunsThatAreNot};
+ghost use Rattle.oneshot_machine.specs.Examples.{LogsOfSender, LogsOfReceiver, RunsThatAre, RunsThatAreNot};
+ghost use Rattle.oneshot_machine.specs.FutureExamples.{LogsOfFuture, FutureRuns, FutureRunsThatAreNot};
 ghost use Rattle.oneshot_machine.specs.CountExamples.{CountsThatAre, CountsThatAreNot};
+ghost use Rattle.oneshot_machine.specs.Orders.{ReachedInOrder};
 ghost use Rattle.oneshot_machine.specs.OrderExamples.{OrdersThatAre, OrdersThatAreNot};
 
 /// What the definitions allow an end after its operations on the word is what its table makes.
@@ -12,14 +13,20 @@ pub fn tables_are_exact<T, W>()
     ensures receiver { ReceiverIsExact T W }
 {}
 
-/// Which lists and runs the definitions take for an end's, how many operations they count, and which lists of
+/// Where both ends make only what the phases' table has, their operations have an order in which each finds the
+/// word that the one before it left.
+pub fn phases_keep_order()
+    ensures { ReachedInOrder }
+{}
+
+/// Which logs and runs the definitions take for an end's, how many operations they count, and which logs of
 /// both ends have an order, by examples.
 pub fn examples_are_so()
-    ensures senders { SenderLists }
-    ensures receivers { ReceiverLists }
+    ensures senders { LogsOfSender }
+    ensures receivers { LogsOfReceiver }
     ensures runs { RunsThatAre }
     ensures no_runs { RunsThatAreNot }
-    ensures futures { FutureLists }
+    ensures futures { LogsOfFuture }
     ensures future_runs { FutureRuns }
     ensures no_future_runs { FutureRunsThatAreNot }
     ensures counts { CountsThatAre }

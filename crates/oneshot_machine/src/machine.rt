@@ -1,4 +1,5 @@
-//! The words in which both machines speak: ends, steps, what a step saw, calls and replies.
+//! What both machines speak of: ends, steps, what a step saw, and replies. The calls are in `sender` and
+//! `receiver`.
 
 mod async_drop;
 mod by_ref;
@@ -32,7 +33,7 @@ pub enum End {
     Receiver,
 }
 
-/// What one machine step does.
+/// What one step of an end does. A call is a sequence of steps, which its table gives.
 #[derive(Clone, Copy, Debug, Eq, PartialEq)]
 pub enum Step {
     /// One operation on the shared word.
@@ -65,7 +66,7 @@ pub enum Step {
     Plain,
 }
 
-/// What a step saw.
+/// What a step saw, by which its table chooses where the call goes on.
 #[derive(Clone, Copy, Debug, Eq, PartialEq)]
 pub enum Seen {
     /// Nothing that the table asks about.
@@ -80,7 +81,7 @@ pub enum Seen {
     Token(bool),
 }
 
-/// What a call answers.
+/// What a call answers: the outcome alone, without the message.
 #[derive(Clone, Copy, Debug, Eq, PartialEq)]
 pub enum Reply {
     /// `send` gave Ok.

@@ -1,4 +1,4 @@
 pub mod Events
-pub mod Cells
-pub mod SenderStands
-pub mod ReceiverStands
+pub mod Memory
+pub mod SenderMatches
+pub mod ReceiverMatches

@@ -7,14 +7,14 @@ use Rattle.oneshot_drive.specs.Grounds.{GroundState}
 use Rattle.oneshot_memory.specs.declared.Event.{Event}
 
 -- a slot with this in it, if it is the end's
-abbrev pub slot_of : {X : Type 0} → Bool → Option X → Held X
-slot_of false content = away
-slot_of true None = vacant
-slot_of true (Some x) = held x
+abbrev pub slot_if_own : {X : Type 0} → Bool → Option X → Held X
+slot_if_own false content = away
+slot_if_own true None = vacant
+slot_if_own true (Some x) = held x
 
 module _ {T W : Type 0} where
-  abbrev pub event_of : Event T W → logs.Event T W
-  event_of e =
+  abbrev pub logged_event : Event T W → logs.Event T W
+  logged_event e =
       record {
         step = e.step;
         seen = e.seen;
@@ -25,9 +25,9 @@ module _ {T W : Type 0} where
 
   -- a ground in memory is whole, and is of no channel
   abbrev pub logged : List (Event T W) → logs.Log T W
-  logged events = record { whole = true; channel = []; list = map event_of events }
+  logged events = record { whole = true; channel = []; list = map logged_event events }
 
   -- with both slots as the end sees them
-  abbrev pub state_of : List (Event T W) → Option T → Option W → Bool → Bool → GroundState T W
-  state_of events message waker owns_message owns_waker =
-      record { log = logged events; message = slot_of owns_message message; waker = slot_of owns_waker waker }
+  abbrev pub memory_state : List (Event T W) → Option T → Option W → Bool → Bool → GroundState T W
+  memory_state events message waker owns_message owns_waker =
+      record { log = logged events; message = slot_if_own owns_message message; waker = slot_if_own owns_waker waker }

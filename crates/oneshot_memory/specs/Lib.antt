@@ -1,4 +1,4 @@
 pub mod Events
-pub mod Cells
+pub mod Memory
 pub mod Sender
 pub mod Receiver

@@ -1,4 +1,4 @@
--- What a contract sees of a receiver's ground in memory, and how its word and its cells stand with its log.
+-- What a contract sees of a receiver's ground in memory, and how its word and its slots stand with its log.
 use Rattle.std.specs.Prelude.{◌≡◌, ℕ, Bool, true, false, not, ◌&&◌, ◌||◌, ◌==◌, if◌then◌else◌, List, Option, Some, None, is_some}
 use Rattle.std.specs.List.{list_any}
 use Rattle.oneshot_machine.specs.declared.machine.Seen.TheVariants as S
@@ -10,8 +10,8 @@ use Rattle.oneshot_drive.specs.Grounds.{GroundState}
 use Rattle.oneshot_memory.specs.declared.Event.{Event}
 use Rattle.oneshot_memory.specs.declared.receiver.Act.{Act}
 use Rattle.oneshot_memory.specs.declared.receiver.Act.TheVariants as A
-use Rattle.oneshot_memory.specs.Cells.{Cells, cells_of, is_code, is_same, owns_just, is_word}
-use Rattle.oneshot_memory.specs.Events.{state_of}
+use Rattle.oneshot_memory.specs.Memory.{Memory, memory_of, is_code, is_same, owns_just, is_word}
+use Rattle.oneshot_memory.specs.Events.{memory_state}
 
 -- What a test told a receiver's ground. The sender acts once the receiver made so many pauses; where
 -- it finds then that the receiver waits, it lingers for so many more. The deadline is over once the
@@ -31,21 +31,21 @@ pub record Receiving (T W : Type 0) : Type 0 where
 module _ {T W : Type 0} where
   abbrev pub receiving_of : List (Event T W) → ℕ → Option T → Option W → Bool → Bool → Plan T → Receiving T W
   receiving_of events word message waker owns_message owns_waker plan =
-      record { state = state_of events message waker owns_message owns_waker; word = word; plan = plan }
+      record { state = memory_state events message waker owns_message owns_waker; word = word; plan = plan }
 
-abbrev pub is_away : Share → Bool
-is_away none = true
-is_away empty = false
-is_away filled = false
+abbrev pub is_away_share : Share → Bool
+is_away_share none = true
+is_away_share empty = false
+is_away_share filled = false
 
--- The waker of a receiver lies in a cell that is not the receiver's just where a load that finds this
+-- The waker of a receiver lies in a slot that is not the receiver's just where a load that finds this
 -- word leaves it there: the receiver waits, and the sender has not acted yet.
 abbrev pub leaves_waker : List (Row ReceiverAt) → ℕ → Bool
-leaves_waker rows word = list_any (λ row. is_row_for Load (S.Word word) row && is_away row.4.1) rows
+leaves_waker rows word = list_any (λ row. is_row_for Load (S.Word word) row && is_away_share row.4.1) rows
 
--- The cells of a receiver at a phase with these rows, where these slots are its own. It may have freed
+-- The memory of a receiver at a phase with these rows, where these slots are its own. It may have freed
 -- both. Where the message's is not its own, there is a message just where the sender sent one.
-abbrev pub receiver_has : Option (Bool × Bool) → List (Row ReceiverAt) → Cells → Bool
+abbrev pub receiver_has : Option (Bool × Bool) → List (Row ReceiverAt) → Memory → Bool
 receiver_has None rows c = false
 receiver_has (Some (true, waker)) rows c =
     owns_just true waker c && is_word 2 rows c.word || owns_just false false c
@@ -55,21 +55,21 @@ receiver_has (Some (false, waker)) rows c =
     && is_same (c.word == 4) c.has_message
     && (waker || is_same (leaves_waker rows c.word) c.has_waker)
 
-abbrev pub receiver_stands : ReceiverAt → Cells → Bool
-receiver_stands q c = is_code c.word && receiver_has (receiver_owns q) (receiver_moves q) c
+abbrev pub receiver_matches : ReceiverAt → Memory → Bool
+receiver_matches q c = is_code c.word && receiver_has (receiver_owns q) (receiver_moves q) c
 
--- How far a receiver is, its word, which slots are its own, the message in its slot and the waker in
--- its cell.
-pub record ReceiverStands {T W : Type 0} (q : ReceiverAt) (word : ℕ) (owns_message owns_waker : Bool)
+-- How far a receiver is, its word, which slots are its own, and the message and the waker in their
+-- slots.
+pub record ReceiverMatches {T W : Type 0} (q : ReceiverAt) (word : ℕ) (owns_message owns_waker : Bool)
     (message : Option T) (waker : Option W) : Type 0 where
-  pub is_so : receiver_stands q (cells_of word owns_message owns_waker message waker) ≡ true
+  pub is_so : receiver_matches q (memory_of word owns_message owns_waker message waker) ≡ true
 
 -- whether the message's slot is the receiver's after an operation that found this word
 abbrev pub keeps_message : Op → ℕ → Bool
 keeps_message (Store new) word = true
 keeps_message _ word = (word == 4) || (word == 2)
 
--- the waker of a receiver that waits lies in its cell, and the cell is not the receiver's
+-- the waker of a receiver that waits lies in its slot, and the slot is not the receiver's
 abbrev pub lies : {W : Type 0} → Bool → Option W → Bool
 lies owns_waker waker = not owns_waker && is_some waker
 
@@ -85,7 +85,7 @@ abbrev pub overtakes : Op → ℕ → Bool
 overtakes (Swap new) word = (new == 2) && (word == 1)
 overtakes _ word = false
 
--- the waker in its cell after it: the sender that it overtakes uses it up
+-- the waker in its slot after it: the sender that it overtakes uses it up
 abbrev pub waker_after : {W : Type 0} → Op → ℕ → Option W → Option W
 waker_after op word waker = if overtakes op word then None else waker
 
@@ -94,19 +94,19 @@ abbrev pub is_quiet : ℕ → Bool
 is_quiet word = (word == 3) || (word == 0)
 
 -- whether both ends are here, by the word and the message's slot
-abbrev pub is_open : {T : Type 0} → ℕ → Held T → Bool
-is_open word away = is_quiet word
-is_open word _ = false
+abbrev pub both_here : {T : Type 0} → ℕ → Held T → Bool
+both_here word away = is_quiet word
+both_here word _ = false
 
 -- the word after the sender's act, which it makes only there
 abbrev pub word_by : {T : Type 0} → ℕ → ℕ → Held T → ℕ
-word_by new word message = if is_open word message then new else word
+word_by new word message = if both_here word message then new else word
 
 -- the word and the message that a sender's act leaves
-abbrev pub word_left : {T : Type 0} → Act T → ℕ
-word_left (A.Send x) = 4
-word_left A.Drop = 2
+abbrev pub word_after_act : {T : Type 0} → Act T → ℕ
+word_after_act (A.Send x) = 4
+word_after_act A.Drop = 2
 
-abbrev pub message_left : {T : Type 0} → Act T → Option T
-message_left (A.Send x) = Some x
-message_left A.Drop = None
+abbrev pub message_after_act : {T : Type 0} → Act T → Option T
+message_after_act (A.Send x) = Some x
+message_after_act A.Drop = None

@@ -1,4 +1,4 @@
--- What a contract sees of a sender's ground in memory, and how its word and its cells stand with its log.
+-- What a contract sees of a sender's ground in memory, and how its word and its slots stand with its log.
 use Rattle.std.specs.Prelude.{◌≡◌, ℕ, Bool, true, false, ◌&&◌, ◌||◌, ◌==◌, if◌then◌else◌, List, [], ◌∷◌, Option, Some, None}
 use Rattle.std.specs.List.{list_any}
 use Rattle.oneshot_machine.specs.Phases.{sending, dropping, SenderAt, overtaken, sender_moves, sender_owns, Share, none, empty, filled, Row}
@@ -6,8 +6,8 @@ use Rattle.oneshot_drive.specs.Grounds.{GroundState}
 use Rattle.oneshot_memory.specs.declared.Event.{Event}
 use Rattle.oneshot_memory.specs.declared.sender.Meanwhile.{Meanwhile}
 use Rattle.oneshot_memory.specs.declared.sender.Meanwhile.TheVariants.{Waits, Stops, Leaves}
-use Rattle.oneshot_memory.specs.Cells.{Cells, cells_of, is_code, is_same, owns_just, is_word}
-use Rattle.oneshot_memory.specs.Events.{state_of}
+use Rattle.oneshot_memory.specs.Memory.{Memory, memory_of, is_code, is_same, owns_just, is_word}
+use Rattle.oneshot_memory.specs.Events.{memory_state}
 
 -- what it has done, with both slots as the sender sees them, its word, and what a receiver that waits is to
 -- do before the sender finishes
@@ -19,16 +19,16 @@ pub record Sending (T W : Type 0) : Type 0 where
 module _ {T W : Type 0} where
   abbrev pub sending_of : List (Event T W) → ℕ → Option T → Option W → Bool → Bool → Meanwhile → Sending T W
   sending_of events word message waker owns_message owns_waker meanwhile =
-      record { state = state_of events message waker owns_message owns_waker; word = word; meanwhile = meanwhile }
+      record { state = memory_state events message waker owns_message owns_waker; word = word; meanwhile = meanwhile }
 
 abbrev pub is_filled : Share → Bool
 is_filled none = false
 is_filled empty = false
 is_filled filled = true
 
--- A word that these rows find, with the waker in its cell just where the operation that finds it gets
+-- A word that these rows find, with the waker in its slot just where the operation that finds it gets
 -- one. A sender that gave all up makes no operation any more.
-abbrev pub finds_waker : List (Row SenderAt) → Cells → Bool
+abbrev pub finds_waker : List (Row SenderAt) → Memory → Bool
 finds_waker [] c = true
 finds_waker (row ∷ rows) c =
     list_any (λ (row : Row SenderAt). (row.2 == c.word) && is_same (is_filled row.4.1) c.has_waker) (row ∷ rows)
@@ -39,21 +39,21 @@ last_word (overtaken sending) = 4
 last_word (overtaken dropping) = 2
 last_word _ = 3
 
--- The cells of a sender at a phase with this last word and these rows, where these slots are its own. One
+-- The memory of a sender at a phase with this last word and these rows, where these slots are its own. One
 -- that has both may have freed them.
-abbrev pub sender_has : ℕ → Option (Bool × Bool) → List (Row SenderAt) → Cells → Bool
+abbrev pub sender_has : ℕ → Option (Bool × Bool) → List (Row SenderAt) → Memory → Bool
 sender_has last None rows c = false
 sender_has last (Some (message, true)) rows c =
     is_word last rows c.word && (owns_just message true c || owns_just false false c)
 sender_has last (Some (message, false)) rows c = owns_just message false c && finds_waker rows c
 
-abbrev pub sender_stands : SenderAt → Cells → Bool
-sender_stands p c = is_code c.word && sender_has (last_word p) (sender_owns p) (sender_moves p) c
+abbrev pub sender_matches : SenderAt → Memory → Bool
+sender_matches p c = is_code c.word && sender_has (last_word p) (sender_owns p) (sender_moves p) c
 
--- how far a sender is, its word, which slots are its own, the message in its slot and the waker in its cell
-pub record SenderStands {T W : Type 0} (p : SenderAt) (word : ℕ) (owns_message owns_waker : Bool) (message : Option T)
+-- how far a sender is, its word, which slots are its own, and the message and the waker in their slots
+pub record SenderMatches {T W : Type 0} (p : SenderAt) (word : ℕ) (owns_message owns_waker : Bool) (message : Option T)
     (waker : Option W) : Type 0 where
-  pub is_so : sender_stands p (cells_of word owns_message owns_waker message waker) ≡ true
+  pub is_so : sender_matches p (memory_of word owns_message owns_waker message waker) ≡ true
 
 -- whether both slots are the sender's after an operation that found this word
 abbrev pub keeps_both : ℕ → Bool

@@ -10,7 +10,7 @@ mod wakes;
 ghost use Rattle.std.specs.Prelude.{◌≡◌, ◌++◌, ◌∷◌, [], None};
 ghost use Rattle.oneshot_machine.specs.Logs.{handed, copied};
 ghost use Rattle.oneshot_machine.specs.Noted.{saw};
-ghost use Rattle.oneshot_memory.specs.Events.{event_of};
+ghost use Rattle.oneshot_memory.specs.Events.{logged_event};
 
 pub use future::MemoryFuture;
 use oneshot_machine::machine::{Seen, Step};
@@ -22,7 +22,7 @@ use std::sync::Wait;
 pub use task::{MemoryTask, TaskWaker};
 pub use wakes::Wakes;
 
-/// A step that a ground made.
+/// A step that a ground made, with what it saw and what it handed in or out.
 #[derive(Drop)]
 pub struct Event<T, W> {
     /// What it did.
@@ -31,7 +31,7 @@ pub struct Event<T, W> {
     pub seen: Seen,
     /// The message that it handed in or out. It takes no room, and is for contracts alone.
     pub message: Option<Snapshot<T>>,
-    /// The waker that it handed in or out, as the message.
+    /// The waker that it handed in or out. It takes no room either, and is for contracts alone.
     pub waker: Option<Snapshot<W>>,
 }
 
@@ -50,7 +50,7 @@ impl<T, W> Event<T, W> {
 
     // A step that hands this waker in or out.
     fn handing(step: Step, waker: &W) -> Event<T, W>
-        ensures { event_of result ≡ handed step waker.now }
+        ensures { logged_event result ≡ handed step waker.now }
     {
         Event {
             step,
@@ -62,7 +62,7 @@ impl<T, W> Event<T, W> {
 
     // A copy of a waker, or its refusal.
     fn copied(copy: &Option<W>) -> Event<T, W>
-        ensures { event_of result ≡ copied copy.now }
+        ensures { logged_event result ≡ copied copy.now }
     {
         match copy {
             Some(copy) => Event {

@@ -6,8 +6,8 @@ ghost use Rattle.oneshot_machine.specs.Logs.{Grows, copied, did, worded};
 ghost use Rattle.oneshot_drive.specs.BetweenCalls.{AtRest};
 ghost use Rattle.oneshot_drive.specs.Grounds.{ReceiverAsks, ReceiverMakes};
 ghost use Rattle.oneshot_memory.specs.declared.receiver.Act.TheVariants.{Send, Drop};
-ghost use Rattle.oneshot_memory.specs.Events.{event_of};
-ghost use Rattle.oneshot_memory.specs.Receiver.{keeps_message, keeps_waker, waker_after, is_open, word_by, word_left, message_left, lies};
+ghost use Rattle.oneshot_memory.specs.Events.{logged_event};
+ghost use Rattle.oneshot_memory.specs.Receiver.{keeps_message, keeps_waker, waker_after, both_here, word_by, word_after_act, message_after_act, lies};
 
 use crate::wakes::Wakes;
 use crate::{Event, record, sight};
@@ -19,7 +19,7 @@ use std::marker::Model;
 use std::snapshot::Snapshot;
 use std::sync::Wait;
 
-/// What the sender is to do.
+/// What the sender of a receiver's ground is to do: its one call.
 #[derive(Drop)]
 pub enum Act<T> {
     /// It sends this message.
@@ -31,8 +31,8 @@ pub enum Act<T> {
 impl<T> Act<T> {
     // The word that it leaves, and the message.
     fn left(self) -> (u8, Option<T>)
-        ensures word { result.0 ≡ word_left self }
-        ensures message { result.1 ≡ message_left self }
+        ensures word { result.0 ≡ word_after_act self }
+        ensures message { result.1 ≡ message_after_act self }
     {
         match self {
             Act::Send(message) => (MESSAGE, Some(message)),
@@ -70,7 +70,7 @@ pub struct MemoryReceiver<'a, T, W, R: Wait> {
 impl<'a, T, W, R: Wait> Model for MemoryReceiver<'a, T, W, R> {
     ghost use Rattle.oneshot_machine.specs.Logs.{receiver_of};
     ghost use Rattle.oneshot_memory.specs.Events.{logged};
-    ghost use Rattle.oneshot_memory.specs.Receiver.{Receiving, receiving_of, ReceiverStands};
+    ghost use Rattle.oneshot_memory.specs.Receiver.{Receiving, receiving_of, ReceiverMatches};
 
     ghost Value = { Receiving T W };
 
@@ -79,12 +79,13 @@ impl<'a, T, W, R: Wait> Model for MemoryReceiver<'a, T, W, R> {
         (record { act = s.act; pauses = s.pauses; lingers = s.lingers; reads = s.reads }) };
 
     ghost invariant = { λ s.
-        ReceiverStands (receiver_of (logged s.events.items)) s.word
+        ReceiverMatches (receiver_of (logged s.events.items)) s.word
         s.owns_message s.owns_waker s.message s.waker };
 }
 
 impl<'a, T, W, R: Wait> MemoryReceiver<'a, T, W, R> {
-    /// The ground of a new receiver, whose sender is here.
+    /// The ground of a new receiver, whose sender is here and has nothing to do yet. `alloc` is the allocator of
+    /// the events' memory; where it gives none for one more event, the step waits for ever on `rt`.
     pub fn new(rt: &'a R, alloc: Global) -> MemoryReceiver<'a, T, W, R>
         ensures rests { AtRest result.state }
         ensures word { result.word ≡ 3 }
@@ -107,9 +108,9 @@ impl<'a, T, W, R: Wait> MemoryReceiver<'a, T, W, R> {
         }
     }
 
-    /// The steps so far.
+    /// The steps so far, in their order.
     pub fn events(&self) -> &[Event<T, W>]
-        ensures { map event_of result.now ≡ self.now.state.log.list }
+        ensures { map logged_event result.now ≡ self.now.state.log.list }
     {
         &self.events
     }
@@ -120,7 +121,7 @@ impl<'a, T: Drop, W: Drop + Wakes, R: Wait> MemoryReceiver<'a, T, W, R> {
     pub fn sender_sends(&mut self, message: T)
         ensures { self.new ≡ record self.old { word = word_by 4 self.old.word self.old.state.message } }
     {
-        if self.is_open() {
+        if self.both_here() {
             self.act(Act::Send(message));
         }
     }
@@ -129,7 +130,7 @@ impl<'a, T: Drop, W: Drop + Wakes, R: Wait> MemoryReceiver<'a, T, W, R> {
     pub fn sender_drops(&mut self)
         ensures { self.new ≡ record self.old { word = word_by 2 self.old.word self.old.state.message } }
     {
-        if self.is_open() {
+        if self.both_here() {
             self.act(Act::Drop);
         }
     }
@@ -174,7 +175,7 @@ impl<'a, T: Drop, W: Drop + Wakes, R: Wait> MemoryReceiver<'a, T, W, R> {
     // Makes an operation on the word, and gives the word before.
     fn operate(&mut self, op: Op) -> u8
         requires { ReceiverAsks op self.old.state }
-        ensures list { Grows self.old.state.log self.new.state.log (worded op result ∷ []) }
+        ensures log { Grows self.old.state.log self.new.state.log (worded op result ∷ []) }
         ensures finds { ReceiverMakes op result self.old.state self.new.state }
     {
         self.parked = false;
@@ -190,7 +191,7 @@ impl<'a, T: Drop, W: Drop + Wakes, R: Wait> MemoryReceiver<'a, T, W, R> {
 
     // Notes a copy of a waker, or its refusal.
     pub(crate) fn note_copy(&mut self, copy: &Option<W>)
-        ensures list { Grows self.old.state.log self.new.state.log (copied copy.now ∷ []) }
+        ensures log { Grows self.old.state.log self.new.state.log (copied copy.now ∷ []) }
         ensures message { self.new.state.message ≡ self.old.state.message }
         ensures waker { self.new.state.waker ≡ self.old.state.waker }
     {
@@ -201,7 +202,7 @@ impl<'a, T: Drop, W: Drop + Wakes, R: Wait> MemoryReceiver<'a, T, W, R> {
 
     // Notes that the poll woke its own task.
     pub(crate) fn note_own_wake(&mut self)
-        ensures list { Grows self.old.state.log self.new.state.log (did WakeOwn ∷ []) }
+        ensures log { Grows self.old.state.log self.new.state.log (did WakeOwn ∷ []) }
         ensures message { self.new.state.message ≡ self.old.state.message }
         ensures waker { self.new.state.waker ≡ self.old.state.waker }
     {
@@ -240,7 +241,7 @@ impl<'a, T: Drop, W: Drop + Wakes, R: Wait> MemoryReceiver<'a, T, W, R> {
     // The sender acts, if both ends are here or the receiver waits: whether it woke the receiver.
     fn act(&mut self, act: Act<T>) -> bool
         ensures keeps { self.new ≡ record self.old { word = self.new.word } }
-        ensures leaves { is_open self.old.word self.old.state.message ≡ true → self.new.word ≡ word_left act }
+        ensures leaves { both_here self.old.word self.old.state.message ≡ true → self.new.word ≡ word_after_act act }
     {
         let (word, message) = act.left();
         if is_waiting(self.owns_waker, &self.waker) {
@@ -251,7 +252,7 @@ impl<'a, T: Drop, W: Drop + Wakes, R: Wait> MemoryReceiver<'a, T, W, R> {
             }
             return true;
         }
-        if self.is_open() {
+        if self.both_here() {
             self.word = word;
             self.message = message;
         }
@@ -259,8 +260,8 @@ impl<'a, T: Drop, W: Drop + Wakes, R: Wait> MemoryReceiver<'a, T, W, R> {
     }
 
     // Whether both ends are here.
-    fn is_open(&self) -> bool
-        ensures { result ≡ is_open self.now.word self.now.state.message }
+    fn both_here(&self) -> bool
+        ensures { result ≡ both_here self.now.word self.now.state.message }
     {
         (self.word == EMPTY || self.word == RECEIVING) && !self.owns_message
     }
@@ -367,7 +368,7 @@ impl<'a, T: Drop, W: Drop + Wakes, R: Wait> BlockGround<T, W> for MemoryReceiver
     }
 }
 
-// Where the receiver leaves while the sender is about to finish, the sender uses the waker in this cell up.
+// Where the receiver leaves while the sender is about to finish, the sender uses the waker in this slot up.
 fn finish_late<W: Wakes>(op: Op, found: u8, waker: &mut Option<W>)
     ensures { waker.new ≡ waker_after op found waker.old }
 {
@@ -378,7 +379,7 @@ fn finish_late<W: Wakes>(op: Op, found: u8, waker: &mut Option<W>)
     }
 }
 
-// Whether the waker of a receiver that waits lies in this cell.
+// Whether the waker of a receiver that waits lies in this slot.
 fn is_waiting<W>(owns_waker: bool, waker: &Option<W>) -> bool
     ensures { result ≡ lies owns_waker waker.now }
 {

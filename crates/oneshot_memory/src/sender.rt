@@ -5,7 +5,7 @@ ghost use Rattle.oneshot_machine.specs.Logs.{Grows, worded};
 ghost use Rattle.oneshot_drive.specs.BetweenCalls.{IsFresh};
 ghost use Rattle.oneshot_drive.specs.Grounds.{SenderAsks, SenderMakes};
 ghost use Rattle.oneshot_memory.specs.declared.sender.Meanwhile.TheVariants.{Waits, Stops, Leaves};
-ghost use Rattle.oneshot_memory.specs.Events.{event_of};
+ghost use Rattle.oneshot_memory.specs.Events.{logged_event};
 ghost use Rattle.oneshot_memory.specs.Sender.{keeps_both, word_then};
 
 use crate::{Event, record, sight};
@@ -45,19 +45,20 @@ pub struct MemorySender<'a, T, W, R: Wait> {
 impl<'a, T, W, R: Wait> Model for MemorySender<'a, T, W, R> {
     ghost use Rattle.oneshot_machine.specs.Logs.{sender_of};
     ghost use Rattle.oneshot_memory.specs.Events.{logged};
-    ghost use Rattle.oneshot_memory.specs.Sender.{Sending, sending_of, SenderStands};
+    ghost use Rattle.oneshot_memory.specs.Sender.{Sending, sending_of, SenderMatches};
 
     ghost Value = { Sending T W };
 
     ghost view = { λ s. sending_of s.events.items s.word s.message s.waker s.owns_message s.owns_waker s.meanwhile };
 
     ghost invariant = { λ s.
-        SenderStands (sender_of (logged s.events.items)) s.word
+        SenderMatches (sender_of (logged s.events.items)) s.word
         s.owns_message s.owns_waker s.message s.waker };
 }
 
 impl<'a, T, W, R: Wait> MemorySender<'a, T, W, R> {
-    /// The ground of a new sender.
+    /// The ground of a new sender, whose receiver is here or was dropped. `alloc` is the
+    /// allocator of the events' memory; where it gives none for one more event, the step waits for ever on `rt`.
     pub fn new(rt: &'a R, alloc: Global, receiver_is_here: bool) -> MemorySender<'a, T, W, R>
         ensures fresh { IsFresh result.state }
         ensures word { result.word ≡ (if receiver_is_here then 3 else 2) }
@@ -79,7 +80,7 @@ impl<'a, T, W, R: Wait> MemorySender<'a, T, W, R> {
         }
     }
 
-    /// The ground of a new sender, whose receiver waits with this waker.
+    /// The ground of a new sender, whose receiver waits with this waker. `rt` and `alloc` are as in `new`.
     pub fn with_waiting_receiver(rt: &'a R, alloc: Global, waker: W) -> MemorySender<'a, T, W, R>
         ensures fresh { IsFresh result.state }
         ensures word { result.word ≡ 0 }
@@ -113,7 +114,7 @@ impl<'a, T, W, R: Wait> MemorySender<'a, T, W, R> {
 
     /// The steps so far.
     pub fn events(&self) -> &[Event<T, W>]
-        ensures { map event_of result.now ≡ self.now.state.log.list }
+        ensures { map logged_event result.now ≡ self.now.state.log.list }
     {
         &self.events
     }
@@ -121,7 +122,7 @@ impl<'a, T, W, R: Wait> MemorySender<'a, T, W, R> {
     // Makes an operation on the word, and gives the word before.
     fn operate(&mut self, op: Op) -> u8
         requires { SenderAsks op self.old.state }
-        ensures list { Grows self.old.state.log self.new.state.log (worded op result ∷ []) }
+        ensures log { Grows self.old.state.log self.new.state.log (worded op result ∷ []) }
         ensures finds { SenderMakes op result self.old.state self.new.state }
     {
         let before = self.word;

@@ -1,6 +1,6 @@
 //! What the sender of a ground in memory does with the waker of a receiver that waits.
 
-/// A waker that lies in the cell of a ground in memory.
+/// A waker that lies in the slot of a ground in memory.
 pub trait Wakes {
     /// Uses the waker up, and wakes its task, if it has one.
     fn wake(self);

@@ -1,10 +1,10 @@
 //! Tests of what stands beneath the real channel and beside it, each by public names of its crate: the
-//! operations on the word, the drivers over grounds in memory, both sides of the shared word, the clones
+//! operations on the word, the drivers over grounds in memory, both sides of the shared word, the copies
 //! of a future, lists of calls, runs that are stepped by hand, and texts.
 #![tactic(auto)]
 
 #[cfg(test)]
-mod clones;
+mod copies;
 #[cfg(test)]
 mod drive;
 #[cfg(test)]

@@ -18,7 +18,8 @@ pub(super) fn second() -> Duration {
     Duration::from_secs(1)
 }
 
-/// How long the receive of `send_recv_different_threads` waits, where the original waits a millisecond.
+/// How long the receive of `send_recv_different_threads` waits, where the original waits a millisecond, and how long
+/// a ticket waits in the documentation's example by typed requests, which the original does not have.
 pub(super) fn patience() -> Duration {
     Duration::from_secs(10)
 }

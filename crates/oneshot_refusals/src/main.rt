@@ -1,7 +1,9 @@
 //! Makes channels, requests and traces where an allocation may be refused, and prints whether one was.
 //!
-//! Standard input names what is made, a line each, and may give a number after the name: so many allocations come before it.
-//! After a refusal it looks at what is kept, and makes the same again: with memory for it the second attempt has to succeed.
+//! Standard input names what is made, a line each, and may give a number after the name: so many allocations
+//! come before it.
+//! After a refusal it looks at what is kept, and makes the same again: with memory for it the second attempt
+//! has to succeed.
 #![tactic(auto)]
 
 mod channels;

@@ -28,7 +28,7 @@ impl<T> Model for Replayer<T> {
 }
 
 impl<T: Drop> Replayer<T> {
-    /// Both machines before the first move of the scripts `s` and `r`.
+    /// Both machines before the first move: the sender's carries out the script `s`, the receiver's `r`.
     pub fn new(s: SenderScript<T>, r: ReceiverScript) -> Replayer<T>
         ensures world { result.world ≡ opening s r }
         ensures count { result.count ≡ 0 }
@@ -47,7 +47,9 @@ impl<T: Drop> Replayer<T> {
         }
     }
 
-    /// Makes one move, and tells it. The count has to have room for one more entry.
+    /// Makes one step of the end that `m` names, and gives its entry. `m` also says what a clock or a copy of a
+    /// waker answers, if the step asks one. An end whose script has nothing left makes no step, and the entry says
+    /// so. No step allocates. `room`: the entries are fewer than the largest `usize`, so that this one has a number.
     pub fn step(&mut self, m: Move) -> Entry
         requires room { self.old.count < 2 ^ 64 - 1 }
         ensures turn { turn (self.old.count + 1) self.old.world m ≡ Some (result, self.new.world) }

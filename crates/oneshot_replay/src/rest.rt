@@ -8,7 +8,7 @@ use oneshot_world::Place;
 /// The message's last place, with the message itself.
 #[derive(Debug, Drop)]
 pub enum Rest<T> {
-    /// Still the script's.
+    /// In the script: its `send` did not put it into the channel's cell.
     NotSent(T),
     /// In the channel's cell.
     InCell(T),

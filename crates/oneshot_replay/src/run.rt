@@ -9,10 +9,11 @@ use crate::trace::Trace;
 use oneshot_world::{Move, ReceiverScript, SenderScript};
 use std::alloc::Global;
 
-/// Runs both scripts under the schedule `moves`, an entry a move.
+/// Runs both scripts, `s` the sender's and `r` the receiver's, under the schedule `moves`, an entry a move.
+/// `alloc` is the allocator of the trace's memory; a step allocates nothing.
 ///
-/// `Ok`: the trace, of which every law holds; `specs/Right.antt` has them, a field each.
-/// `Err` comes only where the request for the trace's memory was refused; it gives both scripts back.
+/// - `Ok`: the trace, of which every law holds; `specs/Right.antt` has them, a field each.
+/// - `Err`: an allocation failed. No step was made, and both scripts come back.
 pub fn replay<T: Drop>(
     alloc: Global,
     s: SenderScript<T>,

@@ -20,7 +20,11 @@ impl<T> Model for Trace<T> {
 
     ghost Value = { Told T };
 
-    ghost view = { λ t. record { entries = t.entries.items; block_freed = t.end.world.state.freed; rest = rest_at t.end.world.state.message t.end.message } };
+    ghost view = { λ t. record {
+      entries = t.entries.items;
+      block_freed = t.end.world.state.freed;
+      rest = rest_at t.end.world.state.message t.end.message;
+    } };
 }
 
 impl<T: Drop> Trace<T> {

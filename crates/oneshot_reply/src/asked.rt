@@ -8,7 +8,7 @@ use oneshot_ends::Promise;
 /// The question of a request, which the channel of its reply is about: each reply names an equal one.
 #[derive(Drop)]
 pub struct Asked<Q> {
-    /// The question.
+    /// The question, as the request was made with it.
     pub question: Q,
 }
 

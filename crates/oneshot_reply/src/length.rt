@@ -4,18 +4,18 @@ ghost use Rattle.std.specs.Prelude.{◌≡◌, string_len};
 
 use crate::answer::Answer;
 
-/// How many bytes a text has.
+/// How many bytes a text has, as the answer to that text. The type keeps that the count is right.
 #[derive(Drop)]
 pub struct Length {
-    /// The text.
+    /// The text, which is the question.
     pub question: String,
-    /// The count of its bytes.
+    /// The count of its bytes in UTF-8.
     pub bytes: usize,
     ghost counted: { bytes ≡ string_len question },
 }
 
 impl Length {
-    /// Counts the bytes of `question`.
+    /// Counts the bytes of `question`, and names it.
     pub fn of(question: String) -> Length
         ensures { result.question ≡ question }
     {
@@ -23,7 +23,7 @@ impl Length {
         Length { question, bytes }
     }
 
-    /// The count of the question's bytes.
+    /// The count of the question's bytes in UTF-8.
     pub fn bytes(&self) -> usize
         ensures { result ≡ string_len self.now.question }
     {

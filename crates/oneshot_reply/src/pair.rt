@@ -12,7 +12,7 @@ use std::alloc::Global;
 
 /// Makes a request with this question, and the ticket for its reply.
 ///
-/// `rt` is the runtime of the ticket's waits, which want `Rt: Wait + Clock`; the ticket keeps it. Pass `()`
+/// `rt` is the runtime of the ticket's waits, which need `Rt: Wait + Clock`; the ticket keeps it. Pass `()`
 /// for a ticket that never waits. `alloc` is the allocator of the channel's memory; no later call allocates.
 ///
 /// `Err`: an allocation failed, and the question comes back. Nothing is kept then, and `rt` is dropped.

@@ -12,6 +12,8 @@ use std::marker::Model;
 /// Dropping it without an answer drops the sender of its reply: a ticket that waits is woken, and learns that
 /// no reply will come. The drop never blocks.
 ///
+/// It may go to another thread where `Q` and `A` are `Send`.
+///
 /// A contract sees what it sees of that sender; what its channel is about has the question.
 #[derive(Drop)]
 pub struct Request<Q: Eq, A: Answer<Q>> {

@@ -22,6 +22,8 @@ use std::time::{Clock, Duration};
 /// Dropping it drops a reply that came and was not taken, and a later answer is refused: its error gives the
 /// reply back. The drop never blocks. `rt` is dropped with the ticket.
 ///
+/// It may go to another thread where `Q`, `A` and `Rt` are `Send`. Two threads may not share it.
+///
 /// A contract sees what it sees of a receiver; what its channel is about has the question.
 #[derive(Drop)]
 pub struct Ticket<Q: Eq, A: Answer<Q>, Rt> {

@@ -84,33 +84,29 @@ pub call_from : (c : ReceiverCall) (rest : List (List ℕ)) → AsksForReceiver 
     → AsksForReceiver rest
 call_from c rest asks = call_from_head c rest (receiver_head (word_of_call c) rest asks)
 
--- behind `recv`
-recv_from_head : (rest : List (List ℕ)) → ReceiverHead (codes "recv") rest → IsOver rest
-recv_from_head rest (call c is asks) = absurd (no_recv c (sym is))
-recv_from_head rest (recv is over) = over
-recv_from_head rest (drop is over) = absurd (unlike (codes "recv") (codes "drop") refl refl is)
-recv_from_head rest (future is asks) = absurd (unlike (codes "recv") (codes "future") refl refl is)
+-- behind `recv` and behind `drop`
+last_from_head : (word : List ℕ) (rest : List (List ℕ)) → ((c : ReceiverCall) → word_of_call c ≢ word)
+    → word ≢ codes "future" → ReceiverHead word rest → IsOver rest
+last_from_head word rest no_call no_future (call c is asks) = absurd (no_call c (sym is))
+last_from_head word rest no_call no_future (recv is over) = over
+last_from_head word rest no_call no_future (drop is over) = over
+last_from_head word rest no_call no_future (future is asks) = absurd (no_future is)
 
 pub recv_to : (rest : List (List ℕ)) → IsOver rest → AsksForReceiver (codes "recv" ∷ rest)
 recv_to rest over =
     record { script = record { calls = []; last = Recv }; fits = tt; written = ap (λ ws. codes "recv" ∷ ws) over }
 
 pub recv_from : (rest : List (List ℕ)) → AsksForReceiver (codes "recv" ∷ rest) → IsOver rest
-recv_from rest asks = recv_from_head rest (receiver_head (codes "recv") rest asks)
-
--- behind `drop`
-drop_from_head : (rest : List (List ℕ)) → ReceiverHead (codes "drop") rest → IsOver rest
-drop_from_head rest (call c is asks) = absurd (no_drop c (sym is))
-drop_from_head rest (recv is over) = absurd (unlike (codes "drop") (codes "recv") refl refl is)
-drop_from_head rest (drop is over) = over
-drop_from_head rest (future is asks) = absurd (unlike (codes "drop") (codes "future") refl refl is)
+recv_from rest asks =
+    last_from_head (codes "recv") rest no_recv (unlike _ _ refl refl) (receiver_head (codes "recv") rest asks)
 
 pub receiver_drop_to : (rest : List (List ℕ)) → IsOver rest → AsksForReceiver (codes "drop" ∷ rest)
 receiver_drop_to rest over =
     record { script = record { calls = []; last = Drop }; fits = tt; written = ap (λ ws. codes "drop" ∷ ws) over }
 
 pub receiver_drop_from : (rest : List (List ℕ)) → AsksForReceiver (codes "drop" ∷ rest) → IsOver rest
-receiver_drop_from rest asks = drop_from_head rest (receiver_head (codes "drop") rest asks)
+receiver_drop_from rest asks =
+    last_from_head (codes "drop") rest no_drop (unlike _ _ refl refl) (receiver_head (codes "drop") rest asks)
 
 -- behind `future`
 future_from_head : (rest : List (List ℕ)) → ReceiverHead (codes "future") rest → AsksForFuture rest

@@ -1,17 +1,19 @@
 //! Workers that serve one queue of requests with a ticket each. No reply is compared with its request: a ticket gives
 //! the reply to its own question alone.
 
-ghost use Rattle.std.specs.Prelude.{◌≡◌, ◌*◌, IfOk, length, vec_len};
+ghost use Rattle.std.specs.Prelude.{◌≡◌, ◌*◌, IfOk, IfSome, length, vec_len};
 
 use crate::request::{Answer, Square, Unanswered};
 use crossbeam_channel as queue;
+use futures::executor::block_on;
 use oneshot::reply::{Request, Ticket};
 use oneshot::{RecvTimeoutError, reply};
-use std::alloc::{AllocError, Global};
+use std::alloc::{AllocError, AllocGlobal, Global};
+use std::random::RandomSource;
 use std::sync::Wait;
-use std::thread;
 use std::thread::Threads;
 use std::time::{Clock, Duration};
+use std::{io, thread};
 
 impl reply::Answer<u32> for Square {
     ghost use Rattle.std.specs.Prelude.{◌≡◌, ◌*◌};
@@ -67,6 +69,23 @@ pub fn square_within<Rt: Wait + Clock + Drop>(
         Ok(square) => Ok(square.value),
         Err(RecvTimeoutError::Timeout) => Err(Unanswered::Late),
         Err(RecvTimeoutError::Disconnected) => Err(Unanswered::Lost),
+    }
+}
+
+/// Awaits the square that `ticket` gives, as a task of an executor that `rt` runs.
+///
+/// `Ok(Some)`: the square of the number that the ticket's request asks about. `Ok(None)`: none will come. `Err` comes
+/// only from the executor.
+pub fn square_awaited<R, Rt>(rt: &R, ticket: Ticket<u32, Square, Rt>) -> io::Result<Option<u64>>
+where
+    R: Wait + RandomSource + AllocGlobal,
+    Rt: Drop,
+    ensures { IfOk result (λ reply. IfSome reply
+        (λ value. value ≡ ticket.about.question * ticket.about.question)) }
+{
+    match block_on(rt, ticket.into_future())? {
+        Ok(square) => Ok(Some(square.value)),
+        Err(_) => Ok(None),
     }
 }
 

@@ -10,7 +10,7 @@ use Rattle.oneshot_machine.specs.Phases.{Row, Slots, sending, dropping, SenderAt
 use Rattle.oneshot_machine.specs.Slots.{Held, In, Finds, finds}
 use Rattle.oneshot_machine.specs.States.{word_after}
 use Rattle.oneshot_machine.proofs.Sameness.{each_passes}
-use Rattle.oneshot_machine.proofs.GrownLists.{phase_from-snoc}
+use Rattle.oneshot_machine.proofs.GrownLogs.{phase_from-snoc}
 use Rattle.oneshot_word.proofs.KeptRows.{stepped}
 use Rattle.oneshot_word.proofs.RuleKept.{sender_leaves, receiver_leaves}
 use Rattle.oneshot_word.proofs.Says.{sender_says, receiver_says}

@@ -7,7 +7,7 @@ use Rattle.oneshot_machine.specs.Noted.{Noted, saw}
 use Rattle.oneshot_machine.specs.Orders.{Reaches}
 use Rattle.oneshot_machine.specs.Phases.{fresh, sender_at, sender_owns, sender_next, sender_moves, first, receiver_at, receiver_owns, receiver_next, receiver_moves}
 use Rattle.oneshot_machine.specs.Slots.{Held, away, SenderMay, ReceiverMay, Finds, finds}
-use Rattle.oneshot_machine.proofs.GrownLists.{phase_from-snoc}
+use Rattle.oneshot_machine.proofs.GrownLogs.{phase_from-snoc}
 use Rattle.oneshot_word.specs.declared.rouse.Rouse.{Rouse}
 use Rattle.oneshot_word.specs.declared.rule.Role.TheVariants.{Sender, Receiver}
 use Rattle.oneshot_word.specs.declared.rule.Slot.{Slot}

@@ -16,4 +16,5 @@ pub mod RuleKeeps
 pub mod RuleReceives
 pub mod Passes
 mod Crosses
+mod MadeSides
 mod RuleExamples

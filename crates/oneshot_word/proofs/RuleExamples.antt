@@ -6,7 +6,7 @@ use Rattle.oneshot_machine.specs.Phases.{sending, dropping}
 use Rattle.oneshot_word.specs.declared.rouse.Rouse.{Rouse}
 use Rattle.oneshot_word.specs.declared.rouse.Rouse.TheVariants as R
 use Rattle.oneshot_word.specs.Examples.{waits, stopped_over, polled, polled_over, exchanged_back, left_meanwhile, claims, sent_over, dropped_over, StatesThatAre, StatesThatAreNot}
-use Rattle.oneshot_word.specs.Lists.{send_found, sent as sent_alone, sent_to_it, sent_to_overdue, dropped_before_overdue, sent_overtaken, dropped_overtaken}
+use Rattle.oneshot_word.specs.EndLogs.{send_found, sent as sent_alone, sent_to_it, sent_to_overdue, dropped_before_overdue, sent_overtaken, dropped_overtaken}
 use Rattle.oneshot_word.specs.Rule.{Home, out, bare, has_waker}
 use Rattle.oneshot_word.specs.ReadRule.{IsSenders, IsReceivers, IsWords, Owned, both_open, waker_stored, waker_claimed, claimed_overdue, claimed_gone, receiver_gone, sender_after, sent, dropped, written, sender_has_it, left_for_sender, left_for_receiver, receiver_has_it, receiver_found_it, waits_for_receiver, waker_at_home}
 

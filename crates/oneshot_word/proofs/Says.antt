@@ -1,4 +1,4 @@
--- What a list says after one more operation.
+-- What a log says after one more operation.
 use Rattle.std.proofs.Common.{◌≡◌, ℕ, Bool, true, ◌&&◌, List, [], ◌∷◌, ◌++◌, Option, refl, ap, ◌∙◌}
 use Rattle.std.specs.List.{list_all}
 use Rattle.std.proofs.lemmas.Bool.{and_parts}
@@ -8,7 +8,7 @@ use Rattle.oneshot_machine.specs.Noted.{Noted, saw}
 use Rattle.oneshot_machine.specs.Phases.{sending, dropping, SenderAt, sender_moves, sender_next, Slots, Row, looked, blocked, storing, swapped, found_closed, ReceiverAt, here, waits, full, unclosed, disconnected, resolved, receiver_moves, receiver_next}
 use Rattle.oneshot_machine.specs.Slots.{In, head, tail}
 use Rattle.oneshot_machine.proofs.Sameness.{each_passes}
-use Rattle.oneshot_word.specs.Lists.{send_found, drop_found, sent, sent_to_it, sent_to_overdue, dropped, dropped_before_it, dropped_before_overdue, sent_late, dropped_late, sent_overtaken, dropped_overtaken, along, stores_next, overdue_next, gone_next, wrote_next}
+use Rattle.oneshot_word.specs.EndLogs.{send_found, drop_found, sent, sent_to_it, sent_to_overdue, dropped, dropped_before_it, dropped_before_overdue, sent_late, dropped_late, sent_overtaken, dropped_overtaken, along, stores_next, overdue_next, gone_next, wrote_next}
 use Rattle.oneshot_word.proofs.Alike.{is_bool, bools_are, is_word, words_are}
 use Rattle.oneshot_word.proofs.Meets.{stores_of, overdue_of, gone_of, wrote_of, SenderSays, says_none, says_owes, says_last, says_late, says_overtaken, ReceiverSays}
 
@@ -17,7 +17,7 @@ along-snoc : {A : Type 0} (next : A → Op → Seen → A) (a : A) (xs : List No
 along-snoc next a [] x = refl
 along-snoc next a (y ∷ xs) x = along-snoc next (next a y.0 y.1) xs x
 
--- all that is told by a receiver's list, so far and after one operation more
+-- all that is told by a receiver's log, so far and after one operation more
 abbrev Told : Type 0
 Told = Bool × Bool × Bool × Option ℕ
 

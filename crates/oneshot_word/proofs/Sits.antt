@@ -14,7 +14,7 @@ use Rattle.oneshot_word.specs.Rule.{Home, out, bare, message_home, waker_home, L
 use Rattle.oneshot_word.specs.Seats.{view, any, with_waker}
 
 module _ {T H K P : Type 0} (keeps : P → T → Type 0) where
-  -- a seat of the table, with the role, the list and the message of its view
+  -- a seat of the table, with the role, the log and the message of its view
   pub data Sits (q : P) : List ℕ → List (Home T H K) → List (View T P) → ℕ → Role → List Noted → Option T
       → Type 0 where
     maker_sits : Sits q (3 ∷ []) (bare ∷ bare ∷ []) (view q Maker [] None ∷ []) 0 Maker [] None

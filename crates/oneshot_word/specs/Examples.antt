@@ -1,11 +1,11 @@
--- What the lists say, and which states of the word and the slots have a row of owners, by examples; and
+-- What the logs say, and which states of the word and the slots have a row of owners, by examples; and
 -- states that have none.
 use Rattle.std.specs.Prelude.{◌≡◌, ℕ, true, false, List, [], ◌∷◌, ◌++◌, Some, None}
 use Rattle.oneshot_machine.specs.declared.machine.Seen.TheVariants.{Done, Word}
 use Rattle.oneshot_machine.specs.declared.states.Op.TheVariants.{Load, Store, Swap, Exchange, Add, Xor}
 use Rattle.oneshot_machine.specs.Noted.{Noted}
 use Rattle.oneshot_word.specs.declared.rouse.Rouse.{Rouse}
-use Rattle.oneshot_word.specs.Lists.{stores_waker, is_overdue, is_gone, wrote_since}
+use Rattle.oneshot_word.specs.EndLogs.{stores_waker, is_overdue, is_gone, wrote_since}
 use Rattle.oneshot_word.specs.ReadRule.{Owned}
 use Rattle.oneshot_word.specs.Rule.{Home, out, bare, has_message, has_waker}
 
@@ -45,7 +45,7 @@ sent_over word = claims ++ (Swap 4, Word word) ∷ []
 abbrev pub dropped_over : ℕ → List Noted
 dropped_over word = (Xor, Word 0) ∷ (Swap 2, Word word) ∷ []
 
-pub record ListsSay : Type 0 where
+pub record LogsSay : Type 0 where
   pub stores : stores_waker waits ≡ true
   pub stores_on : stores_waker (waits ++ (Load, Word 1) ∷ []) ≡ true
   pub stores_no_more : stores_waker (stopped_over 0) ≡ false

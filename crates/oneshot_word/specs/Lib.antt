@@ -1,4 +1,4 @@
-pub mod Lists
+pub mod EndLogs
 pub mod Seats
 pub mod Rule
 pub mod ReadRule

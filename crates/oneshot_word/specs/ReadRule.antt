@@ -1,4 +1,4 @@
--- The rule of the table as its reader wants it: both lists, the word, and whether each slot is out, empty, or
+-- The rule of the table as its reader wants it: both logs, the word, and whether each slot is out, empty, or
 -- holds what.
 use Rattle.std.specs.Prelude.{◌≡◌, ℕ, true, false, List, [], ◌∷◌, Option, Some, None}
 use Rattle.oneshot_machine.specs.Noted.{Noted}
@@ -6,7 +6,7 @@ use Rattle.oneshot_machine.specs.Phases.{By, sending, dropping}
 use Rattle.oneshot_word.specs.declared.rouse.Rouse.{Rouse}
 use Rattle.oneshot_word.specs.declared.rule.Role.TheVariants.{Maker, Dealer, Sender, Receiver}
 use Rattle.oneshot_word.specs.declared.rule.View.{View}
-use Rattle.oneshot_word.specs.Lists.{FoundZero, MadeLast, MadeLate, stores_waker, is_overdue, is_gone, wrote_since}
+use Rattle.oneshot_word.specs.EndLogs.{FoundZero, MadeLast, MadeLate, stores_waker, is_overdue, is_gone, wrote_since}
 use Rattle.oneshot_word.specs.Rule.{Home, out, bare, has_message, has_waker, Tied}
 use Rattle.oneshot_word.specs.Seats.{view}
 

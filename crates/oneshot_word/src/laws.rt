@@ -1,15 +1,15 @@
 //! Laws of the definitions: each function's contract is the law, its body nothing.
 
-ghost use Rattle.oneshot_word.specs.Examples.{ListsSay, StatesThatAre, StatesThatAreNot};
+ghost use Rattle.oneshot_word.specs.Examples.{LogsSay, StatesThatAre, StatesThatAreNot};
 ghost use Rattle.oneshot_word.specs.Ordered.{RuleOrders};
 ghost use Rattle.oneshot_word.specs.Promised.{RuleKeeps};
 ghost use Rattle.oneshot_word.specs.Received.{ReceivedIsSent, MessagesThatPass, MessagesThatDoNot};
 
 use crate::promise::Promise;
 
-/// Which lists say what, which states of the word have a row of owners, and which have none, by examples.
+/// Which logs say what, which states of the word have a row of owners, and which have none, by examples.
 pub fn examples_are_so<T, H, K>()
-    ensures lists { ListsSay }
+    ensures logs { LogsSay }
     ensures states { StatesThatAre T H K }
     ensures no_states { StatesThatAreNot T H K }
 {}

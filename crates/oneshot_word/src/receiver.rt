@@ -142,7 +142,7 @@ impl<T, H, K, P: Promise<T>> ReceiverSide<T, H, K, P> {
     }
 }
 
-// Written out: a derived `Drop` would want one of `P`, of which a side has no value.
+// Written out: a derived `Drop` would need one of `P`, of which a side has no value.
 impl<T: Drop, H: Drop, K: Drop, P: Promise<T>> Drop for ReceiverSide<T, H, K, P> {
     fn drop(self) {
         let ReceiverSide { table: _, seat: _ } = self;

@@ -52,7 +52,7 @@ unsafe impl<T: Send + Sync, H: Send + Sync, K: Send + Sync, P: Promise<T>> Sync
     for SenderSide<T, H, K, P> {}
 
 impl<T, H, K, P: Promise<T>> SenderSide<T, H, K, P> {
-    // A side is made here alone, since its `also_owns` wants a proof by hand of what makes one.
+    // A side is made here alone, since its `also_owns` needs a proof by hand of what makes one.
     pub(crate) fn new(
         table: Arc<WordTable<T, H, K, P>, Global>,
         seat: WordSeat<T, H, K, P>,
@@ -146,7 +146,7 @@ impl<T, H, K, P: Promise<T>> SenderSide<T, H, K, P> {
     }
 }
 
-// Written out: a derived `Drop` would want one of `P`, of which a side has no value.
+// Written out: a derived `Drop` would need one of `P`, of which a side has no value.
 impl<T: Drop, H: Drop, K: Drop, P: Promise<T>> Drop for SenderSide<T, H, K, P> {
     fn drop(self) {
         let SenderSide { table: _, seat: _ } = self;

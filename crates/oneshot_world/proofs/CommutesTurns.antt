@@ -16,7 +16,7 @@ use Rattle.oneshot_machine.specs.declared.states.Op.TheVariants as O
 use Rattle.oneshot_world.specs.Calls.{Call, Poll, as_sender_call, as_receiver_call}
 use Rattle.oneshot_world.specs.Classes.{Classes, as_name, as_wakers, as_told, as_state, as_call, as_made, as_turned}
 use Rattle.oneshot_world.specs.Control.{Control, Begin, control_then, control_turn, sender_under_way, receiver_under_way, as_begin, as_control, as_control_turned}
-use Rattle.oneshot_world.specs.State.{turns, sender_turns_at, receiver_turns_at, sender_stands, receiver_stands, sender_stepped, sender_moved, receiver_moved, receiver_stepped, made, made_entry, sender_fits, receiver_fits, hand_kept}
+use Rattle.oneshot_world.specs.State.{turns, sender_turns_at, receiver_turns_at, position_of_sender, position_of_receiver, sender_stepped, sender_moved, receiver_moved, receiver_stepped, made, made_entry, sender_fits, receiver_fits, hand_kept}
 use Rattle.oneshot_world.specs.Effects.{seen_by, reply_of, is_future, sender_puts, receiver_puts}
 use Rattle.oneshot_world.specs.Wakers.{wakers_left, sets_token, own_of}
 use Rattle.oneshot_world.specs.declared.state.ReceiverState.{ReceiverState}
@@ -143,8 +143,8 @@ receiver_call_as k (Some _) = refl
 pub turns_as : (k : Classes) (side : End) (t : Told) (s : State) (call : Option Call)
     → turns side (as_told k t) (as_state k s) (option_map (as_call k) call)
     ≡ option_map (as_turned k) (turns side t s call)
-turns_as k Sender t s call = rw (sender_call_as k call) (sender_turns_as k t s (sender_stands s call))
-turns_as k Receiver t s call = rw (receiver_call_as k call) (receiver_turns_as k t s (receiver_stands s call))
+turns_as k Sender t s call = rw (sender_call_as k call) (sender_turns_as k t s (position_of_sender s call))
+turns_as k Receiver t s call = rw (receiver_call_as k call) (receiver_turns_as k t s (position_of_receiver s call))
 
 -- and so where it leads
 sender_under_way_as : (k : Classes) (s : SenderState) (call : Option Call)

@@ -15,7 +15,7 @@ use Rattle.oneshot_world.specs.Reached.{one_poll, one_copy, reached, is_reached,
 use Rattle.oneshot_world.specs.ControlCodes.{bool_code, control_code, is_same_control}
 use Rattle.oneshot_world.specs.Scripts.{stays_sender, ends_sender, stays_error, ends_error}
 use Rattle.oneshot_world.specs.Explore.{all_in}
-use Rattle.oneshot_world.specs.State.{sender_turns_at, receiver_turns_at, sender_stands, receiver_stands, sender_steps, receiver_steps, made_entry}
+use Rattle.oneshot_world.specs.State.{sender_turns_at, receiver_turns_at, position_of_sender, position_of_receiver, sender_steps, receiver_steps, made_entry}
 use Rattle.oneshot_world.specs.Effects.{is_future}
 use Rattle.oneshot_world.specs.World.{World, by_end, reply_in, nothing_told, receiver_told}
 use Rattle.oneshot_world.specs.declared.state.ReceiverState.{ReceiverState}
@@ -86,10 +86,10 @@ word_is_code w h =
 
 -- where an end of a world is, and the move that it makes there
 abbrev pub sender_at : World → Option SenderPos
-sender_at w = sender_stands w.state (first w.sender.calls)
+sender_at w = position_of_sender w.state (first w.sender.calls)
 
 abbrev pub receiver_at : World → Option ReceiverPos
-receiver_at w = receiver_stands w.state (first w.receiver.calls)
+receiver_at w = position_of_receiver w.state (first w.receiver.calls)
 
 abbrev pub sender_begin : World → Begin
 sender_begin w = record { side = Sender; told = nothing_told; call = first w.sender.calls }

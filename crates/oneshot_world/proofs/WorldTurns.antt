@@ -10,7 +10,7 @@ use Rattle.oneshot_machine.specs.declared.machine.receiver.ReceiverPos.{Receiver
 use Rattle.oneshot_machine.specs.declared.machine.sender.SenderPos.{SenderPos}
 use Rattle.oneshot_world.specs.Reached.{IsReached}
 use Rattle.oneshot_world.specs.State.{sender_turns_at, receiver_turns_at, sender_steps, receiver_steps, sender_stepped, receiver_stepped, made_entry}
-use Rattle.oneshot_world.specs.World.{World, turn, turn_of, side_of, answer_of, nothing_told, receiver_told, world_then}
+use Rattle.oneshot_world.specs.World.{World, turn, turn_of, side_of, answer_told, nothing_told, receiver_told, world_then}
 use Rattle.oneshot_world.specs.declared.script.Move.{Move}
 use Rattle.oneshot_world.specs.declared.script.Move.TheVariants as M
 use Rattle.oneshot_world.specs.declared.state.State.{State}
@@ -86,7 +86,7 @@ pub turned : (k : ℕ) (w : World) (move : Move) (t : Entry × World) → turn k
     → Turned k w (side_of move) t.0 t.1
 turned k w M.Sender t h = sender_turned k w (sender_at w) t refl h
 turned k w (M.Receiver over refuse) t h =
-    receiver_turned k (answer_of (receiver_at w) over refuse) w (receiver_at w) t refl h
+    receiver_turned k (answer_told (receiver_at w) over refuse) w (receiver_at w) t refl h
 
 -- a turn of a reached world leads to a reached world
 pub turned_reaches : (k : ℕ) (side : End) (w : World) (entry : Entry) (next : World) → IsReached w

@@ -179,13 +179,13 @@ receiver_turns_at t s None = Some (Idle Receiver, s)
 receiver_turns_at t s (Some position) = option_map made_entry (receiver_steps t s position)
 
 -- where an end stands whose call under way, or next, is this one
-abbrev pub sender_stands : State → Option Call → Option SenderPos
-sender_stands s call = sender_position s.sender (option_and_then as_sender_call call)
+abbrev pub position_of_sender : State → Option Call → Option SenderPos
+position_of_sender s call = sender_position s.sender (option_and_then as_sender_call call)
 
-abbrev pub receiver_stands : State → Option Call → Option ReceiverPos
-receiver_stands s call = receiver_position s.receiver (option_and_then as_receiver_call call)
+abbrev pub position_of_receiver : State → Option Call → Option ReceiverPos
+position_of_receiver s call = receiver_position s.receiver (option_and_then as_receiver_call call)
 
 -- and what it does
 abbrev pub turns : End → Told → State → Option Call → Option (Entry × State)
-turns Sender t s call = sender_turns_at t s (sender_stands s call)
-turns Receiver t s call = receiver_turns_at t s (receiver_stands s call)
+turns Sender t s call = sender_turns_at t s (position_of_sender s call)
+turns Receiver t s call = receiver_turns_at t s (position_of_receiver s call)

@@ -10,7 +10,7 @@ use Rattle.oneshot_machine.specs.declared.machine.receiver.ReceiverPos.{Receiver
 use Rattle.oneshot_machine.specs.Receiver.{receiver_step}
 use Rattle.oneshot_world.specs.Calls.{Unanswered, Calls, first, left_by, number_of}
 use Rattle.oneshot_world.specs.Scripts.{calls_of}
-use Rattle.oneshot_world.specs.State.{opening_state, receiver_stands, turns}
+use Rattle.oneshot_world.specs.State.{opening_state, position_of_receiver, turns}
 use Rattle.oneshot_world.specs.declared.script.Move.{Move}
 use Rattle.oneshot_world.specs.declared.script.Move.TheVariants as M
 use Rattle.oneshot_world.specs.declared.script.ReceiverScript.{ReceiverScript}
@@ -61,8 +61,8 @@ abbrev pub copies_at : Option ReceiverPos → Bool
 copies_at None = false
 copies_at (Some position) = is_copying (receiver_step position)
 
-abbrev pub answer_of : Option ReceiverPos → Bool → Bool → Bool
-answer_of position over refuse = if copies_at position then refuse else over
+abbrev pub answer_told : Option ReceiverPos → Bool → Bool → Bool
+answer_told position over refuse = if copies_at position then refuse else over
 
 -- what a move is told that makes this entry: a poll also the copy that it makes then, and its number
 abbrev pub told_with : Bool → ℕ → Option ℕ → Told
@@ -108,7 +108,7 @@ turn_of side t w = option_map (world_then side w) (turns side t w.state (first (
 abbrev pub told_of : Move → ℕ → World → Told
 told_of M.Sender entry w = nothing_told
 told_of (M.Receiver over refuse) entry w =
-    receiver_told (answer_of (receiver_stands w.state (first w.receiver.calls)) over refuse) entry w
+    receiver_told (answer_told (position_of_receiver w.state (first w.receiver.calls)) over refuse) entry w
 
 -- A move, by which entry `entry` is made, counted from 1: what it tells, and the world that it leads to. None
 -- where the moving end finds what its table has no row for, or a cell or a hand is not as the step needs it.

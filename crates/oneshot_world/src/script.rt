@@ -64,8 +64,7 @@ pub enum ReceiverCall {
     RecvDeadline,
     /// `Receiver::recv_timeout`.
     RecvTimeout {
-        /// Whether an instant can hold the sum of now and the timeout. Where none can, the call waits
-        /// without a deadline.
+        /// As in `ReceiverStart::RecvTimeout`.
         representable: bool,
     },
     /// `Receiver::has_message`.

@@ -123,7 +123,10 @@ impl Wakers {
     /// The sender uses the waker that it took.
     #[inline(never)]
     fn wake(&mut self) -> Option<WakerMove>
-        ensures leaves { self.new ≡ record self.old { taken = None; token = self.old.token || is_parker self.old.taken } }
+        ensures leaves { self.new ≡ record self.old {
+          taken = None;
+          token = self.old.token || is_parker self.old.taken;
+        } }
         ensures tells { result ≡ option_map (λ name. (name, Places.SenderHand, Places.Used)) self.old.taken }
     {
         let waker = self.taken.take()?;

@@ -4,8 +4,8 @@ ghost use Rattle.std.specs.Prelude.{◌≡◌, Some};
 ghost use Rattle.std.specs.Option.{option_and_then};
 ghost use Rattle.oneshot_machine.specs.declared.machine.End.TheVariants as Ends;
 ghost use Rattle.oneshot_world.specs.Calls.{first, as_sender_call, as_receiver_call};
-ghost use Rattle.oneshot_world.specs.State.{sender_stands, receiver_stands};
-ghost use Rattle.oneshot_world.specs.World.{opening, opening_place, turn, turn_of, nothing_told, answer_of, told_with};
+ghost use Rattle.oneshot_world.specs.State.{position_of_sender, position_of_receiver};
+ghost use Rattle.oneshot_world.specs.World.{opening, opening_place, turn, turn_of, nothing_told, answer_told, told_with};
 ghost use Rattle.oneshot_world.specs.declared.script.Move.TheVariants as Moves;
 
 use crate::calls::receiver::ReceiverCalls;
@@ -91,7 +91,7 @@ impl World {
 
     /// Where the sender makes its next step: in the call under way, or at the start of the next one.
     fn sender_position(&self) -> Option<SenderPos>
-        ensures { result ≡ sender_stands self.now.state (first self.now.sender.calls) }
+        ensures { result ≡ position_of_sender self.now.state (first self.now.sender.calls) }
     {
         match self.state.sender {
             SenderState::Ready | SenderState::Failed => {
@@ -104,7 +104,7 @@ impl World {
 
     /// Where the receiver makes its next step: in the call under way, or at the start of the next one.
     fn receiver_position(&self) -> Option<ReceiverPos>
-        ensures { result ≡ receiver_stands self.now.state (first self.now.receiver.calls) }
+        ensures { result ≡ position_of_receiver self.now.state (first self.now.receiver.calls) }
     {
         match self.state.receiver {
             ReceiverState::Ready => Some(ReceiverPos::start(self.receiver.first()?)),
@@ -148,7 +148,7 @@ impl World {
 /// What a move answers at a position: to a copy, which only a poll makes, whether it is refused, and to
 /// a clock.
 fn answer_at(position: ReceiverPos, over: bool, refuse: bool) -> bool
-    ensures { result ≡ answer_of (Some position) over refuse }
+    ensures { result ≡ answer_told (Some position) over refuse }
 {
     match position {
         ReceiverPos::Future(FuturePos::PollCopy | FuturePos::AgainCopy) => refuse,

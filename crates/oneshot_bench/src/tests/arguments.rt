@@ -1,9 +1,10 @@
 //! What is read, and what is refused.
 
-use crate::channels::Channel;
 use crate::command::{Command, parse_command, parse_count};
 use crate::fault::Fault;
-use crate::loops::{Awaited, Loop};
+use oneshot_loops::channels::Channel;
+use oneshot_loops::fault as rounds;
+use oneshot_loops::loops::{Awaited, Loop};
 use std::alloc::{AllocError, Global};
 use std::test::Fail;
 
@@ -121,12 +122,13 @@ fn two_words_or_three_or_none(rt: HostRuntime) -> Result<(), Fail> {
 #[test]
 fn a_fault_is_one_line_and_a_status(rt: HostRuntime) -> Result<(), Fail> {
     let faults = [
-        (Fault::ClockFailed, "1 clock failed"),
+        (Fault::Rounds(rounds::Fault::ClockFailed), "1 clock failed"),
         (Fault::WriteFailed, "1 write failed"),
-        (Fault::MessageLost, "1 message lost"),
-        (Fault::CannotRun, "2 channel cannot run this loop"),
-        (Fault::TaskFailed, "1 task failed"),
-        (Fault::OutOfMemory, "3 out of memory"),
+        (Fault::Rounds(rounds::Fault::MessageLost), "1 message lost"),
+        (Fault::Rounds(rounds::Fault::CannotRun), "2 channel cannot run this loop"),
+        (Fault::Rounds(rounds::Fault::TaskFailed), "1 task failed"),
+        (Fault::Rounds(rounds::Fault::OutOfMemory(AllocError)), "3 out of memory"),
+        (Fault::OutOfMemory(AllocError), "3 out of memory"),
     ];
     for (fault, text) in faults {
         let told = format!(in rt.alloc(); "{} {fault}", fault.status())?;

@@ -1,15 +1,15 @@
 //! That each loop does what its name says, and tells a message that is lost.
 
-use crate::channels::Channel;
-use crate::fault::Fault;
-use crate::loops::{Awaited, Loop};
-use crate::measure::{measure, timed};
-use crate::polled::{PolledRound, pend, repeat_in_task};
-use crate::queues::queue;
-use crate::round_trip::{Request, ask, serve};
-use crate::rounds::repeat;
-use crate::tally::Tally;
-use crate::{awaited_trips, crossbeam_trips, futures_trips};
+use oneshot_loops::channels::Channel;
+use oneshot_loops::fault::Fault;
+use oneshot_loops::loops::{Awaited, Loop};
+use oneshot_loops::measure::{measure, timed};
+use oneshot_loops::polled::{PolledRound, pend, repeat_in_task};
+use oneshot_loops::queues::queue;
+use oneshot_loops::round_trip::{Request, ask, serve};
+use oneshot_loops::rounds::repeat;
+use oneshot_loops::tally::Tally;
+use oneshot_loops::{awaited_trips, crossbeam_trips, futures_trips};
 use crossbeam_channel::bounded;
 use futures::channel::oneshot::channel as futures_channel;
 use futures::future::ready;

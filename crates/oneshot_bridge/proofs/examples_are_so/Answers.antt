@@ -1,4 +1,5 @@
 -- The worked runs, and why the others are none.
+use Rattle.oneshot_bridge.proofs.CallExamples.{worked_calls, wrong_calls}
 use Rattle.oneshot_bridge.proofs.CellExamples.{worked_cells, wrong_cells, wrong_uses}
 use Rattle.oneshot_bridge.proofs.Examples.{worked_run, wrong_runs}
 use Rattle.oneshot_bridge.proofs.examples_are_so.Goals as goal
@@ -11,4 +12,6 @@ returns g c =
       cells = worked_cells;
       wrong_cells = wrong_cells;
       wrong_uses = wrong_uses;
+      calls = worked_calls;
+      wrong_calls = wrong_calls;
     }

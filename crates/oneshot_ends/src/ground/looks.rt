@@ -1,14 +1,20 @@
 //! The looks of the ends, and the load that only they make.
 
-use super::ReceiverOnWord;
+use super::{ReceiverOnWord, Unsent};
 use crate::future::AsyncReceiver;
 use crate::receiver::Receiver;
 use crate::sender::Sender;
 use oneshot_machine::states::{DISCONNECTED, MESSAGE};
 use oneshot_word::{Peek, Promise};
 
+// Both loads are private here, so that no call of an end but its looks can make one.
+impl<T, H, K, P: Promise<T>> Unsent<T, H, K, P> {
+    fn peek(&self) -> u8 {
+        self.side.peek()
+    }
+}
+
 impl<T, H, K, P: Promise<T>> ReceiverOnWord<T, H, K, P> {
-    // Private here, so that no call of a receiver but its looks can make it.
     fn peek(&self) -> u8 {
         self.side.peek()
     }

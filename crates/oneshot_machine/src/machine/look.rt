@@ -10,7 +10,7 @@ use crate::machine::receiver::ReceiverPos;
 use crate::machine::{Reply, RowEnd, Seen, Step};
 use crate::states::{DISCONNECTED, EMPTY, MESSAGE, Op, RECEIVING, UNPARKING};
 
-/// Where a look stands.
+/// Where a look stands: at its one read of the word.
 #[derive(Clone, Copy)]
 pub enum LookPos {
     /// `has_message` is about to read the word.

@@ -64,7 +64,8 @@ fn write_made<W: fmt::Write>(
 
 /// The end, its step, and the word before and after it.
 fn write_step<W: fmt::Write>(f: &mut fmt::Formatter<W>, made: &Made) -> fmt::Result
-    ensures { WritesOnOk W.write_str_gives f.old result (codes " " ++ letter_of_end made.now.side ++ codes " " ++ name_of_step made.now.step
+    ensures { WritesOnOk W.write_str_gives f.old result (codes " " ++ letter_of_end made.now.side
+        ++ codes " " ++ name_of_step made.now.step
         ++ codes " " ++ word_text made.now.before ++ codes ">" ++ word_text made.now.after) f.new }
 {
     f.write_str(end_letter(made.side))?;

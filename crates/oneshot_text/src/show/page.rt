@@ -58,7 +58,8 @@ impl Page {
     /// Adds the line that was made.
     #[tactic(auto, using(crate::proofs::Pages::joined, crate::proofs::Pages::passed))]
     fn add_line<W: Write>(&mut self, output: &mut W) -> io::Result<()>
-        ensures { OnOk result (Appends (held (W.contents output.old) self.old) (held (W.contents output.new) self.new) self.old.line.bytes) }
+        ensures { OnOk result (Appends (held (W.contents output.old) self.old)
+            (held (W.contents output.new) self.new) self.old.line.bytes) }
     {
         match self.lines.try_push_str(self.line.as_str()) {
             Ok(()) => Ok(()),

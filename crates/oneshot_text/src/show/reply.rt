@@ -39,7 +39,8 @@ impl fmt::Display for ReplyText {
 impl ReplyText {
     // The text of a reply that shows no message.
     fn fixed_text(&self) -> Option<&'static str>
-        ensures text { IfSome result (λ text. text.now ≡ reply_text self.now.end self.now.call self.now.message self.now.reply) }
+        ensures text { IfSome result (λ text.
+            text.now ≡ reply_text self.now.end self.now.call self.now.message self.now.reply) }
         ensures none { result ≡ None → self.now.reply ≡ Message }
     {
         let text = match self.reply {

@@ -2,9 +2,10 @@
 
 use oneshot::reply::{Request, Ticket, request};
 use oneshot_uses::request::{Square, Unanswered};
-use oneshot_uses::tickets::{asked, serve, square_within};
+use oneshot_uses::tickets::{asked, serve, square_awaited, square_within};
 use std::alloc::{AllocError, Global};
 use std::test::Fail;
+use std::thread::join;
 use std::time::Duration;
 
 fn minute() -> Duration {
@@ -54,5 +55,17 @@ fn a_dropped_request_loses_its_square(rt: HostRuntime) -> Result<(), Fail> {
     let (request, mut ticket) = ask(&rt, rt.alloc(), 3)?;
     drop(request);
     assert_eq!(rt; square_within(&mut ticket, minute()), Err(Unanswered::Lost));
+    Ok(())
+}
+
+#[test]
+fn a_task_awaits_its_square(rt: HostRuntime) -> Result<(), Fail> {
+    let (request, ticket) = ask((), rt.alloc(), 12)?;
+    let (awaited, served) = join(&rt, || square_awaited(&rt, ticket), || serve(request));
+    assert!(rt; served);
+    assert_eq!(rt; awaited?, Some(144));
+    let (request, ticket) = ask((), rt.alloc(), 12)?;
+    drop(request);
+    assert_eq!(rt; square_awaited(&rt, ticket)?, None);
     Ok(())
 }

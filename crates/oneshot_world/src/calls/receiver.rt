@@ -29,7 +29,10 @@ impl Model for ReceiverCalls {
 
     ghost Value = { Unanswered };
 
-    ghost view = { λ c. record { calls = unwrap_or c.future (receiver_calls (drop c.answered c.calls) c.last); error = [] } };
+    ghost view = { λ c. record {
+      calls = unwrap_or c.future (receiver_calls (drop c.answered c.calls) c.last);
+      error = [];
+    } };
 
     ghost invariant = { λ c. c.answered ≤ length c.calls };
 }

@@ -26,5 +26,5 @@ returns-in_ok-named-in-len3 c =
     let words : map string_bytes c.args.words.now ≡ first ∷ name ∷ count ∷ [] = cc in
     rw words (λ command.
     let parsed = c.parse_measure-in-len3.ensures command in
-    let asks = asks-three first name count c.in_ok-named-in-len3.field-0 command (sym c.in_ok-named-in-len3.ensures) in
+    let asks = asks-three first name count c.in_ok-named-in-len3.field-0 command c.in_ok-named-in-len3.ensures in
     ((λ is. asks.0 (parsed.0 is)), (λ asked. parsed.1 (asks.1 asked))))

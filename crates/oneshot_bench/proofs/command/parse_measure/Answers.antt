@@ -10,4 +10,4 @@ returns c = λ command.
     let writes : Writes c.args.count.now c.in_ok-count.count =
     record { numeral = read.0.0; fits = read.0.1; value = sym read.1 } in
     measure-asked c.args.channel c.args.name.now c.args.count.now c.in_ok-kind.kind c.in_ok-count.count command
-    (sym c.in_ok-kind.ensures) writes
+    c.in_ok-kind.ensures writes

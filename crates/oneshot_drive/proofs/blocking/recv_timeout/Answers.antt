@@ -5,16 +5,16 @@ use Rattle.oneshot_drive.proofs.blocking.recv_timeout.Goals as goal
 
 pub receive-requires-clause-rests : goal.receive-requires-clause-rests
 receive-requires-clause-rests g c =
-    clock_rests c.requires.rests c.over.result c.over.ensures.list c.over.ensures.message c.over.ensures.waker
+    clock_rests c.requires.rests c.over.result c.over.ensures.log c.over.ensures.message c.over.ensures.waker
 
 pub receive-requires-clause-ready : goal.receive-requires-clause-ready
-receive-requires-clause-ready g c = clock_ready c.requires.ready c.over.result c.over.ensures.list
+receive-requires-clause-ready g c = clock_ready c.requires.ready c.over.result c.over.ensures.log
 
 pub returns-clause-run : goal.returns-clause-run
-returns-clause-run g c = sum_ran c.over.result c.over.ensures.list c.receive.ensures.run
+returns-clause-run g c = sum_ran c.over.result c.over.ensures.log c.receive.ensures.run
 
 pub returns-clause-stays : goal.returns-clause-stays
-returns-clause-stays g c is_closed = c.receive.ensures.stays (clock_closed c.over.result c.over.ensures.list is_closed)
+returns-clause-stays g c is_closed = c.receive.ensures.stays (clock_closed c.over.result c.over.ensures.log is_closed)
 
 pub returns-clause-given : goal.returns-clause-given
 returns-clause-given g c =

@@ -21,14 +21,14 @@ free-requires-in-2-clause-waker g c = is_room (swapped_over c.swap.ensures.finds
 pub returns-in-4 : goal.returns-in-4
 returns-in-4 g c =
     dropped_message (AsyncDrop AsyncSwap) refl c.swap.result (row_at (AsyncDrop AsyncSwap) 4 refl c.in-4.is)
-    c.swap.ensures.list c.drop_message.ensures.list c.free.ensures.list
+    c.swap.ensures.log c.drop_message.ensures.log c.free.ensures.log
 
 pub returns-in-2 : goal.returns-in-2
 returns-in-2 g c =
     dropped_last (AsyncDrop AsyncSwap) refl c.swap.result (row_at (AsyncDrop AsyncSwap) 2 refl c.in-2.is)
-    c.swap.ensures.list c.free-in-2.ensures.list
+    c.swap.ensures.log c.free-in-2.ensures.log
 
 pub returns-in_default : goal.returns-in_default
 returns-in_default g c =
     dropped_open (AsyncDrop AsyncSwap) refl c.swap.result
-    (swapped_open c.swap.ensures.finds (search rules) (search rules)) c.swap.ensures.list
+    (swapped_open c.swap.ensures.finds (search rules) (search rules)) c.swap.ensures.log

@@ -9,20 +9,20 @@ pub load-requires : goal.load-requires
 load-requires g c = meet_asks c.requires
 
 pub take_back-requires : goal.take_back-requires
-take_back-requires g c = met_copied (met c.load.result c.requires c.load.ensures.finds c.load.ensures.list) c.in-0.is
+take_back-requires g c = met_copied (met c.load.result c.requires c.load.ensures.finds c.load.ensures.log) c.in-0.is
 
 pub close-requires-in_default : goal.close-requires-in_default
 close-requires-in_default g c =
-    (met_end (met c.load.result c.requires c.load.ensures.finds c.load.ensures.list) (search rules)).0
+    (met_end (met c.load.result c.requires c.load.ensures.finds c.load.ensures.log) (search rules)).0
 
 pub returns-in-0-clause-run : goal.returns-in-0-clause-run
 returns-in-0-clause-run g c =
-    drop_after c.load.result c.load.ensures.list c.in-0.is c.take_back.ensures.went c.close.ensures
+    drop_after c.load.result c.load.ensures.log c.in-0.is c.take_back.ensures.went c.close.ensures
 
 pub returns-in_default-clause-run : goal.returns-in_default-clause-run
 returns-in_default-clause-run g c =
-    drop_at_once c.load.result c.load.ensures.list
-    (met_end (met c.load.result c.requires c.load.ensures.finds c.load.ensures.list) (search rules)).1
+    drop_at_once c.load.result c.load.ensures.log
+    (met_end (met c.load.result c.requires c.load.ensures.finds c.load.ensures.log) (search rules)).1
     c.close-in_default.ensures
 
 pub returns-in-0-clause-bounded : goal.returns-in-0-clause-bounded

@@ -6,71 +6,56 @@ use Rattle.oneshot_drive.proofs.polling.leave.Goals as goal
 
 pub exchange-word-requires : goal.exchange-word-requires
 exchange-word-requires g c =
-    leave_asks c.args.copy c.requires.open c.write_waker.ensures.list c.write_waker.ensures.message
+    leave_asks c.args.copy c.requires.open c.write_waker.ensures.log c.write_waker.ensures.message
     c.write_waker.ensures.waker
 
 pub returns-then-word-eq-EMPTY-clause-went : goal.returns-then-word-eq-EMPTY-clause-went
 returns-then-word-eq-EMPTY-clause-went g c =
-    leave_waits c.args.copy c.exchange-word.result c.if-word-eq-EMPTY.true c.write_waker.ensures.list
-    c.exchange-word.ensures.list
+    leave_waits c.args.copy c.exchange-word.result c.if-word-eq-EMPTY.true c.write_waker.ensures.log
+    c.exchange-word.ensures.log
 
 pub returns-then-word-eq-EMPTY-clause-ends : goal.returns-then-word-eq-EMPTY-clause-ends
 returns-then-word-eq-EMPTY-clause-ends g c =
-    left_waits (left c.exchange-word.result c.exchange-word.ensures.finds c.exchange-word.ensures.list)
+    left_waits (left c.exchange-word.result c.exchange-word.ensures.finds c.exchange-word.ensures.log)
     c.if-word-eq-EMPTY.true
-
-pub withdraw-requires : goal.withdraw-requires
-withdraw-requires g c =
-    is_in (left_there (left c.exchange-word.result c.exchange-word.ensures.finds c.exchange-word.ensures.list)
-    c.if-word-eq-EMPTY.false)
-
-pub returns-then-word-eq-MESSAGE-clause-went : goal.returns-then-word-eq-MESSAGE-clause-went
-returns-then-word-eq-MESSAGE-clause-went g c =
-    leave_full c.args.copy c.withdraw.result c.exchange-word.result c.if-word-eq-MESSAGE.true c.write_waker.ensures.list
-    c.exchange-word.ensures.list c.withdraw.ensures.list
-
-pub returns-then-word-eq-MESSAGE-clause-ends : goal.returns-then-word-eq-MESSAGE-clause-ends
-returns-then-word-eq-MESSAGE-clause-ends g c =
-    withdrew_full (left c.exchange-word.result c.exchange-word.ensures.finds c.exchange-word.ensures.list)
-    c.withdraw.ensures.list
-    c.withdraw.ensures.message c.withdraw.ensures.waker c.if-word-eq-MESSAGE.true
-
-pub returns-then-word-eq-MESSAGE-clause-keeps : goal.returns-then-word-eq-MESSAGE-clause-keeps
-returns-then-word-eq-MESSAGE-clause-keeps g c =
-    g.G.ReceiverGround.keeps_on _ _ _ c.write_waker.ensures.keeps
-    (g.G.ReceiverGround.keeps_on _ _ _ c.exchange-word.ensures.keeps c.withdraw.ensures.keeps)
-
-pub returns-else-word-eq-MESSAGE-clause-went : goal.returns-else-word-eq-MESSAGE-clause-went
-returns-else-word-eq-MESSAGE-clause-went g c =
-    leave_over c.args.copy c.withdraw.result c.exchange-word.result
-    (none_left (left c.exchange-word.result c.exchange-word.ensures.finds c.exchange-word.ensures.list)
-    c.if-word-eq-EMPTY.false
-    c.if-word-eq-MESSAGE.false) c.write_waker.ensures.list c.exchange-word.ensures.list c.withdraw.ensures.list
-
-pub returns-else-word-eq-MESSAGE-clause-ends : goal.returns-else-word-eq-MESSAGE-clause-ends
-returns-else-word-eq-MESSAGE-clause-ends g c =
-    withdrew_over (left c.exchange-word.result c.exchange-word.ensures.finds c.exchange-word.ensures.list)
-    c.withdraw.ensures.list
-    c.withdraw.ensures.message c.withdraw.ensures.waker c.if-word-eq-EMPTY.false c.if-word-eq-MESSAGE.false
-
-pub returns-else-word-eq-MESSAGE-clause-keeps : goal.returns-else-word-eq-MESSAGE-clause-keeps
-returns-else-word-eq-MESSAGE-clause-keeps g c =
-    g.G.ReceiverGround.keeps_on _ _ _ c.write_waker.ensures.keeps
-    (g.G.ReceiverGround.keeps_on _ _ _ c.exchange-word.ensures.keeps c.withdraw.ensures.keeps)
 
 pub returns-then-word-eq-EMPTY-clause-own : goal.returns-then-word-eq-EMPTY-clause-own
 returns-then-word-eq-EMPTY-clause-own g c =
-    on_write c.args.copy c.write_waker.ensures.list
-    (on_word _ c.exchange-word.result c.exchange-word.ensures.list (wrote_none _))
+    on_write c.args.copy c.write_waker.ensures.log
+    (on_word _ c.exchange-word.result c.exchange-word.ensures.log (wrote_none _))
 
-pub returns-then-word-eq-MESSAGE-clause-own : goal.returns-then-word-eq-MESSAGE-clause-own
-returns-then-word-eq-MESSAGE-clause-own g c =
-    on_write c.args.copy c.write_waker.ensures.list
-    (on_word _ c.exchange-word.result c.exchange-word.ensures.list
-    (on_withdraw c.withdraw.result c.withdraw.ensures.list (wrote_none _)))
+pub withdraw-requires : goal.withdraw-requires
+withdraw-requires g c =
+    is_in (left_there (left c.exchange-word.result c.exchange-word.ensures.finds c.exchange-word.ensures.log)
+    c.if-word-eq-EMPTY.false)
 
-pub returns-else-word-eq-MESSAGE-clause-own : goal.returns-else-word-eq-MESSAGE-clause-own
-returns-else-word-eq-MESSAGE-clause-own g c =
-    on_write c.args.copy c.write_waker.ensures.list
-    (on_word _ c.exchange-word.result c.exchange-word.ensures.list
-    (on_withdraw c.withdraw.result c.withdraw.ensures.list (wrote_none _)))
+pub returns-then-word-eq-MESSAGE : goal.returns-then-word-eq-MESSAGE
+returns-then-word-eq-MESSAGE g c =
+    let on = g.G.ReceiverGround.keeps_on in
+    let found = left c.exchange-word.result c.exchange-word.ensures.finds c.exchange-word.ensures.log in
+    record {
+      went = leave_full c.args.copy c.withdraw.result c.exchange-word.result c.if-word-eq-MESSAGE.true
+          c.write_waker.ensures.log c.exchange-word.ensures.log c.withdraw.ensures.log;
+      ends = withdrew_full found c.withdraw.ensures.log c.withdraw.ensures.message c.withdraw.ensures.waker
+          c.if-word-eq-MESSAGE.true;
+      heard = λ nothing. absurd (cc);
+      own = on_write c.args.copy c.write_waker.ensures.log (on_word _ c.exchange-word.result c.exchange-word.ensures.log
+          (on_withdraw c.withdraw.result c.withdraw.ensures.log (wrote_none _)));
+      keeps = on _ _ _ c.write_waker.ensures.keeps (on _ _ _ c.exchange-word.ensures.keeps c.withdraw.ensures.keeps);
+    }
+
+pub returns-else-word-eq-MESSAGE : goal.returns-else-word-eq-MESSAGE
+returns-else-word-eq-MESSAGE g c =
+    let on = g.G.ReceiverGround.keeps_on in
+    let found = left c.exchange-word.result c.exchange-word.ensures.finds c.exchange-word.ensures.log in
+    record {
+      went = leave_over c.args.copy c.withdraw.result c.exchange-word.result
+          (none_left found c.if-word-eq-EMPTY.false c.if-word-eq-MESSAGE.false)
+          c.write_waker.ensures.log c.exchange-word.ensures.log c.withdraw.ensures.log;
+      ends = withdrew_over found c.withdraw.ensures.log c.withdraw.ensures.message c.withdraw.ensures.waker
+          c.if-word-eq-EMPTY.false c.if-word-eq-MESSAGE.false;
+      heard = λ nothing. absurd (cc);
+      own = on_write c.args.copy c.write_waker.ensures.log (on_word _ c.exchange-word.result c.exchange-word.ensures.log
+          (on_withdraw c.withdraw.result c.withdraw.ensures.log (wrote_none _)));
+      keeps = on _ _ _ c.write_waker.ensures.keeps (on _ _ _ c.exchange-word.ensures.keeps c.withdraw.ensures.keeps);
+    }

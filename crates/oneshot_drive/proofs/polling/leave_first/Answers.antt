@@ -1,33 +1,31 @@
 -- The goals that `leave_first` leaves.
-use Rattle.std.proofs.Common.{rules, refl, [], ◌∷◌}
-use Rattle.oneshot_machine.specs.Logs.{copied}
+use Rattle.std.proofs.Common.{rules, refl}
 use Rattle.oneshot_drive.specs.Polls.{leaves_uncopied}
-use Rattle.oneshot_drive.proofs.AfterOperations.{stands_on}
-use Rattle.oneshot_drive.proofs.LeftCopies.{refused, owned_ends, may_leave, first_left}
+use Rattle.oneshot_drive.proofs.LeftCopies.{refused, copied_on, owned_ends, may_leave, first_left}
 use Rattle.oneshot_drive.proofs.OwnCopies.{wrote_none, on_own, on_copy, on_refusal}
 use Rattle.oneshot_drive.proofs.polling.leave_first.Goals as goal
 
 pub returns-in_default-clause-went : goal.returns-in_default-clause-went
 returns-in_default-clause-went g c =
-    refused c.copy.result (search rules) refl refl c.copy.ensures.list c.wake_own.ensures.list
+    refused c.copy.result (search rules) refl refl c.copy.ensures.log c.wake_own.ensures.log
 
 pub returns-in_default-clause-ends : goal.returns-in_default-clause-ends
 returns-in_default-clause-ends g c =
-    owned_ends leaves_uncopied (stands_on (copied c.copy.result ∷ []) refl c.requires c.copy.ensures.list
-    c.copy.ensures.message c.copy.ensures.waker) c.wake_own.ensures.list c.wake_own.ensures.message
+    owned_ends leaves_uncopied (copied_on c.copy.result c.requires c.copy.ensures.log
+    c.copy.ensures.message c.copy.ensures.waker) c.wake_own.ensures.log c.wake_own.ensures.message
     c.wake_own.ensures.waker
 
 pub leave-requires-clause-open : goal.leave-requires-clause-open
 leave-requires-clause-open g c =
-    may_leave (stands_on (copied c.copy.result ∷ []) refl c.requires c.copy.ensures.list c.copy.ensures.message
+    may_leave (copied_on c.copy.result c.requires c.copy.ensures.log c.copy.ensures.message
     c.copy.ensures.waker) refl
 
 pub returns-clause-went : goal.returns-clause-went
 returns-clause-went g c =
-    first_left c.copy.result c.in-Some.copy c.in-Some.is c.copy.ensures.list c.leave.result c.leave.ensures.went
+    first_left c.copy.result c.in-Some.copy c.in-Some.is c.copy.ensures.log c.leave.result c.leave.ensures.went
 
 pub returns-in_default-clause-own : goal.returns-in_default-clause-own
-returns-in_default-clause-own g c = on_refusal c.copy.ensures.list (on_own c.wake_own.ensures.list (wrote_none _))
+returns-in_default-clause-own g c = on_refusal c.copy.ensures.log (on_own c.wake_own.ensures.log (wrote_none _))
 
 pub returns-clause-own : goal.returns-clause-own
-returns-clause-own g c = on_copy c.in-Some.copy c.in-Some.is c.copy.ensures.list c.leave.ensures.own
+returns-clause-own g c = on_copy c.in-Some.copy c.in-Some.is c.copy.ensures.log c.leave.ensures.own

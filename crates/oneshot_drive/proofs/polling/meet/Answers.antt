@@ -11,40 +11,40 @@ pub load-requires : goal.load-requires
 load-requires g c = meet_asks c.requires
 
 pub leave_first-requires : goal.leave_first-requires
-leave_first-requires g c = met_open (met c.load.result c.requires c.load.ensures.finds c.load.ensures.list) c.in-3.is
+leave_first-requires g c = met_open (met c.load.result c.requires c.load.ensures.finds c.load.ensures.log) c.in-3.is
 
 pub returns-in-3-clause-went : goal.returns-in-3-clause-went
-returns-in-3-clause-went g c = met_went c.load.result 3 refl c.in-3.is c.load.ensures.list c.leave_first.ensures.went
+returns-in-3-clause-went g c = met_went c.load.result 3 refl c.in-3.is c.load.ensures.log c.leave_first.ensures.went
 
 pub returns-in-3-clause-stays : goal.returns-in-3-clause-stays
 returns-in-3-clause-stays g c is_closed = never 3 refl c.in-3.is is_closed c.load.ensures.finds
 
 pub leave_again-requires : goal.leave_again-requires
-leave_again-requires g c = met_copied (met c.load.result c.requires c.load.ensures.finds c.load.ensures.list) c.in-0.is
+leave_again-requires g c = met_copied (met c.load.result c.requires c.load.ensures.finds c.load.ensures.log) c.in-0.is
 
 pub returns-in-0-clause-went : goal.returns-in-0-clause-went
-returns-in-0-clause-went g c = met_went c.load.result 0 refl c.in-0.is c.load.ensures.list c.leave_again.ensures.went
+returns-in-0-clause-went g c = met_went c.load.result 0 refl c.in-0.is c.load.ensures.log c.leave_again.ensures.went
 
 pub returns-in-0-clause-stays : goal.returns-in-0-clause-stays
 returns-in-0-clause-stays g c is_closed = never 0 refl c.in-0.is is_closed c.load.ensures.finds
 
 pub returns-in-4-clause-went : goal.returns-in-4-clause-went
-returns-in-4-clause-went g c = loaded_to _ c.load.result 4 refl refl c.in-4.is c.load.ensures.list
+returns-in-4-clause-went g c = loaded_to _ c.load.result 4 refl refl c.in-4.is c.load.ensures.log
 
 pub returns-in-4-clause-ends : goal.returns-in-4-clause-ends
 returns-in-4-clause-ends g c =
-    met_full (met c.load.result c.requires c.load.ensures.finds c.load.ensures.list) c.in-4.is
+    met_full (met c.load.result c.requires c.load.ensures.finds c.load.ensures.log) c.in-4.is
 
 pub returns-in-4-clause-stays : goal.returns-in-4-clause-stays
 returns-in-4-clause-stays g c is_closed = never 4 refl c.in-4.is is_closed c.load.ensures.finds
 
 pub returns-in-1-clause-went : goal.returns-in-1-clause-went
-returns-in-1-clause-went g c = met_own c.load.result c.in-1.is c.load.ensures.list c.wake_own.ensures.list
+returns-in-1-clause-went g c = met_own c.load.result c.in-1.is c.load.ensures.log c.wake_own.ensures.log
 
 pub returns-in-1-clause-ends : goal.returns-in-1-clause-ends
 returns-in-1-clause-ends g c =
-    owned_ends leaves_claimed (met_claimed (met c.load.result c.requires c.load.ensures.finds c.load.ensures.list)
-    c.in-1.is) c.wake_own.ensures.list c.wake_own.ensures.message c.wake_own.ensures.waker
+    owned_ends leaves_claimed (met_claimed (met c.load.result c.requires c.load.ensures.finds c.load.ensures.log)
+    c.in-1.is) c.wake_own.ensures.log c.wake_own.ensures.message c.wake_own.ensures.waker
 
 pub returns-in-1-clause-stays : goal.returns-in-1-clause-stays
 returns-in-1-clause-stays g c is_closed = never 1 refl c.in-1.is is_closed c.load.ensures.finds
@@ -52,26 +52,26 @@ returns-in-1-clause-stays g c is_closed = never 1 refl c.in-1.is is_closed c.loa
 pub returns-in_default-clause-went : goal.returns-in_default-clause-went
 returns-in_default-clause-went g c =
     loaded_to _ c.load.result 2 refl refl
-    (met_none (met c.load.result c.requires c.load.ensures.finds c.load.ensures.list) (search rules) (search rules)
-    (search rules) (search rules)).0 c.load.ensures.list
+    (met_none (met c.load.result c.requires c.load.ensures.finds c.load.ensures.log) (search rules) (search rules)
+    (search rules) (search rules)).0 c.load.ensures.log
 
 pub returns-in_default-clause-ends : goal.returns-in_default-clause-ends
 returns-in_default-clause-ends g c =
-    (met_none (met c.load.result c.requires c.load.ensures.finds c.load.ensures.list) (search rules) (search rules)
+    (met_none (met c.load.result c.requires c.load.ensures.finds c.load.ensures.log) (search rules) (search rules)
     (search rules) (search rules)).1
 
 pub returns-in-3-clause-own : goal.returns-in-3-clause-own
-returns-in-3-clause-own g c = on_word _ c.load.result c.load.ensures.list c.leave_first.ensures.own
+returns-in-3-clause-own g c = on_word _ c.load.result c.load.ensures.log c.leave_first.ensures.own
 
 pub returns-in-0-clause-own : goal.returns-in-0-clause-own
-returns-in-0-clause-own g c = on_word _ c.load.result c.load.ensures.list c.leave_again.ensures.own
+returns-in-0-clause-own g c = on_word _ c.load.result c.load.ensures.log c.leave_again.ensures.own
 
 pub returns-in-1-clause-own : goal.returns-in-1-clause-own
 returns-in-1-clause-own g c =
-    on_word _ c.load.result c.load.ensures.list (on_own c.wake_own.ensures.list (wrote_none _))
+    on_word _ c.load.result c.load.ensures.log (on_own c.wake_own.ensures.log (wrote_none _))
 
 pub returns-in-4-clause-own : goal.returns-in-4-clause-own
-returns-in-4-clause-own g c = on_word _ c.load.result c.load.ensures.list (wrote_none _)
+returns-in-4-clause-own g c = on_word _ c.load.result c.load.ensures.log (wrote_none _)
 
 pub returns-in_default-clause-own : goal.returns-in_default-clause-own
-returns-in_default-clause-own g c = on_word _ c.load.result c.load.ensures.list (wrote_none _)
+returns-in_default-clause-own g c = on_word _ c.load.result c.load.ensures.log (wrote_none _)

@@ -12,25 +12,25 @@ exchange-requires g c = asks (Exchange 0 3) c.requires refl
 
 pub withdraw-requires : goal.withdraw-requires
 withdraw-requires g c =
-    is_in (backed_copy (backed c.exchange.result c.requires c.exchange.ensures.finds c.exchange.ensures.list)
+    is_in (backed_copy (backed c.exchange.result c.requires c.exchange.ensures.finds c.exchange.ensures.log)
     c.in-0.is).waker
 
 pub returns-in-0-clause-went : goal.returns-in-0-clause-went
 returns-in-0-clause-went g c =
-    withdrawn_went c.withdraw.result c.exchange.result c.in-0.is c.exchange.ensures.list c.withdraw.ensures.list
+    withdrawn_went c.withdraw.result c.exchange.result c.in-0.is c.exchange.ensures.log c.withdraw.ensures.log
 
 pub returns-in-0-clause-ends : goal.returns-in-0-clause-ends
 returns-in-0-clause-ends g c =
     asks (Swap 2) (withdrawn_ends (backed c.exchange.result c.requires c.exchange.ensures.finds
-    c.exchange.ensures.list) c.in-0.is
-    c.withdraw.ensures.list c.withdraw.ensures.message c.withdraw.ensures.waker) refl
+    c.exchange.ensures.log) c.in-0.is
+    c.withdraw.ensures.log c.withdraw.ensures.message c.withdraw.ensures.waker) refl
 
 pub returns-in_default-clause-went : goal.returns-in_default-clause-went
 returns-in_default-clause-went g c =
     backed_out c.exchange.result (backed_end (backed c.exchange.result c.requires c.exchange.ensures.finds
-    c.exchange.ensures.list)
-    (search rules)) c.exchange.ensures.list
+    c.exchange.ensures.log)
+    (search rules)) c.exchange.ensures.log
 
 pub returns-in_default-clause-ends : goal.returns-in_default-clause-ends
 returns-in_default-clause-ends g c =
-    backed_asks (backed c.exchange.result c.requires c.exchange.ensures.finds c.exchange.ensures.list) (search rules)
+    backed_asks (backed c.exchange.result c.requires c.exchange.ensures.finds c.exchange.ensures.log) (search rules)

@@ -30,16 +30,16 @@ free-requires-in_default-clause-waker g c =
 
 pub returns-in-4 : goal.returns-in-4
 returns-in-4 g c =
-    dropped_message (Drop DropSwap) refl c.swap.result (row_at (Drop DropSwap) 4 refl c.in-4.is) c.swap.ensures.list
-    c.drop_message.ensures.list c.free.ensures.list
+    dropped_message (Drop DropSwap) refl c.swap.result (row_at (Drop DropSwap) 4 refl c.in-4.is) c.swap.ensures.log
+    c.drop_message.ensures.log c.free.ensures.log
 
 pub returns-in-3 : goal.returns-in-3
 returns-in-3 g c =
-    dropped_open (Drop DropSwap) refl c.swap.result (row_at (Drop DropSwap) 3 refl c.in-3.is) c.swap.ensures.list
+    dropped_open (Drop DropSwap) refl c.swap.result (row_at (Drop DropSwap) 3 refl c.in-3.is) c.swap.ensures.log
 
 pub returns-in_default : goal.returns-in_default
 returns-in_default g c =
     let closed =
     swapped_last c.swap.ensures.finds (search rules) (search rules) (past_1 c.requires c.swap.ensures.finds) in
-    dropped_last (Drop DropSwap) refl c.swap.result (row_at (Drop DropSwap) 2 refl closed) c.swap.ensures.list
-    c.free-in_default.ensures.list
+    dropped_last (Drop DropSwap) refl c.swap.result (row_at (Drop DropSwap) 2 refl closed) c.swap.ensures.log
+    c.free-in_default.ensures.log

@@ -3,4 +3,4 @@ use Rattle.oneshot_drive.proofs.SenderRuns.{error_ran}
 use Rattle.oneshot_drive.proofs.sender.drop_error.Goals as goal
 
 pub returns : goal.returns
-returns g c = error_ran c.drop_message.ensures.list c.free.ensures.list
+returns g c = error_ran c.drop_message.ensures.log c.free.ensures.log

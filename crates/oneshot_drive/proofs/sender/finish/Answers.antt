@@ -4,17 +4,17 @@ use Rattle.oneshot_drive.proofs.sender.finish.Goals as goal
 
 pub swap-found-requires : goal.swap-found-requires
 swap-found-requires g c =
-    finish_asks c.take_waker-waker.result c.requires c.take_waker-waker.ensures.list c.take_waker-waker.ensures.message
+    finish_asks c.take_waker-waker.result c.requires c.take_waker-waker.ensures.log c.take_waker-waker.ensures.message
     c.take_waker-waker.ensures.waker
 
 pub returns-clause-finishes : goal.returns-clause-finishes
 returns-clause-finishes g c =
-    finished_as c.take_waker-waker.result c.requires c.take_waker-waker.ensures.list c.take_waker-waker.ensures.message
-    c.take_waker-waker.ensures.waker c.swap-found.result c.swap-found.ensures.finds c.swap-found.ensures.list
-    c.wake.ensures.list
+    finished_as c.take_waker-waker.result c.requires c.take_waker-waker.ensures.log c.take_waker-waker.ensures.message
+    c.take_waker-waker.ensures.waker c.swap-found.result c.swap-found.ensures.finds c.swap-found.ensures.log
+    c.wake.ensures.log
 
 pub returns-clause-gone : goal.returns-clause-gone
 returns-clause-gone g c gone =
     overtaken_as c.take_waker-waker.result c.requires c.take_waker-waker.ensures.message c.swap-found.result
-    c.swap-found.ensures.finds c.swap-found.ensures.list c.wake.ensures.list c.wake.ensures.message
+    c.swap-found.ensures.finds c.swap-found.ensures.log c.wake.ensures.log c.wake.ensures.message
     c.wake.ensures.waker gone

@@ -9,26 +9,20 @@ use Rattle.oneshot_drive.proofs.waiting.find.Goals as goal
 pub load-requires : goal.load-requires
 load-requires g c = load_asks c.requires.rests
 
-pub returns-in-4-clause-went : goal.returns-in-4-clause-went
-returns-in-4-clause-went g c way = full_at_once way c.load.result c.in-4.is c.load.ensures.list
-
-pub returns-in-4-clause-ends : goal.returns-in-4-clause-ends
-returns-in-4-clause-ends g c = (
-  at_once,
-  refl,
-  loaded_full (loaded c.load.result c.requires.rests c.load.ensures.finds c.load.ensures.list)
-      c.in-4.is,
-)
-
-pub returns-in-4-clause-stays : goal.returns-in-4-clause-stays
-returns-in-4-clause-stays g c is_closed = never 4 refl c.in-4.is is_closed c.load.ensures.finds
-
-pub returns-in-4-clause-hand : goal.returns-in-4-clause-hand
-returns-in-4-clause-hand g c = returned c.args.hand.now
+pub returns-in-4 : goal.returns-in-4
+returns-in-4 g c =
+    let full = loaded_full (loaded c.load.result c.requires.rests c.load.ensures.finds c.load.ensures.log) c.in-4.is in
+    record {
+      went = λ way. full_at_once way c.load.result c.in-4.is c.load.ensures.log;
+      ends = (at_once, refl, full);
+      stays = λ is_closed. never 4 refl c.in-4.is is_closed c.load.ensures.finds;
+      hand = returned c.args.hand.now;
+      keeps = c.load.ensures.keeps;
+    }
 
 pub store_and_wait-requires-clause-open : goal.store_and_wait-requires-clause-open
 store_and_wait-requires-clause-open g c =
-    loaded_open (loaded c.load.result c.requires.rests c.load.ensures.finds c.load.ensures.list) c.in-3.is
+    loaded_open (loaded c.load.result c.requires.rests c.load.ensures.finds c.load.ensures.log) c.in-3.is
 
 pub store_and_wait-requires-clause-ready : goal.store_and_wait-requires-clause-ready
 store_and_wait-requires-clause-ready g c =
@@ -36,27 +30,24 @@ store_and_wait-requires-clause-ready g c =
 
 pub returns-in-3-clause-went : goal.returns-in-3-clause-went
 returns-in-3-clause-went g c way =
-    found_none way c.load.result c.in-3.is c.load.ensures.list (c.store_and_wait.ensures.went way)
+    found_none way c.load.result c.in-3.is c.load.ensures.log (c.store_and_wait.ensures.went way)
 
 pub returns-in-3-clause-stays : goal.returns-in-3-clause-stays
 returns-in-3-clause-stays g c is_closed = never 3 refl c.in-3.is is_closed c.load.ensures.finds
 
-pub returns-in_default-clause-went : goal.returns-in_default-clause-went
-returns-in_default-clause-went g c way =
-    over_at_once way c.load.result
-    (loaded_none (loaded c.load.result c.requires.rests c.load.ensures.finds c.load.ensures.list) (search rules)
-    (search rules)).0 c.load.ensures.list
-
-pub returns-in_default-clause-ends : goal.returns-in_default-clause-ends
-returns-in_default-clause-ends g c =
-    let none =
-    loaded_none (loaded c.load.result c.requires.rests c.load.ensures.finds c.load.ensures.list) (search rules)
-    (search rules) in
-    (none.1, none.2)
-
-pub returns-in_default-clause-hand : goal.returns-in_default-clause-hand
-returns-in_default-clause-hand g c = returned c.args.hand.now
-
 pub returns-in-3-clause-keeps : goal.returns-in-3-clause-keeps
 returns-in-3-clause-keeps g c =
     g.G.ReceiverGround.keeps_on _ _ _ c.load.ensures.keeps c.store_and_wait.ensures.keeps
+
+pub returns-in_default : goal.returns-in_default
+returns-in_default g c =
+    let over =
+    loaded_none (loaded c.load.result c.requires.rests c.load.ensures.finds c.load.ensures.log) (search rules)
+    (search rules) in
+    record {
+      went = λ way. over_at_once way c.load.result over.0 c.load.ensures.log;
+      ends = (over.1, over.2);
+      stays = λ is_closed. refl;
+      hand = returned c.args.hand.now;
+      keeps = c.load.ensures.keeps;
+    }

@@ -6,11 +6,11 @@ use Rattle.oneshot_drive.proofs.Waits.{asked, not_asked}
 use Rattle.oneshot_drive.proofs.waiting.is_over.Goals as goal
 
 pub returns-then-timed-clause-went : goal.returns-then-timed-clause-went
-returns-then-timed-clause-went g c way = asked way c.over.result c.if-timed.true c.over.ensures.list
+returns-then-timed-clause-went g c way = asked way c.over.result c.if-timed.true c.over.ensures.log
 
 pub returns-then-timed-clause-waits : goal.returns-then-timed-clause-waits
 returns-then-timed-clause-waits g c =
-    stands_on (clocked c.over.result ∷ []) refl c.requires c.over.ensures.list c.over.ensures.message
+    stands_on (clocked c.over.result ∷ []) refl c.requires c.over.ensures.log c.over.ensures.message
     c.over.ensures.waker
 
 pub returns-else-timed-clause-went : goal.returns-else-timed-clause-went

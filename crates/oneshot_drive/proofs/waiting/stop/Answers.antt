@@ -11,45 +11,45 @@ swap-requires g c = asks (Swap 3) c.requires refl
 
 pub withdraw-requires : goal.withdraw-requires
 withdraw-requires g c =
-    is_in (stopped_open (stopped c.swap.result c.requires c.swap.ensures.finds c.swap.ensures.list) c.in-0.is).waker
+    is_in (stopped_open (stopped c.swap.result c.requires c.swap.ensures.finds c.swap.ensures.log) c.in-0.is).waker
 
 pub returns-in-0-clause-went : goal.returns-in-0-clause-went
 returns-in-0-clause-went g c =
-    nothing_went c.withdraw.result c.swap.result c.in-0.is c.swap.ensures.list c.withdraw.ensures.list
+    nothing_went c.withdraw.result c.swap.result c.in-0.is c.swap.ensures.log c.withdraw.ensures.log
 
 pub returns-in-0-clause-ends : goal.returns-in-0-clause-ends
 returns-in-0-clause-ends g c =
-    withdrew_nothing (stopped c.swap.result c.requires c.swap.ensures.finds c.swap.ensures.list) c.in-0.is
-    c.withdraw.ensures.list c.withdraw.ensures.message c.withdraw.ensures.waker
+    withdrew_nothing (stopped c.swap.result c.requires c.swap.ensures.finds c.swap.ensures.log) c.in-0.is
+    c.withdraw.ensures.log c.withdraw.ensures.message c.withdraw.ensures.waker
 
 pub returns-in-0-clause-hand : goal.returns-in-0-clause-hand
 returns-in-0-clause-hand g c = (c.withdraw.result, refl)
 
 pub returns-in-4-clause-went : goal.returns-in-4-clause-went
-returns-in-4-clause-went g c = stops_to _ c.swap.result 4 refl c.in-4.is c.swap.ensures.list
+returns-in-4-clause-went g c = stops_to _ c.swap.result 4 refl c.in-4.is c.swap.ensures.log
 
 pub returns-in-4-clause-ends : goal.returns-in-4-clause-ends
 returns-in-4-clause-ends g c =
-    stopped_full (stopped c.swap.result c.requires c.swap.ensures.finds c.swap.ensures.list) c.in-4.is
+    stopped_full (stopped c.swap.result c.requires c.swap.ensures.finds c.swap.ensures.log) c.in-4.is
 
 pub returns-in-2-clause-went : goal.returns-in-2-clause-went
-returns-in-2-clause-went g c = stops_to _ c.swap.result 2 refl c.in-2.is c.swap.ensures.list
+returns-in-2-clause-went g c = stops_to _ c.swap.result 2 refl c.in-2.is c.swap.ensures.log
 
 pub returns-in-2-clause-ends : goal.returns-in-2-clause-ends
 returns-in-2-clause-ends g c =
-    stopped_over (stopped c.swap.result c.requires c.swap.ensures.finds c.swap.ensures.list) c.in-2.is
+    stopped_over (stopped c.swap.result c.requires c.swap.ensures.finds c.swap.ensures.log) c.in-2.is
 
 pub wait_late-requires : goal.wait_late-requires
 wait_late-requires g c =
-    (stopped_late (stopped c.swap.result c.requires c.swap.ensures.finds c.swap.ensures.list) (search rules)
+    (stopped_late (stopped c.swap.result c.requires c.swap.ensures.finds c.swap.ensures.log) (search rules)
     (search rules) (search rules)).stands
 
 pub returns-in_default-clause-went : goal.returns-in_default-clause-went
 returns-in_default-clause-went g c =
     let late =
-    stopped_late (stopped c.swap.result c.requires c.swap.ensures.finds c.swap.ensures.list) (search rules)
+    stopped_late (stopped c.swap.result c.requires c.swap.ensures.finds c.swap.ensures.log) (search rules)
     (search rules) (search rules) in
-    late_went c.wait_late.result c.swap.result late.word c.swap.ensures.list c.wait_late.ensures.went
+    late_went c.wait_late.result c.swap.result late.word c.swap.ensures.log c.wait_late.ensures.went
 
 pub returns-in-0-clause-keeps : goal.returns-in-0-clause-keeps
 returns-in-0-clause-keeps g c =

@@ -1,22 +1,20 @@
 -- The goals that `wait` leaves.
-use Rattle.std.proofs.Common.{[], ◌∷◌, refl, rules}
-use Rattle.oneshot_machine.specs.declared.states.Op.TheVariants.{Load}
-use Rattle.oneshot_machine.specs.Logs.{parked}
-use Rattle.oneshot_drive.specs.Blocking.{wait_of}
-use Rattle.oneshot_drive.proofs.AfterOperations.{asks, stands_on}
+use Rattle.std.proofs.Common.{◌≡◌, ℕ, refl, rules}
+use Rattle.oneshot_drive.specs.declared.waiting.Found.{Found}
+use Rattle.oneshot_drive.specs.Blocking.{Went, Way, wait_of, end_of, EndsAt}
 use Rattle.oneshot_drive.proofs.Stretches.{begun}
-use Rattle.oneshot_drive.proofs.Waits.{may_park, woke, woke_full, woke_over, woke_again, parks_again, parks_full, parks_over, stops_went}
+use Rattle.oneshot_drive.proofs.Waits.{may_park, parked_asks, woke, Decides, by_message, by_end, woke_at, woke_again, parks_again, parks_decided, stops_went}
+use Rattle.oneshot_drive.proofs.waiting.wait.Given as given
 use Rattle.oneshot_drive.proofs.waiting.wait.Goals as goal
+use Rattle.oneshot_drive.proofs.waiting.wait.Goals.{After-load}
 
 pub loop-init : goal.loop-init
 loop-init g c =
     record {
       can_next = tt;
       is_finite = tt;
-      went = λ way. begun (wait_of way)
-          (g.G.ReceiverGround.state c.args.g.now).log;
-      waits =
-          c.requires;
+      went = λ way. begun (wait_of way) (g.G.ReceiverGround.state c.args.g.now).log;
+      waits = c.requires;
       hand = refl;
       keeps = g.G.ReceiverGround.keeps_same _;
     }
@@ -26,70 +24,59 @@ returns-then-is_over-clause-went g c way =
     stops_went c.stop.result way (c.loop.invariant.went way) (c.is_over.ensures.went way) c.if-is_over.true
     (c.is_over.ensures.deadline c.if-is_over.true) c.stop.ensures.went
 
+pub returns-then-is_over-clause-keeps : goal.returns-then-is_over-clause-keeps
+returns-then-is_over-clause-keeps g c =
+    let on = g.G.ReceiverGround.keeps_on in
+    on _ _ _ c.loop.invariant.keeps (on _ _ _ c.is_over.ensures.keeps c.stop.ensures.keeps)
+
 pub park-requires : goal.park-requires
 park-requires g c = may_park c.args.timed c.is_over.ensures.waits
 
 pub load-requires : goal.load-requires
 load-requires g c =
-    asks Load (stands_on (parked c.park.ensures.list.0 ∷ []) refl c.is_over.ensures.waits c.park.ensures.list.1
-    c.park.ensures.message c.park.ensures.waker) refl
+    parked_asks c.park.ensures.log.0 c.is_over.ensures.waits c.park.ensures.log.1 c.park.ensures.message
+    c.park.ensures.waker refl
 
-pub returns-in-4-clause-went : goal.returns-in-4-clause-went
-returns-in-4-clause-went g c way =
-    parks_full way (c.loop.invariant.went way) (c.is_over.ensures.went way) c.if-is_over.false c.park.ensures.list.0
-    c.park.ensures.list.1 c.load.result c.load.ensures.list c.in-4.is
+-- a load that decides it
+decided : (g : given.Over) (c : After-load g) {word : ℕ} {f : Found} → Decides word f → c.load.result ≡ word
+    → ((way : Way c.args.timed) → Went (wait_of way) (end_of way f) (g.G.ReceiverGround.state c.args.g.now).log
+    (g.G.ReceiverGround.state c.load.new.self).log)
+    × EndsAt c.args.timed f (g.G.ReceiverGround.state c.load.new.self)
+    × g.G.ReceiverGround.keeps c.args.g.now c.load.new.self
+decided g c by e =
+    let on = g.G.ReceiverGround.keeps_on in (
+      λ way. parks_decided way (c.loop.invariant.went way) (c.is_over.ensures.went way) c.if-is_over.false
+          c.park.ensures.log.0 c.park.ensures.log.1 c.load.result c.load.ensures.log by e,
+      woke_at (woke c.park.ensures.log.0 c.is_over.ensures.waits c.park.ensures.log.1 c.park.ensures.message
+          c.park.ensures.waker c.load.result c.load.ensures.finds c.load.ensures.log) c.args.timed by e,
+      on _ _ _ c.loop.invariant.keeps
+          (on _ _ _ c.is_over.ensures.keeps (on _ _ _ c.park.ensures.keeps c.load.ensures.keeps)),
+    )
 
-pub returns-in-4-clause-ends : goal.returns-in-4-clause-ends
-returns-in-4-clause-ends g c =
-    let still =
-    stands_on (parked c.park.ensures.list.0 ∷ []) refl c.is_over.ensures.waits c.park.ensures.list.1
-    c.park.ensures.message c.park.ensures.waker in
-    woke_full (woke c.load.result still c.load.ensures.finds c.load.ensures.list) c.args.timed c.in-4.is
+pub returns-in-4 : goal.returns-in-4
+returns-in-4 g c =
+    let d = decided g (goal.at.returns-in-4 g c).After-load by_message c.in-4.is in
+    record { went = d.0; ends = d.1; hand = c.loop.invariant.hand; keeps = d.2 }
 
-pub returns-in-2-clause-went : goal.returns-in-2-clause-went
-returns-in-2-clause-went g c way =
-    parks_over way (c.loop.invariant.went way) (c.is_over.ensures.went way) c.if-is_over.false c.park.ensures.list.0
-    c.park.ensures.list.1 c.load.result c.load.ensures.list c.in-2.is
-
-pub returns-in-2-clause-ends : goal.returns-in-2-clause-ends
-returns-in-2-clause-ends g c =
-    let still =
-    stands_on (parked c.park.ensures.list.0 ∷ []) refl c.is_over.ensures.waits c.park.ensures.list.1
-    c.park.ensures.message c.park.ensures.waker in
-    woke_over (woke c.load.result still c.load.ensures.finds c.load.ensures.list) c.args.timed c.in-2.is
+pub returns-in-2 : goal.returns-in-2
+returns-in-2 g c =
+    let d = decided g (goal.at.returns-in-2 g c).After-load by_end c.in-2.is in
+    record { went = d.0; ends = d.1; hand = c.loop.invariant.hand; keeps = d.2 }
 
 pub loop-preserved : goal.loop-preserved
 loop-preserved g c =
-    let still =
-    stands_on (parked c.park.ensures.list.0 ∷ []) refl c.is_over.ensures.waits c.park.ensures.list.1
-    c.park.ensures.message c.park.ensures.waker in
     let on = g.G.ReceiverGround.keeps_on in
-    let found = woke c.load.result still c.load.ensures.finds c.load.ensures.list in
+    let found =
+    woke c.park.ensures.log.0 c.is_over.ensures.waits c.park.ensures.log.1 c.park.ensures.message
+    c.park.ensures.waker c.load.result c.load.ensures.finds c.load.ensures.log in
     record {
       can_next = tt;
       is_finite = tt;
       went = λ way. parks_again way (c.loop.invariant.went way) (c.is_over.ensures.went way) c.if-is_over.false
-          c.park.ensures.list.0 c.park.ensures.list.1 c.load.result c.load.ensures.list found (search rules)
+          c.park.ensures.log.0 c.park.ensures.log.1 c.load.result c.load.ensures.log found (search rules)
           (search rules);
       waits = woke_again found (search rules) (search rules);
       hand = c.loop.invariant.hand;
       keeps = on _ _ _ c.loop.invariant.keeps
           (on _ _ _ c.is_over.ensures.keeps (on _ _ _ c.park.ensures.keeps c.load.ensures.keeps));
     }
-
-pub returns-then-is_over-clause-keeps : goal.returns-then-is_over-clause-keeps
-returns-then-is_over-clause-keeps g c =
-    let on = g.G.ReceiverGround.keeps_on in
-    on _ _ _ c.loop.invariant.keeps (on _ _ _ c.is_over.ensures.keeps c.stop.ensures.keeps)
-
-pub returns-in-4-clause-keeps : goal.returns-in-4-clause-keeps
-returns-in-4-clause-keeps g c =
-    let on = g.G.ReceiverGround.keeps_on in
-    on _ _ _ c.loop.invariant.keeps
-    (on _ _ _ c.is_over.ensures.keeps (on _ _ _ c.park.ensures.keeps c.load.ensures.keeps))
-
-pub returns-in-2-clause-keeps : goal.returns-in-2-clause-keeps
-returns-in-2-clause-keeps g c =
-    let on = g.G.ReceiverGround.keeps_on in
-    on _ _ _ c.loop.invariant.keeps
-    (on _ _ _ c.is_over.ensures.keeps (on _ _ _ c.park.ensures.keeps c.load.ensures.keeps))

@@ -1,13 +1,14 @@
 -- The goals that `wait_late` leaves.
-use Rattle.std.proofs.Common.{[], ◌∷◌, refl, rules}
+use Rattle.std.proofs.Common.{◌≡◌, ℕ, true, refl, rules}
+use Rattle.oneshot_drive.specs.declared.waiting.Found.{Found}
 use Rattle.oneshot_machine.specs.declared.machine.receiver.ReceiverPos.TheVariants.{Timed}
 use Rattle.oneshot_machine.specs.declared.machine.timed.TimedPos.TheVariants.{LatePark}
-use Rattle.oneshot_machine.specs.declared.states.Op.TheVariants.{Load}
-use Rattle.oneshot_machine.specs.Logs.{parked}
-use Rattle.oneshot_drive.proofs.AfterOperations.{asks, stands_on}
+use Rattle.oneshot_drive.specs.Blocking.{Went, ref_end, EndsAt}
 use Rattle.oneshot_drive.proofs.Stretches.{begun}
-use Rattle.oneshot_drive.proofs.Waits.{may_park_late, ended, ended_full, ended_over, ended_again, late_to}
+use Rattle.oneshot_drive.proofs.Waits.{may_park_late, parked_asks, woke, Decides, by_message, by_end, ended_at, ended_again, late_decided, late_to}
+use Rattle.oneshot_drive.proofs.waiting.wait_late.Given as given
 use Rattle.oneshot_drive.proofs.waiting.wait_late.Goals as goal
+use Rattle.oneshot_drive.proofs.waiting.wait_late.Goals.{After-load}
 
 pub loop-init : goal.loop-init
 loop-init g c =
@@ -24,57 +25,44 @@ park-requires g c = may_park_late c.loop.invariant.overdue
 
 pub load-requires : goal.load-requires
 load-requires g c =
-    asks Load (stands_on (parked c.park.ensures.list.0 ∷ []) refl c.loop.invariant.overdue c.park.ensures.list.1
-    c.park.ensures.message c.park.ensures.waker) refl
+    parked_asks c.park.ensures.log.0 c.loop.invariant.overdue c.park.ensures.log.1 c.park.ensures.message
+    c.park.ensures.waker refl
 
-pub returns-in-4-clause-went : goal.returns-in-4-clause-went
-returns-in-4-clause-went g c =
-    late_to _ c.load.result 4 refl c.in-4.is c.loop.invariant.went c.park.ensures.list.0 c.park.ensures.list.1
-    c.load.ensures.list
+-- a load that decides it
+decided : (g : given.Over) (c : After-load g) {word : ℕ} {f : Found} → Decides word f → c.load.result ≡ word
+    → Went (Timed LatePark) (ref_end f) (g.G.ReceiverGround.state c.args.g.now).log
+    (g.G.ReceiverGround.state c.load.new.self).log
+    × EndsAt true f (g.G.ReceiverGround.state c.load.new.self) × g.G.ReceiverGround.keeps c.args.g.now c.load.new.self
+decided g c by e =
+    let on = g.G.ReceiverGround.keeps_on in (
+      late_decided by c.load.result e c.loop.invariant.went c.park.ensures.log.0 c.park.ensures.log.1
+          c.load.ensures.log,
+      ended_at (woke c.park.ensures.log.0 c.loop.invariant.overdue c.park.ensures.log.1 c.park.ensures.message
+          c.park.ensures.waker c.load.result c.load.ensures.finds c.load.ensures.log) by e,
+      on _ _ _ c.loop.invariant.keeps (on _ _ _ c.park.ensures.keeps c.load.ensures.keeps),
+    )
 
-pub returns-in-4-clause-ends : goal.returns-in-4-clause-ends
-returns-in-4-clause-ends g c =
-    let still =
-    stands_on (parked c.park.ensures.list.0 ∷ []) refl c.loop.invariant.overdue c.park.ensures.list.1
-    c.park.ensures.message c.park.ensures.waker in
-    ended_full (ended c.load.result still c.load.ensures.finds c.load.ensures.list) c.in-4.is
+pub returns-in-4 : goal.returns-in-4
+returns-in-4 g c =
+    let d = decided g (goal.at.returns-in-4 g c).After-load by_message c.in-4.is in
+    record { went = d.0; ends = d.1; sent = search rules; keeps = d.2 }
 
-pub returns-in-2-clause-went : goal.returns-in-2-clause-went
-returns-in-2-clause-went g c =
-    late_to _ c.load.result 2 refl c.in-2.is c.loop.invariant.went c.park.ensures.list.0 c.park.ensures.list.1
-    c.load.ensures.list
-
-pub returns-in-2-clause-ends : goal.returns-in-2-clause-ends
-returns-in-2-clause-ends g c =
-    let still =
-    stands_on (parked c.park.ensures.list.0 ∷ []) refl c.loop.invariant.overdue c.park.ensures.list.1
-    c.park.ensures.message c.park.ensures.waker in
-    ended_over (ended c.load.result still c.load.ensures.finds c.load.ensures.list) c.in-2.is
+pub returns-in-2 : goal.returns-in-2
+returns-in-2 g c =
+    let d = decided g (goal.at.returns-in-2 g c).After-load by_end c.in-2.is in
+    record { went = d.0; ends = d.1; sent = search rules; keeps = d.2 }
 
 pub loop-preserved : goal.loop-preserved
 loop-preserved g c =
-    let still =
-    stands_on (parked c.park.ensures.list.0 ∷ []) refl c.loop.invariant.overdue c.park.ensures.list.1
-    c.park.ensures.message c.park.ensures.waker in
     let on = g.G.ReceiverGround.keeps_on in
     let again =
-    ended_again (ended c.load.result still c.load.ensures.finds c.load.ensures.list) (search rules)
-    (search rules) in
+    ended_again (woke c.park.ensures.log.0 c.loop.invariant.overdue c.park.ensures.log.1 c.park.ensures.message
+    c.park.ensures.waker c.load.result c.load.ensures.finds c.load.ensures.log) (search rules) (search rules) in
     record {
       can_next = tt;
       is_finite = tt;
-      went = late_to _ c.load.result 3 refl again.word c.loop.invariant.went c.park.ensures.list.0 c.park.ensures.list.1
-          c.load.ensures.list;
+      went = late_to _ c.load.result 3 refl again.word c.loop.invariant.went c.park.ensures.log.0 c.park.ensures.log.1
+          c.load.ensures.log;
       overdue = again.stands;
       keeps = on _ _ _ c.loop.invariant.keeps (on _ _ _ c.park.ensures.keeps c.load.ensures.keeps);
     }
-
-pub returns-in-4-clause-keeps : goal.returns-in-4-clause-keeps
-returns-in-4-clause-keeps g c =
-    let on = g.G.ReceiverGround.keeps_on in
-    on _ _ _ c.loop.invariant.keeps (on _ _ _ c.park.ensures.keeps c.load.ensures.keeps)
-
-pub returns-in-2-clause-keeps : goal.returns-in-2-clause-keeps
-returns-in-2-clause-keeps g c =
-    let on = g.G.ReceiverGround.keeps_on in
-    on _ _ _ c.loop.invariant.keeps (on _ _ _ c.park.ensures.keeps c.load.ensures.keeps)

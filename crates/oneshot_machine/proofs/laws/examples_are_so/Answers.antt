@@ -1,7 +1,7 @@
 -- The goals that `examples_are_so` leaves.
-use Rattle.oneshot_machine.proofs.ExampleRuns.{sender_lists, receiver_lists, runs_that_are}
+use Rattle.oneshot_machine.proofs.ExampleRuns.{logs_of_sender, logs_of_receiver, runs_that_are}
 use Rattle.oneshot_machine.proofs.ExampleNoRuns.{runs_that_are_not}
-use Rattle.oneshot_machine.proofs.FutureExampleRuns.{future_lists, future_runs, future_runs_that_are_not}
+use Rattle.oneshot_machine.proofs.FutureExampleRuns.{logs_of_future, future_runs, future_runs_that_are_not}
 use Rattle.oneshot_machine.proofs.CountedExamples.{counts_that_are, counts_that_are_not}
 use Rattle.oneshot_machine.proofs.OrderedExamples.{orders_that_are, orders_that_are_not}
 use Rattle.oneshot_machine.proofs.laws.examples_are_so.Goals as goal
@@ -9,11 +9,11 @@ use Rattle.oneshot_machine.proofs.laws.examples_are_so.Goals as goal
 pub returns : goal.returns
 returns c =
     record {
-      senders = sender_lists;
-      receivers = receiver_lists;
+      senders = logs_of_sender;
+      receivers = logs_of_receiver;
       runs = runs_that_are;
       no_runs = runs_that_are_not;
-      futures = future_lists;
+      futures = logs_of_future;
       future_runs = future_runs;
       no_future_runs = future_runs_that_are_not;
       counts = counts_that_are;

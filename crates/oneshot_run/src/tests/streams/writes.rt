@@ -6,7 +6,8 @@ use crate::tests::{SENT, SENT_TRACE, idle};
 use std::io::ErrorKind;
 use std::test::Fail;
 
-/// The largest message that is sent, received and let go. An entry that shows it is too long a line to wait with others.
+/// The largest message that is sent, received and let go. An entry that shows it is too long a line to wait with
+/// others.
 const LONG: &str = "S send 18446744073709551615\nR try drop\nX ssrrrrr\n";
 
 /// What the program writes for `LONG`.

@@ -1,8 +1,9 @@
 -- Behind `recv` and `drop` no word follows, behind `future` a future's words, and what is no last call is unknown.
-use Rattle.std.proofs.Common.{[], codes, refl}
-use Rattle.oneshot_text.specs.Grammar.{AsksForReceiver, AsksForFuture, IsOver}
+use Rattle.std.proofs.Common.{codes, refl}
+use Rattle.oneshot_text.specs.Grammar.{AsksForReceiver, AsksForFuture}
 use Rattle.oneshot_text.specs.Words.{words_left}
-use Rattle.oneshot_text.proofs.LineFaults.{error_is, fault_turned, fault_behind_word, word_unknown}
+use Rattle.oneshot_text.proofs.LastCalls.{last_turned, unknown_turned}
+use Rattle.oneshot_text.proofs.LineFaults.{error_is, fault_behind_word}
 use Rattle.oneshot_text.proofs.ReceiverFaults.{recv_to, recv_from, receiver_drop_to, receiver_drop_from, future_to, future_from, receiver-no_number, receiver-no_word}
 use Rattle.oneshot_text.proofs.Unlike.{not_both}
 use Rattle.oneshot_text.proofs.receiver.parse_last.Goals as goal
@@ -19,32 +20,25 @@ returns-in_err-parse_future-clause-faulty c = λ no_call fault is.
 pub returns-in_err-end-clause-faulty : goal.returns-in_err-end-clause-faulty
 returns-in_err-end-clause-faulty c = λ no_call fault is.
     let given = c.in_err-end.field-0.0 in
-    let over = c.in_err-end.ensures.faulty given refl in
-    let recv = c.next_is-2.ensures.0 c.if-next_is-2.true in
-    fault_turned AsksForReceiver c.args.words c.from_residual-in_err-end.result given fault
-    c.from_residual-in_err-end.ensures.1 is
-    (fault_behind_word IsOver AsksForReceiver (codes "recv") recv_to recv_from c.args.words _ _
-    c.next-then-next_is-2.ensures.steps recv given over)
+    last_turned AsksForReceiver c.args.words given fault (codes "recv") recv_to recv_from _ _
+    c.next-then-next_is-2.ensures.steps (c.next_is-2.ensures.0 c.if-next_is-2.true)
+    (c.in_err-end.ensures.faulty given refl) c.from_residual-in_err-end.result c.from_residual-in_err-end.ensures.1 is
 
 pub returns-in_err-end-2-clause-faulty : goal.returns-in_err-end-2-clause-faulty
 returns-in_err-end-2-clause-faulty c = λ no_call fault is.
     let given = c.in_err-end-2.field-0.0 in
-    let over = c.in_err-end-2.ensures.faulty given refl in
-    let drop = c.next_is-3.ensures.0 c.if-next_is-3.true in
-    fault_turned AsksForReceiver c.args.words c.from_residual-in_err-end-2.result given fault
+    last_turned AsksForReceiver c.args.words given fault (codes "drop") receiver_drop_to receiver_drop_from _ _
+    c.next-then-next_is-3.ensures.steps (c.next_is-3.ensures.0 c.if-next_is-3.true)
+    (c.in_err-end-2.ensures.faulty given refl) c.from_residual-in_err-end-2.result
     c.from_residual-in_err-end-2.ensures.1 is
-    (fault_behind_word IsOver AsksForReceiver (codes "drop") receiver_drop_to receiver_drop_from c.args.words _ _
-    c.next-then-next_is-3.ensures.steps drop given over)
 
 pub returns-in_err-stop-clause-faulty : goal.returns-in_err-stop-clause-faulty
 returns-in_err-stop-clause-faulty c = λ no_call fault is.
-    let given = c.in_err-stop.field-0.0 in
-    fault_turned AsksForReceiver c.args.words c.from_residual-in_err-stop.result given fault
-    c.from_residual-in_err-stop.ensures.1 is
-    (word_unknown AsksForReceiver c.args.words c.stop.result (codes "drop") [] (receiver_drop_to [] refl)
-    receiver-no_number
-    (receiver-no_word (words_left c.args.words) no_call
+    let none =
+    receiver-no_word (words_left c.args.words) no_call
     (λ at. not_both c.next_is.result c.if-next_is.false (c.next_is.ensures.1 at))
     (λ at. not_both c.next_is-2.result c.if-next_is-2.false (c.next_is-2.ensures.1 at))
-    (λ at. not_both c.next_is-3.result c.if-next_is-3.false (c.next_is-3.ensures.1 at)))
-    c.stop.ensures.over.1 c.stop.ensures.faulty given c.in_err-stop.was)
+    (λ at. not_both c.next_is-3.result c.if-next_is-3.false (c.next_is-3.ensures.1 at)) in
+    unknown_turned AsksForReceiver c.args.words c.in_err-stop.field-0.0 fault (codes "drop") (receiver_drop_to _ refl)
+    receiver-no_number none c.stop.result c.stop.ensures.over.1 c.stop.ensures.faulty c.in_err-stop.was
+    c.from_residual-in_err-stop.result c.from_residual-in_err-stop.ensures.1 is

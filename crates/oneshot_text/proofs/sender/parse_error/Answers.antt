@@ -1,8 +1,7 @@
 -- Other words have other looks, or another last call.
-use Rattle.std.proofs.Common.{codes, replicate, sym, ◌∙◌, refl}
+use Rattle.std.proofs.Common.{codes, sym, ◌∙◌, refl}
 use Rattle.oneshot_text.specs.Grammar.{AsksForError}
-use Rattle.oneshot_text.proofs.LineFaults.{fault_passed, fault_behind}
-use Rattle.oneshot_text.proofs.Runs.{replicate_to, replicate_from}
+use Rattle.oneshot_text.proofs.LastCalls.{run_passed}
 use Rattle.oneshot_text.proofs.SenderFaults.{inner_to, inner_from}
 use Rattle.oneshot_text.proofs.SenderWords.{error-same}
 use Rattle.oneshot_text.proofs.sender.parse_error.Goals as goal
@@ -16,10 +15,7 @@ returns-in_err-last-clause-each c = λ error is.
 pub returns-in_err-last-clause-faulty : goal.returns-in_err-last-clause-faulty
 returns-in_err-last-clause-faulty c = λ fault is.
     let run = c.take_run-looks.ensures in
-    let looks = c.take_run-looks.result in
-    fault_passed AsksForError c.args.words c.from_residual.result c.in_err-last.field-0.0 fault
-    c.from_residual.ensures.1 is
-    (fault_behind AsksForError AsksForError (replicate looks (codes "inner"))
-    (replicate_to AsksForError (codes "inner") inner_to looks)
-    (replicate_from AsksForError (codes "inner") inner_from looks)
-    c.args.words _ _ run.line run.run (c.in_err-last.ensures.faulty run.whole c.in_err-last.field-0.0 refl))
+    let given = c.in_err-last.field-0.0 in
+    run_passed AsksForError c.args.words given fault (codes "inner") inner_to inner_from
+    c.take_run-looks.result _ run.line run.run
+    (c.in_err-last.ensures.faulty run.whole given refl) c.from_residual.result c.from_residual.ensures.1 is

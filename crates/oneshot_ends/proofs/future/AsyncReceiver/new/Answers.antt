@@ -1,6 +1,9 @@
 -- The goals that `new` of `AsyncReceiver` leaves.
 use Rattle.oneshot_drive.specs.Polls.{unpolled}
+use Rattle.oneshot_ends.proofs.CallsAnswered.{then_future}
 use Rattle.oneshot_ends.proofs.future.AsyncReceiver.new.Goals as goal
 
 pub invariant_of-result : goal.invariant_of-result
-invariant_of-result g c = record { at = c.requires.at; is_one = unpolled c.requires.is_one; stands = c.requires.stands }
+invariant_of-result g c =
+    let rests = c.requires.rests in
+    (record { at = rests.at; is_one = unpolled rests.is_one; stands = rests.stands }, then_future c.requires.calls)

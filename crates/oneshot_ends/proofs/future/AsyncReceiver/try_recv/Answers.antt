@@ -1,13 +1,22 @@
 -- The goals that `try_recv` of `AsyncReceiver` leaves.
-use Rattle.std.proofs.Common.{sym, ◌∙◌, subst}
+use Rattle.std.proofs.Common.{refl, sym, ◌∙◌, subst}
 use Rattle.oneshot_machine.specs.declared.machine.receiver.ReceiverStart.TheVariants.{AsyncTryRecv}
 use Rattle.oneshot_machine.specs.Phases.{receiver_at}
 use Rattle.oneshot_drive.specs.BetweenCalls.{IsClosedAt}
 use Rattle.oneshot_drive.specs.Polls.{LeavesTried}
+use Rattle.oneshot_ends.proofs.CallsAnswered.{one_answered}
 use Rattle.oneshot_ends.proofs.EndViews.{future_steps, future_about, kept_about}
 use Rattle.oneshot_ends.proofs.GrewByRuns.{words_of, receiver_grew, async_try_recv_few}
 use Rattle.oneshot_ends.proofs.PolledEnds.{closed_tried, open_tried, registered_by}
 use Rattle.oneshot_ends.proofs.future.AsyncReceiver.try_recv.Goals as goal
+
+pub invariant_of-self : goal.invariant_of-self
+invariant_of-self g c = (
+  c.async_try_recv.ensures.rests,
+  one_answered AsyncTryRecv refl c.self.invariant.1
+      (receiver_grew (words_of _ _ c.self.inside.ground.log) (words_of _ _ c.async_try_recv.new.g.log) AsyncTryRecv
+      c.async_try_recv.ensures.run),
+)
 
 pub returns-clause-run : goal.returns-clause-run
 returns-clause-run g c =

@@ -1,20 +1,26 @@
 -- The goals that `poll` of `AsyncReceiver` as a `Future` leaves.
-use Rattle.std.proofs.Common.{[], ◌∷◌, sym, ◌∙◌, subst}
+use Rattle.std.proofs.Common.{[], ◌∷◌, refl, sym, ◌∙◌, subst}
 use Rattle.oneshot_machine.specs.declared.machine.receiver.ReceiverStart.TheVariants as C
 use Rattle.oneshot_machine.specs.Phases.{receiver_at}
 use Rattle.oneshot_drive.specs.BetweenCalls.{IsClosedAt}
 use Rattle.oneshot_drive.specs.Polls.{LeavesPolled}
-use Rattle.oneshot_ends.proofs.EndViews.{future_steps, future_about, polled_about}
+use Rattle.oneshot_ends.proofs.CallsAnswered.{one_answered}
+use Rattle.oneshot_ends.proofs.EndViews.{future_steps, future_about, polled_about, pending_about}
 use Rattle.oneshot_ends.proofs.GrewByRuns.{words_of, receiver_grew, poll_few}
 use Rattle.oneshot_ends.proofs.PolledEnds.{closed_polled, open_polled}
 use Rattle.oneshot_ends.proofs.PollingTokens.{stands_by_tokens, stands_as_told}
 use Rattle.oneshot_ends.proofs.future.AsyncReceiverFuture.poll.Goals as goal
 
 pub poll-requires : goal.poll-requires
-poll-requires g c = stands_by_tokens (_ ∷ _ ∷ _ ∷ []) c.self.inside.ground c.self.invariant
+poll-requires g c = stands_by_tokens (_ ∷ _ ∷ _ ∷ []) c.self.inside.ground c.self.invariant.0
 
 pub invariant_of-self : goal.invariant_of-self
-invariant_of-self g c = stands_as_told (_ ∷ _ ∷ _ ∷ []) c.poll.new.g.ground.now c.poll.ensures.rests
+invariant_of-self g c = (
+  stands_as_told (_ ∷ _ ∷ _ ∷ []) c.poll.new.g.ground.now c.poll.ensures.rests,
+  one_answered C.Poll refl c.self.invariant.1
+      (receiver_grew (words_of _ _ c.self.inside.ground.log) (words_of _ _ c.poll.new.g.ground.now.log) C.Poll
+      c.poll.ensures.run),
+)
 
 pub returns-clause-run : goal.returns-clause-run
 returns-clause-run g c =
@@ -44,6 +50,10 @@ returns-clause-bounded g c = poll_few (returns-clause-run g c)
 pub returns-clause-about : goal.returns-clause-about
 returns-clause-about g c = c.poll.ensures.keeps.2 ∙ future_about c.self.view_is
 
-pub returns-clause-promise : goal.returns-clause-promise
-returns-clause-promise g c =
+pub returns-clause-value : goal.returns-clause-value
+returns-clause-value g c =
     polled_about g.P.Promise.keeps c.poll.result (future_about c.self.view_is) c.poll.ensures.given
+
+pub returns-clause-same : goal.returns-clause-same
+returns-clause-same g c =
+    pending_about g.P.Promise.keeps c.poll.result (c.poll.ensures.keeps.2 ∙ future_about c.self.view_is)

@@ -7,9 +7,9 @@ use Rattle.oneshot_ends.proofs.polling.PollingOnWordReceiverGroundCopied.exchang
 pub exchange-requires : goal.exchange-requires
 exchange-requires g c = token_can [] c.args.self.now.ground.now (Exchange c.args.expected c.args.new) c.requires
 
-pub returns-clause-list : goal.returns-clause-list
-returns-clause-list g c =
-    told (_ ∷ _ ∷ _ ∷ []) c.args.self.now.ground.now c.exchange.new.self _ _ refl c.exchange.ensures.list
+pub returns-clause-log : goal.returns-clause-log
+returns-clause-log g c =
+    told (_ ∷ _ ∷ _ ∷ []) c.args.self.now.ground.now c.exchange.new.self _ _ refl c.exchange.ensures.log
 
 pub returns-clause-finds : goal.returns-clause-finds
 returns-clause-finds g c =

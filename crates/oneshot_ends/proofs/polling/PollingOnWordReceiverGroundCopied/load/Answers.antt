@@ -7,8 +7,8 @@ use Rattle.oneshot_ends.proofs.polling.PollingOnWordReceiverGroundCopied.load.Go
 pub load-requires : goal.load-requires
 load-requires g c = token_can [] c.args.self.now.ground.now Load c.requires
 
-pub returns-clause-list : goal.returns-clause-list
-returns-clause-list g c = told (_ ∷ _ ∷ _ ∷ []) c.args.self.now.ground.now c.load.new.self _ _ refl c.load.ensures.list
+pub returns-clause-log : goal.returns-clause-log
+returns-clause-log g c = told (_ ∷ _ ∷ _ ∷ []) c.args.self.now.ground.now c.load.new.self _ _ refl c.load.ensures.log
 
 pub returns-clause-finds : goal.returns-clause-finds
 returns-clause-finds g c =

@@ -7,8 +7,8 @@ use Rattle.oneshot_ends.proofs.polling.PollingOnWordReceiverGroundCopied.swap.Go
 pub swap-requires : goal.swap-requires
 swap-requires g c = token_can [] c.args.self.now.ground.now (Swap c.args.new) c.requires
 
-pub returns-clause-list : goal.returns-clause-list
-returns-clause-list g c = told (_ ∷ _ ∷ _ ∷ []) c.args.self.now.ground.now c.swap.new.self _ _ refl c.swap.ensures.list
+pub returns-clause-log : goal.returns-clause-log
+returns-clause-log g c = told (_ ∷ _ ∷ _ ∷ []) c.args.self.now.ground.now c.swap.new.self _ _ refl c.swap.ensures.log
 
 pub returns-clause-finds : goal.returns-clause-finds
 returns-clause-finds g c =

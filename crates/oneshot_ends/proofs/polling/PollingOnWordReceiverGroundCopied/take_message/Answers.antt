@@ -3,6 +3,6 @@ use Rattle.std.proofs.Common.{refl, [], ◌∷◌}
 use Rattle.oneshot_ends.proofs.PollingTokens.{told}
 use Rattle.oneshot_ends.proofs.polling.PollingOnWordReceiverGroundCopied.take_message.Goals as goal
 
-pub returns-clause-list : goal.returns-clause-list
-returns-clause-list g c =
-    told (_ ∷ _ ∷ _ ∷ []) c.args.self.now.ground.now c.take_message.new.self _ _ refl c.take_message.ensures.list
+pub returns-clause-log : goal.returns-clause-log
+returns-clause-log g c =
+    told (_ ∷ _ ∷ _ ∷ []) c.args.self.now.ground.now c.take_message.new.self _ _ refl c.take_message.ensures.log

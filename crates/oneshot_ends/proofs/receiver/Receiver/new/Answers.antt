@@ -1,6 +1,11 @@
 -- The goals that `new` of `Receiver` leaves.
+use Rattle.oneshot_ends.proofs.CallsAnswered.{none_answered}
 use Rattle.oneshot_ends.proofs.NewEnds.{rests_at_new}
 use Rattle.oneshot_ends.proofs.receiver.Receiver.new.Goals as goal
 
 pub invariant_of-result : goal.invariant_of-result
-invariant_of-result g c = (rests_at_new c.args.side c.new.result c.new.ensures c.requires, λ none. absurd (cc none))
+invariant_of-result g c = (
+  rests_at_new c.args.side c.new.result c.new.ensures c.requires,
+  λ none. absurd (cc none),
+  none_answered c.args.side c.new.result c.new.ensures c.requires,
+)

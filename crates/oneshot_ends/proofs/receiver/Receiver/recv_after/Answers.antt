@@ -1,11 +1,12 @@
 -- The goals that `recv_after` of `Receiver` leaves.
-use Rattle.std.proofs.Common.{sym, ap, ◌∙◌, subst}
+use Rattle.std.proofs.Common.{refl, sym, ap, ◌∙◌, subst}
 use Rattle.oneshot_machine.specs.Phases.{receiver_at}
 use Rattle.std.specs.Prelude.{◌↔◌, IsTrue}
 use Rattle.oneshot_machine.specs.declared.machine.receiver.ReceiverStart.TheVariants.{RecvTimeout}
 use Rattle.oneshot_drive.specs.BetweenCalls.{IsClosedAt, LeavesTimed}
 use Rattle.oneshot_drive.proofs.ReadyHands.{ready_timed}
 use Rattle.oneshot_ends.specs.Deadlines.{HasEnd}
+use Rattle.oneshot_ends.proofs.CallsAnswered.{one_answered}
 use Rattle.oneshot_ends.proofs.EndViews.{same_steps, same_about, lent_about, kept_about}
 use Rattle.oneshot_ends.proofs.GrewByRuns.{words_of, began_at, receiver_grew}
 use Rattle.oneshot_ends.proofs.LentGrounds.{as_lent, given_back, hand_lent}
@@ -21,6 +22,9 @@ invariant_of-self g c = (
   ready_timed c.recv_timeout.result c.self.inside.hand c.recv_timeout.new.hand _ _
       (hand_lent c.self.inside.hand (ap (λ r. r.now) c.lend-lent.ensures) c.self.invariant.1)
       c.recv_timeout.ensures.stays c.recv_timeout.ensures.leaves c.recv_timeout.ensures.hand,
+  one_answered (RecvTimeout c.has_end.result) refl c.self.invariant.2
+      (receiver_grew (began_at (ap (λ r. r.now) c.lend-lent.ensures) refl)
+      (words_of _ _ c.recv_timeout.new.g.ground.now.log) (RecvTimeout c.has_end.result) c.recv_timeout.ensures.run),
 )
 
 pub returns-clause-run : goal.returns-clause-run

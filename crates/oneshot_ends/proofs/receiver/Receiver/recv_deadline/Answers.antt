@@ -1,9 +1,10 @@
 -- The goals that `recv_deadline` of `Receiver` leaves.
-use Rattle.std.proofs.Common.{sym, ap, ◌∙◌, subst}
+use Rattle.std.proofs.Common.{refl, sym, ap, ◌∙◌, subst}
 use Rattle.oneshot_machine.specs.Phases.{receiver_at}
 use Rattle.oneshot_machine.specs.declared.machine.receiver.ReceiverStart.TheVariants.{RecvDeadline}
 use Rattle.oneshot_drive.specs.BetweenCalls.{IsClosedAt, LeavesTimed}
 use Rattle.oneshot_drive.proofs.ReadyHands.{closed_in_time, open_too_late, ready_timed}
+use Rattle.oneshot_ends.proofs.CallsAnswered.{one_answered}
 use Rattle.oneshot_ends.proofs.EndViews.{same_steps, same_about, lent_about, kept_about}
 use Rattle.oneshot_ends.proofs.GrewByRuns.{words_of, began_at, receiver_grew}
 use Rattle.oneshot_ends.proofs.LentGrounds.{as_lent, given_back, hand_lent}
@@ -18,6 +19,9 @@ invariant_of-self g c = (
   ready_timed c.recv_deadline.result c.self.inside.hand c.recv_deadline.new.hand _ _
       (hand_lent c.self.inside.hand (ap (λ r. r.now) c.lend-lent.ensures) c.self.invariant.1)
       c.recv_deadline.ensures.stays c.recv_deadline.ensures.leaves c.recv_deadline.ensures.hand,
+  one_answered RecvDeadline refl c.self.invariant.2
+      (receiver_grew (began_at (ap (λ r. r.now) c.lend-lent.ensures) refl)
+      (words_of _ _ c.recv_deadline.new.g.ground.now.log) RecvDeadline c.recv_deadline.ensures.run),
 )
 
 pub returns-clause-run : goal.returns-clause-run

@@ -1,9 +1,10 @@
 -- The goals that `recv_ref` of `Receiver` leaves.
-use Rattle.std.proofs.Common.{sym, ap, ◌∙◌, subst}
+use Rattle.std.proofs.Common.{refl, sym, ap, ◌∙◌, subst}
 use Rattle.oneshot_machine.specs.Phases.{receiver_at}
 use Rattle.oneshot_machine.specs.declared.machine.receiver.ReceiverStart.TheVariants.{RecvRef}
 use Rattle.oneshot_drive.specs.BetweenCalls.{IsClosedAt, LeavesClosed}
 use Rattle.oneshot_drive.proofs.ReadyHands.{closed_by, ready_closed}
+use Rattle.oneshot_ends.proofs.CallsAnswered.{one_answered}
 use Rattle.oneshot_ends.proofs.EndViews.{same_steps, same_about, lent_about, kept_about}
 use Rattle.oneshot_ends.proofs.GrewByRuns.{words_of, began_at, receiver_grew}
 use Rattle.oneshot_ends.proofs.LentGrounds.{as_lent, given_back}
@@ -17,6 +18,9 @@ invariant_of-self g c = (
   given_back _ c.recv_ref.new.g.ground.now c.recv_ref.ensures.rests,
   ready_closed c.recv_ref.new.hand
       c.recv_ref.result _ c.recv_ref.ensures.leaves,
+  one_answered RecvRef refl c.self.invariant.2
+      (receiver_grew (began_at (ap (λ r. r.now) c.lend-lent.ensures) refl)
+      (words_of _ _ c.recv_ref.new.g.ground.now.log) RecvRef c.recv_ref.ensures.run),
 )
 
 pub returns-clause-run : goal.returns-clause-run

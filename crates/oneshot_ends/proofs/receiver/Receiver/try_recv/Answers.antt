@@ -1,9 +1,10 @@
 -- The goals that `try_recv` of `Receiver` leaves.
-use Rattle.std.proofs.Common.{sym, ◌∙◌, subst}
+use Rattle.std.proofs.Common.{refl, sym, ◌∙◌, subst}
 use Rattle.oneshot_machine.specs.Phases.{receiver_at}
 use Rattle.oneshot_machine.specs.declared.machine.receiver.ReceiverStart.TheVariants.{TryRecv}
 use Rattle.oneshot_drive.specs.BetweenCalls.{IsClosedAt, Leaves}
 use Rattle.oneshot_drive.proofs.ReadyHands.{closed_tried, open_tried, ready_still}
+use Rattle.oneshot_ends.proofs.CallsAnswered.{one_answered}
 use Rattle.oneshot_ends.proofs.EndViews.{same_steps, same_about, kept_about}
 use Rattle.oneshot_ends.proofs.GrewByRuns.{words_of, receiver_grew, try_recv_few}
 use Rattle.oneshot_ends.proofs.receiver.Receiver.try_recv.Goals as goal
@@ -13,6 +14,9 @@ invariant_of-self g c = (
   c.try_recv.ensures.rests,
   ready_still c.self.inside.hand c.try_recv.result _ _ c.self.invariant.1 c.try_recv.ensures.stays
       c.try_recv.ensures.leaves,
+  one_answered TryRecv refl c.self.invariant.2
+      (receiver_grew (words_of _ _ c.self.inside.ground.log) (words_of _ _ c.try_recv.new.g.log) TryRecv
+      c.try_recv.ensures.run),
 )
 
 pub returns-clause-run : goal.returns-clause-run

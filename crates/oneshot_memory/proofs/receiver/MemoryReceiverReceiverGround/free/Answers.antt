@@ -1,6 +1,6 @@
 -- The goals that `free` of `MemoryReceiver` as a `ReceiverGround` leaves.
 use Rattle.std.proofs.Common.{[], ◌∷◌, ◌++◌, refl, ap, ◌∙◌}
-use Rattle.oneshot_memory.proofs.ReceiverStands.{receiver_stays, receiver_freed}
+use Rattle.oneshot_memory.proofs.ReceiverMatches.{receiver_stays, receiver_freed}
 use Rattle.oneshot_memory.proofs.receiver.MemoryReceiverReceiverGround.free.Goals as goal
 
 pub invariant_of-self : goal.invariant_of-self

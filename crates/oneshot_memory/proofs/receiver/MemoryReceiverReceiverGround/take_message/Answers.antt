@@ -1,6 +1,6 @@
 -- The goals that `take_message` of `MemoryReceiver` as a `ReceiverGround` leaves.
 use Rattle.std.proofs.Common.{◌≡◌, None, rules, refl, ap, ◌∙◌}
-use Rattle.oneshot_memory.proofs.ReceiverStands.{receiver_stays, receiver_emptied}
+use Rattle.oneshot_memory.proofs.ReceiverMatches.{receiver_stays, receiver_emptied}
 use Rattle.oneshot_memory.proofs.receiver.MemoryReceiverReceiverGround.take_message.Goals as goal
 
 pub invariant_of-self : goal.invariant_of-self

@@ -1,8 +1,8 @@
 -- The goals that `withdraw` of `MemoryReceiver` as a `ReceiverGround` leaves.
 use Rattle.std.proofs.Common.{◌≡◌, None, rules, refl, ap, ◌∙◌}
 use Rattle.oneshot_memory.proofs.Events.{no_word}
-use Rattle.oneshot_memory.proofs.Cells.{slot_held}
-use Rattle.oneshot_memory.proofs.ReceiverStands.{receiver_stays, receiver_wakers}
+use Rattle.oneshot_memory.proofs.Memory.{slot_held}
+use Rattle.oneshot_memory.proofs.ReceiverMatches.{receiver_stays, receiver_wakers}
 use Rattle.oneshot_memory.proofs.receiver.MemoryReceiverReceiverGround.withdraw.Goals as goal
 
 pub invariant_of-self : goal.invariant_of-self

@@ -1,8 +1,8 @@
 -- The goals that `write_waker` of `MemoryReceiver` as a `ReceiverGround` leaves.
 use Rattle.std.proofs.Common.{Some, refl, ap, ◌∙◌}
 use Rattle.oneshot_memory.proofs.Events.{no_word}
-use Rattle.oneshot_memory.proofs.Cells.{slot_vacant}
-use Rattle.oneshot_memory.proofs.ReceiverStands.{receiver_stays, receiver_wakers}
+use Rattle.oneshot_memory.proofs.Memory.{slot_vacant}
+use Rattle.oneshot_memory.proofs.ReceiverMatches.{receiver_stays, receiver_wakers}
 use Rattle.oneshot_memory.proofs.receiver.MemoryReceiverReceiverGround.write_waker.Goals as goal
 
 pub invariant_of-self : goal.invariant_of-self

@@ -1,6 +1,6 @@
 -- The goals that `free` of `MemorySender` as a `SenderGround` leaves.
 use Rattle.std.proofs.Common.{[], ◌∷◌, ◌++◌, refl, ap, ◌∙◌}
-use Rattle.oneshot_memory.proofs.SenderStands.{sender_stays, sender_freed}
+use Rattle.oneshot_memory.proofs.SenderMatches.{sender_stays, sender_freed}
 use Rattle.oneshot_memory.proofs.sender.MemorySenderSenderGround.free.Goals as goal
 
 pub invariant_of-self : goal.invariant_of-self

@@ -1,7 +1,7 @@
 -- The goals that `take_waker` of `MemorySender` as a `SenderGround` leaves.
 use Rattle.std.proofs.Common.{◌≡◌, None, rules, refl, ap, ◌∙◌}
 use Rattle.oneshot_memory.proofs.Events.{no_word}
-use Rattle.oneshot_memory.proofs.SenderStands.{sender_stays, sender_emptied, sender_outlasts}
+use Rattle.oneshot_memory.proofs.SenderMatches.{sender_stays, sender_emptied, sender_outlasts}
 use Rattle.oneshot_memory.proofs.sender.MemorySenderSenderGround.take_waker.Goals as goal
 
 pub invariant_of-self : goal.invariant_of-self

@@ -1,7 +1,7 @@
 -- The goals that `wake` of `MemorySender` as a `SenderGround` leaves.
 use Rattle.std.proofs.Common.{refl}
 use Rattle.oneshot_memory.proofs.Events.{no_word}
-use Rattle.oneshot_memory.proofs.SenderStands.{sender_stays}
+use Rattle.oneshot_memory.proofs.SenderMatches.{sender_stays}
 use Rattle.oneshot_memory.proofs.sender.MemorySenderSenderGround.wake.Goals as goal
 
 pub invariant_of-self : goal.invariant_of-self

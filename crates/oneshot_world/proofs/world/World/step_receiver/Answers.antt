@@ -1,6 +1,6 @@
 -- The position has its step, and the world after it is one that a run reaches.
 use Rattle.std.proofs.Common.{◌≡◌, Some, ◌∙◌, ap, sym}
-use Rattle.oneshot_world.specs.World.{World, answer_of, receiver_told}
+use Rattle.oneshot_world.specs.World.{World, answer_told, receiver_told}
 use Rattle.oneshot_world.proofs.ReachedLeads.{word_is_code, receiver_at}
 use Rattle.oneshot_world.proofs.ReachedMoves.{receiver_makes, receiver_reaches}
 use Rattle.oneshot_world.proofs.WorldTurns.{receiver_turn_made}
@@ -35,11 +35,11 @@ returns c =
     record { state = c.self.inside.state; sender = c.self.inside.sender; receiver = c.self.inside.receiver } in
     let at : receiver_at w ≡ Some c.in-Some.position =
     ap receiver_at c.self.view_is ∙ sym c.receiver_position.ensures ∙ c.in-Some.is in
-    let answer : c.answer_at-answer.result ≡ answer_of (receiver_at w) c.args.over c.args.refuse =
-    c.answer_at-answer.ensures ∙ ap (λ p. answer_of p c.args.over c.args.refuse) (sym at) in
+    let answer : c.answer_at-answer.result ≡ answer_told (receiver_at w) c.args.over c.args.refuse =
+    c.answer_at-answer.ensures ∙ ap (λ p. answer_told p c.args.over c.args.refuse) (sym at) in
     let told : c.told_with-told.result
-    ≡ receiver_told (answer_of (receiver_at w) c.args.over c.args.refuse) c.args.entry w = cc in
+    ≡ receiver_told (answer_told (receiver_at w) c.args.over c.args.refuse) c.args.entry w = cc in
     rw (← c.self.view_is, c.advance.ensures)
-    (receiver_turn_made (answer_of (receiver_at w) c.args.over c.args.refuse) c.args.entry w c.in-Some.position
+    (receiver_turn_made (answer_told (receiver_at w) c.args.over c.args.refuse) c.args.entry w c.in-Some.position
     c.told_with-told.result c.step_receiver-made.result c.step_receiver-made.new.self at told
     c.step_receiver-made.ensures)

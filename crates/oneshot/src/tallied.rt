@@ -1,0 +1,41 @@
+//! A caller that adds up its calls: its receiver's log is that of both.
+
+ghost use Rattle.std.specs.Prelude.{◌≡◌, [], ◌∷◌};
+ghost use Rattle.oneshot.specs.BetweenCalls.{try_recv_reply};
+ghost use Rattle.oneshot.specs.Called.{as_receiver, ReceiverCalled};
+ghost use Rattle.oneshot.specs.Ends.{Waking};
+ghost use Rattle.oneshot.specs.ReceiverStart.TheVariants.{TryRecv};
+
+use crate::{Receiver, TryRecvError, channel};
+use std::test::Fail;
+
+/// Tries twice to receive. The receiver has made no call before.
+fn tried_twice<T: Send + Drop>(
+    receiver: &mut Receiver<T, ()>,
+) -> (Result<T, TryRecvError>, Result<T, TryRecvError>)
+    requires { receiver.old.log ≡ [] }
+    ensures { ReceiverCalled T Waking as_receiver
+        ((TryRecv, try_recv_reply result.0) ∷ (TryRecv, try_recv_reply result.1) ∷ []) receiver.new.log }
+{
+    let first = receiver.try_recv();
+    let second = receiver.try_recv();
+    (first, second)
+}
+
+#[test]
+fn nothing_is_there_and_then_nobody(rt: HostRuntime) -> Result<(), Fail> {
+    let (sender, mut receiver) = channel::<u8, ()>((), rt.alloc())?;
+    let kept = tried_twice(&mut receiver);
+    assert_eq!(rt; kept, (Err(TryRecvError::Empty), Err(TryRecvError::Empty)));
+    drop(sender);
+    let (_, mut receiver) = channel::<u8, ()>((), rt.alloc())?;
+    let gone = tried_twice(&mut receiver);
+    assert_eq!(rt;
+        gone,
+        (
+            Err(TryRecvError::Disconnected),
+            Err(TryRecvError::Disconnected)
+        )
+    );
+    Ok(())
+}

@@ -1,0 +1,120 @@
+-- The examples of calls: each log call by call, and why the others are none.
+use Rattle.std.proofs.Common.{◌≡◌, true, false, List, [], ◌∷◌, ◌++◌, Some, None, get_or, refl, ap, subst, ◌∙◌}
+use Rattle.std.specs.List.{cons_option}
+use Rattle.std.specs.Option.{option_map}
+use Rattle.oneshot_machine.specs.declared.machine.Reply.{Reply}
+use Rattle.oneshot_machine.specs.declared.machine.Reply.TheVariants as R
+use Rattle.oneshot_machine.specs.declared.machine.Seen.{Seen}
+use Rattle.oneshot_machine.specs.declared.machine.Seen.TheVariants.{Done, Word, Refused}
+use Rattle.oneshot_machine.specs.declared.machine.Step.{Step}
+use Rattle.oneshot_machine.specs.declared.machine.Step.TheVariants as Steps
+use Rattle.oneshot_machine.specs.declared.machine.future.FuturePos.TheVariants as F
+use Rattle.oneshot_machine.specs.declared.machine.receiver.ReceiverPos.TheVariants.{Try, Future}
+use Rattle.oneshot_machine.specs.declared.machine.receiver.ReceiverStart.{ReceiverStart}
+use Rattle.oneshot_machine.specs.declared.machine.receiver.ReceiverStart.TheVariants.{TryRecv, Recv, Poll, IntoFuture}
+use Rattle.oneshot_machine.specs.declared.machine.sender.SenderCall.{SenderCall}
+use Rattle.oneshot_machine.specs.declared.machine.sender.SenderCall.TheVariants.{Send, Drop}
+use Rattle.oneshot_machine.specs.declared.machine.sender.SenderPos.TheVariants.{SendWrite, SendAdd}
+use Rattle.oneshot_machine.specs.declared.machine.try_recv.TryPos.TheVariants.{TryLoad, Close, Take}
+use Rattle.oneshot_machine.specs.declared.states.Op.{Op}
+use Rattle.oneshot_machine.specs.declared.states.Op.TheVariants.{Load, Store, Exchange, Add}
+use Rattle.oneshot_machine.specs.Called.{Form, as_receiver, stays, ReceiverCalled, not_called, called, became_future, SenderCalled, not_called_yet, called_once}
+use Rattle.oneshot_machine.specs.Logs.{Event, did, worded, words}
+use Rattle.oneshot_machine.specs.Noted.{Noted, op_of}
+use Rattle.oneshot_machine.specs.Receiver.{receiver_start, receiver_step, receiver_row}
+use Rattle.oneshot_machine.specs.Runs.{Run, last, more}
+use Rattle.oneshot_machine.specs.TableRows.{Goes, Answers}
+use Rattle.oneshot_bridge.specs.CallExamples.{tried_twice, WorkedCalls, WrongCalls}
+use Rattle.oneshot_bridge.proofs.Interleaves.{not_empty, same_start, same_last}
+
+-- the first call of a receiver
+record IsFirst (T W : Type 0) (x : ReceiverStart × Reply) (log : List Noted) : Type 0 where
+  run : List (Event T W)
+  its : stays as_receiver x.0 ≡ true
+  made : Run receiver_step receiver_row (receiver_start x.0) run x.1
+  leaves : log ≡ words run
+
+module _ {T W : Type 0} where
+  abbrev saw : Step → Seen → Event T W
+  saw step seen = record { step = step; seen = seen; message = None; waker = None }
+
+  tries_once : ReceiverCalled T W as_receiver ((TryRecv, R.Empty) ∷ []) ((Load, Word 3) ∷ [])
+  tries_once = called TryRecv R.Empty (worded Load 3 ∷ []) not_called refl (last (worded Load 3) refl refl)
+
+  pub worked_calls : WorkedCalls T W
+  worked_calls =
+      record {
+        tries =
+            called TryRecv R.Message (worded Load 4 ∷ worded (Store 2) 4 ∷ did Steps.TakeMessage ∷ []) tries_once refl
+            (more (Try Close) (worded Load 4) _ refl refl
+            (more (Try Take) (worded (Store 2) 4) _ refl refl (last (did Steps.TakeMessage) refl refl)));
+        polls =
+            called Poll R.Pending
+            (worded Load 3 ∷ saw Steps.Copy (Refused false) ∷ did Steps.WriteWaker ∷ worded (Exchange 3 0) 3 ∷ [])
+            (became_future tries_once) refl
+            (more (Future F.PollCopy) (worded Load 3) _ refl refl
+            (more (Future F.PollWrite) (saw Steps.Copy (Refused false)) _ refl refl
+            (more (Future F.PollExchange) (did Steps.WriteWaker) _ refl refl
+            (last (worded (Exchange 3 0) 3) refl refl))));
+        sends =
+            called_once Send R.Sent (did Steps.WriteMessage ∷ worded Add 3 ∷ []) refl
+            (more SendAdd (did Steps.WriteMessage) _ refl refl (last (worded Add 3) refl refl));
+      }
+
+  -- without a call no operation
+  made_none : {form : Form} {calls : List (ReceiverStart × Reply)} {log : List Noted}
+      → ReceiverCalled T W form calls log → calls ≡ [] → log ≡ []
+  made_none not_called none = refl
+  made_none (called {calls = calls} call reply run was its made) none = absurd (not_empty calls (call, reply) none)
+  made_none (became_future {calls = calls} was) none = absurd (not_empty calls (IntoFuture, R.Future) none)
+
+  first_call : (x : ReceiverStart × Reply) {calls : List (ReceiverStart × Reply)} {log : List Noted}
+      → ReceiverCalled T W as_receiver calls log → calls ≡ x ∷ [] → IsFirst T W x log
+  first_call x not_called is = absurd (cc is)
+  first_call x (called {calls = calls} {log = log} call reply run was its made) is =
+      subst (λ x. IsFirst T W x (log ++ words run)) (same_last calls [] (call, reply) x is)
+      (record {
+        run = run;
+        its = its;
+        made = made;
+        leaves = ap (λ ns. ns ++ words run) (made_none was (same_start calls [] (call, reply) x is));
+      })
+
+  -- what the first step saw, by the log
+  first_seen : (x : Event T W) (xs : List (Event T W)) {op : Op} {seen : Seen} {zs : List Noted}
+      → x.step ≡ Steps.Word op → (op, seen) ∷ zs ≡ words (x ∷ xs) → seen ≡ x.seen
+  first_seen x xs {op} {seen} is same =
+      let begins : words (x ∷ xs) ≡ (op, x.seen) ∷ words xs =
+      ap (λ step. cons_option (option_map (λ op. (op, x.seen)) (op_of step)) (words xs)) is in
+      ap (λ (log : List Noted). (get_or {A = Noted} log 0 (op, seen)).1) (same ∙ begins)
+
+  -- a `try_recv` that found 3 answers that nothing is there
+  tries_in_vain : {run : List (Event T W)} → Run receiver_step receiver_row (Try TryLoad) run R.Message
+      → (Load, Word 3) ∷ [] ≡ words run → ⊥
+  tries_in_vain (last x is leads) same =
+      let row : Some (Answers R.Empty) ≡ Some (Answers R.Message) =
+      ap (receiver_row (Try TryLoad)) (first_seen x [] is same) ∙ leads in cc row
+  tries_in_vain (more next x xs is leads rest) same =
+      let row : Some (Answers R.Empty) ≡ Some (Goes next) =
+      ap (receiver_row (Try TryLoad)) (first_seen x xs is same) ∙ leads in cc row
+
+  sends_once : {calls : List (SenderCall × Reply)} {log : List Noted} → SenderCalled T W calls log
+      → calls ≡ (Send, R.Sent) ∷ (Drop, R.Done) ∷ [] → ⊥
+  sends_once not_called_yet is = cc is
+  sends_once (called_once call reply run its made) is = cc is
+
+  pub wrong_calls : WrongCalls T W
+  wrong_calls =
+      record {
+        leaves_none = λ was. let none : tried_twice ≡ [] = made_none was refl in cc none;
+        has_ended =
+            λ log was. let first : IsFirst T W (Recv, R.Message) log = first_call (Recv, R.Message) was refl in
+            let stays_not : false ≡ true = first.its in cc stays_not;
+        polls_not =
+            λ log was. let first : IsFirst T W (Poll, R.Pending) log = first_call (Poll, R.Pending) was refl in
+            let stays_not : false ≡ true = first.its in cc stays_not;
+        takes_nothing =
+            λ was. let first : IsFirst T W (TryRecv, R.Message) ((Load, Word 3) ∷ []) =
+            first_call (TryRecv, R.Message) was refl in tries_in_vain first.made first.leaves;
+        sends_once = λ log was. sends_once was refl;
+      }

@@ -1,0 +1,58 @@
+-- Between calls: an order of both ends' logs is that of a run with the calls that the ends have answered.
+use Rattle.std.proofs.Common.{subst}
+use Rattle.std.specs.Prelude.{◌≤◌, filter, length}
+use Rattle.oneshot_machine.proofs.InOrders.{in_order}
+use Rattle.oneshot_bridge.specs.CallsRun.{CallsAreRuns, BothCallsAreRuns, OneCallGets}
+use Rattle.oneshot_bridge.specs.Gives.{HaveCome, gave_message}
+use Rattle.oneshot_bridge.proofs.Given.{one_receive_gets}
+use Rattle.oneshot_bridge.proofs.ReceiverStands.{calls}
+use Rattle.oneshot_bridge.proofs.SenderScripted.{sender_scripted}
+use Rattle.oneshot_bridge.proofs.StatesRun.{orders_run}
+use Rattle.oneshot_bridge.proofs.ReceiverCalls.{ReceiverDone, receiver_done}
+use Rattle.oneshot_bridge.proofs.SenderCalls.{SenderDone, sender_done}
+
+pub calls_run : (T W : Type 0) → CallsAreRuns T W
+calls_run T W message form received xs ys word order was =
+    let a = sender_scripted T message xs ys word order in
+    let b : ReceiverDone received ys = receiver_done form was in
+    record {
+      sender = a.0;
+      sends = a.1;
+      receiver = b.script;
+      s = a.2;
+      r = b.stand;
+      run = orders_run T a.0 b.script xs ys word a.2 b.stand (in_order order) a.3 b.walk;
+      rests = b.rests;
+      none_left = b.none_left;
+      answered = b.answered;
+    }
+
+pub both_calls_run : (T W : Type 0) → BothCallsAreRuns T W
+both_calls_run T W message form sent received xs ys word order sender receiver =
+    let a : SenderDone message sent xs = sender_done message sender in
+    let b : ReceiverDone received ys = receiver_done form receiver in
+    record {
+      calls = record {
+        sender = a.script;
+        sends = a.sends;
+        receiver = b.script;
+        s = a.stand;
+        r = b.stand;
+        run = orders_run T a.script b.script xs ys word a.stand b.stand order a.walk b.walk;
+        rests = b.rests;
+        none_left = b.none_left;
+        answered = b.answered;
+      };
+      rests = a.rests;
+      none_left = a.none_left;
+      answered = a.answered;
+    }
+
+pub one_call_gets : (T W : Type 0) → OneCallGets T W
+one_call_gets T W message form received xs ys word order was =
+    let a = sender_scripted T message xs ys word order in
+    let b : ReceiverDone received ys = receiver_done form was in
+    let come : HaveCome a.0 b.script xs ys word a.2 b.stand =
+    record { order = in_order order; sender = a.3; receiver = b.walk } in
+    subst (λ told. length (filter gave_message told) ≤ 1) b.answered
+    (one_receive_gets T a.0 b.script xs ys word a.2 b.stand come)

@@ -1,0 +1,6 @@
+-- The future is pending still, and the polls so far keep what the poll has registered.
+use Rattle.futures.specs.Task.{Keeps}
+use Rattle.oneshot_loops.proofs.polled.pend.Given as goal
+
+abbrev pub invariant-loop-polled : goal.invariant-loop-polled
+invariant-loop-polled g l = g.F.Future.can_poll l.future × Keeps l.fn.cx l.cx

@@ -1,0 +1,6 @@
+-- There is a channel for each request so far.
+use Rattle.std.proofs.Common.{◌≡◌, vec_len}
+use Rattle.oneshot_loops.proofs.round_trip.channels.Given as goal
+
+abbrev pub invariant-loop-opened : goal.invariant-loop-opened
+invariant-loop-opened g l = vec_len l.senders ≡ l._opened

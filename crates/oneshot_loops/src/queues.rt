@@ -1,0 +1,36 @@
+//! A thread that awaits one future after another, in one queue.
+
+use crate::fault::Fault;
+use futures::Future;
+use futures::executor::block_on_queue;
+use futures::task::{Doorbell, Queue};
+use std::alloc::{AllocError, AllocGlobal};
+use std::io;
+use std::io::ErrorKind;
+use std::random::RandomSource;
+use std::sync::Wait;
+
+/// A queue whose thread sleeps while nothing is ready. `Err` where it cannot be made.
+pub fn queue<R: RandomSource + AllocGlobal>(rt: &R) -> Result<Queue, Fault> {
+    Queue::new(rt, Doorbell::parking()).map_err(task_fault)
+}
+
+/// Awaits the message of `receiver` as a task of `queue`. `Err` where the task cannot be made, or no message comes.
+pub fn awaited<T, E: Drop, R: Wait, F: Future<Output = Result<T, E>>>(
+    rt: &R,
+    queue: &Queue,
+    receiver: F,
+) -> Result<T, Fault>
+    requires { F.can_poll receiver }
+{
+    let received = block_on_queue(rt, queue, receiver).map_err(task_fault)?;
+    received.map_err(|_| Fault::MessageLost)
+}
+
+/// Why a task could not be made.
+pub fn task_fault(error: io::Error) -> Fault {
+    match error.kind() {
+        ErrorKind::OutOfMemory => Fault::OutOfMemory(AllocError),
+        _ => Fault::TaskFailed,
+    }
+}
