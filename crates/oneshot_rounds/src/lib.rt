@@ -18,6 +18,8 @@ mod duels;
 #[cfg(test)]
 mod line;
 #[cfg(test)]
+mod looks;
+#[cfg(test)]
 mod nested;
 #[cfg(test)]
 mod notes;

@@ -9,6 +9,7 @@ mod leaks;
 mod lives;
 mod overdue;
 mod polls;
+mod promised;
 mod raw;
 mod refused;
 mod steps;

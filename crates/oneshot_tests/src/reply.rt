@@ -1,5 +1,7 @@
 //! Requests, their tickets and the replies, of which each answers the ticket's own question.
 
+mod threads;
+
 use futures::executor::block_on;
 use oneshot::reply::{Answer, Length, Request, Ticket, request};
 use oneshot::{RecvError, RecvTimeoutError, TryRecvError};

@@ -1,0 +1,68 @@
+//! Requests, tickets and replies on other threads than their makers'.
+
+use super::{TEXT, ask, bytes_of};
+use oneshot::TryRecvError;
+use oneshot::reply::{Answer, Length, Request, Ticket};
+use std::test::Fail;
+use std::thread::{Threads, join};
+
+// What a ticket takes on another thread.
+fn taken_there<Q: Eq + Send + Drop, A: Answer<Q> + Send + Drop, Rt: Send + Drop>(
+    rt: &impl Threads,
+    mut ticket: Ticket<Q, A, Rt>,
+) -> Result<A, TryRecvError> {
+    let (taken, ()) = join(rt, move || ticket.try_take(), || ());
+    taken
+}
+
+// Whether another thread could answer: the reply fits, and the ticket was there.
+fn answered_there<Q: Eq + Send + Drop, A: Answer<Q> + Send + Drop>(
+    rt: &impl Threads,
+    request: Request<Q, A>,
+    reply: A,
+) -> bool {
+    let (answered, ()) = join(
+        rt,
+        move || request.fits(&reply) && request.answer(reply).is_ok(),
+        || (),
+    );
+    answered
+}
+
+#[test]
+fn a_request_and_its_ticket_go_to_other_threads(rt: HostRuntime) -> Result<(), Fail> {
+    let (request, ticket) = ask((), rt.alloc())?;
+    let length = Length::of(String::from_str(rt.alloc(), TEXT)?);
+    assert!(rt; answered_there(&rt, request, length));
+    assert_eq!(rt; taken_there(&rt, ticket).map(bytes_of), Ok(21));
+    Ok(())
+}
+
+// What two threads find that look at one request.
+fn two_looks<Q: Eq + Send + Sync, A: Answer<Q> + Send + Sync>(
+    rt: &impl Threads,
+    request: &Request<Q, A>,
+) -> (bool, bool) {
+    join(rt, || request.is_cancelled(), || request.is_cancelled())
+}
+
+#[test]
+fn two_threads_look_at_one_request(rt: HostRuntime) -> Result<(), Fail> {
+    let (request, ticket) = ask((), rt.alloc())?;
+    assert_eq!(rt; two_looks(&rt, &request), (false, false));
+    drop(ticket);
+    assert_eq!(rt; two_looks(&rt, &request), (true, true));
+    Ok(())
+}
+
+// What two threads read of one reply.
+fn two_readings(rt: &impl Threads, length: &Length) -> (usize, usize) {
+    join(rt, || length.bytes(), || length.bytes())
+}
+
+#[test]
+fn two_threads_read_one_reply(rt: HostRuntime) -> Result<(), Fail> {
+    let length = Length::of(String::from_str(rt.alloc(), TEXT)?);
+    assert_eq!(rt; two_readings(&rt, &length), (21, 21));
+    Ok(())
+}
