@@ -5,7 +5,6 @@ use Rattle.oneshot_machine.proofs.InOrders.{in_order}
 use Rattle.oneshot_bridge.specs.CallsRun.{CallsAreRuns, BothCallsAreRuns, OneCallGets}
 use Rattle.oneshot_bridge.specs.Gives.{HaveCome, gave_message}
 use Rattle.oneshot_bridge.proofs.Given.{one_receive_gets}
-use Rattle.oneshot_bridge.proofs.ReceiverStands.{calls}
 use Rattle.oneshot_bridge.proofs.SenderScripted.{sender_scripted}
 use Rattle.oneshot_bridge.proofs.StatesRun.{orders_run}
 use Rattle.oneshot_bridge.proofs.ReceiverCalls.{ReceiverDone, receiver_done}

@@ -10,7 +10,7 @@ use Rattle.oneshot_machine.specs.declared.machine.sender.SenderPos.TheVariants a
 use Rattle.oneshot_machine.specs.Called.{SenderCalled, not_called_yet, called_once}
 use Rattle.oneshot_machine.specs.Logs.{Event, words}
 use Rattle.oneshot_machine.specs.Noted.{Noted}
-use Rattle.oneshot_machine.specs.Runs.{Run, last}
+use Rattle.oneshot_machine.specs.Runs.{Run}
 use Rattle.oneshot_machine.specs.Sender.{sender_start, sender_step, sender_row, sender_rows}
 use Rattle.oneshot_world.specs.Calls.{Call, Of_sender, left_by}
 use Rattle.oneshot_world.specs.declared.script.ErrorLast.TheVariants as EL
@@ -21,7 +21,6 @@ use Rattle.oneshot_bridge.specs.CallsRun.{sender_answered, is_at_rest}
 use Rattle.oneshot_bridge.specs.Scripted.{SendsOnly}
 use Rattle.oneshot_bridge.specs.Walks.{SenderStand, SenderWalk, the_sender, opening_sender, begins}
 use Rattle.oneshot_bridge.proofs.CallsWalk.{Walks, RowsFit, fit_walks, HasAnswered, call_walks}
-use Rattle.oneshot_bridge.proofs.ReceiverStands.{calls}
 
 -- WHAT IS COMPUTED: the rows of each of the sender's positions
 abbrev any_position : SenderPos → Bool

@@ -125,9 +125,15 @@ fn a_fault_is_one_line_and_a_status(rt: HostRuntime) -> Result<(), Fail> {
         (Fault::Rounds(rounds::Fault::ClockFailed), "1 clock failed"),
         (Fault::WriteFailed, "1 write failed"),
         (Fault::Rounds(rounds::Fault::MessageLost), "1 message lost"),
-        (Fault::Rounds(rounds::Fault::CannotRun), "2 channel cannot run this loop"),
+        (
+            Fault::Rounds(rounds::Fault::CannotRun),
+            "2 channel cannot run this loop",
+        ),
         (Fault::Rounds(rounds::Fault::TaskFailed), "1 task failed"),
-        (Fault::Rounds(rounds::Fault::OutOfMemory(AllocError)), "3 out of memory"),
+        (
+            Fault::Rounds(rounds::Fault::OutOfMemory(AllocError)),
+            "3 out of memory",
+        ),
         (Fault::OutOfMemory(AllocError), "3 out of memory"),
     ];
     for (fault, text) in faults {

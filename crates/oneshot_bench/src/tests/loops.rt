@@ -1,5 +1,10 @@
 //! That each loop does what its name says, and tells a message that is lost.
 
+use crossbeam_channel::bounded;
+use futures::channel::oneshot::channel as futures_channel;
+use futures::future::ready;
+use futures::task::Context;
+use oneshot::{async_channel, channel};
 use oneshot_loops::channels::Channel;
 use oneshot_loops::fault::Fault;
 use oneshot_loops::loops::{Awaited, Loop};
@@ -10,11 +15,6 @@ use oneshot_loops::round_trip::{Request, ask, serve};
 use oneshot_loops::rounds::repeat;
 use oneshot_loops::tally::Tally;
 use oneshot_loops::{awaited_trips, crossbeam_trips, futures_trips};
-use crossbeam_channel::bounded;
-use futures::channel::oneshot::channel as futures_channel;
-use futures::future::ready;
-use futures::task::Context;
-use oneshot::{async_channel, channel};
 use std::cell::Cell;
 use std::io;
 use std::test::Fail;
