@@ -5,8 +5,7 @@ use Rattle.oneshot_machine.specs.declared.machine.Reply.TheVariants as R
 use Rattle.oneshot_machine.specs.declared.machine.receiver.ReceiverStart.{ReceiverStart}
 use Rattle.oneshot_machine.specs.declared.machine.receiver.ReceiverStart.TheVariants as RC
 use Rattle.oneshot_machine.specs.declared.machine.sender.SenderCall.TheVariants.{Send}
-use Rattle.oneshot_machine.specs.Called.{Form, as_receiver, as_future, stays, ReceiverCalled, not_called, called, became_future, SenderCalled, called_once}
-use Rattle.oneshot_machine.specs.Logs.{words}
+use Rattle.oneshot_machine.specs.Called.{Form, as_receiver, as_future, stays, ReceiverCalled, not_called, called, became_future, called_once}
 use Rattle.oneshot_machine.specs.Noted.{Noted}
 use Rattle.oneshot_word.specs.Side.{Side}
 use Rattle.oneshot_ends.specs.Ends.{Waking, SenderGrew, ReceiverGrew, HasCalls, WasRefused}

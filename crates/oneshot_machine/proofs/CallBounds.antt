@@ -1,6 +1,6 @@
 -- The most operations that are left at each position of the calls that have a bound, and what a run of such a
 -- call makes.
-use Rattle.std.proofs.Common.{◌≡◌, ℕ, ◌≤◌, Bool, true, List, Option, Some, None, refl}
+use Rattle.std.proofs.Common.{◌≡◌, ℕ, ◌≤◌, true, List, Option, Some, None, refl}
 use Rattle.std.specs.Prelude.{length}
 use Rattle.oneshot_machine.specs.declared.machine.Reply.{Reply}
 use Rattle.oneshot_machine.specs.declared.machine.Seen.{Seen}

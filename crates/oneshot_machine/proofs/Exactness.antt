@@ -1,5 +1,5 @@
 -- The law that ties the phases' table of an end to its positions, from what is computed for each phase.
-use Rattle.std.proofs.Common.{◌≡◌, ℕ, Bool, true, false, not, ◌&&◌, List, [], ◌∷◌, ◌++◌, None, refl, sym, ap, ◌∙◌, subst, All, Contains, true≢false, cond, arith}
+use Rattle.std.proofs.Common.{◌≡◌, ℕ, Bool, true, false, not, ◌&&◌, List, [], ◌∷◌, None, refl, sym, ap, ◌∙◌, subst, All, Contains, true≢false, cond, arith}
 use Rattle.std.specs.Prelude.{◌==◌, if◌then◌else◌, is_some, filter}
 use Rattle.std.specs.List.{list_all, list_any, flat_map}
 use Rattle.std.proofs.lemmas.Bool.{and_parts}
