@@ -1,10 +1,12 @@
 //! A look of one end, beside the other end's call: where it sees that this was made, the next call of its
-//! own end answers so.
+//! own end answers so. A future was polled before, so that its look may come between the sender's operations.
 
 use super::answers::Silence::{self, Disconnected};
 use super::answers::assert_answers;
 use super::channels::channels;
+use super::pending::polled_channels;
 use super::races::race;
+use futures::test::MockTask;
 use std::test::Fail;
 
 const ROUNDS: u64 = 10_000;
@@ -49,15 +51,15 @@ fn a_sender_that_was_seen_gone_sends_nothing(rt: HostRuntime) -> Result<(), Fail
 
 #[test]
 fn a_future_that_saw_its_message_gives_it(rt: HostRuntime) -> Result<(), Fail> {
-    let (senders, receivers) = channels(&rt, ROUNDS)?;
+    let task = MockTask::new(&rt)?;
+    let (senders, futures) = polled_channels(&rt, &task)?;
     let (_, looks) = race(
         &rt,
         rt.alloc(),
         senders,
-        receivers,
+        futures,
         |sender| sender.send(999u64).is_ok(),
-        |receiver| {
-            let mut future = receiver.into_future();
+        |mut future| {
             let seen = future.has_message();
             let received = future.try_recv();
             seen.then_some(received.map_err(|error| Silence::from(error)))
@@ -69,15 +71,15 @@ fn a_future_that_saw_its_message_gives_it(rt: HostRuntime) -> Result<(), Fail> {
 
 #[test]
 fn a_future_that_saw_its_sender_gone_gives_nothing(rt: HostRuntime) -> Result<(), Fail> {
-    let (senders, receivers) = channels::<u64, _>(&rt, ROUNDS)?;
+    let task = MockTask::new(&rt)?;
+    let (senders, futures) = polled_channels::<u64, _>(&rt, &task)?;
     let (_, looks) = race(
         &rt,
         rt.alloc(),
         senders,
-        receivers,
+        futures,
         |sender| drop(sender),
-        |receiver| {
-            let mut future = receiver.into_future();
+        |mut future| {
             let seen = future.is_closed();
             let received = future.try_recv();
             seen.then_some(received.map_err(|error| Silence::from(error)))

@@ -27,7 +27,7 @@ const LEAST: u64 = 10;
 const BATCHES: u64 = 400;
 
 /// For so many seconds a test begins batches. On an idle machine it needs two.
-const SECONDS: u64 = 30;
+const SECONDS: u64 = 12;
 
 /// A message that fills some pages.
 type Wide = [u64; 1024];

@@ -15,7 +15,7 @@ use std::test::Fail;
 const ROUNDS: u64 = 10_000;
 
 /// So many channels, whose futures this task has polled once.
-fn polled_channels<'r, T: Send + Drop, R: AllocGlobal + RandomSource + Abort>(
+pub(super) fn polled_channels<'r, T: Send + Drop, R: AllocGlobal + RandomSource + Abort>(
     rt: &'r R,
     task: &MockTask,
 ) -> Result<(Vec<Sender<T>>, Vec<AsyncReceiver<T, &'r R>>), Fail> {

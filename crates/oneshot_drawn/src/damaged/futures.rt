@@ -104,6 +104,15 @@ pub(crate) const POLLED_ONCE: Damaged = (
             "entry 1: this waker may not go from Hand to Dropped",
         ),
         (
+            "the copy is dropped before it is in the hand",
+            "rrr",
+            &[Edit::Waker(
+                3,
+                Some((FIRST, WakerPlace::New, WakerPlace::Dropped)),
+            )],
+            "entry 3: this waker may not go from New to Dropped",
+        ),
+        (
             "the copy is of another task's waker",
             "rrrrrssssrrrrs",
             &[Edit::Waker(

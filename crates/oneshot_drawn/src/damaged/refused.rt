@@ -113,6 +113,15 @@ pub(crate) const DROPPED: Damaged = (
             "entry 4: all have ended and the message is InError",
         ),
         (
+            "the drop of the error gives the message back",
+            "rssss",
+            &[
+                Edit::Message(4, Some((Place::InError, Place::FromError))),
+                Edit::Rest(Some((Place::FromError, 7))),
+            ],
+            "entry 4: this call may not put the message FromError",
+        ),
+        (
             "the drop of the error answers in other words",
             "rssss",
             &[Edit::Reply(5, Some(Reply::Yes))],

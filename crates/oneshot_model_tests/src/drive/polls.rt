@@ -76,6 +76,31 @@ fn a_refused_copy_leaves_the_stored_one(rt: HostRuntime) -> Result<(), Fail> {
     Ok(())
 }
 
+// By then the second poll has taken the first task's copy back.
+#[test]
+fn a_copy_refused_at_the_third_poll_leaves_the_stored_one(rt: HostRuntime) -> Result<(), Fail> {
+    let first = MemoryTask::new();
+    let second = MemoryTask::new();
+    let mut g = MemoryFuture::<'_, '_, u64, _>::new(&rt, rt.alloc(), &first);
+    assert!(rt; matches!(&poll(&mut g), Poll::Pending));
+    g.task = &second;
+    assert!(rt; matches!(&poll(&mut g), Poll::Pending));
+    g.task = &first;
+    g.refuses = true;
+    assert!(rt; matches!(&poll(&mut g), Poll::Pending));
+    assert!(rt; counts(&first) == (1, 1, 1));
+    assert!(rt; counts(&second) == (1, 0, 0));
+    let steps = steps_of(rt.alloc(), g.receiver.events())?;
+    assert_eq!(rt;
+        steps.as_str(),
+        "load:3, copy:made, write-waker, exchange 3 0:3, load:0, copy:made, exchange 0 3:0, \
+        withdraw, write-waker, exchange 3 0:3, load:0, copy:refused, wake-own"
+    );
+    g.receiver.sender_sends(1234);
+    assert!(rt; counts(&second) == (1, 1, 1));
+    Ok(())
+}
+
 #[test]
 fn a_copy_whose_exchange_failed_is_dropped(rt: HostRuntime) {
     let task = MemoryTask::new();
