@@ -106,10 +106,7 @@ pub(crate) const POLLED_ONCE: Damaged = (
         (
             "the copy is dropped before it is in the hand",
             "rrr",
-            &[Edit::Waker(
-                3,
-                Some((FIRST, WakerPlace::New, WakerPlace::Dropped)),
-            )],
+            &[Edit::Waker(3, Some((FIRST, WakerPlace::New, WakerPlace::Dropped)))],
             "entry 3: this waker may not go from New to Dropped",
         ),
         (
