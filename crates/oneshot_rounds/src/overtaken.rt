@@ -26,7 +26,7 @@ const LEAST: u64 = 10;
 
 const BATCHES: u64 = 400;
 
-/// For so many seconds a test begins batches. On an idle machine it needs two.
+/// For so many seconds a test begins batches. On an idle machine it needs less than one.
 const SECONDS: u64 = 12;
 
 /// A message that fills some pages.
