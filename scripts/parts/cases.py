@@ -1,0 +1,44 @@
+"""Cases of a program, which `rt try` builds once and runs on each: its input, its exit status and what it writes."""
+import pathlib
+import re
+import subprocess
+import tempfile
+
+from parts.compare import same_lines
+
+
+def try_program(crate, given, *flags, environment=None):
+    """Runs the program of a crate on each of these inputs, by their names. What they wrote, and what was said of them."""
+    with tempfile.TemporaryDirectory() as folder:
+        for name, text in given.items():
+            (pathlib.Path(folder) / name).write_bytes(text)
+        ran = subprocess.run(["rt", "try", *flags, "--cases", folder], cwd=crate, capture_output=True, env=environment,
+                             stdin=subprocess.DEVNULL)
+    return ran.stdout.decode(), ran.stderr.decode(errors="replace")
+
+
+class Cases:
+    """Cases of one program, in their order, and what they have to write."""
+
+    def __init__(self):
+        self.given, self.output, self.errors = {}, [], []
+
+    def add(self, given, status, error="", output="", argument=None):
+        """This input ends with this status and line on standard error, and writes this and nothing else."""
+        # rt try takes the cases in the order of their names.
+        name = f"case-{len(self.output):02}"
+        self.given[name] = given.encode("latin-1")
+        if argument:
+            self.given[f"{name}.args"] = f"{argument}\n".encode()
+        self.output.append(f"== {name}\n{output}")
+        self.errors += ([error] if error else []) + [f"{name}: status {status}"]
+
+    def run(self, crate, *flags, **options):
+        written, said = try_program(crate, self.given, *flags, **options)
+        # What is left are the program's own lines, and how each case ended.
+        told = [re.sub(r"^case=(\S+) run=ended status=(\d+) .*", r"\1: status \2", line) for line in said.splitlines()
+                if not re.match(r"(allocations|rt): |cases=", line)]
+        page = f"scripts/faults, {crate.name}"
+        same_lines("output", page, written.split("\n"), "".join(self.output).split("\n"))
+        same_lines("statuses and errors", page, told, self.errors)
+        return f"{crate.name}: {len(self.output)} cases"

@@ -1,0 +1,45 @@
+"""Pages of Markdown: their blocks of code and their tables."""
+import collections
+import pathlib
+
+from parts.compare import Differs
+
+TOP = pathlib.Path(__file__).resolve().parent.parent.parent
+Block = collections.namedtuple("Block", "line language section lines")
+
+
+def page_text(page):
+    return (TOP / page).read_text()
+
+
+def fold(text):
+    return " ".join(text.split())
+
+
+def blocks(page):
+    """The blocks of a page, each with its first line and the section that it is in."""
+    section, block = "", None
+    for number, line in enumerate(page_text(page).split("\n"), 1):
+        if line.startswith("```"):
+            if block:
+                yield block
+            block = None if block else Block(number, line[3:].strip(), section, [])
+        elif block:
+            block.lines.append(line)
+        elif line.startswith("## "):
+            section = line[3:]
+    if block:
+        raise Differs(f"{page}:{block.line}: a block has no end")
+
+
+def rows(page):
+    """The rows of all tables of a page, each with the heads of its table."""
+    heads = None
+    for line in page_text(page).split("\n"):
+        cells = [cell.strip() for cell in line.strip().strip("|").split("|")]
+        if not line.startswith("|"):
+            heads = None
+        elif heads is None:
+            heads = cells
+        elif not cells[0].startswith("---"):
+            yield heads, cells

@@ -1,0 +1,122 @@
+"""The definitions by which a contract or a law is stated and that no computed example reaches, by names.
+
+A contract is stated by what its clauses name, and by what the definitions of that name in turn. So is a law, which is
+the contract of a function whose body does nothing; the first name of its clause is the law itself, and needs no example
+where only laws name it. An example is what a clause names of a file of examples. The definitions that may stay out are in UNREACHED, with the
+reason. Clauses of private functions, what a type always keeps (`invariant`) and what an operation on the table finds
+(`then`) are not read: others are proved from them.
+"""
+import re
+from fnmatch import fnmatchcase
+
+from parts.compare import Differs, none_of
+from parts.sources import CRATES, block_end, code_of, functions, sources
+
+# Left out are the definitions of texts and programs, which tests compare with what is read and written, and those of
+# grounds in memory, which serve tests.
+READ = ["machine", "drive", "word", "ends", "reply", "world", "laws", "law_examples", "replay", "bridge", "values"]
+EXAMPLES = re.compile(r"\w+\.\w*Examples\.|oneshot_law_examples\.|oneshot_word\.Received\.Messages|\w+\.\w*Order\.W")
+
+# "crate.File", its definitions (also as patterns of the shell), and why no example has to reach them.
+UNREACHED = [
+    ("oneshot_drive.Blocking", "EndsAt HandAt Refills Stretch Way Went end_of load_of ref_end value_end",
+     "of `find`, which the drivers alone call, and from which their own clauses are proved"),
+    ("oneshot_machine.Exact", "Accepts IsAllowed IsExact IsFound", "the parts of the law `tables_are_exact`"),
+    ("oneshot_machine.Standing", "*", "what that law computes of each table"),
+    ("oneshot_machine.*", "*_number *_positions *_opens receiver_count", "the positions that it computes this of"),
+    ("oneshot_world.Classes", "*", "of the law `turns_commute`, for all classes"),
+    ("oneshot_bridge.Gives", "WhereverTheyReach HaveReached", "where a law holds"),
+]
+
+NAME = r"[A-Za-z_][A-Za-z0-9_']*"
+
+
+class Definitions:
+    """The definitions of specs/, each as "crate.File.name", and what a text names of them."""
+
+    def __init__(self):
+        # A variant of a type stands for its type.
+        self.bodies, self.types, self.imports = {}, {}, {}
+        for crate in READ:
+            for file in sorted((CRATES / f"oneshot_{crate}" / "specs").glob("*.antt")):
+                self.read(f"oneshot_{crate}.{file.stem}", re.sub(r"--.*", "", file.read_text()))
+
+    def read(self, module, text):
+        self.imports[module] = imports(text)
+        for part in re.split(r"(?m)^ *(?=abbrev pub|unfoldable pub|pub record|pub data)", text)[1:]:
+            kind, name = re.match(rf"\w+ (\w+) ({NAME})", part).groups()
+            part = re.sub(r"(?m)^module .*", "", part)
+            self.bodies[f"{module}.{name}"] = part
+            for variant in re.findall(rf"(?m)^ +({NAME}) :", part) if kind == "data" else []:
+                self.types[f"{module}.{variant}"] = f"{module}.{name}"
+
+    def named(self, module, imported, text):
+        names, files = imported
+        found = set()
+        for first, second in re.findall(rf"(?<![\w.'])({NAME})(?:\.({NAME}))?", text):
+            name = f"{files[first]}.{second}" if first in files else names.get(first, f"{module}.{first}")
+            found.add(self.types.get(name, name))
+        return {name for name in found if name in self.bodies}
+
+    def next_to(self, name):
+        module = name.rpartition(".")[0]
+        return self.named(module, self.imports[module], self.bodies[name]) - {name}
+
+    def reached(self, names):
+        """These, and all that their bodies name."""
+        seen, left = set(), list(names)
+        while left:
+            if (name := left.pop()) not in seen:
+                seen.add(name)
+                left += self.next_to(name)
+        return seen
+
+
+def imports(text):
+    """What each imported name is, and which file each other name of a file is."""
+    names, files = {}, {}
+    for path, listed, alias in re.findall(r"(?m)^\s*(?:ghost )?use Rattle\.([\w.]+?)(?:\.\{(.*)\}| as (\w+));?$", text):
+        path = path.replace(".specs.", ".")
+        files.update({alias: path} if alias else {})
+        for item in listed.split(", "):
+            name, _, other = item.partition(" as ")
+            names[other or name] = f"{path}.{name}"
+    return names, files
+
+
+def clauses(text):
+    """The clauses of each function that is not private and the ghost members, each with whether it is of a law."""
+    for _, owner, head, body in functions(text):
+        text = text.replace(head + body, "")
+        if re.search(r"\bpub\b", head) or re.search(r"\bfor\b|\btrait\b", owner):
+            for clause in re.finditer(r"\b(?:requires|ensures)\b[^{]*(?=\{)", head):
+                yield head[clause.end():block_end(head, clause.end())], body == "{}"
+    for member in re.finditer(r"\bghost (?!invariant|then)\w+\s*[:=]\s*(?=\{)", text):
+        yield text[member.end():block_end(text, member.end())], False
+
+
+def compare_reached():
+    definitions = Definitions()
+    stated, laws, named_by_laws = set(), set(), set()
+    for file in sources(*(f"oneshot_{crate}" for crate in READ)):
+        text = code_of(file)
+        imported = imports(text)
+        for clause, is_law in clauses(text):
+            names = definitions.named("", imported, clause)
+            if is_law:
+                named_by_laws |= names
+                laws |= definitions.named("", imported, re.match(rf"\{{\s*({NAME})?", clause)[0])
+            else:
+                stated |= names
+    examples = {name for name in named_by_laws if EXAMPLES.match(name)}
+    if not examples:
+        raise Differs("no examples")
+    stated |= named_by_laws - laws - examples
+    stated = definitions.reached(stated | {name for law in laws - examples for name in definitions.next_to(law)})
+    wrong = stated - definitions.reached(examples)
+    patterns = [f"{module}.{name}" for module, names, _ in UNREACHED for name in names.split()]
+    left_out = {name for name in wrong if any(fnmatchcase(name, pattern) for pattern in patterns)}
+    none_of([f"{name}: no example reaches it" for name in sorted(wrong - left_out)]
+            + [f"{pattern}: left out, though it is reached or states nothing" for pattern in patterns
+               if not any(fnmatchcase(name, pattern) for name in wrong)])
+    return f"{len(stated)} definitions, {len(left_out)} of them beyond the examples"
