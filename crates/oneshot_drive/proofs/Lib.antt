@@ -13,3 +13,5 @@ pub mod TriedFutures
 pub mod LeftCopies
 pub mod DroppedFutures
 pub mod OwnCopies
+pub mod EndExamples
+pub mod GroundExamples

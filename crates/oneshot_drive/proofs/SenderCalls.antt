@@ -135,15 +135,16 @@ module _ {T W : Type 0} where
         subst (λ (z : SenderAt × Held T × Held W). SenderMay z.0 (Swap word) z.1 z.2)
         (λ i. (sym (sender_still (handed TakeWaker y ∷ []) refl s) i, sym message i, sym waker i)) is.asks
 
-    pub finished_as : {m' : Held T} {w' : Held W} {j z : Log T W} (n : ℕ)
+    pub finished_as : {m' : Held T} {w' : Held W} {j z : Log T W} {woken : W → Type 0} (n : ℕ)
         → SenderFinds (sender_of k) (Swap word) n m w m' w' → Grows k j (worded (Swap word) n ∷ [])
-        → Grows j z (handed Wake y ∷ []) → Finishes word (not (n == 2)) b.log z
-    finished_as n made t u =
+        → Grows j z (handed Wake y ∷ []) → woken y → Finishes word (not (n == 2)) woken b.log z
+    finished_as n made t u woke =
         let ends = (found_so is_swap EndsAt refl (last_ends (sender_of k)) made).is_so in
         record {
           found = n;
           finds = subst (LastFinds n) (here_by ends.finds) ends.finds;
           waker = y;
+          woke = woke;
           grows = and_then (handed TakeWaker y ∷ []) _ s (and_then (worded (Swap word) n ∷ []) _ t u);
         }
 

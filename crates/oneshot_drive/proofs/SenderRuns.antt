@@ -12,6 +12,7 @@ use Rattle.oneshot_machine.specs.TableRows.{Goes, Answers}
 use Rattle.oneshot_machine.specs.Runs.{last, more, SenderRan}
 use Rattle.oneshot_machine.specs.Sender.{sender_step, sender_row}
 use Rattle.oneshot_machine.proofs.GrownLogs.{and_then}
+use Rattle.oneshot_drive.specs.Wakes.{wakes, wakes_none, SenderWoke}
 use Rattle.oneshot_drive.specs.BetweenCalls.{finishing, LastFinds, finds_waiting, finds_overdue, finds_gone, Finishes, send_reply}
 
 -- after its last operation a sender wakes, and then answers whether the receiver was here
@@ -39,90 +40,111 @@ drop_final finds_overdue = refl
 drop_late : {n : ℕ} → LastFinds n false → sender_row DropFinal (S.Word n) ≡ Some (Goes DropLateWake)
 drop_late finds_gone = refl
 
-module _ {T W : Type 0} where
+module _ {T W : Type 0} (woken : W → Type 0) where
   -- the runs of `send`
   pub send_ran : {l k j : Log T W} {x : T} (n : ℕ) → n ≡ 3 → Grows l k (wrote x ∷ []) → Grows k j (worded Add n ∷ [])
-      → SenderRan Send l j R.Sent (x ∷ []) []
+      → SenderWoke woken Send l j R.Sent (x ∷ []) []
   send_ran {x} n e s t =
       record {
-        run = wrote x ∷ worded Add n
-            ∷ [];
-        is_run =
-            more SendAdd _ _ refl refl (last _ refl (rw e));
-        grows = and_then _ _ s t;
-        gives = refl;
-        gets = refl;
+        ran = record {
+          run = wrote x ∷ worded Add n ∷ [];
+          is_run = more SendAdd _ _ refl refl (last _ refl (rw e));
+          grows = and_then _ _ s t;
+          gives = refl;
+          gets = refl;
+        };
+        wakes = wakes_none (rw e) refl;
       }
 
   pub send_refused : {l k j : Log T W} {x : T} (n : ℕ) → n ≡ 2 → Grows l k (wrote x ∷ [])
-      → Grows k j (worded Add n ∷ []) → SenderRan Send l j R.Refused (x ∷ []) []
+      → Grows k j (worded Add n ∷ []) → SenderWoke woken Send l j R.Refused (x ∷ []) []
   send_refused {x} n e s t =
       record {
-        run = wrote x ∷ worded Add n
-            ∷ [];
-        is_run =
-            more SendAdd _ _ refl refl (last _ refl (rw e));
-        grows = and_then _ _ s t;
-        gives = refl;
-        gets = refl;
+        ran = record {
+          run = wrote x ∷ worded Add n ∷ [];
+          is_run = more SendAdd _ _ refl refl (last _ refl (rw e));
+          grows = and_then _ _ s t;
+          gives = refl;
+          gets = refl;
+        };
+        wakes = wakes_none (rw e) refl;
       }
 
   pub send_woke : {l k j z : Log T W} {x : T} (n : ℕ) (here : Bool) → n ≡ 0 → Grows l k (wrote x ∷ [])
-      → Grows k j (worded Add n ∷ []) → Finishes 4 here j z → SenderRan Send l z (send_reply here) (x ∷ []) []
+      → Grows k j (worded Add n ∷ []) → Finishes 4 here woken j z
+      → SenderWoke woken Send l z (send_reply here) (x ∷ []) []
   send_woke {x} n here e s t f =
       record {
-        run = wrote x ∷ worded Add n ∷ finishing 4 f.found f.waker;
-        is_run = more SendAdd _ _ refl refl
-            (more SendTakeWaker _ _ refl (rw e)
-            (more SendFinal _ _ refl refl (more (send_wake here) _ _ refl (send_final f.finds)
-            (last _ (wake_is here) (woke here)))));
-        grows = and_then (wrote x ∷ []) _ s (and_then (worded Add n ∷ []) _ t f.grows);
-        gives = refl;
-        gets = refl;
+        ran = record {
+          run = wrote x ∷ worded Add n ∷ finishing 4 f.found f.waker;
+          is_run = more SendAdd _ _ refl refl
+              (more SendTakeWaker _ _ refl (rw e)
+              (more SendFinal _ _ refl refl (more (send_wake here) _ _ refl (send_final f.finds)
+              (last _ (wake_is here) (woke here)))));
+          grows = and_then (wrote x ∷ []) _ s (and_then (worded Add n ∷ []) _ t f.grows);
+          gives = refl;
+          gets = refl;
+        };
+        wakes = wakes f.waker (rw e) refl refl f.woke;
       }
 
   -- those of the drop
-  pub drop_ran : {l k : Log T W} (n : ℕ) → n ≡ 3 → Grows l k (worded Xor n ∷ []) → SenderRan Drop l k R.Done [] []
-  drop_ran n e s = record { run = worded Xor n ∷ []; is_run = last _ refl (rw e); grows = s; gives = refl; gets = refl }
-
-  pub drop_woke : {l k j : Log T W} (n : ℕ) → n ≡ 0 → Grows l k (worded Xor n ∷ []) → Finishes 2 true k j
-      → SenderRan Drop l j R.Done [] []
-  drop_woke n e s f =
+  pub drop_ran : {l k : Log T W} (n : ℕ) → n ≡ 3 → Grows l k (worded Xor n ∷ [])
+      → SenderWoke woken Drop l k R.Done [] []
+  drop_ran n e s =
       record {
-        run = worded Xor n ∷ finishing 2 f.found f.waker;
-        is_run = more DropTakeWaker _ _ refl (rw e)
-            (more DropFinal _ _ refl refl (more DropWake _ _ refl (drop_final f.finds) (last _ refl refl)));
-        grows = and_then _ _ s f.grows;
-        gives = refl;
-        gets = refl;
+        ran = record { run = worded Xor n ∷ []; is_run = last _ refl (rw e); grows = s; gives = refl; gets = refl };
+        wakes = wakes_none (rw e) refl;
       }
 
-  pub drop_freed_late : {l k j z : Log T W} (n : ℕ) → n ≡ 0 → Grows l k (worded Xor n ∷ []) → Finishes 2 false k j
-      → Grows j z (did Free ∷ []) → SenderRan Drop l z R.Done [] []
-  drop_freed_late n e s f t =
+  pub drop_woke : {l k j : Log T W} (n : ℕ) → n ≡ 0 → Grows l k (worded Xor n ∷ []) → Finishes 2 true woken k j
+      → SenderWoke woken Drop l j R.Done [] []
+  drop_woke n e s f =
       record {
-        run = worded Xor n ∷ handed TakeWaker f.waker ∷ worded (Swap 2) f.found ∷ handed Wake f.waker ∷ did Free ∷ [];
-        is_run = more DropTakeWaker _ _ refl (rw e)
-            (more DropFinal _ _ refl refl (more DropLateWake _ _ refl (drop_late f.finds)
-            (more DropFree _ _ refl refl (last _ refl refl))));
-        grows = and_then (worded Xor n ∷ []) _ s (and_then (finishing 2 f.found f.waker) _ f.grows t);
-        gives = refl;
-        gets = refl;
+        ran = record {
+          run = worded Xor n ∷ finishing 2 f.found f.waker;
+          is_run = more DropTakeWaker _ _ refl (rw e)
+              (more DropFinal _ _ refl refl (more DropWake _ _ refl (drop_final f.finds) (last _ refl refl)));
+          grows = and_then _ _ s f.grows;
+          gives = refl;
+          gets = refl;
+        };
+        wakes = wakes f.waker (rw e) refl refl f.woke;
+      }
+
+  pub drop_freed_late : {l k j z : Log T W} {was : W → Type 0} (n : ℕ) → n ≡ 0 → Grows l k (worded Xor n ∷ [])
+      → Finishes 2 false was k j → Grows j z (did Free ∷ []) → ((waker : W) → was waker → woken waker)
+      → SenderWoke woken Drop l z R.Done [] []
+  drop_freed_late n e s f t still =
+      record {
+        ran = record {
+          run = worded Xor n ∷ handed TakeWaker f.waker ∷ worded (Swap 2) f.found ∷ handed Wake f.waker
+              ∷ did Free ∷ [];
+          is_run = more DropTakeWaker _ _ refl (rw e)
+              (more DropFinal _ _ refl refl (more DropLateWake _ _ refl (drop_late f.finds)
+              (more DropFree _ _ refl refl (last _ refl refl))));
+          grows = and_then (worded Xor n ∷ []) _ s (and_then (finishing 2 f.found f.waker) _ f.grows t);
+          gives = refl;
+          gets = refl;
+        };
+        wakes = wakes f.waker (rw e) refl refl (still f.waker f.woke);
       }
 
   pub drop_freed : {l k j : Log T W} (n : ℕ) → n ≡ 2 → Grows l k (worded Xor n ∷ []) → Grows k j (did Free ∷ [])
-      → SenderRan Drop l j R.Done [] []
+      → SenderWoke woken Drop l j R.Done [] []
   drop_freed n e s t =
       record {
-        run = worded Xor n ∷ did Free
-            ∷ [];
-        is_run =
-            more DropFree _ _ refl (rw e) (last _ refl refl);
-        grows = and_then _ _ s t;
-        gives = refl;
-        gets = refl;
+        ran = record {
+          run = worded Xor n ∷ did Free ∷ [];
+          is_run = more DropFree _ _ refl (rw e) (last _ refl refl);
+          grows = and_then _ _ s t;
+          gives = refl;
+          gets = refl;
+        };
+        wakes = wakes_none (rw e) refl;
       }
 
+module _ {T W : Type 0} where
   -- the error's calls
   pub into_ran : {l k j : Log T W} (x : T) → Grows l k (took x ∷ []) → Grows k j (did Free ∷ [])
       → SenderRan IntoInner l j R.Message [] (x ∷ [])

@@ -46,11 +46,13 @@ pub data LastFinds : ℕ → Bool → Type 0 where
   finds_overdue : LastFinds 3 true
   finds_gone : LastFinds 2 false
 
--- Between the two logs it did so, left this last word, and found whether the receiver is here.
-pub record Finishes {T W : Type 0} (last : ℕ) (here : Bool) (before after : Log T W) : Type 0 where
+-- Between the two logs it did so, left this last word, and found whether the receiver is here. Its waker has
+-- woken it.
+pub record Finishes {T W : Type 0} (last : ℕ) (here : Bool) (woken : W → Type 0) (before after : Log T W) : Type 0 where
   pub found : ℕ
   pub finds : LastFinds found here
   pub waker : W
+  pub woke : woken waker
   pub grows : Grows before after (finishing last found waker)
 
 -- Between the two states it found the receiver gone: both slots are its own, and the message is where it was.

@@ -156,6 +156,7 @@ pub fn recv<T, W: Drop, G: BlockGround<T, W>>(
     ensures stays { IsClosedAt (receiver_of (G.state g.old).log) → IsErr result }
     ensures hand { Returns hand.old hand.new }
     ensures given { IfOk result (λ message. G.gives g.old message) }
+    ensures keeps { G.keeps g.old g.new }
 {
     let Found::Message = find(g, rt, hand, false) else {
         g.free();

@@ -16,6 +16,9 @@ pub trait SenderGround<T, W> {
     // What the ground asks of a message that it takes in.
     ghost admits: { Self → T → Type 0 };
 
+    // What the ground says once this waker was used: that it has woken its receiver.
+    ghost woken: { Self → W → Type 0 };
+
     /// Adds one to the word, and gives the word before.
     fn add(&mut self) -> u8
         requires { SenderAsks Add (state self.old) }
@@ -69,7 +72,8 @@ pub trait SenderGround<T, W> {
     fn wake(&mut self, waker: W)
         ensures log { Grows (state self.old).log (state self.new).log (handed Wake waker ∷ []) }
         ensures message { (state self.new).message ≡ (state self.old).message }
-        ensures waker { (state self.new).waker ≡ (state self.old).waker };
+        ensures waker { (state self.new).waker ≡ (state self.old).waker }
+        ensures woken { woken self.new waker };
 
     /// Frees the block, whose slots are the end's and empty. Then neither is, so nothing follows.
     fn free(&mut self)
@@ -77,7 +81,8 @@ pub trait SenderGround<T, W> {
         requires waker { (state self.old).waker ≡ vacant }
         ensures log { Grows (state self.old).log (state self.new).log (did Free ∷ []) }
         ensures message { (state self.new).message ≡ away }
-        ensures waker { (state self.new).waker ≡ away };
+        ensures waker { (state self.new).waker ≡ away }
+        ensures woken { (waker : W) → woken self.old waker → woken self.new waker };
 }
 
 /// What the receiver does to the world.
@@ -173,6 +178,9 @@ pub trait ReceiverGround<T, W> {
 
 /// What the receiver does to the world in a call that blocks.
 pub trait BlockGround<T, W>: ReceiverGround<T, W> {
+    // What a park, which may have a deadline, brings about beside the channel.
+    ghost parks: { Bool → Self → Self → Type 0 };
+
     /// Blocks until the receiver is woken, and where `timed` until its deadline at the longest. It may
     /// also go on before (a spurious wakeup). Whether it was woken is in the log alone. A receiver whose
     /// deadline is over parks without it, or it would not block at all.
@@ -181,7 +189,8 @@ pub trait BlockGround<T, W>: ReceiverGround<T, W> {
         ensures log { (woken : Bool) × Grows (Self.state self.old).log (Self.state self.new).log (parked woken ∷ []) }
         ensures message { (Self.state self.new).message ≡ (Self.state self.old).message }
         ensures waker { (Self.state self.new).waker ≡ (Self.state self.old).waker }
-        ensures keeps { Self.keeps self.old self.new };
+        ensures keeps { Self.keeps self.old self.new }
+        ensures parks { parks timed self.old self.new };
 
     /// Whether the deadline is over, by a reading of the clock. A reading that fails counts as past every
     /// deadline. The first answer of a timeout may rest on the reading that its sum was made from.

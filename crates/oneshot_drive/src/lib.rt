@@ -3,6 +3,7 @@
 
 mod blocking;
 mod ground;
+pub mod laws;
 mod polling;
 mod receiver;
 mod sender;

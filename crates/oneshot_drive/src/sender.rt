@@ -7,6 +7,7 @@ ghost use Rattle.oneshot_machine.specs.Counts.{sender_bound, MakesWithin};
 ghost use Rattle.oneshot_machine.specs.Logs.{sender_of, Grows};
 ghost use Rattle.oneshot_machine.specs.Runs.{SenderRan};
 ghost use Rattle.oneshot_machine.specs.Slots.{held};
+ghost use Rattle.oneshot_drive.specs.Wakes.{SenderWoke};
 ghost use Rattle.oneshot_drive.specs.BetweenCalls.{IsFresh, IsError, IsLate, Owes, Finishes, IsOvertaken, send_reply};
 
 use crate::ground::SenderGround;
@@ -22,6 +23,8 @@ pub fn send<T, W, G: SenderGround<T, W>>(g: &mut G, message: T) -> bool
     requires fresh { IsFresh (G.state g.old) }
     requires kept { G.admits g.old message }
     ensures run { SenderRan Send (G.state g.old).log (G.state g.new).log (send_reply result) (message ∷ []) [] }
+    ensures woke { SenderWoke (G.woken g.new) Send (G.state g.old).log (G.state g.new).log
+        (send_reply result) (message ∷ []) [] }
     ensures refused { result ≡ false →
         IsError (held message) (G.state g.new) }
     ensures late { result ≡ false → IsLate (sender_of (G.state g.new).log) }
@@ -43,6 +46,7 @@ pub fn send<T, W, G: SenderGround<T, W>>(g: &mut G, message: T) -> bool
 pub fn drop_sender<T, W, G: SenderGround<T, W>>(g: &mut G)
     requires { IsFresh (G.state g.old) }
     ensures run { SenderRan Drop (G.state g.old).log (G.state g.new).log Done [] [] }
+    ensures woke { SenderWoke (G.woken g.new) Drop (G.state g.old).log (G.state g.new).log Done [] [] }
     ensures bounded { MakesWithin (sender_bound Drop) (G.state g.old).log (G.state g.new).log }
 {
     match g.flip() {
@@ -59,7 +63,7 @@ pub fn drop_sender<T, W, G: SenderGround<T, W>>(g: &mut G)
 // Leaves this last word to a receiver that waits, and uses its waker: `false` where it is gone meanwhile.
 fn finish<T, W, G: SenderGround<T, W>>(g: &mut G, last: u8) -> bool
     requires { Owes last (G.state g.old) }
-    ensures finishes { Finishes last result (G.state g.old).log (G.state g.new).log }
+    ensures finishes { Finishes last result (G.woken g.new) (G.state g.old).log (G.state g.new).log }
     ensures gone { result ≡ false → IsOvertaken (G.state g.old) (G.state g.new) }
 {
     let waker = g.take_waker();

@@ -1,5 +1,5 @@
 -- How a ground that was lent stands is how the receiver's own does.
-use Rattle.std.proofs.Common.{◌≡◌, ℕ, Option, refl, sym, ◌∙◌, subst}
+use Rattle.std.proofs.Common.{◌≡◌, ℕ, List, Option, refl, sym, ◌∙◌, subst}
 use Rattle.oneshot_machine.specs.Logs.{receiver_of}
 use Rattle.oneshot_machine.specs.Phases.{ReceiverAt, Share}
 use Rattle.oneshot_machine.specs.Slots.{IsSlot}
@@ -25,13 +25,13 @@ stands_again as_far message waker is =
     }
 
 module _ {T W P : Type 0} {Phases : ReceiverAt → Type 0} where
-  pub as_lent : (name : ℕ) {own s : Side T W P} → s ≡ own → StandsIn Phases (state_of own)
-      → StandsIn Phases (lent name s)
-  as_lent name is stands =
-      subst (λ s. StandsIn Phases (lent name s)) (sym is) (stands_again refl (λ share m. m) (λ share w. w) stands)
+  pub as_lent : (names : List ℕ) {own s : Side T W P} → s ≡ own → StandsIn Phases (state_of own)
+      → StandsIn Phases (lent names s)
+  as_lent names is stands =
+      subst (λ s. StandsIn Phases (lent names s)) (sym is) (stands_again refl (λ share m. m) (λ share w. w) stands)
 
-  pub given_back : (name : ℕ) (s : Side T W P) → StandsIn Phases (lent name s) → StandsIn Phases (state_of s)
-  given_back name s = stands_again refl (λ share m. m) (λ share w. w)
+  pub given_back : (names : List ℕ) (s : Side T W P) → StandsIn Phases (lent names s) → StandsIn Phases (state_of s)
+  given_back names s = stands_again refl (λ share m. m) (λ share w. w)
 
 -- and its hand is as ready
 pub hand_lent : {T W V P : Type 0} {own s : Side T W P} (hand : Option V) → s ≡ own

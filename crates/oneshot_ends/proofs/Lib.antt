@@ -8,3 +8,8 @@ mod TimeoutEnds
 mod PollingTokens
 mod PolledEnds
 pub mod CallsAnswered
+mod Endless
+mod Examples
+pub mod Tokens
+mod TokenLives
+mod ComputedTokens

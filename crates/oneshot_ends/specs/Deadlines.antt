@@ -1,5 +1,5 @@
 -- When the wait of a receive is over, by what its clock reads.
-use Rattle.std.specs.Prelude.{◌≡◌, ◌+◌, Bool, true, false, ◌<◌, Option, Some, None}
+use Rattle.std.specs.Prelude.{◌≡◌, ◌+◌, Bool, true, false, ◌<◌, ◌≤◌, Option, Some, None}
 use Rattle.std.specs.Duration.{as_nanos}
 use Rattle.std.specs.declared.time.Duration.{Duration}
 use Rattle.std.specs.Time.{instant_nanos, FitsClock}
@@ -13,6 +13,11 @@ IsOver (At end) (Some now) = instant_nanos end < instant_nanos now
 IsOver (At end) None = Unit {0}
 IsOver Passed reading = Unit {0}
 IsOver Never reading = ⊥
+
+-- so much is left of it, by this reading, that all spins of a receive end before it
+abbrev pub IsFar : Deadline → Option Instant → Type 0
+IsFar (At end) (Some now) = instant_nanos now + 100_000_000 ≤ instant_nanos end
+IsFar _ _ = ⊥
 
 abbrev pub has_end : Deadline → Bool
 has_end (At end) = true

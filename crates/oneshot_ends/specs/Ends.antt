@@ -10,8 +10,9 @@ use Rattle.oneshot_machine.specs.declared.machine.receiver.ReceiverStart.{Receiv
 use Rattle.oneshot_machine.specs.declared.machine.receiver.ReceiverStart.TheVariants.{RecvTimeout}
 use Rattle.oneshot_machine.specs.declared.machine.sender.SenderCall.{SenderCall}
 use Rattle.oneshot_machine.specs.declared.machine.sender.SenderCall.TheVariants.{Send}
-use Rattle.oneshot_machine.specs.Called.{Form, ReceiverCalled, SenderCalled}
+use Rattle.oneshot_machine.specs.Called.{Form, stays, ReceiverCalled, SenderCalled}
 use Rattle.oneshot_machine.specs.Logs.{Event, words}
+use Rattle.oneshot_machine.specs.Orders.{Reaches}
 use Rattle.oneshot_machine.specs.Phases.{receiver_at}
 use Rattle.oneshot_machine.specs.Receiver.{receiver_start, receiver_step, receiver_row}
 use Rattle.oneshot_machine.specs.Runs.{Run}
@@ -78,6 +79,20 @@ pub record TimeoutGrew (T : Type 0) (timeout : Duration) (before after : List No
 -- A receiver between two calls, or a future: its log is that of some calls, which it has answered.
 abbrev pub HasCalls : (T : Type 0) → Form → List Noted → Type 0
 HasCalls T form log = (calls : List (ReceiverStart × Reply)) × ReceiverCalled T Waking form calls log
+
+-- One call more, which leaves the receiver in place: a caller adds up its calls so.
+abbrev pub CallsAddUp : (T : Type 0) → Type 0
+CallsAddUp T =
+    (form : Form) (calls : List (ReceiverStart × Reply)) (before after : List Noted) (reply : Reply)
+    (call : ReceiverStart) → IsTrue (stays form call) → ReceiverCalled T Waking form calls before
+    → ReceiverGrew T call before after reply → ReceiverCalled T Waking form (calls ++ (call, reply) ∷ []) after
+
+-- a log that is that of an order of both ends' operations
+abbrev pub SenderIsOrdered : List Noted → Type 0
+SenderIsOrdered xs = (ys : List Noted) × (word : ℕ) × Reaches xs ys word
+
+abbrev pub ReceiverIsOrdered : List Noted → Type 0
+ReceiverIsOrdered ys = (xs : List Noted) × (word : ℕ) × Reaches xs ys word
 
 -- the error of a `send`: its log is that of one call, which was refused
 abbrev pub WasRefused : (T : Type 0) → List Noted → Type 0

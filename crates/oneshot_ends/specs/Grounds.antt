@@ -61,9 +61,9 @@ module _ {T W P : Type 0} where
   abbrev pub state_of : Side T W P → GroundState T W
   state_of = state_beside (λ slot. slot) []
 
-  -- the same of one that was lent under this name
-  abbrev pub lent : ℕ → Side T W P → GroundState T W
-  lent name = state_beside (λ slot. slot) (name ∷ [])
+  -- the same of one that was lent under these names
+  abbrev pub lent : List ℕ → Side T W P → GroundState T W
+  lent = state_beside (λ slot. slot)
 
   -- a side that has made no operation, with these shares of its slots
   pub record IsNew (slots : Slots) (s : Side T W P) : Type 0 where

@@ -3,3 +3,8 @@ pub mod Polling
 pub mod Copies
 pub mod Ends
 pub mod Deadlines
+pub mod Examples
+pub mod Tokens
+pub mod TokenExamples
+pub mod Woken
+pub mod Spins

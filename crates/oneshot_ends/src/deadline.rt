@@ -2,14 +2,14 @@
 
 ghost use Rattle.std.specs.Prelude.{◌≡◌, ◌↔◌, true, IsTrue, IfSome};
 ghost use Rattle.std.specs.Time.{instant_nanos, FitsClock};
-ghost use Rattle.oneshot_ends.specs.Deadlines.{IsAfter, IsOver, has_end};
+ghost use Rattle.oneshot_ends.specs.Deadlines.{IsAfter, IsFar, IsOver, has_end};
 
 use std::time::{Clock, Duration, Instant};
 
-/// How many milliseconds have to be left for a receive to yield before it parks until a deadline. A yield may take as
-/// long as the scheduler lets some other threads run, a few milliseconds each, and must not make a receive late. Before
-/// a park without a deadline, also one past the deadline, a receive always yields.
-const LONG: u64 = 100;
+/// How many nanoseconds have to be left for a receive with a deadline to spin: more than all its spins take. Its
+/// pauses end in microseconds, but a yield takes as long as the scheduler lets some other threads run, a few
+/// milliseconds each, and must not make a receive late.
+const FAR: u128 = 100_000_000;
 
 /// A reading of the clock: `None` where it failed.
 pub(crate) type Reading = Option<Instant>;
@@ -63,13 +63,13 @@ impl Deadline {
         }
     }
 
-    /// Whether an instant is so far after this reading of the clock that a yield before it does no harm.
-    pub(crate) fn lasts(self, reading: Reading) -> bool
-        ensures { result ≡ true → ¬ IsOver self reading }
+    /// Whether the deadline is so far after this reading of the clock that a receive which spins is not late.
+    pub(crate) fn is_far(self, reading: Reading) -> bool
+        ensures { IsTrue result ↔ IsFar self reading }
     {
         match (self, reading) {
             (Deadline::At(end), Some(now)) => match end.checked_duration_since(now) {
-                Some(left) => left >= Duration::from_millis(LONG),
+                Some(left) => left.as_nanos() >= FAR,
                 None => false,
             },
             _ => false,

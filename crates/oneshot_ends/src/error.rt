@@ -4,12 +4,13 @@ ghost use Rattle.std.specs.Prelude.{◌≡◌};
 ghost use Rattle.oneshot_machine.specs.Phases.{sender_at};
 ghost use Rattle.oneshot_machine.specs.Slots.{held};
 ghost use Rattle.oneshot_drive.specs.BetweenCalls.{IsLate};
-ghost use Rattle.oneshot_ends.specs.Ends.{WasRefused};
+ghost use Rattle.oneshot_ends.specs.Ends.{SenderIsOrdered, WasRefused};
 
 use crate::ground::{ErrorOffWord, SenderOnWord};
-use crossbeam_utils::sync::Unparker;
+use crate::token::WakingHalf;
 use futures::task::Waker;
 use oneshot_drive::{drop_error, into_inner};
+use oneshot_word::laws::a_sender_is_in_an_order;
 use oneshot_word::{Promise, SenderSide};
 use std::error::Error;
 use std::fmt;
@@ -26,7 +27,7 @@ use std::marker::Model;
 /// A contract sees the message, the channel, and the sender's log of operations on the word.
 pub struct SendError<T, P: Promise<T> = ()> {
     message: T,
-    side: SenderSide<T, Unparker, Waker, P>,
+    side: SenderSide<T, WakingHalf, Waker, P>,
 }
 
 impl<T, P: Promise<T>> Model for SendError<T, P> {
@@ -57,17 +58,23 @@ impl<T, P: Promise<T>> SendError<T, P> {
     {
         let _side = &self.side;
     }
+
+    pub(crate) fn is_in_an_order(&self)
+        ensures { SenderIsOrdered self.now.log }
+    {
+        a_sender_is_in_an_order(&self.side);
+    }
 }
 
 impl<T: Drop, P: Promise<T>> SendError<T, P> {
     /// The error of a `send` that was refused on this ground.
-    pub(crate) fn refused(ground: SenderOnWord<T, Unparker, Waker, P>) -> SendError<T, P>
-        requires full { (message : T) × (ground.message ≡ held message) }
-        requires late { IsLate (sender_at ground.log) }
-        requires refused { WasRefused T ground.log }
-        ensures message { ground.message ≡ held result.message }
-        ensures channel { result.channel ≡ ground.table }
-        ensures log { result.log ≡ ground.log }
+    pub(crate) fn refused(ground: SenderOnWord<T, WakingHalf, Waker, P>) -> SendError<T, P>
+        requires full { (message : T) × (ground.side.message ≡ held message) }
+        requires late { IsLate (sender_at ground.side.log) }
+        requires refused { WasRefused T ground.side.log }
+        ensures message { ground.side.message ≡ held result.message }
+        ensures channel { result.channel ≡ ground.side.table }
+        ensures log { result.log ≡ ground.side.log }
     {
         let (message, side) = ground.into_refused();
         SendError { message, side }

@@ -18,7 +18,7 @@ ghost use Rattle.oneshot_ends.specs.Grounds.{state_of};
 use crate::copies::Copies;
 use crate::ground::ReceiverOnWord;
 use crate::polling::Polling;
-use crossbeam_utils::sync::Unparker;
+use crate::token::WakingHalf;
 use futures::Future;
 use futures::task::{Context, Poll, Source, Waker};
 use oneshot_drive::{async_try_recv, drop_async, poll};
@@ -38,9 +38,10 @@ use std::marker::Model;
 ///
 /// `P` is the promise of its channel, which the message that it gives keeps.
 ///
-/// Where `T` and `Rt` are `Send` it may go to another thread between two polls. Two threads may not share it.
+/// Where `T` and `Rt` are `Send` it may go to another thread between two polls. The compiler does not refuse a shared
+/// `&` to it, and no proof covers one: share none.
 pub struct AsyncReceiver<T, Rt, P: Promise<T> = ()> {
-    pub(crate) ground: ReceiverOnWord<T, Unparker, Waker, P>,
+    pub(crate) ground: ReceiverOnWord<T, WakingHalf, Waker, P>,
     source: Source,
     // Copies of wakers that are not in the channel.
     copies: Copies<Waker>,
@@ -68,7 +69,7 @@ impl<T, Rt, P: Promise<T>> Model for AsyncReceiver<T, Rt, P> {
 
 impl<T, Rt, P: Promise<T>> AsyncReceiver<T, Rt, P> {
     pub(crate) fn new(
-        ground: ReceiverOnWord<T, Unparker, Waker, P>,
+        ground: ReceiverOnWord<T, WakingHalf, Waker, P>,
         source: Source,
         rt: Rt,
     ) -> AsyncReceiver<T, Rt, P>

@@ -5,15 +5,17 @@ ghost use Rattle.oneshot_machine.specs.Slots.{held};
 ghost use Rattle.oneshot_machine.specs.Phases.{sender_at};
 ghost use Rattle.oneshot_drive.specs.BetweenCalls.{IsError, IsLate};
 ghost use Rattle.oneshot_word.specs.Side.{Side};
+ghost use Rattle.oneshot_ends.specs.Ends.{SenderIsOrdered, ReceiverIsOrdered};
 ghost use Rattle.oneshot_ends.specs.Grounds.{left_of, state_of};
 
 mod looks;
 
 use crate::freed::Freed;
 use crate::rouse::wake;
-use crossbeam_utils::sync::Unparker;
+use crate::token::{Given, WakingHalf};
 use futures::task::Waker;
 use oneshot_drive::{ReceiverGround, SenderGround};
+use oneshot_word::laws::{a_receiver_is_in_an_order, a_sender_is_in_an_order};
 use oneshot_word::{Promise, ReceiverSide, Rouse, SenderSide};
 use std::marker::Model;
 
@@ -38,9 +40,15 @@ impl<T, H, K, P: Promise<T>> Unsent<T, H, K, P> {
         Unsent { side }
     }
 
+    pub(crate) fn is_in_an_order(&self)
+        ensures { SenderIsOrdered self.now.log }
+    {
+        a_sender_is_in_an_order(&self.side);
+    }
+
     /// The ground of the sender's one call.
     pub(crate) fn into_ground(self) -> SenderOnWord<T, H, K, P>
-        ensures { result ≡ self }
+        ensures { result.side ≡ self }
     {
         let Unsent { side } = self;
         SenderOnWord::new(side)
@@ -59,50 +67,63 @@ pub(crate) struct SenderOnWord<T, H, K, P: Promise<T>> {
     side: SenderSide<T, H, K, P>,
     // The block goes with the last of both shares, so that nothing is left to do; only proofs read this.
     freed: Freed,
+    // Once it woke a thread, that it gave the token. Only proofs read it.
+    given: Option<Given>,
 }
 
 impl<T, H, K, P: Promise<T>> Model for SenderOnWord<T, H, K, P> {
-    ghost use Rattle.oneshot_word.specs.Side.{Side};
     ghost use Rattle.oneshot_word.specs.declared.rouse.Rouse.{Rouse};
     ghost use Rattle.oneshot_ends.specs.Grounds.{left_of};
+    ghost use Rattle.oneshot_ends.specs.Woken.{Sending};
 
-    ghost Value = { Side T (Rouse H K) P };
+    ghost Value = { Sending T (Rouse H K) P };
 
-    ghost view = { λ s. left_of s.freed.value s.side };
+    ghost view = { λ s. record { side = left_of s.freed.value s.side; given = s.given } };
 }
 
 impl<T, H, K, P: Promise<T>> SenderOnWord<T, H, K, P> {
     /// The ground of a sender that has freed nothing.
     fn new(side: SenderSide<T, H, K, P>) -> SenderOnWord<T, H, K, P>
-        ensures { result ≡ side }
+        ensures { result.side ≡ side }
     {
         let freed = Freed::of(false);
-        SenderOnWord { side, freed }
+        SenderOnWord {
+            side,
+            freed,
+            given: None,
+        }
     }
 }
 
 impl<T: Drop, H: Drop, K: Drop, P: Promise<T>> SenderOnWord<T, H, K, P> {
     /// Takes the message out of its slot, with the side that it lay in.
     pub(crate) fn into_refused(self) -> (T, SenderSide<T, H, K, P>)
-        requires { (x : T) × (self.message ≡ held x) }
-        ensures message { self.message ≡ held result.0 }
-        ensures about { result.1.about ≡ self.about }
-        ensures table { result.1.table ≡ self.table }
-        ensures log { result.1.log ≡ self.log }
+        requires { (x : T) × (self.side.message ≡ held x) }
+        ensures message { self.side.message ≡ held result.0 }
+        ensures about { result.1.about ≡ self.side.about }
+        ensures table { result.1.table ≡ self.side.table }
+        ensures log { result.1.log ≡ self.side.log }
     {
-        let SenderOnWord { mut side, freed: _ } = self;
+        let SenderOnWord {
+            mut side,
+            freed: _,
+            given: _,
+        } = self;
         let message = side.take_message();
         (message, side)
     }
 }
 
-impl<T: Drop, P: Promise<T>> SenderGround<T, Rouse<Unparker, Waker>>
-    for SenderOnWord<T, Unparker, Waker, P> {
+impl<T: Drop, P: Promise<T>> SenderGround<T, Rouse<WakingHalf, Waker>>
+    for SenderOnWord<T, WakingHalf, Waker, P> {
     ghost use Rattle.oneshot_ends.specs.Grounds.{state_of};
+    ghost use Rattle.oneshot_ends.specs.Woken.{IsWoken};
 
-    ghost state = { state_of };
+    ghost state = { λ s. state_of s.side };
 
-    ghost admits = { λ s message. P.keeps s.about message };
+    ghost admits = { λ s message. P.keeps s.side.about message };
+
+    ghost woken = { λ s waker. IsWoken waker s.given };
 
     fn add(&mut self) -> u8 {
         self.side.add()
@@ -128,14 +149,12 @@ impl<T: Drop, P: Promise<T>> SenderGround<T, Rouse<Unparker, Waker>>
         self.side.take_message();
     }
 
-    fn take_waker(&mut self) -> Rouse<Unparker, Waker> {
+    fn take_waker(&mut self) -> Rouse<WakingHalf, Waker> {
         self.side.take_waker()
     }
 
-    fn wake(&mut self, waker: Rouse<Unparker, Waker>) {
-        // Mentions `self`, so that the prover may use its invariant here.
-        let _side = &self.side;
-        wake(waker);
+    fn wake(&mut self, waker: Rouse<WakingHalf, Waker>) {
+        self.given = wake(waker);
     }
 
     fn free(&mut self) {
@@ -145,7 +164,11 @@ impl<T: Drop, P: Promise<T>> SenderGround<T, Rouse<Unparker, Waker>>
 
 impl<T: Drop, H: Drop, K: Drop, P: Promise<T>> Drop for SenderOnWord<T, H, K, P> {
     fn drop(self) {
-        let SenderOnWord { side: _, freed: _ } = self;
+        let SenderOnWord {
+            side: _,
+            freed: _,
+            given: _,
+        } = self;
     }
 }
 
@@ -189,13 +212,16 @@ impl<T, H, K, P: Promise<T>> ErrorOffWord<T, H, K, P> {
     }
 }
 
-impl<T: Drop, P: Promise<T>> SenderGround<T, Rouse<Unparker, Waker>>
-    for ErrorOffWord<T, Unparker, Waker, P> {
+impl<T: Drop, P: Promise<T>> SenderGround<T, Rouse<WakingHalf, Waker>>
+    for ErrorOffWord<T, WakingHalf, Waker, P> {
     ghost use Rattle.oneshot_ends.specs.Grounds.{state_of};
 
     ghost state = { state_of };
 
     ghost admits = { λ _ _. ⊤ };
+
+    // It wakes nobody.
+    ghost woken = { λ _ _. ⊤ };
 
     // No operation on the word follows a refused `send`.
     fn add(&mut self) -> u8 {
@@ -229,13 +255,13 @@ impl<T: Drop, P: Promise<T>> SenderGround<T, Rouse<Unparker, Waker>>
     }
 
     // No receiver waits for a sender that found it gone.
-    fn take_waker(&mut self) -> Rouse<Unparker, Waker> {
+    fn take_waker(&mut self) -> Rouse<WakingHalf, Waker> {
         // Mentions `self`, so that the prover may use its invariant here.
         let _side = &self.side;
         unreachable!()
     }
 
-    fn wake(&mut self, waker: Rouse<Unparker, Waker>) {
+    fn wake(&mut self, waker: Rouse<WakingHalf, Waker>) {
         // Mentions `self`, so that the prover may use its invariant here.
         let _side = &self.side;
         wake(waker);
@@ -257,7 +283,7 @@ impl<T: Drop, H: Drop, K: Drop, P: Promise<T>> Drop for ErrorOffWord<T, H, K, P>
 }
 
 /// The ground of a channel's receiver.
-pub(crate) type OnWord<T, P> = ReceiverOnWord<T, Unparker, Waker, P>;
+pub(crate) type OnWord<T, P> = ReceiverOnWord<T, WakingHalf, Waker, P>;
 
 /// The receiver's ground.
 pub(crate) struct ReceiverOnWord<T, H, K, P: Promise<T>> {
@@ -285,6 +311,12 @@ impl<T, H, K, P: Promise<T>> ReceiverOnWord<T, H, K, P> {
     {
         let freed = Freed::of(false);
         ReceiverOnWord { side, freed }
+    }
+
+    pub(crate) fn is_in_an_order(&self)
+        ensures { ReceiverIsOrdered self.now.log }
+    {
+        a_receiver_is_in_an_order(&self.side);
     }
 }
 

@@ -1,8 +1,13 @@
 //! What always holds of the ends between their calls: each function's contract is the law, its body nothing.
 
+ghost use Rattle.atomic_table.specs.Seated.{TableId};
+ghost use Rattle.futures.specs.declared.task.context.Context.{Context};
 ghost use Rattle.std.specs.Prelude.{◌≡◌, []};
 ghost use Rattle.oneshot_machine.specs.Called.{as_receiver, as_future};
-ghost use Rattle.oneshot_ends.specs.Ends.{HasCalls, WasRefused};
+ghost use Rattle.oneshot_ends.specs.Ends.{HasCalls, CallsAddUp, SenderIsOrdered, ReceiverIsOrdered, WasRefused};
+ghost use Rattle.oneshot_ends.specs.Examples.{EndsThatAre, EndsThatAreNot, CallsThatGrow, CallsThatDoNot, DeadlinesThatAre, DeadlinesThatAreNot, CopiesThatAre, CopiesThatAreNot, GroundsThatAre, GroundsThatAreNot, OrdersThatAre, OrdersThatAreNot};
+ghost use Rattle.oneshot_ends.specs.Tokens.{LivesLeadToStates, TokensAreGivenOnce};
+ghost use Rattle.oneshot_ends.specs.TokenExamples.{StatesThatAreNot, LivesThatAre, LivesThatAreNot, StepsThatWake, StepsThatDoNot, WakersThatWoke, WakersThatDidNot, WaitsThatAre, WaitsThatAreNot};
 
 use crate::error::SendError;
 use crate::future::AsyncReceiver;
@@ -38,3 +43,71 @@ pub fn a_future_has_its_calls<T, Rt, P: Promise<T>>(future: &AsyncReceiver<T, Rt
 {
     let _ground = &future.ground;
 }
+
+/// What adds up the calls of a receiver, or of a future: where it had answered some calls, and one call more appended
+/// the operations of one run with this reply, it has answered these calls and that one.
+pub fn calls_add_up<T>()
+    ensures { CallsAddUp T }
+{}
+
+/// A sender's log is that of an order of both ends' operations, whatever a program did with either.
+pub fn a_sender_is_in_an_order<T, P: Promise<T>>(sender: &Sender<T, P>)
+    ensures { SenderIsOrdered sender.now.log }
+{
+    sender.side.is_in_an_order();
+}
+
+/// So is that of a receiver,
+pub fn a_receiver_is_in_an_order<T, Rt, P: Promise<T>>(receiver: &Receiver<T, Rt, P>)
+    ensures { ReceiverIsOrdered receiver.now.log }
+{
+    receiver.ground.is_in_an_order();
+}
+
+/// of a future,
+pub fn a_future_is_in_an_order<T, Rt, P: Promise<T>>(future: &AsyncReceiver<T, Rt, P>)
+    ensures { ReceiverIsOrdered future.now.log }
+{
+    future.ground.is_in_an_order();
+}
+
+/// and of a `send` that was refused.
+pub fn an_error_is_in_an_order<T, P: Promise<T>>(error: &SendError<T, P>)
+    ensures { SenderIsOrdered error.now.log }
+{
+    error.is_in_an_order();
+}
+
+/// The token of a receiver that blocks is given at most once, taken at most once, and never taken before it was given.
+/// The rule that both halves of its parker keep has the states to which its lives lead.
+pub fn a_token_is_given_once_and_then_taken()
+    ensures states { LivesLeadToStates }
+    ensures once { TokensAreGivenOnce }
+{}
+
+/// Which ends the definitions take for open and closed, which logs for those of a call, when a deadline is over,
+/// of which task a copy is, what a ground shows, which logs have an order, which states and lives a token has, which
+/// steps of a sender and which wakers wake, and how a receive waits, by examples.
+pub fn examples_are_so<T>()
+    ensures ends { (channel : TableId) → EndsThatAre channel }
+    ensures no_ends { (channel : TableId) → EndsThatAreNot channel }
+    ensures calls { CallsThatGrow T }
+    ensures no_calls { CallsThatDoNot T }
+    ensures deadlines { DeadlinesThatAre }
+    ensures no_deadlines { DeadlinesThatAreNot }
+    ensures copies { (before after : Context) → CopiesThatAre before after }
+    ensures no_copies { (before after : Context) → CopiesThatAreNot before after }
+    ensures grounds { (table : TableId) → GroundsThatAre table }
+    ensures no_grounds { (table : TableId) → GroundsThatAreNot table }
+    ensures no_states { StatesThatAreNot }
+    ensures lives { LivesThatAre }
+    ensures no_lives { LivesThatAreNot }
+    ensures wakes { StepsThatWake }
+    ensures no_wakes { StepsThatDoNot }
+    ensures woken { WakersThatWoke }
+    ensures unwoken { WakersThatDidNot }
+    ensures waits { WaitsThatAre }
+    ensures no_waits { WaitsThatAreNot }
+    ensures orders { OrdersThatAre }
+    ensures no_orders { OrdersThatAreNot }
+{}

@@ -15,6 +15,8 @@ mod raw;
 mod receiver;
 mod rouse;
 mod sender;
+mod spin;
+mod token;
 
 pub use copies::Copies;
 pub use error::SendError;

@@ -7,7 +7,7 @@ use crate::future::AsyncReceiver;
 use crate::receiver::Receiver;
 use crate::rouse::Rouse;
 use crate::sender::Sender;
-use crossbeam_utils::sync::Parker;
+use crate::token::parker;
 use oneshot_word::{Promise, open};
 use std::alloc::{AllocError, Global};
 
@@ -29,11 +29,10 @@ pub fn channel<T: Send + Drop, Rt: Drop>(
 {
     // A body of its own: through `channel_for` both ends would be copied once more.
     let (sender, receiver) = open(alloc, &())?;
-    let parker = Parker::new(alloc)?;
-    let half = Rouse::Thread(parker.unparker().clone()?);
+    let (parking, waking) = parker(alloc)?;
     Ok((
         Sender::new(sender),
-        Receiver::new(receiver, parker, half, rt),
+        Receiver::new(receiver, parking, Rouse::Thread(waking), rt),
     ))
 }
 
@@ -55,9 +54,11 @@ pub fn channel_for<T: Send + Drop, Rt: Drop, P: Promise<T>>(
     ensures receiver_about { IfOk result (λ ends. ends.1.about ≡ about.now) }
 {
     let (near, far) = open(alloc, about)?;
-    let parker = Parker::new(alloc)?;
-    let half = Rouse::Thread(parker.unparker().clone()?);
-    Ok((Sender::new(near), Receiver::new(far, parker, half, rt)))
+    let (parking, waking) = parker(alloc)?;
+    Ok((
+        Sender::new(near),
+        Receiver::new(far, parking, Rouse::Thread(waking), rt),
+    ))
 }
 
 /// Makes a channel whose receiver is a future: `channel` followed by `Receiver::into_future`.

@@ -16,7 +16,7 @@ use crate::deadline::{Deadline, Reading, read};
 use crate::future::AsyncReceiver;
 use crate::ground::ReceiverOnWord;
 use crate::rouse::Rouse;
-use crossbeam_utils::sync::{Parker, Unparker};
+use crate::token::{ParkingHalf, WakingHalf};
 use futures::task::{Source, Waker};
 use oneshot_drive::{drop_receiver, recv, recv_deadline, recv_ref, recv_timeout, try_recv};
 use oneshot_errors::{RecvError, RecvTimeoutError, TryRecvError};
@@ -41,11 +41,11 @@ use std::time::{Clock, Duration, Instant};
 ///
 /// It may go to another thread where `T` and `Rt` are `Send`. Two threads may not share it.
 pub struct Receiver<T, Rt, P: Promise<T> = ()> {
-    pub(crate) ground: ReceiverOnWord<T, Unparker, Waker, P>,
+    pub(crate) ground: ReceiverOnWord<T, WakingHalf, Waker, P>,
     // The parker's waking half, unless the sender took it to wake the receiver.
     hand: Option<Rouse>,
     // A parker may not be shared, so that one thread at a time has the receiver.
-    parker: Parker,
+    parker: ParkingHalf,
     // Where its polls register, once it is a future.
     source: Source,
     rt: Rt,
@@ -69,8 +69,8 @@ impl<T, Rt, P: Promise<T>> Model for Receiver<T, Rt, P> {
 
 impl<T, Rt, P: Promise<T>> Receiver<T, Rt, P> {
     pub(crate) fn new(
-        side: ReceiverSide<T, Unparker, Waker, P>,
-        parker: Parker,
+        side: ReceiverSide<T, WakingHalf, Waker, P>,
+        parker: ParkingHalf,
         half: Rouse,
         rt: Rt,
     ) -> Receiver<T, Rt, P>
@@ -132,7 +132,7 @@ impl<T: Drop, Rt: Wait + Clock + Drop, P: Promise<T>> Receiver<T, Rt, P> {
         ensures kept { IfOk result (λ message. P.keeps self.old.about message) }
     {
         let deadline = Deadline::Never;
-        let mut lent = Blocking::lend(&mut self.ground, &self.parker, &self.rt, deadline, None);
+        let mut lent = Blocking::lend(&mut self.ground, &mut self.parker, &self.rt, deadline, None);
         recv_ref(&mut lent, &self.rt, &mut self.hand)
     }
 
@@ -159,7 +159,7 @@ impl<T: Drop, Rt: Wait + Clock + Drop, P: Promise<T>> Receiver<T, Rt, P> {
         ensures kept { IfOk result (λ message. P.keeps self.old.about message) }
     {
         let deadline = Deadline::At(deadline);
-        let mut lent = Blocking::lend(&mut self.ground, &self.parker, &self.rt, deadline, None);
+        let mut lent = Blocking::lend(&mut self.ground, &mut self.parker, &self.rt, deadline, None);
         recv_deadline(&mut lent, &self.rt, &mut self.hand)
     }
 
@@ -197,11 +197,11 @@ impl<T: Drop, Rt: Wait + Clock + Drop, P: Promise<T>> Receiver<T, Rt, P> {
         let Receiver {
             mut ground,
             mut hand,
-            parker,
+            mut parker,
             source: _,
             rt,
         } = self;
-        let mut lent = Blocking::lend(&mut ground, &parker, &rt, Deadline::Never, None);
+        let mut lent = Blocking::lend(&mut ground, &mut parker, &rt, Deadline::Never, None);
         recv(&mut lent, &rt, &mut hand)
     }
 }
@@ -220,7 +220,7 @@ impl<T: Drop, Rt: Wait + Clock + Drop, P: Promise<T>> Receiver<T, Rt, P> {
     {
         let deadline = Deadline::after(reading, timeout);
         let made = Some(reading);
-        let mut lent = Blocking::lend(&mut self.ground, &self.parker, &self.rt, deadline, made);
+        let mut lent = Blocking::lend(&mut self.ground, &mut self.parker, &self.rt, deadline, made);
         recv_timeout(&mut lent, &self.rt, &mut self.hand, deadline.has_end())
     }
 }

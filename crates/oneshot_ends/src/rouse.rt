@@ -1,15 +1,20 @@
 //! The waker that a receiver stores with its channel.
 
-use crossbeam_utils::sync::Unparker;
+ghost use Rattle.oneshot_ends.specs.Woken.{IsWoken};
+
+use crate::token::{Given, WakingHalf};
 use futures::task::Waker;
 
 /// By what the sender wakes a receiver that waits: the waking half of its parker, or a copy of its task's
 /// waker, which wakes the task when it is dropped.
-pub(crate) type Rouse = oneshot_word::Rouse<Unparker, Waker>;
+pub(crate) type Rouse = oneshot_word::Rouse<WakingHalf, Waker>;
 
-/// Wakes the receiver.
-pub(crate) fn wake(waker: Rouse) {
-    if let Rouse::Thread(half) = waker {
-        half.unpark();
+/// Wakes the receiver. `Some`: it is a thread, and has been given its token.
+pub(crate) fn wake(waker: Rouse) -> Option<Given>
+    ensures { IsWoken waker result }
+{
+    match waker {
+        Rouse::Thread(half) => Some(half.wake()),
+        _ => None,
     }
 }

@@ -10,7 +10,7 @@ ghost use Rattle.oneshot_ends.specs.Grounds.{IsNewSender};
 
 use crate::error::SendError;
 use crate::ground::Unsent;
-use crossbeam_utils::sync::Unparker;
+use crate::token::WakingHalf;
 use futures::task::Waker;
 use oneshot_drive::{drop_sender, send};
 use oneshot_word::{Promise, SenderSide};
@@ -29,7 +29,7 @@ use std::marker::Model;
 /// It may go to another thread where `T` is `Send`. Several threads may share a `&` to it where `T` is
 /// also `Sync`, and ask `is_closed`.
 pub struct Sender<T, P: Promise<T> = ()> {
-    pub(crate) side: Unsent<T, Unparker, Waker, P>,
+    pub(crate) side: Unsent<T, WakingHalf, Waker, P>,
 }
 
 impl<T, P: Promise<T>> Model for Sender<T, P> {
@@ -44,7 +44,7 @@ impl<T, P: Promise<T>> Model for Sender<T, P> {
 }
 
 impl<T, P: Promise<T>> Sender<T, P> {
-    pub(crate) fn new(side: SenderSide<T, Unparker, Waker, P>) -> Sender<T, P>
+    pub(crate) fn new(side: SenderSide<T, WakingHalf, Waker, P>) -> Sender<T, P>
         requires { IsNewSender side }
         ensures channel { result.channel ≡ side.table }
         ensures log { result.log ≡ side.log }

@@ -14,7 +14,7 @@ counts_that_are =
     }
 
 -- all that a log has that was empty was added
-all_added : {limit : ℕ} {xs : List Noted} → GrewAtMost limit [] xs → length xs ≤ limit
+pub all_added : {limit : ℕ} {xs : List Noted} → GrewAtMost limit [] xs → length xs ≤ limit
 all_added {limit} grew = subst (λ xs. length xs ≤ limit) (sym grew.list) grew.few
 
 pub counts_that_are_not : CountsThatAreNot

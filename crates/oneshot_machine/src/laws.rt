@@ -4,6 +4,8 @@ ghost use Rattle.oneshot_machine.specs.Exact.{SenderIsExact, ReceiverIsExact};
 ghost use Rattle.oneshot_machine.specs.Examples.{LogsOfSender, LogsOfReceiver, RunsThatAre, RunsThatAreNot};
 ghost use Rattle.oneshot_machine.specs.FutureExamples.{LogsOfFuture, FutureRuns, FutureRunsThatAreNot};
 ghost use Rattle.oneshot_machine.specs.CountExamples.{CountsThatAre, CountsThatAreNot};
+ghost use Rattle.oneshot_machine.specs.LogExamples.{LogsThatGrow, LogsThatDoNot};
+ghost use Rattle.oneshot_machine.specs.RowExamples.{RowsThatLead, SlotsThatAre, SlotsThatAreNot};
 ghost use Rattle.oneshot_machine.specs.Orders.{ReachedInOrder};
 ghost use Rattle.oneshot_machine.specs.OrderExamples.{OrdersThatAre, OrdersThatAreNot};
 
@@ -19,8 +21,8 @@ pub fn phases_keep_order()
     ensures { ReachedInOrder }
 {}
 
-/// Which logs and runs the definitions take for an end's, how many operations they count, and which logs of
-/// both ends have an order, by examples.
+/// Which logs and runs the definitions take for an end's, how many operations they count, which logs of both
+/// ends have an order, what a ground did between two logs, and what becomes of an end's slots, by examples.
 pub fn examples_are_so()
     ensures senders { LogsOfSender }
     ensures receivers { LogsOfReceiver }
@@ -33,4 +35,9 @@ pub fn examples_are_so()
     ensures no_counts { CountsThatAreNot }
     ensures orders { OrdersThatAre }
     ensures no_orders { OrdersThatAreNot }
+    ensures logs { LogsThatGrow }
+    ensures no_logs { LogsThatDoNot }
+    ensures rows { RowsThatLead }
+    ensures slots { SlotsThatAre }
+    ensures no_slots { SlotsThatAreNot }
 {}

@@ -349,6 +349,9 @@ impl<'a, T: Drop, W: Drop + Wakes, R: Wait> ReceiverGround<T, W> for MemoryRecei
 }
 
 impl<'a, T: Drop, W: Drop + Wakes, R: Wait> BlockGround<T, W> for MemoryReceiver<'a, T, W, R> {
+    // What a park did is in its log.
+    ghost parks = { λ timed a b. ⊤ };
+
     fn park(&mut self, _timed: bool) {
         self.pause();
         let woken = self.token;

@@ -142,6 +142,9 @@ impl<'a, T: Drop, W: Drop, R: Wait> SenderGround<T, W> for MemorySender<'a, T, W
     // It takes in any message.
     ghost admits = { λ s m. ⊤ };
 
+    // Whom it woke is in its log.
+    ghost woken = { λ s k. ⊤ };
+
     fn add(&mut self) -> u8 {
         self.operate(Op::Add)
     }

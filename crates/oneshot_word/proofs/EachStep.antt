@@ -105,7 +105,8 @@ module _ {T H K P : Type 0} (keeps : P → T → Type 0) (q : P) where
                   passed = λ i. gave m (sym (reads has).0 i) (sym none i);
                   seat = as_seat {owns = λ xs. sender_owns (sender_at xs)} {Passed = GivesOnce} refl
                       (subst (λ p. SeatOf (keeps q) waker_first (sender_owns p) (carried_after me.1 act) m' w')
-                      (sym after) (seat_as (λ x is k. k.0) has)) (gives_once m m');
+                      (sym after) (seat_as (λ x is k. k.0) has)) (gives_once m m')
+                      (ys, _, sender_reaches order found_so);
                   code = code;
                   finds = as_read (carried_after me.1 act)
                       (λ m w. Finds sender_moves (sender_at me.0.log) op found (message_in me.1) (waker_in me.1) m w)
@@ -143,7 +144,8 @@ module _ {T H K P : Type 0} (keeps : P → T → Type 0) (q : P) where
                   passed = λ i. took m (sym (reads has).0 i) me.0.passed;
                   seat = as_seat {owns = λ ys. receiver_owns (receiver_at ys)} {Passed = HoldsTaken} refl
                       (subst (λ at. SeatOf (keeps q) message_first (receiver_owns at) (carried_after me.1 act) m' w')
-                      (sym after) (seat_as (λ x is k. k.0) has)) (holds_taken turns seat.passed);
+                      (sym after) (seat_as (λ x is k. k.0) has)) (holds_taken turns seat.passed)
+                      (xs, _, receiver_reaches order found_so);
                   code = code;
                   finds = as_read (carried_after me.1 act)
                       (λ m w. Finds receiver_moves (receiver_at me.0.log) op found (message_in me.1) (waker_in me.1) m

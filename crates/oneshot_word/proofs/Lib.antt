@@ -6,6 +6,9 @@ pub mod SlotMoves
 pub mod KeptRows
 pub mod RuleKept
 pub mod Between
+pub mod LastOnes
+pub mod ByRows
+pub mod OneOrder
 pub mod Sits
 pub mod EachStep
 pub mod Opens
@@ -18,3 +21,6 @@ pub mod Passes
 mod Crosses
 mod MadeSides
 mod RuleExamples
+mod SeatExamples
+mod SideExamples
+mod ReadExamples

@@ -45,7 +45,19 @@ module _ {T H K P : Type 0} (keeps : P → T → Type 0) (q : P) where
       (sym it) (λ s tied at. splits (sits tied id at))
 
   pub sender_seated : SenderSeat {T = T} {H = H} {K = K} keeps (view q Sender [] None, (0, Empty) ∷ [])
-  sender_seated = record { role = refl; has = seat_of (carried slot_vacant) not_carried; passed = gave_none }
+  sender_seated =
+      record {
+        role = refl;
+        has = seat_of (carried slot_vacant) not_carried;
+        passed = gave_none;
+        ordered = ([], 3, nothing_made);
+      }
 
   pub receiver_seated : ReceiverSeat {T = T} {H = H} {K = K} keeps (view q Receiver [] None, [])
-  receiver_seated = record { role = refl; has = seat_of not_carried not_carried; passed = holds_no_slot }
+  receiver_seated =
+      record {
+        role = refl;
+        has = seat_of not_carried not_carried;
+        passed = holds_no_slot;
+        ordered = ([], 3, nothing_made);
+      }

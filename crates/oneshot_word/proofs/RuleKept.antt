@@ -95,7 +95,7 @@ module _ {T H K At : Type 0} (kept : T → Type 0) (e : OneEnd At) where
         message waker seat lies lies'
 
 -- every phase of a sender
-abbrev senders : List SenderAt
+abbrev pub senders : List SenderAt
 senders =
     fresh
     ∷ owes sending
@@ -109,7 +109,7 @@ senders =
     ∷ no_sender
     ∷ []
 
-is_sender : (p : SenderAt) → In p senders
+pub is_sender : (p : SenderAt) → In p senders
 is_sender fresh = head
 is_sender (owes sending) = tail head
 is_sender (owes dropping) = tail (tail head)

@@ -9,7 +9,7 @@ use Rattle.oneshot_word.specs.declared.rouse.Rouse.TheVariants as R
 use Rattle.oneshot_word.specs.declared.rule.Slot.TheVariants.{Empty, Message, Thread, Task, Nobody}
 use Rattle.oneshot_word.specs.declared.rule.View.{View}
 use Rattle.oneshot_word.specs.declared.rule.Role.{Role}
-use Rattle.oneshot_word.specs.Seats.{Keeps, held_keeps, with_waker, Carried, message_of, waker_of, message_in, waker_in, MessageSlot, WakerSlot, slot_vacant, slot_held, not_carried, carried, Front, message_first, waker_first, SeatOf, seat_of, SeatIs}
+use Rattle.oneshot_word.specs.Seats.{Keeps, held_keeps, with_waker, Carried, message_of, waker_of, message_in, waker_in, MessageSlot, WakerSlot, slot_vacant, slot_held, not_carried, carried, Front, message_first, waker_first, SeatOf, seat_of, IsOrdered, SeatIs}
 
 reads_back : (T : Type 0) {H K : Type 0} (k : Rouse H K) → waker_of (with_waker {T = T} k) ≡ held k
 reads_back T (R.Thread half) = refl
@@ -63,11 +63,12 @@ module _ {T H K : Type 0} where
       {owns : List Noted → Option (Bool × Bool)} {Passed : Option T → Held T → Type 0}
       {me : Me (Slot T H K) (View T P)} {m : Held T} {w : Held (Rouse H K)}
       → me.0.role ≡ whose → SeatOf (keeps me.0.about) front (owns me.0.log) me.1 m w → Passed me.0.passed m
-      → SeatIs keeps whose front owns Passed me
-  as_seat {keeps} {front} {owns} {Passed} {me} role has passed =
+      → IsOrdered whose me.0.log → SeatIs keeps whose front owns Passed me
+  as_seat {keeps} {front} {owns} {Passed} {me} role has passed ordered =
       record {
         role = role;
         has = as_read me.1 (λ m w. SeatOf (keeps me.0.about) front (owns me.0.log) me.1 m w)
             (reads has) has;
         passed = subst (Passed me.0.passed) (sym (reads has).0) passed;
+        ordered = ordered;
       }

@@ -104,7 +104,7 @@ module _ {T H K : Type 0} where
       → Seated (SeatIs keeps whose front owns Passed) before.0 c m w
   seated {owns} {Passed} before c seat has passed =
       record {
-        seat = as_seat {owns = owns} {Passed = Passed} {me = (before.0, c)} seat.role has passed;
+        seat = as_seat {owns = owns} {Passed = Passed} {me = (before.0, c)} seat.role has passed seat.ordered;
         reads = reads has;
       }
 

@@ -3,8 +3,12 @@ pub mod Seats
 pub mod Rule
 pub mod ReadRule
 pub mod Ordered
+pub mod OneOrder
 pub mod Promised
 pub mod Received
 pub mod Side
 pub mod Plays
 pub mod Examples
+pub mod SeatExamples
+pub mod SideExamples
+pub mod ReadExamples

@@ -5,6 +5,7 @@ use Rattle.atomic_table.specs.Table.{Me}
 use Rattle.oneshot_machine.specs.declared.states.Op.{Op}
 use Rattle.oneshot_machine.specs.Noted.{Noted, saw}
 use Rattle.oneshot_machine.specs.Phases.{sender_at, sender_moves, sender_owns, receiver_at, receiver_moves, receiver_owns, Row}
+use Rattle.oneshot_machine.specs.Orders.{Reaches}
 use Rattle.oneshot_machine.specs.Slots.{Held, away, vacant, held, Finds}
 use Rattle.oneshot_word.specs.declared.rule.Role.{Role}
 use Rattle.oneshot_word.specs.declared.rule.Role.TheVariants.{Sender, Receiver}
@@ -119,6 +120,12 @@ pub data HoldsTaken {T : Type 0} : Option T → Held T → Type 0 where
   holds_none : {taken : Option T} → HoldsTaken taken vacant
   holds_it : (m : T) → HoldsTaken (Some m) (held m)
 
+-- the end's log is that of an order of both ends' operations
+abbrev pub IsOrdered : Role → List Noted → Type 0
+IsOrdered Sender xs = (ys : List Noted) × (word : ℕ) × Reaches xs ys word
+IsOrdered Receiver ys = (xs : List Noted) × (word : ℕ) × Reaches xs ys word
+IsOrdered _ log = ⊤
+
 -- an end's seat: whose it is, what it carries by how far its end is, and which message passed
 pub record SeatIs {T H K P : Type 0} (keeps : P → T → Type 0) (whose : Role) (front : Front)
     (owns : List Noted → Option (Bool × Bool)) (Passed : Option T → Held T → Type 0)
@@ -126,6 +133,7 @@ pub record SeatIs {T H K P : Type 0} (keeps : P → T → Type 0) (whose : Role)
   pub role : me.0.role ≡ whose
   pub has : SeatOf (keeps me.0.about) front (owns me.0.log) me.1 (message_in me.1) (waker_in me.1)
   pub passed : Passed me.0.passed (message_in me.1)
+  pub ordered : IsOrdered whose me.0.log
 
 module _ {T H K P : Type 0} (keeps : P → T → Type 0) where
   abbrev pub SenderSeat : Me (Slot T H K) (View T P) → Type 0

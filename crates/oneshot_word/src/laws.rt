@@ -1,23 +1,49 @@
 //! Laws of the definitions: each function's contract is the law, its body nothing.
 
+ghost use Rattle.std.specs.Prelude.{ℕ, List};
+ghost use Rattle.oneshot_machine.specs.Noted.{Noted};
+ghost use Rattle.oneshot_machine.specs.Orders.{Reaches};
 ghost use Rattle.oneshot_word.specs.Examples.{LogsSay, StatesThatAre, StatesThatAreNot};
+ghost use Rattle.oneshot_word.specs.OneOrder.{OrderIsOne, WorkedOrders, WrongOrders};
 ghost use Rattle.oneshot_word.specs.Ordered.{RuleOrders};
 ghost use Rattle.oneshot_word.specs.Promised.{RuleKeeps};
+ghost use Rattle.oneshot_word.specs.ReadExamples.{ReadsThatAre, ReadsThatAreNot};
+ghost use Rattle.oneshot_word.specs.SeatExamples.{SlotsAsSeen, SeatsThatAre, SeatsThatAreNot};
+ghost use Rattle.oneshot_word.specs.SideExamples.{SidesThatAre, SidesThatAreNot};
 ghost use Rattle.oneshot_word.specs.Received.{ReceivedIsSent, MessagesThatPass, MessagesThatDoNot};
 
 use crate::promise::Promise;
+use crate::receiver::ReceiverSide;
+use crate::sender::SenderSide;
 
-/// Which logs say what, which states of the word have a row of owners, and which have none, by examples.
+/// Which logs say what, which states of the word have a row of owners, and which have none; what a seat carries, what
+/// a side shows and does, and what a reader finds of the table, by examples.
 pub fn examples_are_so<T, H, K>()
     ensures logs { LogsSay }
     ensures states { StatesThatAre T H K }
     ensures no_states { StatesThatAreNot T H K }
+    ensures slots { SlotsAsSeen }
+    ensures seats { SeatsThatAre }
+    ensures no_seats { SeatsThatAreNot }
+    ensures sides { SidesThatAre }
+    ensures no_sides { SidesThatAreNot }
+    ensures reads { ReadsThatAre }
+    ensures no_reads { ReadsThatAreNot }
 {}
 
 /// Whenever the table keeps its rule, the operations of both ends have an order in which each one finds what
 /// the one before it left.
 pub fn every_state_is_reached<T, H, K, P: Promise<T>>()
     ensures { RuleOrders H K P.keeps }
+{}
+
+/// The logs of both ends have one order: in any two orders of them, in which each operation finds the word that the
+/// one before it left, the same ends make the operations one after another. So the order of `every_state_is_reached`
+/// is the one in which the operations happened. With examples of orders, and of what they are not.
+pub fn order_is_one()
+    ensures law { OrderIsOne }
+    ensures orders { WorkedOrders }
+    ensures no_orders { WrongOrders }
 {}
 
 /// Whenever the table keeps its rule, a message that lies there keeps its channel's promise; and a message
@@ -33,3 +59,17 @@ pub fn what_is_received_was_sent<T, H, K, P: Promise<T>>()
     ensures messages { MessagesThatPass H K P.keeps }
     ensures no_messages { MessagesThatDoNot H K P.keeps }
 {}
+
+/// Whatever a program did with a receiver's side, its log is that of an order of both ends' operations.
+pub fn a_receiver_is_in_an_order<T, H, K, P: Promise<T>>(side: &ReceiverSide<T, H, K, P>)
+    ensures { (xs : List Noted) × (word : ℕ) × Reaches xs side.now.log word }
+{
+    let _seat = &side.seat;
+}
+
+/// The same of a sender's.
+pub fn a_sender_is_in_an_order<T, H, K, P: Promise<T>>(side: &SenderSide<T, H, K, P>)
+    ensures { (ys : List Noted) × (word : ℕ) × Reaches side.now.log ys word }
+{
+    let _seat = &side.seat;
+}

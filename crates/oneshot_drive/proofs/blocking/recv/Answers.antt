@@ -20,6 +20,7 @@ returns-in_default g c =
       hand = hand_back
           (g.G.ReceiverGround.state c.find.new.g) c.find.result c.find.ensures.ends c.find.ensures.hand;
       given = tt;
+      keeps = g.G.ReceiverGround.keeps_on _ _ _ c.find.ensures.keeps c.free.ensures.keeps;
     }
 
 pub take_message-message-requires : goal.take_message-message-requires
@@ -43,3 +44,8 @@ returns-clause-hand g c =
 pub returns-clause-given : goal.returns-clause-given
 returns-clause-given g c =
     g.G.ReceiverGround.gives_on _ _ _ c.find.ensures.keeps c.take_message-message.ensures.given
+
+pub returns-clause-keeps : goal.returns-clause-keeps
+returns-clause-keeps g c =
+    let on = g.G.ReceiverGround.keeps_on in
+    on _ _ _ c.find.ensures.keeps (on _ _ _ c.take_message-message.ensures.keeps c.free-2.ensures.keeps)

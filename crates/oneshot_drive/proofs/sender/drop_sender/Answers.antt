@@ -16,9 +16,8 @@ finish-requires g c = drop_owes c.flip.result c.requires c.in-0.is c.flip.ensure
 
 pub returns-in-3 : goal.returns-in-3
 returns-in-3 g c =
-    let run =
-    drop_ran c.flip.result c.in-3.is c.flip.ensures.log in
-    record { run = run; bounded = drop_few run }
+    let did = drop_ran (g.G.SenderGround.woken c.flip.new.self) c.flip.result c.in-3.is c.flip.ensures.log in
+    record { run = did.ran; woke = did; bounded = drop_few did.ran }
 
 pub free-requires-clause-message : goal.free-requires-clause-message
 free-requires-clause-message g c =
@@ -31,15 +30,15 @@ free-requires-clause-waker g c = (c.finish.ensures.gone (search rules)).waker
 
 pub returns-then-not-finish : goal.returns-then-not-finish
 returns-then-not-finish g c =
-    let run =
-    drop_freed_late c.flip.result c.in-0.is c.flip.ensures.log c.if-not-finish.ensures.finishes c.free.ensures.log in
-    record { run = run; bounded = drop_few run }
+    let did =
+    drop_freed_late _ c.flip.result c.in-0.is c.flip.ensures.log c.if-not-finish.ensures.finishes
+    c.free.ensures.log c.free.ensures.woken in
+    record { run = did.ran; woke = did; bounded = drop_few did.ran }
 
 pub returns-else-not-finish : goal.returns-else-not-finish
 returns-else-not-finish g c =
-    let run =
-    drop_woke c.flip.result c.in-0.is c.flip.ensures.log c.if-not-finish.ensures.finishes in
-    record { run = run; bounded = drop_few run }
+    let did = drop_woke _ c.flip.result c.in-0.is c.flip.ensures.log c.if-not-finish.ensures.finishes in
+    record { run = did.ran; woke = did; bounded = drop_few did.ran }
 
 pub free-requires-in_default-clause-message : goal.free-requires-in_default-clause-message
 free-requires-in_default-clause-message g c =
@@ -53,7 +52,9 @@ free-requires-in_default-clause-waker g c =
 
 pub returns-in_default : goal.returns-in_default
 returns-in_default g c =
-    let run =
-    drop_freed c.flip.result (flipped c.flip.result c.requires (search rules) (search rules) c.flip.ensures.finds
-    c.flip.ensures.log).word c.flip.ensures.log c.free-in_default.ensures.log in
-    record { run = run; bounded = drop_few run }
+    let gone =
+    flipped c.flip.result c.requires (search rules) (search rules) c.flip.ensures.finds c.flip.ensures.log in
+    let did =
+    drop_freed (g.G.SenderGround.woken c.free-in_default.new.self) c.flip.result gone.word c.flip.ensures.log
+    c.free-in_default.ensures.log in
+    record { run = did.ran; woke = did; bounded = drop_few did.ran }

@@ -11,7 +11,7 @@ pub returns-clause-finishes : goal.returns-clause-finishes
 returns-clause-finishes g c =
     finished_as c.take_waker-waker.result c.requires c.take_waker-waker.ensures.log c.take_waker-waker.ensures.message
     c.take_waker-waker.ensures.waker c.swap-found.result c.swap-found.ensures.finds c.swap-found.ensures.log
-    c.wake.ensures.log
+    c.wake.ensures.log c.wake.ensures.woken
 
 pub returns-clause-gone : goal.returns-clause-gone
 returns-clause-gone g c gone =

@@ -19,11 +19,12 @@ finish-requires g c =
     c.write_message.ensures.message c.write_message.ensures.waker) c.in-0.is c.add.ensures.finds
     c.add.ensures.log
 
-pub returns-in-3-clause-run : goal.returns-in-3-clause-run
-returns-in-3-clause-run g c = send_ran c.add.result c.in-3.is c.write_message.ensures.log c.add.ensures.log
-
-pub returns-in-3-clause-bounded : goal.returns-in-3-clause-bounded
-returns-in-3-clause-bounded g c = send_few (returns-in-3-clause-run g c)
+pub returns-in-3 : goal.returns-in-3
+returns-in-3 g c =
+    let did =
+    send_ran (g.G.SenderGround.woken c.add.new.self) c.add.result c.in-3.is c.write_message.ensures.log
+    c.add.ensures.log in
+    record { run = did.ran; woke = did; refused = search rules; late = search rules; bounded = send_few did.ran }
 
 pub returns-in-0 : goal.returns-in-0
 returns-in-0 g c =
@@ -32,15 +33,16 @@ returns-in-0 g c =
     c.write_message.ensures.waker in
     let kept =
     added_kept c.add.result fresh c.in-0.is c.add.ensures.finds c.add.ensures.log c.write_message.ensures.message in
-    let run =
-    send_woke c.add.result c.finish.result c.in-0.is c.write_message.ensures.log c.add.ensures.log
+    let did =
+    send_woke _ c.add.result c.finish.result c.in-0.is c.write_message.ensures.log c.add.ensures.log
     c.finish.ensures.finishes in
     record {
-      run = run;
+      run = did.ran;
+      woke = did;
       refused = λ gone.
           let over = c.finish.ensures.gone gone in record { keeps = over.message ∙ kept; no_waker = over.waker };
       late = λ gone. (c.finish.ensures.gone gone).late;
-      bounded = send_few run;
+      bounded = send_few did.ran;
     }
 
 pub returns-in_default : goal.returns-in_default
@@ -49,11 +51,14 @@ returns-in_default g c =
     written c.args.message c.requires.fresh c.write_message.ensures.log c.write_message.ensures.message
     c.write_message.ensures.waker in
     let gone = added c.add.result fresh (search rules) (search rules) c.add.ensures.finds c.add.ensures.log in
-    let run = send_refused c.add.result gone.word c.write_message.ensures.log c.add.ensures.log in
+    let did =
+    send_refused (g.G.SenderGround.woken c.add.new.self) c.add.result gone.word c.write_message.ensures.log
+    c.add.ensures.log in
     record {
-      run = run;
+      run = did.ran;
+      woke = did;
       refused = λ _. refused c.args.message gone.stands
           (message_kept c.add.ensures.finds c.write_message.ensures.message gone.stands.message);
       late = λ _. is_too_late gone.stands;
-      bounded = send_few run;
+      bounded = send_few did.ran;
     }

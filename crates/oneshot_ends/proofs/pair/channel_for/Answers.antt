@@ -2,8 +2,8 @@
 use Rattle.oneshot_ends.proofs.NewEnds.{new_sender, new_receiver}
 use Rattle.oneshot_ends.proofs.pair.channel_for.Goals as goal
 
-pub new-requires-2 : goal.new-requires-2
-new-requires-2 g c = new_sender c.in_ok-near.ensures
+pub new-requires : goal.new-requires
+new-requires g c = new_sender c.in_ok-near.ensures
 
-pub new-requires-3 : goal.new-requires-3
-new-requires-3 g c = new_receiver c.in_ok-near.ensures
+pub new-requires-2 : goal.new-requires-2
+new-requires-2 g c = new_receiver c.in_ok-near.ensures

@@ -3,6 +3,8 @@ use Rattle.oneshot_machine.proofs.ExampleRuns.{logs_of_sender, logs_of_receiver,
 use Rattle.oneshot_machine.proofs.ExampleNoRuns.{runs_that_are_not}
 use Rattle.oneshot_machine.proofs.FutureExampleRuns.{logs_of_future, future_runs, future_runs_that_are_not}
 use Rattle.oneshot_machine.proofs.CountedExamples.{counts_that_are, counts_that_are_not}
+use Rattle.oneshot_machine.proofs.LogExamples.{logs_that_grow, logs_that_do_not}
+use Rattle.oneshot_machine.proofs.RowExamples.{rows_that_lead, slots_that_are, slots_that_are_not}
 use Rattle.oneshot_machine.proofs.OrderedExamples.{orders_that_are, orders_that_are_not}
 use Rattle.oneshot_machine.proofs.laws.examples_are_so.Goals as goal
 
@@ -20,4 +22,9 @@ returns c =
       no_counts = counts_that_are_not;
       orders = orders_that_are;
       no_orders = orders_that_are_not;
+      logs = logs_that_grow;
+      no_logs = logs_that_do_not;
+      rows = rows_that_lead;
+      slots = slots_that_are;
+      no_slots = slots_that_are_not;
     }

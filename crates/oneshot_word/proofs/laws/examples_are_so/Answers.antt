@@ -1,5 +1,8 @@
 -- The goals that `examples_are_so` leaves.
 use Rattle.oneshot_word.proofs.RuleExamples.{states_that_are, states_that_are_not}
+use Rattle.oneshot_word.proofs.ReadExamples.{reads_that_are, reads_that_are_not}
+use Rattle.oneshot_word.proofs.SeatExamples.{slots_as_seen, seats_that_are, seats_that_are_not}
+use Rattle.oneshot_word.proofs.SideExamples.{sides_that_are, sides_that_are_not}
 use Rattle.oneshot_word.proofs.laws.examples_are_so.Goals as goal
 
 pub returns-clause-states : goal.returns-clause-states
@@ -7,3 +10,24 @@ returns-clause-states g c = states_that_are
 
 pub returns-clause-no_states : goal.returns-clause-no_states
 returns-clause-no_states g c = states_that_are_not
+
+pub returns-clause-slots : goal.returns-clause-slots
+returns-clause-slots g c = slots_as_seen
+
+pub returns-clause-seats : goal.returns-clause-seats
+returns-clause-seats g c = seats_that_are
+
+pub returns-clause-no_seats : goal.returns-clause-no_seats
+returns-clause-no_seats g c = seats_that_are_not
+
+pub returns-clause-sides : goal.returns-clause-sides
+returns-clause-sides g c = sides_that_are
+
+pub returns-clause-no_sides : goal.returns-clause-no_sides
+returns-clause-no_sides g c = sides_that_are_not
+
+pub returns-clause-reads : goal.returns-clause-reads
+returns-clause-reads g c = reads_that_are
+
+pub returns-clause-no_reads : goal.returns-clause-no_reads
+returns-clause-no_reads g c = reads_that_are_not

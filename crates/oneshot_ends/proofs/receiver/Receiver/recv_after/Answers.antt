@@ -1,5 +1,5 @@
 -- The goals that `recv_after` of `Receiver` leaves.
-use Rattle.std.proofs.Common.{refl, sym, ap, ◌∙◌, subst}
+use Rattle.std.proofs.Common.{[], ◌∷◌, refl, sym, ap, ◌∙◌, subst}
 use Rattle.oneshot_machine.specs.Phases.{receiver_at}
 use Rattle.std.specs.Prelude.{◌↔◌, IsTrue}
 use Rattle.oneshot_machine.specs.declared.machine.receiver.ReceiverStart.TheVariants.{RecvTimeout}
@@ -14,16 +14,17 @@ use Rattle.oneshot_ends.proofs.TimeoutEnds.{ends_where_held}
 use Rattle.oneshot_ends.proofs.receiver.Receiver.recv_after.Goals as goal
 
 pub recv_timeout-requires-clause-rests : goal.recv_timeout-requires-clause-rests
-recv_timeout-requires-clause-rests g c = as_lent _ (ap (λ r. r.now) c.lend-lent.ensures) c.self.invariant.0
+recv_timeout-requires-clause-rests g c =
+    as_lent (_ ∷ _ ∷ []) (ap (λ r. r.now) c.lend-lent.ensures.ground) c.self.invariant.0
 
 pub invariant_of-self : goal.invariant_of-self
 invariant_of-self g c = (
-  given_back _ c.recv_timeout.new.g.ground.now c.recv_timeout.ensures.rests,
+  given_back (_ ∷ _ ∷ []) c.recv_timeout.new.g.ground.now c.recv_timeout.ensures.rests,
   ready_timed c.recv_timeout.result c.self.inside.hand c.recv_timeout.new.hand _ _
-      (hand_lent c.self.inside.hand (ap (λ r. r.now) c.lend-lent.ensures) c.self.invariant.1)
+      (hand_lent c.self.inside.hand (ap (λ r. r.now) c.lend-lent.ensures.ground) c.self.invariant.1)
       c.recv_timeout.ensures.stays c.recv_timeout.ensures.leaves c.recv_timeout.ensures.hand,
   one_answered (RecvTimeout c.has_end.result) refl c.self.invariant.2
-      (receiver_grew (began_at (ap (λ r. r.now) c.lend-lent.ensures) refl)
+      (receiver_grew (began_at (ap (λ r. r.now) c.lend-lent.ensures.ground) refl)
       (words_of _ _ c.recv_timeout.new.g.ground.now.log) (RecvTimeout c.has_end.result) c.recv_timeout.ensures.run),
 )
 
@@ -33,7 +34,7 @@ returns-clause-run g c =
       has_end = c.has_end.result;
       held = subst (λ ends. IsTrue ends ↔ HasEnd c.args.timeout c.args.reading) (sym c.has_end.ensures)
           (ends_where_held c.args.timeout c.args.reading c.after-deadline.result c.after-deadline.ensures);
-      grew = receiver_grew (began_at (ap (λ r. r.now) c.lend-lent.ensures) (same_steps c.self.view_is))
+      grew = receiver_grew (began_at (ap (λ r. r.now) c.lend-lent.ensures.ground) (same_steps c.self.view_is))
           (words_of _ _ c.recv_timeout.new.g.ground.now.log) (RecvTimeout c.has_end.result)
           c.recv_timeout.ensures.run;
     }
@@ -47,13 +48,13 @@ pub returns-clause-stays_closed : goal.returns-clause-stays_closed
 returns-clause-stays_closed g c = λ closed.
     c.recv_timeout.ensures.stays
     (subst (λ xs. IsClosedAt (receiver_at xs))
-    (sym (began_at (ap (λ r. r.now) c.lend-lent.ensures) (same_steps c.self.view_is))) closed)
+    (sym (began_at (ap (λ r. r.now) c.lend-lent.ensures.ground) (same_steps c.self.view_is))) closed)
 
 pub returns-clause-about : goal.returns-clause-about
 returns-clause-about g c =
-    c.recv_timeout.ensures.keeps ∙ lent_about (ap (λ r. r.now) c.lend-lent.ensures) (same_about c.self.view_is)
+    c.recv_timeout.ensures.keeps.0 ∙ lent_about (ap (λ r. r.now) c.lend-lent.ensures.ground) (same_about c.self.view_is)
 
 pub returns-clause-kept : goal.returns-clause-kept
 returns-clause-kept g c =
     kept_about g.P.Promise.keeps c.recv_timeout.result
-    (lent_about (ap (λ r. r.now) c.lend-lent.ensures) (same_about c.self.view_is)) c.recv_timeout.ensures.given
+    (lent_about (ap (λ r. r.now) c.lend-lent.ensures.ground) (same_about c.self.view_is)) c.recv_timeout.ensures.given

@@ -1,5 +1,5 @@
 -- The goals that `recv_deadline` of `Receiver` leaves.
-use Rattle.std.proofs.Common.{refl, sym, ap, ◌∙◌, subst}
+use Rattle.std.proofs.Common.{[], ◌∷◌, refl, sym, ap, ◌∙◌, subst}
 use Rattle.oneshot_machine.specs.Phases.{receiver_at}
 use Rattle.oneshot_machine.specs.declared.machine.receiver.ReceiverStart.TheVariants.{RecvDeadline}
 use Rattle.oneshot_drive.specs.BetweenCalls.{IsClosedAt, LeavesTimed}
@@ -11,22 +11,23 @@ use Rattle.oneshot_ends.proofs.LentGrounds.{as_lent, given_back, hand_lent}
 use Rattle.oneshot_ends.proofs.receiver.Receiver.recv_deadline.Goals as goal
 
 pub recv_deadline-requires-clause-rests : goal.recv_deadline-requires-clause-rests
-recv_deadline-requires-clause-rests g c = as_lent _ (ap (λ r. r.now) c.lend-lent.ensures) c.self.invariant.0
+recv_deadline-requires-clause-rests g c =
+    as_lent (_ ∷ _ ∷ []) (ap (λ r. r.now) c.lend-lent.ensures.ground) c.self.invariant.0
 
 pub invariant_of-self : goal.invariant_of-self
 invariant_of-self g c = (
-  given_back _ c.recv_deadline.new.g.ground.now c.recv_deadline.ensures.rests,
+  given_back (_ ∷ _ ∷ []) c.recv_deadline.new.g.ground.now c.recv_deadline.ensures.rests,
   ready_timed c.recv_deadline.result c.self.inside.hand c.recv_deadline.new.hand _ _
-      (hand_lent c.self.inside.hand (ap (λ r. r.now) c.lend-lent.ensures) c.self.invariant.1)
+      (hand_lent c.self.inside.hand (ap (λ r. r.now) c.lend-lent.ensures.ground) c.self.invariant.1)
       c.recv_deadline.ensures.stays c.recv_deadline.ensures.leaves c.recv_deadline.ensures.hand,
   one_answered RecvDeadline refl c.self.invariant.2
-      (receiver_grew (began_at (ap (λ r. r.now) c.lend-lent.ensures) refl)
+      (receiver_grew (began_at (ap (λ r. r.now) c.lend-lent.ensures.ground) refl)
       (words_of _ _ c.recv_deadline.new.g.ground.now.log) RecvDeadline c.recv_deadline.ensures.run),
 )
 
 pub returns-clause-run : goal.returns-clause-run
 returns-clause-run g c =
-    receiver_grew (began_at (ap (λ r. r.now) c.lend-lent.ensures) (same_steps c.self.view_is))
+    receiver_grew (began_at (ap (λ r. r.now) c.lend-lent.ensures.ground) (same_steps c.self.view_is))
     (words_of _ _ c.recv_deadline.new.g.ground.now.log) RecvDeadline c.recv_deadline.ensures.run
 
 pub returns-clause-leaves : goal.returns-clause-leaves
@@ -38,7 +39,7 @@ pub returns-clause-stays_closed : goal.returns-clause-stays_closed
 returns-clause-stays_closed g c = λ closed.
     c.recv_deadline.ensures.stays
     (subst (λ xs. IsClosedAt (receiver_at xs))
-    (sym (began_at (ap (λ r. r.now) c.lend-lent.ensures) (same_steps c.self.view_is))) closed)
+    (sym (began_at (ap (λ r. r.now) c.lend-lent.ensures.ground) (same_steps c.self.view_is))) closed)
 
 pub returns-clause-closes : goal.returns-clause-closes
 returns-clause-closes g c = closed_in_time (returns-clause-leaves g c)
@@ -48,9 +49,10 @@ returns-clause-stays_open g c = open_too_late (returns-clause-leaves g c)
 
 pub returns-clause-about : goal.returns-clause-about
 returns-clause-about g c =
-    c.recv_deadline.ensures.keeps ∙ lent_about (ap (λ r. r.now) c.lend-lent.ensures) (same_about c.self.view_is)
+    c.recv_deadline.ensures.keeps.0
+    ∙ lent_about (ap (λ r. r.now) c.lend-lent.ensures.ground) (same_about c.self.view_is)
 
 pub returns-clause-kept : goal.returns-clause-kept
 returns-clause-kept g c =
     kept_about g.P.Promise.keeps c.recv_deadline.result
-    (lent_about (ap (λ r. r.now) c.lend-lent.ensures) (same_about c.self.view_is)) c.recv_deadline.ensures.given
+    (lent_about (ap (λ r. r.now) c.lend-lent.ensures.ground) (same_about c.self.view_is)) c.recv_deadline.ensures.given

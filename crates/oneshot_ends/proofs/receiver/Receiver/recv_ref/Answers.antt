@@ -1,5 +1,5 @@
 -- The goals that `recv_ref` of `Receiver` leaves.
-use Rattle.std.proofs.Common.{refl, sym, ap, ◌∙◌, subst}
+use Rattle.std.proofs.Common.{[], ◌∷◌, refl, sym, ap, ◌∙◌, subst}
 use Rattle.oneshot_machine.specs.Phases.{receiver_at}
 use Rattle.oneshot_machine.specs.declared.machine.receiver.ReceiverStart.TheVariants.{RecvRef}
 use Rattle.oneshot_drive.specs.BetweenCalls.{IsClosedAt, LeavesClosed}
@@ -11,21 +11,22 @@ use Rattle.oneshot_ends.proofs.LentGrounds.{as_lent, given_back}
 use Rattle.oneshot_ends.proofs.receiver.Receiver.recv_ref.Goals as goal
 
 pub recv_ref-requires-clause-rests : goal.recv_ref-requires-clause-rests
-recv_ref-requires-clause-rests g c = as_lent _ (ap (λ r. r.now) c.lend-lent.ensures) c.self.invariant.0
+recv_ref-requires-clause-rests g c =
+    as_lent (_ ∷ _ ∷ []) (ap (λ r. r.now) c.lend-lent.ensures.ground) c.self.invariant.0
 
 pub invariant_of-self : goal.invariant_of-self
 invariant_of-self g c = (
-  given_back _ c.recv_ref.new.g.ground.now c.recv_ref.ensures.rests,
+  given_back (_ ∷ _ ∷ []) c.recv_ref.new.g.ground.now c.recv_ref.ensures.rests,
   ready_closed c.recv_ref.new.hand
       c.recv_ref.result _ c.recv_ref.ensures.leaves,
   one_answered RecvRef refl c.self.invariant.2
-      (receiver_grew (began_at (ap (λ r. r.now) c.lend-lent.ensures) refl)
+      (receiver_grew (began_at (ap (λ r. r.now) c.lend-lent.ensures.ground) refl)
       (words_of _ _ c.recv_ref.new.g.ground.now.log) RecvRef c.recv_ref.ensures.run),
 )
 
 pub returns-clause-run : goal.returns-clause-run
 returns-clause-run g c =
-    receiver_grew (began_at (ap (λ r. r.now) c.lend-lent.ensures) (same_steps c.self.view_is))
+    receiver_grew (began_at (ap (λ r. r.now) c.lend-lent.ensures.ground) (same_steps c.self.view_is))
     (words_of _ _ c.recv_ref.new.g.ground.now.log) RecvRef c.recv_ref.ensures.run
 
 pub returns-clause-leaves : goal.returns-clause-leaves
@@ -37,16 +38,16 @@ pub returns-clause-stays_closed : goal.returns-clause-stays_closed
 returns-clause-stays_closed g c = λ closed.
     c.recv_ref.ensures.stays
     (subst (λ xs. IsClosedAt (receiver_at xs))
-    (sym (began_at (ap (λ r. r.now) c.lend-lent.ensures) (same_steps c.self.view_is))) closed)
+    (sym (began_at (ap (λ r. r.now) c.lend-lent.ensures.ground) (same_steps c.self.view_is))) closed)
 
 pub returns-clause-closes : goal.returns-clause-closes
 returns-clause-closes g c = closed_by _ _ (returns-clause-leaves g c)
 
 pub returns-clause-about : goal.returns-clause-about
 returns-clause-about g c =
-    c.recv_ref.ensures.keeps ∙ lent_about (ap (λ r. r.now) c.lend-lent.ensures) (same_about c.self.view_is)
+    c.recv_ref.ensures.keeps.0 ∙ lent_about (ap (λ r. r.now) c.lend-lent.ensures.ground) (same_about c.self.view_is)
 
 pub returns-clause-kept : goal.returns-clause-kept
 returns-clause-kept g c =
     kept_about g.P.Promise.keeps c.recv_ref.result
-    (lent_about (ap (λ r. r.now) c.lend-lent.ensures) (same_about c.self.view_is)) c.recv_ref.ensures.given
+    (lent_about (ap (λ r. r.now) c.lend-lent.ensures.ground) (same_about c.self.view_is)) c.recv_ref.ensures.given

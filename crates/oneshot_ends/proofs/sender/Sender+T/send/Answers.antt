@@ -9,15 +9,15 @@ use Rattle.oneshot_ends.proofs.sender.Sender+T.send.Goals as goal
 
 pub returns-clause-run : goal.returns-clause-run
 returns-clause-run g c =
-    send_refused c.send.new.g c.into_ground-ground.ensures (same_steps c.self.view_is) (sym c.refused.ensures.log)
+    send_refused c.send.new.g.side c.into_ground-ground.ensures (same_steps c.self.view_is) (sym c.refused.ensures.log)
     c.if-send.false c.send.ensures.run
 
 pub refused-requires-clause-late : goal.refused-requires-clause-late
 refused-requires-clause-late g c =
-    subst (λ xs. IsLate (sender_at xs)) (words_of _ _ c.send.new.g.log) (c.send.ensures.late c.if-send.false)
+    subst (λ xs. IsLate (sender_at xs)) (words_of _ _ c.send.new.g.side.log) (c.send.ensures.late c.if-send.false)
 
 pub refused-requires-clause-refused : goal.refused-requires-clause-refused
 refused-requires-clause-refused g c =
     was_refused
-    (send_refused c.send.new.g c.into_ground-ground.ensures c.self.invariant.log refl c.if-send.false
+    (send_refused c.send.new.g.side c.into_ground-ground.ensures c.self.invariant.log refl c.if-send.false
     c.send.ensures.run)

@@ -1,0 +1,190 @@
+-- What the definitions of the ends take for open and closed, for the log of a call, for a deadline and for a copy of a
+-- task, by examples; and what they do not.
+use Rattle.std.specs.Prelude.{◌≡◌, ◌≢◌, ℕ, ◌+◌, true, false, List, [], ◌∷◌, ◌++◌, Option, Some, None}
+use Rattle.std.specs.Duration.{as_nanos}
+use Rattle.std.specs.declared.time.Duration.{Duration}
+use Rattle.std.specs.Time.{instant_nanos, FitsClock}
+use Rattle.std.specs.declared.time.Instant.{Instant}
+use Rattle.atomic_table.specs.Seated.{TableId}
+use Rattle.futures.specs.Task.{Wakes}
+use Rattle.futures.specs.declared.task.context.Context.{Context}
+use Rattle.futures.specs.declared.task.waker.Waker.{Waker}
+use Rattle.oneshot_machine.specs.declared.machine.Reply.TheVariants.{Sent, Refused, Message, Empty, Timeout}
+use Rattle.oneshot_machine.specs.declared.machine.Seen.TheVariants.{Done, Word}
+use Rattle.oneshot_machine.specs.declared.machine.receiver.ReceiverStart.TheVariants.{TryRecv}
+use Rattle.oneshot_machine.specs.declared.machine.sender.SenderCall.TheVariants.{Send}
+use Rattle.oneshot_machine.specs.declared.states.Op.TheVariants.{Load, Store, Swap, Exchange, Add}
+use Rattle.oneshot_machine.specs.Called.{as_receiver, as_future}
+use Rattle.oneshot_machine.specs.Logs.{worded}
+use Rattle.oneshot_machine.specs.Noted.{Noted}
+use Rattle.oneshot_machine.specs.Phases.{first, here, looked, disconnected, found_closed, gone}
+use Rattle.oneshot_machine.specs.Slots.{away, vacant, held}
+use Rattle.oneshot_word.specs.Side.{Side}
+use Rattle.oneshot_ends.specs.declared.copies.Copies.{Copies}
+use Rattle.oneshot_ends.specs.declared.copies.TaskCopy.{TaskCopy}
+use Rattle.oneshot_ends.specs.declared.deadline.Deadline.TheVariants.{At, Passed, Never}
+use Rattle.oneshot_ends.specs.Copies.{HasMade, HasNoneOf}
+use Rattle.oneshot_ends.specs.Deadlines.{IsOver, IsFar, has_end, IsAfter, HasEnd}
+use Rattle.oneshot_ends.specs.Ends.{EndOf, FutureEndOf, Failed, SenderGrew, ReceiverGrew, TimeoutRan, TimeoutGrew, HasCalls, SenderIsOrdered, ReceiverIsOrdered, WasRefused, IsClosed, IsOpen, IsDone, IsUnfinished}
+use Rattle.oneshot_ends.specs.Grounds.{channel_of, slot_of, state_of, lent, left_of, MayBeFreed, IsNewSender, IsNewReceiver}
+use Rattle.oneshot_ends.specs.Polling.{token_of, polled_state}
+
+-- LOGS: of a receive whose deadline was over, of one that took the message, and of a poll that stored its copy
+abbrev pub ran_out : List Noted
+ran_out = (Load, Word 3) ∷ (Swap 0, Word 3) ∷ (Swap 3, Word 0) ∷ []
+
+abbrev pub received : List Noted
+received = (Load, Word 4) ∷ (Store 2, Done) ∷ []
+
+abbrev pub polled : List Noted
+polled = (Load, Word 3) ∷ (Exchange 3 0, Word 3) ∷ []
+
+-- OPEN AND CLOSED
+module _ (channel : TableId) where
+  abbrev pub end_with : List Noted → EndOf ℕ
+  end_with log = record { channel = channel; log = log; about = 5 }
+
+  abbrev pub error_with : List Noted → Failed ℕ
+  error_with log = record { message = 7; channel = channel; log = log }
+
+  abbrev pub future_with : List Noted → FutureEndOf ℕ
+  future_with log = record { channel = channel; log = log; source = 1; about = 5 }
+
+  pub record EndsThatAre : Type 0 where
+    pub new_is_open : IsOpen (end_with [])
+    pub looked_is_open : IsOpen (end_with ((Load, Word 3) ∷ []))
+    pub ran_out_is_open : IsOpen (end_with ran_out)
+    pub received_is_closed : IsClosed (end_with received)
+    pub found_closed_is_closed : IsClosed (end_with ((Load, Word 2) ∷ []))
+    pub new_is_unfinished : IsUnfinished (future_with [])
+    pub polled_is_unfinished : IsUnfinished (future_with polled)
+    pub received_is_done : IsDone (future_with (polled ++ received))
+    pub sender_is_gone : IsDone (future_with (polled ++ (Load, Word 2) ∷ []))
+    pub error_was_refused : WasRefused ℕ (error_with ((Add, Word 2) ∷ [])).log
+
+  pub record EndsThatAreNot : Type 0 where
+    pub new_is_closed : IsClosed (end_with []) → ⊥
+    pub ran_out_is_closed : IsClosed (end_with ran_out) → ⊥
+    pub received_is_open : IsOpen (end_with received) → ⊥
+    pub found_closed_is_open : IsOpen (end_with ((Load, Word 2) ∷ [])) → ⊥
+    pub takes_and_is_open : IsOpen (end_with ((Load, Word 4) ∷ [])) → ⊥
+    pub polled_is_done : IsDone (future_with polled) → ⊥
+    pub received_is_unfinished : IsUnfinished (future_with (polled ++ received)) → ⊥
+    pub sender_is_gone_and_it_waits : IsUnfinished (future_with (polled ++ (Load, Word 2) ∷ [])) → ⊥
+
+-- THE LOG OF A CALL
+module _ (T : Type 0) where
+  pub record CallsThatGrow : Type 0 where
+    pub sends : SenderGrew T Send [] ((Add, Word 3) ∷ []) Sent
+    pub is_refused : SenderGrew T Send [] ((Add, Word 2) ∷ []) Refused
+    pub was_refused : WasRefused T ((Add, Word 2) ∷ [])
+    pub tries : ReceiverGrew T TryRecv ((Load, Word 3) ∷ []) ((Load, Word 3) ∷ (Load, Word 3) ∷ []) Empty
+    pub takes : ReceiverGrew T TryRecv [] received Message
+    pub has_tried : HasCalls T as_receiver ((Load, Word 3) ∷ [])
+    pub has_not_polled : HasCalls T as_future []
+    -- a deadline whose clock failed, and one whose instant is there
+    pub runs_out_at_once : (timeout : Duration) → TimeoutGrew T timeout [] ran_out Timeout
+    pub runs_out : (timeout : Duration) (now : Instant) → FitsClock (instant_nanos now)
+        → FitsClock (instant_nanos now + as_nanos timeout) → TimeoutRan T timeout (Some now) [] ran_out Timeout
+
+  pub record CallsThatDoNot : Type 0 where
+    pub says_that_it_sent : SenderGrew T Send [] ((Add, Word 2) ∷ []) Sent → ⊥
+    pub says_that_it_was_refused : SenderGrew T Send [] ((Add, Word 3) ∷ []) Refused → ⊥
+    pub was_not_refused : WasRefused T ((Add, Word 3) ∷ []) → ⊥
+    pub forgets_its_add : SenderGrew T Send ((Add, Word 3) ∷ []) [] Sent → ⊥
+    pub finds_the_message_in_3 : ReceiverGrew T TryRecv [] ((Load, Word 3) ∷ []) Message → ⊥
+    pub forgets_its_load : ReceiverGrew T TryRecv ((Load, Word 3) ∷ []) [] Empty → ⊥
+    pub looks_at_nothing : ReceiverGrew T TryRecv [] [] Empty → ⊥
+    -- no instant can hold the sum
+    pub runs_out_of_no_end : (timeout : Duration) (now : Instant) (log : List Noted)
+        → (FitsClock (instant_nanos now + as_nanos timeout) → ⊥) → TimeoutRan T timeout (Some now) [] log Timeout → ⊥
+
+-- LOGS THAT HAVE AN ORDER with some log of the other end
+pub record OrdersThatAre : Type 0 where
+  pub sent : SenderIsOrdered ((Add, Word 3) ∷ [])
+  pub looked : ReceiverIsOrdered ((Load, Word 3) ∷ [])
+
+pub record OrdersThatAreNot : Type 0 where
+  pub sent_over_a_message : SenderIsOrdered ((Add, Word 4) ∷ []) → ⊥
+
+-- DEADLINES
+pub record DeadlinesThatAre : Type 0 where
+  pub over_past_it : (end now : Instant) → instant_nanos now ≡ instant_nanos end + 1 → IsOver (At end) (Some now)
+  pub over_unread : (end : Instant) → IsOver (At end) None
+  pub over_at_once : (reading : Option Instant) → IsOver Passed reading
+  pub far : (end now : Instant) → instant_nanos now + 100_000_000 ≡ instant_nanos end → IsFar (At end) (Some now)
+  pub ends : (end : Instant) → has_end (At end) ≡ true
+  pub ends_at_once : has_end Passed ≡ true
+  pub ends_never : has_end Never ≡ false
+  pub after_a_failure : (timeout : Duration) → IsAfter timeout None Passed
+  pub end_after_a_failure : (timeout : Duration) → HasEnd timeout None
+
+pub record DeadlinesThatAreNot : Type 0 where
+  pub over_at_itself : (end now : Instant) → instant_nanos now ≡ instant_nanos end → IsOver (At end) (Some now) → ⊥
+  pub over_before : (end now : Instant) → instant_nanos now + 1 ≡ instant_nanos end → IsOver (At end) (Some now) → ⊥
+  pub over_without_end : (reading : Option Instant) → IsOver Never reading → ⊥
+  pub far_by_less : (end now : Instant) → instant_nanos now + 99_999_999 ≡ instant_nanos end
+      → IsFar (At end) (Some now) → ⊥
+  pub far_unread : (end : Instant) → IsFar (At end) None → ⊥
+  pub never_after_a_failure : (timeout : Duration) → IsAfter timeout None Never → ⊥
+  pub later_after_a_failure : (timeout : Duration) (end : Instant) → IsAfter timeout None (At end) → ⊥
+  pub passed_after_a_reading : (timeout : Duration) (now : Instant) → IsAfter timeout (Some now) Passed → ⊥
+  pub a_nanosecond_early : (timeout : Duration) (now end : Instant)
+      → instant_nanos end + 1 ≡ instant_nanos now + as_nanos timeout → IsAfter timeout (Some now) (At end) → ⊥
+  pub a_nanosecond_late : (timeout : Duration) (now end : Instant)
+      → instant_nanos end ≡ instant_nanos now + as_nanos timeout + 1 → IsAfter timeout (Some now) (At end) → ⊥
+  pub never_where_it_fits : (timeout : Duration) (now : Instant)
+      → FitsClock (instant_nanos now + as_nanos timeout) → IsAfter timeout (Some now) Never → ⊥
+
+-- COPIES of a task's waker: none, and one in hand
+abbrev pub copies_with : Option (TaskCopy Waker) → Copies Waker
+copies_with hand = record { hand = hand; spare = None; stored = 0 }
+
+module _ (before after : Context) where
+  pub record CopiesThatAre : Type 0 where
+    pub made : (copy : TaskCopy Waker) → copy.task ≡ before.turn.task → Wakes copy.waker before
+        → HasMade before after (copies_with (Some copy))
+    pub none_in_hand : HasNoneOf before.turn.task (copies_with None)
+    pub of_another : (copy : TaskCopy Waker) → copy.task ≢ before.turn.task
+        → HasNoneOf before.turn.task (copies_with (Some copy))
+
+  pub record CopiesThatAreNot : Type 0 where
+    pub made_none : HasMade before after (copies_with None) → ⊥
+    pub made_for_another : (copy : TaskCopy Waker) → copy.task ≢ before.turn.task
+        → HasMade before after (copies_with (Some copy)) → ⊥
+    pub wakes_another : (copy : TaskCopy Waker) → after.lacks_waker ≡ false → (Wakes copy.waker before → ⊥)
+        → HasMade before after (copies_with (Some copy)) → ⊥
+    pub has_one : (copy : TaskCopy Waker) → copy.task ≡ before.turn.task
+        → HasNoneOf before.turn.task (copies_with (Some copy)) → ⊥
+
+-- WHAT A GROUND SHOWS: a side with both slots, which loses them where it freed the block
+module _ (table : TableId) where
+  abbrev pub side_with : List Noted → Side ℕ ℕ ℕ
+  side_with log = record { table = table; log = log; message = held 7; waker = held 1; passed = None; about = 5 }
+
+  pub record GroundsThatAre : Type 0 where
+    pub keeps_its_slots : left_of false (side_with []) ≡ side_with []
+    pub freed_the_message : (left_of true (side_with [])).message ≡ away
+    pub freed_the_waker : (left_of true (side_with [])).waker ≡ away
+    pub tells_tables_apart : (other : TableId) → channel_of table ≡ channel_of other → table ≡ other
+    pub no_message : slot_of {X = ℕ} None ≡ vacant
+    pub a_message : slot_of (Some table) ≡ held table
+    pub a_copy : token_of (held table) ≡ held (record {})
+    pub no_copy : token_of {W = ℕ} vacant ≡ vacant
+    -- its state: the operations of its log alone, at this table, beside what was lent under these names
+    pub shows_operations :
+        (state_of (side_with received)).log.list ≡ worded Load 4 ∷ worded (Store 2) 4 ∷ []
+    pub is_not_whole : (state_of (side_with [])).log.whole ≡ false
+    pub names_its_table : (state_of (side_with [])).log.channel ≡ channel_of table
+    pub names_what_was_lent : (lent (9 ∷ []) (side_with [])).log.channel ≡ 9 ∷ channel_of table
+    pub shows_a_token : (polled_state (9 ∷ []) (side_with [])).waker ≡ held (record {})
+    pub shows_the_message : (polled_state (9 ∷ []) (side_with [])).message ≡ held 7
+    pub frees_when_closed : MayBeFreed true (disconnected found_closed)
+    pub frees_nothing : MayBeFreed false first
+
+  pub record GroundsThatAreNot : Type 0 where
+    pub frees_while_open : MayBeFreed true (here looked) → ⊥
+    pub frees_once_gone : MayBeFreed true gone → ⊥
+    pub new_with_a_message : IsNewSender (side_with []) → ⊥
+    pub new_with_its_waker : IsNewReceiver (side_with []) → ⊥
+    pub new_with_a_log : IsNewSender (record (side_with ((Add, Word 3) ∷ [])) { message = vacant; waker = away }) → ⊥

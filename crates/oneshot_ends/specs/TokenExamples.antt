@@ -1,0 +1,98 @@
+-- States and lives of a token that the definitions take or refuse, steps of a sender that leave a wake out, wakers that
+-- gave no token, and parks that spin too long or end too early.
+use Rattle.std.specs.Prelude.{◌≡◌, ℕ, ◌+◌, ⊤, Bool, true, false, List, [], ◌∷◌, Option, Some, None}
+use Rattle.crossbeam_utils.specs.Token.{IsSamePass}
+use Rattle.std.specs.declared.time.Instant.{Instant}
+use Rattle.std.specs.Time.{instant_nanos}
+use Rattle.oneshot_machine.specs.declared.machine.Step.TheVariants.{TakeWaker, Wake}
+use Rattle.oneshot_machine.specs.declared.states.Op.TheVariants.{Add, Swap}
+use Rattle.oneshot_machine.specs.Logs.{Event, handed, worded}
+use Rattle.oneshot_drive.specs.Wakes.{Wakes}
+use Rattle.oneshot_word.specs.declared.rouse.Rouse.TheVariants.{Thread, Task}
+use Rattle.oneshot_ends.specs.declared.deadline.Deadline.{Deadline}
+use Rattle.oneshot_ends.specs.declared.deadline.Deadline.TheVariants.{At, Passed}
+use Rattle.oneshot_ends.specs.declared.token.Given.{Given}
+use Rattle.oneshot_ends.specs.declared.token.Half.{Half}
+use Rattle.oneshot_ends.specs.declared.token.Half.TheVariants.{Parking, Waking}
+use Rattle.oneshot_ends.specs.declared.token.WakingHalf.{WakingHalf}
+use Rattle.oneshot_ends.specs.Spins.{MaySpin, Waiting, Parked, HasToken}
+use Rattle.oneshot_ends.specs.Tokens.{TokenIs, divides, gives, takes, Life, IsGivenOnce, took}
+use Rattle.oneshot_ends.specs.Woken.{IsWoken, Sending}
+
+pub record StatesThatAreNot : Type 0 where
+  pub taken_not_given : TokenIs false (Parking true ∷ Waking false ∷ []) → ⊥
+  pub lost : TokenIs false (Parking false ∷ Waking true ∷ []) → ⊥
+  pub there_again : TokenIs true (Parking true ∷ Waking true ∷ []) → ⊥
+
+-- of the acts of a life, the latest stands first
+pub record LivesThatAre : Type 0 where
+  pub given_and_taken : IsGivenOnce (takes ∷ gives ∷ divides ∷ []) false
+  pub there : IsGivenOnce (gives ∷ divides ∷ []) true
+  pub leads_there : Life (gives ∷ divides ∷ []) true (Parking false ∷ Waking true ∷ [])
+  pub leads_on : Life (takes ∷ gives ∷ divides ∷ []) false (Parking true ∷ Waking true ∷ [])
+  pub took_it : took (Parking true) ≡ true
+  pub took_none : took (Parking false) ≡ false
+
+pub record LivesThatAreNot : Type 0 where
+  pub given_twice : IsGivenOnce (gives ∷ takes ∷ gives ∷ divides ∷ []) true → ⊥
+  pub taken_twice : IsGivenOnce (takes ∷ takes ∷ gives ∷ divides ∷ []) false → ⊥
+  pub taken_first : IsGivenOnce (takes ∷ divides ∷ []) false → ⊥
+  pub lost : IsGivenOnce (gives ∷ divides ∷ []) false → ⊥
+  pub gives_undivided : {is_there : Bool} {halves : List Half} → Life (gives ∷ []) is_there halves → ⊥
+  pub takes_first : {is_there : Bool} {halves : List Half} → Life (takes ∷ divides ∷ []) is_there halves → ⊥
+  pub gave_and_took : took (Waking true) ≡ true → ⊥
+
+-- a `send` that found a receiver waiting, up to the use of its waker, which is 1
+abbrev pub up_to_its_wake : List (Event ⊤ ℕ) → List (Event ⊤ ℕ)
+up_to_its_wake rest = worded Add 0 ∷ handed TakeWaker 1 ∷ worded (Swap 4) 1 ∷ rest
+
+abbrev pub any_wakes : ℕ → Type 0
+any_wakes waker = ⊤
+
+abbrev pub none_wakes : ℕ → Type 0
+none_wakes waker = ⊥
+
+pub record StepsThatWake : Type 0 where
+  pub by_its_waker : Wakes any_wakes (up_to_its_wake (handed Wake 1 ∷ []))
+  pub nobody_waits : Wakes {T = ⊤} none_wakes (worded Add 3 ∷ [])
+
+pub record StepsThatDoNot : Type 0 where
+  pub leaves_it_out : Wakes any_wakes (up_to_its_wake []) → ⊥
+  pub by_another : Wakes any_wakes (up_to_its_wake (handed Wake 2 ∷ [])) → ⊥
+  pub in_vain : Wakes none_wakes (up_to_its_wake (handed Wake 1 ∷ [])) → ⊥
+
+-- A WAKER THAT WAS USED: of a thread the proof is that of its own half
+pub record WakersThatWoke : Type 0 where
+  pub thread : (s : Sending ⊤ ⊤ ⊤) (half : WakingHalf) (given : Given) → s.given ≡ Some given
+      → IsSamePass half.pass given.pass → IsWoken {K = ℕ} (Thread half) s.given
+  pub task : IsWoken {K = ℕ} (Task 5) None
+
+pub record WakersThatDidNot : Type 0 where
+  pub unwoken : (half : WakingHalf) → IsWoken {K = ℕ} (Thread half) None → ⊥
+  pub by_another : (half : WakingHalf) (given : Given) → (IsSamePass half.pass given.pass → ⊥)
+      → IsWoken {K = ℕ} (Thread half) (Some given) → ⊥
+
+-- A RECEIVE THAT WAITS: how often it spun, whether it slept without a deadline, and whether it has its token
+abbrev pub waiting : ℕ → Bool → Bool → Waiting
+waiting spins slept taken = record { spins = spins; slept = slept; taken = taken }
+
+pub record WaitsThatAre : Type 0 where
+  pub spins_first : (deadline : Deadline) (reading : Option Instant) → MaySpin false 16 deadline reading
+  pub spins_in_time : (end now : Instant) → instant_nanos now + 100_000_000 ≡ instant_nanos end
+      → MaySpin true 0 (At end) (Some now)
+  pub spins_once : Parked ⊤ false (waiting 3 false false) (waiting 4 false false)
+  pub sleeps : Parked ⊥ false (waiting 17 false false) (waiting 17 true true)
+  pub has_it : HasToken (waiting 17 true true)
+  pub has_not_slept : HasToken (waiting 4 false false)
+
+pub record WaitsThatAreNot : Type 0 where
+  pub spins_on : (timed : Bool) (deadline : Deadline) (reading : Option Instant) → MaySpin timed 17 deadline reading → ⊥
+  pub spins_late : (end now : Instant) → instant_nanos now + 99_999_999 ≡ instant_nanos end
+      → MaySpin true 0 (At end) (Some now) → ⊥
+  pub spins_unread : (end : Instant) → MaySpin true 0 (At end) None → ⊥
+  pub spins_past_it : (reading : Option Instant) → MaySpin true 0 Passed reading → ⊥
+  pub counts_none : Parked ⊤ false (waiting 3 false false) (waiting 3 false false) → ⊥
+  pub returns_at_once : Parked ⊥ false (waiting 17 false false) (waiting 17 false false) → ⊥
+  pub wakes_without_it : Parked ⊥ false (waiting 17 false false) (waiting 17 true false) → ⊥
+  pub takes_it_twice : Parked ⊥ false (waiting 17 true true) (waiting 17 true true) → ⊥
+  pub lost_it : HasToken (waiting 17 true false) → ⊥

@@ -1,0 +1,78 @@
+-- The rule of a token: the waking half of a parker gives it once, and then the parking half takes it once.
+use Rattle.std.specs.Prelude.{◌≡◌, ℕ, suc, ◌+◌, ◌≤◌, Bool, true, false, List, [], ◌∷◌, ◌++◌, if◌then◌else◌, slice_set}
+use mathlib.Core.Option.{some}
+use lib.ListN.{get_elem?}
+use Rattle.oneshot_ends.specs.declared.token.Half.{Half}
+use Rattle.oneshot_ends.specs.declared.token.Half.TheVariants.{Both, Parking, Waking}
+
+-- whether this half took the token
+abbrev pub took : Half → Bool
+took (Parking taken) = taken
+took _ = false
+
+-- The four states: whether the token is there, and what each half knows.
+pub data TokenIs : Bool → List Half → Type 0 where
+  undivided : TokenIs false (Both ∷ [])
+  to_come : TokenIs false (Parking false ∷ Waking false ∷ [])
+  there : TokenIs true (Parking false ∷ Waking true ∷ [])
+  taken : TokenIs false (Parking true ∷ Waking true ∷ [])
+
+-- What may happen to a token: its parker is divided into the halves, the waking half gives the token, the parking
+-- half takes it, or finds none.
+pub data Act : Type 0 where
+  divides : Act
+  gives : Act
+  takes : Act
+  finds_none : Act
+
+-- From one state to the next, whichever halves there are: the half that acts is the one of this number.
+pub data Turn : Act → Bool → List Half → Bool → List Half → Type 0 where
+  was_divided : {is_there : Bool} {halves : List Half} (id : ℕ) → get_elem? halves id ≡ some Both
+      → Turn divides is_there halves is_there (slice_set halves id (Parking false) ++ Waking false ∷ [])
+  was_given : {is_there : Bool} {halves : List Half} (id : ℕ) → get_elem? halves id ≡ some (Waking false)
+      → Turn gives is_there halves true (slice_set halves id (Waking true))
+  was_taken : {halves : List Half} {before : Bool} (id : ℕ) → get_elem? halves id ≡ some (Parking before)
+      → Turn takes true halves false (slice_set halves id (Parking true))
+  was_missed : {halves : List Half} {before : Bool} (id : ℕ) → get_elem? halves id ≡ some (Parking before)
+      → Turn finds_none false halves false halves
+
+-- The life of a token up to a state: its acts, the latest first.
+pub data Life : List Act → Bool → List Half → Type 0 where
+  made : Life [] false (Both ∷ [])
+  and_then : {act : Act} {acts : List Act} {is_there now_there : Bool} {halves now : List Half}
+      → Life acts is_there halves → Turn act is_there halves now_there now → Life (act ∷ acts) now_there now
+
+-- one more where this act gives, or takes
+abbrev pub given_by : Act → ℕ → ℕ
+given_by gives n = suc n
+given_by _ n = n
+
+abbrev pub taken_by : Act → ℕ → ℕ
+taken_by takes n = suc n
+taken_by _ n = n
+
+abbrev pub times_given : List Act → ℕ
+times_given [] = 0
+times_given (act ∷ acts) = given_by act (times_given acts)
+
+abbrev pub times_taken : List Act → ℕ
+times_taken [] = 0
+times_taken (act ∷ acts) = taken_by act (times_taken acts)
+
+-- Given at most once. It is there, or was taken as often as it was given: so it is taken at most once, only after
+-- it was given, and none that was given is lost.
+pub record IsGivenOnce (acts : List Act) (is_there : Bool) : Type 0 where
+  pub given : times_given acts ≤ 1
+  pub taken : times_given acts ≡ times_taken acts + (if is_there then 1 else 0)
+
+-- Each life leads to one of the four states, and each of these is one that a life leads to.
+abbrev pub LivesLeadToStates : Type 0
+LivesLeadToStates =
+    ((acts : List Act) (is_there : Bool) (halves : List Half) → Life acts is_there halves → TokenIs is_there halves)
+    × ((is_there : Bool) (halves : List Half) → TokenIs is_there halves
+    → (acts : List Act) × Life acts is_there halves)
+
+-- Of each life that leads to a state, and of each that led to a state before.
+abbrev pub TokensAreGivenOnce : Type 0
+TokensAreGivenOnce =
+    (acts : List Act) (is_there : Bool) (halves : List Half) → Life acts is_there halves → IsGivenOnce acts is_there

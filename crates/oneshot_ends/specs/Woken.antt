@@ -1,0 +1,23 @@
+-- What the use of a waker leaves behind, and how the ground of a sender shows it.
+use Rattle.std.specs.Prelude.{⊤, Option, Some, None}
+use Rattle.crossbeam_utils.specs.Token.{IsSamePass}
+use Rattle.oneshot_word.specs.declared.rouse.Rouse.{Rouse}
+use Rattle.oneshot_word.specs.declared.rouse.Rouse.TheVariants.{Thread}
+use Rattle.oneshot_word.specs.Side.{Side}
+use Rattle.oneshot_ends.specs.declared.token.Given.{Given}
+use Rattle.oneshot_ends.specs.declared.token.WakingHalf.{WakingHalf}
+
+-- this is the proof that this half gave the token
+abbrev pub IsGivenBy : WakingHalf → Option Given → Type 0
+IsGivenBy half None = ⊥
+IsGivenBy half (Some given) = IsSamePass half.pass given.pass
+
+-- A waker that was used: that of a thread gave its token. Of a task's the toolchain's contracts say nothing.
+abbrev pub IsWoken : {K : Type 0} → Rouse WakingHalf K → Option Given → Type 0
+IsWoken (Thread half) given = IsGivenBy half given
+IsWoken _ given = ⊤
+
+-- the ground of a sender: its side, and the proof of the token that it gave, once it has
+pub record Sending (T W P : Type 0) : Type 0 where
+  pub side : Side T W P
+  pub given : Option Given

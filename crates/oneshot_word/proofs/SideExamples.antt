@@ -1,0 +1,92 @@
+-- The examples of sides: each by its row of the table, and what the others lack.
+use Rattle.std.proofs.Common.{◌≡◌, ℕ, List, [], Some, None, get_or, refl, ap}
+use Rattle.atomic_table.specs.Seated.{TableId}
+use Rattle.oneshot_machine.specs.declared.machine.Seen.{Seen}
+use Rattle.oneshot_machine.specs.declared.machine.Seen.TheVariants.{Done, Word}
+use Rattle.oneshot_machine.specs.declared.states.Op.TheVariants.{Add}
+use Rattle.oneshot_machine.specs.Noted.{Noted}
+use Rattle.oneshot_machine.specs.RowExamples.{no_slot, room, has}
+use Rattle.oneshot_machine.specs.Slots.{finds}
+use Rattle.oneshot_machine.proofs.RowExamples.{slots_that_are, slots_that_are_not}
+use Rattle.oneshot_word.specs.SeatExamples.{claims, looked, sent_at_once}
+use Rattle.oneshot_word.specs.SideExamples.{SidesThatAre, SidesThatAreNot}
+
+pub sides_that_are : SidesThatAre
+sides_that_are =
+    record {
+      shows = refl;
+      shows_none = refl;
+      ends = record {
+        sender_about = refl;
+        receiver_about = refl;
+        table = refl;
+        sender_log = refl;
+        sender_slots = (refl, refl);
+        sender_passed = refl;
+        receiver_log = refl;
+        receiver_slots = (refl, refl);
+        receiver_passed = refl;
+      };
+      may_send = slots_that_are.sends;
+      may_drop = slots_that_are.drops;
+      may_swap = slots_that_are.sends_at_last;
+      may_load = slots_that_are.looks;
+      may_wait = slots_that_are.stores;
+      sends = record {
+        about = refl;
+        table = refl;
+        list = refl;
+        finds = slots_that_are.gives_its_message;
+        passed = refl;
+      };
+      claims_a_waker = record {
+        about = refl;
+        table = refl;
+        list = refl;
+        finds = slots_that_are.gets_a_waker;
+        passed = refl;
+      };
+      receives = record {
+        about = refl;
+        table = refl;
+        list = refl;
+        finds = slots_that_are.gets_a_message;
+        passed = refl;
+      };
+    }
+
+-- a table's block
+abbrev block : TableId → ℕ
+block t = t.block
+
+-- what the first operation of a log saw
+abbrev first_seen : List Noted → Seen
+first_seen log = (get_or log 0 (Add, Done)).1
+
+pub sides_that_are_not : SidesThatAreNot
+sides_that_are_not =
+    record {
+      sender_about_another = λ ends. let is : 8 ≡ 7 = ends.sender_about in cc is;
+      receiver_about_another = λ ends. let is : 8 ≡ 7 = ends.receiver_about in cc is;
+      of_two_tables = λ ends. let is : 5 ≡ 6 = ap block ends.table in cc is;
+      sender_has_operated = λ ends. let is : claims ≡ [] = ends.sender_log in cc is;
+      sender_has_a_message = λ ends. let is : has 7 ≡ room = ends.sender_slots.0 in cc is;
+      sender_has_the_waker = λ ends. let is : room ≡ no_slot = ends.sender_slots.1 in cc is;
+      sender_has_given = λ ends. let is : Some 7 ≡ None = ends.sender_passed in cc is;
+      receiver_has_operated = λ ends. let is : looked ≡ [] = ends.receiver_log in cc is;
+      receiver_has_the_message = λ ends. let is : room ≡ no_slot = ends.receiver_slots.0 in cc is;
+      receiver_has_the_waker = λ ends. let is : room ≡ no_slot = ends.receiver_slots.1 in cc is;
+      receiver_has_taken = λ ends. let is : Some 7 ≡ None = ends.receiver_passed in cc is;
+      sends_nothing = slots_that_are_not.sends_nothing;
+      sends_twice = slots_that_are_not.sends_twice;
+      waits_without_a_waker = slots_that_are_not.waits_without_a_waker;
+      becomes_about_another = λ did. let is : 8 ≡ 7 = did.about in cc is;
+      moves_to_another = λ did. let is : 6 ≡ 5 = ap block did.table in cc is;
+      is_not_logged = λ did. let is : [] ≡ sent_at_once = did.list in cc is;
+      logs_another_word = λ did. let is : Word 0 ≡ Word 3 = ap first_seen did.list in cc is;
+      keeps_its_message = λ did. slots_that_are_not.sends_and_keeps did.finds;
+      gives_none = λ did. let is : None ≡ Some 7 = did.passed in cc is;
+      gives_another = λ did. let is : Some 8 ≡ Some 7 = did.passed in cc is;
+      gets_no_message = λ did. slots_that_are_not.gets_no_message did.finds;
+      takes_none = λ did. let is : None ≡ Some 7 = did.passed in cc is;
+    }
