@@ -24,8 +24,8 @@ use Rattle.oneshot_machine.specs.Noted.{Noted, op_of}
 use Rattle.oneshot_machine.specs.Receiver.{receiver_start, receiver_step, receiver_row}
 use Rattle.oneshot_machine.specs.Runs.{Run, last, more}
 use Rattle.oneshot_machine.specs.TableRows.{Goes, Answers}
+use Rattle.oneshot_word.proofs.LastOnes.{not_empty, same_start, same_last}
 use Rattle.oneshot_bridge.specs.CallExamples.{tried_twice, WorkedCalls, WrongCalls}
-use Rattle.oneshot_bridge.proofs.Interleaves.{not_empty, same_start, same_last}
 
 -- the first call of a receiver
 record IsFirst (T W : Type 0) (x : ReceiverStart × Reply) (log : List Noted) : Type 0 where
@@ -81,7 +81,7 @@ module _ {T W : Type 0} where
       })
 
   -- what the first step saw, by the log
-  first_seen : (x : Event T W) (xs : List (Event T W)) {op : Op} {seen : Seen} {zs : List Noted}
+  pub first_seen : (x : Event T W) (xs : List (Event T W)) {op : Op} {seen : Seen} {zs : List Noted}
       → x.step ≡ Steps.Word op → (op, seen) ∷ zs ≡ words (x ∷ xs) → seen ≡ x.seen
   first_seen x xs {op} {seen} is same =
       let begins : words (x ∷ xs) ≡ (op, x.seen) ∷ words xs =
@@ -89,7 +89,7 @@ module _ {T W : Type 0} where
       ap (λ (log : List Noted). (get_or {A = Noted} log 0 (op, seen)).1) (same ∙ begins)
 
   -- a `try_recv` that found 3 answers that nothing is there
-  tries_in_vain : {run : List (Event T W)} → Run receiver_step receiver_row (Try TryLoad) run R.Message
+  pub tries_in_vain : {run : List (Event T W)} → Run receiver_step receiver_row (Try TryLoad) run R.Message
       → (Load, Word 3) ∷ [] ≡ words run → ⊥
   tries_in_vain (last x is leads) same =
       let row : Some (Answers R.Empty) ≡ Some (Answers R.Message) =

@@ -17,7 +17,7 @@ use Rattle.oneshot_machine.specs.TableRows.{Goes, Answers}
 use Rattle.oneshot_world.specs.declared.state.ReceiverState.TheVariants as RS
 use Rattle.oneshot_bridge.specs.Examples.{sends, receives, sent, received, worlds, WorkedRun, WrongRuns}
 use Rattle.oneshot_bridge.specs.Walks.{may_see, begins, quietly, by_one, Quiet, quiet, Operates, operates, the_receiver, opening_receiver, SenderStand, ReceiverStand, SenderWalk, ReceiverWalk}
-use Rattle.oneshot_bridge.proofs.Interleaves.{not_empty, same_start, same_last}
+use Rattle.oneshot_word.proofs.LastOnes.{not_empty, same_start, same_last}
 
 module _ {T : Type 0} (m : T) where
   sender : (s : SenderStand) × SenderWalk (sends m) sent s

@@ -27,7 +27,7 @@ use Rattle.oneshot_replay.specs.Right.{IsRight}
 use Rattle.oneshot_replay.specs.Run.{HasRun, told_at}
 use Rattle.oneshot_replay.specs.Scene.{Scene}
 use Rattle.oneshot_replay.specs.TraceView.{last_of}
-use Rattle.oneshot_bridge.specs.Gives.{gave_message, OneReceiveGets, NoWakeupIsLost, IsFreedOnce, IsFreedLast, IsFreedByItsHolder}
+use Rattle.oneshot_bridge.specs.Gives.{gave_message, OneReceiveGets, RunLosesNoWakeup, RunFreesOnce, RunFreesLast, RunFreesByItsHolder}
 use Rattle.oneshot_bridge.specs.OrdersRun.{answered_by, RunsTo}
 use Rattle.oneshot_bridge.specs.Walks.{Answered, the_receiver, ReceiverStand, SenderStand}
 use Rattle.oneshot_bridge.proofs.OneReceive.{one_gets, freed_once, unused_after}
@@ -53,15 +53,15 @@ module _ {T : Type 0} {a : SenderScript T} {b : ReceiverScript} {xs ys : List No
       (and_parts (is_held both_hold its_marks && is_free_last its_marks) (is_freed_at_end its_marks)
       run.right.freed_right).0
 
-pub is_freed_once : (T : Type 0) → IsFreedOnce T
-is_freed_once T a b xs ys word s r come run = freed_once (its_marks run) (held_and_last run).1
+pub run_frees_once : (T : Type 0) → RunFreesOnce T
+run_frees_once T a b xs ys word s r come run = freed_once (its_marks run) (held_and_last run).1
 
-pub is_freed_last : (T : Type 0) → IsFreedLast T
-is_freed_last T a b xs ys word s r come run earlier later m is freeing =
+pub run_frees_last : (T : Type 0) → RunFreesLast T
+run_frees_last T a b xs ys word s r come run earlier later m is freeing =
     unused_after earlier later m (subst (λ ms. is_free_last ms ≡ true) is (held_and_last run).1) freeing
 
-pub is_freed_by_its_holder : (T : Type 0) → IsFreedByItsHolder T
-is_freed_by_its_holder T a b xs ys word s r come run = (held_and_last run).0
+pub run_frees_by_its_holder : (T : Type 0) → RunFreesByItsHolder T
+run_frees_by_its_holder T a b xs ys word s r come run = (held_and_last run).0
 
 -- never unwoken, at the last moment of a run
 last_woken : (so_far : List Entry → List Mark) (k : ℕ) (w : World) (worlds : List World) (moves : List Move)
@@ -123,8 +123,8 @@ woken_at a b moves entries now ran right =
     subst (λ w. not (is_unwoken (marks (calls_of a b) entries) (ahead_of w)) ≡ true) last
     (last_woken (marks (calls_of a b)) 1 (opening a b) never.worlds moves entries never.tells never.woken)
 
-pub no_wakeup_is_lost : (T : Type 0) → NoWakeupIsLost T
-no_wakeup_is_lost T a b xs ys word s r come answered parks run =
+pub run_loses_no_wakeup : (T : Type 0) → RunLosesNoWakeup T
+run_loses_no_wakeup T a b xs ys word s r come answered parks run =
     let ms = marks (calls_of a b) run.entries in
     let told : answered_by Sender ms ≡ s.2 = ap (λ (z : SenderStand). z.2) run.sender in
     let ended : has_answered is_end_of_sender ms ≡ true =

@@ -30,7 +30,10 @@ use Rattle.oneshot_word.specs.Rule.{Home, bare, has_message, Lies, lies_out, lie
 use Rattle.oneshot_word.specs.Seats.{any, with_waker}
 use Rattle.oneshot_bridge.specs.Homes.{message_of_logs, waker_of_logs, CellsAreSo}
 use Rattle.oneshot_bridge.specs.Joined.{SlotsAreSo, Passed, none_passed, it_passed, maker_before, dealer_before, is_run, TablesAreOfRuns}
-use Rattle.oneshot_bridge.specs.Scripted.{IsOfARun}
+use Rattle.oneshot_bridge.specs.OrdersRun.{RunsSo}
+use Rattle.oneshot_bridge.specs.Scripted.{SendsOnly, IsOfARun}
+use Rattle.oneshot_bridge.specs.CallsRun.{RunsCalls}
+use Rattle.oneshot_bridge.proofs.CallsRun.{calls_run}
 use Rattle.oneshot_bridge.proofs.CellsRun.{cells_run}
 use Rattle.oneshot_bridge.proofs.StatesRun.{states_run}
 
@@ -136,16 +139,17 @@ passes keeps q (Some x) m lies same =
 
 -- the slots of a run, by its cells
 slots_so : {T H K : Type 0} {kept : T → Type 0} {h k : Home T H K} {xs ys : List Noted} {word : ℕ} (m : T)
-    (run : IsOfARun m xs ys word) → Reaches xs ys word → ((other : T) → h ≡ has_message other → other ≡ m)
-    → Lies kept Message (message_of_logs xs ys) h → Lies any with_waker (waker_of_logs xs ys) k → SlotsAreSo h k run.now
-slots_so {xs} {ys} m run order only message waker =
-    let cells : CellsAreSo xs ys run.now.world.state = cells_run run.sender run.receiver run.run order in
+    (a : SenderScript T) (b : ReceiverScript) {moves : List Move} {entries : List Entry} {now : Scene T}
+    → SendsOnly m a → RunsSo a b moves entries now xs ys word → Reaches xs ys word
+    → ((other : T) → h ≡ has_message other → other ≡ m)
+    → Lies kept Message (message_of_logs xs ys) h → Lies any with_waker (waker_of_logs xs ys) k → SlotsAreSo h k now
+slots_so {xs} {ys} m a b {now = now} sends run order only message waker =
+    let cells : CellsAreSo xs ys now.world.state = cells_run a b run order in
     record {
       has_it =
-          λ other is. subst (λ other. rest_at run.now.world.state.message run.now.message ≡ Some (InCell other))
+          λ other is. subst (λ other. rest_at now.world.state.message now.message ≡ Some (InCell other))
           (sym (only other is))
-          (lies_there run.sender run.receiver m run.run.run run.sends
-          (cells.message (is_filled (Message other) (full_message other) message is)));
+          (lies_there a b m run.run sends (cells.message (is_filled (Message other) (full_message other) message is)));
       has_none = λ is. cells.no_message (is_empty full_message message is);
       has_one = λ k is. cells.waker (is_filled (with_waker k) (full_waker k) waker is);
       has_no_waker = λ is. cells.no_waker (is_empty full_waker waker is);
@@ -155,10 +159,14 @@ pub passed_one : {T : Type 0} {m other : T} {o : Option T} → Passed m o → o 
 passed_one none_passed is = absurd (cc is)
 passed_one it_passed is = cc is
 
-pub tables_are_of_runs : {T P : Type 0} (H K : Type 0) (keeps : P → T → Type 0) → TablesAreOfRuns H K keeps
-tables_are_of_runs H K keeps m q _ _ _ opened = maker_before
-tables_are_of_runs H K keeps m q _ _ _ dealt = dealer_before
-tables_are_of_runs {T} H K keeps m q _ _ _ (runs {w} {h} xs ys {given} {taken} order message waker same) =
+pub tables_are_of_runs : {T P : Type 0} (H K W : Type 0) (keeps : P → T → Type 0) → TablesAreOfRuns H K W keeps
+tables_are_of_runs H K W keeps m q _ _ _ opened = maker_before
+tables_are_of_runs H K W keeps m q _ _ _ dealt = dealer_before
+tables_are_of_runs {T} H K W keeps m q _ _ _ (runs {w} {h} xs ys {given} {taken} order message waker same) =
     let sent : Passes h given taken = passes keeps q given m message same in
     let run : IsOfARun sent.it xs ys w = states_run T sent.it xs ys w order in
-    is_run sent.it xs ys run (slots_so sent.it run order sent.only message waker) sent.gave sent.took
+    is_run sent.it xs ys run (slots_so sent.it run.sender run.receiver run.sends run.run order sent.only message waker)
+    (λ form received was.
+    let calls : RunsCalls sent.it received xs ys w = calls_run T W sent.it form received xs ys w order was in
+    (calls, slots_so sent.it calls.sender calls.receiver calls.sends calls.run.run order sent.only message waker))
+    sent.gave sent.took

@@ -15,6 +15,7 @@ pub mod ReceiverScripted
 pub mod RowsTurn
 pub mod ReceiverLogs
 pub mod StatesRun
+pub mod RunOrder
 pub mod OneReceive
 pub mod Given
 pub mod Woken
@@ -26,3 +27,4 @@ pub mod Joined
 pub mod Examples
 pub mod CellExamples
 pub mod CallExamples
+pub mod RunExamples

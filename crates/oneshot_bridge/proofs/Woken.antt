@@ -12,10 +12,10 @@ use Rattle.oneshot_machine.specs.declared.machine.Step.{Step}
 use Rattle.oneshot_machine.specs.declared.machine.Step.TheVariants.{Wake}
 use Rattle.oneshot_machine.specs.declared.machine.sender.SenderPos.{SenderPos}
 use Rattle.oneshot_machine.specs.Noted.{Noted}
-use Rattle.oneshot_machine.specs.Orders.{Reaches}
 use Rattle.oneshot_machine.specs.Phases.{By, finished, sender_at, ReceiverAt, gone, receiver_at}
 use Rattle.oneshot_machine.specs.Sender.{sender_step, sender_row}
 use Rattle.oneshot_machine.specs.TableRows.{Outcome, Answers}
+use Rattle.oneshot_machine.proofs.InOrders.{in_order}
 use Rattle.oneshot_world.specs.Calls.{Call, first}
 use Rattle.oneshot_world.specs.Classes.{all_alike, as_call}
 use Rattle.oneshot_world.specs.Control.{sender_under_way}
@@ -51,10 +51,10 @@ use Rattle.oneshot_replay.specs.Scene.{Scene}
 use Rattle.oneshot_replay.specs.TraceView.{last_of}
 use Rattle.oneshot_replay.proofs.RunLaws.{is_right}
 use Rattle.oneshot_replay.proofs.Runs.{goes_on}
-use Rattle.oneshot_bridge.specs.Gives.{HaveCome}
+use Rattle.oneshot_bridge.specs.Gives.{HaveReached}
 use Rattle.oneshot_bridge.specs.OrdersRun.{answered_by, RunsTo}
 use Rattle.oneshot_bridge.specs.Walks.{Answered, opening_sender, the_sender, SenderStand, ReceiverStand}
-use Rattle.oneshot_bridge.specs.Woken.{waits, NobodyWaits, WakeIsUnderWay, found_it_gone, WasDropped, NobodyIsLeft}
+use Rattle.oneshot_bridge.specs.Woken.{waits, NobodyWaitsInARun, WakeIsNextInARun, found_it_gone, WasDropped, NobodyIsLeft}
 use Rattle.oneshot_bridge.proofs.CellsRun.{Found, comes_to, found_passes, where_so}
 use Rattle.oneshot_bridge.proofs.Given.{has_ended, woken_at}
 use Rattle.oneshot_bridge.proofs.PhaseCodes.{Phases}
@@ -78,8 +78,8 @@ module _ {T : Type 0} (a : SenderScript T) (b : ReceiverScript) where
       not_waiting (has_answered is_end_of_sender (marks (calls_of a b) entries)) (waits a b entries now.world)
       (has_ended (marks (calls_of a b) entries) answered) (woken_at a b moves entries now ran right)
 
-pub nobody_waits : (T : Type 0) → NobodyWaits T
-nobody_waits T a b xs ys word s r come answered run =
+pub nobody_waits_in_a_run : (T : Type 0) → NobodyWaitsInARun T
+nobody_waits_in_a_run T a b xs ys word s r come answered run =
     let told : answered_by Sender (marks (calls_of a b) run.entries) ≡ s.2 =
     ap (λ (z : SenderStand). z.2) run.sender in
     none_waits a b run.moves run.entries run.now run.run.run run.right
@@ -190,12 +190,12 @@ module _ (w : World) (p : SenderPos) (reached : IsReached w) (at : w.state.sende
       (sender_row p (seen_by false w.state (sender_step p))) (Answers about.reply) (sender_makes w p reached
       stands) sees)
 
-pub wake_is_under_way : (T : Type 0) → WakeIsUnderWay T
-wake_is_under_way T a b xs ys word s r come by p order is stood run =
+pub wake_is_next_in_a_run : (T : Type 0) → WakeIsNextInARun T
+wake_is_next_in_a_run T a b xs ys word s r come by p is stood run =
     let w = run.now.world in
     let k = run.now.count + 1 in
     let at : w.state.sender ≡ SS.At p = ap (λ (z : SenderStand). z.0) run.sender ∙ stood in
-    let there = comes_to a b run.run order in
+    let there = comes_to a b run.run come.order in
     let about : IsAboutToWake w p =
     about_to w (Some (sender_at xs, receiver_at ys)) by p (receiver_at ys) there.1
     (ap (λ p. Some (p, receiver_at ys)) is) at in
@@ -227,21 +227,22 @@ ended_is RS.Ended e = refl
 ended_is _ e = absurd (cc e)
 
 module _ {T : Type 0} {a : SenderScript T} {b : ReceiverScript} {xs ys : List Noted} {word : ℕ} {s : SenderStand}
-    {r : ReceiverStand} (come : HaveCome a b xs ys word s r) (order : Reaches xs ys word)
+    {r : ReceiverStand} (come : HaveReached a b xs ys word s r)
     (found : found_it_gone (sender_at xs) ≡ true) where
   is_over : (receiver_at ys ≡ gone) × (r.0 ≡ RS.Ended)
   is_over =
-      let run : RunsTo a b xs ys word s r = orders_run T a b xs ys word s r come.order come.sender come.receiver in
+      let run : RunsTo a b xs ys word s r =
+      orders_run T a b xs ys word s r (in_order come.order) come.sender come.receiver in
       let w = run.now.world in
       let over = and_parts (is_gone (receiver_at ys)) (receiver_ended w.state.receiver)
       (where_so (found_it_gone (sender_at xs)) _ (found_passes ends_well all_end w
-      (Some (sender_at xs, receiver_at ys)) (comes_to a b run.run order).1) found) in (
+      (Some (sender_at xs, receiver_at ys)) (comes_to a b run.run come.order).1) found) in (
         gone_is (receiver_at ys) over.0,
         sym (ap (λ (z : ReceiverStand). z.0) run.receiver) ∙ ended_is w.state.receiver over.1,
       )
 
 pub was_dropped : (T : Type 0) → WasDropped T
-was_dropped T a b xs ys word s r come order found = (is_over come order found).0
+was_dropped T a b xs ys word s r come found = (is_over come found).0
 
 pub nobody_is_left : (T : Type 0) → NobodyIsLeft T
-nobody_is_left T a b xs ys word s r come order found = (is_over come order found).1
+nobody_is_left T a b xs ys word s r come found = (is_over come found).1

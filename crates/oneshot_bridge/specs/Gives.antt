@@ -5,7 +5,7 @@ use Rattle.std.specs.Option.{option_map}
 use Rattle.oneshot_machine.specs.declared.machine.Reply.TheVariants as R
 use Rattle.oneshot_machine.specs.declared.machine.Step.TheVariants.{Park}
 use Rattle.oneshot_machine.specs.Noted.{Noted}
-use Rattle.oneshot_machine.specs.Orders.{InOrder}
+use Rattle.oneshot_machine.specs.Orders.{InOrder, Reaches}
 use Rattle.oneshot_machine.specs.Receiver.{receiver_step}
 use Rattle.oneshot_world.specs.Scripts.{calls_of}
 use Rattle.oneshot_world.specs.declared.script.ReceiverScript.{ReceiverScript}
@@ -32,6 +32,20 @@ WhereverTheyCome T holds =
     (a : SenderScript T) (b : ReceiverScript) (xs ys : List Noted) (word : ℕ) (s : SenderStand) (r : ReceiverStand)
     → HaveCome a b xs ys word s r → holds a b xs ys word s r
 
+-- the same in an order by both phases' tables
+pub record HaveReached {T : Type 0} (a : SenderScript T) (b : ReceiverScript) (xs ys : List Noted) (word : ℕ)
+    (s : SenderStand) (r : ReceiverStand) : Type 0 where
+  pub order : Reaches xs ys word
+  pub sender : SenderWalk a xs s
+  pub receiver : ReceiverWalk b ys r
+
+abbrev pub WhereverTheyReach : (T : Type 0)
+    → ((a : SenderScript T) (b : ReceiverScript) (xs ys : List Noted) (word : ℕ) (s : SenderStand) (r : ReceiverStand)
+    → Type 0) → Type 0
+WhereverTheyReach T holds =
+    (a : SenderScript T) (b : ReceiverScript) (xs ys : List Noted) (word : ℕ) (s : SenderStand) (r : ReceiverStand)
+    → HaveReached a b xs ys word s r → holds a b xs ys word s r
+
 -- at most one receive was answered with the message
 abbrev pub gave_message : Answered → Bool
 gave_message answered = is_receive answered.0 && is_same_reply R.Message answered.1
@@ -41,26 +55,26 @@ OneReceiveGets T = WhereverTheyCome T (λ a b xs ys word s r. length (filter gav
 
 -- Where the sender's `send` or drop has answered and the receiver's next step is a park, each run that leads
 -- there has a token for it: the park ends at once.
-abbrev pub NoWakeupIsLost : (T : Type 0) → Type 0
-NoWakeupIsLost T =
+abbrev pub RunLosesNoWakeup : (T : Type 0) → Type 0
+RunLosesNoWakeup T =
     WhereverTheyCome T (λ a b xs ys word s r. IsTrue (list_any (λ x. is_end_of_sender x.0) s.2)
     → option_map receiver_step (the_receiver.position r) ≡ Some Park
     → (run : RunsTo a b xs ys word s r) → run.now.world.state.wakers.token ≡ true)
 
 -- no run that leads there frees the block twice
-abbrev pub IsFreedOnce : (T : Type 0) → Type 0
-IsFreedOnce T =
+abbrev pub RunFreesOnce : (T : Type 0) → Type 0
+RunFreesOnce T =
     WhereverTheyCome T (λ a b xs ys word s r. (run : RunsTo a b xs ys word s r)
     → length (filter frees (marks (calls_of a b) run.entries)) ≤ 1)
 
 -- no entry uses the block after the one that frees it
-abbrev pub IsFreedLast : (T : Type 0) → Type 0
-IsFreedLast T =
+abbrev pub RunFreesLast : (T : Type 0) → Type 0
+RunFreesLast T =
     WhereverTheyCome T (λ a b xs ys word s r. (run : RunsTo a b xs ys word s r) (earlier later : List Mark) (m : Mark)
     → marks (calls_of a b) run.entries ≡ earlier ++ m ∷ later → IsTrue (frees m) → IsFalse (list_any uses_block later))
 
 -- only an end that holds the block uses it, and the one that frees it is the only one that holds it
-abbrev pub IsFreedByItsHolder : (T : Type 0) → Type 0
-IsFreedByItsHolder T =
+abbrev pub RunFreesByItsHolder : (T : Type 0) → Type 0
+RunFreesByItsHolder T =
     WhereverTheyCome T (λ a b xs ys word s r. (run : RunsTo a b xs ys word s r)
     → IsTrue (is_held both_hold (marks (calls_of a b) run.entries)))

@@ -1,6 +1,9 @@
 -- The rule of the shared table and the runs of the model, in one: each state that the rule allows is of a run, whose
 -- message is the one that passed.
 use Rattle.std.specs.Prelude.{◌≡◌, ℕ, List, [], ◌∷◌, Option, Some, None, is_some, IsTrue, IsFalse}
+use Rattle.oneshot_machine.specs.declared.machine.Reply.{Reply}
+use Rattle.oneshot_machine.specs.declared.machine.receiver.ReceiverStart.{ReceiverStart}
+use Rattle.oneshot_machine.specs.Called.{Form, ReceiverCalled}
 use Rattle.oneshot_machine.specs.Noted.{Noted}
 use Rattle.oneshot_world.specs.State.{is_in_cell}
 use Rattle.oneshot_replay.specs.Rest.{rest_at}
@@ -11,6 +14,7 @@ use Rattle.oneshot_word.specs.declared.rule.Role.TheVariants.{Maker, Dealer, Sen
 use Rattle.oneshot_word.specs.declared.rule.View.{View}
 use Rattle.oneshot_word.specs.Rule.{Home, bare, has_message, has_waker, Tied}
 use Rattle.oneshot_word.specs.Seats.{view}
+use Rattle.oneshot_bridge.specs.CallsRun.{RunsCalls}
 use Rattle.oneshot_bridge.specs.Scripted.{IsOfARun}
 
 -- The slots at home, the message's and the waker's, and the cells where a run has come to. Of a slot that an end
@@ -29,18 +33,22 @@ pub data Passed {T : Type 0} (m : T) : Option T → Type 0 where
   it_passed : Passed m (Some m)
 
 -- the words, the slots at home and the views of all seats
-pub data OfARun {T H K P : Type 0} (q : P) : List ℕ → List (Home T H K) → List (View T P) → Type 0 where
+pub data OfARun {T H K P : Type 0} (W : Type 0) (q : P) : List ℕ → List (Home T H K) → List (View T P) → Type 0 where
   -- before there are ends
-  maker_before : {homes : List (Home T H K)} → OfARun q (3 ∷ []) homes (view q Maker [] None ∷ [])
-  dealer_before : {homes : List (Home T H K)} → OfARun q (3 ∷ []) homes (view q Dealer [] None ∷ [])
-  -- And then always: both views have the operations of a run, which has this word and these slots. The message of
-  -- the run is the one that the sender gave, if it gave one, and that the receiver took, if it took one.
+  maker_before : {homes : List (Home T H K)} → OfARun W q (3 ∷ []) homes (view q Maker [] None ∷ [])
+  dealer_before : {homes : List (Home T H K)} → OfARun W q (3 ∷ []) homes (view q Dealer [] None ∷ [])
+  -- And then always: both views have the operations of a run, which has this word and these slots. Between two calls
+  -- of the receiver such a run has answered its own calls, with the same replies. The message of the run is the one
+  -- that the sender gave, if it gave one, and that the receiver took, if it took one.
   is_run : {word : ℕ} {message waker : Home T H K} (m : T) (xs ys : List Noted) {given taken : Option T}
-      (run : IsOfARun m xs ys word) → SlotsAreSo message waker run.now → Passed m given → Passed m taken
-      → OfARun q (word ∷ []) (message ∷ waker ∷ []) (view q Sender xs given ∷ view q Receiver ys taken ∷ [])
+      (run : IsOfARun m xs ys word) → SlotsAreSo message waker run.now
+      → ((form : Form) (received : List (ReceiverStart × Reply)) → ReceiverCalled T W form received ys
+      → (calls : RunsCalls m received xs ys word) × SlotsAreSo message waker calls.run.now)
+      → Passed m given → Passed m taken
+      → OfARun W q (word ∷ []) (message ∷ waker ∷ []) (view q Sender xs given ∷ view q Receiver ys taken ∷ [])
 
 -- Whatever the table is under its rule, it is so in a run of the model. A sender needs a message to send.
-abbrev pub TablesAreOfRuns : {T P : Type 0} (H K : Type 0) → (P → T → Type 0) → Type 0
-TablesAreOfRuns {T} {P} H K keeps =
+abbrev pub TablesAreOfRuns : {T P : Type 0} (H K W : Type 0) → (P → T → Type 0) → Type 0
+TablesAreOfRuns {T} {P} H K W keeps =
     (m : T) (q : P) (words : List ℕ) (homes : List (Home T H K)) (views : List (View T P))
-    → Tied keeps q words homes views → OfARun q words homes views
+    → Tied keeps q words homes views → OfARun W q words homes views

@@ -5,12 +5,14 @@ ghost use Rattle.oneshot_bridge.specs.CallExamples.{WorkedCalls, WrongCalls};
 ghost use Rattle.oneshot_bridge.specs.CallsRun.{CallsAreRuns, BothCallsAreRuns, OneCallGets};
 ghost use Rattle.oneshot_bridge.specs.CellExamples.{WorkedCells, WrongCells, WrongUses};
 ghost use Rattle.oneshot_bridge.specs.Examples.{WorkedRun, WrongRuns};
-ghost use Rattle.oneshot_bridge.specs.Gives.{OneReceiveGets, NoWakeupIsLost, IsFreedOnce, IsFreedLast, IsFreedByItsHolder};
+ghost use Rattle.oneshot_bridge.specs.Gives.{OneReceiveGets, RunLosesNoWakeup, RunFreesOnce, RunFreesLast, RunFreesByItsHolder};
 ghost use Rattle.oneshot_bridge.specs.Joined.{TablesAreOfRuns};
 ghost use Rattle.oneshot_bridge.specs.Homes.{RunsHaveCells};
 ghost use Rattle.oneshot_bridge.specs.OrdersRun.{OrdersAreRuns};
+ghost use Rattle.oneshot_bridge.specs.RunOrder.{RunsAreInOrder, WorkedOrder, WrongOrder};
+ghost use Rattle.oneshot_bridge.specs.RunExamples.{AnswersThatAre, RunsThatAre, RunsThatAreNot, RunsSay};
 ghost use Rattle.oneshot_bridge.specs.Scripted.{SenderIsScripted, ReceiverIsScripted, StatesAreOfRuns};
-ghost use Rattle.oneshot_bridge.specs.Woken.{NobodyWaits, WakeIsUnderWay, WasDropped, NobodyIsLeft};
+ghost use Rattle.oneshot_bridge.specs.Woken.{NobodyWaitsInARun, WakeIsNextInARun, WasDropped, NobodyIsLeft};
 
 use oneshot_word::Promise;
 
@@ -18,6 +20,14 @@ use oneshot_word::Promise;
 /// script; and the run keeps every law of a trace.
 pub fn orders_are_runs<T>()
     ensures { OrdersAreRuns T }
+{}
+
+/// Each run of the model whose logs the rule of the word allows makes the operations of both in the one order that
+/// they have. So a run with the logs of real ends makes them in the order in which they happened.
+pub fn runs_are_in_order<T>()
+    ensures law { RunsAreInOrder T }
+    ensures worked { (m : T) → WorkedOrder m }
+    ensures wrong { (m : T) → WrongOrder m }
 {}
 
 /// Each run of the model whose logs the rule of the word allows comes to a world whose cells are as the rule says
@@ -41,9 +51,10 @@ pub fn every_state_is_of_a_run<T>()
 
 /// Whatever the shared table is under its rule, once both ends are there: a run of the model has the operations of
 /// both views, this word, and these slots at home. A message that lies at home, that the sender gave or that the
-/// receiver took is the message of that run.
-pub fn every_table_is_of_a_run<T, H, K, P: Promise<T>>()
-    ensures { TablesAreOfRuns H K P.keeps }
+/// receiver took is the message of that run. Where the receiver is between two calls, such a run has also answered the
+/// receiver's own calls, with the same replies.
+pub fn every_table_answers_calls<T, H, K, W, P: Promise<T>>()
+    ensures { TablesAreOfRuns H K W P.keeps }
 {}
 
 /// Between calls: a run of the model makes a program's own calls. Where a receiver, or a future, has answered some
@@ -56,25 +67,26 @@ pub fn calls_are_of_a_run<T, W>()
     ensures one_gets { OneCallGets T W }
 {}
 
-/// What the laws of the model say of both ends, wherever each has come to by its script, in an order of the
-/// operations of both: at most one receive was answered with the message; once the sender's `send` or drop has
-/// answered, a receiver that is about to park has its token; and the block is freed at most once, by the only end
-/// that holds it, and nothing uses it after that.
-pub fn laws_of_both_ends<T>()
+/// What the laws of the model say wherever both ends have come to by their scripts, in an order of the operations of
+/// both: at most one receive was answered with the message. And of each run that leads there: once the sender's `send`
+/// or drop has answered, a receiver that is about to park has its token; and the block is freed at most once, by the
+/// only end that holds it, and nothing uses it after that. These are facts of the model: a real end's park, wake and
+/// free are no operations on the word.
+pub fn laws_of_each_run<T>()
     ensures one_receive_gets { OneReceiveGets T }
-    ensures no_wakeup_is_lost { NoWakeupIsLost T }
-    ensures is_freed_once { IsFreedOnce T }
-    ensures is_freed_last { IsFreedLast T }
-    ensures is_freed_by_its_holder { IsFreedByItsHolder T }
+    ensures run_loses_no_wakeup { RunLosesNoWakeup T }
+    ensures run_frees_once { RunFreesOnce T }
+    ensures run_frees_last { RunFreesLast T }
+    ensures run_frees_by_its_holder { RunFreesByItsHolder T }
 {}
 
-/// What they say of a receiver that waits, in a park or in a task. Once the sender's `send` or drop has answered,
+/// What they say, in each run, of a receiver that waits in a park or in a task. Once the sender's `send` or drop has answered,
 /// it does not wait. Where the sender's last operation found the receiver here and the call is under way, the
 /// sender's next step is a wake, after which the receiver does not wait. Where that operation found the receiver
 /// gone, the receiver was dropped, and has ended.
-pub fn wakes_are_made<T>()
-    ensures nobody_waits { NobodyWaits T }
-    ensures wake_is_under_way { WakeIsUnderWay T }
+pub fn wakes_of_each_run<T>()
+    ensures nobody_waits_in_a_run { NobodyWaitsInARun T }
+    ensures wake_is_next_in_a_run { WakeIsNextInARun T }
     ensures was_dropped { WasDropped T }
     ensures nobody_is_left { NobodyIsLeft T }
 {}
@@ -88,4 +100,8 @@ pub fn examples_are_so<T>()
     ensures wrong_uses { (m : T) → WrongUses m }
     ensures calls { WorkedCalls T (Unit {0}) }
     ensures wrong_calls { WrongCalls T (Unit {0}) }
+    ensures answers { AnswersThatAre }
+    ensures runs { (m : T) → RunsThatAre m }
+    ensures no_runs { (m : T) → RunsThatAreNot m }
+    ensures runs_say { (m : T) → RunsSay m }
 {}

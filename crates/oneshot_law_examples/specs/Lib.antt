@@ -11,3 +11,5 @@ pub mod FutureTraces
 pub mod FutureExamples
 pub mod TaskExamples
 pub mod BoundExamples
+pub mod RecordExamples
+pub mod StepExamples

@@ -10,6 +10,8 @@ ghost use Rattle.oneshot_law_examples.specs.TaskExamples.{WokenTasks, UnwokenTas
 ghost use Rattle.oneshot_law_examples.specs.UnwokenExamples.{AheadsOfRuns, UnwokenWaits};
 ghost use Rattle.oneshot_law_examples.specs.BoundExamples.{WithinBounds, OneOperationMore, OneMoveMore};
 ghost use Rattle.oneshot_law_examples.specs.FutureExamples.{FuturesAreTold, FuturesAreRight, NotTold, PollsAct, IllegalPolls, MisplacedCopies, MisfreedFutures, WrongPolls};
+ghost use Rattle.oneshot_law_examples.specs.RecordExamples.{WakersAreComputed, RightRecords, WrongRecords, WrongRuns};
+ghost use Rattle.oneshot_law_examples.specs.StepExamples.{CallsThatAreLeft, StepsThatAre, StepsThatAreNot};
 
 /// Says nothing at run time. Its contract is what the definitions say of worked traces, and of the same
 /// traces damaged, so that a definition that is changed by mistake is refused here.
@@ -53,4 +55,16 @@ pub fn examples()
     ensures misplaced_copies { MisplacedCopies }
     ensures misfreed_futures { MisfreedFutures }
     ensures wrong_polls { WrongPolls }
+{}
+
+/// The same of the records that contracts name: which worked traces and runs they are of, and by which field they
+/// are not of damaged ones.
+pub fn records()
+    ensures wakers { WakersAreComputed }
+    ensures right { RightRecords }
+    ensures wrong { WrongRecords }
+    ensures wrong_runs { WrongRuns }
+    ensures left { CallsThatAreLeft }
+    ensures steps { StepsThatAre }
+    ensures no_steps { StepsThatAreNot }
 {}

@@ -3,6 +3,7 @@
 
 mod answer;
 mod asked;
+pub mod laws;
 mod length;
 mod pair;
 mod requests;

@@ -18,7 +18,7 @@ use std::marker::Model;
 #[derive(Drop)]
 pub struct Request<Q: Eq, A: Answer<Q>> {
     asked: Asked<Q>,
-    reply: Sender<A, Asked<Q>>,
+    pub(crate) reply: Sender<A, Asked<Q>>,
 }
 
 impl<Q: Eq, A: Answer<Q>> Model for Request<Q, A> {

@@ -4,7 +4,9 @@ ghost use Rattle.std.specs.Prelude.{◌≡◌, ◌≢◌, true, Err, IsErr, IfOk
 ghost use Rattle.oneshot_errors.specs.declared.recv_timeout.RecvTimeoutError.TheVariants as Timed;
 ghost use Rattle.oneshot_errors.specs.declared.try_recv.TryRecvError.TheVariants as Tried;
 ghost use Rattle.oneshot_machine.specs.declared.machine.receiver.ReceiverStart.TheVariants.{TryRecv};
-ghost use Rattle.oneshot_drive.specs.BetweenCalls.{try_recv_reply, timed_reply};
+ghost use Rattle.oneshot_machine.specs.Counts.{receiver_bound, GrewWithin};
+ghost use Rattle.oneshot_machine.specs.Phases.{receiver_at};
+ghost use Rattle.oneshot_drive.specs.BetweenCalls.{Leaves, LeavesTimed, try_recv_reply, timed_reply};
 ghost use Rattle.oneshot_ends.specs.Ends.{IsClosed, IsOpen, ReceiverGrew, TimeoutGrew};
 
 use crate::answer::Answer;
@@ -27,7 +29,7 @@ use std::time::{Clock, Duration};
 /// A contract sees what it sees of a receiver; what its channel is about has the question.
 #[derive(Drop)]
 pub struct Ticket<Q: Eq, A: Answer<Q>, Rt> {
-    replies: Receiver<A, Rt, Asked<Q>>,
+    pub(crate) replies: Receiver<A, Rt, Asked<Q>>,
 }
 
 impl<Q: Eq, A: Answer<Q>, Rt> Model for Ticket<Q, A, Rt> {
@@ -66,9 +68,11 @@ impl<Q: Eq, A: Answer<Q> + Drop, Rt: Drop> Ticket<Q, A, Rt> {
         ensures about { self.new.about ≡ self.old.about }
         ensures channel { self.new.channel ≡ self.old.channel }
         ensures run { ReceiverGrew A TryRecv self.old.log self.new.log (try_recv_reply result) }
+        ensures leaves { Leaves result (receiver_at self.new.log) }
         ensures closes { result ≢ Err Tried.Empty → IsClosed self.new }
         ensures stays_open { result ≡ Err Tried.Empty → IsOpen self.new }
         ensures stays_closed { IsClosed self.old → result ≡ Err Tried.Disconnected }
+        ensures bounded { GrewWithin (receiver_bound TryRecv) self.old.log self.new.log }
     {
         self.replies.try_recv()
     }
@@ -118,6 +122,7 @@ impl<Q: Eq, A: Answer<Q> + Drop, Rt: Wait + Clock + Drop> Ticket<Q, A, Rt> {
         ensures about { self.new.about ≡ self.old.about }
         ensures channel { self.new.channel ≡ self.old.channel }
         ensures run { TimeoutGrew A timeout self.old.log self.new.log (timed_reply result) }
+        ensures leaves { LeavesTimed result (receiver_at self.new.log) }
         ensures closes { result ≢ Err Timed.Timeout → IsClosed self.new }
         ensures stays_open { result ≡ Err Timed.Timeout → IsOpen self.new }
         ensures stays_closed { IsClosed self.old → result ≡ Err Timed.Disconnected }

@@ -1,0 +1,2 @@
+pub mod ValuesRun
+mod ValueExamples

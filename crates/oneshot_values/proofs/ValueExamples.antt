@@ -1,0 +1,94 @@
+-- The examples of values: the calls and the order of each log, and why the other logs have none.
+use Rattle.std.proofs.Common.{◌≡◌, false, true, List, [], ◌∷◌, ◌++◌, refl, sym, ◌∙◌, ap, subst}
+use Rattle.std.specs.List.{cons_option}
+use Rattle.std.specs.Option.{option_map}
+use Rattle.oneshot_machine.specs.declared.machine.Reply.{Reply}
+use Rattle.oneshot_machine.specs.declared.machine.Reply.TheVariants as R
+use Rattle.oneshot_machine.specs.declared.machine.Seen.TheVariants.{Word}
+use Rattle.oneshot_machine.specs.declared.machine.Step.TheVariants as Steps
+use Rattle.oneshot_machine.specs.declared.machine.receiver.ReceiverPos.TheVariants.{Try}
+use Rattle.oneshot_machine.specs.declared.machine.receiver.ReceiverStart.{ReceiverStart}
+use Rattle.oneshot_machine.specs.declared.machine.receiver.ReceiverStart.TheVariants.{TryRecv}
+use Rattle.oneshot_machine.specs.declared.machine.try_recv.TryPos.TheVariants.{TryLoad}
+use Rattle.oneshot_machine.specs.declared.states.Op.TheVariants.{Load, Store, Swap, Add}
+use Rattle.oneshot_machine.specs.Called.{as_receiver, ReceiverCalled, not_called, called}
+use Rattle.oneshot_machine.specs.Logs.{Event, words}
+use Rattle.oneshot_machine.specs.Noted.{Noted, op_of}
+use Rattle.oneshot_machine.specs.Orders.{Reaches, has_row, nothing_made, sender_makes, receiver_makes}
+use Rattle.oneshot_machine.specs.Receiver.{receiver_start, receiver_step, receiver_row}
+use Rattle.oneshot_machine.specs.Runs.{Run, last, more}
+use Rattle.oneshot_machine.specs.Slots.{head, tail}
+use Rattle.oneshot_word.proofs.ByRows.{sender_is, receiver_is}
+use Rattle.oneshot_word.proofs.LastOnes.{not_empty, same_last}
+use Rattle.oneshot_ends.specs.Ends.{Waking}
+use Rattle.oneshot_bridge.specs.CallExamples.{tried_twice}
+use Rattle.oneshot_bridge.proofs.CallExamples.{worked_calls, tries_in_vain}
+use Rattle.oneshot_values.specs.Examples.{WorkedValues, WrongValues}
+use Rattle.oneshot_values.proofs.ValuesRun.{receiver_runs, error_runs}
+
+-- the sender sends between both tries
+tried : Reaches ((Add, Word 3) ∷ []) tried_twice 2
+tried =
+    receiver_makes (Store 2)
+    (receiver_makes Load (sender_makes Add (receiver_makes Load nothing_made (has_row head)) (has_row head))
+    (has_row (tail head))) (has_row head)
+
+refused : Reaches ((Add, Word 2) ∷ []) ((Swap 2, Word 3) ∷ []) 3
+refused =
+    sender_makes Add (receiver_makes (Swap 2) nothing_made (has_row (tail (tail (tail head)))))
+    (has_row (tail (tail head)))
+
+pub worked_values : {T : Type 0} (m : T) → WorkedValues m
+worked_values {T} m =
+    let calls = (worked_calls {T = T} {W = Waking}).tries in
+    record {
+      tried = receiver_runs T as_receiver tried_twice
+          ((TryRecv, R.Empty) ∷ (TryRecv, R.Message) ∷ [], calls) ((Add, Word 3) ∷ [], 2, tried);
+      got_it = refl;
+      last_got = ((TryRecv, R.Empty) ∷ [], calls, refl);
+      refused = error_runs m ((Add, Word 2) ∷ []) ((Swap 2, Word 3) ∷ [], 3, refused);
+    }
+
+-- the last call of a receiver
+record IsLast (T : Type 0) (x : ReceiverStart × Reply) (log : List Noted) : Type 0 where
+  before : List Noted
+  run : List (Event T Waking)
+  made : Run receiver_step receiver_row (receiver_start x.0) run x.1
+  leaves : log ≡ before ++ words run
+
+last_call : {T : Type 0} (calls : List (ReceiverStart × Reply)) (x : ReceiverStart × Reply)
+    {all : List (ReceiverStart × Reply)} {log : List Noted} → ReceiverCalled T Waking as_receiver all log
+    → all ≡ calls ++ x ∷ [] → IsLast T x log
+last_call calls x not_called e = absurd (not_empty calls x (sym e))
+last_call {T} calls x (called {calls = earlier} {log = log} call reply run was its made) e =
+    subst (λ x. IsLast T x (log ++ words run)) (same_last earlier calls (call, reply) x e)
+    (record { before = log; run = run; made = made; leaves = refl })
+
+-- a `try_recv` begins with its load
+begins : {T : Type 0} (x : Event T Waking) (xs : List (Event T Waking)) → x.step ≡ Steps.Word Load
+    → words (x ∷ xs) ≡ (Load, x.seen) ∷ words xs
+begins x xs is = ap (λ step. cons_option (option_map (λ op. (op, x.seen)) (op_of step)) (words xs)) is
+
+none_of_some : (ys : List Noted) (z : Noted) (zs : List Noted) → [] ≡ ys ++ z ∷ zs → ⊥
+none_of_some [] z zs e = cc e
+none_of_some (y ∷ ys) z zs e = cc e
+
+no_operation : {T : Type 0} {run : List (Event T Waking)} {reply : Reply}
+    → Run receiver_step receiver_row (Try TryLoad) run reply → (ys : List Noted) → [] ≡ ys ++ words run → ⊥
+no_operation (last x is leads) ys e = none_of_some ys _ _ (e ∙ ap (λ ns. ys ++ ns) (begins x [] is))
+no_operation (more next x xs is leads rest) ys e = none_of_some ys _ _ (e ∙ ap (λ ns. ys ++ ns) (begins x xs is))
+
+takes_nothing : {T : Type 0} {run : List (Event T Waking)} → Run receiver_step receiver_row (Try TryLoad) run R.Message
+    → (before : List Noted) → (Load, Word 3) ∷ [] ≡ before ++ words run → ⊥
+takes_nothing made [] e = tries_in_vain made e
+takes_nothing made (y ∷ ys) e = no_operation made ys (cc e)
+
+pub wrong_values : {T : Type 0} (m : T) → WrongValues m
+wrong_values {T} m =
+    record {
+      finds_a_waker = λ so. let is : false ≡ true = receiver_is so.order in cc is;
+      got_two = λ e. cc e;
+      found_nothing = λ so. let end : IsLast T (TryRecv, R.Message) ((Load, Word 3) ∷ []) =
+      last_call so.0 (TryRecv, R.Message) so.1 refl in takes_nothing end.made end.before end.leaves;
+      looked = λ so. let is : false ≡ true = sender_is so.order in cc is;
+    }

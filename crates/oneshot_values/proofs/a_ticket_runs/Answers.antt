@@ -1,0 +1,6 @@
+-- The goal that `a_ticket_runs` leaves.
+use Rattle.oneshot_values.proofs.ValuesRun.{receiver_runs}
+use Rattle.oneshot_values.proofs.a_ticket_runs.Goals as goal
+
+pub returns : goal.returns
+returns g c = receiver_runs _ _ _ c.a_ticket_has_its_calls.ensures c.a_ticket_is_in_an_order.ensures

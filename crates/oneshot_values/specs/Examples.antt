@@ -1,0 +1,28 @@
+-- What the definitions are of, by worked logs, and what they are not.
+use Rattle.std.specs.Prelude.{◌≡◌, [], ◌∷◌}
+use Rattle.oneshot_machine.specs.declared.machine.Reply.TheVariants as R
+use Rattle.oneshot_machine.specs.declared.machine.Seen.TheVariants.{Word}
+use Rattle.oneshot_machine.specs.declared.machine.receiver.ReceiverStart.TheVariants.{TryRecv}
+use Rattle.oneshot_machine.specs.declared.states.Op.TheVariants.{Load, Add}
+use Rattle.oneshot_machine.specs.Called.{as_receiver}
+use Rattle.oneshot_bridge.specs.CallExamples.{tried_twice}
+use Rattle.oneshot_values.specs.Values.{message_replies, ReceiverRuns, OnlyTheLastGot, ErrorRuns}
+
+module _ {T : Type 0} (m : T) where
+  pub record WorkedValues : Type 0 where
+    -- a `try_recv` that found nothing, and one that took the message
+    pub tried : ReceiverRuns T as_receiver tried_twice
+    pub got_it : message_replies ((TryRecv, R.Empty) ∷ (TryRecv, R.Message) ∷ []) ≡ 1
+    pub last_got : OnlyTheLastGot T tried_twice
+    -- a `send` that found the receiver gone
+    pub refused : ErrorRuns m ((Add, Word 2) ∷ [])
+
+  pub record WrongValues : Type 0 where
+    -- no receiver finds a waker that it did not store
+    pub finds_a_waker : ReceiverRuns T as_receiver ((Load, Word 0) ∷ []) → ⊥
+    -- two messages are not one
+    pub got_two : message_replies ((TryRecv, R.Message) ∷ (TryRecv, R.Message) ∷ []) ≡ 1 → ⊥
+    -- a `try_recv` that found nothing did not give the message, whatever was called before
+    pub found_nothing : OnlyTheLastGot T ((Load, Word 3) ∷ []) → ⊥
+    -- no sender loads the word
+    pub looked : ErrorRuns m ((Load, Word 3) ∷ []) → ⊥
