@@ -11,6 +11,7 @@ pub use Rattle.oneshot_drive.specs.BetweenCalls
 pub use Rattle.oneshot_drive.specs.Blocking
 pub use Rattle.oneshot_drive.specs.Grounds
 pub use Rattle.oneshot_drive.specs.Polls
+pub use Rattle.oneshot_drive.specs.Wakes
 pub use Rattle.oneshot_machine.specs.Called
 pub use Rattle.oneshot_machine.specs.Counts
 pub use Rattle.oneshot_machine.specs.Logs

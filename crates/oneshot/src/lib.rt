@@ -25,6 +25,7 @@ pub use oneshot_channel::{
     SendError, Sender, TryRecvError, async_channel, async_channel_for, channel, channel_for,
 };
 pub use oneshot_drive as drive;
+pub use oneshot_ends::laws;
 pub use oneshot_machine::{machine, states};
 pub use oneshot_memory as memory;
 pub use oneshot_replay as replay;

@@ -6,6 +6,7 @@ ghost use Rattle.oneshot.specs.Called.{as_receiver, ReceiverCalled};
 ghost use Rattle.oneshot.specs.Ends.{Waking};
 ghost use Rattle.oneshot.specs.ReceiverStart.TheVariants.{TryRecv};
 
+use crate::laws::calls_add_up;
 use crate::{Receiver, TryRecvError, channel};
 use std::test::Fail;
 
@@ -17,6 +18,7 @@ fn tried_twice<T: Send + Drop>(
     ensures { ReceiverCalled T Waking as_receiver
         ((TryRecv, try_recv_reply result.0) ∷ (TryRecv, try_recv_reply result.1) ∷ []) receiver.new.log }
 {
+    calls_add_up::<T>();
     let first = receiver.try_recv();
     let second = receiver.try_recv();
     (first, second)

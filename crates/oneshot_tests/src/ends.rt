@@ -1,11 +1,10 @@
 //! The ends of a channel, on one thread and on two.
 
 mod asleep;
-mod clocks;
-mod crossing;
+pub(super) mod clocks;
 mod deadlines;
 mod drops;
-mod leaks;
+pub(super) mod leaks;
 mod lives;
 mod overdue;
 mod polls;
@@ -15,3 +14,4 @@ mod refused;
 mod steps;
 mod threads;
 mod waiting;
+pub(super) mod wakes;

@@ -1,6 +1,9 @@
 //! Requests, their tickets and the replies, of which each answers the ticket's own question.
 
+mod leaks;
+mod sizes;
 mod threads;
+mod waits;
 
 use futures::executor::block_on;
 use oneshot::reply::{Answer, Length, Request, Ticket, request};

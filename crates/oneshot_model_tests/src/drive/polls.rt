@@ -108,6 +108,19 @@ fn a_copy_whose_exchange_failed_is_dropped(rt: HostRuntime) {
     g.receiver.sender_will_send(0, 7);
     assert!(rt; matches!(&poll(&mut g), Poll::Ready(Ok(7))));
     assert!(rt; counts(&task) == (1, 1, 0));
+    // At a second poll the sender uses the copy of the first.
+    let task = MemoryTask::new();
+    let mut g = MemoryFuture::<'_, '_, u64, _>::new(&rt, rt.alloc(), &task);
+    assert!(rt; matches!(&poll(&mut g), Poll::Pending));
+    g.receiver.sender_will_send(0, 7);
+    assert!(rt; matches!(&poll(&mut g), Poll::Ready(Ok(7))));
+    assert!(rt; counts(&task) == (2, 2, 1));
+    let task = MemoryTask::new();
+    let mut g = MemoryFuture::<'_, '_, u64, _>::new(&rt, rt.alloc(), &task);
+    assert!(rt; matches!(&poll(&mut g), Poll::Pending));
+    g.receiver.sender_will_drop(0);
+    assert!(rt; matches!(&poll(&mut g), Poll::Ready(Err(RecvError))));
+    assert!(rt; counts(&task) == (2, 2, 1));
 }
 
 #[test]
@@ -165,6 +178,7 @@ fn a_look_does_not_wait_for_a_sender_about_to_finish(rt: HostRuntime) -> Result<
     g.receiver.sender_will_send(0, 7);
     g.receiver.sender_will_linger(3);
     assert!(rt; matches!(&poll(&mut g), Poll::Pending));
+    assert!(rt; counts(&task) == (2, 1, 1));
     assert_eq!(rt; async_try_recv(&mut g), Err(TryRecvError::Empty));
     assert_eq!(rt; async_try_recv(&mut g), Err(TryRecvError::Empty));
     assert_eq!(rt; async_try_recv(&mut g), Ok(7));

@@ -8,15 +8,26 @@ use std::process::Abort;
 use std::random::RandomSource;
 use std::sync::Wait;
 use std::test::Fail;
-use std::thread::{Threads, join, sleep};
+use std::thread::{Threads, join, sleep, yield_now};
 use std::time::{Clock, CpuClock, Duration, Instant};
 
 /// How many milliseconds the sender lets the receiver wait.
-const WAIT: u64 = 200;
+const LONG: u64 = 200;
 
-/// How many milliseconds of processor time are few: a tenth of the wait. A receive that spins uses more, also
+/// How many milliseconds of processor time are few: a tenth of the wait. A receive that waits busily uses more, also
 /// where it shares a processor with some others.
 const FEW: u64 = 20;
+
+/// How many milliseconds a short wait lasts.
+const SHORT: u64 = 10;
+
+/// How often a receive waits so short.
+const WAITS: u32 = 40;
+
+/// How many yields are measured. A receive that waits so short uses less of its processor than they do where its
+/// deadline is near, since it does not spin; and less than three times that where it spins before it sleeps. For it
+/// spins seventeen times, and of these spins only the first is a yield.
+const YIELDS: u32 = 500;
 
 /// A receive that waits.
 #[derive(Clone, Copy, Debug)]
@@ -42,13 +53,14 @@ fn received<T: Drop, Rt: Wait + Clock + Drop>(
     })
 }
 
-/// What this receive gets from a sender that lingers, and the processor time of its thread.
+/// What this receive gets from a sender that lingers for so many milliseconds, and the processor time of its thread.
 fn time_of<R: Threads + Wait + Clock + CpuClock + RandomSource + AllocGlobal + Abort + Sync>(
     rt: &R,
     by: Receive,
+    lingers: u64,
 ) -> Result<(Option<u8>, Duration), Fail> {
     let (sender, receiver) = channel(rt, rt.alloc())?;
-    let (waited, sent) = join(
+    let (waited, _sent) = join(
         rt,
         || {
             let before = rt.thread_cpu_time()?;
@@ -56,32 +68,69 @@ fn time_of<R: Threads + Wait + Clock + CpuClock + RandomSource + AllocGlobal + A
             io::Result::Ok((message, rt.thread_cpu_time()?.saturating_sub(before)))
         },
         || {
-            sleep(rt, Duration::from_millis(WAIT));
+            sleep(rt, Duration::from_millis(lingers));
+            // It is refused where the receive ran out.
             sender.send(19).is_ok()
         },
     );
-    assert!(rt; sent);
     Ok(waited?)
+}
+
+/// An hour from now.
+fn in_an_hour(rt: &(impl Clock + Abort)) -> Result<Instant, Fail> {
+    let end = Instant::now(rt)?.checked_add(Duration::from_secs(3_600));
+    Ok(end.expect(rt, "an instant can hold it"))
 }
 
 #[test]
 fn a_receive_that_waits_uses_little_processor_time(rt: HostRuntime) -> Result<(), Fail> {
-    let hour = Duration::from_secs(3_600);
-    let deadline = Instant::now(&rt)?.checked_add(hour);
-    let deadline = deadline.expect(&rt, "an instant can hold it");
     let receives = [
         Receive::Recv,
         Receive::RecvRef,
-        Receive::RecvDeadline(deadline),
-        Receive::RecvTimeout(hour),
+        Receive::RecvDeadline(in_an_hour(&rt)?),
+        Receive::RecvTimeout(Duration::from_secs(3_600)),
         // No instant can hold its end.
         Receive::RecvTimeout(Duration::MAX),
         Receive::BlockOn,
     ];
     for by in receives {
-        let (received, used) = time_of(&rt, by)?;
+        let (received, used) = time_of(&rt, by, LONG)?;
         assert_eq!(rt; received, Some(19), "{by:?}");
         assert!(rt; used < Duration::from_millis(FEW), "{by:?} used {used:?}");
+    }
+    Ok(())
+}
+
+/// The processor time of so many yields.
+fn time_of_yields(rt: &impl CpuClock) -> io::Result<Duration> {
+    let before = rt.thread_cpu_time()?;
+    for _ in 0..YIELDS {
+        yield_now();
+    }
+    Ok(rt.thread_cpu_time()?.saturating_sub(before))
+}
+
+#[test]
+fn a_receive_spins_little_before_it_sleeps(rt: HostRuntime) -> Result<(), Fail> {
+    let receives = [
+        (Receive::Recv, 3),
+        (Receive::RecvRef, 3),
+        (Receive::RecvDeadline(in_an_hour(&rt)?), 3),
+        (Receive::RecvTimeout(Duration::from_secs(3_600)), 3),
+        // It mostly runs out before the sender sends.
+        (Receive::RecvTimeout(Duration::from_micros(100)), 1),
+    ];
+    for (by, times) in receives {
+        let much = time_of_yields(&rt)?.saturating_mul(times);
+        let mut spinning = 0u32;
+        for _ in 0..WAITS {
+            let (_received, used) = time_of(&rt, by, SHORT)?;
+            if used > much {
+                spinning = spinning.saturating_add(1);
+            }
+        }
+        // In a few of the waits other programs may have had the processor.
+        assert!(rt; spinning < WAITS / 2, "{by:?} spun in {spinning} waits");
     }
     Ok(())
 }

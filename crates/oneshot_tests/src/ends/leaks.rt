@@ -68,7 +68,7 @@ fn compares_memory(rt: &(impl Files + Print + AllocGlobal)) -> Result<bool, Fail
 }
 
 /// Fails if each of so many rounds keeps some memory.
-fn assert_no_leak<F: FnMut() -> io::Result<()>>(
+pub(crate) fn assert_no_leak<F: FnMut() -> io::Result<()>>(
     rt: &(impl Files + Print + AllocGlobal + Abort),
     round: F,
 ) -> Result<(), Fail>

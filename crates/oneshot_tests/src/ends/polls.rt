@@ -6,8 +6,7 @@ use futures::Future;
 use futures::executor::block_on;
 use futures::future::join;
 use futures::task::{Context, Poll};
-use futures::test::MockTask;
-use oneshot::{AsyncReceiver, RecvError, TryRecvError, async_channel};
+use oneshot::{AsyncReceiver, RecvError, async_channel};
 use std::random::RandomSource;
 use std::sync::Wait;
 use std::sync::atomic::{AtomicU64, Ordering};
@@ -159,47 +158,5 @@ fn a_message_that_was_sent_before_is_ready_at_once(rt: HostRuntime) -> Result<()
     };
     assert_eq!(rt; block_on(&rt, counted)?, Ok(19));
     assert_eq!(rt; polls.load(Ordering::SeqCst), 1);
-    Ok(())
-}
-
-/// What a sender does that a task waits for.
-#[derive(Clone, Copy)]
-enum Ending {
-    Sends,
-    Goes,
-}
-
-/// The looks by `try_recv` before the only poll and after it, the ending, and what the look after that finds.
-type Looks = (u64, u64, Ending, Result<u8, TryRecvError>);
-
-const LOOKS: &[Looks] = &[
-    (0, 1, Ending::Sends, Ok(19)),
-    (1, 0, Ending::Sends, Ok(19)),
-    (2, 3, Ending::Sends, Ok(19)),
-    (0, 1, Ending::Goes, Err(TryRecvError::Disconnected)),
-    (2, 3, Ending::Goes, Err(TryRecvError::Disconnected)),
-];
-
-// A waker that was taken back and dropped would wake the task at once.
-#[test]
-fn a_task_that_looks_is_woken_by_the_sender_alone(rt: HostRuntime) -> Result<(), Fail> {
-    for (before, after, ending, found) in LOOKS {
-        let task = MockTask::new(&rt)?;
-        let (sender, mut receiver) = async_channel(&rt, rt.alloc())?;
-        for _ in 0..*before {
-            assert_eq!(rt; receiver.try_recv(), Err(TryRecvError::Empty));
-        }
-        assert_eq!(rt; task.poll(&mut receiver), Poll::Pending);
-        for _ in 0..*after {
-            assert_eq!(rt; receiver.try_recv(), Err(TryRecvError::Empty));
-        }
-        assert!(rt; !task.is_woken());
-        match ending {
-            Ending::Sends => assert!(rt; sender.send(19u8).is_ok()),
-            Ending::Goes => drop(sender),
-        }
-        assert!(rt; task.is_woken());
-        assert_eq!(rt; receiver.try_recv(), *found);
-    }
     Ok(())
 }

@@ -2,7 +2,6 @@
 
 use oneshot::{RawSender, Receiver, SendError, Sender, TryRecvError, channel};
 use std::mem::size_of_val;
-use std::sync::Arc;
 use std::test::Fail;
 use std::thread::{Threads, join};
 
@@ -19,32 +18,6 @@ fn poll<T: Drop, Rt: Drop>(receiver: &mut Receiver<T, Rt>) -> Result<T, TryRecvE
         }
     }
     Err(TryRecvError::Empty)
-}
-
-#[test]
-fn each_round_gets_its_message_once(rt: HostRuntime) -> Result<(), Fail> {
-    for round in 0..ROUNDS {
-        let (sender, mut receiver) = channel((), rt.alloc())?;
-        let shared = Arc::new(rt.alloc(), round)?;
-        let message = Arc::try_clone(&shared)?;
-        let (sent, received) = join(
-            &rt,
-            move || sender.send(message).is_ok(),
-            move || {
-                let first = poll(&mut receiver);
-                (first, receiver.try_recv().is_err())
-            },
-        );
-        assert!(rt; sent);
-        let (Ok(message), true) = received else {
-            panic!(rt; "the message comes once")
-        };
-        assert_eq!(rt; *message, round);
-        assert_eq!(rt; Arc::strong_count(&shared), 2);
-        drop(message);
-        assert_eq!(rt; Arc::strong_count(&shared), 1);
-    }
-    Ok(())
 }
 
 // What two threads find that look at one sender.

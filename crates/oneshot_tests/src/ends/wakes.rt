@@ -1,0 +1,193 @@
+//! Two tasks of one executor that wait for one future beside something else, and count how often they are woken.
+
+use self::Deed::{First, Look, Second};
+use futures::Future;
+use futures::executor::LocalPool;
+use futures::task::{Context, Poll, Source, Waker};
+use oneshot::{AsyncReceiver, Promise, TryRecvError, async_channel};
+use std::alloc::AllocError;
+use std::cell::Cell;
+use std::process::Abort;
+use std::random::RandomSource;
+use std::test::Fail;
+
+/// What happens to a future before its sender acts.
+#[derive(Clone, Copy, Debug)]
+pub(crate) enum Deed {
+    /// A poll of the first task.
+    First,
+    /// A poll of the second.
+    Second,
+    /// `try_recv`.
+    Look,
+}
+
+/// The deeds, and the wakes of both tasks that the sender's act is to make.
+pub(crate) type Waits = (&'static [Deed], [u64; 2]);
+
+/// Where one task polls twice and then the other polls, the copy that was left over is dropped, which wakes the
+/// first: no row has that.
+pub(crate) const WAITS: &[Waits] = &[
+    (&[First, First, First, First, First], [1, 0]),
+    (&[First, Second, First, Second, First, Second], [0, 1]),
+    (&[First, First, Look, First, Look, Look, First], [1, 0]),
+    (&[Look, First, Second, Look, First, Look, Look], [1, 0]),
+    (&[Look, Look, First, Look, Look, Look], [1, 0]),
+    (&[Second, Look, Second, Look, Second, Second], [0, 1]),
+    (&[Look, Look], [0, 0]),
+];
+
+/// More polls than any deed makes. A task that wakes itself without end makes as many.
+const MOST_POLLS: usize = 100;
+
+/// Where the future lies while neither task polls it.
+type Place<T, P> = Cell<Option<AsyncReceiver<T, (), P>>>;
+
+/// How a test has a task poll the future, and how often the task was woken.
+#[derive(Drop)]
+struct Bell {
+    waker: Cell<Option<Waker>>,
+    is_rung: Cell<bool>,
+    wakes: Cell<u64>,
+}
+
+/// A task that waits for its bell, and polls the future where that was rung.
+#[derive(Drop)]
+struct Listener<'a, T, P: Promise<T>> {
+    bell: &'a Bell,
+    source: Source,
+    place: &'a Place<T, P>,
+}
+
+impl Bell {
+    fn new() -> Bell {
+        Bell {
+            waker: Cell::new(None),
+            is_rung: Cell::new(false),
+            wakes: Cell::new(0),
+        }
+    }
+
+    /// Wakes the task, which polls the future then.
+    fn ring(&self) {
+        self.is_rung.set(true);
+        drop(self.waker.take());
+    }
+
+    /// How often the task was woken since this was asked last.
+    fn count(&self) -> u64 {
+        self.wakes.replace(0)
+    }
+}
+
+impl<'a, T: Drop, P: Promise<T>> Future for Listener<'a, T, P> {
+    type Output = ();
+
+    fn poll(&mut self, cx: &mut Context<'_>) -> Poll<()> {
+        let Bell {
+            waker,
+            is_rung,
+            wakes,
+        } = self.bell;
+        wakes.set(wakes.get().saturating_add(1));
+        if is_rung.replace(false)
+            && let Some(mut future) = self.place.take()
+        {
+            let _ = future.poll(cx);
+            self.place.set(Some(future));
+        }
+        let mut own = waker.take();
+        let pending = cx.register(&self.source, &mut own);
+        waker.set(own);
+        pending
+    }
+}
+
+/// A pool of two tasks that wait for these bells.
+fn listening<'a, T: Drop, P: Promise<T>>(
+    rt: &(impl RandomSource + AllocGlobal),
+    bells: &'a [Bell; 2],
+    place: &'a Place<T, P>,
+) -> Result<LocalPool<Listener<'a, T, P>>, Fail> {
+    let mut pool = LocalPool::new(rt)?;
+    let spawner = pool.spawner()?;
+    for bell in bells {
+        let source = Source::new();
+        let listener = Listener {
+            bell,
+            source,
+            place,
+        };
+        spawner.spawn(listener).map_err(|_| AllocError)?;
+    }
+    pool.run_until_stalled(MOST_POLLS);
+    Ok(pool)
+}
+
+/// Fails if a `try_recv` of the future finds anything.
+fn look<T: Drop, P: Promise<T>>(rt: &impl Abort, place: &Place<T, P>) {
+    if let Some(mut future) = place.take() {
+        assert!(rt; matches!(future.try_recv(), Err(TryRecvError::Empty)));
+        place.set(Some(future));
+    }
+}
+
+/// Does the deeds with the future, and then its sender's act. Fails unless each task is woken as often as is said.
+pub(crate) fn waited_for<T: Drop, P: Promise<T>, F: FnOnce()>(
+    rt: &(impl RandomSource + AllocGlobal + Abort),
+    waits: &Waits,
+    future: AsyncReceiver<T, (), P>,
+    act: F,
+) -> Result<AsyncReceiver<T, (), P>, Fail>
+    requires { F.IsAlwaysCallable act }
+{
+    let (deeds, woken) = waits;
+    let place = Cell::new(Some(future));
+    let bells = [Bell::new(), Bell::new()];
+    let mut pool = listening(rt, &bells, &place)?;
+    let [first, second] = &bells;
+    assert_eq!(rt;
+        [first.count(), second.count()],
+        [1, 1],
+        "the first poll of each task"
+    );
+    for (number, deed) in deeds.iter().enumerate() {
+        let wakes = match deed {
+            First => [1, 0],
+            Second => [0, 1],
+            Look => [0, 0],
+        };
+        match deed {
+            First => first.ring(),
+            Second => second.ring(),
+            Look => look(rt, &place),
+        }
+        pool.run_until_stalled(MOST_POLLS);
+        assert_eq!(rt;
+            [first.count(), second.count()],
+            wakes,
+            "deed {number} of {deeds:?}"
+        );
+    }
+    act();
+    pool.run_until_stalled(MOST_POLLS);
+    assert_eq!(rt; [first.count(), second.count()], *woken, "after {deeds:?}");
+    drop(pool);
+    Ok(place.take().ok_or("the future is in its place")?)
+}
+
+#[test]
+fn a_task_that_waits_beside_others_is_woken_by_the_sender_alone(
+    rt: HostRuntime,
+) -> Result<(), Fail> {
+    for waits in WAITS {
+        let (sender, receiver) = async_channel((), rt.alloc())?;
+        let act = || assert!(&rt; sender.send(19u8).is_ok());
+        let mut receiver = waited_for(&rt, waits, receiver, act)?;
+        assert_eq!(rt; receiver.try_recv(), Ok(19));
+        let (sender, receiver) = async_channel::<u8, _>((), rt.alloc())?;
+        let mut receiver = waited_for(&rt, waits, receiver, || drop(sender))?;
+        assert_eq!(rt; receiver.try_recv(), Err(TryRecvError::Disconnected));
+    }
+    Ok(())
+}

@@ -1,0 +1,88 @@
+//! Messages and replies of no size and of 4,096 bytes.
+
+ghost use Rattle.std.specs.Prelude.{◌≡◌};
+
+use futures::executor::block_on;
+use oneshot::async_channel;
+use oneshot::reply::{Answer, Ticket, request};
+use std::fmt::Debug;
+use std::process::Abort;
+use std::random::RandomSource;
+use std::sync::Wait;
+use std::test::Fail;
+use std::time::{Clock, Duration};
+
+/// An answer that repeats its question.
+#[derive(Drop)]
+struct Echo<Q> {
+    question: Q,
+}
+
+impl<Q> Answer<Q> for Echo<Q> {
+    ghost use Rattle.std.specs.Prelude.{◌≡◌};
+    ghost use Rattle.std.proofs.Common.{refl};
+
+    ghost asked = { λ echo. echo.question };
+
+    ghost answers = { λ question echo. echo.question ≡ question };
+
+    ghost is_right = { λ _. refl };
+
+    fn question(&self) -> &Q {
+        &self.question
+    }
+}
+
+fn question_of<Q: Drop>(echo: Echo<Q>) -> Q {
+    echo.question
+}
+
+/// A ticket to which the reply has come.
+fn answered<'r, R: AllocGlobal + Abort, Q: Copy + Eq + Send + Drop>(
+    rt: &'r R,
+    question: Q,
+) -> Result<Ticket<Q, Echo<Q>, &'r R>, Fail> {
+    let Ok((request, ticket)) = request(rt, rt.alloc(), question) else {
+        return Err(Fail::new("no memory"));
+    };
+    let echo = Echo {
+        question: *request.question(),
+    };
+    assert!(rt; request.fits(&echo) && request.answer(echo).is_ok());
+    Ok(ticket)
+}
+
+/// Fails unless this comes by `try_recv` of a future, and by each call of a ticket.
+fn assert_comes<
+    R: AllocGlobal + Wait + Clock + RandomSource + Abort,
+    Q: Copy + Debug + Eq + Send + Drop,
+>(rt: &R, question: Q) -> Result<(), Fail> {
+    let (sender, mut receiver) = async_channel((), rt.alloc())?;
+    assert!(rt; sender.send(question).is_ok());
+    assert_eq!(rt; receiver.try_recv(), Ok(question));
+    let taken = answered(rt, question)?.try_take();
+    assert_eq!(rt; taken.map(question_of), Ok(question));
+    let waited = answered(rt, question)?.wait();
+    assert_eq!(rt; waited.map(question_of), Ok(question));
+    let waited = answered(rt, question)?.wait_for(Duration::ZERO);
+    assert_eq!(rt; waited.map(question_of), Ok(question));
+    let tried = answered(rt, question)?.into_future().try_recv();
+    assert_eq!(rt; tried.map(question_of), Ok(question));
+    let awaited = block_on(rt, answered(rt, question)?.into_future())?;
+    assert_eq!(rt; awaited.map(question_of), Ok(question));
+    Ok(())
+}
+
+#[test]
+fn a_reply_of_no_size_comes(rt: HostRuntime) -> Result<(), Fail> {
+    assert_comes(&rt, ())
+}
+
+#[test]
+fn a_reply_of_a_page_comes_whole(rt: HostRuntime) -> Result<(), Fail> {
+    let mut page = [0u8; 4096];
+    for (place, byte) in page.iter_mut().enumerate() {
+        *byte = (place % 251) as u8;
+    }
+    assert_comes(&rt, page)
+}

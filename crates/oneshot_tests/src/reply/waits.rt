@@ -1,0 +1,48 @@
+//! Waits for a reply: of a task beside something else, and until a deadline of a written clock.
+
+use super::{answer, ask, bytes_of};
+use crate::ends::clocks::{FIVE_NANOSECONDS, Written};
+use crate::ends::wakes::{WAITS, waited_for};
+use oneshot::{RecvTimeoutError, TryRecvError};
+use std::test::Fail;
+use std::time::Duration;
+
+#[test]
+fn a_task_that_waits_for_a_reply_is_woken_by_the_request_alone(
+    rt: HostRuntime,
+) -> Result<(), Fail> {
+    for waits in WAITS {
+        let (request, ticket) = ask((), rt.alloc())?;
+        let mut reply = waited_for(&rt, waits, ticket.into_future(), || {
+            assert!(rt; matches!(answer(request), Ok(Ok(()))));
+        })?;
+        assert_eq!(rt; reply.try_recv().map(bytes_of), Ok(21));
+        let (request, ticket) = ask((), rt.alloc())?;
+        let mut reply = waited_for(&rt, waits, ticket.into_future(), || drop(request))?;
+        assert_eq!(rt;
+            reply.try_recv().map(bytes_of),
+            Err(TryRecvError::Disconnected)
+        );
+    }
+    Ok(())
+}
+
+#[test]
+fn a_ticket_waits_to_the_nanosecond(rt: HostRuntime) -> Result<(), Fail> {
+    let timeout = Duration::from_nanos(5);
+    for (written, left) in FIVE_NANOSECONDS {
+        let clock = Written::new(&rt, written);
+        let (_request, mut ticket) = ask(&clock, rt.alloc())?;
+        assert_eq!(rt;
+            ticket.wait_for(timeout).map(bytes_of),
+            Err(RecvTimeoutError::Timeout)
+        );
+        assert_eq!(rt; clock.left(), left);
+    }
+    // A reply that is there comes though the clock fails.
+    let clock = Written::new(&rt, &[]);
+    let (request, mut ticket) = ask(&clock, rt.alloc())?;
+    assert!(rt; answer(request)?.is_ok());
+    assert_eq!(rt; ticket.wait_for(timeout).map(bytes_of), Ok(21));
+    Ok(())
+}
