@@ -45,11 +45,11 @@ impl<T, H, K, P: Promise<T>> Model for SenderSide<T, H, K, P> {
 }
 
 // Both are proved, in proofs/sender/SenderSide/TheSendSync. The kit has no proof that a seat is
-// `Sync`, so the checker finds none for this struct by itself.
+// `Sync`, so the checker finds none for this struct by itself. No call reaches a waker by a `&`
+// to a side, so a waker need not be `Sync`.
 unsafe impl<T: Send, H: Send, K: Send, P: Promise<T>> Send for SenderSide<T, H, K, P> {}
 
-unsafe impl<T: Send + Sync, H: Send + Sync, K: Send + Sync, P: Promise<T>> Sync
-    for SenderSide<T, H, K, P> {}
+unsafe impl<T: Send + Sync, H: Send, K: Send, P: Promise<T>> Sync for SenderSide<T, H, K, P> {}
 
 impl<T, H, K, P: Promise<T>> SenderSide<T, H, K, P> {
     // A side is made here alone, since its `also_owns` needs a proof by hand of what makes one.

@@ -7,9 +7,9 @@ use Rattle.oneshot_word.specs.contracts.sender.SenderSide.{the_row}
 use Rattle.oneshot_word.specs.contracts.sender.SenderSide.TheInside.{the_type}
 use Rattle.oneshot_word.proofs.Crosses.{parts_sync}
 
-pub sync : (T H K P : RattleType) (g : Ghosts P.Denot T.Denot) → IsSend T → IsSend H → IsSend K → IsSync T → IsSync H
-    → IsSync K → IsSync (the_row T H K P g)
-sync T H K P g s u v _ _ _ = record {
+pub sync : (T H K P : RattleType) (g : Ghosts P.Denot T.Denot) → IsSend T → IsSend H → IsSend K → IsSync T
+    → IsSync (the_row T H K P g)
+sync T H K P g s u v _ = record {
   shared = λ d b o κ x. (
     (
       (struct_sync (shape (the_type T H K P g)) (parts_sync T H K P g s u v)).shared (to (the_type T H K P g) x.0) b o
