@@ -1,7 +1,7 @@
 //! Sends a number from one thread to another.
 #![tactic(auto)]
 
-use oneshot::channel;
+use oneshot_channel::channel;
 use std::io;
 use std::thread::join;
 

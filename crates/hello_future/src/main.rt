@@ -2,7 +2,7 @@
 #![tactic(auto)]
 
 use futures::executor::block_on;
-use oneshot::async_channel;
+use oneshot_channel::async_channel;
 use std::io;
 use std::thread::join;
 

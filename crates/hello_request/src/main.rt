@@ -3,8 +3,8 @@
 
 ghost use Rattle.std.specs.Prelude.{◌≡◌, ◌*◌, IfOk};
 
-use oneshot::RecvTimeoutError;
-use oneshot::reply::{Answer, Request, Ticket, request};
+use oneshot_channel::RecvTimeoutError;
+use oneshot_channel::reply::{Answer, Request, Ticket, request};
 use std::alloc::AllocError;
 use std::io;
 use std::sync::Wait;

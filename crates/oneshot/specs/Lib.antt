@@ -6,7 +6,7 @@ pub use Rattle.oneshot_ends.specs.Polling
 pub use Rattle.oneshot_errors.specs.declared.recv.RecvError
 pub use Rattle.oneshot_errors.specs.declared.recv_timeout.RecvTimeoutError
 pub use Rattle.oneshot_errors.specs.declared.try_recv.TryRecvError
--- what those of the drivers and of the grounds in memory name
+-- what those of the drivers name
 pub use Rattle.oneshot_drive.specs.BetweenCalls
 pub use Rattle.oneshot_drive.specs.Blocking
 pub use Rattle.oneshot_drive.specs.Grounds
@@ -19,10 +19,6 @@ pub use Rattle.oneshot_machine.specs.Phases
 pub use Rattle.oneshot_machine.specs.Runs
 pub use Rattle.oneshot_machine.specs.Slots
 pub use Rattle.oneshot_machine.specs.Noted
-pub use Rattle.oneshot_memory.specs.Memory
-pub use Rattle.oneshot_memory.specs.Events
-pub use Rattle.oneshot_memory.specs.Receiver as ReceiverMemory
-pub use Rattle.oneshot_memory.specs.Sender as SenderMemory
 -- what those of the machines name
 pub use Rattle.oneshot_machine.specs.Look
 pub use Rattle.oneshot_machine.specs.TryRecv

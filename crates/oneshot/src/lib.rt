@@ -1,24 +1,12 @@
-//! A channel that carries one message from one sender to one receiver.
+//! The channel beside its model: the machines of both ends, their drivers, and runs that a program makes and prints.
 #![tactic(auto)]
 
 #[cfg(test)]
-mod awaited;
-#[cfg(test)]
-mod bare;
-#[cfg(test)]
-mod callers;
-#[cfg(test)]
-mod example;
-#[cfg(test)]
-mod glanced;
-#[cfg(test)]
-mod inbox;
+mod printed;
 #[cfg(test)]
 mod rehearsal;
 #[cfg(test)]
 mod stepped;
-#[cfg(test)]
-mod tallied;
 
 pub use oneshot_channel::{
     AsyncReceiver, Promise, RawReceiver, RawSender, Receiver, RecvError, RecvTimeoutError,
@@ -27,6 +15,6 @@ pub use oneshot_channel::{
 pub use oneshot_drive as drive;
 pub use oneshot_ends::laws;
 pub use oneshot_machine::{machine, states};
-pub use oneshot_memory as memory;
 pub use oneshot_replay as replay;
 pub use oneshot_reply as reply;
+pub use oneshot_text as text;

@@ -1,4 +1,4 @@
--- what the contracts of the channel name
+-- what the contracts of the channel and of `reply` name
 pub use Rattle.oneshot_ends.specs.Deadlines
 pub use Rattle.oneshot_ends.specs.Ends
 pub use Rattle.oneshot_errors.specs.declared.recv.RecvError
@@ -6,6 +6,7 @@ pub use Rattle.oneshot_errors.specs.declared.recv_timeout.RecvTimeoutError
 pub use Rattle.oneshot_errors.specs.declared.try_recv.TryRecvError
 pub use Rattle.oneshot_drive.specs.BetweenCalls
 pub use Rattle.oneshot_drive.specs.Polls
+pub use Rattle.oneshot_machine.specs.Called
 pub use Rattle.oneshot_machine.specs.Counts
 pub use Rattle.oneshot_machine.specs.Logs
 pub use Rattle.oneshot_machine.specs.Noted
@@ -14,3 +15,4 @@ pub use Rattle.oneshot_machine.specs.Runs
 pub use Rattle.oneshot_machine.specs.declared.machine.Reply
 pub use Rattle.oneshot_machine.specs.declared.machine.receiver.ReceiverStart
 pub use Rattle.oneshot_machine.specs.declared.machine.sender.SenderCall
+pub use Rattle.oneshot_reply.specs.declared.asked.Asked

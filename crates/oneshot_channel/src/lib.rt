@@ -1,8 +1,25 @@
-//! The names of the channel alone. The crate `oneshot` exports them too, beside the model.
+//! A channel that carries one message from one sender to one receiver, and typed requests over it. The crate `oneshot`
+//! exports these names too, beside the model.
 #![tactic(auto)]
+
+#[cfg(test)]
+mod awaited;
+#[cfg(test)]
+mod bare;
+#[cfg(test)]
+mod callers;
+#[cfg(test)]
+mod example;
+#[cfg(test)]
+mod glanced;
+#[cfg(test)]
+mod inbox;
+#[cfg(test)]
+mod tallied;
 
 pub use oneshot_ends::{
     AsyncReceiver, Promise, RawReceiver, RawSender, Receiver, SendError, Sender, async_channel,
-    async_channel_for, channel, channel_for,
+    async_channel_for, channel, channel_for, laws,
 };
 pub use oneshot_errors::{RecvError, RecvTimeoutError, TryRecvError};
+pub use oneshot_reply as reply;

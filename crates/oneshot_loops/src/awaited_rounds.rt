@@ -11,7 +11,7 @@ use futures::Future;
 use futures::executor::block_on;
 use futures::future::join;
 use futures::task::{Context, Poll, Queue};
-use oneshot::async_channel;
+use oneshot_channel::async_channel;
 use std::alloc::{AllocGlobal, Global};
 use std::random::RandomSource;
 use std::sync::Wait;

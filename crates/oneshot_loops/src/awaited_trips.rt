@@ -7,7 +7,7 @@ use crate::queues::{awaited, queue};
 use crate::round_trip::BATCH;
 use crate::tally::Tally;
 use futures::task::Queue;
-use oneshot::{AsyncReceiver, Sender, async_channel};
+use oneshot_channel::{AsyncReceiver, Sender, async_channel};
 use std::alloc::{AllocGlobal, Global};
 use std::mem::size_of;
 use std::random::RandomSource;

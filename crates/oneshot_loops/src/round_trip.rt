@@ -4,7 +4,7 @@ ghost use Rattle.std.specs.Prelude.{◌≡◌, IfOk, vec_len};
 
 use crate::fault::Fault;
 use crate::tally::Tally;
-use oneshot::{Receiver, Sender, channel};
+use oneshot_channel::{Receiver, Sender, channel};
 use std::alloc::Global;
 use std::mem::size_of;
 use std::sync::Wait;

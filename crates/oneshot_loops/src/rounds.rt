@@ -10,7 +10,7 @@ use crate::polled::PolledRound;
 use crate::tally::Tally;
 use futures::Future;
 use futures::task::{Context, Poll};
-use oneshot::{async_channel, channel};
+use oneshot_channel::{async_channel, channel};
 use std::alloc::Global;
 use std::sync::Wait;
 use std::time::Clock;

@@ -2,7 +2,7 @@
 
 use crate::fault::Fault;
 use crate::tally::Tally;
-use oneshot::reply::{Answer, request};
+use oneshot_channel::reply::{Answer, request};
 use std::alloc::{AllocError, Global};
 use std::mem::size_of;
 use std::sync::Wait;

@@ -2,7 +2,7 @@
 
 use futures::task::Poll;
 use oneshot::drive::poll;
-use oneshot::memory::{MemoryFuture, MemoryTask};
+use oneshot_memory::{MemoryFuture, MemoryTask};
 
 #[test]
 fn multiple_receiver_polls_keeps_only_latest_waker(rt: HostRuntime) {

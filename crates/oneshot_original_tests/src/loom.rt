@@ -8,8 +8,8 @@ use super::times::patience;
 use futures::executor::block_on;
 use futures::task::Poll;
 use futures::test::MockTask;
-use oneshot::memory::{MemoryFuture, MemoryTask};
 use oneshot::{async_channel, channel, drive};
+use oneshot_memory::{MemoryFuture, MemoryTask};
 use std::test::Fail;
 use std::time::Duration;
 

@@ -1,6 +1,6 @@
 //! Channels by the ten thousand.
 
-use oneshot::{Receiver, Sender, channel};
+use oneshot_channel::{Receiver, Sender, channel};
 use std::alloc::{AllocError, AllocGlobal};
 
 /// So many channels, with the senders and the receivers in the same order.

@@ -7,7 +7,7 @@ use super::channels::channels;
 use super::pending::polled_channels;
 use super::races::race;
 use futures::test::MockTask;
-use oneshot::{Sender, TryRecvError};
+use oneshot_channel::{Sender, TryRecvError};
 use std::alloc::AllocGlobal;
 use std::process::Abort;
 use std::test::Fail;

@@ -1,6 +1,6 @@
 //! The message is the sender of another channel.
 
-use oneshot::{Receiver, Sender, TryRecvError, channel};
+use oneshot_channel::{Receiver, Sender, TryRecvError, channel};
 use std::alloc::{AllocError, AllocGlobal};
 use std::test::Fail;
 

@@ -10,7 +10,7 @@ use super::pages::{grown_pages, resident_pages};
 use super::races::race;
 use futures::task::Poll;
 use futures::test::MockTask;
-use oneshot::{AsyncReceiver, Sender, async_channel};
+use oneshot_channel::{AsyncReceiver, Sender, async_channel};
 use std::process::Abort;
 use std::random::RandomSource;
 use std::rt::Files;

@@ -6,7 +6,7 @@ use super::counted::make_messages;
 use super::races::race;
 use futures::task::Poll;
 use futures::test::MockTask;
-use oneshot::{AsyncReceiver, Sender, async_channel};
+use oneshot_channel::{AsyncReceiver, Sender, async_channel};
 use std::alloc::AllocGlobal;
 use std::process::Abort;
 use std::random::RandomSource;

@@ -4,7 +4,7 @@ use super::answers::Silence;
 use super::waits::{pass_time, patience};
 use futures::task::Poll;
 use futures::test::MockTask;
-use oneshot::{Receiver, RecvError, RecvTimeoutError, TryRecvError};
+use oneshot_channel::{Receiver, RecvError, RecvTimeoutError, TryRecvError};
 use std::sync::Wait;
 use std::time::{Clock, Instant};
 

@@ -2,8 +2,8 @@
 
 use super::answers::Outcome;
 use super::races::race;
-use oneshot::reply::{Answer, Length, Request, Ticket, request};
-use oneshot::{RecvError, RecvTimeoutError};
+use oneshot_channel::reply::{Answer, Length, Request, Ticket, request};
+use oneshot_channel::{RecvError, RecvTimeoutError};
 use std::alloc::{AllocError, AllocGlobal};
 use std::hint::spin_loop;
 use std::process::Abort;

@@ -7,7 +7,7 @@ use super::counted::{Counted, make_messages};
 use super::races::race;
 use futures::task::Poll;
 use futures::test::MockTask;
-use oneshot::{AsyncReceiver, Sender, async_channel};
+use oneshot_channel::{AsyncReceiver, Sender, async_channel};
 use std::alloc::AllocGlobal;
 use std::process::Abort;
 use std::random::RandomSource;

@@ -4,7 +4,7 @@ use super::answers::assert_answers;
 use super::channels::channels;
 use super::races::race;
 use super::waits::patience;
-use oneshot::{Receiver, RecvTimeoutError};
+use oneshot_channel::{Receiver, RecvTimeoutError};
 use std::process::Abort;
 use std::sync::Wait;
 use std::test::Fail;

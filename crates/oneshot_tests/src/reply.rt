@@ -6,8 +6,8 @@ mod threads;
 mod waits;
 
 use futures::executor::block_on;
-use oneshot::reply::{Answer, Length, Request, Ticket, request};
-use oneshot::{RecvError, RecvTimeoutError, TryRecvError};
+use oneshot_channel::reply::{Answer, Length, Request, Ticket, request};
+use oneshot_channel::{RecvError, RecvTimeoutError, TryRecvError};
 use std::alloc::{AllocError, Global};
 use std::test::Fail;
 use std::time::Duration;

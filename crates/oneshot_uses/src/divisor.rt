@@ -3,7 +3,7 @@
 ghost use Rattle.std.specs.Prelude.{◌≡◌, ◌≢◌, ◌%◌, ◌<◌, ℕ, IfNone, IfOk, IfSome};
 
 use futures::executor::block_on;
-use oneshot::{AsyncReceiver, RecvError, Sender, async_channel};
+use oneshot_channel::{AsyncReceiver, RecvError, Sender, async_channel};
 use std::alloc::{AllocError, AllocGlobal, Global};
 use std::io;
 use std::random::RandomSource;

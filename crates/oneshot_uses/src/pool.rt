@@ -4,7 +4,7 @@ ghost use Rattle.std.specs.Prelude.{◌≡◌, IfOk, length, vec_len};
 
 use crate::request::{Answer, Asked, Request, ask};
 use crossbeam_channel as queue;
-use oneshot::{Receiver, Sender, channel};
+use oneshot_channel::{Receiver, Sender, channel};
 use std::alloc::{AllocError, Global};
 use std::sync::Wait;
 use std::thread;

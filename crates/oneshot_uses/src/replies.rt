@@ -5,7 +5,7 @@ ghost use Rattle.std.specs.Prelude.{◌≡◌, ◌*◌, IfOk, IfSome};
 use crate::request::{Asked, Request, Square, answer_to, ask};
 use futures::executor::block_on;
 use futures::future::{Either, join, select};
-use oneshot::AsyncReceiver;
+use oneshot_channel::AsyncReceiver;
 use std::alloc::{AllocGlobal, Global};
 use std::random::RandomSource;
 use std::sync::Wait;

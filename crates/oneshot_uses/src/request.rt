@@ -2,7 +2,7 @@
 
 ghost use Rattle.std.specs.Prelude.{◌≡◌, ◌*◌, ◌≤◌, ℕ, Ok, IfOk, IfSome, vec_len, length};
 
-use oneshot::{Receiver, RecvError, RecvTimeoutError, Sender, channel};
+use oneshot_channel::{Receiver, RecvError, RecvTimeoutError, Sender, channel};
 use std::alloc::{AllocError, Global};
 use std::sync::Wait;
 use std::thread::{Threads, join};

@@ -1,10 +1,10 @@
 //! A worker that makes turns until it is told to stop, or until nobody is left to tell it.
 
 ghost use Rattle.std.specs.Prelude.{◌≡◌, ◌≢◌, ◌≤◌};
-ghost use Rattle.oneshot.specs.Ends.{IsClosed};
+ghost use Rattle.oneshot_channel.specs.Ends.{IsClosed};
 ghost use Rattle.oneshot_uses.specs.declared.shutdown.Ending.TheVariants.{Done};
 
-use oneshot::{Receiver, Sender, TryRecvError, channel};
+use oneshot_channel::{Receiver, Sender, TryRecvError, channel};
 use std::alloc::{AllocError, Global};
 use std::thread::{Threads, join, yield_now};
 

@@ -2,7 +2,7 @@
 
 ghost use Rattle.std.specs.Prelude.{IfOk, IfSome};
 
-use oneshot::{RecvError, Sender, channel};
+use oneshot_channel::{RecvError, Sender, channel};
 use std::alloc::{AllocError, Global};
 use std::sync::Wait;
 use std::thread::{JoinHandle, Threads, join, spawn};

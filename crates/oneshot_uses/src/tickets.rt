@@ -6,8 +6,8 @@ ghost use Rattle.std.specs.Prelude.{◌≡◌, ◌*◌, IfOk, IfSome, length, ve
 use crate::request::{Answer, Square, Unanswered};
 use crossbeam_channel as queue;
 use futures::executor::block_on;
-use oneshot::reply::{Request, Ticket};
-use oneshot::{RecvTimeoutError, reply};
+use oneshot_channel::reply::{Request, Ticket};
+use oneshot_channel::{RecvTimeoutError, reply};
 use std::alloc::{AllocError, AllocGlobal, Global};
 use std::random::RandomSource;
 use std::sync::Wait;

@@ -1,10 +1,10 @@
 //! That each loop does what its name says, and tells a message that is lost.
 
 use crossbeam_channel::bounded;
-use futures::channel::oneshot::channel as futures_channel;
+use futures::channel::oneshot_channel::channel as futures_channel;
 use futures::future::ready;
 use futures::task::Context;
-use oneshot::{async_channel, channel};
+use oneshot_channel::{async_channel, channel};
 use oneshot_loops::channels::Channel;
 use oneshot_loops::fault::Fault;
 use oneshot_loops::loops::{Awaited, Loop};

@@ -1,7 +1,7 @@
 //! A receive that waits sleeps: it uses little of its thread's processor time, however long it waits.
 
 use futures::executor::block_on;
-use oneshot::{Receiver, channel};
+use oneshot_channel::{Receiver, channel};
 use std::alloc::AllocGlobal;
 use std::io;
 use std::process::Abort;

@@ -1,6 +1,6 @@
 //! Receives by a clock that answers what the test wrote down, and fails afterwards.
 
-use oneshot::{Receiver, RecvTimeoutError, Sender, channel};
+use oneshot_channel::{Receiver, RecvTimeoutError, Sender, channel};
 use std::alloc::{AllocError, Global};
 use std::cell::Cell;
 use std::io;

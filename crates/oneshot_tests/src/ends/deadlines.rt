@@ -1,6 +1,6 @@
 //! Receives with a deadline or a timeout, alone and against a sender on another thread.
 
-use oneshot::{Receiver, RecvError, RecvTimeoutError, TryRecvError, channel};
+use oneshot_channel::{Receiver, RecvError, RecvTimeoutError, TryRecvError, channel};
 use std::io;
 use std::process::Abort;
 use std::sync::{Arc, Wait};

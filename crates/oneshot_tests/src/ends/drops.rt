@@ -1,6 +1,6 @@
 //! A message that was received, and one that was never sent, is its holder's to drop; an `Arc` counts who holds it.
 
-use oneshot::channel;
+use oneshot_channel::channel;
 use std::sync::Arc;
 use std::test::Fail;
 

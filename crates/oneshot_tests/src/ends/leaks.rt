@@ -4,7 +4,7 @@ use super::clocks::{Act, Meanwhile, five};
 use super::lives::{DROPPED, LIVES, Life, RAW, READY, TRIED, live};
 use super::steps::{Ends, Look};
 use futures::test::MockTask;
-use oneshot::{RecvError, channel};
+use oneshot_channel::{RecvError, channel};
 use std::process::Abort;
 use std::random::RandomSource;
 use std::rt::Files;

@@ -1,7 +1,7 @@
 //! Deadlines that end while the sender is in its send or its drop. Where the receiver is not woken then, or
 //! waits once more than it is woken, these tests do not end.
 
-use oneshot::{Receiver, RecvError, RecvTimeoutError, channel};
+use oneshot_channel::{Receiver, RecvError, RecvTimeoutError, channel};
 use std::io;
 use std::process::Abort;
 use std::sync::Wait;

@@ -6,7 +6,7 @@ use futures::Future;
 use futures::executor::block_on;
 use futures::future::join;
 use futures::task::{Context, Poll};
-use oneshot::{AsyncReceiver, RecvError, async_channel};
+use oneshot_channel::{AsyncReceiver, RecvError, async_channel};
 use std::random::RandomSource;
 use std::sync::Wait;
 use std::sync::atomic::{AtomicU64, Ordering};

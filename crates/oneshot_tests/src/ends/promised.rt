@@ -5,7 +5,7 @@ ghost use Rattle.std.specs.Prelude.{◌≡◌};
 use super::leaks::assert_no_leak;
 use futures::executor::block_on;
 use futures::test::MockTask;
-use oneshot::{Promise, TryRecvError, async_channel_for, channel_for};
+use oneshot_channel::{Promise, TryRecvError, async_channel_for, channel_for};
 use std::alloc::{AllocGlobal, Global};
 use std::io;
 use std::sync::Wait;

@@ -1,6 +1,6 @@
 //! The ends as opaque values: made of an end, made an end again, moved between threads, and dropped.
 
-use oneshot::{RawReceiver, RawSender, Receiver, RecvError, Sender, TryRecvError, channel};
+use oneshot_channel::{RawReceiver, RawSender, Receiver, RecvError, Sender, TryRecvError, channel};
 use std::sync::Arc;
 use std::test::Fail;
 use std::thread::{Threads, join};

@@ -1,6 +1,6 @@
 //! The texts of an error that has a refused message.
 
-use oneshot::channel;
+use oneshot_channel::channel;
 use std::test::Fail;
 
 #[test]

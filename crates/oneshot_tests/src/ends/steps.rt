@@ -2,7 +2,7 @@
 
 use futures::task::Poll;
 use futures::test::MockTask;
-use oneshot::{
+use oneshot_channel::{
     AsyncReceiver, Receiver, RecvError, RecvTimeoutError, Sender, TryRecvError, async_channel,
     channel,
 };

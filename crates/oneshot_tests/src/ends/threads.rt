@@ -1,6 +1,6 @@
 //! Each end on a thread of its own.
 
-use oneshot::{RawSender, Receiver, SendError, Sender, TryRecvError, channel};
+use oneshot_channel::{RawSender, Receiver, SendError, Sender, TryRecvError, channel};
 use std::mem::size_of_val;
 use std::test::Fail;
 use std::thread::{Threads, join};

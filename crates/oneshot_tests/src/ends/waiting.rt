@@ -1,6 +1,6 @@
 //! Receives that wait, against a sender on another thread. Where a wake does nothing they do not end.
 
-use oneshot::{Receiver, RecvError, TryRecvError, channel};
+use oneshot_channel::{Receiver, RecvError, TryRecvError, channel};
 use std::sync::{Arc, Wait};
 use std::test::Fail;
 use std::thread::{join, sleep};

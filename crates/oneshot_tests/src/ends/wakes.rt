@@ -4,7 +4,7 @@ use self::Deed::{First, Look, Second};
 use futures::Future;
 use futures::executor::LocalPool;
 use futures::task::{Context, Poll, Source, Waker};
-use oneshot::{AsyncReceiver, Promise, TryRecvError, async_channel};
+use oneshot_channel::{AsyncReceiver, Promise, TryRecvError, async_channel};
 use std::alloc::AllocError;
 use std::cell::Cell;
 use std::process::Abort;

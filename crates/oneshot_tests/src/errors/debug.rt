@@ -1,6 +1,6 @@
 //! The texts that `{:?}` prints.
 
-use oneshot::{RecvError, RecvTimeoutError, TryRecvError};
+use oneshot_channel::{RecvError, RecvTimeoutError, TryRecvError};
 use std::alloc::Global;
 use std::fmt::Debug;
 use std::process::Abort;

@@ -1,6 +1,6 @@
 //! The texts that `{}` prints, asked of each error through the trait `Error`.
 
-use oneshot::{RecvError, RecvTimeoutError, TryRecvError};
+use oneshot_channel::{RecvError, RecvTimeoutError, TryRecvError};
 use std::alloc::Global;
 use std::error::Error;
 use std::process::Abort;

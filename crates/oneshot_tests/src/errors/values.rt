@@ -1,6 +1,6 @@
 //! Copies of the errors, their equality and their hashes, when they run.
 
-use oneshot::{RecvError, RecvTimeoutError, TryRecvError};
+use oneshot_channel::{RecvError, RecvTimeoutError, TryRecvError};
 use std::alloc::AllocError;
 use std::hash::{DefaultHasher, Hash, Hasher};
 use std::test::Fail;

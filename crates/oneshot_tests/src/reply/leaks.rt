@@ -3,7 +3,7 @@
 use super::{TEXT, answer, ask};
 use crate::ends::leaks::assert_no_leak;
 use futures::test::MockTask;
-use oneshot::reply::Length;
+use oneshot_channel::reply::Length;
 use std::alloc::{AllocError, Global};
 use std::test::Fail;
 use std::time::Duration;

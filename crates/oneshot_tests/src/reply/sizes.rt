@@ -3,8 +3,8 @@
 ghost use Rattle.std.specs.Prelude.{◌≡◌};
 
 use futures::executor::block_on;
-use oneshot::async_channel;
-use oneshot::reply::{Answer, Ticket, request};
+use oneshot_channel::async_channel;
+use oneshot_channel::reply::{Answer, Ticket, request};
 use std::fmt::Debug;
 use std::process::Abort;
 use std::random::RandomSource;

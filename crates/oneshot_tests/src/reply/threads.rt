@@ -1,8 +1,8 @@
 //! Requests, tickets and replies on other threads than their makers'.
 
 use super::{TEXT, ask, bytes_of};
-use oneshot::TryRecvError;
-use oneshot::reply::{Answer, Length, Request, Ticket};
+use oneshot_channel::TryRecvError;
+use oneshot_channel::reply::{Answer, Length, Request, Ticket};
 use std::test::Fail;
 use std::thread::{Threads, join};
 

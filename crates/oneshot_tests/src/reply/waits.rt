@@ -3,7 +3,7 @@
 use super::{answer, ask, bytes_of};
 use crate::ends::clocks::{FIVE_NANOSECONDS, Written};
 use crate::ends::wakes::{WAITS, waited_for};
-use oneshot::{RecvTimeoutError, TryRecvError};
+use oneshot_channel::{RecvTimeoutError, TryRecvError};
 use std::test::Fail;
 use std::time::Duration;
 

@@ -1,6 +1,6 @@
 //! Searches that find a divisor, and those that drop their sender.
 
-use oneshot::{RecvError, async_channel};
+use oneshot_channel::{RecvError, async_channel};
 use oneshot_uses::divisor::{await_divisor, divisor_of, least_divisor, send_divisor, start};
 use std::test::Fail;
 

@@ -1,7 +1,7 @@
 //! Answers that come, come too late or never come, and how a pool shuts down.
 
 use crossbeam_channel as queue;
-use oneshot::channel;
+use oneshot_channel::channel;
 use oneshot_uses::pool::{answers_to, ask_all, pooled, total, work};
 use oneshot_uses::request::{Unanswered, ask};
 use std::test::Fail;

@@ -1,6 +1,6 @@
 //! How a worker stops.
 
-use oneshot::channel;
+use oneshot_channel::channel;
 use oneshot_uses::shutdown::{Ending, Order, Report, watched, work_until};
 use std::test::Fail;
 

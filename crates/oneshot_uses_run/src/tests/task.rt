@@ -1,6 +1,6 @@
 //! Results that are waited for, and those that come back.
 
-use oneshot::channel;
+use oneshot_channel::channel;
 use oneshot_uses::task::{awaited, perform, start, unclaimed};
 use std::test::Fail;
 

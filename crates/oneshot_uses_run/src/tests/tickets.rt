@@ -1,6 +1,6 @@
 //! Tickets whose reply comes, comes too late or never comes.
 
-use oneshot::reply::{Request, Ticket, request};
+use oneshot_channel::reply::{Request, Ticket, request};
 use oneshot_uses::request::{Square, Unanswered};
 use oneshot_uses::tickets::{asked, serve, square_awaited, square_within};
 use std::alloc::{AllocError, Global};

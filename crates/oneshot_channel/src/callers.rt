@@ -1,8 +1,8 @@
 //! Callers of the calls whose contracts tell more than their answers, proved and run; docs/CALLING.md shows them.
 
 ghost use Rattle.std.specs.Prelude.{◌≡◌, ◌≢◌, None, Ok, Err, IsErr, IfSome};
-ghost use Rattle.oneshot.specs.Ends.{IsClosed, IsOpen};
-ghost use Rattle.oneshot.specs.TryRecvError.TheVariants as Tried;
+ghost use Rattle.oneshot_channel.specs.Ends.{IsClosed, IsOpen};
+ghost use Rattle.oneshot_channel.specs.TryRecvError.TheVariants as Tried;
 
 use crate::{RawReceiver, Receiver, RecvError, RecvTimeoutError, Sender, TryRecvError, channel};
 use std::sync::Wait;

@@ -1,9 +1,9 @@
 -- The log of two calls, one after the other.
 use Rattle.std.proofs.Common.{[], refl, sym, subst}
-use Rattle.oneshot.specs.Called.{as_receiver, ReceiverCalled, not_called}
-use Rattle.oneshot.specs.Ends.{Waking}
-use Rattle.oneshot.specs.ReceiverStart.TheVariants.{TryRecv}
-use Rattle.oneshot.proofs.tallied.tried_twice.Goals as goal
+use Rattle.oneshot_channel.specs.Called.{as_receiver, ReceiverCalled, not_called}
+use Rattle.oneshot_channel.specs.Ends.{Waking}
+use Rattle.oneshot_channel.specs.ReceiverStart.TheVariants.{TryRecv}
+use Rattle.oneshot_channel.proofs.tallied.tried_twice.Goals as goal
 
 pub returns : goal.returns
 returns g c =

@@ -1,7 +1,7 @@
 //! A struct that keeps a receiver and whether it is done, proved and run; docs/CALLING.md shows it.
 
 ghost use Rattle.std.specs.Prelude.{◌≡◌, true, IfOk, IsNone};
-ghost use Rattle.oneshot.specs.Ends.{IsClosed, IsOpen};
+ghost use Rattle.oneshot_channel.specs.Ends.{IsClosed, IsOpen};
 
 use crate::{Receiver, Sender, TryRecvError, channel};
 use std::alloc::{AllocError, Global};

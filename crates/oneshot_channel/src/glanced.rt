@@ -1,9 +1,9 @@
 //! A receiver that is looked at before it is awaited, proved and run; docs/CALLING.md shows it.
 
 ghost use Rattle.std.specs.Prelude.{◌≡◌, ◌≢◌, None};
-ghost use Rattle.oneshot.specs.Ends.{IsDone, IsUnfinished};
-ghost use Rattle.oneshot.specs.Phases.{receiver_at};
-ghost use Rattle.oneshot.specs.Polls.{is_registered};
+ghost use Rattle.oneshot_channel.specs.Ends.{IsDone, IsUnfinished};
+ghost use Rattle.oneshot_channel.specs.Phases.{receiver_at};
+ghost use Rattle.oneshot_channel.specs.Polls.{is_registered};
 
 use crate::{AsyncReceiver, RecvError, TryRecvError, async_channel};
 use futures::executor::block_on;

@@ -1,10 +1,10 @@
 //! A caller that adds up its calls: its receiver's log is that of both.
 
 ghost use Rattle.std.specs.Prelude.{◌≡◌, [], ◌∷◌};
-ghost use Rattle.oneshot.specs.BetweenCalls.{try_recv_reply};
-ghost use Rattle.oneshot.specs.Called.{as_receiver, ReceiverCalled};
-ghost use Rattle.oneshot.specs.Ends.{Waking};
-ghost use Rattle.oneshot.specs.ReceiverStart.TheVariants.{TryRecv};
+ghost use Rattle.oneshot_channel.specs.BetweenCalls.{try_recv_reply};
+ghost use Rattle.oneshot_channel.specs.Called.{as_receiver, ReceiverCalled};
+ghost use Rattle.oneshot_channel.specs.Ends.{Waking};
+ghost use Rattle.oneshot_channel.specs.ReceiverStart.TheVariants.{TryRecv};
 
 use crate::laws::calls_add_up;
 use crate::{Receiver, TryRecvError, channel};
