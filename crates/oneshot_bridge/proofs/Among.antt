@@ -1,12 +1,9 @@
 -- What is in a list that was made from another one.
-use Rattle.std.proofs.Common.{◌≡◌, Bool, true, false, List, [], ◌∷◌, ◌++◌, Some, cond, refl, ap, subst}
-use Rattle.std.specs.Prelude.{filter, if◌then◌else◌}
-use Rattle.std.specs.List.{flat_map}
-use Rattle.std.proofs.lemmas.Bool.{eqb-true}
-use Rattle.oneshot_machine.specs.declared.machine.Seen.{Seen}
-use Rattle.oneshot_machine.specs.declared.machine.Seen.TheVariants.{Done, Word, Over, Refused, Token}
-use Rattle.oneshot_machine.specs.Slots.{In, head, tail}
-use Rattle.oneshot_machine.specs.TableRows.{Outcome, Rows, row_for, is_same_seen}
+use Rattle.oneshot_bridge.proofs.Names.{◌≡◌, Bool, true, false, List, [], ◌∷◌, ◌++◌, Some, cond, refl, ap, subst}
+use Rattle.oneshot_bridge.proofs.Names.{filter, flat_map, eqb-true, Seen, Done, Over, Refused, Token, In, head, tail}
+use Rattle.oneshot_bridge.proofs.Names.{Outcome, Rows, row_for, is_same_seen}
+use Rattle.std.specs.Prelude.{if◌then◌else◌}
+use Rattle.oneshot_machine.specs.declared.machine.Seen.TheVariants.{Word}
 
 -- a list of one
 pub only : {X : Type 0} {x y : X} → In x (y ∷ []) → y ≡ x

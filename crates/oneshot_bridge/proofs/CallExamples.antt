@@ -1,31 +1,18 @@
 -- The examples of calls: each log call by call, and why the others are none.
-use Rattle.std.proofs.Common.{◌≡◌, true, false, List, [], ◌∷◌, ◌++◌, Some, None, get_or, refl, ap, subst, ◌∙◌}
-use Rattle.std.specs.List.{cons_option}
-use Rattle.std.specs.Option.{option_map}
-use Rattle.oneshot_machine.specs.declared.machine.Reply.{Reply}
+use Rattle.oneshot_bridge.proofs.Names.{◌≡◌, true, false, List, [], ◌∷◌, ◌++◌, Some, None, get_or, refl, ap, subst, ◌∙◌}
+use Rattle.oneshot_bridge.proofs.Names.{cons_option, option_map, Reply, Seen, Refused, Step, Try, Future, ReceiverStart}
+use Rattle.oneshot_bridge.proofs.Names.{TryRecv, Recv, Poll, SenderCall, Send, SendAdd, TryLoad, Close, Take, Op, Load}
+use Rattle.oneshot_bridge.proofs.Names.{Store, Exchange, Add, Form, as_receiver, stays, ReceiverCalled, not_called}
+use Rattle.oneshot_bridge.proofs.Names.{called, became_future, SenderCalled, not_called_yet, called_once, Event, did}
+use Rattle.oneshot_bridge.proofs.Names.{worded, words, Noted, op_of, receiver_start, receiver_step, receiver_row, Run}
+use Rattle.oneshot_bridge.proofs.Names.{last, more, Goes, Answers, not_empty, same_start, same_last, tried_twice}
+use Rattle.oneshot_bridge.proofs.Names.{WorkedCalls, WrongCalls}
 use Rattle.oneshot_machine.specs.declared.machine.Reply.TheVariants as R
-use Rattle.oneshot_machine.specs.declared.machine.Seen.{Seen}
-use Rattle.oneshot_machine.specs.declared.machine.Seen.TheVariants.{Word, Refused}
-use Rattle.oneshot_machine.specs.declared.machine.Step.{Step}
+use Rattle.oneshot_machine.specs.declared.machine.Seen.TheVariants.{Word}
 use Rattle.oneshot_machine.specs.declared.machine.Step.TheVariants as Steps
 use Rattle.oneshot_machine.specs.declared.machine.future.FuturePos.TheVariants as F
-use Rattle.oneshot_machine.specs.declared.machine.receiver.ReceiverPos.TheVariants.{Try, Future}
-use Rattle.oneshot_machine.specs.declared.machine.receiver.ReceiverStart.{ReceiverStart}
-use Rattle.oneshot_machine.specs.declared.machine.receiver.ReceiverStart.TheVariants.{TryRecv, Recv, Poll, IntoFuture}
-use Rattle.oneshot_machine.specs.declared.machine.sender.SenderCall.{SenderCall}
-use Rattle.oneshot_machine.specs.declared.machine.sender.SenderCall.TheVariants.{Send, Drop}
-use Rattle.oneshot_machine.specs.declared.machine.sender.SenderPos.TheVariants.{SendAdd}
-use Rattle.oneshot_machine.specs.declared.machine.try_recv.TryPos.TheVariants.{TryLoad, Close, Take}
-use Rattle.oneshot_machine.specs.declared.states.Op.{Op}
-use Rattle.oneshot_machine.specs.declared.states.Op.TheVariants.{Load, Store, Exchange, Add}
-use Rattle.oneshot_machine.specs.Called.{Form, as_receiver, stays, ReceiverCalled, not_called, called, became_future, SenderCalled, not_called_yet, called_once}
-use Rattle.oneshot_machine.specs.Logs.{Event, did, worded, words}
-use Rattle.oneshot_machine.specs.Noted.{Noted, op_of}
-use Rattle.oneshot_machine.specs.Receiver.{receiver_start, receiver_step, receiver_row}
-use Rattle.oneshot_machine.specs.Runs.{Run, last, more}
-use Rattle.oneshot_machine.specs.TableRows.{Goes, Answers}
-use Rattle.oneshot_word.proofs.LastOnes.{not_empty, same_start, same_last}
-use Rattle.oneshot_bridge.specs.CallExamples.{tried_twice, WorkedCalls, WrongCalls}
+use Rattle.oneshot_machine.specs.declared.machine.receiver.ReceiverStart.TheVariants.{IntoFuture}
+use Rattle.oneshot_machine.specs.declared.machine.sender.SenderCall.TheVariants.{Drop}
 
 -- the first call of a receiver
 record IsFirst (T W : Type 0) (x : ReceiverStart × Reply) (log : List Noted) : Type 0 where

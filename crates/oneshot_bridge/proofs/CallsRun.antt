@@ -1,9 +1,8 @@
 -- Between calls: an order of both ends' logs is that of a run with the calls that the ends have answered.
-use Rattle.std.proofs.Common.{subst}
-use Rattle.std.specs.Prelude.{◌≤◌, filter, length}
+use Rattle.oneshot_bridge.proofs.Names.{subst, filter, CallsAreRuns, BothCallsAreRuns, OneCallGets, HaveCome}
+use Rattle.oneshot_bridge.proofs.Names.{gave_message}
+use Rattle.std.specs.Prelude.{◌≤◌, length}
 use Rattle.oneshot_machine.proofs.InOrders.{in_order}
-use Rattle.oneshot_bridge.specs.CallsRun.{CallsAreRuns, BothCallsAreRuns, OneCallGets}
-use Rattle.oneshot_bridge.specs.Gives.{HaveCome, gave_message}
 use Rattle.oneshot_bridge.proofs.Given.{one_receive_gets}
 use Rattle.oneshot_bridge.proofs.SenderScripted.{sender_scripted}
 use Rattle.oneshot_bridge.proofs.StatesRun.{orders_run}

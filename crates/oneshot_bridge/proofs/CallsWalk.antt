@@ -1,22 +1,12 @@
 -- A run of a call goes on a walk that stands at the call's first position, for either end.
-use Rattle.std.proofs.Common.{◌≡◌, Bool, true, ◌&&◌, ◌||◌, List, [], ◌∷◌, ◌++◌, Option, Some, None, refl, sym, ap, ◌∙◌, subst}
-use Rattle.std.proofs.lemmas.List.{append_assoc, append-nil}
-use Rattle.std.proofs.lemmas.Bool.{and_parts}
-use Rattle.std.specs.List.{cons_option, list_all}
-use Rattle.std.specs.Option.{option_map}
+use Rattle.oneshot_bridge.proofs.Names.{◌≡◌, Bool, true, ◌&&◌, ◌||◌, List, [], ◌∷◌, ◌++◌, Option, Some, None, refl, sym}
+use Rattle.oneshot_bridge.proofs.Names.{ap, ◌∙◌, subst, append_assoc, append-nil, and_parts, cons_option, list_all}
+use Rattle.oneshot_bridge.proofs.Names.{option_map, Reply, Seen, Step, Op, Event, words, Noted, op_of, Run, last, more}
+use Rattle.oneshot_bridge.proofs.Names.{Outcome, Goes, Answers, Rows, row_for, each_passes, Unanswered, left_by}
+use Rattle.oneshot_bridge.proofs.Names.{Answered, answers_with, Stand, Walker, may_see, stands_after, Quiet, quiet}
+use Rattle.oneshot_bridge.proofs.Names.{Operates, operates, Walk, quietly, by_one}
 use Rattle.std.specs.Prelude.{is_some}
-use Rattle.oneshot_machine.specs.declared.machine.Reply.{Reply}
-use Rattle.oneshot_machine.specs.declared.machine.Seen.{Seen}
-use Rattle.oneshot_machine.specs.declared.machine.Step.{Step}
 use Rattle.oneshot_machine.specs.declared.machine.Step.TheVariants.{Word}
-use Rattle.oneshot_machine.specs.declared.states.Op.{Op}
-use Rattle.oneshot_machine.specs.Logs.{Event, words}
-use Rattle.oneshot_machine.specs.Noted.{Noted, op_of}
-use Rattle.oneshot_machine.specs.Runs.{Run, last, more}
-use Rattle.oneshot_machine.specs.TableRows.{Outcome, Goes, Answers, Rows, row_for}
-use Rattle.oneshot_machine.proofs.Sameness.{each_passes}
-use Rattle.oneshot_world.specs.Calls.{Unanswered, left_by}
-use Rattle.oneshot_bridge.specs.Walks.{Answered, answers_with, Stand, Walker, may_see, stands_after, Quiet, quiet, Operates, operates, Walk, quietly, by_one}
 use Rattle.oneshot_bridge.proofs.Among.{row_among}
 
 op_is : (op : Op) (step : Step) → op_of step ≡ Some op → step ≡ Word op

@@ -1,17 +1,12 @@
 -- The examples of cells: each is computed.
-use Rattle.std.proofs.Common.{◌≡◌, ℕ, true, false, List, [], ◌∷◌, ◌++◌, Some, None, refl, sym, ap, subst, ◌∙◌}
-use Rattle.oneshot_world.specs.World.{World, turn}
+use Rattle.oneshot_bridge.proofs.Names.{◌≡◌, ℕ, true, false, List, [], ◌∷◌, ◌++◌, Some, None, refl, sym, ap, subst, ◌∙◌}
+use Rattle.oneshot_bridge.proofs.Names.{World, turn, ReceiverScript, SenderScript, Entry, Delivered, Parker, worlds_by}
+use Rattle.oneshot_bridge.proofs.Names.{WorkedCells, WrongCells, WrongUses, sends, receives, r, WakesNext}
 use Rattle.oneshot_world.specs.declared.script.Move.TheVariants.{Sender}
-use Rattle.oneshot_world.specs.declared.script.ReceiverScript.{ReceiverScript}
-use Rattle.oneshot_world.specs.declared.script.SenderScript.{SenderScript}
-use Rattle.oneshot_world.specs.declared.trace.Entry.{Entry}
 use Rattle.oneshot_world.specs.declared.trace.Entry.TheVariants.{Made as Made_entry}
-use Rattle.oneshot_world.specs.declared.trace.Place.TheVariants.{InCell, Delivered}
-use Rattle.oneshot_world.specs.declared.trace.WakerName.TheVariants.{Parker}
+use Rattle.oneshot_world.specs.declared.trace.Place.TheVariants.{InCell}
 use Rattle.oneshot_replay.specs.declared.rest.Rest.TheVariants as Rests
-use Rattle.oneshot_bridge.specs.CellExamples.{worlds_by, WorkedCells, WrongCells, WrongUses}
-use Rattle.oneshot_bridge.specs.Examples.{sends, receives, r}
-use Rattle.oneshot_bridge.specs.Woken.{waits, WakesNext}
+use Rattle.oneshot_bridge.specs.Woken.{waits}
 use Rattle.oneshot_bridge.proofs.Given.{same_value}
 use Rattle.oneshot_bridge.proofs.Joined.{not_none, full_waker, passed_one}
 

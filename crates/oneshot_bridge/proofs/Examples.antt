@@ -1,23 +1,18 @@
 -- The examples: each walk step by step, the order operation by operation, and why the others are none.
-use Rattle.std.proofs.Common.{◌≡◌, ℕ, true, false, List, [], ◌∷◌, Some, get_or, refl, sym, ap, subst, ◌∙◌}
+use Rattle.oneshot_bridge.proofs.Names.{◌≡◌, ℕ, true, false, List, [], ◌∷◌, Some, get_or, refl, sym, ap, subst, ◌∙◌}
+use Rattle.oneshot_bridge.proofs.Names.{Seen, Done, Token, Value, SendWrite, SendAdd, SendTakeWaker, SendFinal}
+use Rattle.oneshot_bridge.proofs.Names.{SendWake, RecvLoad, RecvWrite, RecvSwap, RecvPark, RecvParkLoad, RecvTake}
+use Rattle.oneshot_bridge.proofs.Names.{RecvFreeGot, Load, Swap, Add, Noted, Reaches, has_row, nothing_made}
+use Rattle.oneshot_bridge.proofs.Names.{receiver_step, receiver_row, head, tail, Goes, Answers, sends, receives, sent}
+use Rattle.oneshot_bridge.proofs.Names.{received, worlds, WorkedRun, WrongRuns, may_see, begins, quietly, by_one, Quiet}
+use Rattle.oneshot_bridge.proofs.Names.{quiet, Operates, operates, the_receiver, opening_receiver, SenderStand}
+use Rattle.oneshot_bridge.proofs.Names.{ReceiverStand, SenderWalk, ReceiverWalk, not_empty, same_start, same_last}
 use Rattle.std.specs.Option.{IsSome}
 use Rattle.oneshot_machine.specs.declared.machine.Reply.TheVariants as R
-use Rattle.oneshot_machine.specs.declared.machine.Seen.{Seen}
-use Rattle.oneshot_machine.specs.declared.machine.Seen.TheVariants.{Done, Word, Token}
+use Rattle.oneshot_machine.specs.declared.machine.Seen.TheVariants.{Word}
 use Rattle.oneshot_machine.specs.declared.machine.Step.TheVariants as Steps
-use Rattle.oneshot_machine.specs.declared.machine.receiver.ReceiverPos.TheVariants.{Value}
-use Rattle.oneshot_machine.specs.declared.machine.sender.SenderPos.TheVariants.{SendWrite, SendAdd, SendTakeWaker, SendFinal, SendWake}
-use Rattle.oneshot_machine.specs.declared.machine.value.ValuePos.TheVariants.{RecvLoad, RecvWrite, RecvSwap, RecvPark, RecvParkLoad, RecvTake, RecvFreeGot}
-use Rattle.oneshot_machine.specs.declared.states.Op.TheVariants.{Load, Swap, Add}
-use Rattle.oneshot_machine.specs.Noted.{Noted}
-use Rattle.oneshot_machine.specs.Orders.{Reaches, has_row, nothing_made, sender_makes, receiver_makes}
-use Rattle.oneshot_machine.specs.Receiver.{receiver_step, receiver_row}
-use Rattle.oneshot_machine.specs.Slots.{head, tail}
-use Rattle.oneshot_machine.specs.TableRows.{Goes, Answers}
+use Rattle.oneshot_machine.specs.Orders.{sender_makes, receiver_makes}
 use Rattle.oneshot_world.specs.declared.state.ReceiverState.TheVariants as RS
-use Rattle.oneshot_bridge.specs.Examples.{sends, receives, sent, received, worlds, WorkedRun, WrongRuns}
-use Rattle.oneshot_bridge.specs.Walks.{may_see, begins, quietly, by_one, Quiet, quiet, Operates, operates, the_receiver, opening_receiver, SenderStand, ReceiverStand, SenderWalk, ReceiverWalk}
-use Rattle.oneshot_word.proofs.LastOnes.{not_empty, same_start, same_last}
 
 module _ {T : Type 0} (m : T) where
   sender : (s : SenderStand) × SenderWalk (sends m) sent s

@@ -1,35 +1,17 @@
 -- What the laws of the model say of both ends: each from the run that they are of.
-use Rattle.std.proofs.Common.{◌≡◌, ℕ, ◌+◌, Bool, true, false, not, ◌&&◌, ◌||◌, List, [], ◌∷◌, Option, Some, None, map, refl, sym, ap, ◌∙◌, subst, if◌then◌else◌}
-use Rattle.std.specs.Prelude.{◌≤◌, filter, length, is_some}
-use Rattle.std.specs.List.{list_any, cons_option}
-use Rattle.std.specs.Option.{option_map}
-use Rattle.std.proofs.lemmas.Bool.{and_parts}
-use Rattle.oneshot_machine.specs.declared.machine.End.TheVariants.{Sender, Receiver}
-use Rattle.oneshot_machine.specs.declared.machine.Reply.{Reply}
-use Rattle.oneshot_machine.specs.Noted.{Noted}
-use Rattle.oneshot_machine.specs.Receiver.{receiver_step}
-use Rattle.oneshot_world.specs.Ahead.{ahead_of, is_some_park}
-use Rattle.oneshot_world.specs.Calls.{Call}
-use Rattle.oneshot_world.specs.Scripts.{calls_of}
-use Rattle.oneshot_world.specs.World.{World, opening, Tells_from}
-use Rattle.oneshot_world.specs.declared.script.Move.{Move}
-use Rattle.oneshot_world.specs.declared.script.ReceiverScript.{ReceiverScript}
-use Rattle.oneshot_world.specs.declared.script.SenderScript.{SenderScript}
-use Rattle.oneshot_world.specs.declared.trace.Entry.{Entry}
-use Rattle.oneshot_world.proofs.WorldDetermined.{run_is}
-use Rattle.oneshot_laws.specs.Actions.{is_end_of_sender}
-use Rattle.oneshot_laws.specs.Ended.{has_answered}
-use Rattle.oneshot_laws.specs.Entries.{is_same_end}
-use Rattle.oneshot_laws.specs.Holders.{both_hold, is_held, is_free_last, is_freed_at_end}
-use Rattle.oneshot_laws.specs.Marks.{Mark, marks, side}
-use Rattle.oneshot_laws.specs.Unwoken.{is_unwoken, is_never_unwoken, waits_in_task}
-use Rattle.oneshot_replay.specs.Right.{IsRight}
-use Rattle.oneshot_replay.specs.Run.{HasRun, told_at}
-use Rattle.oneshot_replay.specs.Scene.{Scene}
-use Rattle.oneshot_replay.specs.TraceView.{last_of}
-use Rattle.oneshot_bridge.specs.Gives.{gave_message, OneReceiveGets, RunLosesNoWakeup, RunFreesOnce, RunFreesLast, RunFreesByItsHolder}
-use Rattle.oneshot_bridge.specs.OrdersRun.{answered_by, RunsTo}
-use Rattle.oneshot_bridge.specs.Walks.{Answered, the_receiver, ReceiverStand, SenderStand}
+use Rattle.std.proofs.Common.{if◌then◌else◌}
+use Rattle.std.specs.Prelude.{◌≤◌, length, is_some}
+use Rattle.oneshot_bridge.proofs.Names.{◌≡◌, ℕ, ◌+◌, Bool, true, false, not, ◌&&◌, ◌||◌, List, [], ◌∷◌, Option, Some}
+use Rattle.oneshot_bridge.proofs.Names.{None, map, refl, sym, ap, ◌∙◌, subst, filter, list_any, cons_option, option_map}
+use Rattle.oneshot_bridge.proofs.Names.{and_parts, Receiver, Reply, Noted, receiver_step, ahead_of, is_some_park, Call}
+use Rattle.oneshot_bridge.proofs.Names.{calls_of, World, opening, Tells_from, Move, ReceiverScript, SenderScript, Entry}
+use Rattle.oneshot_bridge.proofs.Names.{run_is, is_end_of_sender, has_answered, is_same_end, both_hold, is_free_last}
+use Rattle.oneshot_bridge.proofs.Names.{is_freed_at_end, Mark, marks, side, is_unwoken, is_never_unwoken, waits_in_task}
+use Rattle.oneshot_bridge.proofs.Names.{IsRight, HasRun, told_at, Scene, last_of, gave_message, OneReceiveGets}
+use Rattle.oneshot_bridge.proofs.Names.{RunLosesNoWakeup, RunFreesOnce, RunFreesLast, RunFreesByItsHolder, answered_by}
+use Rattle.oneshot_bridge.proofs.Names.{RunsTo, Answered, the_receiver, ReceiverStand, SenderStand}
+use Rattle.oneshot_machine.specs.declared.machine.End.TheVariants.{Sender}
+use Rattle.oneshot_laws.specs.Holders.{is_held}
 use Rattle.oneshot_bridge.proofs.OneReceive.{one_gets, freed_once, unused_after}
 use Rattle.oneshot_bridge.proofs.StatesRun.{orders_run}
 

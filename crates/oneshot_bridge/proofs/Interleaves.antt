@@ -1,12 +1,8 @@
 -- An order of both ends' operations, and a walk of each end, make a run of any model that can make each step
 -- of a walk: the induction on the order.
-use Rattle.std.proofs.Common.{◌≡◌, ℕ, List, [], ◌∷◌, ◌++◌, refl, sym, subst}
-use Rattle.oneshot_machine.specs.declared.states.Op.{Op}
-use Rattle.oneshot_machine.specs.Noted.{Noted, saw}
-use Rattle.oneshot_machine.specs.Orders.{InOrder, none_made, by_sender, by_receiver}
-use Rattle.oneshot_machine.specs.States.{word_after}
-use Rattle.oneshot_word.proofs.LastOnes.{not_empty, same_start, same_last}
-use Rattle.oneshot_bridge.specs.Walks.{Walk, begins, quietly, by_one}
+use Rattle.oneshot_bridge.proofs.Names.{◌≡◌, ℕ, List, [], ◌∷◌, ◌++◌, refl, sym, subst, Op, Noted, saw, InOrder}
+use Rattle.oneshot_bridge.proofs.Names.{none_made, by_sender, by_receiver, word_after, not_empty, same_start, same_last}
+use Rattle.oneshot_bridge.proofs.Names.{Walk, begins, quietly, by_one}
 
 -- what a model can do that makes each step of a walk
 pub record CanStep {S R : Type 0} (SRests : S → S → Type 0) (SMakes : S → Noted → S → Type 0)

@@ -1,38 +1,20 @@
 -- Each state that the rule of the table allows is of a run: its order, its slots at home, and its message.
-use Rattle.std.proofs.Common.{◌≡◌, ℕ, ◌+◌, List, [], ◌∷◌, Option, Some, None, refl, sym, ap, ◌∙◌, subst}
+use Rattle.oneshot_bridge.proofs.Names.{◌≡◌, ℕ, ◌+◌, List, [], ◌∷◌, Option, Some, None, refl, sym, ap, ◌∙◌, subst, End}
+use Rattle.oneshot_bridge.proofs.Names.{Noted, Reaches, Share, empty, filled, receiver_step, sender_step, sender_puts}
+use Rattle.oneshot_bridge.proofs.Names.{receiver_puts, place_left, reply_of, World, opening, opening_place, side_of}
+use Rattle.oneshot_bridge.proofs.Names.{Tells_from, Move, ReceiverScript, SenderLast, SenderScript, Entry, Turned}
+use Rattle.oneshot_bridge.proofs.Names.{sender_idle, sender_made, receiver_idle, receiver_made, turned, message_of}
+use Rattle.oneshot_bridge.proofs.Names.{rest_at, HasRun, Scene, last_of, Rouse, Slot, Empty, Message, Home, bare}
+use Rattle.oneshot_bridge.proofs.Names.{has_message, Lies, lies_out, lies_bare, lies_filled, IsGiven, IsTaken}
+use Rattle.oneshot_bridge.proofs.Names.{took_none, took_it, opened, dealt, runs, any, with_waker, message_of_logs}
+use Rattle.oneshot_bridge.proofs.Names.{waker_of_logs, CellsAreSo, SlotsAreSo, Passed, none_passed, it_passed}
+use Rattle.oneshot_bridge.proofs.Names.{maker_before, dealer_before, is_run, TablesAreOfRuns, RunsSo, SendsOnly}
+use Rattle.oneshot_bridge.proofs.Names.{IsOfARun, RunsCalls}
 use mathlib.Core.Option as maybe
-use Rattle.oneshot_machine.specs.declared.machine.End.{End}
-use Rattle.oneshot_machine.specs.Noted.{Noted}
-use Rattle.oneshot_machine.specs.Orders.{Reaches}
-use Rattle.oneshot_machine.specs.Phases.{Share, empty, filled}
-use Rattle.oneshot_machine.specs.Receiver.{receiver_step}
-use Rattle.oneshot_machine.specs.Sender.{sender_step}
-use Rattle.oneshot_world.specs.Effects.{sender_puts, receiver_puts, place_left, reply_of}
-use Rattle.oneshot_world.specs.World.{World, opening, opening_place, side_of, Tells_from}
-use Rattle.oneshot_world.specs.declared.script.Move.{Move}
-use Rattle.oneshot_world.specs.declared.script.ReceiverScript.{ReceiverScript}
-use Rattle.oneshot_world.specs.declared.script.SenderLast.{SenderLast}
 use Rattle.oneshot_world.specs.declared.script.SenderLast.TheVariants as SL
-use Rattle.oneshot_world.specs.declared.script.SenderScript.{SenderScript}
-use Rattle.oneshot_world.specs.declared.trace.Entry.{Entry}
 use Rattle.oneshot_world.specs.declared.trace.Place.TheVariants as P
-use Rattle.oneshot_world.proofs.WorldTurns.{Turned, sender_idle, sender_made, receiver_idle, receiver_made, turned}
-use Rattle.oneshot_replay.specs.Rest.{message_of, rest_at}
-use Rattle.oneshot_replay.specs.Run.{HasRun}
-use Rattle.oneshot_replay.specs.Scene.{Scene}
-use Rattle.oneshot_replay.specs.TraceView.{last_of}
 use Rattle.oneshot_replay.specs.declared.rest.Rest.TheVariants.{InCell}
-use Rattle.oneshot_word.specs.declared.rouse.Rouse.{Rouse}
 use Rattle.oneshot_word.specs.declared.rouse.Rouse.TheVariants as R
-use Rattle.oneshot_word.specs.declared.rule.Slot.{Slot}
-use Rattle.oneshot_word.specs.declared.rule.Slot.TheVariants.{Empty, Message}
-use Rattle.oneshot_word.specs.Rule.{Home, bare, has_message, Lies, lies_out, lies_bare, lies_filled, IsGiven, IsTaken, took_none, took_it, opened, dealt, runs}
-use Rattle.oneshot_word.specs.Seats.{any, with_waker}
-use Rattle.oneshot_bridge.specs.Homes.{message_of_logs, waker_of_logs, CellsAreSo}
-use Rattle.oneshot_bridge.specs.Joined.{SlotsAreSo, Passed, none_passed, it_passed, maker_before, dealer_before, is_run, TablesAreOfRuns}
-use Rattle.oneshot_bridge.specs.OrdersRun.{RunsSo}
-use Rattle.oneshot_bridge.specs.Scripted.{SendsOnly, IsOfARun}
-use Rattle.oneshot_bridge.specs.CallsRun.{RunsCalls}
 use Rattle.oneshot_bridge.proofs.CallsRun.{calls_run}
 use Rattle.oneshot_bridge.proofs.CellsRun.{cells_run}
 use Rattle.oneshot_bridge.proofs.StatesRun.{states_run}

@@ -28,3 +28,4 @@ pub mod Examples
 pub mod CellExamples
 pub mod CallExamples
 pub mod RunExamples
+pub mod Names

@@ -1,24 +1,13 @@
 -- At most one receive is answered with the message, and at most one entry frees the block, the last that uses it.
-use Rattle.std.proofs.Common.{arith, ◌≡◌, ◌≤◌, ℕ, ◌+◌, Bool, true, false, not, ◌&&◌, ◌||◌, List, [], ◌∷◌, ◌++◌, Option, Some, None, cond, refl, sym, ap, subst, if◌then◌else◌, length}
-use Rattle.std.specs.Prelude.{filter}
-use Rattle.std.specs.List.{list_all, list_any, cons_option}
-use Rattle.std.specs.Option.{option_map}
-use Rattle.std.proofs.lemmas.Bool.{and_parts}
-use Rattle.oneshot_machine.specs.declared.machine.End.TheVariants.{Receiver}
-use Rattle.oneshot_machine.specs.declared.machine.Reply.{Reply}
+use Rattle.std.proofs.Common.{◌≤◌, if◌then◌else◌, length}
+use Rattle.oneshot_bridge.proofs.Names.{arith, ◌≡◌, ℕ, ◌+◌, Bool, true, false, not, ◌&&◌, ◌||◌, List, [], ◌∷◌, ◌++◌}
+use Rattle.oneshot_bridge.proofs.Names.{Option, Some, None, cond, refl, sym, ap, subst, filter, list_all, list_any}
+use Rattle.oneshot_bridge.proofs.Names.{cons_option, option_map, and_parts, Receiver, Reply, Step, Free, Call}
+use Rattle.oneshot_bridge.proofs.Names.{is_receive, only_if, is_same_end, is_same_reply, is_reply, is_word}
+use Rattle.oneshot_bridge.proofs.Names.{is_on_a_cell, is_free, agrees, frees, uses_block, is_free_last, Mark, side}
+use Rattle.oneshot_bridge.proofs.Names.{answers, answers_only, is_gone_after_got, gave_message, answered_at}
+use Rattle.oneshot_bridge.proofs.Names.{answered_by, Answered}
 use Rattle.oneshot_machine.specs.declared.machine.Reply.TheVariants as R
-use Rattle.oneshot_machine.specs.declared.machine.Step.{Step}
-use Rattle.oneshot_machine.specs.declared.machine.Step.TheVariants.{Free}
-use Rattle.oneshot_world.specs.Calls.{Call}
-use Rattle.oneshot_laws.specs.Actions.{is_receive}
-use Rattle.oneshot_laws.specs.Entries.{only_if, is_same_end, is_same_reply, is_reply, is_word, is_on_a_cell, is_free}
-use Rattle.oneshot_laws.specs.History.{agrees}
-use Rattle.oneshot_laws.specs.Holders.{frees, uses_block, is_free_last}
-use Rattle.oneshot_laws.specs.Marks.{Mark, side}
-use Rattle.oneshot_laws.specs.Replies.{answers, answers_only, is_gone_after_got}
-use Rattle.oneshot_bridge.specs.Gives.{gave_message}
-use Rattle.oneshot_bridge.specs.OrdersRun.{answered_at, answered_by}
-use Rattle.oneshot_bridge.specs.Walks.{Answered}
 
 abbrev number_of : List Answered → ℕ
 number_of told = length (filter gave_message told)

@@ -1,33 +1,17 @@
 -- The phases of both ends beside the machines: the checker explores both together, and the cells of all that it
 -- finds are as the rule of the word has it.
-use Rattle.std.proofs.Common.{◌≡◌, Bool, true, false, not, ◌&&◌, Option, Some, None, is_some, refl}
-use Rattle.oneshot_machine.specs.declared.machine.End.{End}
-use Rattle.oneshot_machine.specs.declared.machine.End.TheVariants.{Sender, Receiver}
-use Rattle.oneshot_machine.specs.declared.machine.Seen.TheVariants.{Done}
-use Rattle.oneshot_machine.specs.declared.machine.Step.{Step}
-use Rattle.oneshot_machine.specs.declared.machine.Step.TheVariants.{Wake}
-use Rattle.oneshot_machine.specs.declared.machine.sender.SenderPos.{SenderPos}
-use Rattle.oneshot_machine.specs.Noted.{Noted}
-use Rattle.oneshot_machine.specs.Phases.{SenderAt, fresh, finished, no_sender, sender_next, ReceiverAt, first, gone, no_receiver, receiver_next, Share, none, empty, filled}
-use Rattle.oneshot_machine.specs.Sender.{sender_step, sender_row}
-use Rattle.oneshot_machine.specs.TableRows.{Outcome, Answers}
-use Rattle.oneshot_world.specs.Calls.{Call}
-use Rattle.oneshot_world.specs.Explore.{all_in}
-use Rattle.oneshot_world.specs.State.{is_in_cell}
-use Rattle.oneshot_world.specs.declared.state.ReceiverState.{ReceiverState}
+use Rattle.std.proofs.Common.{is_some}
+use Rattle.oneshot_bridge.proofs.Names.{◌≡◌, Bool, true, false, not, ◌&&◌, Option, Some, None, refl, End, Receiver}
+use Rattle.oneshot_bridge.proofs.Names.{Done, Step, Wake, SenderPos, Noted, SenderAt, fresh, finished, no_sender}
+use Rattle.oneshot_bridge.proofs.Names.{sender_next, ReceiverAt, gone, no_receiver, receiver_next, Share, none, empty}
+use Rattle.oneshot_bridge.proofs.Names.{filled, sender_step, sender_row, Outcome, Answers, Call, all_in, is_in_cell}
+use Rattle.oneshot_bridge.proofs.Names.{ReceiverState, SenderState, State, Made, is_end_of_sender, only_if, or_stray}
+use Rattle.oneshot_bridge.proofs.Names.{Watched, Automaton, Explored, no_names, all_watched, message_home, waker_home}
+use Rattle.oneshot_bridge.proofs.Names.{one_has_both, operation_of, found_it_gone}
+use Rattle.oneshot_machine.specs.declared.machine.End.TheVariants.{Sender}
+use Rattle.oneshot_machine.specs.Phases.{first}
 use Rattle.oneshot_world.specs.declared.state.ReceiverState.TheVariants as RS
-use Rattle.oneshot_world.specs.declared.state.SenderState.{SenderState}
 use Rattle.oneshot_world.specs.declared.state.SenderState.TheVariants as SS
-use Rattle.oneshot_world.specs.declared.state.State.{State}
-use Rattle.oneshot_world.specs.declared.trace.Made.{Made}
-use Rattle.oneshot_laws.specs.Actions.{is_end_of_sender}
-use Rattle.oneshot_laws.specs.Entries.{only_if}
-use Rattle.oneshot_laws.specs.Marks.{or_stray}
-use Rattle.oneshot_laws.proofs.Watched.{Watched, Automaton, Explored, no_names, all_watched}
-use Rattle.oneshot_word.specs.Rule.{message_home, waker_home}
-use Rattle.oneshot_bridge.specs.Homes.{one_has_both}
-use Rattle.oneshot_bridge.specs.OrdersRun.{operation_of}
-use Rattle.oneshot_bridge.specs.Woken.{found_it_gone}
 use Rattle.oneshot_bridge.proofs.PhaseCodes.{Phases, phases}
 
 -- both phases, if they are an end's

@@ -1,16 +1,11 @@
 -- What the reader of phases reads of a trace: the phases of both its logs.
-use Rattle.std.proofs.Common.{◌≡◌, ℕ, true, List, [], ◌∷◌, Option, Some, None, refl, ap, ◌∙◌}
-use Rattle.std.specs.List.{cons_option}
-use Rattle.oneshot_machine.specs.declared.machine.End.{End}
-use Rattle.oneshot_machine.specs.declared.machine.End.TheVariants.{Sender, Receiver}
-use Rattle.oneshot_machine.specs.Noted.{Noted}
-use Rattle.oneshot_machine.specs.Orders.{Reaches}
-use Rattle.oneshot_machine.specs.Phases.{SenderAt, no_sender, sender_next, sender_at, ReceiverAt, no_receiver, receiver_next, receiver_at, phase_from}
-use Rattle.oneshot_world.specs.World.{by_end}
-use Rattle.oneshot_world.specs.declared.trace.Entry.{Entry}
+use Rattle.oneshot_bridge.proofs.Names.{◌≡◌, ℕ, true, List, [], ◌∷◌, Option, Some, None, refl, ap, ◌∙◌, cons_option}
+use Rattle.oneshot_bridge.proofs.Names.{End, Receiver, Noted, Reaches, SenderAt, no_sender, sender_next, ReceiverAt}
+use Rattle.oneshot_bridge.proofs.Names.{no_receiver, receiver_next, phase_from, by_end, Entry, is_senders, is_receivers}
+use Rattle.oneshot_bridge.proofs.Names.{sender_is, receiver_is, operation_of, log_of}
+use Rattle.oneshot_machine.specs.declared.machine.End.TheVariants.{Sender}
+use Rattle.oneshot_machine.specs.Phases.{sender_at, receiver_at}
 use Rattle.oneshot_world.specs.declared.trace.Entry.TheVariants.{Idle, Made as Made_entry}
-use Rattle.oneshot_word.proofs.ByRows.{is_senders, is_receivers, sender_is, receiver_is}
-use Rattle.oneshot_bridge.specs.OrdersRun.{operation_of, log_of}
 use Rattle.oneshot_bridge.proofs.PhaseCodes.{Phases}
 use Rattle.oneshot_bridge.proofs.PhasesBeside.{with_phases, sender_after, receiver_after, reads_phases}
 

@@ -1,36 +1,22 @@
 -- The calls that a receiver has answered are those of a walk, which carried out a script of these calls.
-use Rattle.std.proofs.Common.{◌≡◌, Bool, true, false, List, [], ◌∷◌, ◌++◌, Some, refl, sym, subst}
-use Rattle.std.proofs.lemmas.List.{append-nil, map-append}
-use Rattle.oneshot_machine.specs.declared.machine.Reply.{Reply}
+use Rattle.oneshot_bridge.proofs.Names.{◌≡◌, Bool, true, false, List, [], ◌∷◌, ◌++◌, Some, refl, sym, subst, append-nil}
+use Rattle.oneshot_bridge.proofs.Names.{map-append, Reply, StartLoad, StartWrite, StartSwap, AsyncLoad, DropSwap}
+use Rattle.oneshot_bridge.proofs.Names.{LookFull, ReceiverPos, Look, Try, Ref, Timed, Value, Future, AsyncDrop}
+use Rattle.oneshot_bridge.proofs.Names.{ReceiverStart, SumClock, TryLoad, RecvLoad, Plain, Form, as_receiver}
+use Rattle.oneshot_bridge.proofs.Names.{ReceiverCalled, not_called, called, became_future, Event, did, words, Noted}
+use Rattle.oneshot_bridge.proofs.Names.{receiver_start, receiver_step, receiver_row, receiver_rows, Run, last}
+use Rattle.oneshot_bridge.proofs.Names.{as_receiver_call, receiver_position, ReceiverScript, ReceiverState, in_script}
+use Rattle.oneshot_bridge.proofs.Names.{receiver_answered, ReceiverStand, ReceiverWalk, the_receiver, opening_receiver}
+use Rattle.oneshot_bridge.proofs.Names.{begins}
 use Rattle.oneshot_machine.specs.declared.machine.Reply.TheVariants as R
-use Rattle.oneshot_machine.specs.declared.machine.by_ref.RefPos.TheVariants.{StartLoad, StartWrite, StartSwap}
-use Rattle.oneshot_machine.specs.declared.machine.async_drop.AsyncDropPos.TheVariants.{AsyncLoad}
-use Rattle.oneshot_machine.specs.declared.machine.drop.DropPos.TheVariants.{DropSwap}
 use Rattle.oneshot_machine.specs.declared.machine.future.FuturePos.TheVariants as F
-use Rattle.oneshot_machine.specs.declared.machine.look.LookPos.TheVariants.{LookFull}
-use Rattle.oneshot_machine.specs.declared.machine.receiver.ReceiverPos.{ReceiverPos}
-use Rattle.oneshot_machine.specs.declared.machine.receiver.ReceiverPos.TheVariants.{Look, Try, Ref, Timed, Value, Future, AsyncDrop, Drop}
-use Rattle.oneshot_machine.specs.declared.machine.receiver.ReceiverStart.{ReceiverStart}
+use Rattle.oneshot_machine.specs.declared.machine.receiver.ReceiverPos.TheVariants.{Drop}
 use Rattle.oneshot_machine.specs.declared.machine.receiver.ReceiverStart.TheVariants as RC
-use Rattle.oneshot_machine.specs.declared.machine.timed.TimedPos.TheVariants.{SumClock}
-use Rattle.oneshot_machine.specs.declared.machine.try_recv.TryPos.TheVariants.{TryLoad}
-use Rattle.oneshot_machine.specs.declared.machine.value.ValuePos.TheVariants.{RecvLoad}
-use Rattle.oneshot_machine.specs.declared.machine.Step.TheVariants.{Plain}
-use Rattle.oneshot_machine.specs.Called.{Form, as_receiver, as_future, ReceiverCalled, not_called, called, became_future}
-use Rattle.oneshot_machine.specs.Logs.{Event, did, words}
-use Rattle.oneshot_machine.specs.Noted.{Noted}
-use Rattle.oneshot_machine.specs.Receiver.{receiver_start, receiver_step, receiver_row, receiver_rows}
-use Rattle.oneshot_machine.specs.Runs.{Run, last}
-use Rattle.oneshot_world.specs.Calls.{as_receiver_call}
-use Rattle.oneshot_world.specs.State.{receiver_position}
+use Rattle.oneshot_machine.specs.Called.{as_future}
 use Rattle.oneshot_world.specs.declared.script.AsyncCall.TheVariants as AC
 use Rattle.oneshot_world.specs.declared.script.ReceiverCall.TheVariants as Script
 use Rattle.oneshot_world.specs.declared.script.ReceiverLast.TheVariants as RL
-use Rattle.oneshot_world.specs.declared.script.ReceiverScript.{ReceiverScript}
-use Rattle.oneshot_world.specs.declared.state.ReceiverState.{ReceiverState}
 use Rattle.oneshot_world.specs.declared.state.ReceiverState.TheVariants as RS
-use Rattle.oneshot_bridge.specs.CallsRun.{in_script, receiver_answered}
-use Rattle.oneshot_bridge.specs.Walks.{ReceiverStand, ReceiverWalk, the_receiver, opening_receiver, begins}
 use Rattle.oneshot_bridge.proofs.CallsWalk.{Walks, RowsFit, fit_walks, HasAnswered, call_walks}
 use Rattle.oneshot_bridge.proofs.ReceiverStands.{After, calls, polls, Rest, calls_in, some_rest}
 

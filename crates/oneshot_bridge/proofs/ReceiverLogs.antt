@@ -1,28 +1,20 @@
 -- For each log that an order allows a receiver there are a script and a walk.
-use Rattle.std.proofs.Common.{◌≡◌, ◌==◌, ℕ, Bool, true, false, not, ◌&&◌, ◌||◌, List, [], ◌∷◌, ◌++◌, Option, Some, None, refl, sym, ap, subst, All}
+use Rattle.oneshot_bridge.proofs.Names.{◌≡◌, ◌==◌, ℕ, Bool, true, false, not, ◌&&◌, ◌||◌, List, [], ◌∷◌, ◌++◌, Option}
+use Rattle.oneshot_bridge.proofs.Names.{Some, None, refl, sym, ap, subst, All, list_all, list_any, flat_map}
+use Rattle.oneshot_bridge.proofs.Names.{cons_option, and_parts, All-nil, All-cons, All-head, All-tail, All-contains}
+use Rattle.oneshot_bridge.proofs.Names.{Seen, Step, ReceiverPos, Op, Accepts, Noted, op_of, saw, Reaches, has_row}
+use Rattle.oneshot_bridge.proofs.Names.{nothing_made, receiver_step, receiver_row, receiver_rows, In, head, tail, Table}
+use Rattle.oneshot_bridge.proofs.Names.{Standpoint, plainly, standpoint_row, standpoint_step, standpoint_number}
+use Rattle.oneshot_bridge.proofs.Names.{outcome_at, receiver_table, is_op, onward, onward_all, moved, made_at}
+use Rattle.oneshot_bridge.proofs.Names.{operations, standing, standing_from, Outcome, Goes, row_for, receiver_exact}
+use Rattle.oneshot_bridge.proofs.Names.{each_passes, some_passes, ops_are_same, ReceiverScript, ReceiverIsScripted}
+use Rattle.oneshot_bridge.proofs.Names.{ReceiverStand, ReceiverWalk, opening_receiver, begins}
 use Rattle.std.specs.Prelude.{if◌then◌else◌, IsSome}
-use Rattle.std.specs.List.{list_all, list_any, flat_map, cons_option}
-use Rattle.std.proofs.lemmas.Bool.{and_parts}
-use Rattle.std.proofs.lemmas.List.Elements.{All-nil, All-cons, All-head, All-tail, All-contains}
-use Rattle.oneshot_machine.specs.declared.machine.Seen.{Seen}
-use Rattle.oneshot_machine.specs.declared.machine.Step.{Step}
 use Rattle.oneshot_machine.specs.declared.machine.Step.TheVariants.{Word}
-use Rattle.oneshot_machine.specs.declared.machine.receiver.ReceiverPos.{ReceiverPos}
-use Rattle.oneshot_machine.specs.declared.states.Op.{Op}
-use Rattle.oneshot_machine.specs.Exact.{Accepts}
-use Rattle.oneshot_machine.specs.Noted.{Noted, op_of, saw}
-use Rattle.oneshot_machine.specs.Orders.{Reaches, has_row, nothing_made, sender_makes, receiver_makes}
+use Rattle.oneshot_machine.specs.Orders.{sender_makes, receiver_makes}
 use Rattle.oneshot_machine.specs.Phases.{receiver_at}
-use Rattle.oneshot_machine.specs.Receiver.{receiver_step, receiver_row, receiver_rows}
-use Rattle.oneshot_machine.specs.Slots.{In, head, tail}
-use Rattle.oneshot_machine.specs.Standing.{Table, Standpoint, plainly, as_future, standpoint_row, standpoint_step, standpoint_number, outcome_at, receiver_table, is_op, onward, onward_all, in_order, moved, made_at, operations, standing, standing_from}
-use Rattle.oneshot_machine.specs.TableRows.{Outcome, Goes, row_for}
-use Rattle.oneshot_machine.proofs.ExactTables.{receiver_exact}
-use Rattle.oneshot_machine.proofs.Sameness.{each_passes, some_passes, ops_are_same}
+use Rattle.oneshot_machine.specs.Standing.{as_future, in_order}
 use Rattle.oneshot_world.specs.declared.script.ReceiverLast.TheVariants as RL
-use Rattle.oneshot_world.specs.declared.script.ReceiverScript.{ReceiverScript}
-use Rattle.oneshot_bridge.specs.Scripted.{ReceiverIsScripted}
-use Rattle.oneshot_bridge.specs.Walks.{ReceiverStand, ReceiverWalk, opening_receiver, begins}
 use Rattle.oneshot_bridge.proofs.Among.{in_each, in_such, row_among}
 use Rattle.oneshot_bridge.proofs.ReceiverScripted.{Came, keeps, leads_well, nothing_onward, comes_onward, steps_on}
 use Rattle.oneshot_bridge.proofs.ReceiverStands.{makes, opens, some_walk}

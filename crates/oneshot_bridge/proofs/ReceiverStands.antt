@@ -1,29 +1,17 @@
 -- A receiver that stands in a call, with a script that any calls may go on: how its walk goes on by a step, by
 -- an answer and by the next call.
-use Rattle.std.proofs.Common.{◌≡◌, true, List, [], ◌∷◌, ◌++◌, Some, refl, subst}
-use Rattle.oneshot_machine.specs.declared.machine.Reply.{Reply}
-use Rattle.oneshot_machine.specs.declared.machine.Seen.{Seen}
+use Rattle.oneshot_bridge.proofs.Names.{◌≡◌, true, List, [], ◌∷◌, ◌++◌, Some, refl, subst, Reply, Seen, ReceiverPos, Op}
+use Rattle.oneshot_bridge.proofs.Names.{Noted, receiver_start, receiver_step, receiver_row, Outcome, Goes, Answers}
+use Rattle.oneshot_bridge.proofs.Names.{Call, Of_receiver, as_receiver_call, receiver_goes, receiver_call, async_call}
+use Rattle.oneshot_bridge.proofs.Names.{receiver_calls, async_calls, receiver_position, AsyncCall, AsyncLast}
+use Rattle.oneshot_bridge.proofs.Names.{ReceiverCall, ReceiverLast, ReceiverScript, ReceiverState, Answered, may_see}
+use Rattle.oneshot_bridge.proofs.Names.{quietly, by_one, quiet, operates, stands_after, the_receiver, ReceiverStand}
+use Rattle.oneshot_bridge.proofs.Names.{ReceiverWalk, begins}
 use Rattle.oneshot_machine.specs.declared.machine.Step.TheVariants.{Word}
-use Rattle.oneshot_machine.specs.declared.machine.receiver.ReceiverPos.{ReceiverPos}
 use Rattle.oneshot_machine.specs.declared.machine.receiver.ReceiverStart.TheVariants as RC
-use Rattle.oneshot_machine.specs.declared.states.Op.{Op}
-use Rattle.oneshot_machine.specs.Noted.{Noted}
-use Rattle.oneshot_machine.specs.Receiver.{receiver_start, receiver_step, receiver_row}
-use Rattle.oneshot_machine.specs.TableRows.{Outcome, Goes, Answers}
-use Rattle.oneshot_world.specs.Calls.{Call, Of_receiver, as_receiver_call}
-use Rattle.oneshot_world.specs.Effects.{receiver_goes}
-use Rattle.oneshot_world.specs.Scripts.{receiver_call, async_call, receiver_calls, async_calls}
-use Rattle.oneshot_world.specs.State.{receiver_position}
-use Rattle.oneshot_world.specs.declared.script.AsyncCall.{AsyncCall}
-use Rattle.oneshot_world.specs.declared.script.AsyncLast.{AsyncLast}
 use Rattle.oneshot_world.specs.declared.script.AsyncLast.TheVariants as AL
-use Rattle.oneshot_world.specs.declared.script.ReceiverCall.{ReceiverCall}
-use Rattle.oneshot_world.specs.declared.script.ReceiverLast.{ReceiverLast}
 use Rattle.oneshot_world.specs.declared.script.ReceiverLast.TheVariants as RL
-use Rattle.oneshot_world.specs.declared.script.ReceiverScript.{ReceiverScript}
-use Rattle.oneshot_world.specs.declared.state.ReceiverState.{ReceiverState}
 use Rattle.oneshot_world.specs.declared.state.ReceiverState.TheVariants as RS
-use Rattle.oneshot_bridge.specs.Walks.{Answered, may_see, quietly, by_one, quiet, operates, stands_after, the_receiver, ReceiverStand, ReceiverWalk, begins}
 
 -- which calls may follow the one under way: those of a receiver, those of a future, or none
 pub data After : Type 0 where

@@ -1,15 +1,16 @@
 -- A log that an order allows a receiver is one whose words its table may find, with slots that are so: what the
 -- law of exact tables asks for.
-use Rattle.std.proofs.Common.{◌≡◌, ℕ, Bool, true, false, ◌&&◌, List, refl}
-use Rattle.std.specs.List.{list_all}
-use Rattle.std.proofs.lemmas.Bool.{and_parts}
-use Rattle.oneshot_machine.specs.declared.states.Op.{Op}
-use Rattle.oneshot_machine.specs.Exact.{IsFound, none_yet, one_more}
-use Rattle.oneshot_machine.specs.Noted.{Noted}
-use Rattle.oneshot_machine.specs.Orders.{Reaches, has_row, nothing_made, sender_makes, receiver_makes}
-use Rattle.oneshot_machine.specs.Phases.{ReceiverAt, first, here, looked, between, waits, blocked, polled, again, full, at_once, waited, swapped, by_future, by_poll, unclosed, disconnected, resolved, receiver_at, receiver_moves, Share, none, empty, filled, Slots, Row}
-use Rattle.oneshot_machine.specs.Slots.{Held, away, vacant, held, IsSlot, is_away, is_vacant, is_held, Turns, stays_away, stays_vacant, stays_held, gives_room, gives_thing, gets_room, gets_thing, In, ReceiverMay, may, ReceiverFinds, finds}
-use Rattle.oneshot_machine.proofs.Sameness.{each_passes}
+use Rattle.oneshot_bridge.proofs.Names.{◌≡◌, ℕ, Bool, true, false, ◌&&◌, List, refl, list_all, and_parts, Op, none_yet}
+use Rattle.oneshot_bridge.proofs.Names.{one_more, Noted, Reaches, has_row, nothing_made, ReceiverAt, here, looked}
+use Rattle.oneshot_bridge.proofs.Names.{between, blocked, polled, again, full, at_once, waited, swapped, by_future}
+use Rattle.oneshot_bridge.proofs.Names.{by_poll, unclosed, disconnected, resolved, receiver_moves, Share, none, empty}
+use Rattle.oneshot_bridge.proofs.Names.{filled, Slots, Row, Held, away, vacant, held, IsSlot, is_away, is_vacant, Turns}
+use Rattle.oneshot_bridge.proofs.Names.{stays_away, stays_vacant, stays_held, gives_room, gives_thing, gets_room}
+use Rattle.oneshot_bridge.proofs.Names.{gets_thing, In, ReceiverMay, may, ReceiverFinds, finds, each_passes}
+use Rattle.oneshot_machine.specs.Exact.{IsFound}
+use Rattle.oneshot_machine.specs.Orders.{sender_makes, receiver_makes}
+use Rattle.oneshot_machine.specs.Phases.{first, waits, receiver_at}
+use Rattle.oneshot_machine.specs.Slots.{is_held}
 
 -- the slots of a row stay, are given up or come
 abbrev can_turn : Share → Share → Bool

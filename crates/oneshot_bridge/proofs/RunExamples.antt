@@ -1,34 +1,20 @@
 -- The examples of runs: the worked one step by step, and what each field of the others says.
-use Rattle.std.proofs.Common.{◌≡◌, ℕ, List, [], ◌∷◌, None, Some, refl, sym, ap, ◌∙◌}
+use Rattle.oneshot_bridge.proofs.Names.{◌≡◌, ℕ, List, [], ◌∷◌, None, Some, refl, sym, ap, ◌∙◌, Done, Try, SendWrite}
+use Rattle.oneshot_bridge.proofs.Names.{SendAdd, TryLoad, Close, Take, Load, Store, Add, Noted, Goes, Answers}
+use Rattle.oneshot_bridge.proofs.Names.{orders_that_are, orders_that_are_not, calls_of, Entry, marks, is_right, View}
+use Rattle.oneshot_bridge.proofs.Names.{Home, view, receiver_answered, sender_answered, is_at_rest, RunsCalls}
+use Rattle.oneshot_bridge.proofs.Names.{worlds_by, world_by, scene_at, sends, HaveCome, OfARun, maker_before}
+use Rattle.oneshot_bridge.proofs.Names.{dealer_before, is_run, log_of, answered_by, RunsSo, RunsTo, tries, stops}
+use Rattle.oneshot_bridge.proofs.Names.{in_turn, sent_log, tried_log, sent_call, tried_call, sender_stands}
+use Rattle.oneshot_bridge.proofs.Names.{receiver_stands, told, AnswersThatAre, RunsThatAre, RunsThatAreNot, RunsSay}
+use Rattle.oneshot_bridge.proofs.Names.{SendsOnly, begins, quietly, by_one, Quiet, quiet, Operates, operates}
+use Rattle.oneshot_bridge.proofs.Names.{the_sender, SenderStand, ReceiverStand, SenderWalk}
 use Rattle.oneshot_machine.specs.declared.machine.End.TheVariants as End
 use Rattle.oneshot_machine.specs.declared.machine.Reply.TheVariants as R
-use Rattle.oneshot_machine.specs.declared.machine.Seen.TheVariants.{Done, Word}
-use Rattle.oneshot_machine.specs.declared.machine.receiver.ReceiverPos.TheVariants.{Try}
-use Rattle.oneshot_machine.specs.declared.machine.sender.SenderPos.TheVariants.{SendWrite, SendAdd}
-use Rattle.oneshot_machine.specs.declared.machine.try_recv.TryPos.TheVariants.{TryLoad, Close, Take}
-use Rattle.oneshot_machine.specs.declared.states.Op.TheVariants.{Load, Store, Add}
-use Rattle.oneshot_machine.specs.Noted.{Noted}
-use Rattle.oneshot_machine.specs.TableRows.{Goes, Answers}
+use Rattle.oneshot_machine.specs.declared.machine.Seen.TheVariants.{Word}
 use Rattle.oneshot_machine.proofs.InOrders.{in_order}
-use Rattle.oneshot_machine.proofs.OrderedExamples.{orders_that_are, orders_that_are_not}
-use Rattle.oneshot_world.specs.Scripts.{calls_of}
 use Rattle.oneshot_world.specs.declared.state.SenderState.TheVariants as SS
-use Rattle.oneshot_world.specs.declared.trace.Entry.{Entry}
-use Rattle.oneshot_laws.specs.Marks.{marks}
-use Rattle.oneshot_replay.proofs.RunLaws.{is_right}
 use Rattle.oneshot_word.specs.declared.rule.Role.TheVariants as Role
-use Rattle.oneshot_word.specs.declared.rule.View.{View}
-use Rattle.oneshot_word.specs.Rule.{Home}
-use Rattle.oneshot_word.specs.Seats.{view}
-use Rattle.oneshot_bridge.specs.CallsRun.{receiver_answered, sender_answered, is_at_rest, RunsCalls}
-use Rattle.oneshot_bridge.specs.CellExamples.{worlds_by, world_by, scene_at}
-use Rattle.oneshot_bridge.specs.Examples.{sends}
-use Rattle.oneshot_bridge.specs.Gives.{HaveCome}
-use Rattle.oneshot_bridge.specs.Joined.{OfARun, maker_before, dealer_before, is_run}
-use Rattle.oneshot_bridge.specs.OrdersRun.{log_of, answered_by, RunsSo, RunsTo}
-use Rattle.oneshot_bridge.specs.RunExamples.{tries, stops, in_turn, sent_log, tried_log, sent_call, tried_call, sender_stands, receiver_stands, told, AnswersThatAre, RunsThatAre, RunsThatAreNot, RunsSay}
-use Rattle.oneshot_bridge.specs.Scripted.{SendsOnly}
-use Rattle.oneshot_bridge.specs.Walks.{begins, quietly, by_one, Quiet, quiet, Operates, operates, the_sender, SenderStand, ReceiverStand, SenderWalk}
 use Rattle.oneshot_bridge.proofs.Examples.{wrong_runs}
 use Rattle.oneshot_bridge.proofs.Given.{same_value}
 

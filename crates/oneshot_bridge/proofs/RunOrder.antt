@@ -1,36 +1,15 @@
 -- A run makes the operations of both its logs in an order, and logs have one order.
-use Rattle.std.proofs.Common.{◌≡◌, ℕ, ◌+◌, Bool, false, List, [], ◌∷◌, ◌++◌, Option, None, refl, sym, ap, ◌∙◌, subst}
-use Rattle.std.specs.List.{cons_option}
-use Rattle.std.specs.Option.{option_map}
-use Rattle.std.proofs.lemmas.List.{append_assoc, append-nil}
-use Rattle.std.proofs.lemmas.List.Elements.{filter_map-append}
-use Rattle.oneshot_machine.specs.declared.machine.End.{End}
-use Rattle.oneshot_machine.specs.declared.machine.End.TheVariants.{Sender, Receiver}
-use Rattle.oneshot_machine.specs.declared.machine.Seen.{Seen}
-use Rattle.oneshot_machine.specs.declared.machine.Step.{Step}
+use Rattle.oneshot_bridge.proofs.Names.{◌≡◌, ℕ, ◌+◌, Bool, false, List, [], ◌∷◌, ◌++◌, Option, None, refl, sym, ap, ◌∙◌}
+use Rattle.oneshot_bridge.proofs.Names.{subst, cons_option, option_map, append_assoc, append-nil, filter_map-append}
+use Rattle.oneshot_bridge.proofs.Names.{End, Receiver, Seen, Step, Op, Load, Swap, Add, Noted, op_of, saw, InOrder}
+use Rattle.oneshot_bridge.proofs.Names.{none_made, by_sender, by_receiver, receiver_step, sender_step, word_after}
+use Rattle.oneshot_bridge.proofs.Names.{seen_by, word_left, World, opening, side_of, by_end, Tells_from, Move}
+use Rattle.oneshot_bridge.proofs.Names.{ReceiverScript, SenderScript, State, Entry, Turned, sender_idle, sender_made}
+use Rattle.oneshot_bridge.proofs.Names.{receiver_idle, receiver_made, turned, Scene, last_of, ends_of, order_is_one}
+use Rattle.oneshot_bridge.proofs.Names.{sent, received, noted_of, log_of, RunsSo, operator_of, operators_of}
+use Rattle.oneshot_bridge.proofs.Names.{RunsAreInOrder, WorkedOrder, WrongOrder}
+use Rattle.oneshot_machine.specs.declared.machine.End.TheVariants.{Sender}
 use Rattle.oneshot_machine.specs.declared.machine.Step.TheVariants.{Word}
-use Rattle.oneshot_machine.specs.declared.states.Op.{Op}
-use Rattle.oneshot_machine.specs.declared.states.Op.TheVariants.{Load, Swap, Add}
-use Rattle.oneshot_machine.specs.Noted.{Noted, op_of, saw}
-use Rattle.oneshot_machine.specs.Orders.{InOrder, none_made, by_sender, by_receiver}
-use Rattle.oneshot_machine.specs.Receiver.{receiver_step}
-use Rattle.oneshot_machine.specs.Sender.{sender_step}
-use Rattle.oneshot_machine.specs.States.{word_after}
-use Rattle.oneshot_world.specs.Effects.{seen_by, word_left}
-use Rattle.oneshot_world.specs.World.{World, opening, side_of, by_end, Tells_from}
-use Rattle.oneshot_world.specs.declared.script.Move.{Move}
-use Rattle.oneshot_world.specs.declared.script.ReceiverScript.{ReceiverScript}
-use Rattle.oneshot_world.specs.declared.script.SenderScript.{SenderScript}
-use Rattle.oneshot_world.specs.declared.state.State.{State}
-use Rattle.oneshot_world.specs.declared.trace.Entry.{Entry}
-use Rattle.oneshot_world.proofs.WorldTurns.{Turned, sender_idle, sender_made, receiver_idle, receiver_made, turned}
-use Rattle.oneshot_replay.specs.Scene.{Scene}
-use Rattle.oneshot_replay.specs.TraceView.{last_of}
-use Rattle.oneshot_word.specs.OneOrder.{ends_of}
-use Rattle.oneshot_word.proofs.OneOrder.{order_is_one}
-use Rattle.oneshot_bridge.specs.Examples.{sent, received}
-use Rattle.oneshot_bridge.specs.OrdersRun.{noted_of, log_of, RunsSo}
-use Rattle.oneshot_bridge.specs.RunOrder.{operator_of, operators_of, RunsAreInOrder, WorkedOrder, WrongOrder}
 use Rattle.oneshot_bridge.proofs.Seen.{op_sees}
 
 -- an order of these logs that leaves this word, in which these ends make the operations

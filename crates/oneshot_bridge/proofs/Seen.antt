@@ -1,30 +1,14 @@
 -- What a step of a walk sees, and what the same step sees in a world: the same, but for a park, which leads on
 -- alike with its token and without.
-use Rattle.std.proofs.Common.{◌≡◌, Bool, true, false, Option, refl, sym, ◌∙◌}
-use Rattle.oneshot_machine.specs.declared.machine.Seen.{Seen}
+use Rattle.oneshot_bridge.proofs.Names.{◌≡◌, Bool, true, false, Option, refl, sym, ◌∙◌, Seen, Step, Park, AsyncLoad}
+use Rattle.oneshot_bridge.proofs.Names.{DropSwap, LookFull, TryLoad, ReceiverPos, Look, Try, Ref, Timed, Value, Future}
+use Rattle.oneshot_bridge.proofs.Names.{AsyncDrop, SenderPos, TimedPark, LatePark, RecvPark, Op, Load, Store, saw}
+use Rattle.oneshot_bridge.proofs.Names.{receiver_step, receiver_row, sender_step, sender_row, seen_by, State, may_see}
 use Rattle.oneshot_machine.specs.declared.machine.Seen.TheVariants as S
-use Rattle.oneshot_machine.specs.declared.machine.Step.{Step}
 use Rattle.oneshot_machine.specs.declared.machine.Step.TheVariants as T
-use Rattle.oneshot_machine.specs.declared.machine.by_ref.RefPos.TheVariants.{Park}
-use Rattle.oneshot_machine.specs.declared.machine.async_drop.AsyncDropPos.TheVariants.{AsyncLoad}
-use Rattle.oneshot_machine.specs.declared.machine.drop.DropPos.TheVariants.{DropSwap}
 use Rattle.oneshot_machine.specs.declared.machine.future.FuturePos.TheVariants as F
-use Rattle.oneshot_machine.specs.declared.machine.look.LookPos.TheVariants.{LookFull}
-use Rattle.oneshot_machine.specs.declared.machine.try_recv.TryPos.TheVariants.{TryLoad}
-use Rattle.oneshot_machine.specs.declared.machine.receiver.ReceiverPos.{ReceiverPos}
-use Rattle.oneshot_machine.specs.declared.machine.receiver.ReceiverPos.TheVariants.{Look, Try, Ref, Timed, Value, Future, AsyncDrop, Drop}
-use Rattle.oneshot_machine.specs.declared.machine.sender.SenderPos.{SenderPos}
+use Rattle.oneshot_machine.specs.declared.machine.receiver.ReceiverPos.TheVariants.{Drop}
 use Rattle.oneshot_machine.specs.declared.machine.sender.SenderPos.TheVariants as SP
-use Rattle.oneshot_machine.specs.declared.machine.timed.TimedPos.TheVariants.{TimedPark, LatePark}
-use Rattle.oneshot_machine.specs.declared.machine.value.ValuePos.TheVariants.{RecvPark}
-use Rattle.oneshot_machine.specs.declared.states.Op.{Op}
-use Rattle.oneshot_machine.specs.declared.states.Op.TheVariants.{Load, Store}
-use Rattle.oneshot_machine.specs.Noted.{saw}
-use Rattle.oneshot_machine.specs.Receiver.{receiver_step, receiver_row}
-use Rattle.oneshot_machine.specs.Sender.{sender_step, sender_row}
-use Rattle.oneshot_world.specs.Effects.{seen_by}
-use Rattle.oneshot_world.specs.declared.state.State.{State}
-use Rattle.oneshot_bridge.specs.Walks.{may_see}
 
 pub op_sees : (answer : Bool) (s : State) (op : Op) → seen_by answer s (T.Word op) ≡ saw op s.word
 op_sees answer s (Store new) = refl

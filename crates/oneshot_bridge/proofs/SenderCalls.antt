@@ -1,25 +1,16 @@
 -- The call that a sender has answered is that of a walk, which carried out a script of this call.
-use Rattle.std.proofs.Common.{◌≡◌, Bool, true, List, [], ◌∷◌, Some, refl, subst}
+use Rattle.oneshot_bridge.proofs.Names.{◌≡◌, Bool, true, List, [], ◌∷◌, Some, refl, subst, Reply, SenderCall, SenderPos}
+use Rattle.oneshot_bridge.proofs.Names.{SenderCalled, not_called_yet, called_once, Event, words, Noted, Run}
+use Rattle.oneshot_bridge.proofs.Names.{sender_start, sender_step, sender_row, sender_rows, Call, Of_sender, left_by}
+use Rattle.oneshot_bridge.proofs.Names.{SenderScript, sender_answered, is_at_rest, SendsOnly, SenderStand, SenderWalk}
+use Rattle.oneshot_bridge.proofs.Names.{the_sender, opening_sender, begins}
 use Rattle.oneshot_machine.specs.declared.machine.End.TheVariants as End
-use Rattle.oneshot_machine.specs.declared.machine.Reply.{Reply}
 use Rattle.oneshot_machine.specs.declared.machine.Reply.TheVariants as R
-use Rattle.oneshot_machine.specs.declared.machine.sender.SenderCall.{SenderCall}
 use Rattle.oneshot_machine.specs.declared.machine.sender.SenderCall.TheVariants as SC
-use Rattle.oneshot_machine.specs.declared.machine.sender.SenderPos.{SenderPos}
 use Rattle.oneshot_machine.specs.declared.machine.sender.SenderPos.TheVariants as SP
-use Rattle.oneshot_machine.specs.Called.{SenderCalled, not_called_yet, called_once}
-use Rattle.oneshot_machine.specs.Logs.{Event, words}
-use Rattle.oneshot_machine.specs.Noted.{Noted}
-use Rattle.oneshot_machine.specs.Runs.{Run}
-use Rattle.oneshot_machine.specs.Sender.{sender_start, sender_step, sender_row, sender_rows}
-use Rattle.oneshot_world.specs.Calls.{Call, Of_sender, left_by}
 use Rattle.oneshot_world.specs.declared.script.ErrorLast.TheVariants as EL
 use Rattle.oneshot_world.specs.declared.script.SenderLast.TheVariants as SL
-use Rattle.oneshot_world.specs.declared.script.SenderScript.{SenderScript}
 use Rattle.oneshot_world.specs.declared.state.SenderState.TheVariants as SS
-use Rattle.oneshot_bridge.specs.CallsRun.{sender_answered, is_at_rest}
-use Rattle.oneshot_bridge.specs.Scripted.{SendsOnly}
-use Rattle.oneshot_bridge.specs.Walks.{SenderStand, SenderWalk, the_sender, opening_sender, begins}
 use Rattle.oneshot_bridge.proofs.CallsWalk.{Walks, RowsFit, fit_walks, HasAnswered, call_walks}
 
 -- WHAT IS COMPUTED: the rows of each of the sender's positions

@@ -1,23 +1,18 @@
 -- For each log of the sender that an order allows there are a script and a walk.
-use Rattle.std.proofs.Common.{◌≡◌, ℕ, List, [], ◌∷◌, ◌++◌, refl, sym, subst}
+use Rattle.oneshot_bridge.proofs.Names.{◌≡◌, ℕ, List, [], ◌∷◌, ◌++◌, refl, sym, subst, Done, SendWrite, SendAdd}
+use Rattle.oneshot_bridge.proofs.Names.{SendTakeWaker, SendFinal, SendWake, SendLateWake, DropXor, DropTakeWaker}
+use Rattle.oneshot_bridge.proofs.Names.{DropFinal, DropWake, DropLateWake, DropFree, Op, Swap, Add, Xor, Noted, saw}
+use Rattle.oneshot_bridge.proofs.Names.{Reaches, has_row, nothing_made, By, sending, dropping, SenderAt, fresh, owes}
+use Rattle.oneshot_bridge.proofs.Names.{sender_next, sender_moves, Slots, Row, In, head, tail, Goes, Answers}
+use Rattle.oneshot_bridge.proofs.Names.{phase_from-snoc, SenderPos, SenderScript, SendsOnly, SenderIsScripted, begins}
+use Rattle.oneshot_bridge.proofs.Names.{quietly, by_one, quiet, operates, opening_sender, SenderStand, SenderWalk}
 use Rattle.oneshot_machine.specs.declared.machine.Reply.TheVariants as R
-use Rattle.oneshot_machine.specs.declared.machine.Seen.TheVariants.{Done, Word}
-use Rattle.oneshot_machine.specs.declared.machine.sender.SenderPos.TheVariants.{SendWrite, SendAdd, SendTakeWaker, SendFinal, SendWake, SendLateWake, DropXor, DropTakeWaker, DropFinal, DropWake, DropLateWake, DropFree}
-use Rattle.oneshot_machine.specs.declared.states.Op.{Op}
-use Rattle.oneshot_machine.specs.declared.states.Op.TheVariants.{Swap, Add, Xor}
-use Rattle.oneshot_machine.specs.Noted.{Noted, saw}
-use Rattle.oneshot_machine.specs.Orders.{Reaches, has_row, nothing_made, sender_makes, receiver_makes}
-use Rattle.oneshot_machine.specs.Phases.{By, sending, dropping, SenderAt, fresh, owes, sender_at, sender_next, sender_moves, Slots, Row}
-use Rattle.oneshot_machine.specs.Slots.{In, head, tail}
-use Rattle.oneshot_machine.specs.TableRows.{Goes, Answers}
-use Rattle.oneshot_machine.proofs.GrownLogs.{phase_from-snoc}
-use Rattle.oneshot_machine.specs.declared.machine.sender.SenderPos.{SenderPos}
+use Rattle.oneshot_machine.specs.declared.machine.Seen.TheVariants.{Word}
+use Rattle.oneshot_machine.specs.Orders.{sender_makes, receiver_makes}
+use Rattle.oneshot_machine.specs.Phases.{sender_at}
 use Rattle.oneshot_world.specs.declared.script.ErrorLast.TheVariants as EL
 use Rattle.oneshot_world.specs.declared.script.SenderLast.TheVariants as SL
-use Rattle.oneshot_world.specs.declared.script.SenderScript.{SenderScript}
 use Rattle.oneshot_world.specs.declared.state.SenderState.TheVariants as SS
-use Rattle.oneshot_bridge.specs.Scripted.{SendsOnly, SenderIsScripted}
-use Rattle.oneshot_bridge.specs.Walks.{begins, quietly, by_one, quiet, operates, opening_sender, SenderStand, SenderWalk}
 
 module _ {T : Type 0} (m : T) where
   -- a script of one call, and where that call makes its final swap

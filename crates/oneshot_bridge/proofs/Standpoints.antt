@@ -1,30 +1,22 @@
 -- The standpoints of a receiver, as its walks meet them: which calls may follow at each, and that its number
 -- tells it apart.
-use Rattle.std.proofs.Common.{◌≡◌, ◌==◌, Bool, true, false, List, refl, get_or, map}
-use Rattle.oneshot_machine.specs.declared.machine.Reply.{Reply}
+use Rattle.oneshot_bridge.proofs.Names.{◌≡◌, ◌==◌, Bool, true, false, List, refl, get_or, map, Reply, AsyncLoad}
+use Rattle.oneshot_bridge.proofs.Names.{StartLoad, StartWrite, StartSwap, ParkLoad, DropSwap, LookFull, TryLoad, Take}
+use Rattle.oneshot_bridge.proofs.Names.{CloseOnly, ReceiverPos, Look, Try, Ref, Timed, Value, Future, AsyncDrop}
+use Rattle.oneshot_bridge.proofs.Names.{SumClock, TimedLoad, EndBack, LateLoad, RecvLoad, Noted, receiver_opens}
+use Rattle.oneshot_bridge.proofs.Names.{future_opens, receiver_step, In, head, tail, Standpoint, plainly}
+use Rattle.oneshot_bridge.proofs.Names.{receiver_table, standpoint_number, standpoint_follows, Answers, receiver_goes}
+use Rattle.oneshot_bridge.proofs.Names.{ReceiverState, same_by}
 use Rattle.oneshot_machine.specs.declared.machine.Reply.TheVariants as R
-use Rattle.oneshot_machine.specs.declared.machine.async_drop.AsyncDropPos.TheVariants.{AsyncLoad}
-use Rattle.oneshot_machine.specs.declared.machine.by_ref.RefPos.TheVariants.{StartLoad, StartWrite, StartSwap, ParkLoad}
-use Rattle.oneshot_machine.specs.declared.machine.drop.DropPos.TheVariants.{DropSwap}
 use Rattle.oneshot_machine.specs.declared.machine.future.FuturePos.TheVariants.{IntoFuture}
-use Rattle.oneshot_machine.specs.declared.machine.look.LookPos.TheVariants.{LookFull}
-use Rattle.oneshot_machine.specs.declared.machine.try_recv.TryPos.TheVariants.{TryLoad, Take, CloseOnly}
-use Rattle.oneshot_machine.specs.declared.machine.receiver.ReceiverPos.{ReceiverPos}
-use Rattle.oneshot_machine.specs.declared.machine.receiver.ReceiverPos.TheVariants.{Look, Try, Ref, Timed, Value, Future, AsyncDrop, Drop}
-use Rattle.oneshot_machine.specs.declared.machine.timed.TimedPos.TheVariants.{SumClock, TimedLoad, EndBack, LateLoad}
-use Rattle.oneshot_machine.specs.declared.machine.value.ValuePos.TheVariants.{RecvLoad}
-use Rattle.oneshot_machine.specs.Noted.{Noted}
-use Rattle.oneshot_machine.specs.Receiver.{receiver_opens, future_opens, receiver_step}
-use Rattle.oneshot_machine.specs.Slots.{In, head, tail}
-use Rattle.oneshot_machine.specs.Standing.{Standpoint, plainly, as_future, receiver_table, standpoint_number, standpoint_follows}
-use Rattle.oneshot_machine.specs.TableRows.{Answers}
-use Rattle.oneshot_world.specs.Effects.{receiver_goes}
+use Rattle.oneshot_machine.specs.declared.machine.receiver.ReceiverPos.TheVariants.{Drop}
+use Rattle.oneshot_machine.specs.Standing.{as_future}
 use Rattle.oneshot_world.specs.declared.script.AsyncCall.TheVariants as AC
 use Rattle.oneshot_world.specs.declared.script.ReceiverCall.TheVariants as Script
-use Rattle.oneshot_world.specs.declared.state.ReceiverState.{ReceiverState}
 use Rattle.oneshot_world.specs.declared.state.ReceiverState.TheVariants as RS
-use Rattle.oneshot_world.proofs.ControlCodes.{same_by}
-use Rattle.oneshot_bridge.proofs.ReceiverStands.{After, calls, polls, nothing, Stands, IsReady, receive_begins, recv_begins, drop_begins, future_begins, poll_begins, async_drop_begins}
+use Rattle.oneshot_bridge.proofs.ReceiverStands.{After, calls, polls, nothing, Stands, IsReady, receive_begins}
+use Rattle.oneshot_bridge.proofs.ReceiverStands.{recv_begins, drop_begins, future_begins, poll_begins}
+use Rattle.oneshot_bridge.proofs.ReceiverStands.{async_drop_begins}
 
 abbrev pub pos_of : Standpoint → ReceiverPos
 pos_of (plainly p) = p

@@ -1,11 +1,8 @@
 -- Each order is a run, and each state that the rule of the word allows is one of a run: both ends are scripted,
 -- and their order is a run.
-use Rattle.oneshot_machine.specs.declared.machine.End.TheVariants.{Sender, Receiver}
+use Rattle.oneshot_machine.specs.declared.machine.End.TheVariants.{Sender}
 use Rattle.oneshot_machine.proofs.InOrders.{in_order}
-use Rattle.oneshot_replay.proofs.RunLaws.{is_right}
-use Rattle.oneshot_bridge.specs.Homes.{RunsHaveCells}
-use Rattle.oneshot_bridge.specs.OrdersRun.{RunsTo, OrdersAreRuns}
-use Rattle.oneshot_bridge.specs.Scripted.{StatesAreOfRuns}
+use Rattle.oneshot_bridge.proofs.Names.{Receiver, is_right, RunsHaveCells, RunsTo, OrdersAreRuns, StatesAreOfRuns}
 use Rattle.oneshot_bridge.proofs.CellsRun.{cells_run}
 use Rattle.oneshot_bridge.proofs.Interleaves.{interleaves}
 use Rattle.oneshot_bridge.proofs.ReceiverLogs.{receiver_scripted}

@@ -1,24 +1,14 @@
 -- The answered calls of a trace that grows at its end, and those that its marks show.
-use Rattle.std.proofs.Common.{◌≡◌, ℕ, ◌+◌, Bool, true, false, List, [], ◌∷◌, ◌++◌, Option, Some, None, refl, sym, ap, ◌∙◌, if◌then◌else◌}
-use Rattle.std.proofs.lemmas.List.{append_assoc, append-nil}
-use Rattle.std.specs.List.{cons_option}
-use Rattle.std.specs.Option.{option_map}
-use Rattle.oneshot_machine.specs.declared.machine.End.{End}
-use Rattle.oneshot_machine.specs.declared.machine.End.TheVariants.{Sender, Receiver}
-use Rattle.oneshot_machine.specs.declared.machine.Reply.{Reply}
-use Rattle.oneshot_world.specs.Calls.{Unanswered, left_by}
-use Rattle.oneshot_world.specs.Scripts.{calls_of}
-use Rattle.oneshot_world.specs.World.{by_end}
-use Rattle.oneshot_world.specs.declared.script.ReceiverScript.{ReceiverScript}
-use Rattle.oneshot_world.specs.declared.script.SenderScript.{SenderScript}
-use Rattle.oneshot_world.specs.declared.trace.Entry.{Entry}
+use Rattle.std.proofs.Common.{if◌then◌else◌}
+use Rattle.oneshot_bridge.proofs.Names.{◌≡◌, ℕ, ◌+◌, Bool, true, false, List, [], ◌∷◌, ◌++◌, Option, Some, None, refl}
+use Rattle.oneshot_bridge.proofs.Names.{sym, ap, ◌∙◌, append_assoc, append-nil, cons_option, option_map, End, Receiver}
+use Rattle.oneshot_bridge.proofs.Names.{Reply, Unanswered, left_by, calls_of, by_end, ReceiverScript, SenderScript}
+use Rattle.oneshot_bridge.proofs.Names.{Entry, Made, is_same_end, Reading, read_by, call_under_way, marks, marks_from}
+use Rattle.oneshot_bridge.proofs.Names.{until_reply, to_reply, mark_at, object_then, sender_reading, receiver_reading}
+use Rattle.oneshot_bridge.proofs.Names.{Object, new_object, answered_by, Answered, answers_with, opening_sender}
+use Rattle.oneshot_bridge.proofs.Names.{opening_receiver}
+use Rattle.oneshot_machine.specs.declared.machine.End.TheVariants.{Sender}
 use Rattle.oneshot_world.specs.declared.trace.Entry.TheVariants.{Idle, Made as Made_entry}
-use Rattle.oneshot_world.specs.declared.trace.Made.{Made}
-use Rattle.oneshot_laws.specs.Entries.{is_same_end}
-use Rattle.oneshot_laws.specs.Marks.{Reading, read_by, call_under_way, marks, marks_from, until_reply, to_reply, mark_at, object_then, sender_reading, receiver_reading}
-use Rattle.oneshot_laws.specs.Object.{Object, new_object}
-use Rattle.oneshot_bridge.specs.OrdersRun.{answered_by}
-use Rattle.oneshot_bridge.specs.Walks.{Answered, answers_with, opening_sender, opening_receiver}
 
 -- the calls that an end answers from here on, which has these left
 abbrev pub told_by : End → Unanswered → List Entry → List Answered

@@ -1,30 +1,18 @@
 -- One turn of a world by a row, and the logs of a trace that is longer by an entry.
-use Rattle.std.proofs.Common.{◌≡◌, ℕ, Bool, true, false, List, [], ◌∷◌, ◌++◌, Option, Some, None, refl, ap, ◌∙◌, if◌then◌else◌}
-use Rattle.std.proofs.lemmas.List.{append-nil}
-use Rattle.std.proofs.lemmas.List.Elements.{filter_map-append}
-use Rattle.std.specs.List.{cons_option}
-use Rattle.std.specs.Option.{option_map, IsSome}
-use Rattle.oneshot_machine.specs.declared.machine.End.{End}
-use Rattle.oneshot_machine.specs.declared.machine.End.TheVariants.{Sender, Receiver}
-use Rattle.oneshot_machine.specs.declared.machine.Seen.{Seen}
-use Rattle.oneshot_machine.specs.declared.machine.Step.{Step}
+use Rattle.std.proofs.Common.{if◌then◌else◌}
+use Rattle.oneshot_bridge.proofs.Names.{◌≡◌, ℕ, Bool, true, false, List, [], ◌∷◌, ◌++◌, Option, Some, None, refl, ap}
+use Rattle.oneshot_bridge.proofs.Names.{◌∙◌, append-nil, filter_map-append, cons_option, option_map, End, Receiver}
+use Rattle.oneshot_bridge.proofs.Names.{Seen, Step, ReceiverPos, SenderPos, Noted, op_of, receiver_step, sender_step}
+use Rattle.oneshot_bridge.proofs.Names.{Outcome, word_left, sender_steps, receiver_steps, sender_stepped}
+use Rattle.oneshot_bridge.proofs.Names.{receiver_stepped, sender_turns_at, receiver_turns_at, made_entry, World, turn}
+use Rattle.oneshot_bridge.proofs.Names.{turn_of, world_then, nothing_told, receiver_told, Entry, sender_world}
+use Rattle.oneshot_bridge.proofs.Names.{receiver_world, noted_of, log_of, may_see}
+use Rattle.std.specs.Option.{IsSome}
+use Rattle.oneshot_machine.specs.declared.machine.End.TheVariants.{Sender}
 use Rattle.oneshot_machine.specs.declared.machine.Step.TheVariants as T
-use Rattle.oneshot_machine.specs.declared.machine.receiver.ReceiverPos.{ReceiverPos}
-use Rattle.oneshot_machine.specs.declared.machine.sender.SenderPos.{SenderPos}
-use Rattle.oneshot_machine.specs.Noted.{Noted, op_of}
-use Rattle.oneshot_machine.specs.Receiver.{receiver_step}
-use Rattle.oneshot_machine.specs.Sender.{sender_step}
-use Rattle.oneshot_machine.specs.TableRows.{Outcome}
-use Rattle.oneshot_world.specs.Effects.{word_left}
-use Rattle.oneshot_world.specs.State.{sender_steps, receiver_steps, sender_stepped, receiver_stepped, sender_turns_at, receiver_turns_at, made_entry}
-use Rattle.oneshot_world.specs.World.{World, turn, turn_of, world_then, nothing_told, receiver_told}
 use Rattle.oneshot_world.specs.declared.script.Move.TheVariants as M
-use Rattle.oneshot_world.specs.declared.trace.Entry.{Entry}
 use Rattle.oneshot_world.specs.declared.trace.Entry.TheVariants.{Made as Made_entry}
 use Rattle.oneshot_world.proofs.ReachedLeads.{sender_at, receiver_at}
-use Rattle.oneshot_world.proofs.ReachedLeft.{sender_world, receiver_world}
-use Rattle.oneshot_bridge.specs.OrdersRun.{noted_of, log_of}
-use Rattle.oneshot_bridge.specs.Walks.{may_see}
 
 -- a step that sees what a row is for, and that is made, is made by that row
 pub by_row : {P X : Type 0} (fits : Bool) (f : P → X) (o : Option P) (x : P)

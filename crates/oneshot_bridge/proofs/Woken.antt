@@ -1,64 +1,34 @@
 -- Nobody waits once the sender's call has answered; and where its last operation found the receiver here, its next
 -- step is the wake after which nobody waits.
-use Rattle.std.proofs.Common.{◌≡◌, ℕ, ◌+◌, Bool, true, false, not, ◌&&◌, ◌||◌, List, [], ◌∷◌, ◌++◌, Option, Some, refl, sym, ap, ◌∙◌, subst}
-use Rattle.std.specs.List.{list_any}
-use Rattle.std.specs.Option.{option_map}
-use Rattle.std.proofs.lemmas.Bool.{and_parts}
-use Rattle.oneshot_machine.specs.declared.machine.End.{End}
+use Rattle.oneshot_bridge.proofs.Names.{◌≡◌, ℕ, ◌+◌, Bool, true, false, not, ◌&&◌, ◌||◌, List, [], ◌∷◌, ◌++◌, Option}
+use Rattle.oneshot_bridge.proofs.Names.{Some, refl, sym, ap, ◌∙◌, subst, list_any, option_map, and_parts, End, Reply}
+use Rattle.oneshot_bridge.proofs.Names.{Done, Step, Wake, SenderPos, Noted, By, finished, ReceiverAt, gone, sender_step}
+use Rattle.oneshot_bridge.proofs.Names.{sender_row, Outcome, Answers, Call, all_alike, as_call, sender_under_way}
+use Rattle.oneshot_bridge.proofs.Names.{seen_by, IsReached, calls_of, sender_fits, sender_stepped, World, opening, turn}
+use Rattle.oneshot_bridge.proofs.Names.{nothing_told, side_of, Tells_from, Move, ReceiverScript, SenderScript}
+use Rattle.oneshot_bridge.proofs.Names.{ReceiverState, SenderState, State, Entry, Made, sender_world, Turned}
+use Rattle.oneshot_bridge.proofs.Names.{sender_idle, sender_made, receiver_idle, receiver_made, turned}
+use Rattle.oneshot_bridge.proofs.Names.{is_end_of_sender, has_answered, marks, or_stray, call_under_way, of_call}
+use Rattle.oneshot_bridge.proofs.Names.{class_is, IsRight, HasRun, told_at, Scene, last_of, is_right, goes_on}
+use Rattle.oneshot_bridge.proofs.Names.{HaveReached, answered_by, RunsTo, Answered, opening_sender, the_sender}
+use Rattle.oneshot_bridge.proofs.Names.{SenderStand, ReceiverStand, NobodyWaitsInARun, WakeIsNextInARun, found_it_gone}
+use Rattle.oneshot_bridge.proofs.Names.{WasDropped, NobodyIsLeft}
 use Rattle.oneshot_machine.specs.declared.machine.End.TheVariants.{Sender}
-use Rattle.oneshot_machine.specs.declared.machine.Reply.{Reply}
-use Rattle.oneshot_machine.specs.declared.machine.Seen.TheVariants.{Done}
-use Rattle.oneshot_machine.specs.declared.machine.Step.{Step}
-use Rattle.oneshot_machine.specs.declared.machine.Step.TheVariants.{Wake}
-use Rattle.oneshot_machine.specs.declared.machine.sender.SenderPos.{SenderPos}
-use Rattle.oneshot_machine.specs.Noted.{Noted}
-use Rattle.oneshot_machine.specs.Phases.{By, finished, sender_at, ReceiverAt, gone, receiver_at}
-use Rattle.oneshot_machine.specs.Sender.{sender_step, sender_row}
-use Rattle.oneshot_machine.specs.TableRows.{Outcome, Answers}
+use Rattle.oneshot_machine.specs.Phases.{sender_at, receiver_at}
 use Rattle.oneshot_machine.proofs.InOrders.{in_order}
-use Rattle.oneshot_world.specs.Calls.{Call, first}
-use Rattle.oneshot_world.specs.Classes.{all_alike, as_call}
-use Rattle.oneshot_world.specs.Control.{sender_under_way}
-use Rattle.oneshot_world.specs.Effects.{seen_by}
-use Rattle.oneshot_world.specs.Reached.{IsReached}
-use Rattle.oneshot_world.specs.Scripts.{calls_of}
-use Rattle.oneshot_world.specs.State.{sender_fits, sender_stepped}
-use Rattle.oneshot_world.specs.World.{World, opening, turn, nothing_told, side_of, Tells_from}
-use Rattle.oneshot_world.specs.declared.script.Move.{Move}
+use Rattle.oneshot_world.specs.Calls.{first}
 use Rattle.oneshot_world.specs.declared.script.Move.TheVariants as M
-use Rattle.oneshot_world.specs.declared.script.ReceiverScript.{ReceiverScript}
-use Rattle.oneshot_world.specs.declared.script.SenderScript.{SenderScript}
-use Rattle.oneshot_world.specs.declared.state.ReceiverState.{ReceiverState}
 use Rattle.oneshot_world.specs.declared.state.ReceiverState.TheVariants as RS
-use Rattle.oneshot_world.specs.declared.state.SenderState.{SenderState}
 use Rattle.oneshot_world.specs.declared.state.SenderState.TheVariants as SS
-use Rattle.oneshot_world.specs.declared.state.State.{State}
-use Rattle.oneshot_world.specs.declared.trace.Entry.{Entry}
 use Rattle.oneshot_world.specs.declared.trace.Entry.TheVariants.{Made as Made_entry}
-use Rattle.oneshot_world.specs.declared.trace.Made.{Made}
 use Rattle.oneshot_world.proofs.ReachedLeads.{sender_at as sender_stands_at}
-use Rattle.oneshot_world.proofs.ReachedLeft.{sender_world}
 use Rattle.oneshot_world.proofs.ReachedMoves.{sender_makes}
-use Rattle.oneshot_world.proofs.WorldTurns.{Turned, sender_idle, sender_made, receiver_idle, receiver_made, turned}
-use Rattle.oneshot_laws.specs.Actions.{is_end_of_sender}
-use Rattle.oneshot_laws.specs.Ended.{has_answered}
-use Rattle.oneshot_laws.specs.Marks.{marks, or_stray, call_under_way}
-use Rattle.oneshot_laws.proofs.Glanced.{of_call}
-use Rattle.oneshot_laws.proofs.Watched.{class_is}
-use Rattle.oneshot_replay.specs.Right.{IsRight}
-use Rattle.oneshot_replay.specs.Run.{HasRun, told_at}
-use Rattle.oneshot_replay.specs.Scene.{Scene}
-use Rattle.oneshot_replay.specs.TraceView.{last_of}
-use Rattle.oneshot_replay.proofs.RunLaws.{is_right}
-use Rattle.oneshot_replay.proofs.Runs.{goes_on}
-use Rattle.oneshot_bridge.specs.Gives.{HaveReached}
-use Rattle.oneshot_bridge.specs.OrdersRun.{answered_by, RunsTo}
-use Rattle.oneshot_bridge.specs.Walks.{Answered, opening_sender, the_sender, SenderStand, ReceiverStand}
-use Rattle.oneshot_bridge.specs.Woken.{waits, NobodyWaitsInARun, WakeIsNextInARun, found_it_gone, WasDropped, NobodyIsLeft}
+use Rattle.oneshot_bridge.specs.Woken.{waits}
 use Rattle.oneshot_bridge.proofs.CellsRun.{Found, comes_to, found_passes, where_so}
 use Rattle.oneshot_bridge.proofs.Given.{has_ended, woken_at}
 use Rattle.oneshot_bridge.proofs.PhaseCodes.{Phases}
-use Rattle.oneshot_bridge.proofs.PhasesBeside.{is_wake, answers, wakes_at, wakes_if_finished, wakes_well, all_wake, is_gone, has_ended as receiver_ended, ends_well, all_end}
+use Rattle.oneshot_bridge.proofs.PhasesBeside.{is_wake, answers, wakes_at, wakes_if_finished, wakes_well, all_wake}
+use Rattle.oneshot_bridge.proofs.PhasesBeside.{is_gone, has_ended as receiver_ended, ends_well, all_end}
 use Rattle.oneshot_bridge.proofs.StatesRun.{orders_run}
 use Rattle.oneshot_bridge.proofs.Told.{left_all, told_by, told_more, shown}
 use Rattle.oneshot_bridge.proofs.Turns.{by_row, sender_turn}

@@ -1,36 +1,19 @@
 -- The model makes each step of a walk: one move.
-use Rattle.std.proofs.Common.{◌≡◌, ℕ, ◌+◌, Bool, false, List, [], ◌∷◌, ◌++◌, Some, refl, ap, ◌∙◌}
-use Rattle.std.specs.Option.{option_map}
-use Rattle.oneshot_machine.specs.declared.machine.End.TheVariants.{Sender, Receiver}
-use Rattle.oneshot_machine.specs.declared.machine.receiver.ReceiverPos.{ReceiverPos}
-use Rattle.oneshot_machine.specs.declared.machine.sender.SenderPos.{SenderPos}
-use Rattle.oneshot_machine.specs.declared.states.Op.{Op}
-use Rattle.oneshot_machine.specs.Noted.{Noted, op_of, saw}
-use Rattle.oneshot_machine.specs.Receiver.{receiver_step, receiver_row}
-use Rattle.oneshot_machine.specs.Sender.{sender_step, sender_row}
-use Rattle.oneshot_machine.specs.States.{word_after}
-use Rattle.oneshot_machine.specs.TableRows.{Outcome}
-use Rattle.oneshot_world.specs.Calls.{left_by}
-use Rattle.oneshot_world.specs.Effects.{seen_by, word_left, reply_of}
-use Rattle.oneshot_world.specs.Reached.{IsReached}
-use Rattle.oneshot_world.specs.State.{sender_fits, receiver_fits, sender_steps, receiver_steps, sender_stepped, receiver_stepped}
-use Rattle.oneshot_world.specs.World.{World, turn, nothing_told, receiver_told, opening}
-use Rattle.oneshot_world.specs.declared.script.Move.{Move}
+use Rattle.oneshot_bridge.proofs.Names.{◌≡◌, ℕ, ◌+◌, Bool, false, List, [], ◌∷◌, ◌++◌, Some, refl, ap, ◌∙◌, option_map}
+use Rattle.oneshot_bridge.proofs.Names.{Receiver, ReceiverPos, SenderPos, Op, Noted, op_of, saw, receiver_step}
+use Rattle.oneshot_bridge.proofs.Names.{receiver_row, sender_step, sender_row, word_after, Outcome, left_by, seen_by}
+use Rattle.oneshot_bridge.proofs.Names.{word_left, reply_of, IsReached, sender_fits, receiver_fits, sender_steps}
+use Rattle.oneshot_bridge.proofs.Names.{receiver_steps, sender_stepped, receiver_stepped, World, turn, nothing_told}
+use Rattle.oneshot_bridge.proofs.Names.{receiver_told, opening, Move, ReceiverScript, SenderScript, State, Entry}
+use Rattle.oneshot_bridge.proofs.Names.{sender_world, receiver_world, sender_row_reaches, receiver_row_reaches}
+use Rattle.oneshot_bridge.proofs.Names.{opening_reached, message_of, Scene, goes_on, log_of, RunsSo, answers_with}
+use Rattle.oneshot_bridge.proofs.Names.{stands_after, opening_sender, opening_receiver, SenderStand, ReceiverStand}
+use Rattle.oneshot_bridge.proofs.Names.{the_sender, the_receiver, Quiet, quiet, Operates, operates}
+use Rattle.oneshot_machine.specs.declared.machine.End.TheVariants.{Sender}
 use Rattle.oneshot_world.specs.declared.script.Move.TheVariants as M
-use Rattle.oneshot_world.specs.declared.script.ReceiverScript.{ReceiverScript}
-use Rattle.oneshot_world.specs.declared.script.SenderScript.{SenderScript}
-use Rattle.oneshot_world.specs.declared.state.State.{State}
-use Rattle.oneshot_world.specs.declared.trace.Entry.{Entry}
 use Rattle.oneshot_world.specs.declared.trace.Entry.TheVariants.{Made as Made_entry}
 use Rattle.oneshot_world.proofs.ReachedLeads.{sender_at, receiver_at}
-use Rattle.oneshot_world.proofs.ReachedLeft.{sender_world, receiver_world}
-use Rattle.oneshot_world.proofs.ReachedMoves.{sender_makes, receiver_makes, sender_row_reaches, receiver_row_reaches}
-use Rattle.oneshot_world.proofs.ReachedOpening.{opening_reached}
-use Rattle.oneshot_replay.specs.Rest.{message_of}
-use Rattle.oneshot_replay.specs.Scene.{Scene}
-use Rattle.oneshot_replay.proofs.Runs.{goes_on}
-use Rattle.oneshot_bridge.specs.OrdersRun.{log_of, RunsSo}
-use Rattle.oneshot_bridge.specs.Walks.{answers_with, stands_after, opening_sender, opening_receiver, SenderStand, ReceiverStand, the_sender, the_receiver, Quiet, quiet, Operates, operates}
+use Rattle.oneshot_world.proofs.ReachedMoves.{sender_makes, receiver_makes}
 use Rattle.oneshot_bridge.proofs.Interleaves.{CanStep}
 use Rattle.oneshot_bridge.proofs.Seen.{op_sees, answer_in, sender_answers, sender_sees, receiver_sees}
 use Rattle.oneshot_bridge.proofs.Told.{told_by, tells_more, tells_same}

@@ -1,21 +1,13 @@
 -- How the drop of a future takes its copy back, and the runs of the drop.
-use Rattle.std.proofs.Common.{◌≡◌, ℕ, true, [], ◌∷◌, Some, refl}
+use Rattle.oneshot_drive.proofs.Names.{◌≡◌, ℕ, true, [], ◌∷◌, Some, refl, AsyncDrop, AsyncLoad, AsyncExchange}
+use Rattle.oneshot_drive.proofs.Names.{AsyncBack, AsyncSwap, Load, Swap, Exchange, Log, Grows, receiver_of, handed}
+use Rattle.oneshot_drive.proofs.Names.{worded, ReceiverAt, waits, again, withdrew, receiver_moves, Slots, receiver_step}
+use Rattle.oneshot_drive.proofs.Names.{receiver_row, Goes, Ran, ReceiverRan, vacant, GroundState, Stands, ReceiverAsks}
+use Rattle.oneshot_drive.proofs.Names.{Went, has_row, landings}
 use Rattle.oneshot_machine.specs.declared.machine.Reply.TheVariants as R
 use Rattle.oneshot_machine.specs.declared.machine.Seen.TheVariants as S
 use Rattle.oneshot_machine.specs.declared.machine.Step.TheVariants as Steps
-use Rattle.oneshot_machine.specs.declared.machine.receiver.ReceiverPos.TheVariants.{AsyncDrop}
-use Rattle.oneshot_machine.specs.declared.machine.async_drop.AsyncDropPos.TheVariants.{AsyncLoad, AsyncExchange, AsyncBack, AsyncSwap}
 use Rattle.oneshot_machine.specs.declared.machine.receiver.ReceiverStart.TheVariants as C
-use Rattle.oneshot_machine.specs.declared.states.Op.TheVariants.{Load, Swap, Exchange}
-use Rattle.oneshot_machine.specs.Logs.{Log, Grows, receiver_of, handed, worded}
-use Rattle.oneshot_machine.specs.Phases.{ReceiverAt, waits, again, withdrew, receiver_moves, Slots}
-use Rattle.oneshot_machine.specs.Receiver.{receiver_step, receiver_row}
-use Rattle.oneshot_machine.specs.TableRows.{Goes}
-use Rattle.oneshot_machine.specs.Runs.{Ran, ReceiverRan}
-use Rattle.oneshot_machine.specs.Slots.{vacant}
-use Rattle.oneshot_drive.specs.Grounds.{GroundState, Stands, ReceiverAsks}
-use Rattle.oneshot_drive.specs.Blocking.{Went}
-use Rattle.oneshot_machine.proofs.Landings.{has_row, landings}
 use Rattle.oneshot_drive.proofs.AfterOperations.{Lands, OneOf, one_of, not_at, asks, withdrew_waker}
 use Rattle.oneshot_drive.proofs.LeftCopies.{backed_copy, exchanged_to}
 use Rattle.oneshot_drive.proofs.PollLoads.{loaded_to}

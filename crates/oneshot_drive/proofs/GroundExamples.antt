@@ -1,19 +1,12 @@
 -- The examples of grounds and of the wakers that a call hands on, computed.
-use Rattle.std.proofs.Common.{◌≡◌, ℕ, true, List, [], ◌∷◌, None, refl, sym, subst, arith}
-use Rattle.oneshot_machine.specs.declared.machine.Reply.TheVariants.{Sent}
-use Rattle.oneshot_machine.specs.declared.machine.sender.SenderCall.TheVariants.{Send}
-use Rattle.oneshot_machine.specs.Examples.{waking}
-use Rattle.oneshot_machine.specs.Logs.{Event, Grows, receiver_of}
-use Rattle.oneshot_machine.specs.Phases.{ReceiverAt, blocked, first, here, looked, disconnected, found_closed, waits, polled}
-use Rattle.oneshot_machine.specs.Slots.{is_away, is_vacant, IsSlot}
-use Rattle.oneshot_machine.proofs.ExampleRuns.{runs_that_are}
-use Rattle.oneshot_machine.proofs.RowExamples.{slots_that_are, slots_that_are_not}
-use Rattle.oneshot_drive.specs.BetweenCalls.{rests_new, rests_open, rests_closed}
-use Rattle.oneshot_drive.specs.Blocking.{parks_waiting, parks_overdue}
-use Rattle.oneshot_drive.specs.Examples.{log_of, GroundsThatAre, GroundsThatAreNot, WakersThatAre, WakersThatAreNot}
-use Rattle.oneshot_drive.specs.Grounds.{GroundState, StandsIn, receiver_slots}
-use Rattle.oneshot_drive.specs.Polls.{WritesCopies, WritesItsCopy, left_copy, wakers_handed, HandsNoWaker}
-use Rattle.oneshot_drive.specs.Wakes.{Wakes, wakes, wakes_none, SenderWoke}
+use Rattle.oneshot_drive.proofs.Names.{◌≡◌, ℕ, true, List, [], ◌∷◌, None, refl, sym, subst, arith, Sent, Send, waking}
+use Rattle.oneshot_drive.proofs.Names.{Event, Grows, receiver_of, ReceiverAt, blocked, first, here, looked}
+use Rattle.oneshot_drive.proofs.Names.{disconnected, found_closed, waits, polled, is_away, is_vacant, IsSlot}
+use Rattle.oneshot_drive.proofs.Names.{runs_that_are, slots_that_are, slots_that_are_not, rests_new, rests_open}
+use Rattle.oneshot_drive.proofs.Names.{rests_closed, parks_waiting, parks_overdue, log_of, GroundsThatAre}
+use Rattle.oneshot_drive.proofs.Names.{GroundsThatAreNot, WakersThatAre, WakersThatAreNot, GroundState, StandsIn}
+use Rattle.oneshot_drive.proofs.Names.{receiver_slots, WritesCopies, WritesItsCopy, left_copy, wakers_handed}
+use Rattle.oneshot_drive.proofs.Names.{HandsNoWaker, Wakes, wakes, wakes_none, SenderWoke}
 
 pub grounds_that_are : GroundsThatAre
 grounds_that_are =

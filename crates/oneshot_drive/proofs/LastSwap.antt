@@ -1,24 +1,16 @@
 -- What the swap that drops a receiver finds, and the runs that it ends.
-use Rattle.std.proofs.Common.{◌≡◌, ℕ, [], ◌∷◌, Some, refl, sym, ap, ◌∙◌, subst}
+use Rattle.oneshot_drive.proofs.Names.{◌≡◌, ℕ, [], ◌∷◌, Some, refl, sym, ap, ◌∙◌, subst, ReceiverPos, AsyncDrop}
+use Rattle.oneshot_drive.proofs.Names.{AsyncSwap, Swap, Log, Grows, receiver_of, did, worded, ReceiverAt, first, here}
+use Rattle.oneshot_drive.proofs.Names.{looked, between, claimed, waits, blocked, withdrew, full, at_once, by_future}
+use Rattle.oneshot_drive.proofs.Names.{disconnected, receiver_moves, Share, none, empty, filled, Slots, receiver_step}
+use Rattle.oneshot_drive.proofs.Names.{receiver_row, Outcome, Goes, Answers, last, more, Ran, and_then, Held, IsSlot}
+use Rattle.oneshot_drive.proofs.Names.{ReceiverFinds, is_same_op, Each, landings, FoundSo, found_so, GroundState, Rests}
+use Rattle.oneshot_drive.proofs.Names.{rests_new, rests_open, rests_closed, AtRest}
 use Rattle.oneshot_machine.specs.declared.machine.Reply.TheVariants as R
 use Rattle.oneshot_machine.specs.declared.machine.Seen.TheVariants as S
 use Rattle.oneshot_machine.specs.declared.machine.Step.TheVariants as Steps
-use Rattle.oneshot_machine.specs.declared.machine.receiver.ReceiverPos.{ReceiverPos}
-use Rattle.oneshot_machine.specs.declared.machine.receiver.ReceiverPos.TheVariants.{AsyncDrop, Drop}
-use Rattle.oneshot_machine.specs.declared.machine.async_drop.AsyncDropPos.TheVariants.{AsyncSwap}
+use Rattle.oneshot_machine.specs.declared.machine.receiver.ReceiverPos.TheVariants.{Drop}
 use Rattle.oneshot_machine.specs.declared.machine.drop.DropPos.TheVariants.{DropMessage, DropFree}
-use Rattle.oneshot_machine.specs.declared.states.Op.TheVariants.{Swap}
-use Rattle.oneshot_machine.specs.Logs.{Log, Grows, receiver_of, did, worded}
-use Rattle.oneshot_machine.specs.Phases.{ReceiverAt, first, here, looked, between, claimed, waits, blocked, withdrew, full, at_once, by_future, disconnected, receiver_moves, Share, none, empty, filled, Slots}
-use Rattle.oneshot_machine.specs.Receiver.{receiver_step, receiver_row}
-use Rattle.oneshot_machine.specs.TableRows.{Outcome, Goes, Answers}
-use Rattle.oneshot_machine.specs.Runs.{last, more, Ran}
-use Rattle.oneshot_machine.proofs.GrownLogs.{and_then}
-use Rattle.oneshot_machine.specs.Slots.{Held, IsSlot, ReceiverFinds}
-use Rattle.oneshot_machine.specs.Noted.{is_same_op}
-use Rattle.oneshot_machine.proofs.Landings.{Each, landings, FoundSo, found_so}
-use Rattle.oneshot_drive.specs.Grounds.{GroundState}
-use Rattle.oneshot_drive.specs.BetweenCalls.{Rests, rests_new, rests_open, rests_closed, AtRest}
 
 -- the word that it finds, with the slots then
 pub data Swapped : ℕ → Slots → Type 0 where

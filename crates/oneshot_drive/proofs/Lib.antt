@@ -15,3 +15,4 @@ pub mod DroppedFutures
 pub mod OwnCopies
 pub mod EndExamples
 pub mod GroundExamples
+pub mod Names

@@ -1,10 +1,7 @@
 -- That a poll writes no waker but its own copy, carried along its steps.
-use Rattle.std.proofs.Common.{◌≡◌, ℕ, List, [], ◌∷◌, ◌++◌, Option, Some, refl, sym, subst}
-use Rattle.oneshot_machine.specs.declared.machine.Step.TheVariants.{WakeOwn, WriteWaker, Withdraw}
-use Rattle.oneshot_machine.specs.declared.states.Op.{Op}
-use Rattle.oneshot_machine.specs.Logs.{Event, Log, Grows, did, took, handed, copied, worded}
-use Rattle.oneshot_machine.proofs.GrownLogs.{and_then}
-use Rattle.oneshot_drive.specs.Polls.{hand_after, WritesHand, WritesCopies, WroteCopies}
+use Rattle.oneshot_drive.proofs.Names.{◌≡◌, ℕ, List, [], ◌∷◌, ◌++◌, Option, Some, refl, sym, subst, WakeOwn, WriteWaker}
+use Rattle.oneshot_drive.proofs.Names.{Withdraw, Op, Event, Log, Grows, did, took, handed, copied, worded, and_then}
+use Rattle.oneshot_drive.proofs.Names.{hand_after, WritesHand, WritesCopies, WroteCopies}
 use Rattle.oneshot_drive.proofs.Stretches.{stays}
 
 module _ {T W : Type 0} where

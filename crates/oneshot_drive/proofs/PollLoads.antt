@@ -1,30 +1,23 @@
 -- What a future between two calls finds by its load, and the run of a poll.
-use Rattle.std.proofs.Common.{◌≡◌, ℕ, true, [], ◌∷◌, Some, Ok, Err, refl, sym, ap, ◌∙◌, subst}
-use Rattle.futures.specs.declared.task.Poll.TheVariants.{Ready, Pending}
-use Rattle.oneshot_errors.specs.declared.recv.RecvError.{RecvError}
-use Rattle.oneshot_drive.specs.declared.waiting.Found.{Found}
+use Rattle.oneshot_drive.proofs.Names.{◌≡◌, ℕ, true, [], ◌∷◌, Some, Ok, Err, refl, sym, ap, ◌∙◌, subst, Ready, Pending}
+use Rattle.oneshot_drive.proofs.Names.{RecvError, Found, ReceiverPos, Try, Future, AsyncDrop, Close, Take, PollLoad}
+use Rattle.oneshot_drive.proofs.Names.{AsyncLoad, AsyncSwap, Load, Store, Swap, Log, Grows, receiver_of, did, took}
+use Rattle.oneshot_drive.proofs.Names.{worded, ReceiverAt, here, looked, between, waits, again, claimed, full, Got}
+use Rattle.oneshot_drive.proofs.Names.{at_once, waited, swapped, by_future, by_poll, Closing, found_closed}
+use Rattle.oneshot_drive.proofs.Names.{closed_itself, disconnected, resolved, receiver_next, receiver_moves, empty}
+use Rattle.oneshot_drive.proofs.Names.{word_of, receiver_step, receiver_row, Outcome, Goes, Answers, last, more}
+use Rattle.oneshot_drive.proofs.Names.{ReceiverRan, and_then, GroundState, StandsWith, Stands, StandsIn, receiver_slots}
+use Rattle.oneshot_drive.proofs.Names.{ReceiverAsks, ReceiverMakes, Went, rests_new, rests_open, rests_closed}
+use Rattle.oneshot_drive.proofs.Names.{IsClosedAt, Polled, unpolled, left_copy, kept_copy, found_sender, has_resolved}
+use Rattle.oneshot_drive.proofs.Names.{IsPolled, LeavesPolled, leaves_resolved, leaves_over, leaves_gone}
+use Rattle.oneshot_drive.proofs.Names.{leaves_uncopied, leaves_waiting, leaves_its_copy, leaves_claimed, EndsPoll}
+use Rattle.oneshot_drive.proofs.Names.{has_row, Each, landings}
 use Rattle.oneshot_drive.specs.declared.waiting.Found.TheVariants as F
 use Rattle.oneshot_machine.specs.declared.machine.Reply.TheVariants as R
 use Rattle.oneshot_machine.specs.declared.machine.Seen.TheVariants as S
 use Rattle.oneshot_machine.specs.declared.machine.Step.TheVariants as Steps
-use Rattle.oneshot_machine.specs.declared.machine.receiver.ReceiverPos.{ReceiverPos}
-use Rattle.oneshot_machine.specs.declared.machine.receiver.ReceiverPos.TheVariants.{Try, Future, AsyncDrop}
-use Rattle.oneshot_machine.specs.declared.machine.try_recv.TryPos.TheVariants.{Close, Take}
-use Rattle.oneshot_machine.specs.declared.machine.future.FuturePos.TheVariants.{PollLoad}
-use Rattle.oneshot_machine.specs.declared.machine.async_drop.AsyncDropPos.TheVariants.{AsyncLoad, AsyncSwap}
 use Rattle.oneshot_machine.specs.declared.machine.receiver.ReceiverStart.TheVariants as C
-use Rattle.oneshot_machine.specs.declared.states.Op.TheVariants.{Load, Store, Swap}
-use Rattle.oneshot_machine.specs.Logs.{Log, Grows, receiver_of, did, took, worded}
-use Rattle.oneshot_machine.specs.Phases.{ReceiverAt, here, looked, between, waits, again, claimed, full, Got, at_once, waited, swapped, by_future, by_poll, Closing, found_closed, closed_itself, disconnected, resolved, receiver_next, receiver_moves, empty, word_of}
-use Rattle.oneshot_machine.specs.Receiver.{receiver_step, receiver_row}
-use Rattle.oneshot_machine.specs.TableRows.{Outcome, Goes, Answers}
-use Rattle.oneshot_machine.specs.Runs.{last, more, ReceiverRan}
-use Rattle.oneshot_machine.proofs.GrownLogs.{and_then}
-use Rattle.oneshot_drive.specs.Grounds.{GroundState, StandsWith, Stands, StandsIn, receiver_slots, ReceiverAsks, ReceiverMakes}
-use Rattle.oneshot_drive.specs.Blocking.{Went}
-use Rattle.oneshot_drive.specs.BetweenCalls.{rests_new, rests_open, rests_closed, IsClosedAt}
-use Rattle.oneshot_drive.specs.Polls.{Polled, unpolled, left_copy, kept_copy, found_sender, has_resolved, IsPolled, LeavesPolled, leaves_received, leaves_resolved, leaves_over, leaves_gone, leaves_uncopied, leaves_waiting, leaves_its_copy, leaves_claimed, EndsPoll}
-use Rattle.oneshot_machine.proofs.Landings.{has_row, Each, landings}
+use Rattle.oneshot_drive.specs.Polls.{leaves_received}
 use Rattle.oneshot_drive.proofs.AfterOperations.{Came, came, asks, lands}
 use Rattle.oneshot_drive.proofs.Stretches.{on, by_word, by_own, ran}
 

@@ -1,22 +1,15 @@
 -- What a receiver between two calls finds by its load, and the runs of `try_recv`.
-use Rattle.std.proofs.Common.{◌≡◌, ℕ, true, false, [], ◌∷◌, Ok, Err, refl, sym, ◌∙◌, subst}
-use Rattle.std.specs.Prelude.{◌==◌}
-use Rattle.std.proofs.lemmas.Bool.{eq-eqb}
+use Rattle.oneshot_drive.proofs.Names.{◌≡◌, ℕ, true, false, [], ◌∷◌, Ok, Err, refl, sym, ◌∙◌, subst, ◌==◌, eq-eqb, Try}
+use Rattle.oneshot_drive.proofs.Names.{Close, Take, TryRecv, Load, Store, Swap, Log, Grows, receiver_of, took, worded}
+use Rattle.oneshot_drive.proofs.Names.{ReceiverAt, here, looked, between, full, at_once, Closing, found_closed}
+use Rattle.oneshot_drive.proofs.Names.{closed_itself, disconnected, resolved, receiver_moves, empty, filled, last, more}
+use Rattle.oneshot_drive.proofs.Names.{ReceiverRan, Held, ReceiverFinds, is_same_op, and_then, GroundState, StandsWith}
+use Rattle.oneshot_drive.proofs.Names.{Stands, receiver_slots, ReceiverAsks, ReceiverMakes, Rests, rests_new}
+use Rattle.oneshot_drive.proofs.Names.{rests_open, rests_closed, AtRest, IsClosedAt, Leaves, leaves_open, leaves_closed}
+use Rattle.oneshot_drive.proofs.Names.{has_row, Each, landings, found_so}
 use Rattle.oneshot_errors.specs.declared.try_recv.TryRecvError.TheVariants as E
 use Rattle.oneshot_machine.specs.declared.machine.Reply.TheVariants as R
-use Rattle.oneshot_machine.specs.declared.machine.receiver.ReceiverPos.TheVariants.{Try}
-use Rattle.oneshot_machine.specs.declared.machine.try_recv.TryPos.TheVariants.{Close, Take}
-use Rattle.oneshot_machine.specs.declared.machine.receiver.ReceiverStart.TheVariants.{TryRecv}
-use Rattle.oneshot_machine.specs.declared.states.Op.TheVariants.{Load, Store, Swap}
-use Rattle.oneshot_machine.specs.Logs.{Log, Grows, receiver_of, took, worded}
-use Rattle.oneshot_machine.specs.Phases.{ReceiverAt, here, looked, between, full, at_once, Closing, found_closed, closed_itself, disconnected, resolved, receiver_moves, empty, filled}
-use Rattle.oneshot_machine.specs.Runs.{last, more, ReceiverRan}
-use Rattle.oneshot_machine.specs.Slots.{Held, ReceiverFinds}
-use Rattle.oneshot_machine.specs.Noted.{is_same_op}
-use Rattle.oneshot_machine.proofs.GrownLogs.{and_then}
-use Rattle.oneshot_drive.specs.Grounds.{GroundState, StandsWith, Stands, receiver_slots, ReceiverAsks, ReceiverMakes}
-use Rattle.oneshot_drive.specs.BetweenCalls.{Rests, rests_new, rests_open, rests_closed, AtRest, IsClosedAt, Leaves, leaves_received, leaves_open, leaves_closed}
-use Rattle.oneshot_machine.proofs.Landings.{has_row, Each, landings, found_so}
+use Rattle.oneshot_drive.specs.BetweenCalls.{leaves_received}
 use Rattle.oneshot_drive.proofs.AfterOperations.{lone, Came, came, asks, lands}
 
 -- it may load, and may be dropped

@@ -1,19 +1,16 @@
 -- What each call of the sender makes is a run.
-use Rattle.std.proofs.Common.{◌≡◌, ℕ, Bool, true, false, [], ◌∷◌, Some, refl}
+use Rattle.oneshot_drive.proofs.Names.{◌≡◌, ℕ, Bool, true, false, [], ◌∷◌, Some, refl, TakeWaker, Wake, Free, Send}
+use Rattle.oneshot_drive.proofs.Names.{IntoInner, DropError, SendAdd, SendTakeWaker, SendFinal, SendWake, SendLateWake}
+use Rattle.oneshot_drive.proofs.Names.{DropTakeWaker, DropFinal, DropWake, DropLateWake, IntoFree, ErrorFree, SenderPos}
+use Rattle.oneshot_drive.proofs.Names.{Swap, Add, Xor, Log, Grows, did, wrote, took, handed, worded, Goes, Answers}
+use Rattle.oneshot_drive.proofs.Names.{last, more, SenderRan, sender_step, sender_row, and_then, wakes, wakes_none}
+use Rattle.oneshot_drive.proofs.Names.{SenderWoke, finishing, LastFinds, finds_waiting, finds_overdue, finds_gone}
+use Rattle.oneshot_drive.proofs.Names.{Finishes, send_reply}
 use Rattle.oneshot_machine.specs.declared.machine.Reply.TheVariants as R
 use Rattle.oneshot_machine.specs.declared.machine.Seen.TheVariants as S
-use Rattle.oneshot_machine.specs.declared.machine.Step.TheVariants.{DropMessage, TakeWaker, Wake, Free}
-use Rattle.oneshot_machine.specs.declared.machine.sender.SenderCall.TheVariants.{Send, Drop, IntoInner, DropError}
-use Rattle.oneshot_machine.specs.declared.machine.sender.SenderPos.TheVariants.{SendAdd, SendTakeWaker, SendFinal, SendWake, SendLateWake, DropTakeWaker, DropFinal, DropWake, DropLateWake, DropFree, IntoFree, ErrorFree}
-use Rattle.oneshot_machine.specs.declared.machine.sender.SenderPos.{SenderPos}
-use Rattle.oneshot_machine.specs.declared.states.Op.TheVariants.{Swap, Add, Xor}
-use Rattle.oneshot_machine.specs.Logs.{Log, Grows, did, wrote, took, handed, worded}
-use Rattle.oneshot_machine.specs.TableRows.{Goes, Answers}
-use Rattle.oneshot_machine.specs.Runs.{last, more, SenderRan}
-use Rattle.oneshot_machine.specs.Sender.{sender_step, sender_row}
-use Rattle.oneshot_machine.proofs.GrownLogs.{and_then}
-use Rattle.oneshot_drive.specs.Wakes.{wakes, wakes_none, SenderWoke}
-use Rattle.oneshot_drive.specs.BetweenCalls.{finishing, LastFinds, finds_waiting, finds_overdue, finds_gone, Finishes, send_reply}
+use Rattle.oneshot_machine.specs.declared.machine.Step.TheVariants.{DropMessage}
+use Rattle.oneshot_machine.specs.declared.machine.sender.SenderCall.TheVariants.{Drop}
+use Rattle.oneshot_machine.specs.declared.machine.sender.SenderPos.TheVariants.{DropFree}
 
 -- after its last operation a sender wakes, and then answers whether the receiver was here
 abbrev send_wake : Bool → SenderPos

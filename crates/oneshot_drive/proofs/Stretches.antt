@@ -1,19 +1,12 @@
 -- Stretches of a receive, one after the other, and what they make with the steps that end it.
-use Rattle.std.proofs.Common.{◌≡◌, ℕ, Bool, true, false, List, [], ◌∷◌, ◌++◌, Some, None, refl, sym, ap, ◌∙◌}
-use Rattle.std.proofs.lemmas.List.{append-nil}
-use Rattle.std.proofs.lemmas.List.Elements.{filter_map-append}
-use Rattle.oneshot_machine.specs.declared.machine.Reply.{Reply}
+use Rattle.oneshot_drive.proofs.Names.{◌≡◌, ℕ, Bool, true, false, List, [], ◌∷◌, ◌++◌, Some, None, refl, sym, ap, ◌∙◌}
+use Rattle.oneshot_drive.proofs.Names.{append-nil, filter_map-append, Reply, ReceiverPos, Op, Event, Log, Grows, kept}
+use Rattle.oneshot_drive.proofs.Names.{did, handed, parked, clocked, copied, worded, when_written, when_taken}
+use Rattle.oneshot_drive.proofs.Names.{messages_given, messages_got, receiver_step, receiver_row, Outcome, Goes}
+use Rattle.oneshot_drive.proofs.Names.{Answers, Run, last, more, Ran, saw, and_then, Stretch, nothing, answers, onward}
+use Rattle.oneshot_drive.proofs.Names.{Went}
 use Rattle.oneshot_machine.specs.declared.machine.Seen.TheVariants as S
 use Rattle.oneshot_machine.specs.declared.machine.Step.TheVariants as Steps
-use Rattle.oneshot_machine.specs.declared.machine.receiver.ReceiverPos.{ReceiverPos}
-use Rattle.oneshot_machine.specs.declared.states.Op.{Op}
-use Rattle.oneshot_machine.specs.Logs.{Event, Log, Grows, kept, did, handed, parked, clocked, copied, worded, when_written, when_taken, messages_given, messages_got}
-use Rattle.oneshot_machine.specs.Receiver.{receiver_step, receiver_row}
-use Rattle.oneshot_machine.specs.TableRows.{Outcome, Goes, Answers}
-use Rattle.oneshot_machine.specs.Runs.{Run, last, more, Ran}
-use Rattle.oneshot_machine.specs.Noted.{saw}
-use Rattle.oneshot_machine.proofs.GrownLogs.{and_then}
-use Rattle.oneshot_drive.specs.Blocking.{Stretch, nothing, answers, onward, Went}
 
 module _ {T W : Type 0} where
   -- stretches, one after the other, and before a run

@@ -1,14 +1,10 @@
 -- Once the sender made its last operation on the word, each call of the receiver answers soon: the reader
 -- counts down what the receiver's call has left.
-use Rattle.std.proofs.Common.{◌≡◌, ℕ, zero, suc, Bool, true, false, not, ◌&&◌, ◌||◌, List, [], ◌∷◌, map, Some, None, refl, ap, subst, if◌then◌else◌}
-use Rattle.oneshot_machine.specs.declared.machine.End.{End}
-use Rattle.oneshot_machine.specs.declared.machine.End.TheVariants.{Sender, Receiver}
-use Rattle.oneshot_world.specs.Classes.{Classes, as_made}
-use Rattle.oneshot_world.specs.declared.trace.Made.{Made}
-use Rattle.oneshot_world.proofs.Bools.{and_left, and_right, both}
-use Rattle.oneshot_laws.specs.Entries.{is_same_end, is_word}
-use Rattle.oneshot_laws.specs.Marks.{Mark, finishes, call_marks, until_reply}
-use Rattle.oneshot_laws.specs.Bounds.{at_most, operates, is_senders_last, each_move, answers_soon, is_soon_answered}
+use Rattle.oneshot_laws.proofs.Names.{◌≡◌, ℕ, zero, suc, Bool, true, false, not, ◌&&◌, ◌||◌, List, [], ◌∷◌, map, Some}
+use Rattle.oneshot_laws.proofs.Names.{None, refl, ap, subst, if◌then◌else◌, End, Sender, Receiver, Classes, as_made}
+use Rattle.oneshot_laws.proofs.Names.{Made, and_left, and_right, both, is_same_end, is_word, Mark, finishes, call_marks}
+use Rattle.oneshot_laws.proofs.Names.{until_reply, at_most, operates, is_senders_last, each_move, answers_soon}
+use Rattle.oneshot_laws.proofs.Names.{is_soon_answered}
 use Rattle.oneshot_laws.proofs.Budgets.{can, spend}
 use Rattle.oneshot_laws.proofs.BoundsRuns.{pay, no_more}
 use Rattle.oneshot_laws.proofs.Coding.{pairs, by_parts, flags, numbers_below}

@@ -1,13 +1,7 @@
 -- What each end's call has left of its operations on the word, as a reader of the trace counts it.
-use Rattle.std.proofs.Common.{◌≡◌, ℕ, zero, suc, Bool, true, false, not, ◌&&◌, Option, Some, None, refl, if◌then◌else◌}
-use Rattle.oneshot_machine.specs.declared.machine.End.{End}
-use Rattle.oneshot_machine.specs.declared.machine.End.TheVariants.{Sender, Receiver}
-use Rattle.oneshot_world.specs.Calls.{Call}
-use Rattle.oneshot_world.specs.declared.trace.Made.{Made}
-use Rattle.oneshot_laws.specs.Bounds.{bound_of}
-use Rattle.oneshot_laws.specs.Entries.{is_word}
-use Rattle.oneshot_laws.specs.Object.{is_same_flag}
-use Rattle.oneshot_laws.specs.Marks.{until_reply}
+use Rattle.oneshot_laws.proofs.Names.{◌≡◌, ℕ, zero, suc, Bool, true, false, not, ◌&&◌, Option, Some, None, refl}
+use Rattle.oneshot_laws.proofs.Names.{if◌then◌else◌, End, Sender, Receiver, Call, Made, bound_of, is_word, is_same_flag}
+use Rattle.oneshot_laws.proofs.Names.{until_reply}
 use Rattle.oneshot_laws.proofs.Coding.{Coding, pairs, by_parts, or_none, numbers_below}
 use Rattle.oneshot_laws.proofs.Glanced.{Law}
 use Rattle.oneshot_laws.proofs.Glances.{Glance}

@@ -1,19 +1,12 @@
 -- How the values of a type are told apart while the checker explores: by a code that sorts them, and a test
 -- which the same values alone pass.
-use Rattle.std.proofs.Common.{◌≡◌, ℕ, ◌+◌, ◌*◌, ◌==◌, Bool, true, false, ◌&&◌, List, [], ◌∷◌, Option, Some, None, refl, sym, ◌∙◌, ap, get_or}
-use Rattle.std.proofs.lemmas.Bool.{eqb-true}
-use Rattle.oneshot_machine.specs.declared.machine.End.{End}
-use Rattle.oneshot_machine.specs.declared.machine.End.TheVariants.{Sender, Receiver}
-use Rattle.oneshot_machine.specs.declared.machine.Reply.{Reply}
+use Rattle.oneshot_laws.proofs.Names.{◌≡◌, ℕ, ◌+◌, ◌*◌, ◌==◌, Bool, true, false, ◌&&◌, List, [], ◌∷◌, Option, Some}
+use Rattle.oneshot_laws.proofs.Names.{None, refl, sym, ◌∙◌, ap, get_or, eqb-true, End, Sender, Receiver, Reply}
+use Rattle.oneshot_laws.proofs.Names.{bool_code, Place, NotSent, InCell, InError, Delivered, FromError, and_left}
+use Rattle.oneshot_laws.proofs.Names.{and_right, same_by, reply_code, place_code, Content, Open, Full, Closed}
+use Rattle.oneshot_laws.proofs.Names.{content_code, is_same_flag}
 use Rattle.oneshot_machine.specs.declared.machine.Reply.TheVariants as R
-use Rattle.oneshot_world.specs.ControlCodes.{bool_code}
-use Rattle.oneshot_world.specs.declared.trace.Place.{Place}
-use Rattle.oneshot_world.specs.declared.trace.Place.TheVariants.{NotSent, InCell, InError, Delivered, FromError, Dropped}
-use Rattle.oneshot_world.proofs.Bools.{and_left, and_right}
-use Rattle.oneshot_world.proofs.ControlCodes.{same_by}
-use Rattle.oneshot_laws.specs.Entries.{reply_code}
-use Rattle.oneshot_laws.specs.MessagePlaces.{place_code}
-use Rattle.oneshot_laws.specs.Object.{Content, Open, Full, Closed, content_code, is_same_flag}
+use Rattle.oneshot_world.specs.declared.trace.Place.TheVariants.{Dropped}
 
 -- `width` is above each code
 pub record Coding (X : Type 0) : Type 0 where

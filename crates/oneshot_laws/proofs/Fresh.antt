@@ -1,16 +1,10 @@
 -- A copy that is not made in an entry has no name of that entry.
-use Rattle.std.proofs.Common.{◌≡◌, ℕ, ◌==◌, if◌then◌else◌, Bool, true, false, Option, Some, None, refl}
-use Rattle.std.proofs.lemmas.Bool.{eq-eqb}
-use Rattle.std.specs.Option.{option_map}
-use Rattle.oneshot_machine.specs.declared.machine.Step.{Step}
+use Rattle.oneshot_laws.proofs.Names.{◌≡◌, ℕ, ◌==◌, if◌then◌else◌, Bool, true, false, Option, Some, None, refl, eq-eqb}
+use Rattle.oneshot_laws.proofs.Names.{option_map, Step, WakerMove, waker_move, back_to, told_with, WakerName, Parker}
+use Rattle.oneshot_laws.proofs.Names.{Copy, Wakers}
 use Rattle.oneshot_machine.specs.declared.machine.Step.TheVariants as T
 use Rattle.oneshot_machine.specs.declared.states.Op.TheVariants as O
-use Rattle.oneshot_world.specs.Wakers.{WakerMove, waker_move, back_to}
-use Rattle.oneshot_world.specs.World.{told_with}
-use Rattle.oneshot_world.specs.declared.trace.WakerName.{WakerName}
-use Rattle.oneshot_world.specs.declared.trace.WakerName.TheVariants.{Parker, Copy}
 use Rattle.oneshot_world.specs.declared.trace.WakerPlace.TheVariants as W
-use Rattle.oneshot_world.specs.declared.wakers.Wakers.{Wakers}
 
 -- a copy that comes into being in an entry is named by that entry
 abbrev pub is_named_by : ℕ → WakerName → Bool

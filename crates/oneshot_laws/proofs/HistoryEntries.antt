@@ -1,17 +1,14 @@
 -- What the definition says of one entry of a call that the reader accepts. No table and no world is in this file.
-use Rattle.std.proofs.Common.{◌≡◌, Bool, true, false, not, ◌&&◌, ◌||◌, List, [], ◌∷◌, ◌++◌, Option, Some, None, is_some, refl, sym, ◌∙◌, ap, subst}
-use Rattle.std.specs.List.{list_any}
-use Rattle.oneshot_machine.specs.declared.machine.Reply.{Reply}
+use Rattle.oneshot_laws.proofs.Names.{◌≡◌, Bool, true, false, not, ◌&&◌, ◌||◌, List, [], ◌∷◌, ◌++◌, Option, Some, None}
+use Rattle.oneshot_laws.proofs.Names.{is_some, refl, sym, ◌∙◌, ap, subst, list_any, Reply, Call, Of_receiver, Poll}
+use Rattle.oneshot_laws.proofs.Names.{is_none_left, Made, and_left, and_right, only_if, says_nothing_yet}
+use Rattle.oneshot_laws.proofs.Names.{is_nothing_yet, Object, Content, Open, Full, Closed, Take, is_open_content}
+use Rattle.oneshot_laws.proofs.Names.{object_after, action_of, nothing_yet_of, reply_on, stepped, Rule, First, Last}
+use Rattle.oneshot_laws.proofs.Names.{acts, has_acted, receive_rule, works_on_word, finds_full_or_closed, agrees}
+use Rattle.oneshot_laws.proofs.Names.{is_object_step}
 use Rattle.oneshot_machine.specs.declared.machine.receiver.ReceiverStart.TheVariants as RC
-use Rattle.oneshot_world.specs.Calls.{Call, Of_receiver, Poll, is_none_left}
-use Rattle.oneshot_world.specs.declared.trace.Made.{Made}
-use Rattle.oneshot_world.proofs.Bools.{and_left, and_right}
-use Rattle.oneshot_laws.specs.Entries.{only_if, says_nothing_yet, is_nothing_yet}
-use Rattle.oneshot_laws.specs.Object.{Object, Content, Open, Full, Closed, Take, is_open_content, object_after}
-use Rattle.oneshot_laws.specs.Actions.{action_of, nothing_yet_of, reply_on, stepped}
-use Rattle.oneshot_laws.specs.Marks.{Rule, First, Last, acts, has_acted, receive_rule, works_on_word, finds_full_or_closed}
-use Rattle.oneshot_laws.specs.History.{agrees, is_object_step}
-use Rattle.oneshot_laws.proofs.HistoryReader.{kind, Watch, due, hit, owed, object_if, may_say, pays_receive, may_owe, has_reply}
+use Rattle.oneshot_laws.proofs.HistoryReader.{kind, Watch, due, hit, owed, object_if, may_say, pays_receive, may_owe}
+use Rattle.oneshot_laws.proofs.HistoryReader.{has_reply}
 use Rattle.oneshot_laws.proofs.HistoryOwed.{fine_as, not_owed}
 
 -- one more entry of a call

@@ -1,19 +1,14 @@
 -- A reader of the trace, entry by entry, with finitely many states: the object, and what the call under way
 -- at each end owes since it acted.
-use Rattle.std.proofs.Common.{◌≡◌, ℕ, Bool, true, false, not, ◌&&◌, ◌||◌, Option, Some, None, is_some, refl, ap}
-use Rattle.oneshot_machine.specs.declared.machine.End.{End}
-use Rattle.oneshot_machine.specs.declared.machine.End.TheVariants.{Sender, Receiver}
-use Rattle.oneshot_machine.specs.declared.machine.Reply.{Reply}
+use Rattle.oneshot_laws.proofs.Names.{◌≡◌, ℕ, Bool, true, false, not, ◌&&◌, ◌||◌, Option, Some, None, is_some, refl, ap}
+use Rattle.oneshot_laws.proofs.Names.{End, Sender, Receiver, Reply, Call, Of_sender, Of_receiver, Poll, Stray, Classes}
+use Rattle.oneshot_laws.proofs.Names.{as_call, as_made, Made, is_same_reply, says_nothing_yet, Action, Send}
+use Rattle.oneshot_laws.proofs.Names.{Sender_gone, Take, Take_and_go, Look_full, Look_closed, Look_receiver_gone}
+use Rattle.oneshot_laws.proofs.Names.{Receiver_gone, Object, Content, new_object, is_open_content, action_of}
+use Rattle.oneshot_laws.proofs.Names.{nothing_yet_of, reply_on, stepped, fixed_reply_of, loads, finishes}
+use Rattle.oneshot_laws.proofs.Names.{swaps_closed_in, works_on_word, finds_full_or_closed, until_reply, agrees}
 use Rattle.oneshot_machine.specs.declared.machine.receiver.ReceiverStart.TheVariants as RC
 use Rattle.oneshot_machine.specs.declared.machine.sender.SenderCall.TheVariants as SC
-use Rattle.oneshot_world.specs.Calls.{Call, Of_sender, Of_receiver, Poll, Stray}
-use Rattle.oneshot_world.specs.Classes.{Classes, as_call, as_made}
-use Rattle.oneshot_world.specs.declared.trace.Made.{Made}
-use Rattle.oneshot_laws.specs.Entries.{is_same_reply, says_nothing_yet}
-use Rattle.oneshot_laws.specs.Object.{Action, Send, Sender_gone, Take, Take_and_go, Look_full, Look_closed, Look_receiver_gone, Receiver_gone, Object, Content, new_object, is_open_content}
-use Rattle.oneshot_laws.specs.Actions.{action_of, nothing_yet_of, reply_on, stepped, fixed_reply_of}
-use Rattle.oneshot_laws.specs.Marks.{loads, finishes, swaps_closed_in, works_on_word, finds_full_or_closed, until_reply}
-use Rattle.oneshot_laws.specs.History.{agrees}
 use Rattle.oneshot_laws.proofs.Coding.{Coding, pairs, by_parts, or_none, flags, replies, contents}
 use Rattle.oneshot_laws.proofs.Watched.{Automaton, NamelessReader, no_names}
 

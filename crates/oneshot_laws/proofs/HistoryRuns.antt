@@ -1,16 +1,8 @@
 -- Each run of two scripts has a legal history: the reader accepts it, as the checker computes over machines
 -- and reader together.
-use Rattle.std.proofs.Common.{◌≡◌, true, List, [], refl}
-use Rattle.oneshot_world.specs.Calls.{Unanswered}
-use Rattle.oneshot_world.specs.Scripts.{calls_of}
-use Rattle.oneshot_world.specs.Classes.{all_alike}
-use Rattle.oneshot_world.specs.World.{World, Tells, opening}
-use Rattle.oneshot_world.specs.declared.script.Move.{Move}
-use Rattle.oneshot_world.specs.declared.script.ReceiverScript.{ReceiverScript}
-use Rattle.oneshot_world.specs.declared.script.SenderScript.{SenderScript}
-use Rattle.oneshot_world.specs.declared.trace.Entry.{Entry}
-use Rattle.oneshot_laws.specs.Marks.{marks, sender_reading, receiver_reading, call_under_way}
-use Rattle.oneshot_laws.specs.History.{has_legal_history}
+use Rattle.oneshot_laws.proofs.Names.{◌≡◌, true, List, [], refl, Unanswered, calls_of, all_alike, World, Tells, opening}
+use Rattle.oneshot_laws.proofs.Names.{Move, ReceiverScript, SenderScript, Entry, marks, sender_reading}
+use Rattle.oneshot_laws.proofs.Names.{receiver_reading, call_under_way, has_legal_history}
 use Rattle.oneshot_laws.proofs.HistoryReader.{new_reader, new_watch, histories, histories_nameless}
 use Rattle.oneshot_laws.proofs.HistoryEntries.{FollowsAt}
 use Rattle.oneshot_laws.proofs.HistoryAccepted.{MarksRight, all_right, legal}

@@ -1,32 +1,15 @@
 -- In each run an end is idle only where its script has nothing left.
-use Rattle.std.proofs.Common.{◌≡◌, ℕ, ◌+◌, Bool, true, false, List, [], ◌∷◌, Option, None, refl, ap}
-use Rattle.std.specs.Option.{option_and_then}
-use Rattle.oneshot_machine.specs.Receiver.{receiver_step}
-use Rattle.oneshot_machine.specs.Sender.{sender_step}
-use Rattle.oneshot_machine.specs.declared.machine.End.{End}
-use Rattle.oneshot_machine.specs.declared.machine.End.TheVariants.{Sender, Receiver}
-use Rattle.oneshot_world.specs.Calls.{Call, Of_sender, Of_receiver, first, is_none_left, left_by, as_sender_call, as_receiver_call}
-use Rattle.oneshot_world.specs.Scripts.{calls_of}
-use Rattle.oneshot_world.specs.ScriptsLeft.{sender_has, receiver_has}
-use Rattle.oneshot_world.specs.Reached.{IsReached}
-use Rattle.oneshot_world.specs.State.{sender_position, receiver_position}
-use Rattle.oneshot_world.specs.Effects.{reply_of}
-use Rattle.oneshot_world.specs.World.{World, Tells_from, Tells, opening, side_of, receiver_told}
-use Rattle.oneshot_world.specs.declared.script.Move.{Move}
-use Rattle.oneshot_world.specs.declared.script.ReceiverScript.{ReceiverScript}
-use Rattle.oneshot_world.specs.declared.script.SenderScript.{SenderScript}
-use Rattle.oneshot_world.specs.declared.state.ReceiverState.{ReceiverState}
+use Rattle.oneshot_laws.proofs.Names.{◌≡◌, ℕ, ◌+◌, Bool, true, false, List, [], ◌∷◌, Option, None, refl, ap}
+use Rattle.oneshot_laws.proofs.Names.{option_and_then, receiver_step, sender_step, End, Sender, Receiver, Call}
+use Rattle.oneshot_laws.proofs.Names.{Of_sender, Of_receiver, first, is_none_left, left_by, as_sender_call}
+use Rattle.oneshot_laws.proofs.Names.{as_receiver_call, calls_of, sender_has, receiver_has, IsReached, sender_position}
+use Rattle.oneshot_laws.proofs.Names.{receiver_position, reply_of, World, Tells_from, Tells, opening, side_of}
+use Rattle.oneshot_laws.proofs.Names.{receiver_told, Move, ReceiverScript, SenderScript, ReceiverState, SenderState}
+use Rattle.oneshot_laws.proofs.Names.{Entry, Place, both, sender_world, receiver_world, opening_reached, Turned}
+use Rattle.oneshot_laws.proofs.Names.{sender_idle, sender_made, receiver_idle, receiver_made, turned, turned_reaches}
+use Rattle.oneshot_laws.proofs.Names.{is_idle_right_from, is_idle_right, Reading, sender_reading, receiver_reading}
 use Rattle.oneshot_world.specs.declared.state.ReceiverState.TheVariants as RS
-use Rattle.oneshot_world.specs.declared.state.SenderState.{SenderState}
 use Rattle.oneshot_world.specs.declared.state.SenderState.TheVariants as SS
-use Rattle.oneshot_world.specs.declared.trace.Entry.{Entry}
-use Rattle.oneshot_world.specs.declared.trace.Place.{Place}
-use Rattle.oneshot_world.proofs.Bools.{both}
-use Rattle.oneshot_world.proofs.ReachedLeft.{sender_world, receiver_world}
-use Rattle.oneshot_world.proofs.ReachedOpening.{opening_reached}
-use Rattle.oneshot_world.proofs.WorldTurns.{Turned, sender_idle, sender_made, receiver_idle, receiver_made, turned, turned_reaches}
-use Rattle.oneshot_laws.specs.Idle.{is_idle_right_from, is_idle_right}
-use Rattle.oneshot_laws.specs.Marks.{Reading, sender_reading, receiver_reading}
 
 -- an end without a position has no call left
 sender_none : (message : Option Place) (s : SenderState) (calls : List Call) → sender_has message s calls ≡ true

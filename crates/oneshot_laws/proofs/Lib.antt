@@ -34,3 +34,4 @@ pub mod BoundsRuns
 pub mod BoundsSoon
 pub mod TogetherPlaces
 pub mod TogetherReplies
+pub mod Names

@@ -1,23 +1,11 @@
 -- No receiver waits in a park unwoken, in all that the checker found beside the machines.
-use Rattle.std.proofs.Common.{◌≡◌, Bool, true, false, not, ◌&&◌, ◌||◌, Option, Some, None, is_some, refl, ap}
-use Rattle.std.specs.Option.{option_map, option_and_then}
-use Rattle.oneshot_machine.specs.Receiver.{receiver_step}
-use Rattle.oneshot_machine.specs.declared.machine.End.{End}
-use Rattle.oneshot_machine.specs.declared.machine.receiver.ReceiverStart.{ReceiverStart}
+use Rattle.oneshot_laws.proofs.Names.{◌≡◌, Bool, true, false, not, ◌&&◌, ◌||◌, Option, Some, None, is_some, refl, ap}
+use Rattle.oneshot_laws.proofs.Names.{option_map, option_and_then, receiver_step, End, ReceiverStart, Call, first}
+use Rattle.oneshot_laws.proofs.Names.{as_receiver_call, all_alike, Control, control_of, as_control, all_in}
+use Rattle.oneshot_laws.proofs.Names.{receiver_position, World, ReceiverState, Made, passes_where_found}
+use Rattle.oneshot_laws.proofs.Names.{is_end_of_sender, Ahead, is_some_park, ahead_of, waits_in_park}
 use Rattle.oneshot_machine.specs.declared.machine.receiver.ReceiverStart.TheVariants as RC
-use Rattle.oneshot_world.specs.Calls.{Call, first, as_receiver_call}
-use Rattle.oneshot_world.specs.Classes.{all_alike}
-use Rattle.oneshot_world.specs.Control.{Control, control_of, as_control}
-use Rattle.oneshot_world.specs.Explore.{all_in}
-use Rattle.oneshot_world.specs.State.{receiver_position}
-use Rattle.oneshot_world.specs.World.{World}
-use Rattle.oneshot_world.specs.declared.state.ReceiverState.{ReceiverState}
 use Rattle.oneshot_world.specs.declared.state.ReceiverState.TheVariants as RS
-use Rattle.oneshot_world.specs.declared.trace.Made.{Made}
-use Rattle.oneshot_world.proofs.ExploreFound.{passes_where_found}
-use Rattle.oneshot_laws.specs.Actions.{is_end_of_sender}
-use Rattle.oneshot_world.specs.Ahead.{Ahead, is_some_park, ahead_of}
-use Rattle.oneshot_laws.specs.Unwoken.{waits_in_park}
 use Rattle.oneshot_laws.proofs.Coding.{flags}
 use Rattle.oneshot_laws.proofs.Watched.{Watched, Automaton, Explored, no_names, all_watched, watched_coding}
 use Rattle.oneshot_laws.proofs.WatchedRuns.{Classed, all_classed, IsFound}

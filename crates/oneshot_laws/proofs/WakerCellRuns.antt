@@ -1,19 +1,8 @@
 -- A waker is written into its cell only while none is there.
-use Rattle.std.proofs.Common.{◌≡◌, Bool, true, false, not, List, [], ◌∷◌, Option, Some, None, map, refl, sym, subst}
-use Rattle.std.specs.List.{cons_option}
-use Rattle.std.specs.Option.{option_map}
-use Rattle.oneshot_world.specs.Scripts.{calls_of}
-use Rattle.oneshot_world.specs.Classes.{Classes, as_move}
-use Rattle.oneshot_world.specs.Wakers.{WakerMove}
-use Rattle.oneshot_world.specs.World.{World, Tells, opening}
-use Rattle.oneshot_world.specs.declared.script.Move.{Move}
-use Rattle.oneshot_world.specs.declared.script.ReceiverScript.{ReceiverScript}
-use Rattle.oneshot_world.specs.declared.script.SenderScript.{SenderScript}
-use Rattle.oneshot_world.specs.declared.trace.Entry.{Entry}
-use Rattle.oneshot_world.proofs.Bools.{both}
-use Rattle.oneshot_laws.specs.Entries.{only_if}
-use Rattle.oneshot_laws.specs.Marks.{Mark, marks}
-use Rattle.oneshot_laws.specs.WakerPlaces.{is_cell, cell_then, is_cell_right, is_cell_kept}
+use Rattle.oneshot_laws.proofs.Names.{◌≡◌, Bool, true, false, not, List, [], ◌∷◌, Option, Some, None, map, refl, sym}
+use Rattle.oneshot_laws.proofs.Names.{subst, cons_option, option_map, calls_of, Classes, as_move, WakerMove, World}
+use Rattle.oneshot_laws.proofs.Names.{Tells, opening, Move, ReceiverScript, SenderScript, Entry, both, only_if, Mark}
+use Rattle.oneshot_laws.proofs.Names.{marks, is_cell, cell_then, is_cell_right, is_cell_kept}
 use Rattle.oneshot_laws.proofs.Coding.{flags}
 use Rattle.oneshot_laws.proofs.Glanced.{Law, Passes, Nameless, Passed, passes_run}
 use Rattle.oneshot_laws.proofs.Glances.{Glance, glance_of}

@@ -1,24 +1,14 @@
 -- A waker that is followed by its class is on a path of allowed moves by its name.
-use Rattle.std.proofs.Common.{◌≡◌, ℕ, ◌+◌, Bool, true, false, ◌&&◌, List, [], ◌∷◌, Option, Some, None, map, get_or, refl, sym, ◌∙◌, ap, subst, if◌then◌else◌}
-use Rattle.std.specs.List.{filter_map, cons_option}
-use Rattle.std.specs.Option.{option_map}
-use Rattle.oneshot_world.specs.Scripts.{calls_of}
-use Rattle.oneshot_world.specs.Classes.{Classes, as_name, as_move}
-use Rattle.oneshot_world.specs.Wakers.{WakerMove, is_same_waker}
-use Rattle.oneshot_world.specs.declared.script.ReceiverScript.{ReceiverScript}
-use Rattle.oneshot_world.specs.declared.script.SenderScript.{SenderScript}
-use Rattle.oneshot_world.specs.declared.trace.Entry.{Entry}
+use Rattle.oneshot_laws.proofs.Names.{◌≡◌, ℕ, ◌+◌, Bool, true, false, ◌&&◌, List, [], ◌∷◌, Option, Some, None, map}
+use Rattle.oneshot_laws.proofs.Names.{get_or, refl, sym, ◌∙◌, ap, subst, if◌then◌else◌, filter_map, cons_option}
+use Rattle.oneshot_laws.proofs.Names.{option_map, calls_of, Classes, as_name, as_move, WakerMove, is_same_waker}
+use Rattle.oneshot_laws.proofs.Names.{ReceiverScript, SenderScript, Entry, WakerName, WakerPlace, New, Hand, Cell}
+use Rattle.oneshot_laws.proofs.Names.{SenderHand, Used, both, only_if, Object, Reading, Mark, marks, marks_from}
+use Rattle.oneshot_laws.proofs.Names.{all_ended, is_path, last_place, waker_place_code, is_same_waker_place}
+use Rattle.oneshot_laws.proofs.Names.{is_waker_move, first_waker_place, waker_moves, moves_of_waker, is_waker_followed}
+use Rattle.oneshot_laws.proofs.Names.{is_waker_end, is_waker_ended}
 use Rattle.oneshot_world.specs.declared.trace.Entry.TheVariants.{Idle, Made as Made_entry}
-use Rattle.oneshot_world.specs.declared.trace.WakerName.{WakerName}
-use Rattle.oneshot_world.specs.declared.trace.WakerPlace.{WakerPlace}
-use Rattle.oneshot_world.specs.declared.trace.WakerPlace.TheVariants.{New, Hand, Cell, SenderHand, Used, Dropped}
-use Rattle.oneshot_world.proofs.Bools.{both}
-use Rattle.oneshot_laws.specs.Entries.{only_if}
-use Rattle.oneshot_laws.specs.Object.{Object}
-use Rattle.oneshot_laws.specs.Marks.{Reading, Mark, marks, marks_from}
-use Rattle.oneshot_laws.specs.Ended.{all_ended}
-use Rattle.oneshot_laws.specs.MessagePlaces.{is_path, last_place}
-use Rattle.oneshot_laws.specs.WakerPlaces.{waker_place_code, is_same_waker_place, is_waker_move, first_waker_place, waker_moves, moves_of_waker, is_waker_followed, is_waker_end, is_waker_ended}
+use Rattle.oneshot_world.specs.declared.trace.WakerPlace.TheVariants.{Dropped}
 use Rattle.oneshot_laws.proofs.Coding.{listed}
 use Rattle.oneshot_laws.proofs.EndedRuns.{Ending, Asked, own_after}
 use Rattle.oneshot_laws.proofs.Glanced.{as_glance}

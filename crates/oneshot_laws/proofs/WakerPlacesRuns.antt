@@ -1,26 +1,12 @@
 -- Each waker, by its name, is always in one place, and has ended once all have.
-use Rattle.std.proofs.Common.{arith, ◌≡◌, ℕ, ◌+◌, ◌==◌, Bool, true, false, ◌&&◌, ◌||◌, List, [], ◌∷◌, Option, Some, None, nat_lt, refl, if◌then◌else◌}
-use Rattle.std.proofs.lemmas.Bool.{eqb-true, ne_eqb, ltb-true, lt-ltb}
-use Rattle.std.specs.Option.{option_map}
-use Rattle.oneshot_world.specs.Scripts.{calls_of}
-use Rattle.oneshot_world.specs.Classes.{Classes, all_alike, as_name, as_move}
-use Rattle.oneshot_world.specs.ControlCodes.{bool_code}
-use Rattle.oneshot_world.specs.Reached.{one_poll}
-use Rattle.oneshot_world.specs.Wakers.{WakerMove, is_same_waker}
-use Rattle.oneshot_world.specs.World.{World, Tells, opening}
-use Rattle.oneshot_world.specs.declared.script.Move.{Move}
-use Rattle.oneshot_world.specs.declared.script.ReceiverScript.{ReceiverScript}
-use Rattle.oneshot_world.specs.declared.script.SenderScript.{SenderScript}
-use Rattle.oneshot_world.specs.declared.trace.Entry.{Entry}
-use Rattle.oneshot_world.specs.declared.trace.WakerName.{WakerName}
-use Rattle.oneshot_world.specs.declared.trace.WakerName.TheVariants.{Parker, Copy}
-use Rattle.oneshot_world.specs.declared.trace.WakerPlace.{WakerPlace}
-use Rattle.oneshot_world.specs.declared.trace.WakerPlace.TheVariants.{New, Hand, Cell, SenderHand, Used, Dropped}
-use Rattle.oneshot_world.proofs.Bools.{and_left, and_right}
-use Rattle.oneshot_world.proofs.ScriptsLeft.{or_right}
-use Rattle.oneshot_world.proofs.Listed.{is_listed}
-use Rattle.oneshot_laws.specs.Marks.{marks}
-use Rattle.oneshot_laws.specs.WakerPlaces.{is_same_waker_place, is_waker_move, is_waker_end, AreWakersRight}
+use Rattle.oneshot_laws.proofs.Names.{arith, ◌≡◌, ℕ, ◌+◌, ◌==◌, Bool, true, false, ◌&&◌, ◌||◌, List, [], ◌∷◌, Option}
+use Rattle.oneshot_laws.proofs.Names.{Some, None, nat_lt, refl, if◌then◌else◌, eqb-true, ne_eqb, ltb-true, lt-ltb}
+use Rattle.oneshot_laws.proofs.Names.{option_map, calls_of, Classes, all_alike, as_name, as_move, bool_code, one_poll}
+use Rattle.oneshot_laws.proofs.Names.{WakerMove, is_same_waker, World, Tells, opening, Move, ReceiverScript}
+use Rattle.oneshot_laws.proofs.Names.{SenderScript, Entry, WakerName, Parker, Copy, WakerPlace, New, Hand, Cell}
+use Rattle.oneshot_laws.proofs.Names.{SenderHand, Used, and_left, and_right, or_right, is_listed, marks}
+use Rattle.oneshot_laws.proofs.Names.{is_same_waker_place, is_waker_move, is_waker_end, AreWakersRight}
+use Rattle.oneshot_world.specs.declared.trace.WakerPlace.TheVariants.{Dropped}
 use Rattle.oneshot_laws.proofs.EndedRuns.{Ending, PassesEnding, kept, asked_run, ended_run}
 use Rattle.oneshot_laws.proofs.Glanced.{with_history, LawExplored, all_glanced, passes_by, Passed}
 use Rattle.oneshot_laws.proofs.Watched.{Names, no_names}

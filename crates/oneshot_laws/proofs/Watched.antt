@@ -1,25 +1,12 @@
 -- A reader of traces beside the machines, by classes of copies and polls: the checker explores both together,
 -- and what each found pair passes, each run passes.
-use Rattle.std.proofs.Common.{◌≡◌, ℕ, Bool, true, false, ◌&&◌, List, [], ◌∷◌, Option, Some, None, refl, sym, ◌∙◌, ap, subst}
-use Rattle.std.specs.List.{list_all, filter_map}
-use Rattle.std.specs.Option.{option_map}
-use Rattle.oneshot_machine.specs.declared.machine.End.{End}
-use Rattle.oneshot_machine.specs.declared.machine.End.TheVariants.{Sender, Receiver}
-use Rattle.oneshot_machine.specs.declared.machine.Reply.{Reply}
-use Rattle.oneshot_world.specs.Calls.{Call, Unanswered, first, left_by}
-use Rattle.oneshot_world.specs.Classes.{Classes, as_call, as_made}
-use Rattle.oneshot_world.specs.Control.{Control, Begin, begins, control_turn}
-use Rattle.oneshot_world.specs.ControlCodes.{control_code, is_same_control}
-use Rattle.oneshot_world.specs.Reached.{opening_control, one_poll, one_copy}
-use Rattle.oneshot_world.specs.Explore.{Tree, reach, is_in, all_in}
-use Rattle.oneshot_world.specs.World.{by_end}
-use Rattle.oneshot_world.specs.declared.trace.Entry.{Entry}
+use Rattle.oneshot_laws.proofs.Names.{◌≡◌, ℕ, Bool, true, false, ◌&&◌, List, [], ◌∷◌, Option, Some, None, refl, sym}
+use Rattle.oneshot_laws.proofs.Names.{◌∙◌, ap, subst, list_all, filter_map, option_map, End, Sender, Receiver, Reply}
+use Rattle.oneshot_laws.proofs.Names.{Call, Unanswered, first, left_by, Classes, as_call, as_made, Control, Begin}
+use Rattle.oneshot_laws.proofs.Names.{begins, control_turn, control_code, is_same_control, opening_control, one_poll}
+use Rattle.oneshot_laws.proofs.Names.{one_copy, Tree, reach, is_in, all_in, by_end, Entry, Made, Place, NotSent}
+use Rattle.oneshot_laws.proofs.Names.{control_is, or_stray, call_under_way}
 use Rattle.oneshot_world.specs.declared.trace.Entry.TheVariants.{Idle, Made as Made_entry}
-use Rattle.oneshot_world.specs.declared.trace.Made.{Made}
-use Rattle.oneshot_world.specs.declared.trace.Place.{Place}
-use Rattle.oneshot_world.specs.declared.trace.Place.TheVariants.{NotSent}
-use Rattle.oneshot_world.proofs.ControlCodes.{control_is}
-use Rattle.oneshot_laws.specs.Marks.{or_stray, call_under_way}
 use Rattle.oneshot_laws.proofs.Coding.{Coding, pairs, by_parts}
 
 -- the machines' finite part and the reader

@@ -1,7 +1,6 @@
 -- Tests that two values are alike, and what they tell.
-use Rattle.std.proofs.Common.{◌≡◌, ℕ, Bool, true, false, Option, Some, None, refl, ap}
-use Rattle.std.specs.Prelude.{◌==◌}
-use Rattle.std.proofs.lemmas.Bool.{eqb-true}
+use Rattle.std.proofs.Common.{◌≡◌, ℕ, Bool, true, false, Option, Some, None, refl}
+use Rattle.oneshot_word.proofs.Names.{ap, ◌==◌, eqb-true}
 
 abbrev pub is_bool : Bool → Bool → Bool
 is_bool true true = true

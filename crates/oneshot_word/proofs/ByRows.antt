@@ -1,21 +1,16 @@
 -- An order of two logs that are each an end's is an order by the rows of both phases' tables.
-use Rattle.std.proofs.Common.{◌≡◌, ℕ, Bool, true, false, List, [], ◌∷◌, ◌++◌, Option, Some, None, refl, sym, ap, ◌∙◌, subst, true≢false}
-use Rattle.std.specs.Prelude.{◌==◌, if◌then◌else◌}
-use Rattle.std.specs.List.{list_all}
-use Rattle.std.proofs.lemmas.Bool.{and_parts, eqb-true}
-use Rattle.oneshot_machine.specs.declared.machine.End.{End}
+use Rattle.std.proofs.Common.{◌≡◌, ℕ, Bool, true, false, List, [], ◌∷◌, Option, Some, None, refl}
+use Rattle.std.specs.Prelude.{if◌then◌else◌}
+use Rattle.oneshot_word.proofs.Names.{◌++◌, sym, ap, ◌∙◌, subst, true≢false, ◌==◌, list_all, and_parts, eqb-true, End}
+use Rattle.oneshot_word.proofs.Names.{Seen, Op, Load, Store, Swap, Exchange, Add, Xor, Noted, saw, is_same_op}
+use Rattle.oneshot_word.proofs.Names.{is_same_seen, InOrder, none_made, by_sender, by_receiver, HasRow, has_row}
+use Rattle.oneshot_word.proofs.Names.{Reaches, nothing_made, sender_makes, receiver_makes, Row, sending, dropping}
+use Rattle.oneshot_word.proofs.Names.{SenderAt, fresh, owes, finished, no_sender, sender_at, sender_next, sender_moves}
+use Rattle.oneshot_word.proofs.Names.{blocked, ReceiverAt, storing, swapped, first, here, full, unclosed, no_receiver}
+use Rattle.oneshot_word.proofs.Names.{receiver_at, receiver_next, receiver_moves, is_row_for, next_by, In, head, tail}
+use Rattle.oneshot_word.proofs.Names.{each_passes, ops_are_same, Passing, phase_from-snoc, ends_of}
 use Rattle.oneshot_machine.specs.declared.machine.End.TheVariants.{Sender, Receiver}
-use Rattle.oneshot_machine.specs.declared.machine.Seen.{Seen}
-use Rattle.oneshot_machine.specs.declared.states.Op.{Op}
-use Rattle.oneshot_machine.specs.declared.states.Op.TheVariants.{Load, Store, Swap, Exchange, Add, Xor}
-use Rattle.oneshot_machine.specs.Noted.{Noted, saw, is_same_op}
-use Rattle.oneshot_machine.specs.TableRows.{is_same_seen}
-use Rattle.oneshot_machine.specs.Orders.{InOrder, none_made, by_sender, by_receiver, HasRow, has_row, Reaches, nothing_made, sender_makes, receiver_makes}
-use Rattle.oneshot_machine.specs.Phases.{Row, sending, dropping, SenderAt, fresh, owes, finished, no_sender, sender_at, sender_next, sender_moves, looked, blocked, ReceiverAt, storing, swapped, first, here, waits, full, unclosed, no_receiver, receiver_at, receiver_next, receiver_moves, is_row_for, next_by}
-use Rattle.oneshot_machine.specs.Slots.{In, head, tail}
-use Rattle.oneshot_machine.proofs.Sameness.{each_passes, ops_are_same, Passing}
-use Rattle.oneshot_machine.proofs.GrownLogs.{phase_from-snoc}
-use Rattle.oneshot_word.specs.OneOrder.{ends_of}
+use Rattle.oneshot_machine.specs.Phases.{looked, waits}
 use Rattle.oneshot_word.proofs.Between.{between}
 use Rattle.oneshot_word.proofs.Meets.{word_between, Is, is}
 use Rattle.oneshot_word.proofs.RuleKept.{senders, is_sender}

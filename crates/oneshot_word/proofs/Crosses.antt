@@ -1,26 +1,23 @@
 -- Which parts of the sender's side may cross threads: they may where the message and the waker may.
 use mathlib.Core.List.{[]}
-use mir.Syntax.{impl, tnil, dnil}
+use mir.Syntax.{dnil}
 use denote.RattleType.{RattleType}
-use denote.Param.Send.{IsSend, IsSync, AllSend, AllSync, part_keyless}
-use denote.Struct.Owning.{fields}
+use Rattle.oneshot_word.proofs.Names.{impl, tnil, IsSend, IsSync, AllSend, AllSync, part_keyless, fields, frees, Ghosts}
+use Rattle.oneshot_word.proofs.Names.{the_type}
 use Rattle.std.specs.contracts.alloc.Global as Global
 use Rattle.std.specs.contracts.impls.GlobalAllocator.TheImpl as heap
 use Rattle.std.specs.contracts.sync.Arc as Arc
 use Rattle.std.proofs.sync.Arc.TheSendSync as arc
 use Rattle.std.proofs.alloc.Global.TheSendSync as global
-use Rattle.std.proofs.Crossing.{frees}
 use Rattle.atomic_table.specs.contracts.owned.Table as Table
 use Rattle.atomic_table.specs.contracts.shared.Seat as Seat
 use Rattle.atomic_table.proofs.owned.Table.TheSendSync as table
 use Rattle.atomic_table.proofs.shared.Seat.TheSendSync as seat
-use Rattle.oneshot_word.specs.declared.promise.Promise.{Ghosts}
 use Rattle.oneshot_word.specs.contracts.rule.Slot as Slot
 use Rattle.oneshot_word.specs.contracts.rule.View as View
 use Rattle.oneshot_word.specs.contracts.rule.WordRule as WordRule
 use Rattle.oneshot_word.specs.contracts.rule.WordRuleTableRuleSlotView.TheImpl as rule
 use Rattle.oneshot_word.proofs.rule.Slot.TheSendSync as slot
-use Rattle.oneshot_word.specs.contracts.sender.SenderSide.TheInside.{the_type}
 
 -- A `&` to a seat holds shares of the seat, and these name no thread.
 seat_sync : (S V : RattleType) → IsSend S → IsSync (Seat.the_row S V)

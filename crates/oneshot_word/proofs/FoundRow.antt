@@ -1,13 +1,8 @@
 -- The row of a phase's table for an operation that finds this word with the slots so.
-use Rattle.std.proofs.Common.{◌≡◌, ℕ, Bool, true, false, ◌&&◌, List, [], ◌∷◌, Option, Some, None, refl, subst}
-use Rattle.std.specs.Prelude.{◌==◌, if◌then◌else◌}
-use Rattle.std.proofs.lemmas.Bool.{and_parts, eqb-true}
-use Rattle.oneshot_machine.specs.declared.states.Op.{Op}
-use Rattle.oneshot_machine.specs.Noted.{is_same_op}
-use Rattle.oneshot_machine.specs.Phases.{Slots, Row}
-use Rattle.oneshot_machine.specs.Slots.{In, head, tail}
-use Rattle.oneshot_machine.proofs.Sameness.{ops_are_same}
-use Rattle.oneshot_machine.proofs.Sameness.{is_same_share, shares_are_same}
+use Rattle.std.proofs.Common.{◌≡◌, ℕ, Bool, true, false, List, [], ◌∷◌, Option, Some, None, refl}
+use Rattle.std.specs.Prelude.{if◌then◌else◌}
+use Rattle.oneshot_word.proofs.Names.{◌&&◌, subst, ◌==◌, and_parts, eqb-true, Op, is_same_op, Slots, Row, In, head}
+use Rattle.oneshot_word.proofs.Names.{tail, ops_are_same, is_same_share, shares_are_same}
 
 module _ {At : Type 0} where
   abbrev pub is_row : Op → Slots → ℕ → Row At → Bool

@@ -1,5 +1,6 @@
 -- A list with a last element is not empty, and determines that and what is before it.
-use Rattle.std.proofs.Common.{◌≡◌, List, [], ◌∷◌, ◌++◌, refl, sym}
+use Rattle.oneshot_word.proofs.Names.{◌++◌, sym}
+use Rattle.std.proofs.Common.{◌≡◌, List, [], ◌∷◌, refl}
 
 pub not_empty : {X : Type 0} (xs : List X) (x : X) → xs ++ x ∷ [] ≡ [] → ⊥
 not_empty [] x e = cc

@@ -24,3 +24,4 @@ mod RuleExamples
 mod SeatExamples
 mod SideExamples
 mod ReadExamples
+pub mod Names

@@ -1,15 +1,8 @@
 -- What owns a share of the table and a seat that stands on it owns a sender's side. Assumes `Logic`.
-use Rattle.atomic_table.proofs.Names.{◌≡◌, List, [], ◌∷◌, refl, Val, vstruct, vcons, vnil, fsep, ftrue, ‵, ◌$◌, ◌∵◌, !, qed, move, fjoin, fpack, feq_i, RattleType, owns, Valss, nothing}
-use seplogic.Ra.Ura.{Ura}
-use base.Logic.{ent}
-use types.Kit.{done}
-use types.Logic.{Logic, sem}
-use denote.Struct.Owning.{shape}
-use denote.Struct.Struct.{within}
-use Rattle.std.specs.Arc.{arc_value}
-use Rattle.oneshot_word.specs.declared.promise.Promise.{Ghosts}
-use Rattle.oneshot_word.specs.Seats.{IsAt, SenderSeat}
-use Rattle.oneshot_word.specs.Side.{side_of}
+use Rattle.atomic_table.proofs.Names.{◌≡◌, List, [], ◌∷◌, refl, RattleType, owns}
+use Rattle.oneshot_word.proofs.Names.{Val, vstruct, vcons, vnil, fsep, ftrue, ‵, ◌$◌, ◌∵◌, !, qed, move, fjoin, fpack}
+use Rattle.oneshot_word.proofs.Names.{feq_i, Valss, nothing, Ura, ent, done, Logic, sem, shape, within, arc_value}
+use Rattle.oneshot_word.proofs.Names.{Ghosts, IsAt, SenderSeat, side_of}
 use Rattle.oneshot_word.specs.contracts.sender.SenderSide as side
 use Rattle.oneshot_word.specs.contracts.sender.SenderSide.TheInside as Inside
 use Rattle.oneshot_word.proofs.Crosses.{Shared, WordSeat}

@@ -1,11 +1,11 @@
 -- What follows from the rule by phases: the word for each pair in which the ends can be, and what each log says.
 use Rattle.std.specs.Prelude.{◌≡◌, ℕ, Bool, true, false, List, [], Option, Some, None}
-use Rattle.oneshot_machine.specs.Noted.{Noted}
-use Rattle.oneshot_machine.specs.Phases.{By, sending, dropping, SenderAt, fresh, owes, finished, late, overtaken, swapped, found_closed, closed_itself, ReceiverAt, first, here, waits, claimed, withdrew, overdue, full, unclosed, disconnected, resolved, gone, ended, swapped_in, word_of}
-use Rattle.oneshot_word.specs.declared.rule.Slot.TheVariants.{Message}
-use Rattle.oneshot_word.specs.EndLogs.{FoundZero, MadeLast, MadeLate, stores_waker, is_overdue, is_gone, wrote_since}
-use Rattle.oneshot_word.specs.Rule.{Home, message_home, waker_home, Lies}
-use Rattle.oneshot_word.specs.Seats.{any, with_waker}
+use Rattle.oneshot_word.proofs.Names.{Noted, By, sending, dropping, SenderAt, fresh, owes, finished, late, overtaken}
+use Rattle.oneshot_word.proofs.Names.{swapped, found_closed, closed_itself, ReceiverAt, first, here, claimed, withdrew}
+use Rattle.oneshot_word.proofs.Names.{overdue, full, unclosed, disconnected, resolved, gone, swapped_in, word_of}
+use Rattle.oneshot_word.proofs.Names.{Message, FoundZero, MadeLast, MadeLate, stores_waker, is_overdue, is_gone}
+use Rattle.oneshot_word.proofs.Names.{wrote_since, Home, message_home, waker_home, Lies, any, with_waker}
+use Rattle.oneshot_machine.specs.Phases.{waits, ended}
 
 -- the word that the sender's final operation leaves, but for an add or a flip that found the receiver gone
 abbrev pub final_word : By → ℕ

@@ -1,13 +1,8 @@
 -- A message that lies in the table keeps its channel's promise.
-use Rattle.std.proofs.Common.{◌≡◌, ℕ, List, [], ◌∷◌, refl, subst}
-use Rattle.oneshot_machine.specs.declared.states.Op.TheVariants.{Add}
-use Rattle.oneshot_machine.specs.Orders.{nothing_made, sender_makes, has_row}
-use Rattle.oneshot_machine.specs.Phases.{Share}
-use Rattle.oneshot_machine.specs.Slots.{head}
-use Rattle.oneshot_word.specs.declared.rule.Slot.TheVariants.{Message}
-use Rattle.oneshot_word.specs.declared.rule.View.{View}
-use Rattle.oneshot_word.specs.Promised.{RuleKeeps}
-use Rattle.oneshot_word.specs.Rule.{Home, has_message, Lies, lies_out, lies_bare, lies_filled, took_none, Tied, opened, dealt, runs}
+use Rattle.std.proofs.Common.{◌≡◌, ℕ, List, [], ◌∷◌, refl}
+use Rattle.oneshot_word.proofs.Names.{subst, Add, nothing_made, sender_makes, has_row, Share, head, Message, View}
+use Rattle.oneshot_word.proofs.Names.{RuleKeeps, Home, has_message, Lies, lies_out, lies_bare, lies_filled, took_none}
+use Rattle.oneshot_word.proofs.Names.{Tied, opened, dealt, runs}
 
 module _ {T H K : Type 0} where
   pub lies_so : {kept : T → Type 0} {share : Share} {h : Home T H K} {m : T}

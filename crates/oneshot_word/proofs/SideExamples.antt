@@ -1,15 +1,8 @@
 -- The examples of sides: each by its row of the table, and what the others lack.
-use Rattle.std.proofs.Common.{◌≡◌, ℕ, List, [], Some, None, get_or, refl, ap}
-use Rattle.atomic_table.specs.Seated.{TableId}
-use Rattle.oneshot_machine.specs.declared.machine.Seen.{Seen}
-use Rattle.oneshot_machine.specs.declared.machine.Seen.TheVariants.{Done, Word}
-use Rattle.oneshot_machine.specs.declared.states.Op.TheVariants.{Add}
-use Rattle.oneshot_machine.specs.Noted.{Noted}
-use Rattle.oneshot_machine.specs.RowExamples.{no_slot, room, has}
-use Rattle.oneshot_machine.specs.Slots.{finds}
-use Rattle.oneshot_machine.proofs.RowExamples.{slots_that_are, slots_that_are_not}
-use Rattle.oneshot_word.specs.SeatExamples.{claims, looked, sent_at_once}
-use Rattle.oneshot_word.specs.SideExamples.{SidesThatAre, SidesThatAreNot}
+use Rattle.std.proofs.Common.{◌≡◌, ℕ, List, [], Some, None, refl}
+use Rattle.oneshot_word.proofs.Names.{get_or, ap, TableId, Seen, Done, Word, Add, Noted, no_slot, room, has, finds}
+use Rattle.oneshot_word.proofs.Names.{slots_that_are, slots_that_are_not, sent_at_once, SidesThatAre, SidesThatAreNot}
+use Rattle.oneshot_word.specs.SeatExamples.{claims, looked}
 
 pub sides_that_are : SidesThatAre
 sides_that_are =

@@ -1,17 +1,11 @@
 -- What the view of a seat says of the table: whose the seat is, and what the rule says then.
-use Rattle.std.proofs.Common.{◌≡◌, ℕ, zero, suc, List, [], ◌∷◌, Option, None, sym, ap, subst}
+use Rattle.std.proofs.Common.{◌≡◌, ℕ, List, [], ◌∷◌, Option, None}
 use mathlib.Core.Option as maybe
-use mathlib.Core.Option.{some-injective, some-ne-none}
-use lib.ListN.{get_elem?}
-use Rattle.oneshot_machine.specs.Noted.{Noted}
-use Rattle.oneshot_machine.specs.Orders.{Reaches}
-use Rattle.oneshot_machine.specs.Phases.{sender_at, receiver_at}
-use Rattle.oneshot_word.specs.declared.rule.Role.{Role}
-use Rattle.oneshot_word.specs.declared.rule.Role.TheVariants.{Maker, Dealer, Sender, Receiver}
-use Rattle.oneshot_word.specs.declared.rule.Slot.TheVariants.{Message}
-use Rattle.oneshot_word.specs.declared.rule.View.{View}
-use Rattle.oneshot_word.specs.Rule.{Home, out, bare, message_home, waker_home, Lies, IsGiven, IsTaken, Tied, opened, dealt, runs}
-use Rattle.oneshot_word.specs.Seats.{view, any, with_waker}
+use Rattle.oneshot_word.proofs.Names.{zero, suc, sym, ap, subst, some-injective, some-ne-none, get_elem?, Noted}
+use Rattle.oneshot_word.proofs.Names.{Reaches, sender_at, receiver_at, Role, Maker, Dealer, Message, View, Home, out}
+use Rattle.oneshot_word.proofs.Names.{bare, message_home, waker_home, Lies, IsGiven, IsTaken, Tied, opened, dealt, runs}
+use Rattle.oneshot_word.proofs.Names.{view, any, with_waker}
+use Rattle.oneshot_word.specs.declared.rule.Role.TheVariants.{Sender, Receiver}
 
 module _ {T H K P : Type 0} (keeps : P → T → Type 0) where
   -- a seat of the table, with the role, the log and the message of its view

@@ -1,6 +1,5 @@
 -- What a conjunction of tests tells of its parts.
-use Rattle.std.proofs.Common.{◌≡◌, Bool, true, false, List, [], ◌∷◌, ◌++◌, refl, ◌&&◌}
-use Rattle.std.specs.List.{list_all}
+use Rattle.oneshot_world.proofs.Names.{◌≡◌, Bool, true, false, List, [], ◌∷◌, ◌++◌, refl, ◌&&◌, list_all}
 
 pub and_left : (a b : Bool) → (a && b) ≡ true → a ≡ true
 and_left true b h = refl

@@ -1,34 +1,21 @@
 -- What a turn does is the same by classes: a step asks of a waker only whether it is the parker's half, and
 -- of a poll nothing.
-use Rattle.std.proofs.Common.{◌≡◌, Bool, true, false, Option, Some, None, refl, ap, if◌then◌else◌}
-use Rattle.std.specs.Option.{option_map, option_and_then}
-use Rattle.oneshot_machine.specs.Receiver.{receiver_step, receiver_row}
-use Rattle.oneshot_machine.specs.TableRows.{Outcome}
-use Rattle.oneshot_machine.specs.Sender.{sender_step, sender_row}
-use Rattle.oneshot_machine.specs.declared.machine.End.{End}
-use Rattle.oneshot_machine.specs.declared.machine.End.TheVariants.{Sender, Receiver}
-use Rattle.oneshot_machine.specs.declared.machine.Reply.{Reply}
-use Rattle.oneshot_machine.specs.declared.machine.Step.{Step}
+use Rattle.oneshot_world.proofs.Names.{◌≡◌, Bool, true, false, Option, Some, None, refl, ap, if◌then◌else◌, option_map}
+use Rattle.oneshot_world.proofs.Names.{option_and_then, receiver_step, receiver_row, Outcome, sender_step, sender_row}
+use Rattle.oneshot_world.proofs.Names.{End, Sender, Receiver, Reply, Step, ReceiverPos, SenderPos, Call, Poll}
+use Rattle.oneshot_world.proofs.Names.{as_sender_call, as_receiver_call, Classes, as_name, as_wakers, as_told, as_state}
+use Rattle.oneshot_world.proofs.Names.{as_call, as_made, as_turned, Control, Begin, control_then, control_turn}
+use Rattle.oneshot_world.proofs.Names.{sender_under_way, receiver_under_way, as_begin, as_control, as_control_turned}
+use Rattle.oneshot_world.proofs.Names.{turns, sender_turns_at, receiver_turns_at, position_of_sender}
+use Rattle.oneshot_world.proofs.Names.{position_of_receiver, sender_stepped, sender_moved, receiver_moved}
+use Rattle.oneshot_world.proofs.Names.{receiver_stepped, made, made_entry, sender_fits, receiver_fits, hand_kept}
+use Rattle.oneshot_world.proofs.Names.{seen_by, reply_of, is_future, sender_puts, receiver_puts, wakers_left}
+use Rattle.oneshot_world.proofs.Names.{sets_token, own_of, ReceiverState, SenderState, State, Entry, Made, Place, Told}
+use Rattle.oneshot_world.proofs.Names.{Wakers}
 use Rattle.oneshot_machine.specs.declared.machine.Step.TheVariants as T
-use Rattle.oneshot_machine.specs.declared.machine.receiver.ReceiverPos.{ReceiverPos}
-use Rattle.oneshot_machine.specs.declared.machine.sender.SenderPos.{SenderPos}
 use Rattle.oneshot_machine.specs.declared.states.Op.TheVariants as O
-use Rattle.oneshot_world.specs.Calls.{Call, Poll, as_sender_call, as_receiver_call}
-use Rattle.oneshot_world.specs.Classes.{Classes, as_name, as_wakers, as_told, as_state, as_call, as_made, as_turned}
-use Rattle.oneshot_world.specs.Control.{Control, Begin, control_then, control_turn, sender_under_way, receiver_under_way, as_begin, as_control, as_control_turned}
-use Rattle.oneshot_world.specs.State.{turns, sender_turns_at, receiver_turns_at, position_of_sender, position_of_receiver, sender_stepped, sender_moved, receiver_moved, receiver_stepped, made, made_entry, sender_fits, receiver_fits, hand_kept}
-use Rattle.oneshot_world.specs.Effects.{seen_by, reply_of, is_future, sender_puts, receiver_puts}
-use Rattle.oneshot_world.specs.Wakers.{wakers_left, sets_token, own_of}
-use Rattle.oneshot_world.specs.declared.state.ReceiverState.{ReceiverState}
 use Rattle.oneshot_world.specs.declared.state.ReceiverState.TheVariants as RS
-use Rattle.oneshot_world.specs.declared.state.SenderState.{SenderState}
 use Rattle.oneshot_world.specs.declared.state.SenderState.TheVariants as SS
-use Rattle.oneshot_world.specs.declared.state.State.{State}
-use Rattle.oneshot_world.specs.declared.trace.Entry.{Entry}
-use Rattle.oneshot_world.specs.declared.trace.Made.{Made}
-use Rattle.oneshot_world.specs.declared.trace.Place.{Place}
-use Rattle.oneshot_world.specs.declared.wakers.Told.{Told}
-use Rattle.oneshot_world.specs.declared.wakers.Wakers.{Wakers}
 use Rattle.oneshot_world.proofs.CommutesWakers.{some_as, none_as, copy_as, parker_as, wakers_as, waker_moved_as}
 
 token_as : (k : Classes) (w : Wakers) (step : Step) → sets_token (as_wakers k w) step ≡ sets_token w step

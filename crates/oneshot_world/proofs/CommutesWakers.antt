@@ -1,17 +1,11 @@
 -- What a step does with the wakers is the same by classes.
-use Rattle.std.proofs.Common.{◌≡◌, ℕ, Bool, true, false, Option, Some, None, refl, ◌∙◌, ap, ◌==◌, is_some, is_none, if◌then◌else◌}
-use Rattle.std.specs.Option.{option_map}
-use Rattle.oneshot_machine.specs.declared.machine.Step.{Step}
+use Rattle.oneshot_world.proofs.Names.{◌≡◌, ℕ, Bool, true, false, Option, Some, None, refl, ◌∙◌, ap, ◌==◌, is_some}
+use Rattle.oneshot_world.proofs.Names.{is_none, if◌then◌else◌, option_map, Step, Classes, as_name, as_wakers, as_told}
+use Rattle.oneshot_world.proofs.Names.{as_move, is_parker, is_copy, withdrawn, back_to, wakers_left, waker_move}
+use Rattle.oneshot_world.proofs.Names.{WakerName, Parker, Copy, WakerPlace, Told, Wakers}
 use Rattle.oneshot_machine.specs.declared.machine.Step.TheVariants as T
 use Rattle.oneshot_machine.specs.declared.states.Op.TheVariants as O
-use Rattle.oneshot_world.specs.Classes.{Classes, as_name, as_wakers, as_told, as_move}
-use Rattle.oneshot_world.specs.Wakers.{is_parker, is_copy, withdrawn, back_to, wakers_left, waker_move}
-use Rattle.oneshot_world.specs.declared.trace.WakerName.{WakerName}
-use Rattle.oneshot_world.specs.declared.trace.WakerName.TheVariants.{Parker, Copy}
-use Rattle.oneshot_world.specs.declared.trace.WakerPlace.{WakerPlace}
 use Rattle.oneshot_world.specs.declared.trace.WakerPlace.TheVariants as WakerPlaces
-use Rattle.oneshot_world.specs.declared.wakers.Told.{Told}
-use Rattle.oneshot_world.specs.declared.wakers.Wakers.{Wakers}
 
 -- what a step asks of a place for a waker
 pub some_as : {X Y : Type 0} (f : X → Y) (x : Option X) → is_some (option_map f x) ≡ is_some x

@@ -1,38 +1,21 @@
 -- Values that are compared by their codes are the same where their codes are.
-use Rattle.std.proofs.Common.{◌≡◌, ℕ, Bool, true, false, List, [], ◌∷◌, Option, Some, None, refl, sym, ◌∙◌, ap, ◌==◌, ◌&&◌, get_or, map, if◌then◌else◌}
-use Rattle.std.proofs.lemmas.Bool.{eqb-true}
-use Rattle.oneshot_machine.specs.Sender.{sender_positions}
-use Rattle.oneshot_machine.specs.Receiver.{receiver_positions}
+use Rattle.oneshot_world.proofs.Names.{◌≡◌, ℕ, Bool, true, false, List, [], ◌∷◌, Option, Some, None, refl, sym, ◌∙◌, ap}
+use Rattle.oneshot_world.proofs.Names.{◌==◌, ◌&&◌, get_or, map, if◌then◌else◌, eqb-true, sender_positions}
+use Rattle.oneshot_world.proofs.Names.{receiver_positions, LookFull, TryLoad, StartLoad, StartWrite, StartSwap}
+use Rattle.oneshot_world.proofs.Names.{SumClock, RecvLoad, AsyncLoad, DropSwap, ReceiverStart, SenderCall, Call}
+use Rattle.oneshot_world.proofs.Names.{Of_sender, Of_receiver, Poll, Stray, all_sender_calls, all_receiver_calls}
+use Rattle.oneshot_world.proofs.Names.{Control, sender_code, receiver_code, sender_call_code, receiver_call_code}
+use Rattle.oneshot_world.proofs.Names.{is_same_call, is_same_under_way, place_code, bool_code, is_same_wakers}
+use Rattle.oneshot_world.proofs.Names.{is_same_state, is_same_control, is_same_name, is_same_waker, ReceiverState}
+use Rattle.oneshot_world.proofs.Names.{SenderState, State, Place, NotSent, InCell, InError, Delivered, FromError}
+use Rattle.oneshot_world.proofs.Names.{Dropped, WakerName, Parker, Copy, Wakers}
 use Rattle.oneshot_machine.specs.declared.machine.future.FuturePos.TheVariants as F
 use Rattle.oneshot_machine.specs.declared.machine.receiver.ReceiverPos.TheVariants as R
-use Rattle.oneshot_machine.specs.declared.machine.look.LookPos.TheVariants.{LookFull}
-use Rattle.oneshot_machine.specs.declared.machine.try_recv.TryPos.TheVariants.{TryLoad}
-use Rattle.oneshot_machine.specs.declared.machine.by_ref.RefPos.TheVariants.{StartLoad, StartWrite, StartSwap}
-use Rattle.oneshot_machine.specs.declared.machine.timed.TimedPos.TheVariants.{SumClock}
-use Rattle.oneshot_machine.specs.declared.machine.value.ValuePos.TheVariants.{RecvLoad}
-use Rattle.oneshot_machine.specs.declared.machine.async_drop.AsyncDropPos.TheVariants.{AsyncLoad}
-use Rattle.oneshot_machine.specs.declared.machine.drop.DropPos.TheVariants.{DropSwap}
 use Rattle.oneshot_machine.specs.declared.machine.sender.SenderPos.TheVariants as S
-use Rattle.oneshot_machine.specs.declared.machine.receiver.ReceiverStart.{ReceiverStart}
 use Rattle.oneshot_machine.specs.declared.machine.receiver.ReceiverStart.TheVariants as RC
-use Rattle.oneshot_machine.specs.declared.machine.sender.SenderCall.{SenderCall}
 use Rattle.oneshot_machine.specs.declared.machine.sender.SenderCall.TheVariants as SC
-use Rattle.oneshot_world.specs.Calls.{Call, Of_sender, Of_receiver, Poll, Stray}
-use Rattle.oneshot_machine.specs.Sender.{all_sender_calls}
-use Rattle.oneshot_machine.specs.Receiver.{all_receiver_calls}
-use Rattle.oneshot_world.specs.Control.{Control}
-use Rattle.oneshot_world.specs.ControlCodes.{sender_code, receiver_code, sender_call_code, receiver_call_code, is_same_call, is_same_under_way, place_code, bool_code, is_same_wakers, is_same_state, is_same_control, is_same_name}
-use Rattle.oneshot_world.specs.Wakers.{is_same_waker}
-use Rattle.oneshot_world.specs.declared.state.ReceiverState.{ReceiverState}
 use Rattle.oneshot_world.specs.declared.state.ReceiverState.TheVariants as RS
-use Rattle.oneshot_world.specs.declared.state.SenderState.{SenderState}
 use Rattle.oneshot_world.specs.declared.state.SenderState.TheVariants as SS
-use Rattle.oneshot_world.specs.declared.state.State.{State}
-use Rattle.oneshot_world.specs.declared.trace.Place.{Place}
-use Rattle.oneshot_world.specs.declared.trace.Place.TheVariants.{NotSent, InCell, InError, Delivered, FromError, Dropped}
-use Rattle.oneshot_world.specs.declared.trace.WakerName.{WakerName}
-use Rattle.oneshot_world.specs.declared.trace.WakerName.TheVariants.{Parker, Copy}
-use Rattle.oneshot_world.specs.declared.wakers.Wakers.{Wakers}
 use Rattle.oneshot_world.proofs.Bools.{and_left, and_right}
 
 -- a code under which each value stands in a list

@@ -1,6 +1,5 @@
 -- A test that passes on all values of a search tree passes on each value that is found in it.
-use Rattle.std.proofs.Common.{◌≡◌, ℕ, Bool, true, false, nat_lt}
-use Rattle.oneshot_world.specs.Explore.{Tree, Leaf, Node, all_in, is_in}
+use Rattle.oneshot_world.proofs.Names.{◌≡◌, ℕ, Bool, true, false, nat_lt, Tree, Leaf, Node, all_in, is_in}
 use Rattle.oneshot_world.proofs.Bools.{and_left, and_right}
 
 pub passes_where_found : {X : Type 0} (code : X → ℕ) (is_same : X → X → Bool) → ((x y : X) → is_same x y ≡ true → x ≡ y)

@@ -15,3 +15,4 @@ pub mod ReachedOpening
 pub mod ScriptsAnswered
 pub mod WorldTurns
 pub mod WorldDetermined
+pub mod Names

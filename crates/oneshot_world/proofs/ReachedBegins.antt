@@ -1,29 +1,19 @@
 -- What passes at each move that may begin in a world that a run reaches passes at the move that an end makes there.
-use Rattle.std.proofs.Common.{◌≡◌, ◌==◌, ℕ, Bool, true, false, List, [], ◌∷◌, Option, Some, subst, if◌then◌else◌, map, filter}
-use Rattle.std.specs.List.{list_all}
-use Rattle.std.specs.Option.{option_map, option_and_then}
-use Rattle.oneshot_machine.specs.declared.machine.End.TheVariants.{Sender, Receiver}
-use Rattle.oneshot_machine.specs.declared.machine.receiver.ReceiverPos.{ReceiverPos}
-use Rattle.oneshot_machine.specs.declared.machine.sender.SenderPos.{SenderPos}
-use Rattle.oneshot_world.specs.Calls.{Call, Of_sender, Of_receiver, Poll, number_of, first, as_sender_call, as_receiver_call}
-use Rattle.oneshot_machine.specs.Sender.{all_sender_calls}
-use Rattle.oneshot_machine.specs.Receiver.{all_receiver_calls}
-use Rattle.oneshot_world.specs.Classes.{Classes, as_call}
-use Rattle.oneshot_world.specs.Control.{Begin, begins_poll, poll_begin, plain_told, as_begin, sender_begins, receiver_begins_at, receiver_begins, sender_under_way, receiver_under_way, begins_with}
-use Rattle.oneshot_world.specs.Scripts.{stays_sender, ends_sender, stays_error, ends_error, begins_sender, begins_error, begins_receiver, begins_async, stays_async, ends_async}
-use Rattle.oneshot_world.specs.ScriptsLeft.{sender_has, receiver_has}
-use Rattle.oneshot_world.specs.State.{sender_position, receiver_position}
-use Rattle.oneshot_world.specs.World.{nothing_told, told_with}
-use Rattle.oneshot_world.specs.declared.state.ReceiverState.{ReceiverState}
+use Rattle.oneshot_world.proofs.Names.{◌≡◌, ◌==◌, ℕ, Bool, true, false, List, [], ◌∷◌, Option, Some, subst}
+use Rattle.oneshot_world.proofs.Names.{if◌then◌else◌, map, filter, list_all, option_map, option_and_then, Sender}
+use Rattle.oneshot_world.proofs.Names.{Receiver, ReceiverPos, SenderPos, Call, Of_sender, Of_receiver, Poll, number_of}
+use Rattle.oneshot_world.proofs.Names.{first, as_sender_call, as_receiver_call, all_sender_calls, all_receiver_calls}
+use Rattle.oneshot_world.proofs.Names.{Classes, as_call, Begin, begins_poll, poll_begin, plain_told, as_begin}
+use Rattle.oneshot_world.proofs.Names.{sender_begins, receiver_begins_at, receiver_begins, sender_under_way}
+use Rattle.oneshot_world.proofs.Names.{receiver_under_way, begins_with, stays_sender, ends_sender, stays_error}
+use Rattle.oneshot_world.proofs.Names.{ends_error, begins_sender, begins_error, begins_receiver, begins_async}
+use Rattle.oneshot_world.proofs.Names.{stays_async, ends_async, sender_has, receiver_has, sender_position}
+use Rattle.oneshot_world.proofs.Names.{receiver_position, nothing_told, told_with, ReceiverState, SenderState, Place}
+use Rattle.oneshot_world.proofs.Names.{Told, End, sender_call_code, receiver_call_code}
 use Rattle.oneshot_world.specs.declared.state.ReceiverState.TheVariants as RS
-use Rattle.oneshot_world.specs.declared.state.SenderState.{SenderState}
 use Rattle.oneshot_world.specs.declared.state.SenderState.TheVariants as SS
-use Rattle.oneshot_world.specs.declared.trace.Place.{Place}
 use Rattle.oneshot_world.proofs.Bools.{and_left, and_right, all_left, all_right}
-use Rattle.oneshot_world.specs.declared.wakers.Told.{Told}
 use Rattle.oneshot_world.proofs.Listed.{is_listed, all_mapped, all_flat}
-use Rattle.oneshot_machine.specs.declared.machine.End.{End}
-use Rattle.oneshot_world.specs.ControlCodes.{sender_call_code, receiver_call_code}
 use Rattle.oneshot_world.proofs.ControlCodes.{with_code, sender_call_back, receiver_call_back}
 use Rattle.oneshot_world.proofs.ScriptsLeft.{script_begins, receiver_script_begins}
 

@@ -1,31 +1,17 @@
 -- A turn from a world that a run reaches leads to what a run reaches, as its finite part shows it.
-use Rattle.std.proofs.Common.{◌≡◌, ◌≤◌, ◌==◌, ℕ, Bool, true, false, List, Option, Some, None, refl, ◌∙◌, ap, subst, ◌&&◌, ◌||◌, nat_le, if◌then◌else◌}
-use Rattle.std.proofs.lemmas.Bool.{leb-true}
-use Rattle.std.specs.List.{list_all}
-use Rattle.std.specs.Option.{option_map, IsSome}
-use Rattle.oneshot_machine.specs.declared.machine.End.TheVariants.{Sender, Receiver}
-use Rattle.oneshot_machine.specs.declared.machine.Reply.{Reply}
+use Rattle.oneshot_world.proofs.Names.{◌≡◌, ◌≤◌, ◌==◌, ℕ, Bool, true, false, List, Option, Some, None, refl, ◌∙◌, ap}
+use Rattle.oneshot_world.proofs.Names.{subst, ◌&&◌, ◌||◌, nat_le, if◌then◌else◌, leb-true, list_all, option_map, IsSome}
+use Rattle.oneshot_world.proofs.Names.{Sender, Receiver, Reply, ReceiverPos, SenderPos, Call, first, Classes, all_alike}
+use Rattle.oneshot_world.proofs.Names.{Control, control_of, Begin, begins, as_begin, as_control, as_control_turned}
+use Rattle.oneshot_world.proofs.Names.{sender_begins, control_then, control_turn, one_poll, one_copy, reached}
+use Rattle.oneshot_world.proofs.Names.{is_reached, IsReached, bool_code, control_code, is_same_control, stays_sender}
+use Rattle.oneshot_world.proofs.Names.{ends_sender, stays_error, ends_error, all_in, sender_turns_at, receiver_turns_at}
+use Rattle.oneshot_world.proofs.Names.{position_of_sender, position_of_receiver, sender_steps, receiver_steps}
+use Rattle.oneshot_world.proofs.Names.{made_entry, is_future, World, by_end, reply_in, nothing_told, receiver_told}
+use Rattle.oneshot_world.proofs.Names.{ReceiverState, SenderState, State, Entry, Made, NotSent}
 use Rattle.oneshot_machine.specs.declared.machine.Reply.TheVariants as Replies
-use Rattle.oneshot_machine.specs.declared.machine.receiver.ReceiverPos.{ReceiverPos}
-use Rattle.oneshot_machine.specs.declared.machine.sender.SenderPos.{SenderPos}
-use Rattle.oneshot_world.specs.Calls.{Call, first}
-use Rattle.oneshot_world.specs.Classes.{Classes, all_alike}
-use Rattle.oneshot_world.specs.Control.{Control, control_of, Begin, begins, as_begin, as_control, as_control_turned, sender_begins, control_then, control_turn}
-use Rattle.oneshot_world.specs.Reached.{one_poll, one_copy, reached, is_reached, IsReached}
-use Rattle.oneshot_world.specs.ControlCodes.{bool_code, control_code, is_same_control}
-use Rattle.oneshot_world.specs.Scripts.{stays_sender, ends_sender, stays_error, ends_error}
-use Rattle.oneshot_world.specs.Explore.{all_in}
-use Rattle.oneshot_world.specs.State.{sender_turns_at, receiver_turns_at, position_of_sender, position_of_receiver, sender_steps, receiver_steps, made_entry}
-use Rattle.oneshot_world.specs.Effects.{is_future}
-use Rattle.oneshot_world.specs.World.{World, by_end, reply_in, nothing_told, receiver_told}
-use Rattle.oneshot_world.specs.declared.state.ReceiverState.{ReceiverState}
 use Rattle.oneshot_world.specs.declared.state.ReceiverState.TheVariants as RS
-use Rattle.oneshot_world.specs.declared.state.SenderState.{SenderState}
 use Rattle.oneshot_world.specs.declared.state.SenderState.TheVariants as SS
-use Rattle.oneshot_world.specs.declared.state.State.{State}
-use Rattle.oneshot_world.specs.declared.trace.Entry.{Entry}
-use Rattle.oneshot_world.specs.declared.trace.Made.{Made}
-use Rattle.oneshot_world.specs.declared.trace.Place.TheVariants.{NotSent}
 use Rattle.oneshot_world.proofs.Bools.{and_left, and_right, all_left, all_right}
 use Rattle.oneshot_world.proofs.CommutesTurns.{control_turn_as}
 use Rattle.oneshot_world.proofs.ControlCodes.{control_is}

@@ -1,16 +1,8 @@
 -- The world before the first move is one that a run reaches.
-use Rattle.std.proofs.Common.{◌≡◌, true, Some, None, refl}
-use Rattle.oneshot_world.specs.Scripts.{error_calls}
-use Rattle.oneshot_world.specs.Classes.{all_alike}
-use Rattle.oneshot_world.specs.Control.{as_control}
-use Rattle.oneshot_world.specs.Reached.{reached, is_reached, IsReached, opening_control}
-use Rattle.oneshot_world.specs.ScriptsLeft.{is_error_script}
-use Rattle.oneshot_world.specs.World.{opening, opening_place}
-use Rattle.oneshot_world.specs.declared.script.ReceiverScript.{ReceiverScript}
-use Rattle.oneshot_world.specs.declared.script.SenderLast.{SenderLast}
+use Rattle.oneshot_world.proofs.Names.{◌≡◌, true, Some, None, refl, error_calls, all_alike, as_control, reached}
+use Rattle.oneshot_world.proofs.Names.{is_reached, IsReached, opening_control, is_error_script, opening, opening_place}
+use Rattle.oneshot_world.proofs.Names.{ReceiverScript, SenderLast, SenderScript, NotSent}
 use Rattle.oneshot_world.specs.declared.script.SenderLast.TheVariants as SL
-use Rattle.oneshot_world.specs.declared.script.SenderScript.{SenderScript}
-use Rattle.oneshot_world.specs.declared.trace.Place.TheVariants.{NotSent}
 use Rattle.oneshot_world.proofs.ScriptsLeft.{error_scripted, sender_scripted, receiver_scripted}
 
 nothing_sent : is_reached (as_control all_alike (opening_control None)) ≡ true

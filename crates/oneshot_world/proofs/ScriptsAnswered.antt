@@ -1,17 +1,11 @@
 -- A receiver's script that is answered call by call.
-use Rattle.std.proofs.Common.{◌≡◌, ℕ, ◌+◌, ◌<◌, List, [], ◌∷◌, Option, Some, None, true, is_some, refl, length, drop, get_or, add-one, drop-cons}
-use Rattle.oneshot_machine.specs.declared.machine.End.TheVariants.{Receiver}
-use Rattle.oneshot_machine.specs.declared.machine.Reply.{Reply}
-use Rattle.oneshot_world.specs.Calls.{Unanswered, first, number_of, rest, left_by}
-use Rattle.oneshot_world.specs.Scripts.{receiver_call, receiver_calls, async_call, async_calls}
-use Rattle.oneshot_world.specs.declared.script.AsyncCall.{AsyncCall}
+use Rattle.oneshot_world.proofs.Names.{◌≡◌, ℕ, ◌+◌, ◌<◌, List, [], ◌∷◌, Option, Some, None, true, is_some, refl, length}
+use Rattle.oneshot_world.proofs.Names.{drop, get_or, add-one, drop-cons, Receiver, Reply, Unanswered, first, number_of}
+use Rattle.oneshot_world.proofs.Names.{rest, left_by, receiver_call, receiver_calls, async_call, async_calls, AsyncCall}
+use Rattle.oneshot_world.proofs.Names.{AsyncLast, ReceiverCall, ReceiverLast, option_and_then}
 use Rattle.oneshot_world.specs.declared.script.AsyncCall.TheVariants as AC
-use Rattle.oneshot_world.specs.declared.script.AsyncLast.{AsyncLast}
-use Rattle.oneshot_world.specs.declared.script.ReceiverCall.{ReceiverCall}
 use Rattle.oneshot_world.specs.declared.script.ReceiverCall.TheVariants as Script
-use Rattle.oneshot_world.specs.declared.script.ReceiverLast.{ReceiverLast}
 use Rattle.oneshot_world.specs.declared.script.ReceiverLast.TheVariants as RL
-use Rattle.std.specs.Option.{option_and_then}
 
 -- the calls from the n-th on are that call and those after it
 pub from_here : (calls : List ReceiverCall) (n : ℕ) (last : ReceiverLast) → n < length calls

@@ -1,36 +1,24 @@
 -- What is left of a script is a script, call by call.
-use Rattle.std.proofs.Common.{◌≡◌, ℕ, suc, zero, Bool, true, false, List, [], ◌∷◌, ◌++◌, replicate, Option, Some, None, refl, ◌||◌, ◌&&◌, is_some}
-use Rattle.oneshot_machine.specs.declared.machine.receiver.ReceiverPos.{ReceiverPos}
-use Rattle.oneshot_machine.specs.declared.machine.receiver.ReceiverStart.{ReceiverStart}
-use Rattle.oneshot_machine.specs.declared.machine.sender.SenderCall.{SenderCall}
-use Rattle.oneshot_machine.specs.declared.machine.sender.SenderPos.{SenderPos}
+use Rattle.oneshot_world.proofs.Names.{◌≡◌, ℕ, suc, zero, Bool, true, false, List, [], ◌∷◌, ◌++◌, replicate, Option}
+use Rattle.oneshot_world.proofs.Names.{Some, None, refl, ◌||◌, ◌&&◌, is_some, ReceiverPos, ReceiverStart, SenderCall}
+use Rattle.oneshot_world.proofs.Names.{SenderPos, Call, Of_sender, Of_receiver, first, rest, is_none_left, sender_last}
+use Rattle.oneshot_world.proofs.Names.{error_last, receiver_calls, async_calls, is_script, is_sender_script}
+use Rattle.oneshot_world.proofs.Names.{is_error_script, is_receiver_script, is_async_script, has_script, sender_has}
+use Rattle.oneshot_world.proofs.Names.{receiver_has, stays_sender, ends_sender, stays_error, ends_error, ends_receiver}
+use Rattle.oneshot_world.proofs.Names.{ends_async, makes_future, begins_receiver, stays_receiver, stays_async}
+use Rattle.oneshot_world.proofs.Names.{sender_position, receiver_position, place_left, opening_place, AsyncCall}
+use Rattle.oneshot_world.proofs.Names.{AsyncLast, ErrorLast, ReceiverCall, ReceiverLast, SenderLast, ReceiverState}
+use Rattle.oneshot_world.proofs.Names.{SenderState, Place, NotSent}
 use Rattle.oneshot_machine.specs.declared.machine.receiver.ReceiverStart.TheVariants as RC
 use Rattle.oneshot_machine.specs.declared.machine.sender.SenderCall.TheVariants as SC
-use Rattle.oneshot_world.specs.Calls.{Call, Of_sender, Of_receiver, first, rest, is_none_left}
-use Rattle.oneshot_world.specs.Scripts.{sender_last, error_last, receiver_calls, async_calls}
-use Rattle.oneshot_world.specs.ScriptsLeft.{is_script, is_sender_script, is_error_script, is_receiver_script, is_async_script, has_script, sender_has, receiver_has}
-use Rattle.oneshot_world.specs.Scripts.{stays_sender, ends_sender, stays_error, ends_error, ends_receiver, ends_async, makes_future, begins_receiver, stays_receiver, stays_async}
-use Rattle.oneshot_world.specs.State.{sender_position, receiver_position}
-use Rattle.oneshot_world.specs.Effects.{place_left}
-use Rattle.oneshot_world.specs.World.{opening_place}
-use Rattle.oneshot_world.specs.declared.script.AsyncCall.{AsyncCall}
 use Rattle.oneshot_world.specs.declared.script.AsyncCall.TheVariants as AC
-use Rattle.oneshot_world.specs.declared.script.AsyncLast.{AsyncLast}
 use Rattle.oneshot_world.specs.declared.script.AsyncLast.TheVariants as AL
-use Rattle.oneshot_world.specs.declared.script.ErrorLast.{ErrorLast}
 use Rattle.oneshot_world.specs.declared.script.ErrorLast.TheVariants as EL
-use Rattle.oneshot_world.specs.declared.script.ReceiverCall.{ReceiverCall}
 use Rattle.oneshot_world.specs.declared.script.ReceiverCall.TheVariants as Script
-use Rattle.oneshot_world.specs.declared.script.ReceiverLast.{ReceiverLast}
 use Rattle.oneshot_world.specs.declared.script.ReceiverLast.TheVariants as RL
-use Rattle.oneshot_world.specs.declared.script.SenderLast.{SenderLast}
 use Rattle.oneshot_world.specs.declared.script.SenderLast.TheVariants as SL
-use Rattle.oneshot_world.specs.declared.state.ReceiverState.{ReceiverState}
 use Rattle.oneshot_world.specs.declared.state.ReceiverState.TheVariants as RS
-use Rattle.oneshot_world.specs.declared.state.SenderState.{SenderState}
 use Rattle.oneshot_world.specs.declared.state.SenderState.TheVariants as SS
-use Rattle.oneshot_world.specs.declared.trace.Place.{Place}
-use Rattle.oneshot_world.specs.declared.trace.Place.TheVariants.{NotSent}
 
 left_of_or : (a : Bool) → (a || false) ≡ true → a ≡ true
 left_of_or true h = refl

@@ -1,19 +1,10 @@
 -- A step by a row, put together from its parts.
-use Rattle.std.proofs.Common.{◌≡◌, Bool, true, false, Option, Some, None, refl, if◌then◌else◌, ◌||◌}
-use Rattle.std.specs.Option.{option_map, IsSome}
-use Rattle.oneshot_machine.specs.Receiver.{receiver_step, receiver_row}
-use Rattle.oneshot_machine.specs.TableRows.{outcome}
-use Rattle.oneshot_machine.specs.Sender.{sender_step, sender_row}
-use Rattle.oneshot_machine.specs.declared.machine.End.TheVariants.{Sender, Receiver}
-use Rattle.oneshot_machine.specs.declared.machine.Reply.{Reply}
-use Rattle.oneshot_machine.specs.declared.machine.receiver.ReceiverPos.{ReceiverPos}
-use Rattle.oneshot_machine.specs.declared.machine.sender.SenderPos.{SenderPos}
-use Rattle.oneshot_world.specs.State.{made, moved, hand_kept, sender_fits, receiver_fits, sender_stepped, receiver_stepped, sender_steps, receiver_steps}
-use Rattle.oneshot_world.specs.Effects.{is_future, seen_by, sender_puts, receiver_puts, sender_goes, receiver_goes}
-use Rattle.oneshot_world.specs.declared.state.State.{State}
-use Rattle.oneshot_world.specs.declared.trace.Made.{Made}
-use Rattle.oneshot_machine.specs.declared.machine.Step.{Step}
-use Rattle.oneshot_world.specs.declared.wakers.Told.{Told}
+use Rattle.oneshot_world.proofs.Names.{◌≡◌, Bool, true, false, Option, Some, None, refl, if◌then◌else◌, ◌||◌}
+use Rattle.oneshot_world.proofs.Names.{option_map, IsSome, receiver_step, receiver_row, outcome, sender_step}
+use Rattle.oneshot_world.proofs.Names.{sender_row, Sender, Receiver, Reply, ReceiverPos, SenderPos, made, moved}
+use Rattle.oneshot_world.proofs.Names.{hand_kept, sender_fits, receiver_fits, sender_stepped, receiver_stepped}
+use Rattle.oneshot_world.proofs.Names.{sender_steps, receiver_steps, is_future, seen_by, sender_puts, receiver_puts}
+use Rattle.oneshot_world.proofs.Names.{sender_goes, receiver_goes, State, Made, Step, Told}
 
 made_where_it_fits : {P : Type 0} (fits : Bool) (f : P → Made × State) (row : Option P) (r : P)
     → IsSome (if fits then option_map f row else None) → row ≡ Some r

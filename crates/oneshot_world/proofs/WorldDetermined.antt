@@ -1,9 +1,6 @@
 -- A run is determined by its first world and its moves.
-use Rattle.std.proofs.Common.{◌≡◌, ℕ, ◌+◌, List, [], ◌∷◌, Option, Some, refl}
-use Rattle.std.specs.Option.{option_map, option_and_then}
-use Rattle.oneshot_world.specs.World.{World, turn, Tells_from}
-use Rattle.oneshot_world.specs.declared.script.Move.{Move}
-use Rattle.oneshot_world.specs.declared.trace.Entry.{Entry}
+use Rattle.oneshot_world.proofs.Names.{◌≡◌, ℕ, ◌+◌, List, [], ◌∷◌, Option, Some, refl, option_map, option_and_then}
+use Rattle.oneshot_world.proofs.Names.{World, turn, Tells_from, Move, Entry}
 
 -- the run, computed: its entries, and the worlds after the first
 abbrev pub run : ℕ → World → List Move → Option (List Entry × List World)

@@ -1,12 +1,9 @@
 -- The goals that `receive` leaves.
-use Rattle.std.proofs.Common.{rules, refl, sym, ◌∙◌}
-use Rattle.oneshot_machine.specs.declared.states.Op.TheVariants.{Store}
-use Rattle.oneshot_machine.specs.Phases.{closed_itself}
-use Rattle.oneshot_drive.specs.Blocking.{by_ref}
-use Rattle.oneshot_machine.proofs.Landings.{is_in}
+use Rattle.oneshot_drive.proofs.Names.{rules, refl, sym, ◌∙◌, Store, closed_itself, by_ref, is_in}
 use Rattle.oneshot_drive.proofs.AfterOperations.{asks, took_message}
 use Rattle.oneshot_drive.proofs.RestLoads.{rests_over}
-use Rattle.oneshot_drive.proofs.Receives.{full_asks, ended_full, full_ran, full_leaves, shut, shut_ran, over_leaves, out_rests, out_leaves, hands, out_hands}
+use Rattle.oneshot_drive.proofs.Receives.{full_asks, ended_full, full_ran, full_leaves, shut, shut_ran, over_leaves}
+use Rattle.oneshot_drive.proofs.Receives.{out_rests, out_leaves, hands, out_hands}
 use Rattle.oneshot_drive.proofs.Stretches.{whole}
 use Rattle.oneshot_drive.proofs.blocking.receive.Goals as goal
 

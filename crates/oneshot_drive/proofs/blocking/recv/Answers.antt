@@ -1,7 +1,5 @@
 -- The goals that `recv` leaves.
-use Rattle.std.proofs.Common.{refl, ◌∙◌}
-use Rattle.oneshot_drive.specs.Blocking.{by_value}
-use Rattle.oneshot_machine.proofs.Landings.{is_in, is_room}
+use Rattle.oneshot_drive.proofs.Names.{refl, ◌∙◌, by_value, is_in, is_room}
 use Rattle.oneshot_drive.proofs.Receives.{has_message, full_freed, gone, gone_freed, hand_back}
 use Rattle.oneshot_drive.proofs.blocking.recv.Goals as goal
 

@@ -1,5 +1,5 @@
 -- The goals that `recv_ref` leaves.
-use Rattle.std.proofs.Common.{refl}
+use Rattle.oneshot_drive.proofs.Names.{refl}
 use Rattle.oneshot_drive.proofs.Receives.{untimed_full, untimed_gone}
 use Rattle.oneshot_drive.proofs.blocking.recv_ref.Goals as goal
 

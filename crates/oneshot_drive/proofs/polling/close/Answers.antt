@@ -1,9 +1,7 @@
 -- The goals that `close` leaves.
-use Rattle.std.proofs.Common.{rules, refl, ◌∙◌}
-use Rattle.oneshot_machine.specs.declared.machine.receiver.ReceiverPos.TheVariants.{AsyncDrop}
-use Rattle.oneshot_machine.specs.declared.machine.async_drop.AsyncDropPos.TheVariants.{AsyncSwap}
-use Rattle.oneshot_machine.proofs.Landings.{is_in, is_room}
-use Rattle.oneshot_drive.proofs.LastSwap.{swapped_full, swapped_over, swapped_open, row_at, dropped_message, dropped_open, dropped_last}
+use Rattle.oneshot_drive.proofs.Names.{rules, refl, ◌∙◌, AsyncDrop, AsyncSwap, is_in, is_room}
+use Rattle.oneshot_drive.proofs.LastSwap.{swapped_full, swapped_over, swapped_open, row_at, dropped_message}
+use Rattle.oneshot_drive.proofs.LastSwap.{dropped_open, dropped_last}
 use Rattle.oneshot_drive.proofs.polling.close.Goals as goal
 
 pub drop_message-requires : goal.drop_message-requires

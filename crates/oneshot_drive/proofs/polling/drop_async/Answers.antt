@@ -1,8 +1,7 @@
 -- The goals that `drop_async` leaves.
-use Rattle.std.proofs.Common.{rules}
+use Rattle.oneshot_drive.proofs.Names.{rules, drop_async_few}
 use Rattle.oneshot_drive.proofs.PollLoads.{meet_asks, met, met_copied, met_end}
 use Rattle.oneshot_drive.proofs.DroppedFutures.{drop_after, drop_at_once}
-use Rattle.oneshot_machine.proofs.CallBounds.{drop_async_few}
 use Rattle.oneshot_drive.proofs.polling.drop_async.Goals as goal
 
 pub load-requires : goal.load-requires

@@ -1,6 +1,5 @@
 -- The goals that `leave_first` leaves.
-use Rattle.std.proofs.Common.{rules, refl}
-use Rattle.oneshot_drive.specs.Polls.{leaves_uncopied}
+use Rattle.oneshot_drive.proofs.Names.{rules, refl, leaves_uncopied}
 use Rattle.oneshot_drive.proofs.LeftCopies.{refused, copied_on, owned_ends, may_leave, first_left}
 use Rattle.oneshot_drive.proofs.OwnCopies.{wrote_none, on_own, on_copy, on_refusal}
 use Rattle.oneshot_drive.proofs.polling.leave_first.Goals as goal

@@ -1,7 +1,5 @@
 -- The goals that `take_back` leaves.
-use Rattle.std.proofs.Common.{rules, refl}
-use Rattle.oneshot_machine.specs.declared.states.Op.TheVariants.{Swap, Exchange}
-use Rattle.oneshot_machine.proofs.Landings.{is_in}
+use Rattle.oneshot_drive.proofs.Names.{rules, refl, Swap, Exchange, is_in}
 use Rattle.oneshot_drive.proofs.AfterOperations.{asks}
 use Rattle.oneshot_drive.proofs.LeftCopies.{backed, backed_copy}
 use Rattle.oneshot_drive.proofs.DroppedFutures.{backed_end, backed_asks, backed_out, withdrawn_ends, withdrawn_went}

@@ -1,8 +1,5 @@
 -- The goals that `drop_sender` leaves.
-use Rattle.std.proofs.Common.{rules, refl, ◌∙◌}
-use Rattle.oneshot_machine.specs.declared.states.Op.TheVariants.{Xor}
-use Rattle.oneshot_machine.proofs.Landings.{is_room}
-use Rattle.oneshot_machine.proofs.CallBounds.{drop_few}
+use Rattle.oneshot_drive.proofs.Names.{rules, refl, ◌∙◌, Xor, is_room, drop_few}
 use Rattle.oneshot_drive.proofs.AfterOperations.{sender_asks}
 use Rattle.oneshot_drive.proofs.SenderCalls.{drop_owes, flipped, flipped_room}
 use Rattle.oneshot_drive.proofs.SenderRuns.{drop_ran, drop_woke, drop_freed_late, drop_freed}

@@ -1,8 +1,5 @@
 -- The goals that `send` leaves.
-use Rattle.std.proofs.Common.{rules, refl, ◌∙◌}
-use Rattle.oneshot_machine.specs.declared.states.Op.TheVariants.{Add}
-use Rattle.oneshot_machine.proofs.Landings.{message_kept}
-use Rattle.oneshot_machine.proofs.CallBounds.{send_few}
+use Rattle.oneshot_drive.proofs.Names.{rules, refl, ◌∙◌, Add, message_kept, send_few}
 use Rattle.oneshot_drive.proofs.AfterOperations.{sender_asks}
 use Rattle.oneshot_drive.proofs.SenderCalls.{written, send_owes, added_kept, added, refused, is_too_late}
 use Rattle.oneshot_drive.proofs.SenderRuns.{send_ran, send_refused, send_woke}

@@ -1,7 +1,5 @@
 -- The goals that `find` leaves.
-use Rattle.std.proofs.Common.{rules, refl}
-use Rattle.oneshot_machine.specs.Phases.{at_once}
-use Rattle.oneshot_drive.specs.Blocking.{returned}
+use Rattle.oneshot_drive.proofs.Names.{rules, refl, at_once, returned}
 use Rattle.oneshot_drive.proofs.RestLoads.{load_asks, loaded, loaded_full, loaded_open, loaded_none, never}
 use Rattle.oneshot_drive.proofs.StoredWaker.{full_at_once, found_none, over_at_once, ready_waker}
 use Rattle.oneshot_drive.proofs.waiting.find.Goals as goal

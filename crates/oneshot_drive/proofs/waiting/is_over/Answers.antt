@@ -1,6 +1,5 @@
 -- The goals that `is_over` leaves.
-use Rattle.std.proofs.Common.{[], ◌∷◌, refl}
-use Rattle.oneshot_machine.specs.Logs.{clocked}
+use Rattle.oneshot_drive.proofs.Names.{[], ◌∷◌, refl, clocked}
 use Rattle.oneshot_drive.proofs.AfterOperations.{stands_on}
 use Rattle.oneshot_drive.proofs.Waits.{asked, not_asked}
 use Rattle.oneshot_drive.proofs.waiting.is_over.Goals as goal

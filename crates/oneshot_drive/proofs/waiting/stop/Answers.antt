@@ -1,9 +1,8 @@
 -- The goals that `stop` leaves.
-use Rattle.std.proofs.Common.{rules, refl}
-use Rattle.oneshot_machine.specs.declared.states.Op.TheVariants.{Swap}
-use Rattle.oneshot_machine.proofs.Landings.{is_in}
+use Rattle.oneshot_drive.proofs.Names.{rules, refl, Swap, is_in}
 use Rattle.oneshot_drive.proofs.AfterOperations.{asks}
-use Rattle.oneshot_drive.proofs.Waits.{stopped, stopped_open, stopped_full, stopped_over, stopped_late, withdrew_nothing, stops_to, nothing_went, late_went}
+use Rattle.oneshot_drive.proofs.Waits.{stopped, stopped_open, stopped_full, stopped_over, stopped_late}
+use Rattle.oneshot_drive.proofs.Waits.{withdrew_nothing, stops_to, nothing_went, late_went}
 use Rattle.oneshot_drive.proofs.waiting.stop.Goals as goal
 
 pub swap-requires : goal.swap-requires

@@ -1,9 +1,5 @@
 -- What holds on each round of the loop in `wait`.
-use Rattle.std.proofs.Common.{◌≡◌}
-use Rattle.oneshot_machine.specs.Phases.{waits, blocked}
-use Rattle.oneshot_machine.specs.TableRows.{Goes}
-use Rattle.oneshot_drive.specs.Grounds.{Stands}
-use Rattle.oneshot_drive.specs.Blocking.{Went, Way, wait_of}
+use Rattle.oneshot_drive.proofs.Names.{◌≡◌, waits, blocked, Goes, Stands, Went, Way, wait_of}
 use Rattle.oneshot_drive.proofs.waiting.wait.Given as goal
 
 abbrev pub invariant-loop : goal.invariant-loop

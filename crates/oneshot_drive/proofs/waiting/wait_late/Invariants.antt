@@ -1,10 +1,5 @@
 -- What holds on each round of the loop in `wait_late`.
-use Rattle.oneshot_machine.specs.declared.machine.receiver.ReceiverPos.TheVariants.{Timed}
-use Rattle.oneshot_machine.specs.declared.machine.timed.TimedPos.TheVariants.{LatePark}
-use Rattle.oneshot_machine.specs.Phases.{overdue}
-use Rattle.oneshot_machine.specs.TableRows.{Goes}
-use Rattle.oneshot_drive.specs.Grounds.{Stands}
-use Rattle.oneshot_drive.specs.Blocking.{Went}
+use Rattle.oneshot_drive.proofs.Names.{Timed, LatePark, overdue, Goes, Stands, Went}
 use Rattle.oneshot_drive.proofs.waiting.wait_late.Given as goal
 
 abbrev pub invariant-loop : goal.invariant-loop

@@ -1,6 +1,5 @@
 -- The goals that `a_receiver_is_in_an_order` leaves.
-use Rattle.std.proofs.Common.{subst}
-use Rattle.oneshot_word.specs.Seats.{IsOrdered}
+use Rattle.oneshot_word.proofs.Names.{subst, IsOrdered}
 use Rattle.oneshot_word.specs.declared.rule.Role.TheVariants.{Receiver}
 use Rattle.oneshot_word.proofs.laws.a_receiver_is_in_an_order.Goals as goal
 

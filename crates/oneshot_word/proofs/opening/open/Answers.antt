@@ -1,7 +1,5 @@
 -- The goals that `open` leaves.
-use Rattle.std.proofs.Common.{rules, sym, subst}
-use Rattle.oneshot_word.specs.Rule.{opened}
-use Rattle.oneshot_word.specs.Seats.{SenderSeat, ReceiverSeat}
+use Rattle.oneshot_word.proofs.Names.{rules, sym, subst, opened, SenderSeat, ReceiverSeat}
 use Rattle.oneshot_word.proofs.Opens.{deal_allowed, split_allowed, sender_seated, receiver_seated}
 use Rattle.oneshot_word.proofs.opening.open.Goals as goal
 

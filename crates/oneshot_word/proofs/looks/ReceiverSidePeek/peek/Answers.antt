@@ -1,7 +1,5 @@
 -- The goals that `peek` of `ReceiverSide` leaves.
-use Rattle.std.proofs.Common.{subst}
-use Rattle.oneshot_machine.specs.Phases.{receiver_at}
-use Rattle.oneshot_machine.specs.Slots.{ReceiverOwns}
+use Rattle.oneshot_word.proofs.Names.{subst, receiver_at, ReceiverOwns}
 use Rattle.oneshot_word.proofs.RuleRead.{rule_reads, seat_owns}
 use Rattle.oneshot_word.proofs.looks.ReceiverSidePeek.peek.Goals as goal
 

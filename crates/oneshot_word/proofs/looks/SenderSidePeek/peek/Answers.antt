@@ -1,7 +1,5 @@
 -- The goals that `peek` of `SenderSide` leaves.
-use Rattle.std.proofs.Common.{subst}
-use Rattle.oneshot_machine.specs.Phases.{sender_at}
-use Rattle.oneshot_machine.specs.Slots.{SenderOwns}
+use Rattle.oneshot_word.proofs.Names.{subst, sender_at, SenderOwns}
 use Rattle.oneshot_word.proofs.RuleRead.{rule_reads, seat_owns}
 use Rattle.oneshot_word.proofs.looks.SenderSidePeek.peek.Goals as goal
 

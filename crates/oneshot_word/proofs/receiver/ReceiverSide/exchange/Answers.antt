@@ -1,7 +1,5 @@
 -- The goals that `exchange` of `ReceiverSide` leaves.
-use Rattle.std.proofs.Common.{rules, sym, subst}
-use Rattle.oneshot_machine.specs.declared.states.Op.TheVariants.{Exchange}
-use Rattle.oneshot_word.specs.Side.{ReceiverCan}
+use Rattle.oneshot_word.proofs.Names.{rules, sym, subst, Exchange, ReceiverCan}
 use Rattle.oneshot_word.proofs.EachStep.{receiver_allowed}
 use Rattle.oneshot_word.proofs.receiver.ReceiverSide.exchange.Goals as goal
 

@@ -1,7 +1,5 @@
 -- The goals that `slots` of `ReceiverSide` leaves.
-use Rattle.std.proofs.Common.{subst}
-use Rattle.oneshot_machine.specs.Phases.{receiver_at}
-use Rattle.oneshot_machine.specs.Slots.{ReceiverOwns}
+use Rattle.oneshot_word.proofs.Names.{subst, receiver_at, ReceiverOwns}
 use Rattle.oneshot_word.proofs.RuleRead.{seat_owns}
 use Rattle.oneshot_word.proofs.receiver.ReceiverSide.slots.Goals as goal
 

@@ -1,7 +1,5 @@
 -- The goals that `swap` of `ReceiverSide` leaves.
-use Rattle.std.proofs.Common.{rules, sym, subst}
-use Rattle.oneshot_machine.specs.declared.states.Op.TheVariants.{Swap}
-use Rattle.oneshot_word.specs.Side.{ReceiverCan}
+use Rattle.oneshot_word.proofs.Names.{rules, sym, subst, Swap, ReceiverCan}
 use Rattle.oneshot_word.proofs.EachStep.{receiver_allowed}
 use Rattle.oneshot_word.proofs.receiver.ReceiverSide.swap.Goals as goal
 

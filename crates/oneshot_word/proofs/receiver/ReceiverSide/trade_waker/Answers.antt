@@ -1,7 +1,6 @@
 -- The goals that `trade_waker` of `ReceiverSide` leaves.
-use Rattle.std.proofs.Common.{◌≢◌, rules, sym, ap, subst}
-use Rattle.oneshot_machine.specs.Slots.{away}
-use Rattle.oneshot_word.specs.Seats.{waker_of, message_in, waker_in, WakerSlot, ReceiverSeat}
+use Rattle.oneshot_word.proofs.Names.{◌≢◌, rules, sym, ap, subst, away, waker_of, message_in, waker_in, WakerSlot}
+use Rattle.oneshot_word.proofs.Names.{ReceiverSeat}
 use Rattle.oneshot_word.proofs.SlotReads.{fits_waker}
 use Rattle.oneshot_word.proofs.Trades.{receiver_waker_front, Traded, receiver_waker_traded, waker_side}
 use Rattle.oneshot_word.proofs.receiver.ReceiverSide.trade_waker.Given as given

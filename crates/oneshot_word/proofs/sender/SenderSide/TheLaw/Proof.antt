@@ -1,9 +1,6 @@
 -- Beside those to its fields a `&` to a side holds nothing.
 use denote.RattleType.{RattleType}
-use denote.Param.Laws.{Laws}
-use denote.SharingLaws.{nothing_shr_laws}
-use denote.Struct.Lending.{of_Lends, Lends-nothing}
-use Rattle.oneshot_word.specs.declared.promise.Promise.{Ghosts}
+use Rattle.oneshot_word.proofs.Names.{Laws, nothing_shr_laws, of_Lends, Lends-nothing, Ghosts}
 use Rattle.oneshot_word.specs.contracts.sender.SenderSide.TheInside as Inside
 use Rattle.oneshot_word.proofs.sender.SenderSide.TheInside.TheFields.TheLaws as fields
 use Rattle.oneshot_word.proofs.sender.SenderSide.TheLaw.Statement.{statement}

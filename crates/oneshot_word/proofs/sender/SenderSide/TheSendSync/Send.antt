@@ -1,10 +1,6 @@
 -- A side may be sent where its parts may: it owns nothing else.
 use denote.RattleType.{RattleType}
-use denote.Param.Send.{IsSend, struct_send}
-use denote.Struct.Owning.{shape, to}
-use Rattle.oneshot_word.specs.declared.promise.Promise.{Ghosts}
-use Rattle.oneshot_word.specs.contracts.sender.SenderSide.{the_row}
-use Rattle.oneshot_word.specs.contracts.sender.SenderSide.TheInside.{the_type}
+use Rattle.oneshot_word.proofs.Names.{IsSend, struct_send, shape, to, Ghosts, the_row, the_type}
 use Rattle.oneshot_word.proofs.Crosses.{parts_send}
 
 pub send : (T H K P : RattleType) (g : Ghosts P.Denot T.Denot) → IsSend T → IsSend H → IsSend K

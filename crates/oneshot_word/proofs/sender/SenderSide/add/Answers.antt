@@ -1,7 +1,5 @@
 -- The goals that `add` of `SenderSide` leaves.
-use Rattle.std.proofs.Common.{rules, sym, subst}
-use Rattle.oneshot_machine.specs.declared.states.Op.TheVariants.{Add}
-use Rattle.oneshot_word.specs.Side.{SenderCan}
+use Rattle.oneshot_word.proofs.Names.{rules, sym, subst, Add, SenderCan}
 use Rattle.oneshot_word.proofs.EachStep.{sender_allowed}
 use Rattle.oneshot_word.proofs.sender.SenderSide.add.Goals as goal
 

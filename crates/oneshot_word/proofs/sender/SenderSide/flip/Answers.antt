@@ -1,7 +1,5 @@
 -- The goals that `flip` of `SenderSide` leaves.
-use Rattle.std.proofs.Common.{rules, sym, subst}
-use Rattle.oneshot_machine.specs.declared.states.Op.TheVariants.{Xor}
-use Rattle.oneshot_word.specs.Side.{SenderCan}
+use Rattle.oneshot_word.proofs.Names.{rules, sym, subst, Xor, SenderCan}
 use Rattle.oneshot_word.proofs.EachStep.{sender_allowed}
 use Rattle.oneshot_word.proofs.sender.SenderSide.flip.Goals as goal
 

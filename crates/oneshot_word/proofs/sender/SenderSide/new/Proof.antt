@@ -1,20 +1,17 @@
 -- A share of the table and a seat are a side. Assumes `Logic`.
-use Rattle.atomic_table.proofs.Names.{◌≡◌, [], ◌∷◌, refl, a_type, dcons, dnil, bounded, Val, vstruct, vcons, vnil, inst_fn, SProp, emp, ‵, raw, ◌⊛◌, ◌$◌, ◌∵◌, !, qed, by, move, keep, split, fjoin, use0, of_opd, no_more, and_then, returns, enter, alloc_all, pass_all, free_all, look_at, get, sets, agg, tables, no, RattleType, owns, types_at, plain, nothing, param, alive, Stays, stay_dropped, walk_of, Goes-dropped, fact, fact_i}
-use Rattle.std.proofs.Common.{T, Bool, true, false, ◌&&◌}
-use mir.Val.{has_ty}
-use denote.Param.{layout}
-use denote.Param.Laws.{param_laws}
-use denote.Steps.{heard}
-use types.Kit.{use1}
-use Rattle.atomic_table.proofs.Walks.{proved, leaves}
-use Rattle.std.specs.Arc.{arc_value}
-use Rattle.oneshot_word.specs.Seats.{IsAt, SenderSeat}
-use Rattle.oneshot_word.specs.Side.{side_of}
+use Rattle.atomic_table.proofs.Names.{◌≡◌, [], ◌∷◌, refl, dnil, RattleType, owns}
+use Rattle.std.proofs.Common.{Bool, true, false}
+use Rattle.oneshot_word.proofs.Names.{a_type, dcons, bounded, Val, vstruct, vcons, vnil, inst_fn, SProp, emp, ‵, raw}
+use Rattle.oneshot_word.proofs.Names.{◌⊛◌, ◌$◌, ◌∵◌, !, qed, by, move, keep, split, fjoin, use0, of_opd, no_more}
+use Rattle.oneshot_word.proofs.Names.{and_then, returns, enter, alloc_all, pass_all, free_all, look_at, get, sets, agg}
+use Rattle.oneshot_word.proofs.Names.{tables, no, types_at, plain, nothing, param, alive, Stays, stay_dropped, walk_of}
+use Rattle.oneshot_word.proofs.Names.{Goes-dropped, fact, fact_i, T, ◌&&◌, has_ty, layout, param_laws, heard, use1}
+use Rattle.oneshot_word.proofs.Names.{proved, leaves, arc_value, IsAt, SenderSeat, side_of, clauses}
 use Rattle.oneshot_word.specs.contracts.sender.SenderSide as side
 use Rattle.oneshot_word.proofs.sender.SenderSide.TheInside.TheFields.TheLaws as fields
 use Rattle.oneshot_word.proofs.Crosses.{Shared, WordSeat}
 use Rattle.oneshot_word.proofs.MadeSides.{makes_side}
-use Rattle.oneshot_word.specs.contracts.sender.SenderSide.new.{ended, clauses}
+use Rattle.oneshot_word.specs.contracts.sender.SenderSide.new.{ended}
 use Rattle.oneshot_word.specs.contracts.sender.SenderSide.new.Key.{name as #self}
 use Rattle.oneshot_word.proofs.sender.SenderSide.new.Statement.{statement}
 use Rattle.oneshot_word.proofs.sender.SenderSide.new.Code as code

@@ -1,5 +1,5 @@
 -- The goals that `take_message` of `SenderSide` leaves.
-use Rattle.oneshot_word.specs.Seats.{vacant_keeps}
+use Rattle.oneshot_word.proofs.Names.{vacant_keeps}
 use Rattle.oneshot_word.proofs.sender.SenderSide.take_message.Goals as goal
 
 pub trade_message-requires-clause-kept : goal.trade_message-requires-clause-kept

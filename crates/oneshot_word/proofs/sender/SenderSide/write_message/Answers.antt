@@ -1,5 +1,5 @@
 -- The goals that `write_message` of `SenderSide` leaves.
-use Rattle.oneshot_word.specs.Seats.{held_keeps}
+use Rattle.oneshot_word.proofs.Names.{held_keeps}
 use Rattle.oneshot_word.proofs.sender.SenderSide.write_message.Goals as goal
 
 pub trade_message-requires-clause-kept : goal.trade_message-requires-clause-kept

@@ -1,8 +1,5 @@
 -- The step is the one of the row that `next` gives.
-use Rattle.std.proofs.Common.{◌≡◌, Some}
-use Rattle.oneshot_machine.specs.Receiver.{receiver_step, receiver_row}
-use Rattle.oneshot_machine.specs.TableRows.{outcome}
-use Rattle.oneshot_world.specs.Effects.{seen_by}
+use Rattle.oneshot_world.proofs.Names.{◌≡◌, Some, receiver_step, receiver_row, outcome, seen_by}
 use Rattle.oneshot_world.proofs.StateSteps.{receiver_made_of}
 use Rattle.oneshot_world.proofs.state.State.step_receiver.Goals as goal
 

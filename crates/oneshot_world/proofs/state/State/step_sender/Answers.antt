@@ -1,8 +1,5 @@
 -- The step is the one of the row that `next` gives.
-use Rattle.std.proofs.Common.{◌≡◌, Some}
-use Rattle.oneshot_machine.specs.TableRows.{outcome}
-use Rattle.oneshot_machine.specs.Sender.{sender_step, sender_row}
-use Rattle.oneshot_world.specs.Effects.{seen_by}
+use Rattle.oneshot_world.proofs.Names.{◌≡◌, Some, outcome, sender_step, sender_row, seen_by}
 use Rattle.oneshot_world.proofs.StateSteps.{sender_made_of}
 use Rattle.oneshot_world.proofs.state.State.step_sender.Goals as goal
 

@@ -1,7 +1,5 @@
 -- The world before the first move is one that a run reaches.
-use Rattle.std.proofs.Common.{rules, ◌≡◌, sym, subst}
-use Rattle.oneshot_world.specs.Reached.{IsReached}
-use Rattle.oneshot_world.specs.World.{World, opening}
+use Rattle.oneshot_world.proofs.Names.{rules, ◌≡◌, sym, subst, IsReached, World, opening}
 use Rattle.oneshot_world.proofs.ReachedOpening.{opening_reached}
 use Rattle.oneshot_world.proofs.world.World.new.Goals as goal
 

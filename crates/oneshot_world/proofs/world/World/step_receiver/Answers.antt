@@ -1,6 +1,5 @@
 -- The position has its step, and the world after it is one that a run reaches.
-use Rattle.std.proofs.Common.{◌≡◌, Some, ◌∙◌, ap, sym}
-use Rattle.oneshot_world.specs.World.{World, answer_told, receiver_told}
+use Rattle.oneshot_world.proofs.Names.{◌≡◌, Some, ◌∙◌, ap, sym, World, answer_told, receiver_told}
 use Rattle.oneshot_world.proofs.ReachedLeads.{word_is_code, receiver_at}
 use Rattle.oneshot_world.proofs.ReachedMoves.{receiver_makes, receiver_reaches}
 use Rattle.oneshot_world.proofs.WorldTurns.{receiver_turn_made}

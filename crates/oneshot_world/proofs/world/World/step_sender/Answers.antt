@@ -1,6 +1,5 @@
 -- The position has its step, and the world after it is one that a run reaches.
-use Rattle.std.proofs.Common.{◌≡◌, Some, ◌∙◌, ap, sym}
-use Rattle.oneshot_world.specs.World.{World}
+use Rattle.oneshot_world.proofs.Names.{◌≡◌, Some, ◌∙◌, ap, sym, World}
 use Rattle.oneshot_world.proofs.ReachedLeads.{word_is_code, sender_at}
 use Rattle.oneshot_world.proofs.ReachedMoves.{sender_makes, sender_reaches}
 use Rattle.oneshot_world.proofs.world.World.step_sender.Goals as goal

@@ -1,5 +1,5 @@
 -- Once a call is answered, those after it are left.
-use Rattle.std.proofs.Common.{◌<◌, length, refl}
+use Rattle.oneshot_world.proofs.Names.{◌<◌, length, refl}
 use Rattle.oneshot_world.proofs.ScriptsAnswered.{future_from_here}
 use Rattle.oneshot_world.proofs.calls.future.FutureCalls.answer.Goals as goal
 

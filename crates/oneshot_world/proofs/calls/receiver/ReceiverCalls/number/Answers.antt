@@ -1,5 +1,5 @@
 -- A receiver that is no future polls nothing.
-use Rattle.std.proofs.Common.{◌≡◌, None, drop, sym}
+use Rattle.oneshot_world.proofs.Names.{◌≡◌, None, drop, sym}
 use Rattle.oneshot_world.proofs.ScriptsAnswered.{not_polled}
 use Rattle.oneshot_world.proofs.calls.receiver.ReceiverCalls.number.Goals as goal
 
