@@ -1,0 +1,10 @@
+use Rattle.oneshot_machine.specs.Logs.{receiver_of}
+use Rattle.oneshot_drive.specs.BetweenCalls.{AtRest, IsReady}
+use Rattle.oneshot_part_tests.proofs.drive.deeds.outcome_of.Given as goal
+
+abbrev pub invariant-loop-deed : goal.invariant-loop-deed
+invariant-loop-deed g l =
+    record {
+      rests : AtRest l.g.state;
+      ready : IsReady l.hand (receiver_of l.g.state.log);
+    }
