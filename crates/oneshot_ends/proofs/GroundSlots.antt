@@ -101,12 +101,11 @@ module _ {T W : Type 0} where
   never_late (is_late by) (may there message waker) = elim there [ ]
   never_late (is_overtaken by) (may there message waker) = elim there [ ]
 
-  pub late_never : {P : Type 0} (s now : Side T W P) (op : Op) {m : Held T} {w : Held W} → IsLate (sender_at s.log)
-      → record s { message = m; waker = w } ≡ now → SenderAsks op (state_of now) → ⊥
-  late_never s now op {m} {w} came_late is asks =
+  pub late_never : {P : Type 0} (now : Side T W P) (op : Op) → IsLate (sender_at now.log)
+      → SenderAsks op (state_of now) → ⊥
+  late_never now op came_late asks =
       never_late came_late
-      (subst (λ xs. SenderMay (sender_at xs) op m w) (words_of T W s.log)
-      (subst (λ now. SenderAsks op (state_of now)) (sym is) asks))
+      (subst (λ xs. SenderMay (sender_at xs) op now.message now.waker) (words_of T W now.log) asks)
 
   -- what it frees by
   both_own : {own : Option (Bool × Bool)} → Owns {T = T} {W = W} own vacant vacant → own ≡ Some (true, true)

@@ -7,7 +7,7 @@ use Rattle.oneshot_machine.specs.Phases.{ReceiverAt, receiver_at, Share}
 use Rattle.oneshot_machine.specs.Slots.{Held, away, vacant, held, IsSlot, is_away, is_vacant, is_held, Turns, stays_away, stays_vacant, stays_held, gives_room, gives_thing, gets_room, gets_thing, may, finds, ReceiverMay, ReceiverFinds}
 use Rattle.oneshot_drive.specs.Grounds.{StandsIn, ReceiverAsks, ReceiverMakes}
 use Rattle.oneshot_word.specs.Side.{Side}
-use Rattle.oneshot_ends.specs.declared.polling.Copied.{Copied}
+use Rattle.oneshot_ends.specs.declared.ground.task.Copied.{Copied}
 use Rattle.oneshot_ends.specs.Grounds.{events_of, event_of, state_of}
 use Rattle.oneshot_ends.specs.Polling.{token_of, polled_state}
 use Rattle.oneshot_ends.proofs.GrewByRuns.{words_of, grown}

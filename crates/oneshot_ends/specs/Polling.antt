@@ -3,7 +3,7 @@ use Rattle.std.specs.Prelude.{ℕ, List}
 use Rattle.oneshot_drive.specs.Grounds.{GroundState}
 use Rattle.oneshot_machine.specs.Slots.{Held, away, vacant, held}
 use Rattle.oneshot_word.specs.Side.{Side}
-use Rattle.oneshot_ends.specs.declared.polling.Copied.{Copied}
+use Rattle.oneshot_ends.specs.declared.ground.task.Copied.{Copied}
 use Rattle.oneshot_ends.specs.Grounds.{state_beside}
 
 -- a slot of wakers, to one that has a token for each

@@ -16,8 +16,7 @@ ghost use Rattle.oneshot_ends.specs.Ends.{ReceiverGrew, HasCalls, IsDone, IsUnfi
 ghost use Rattle.oneshot_ends.specs.Grounds.{state_of};
 
 use crate::copies::Copies;
-use crate::ground::ReceiverOnWord;
-use crate::polling::Polling;
+use crate::ground::{Polling, ReceiverOnWord};
 use crate::token::WakingHalf;
 use futures::Future;
 use futures::task::{Context, Poll, Source, Waker};

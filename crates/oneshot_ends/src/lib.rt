@@ -1,7 +1,6 @@
 //! The ends of a channel: its sender, its receiver, and the error of a refused message.
 #![tactic(auto)]
 
-mod blocking;
 mod copies;
 mod deadline;
 mod error;
@@ -10,7 +9,6 @@ mod future;
 mod ground;
 pub mod laws;
 mod pair;
-mod polling;
 mod raw;
 mod receiver;
 mod rouse;

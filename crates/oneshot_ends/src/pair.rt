@@ -53,11 +53,11 @@ pub fn channel_for<T: Send + Drop, Rt: Drop, P: Promise<T>>(
     ensures sender_about { IfOk result (λ ends. ends.0.about ≡ about.now) }
     ensures receiver_about { IfOk result (λ ends. ends.1.about ≡ about.now) }
 {
-    let (near, far) = open(alloc, about)?;
+    let (sender, receiver) = open(alloc, about)?;
     let (parking, waking) = parker(alloc)?;
     Ok((
-        Sender::new(near),
-        Receiver::new(far, parking, Rouse::Thread(waking), rt),
+        Sender::new(sender),
+        Receiver::new(receiver, parking, Rouse::Thread(waking), rt),
     ))
 }
 

@@ -11,10 +11,9 @@ ghost use Rattle.oneshot_drive.specs.BetweenCalls.{Leaves, LeavesClosed, LeavesT
 ghost use Rattle.oneshot_ends.specs.Ends.{ReceiverGrew, TimeoutGrew, TimeoutRan, IsClosed, IsOpen};
 ghost use Rattle.oneshot_ends.specs.Grounds.{IsNewReceiver};
 
-use crate::blocking::Blocking;
 use crate::deadline::{Deadline, Reading, read};
 use crate::future::AsyncReceiver;
-use crate::ground::ReceiverOnWord;
+use crate::ground::{Blocking, ReceiverOnWord};
 use crate::rouse::Rouse;
 use crate::token::{ParkingHalf, WakingHalf};
 use futures::task::{Source, Waker};

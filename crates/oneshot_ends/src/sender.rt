@@ -89,10 +89,9 @@ impl<T: Drop, P: Promise<T>> Sender<T, P> {
         let Sender { side } = self;
         let mut ground = side.into_ground();
         if send(&mut ground, message) {
-            Ok(())
-        } else {
-            Err(SendError::refused(ground))
+            return Ok(());
         }
+        Err(SendError::refused(ground))
     }
 }
 

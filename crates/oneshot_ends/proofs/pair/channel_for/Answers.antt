@@ -3,7 +3,7 @@ use Rattle.oneshot_ends.proofs.NewEnds.{new_sender, new_receiver}
 use Rattle.oneshot_ends.proofs.pair.channel_for.Goals as goal
 
 pub new-requires : goal.new-requires
-new-requires g c = new_sender c.in_ok-near.ensures
+new-requires g c = new_sender c.in_ok-sender.ensures
 
 pub new-requires-2 : goal.new-requires-2
-new-requires-2 g c = new_receiver c.in_ok-near.ensures
+new-requires-2 g c = new_receiver c.in_ok-sender.ensures

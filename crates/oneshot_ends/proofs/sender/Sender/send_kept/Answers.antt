@@ -7,8 +7,8 @@ use Rattle.oneshot_ends.proofs.EndViews.{same_steps}
 use Rattle.oneshot_ends.proofs.GrewByRuns.{words_of, send_refused}
 use Rattle.oneshot_ends.proofs.sender.Sender.send_kept.Goals as goal
 
-pub returns-else-send-clause-run : goal.returns-else-send-clause-run
-returns-else-send-clause-run g c =
+pub returns-clause-run : goal.returns-clause-run
+returns-clause-run g c =
     send_refused c.send.new.g.side c.into_ground-ground.ensures (same_steps c.self.view_is) (sym c.refused.ensures.log)
     c.if-send.false c.send.ensures.run
 

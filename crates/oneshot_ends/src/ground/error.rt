@@ -1,0 +1,127 @@
+//! The ground of an error: it acts on the refused message, and no longer on the shared word.
+
+ghost use Rattle.std.specs.Prelude.{◌≡◌, false, true, ⊤};
+ghost use Rattle.oneshot_machine.specs.Slots.{held};
+ghost use Rattle.oneshot_machine.specs.Phases.{sender_at};
+ghost use Rattle.oneshot_drive.specs.BetweenCalls.{IsError, IsLate};
+ghost use Rattle.oneshot_ends.specs.Grounds.{state_of};
+
+use crate::freed::Freed;
+use crate::rouse::wake;
+use crate::token::WakingHalf;
+use futures::task::Waker;
+use oneshot_drive::SenderGround;
+use oneshot_word::{Promise, Rouse, SenderSide};
+use std::marker::Model;
+
+/// The ground of an error, which has the refused message in its own hands.
+pub(crate) struct ErrorOffWord<T, H, K, P: Promise<T>> {
+    message: Option<T>,
+    side: SenderSide<T, H, K, P>,
+    freed: Freed,
+}
+
+impl<T, H, K, P: Promise<T>> Model for ErrorOffWord<T, H, K, P> {
+    ghost use Rattle.oneshot_machine.specs.Phases.{sender_at};
+    ghost use Rattle.oneshot_machine.specs.Slots.{vacant};
+    ghost use Rattle.oneshot_drive.specs.BetweenCalls.{IsLate};
+    ghost use Rattle.oneshot_word.specs.Side.{Side};
+    ghost use Rattle.oneshot_word.specs.declared.rouse.Rouse.{Rouse};
+    ghost use Rattle.oneshot_ends.specs.Grounds.{unless_freed, slot_of};
+
+    ghost Value = { Side T (Rouse H K) P };
+
+    ghost view = { λ e. record e.side {
+      message = unless_freed e.freed.value (slot_of e.message);
+      waker = unless_freed e.freed.value vacant;
+    } };
+
+    ghost invariant = { λ e. IsLate (sender_at e.side.log) };
+}
+
+impl<T, H, K, P: Promise<T>> ErrorOffWord<T, H, K, P> {
+    /// The ground of an error that has freed nothing.
+    pub(crate) fn new(message: T, side: SenderSide<T, H, K, P>) -> ErrorOffWord<T, H, K, P>
+        requires { IsLate (sender_at side.log) }
+        ensures { IsError (held message) (state_of result) }
+    {
+        let freed = Freed::of(false);
+        ErrorOffWord {
+            message: Some(message),
+            side,
+            freed,
+        }
+    }
+
+    /// That its `send` came too late, for a body that reads nothing of the ground.
+    fn known(&self)
+        ensures { IsLate (sender_at self.now.log) }
+    {
+        let _side = &self.side;
+    }
+}
+
+impl<T: Drop, P: Promise<T>> SenderGround<T, Rouse<WakingHalf, Waker>>
+    for ErrorOffWord<T, WakingHalf, Waker, P> {
+    ghost use Rattle.oneshot_ends.specs.Grounds.{state_of};
+
+    ghost state = { state_of };
+
+    ghost admits = { λ _ _. ⊤ };
+
+    // It wakes nobody.
+    ghost woken = { λ _ _. ⊤ };
+
+    // No operation on the word follows a refused `send`.
+    fn add(&mut self) -> u8 {
+        self.known();
+        unreachable!()
+    }
+
+    fn flip(&mut self) -> u8 {
+        self.known();
+        unreachable!()
+    }
+
+    fn swap(&mut self, _: u8) -> u8 {
+        self.known();
+        unreachable!()
+    }
+
+    fn write_message(&mut self, message: T) {
+        self.message = Some(message);
+    }
+
+    fn take_message(&mut self) -> T {
+        self.message.take().unwrap()
+    }
+
+    fn drop_message(&mut self) {
+        self.message = None;
+    }
+
+    // No receiver waits for a sender that found it gone.
+    fn take_waker(&mut self) -> Rouse<WakingHalf, Waker> {
+        self.known();
+        unreachable!()
+    }
+
+    fn wake(&mut self, waker: Rouse<WakingHalf, Waker>) {
+        self.known();
+        wake(waker);
+    }
+
+    fn free(&mut self) {
+        self.freed = Freed::of(true);
+    }
+}
+
+impl<T: Drop, H: Drop, K: Drop, P: Promise<T>> Drop for ErrorOffWord<T, H, K, P> {
+    fn drop(self) {
+        let ErrorOffWord {
+            message: _,
+            side: _,
+            freed: _,
+        } = self;
+    }
+}

@@ -1,0 +1,167 @@
+//! The ground of a sender, before its one call and in it.
+
+ghost use Rattle.std.specs.Prelude.{◌≡◌, false, true};
+ghost use Rattle.oneshot_machine.specs.Slots.{held};
+ghost use Rattle.oneshot_ends.specs.Ends.{SenderIsOrdered};
+
+use crate::freed::Freed;
+use crate::rouse::wake;
+use crate::token::{Given, WakingHalf};
+use futures::task::Waker;
+use oneshot_drive::SenderGround;
+use oneshot_word::laws::a_sender_is_in_an_order;
+use oneshot_word::{Promise, Rouse, SenderSide};
+use std::marker::Model;
+
+/// The side of a sender that has made no operation. Only its look can load the word.
+pub(crate) struct Unsent<T, H, K, P: Promise<T>> {
+    pub(super) side: SenderSide<T, H, K, P>,
+}
+
+impl<T, H, K, P: Promise<T>> Model for Unsent<T, H, K, P> {
+    ghost use Rattle.oneshot_word.specs.Side.{Side};
+    ghost use Rattle.oneshot_word.specs.declared.rouse.Rouse.{Rouse};
+
+    ghost Value = { Side T (Rouse H K) P };
+
+    ghost view = { λ s. s.side };
+}
+
+impl<T, H, K, P: Promise<T>> Unsent<T, H, K, P> {
+    pub(crate) fn new(side: SenderSide<T, H, K, P>) -> Unsent<T, H, K, P>
+        ensures { result ≡ side }
+    {
+        Unsent { side }
+    }
+
+    pub(crate) fn is_in_an_order(&self)
+        ensures { SenderIsOrdered self.now.log }
+    {
+        a_sender_is_in_an_order(&self.side);
+    }
+
+    /// The ground of the sender's one call.
+    pub(crate) fn into_ground(self) -> SenderOnWord<T, H, K, P>
+        ensures { result.side ≡ self }
+    {
+        let Unsent { side } = self;
+        SenderOnWord::new(side)
+    }
+}
+
+// Written out, as below: a derived `Drop` would need one of `P`, of which a channel has no value.
+impl<T: Drop, H: Drop, K: Drop, P: Promise<T>> Drop for Unsent<T, H, K, P> {
+    fn drop(self) {
+        let Unsent { side: _ } = self;
+    }
+}
+
+/// The sender's ground.
+pub(crate) struct SenderOnWord<T, H, K, P: Promise<T>> {
+    side: SenderSide<T, H, K, P>,
+    // The block goes with the last of both shares, so that nothing is left to do; only proofs read this.
+    freed: Freed,
+    // Once it woke a thread, that it gave the token. Only proofs read it.
+    given: Option<Given>,
+}
+
+impl<T, H, K, P: Promise<T>> Model for SenderOnWord<T, H, K, P> {
+    ghost use Rattle.oneshot_word.specs.declared.rouse.Rouse.{Rouse};
+    ghost use Rattle.oneshot_ends.specs.Grounds.{left_of};
+    ghost use Rattle.oneshot_ends.specs.Woken.{Sending};
+
+    ghost Value = { Sending T (Rouse H K) P };
+
+    ghost view = { λ s. record { side = left_of s.freed.value s.side; given = s.given } };
+}
+
+impl<T, H, K, P: Promise<T>> SenderOnWord<T, H, K, P> {
+    /// The ground of a sender that has freed nothing.
+    fn new(side: SenderSide<T, H, K, P>) -> SenderOnWord<T, H, K, P>
+        ensures { result.side ≡ side }
+    {
+        let freed = Freed::of(false);
+        SenderOnWord {
+            side,
+            freed,
+            given: None,
+        }
+    }
+}
+
+impl<T: Drop, H: Drop, K: Drop, P: Promise<T>> SenderOnWord<T, H, K, P> {
+    /// Takes the message out of its slot, with the side that it lay in.
+    pub(crate) fn into_refused(self) -> (T, SenderSide<T, H, K, P>)
+        requires { (x : T) × (self.side.message ≡ held x) }
+        ensures message { self.side.message ≡ held result.0 }
+        ensures about { result.1.about ≡ self.side.about }
+        ensures table { result.1.table ≡ self.side.table }
+        ensures log { result.1.log ≡ self.side.log }
+    {
+        let SenderOnWord {
+            mut side,
+            freed: _,
+            given: _,
+        } = self;
+        let message = side.take_message();
+        (message, side)
+    }
+}
+
+impl<T: Drop, P: Promise<T>> SenderGround<T, Rouse<WakingHalf, Waker>>
+    for SenderOnWord<T, WakingHalf, Waker, P> {
+    ghost use Rattle.oneshot_ends.specs.Grounds.{state_of};
+    ghost use Rattle.oneshot_ends.specs.Woken.{IsWoken};
+
+    ghost state = { λ s. state_of s.side };
+
+    ghost admits = { λ s message. P.keeps s.side.about message };
+
+    ghost woken = { λ s waker. IsWoken waker s.given };
+
+    fn add(&mut self) -> u8 {
+        self.side.add()
+    }
+
+    fn flip(&mut self) -> u8 {
+        self.side.flip()
+    }
+
+    fn swap(&mut self, last: u8) -> u8 {
+        self.side.swap(last)
+    }
+
+    fn write_message(&mut self, message: T) {
+        self.side.write_message(message);
+    }
+
+    fn take_message(&mut self) -> T {
+        self.side.take_message()
+    }
+
+    fn drop_message(&mut self) {
+        self.side.take_message();
+    }
+
+    fn take_waker(&mut self) -> Rouse<WakingHalf, Waker> {
+        self.side.take_waker()
+    }
+
+    fn wake(&mut self, waker: Rouse<WakingHalf, Waker>) {
+        self.given = wake(waker);
+    }
+
+    fn free(&mut self) {
+        self.freed = Freed::of(true);
+    }
+}
+
+impl<T: Drop, H: Drop, K: Drop, P: Promise<T>> Drop for SenderOnWord<T, H, K, P> {
+    fn drop(self) {
+        let SenderOnWord {
+            side: _,
+            freed: _,
+            given: _,
+        } = self;
+    }
+}

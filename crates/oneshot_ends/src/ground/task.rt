@@ -1,0 +1,165 @@
+//! What a receiver does to the world in a poll: its ground, with the task of the poll beside it.
+
+ghost use Rattle.std.specs.Prelude.{◌≡◌, true, false, [], ◌∷◌, IfSome, IfNone};
+ghost use Rattle.futures.specs.Task.{IsArmed, Hears, Keeps};
+ghost use Rattle.oneshot_machine.specs.Logs.{Grows, copied};
+ghost use Rattle.oneshot_ends.specs.Copies.{HasMade, HasNoneOf};
+ghost use Rattle.oneshot_ends.specs.Polling.{polled_state, token_of};
+
+use super::OnWord;
+use crate::copies::Copies;
+use crate::rouse::Rouse;
+use futures::task::{Context, Poll, Source, Waker};
+use oneshot_drive::{ReceiverGround, TaskGround};
+use oneshot_word::Promise;
+
+/// Stands for a copy of a waker that the ground keeps. Dropping it ends no copy.
+#[derive(Drop)]
+pub(crate) struct Copied;
+
+// The drivers have a token for each copy, and a copy whose token they drop stays among the copies.
+/// The ground of a receiver, lent for one poll, with the poll's task. All that is the receiver's has one lifetime,
+/// or the borrow checker would not cover the future's `poll`.
+#[derive(Drop)]
+pub(crate) struct Polling<'g, 'c, 'x, G> {
+    pub(crate) ground: &'g mut G,
+    pub(crate) cx: &'c mut Context<'x>,
+    pub(crate) source: &'g Source,
+    pub(crate) copies: &'g mut Copies<Waker>,
+}
+
+impl<'g, 'c, 'x, T: Drop, P: Promise<T>> ReceiverGround<T, Copied>
+    for Polling<'g, 'c, 'x, OnWord<T, P>> {
+    ghost use Rattle.oneshot_ends.specs.Polling.{polled_state};
+    ghost use Rattle.std.proofs.Common.{◌∙◌, refl, subst};
+
+    // The channel names what was lent too, so that a caller knows it again.
+    ghost state = { λ b.
+        polled_state (b.ground.ghost_name ∷ b.cx.ghost_name ∷ b.copies.ghost_name ∷ []) b.ground.now };
+
+    // What the channel is about stays so, and so does what the task has registered.
+    ghost keeps = { λ a b. Keeps a.cx.now b.cx.now × (a.source.now.id ≡ b.source.now.id)
+        × (b.ground.now.about ≡ a.ground.now.about) };
+
+    ghost keeps_same = { λ a. (λ fact h. h, λ i. a.source.now.id, refl) };
+
+    ghost keeps_on = { λ a b c f g. (λ fact h. g.0 fact (f.0 fact h), f.1 ∙ g.1, g.2 ∙ f.2) };
+
+    ghost gives = { λ b message. P.keeps b.ground.now.about message };
+
+    ghost gives_on = { λ _ _ message e kept. subst (λ q. P.keeps q message) e.2 kept };
+
+    fn load(&mut self) -> u8 {
+        self.ground.load()
+    }
+
+    fn store(&mut self, new: u8) -> u8 {
+        self.ground.store(new)
+    }
+
+    fn swap(&mut self, new: u8) -> u8 {
+        self.ground.swap(new)
+    }
+
+    fn exchange(&mut self, expected: u8, new: u8) -> u8 {
+        self.ground.exchange(expected, new)
+    }
+
+    fn take_message(&mut self) -> T {
+        self.ground.take_message()
+    }
+
+    fn drop_message(&mut self) {
+        self.ground.drop_message();
+    }
+
+    fn write_waker(&mut self, _: Copied) {
+        let copy = given(self.copies, self.cx);
+        self.ground.write_waker(copy);
+    }
+
+    fn withdraw(&mut self) -> Copied {
+        let copy = self.ground.withdraw();
+        keep(self.copies, copy);
+        Copied
+    }
+
+    fn free(&mut self) {
+        self.ground.free();
+    }
+}
+
+impl<'g, 'c, 'x, T: Drop, P: Promise<T>> TaskGround<T, Copied>
+    for Polling<'g, 'c, 'x, OnWord<T, P>> {
+    ghost use Rattle.std.proofs.Common.{subst};
+
+    ghost heard = { λ b. IsArmed b.cx.now × Hears b.cx.now b.source.now.id };
+
+    ghost heard_on = { λ a b h k. (k.0 _ h.0, subst (λ id. Hears b.cx.now id) k.1 (k.0 _ h.1)) };
+
+    /// As the ground of any poll. A copy that is told as made is in hand, and is of the poll's task. A refused one
+    /// leaves the copies as they were, unless one in hand has the task's number.
+    fn copy(&mut self) -> Option<Copied>
+        ensures log { Grows
+            (polled_state (self.old.ground.ghost_name ∷ self.old.cx.ghost_name ∷ self.old.copies.ghost_name ∷ [])
+            self.old.ground.now).log
+            (polled_state (self.new.ground.ghost_name ∷ self.new.cx.ghost_name ∷ self.new.copies.ghost_name ∷ [])
+            self.new.ground.now).log
+            (copied result ∷ []) }
+        ensures message { self.new.ground.now.message ≡ self.old.ground.now.message }
+        ensures waker { token_of self.new.ground.now.waker ≡ token_of self.old.ground.now.waker }
+        ensures heard { IfSome result (λ _. IsArmed self.new.cx.now × Hears self.new.cx.now self.new.source.now.id) }
+        ensures keeps { Keeps self.old.cx.now self.new.cx.now
+            × (self.old.source.now.id ≡ self.new.source.now.id)
+            × (self.new.ground.now.about ≡ self.old.ground.now.about) }
+        ensures made { IfSome result (λ _. HasMade self.old.cx.now self.new.cx.now self.new.copies.now) }
+        ensures refused { IfNone result (HasNoneOf self.old.cx.now.turn.task self.old.copies.now
+            → self.new.copies.now ≡ self.old.copies.now) }
+    {
+        if register(self.copies, self.cx, self.source) {
+            Some(Copied)
+        } else {
+            None
+        }
+    }
+
+    fn wake_own(&mut self) {
+        let _again: Poll<()> = self.cx.yield_now();
+    }
+}
+
+/// Registers the task of the poll. `false` where no copy of its waker can be made; then the task is woken, and
+/// the copies of other tasks stay as they were.
+fn register(copies: &mut Copies<Waker>, cx: &mut Context<'_>, source: &Source) -> bool
+    ensures made { result ≡ true → HasMade cx.old cx.new copies.new }
+    ensures refused { result ≡ false → HasNoneOf cx.old.turn.task copies.old → copies.new ≡ copies.old }
+    ensures armed { IsArmed cx.new }
+    ensures heard { Hears cx.new source.now.id }
+    ensures kept { Keeps cx.old cx.new }
+{
+    let task = cx.task();
+    let mut place = copies.take_of(task);
+    let _registered: Poll<()> = cx.register(source, &mut place);
+    copies.keep_made(task, place)
+}
+
+/// The copy that was made.
+fn given(copies: &mut Copies<Waker>, cx: &mut Context<'_>) -> Rouse
+    ensures { Keeps cx.old cx.new }
+{
+    match copies.give() {
+        Some(waker) => Rouse::Task(waker),
+        // No driver stores a copy that it has not made.
+        None => {
+            let _again: Poll<()> = cx.yield_now();
+            Rouse::Nobody
+        }
+    }
+}
+
+/// Keeps a copy that was taken back.
+fn keep(copies: &mut Copies<Waker>, copy: Rouse) {
+    if let Rouse::Task(waker) = copy {
+        copies.take_back(waker);
+    }
+}

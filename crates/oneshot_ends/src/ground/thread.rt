@@ -1,0 +1,169 @@
+//! What a receiver does to the world in a call that blocks: its ground, with its parker beside it.
+
+ghost use Rattle.std.specs.Prelude.{◌≡◌, ◌↔◌, true, false, IsTrue};
+ghost use Rattle.oneshot_ends.specs.Spins.{MaySpin};
+
+use super::OnWord;
+use crate::deadline::{Deadline, Reading, read};
+use crate::rouse::Rouse;
+use crate::spin::{SPINS, spin};
+use crate::token::ParkingHalf;
+use oneshot_drive::{BlockGround, ReceiverGround};
+use oneshot_word::Promise;
+use std::sync::Wait;
+use std::time::Clock;
+
+// It names the ground as one type `G`, since a derived `Drop` needs one of each parameter: no channel has a
+// value of its `P`.
+/// The ground of a receiver, lent for one call, with what it parks by.
+#[derive(Drop)]
+pub(crate) struct Blocking<'g, 'p, 'r, G, Rt> {
+    ground: &'g mut G,
+    parker: &'p mut ParkingHalf,
+    rt: &'r Rt,
+    deadline: Deadline,
+    /// The first reading of the clock, where the call made it before it lent its ground.
+    made: Option<Reading>,
+    /// The last reading of the clock, if there was one.
+    reading: Reading,
+    /// How often it spun, since it began to wait or since its deadline was over.
+    spins: u32,
+    /// Whether it slept without a deadline.
+    slept: bool,
+}
+
+impl<'g, 'p, 'r, G, Rt> Blocking<'g, 'p, 'r, G, Rt> {
+    /// Lends the ground, with this deadline, and the reading of the clock that the call has made, if it has.
+    pub(crate) fn lend(
+        ground: &'g mut G,
+        parker: &'p mut ParkingHalf,
+        rt: &'r Rt,
+        deadline: Deadline,
+        made: Option<Reading>,
+    ) -> Blocking<'g, 'p, 'r, G, Rt>
+        ensures ground { result.ground ≡ ground.entry }
+        ensures parker { result.parker ≡ parker.entry }
+        ensures spins { result.spins ≡ 0 }
+        ensures slept { result.slept ≡ false }
+    {
+        Blocking {
+            ground,
+            parker,
+            rt,
+            deadline,
+            made,
+            reading: None,
+            spins: 0,
+            slept: false,
+        }
+    }
+
+    /// Whether a park may spin in place of sleeping.
+    fn may_spin(&self, timed: bool) -> bool
+        ensures { IsTrue result ↔ MaySpin timed self.now.spins self.now.deadline self.now.reading }
+    {
+        self.spins < SPINS && (!timed || self.deadline.is_far(self.reading))
+    }
+}
+
+impl<'g, 'p, 'r, T: Drop, Rt, P: Promise<T>> ReceiverGround<T, Rouse>
+    for Blocking<'g, 'p, 'r, OnWord<T, P>, Rt> {
+    ghost use Rattle.std.specs.Prelude.{[], ◌∷◌};
+    ghost use Rattle.std.proofs.Common.{◌∙◌, refl, subst};
+    ghost use Rattle.oneshot_ends.specs.Grounds.{lent};
+    ghost use Rattle.oneshot_ends.specs.Spins.{HasToken};
+
+    // The channel names the ground that was lent too, so that a caller knows it again.
+    ghost state = { λ b. lent (b.ground.ghost_name ∷ b.parker.ghost_name ∷ []) b.ground.now };
+
+    // What the channel is about stays so, and that a receive which slept without a deadline has its token.
+    ghost keeps = { λ a b. (b.ground.now.about ≡ a.ground.now.about) × (
+        HasToken (record { spins = a.spins; slept = a.slept; taken = a.parker.now })
+        → HasToken (record { spins = b.spins; slept = b.slept; taken = b.parker.now })) };
+
+    ghost keeps_same = { λ _. (refl, λ has. has) };
+
+    ghost keeps_on = { λ _ _ _ e f. (f.0 ∙ e.0, λ has. f.1 (e.1 has)) };
+
+    ghost gives = { λ b message. P.keeps b.ground.now.about message };
+
+    ghost gives_on = { λ _ _ message e kept. subst (λ q. P.keeps q message) e.0 kept };
+
+    fn load(&mut self) -> u8 {
+        self.ground.load()
+    }
+
+    fn store(&mut self, new: u8) -> u8 {
+        self.ground.store(new)
+    }
+
+    fn swap(&mut self, new: u8) -> u8 {
+        self.ground.swap(new)
+    }
+
+    fn exchange(&mut self, expected: u8, new: u8) -> u8 {
+        self.ground.exchange(expected, new)
+    }
+
+    fn take_message(&mut self) -> T {
+        self.ground.take_message()
+    }
+
+    fn drop_message(&mut self) {
+        self.ground.drop_message();
+    }
+
+    fn write_waker(&mut self, waker: Rouse) {
+        self.ground.write_waker(waker);
+    }
+
+    fn withdraw(&mut self) -> Rouse {
+        self.ground.withdraw()
+    }
+
+    fn free(&mut self) {
+        self.ground.free();
+    }
+}
+
+impl<'g, 'p, 'r, T: Drop, Rt: Wait + Clock, P: Promise<T>> BlockGround<T, Rouse>
+    for Blocking<'g, 'p, 'r, OnWord<T, P>, Rt> {
+    ghost use Rattle.oneshot_ends.specs.Spins.{MaySpin, Parked};
+
+    ghost parks = { λ timed a b. Parked (MaySpin timed a.spins a.deadline a.reading) timed
+        (record { spins = a.spins; slept = a.slept; taken = a.parker.now })
+        (record { spins = b.spins; slept = b.slept; taken = b.parker.now }) };
+
+    fn park(&mut self, timed: bool) {
+        if self.may_spin(timed) {
+            self.spins += 1;
+            // A park that ends before the token is there: the receiver looks whether the sender has acted.
+            spin(self.spins);
+            return;
+        }
+        if !timed {
+            self.slept = true;
+            return self.parker.park(self.rt);
+        }
+        match self.deadline {
+            Deadline::At(end) => {
+                let _in_time = self.parker.park_until(self.rt, end);
+            },
+            Deadline::Passed => {}
+            Deadline::Never => self.parker.park(self.rt),
+        }
+    }
+
+    fn over(&mut self) -> bool {
+        self.reading = match self.made.take() {
+            Some(reading) => reading,
+            None => read(self.rt),
+        };
+        let over = self.deadline.is_over(self.reading);
+        if over {
+            // The wait past the deadline, for a sender about to finish, spins anew.
+            self.spins = 0;
+        }
+        over
+    }
+}
