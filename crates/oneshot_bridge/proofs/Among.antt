@@ -1,7 +1,5 @@
 -- What is in a list that was made from another one.
-use Rattle.oneshot_bridge.proofs.Names.{◌≡◌, Bool, true, false, List, [], ◌∷◌, ◌++◌, Some, cond, refl, ap, subst}
-use Rattle.oneshot_bridge.proofs.Names.{filter, flat_map, eqb-true, Seen, Done, Over, Refused, Token, In, head, tail}
-use Rattle.oneshot_bridge.proofs.Names.{Outcome, Rows, row_for, is_same_seen}
+use Rattle.oneshot_bridge.proofs.Names.{◌≡◌, Bool, true, false, List, [], ◌∷◌, ◌++◌, Some, cond, refl, ap, subst, filter, flat_map, eqb-true, Seen, Done, Over, Refused, Token, In, head, tail, Outcome, Rows, row_for, is_same_seen}
 use Rattle.std.specs.Prelude.{if◌then◌else◌}
 use Rattle.oneshot_machine.specs.declared.machine.Seen.TheVariants.{Word}
 

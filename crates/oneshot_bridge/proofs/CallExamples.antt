@@ -1,12 +1,5 @@
 -- The examples of calls: each log call by call, and why the others are none.
-use Rattle.oneshot_bridge.proofs.Names.{◌≡◌, true, false, List, [], ◌∷◌, ◌++◌, Some, None, get_or, refl, ap, subst, ◌∙◌}
-use Rattle.oneshot_bridge.proofs.Names.{cons_option, option_map, Reply, Seen, Refused, Step, Try, Future, ReceiverStart}
-use Rattle.oneshot_bridge.proofs.Names.{TryRecv, Recv, Poll, SenderCall, Send, SendAdd, TryLoad, Close, Take, Op, Load}
-use Rattle.oneshot_bridge.proofs.Names.{Store, Exchange, Add, Form, as_receiver, stays, ReceiverCalled, not_called}
-use Rattle.oneshot_bridge.proofs.Names.{called, became_future, SenderCalled, not_called_yet, called_once, Event, did}
-use Rattle.oneshot_bridge.proofs.Names.{worded, words, Noted, op_of, receiver_start, receiver_step, receiver_row, Run}
-use Rattle.oneshot_bridge.proofs.Names.{last, more, Goes, Answers, not_empty, same_start, same_last, tried_twice}
-use Rattle.oneshot_bridge.proofs.Names.{WorkedCalls, WrongCalls}
+use Rattle.oneshot_bridge.proofs.Names.{◌≡◌, true, false, List, [], ◌∷◌, ◌++◌, Some, None, get_or, refl, ap, subst, ◌∙◌, cons_option, option_map, Reply, Seen, Refused, Step, Try, Future, ReceiverStart, TryRecv, Recv, Poll, SenderCall, Send, SendAdd, TryLoad, Close, Take, Op, Load, Store, Exchange, Add, Form, as_receiver, stays, ReceiverCalled, not_called, called, became_future, SenderCalled, not_called_yet, called_once, Event, did, worded, words, Noted, op_of, receiver_start, receiver_step, receiver_row, Run, last, more, Goes, Answers, not_empty, same_start, same_last, tried_twice, WorkedCalls, WrongCalls}
 use Rattle.oneshot_machine.specs.declared.machine.Reply.TheVariants as R
 use Rattle.oneshot_machine.specs.declared.machine.Seen.TheVariants.{Word}
 use Rattle.oneshot_machine.specs.declared.machine.Step.TheVariants as Steps

@@ -1,6 +1,5 @@
 -- Between calls: an order of both ends' logs is that of a run with the calls that the ends have answered.
-use Rattle.oneshot_bridge.proofs.Names.{subst, filter, CallsAreRuns, BothCallsAreRuns, OneCallGets, HaveCome}
-use Rattle.oneshot_bridge.proofs.Names.{gave_message}
+use Rattle.oneshot_bridge.proofs.Names.{subst, filter, CallsAreRuns, BothCallsAreRuns, OneCallGets, HaveCome, gave_message}
 use Rattle.std.specs.Prelude.{◌≤◌, length}
 use Rattle.oneshot_machine.proofs.InOrders.{in_order}
 use Rattle.oneshot_bridge.proofs.Given.{one_receive_gets}

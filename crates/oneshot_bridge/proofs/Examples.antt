@@ -1,12 +1,5 @@
 -- The examples: each walk step by step, the order operation by operation, and why the others are none.
-use Rattle.oneshot_bridge.proofs.Names.{◌≡◌, ℕ, true, false, List, [], ◌∷◌, Some, get_or, refl, sym, ap, subst, ◌∙◌}
-use Rattle.oneshot_bridge.proofs.Names.{Seen, Done, Token, Value, SendWrite, SendAdd, SendTakeWaker, SendFinal}
-use Rattle.oneshot_bridge.proofs.Names.{SendWake, RecvLoad, RecvWrite, RecvSwap, RecvPark, RecvParkLoad, RecvTake}
-use Rattle.oneshot_bridge.proofs.Names.{RecvFreeGot, Load, Swap, Add, Noted, Reaches, has_row, nothing_made}
-use Rattle.oneshot_bridge.proofs.Names.{receiver_step, receiver_row, head, tail, Goes, Answers, sends, receives, sent}
-use Rattle.oneshot_bridge.proofs.Names.{received, worlds, WorkedRun, WrongRuns, may_see, begins, quietly, by_one, Quiet}
-use Rattle.oneshot_bridge.proofs.Names.{quiet, Operates, operates, the_receiver, opening_receiver, SenderStand}
-use Rattle.oneshot_bridge.proofs.Names.{ReceiverStand, SenderWalk, ReceiverWalk, not_empty, same_start, same_last}
+use Rattle.oneshot_bridge.proofs.Names.{◌≡◌, ℕ, true, false, List, [], ◌∷◌, Some, get_or, refl, sym, ap, subst, ◌∙◌, Seen, Done, Token, Value, SendWrite, SendAdd, SendTakeWaker, SendFinal, SendWake, RecvLoad, RecvWrite, RecvSwap, RecvPark, RecvParkLoad, RecvTake, RecvFreeGot, Load, Swap, Add, Noted, Reaches, has_row, nothing_made, receiver_step, receiver_row, head, tail, Goes, Answers, sends, receives, sent, received, worlds, WorkedRun, WrongRuns, may_see, begins, quietly, by_one, Quiet, quiet, Operates, operates, the_receiver, opening_receiver, SenderStand, ReceiverStand, SenderWalk, ReceiverWalk, not_empty, same_start, same_last}
 use Rattle.std.specs.Option.{IsSome}
 use Rattle.oneshot_machine.specs.declared.machine.Reply.TheVariants as R
 use Rattle.oneshot_machine.specs.declared.machine.Seen.TheVariants.{Word}

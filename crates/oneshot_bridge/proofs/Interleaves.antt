@@ -1,8 +1,6 @@
 -- An order of both ends' operations, and a walk of each end, make a run of any model that can make each step
 -- of a walk: the induction on the order.
-use Rattle.oneshot_bridge.proofs.Names.{◌≡◌, ℕ, List, [], ◌∷◌, ◌++◌, refl, sym, subst, Op, Noted, saw, InOrder}
-use Rattle.oneshot_bridge.proofs.Names.{none_made, by_sender, by_receiver, word_after, not_empty, same_start, same_last}
-use Rattle.oneshot_bridge.proofs.Names.{Walk, begins, quietly, by_one}
+use Rattle.oneshot_bridge.proofs.Names.{◌≡◌, ℕ, List, [], ◌∷◌, ◌++◌, refl, sym, subst, Op, Noted, saw, InOrder, none_made, by_sender, by_receiver, word_after, not_empty, same_start, same_last, Walk, begins, quietly, by_one}
 
 -- what a model can do that makes each step of a walk
 pub record CanStep {S R : Type 0} (SRests : S → S → Type 0) (SMakes : S → Noted → S → Type 0)

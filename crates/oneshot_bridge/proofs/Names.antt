@@ -1,41 +1,27 @@
 -- The names of other crates and of this one's definitions that the proofs cite, passed on from one place.
 pub use Rattle.oneshot_bridge.specs.CallExamples.{tried_twice, WorkedCalls, WrongCalls}
-pub use Rattle.oneshot_bridge.specs.CallsRun.{RunsCalls, in_script, receiver_answered, sender_answered, is_at_rest}
-pub use Rattle.oneshot_bridge.specs.CallsRun.{CallsAreRuns, BothCallsAreRuns, OneCallGets}
+pub use Rattle.oneshot_bridge.specs.CallsRun.{RunsCalls, in_script, receiver_answered, sender_answered, is_at_rest, CallsAreRuns, BothCallsAreRuns, OneCallGets}
 pub use Rattle.oneshot_bridge.specs.CellExamples.{worlds_by, WorkedCells, WrongCells, WrongUses, world_by, scene_at}
 pub use Rattle.oneshot_bridge.specs.Examples.{sends, receives, r, sent, received, worlds, WorkedRun, WrongRuns}
-pub use Rattle.oneshot_bridge.specs.Gives.{HaveReached, HaveCome, gave_message, OneReceiveGets, RunLosesNoWakeup}
-pub use Rattle.oneshot_bridge.specs.Gives.{RunFreesOnce, RunFreesLast, RunFreesByItsHolder}
+pub use Rattle.oneshot_bridge.specs.Gives.{HaveReached, HaveCome, gave_message, OneReceiveGets, RunLosesNoWakeup, RunFreesOnce, RunFreesLast, RunFreesByItsHolder}
 pub use Rattle.oneshot_bridge.specs.Homes.{one_has_both, CellsAreSo, message_of_logs, waker_of_logs, RunsHaveCells}
-pub use Rattle.oneshot_bridge.specs.Joined.{SlotsAreSo, Passed, none_passed, it_passed, maker_before, dealer_before}
-pub use Rattle.oneshot_bridge.specs.Joined.{is_run, TablesAreOfRuns, OfARun}
-pub use Rattle.oneshot_bridge.specs.OrdersRun.{log_of, RunsSo, answered_by, RunsTo, noted_of, operation_of}
-pub use Rattle.oneshot_bridge.specs.OrdersRun.{OrdersAreRuns, answered_at}
-pub use Rattle.oneshot_bridge.specs.RunExamples.{tries, stops, in_turn, sent_log, tried_log, sent_call, tried_call}
-pub use Rattle.oneshot_bridge.specs.RunExamples.{sender_stands, receiver_stands, told, AnswersThatAre, RunsThatAre}
-pub use Rattle.oneshot_bridge.specs.RunExamples.{RunsThatAreNot, RunsSay}
+pub use Rattle.oneshot_bridge.specs.Joined.{SlotsAreSo, Passed, none_passed, it_passed, maker_before, dealer_before, is_run, TablesAreOfRuns, OfARun}
+pub use Rattle.oneshot_bridge.specs.OrdersRun.{log_of, RunsSo, answered_by, RunsTo, noted_of, operation_of, OrdersAreRuns, answered_at}
+pub use Rattle.oneshot_bridge.specs.RunExamples.{tries, stops, in_turn, sent_log, tried_log, sent_call, tried_call, sender_stands, receiver_stands, told, AnswersThatAre, RunsThatAre, RunsThatAreNot, RunsSay}
 pub use Rattle.oneshot_bridge.specs.RunOrder.{operator_of, operators_of, RunsAreInOrder, WorkedOrder, WrongOrder}
-pub use Rattle.oneshot_bridge.specs.Scripted.{SendsOnly, IsOfARun, SenderIsScripted, StatesAreOfRuns}
-pub use Rattle.oneshot_bridge.specs.Scripted.{ReceiverIsScripted}
-pub use Rattle.oneshot_bridge.specs.Walks.{may_see, answers_with, stands_after, opening_sender, opening_receiver}
-pub use Rattle.oneshot_bridge.specs.Walks.{SenderStand, ReceiverStand, the_sender, the_receiver, Quiet, quiet, Operates}
-pub use Rattle.oneshot_bridge.specs.Walks.{operates, Answered, Walk, begins, quietly, by_one, ReceiverWalk, SenderWalk}
-pub use Rattle.oneshot_bridge.specs.Walks.{Stand, Walker}
-pub use Rattle.oneshot_bridge.specs.Woken.{WakesNext, NobodyWaitsInARun, WakeIsNextInARun, found_it_gone, WasDropped}
-pub use Rattle.oneshot_bridge.specs.Woken.{NobodyIsLeft}
+pub use Rattle.oneshot_bridge.specs.Scripted.{SendsOnly, IsOfARun, SenderIsScripted, StatesAreOfRuns, ReceiverIsScripted}
+pub use Rattle.oneshot_bridge.specs.Walks.{may_see, answers_with, stands_after, opening_sender, opening_receiver, SenderStand, ReceiverStand, the_sender, the_receiver, Quiet, quiet, Operates, operates, Answered, Walk, begins, quietly, by_one, ReceiverWalk, SenderWalk, Stand, Walker}
+pub use Rattle.oneshot_bridge.specs.Woken.{WakesNext, NobodyWaitsInARun, WakeIsNextInARun, found_it_gone, WasDropped, NobodyIsLeft}
 pub use Rattle.oneshot_laws.proofs.Coding.{Coding, listed, pairs, or_none}
 pub use Rattle.oneshot_laws.proofs.Glanced.{of_call}
-pub use Rattle.oneshot_laws.proofs.Watched.{Watched, watched_coding, reads_entry, class_under_way, class_is, Automaton}
-pub use Rattle.oneshot_laws.proofs.Watched.{Explored, no_names, all_watched}
+pub use Rattle.oneshot_laws.proofs.Watched.{Watched, watched_coding, reads_entry, class_under_way, class_is, Automaton, Explored, no_names, all_watched}
 pub use Rattle.oneshot_laws.proofs.WatchedRuns.{Classed, all_classed, found_next, opening_found}
 pub use Rattle.oneshot_laws.specs.Actions.{is_end_of_sender, is_receive}
 pub use Rattle.oneshot_laws.specs.Ended.{has_answered}
-pub use Rattle.oneshot_laws.specs.Entries.{only_if, is_same_end, is_same_reply, is_reply, is_word, is_on_a_cell}
-pub use Rattle.oneshot_laws.specs.Entries.{is_free}
+pub use Rattle.oneshot_laws.specs.Entries.{only_if, is_same_end, is_same_reply, is_reply, is_word, is_on_a_cell, is_free}
 pub use Rattle.oneshot_laws.specs.History.{agrees}
 pub use Rattle.oneshot_laws.specs.Holders.{both_hold, is_free_last, is_freed_at_end, frees, uses_block}
-pub use Rattle.oneshot_laws.specs.Marks.{Reading, read_by, call_under_way, marks, marks_from, until_reply, to_reply}
-pub use Rattle.oneshot_laws.specs.Marks.{mark_at, object_then, sender_reading, receiver_reading, or_stray, Mark, side}
+pub use Rattle.oneshot_laws.specs.Marks.{Reading, read_by, call_under_way, marks, marks_from, until_reply, to_reply, mark_at, object_then, sender_reading, receiver_reading, or_stray, Mark, side}
 pub use Rattle.oneshot_laws.specs.Object.{Object, new_object}
 pub use Rattle.oneshot_laws.specs.Replies.{answers, answers_only, is_gone_after_got}
 pub use Rattle.oneshot_laws.specs.Unwoken.{is_unwoken, is_never_unwoken, waits_in_task}
@@ -43,29 +29,17 @@ pub use Rattle.oneshot_machine.proofs.ExactTables.{receiver_exact}
 pub use Rattle.oneshot_machine.proofs.GrownLogs.{phase_from-snoc}
 pub use Rattle.oneshot_machine.proofs.OrderedExamples.{orders_that_are, orders_that_are_not}
 pub use Rattle.oneshot_machine.proofs.Sameness.{each_passes, some_passes, ops_are_same}
-pub use Rattle.oneshot_machine.specs.Called.{Form, as_receiver, ReceiverCalled, not_called, called, became_future}
-pub use Rattle.oneshot_machine.specs.Called.{SenderCalled, not_called_yet, called_once, stays}
+pub use Rattle.oneshot_machine.specs.Called.{Form, as_receiver, ReceiverCalled, not_called, called, became_future, SenderCalled, not_called_yet, called_once, stays}
 pub use Rattle.oneshot_machine.specs.Exact.{none_yet, one_more, Accepts}
 pub use Rattle.oneshot_machine.specs.Logs.{Event, did, words, worded}
 pub use Rattle.oneshot_machine.specs.Noted.{Noted, saw, op_of}
 pub use Rattle.oneshot_machine.specs.Orders.{Reaches, has_row, nothing_made, InOrder, none_made, by_sender, by_receiver}
-pub use Rattle.oneshot_machine.specs.Phases.{ReceiverAt, here, looked, between, blocked, polled, again, full, at_once}
-pub use Rattle.oneshot_machine.specs.Phases.{waited, swapped, by_future, by_poll, unclosed, disconnected, resolved}
-pub use Rattle.oneshot_machine.specs.Phases.{receiver_moves, Share, none, empty, filled, Slots, Row, sending, dropping}
-pub use Rattle.oneshot_machine.specs.Phases.{SenderAt, fresh, owes, finished, late, overtaken, no_sender, storing}
-pub use Rattle.oneshot_machine.specs.Phases.{stopping, found_closed, closed_itself, claimed, withdrew, overdue, gone}
-pub use Rattle.oneshot_machine.specs.Phases.{ended, no_receiver, By, sender_next, receiver_next, phase_from}
-pub use Rattle.oneshot_machine.specs.Phases.{sender_moves}
-pub use Rattle.oneshot_machine.specs.Receiver.{receiver_step, receiver_row, receiver_start, receiver_rows}
-pub use Rattle.oneshot_machine.specs.Receiver.{receiver_opens, future_opens}
+pub use Rattle.oneshot_machine.specs.Phases.{ReceiverAt, here, looked, between, blocked, polled, again, full, at_once, waited, swapped, by_future, by_poll, unclosed, disconnected, resolved, receiver_moves, Share, none, empty, filled, Slots, Row, sending, dropping, SenderAt, fresh, owes, finished, late, overtaken, no_sender, storing, stopping, found_closed, closed_itself, claimed, withdrew, overdue, gone, ended, no_receiver, By, sender_next, receiver_next, phase_from, sender_moves}
+pub use Rattle.oneshot_machine.specs.Receiver.{receiver_step, receiver_row, receiver_start, receiver_rows, receiver_opens, future_opens}
 pub use Rattle.oneshot_machine.specs.Runs.{Run, last, more}
 pub use Rattle.oneshot_machine.specs.Sender.{sender_step, sender_row, sender_start, sender_rows}
-pub use Rattle.oneshot_machine.specs.Slots.{Held, away, vacant, held, IsSlot, is_away, is_vacant, Turns, stays_away}
-pub use Rattle.oneshot_machine.specs.Slots.{stays_vacant, stays_held, gives_room, gives_thing, gets_room, gets_thing}
-pub use Rattle.oneshot_machine.specs.Slots.{In, ReceiverMay, may, ReceiverFinds, finds, head, tail}
-pub use Rattle.oneshot_machine.specs.Standing.{Standpoint, plainly, standpoint_row, standpoint_step, standpoint_follows}
-pub use Rattle.oneshot_machine.specs.Standing.{outcome_at, receiver_table, sights, onward, standpoint_number, Table}
-pub use Rattle.oneshot_machine.specs.Standing.{is_op, onward_all, moved, made_at, operations, standing, standing_from}
+pub use Rattle.oneshot_machine.specs.Slots.{Held, away, vacant, held, IsSlot, is_away, is_vacant, Turns, stays_away, stays_vacant, stays_held, gives_room, gives_thing, gets_room, gets_thing, In, ReceiverMay, may, ReceiverFinds, finds, head, tail}
+pub use Rattle.oneshot_machine.specs.Standing.{Standpoint, plainly, standpoint_row, standpoint_step, standpoint_follows, outcome_at, receiver_table, sights, onward, standpoint_number, Table, is_op, onward_all, moved, made_at, operations, standing, standing_from}
 pub use Rattle.oneshot_machine.specs.States.{word_after}
 pub use Rattle.oneshot_machine.specs.TableRows.{Outcome, Rows, row_for, is_same_seen, Goes, Answers}
 pub use Rattle.oneshot_machine.specs.declared.machine.End.{End}
@@ -76,28 +50,20 @@ pub use Rattle.oneshot_machine.specs.declared.machine.Seen.TheVariants.{Done, Ov
 pub use Rattle.oneshot_machine.specs.declared.machine.Step.{Step}
 pub use Rattle.oneshot_machine.specs.declared.machine.Step.TheVariants.{Wake, Plain, Free}
 pub use Rattle.oneshot_machine.specs.declared.machine.async_drop.AsyncDropPos.TheVariants.{AsyncLoad}
-pub use Rattle.oneshot_machine.specs.declared.machine.by_ref.RefPos.TheVariants.{Park, StartLoad, StartWrite, StartSwap}
-pub use Rattle.oneshot_machine.specs.declared.machine.by_ref.RefPos.TheVariants.{ParkLoad}
+pub use Rattle.oneshot_machine.specs.declared.machine.by_ref.RefPos.TheVariants.{Park, StartLoad, StartWrite, StartSwap, ParkLoad}
 pub use Rattle.oneshot_machine.specs.declared.machine.drop.DropPos.TheVariants.{DropSwap}
 pub use Rattle.oneshot_machine.specs.declared.machine.look.LookPos.TheVariants.{LookFull}
 pub use Rattle.oneshot_machine.specs.declared.machine.receiver.ReceiverPos.{ReceiverPos}
-pub use Rattle.oneshot_machine.specs.declared.machine.receiver.ReceiverPos.TheVariants.{Look, Try, Ref, Timed, Value}
-pub use Rattle.oneshot_machine.specs.declared.machine.receiver.ReceiverPos.TheVariants.{Future, AsyncDrop}
+pub use Rattle.oneshot_machine.specs.declared.machine.receiver.ReceiverPos.TheVariants.{Look, Try, Ref, Timed, Value, Future, AsyncDrop}
 pub use Rattle.oneshot_machine.specs.declared.machine.receiver.ReceiverStart.{ReceiverStart}
 pub use Rattle.oneshot_machine.specs.declared.machine.receiver.ReceiverStart.TheVariants.{TryRecv, Recv, Poll}
 pub use Rattle.oneshot_machine.specs.declared.machine.sender.SenderCall.{SenderCall}
 pub use Rattle.oneshot_machine.specs.declared.machine.sender.SenderCall.TheVariants.{Send}
 pub use Rattle.oneshot_machine.specs.declared.machine.sender.SenderPos.{SenderPos}
-pub use Rattle.oneshot_machine.specs.declared.machine.sender.SenderPos.TheVariants.{SendWrite, SendAdd, SendTakeWaker}
-pub use Rattle.oneshot_machine.specs.declared.machine.sender.SenderPos.TheVariants.{SendFinal, SendWake, SendLateWake}
-pub use Rattle.oneshot_machine.specs.declared.machine.sender.SenderPos.TheVariants.{DropXor, DropTakeWaker, DropFinal}
-pub use Rattle.oneshot_machine.specs.declared.machine.sender.SenderPos.TheVariants.{DropWake, DropLateWake, DropFree}
-pub use Rattle.oneshot_machine.specs.declared.machine.timed.TimedPos.TheVariants.{TimedPark, LatePark, SumClock}
-pub use Rattle.oneshot_machine.specs.declared.machine.timed.TimedPos.TheVariants.{TimedLoad, EndBack, LateLoad}
+pub use Rattle.oneshot_machine.specs.declared.machine.sender.SenderPos.TheVariants.{SendWrite, SendAdd, SendTakeWaker, SendFinal, SendWake, SendLateWake, DropXor, DropTakeWaker, DropFinal, DropWake, DropLateWake, DropFree}
+pub use Rattle.oneshot_machine.specs.declared.machine.timed.TimedPos.TheVariants.{TimedPark, LatePark, SumClock, TimedLoad, EndBack, LateLoad}
 pub use Rattle.oneshot_machine.specs.declared.machine.try_recv.TryPos.TheVariants.{TryLoad, Take, CloseOnly, Close}
-pub use Rattle.oneshot_machine.specs.declared.machine.value.ValuePos.TheVariants.{RecvPark, RecvLoad, RecvWrite}
-pub use Rattle.oneshot_machine.specs.declared.machine.value.ValuePos.TheVariants.{RecvSwap, RecvParkLoad, RecvTake}
-pub use Rattle.oneshot_machine.specs.declared.machine.value.ValuePos.TheVariants.{RecvFreeGot}
+pub use Rattle.oneshot_machine.specs.declared.machine.value.ValuePos.TheVariants.{RecvPark, RecvLoad, RecvWrite, RecvSwap, RecvParkLoad, RecvTake, RecvFreeGot}
 pub use Rattle.oneshot_machine.specs.declared.states.Op.{Op}
 pub use Rattle.oneshot_machine.specs.declared.states.Op.TheVariants.{Load, Store, Swap, Add, Exchange, Xor}
 pub use Rattle.oneshot_replay.proofs.RunLaws.{is_right}
@@ -111,8 +77,7 @@ pub use Rattle.oneshot_word.proofs.ByRows.{is_senders, is_receivers, sender_is, 
 pub use Rattle.oneshot_word.proofs.LastOnes.{not_empty, same_start, same_last}
 pub use Rattle.oneshot_word.proofs.OneOrder.{order_is_one}
 pub use Rattle.oneshot_word.specs.OneOrder.{ends_of}
-pub use Rattle.oneshot_word.specs.Rule.{message_home, waker_home, Home, bare, has_message, Lies, lies_out, lies_bare}
-pub use Rattle.oneshot_word.specs.Rule.{lies_filled, IsGiven, IsTaken, took_none, took_it, opened, dealt, runs}
+pub use Rattle.oneshot_word.specs.Rule.{message_home, waker_home, Home, bare, has_message, Lies, lies_out, lies_bare, lies_filled, IsGiven, IsTaken, took_none, took_it, opened, dealt, runs}
 pub use Rattle.oneshot_word.specs.Seats.{any, with_waker, view}
 pub use Rattle.oneshot_word.specs.declared.rouse.Rouse.{Rouse}
 pub use Rattle.oneshot_word.specs.declared.rule.Slot.{Slot}
@@ -124,22 +89,17 @@ pub use Rattle.oneshot_world.proofs.ReachedLeft.{sender_world, receiver_world}
 pub use Rattle.oneshot_world.proofs.ReachedMoves.{sender_row_reaches, receiver_row_reaches}
 pub use Rattle.oneshot_world.proofs.ReachedOpening.{opening_reached}
 pub use Rattle.oneshot_world.proofs.WorldDetermined.{run_is}
-pub use Rattle.oneshot_world.proofs.WorldTurns.{Turned, turned, turned_reaches, sender_idle, sender_made, receiver_idle}
-pub use Rattle.oneshot_world.proofs.WorldTurns.{receiver_made}
+pub use Rattle.oneshot_world.proofs.WorldTurns.{Turned, turned, turned_reaches, sender_idle, sender_made, receiver_idle, receiver_made}
 pub use Rattle.oneshot_world.specs.Ahead.{ahead_of, is_some_park}
 pub use Rattle.oneshot_world.specs.Calls.{left_by, Call, Unanswered, as_receiver_call, Of_sender, Of_receiver}
 pub use Rattle.oneshot_world.specs.Classes.{Classes, all_alike, as_name, as_state, as_entry, as_call}
 pub use Rattle.oneshot_world.specs.Control.{control_of, as_control, sender_under_way}
-pub use Rattle.oneshot_world.specs.Effects.{seen_by, word_left, reply_of, sender_puts, receiver_puts, place_left}
-pub use Rattle.oneshot_world.specs.Effects.{receiver_goes}
+pub use Rattle.oneshot_world.specs.Effects.{seen_by, word_left, reply_of, sender_puts, receiver_puts, place_left, receiver_goes}
 pub use Rattle.oneshot_world.specs.Explore.{all_in}
 pub use Rattle.oneshot_world.specs.Reached.{IsReached}
 pub use Rattle.oneshot_world.specs.Scripts.{calls_of, receiver_call, async_call, receiver_calls, async_calls}
-pub use Rattle.oneshot_world.specs.State.{sender_fits, receiver_fits, sender_steps, receiver_steps, sender_stepped}
-pub use Rattle.oneshot_world.specs.State.{receiver_stepped, is_in_cell, sender_turns_at, receiver_turns_at, made_entry}
-pub use Rattle.oneshot_world.specs.State.{receiver_position}
-pub use Rattle.oneshot_world.specs.World.{World, turn, nothing_told, receiver_told, opening, Tells_from, side_of}
-pub use Rattle.oneshot_world.specs.World.{by_end, turn_of, world_then, opening_place}
+pub use Rattle.oneshot_world.specs.State.{sender_fits, receiver_fits, sender_steps, receiver_steps, sender_stepped, receiver_stepped, is_in_cell, sender_turns_at, receiver_turns_at, made_entry, receiver_position}
+pub use Rattle.oneshot_world.specs.World.{World, turn, nothing_told, receiver_told, opening, Tells_from, side_of, by_end, turn_of, world_then, opening_place}
 pub use Rattle.oneshot_world.specs.declared.script.AsyncCall.{AsyncCall}
 pub use Rattle.oneshot_world.specs.declared.script.AsyncLast.{AsyncLast}
 pub use Rattle.oneshot_world.specs.declared.script.Move.{Move}
@@ -157,8 +117,7 @@ pub use Rattle.oneshot_world.specs.declared.trace.Place.{Place}
 pub use Rattle.oneshot_world.specs.declared.trace.Place.TheVariants.{Delivered}
 pub use Rattle.oneshot_world.specs.declared.trace.WakerName.{WakerName}
 pub use Rattle.oneshot_world.specs.declared.trace.WakerName.TheVariants.{Parker}
-pub use Rattle.std.proofs.Common.{◌≡◌, ℕ, Bool, true, false, ◌&&◌, List, refl, Option, sym, ◌∙◌, [], ◌∷◌, get_or, ◌+◌}
-pub use Rattle.std.proofs.Common.{◌++◌, Some, ap, None, subst, cond, zero, suc, not, ◌||◌, ◌==◌, map, All, arith}
+pub use Rattle.std.proofs.Common.{◌≡◌, ℕ, Bool, true, false, ◌&&◌, List, refl, Option, sym, ◌∙◌, [], ◌∷◌, get_or, ◌+◌, ◌++◌, Some, ap, None, subst, cond, zero, suc, not, ◌||◌, ◌==◌, map, All, arith}
 pub use Rattle.std.proofs.lemmas.Bool.{and_parts, eqb-true}
 pub use Rattle.std.proofs.lemmas.List.{append_assoc, append-nil, map-append}
 pub use Rattle.std.proofs.lemmas.List.Elements.{filter_map-append, All-nil, All-cons, All-head, All-tail, All-contains}

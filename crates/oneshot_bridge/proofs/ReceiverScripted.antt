@@ -1,15 +1,10 @@
 -- For each log of the receiver that an order allows there are a script and a walk: each standpoint at which its
 -- table can stand after the log is met by a walk.
-use Rattle.oneshot_bridge.proofs.Names.{◌≡◌, ℕ, Bool, true, false, ◌&&◌, List, [], ◌∷◌, zero, suc, Option, Some, None}
-use Rattle.oneshot_bridge.proofs.Names.{refl, sym, subst, list_all, flat_map, option_map, and_parts, Seen, ReceiverPos}
-use Rattle.oneshot_bridge.proofs.Names.{Noted, op_of, receiver_step, receiver_row, In, Standpoint, plainly}
-use Rattle.oneshot_bridge.proofs.Names.{standpoint_row, standpoint_step, standpoint_follows, outcome_at, receiver_table}
-use Rattle.oneshot_bridge.proofs.Names.{sights, onward, Outcome, Goes, Answers, each_passes, may_see}
+use Rattle.oneshot_bridge.proofs.Names.{◌≡◌, ℕ, Bool, true, false, ◌&&◌, List, [], ◌∷◌, zero, suc, Option, Some, None, refl, sym, subst, list_all, flat_map, option_map, and_parts, Seen, ReceiverPos, Noted, op_of, receiver_step, receiver_row, In, Standpoint, plainly, standpoint_row, standpoint_step, standpoint_follows, outcome_at, receiver_table, sights, onward, Outcome, Goes, Answers, each_passes, may_see}
 use Rattle.std.specs.Prelude.{is_some, if◌then◌else◌}
 use Rattle.oneshot_machine.specs.Standing.{as_future}
 use Rattle.oneshot_bridge.proofs.Among.{only, AmongEach, in_each}
-use Rattle.oneshot_bridge.proofs.ReceiverStands.{After, calls, polls, nothing, Stands, IsReady, Steps, rests, goes}
-use Rattle.oneshot_bridge.proofs.ReceiverStands.{answers}
+use Rattle.oneshot_bridge.proofs.ReceiverStands.{After, calls, polls, nothing, Stands, IsReady, Steps, rests, goes, answers}
 use Rattle.oneshot_bridge.proofs.Standpoints.{pos_of, after_of, is_met, Comes, stays_on, stays_ready, follows}
 
 -- a step within a call: which calls may follow stays the same

@@ -1,9 +1,6 @@
 -- What a step of a walk sees, and what the same step sees in a world: the same, but for a park, which leads on
 -- alike with its token and without.
-use Rattle.oneshot_bridge.proofs.Names.{◌≡◌, Bool, true, false, Option, refl, sym, ◌∙◌, Seen, Step, Park, AsyncLoad}
-use Rattle.oneshot_bridge.proofs.Names.{DropSwap, LookFull, TryLoad, ReceiverPos, Look, Try, Ref, Timed, Value, Future}
-use Rattle.oneshot_bridge.proofs.Names.{AsyncDrop, SenderPos, TimedPark, LatePark, RecvPark, Op, Load, Store, saw}
-use Rattle.oneshot_bridge.proofs.Names.{receiver_step, receiver_row, sender_step, sender_row, seen_by, State, may_see}
+use Rattle.oneshot_bridge.proofs.Names.{◌≡◌, Bool, true, false, Option, refl, sym, ◌∙◌, Seen, Step, Park, AsyncLoad, DropSwap, LookFull, TryLoad, ReceiverPos, Look, Try, Ref, Timed, Value, Future, AsyncDrop, SenderPos, TimedPark, LatePark, RecvPark, Op, Load, Store, saw, receiver_step, receiver_row, sender_step, sender_row, seen_by, State, may_see}
 use Rattle.oneshot_machine.specs.declared.machine.Seen.TheVariants as S
 use Rattle.oneshot_machine.specs.declared.machine.Step.TheVariants as T
 use Rattle.oneshot_machine.specs.declared.machine.future.FuturePos.TheVariants as F

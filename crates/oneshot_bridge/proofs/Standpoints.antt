@@ -1,12 +1,6 @@
 -- The standpoints of a receiver, as its walks meet them: which calls may follow at each, and that its number
 -- tells it apart.
-use Rattle.oneshot_bridge.proofs.Names.{◌≡◌, ◌==◌, Bool, true, false, List, refl, get_or, map, Reply, AsyncLoad}
-use Rattle.oneshot_bridge.proofs.Names.{StartLoad, StartWrite, StartSwap, ParkLoad, DropSwap, LookFull, TryLoad, Take}
-use Rattle.oneshot_bridge.proofs.Names.{CloseOnly, ReceiverPos, Look, Try, Ref, Timed, Value, Future, AsyncDrop}
-use Rattle.oneshot_bridge.proofs.Names.{SumClock, TimedLoad, EndBack, LateLoad, RecvLoad, Noted, receiver_opens}
-use Rattle.oneshot_bridge.proofs.Names.{future_opens, receiver_step, In, head, tail, Standpoint, plainly}
-use Rattle.oneshot_bridge.proofs.Names.{receiver_table, standpoint_number, standpoint_follows, Answers, receiver_goes}
-use Rattle.oneshot_bridge.proofs.Names.{ReceiverState, same_by}
+use Rattle.oneshot_bridge.proofs.Names.{◌≡◌, ◌==◌, Bool, true, false, List, refl, get_or, map, Reply, AsyncLoad, StartLoad, StartWrite, StartSwap, ParkLoad, DropSwap, LookFull, TryLoad, Take, CloseOnly, ReceiverPos, Look, Try, Ref, Timed, Value, Future, AsyncDrop, SumClock, TimedLoad, EndBack, LateLoad, RecvLoad, Noted, receiver_opens, future_opens, receiver_step, In, head, tail, Standpoint, plainly, receiver_table, standpoint_number, standpoint_follows, Answers, receiver_goes, ReceiverState, same_by}
 use Rattle.oneshot_machine.specs.declared.machine.Reply.TheVariants as R
 use Rattle.oneshot_machine.specs.declared.machine.future.FuturePos.TheVariants.{IntoFuture}
 use Rattle.oneshot_machine.specs.declared.machine.receiver.ReceiverPos.TheVariants.{Drop}
@@ -14,9 +8,7 @@ use Rattle.oneshot_machine.specs.Standing.{as_future}
 use Rattle.oneshot_world.specs.declared.script.AsyncCall.TheVariants as AC
 use Rattle.oneshot_world.specs.declared.script.ReceiverCall.TheVariants as Script
 use Rattle.oneshot_world.specs.declared.state.ReceiverState.TheVariants as RS
-use Rattle.oneshot_bridge.proofs.ReceiverStands.{After, calls, polls, nothing, Stands, IsReady, receive_begins}
-use Rattle.oneshot_bridge.proofs.ReceiverStands.{recv_begins, drop_begins, future_begins, poll_begins}
-use Rattle.oneshot_bridge.proofs.ReceiverStands.{async_drop_begins}
+use Rattle.oneshot_bridge.proofs.ReceiverStands.{After, calls, polls, nothing, Stands, IsReady, receive_begins, recv_begins, drop_begins, future_begins, poll_begins, async_drop_begins}
 
 abbrev pub pos_of : Standpoint → ReceiverPos
 pos_of (plainly p) = p

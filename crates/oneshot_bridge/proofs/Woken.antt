@@ -1,18 +1,6 @@
 -- Nobody waits once the sender's call has answered; and where its last operation found the receiver here, its next
 -- step is the wake after which nobody waits.
-use Rattle.oneshot_bridge.proofs.Names.{◌≡◌, ℕ, ◌+◌, Bool, true, false, not, ◌&&◌, ◌||◌, List, [], ◌∷◌, ◌++◌, Option}
-use Rattle.oneshot_bridge.proofs.Names.{Some, refl, sym, ap, ◌∙◌, subst, list_any, option_map, and_parts, End, Reply}
-use Rattle.oneshot_bridge.proofs.Names.{Done, Step, Wake, SenderPos, Noted, By, finished, ReceiverAt, gone, sender_step}
-use Rattle.oneshot_bridge.proofs.Names.{sender_row, Outcome, Answers, Call, all_alike, as_call, sender_under_way}
-use Rattle.oneshot_bridge.proofs.Names.{seen_by, IsReached, calls_of, sender_fits, sender_stepped, World, opening, turn}
-use Rattle.oneshot_bridge.proofs.Names.{nothing_told, side_of, Tells_from, Move, ReceiverScript, SenderScript}
-use Rattle.oneshot_bridge.proofs.Names.{ReceiverState, SenderState, State, Entry, Made, sender_world, Turned}
-use Rattle.oneshot_bridge.proofs.Names.{sender_idle, sender_made, receiver_idle, receiver_made, turned}
-use Rattle.oneshot_bridge.proofs.Names.{is_end_of_sender, has_answered, marks, or_stray, call_under_way, of_call}
-use Rattle.oneshot_bridge.proofs.Names.{class_is, IsRight, HasRun, told_at, Scene, last_of, is_right, goes_on}
-use Rattle.oneshot_bridge.proofs.Names.{HaveReached, answered_by, RunsTo, Answered, opening_sender, the_sender}
-use Rattle.oneshot_bridge.proofs.Names.{SenderStand, ReceiverStand, NobodyWaitsInARun, WakeIsNextInARun, found_it_gone}
-use Rattle.oneshot_bridge.proofs.Names.{WasDropped, NobodyIsLeft}
+use Rattle.oneshot_bridge.proofs.Names.{◌≡◌, ℕ, ◌+◌, Bool, true, false, not, ◌&&◌, ◌||◌, List, [], ◌∷◌, ◌++◌, Option, Some, refl, sym, ap, ◌∙◌, subst, list_any, option_map, and_parts, End, Reply, Done, Step, Wake, SenderPos, Noted, By, finished, ReceiverAt, gone, sender_step, sender_row, Outcome, Answers, Call, all_alike, as_call, sender_under_way, seen_by, IsReached, calls_of, sender_fits, sender_stepped, World, opening, turn, nothing_told, side_of, Tells_from, Move, ReceiverScript, SenderScript, ReceiverState, SenderState, State, Entry, Made, sender_world, Turned, sender_idle, sender_made, receiver_idle, receiver_made, turned, is_end_of_sender, has_answered, marks, or_stray, call_under_way, of_call, class_is, IsRight, HasRun, told_at, Scene, last_of, is_right, goes_on, HaveReached, answered_by, RunsTo, Answered, opening_sender, the_sender, SenderStand, ReceiverStand, NobodyWaitsInARun, WakeIsNextInARun, found_it_gone, WasDropped, NobodyIsLeft}
 use Rattle.oneshot_machine.specs.declared.machine.End.TheVariants.{Sender}
 use Rattle.oneshot_machine.specs.Phases.{sender_at, receiver_at}
 use Rattle.oneshot_machine.proofs.InOrders.{in_order}
@@ -27,8 +15,7 @@ use Rattle.oneshot_bridge.specs.Woken.{waits}
 use Rattle.oneshot_bridge.proofs.CellsRun.{Found, comes_to, found_passes, where_so}
 use Rattle.oneshot_bridge.proofs.Given.{has_ended, woken_at}
 use Rattle.oneshot_bridge.proofs.PhaseCodes.{Phases}
-use Rattle.oneshot_bridge.proofs.PhasesBeside.{is_wake, answers, wakes_at, wakes_if_finished, wakes_well, all_wake}
-use Rattle.oneshot_bridge.proofs.PhasesBeside.{is_gone, has_ended as receiver_ended, ends_well, all_end}
+use Rattle.oneshot_bridge.proofs.PhasesBeside.{is_wake, answers, wakes_at, wakes_if_finished, wakes_well, all_wake, is_gone, has_ended as receiver_ended, ends_well, all_end}
 use Rattle.oneshot_bridge.proofs.StatesRun.{orders_run}
 use Rattle.oneshot_bridge.proofs.Told.{left_all, told_by, told_more, shown}
 use Rattle.oneshot_bridge.proofs.Turns.{by_row, sender_turn}

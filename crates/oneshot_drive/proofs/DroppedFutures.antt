@@ -1,9 +1,5 @@
 -- How the drop of a future takes its copy back, and the runs of the drop.
-use Rattle.oneshot_drive.proofs.Names.{◌≡◌, ℕ, true, [], ◌∷◌, Some, refl, AsyncDrop, AsyncLoad, AsyncExchange}
-use Rattle.oneshot_drive.proofs.Names.{AsyncBack, AsyncSwap, Load, Swap, Exchange, Log, Grows, receiver_of, handed}
-use Rattle.oneshot_drive.proofs.Names.{worded, ReceiverAt, waits, again, withdrew, receiver_moves, Slots, receiver_step}
-use Rattle.oneshot_drive.proofs.Names.{receiver_row, Goes, Ran, ReceiverRan, vacant, GroundState, Stands, ReceiverAsks}
-use Rattle.oneshot_drive.proofs.Names.{Went, has_row, landings}
+use Rattle.oneshot_drive.proofs.Names.{◌≡◌, ℕ, true, [], ◌∷◌, Some, refl, AsyncDrop, AsyncLoad, AsyncExchange, AsyncBack, AsyncSwap, Load, Swap, Exchange, Log, Grows, receiver_of, handed, worded, ReceiverAt, waits, again, withdrew, receiver_moves, Slots, receiver_step, receiver_row, Goes, Ran, ReceiverRan, vacant, GroundState, Stands, ReceiverAsks, Went, has_row, landings}
 use Rattle.oneshot_machine.specs.declared.machine.Reply.TheVariants as R
 use Rattle.oneshot_machine.specs.declared.machine.Seen.TheVariants as S
 use Rattle.oneshot_machine.specs.declared.machine.Step.TheVariants as Steps

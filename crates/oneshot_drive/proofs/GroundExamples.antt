@@ -1,12 +1,5 @@
 -- The examples of grounds and of the wakers that a call hands on, computed.
-use Rattle.oneshot_drive.proofs.Names.{◌≡◌, ℕ, true, List, [], ◌∷◌, None, refl, sym, subst, arith, Sent, Send, waking}
-use Rattle.oneshot_drive.proofs.Names.{Event, Grows, receiver_of, ReceiverAt, blocked, first, here, looked}
-use Rattle.oneshot_drive.proofs.Names.{disconnected, found_closed, waits, polled, is_away, is_vacant, IsSlot}
-use Rattle.oneshot_drive.proofs.Names.{runs_that_are, slots_that_are, slots_that_are_not, rests_new, rests_open}
-use Rattle.oneshot_drive.proofs.Names.{rests_closed, parks_waiting, parks_overdue, log_of, GroundsThatAre}
-use Rattle.oneshot_drive.proofs.Names.{GroundsThatAreNot, WakersThatAre, WakersThatAreNot, GroundState, StandsIn}
-use Rattle.oneshot_drive.proofs.Names.{receiver_slots, WritesCopies, WritesItsCopy, left_copy, wakers_handed}
-use Rattle.oneshot_drive.proofs.Names.{HandsNoWaker, Wakes, wakes, wakes_none, SenderWoke}
+use Rattle.oneshot_drive.proofs.Names.{◌≡◌, ℕ, true, List, [], ◌∷◌, None, refl, sym, subst, arith, Sent, Send, waking, Event, Grows, receiver_of, ReceiverAt, blocked, first, here, looked, disconnected, found_closed, waits, polled, is_away, is_vacant, IsSlot, runs_that_are, slots_that_are, slots_that_are_not, rests_new, rests_open, rests_closed, parks_waiting, parks_overdue, log_of, GroundsThatAre, GroundsThatAreNot, WakersThatAre, WakersThatAreNot, GroundState, StandsIn, receiver_slots, WritesCopies, WritesItsCopy, left_copy, wakers_handed, HandsNoWaker, Wakes, wakes, wakes_none, SenderWoke}
 
 pub grounds_that_are : GroundsThatAre
 grounds_that_are =

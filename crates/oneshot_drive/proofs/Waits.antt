@@ -1,18 +1,9 @@
 -- What a receive does while its waker is stored: it asks its clock, parks and loads, up to the word that decides it.
-use Rattle.oneshot_drive.proofs.Names.{◌≡◌, ℕ, Bool, true, false, [], ◌∷◌, Some, refl, sym, ap, ◌∙◌, subst, Found}
-use Rattle.oneshot_drive.proofs.Names.{ReceiverPos, Ref, Timed, Value, Park, ParkLoad, Clock, TimedLoad, EndSwap}
-use Rattle.oneshot_drive.proofs.Names.{EndBack, LatePark, LateLoad, RecvPark, RecvParkLoad, Load, Swap, Log, Grows}
-use Rattle.oneshot_drive.proofs.Names.{receiver_of, handed, parked, clocked, worded, ReceiverAt, here, between, waits}
-use Rattle.oneshot_drive.proofs.Names.{blocked, overdue, waited, swapped, stopping, found_closed, receiver_moves, none}
-use Rattle.oneshot_drive.proofs.Names.{filled, receiver_row, receiver_rows, receiver_step, Outcome, Goes, row_for}
-use Rattle.oneshot_drive.proofs.Names.{vacant, GroundState, StandsWith, Stands, receiver_slots, ReceiverAsks}
-use Rattle.oneshot_drive.proofs.Names.{ReceiverMakes, Went, Way, by_ref, by_value, wait_of, asked_of, ref_end, end_of}
-use Rattle.oneshot_drive.proofs.Names.{EndsAt, Parks, parks_waiting, parks_overdue, has_row, landings}
+use Rattle.oneshot_drive.proofs.Names.{◌≡◌, ℕ, Bool, true, false, [], ◌∷◌, Some, refl, sym, ap, ◌∙◌, subst, Found, ReceiverPos, Ref, Timed, Value, Park, ParkLoad, Clock, TimedLoad, EndSwap, EndBack, LatePark, LateLoad, RecvPark, RecvParkLoad, Load, Swap, Log, Grows, receiver_of, handed, parked, clocked, worded, ReceiverAt, here, between, waits, blocked, overdue, waited, swapped, stopping, found_closed, receiver_moves, none, filled, receiver_row, receiver_rows, receiver_step, Outcome, Goes, row_for, vacant, GroundState, StandsWith, Stands, receiver_slots, ReceiverAsks, ReceiverMakes, Went, Way, by_ref, by_value, wait_of, asked_of, ref_end, end_of, EndsAt, Parks, parks_waiting, parks_overdue, has_row, landings}
 use Rattle.oneshot_drive.specs.declared.waiting.Found.TheVariants as F
 use Rattle.oneshot_machine.specs.declared.machine.Seen.TheVariants as S
 use Rattle.oneshot_machine.specs.declared.machine.Step.TheVariants as Steps
-use Rattle.oneshot_drive.proofs.AfterOperations.{Lands, Lone, lone, at_word, not_at, Came, came, asks, lands, stands_on}
-use Rattle.oneshot_drive.proofs.AfterOperations.{withdrew_waker}
+use Rattle.oneshot_drive.proofs.AfterOperations.{Lands, Lone, lone, at_word, not_at, Came, came, asks, lands, stands_on, withdrew_waker}
 use Rattle.oneshot_drive.proofs.Stretches.{on, begun, by_word, by_withdraw, by_park, by_clock}
 
 -- where the load after a park stands, of each way

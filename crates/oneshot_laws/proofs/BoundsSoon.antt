@@ -1,10 +1,6 @@
 -- Once the sender made its last operation on the word, each call of the receiver answers soon: the reader
 -- counts down what the receiver's call has left.
-use Rattle.oneshot_laws.proofs.Names.{◌≡◌, ℕ, zero, suc, Bool, true, false, not, ◌&&◌, ◌||◌, List, [], ◌∷◌, map, Some}
-use Rattle.oneshot_laws.proofs.Names.{None, refl, ap, subst, if◌then◌else◌, End, Sender, Receiver, Classes, as_made}
-use Rattle.oneshot_laws.proofs.Names.{Made, and_left, and_right, both, is_same_end, is_word, Mark, finishes, call_marks}
-use Rattle.oneshot_laws.proofs.Names.{until_reply, at_most, operates, is_senders_last, each_move, answers_soon}
-use Rattle.oneshot_laws.proofs.Names.{is_soon_answered}
+use Rattle.oneshot_laws.proofs.Names.{◌≡◌, ℕ, zero, suc, Bool, true, false, not, ◌&&◌, ◌||◌, List, [], ◌∷◌, map, Some, None, refl, ap, subst, if◌then◌else◌, End, Sender, Receiver, Classes, as_made, Made, and_left, and_right, both, is_same_end, is_word, Mark, finishes, call_marks, until_reply, at_most, operates, is_senders_last, each_move, answers_soon, is_soon_answered}
 use Rattle.oneshot_laws.proofs.Budgets.{can, spend}
 use Rattle.oneshot_laws.proofs.BoundsRuns.{pay, no_more}
 use Rattle.oneshot_laws.proofs.Coding.{pairs, by_parts, flags, numbers_below}

@@ -1,7 +1,5 @@
 -- What each end's call has left of its operations on the word, as a reader of the trace counts it.
-use Rattle.oneshot_laws.proofs.Names.{◌≡◌, ℕ, zero, suc, Bool, true, false, not, ◌&&◌, Option, Some, None, refl}
-use Rattle.oneshot_laws.proofs.Names.{if◌then◌else◌, End, Sender, Receiver, Call, Made, bound_of, is_word, is_same_flag}
-use Rattle.oneshot_laws.proofs.Names.{until_reply}
+use Rattle.oneshot_laws.proofs.Names.{◌≡◌, ℕ, zero, suc, Bool, true, false, not, ◌&&◌, Option, Some, None, refl, if◌then◌else◌, End, Sender, Receiver, Call, Made, bound_of, is_word, is_same_flag, until_reply}
 use Rattle.oneshot_laws.proofs.Coding.{Coding, pairs, by_parts, or_none, numbers_below}
 use Rattle.oneshot_laws.proofs.Glanced.{Law}
 use Rattle.oneshot_laws.proofs.Glances.{Glance}

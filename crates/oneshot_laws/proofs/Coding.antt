@@ -1,10 +1,6 @@
 -- How the values of a type are told apart while the checker explores: by a code that sorts them, and a test
 -- which the same values alone pass.
-use Rattle.oneshot_laws.proofs.Names.{◌≡◌, ℕ, ◌+◌, ◌*◌, ◌==◌, Bool, true, false, ◌&&◌, List, [], ◌∷◌, Option, Some}
-use Rattle.oneshot_laws.proofs.Names.{None, refl, sym, ◌∙◌, ap, get_or, eqb-true, End, Sender, Receiver, Reply}
-use Rattle.oneshot_laws.proofs.Names.{bool_code, Place, NotSent, InCell, InError, Delivered, FromError, and_left}
-use Rattle.oneshot_laws.proofs.Names.{and_right, same_by, reply_code, place_code, Content, Open, Full, Closed}
-use Rattle.oneshot_laws.proofs.Names.{content_code, is_same_flag}
+use Rattle.oneshot_laws.proofs.Names.{◌≡◌, ℕ, ◌+◌, ◌*◌, ◌==◌, Bool, true, false, ◌&&◌, List, [], ◌∷◌, Option, Some, None, refl, sym, ◌∙◌, ap, get_or, eqb-true, End, Sender, Receiver, Reply, bool_code, Place, NotSent, InCell, InError, Delivered, FromError, and_left, and_right, same_by, reply_code, place_code, Content, Open, Full, Closed, content_code, is_same_flag}
 use Rattle.oneshot_machine.specs.declared.machine.Reply.TheVariants as R
 use Rattle.oneshot_world.specs.declared.trace.Place.TheVariants.{Dropped}
 

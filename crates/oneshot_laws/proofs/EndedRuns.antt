@@ -1,10 +1,6 @@
 -- Once both ends and the error have ended: a claim on what was told until then, for any way of keeping it and
 -- for any classes of names.
-use Rattle.oneshot_laws.proofs.Names.{◌≡◌, Bool, true, false, ◌&&◌, ◌||◌, List, [], ◌∷◌, Option, is_some, map, refl}
-use Rattle.oneshot_laws.proofs.Names.{◌∙◌, ap, subst, Call, calls_of, Classes, all_alike, World, Tells, opening}
-use Rattle.oneshot_laws.proofs.Names.{opening_place, Move, ReceiverScript, SenderScript, Entry, Place, and_left}
-use Rattle.oneshot_laws.proofs.Names.{and_right, only_if, is_reply, is_end_of_sender, is_end_of_receiver}
-use Rattle.oneshot_laws.proofs.Names.{is_end_of_error, Mark, marks, has_answered, is_refused, all_ended}
+use Rattle.oneshot_laws.proofs.Names.{◌≡◌, Bool, true, false, ◌&&◌, ◌||◌, List, [], ◌∷◌, Option, is_some, map, refl, ◌∙◌, ap, subst, Call, calls_of, Classes, all_alike, World, Tells, opening, opening_place, Move, ReceiverScript, SenderScript, Entry, Place, and_left, and_right, only_if, is_reply, is_end_of_sender, is_end_of_receiver, is_end_of_error, Mark, marks, has_answered, is_refused, all_ended}
 use Rattle.oneshot_machine.specs.declared.machine.Reply.TheVariants as R
 use Rattle.oneshot_laws.proofs.Coding.{Coding, pairs, by_parts, flags}
 use Rattle.oneshot_laws.proofs.Glanced.{Law, Passes, as_glance, of_call, Passed}

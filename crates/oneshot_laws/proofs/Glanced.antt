@@ -1,20 +1,14 @@
 -- A law's own reader, which goes through the glances at the marks, by classes of names: explored beside the
 -- machines and the reader of histories, for any such reader.
-use Rattle.oneshot_laws.proofs.Names.{◌≡◌, ℕ, Bool, true, ◌&&◌, List, [], ◌∷◌, map, Option, refl, sym, ◌∙◌, ap, subst}
-use Rattle.oneshot_laws.proofs.Names.{End, Sender, Receiver, Call, Of_sender, Of_receiver, Poll, Unanswered, calls_of}
-use Rattle.oneshot_laws.proofs.Names.{Classes, all_alike, as_call, as_made, Tree, World, Tells, opening, opening_place}
-use Rattle.oneshot_laws.proofs.Names.{by_end, Move, ReceiverScript, SenderScript, Entry, Made, Place, and_left}
-use Rattle.oneshot_laws.proofs.Names.{and_right, Mark, marks, call_under_way, Object}
+use Rattle.oneshot_laws.proofs.Names.{◌≡◌, ℕ, Bool, true, ◌&&◌, List, [], ◌∷◌, map, Option, refl, sym, ◌∙◌, ap, subst, End, Sender, Receiver, Call, Of_sender, Of_receiver, Poll, Unanswered, calls_of, Classes, all_alike, as_call, as_made, Tree, World, Tells, opening, opening_place, by_end, Move, ReceiverScript, SenderScript, Entry, Made, Place, and_left, and_right, Mark, marks, call_under_way, Object}
 use Rattle.oneshot_machine.specs.declared.machine.receiver.ReceiverStart.TheVariants as RC
 use Rattle.oneshot_machine.specs.declared.machine.sender.SenderCall.TheVariants as SC
 use Rattle.oneshot_world.specs.declared.trace.Entry.TheVariants.{Idle, Made as Made_entry}
 use Rattle.oneshot_laws.proofs.Coding.{Coding, pairs, by_parts}
 use Rattle.oneshot_laws.proofs.Glances.{Glance, glance_of, glance_at, glances}
-use Rattle.oneshot_laws.proofs.HistoryReader.{Receives, hits, object_as, Reader, Watch, new_reader, watch_at, accepts}
-use Rattle.oneshot_laws.proofs.HistoryReader.{reads, readers, histories, histories_nameless}
+use Rattle.oneshot_laws.proofs.HistoryReader.{Receives, hits, object_as, Reader, Watch, new_reader, watch_at, accepts, reads, readers, histories, histories_nameless}
 use Rattle.oneshot_laws.proofs.HistoryRuns.{marks_run}
-use Rattle.oneshot_laws.proofs.Watched.{Watched, all_watched, Names, no_names, Automaton, Explored, class_under_way}
-use Rattle.oneshot_laws.proofs.Watched.{class_is, reads_alike, Accepts_by, left_after}
+use Rattle.oneshot_laws.proofs.Watched.{Watched, all_watched, Names, no_names, Automaton, Explored, class_under_way, class_is, reads_alike, Accepts_by, left_after}
 use Rattle.oneshot_laws.proofs.WatchedRuns.{Classed, all_classed, accepted_run, EachRun}
 
 -- the reader of histories, and the law's own state

@@ -1,6 +1,5 @@
 -- What every mark passes after each mark that passes a test, for any two tests: the law keeps one flag.
-use Rattle.oneshot_laws.proofs.Names.{◌≡◌, Bool, true, false, ◌&&◌, ◌||◌, List, [], ◌∷◌, map, refl, list_all, both}
-use Rattle.oneshot_laws.proofs.Names.{only_if, Mark, after_each}
+use Rattle.oneshot_laws.proofs.Names.{◌≡◌, Bool, true, false, ◌&&◌, ◌||◌, List, [], ◌∷◌, map, refl, list_all, both, only_if, Mark, after_each}
 use Rattle.oneshot_laws.proofs.Coding.{flags}
 use Rattle.oneshot_laws.proofs.Glanced.{Law, Passes, Nameless, Passed, holds_by}
 use Rattle.oneshot_laws.proofs.Glances.{Glance, glance_of}

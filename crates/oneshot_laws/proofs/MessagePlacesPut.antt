@@ -1,6 +1,5 @@
 -- Each move of the message belongs to the call that makes it.
-use Rattle.oneshot_laws.proofs.Names.{◌≡◌, Bool, true, false, List, [], ◌∷◌, Some, None, map, refl, both, Mark, may_put}
-use Rattle.oneshot_laws.proofs.Names.{is_message_put}
+use Rattle.oneshot_laws.proofs.Names.{◌≡◌, Bool, true, false, List, [], ◌∷◌, Some, None, map, refl, both, Mark, may_put, is_message_put}
 use Rattle.oneshot_laws.proofs.Coding.{flags}
 use Rattle.oneshot_laws.proofs.Glanced.{Law, Passes, Nameless, nameless_of, Passed, holds_by}
 use Rattle.oneshot_laws.proofs.Glances.{Glance, glance_of}

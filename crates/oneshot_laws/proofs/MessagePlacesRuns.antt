@@ -1,19 +1,11 @@
 -- The message is always in one place: it begins as not sent, moves as it may, and ends with somebody once all
 -- have ended.
-use Rattle.oneshot_laws.proofs.Names.{◌≡◌, ℕ, zero, suc, ◌+◌, Bool, true, false, ◌&&◌, ◌||◌, List, [], ◌∷◌, ◌++◌}
-use Rattle.oneshot_laws.proofs.Names.{Option, Some, None, is_some, map, replicate, refl, sym, ◌∙◌, ap, subst, list_any}
-use Rattle.oneshot_laws.proofs.Names.{filter_map, cons_option, Call, Of_sender, calls_of, sender_last, Classes, World}
-use Rattle.oneshot_laws.proofs.Names.{Tells, opening, opening_place, Move, ReceiverScript, SenderLast, SenderScript}
-use Rattle.oneshot_laws.proofs.Names.{Entry, Place, NotSent, both, only_if, Object, is_send, Reading, Mark, marks}
-use Rattle.oneshot_laws.proofs.Names.{marks_from, all_ended, is_path, last_place, is_same_place, is_message_move}
-use Rattle.oneshot_laws.proofs.Names.{message_moves, is_message_followed, last_message_place, is_message_end}
-use Rattle.oneshot_laws.proofs.Names.{is_message_ended}
+use Rattle.oneshot_laws.proofs.Names.{◌≡◌, ℕ, zero, suc, ◌+◌, Bool, true, false, ◌&&◌, ◌||◌, List, [], ◌∷◌, ◌++◌, Option, Some, None, is_some, map, replicate, refl, sym, ◌∙◌, ap, subst, list_any, filter_map, cons_option, Call, Of_sender, calls_of, sender_last, Classes, World, Tells, opening, opening_place, Move, ReceiverScript, SenderLast, SenderScript, Entry, Place, NotSent, both, only_if, Object, is_send, Reading, Mark, marks, marks_from, all_ended, is_path, last_place, is_same_place, is_message_move, message_moves, is_message_followed, last_message_place, is_message_end, is_message_ended}
 use Rattle.oneshot_machine.specs.declared.machine.sender.SenderCall.TheVariants as SC
 use Rattle.oneshot_world.specs.declared.script.SenderLast.TheVariants as SL
 use Rattle.oneshot_world.specs.declared.trace.Entry.TheVariants.{Idle, Made as Made_entry}
 use Rattle.oneshot_laws.proofs.Coding.{pairs, by_parts, or_none, flags, places}
-use Rattle.oneshot_laws.proofs.EndedRuns.{Ending, EndingNameless, kept, own_after, nothing_asked, at_the_end, or_more}
-use Rattle.oneshot_laws.proofs.EndedRuns.{or_false}
+use Rattle.oneshot_laws.proofs.EndedRuns.{Ending, EndingNameless, kept, own_after, nothing_asked, at_the_end, or_more, or_false}
 use Rattle.oneshot_laws.proofs.Glanced.{Law, Passes, Nameless, as_glance, of_call, Passed, passes_run}
 use Rattle.oneshot_laws.proofs.Glances.{Glance, glance_of}
 use Rattle.oneshot_laws.proofs.Watched.{no_names}

@@ -1,8 +1,6 @@
 -- The laws that something told once holds ever after: gone once the message was got, gone once closed,
 -- refused once the receiver was gone.
-use Rattle.oneshot_laws.proofs.Names.{Bool, ◌&&◌, Some, refl, Reply, Call, only_if, is_reply, is_receive, is_send}
-use Rattle.oneshot_laws.proofs.Names.{is_sender_look, is_closed_look, agrees, is_gone_after_got, is_gone_after_closed}
-use Rattle.oneshot_laws.proofs.Names.{is_refused_after_closed}
+use Rattle.oneshot_laws.proofs.Names.{Bool, ◌&&◌, Some, refl, Reply, Call, only_if, is_reply, is_receive, is_send, is_sender_look, is_closed_look, agrees, is_gone_after_got, is_gone_after_closed, is_refused_after_closed}
 use Rattle.oneshot_machine.specs.declared.machine.Reply.TheVariants as R
 use Rattle.oneshot_laws.proofs.Glanced.{Law, Nameless, nameless_of, Passed}
 use Rattle.oneshot_laws.proofs.Glances.{Glance}

@@ -1,8 +1,7 @@
 -- The laws on places and on the block, explored together: each run passes each of them.
 use Rattle.oneshot_laws.proofs.Names.{Bool, Option, refl, Place, WakerPlace, Holders}
 use Rattle.oneshot_laws.proofs.EndedRuns.{Kept, kept}
-use Rattle.oneshot_laws.proofs.Glanced.{Law, LawExplored, all_glanced, Passed, passed, together, first_passed}
-use Rattle.oneshot_laws.proofs.Glanced.{second_passed}
+use Rattle.oneshot_laws.proofs.Glanced.{Law, LawExplored, all_glanced, Passed, passed, together, first_passed, second_passed}
 use Rattle.oneshot_laws.proofs.HoldersRuns.{held_law, free_law, freed_ending}
 use Rattle.oneshot_laws.proofs.MessagePlacesPut.{put_law}
 use Rattle.oneshot_laws.proofs.MessagePlacesRuns.{Sending, path_law, sending_ending}

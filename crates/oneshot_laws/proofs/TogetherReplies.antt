@@ -1,7 +1,6 @@
 -- The laws on replies, explored together: each run passes each of them.
 use Rattle.oneshot_laws.proofs.Names.{Bool, refl}
-use Rattle.oneshot_laws.proofs.Glanced.{Law, LawExplored, all_glanced, Passed, passed, together, first_passed}
-use Rattle.oneshot_laws.proofs.Glanced.{second_passed}
+use Rattle.oneshot_laws.proofs.Glanced.{Law, LawExplored, all_glanced, Passed, passed, together, first_passed, second_passed}
 use Rattle.oneshot_laws.proofs.RepliesAfterwards.{got_law, closed_law, refused_law}
 use Rattle.oneshot_laws.proofs.RepliesDroppedOnce.{Story, story_law}
 use Rattle.oneshot_laws.proofs.RepliesNextReceive.{next_law}

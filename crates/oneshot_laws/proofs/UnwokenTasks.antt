@@ -1,16 +1,10 @@
 -- No task waits unwoken: in each run, once the sender's send or drop has answered, the last poll that left
 -- its task was woken.
-use Rattle.oneshot_laws.proofs.Names.{◌≡◌, ℕ, ◌==◌, Bool, true, false, not, ◌&&◌, ◌||◌, List, [], ◌∷◌, map, Option}
-use Rattle.oneshot_laws.proofs.Names.{Some, None, is_some, get_or, refl, sym, ◌∙◌, ap, option_map, Call, Poll}
-use Rattle.oneshot_laws.proofs.Names.{number_of, calls_of, Classes, as_call, as_move, bool_code, WakerMove, World}
-use Rattle.oneshot_laws.proofs.Names.{Tells, opening, Move, ReceiverScript, SenderScript, Entry, Parker, Copy}
-use Rattle.oneshot_laws.proofs.Names.{is_listed, is_end_of_sender, is_drop_of_receiver, Mark, marks, has_answered}
-use Rattle.oneshot_laws.proofs.Names.{uses_copy_of, is_own, is_poll, waits_in_task}
+use Rattle.oneshot_laws.proofs.Names.{◌≡◌, ℕ, ◌==◌, Bool, true, false, not, ◌&&◌, ◌||◌, List, [], ◌∷◌, map, Option, Some, None, is_some, get_or, refl, sym, ◌∙◌, ap, option_map, Call, Poll, number_of, calls_of, Classes, as_call, as_move, bool_code, WakerMove, World, Tells, opening, Move, ReceiverScript, SenderScript, Entry, Parker, Copy, is_listed, is_end_of_sender, is_drop_of_receiver, Mark, marks, has_answered, uses_copy_of, is_own, is_poll, waits_in_task}
 use Rattle.oneshot_world.specs.declared.trace.WakerPlace.TheVariants as W
 use Rattle.oneshot_laws.proofs.Coding.{listed, pairs, by_parts, flags}
 use Rattle.oneshot_laws.proofs.EndedRuns.{own_after, or_more, or_false}
-use Rattle.oneshot_laws.proofs.Glanced.{Law, Passes, as_glance, of_call, with_history, LawExplored, all_glanced}
-use Rattle.oneshot_laws.proofs.Glanced.{passes_by}
+use Rattle.oneshot_laws.proofs.Glanced.{Law, Passes, as_glance, of_call, with_history, LawExplored, all_glanced, passes_by}
 use Rattle.oneshot_laws.proofs.Glances.{Glance, glance_of}
 use Rattle.oneshot_laws.proofs.Watched.{Names}
 use Rattle.oneshot_laws.proofs.WatchedRuns.{Classed}

@@ -1,11 +1,6 @@
 -- What an order of both logs leaves: the word of both phases, and what each log says.
 use Rattle.std.proofs.Common.{◌≡◌, ℕ, Bool, true, List, [], ◌∷◌, refl}
-use Rattle.oneshot_word.proofs.Names.{◌++◌, sym, subst, ◌==◌, list_all, eqb-true, Op, Noted, saw, has_row, Reaches}
-use Rattle.oneshot_word.proofs.Names.{nothing_made, sender_makes, receiver_makes, Row, Slots, sending, dropping}
-use Rattle.oneshot_word.proofs.Names.{SenderAt, fresh, owes, sender_at, sender_next, sender_moves, blocked, storing}
-use Rattle.oneshot_word.proofs.Names.{swapped, found_closed, ReceiverAt, first, here, full, unclosed, disconnected}
-use Rattle.oneshot_word.proofs.Names.{resolved, receiver_at, receiver_next, receiver_moves, Held, In, Finds, finds}
-use Rattle.oneshot_word.proofs.Names.{word_after, each_passes, phase_from-snoc}
+use Rattle.oneshot_word.proofs.Names.{◌++◌, sym, subst, ◌==◌, list_all, eqb-true, Op, Noted, saw, has_row, Reaches, nothing_made, sender_makes, receiver_makes, Row, Slots, sending, dropping, SenderAt, fresh, owes, sender_at, sender_next, sender_moves, blocked, storing, swapped, found_closed, ReceiverAt, first, here, full, unclosed, disconnected, resolved, receiver_at, receiver_next, receiver_moves, Held, In, Finds, finds, word_after, each_passes, phase_from-snoc}
 use Rattle.oneshot_machine.specs.Phases.{looked, waits}
 use Rattle.oneshot_word.proofs.KeptRows.{stepped}
 use Rattle.oneshot_word.proofs.RuleKept.{sender_leaves, receiver_leaves}

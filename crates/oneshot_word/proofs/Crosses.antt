@@ -2,8 +2,7 @@
 use mathlib.Core.List.{[]}
 use mir.Syntax.{dnil}
 use denote.RattleType.{RattleType}
-use Rattle.oneshot_word.proofs.Names.{impl, tnil, IsSend, IsSync, AllSend, AllSync, part_keyless, fields, frees, Ghosts}
-use Rattle.oneshot_word.proofs.Names.{the_type}
+use Rattle.oneshot_word.proofs.Names.{impl, tnil, IsSend, IsSync, AllSend, AllSync, part_keyless, fields, frees, Ghosts, the_type}
 use Rattle.std.specs.contracts.alloc.Global as Global
 use Rattle.std.specs.contracts.impls.GlobalAllocator.TheImpl as heap
 use Rattle.std.specs.contracts.sync.Arc as Arc

@@ -1,14 +1,7 @@
 -- Each step of an end keeps the rule, and tells the end what it found.
 use Rattle.std.proofs.Common.{◌≡◌, ℕ, Bool, Option, Some, None, List, [], ◌∷◌, refl}
 use mathlib.Core.Option as maybe
-use Rattle.oneshot_word.proofs.Names.{◌++◌, get_or, set, sym, ◌∙◌, subst, State, Me, Act, Valid, Allows, homes_after}
-use Rattle.oneshot_word.proofs.Names.{carried_after, Op, Noted, saw, Reaches, fresh, sender_at, sender_owns}
-use Rattle.oneshot_word.proofs.Names.{sender_next, sender_moves, first, receiver_at, receiver_owns, receiver_next}
-use Rattle.oneshot_word.proofs.Names.{receiver_moves, Held, away, SenderMay, ReceiverMay, Finds, finds, phase_from-snoc}
-use Rattle.oneshot_word.proofs.Names.{Rouse, Slot, Message, View, Home, message_home, waker_home, Lies, IsGiven}
-use Rattle.oneshot_word.proofs.Names.{IsTaken, Tied, runs, view, any, with_waker, message_in, waker_in, Front}
-use Rattle.oneshot_word.proofs.Names.{waker_first, message_first, SeatOf, GivesOnce, HoldsTaken, gave, took, SenderSeat}
-use Rattle.oneshot_word.proofs.Names.{ReceiverSeat, SenderStepped, ReceiverStepped}
+use Rattle.oneshot_word.proofs.Names.{◌++◌, get_or, set, sym, ◌∙◌, subst, State, Me, Act, Valid, Allows, homes_after, carried_after, Op, Noted, saw, Reaches, fresh, sender_at, sender_owns, sender_next, sender_moves, first, receiver_at, receiver_owns, receiver_next, receiver_moves, Held, away, SenderMay, ReceiverMay, Finds, finds, phase_from-snoc, Rouse, Slot, Message, View, Home, message_home, waker_home, Lies, IsGiven, IsTaken, Tied, runs, view, any, with_waker, message_in, waker_in, Front, waker_first, message_first, SeatOf, GivesOnce, HoldsTaken, gave, took, SenderSeat, ReceiverSeat, SenderStepped, ReceiverStepped}
 use Rattle.oneshot_word.specs.declared.rule.Role.TheVariants.{Sender, Receiver}
 use Rattle.oneshot_word.proofs.Sits.{Sits, sender_sits, receiver_sits, sits, knows}
 use Rattle.oneshot_word.proofs.KeptRows.{stepped}
@@ -16,8 +9,7 @@ use Rattle.oneshot_word.proofs.RuleKept.{turn, sender_turns, receiver_turns}
 use Rattle.oneshot_word.proofs.Between.{between, sender_reaches, receiver_reaches}
 use Rattle.oneshot_word.proofs.SlotReads.{as_read, as_seat, reads}
 use Rattle.oneshot_word.proofs.Meets.{meet}
-use Rattle.oneshot_word.proofs.Passes.{lies_as, seat_as, seat_keeps, gave_no, Offers, gave_what_lies, gives_once}
-use Rattle.oneshot_word.proofs.Passes.{none_taken, holds_given, holds_taken, takes_given}
+use Rattle.oneshot_word.proofs.Passes.{lies_as, seat_as, seat_keeps, gave_no, Offers, gave_what_lies, gives_once, none_taken, holds_given, holds_taken, takes_given}
 
 module _ {T H K P : Type 0} (keeps : P → T → Type 0) (q : P) where
   abbrev pub Holds : State (Slot T H K) (View T P) → Type 0

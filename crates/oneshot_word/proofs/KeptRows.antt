@@ -1,10 +1,6 @@
 -- What is computed of the rows of one end: that each operation leaves the word and the slots as the rule has them.
 use Rattle.std.proofs.Common.{◌≡◌, ℕ, Bool, true, false, List, Option, Some, None}
-use Rattle.oneshot_word.proofs.Names.{◌&&◌, ◌+◌, ◌%◌, ◌^◌, bit_xor, sym, subst, leb, ◌==◌, list_all, and_parts, either}
-use Rattle.oneshot_word.proofs.Names.{Seen, Op, Load, Store, Swap, Exchange, Add, Xor, saw, Share, Slots, Row, SenderAt}
-use Rattle.oneshot_word.proofs.Names.{sender_moves, sender_owns, sender_next, ReceiverAt, receiver_moves, receiver_owns}
-use Rattle.oneshot_word.proofs.Names.{receiver_next, In, each_passes, Front, message_first, waker_first, message_home}
-use Rattle.oneshot_word.proofs.Names.{waker_home}
+use Rattle.oneshot_word.proofs.Names.{◌&&◌, ◌+◌, ◌%◌, ◌^◌, bit_xor, sym, subst, leb, ◌==◌, list_all, and_parts, either, Seen, Op, Load, Store, Swap, Exchange, Add, Xor, saw, Share, Slots, Row, SenderAt, sender_moves, sender_owns, sender_next, ReceiverAt, receiver_moves, receiver_owns, receiver_next, In, each_passes, Front, message_first, waker_first, message_home, waker_home}
 use Rattle.oneshot_word.proofs.Alike.{is_bool, is_word, words_are}
 use Rattle.oneshot_word.proofs.FoundRow.{row_of}
 use Rattle.oneshot_word.proofs.SlotMoves.{is_owned, is_turn, is_act}

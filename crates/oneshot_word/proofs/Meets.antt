@@ -1,10 +1,6 @@
 -- What follows from the rule by phases: the word for each pair in which the ends can be, and what each log says.
 use Rattle.std.specs.Prelude.{◌≡◌, ℕ, Bool, true, false, List, [], Option, Some, None}
-use Rattle.oneshot_word.proofs.Names.{Noted, By, sending, dropping, SenderAt, fresh, owes, finished, late, overtaken}
-use Rattle.oneshot_word.proofs.Names.{swapped, found_closed, closed_itself, ReceiverAt, first, here, claimed, withdrew}
-use Rattle.oneshot_word.proofs.Names.{overdue, full, unclosed, disconnected, resolved, gone, swapped_in, word_of}
-use Rattle.oneshot_word.proofs.Names.{Message, FoundZero, MadeLast, MadeLate, stores_waker, is_overdue, is_gone}
-use Rattle.oneshot_word.proofs.Names.{wrote_since, Home, message_home, waker_home, Lies, any, with_waker}
+use Rattle.oneshot_word.proofs.Names.{Noted, By, sending, dropping, SenderAt, fresh, owes, finished, late, overtaken, swapped, found_closed, closed_itself, ReceiverAt, first, here, claimed, withdrew, overdue, full, unclosed, disconnected, resolved, gone, swapped_in, word_of, Message, FoundZero, MadeLast, MadeLate, stores_waker, is_overdue, is_gone, wrote_since, Home, message_home, waker_home, Lies, any, with_waker}
 use Rattle.oneshot_machine.specs.Phases.{waits, ended}
 
 -- the word that the sender's final operation leaves, but for an add or a flip that found the receiver gone

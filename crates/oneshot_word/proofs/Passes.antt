@@ -1,12 +1,6 @@
 -- Which message passed after an operation: it is the one at home that the sender gave and that the receiver took.
 use Rattle.std.proofs.Common.{◌≡◌, Bool, Option, Some, None, refl}
-use Rattle.oneshot_word.proofs.Names.{sym, ap, ◌∙◌, subst, Op, Share, SenderAt, fresh, owes, finished, late, overtaken}
-use Rattle.oneshot_word.proofs.Names.{no_sender, sender_owns, ReceiverAt, Held, away, vacant, held, SenderMay, may}
-use Rattle.oneshot_word.proofs.Names.{Turns, stays_away, stays_vacant, stays_held, gives_room, gives_thing, gets_room}
-use Rattle.oneshot_word.proofs.Names.{gets_thing, Rouse, Slot, Message, Home, message_home, Lies, lies_out, lies_bare}
-use Rattle.oneshot_word.proofs.Names.{lies_filled, IsGiven, IsTaken, took_none, took_it, Carried, Front, slot_vacant}
-use Rattle.oneshot_word.proofs.Names.{slot_held, not_carried, carried, SeatOf, seat_of, GivesOnce, has_given, gave_none}
-use Rattle.oneshot_word.proofs.Names.{HoldsTaken, holds_no_slot, holds_none, holds_it, gave, took}
+use Rattle.oneshot_word.proofs.Names.{sym, ap, ◌∙◌, subst, Op, Share, SenderAt, fresh, owes, finished, late, overtaken, no_sender, sender_owns, ReceiverAt, Held, away, vacant, held, SenderMay, may, Turns, stays_away, stays_vacant, stays_held, gives_room, gives_thing, gets_room, gets_thing, Rouse, Slot, Message, Home, message_home, Lies, lies_out, lies_bare, lies_filled, IsGiven, IsTaken, took_none, took_it, Carried, Front, slot_vacant, slot_held, not_carried, carried, SeatOf, seat_of, GivesOnce, has_given, gave_none, HoldsTaken, holds_no_slot, holds_none, holds_it, gave, took}
 
 -- a message that the sender has given once it has given up its slot
 abbrev pub Offers : {T P : Type 0} → (P → T → Type 0) → P → Held T → T → Type 0

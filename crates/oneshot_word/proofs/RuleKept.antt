@@ -1,20 +1,12 @@
 -- Each operation of an end keeps the rule: computed for each pair of phases.
 use Rattle.std.proofs.Common.{◌≡◌, ℕ, Bool, true, List, [], ◌∷◌, Option, Some, None, refl}
-use Rattle.oneshot_word.proofs.Names.{◌≤◌, sym, subst, leb, list_all, and_parts, leb-true, Act, Valid, homes_after}
-use Rattle.oneshot_word.proofs.Names.{carried_after, Op, saw, Slots, Row, sending, dropping, SenderAt, fresh, owes}
-use Rattle.oneshot_word.proofs.Names.{finished, late, overtaken, no_sender, sender_moves, sender_owns, sender_next}
-use Rattle.oneshot_word.proofs.Names.{blocked, storing, swapped, found_closed, ReceiverAt, first, here, full, unclosed}
-use Rattle.oneshot_word.proofs.Names.{disconnected, resolved, receiver_moves, receiver_owns, receiver_next, Held}
-use Rattle.oneshot_word.proofs.Names.{IsSlot, In, head, tail, May, may, SenderMay, ReceiverMay, Finds, finds}
-use Rattle.oneshot_word.proofs.Names.{each_passes, Rouse, Slot, Message, any, with_waker, Carried, Part, message_first}
-use Rattle.oneshot_word.proofs.Names.{waker_first, carried_as, SeatOf, seat_of, Home, Lies}
+use Rattle.oneshot_word.proofs.Names.{◌≤◌, sym, subst, leb, list_all, and_parts, leb-true, Act, Valid, homes_after, carried_after, Op, saw, Slots, Row, sending, dropping, SenderAt, fresh, owes, finished, late, overtaken, no_sender, sender_moves, sender_owns, sender_next, blocked, storing, swapped, found_closed, ReceiverAt, first, here, full, unclosed, disconnected, resolved, receiver_moves, receiver_owns, receiver_next, Held, IsSlot, In, head, tail, May, may, SenderMay, ReceiverMay, Finds, finds, each_passes, Rouse, Slot, Message, any, with_waker, Carried, Part, message_first, waker_first, carried_as, SeatOf, seat_of, Home, Lies}
 use Rattle.oneshot_machine.specs.Phases.{looked, waits}
 use Rattle.oneshot_word.proofs.Alike.{is_bool, bools_are}
 use Rattle.oneshot_word.proofs.FoundRow.{row_of, Found, found_none, found_row, found}
 use Rattle.oneshot_word.proofs.SlotMoves.{is_owned, Carries, carries, Went, went, goes, acts, both}
 use Rattle.oneshot_word.proofs.Meets.{word_between, Is, is, Meet, meet}
-use Rattle.oneshot_word.proofs.KeptRows.{stepped, is_slots, OneEnd, sender_end, receiver_end, after, leaves_word}
-use Rattle.oneshot_word.proofs.KeptRows.{has_act, is_right, is_kept, keeps_rule, rightly, leaves_so, keeps_word}
+use Rattle.oneshot_word.proofs.KeptRows.{stepped, is_slots, OneEnd, sender_end, receiver_end, after, leaves_word, has_act, is_right, is_kept, keeps_rule, rightly, leaves_so, keeps_word}
 
 module _ {T H K At : Type 0} (kept : T → Type 0) (e : OneEnd At) where
   -- both parts of what its seat carries

@@ -1,9 +1,6 @@
 -- What the rule says of the message: a message that lies there or was taken is the one that was given.
 use Rattle.std.proofs.Common.{◌≡◌, ℕ, List, [], ◌∷◌, Option, Some, refl}
-use Rattle.oneshot_word.proofs.Names.{sym, ap, ◌∙◌, Load, Add, Noted, nothing_made, sender_makes, receiver_makes}
-use Rattle.oneshot_word.proofs.Names.{has_row, head, tail, View, both_views, ReceivedIsSent, MessagesThatPass}
-use Rattle.oneshot_word.proofs.Names.{MessagesThatDoNot, Home, has_message, lies_out, lies_bare, lies_filled, IsTaken}
-use Rattle.oneshot_word.proofs.Names.{took_none, took_it, Tied, opened, dealt, runs, view}
+use Rattle.oneshot_word.proofs.Names.{sym, ap, ◌∙◌, Load, Add, Noted, nothing_made, sender_makes, receiver_makes, has_row, head, tail, View, both_views, ReceivedIsSent, MessagesThatPass, MessagesThatDoNot, Home, has_message, lies_out, lies_bare, lies_filled, IsTaken, took_none, took_it, Tied, opened, dealt, runs, view}
 use Rattle.oneshot_word.specs.declared.rule.Role.TheVariants.{Sender, Receiver}
 use Rattle.oneshot_word.proofs.RuleKeeps.{lies_so}
 

@@ -1,17 +1,10 @@
 -- What a log says after one more operation.
 use Rattle.std.proofs.Common.{◌≡◌, ℕ, Bool, true, List, [], ◌∷◌, Option, refl}
-use Rattle.oneshot_word.proofs.Names.{◌&&◌, ◌++◌, ap, ◌∙◌, list_all, and_parts, Seen, Op, Noted, saw, sending, dropping}
-use Rattle.oneshot_word.proofs.Names.{SenderAt, sender_moves, sender_next, Slots, Row, blocked, storing, swapped}
-use Rattle.oneshot_word.proofs.Names.{found_closed, ReceiverAt, here, full, unclosed, disconnected, resolved}
-use Rattle.oneshot_word.proofs.Names.{receiver_moves, receiver_next, In, head, tail, each_passes, send_found}
-use Rattle.oneshot_word.proofs.Names.{drop_found, sent_to_it, sent_to_overdue, dropped_before_it}
-use Rattle.oneshot_word.proofs.Names.{dropped_before_overdue, sent_late, dropped_late, sent_overtaken}
-use Rattle.oneshot_word.proofs.Names.{dropped_overtaken, along, stores_next, overdue_next, gone_next, wrote_next}
+use Rattle.oneshot_word.proofs.Names.{◌&&◌, ◌++◌, ap, ◌∙◌, list_all, and_parts, Seen, Op, Noted, saw, sending, dropping, SenderAt, sender_moves, sender_next, Slots, Row, blocked, storing, swapped, found_closed, ReceiverAt, here, full, unclosed, disconnected, resolved, receiver_moves, receiver_next, In, head, tail, each_passes, send_found, drop_found, sent_to_it, sent_to_overdue, dropped_before_it, dropped_before_overdue, sent_late, dropped_late, sent_overtaken, dropped_overtaken, along, stores_next, overdue_next, gone_next, wrote_next}
 use Rattle.oneshot_machine.specs.Phases.{looked, waits}
 use Rattle.oneshot_word.specs.EndLogs.{sent, dropped}
 use Rattle.oneshot_word.proofs.Alike.{is_bool, bools_are, is_word, words_are}
-use Rattle.oneshot_word.proofs.Meets.{stores_of, overdue_of, gone_of, wrote_of, SenderSays, says_none, says_owes}
-use Rattle.oneshot_word.proofs.Meets.{says_last, says_late, says_overtaken, ReceiverSays}
+use Rattle.oneshot_word.proofs.Meets.{stores_of, overdue_of, gone_of, wrote_of, SenderSays, says_none, says_owes, says_last, says_late, says_overtaken, ReceiverSays}
 
 along-snoc : {A : Type 0} (next : A → Op → Seen → A) (a : A) (xs : List Noted) (x : Noted)
     → along next a (xs ++ x ∷ []) ≡ next (along next a xs) x.0 x.1

@@ -1,10 +1,7 @@
 -- What the view of a seat says of the table: whose the seat is, and what the rule says then.
 use Rattle.std.proofs.Common.{◌≡◌, ℕ, List, [], ◌∷◌, Option, None}
 use mathlib.Core.Option as maybe
-use Rattle.oneshot_word.proofs.Names.{zero, suc, sym, ap, subst, some-injective, some-ne-none, get_elem?, Noted}
-use Rattle.oneshot_word.proofs.Names.{Reaches, sender_at, receiver_at, Role, Maker, Dealer, Message, View, Home, out}
-use Rattle.oneshot_word.proofs.Names.{bare, message_home, waker_home, Lies, IsGiven, IsTaken, Tied, opened, dealt, runs}
-use Rattle.oneshot_word.proofs.Names.{view, any, with_waker}
+use Rattle.oneshot_word.proofs.Names.{zero, suc, sym, ap, subst, some-injective, some-ne-none, get_elem?, Noted, Reaches, sender_at, receiver_at, Role, Maker, Dealer, Message, View, Home, out, bare, message_home, waker_home, Lies, IsGiven, IsTaken, Tied, opened, dealt, runs, view, any, with_waker}
 use Rattle.oneshot_word.specs.declared.rule.Role.TheVariants.{Sender, Receiver}
 
 module _ {T H K P : Type 0} (keeps : P → T → Type 0) where

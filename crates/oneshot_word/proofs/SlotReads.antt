@@ -1,10 +1,6 @@
 -- How the slots that a seat carries read as its end has them, and what may lie in each.
 use Rattle.std.proofs.Common.{◌≡◌, Bool, List, Option, refl}
-use Rattle.oneshot_word.proofs.Names.{sym, subst, Me, Noted, Held, vacant, held, Rouse, Slot, Empty, Message, Thread}
-use Rattle.oneshot_word.proofs.Names.{Task, Nobody, View, Role, Keeps, held_keeps, with_waker, Carried, message_of}
-use Rattle.oneshot_word.proofs.Names.{waker_of, message_in, waker_in, MessageSlot, WakerSlot, slot_vacant, slot_held}
-use Rattle.oneshot_word.proofs.Names.{not_carried, carried, Front, message_first, waker_first, SeatOf, seat_of}
-use Rattle.oneshot_word.proofs.Names.{IsOrdered, SeatIs}
+use Rattle.oneshot_word.proofs.Names.{sym, subst, Me, Noted, Held, vacant, held, Rouse, Slot, Empty, Message, Thread, Task, Nobody, View, Role, Keeps, held_keeps, with_waker, Carried, message_of, waker_of, message_in, waker_in, MessageSlot, WakerSlot, slot_vacant, slot_held, not_carried, carried, Front, message_first, waker_first, SeatOf, seat_of, IsOrdered, SeatIs}
 use Rattle.oneshot_word.specs.declared.rouse.Rouse.TheVariants as R
 
 reads_back : (T : Type 0) {H K : Type 0} (k : Rouse H K) → waker_of (with_waker {T = T} k) ≡ held k

@@ -1,10 +1,6 @@
 -- What is put into a slot of an end's is what the end has there then, and what it carries else stays.
 use Rattle.std.proofs.Common.{◌≡◌, ℕ, Bool, List, [], ◌∷◌, Option, refl}
-use Rattle.oneshot_word.proofs.Names.{◌≢◌, sym, ap, ◌∙◌, subst, TableId, Me, rest, turned, Noted, Held, away, Rouse}
-use Rattle.oneshot_word.proofs.Names.{Slot, View, Role, Carried, message_in, waker_in, MessageSlot, WakerSlot}
-use Rattle.oneshot_word.proofs.Names.{slot_vacant, not_carried, carried, Front, message_first, waker_first, SeatOf}
-use Rattle.oneshot_word.proofs.Names.{seat_of, GivesOnce, has_given, gave_none, HoldsTaken, SeatIs, SenderSeat}
-use Rattle.oneshot_word.proofs.Names.{ReceiverSeat, Side, side_of}
+use Rattle.oneshot_word.proofs.Names.{◌≢◌, sym, ap, ◌∙◌, subst, TableId, Me, rest, turned, Noted, Held, away, Rouse, Slot, View, Role, Carried, message_in, waker_in, MessageSlot, WakerSlot, slot_vacant, not_carried, carried, Front, message_first, waker_first, SeatOf, seat_of, GivesOnce, has_given, gave_none, HoldsTaken, SeatIs, SenderSeat, ReceiverSeat, Side, side_of}
 use Rattle.oneshot_word.proofs.SlotReads.{Reads, reads, as_seat}
 
 -- while the sender has the slot it has given none, whatever it puts there

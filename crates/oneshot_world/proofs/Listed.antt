@@ -1,6 +1,5 @@
 -- What passes on all that a list makes passes on what one of its numbers makes.
-use Rattle.oneshot_world.proofs.Names.{◌≡◌, ℕ, Bool, true, false, List, [], ◌∷◌, map, refl, subst, ◌==◌, ◌||◌, eqb-true}
-use Rattle.oneshot_world.proofs.Names.{list_all, flat_map}
+use Rattle.oneshot_world.proofs.Names.{◌≡◌, ℕ, Bool, true, false, List, [], ◌∷◌, map, refl, subst, ◌==◌, ◌||◌, eqb-true, list_all, flat_map}
 use Rattle.oneshot_world.proofs.Bools.{and_left, and_right, all_left, all_right}
 
 abbrev pub is_listed : ℕ → List ℕ → Bool

@@ -1,21 +1,11 @@
 -- What is left after a step by a row is what a run can have left.
-use Rattle.oneshot_world.proofs.Names.{◌≡◌, ◌==◌, Bool, true, false, List, [], ◌∷◌, Option, Some, None, refl, sym, ap}
-use Rattle.oneshot_world.proofs.Names.{subst, ◌||◌, if◌then◌else◌, Outcome, Goes, Answers, Sender, Receiver, Reply}
-use Rattle.oneshot_world.proofs.Names.{Step, ReceiverPos, SenderPos, Call, Unanswered, first, rest, is_none_left}
-use Rattle.oneshot_world.proofs.Names.{left_by, all_alike, Control, control_of, as_control, sender_under_way}
-use Rattle.oneshot_world.proofs.Names.{receiver_under_way, control_then, is_reached, IsReached, bool_code}
-use Rattle.oneshot_world.proofs.Names.{is_sender_script, is_error_script, has_script, sender_has, receiver_has}
-use Rattle.oneshot_world.proofs.Names.{sender_moved, receiver_moved, place_left, reply_of, sender_goes, receiver_goes}
-use Rattle.oneshot_world.proofs.Names.{is_plain, is_free, is_future, sender_puts, receiver_puts, World, nothing_told}
-use Rattle.oneshot_world.proofs.Names.{ReceiverState, State, Place, Told}
+use Rattle.oneshot_world.proofs.Names.{◌≡◌, ◌==◌, Bool, true, false, List, [], ◌∷◌, Option, Some, None, refl, sym, ap, subst, ◌||◌, if◌then◌else◌, Outcome, Goes, Answers, Sender, Receiver, Reply, Step, ReceiverPos, SenderPos, Call, Unanswered, first, rest, is_none_left, left_by, all_alike, Control, control_of, as_control, sender_under_way, receiver_under_way, control_then, is_reached, IsReached, bool_code, is_sender_script, is_error_script, has_script, sender_has, receiver_has, sender_moved, receiver_moved, place_left, reply_of, sender_goes, receiver_goes, is_plain, is_free, is_future, sender_puts, receiver_puts, World, nothing_told, ReceiverState, State, Place, Told}
 use Rattle.oneshot_machine.specs.declared.machine.Reply.TheVariants as Replies
 use Rattle.oneshot_world.specs.declared.state.ReceiverState.TheVariants as RS
 use Rattle.oneshot_world.specs.declared.state.SenderState.TheVariants as SS
 use Rattle.oneshot_world.proofs.Bools.{and_left, and_right}
 use Rattle.oneshot_world.proofs.ControlCodes.{bool_is}
-use Rattle.oneshot_world.proofs.ScriptsLeft.{either_stays, script_stays, sender_still_has, sender_goes_on}
-use Rattle.oneshot_world.proofs.ScriptsLeft.{error_goes_on, sender_ends, becomes_future, receiver_goes_on}
-use Rattle.oneshot_world.proofs.ScriptsLeft.{receiver_ends}
+use Rattle.oneshot_world.proofs.ScriptsLeft.{either_stays, script_stays, sender_still_has, sender_goes_on, error_goes_on, sender_ends, becomes_future, receiver_goes_on, receiver_ends}
 use Rattle.oneshot_world.proofs.ReachedLeads.{left_as, sender_left_by_its_call, ends_right, receiver_left_by_its_call}
 
 -- the world after a step by a row is reached

@@ -1,6 +1,5 @@
 -- A run is determined by its first world and its moves.
-use Rattle.oneshot_world.proofs.Names.{◌≡◌, ℕ, ◌+◌, List, [], ◌∷◌, Option, Some, refl, option_map, option_and_then}
-use Rattle.oneshot_world.proofs.Names.{World, turn, Tells_from, Move, Entry}
+use Rattle.oneshot_world.proofs.Names.{◌≡◌, ℕ, ◌+◌, List, [], ◌∷◌, Option, Some, refl, option_map, option_and_then, World, turn, Tells_from, Move, Entry}
 
 -- the run, computed: its entries, and the worlds after the first
 abbrev pub run : ℕ → World → List Move → Option (List Entry × List World)

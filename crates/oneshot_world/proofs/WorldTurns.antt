@@ -1,16 +1,10 @@
 -- What a turn of a world is: an end without a position is idle, and one with a position makes a step by a row.
-use Rattle.oneshot_world.proofs.Names.{◌≡◌, ℕ, Bool, Option, Some, None, refl, sym, ◌∙◌, ap, subst, option_map}
-use Rattle.oneshot_world.proofs.Names.{receiver_step, Outcome, sender_step, End, Sender, Receiver, ReceiverPos}
-use Rattle.oneshot_world.proofs.Names.{SenderPos, IsReached, sender_turns_at, receiver_turns_at, sender_steps}
-use Rattle.oneshot_world.proofs.Names.{receiver_steps, sender_stepped, receiver_stepped, made_entry, World, turn}
-use Rattle.oneshot_world.proofs.Names.{turn_of, side_of, answer_told, nothing_told, receiver_told, world_then, Move}
-use Rattle.oneshot_world.proofs.Names.{State, Entry, Made, left_by, Told}
+use Rattle.oneshot_world.proofs.Names.{◌≡◌, ℕ, Bool, Option, Some, None, refl, sym, ◌∙◌, ap, subst, option_map, receiver_step, Outcome, sender_step, End, Sender, Receiver, ReceiverPos, SenderPos, IsReached, sender_turns_at, receiver_turns_at, sender_steps, receiver_steps, sender_stepped, receiver_stepped, made_entry, World, turn, turn_of, side_of, answer_told, nothing_told, receiver_told, world_then, Move, State, Entry, Made, left_by, Told}
 use Rattle.oneshot_world.specs.declared.script.Move.TheVariants as M
 use Rattle.oneshot_world.specs.declared.trace.Entry.TheVariants.{Idle, Made as Made_entry}
 use Rattle.oneshot_world.proofs.ReachedLeads.{sender_at, receiver_at}
 use Rattle.oneshot_world.proofs.ReachedLeft.{sender_world, receiver_world}
-use Rattle.oneshot_world.proofs.ReachedMoves.{sender_made_by, receiver_made_by, sender_row_reaches}
-use Rattle.oneshot_world.proofs.ReachedMoves.{receiver_row_reaches}
+use Rattle.oneshot_world.proofs.ReachedMoves.{sender_made_by, receiver_made_by, sender_row_reaches, receiver_row_reaches}
 
 -- by the move that makes entry `k`
 pub data Turned (k : ℕ) (w : World) : End → Entry → World → Type 0 where

@@ -2,8 +2,7 @@
 use Rattle.oneshot_drive.proofs.Names.{rules, refl, sym, ◌∙◌, Store, closed_itself, by_ref, is_in}
 use Rattle.oneshot_drive.proofs.AfterOperations.{asks, took_message}
 use Rattle.oneshot_drive.proofs.RestLoads.{rests_over}
-use Rattle.oneshot_drive.proofs.Receives.{full_asks, ended_full, full_ran, full_leaves, shut, shut_ran, over_leaves}
-use Rattle.oneshot_drive.proofs.Receives.{out_rests, out_leaves, hands, out_hands}
+use Rattle.oneshot_drive.proofs.Receives.{full_asks, ended_full, full_ran, full_leaves, shut, shut_ran, over_leaves, out_rests, out_leaves, hands, out_hands}
 use Rattle.oneshot_drive.proofs.Stretches.{whole}
 use Rattle.oneshot_drive.proofs.blocking.receive.Goals as goal
 

@@ -4,9 +4,7 @@ use Rattle.oneshot_drive.proofs.AfterOperations.{took_message}
 use Rattle.oneshot_drive.proofs.RestLoads.{never, closed_finds}
 use Rattle.oneshot_drive.proofs.Receives.{full_asks, closed_over}
 use Rattle.oneshot_drive.proofs.PollLoads.{meet_asks, met, met_full}
-use Rattle.oneshot_drive.proofs.TriedFutures.{taken_ends, over_ends, unsent_ends, tried_rests, tried_leaves}
-use Rattle.oneshot_drive.proofs.TriedFutures.{stays_registered, taken_ran, over_ran, unsent_ran, load_alone}
-use Rattle.oneshot_drive.proofs.TriedFutures.{words_alone}
+use Rattle.oneshot_drive.proofs.TriedFutures.{taken_ends, over_ends, unsent_ends, tried_rests, tried_leaves, stays_registered, taken_ran, over_ran, unsent_ran, load_alone, words_alone}
 use Rattle.oneshot_drive.proofs.polling.async_try_recv.Goals as goal
 
 pub load-requires : goal.load-requires

@@ -1,7 +1,6 @@
 -- The goals that `close` leaves.
 use Rattle.oneshot_drive.proofs.Names.{rules, refl, ◌∙◌, AsyncDrop, AsyncSwap, is_in, is_room}
-use Rattle.oneshot_drive.proofs.LastSwap.{swapped_full, swapped_over, swapped_open, row_at, dropped_message}
-use Rattle.oneshot_drive.proofs.LastSwap.{dropped_open, dropped_last}
+use Rattle.oneshot_drive.proofs.LastSwap.{swapped_full, swapped_over, swapped_open, row_at, dropped_message, dropped_open, dropped_last}
 use Rattle.oneshot_drive.proofs.polling.close.Goals as goal
 
 pub drop_message-requires : goal.drop_message-requires

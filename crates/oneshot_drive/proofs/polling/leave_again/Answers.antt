@@ -1,8 +1,7 @@
 -- The goals that `leave_again` leaves.
 use Rattle.oneshot_drive.proofs.Names.{rules, refl, Exchange, leaves_its_copy, leaves_claimed, is_in}
 use Rattle.oneshot_drive.proofs.AfterOperations.{asks, withdrew_waker}
-use Rattle.oneshot_drive.proofs.LeftCopies.{refused, copied_on, owned_ends, may_leave, again_backed, backed_copy}
-use Rattle.oneshot_drive.proofs.LeftCopies.{backed_full, backed_none, backed_late, again_to, again_left, again_late}
+use Rattle.oneshot_drive.proofs.LeftCopies.{refused, copied_on, owned_ends, may_leave, again_backed, backed_copy, backed_full, backed_none, backed_late, again_to, again_left, again_late}
 use Rattle.oneshot_drive.proofs.OwnCopies.{wrote_none, on_word, on_withdraw, on_own, on_copy, on_refusal}
 use Rattle.oneshot_drive.proofs.polling.leave_again.Goals as goal
 

@@ -1,8 +1,7 @@
 -- The goals that `meet` leaves.
 use Rattle.oneshot_drive.proofs.Names.{rules, refl, leaves_claimed}
 use Rattle.oneshot_drive.proofs.RestLoads.{never}
-use Rattle.oneshot_drive.proofs.PollLoads.{meet_asks, met, met_open, met_copied, met_claimed, met_full, met_none}
-use Rattle.oneshot_drive.proofs.PollLoads.{met_went, met_own, loaded_to}
+use Rattle.oneshot_drive.proofs.PollLoads.{meet_asks, met, met_open, met_copied, met_claimed, met_full, met_none, met_went, met_own, loaded_to}
 use Rattle.oneshot_drive.proofs.LeftCopies.{owned_ends}
 use Rattle.oneshot_drive.proofs.OwnCopies.{wrote_none, on_word, on_own}
 use Rattle.oneshot_drive.proofs.polling.meet.Goals as goal

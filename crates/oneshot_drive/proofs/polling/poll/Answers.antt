@@ -3,8 +3,7 @@ use Rattle.oneshot_drive.proofs.Names.{rules, sym, ◌∙◌, is_disconnected, i
 use Rattle.oneshot_drive.proofs.AfterOperations.{took_message}
 use Rattle.oneshot_drive.proofs.Stretches.{whole}
 use Rattle.oneshot_drive.proofs.Receives.{full_asks, closed_over}
-use Rattle.oneshot_drive.proofs.PollLoads.{taken_rests, taken_leaves, poll_ran, pending_rests, pending_leaves, gone}
-use Rattle.oneshot_drive.proofs.PollLoads.{gone_rests, gone_leaves}
+use Rattle.oneshot_drive.proofs.PollLoads.{taken_rests, taken_leaves, poll_ran, pending_rests, pending_leaves, gone, gone_rests, gone_leaves}
 use Rattle.oneshot_drive.proofs.OwnCopies.{then_word, then_took}
 use Rattle.oneshot_drive.proofs.polling.poll.Goals as goal
 

@@ -2,8 +2,7 @@
 use Rattle.oneshot_drive.proofs.Names.{rules, refl, ◌∙◌, DropSwap, is_in, is_room}
 use Rattle.oneshot_machine.specs.declared.machine.receiver.ReceiverPos.TheVariants.{Drop}
 use Rattle.oneshot_drive.proofs.RestLoads.{swap_asks}
-use Rattle.oneshot_drive.proofs.LastSwap.{swapped_full, swapped_over, swapped_last, past_1, row_at, dropped_message}
-use Rattle.oneshot_drive.proofs.LastSwap.{dropped_open, dropped_last}
+use Rattle.oneshot_drive.proofs.LastSwap.{swapped_full, swapped_over, swapped_last, past_1, row_at, dropped_message, dropped_open, dropped_last}
 use Rattle.oneshot_drive.proofs.receiver.drop_receiver.Goals as goal
 
 pub swap-requires : goal.swap-requires

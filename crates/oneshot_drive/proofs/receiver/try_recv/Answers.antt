@@ -1,9 +1,7 @@
 -- The goals that `try_recv` leaves.
 use Rattle.oneshot_drive.proofs.Names.{rules, refl, Store, is_in, try_recv_few}
 use Rattle.oneshot_drive.proofs.AfterOperations.{asks, took_message}
-use Rattle.oneshot_drive.proofs.RestLoads.{load_asks, loaded, loaded_full, loaded_open, loaded_none, closed, rests_over}
-use Rattle.oneshot_drive.proofs.RestLoads.{rests_here, took_leaves, open_leaves, closed_leaves, took_ran, empty_ran}
-use Rattle.oneshot_drive.proofs.RestLoads.{gone_ran, never}
+use Rattle.oneshot_drive.proofs.RestLoads.{load_asks, loaded, loaded_full, loaded_open, loaded_none, closed, rests_over, rests_here, took_leaves, open_leaves, closed_leaves, took_ran, empty_ran, gone_ran, never}
 use Rattle.oneshot_drive.proofs.receiver.try_recv.Goals as goal
 
 pub load-requires : goal.load-requires

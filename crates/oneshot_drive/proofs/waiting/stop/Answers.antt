@@ -1,8 +1,7 @@
 -- The goals that `stop` leaves.
 use Rattle.oneshot_drive.proofs.Names.{rules, refl, Swap, is_in}
 use Rattle.oneshot_drive.proofs.AfterOperations.{asks}
-use Rattle.oneshot_drive.proofs.Waits.{stopped, stopped_open, stopped_full, stopped_over, stopped_late}
-use Rattle.oneshot_drive.proofs.Waits.{withdrew_nothing, stops_to, nothing_went, late_went}
+use Rattle.oneshot_drive.proofs.Waits.{stopped, stopped_open, stopped_full, stopped_over, stopped_late, withdrew_nothing, stops_to, nothing_went, late_went}
 use Rattle.oneshot_drive.proofs.waiting.stop.Goals as goal
 
 pub swap-requires : goal.swap-requires

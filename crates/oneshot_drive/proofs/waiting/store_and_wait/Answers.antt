@@ -1,8 +1,6 @@
 -- The goals that `store_and_wait` leaves.
 use Rattle.oneshot_drive.proofs.Names.{◌≡◌, Some, rules, is_room, waker_kept}
-use Rattle.oneshot_drive.proofs.StoredWaker.{over_message, over_end, stored_asks, stored, stored_waits, stored_there}
-use Rattle.oneshot_drive.proofs.StoredWaker.{over_word, stored_went, back_went, withdrew_full, withdrew_over, back}
-use Rattle.oneshot_drive.proofs.StoredWaker.{waited_hand}
+use Rattle.oneshot_drive.proofs.StoredWaker.{over_message, over_end, stored_asks, stored, stored_waits, stored_there, over_word, stored_went, back_went, withdrew_full, withdrew_over, back, waited_hand}
 use Rattle.oneshot_drive.proofs.waiting.store_and_wait.Goals as goal
 
 pub write_waker-requires : goal.write_waker-requires

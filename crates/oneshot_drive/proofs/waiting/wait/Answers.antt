@@ -1,8 +1,7 @@
 -- The goals that `wait` leaves.
 use Rattle.oneshot_drive.proofs.Names.{◌≡◌, ℕ, refl, rules, Found, Went, Way, wait_of, end_of, EndsAt}
 use Rattle.oneshot_drive.proofs.Stretches.{begun}
-use Rattle.oneshot_drive.proofs.Waits.{may_park, parked_asks, woke, Decides, by_message, by_end, woke_at, woke_again}
-use Rattle.oneshot_drive.proofs.Waits.{parks_again, parks_decided, stops_went}
+use Rattle.oneshot_drive.proofs.Waits.{may_park, parked_asks, woke, Decides, by_message, by_end, woke_at, woke_again, parks_again, parks_decided, stops_went}
 use Rattle.oneshot_drive.proofs.waiting.wait.Given as given
 use Rattle.oneshot_drive.proofs.waiting.wait.Goals as goal
 use Rattle.oneshot_drive.proofs.waiting.wait.Goals.{After-load}

@@ -1,8 +1,7 @@
 -- The goals that `wait_late` leaves.
 use Rattle.oneshot_drive.proofs.Names.{◌≡◌, ℕ, true, refl, rules, Found, Timed, LatePark, Went, ref_end, EndsAt}
 use Rattle.oneshot_drive.proofs.Stretches.{begun}
-use Rattle.oneshot_drive.proofs.Waits.{may_park_late, parked_asks, woke, Decides, by_message, by_end, ended_at}
-use Rattle.oneshot_drive.proofs.Waits.{ended_again, late_decided, late_to}
+use Rattle.oneshot_drive.proofs.Waits.{may_park_late, parked_asks, woke, Decides, by_message, by_end, ended_at, ended_again, late_decided, late_to}
 use Rattle.oneshot_drive.proofs.waiting.wait_late.Given as given
 use Rattle.oneshot_drive.proofs.waiting.wait_late.Goals as goal
 use Rattle.oneshot_drive.proofs.waiting.wait_late.Goals.{After-load}

@@ -1,7 +1,6 @@
 -- The goals that `take_message` of `ReceiverSide` leaves.
 use Rattle.std.proofs.Common.{◌≡◌, Option, Some}
-use Rattle.oneshot_word.proofs.Names.{sym, ap, ◌∙◌, Held, held, vacant_keeps, HoldsTaken, holds_no_slot, holds_none}
-use Rattle.oneshot_word.proofs.Names.{holds_it}
+use Rattle.oneshot_word.proofs.Names.{sym, ap, ◌∙◌, Held, held, vacant_keeps, HoldsTaken, holds_no_slot, holds_none, holds_it}
 use Rattle.oneshot_word.proofs.SlotReads.{message_reads}
 use Rattle.oneshot_word.proofs.receiver.ReceiverSide.take_message.Goals as goal
 

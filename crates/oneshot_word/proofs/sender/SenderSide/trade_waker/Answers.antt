@@ -1,7 +1,6 @@
 -- The goals that `trade_waker` of `SenderSide` leaves.
 use Rattle.std.proofs.Common.{refl}
-use Rattle.oneshot_word.proofs.Names.{◌≢◌, rules, sym, ap, subst, away, waker_of, message_in, waker_in, WakerSlot}
-use Rattle.oneshot_word.proofs.Names.{SenderSeat}
+use Rattle.oneshot_word.proofs.Names.{◌≢◌, rules, sym, ap, subst, away, waker_of, message_in, waker_in, WakerSlot, SenderSeat}
 use Rattle.oneshot_word.proofs.SlotReads.{fits_waker}
 use Rattle.oneshot_word.proofs.Trades.{sender_waker_front, Traded, sender_waker_traded, waker_side}
 use Rattle.oneshot_word.proofs.sender.SenderSide.trade_waker.Given as given
