@@ -40,7 +40,7 @@ OPERATIONS = {
 LOOKS_FILE = CRATES / "oneshot_ends" / "src" / "ground" / "looks.rt"
 LOOKS = {
     "Unsent::peek": "side.peek",
-    "ReceiverOnWord::peek": "side.peek",
+    "SharedReceiver::peek": "side.peek",
     "Sender::is_closed": "side.peek",
     "Receiver::is_closed": "ground.peek",
     "Receiver::has_message": "ground.peek",

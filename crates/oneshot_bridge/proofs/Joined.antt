@@ -1,10 +1,10 @@
 -- Each state that the rule of the table allows is of a run: its order, its slots at home, and its message.
-use Rattle.oneshot_bridge.proofs.Names.{◌≡◌, ℕ, ◌+◌, List, [], ◌∷◌, Option, Some, None, refl, sym, ap, ◌∙◌, subst, End, Noted, Reaches, Share, empty, filled, receiver_step, sender_step, sender_puts, receiver_puts, place_left, reply_of, World, opening, opening_place, side_of, Tells_from, Move, ReceiverScript, SenderLast, SenderScript, Entry, Turned, sender_idle, sender_made, receiver_idle, receiver_made, turned, message_of, rest_at, HasRun, Scene, last_of, Rouse, Slot, Empty, Message, Home, bare, has_message, Lies, lies_out, lies_bare, lies_filled, IsGiven, IsTaken, took_none, took_it, opened, dealt, runs, any, with_waker, message_of_logs, waker_of_logs, CellsAreSo, SlotsAreSo, Passed, none_passed, it_passed, maker_before, dealer_before, is_run, TablesAreOfRuns, RunsSo, SendsOnly, IsOfARun, RunsCalls}
+use Rattle.oneshot_bridge.proofs.Names.{◌≡◌, ℕ, ◌+◌, List, [], ◌∷◌, Option, Some, None, refl, sym, ap, ◌∙◌, subst, End, Noted, Reaches, Share, empty, filled, receiver_step, sender_step, sender_puts, receiver_puts, place_left, reply_of, World, opening, opening_place, side_of, Tells_from, Move, ReceiverScript, SenderLast, SenderScript, Entry, Turned, sender_idle, sender_made, receiver_idle, receiver_made, turned, message_of, rest_at, HasRun, Scene, last_of, AnyWaker, Slot, Empty, Message, Home, bare, has_message, Lies, lies_out, lies_bare, lies_filled, IsGiven, IsTaken, took_none, took_it, opened, dealt, runs, any, with_waker, message_of_logs, waker_of_logs, CellsAreSo, SlotsAreSo, Passed, none_passed, it_passed, maker_before, dealer_before, is_run, TablesAreOfRuns, RunsSo, SendsOnly, IsOfARun, RunsCalls}
 use mathlib.Core.Option as maybe
 use Rattle.oneshot_world.specs.declared.script.SenderLast.TheVariants as SL
 use Rattle.oneshot_world.specs.declared.trace.Place.TheVariants as P
 use Rattle.oneshot_replay.specs.declared.rest.Rest.TheVariants.{InCell}
-use Rattle.oneshot_word.specs.declared.rouse.Rouse.TheVariants as R
+use Rattle.oneshot_word.specs.declared.any_waker.AnyWaker.TheVariants as R
 use Rattle.oneshot_bridge.proofs.CallsRun.{calls_run}
 use Rattle.oneshot_bridge.proofs.CellsRun.{cells_run}
 use Rattle.oneshot_bridge.proofs.StatesRun.{states_run}
@@ -65,7 +65,7 @@ module _ {T H K : Type 0} where
   full_message : (m : T) → ◌≡◌ {A = Slot T H K} (Message m) Empty → ⊥
   full_message m e = cc
 
-  pub full_waker : (k : Rouse H K) → ◌≡◌ {A = Slot T H K} (with_waker k) Empty → ⊥
+  pub full_waker : (k : AnyWaker H K) → ◌≡◌ {A = Slot T H K} (with_waker k) Empty → ⊥
   full_waker (R.Thread half) e = cc
   full_waker (R.Task copy) e = cc
   full_waker R.Nobody e = cc

@@ -9,7 +9,7 @@ use Rattle.oneshot_world.specs.State.{is_in_cell}
 use Rattle.oneshot_replay.specs.Rest.{rest_at}
 use Rattle.oneshot_replay.specs.Scene.{Scene}
 use Rattle.oneshot_replay.specs.declared.rest.Rest.TheVariants.{InCell}
-use Rattle.oneshot_word.specs.declared.rouse.Rouse.{Rouse}
+use Rattle.oneshot_word.specs.declared.any_waker.AnyWaker.{AnyWaker}
 use Rattle.oneshot_word.specs.declared.rule.Role.TheVariants.{Maker, Dealer, Sender, Receiver}
 use Rattle.oneshot_word.specs.declared.rule.View.{View}
 use Rattle.oneshot_word.specs.Rule.{Home, bare, has_message, has_waker, Tied}
@@ -24,7 +24,7 @@ pub record SlotsAreSo {T H K : Type 0} (message waker : Home T H K) (now : Scene
   pub has_it : (m : T) → message ≡ has_message m → rest_at now.world.state.message now.message ≡ Some (InCell m)
   pub has_none : message ≡ bare → IsFalse (is_in_cell now.world.state.message)
   -- a waker at home is in its cell
-  pub has_one : (k : Rouse H K) → waker ≡ has_waker k → IsTrue (is_some now.world.state.wakers.cell)
+  pub has_one : (k : AnyWaker H K) → waker ≡ has_waker k → IsTrue (is_some now.world.state.wakers.cell)
   pub has_no_waker : waker ≡ bare → now.world.state.wakers.cell ≡ None
 
 -- what an end gave or took: no message, or this one

@@ -8,7 +8,7 @@ use Rattle.oneshot_machine.specs.declared.machine.Step.TheVariants.{TakeWaker, W
 use Rattle.oneshot_machine.specs.declared.states.Op.TheVariants.{Add, Swap}
 use Rattle.oneshot_machine.specs.Logs.{Event, handed, worded}
 use Rattle.oneshot_drive.specs.Wakes.{Wakes}
-use Rattle.oneshot_word.specs.declared.rouse.Rouse.TheVariants.{Thread, Task}
+use Rattle.oneshot_word.specs.declared.any_waker.AnyWaker.TheVariants.{Thread, Task}
 use Rattle.oneshot_ends.specs.declared.deadline.Deadline.{Deadline}
 use Rattle.oneshot_ends.specs.declared.deadline.Deadline.TheVariants.{At, Passed}
 use Rattle.oneshot_ends.specs.declared.token.Given.{Given}

@@ -1,8 +1,8 @@
 -- What the use of a waker leaves behind, and how the ground of a sender shows it.
 use Rattle.std.specs.Prelude.{⊤, Option, Some, None}
 use Rattle.crossbeam_utils.specs.Token.{IsSamePass}
-use Rattle.oneshot_word.specs.declared.rouse.Rouse.{Rouse}
-use Rattle.oneshot_word.specs.declared.rouse.Rouse.TheVariants.{Thread}
+use Rattle.oneshot_word.specs.declared.any_waker.AnyWaker.{AnyWaker}
+use Rattle.oneshot_word.specs.declared.any_waker.AnyWaker.TheVariants.{Thread}
 use Rattle.oneshot_word.specs.Side.{Side}
 use Rattle.oneshot_ends.specs.declared.token.Given.{Given}
 use Rattle.oneshot_ends.specs.declared.token.WakingHalf.{WakingHalf}
@@ -13,7 +13,7 @@ IsGivenBy half None = ⊥
 IsGivenBy half (Some given) = IsSamePass half.pass given.pass
 
 -- A waker that was used: that of a thread gave its token. Of a task's the toolchain's contracts say nothing.
-abbrev pub IsWoken : {K : Type 0} → Rouse WakingHalf K → Option Given → Type 0
+abbrev pub IsWoken : {K : Type 0} → AnyWaker WakingHalf K → Option Given → Type 0
 IsWoken (Thread half) given = IsGivenBy half given
 IsWoken _ given = ⊤
 

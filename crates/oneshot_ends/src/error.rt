@@ -6,7 +6,7 @@ ghost use Rattle.oneshot_machine.specs.Slots.{held};
 ghost use Rattle.oneshot_drive.specs.BetweenCalls.{IsLate};
 ghost use Rattle.oneshot_ends.specs.Ends.{SenderIsOrdered, WasRefused};
 
-use crate::ground::{ErrorOffWord, SenderOnWord};
+use crate::ground::{RefusedSender, SharedSender};
 use crate::token::WakingHalf;
 use futures::task::Waker;
 use oneshot_drive::{drop_error, into_inner};
@@ -68,7 +68,7 @@ impl<T, P: Promise<T>> SendError<T, P> {
 
 impl<T: Drop, P: Promise<T>> SendError<T, P> {
     /// The error of a `send` that was refused on this ground.
-    pub(crate) fn refused(ground: SenderOnWord<T, WakingHalf, Waker, P>) -> SendError<T, P>
+    pub(crate) fn refused(ground: SharedSender<T, WakingHalf, Waker, P>) -> SendError<T, P>
         requires full { (message : T) × (ground.side.message ≡ held message) }
         requires late { IsLate (sender_at ground.side.log) }
         requires refused { WasRefused T ground.side.log }
@@ -85,14 +85,14 @@ impl<T: Drop, P: Promise<T>> SendError<T, P> {
         ensures { result ≡ self.message }
     {
         let SendError { message, side } = self;
-        into_inner(&mut ErrorOffWord::new(message, side))
+        into_inner(&mut RefusedSender::new(message, side))
     }
 }
 
 impl<T: Drop, P: Promise<T>> Drop for SendError<T, P> {
     fn drop(self) {
         let SendError { message, side } = self;
-        drop_error(&mut ErrorOffWord::new(message, side));
+        drop_error(&mut RefusedSender::new(message, side));
     }
 }
 

@@ -16,7 +16,7 @@ ghost use Rattle.oneshot_ends.specs.Ends.{ReceiverGrew, HasCalls, IsDone, IsUnfi
 ghost use Rattle.oneshot_ends.specs.Grounds.{state_of};
 
 use crate::copies::Copies;
-use crate::ground::{Polling, ReceiverOnWord};
+use crate::ground::{Polling, SharedReceiver};
 use crate::token::WakingHalf;
 use futures::Future;
 use futures::task::{Context, Poll, Source, Waker};
@@ -40,7 +40,7 @@ use std::marker::Model;
 /// Where `T` and `Rt` are `Send` it may go to another thread between two polls. The compiler does not refuse a shared
 /// `&` to it, and no proof covers one: share none.
 pub struct AsyncReceiver<T, Rt, P: Promise<T> = ()> {
-    pub(crate) ground: ReceiverOnWord<T, WakingHalf, Waker, P>,
+    pub(crate) ground: SharedReceiver<T, WakingHalf, Waker, P>,
     source: Source,
     // Copies of wakers that are not in the channel.
     copies: Copies<Waker>,
@@ -68,7 +68,7 @@ impl<T, Rt, P: Promise<T>> Model for AsyncReceiver<T, Rt, P> {
 
 impl<T, Rt, P: Promise<T>> AsyncReceiver<T, Rt, P> {
     pub(crate) fn new(
-        ground: ReceiverOnWord<T, WakingHalf, Waker, P>,
+        ground: SharedReceiver<T, WakingHalf, Waker, P>,
         source: Source,
         rt: Rt,
     ) -> AsyncReceiver<T, Rt, P>

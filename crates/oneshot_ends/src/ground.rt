@@ -7,8 +7,8 @@ mod sender;
 mod task;
 mod thread;
 
-pub(crate) use error::ErrorOffWord;
-pub(crate) use receiver::{OnWord, ReceiverOnWord};
-pub(crate) use sender::{SenderOnWord, Unsent};
+pub(crate) use error::RefusedSender;
+pub(crate) use receiver::{ChannelReceiver, SharedReceiver};
+pub(crate) use sender::{SharedSender, Unsent};
 pub(crate) use task::Polling;
 pub(crate) use thread::Blocking;

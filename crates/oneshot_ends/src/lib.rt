@@ -11,10 +11,10 @@ pub mod laws;
 mod pair;
 mod raw;
 mod receiver;
-mod rouse;
 mod sender;
 mod spin;
 mod token;
+mod waker;
 
 pub use copies::Copies;
 pub use error::SendError;

@@ -5,9 +5,9 @@ ghost use Rattle.oneshot_ends.specs.Ends.{IsOpen, IsUnfinished};
 
 use crate::future::AsyncReceiver;
 use crate::receiver::Receiver;
-use crate::rouse::Rouse;
 use crate::sender::Sender;
 use crate::token::parker;
+use crate::waker::ChannelWaker;
 use oneshot_word::{Promise, open};
 use std::alloc::{AllocError, Global};
 
@@ -32,7 +32,7 @@ pub fn channel<T: Send + Drop, Rt: Drop>(
     let (parking, waking) = parker(alloc)?;
     Ok((
         Sender::new(sender),
-        Receiver::new(receiver, parking, Rouse::Thread(waking), rt),
+        Receiver::new(receiver, parking, ChannelWaker::Thread(waking), rt),
     ))
 }
 
@@ -57,7 +57,7 @@ pub fn channel_for<T: Send + Drop, Rt: Drop, P: Promise<T>>(
     let (parking, waking) = parker(alloc)?;
     Ok((
         Sender::new(sender),
-        Receiver::new(receiver, parking, Rouse::Thread(waking), rt),
+        Receiver::new(receiver, parking, ChannelWaker::Thread(waking), rt),
     ))
 }
 

@@ -13,9 +13,9 @@ ghost use Rattle.oneshot_ends.specs.Grounds.{IsNewReceiver};
 
 use crate::deadline::{Deadline, Reading, read};
 use crate::future::AsyncReceiver;
-use crate::ground::{Blocking, ReceiverOnWord};
-use crate::rouse::Rouse;
+use crate::ground::{Blocking, SharedReceiver};
 use crate::token::{ParkingHalf, WakingHalf};
+use crate::waker::ChannelWaker;
 use futures::task::{Source, Waker};
 use oneshot_drive::{drop_receiver, recv, recv_deadline, recv_ref, recv_timeout, try_recv};
 use oneshot_errors::{RecvError, RecvTimeoutError, TryRecvError};
@@ -40,9 +40,9 @@ use std::time::{Clock, Duration, Instant};
 ///
 /// It may go to another thread where `T` and `Rt` are `Send`. Two threads may not share it.
 pub struct Receiver<T, Rt, P: Promise<T> = ()> {
-    pub(crate) ground: ReceiverOnWord<T, WakingHalf, Waker, P>,
+    pub(crate) ground: SharedReceiver<T, WakingHalf, Waker, P>,
     // The parker's waking half, unless the sender took it to wake the receiver.
-    hand: Option<Rouse>,
+    hand: Option<ChannelWaker>,
     // A parker may not be shared, so that one thread at a time has the receiver.
     parker: ParkingHalf,
     // Where its polls register, once it is a future.
@@ -70,7 +70,7 @@ impl<T, Rt, P: Promise<T>> Receiver<T, Rt, P> {
     pub(crate) fn new(
         side: ReceiverSide<T, WakingHalf, Waker, P>,
         parker: ParkingHalf,
-        half: Rouse,
+        half: ChannelWaker,
         rt: Rt,
     ) -> Receiver<T, Rt, P>
         requires { IsNewReceiver side }
@@ -79,7 +79,7 @@ impl<T, Rt, P: Promise<T>> Receiver<T, Rt, P> {
         ensures about { result.about ≡ side.about }
     {
         Receiver {
-            ground: ReceiverOnWord::new(side),
+            ground: SharedReceiver::new(side),
             hand: Some(half),
             parker,
             source: Source::new(),

@@ -6,7 +6,7 @@ ghost use Rattle.oneshot_machine.specs.Phases.{fresh, sender_at, looked, first, 
 ghost use Rattle.oneshot_machine.specs.Slots.{vacant};
 ghost use Rattle.oneshot_word.specs.Side.{SenderCan, ReceiverCan};
 
-use oneshot_word::{Peek, ReceiverSide, Rouse, SenderSide, Slot, open};
+use oneshot_word::{AnyWaker, Peek, ReceiverSide, SenderSide, Slot, open};
 use std::mem::size_of;
 use std::process::Abort;
 use std::test::Fail;
@@ -30,8 +30,8 @@ fn a_slot_has_one_tag_beside_the_larger_of_its_values(rt: HostRuntime) -> Result
 fn a_waker_goes_one_way_and_a_message_the_other(rt: HostRuntime) -> Result<(), Fail> {
     let (mut sender, mut receiver) = open::<u8, u8, u8, ()>(rt.alloc(), &())?;
     look(&rt, &mut receiver);
-    store_waker(&rt, &mut receiver, Rouse::Thread(5));
-    assert!(rt; matches!(begin_send(&rt, &mut sender, 7), Rouse::Thread(5)));
+    store_waker(&rt, &mut receiver, AnyWaker::Thread(5));
+    assert!(rt; matches!(begin_send(&rt, &mut sender, 7), AnyWaker::Thread(5)));
     assert_eq!(rt; sender.swap(4), 1);
     assert_eq!(rt; receive(&rt, &mut receiver), 7);
     Ok(())
@@ -41,11 +41,11 @@ fn a_waker_goes_one_way_and_a_message_the_other(rt: HostRuntime) -> Result<(), F
 fn a_receiver_that_stops_waiting_goes_on(rt: HostRuntime) -> Result<(), Fail> {
     let (mut sender, mut receiver) = open::<u8, u8, u8, ()>(rt.alloc(), &())?;
     look(&rt, &mut receiver);
-    store_waker(&rt, &mut receiver, Rouse::Thread(5));
-    assert!(rt; matches!(stop(&rt, &mut receiver), Rouse::Thread(5)));
+    store_waker(&rt, &mut receiver, AnyWaker::Thread(5));
+    assert!(rt; matches!(stop(&rt, &mut receiver), AnyWaker::Thread(5)));
     assert_eq!(rt; sender.peek(), 3);
-    store_waker(&rt, &mut receiver, Rouse::Task(6));
-    assert!(rt; matches!(begin_send(&rt, &mut sender, 7), Rouse::Task(6)));
+    store_waker(&rt, &mut receiver, AnyWaker::Task(6));
+    assert!(rt; matches!(begin_send(&rt, &mut sender, 7), AnyWaker::Task(6)));
     assert_eq!(rt; sender.swap(4), 1);
     assert_eq!(rt; receive(&rt, &mut receiver), 7);
     Ok(())
@@ -55,8 +55,8 @@ fn a_receiver_that_stops_waiting_goes_on(rt: HostRuntime) -> Result<(), Fail> {
 fn an_overdue_receiver_gets_the_message(rt: HostRuntime) -> Result<(), Fail> {
     let (mut sender, mut receiver) = open::<u8, u8, u8, ()>(rt.alloc(), &())?;
     look(&rt, &mut receiver);
-    store_waker(&rt, &mut receiver, Rouse::Thread(5));
-    assert!(rt; matches!(begin_send(&rt, &mut sender, 7), Rouse::Thread(5)));
+    store_waker(&rt, &mut receiver, AnyWaker::Thread(5));
+    assert!(rt; matches!(begin_send(&rt, &mut sender, 7), AnyWaker::Thread(5)));
     stop_too_late(&rt, &mut receiver);
     assert_eq!(rt; sender.swap(4), 3);
     assert_eq!(rt; receive(&rt, &mut receiver), 7);
@@ -67,8 +67,8 @@ fn an_overdue_receiver_gets_the_message(rt: HostRuntime) -> Result<(), Fail> {
 fn an_overdue_receiver_finds_the_sender_gone(rt: HostRuntime) -> Result<(), Fail> {
     let (mut sender, mut receiver) = open::<u8, u8, u8, ()>(rt.alloc(), &())?;
     look(&rt, &mut receiver);
-    store_waker(&rt, &mut receiver, Rouse::Nobody);
-    assert!(rt; matches!(begin_drop(&rt, &mut sender), Rouse::Nobody));
+    store_waker(&rt, &mut receiver, AnyWaker::Nobody);
+    assert!(rt; matches!(begin_drop(&rt, &mut sender), AnyWaker::Nobody));
     stop_too_late(&rt, &mut receiver);
     assert_eq!(rt; sender.swap(2), 3);
     assert_eq!(rt; receiver.load(), 2);
@@ -79,8 +79,8 @@ fn an_overdue_receiver_finds_the_sender_gone(rt: HostRuntime) -> Result<(), Fail
 fn a_receiver_that_stops_over_the_message_gets_it(rt: HostRuntime) -> Result<(), Fail> {
     let (mut sender, mut receiver) = open::<u8, u8, u8, ()>(rt.alloc(), &())?;
     look(&rt, &mut receiver);
-    store_waker(&rt, &mut receiver, Rouse::Thread(5));
-    assert!(rt; matches!(begin_send(&rt, &mut sender, 7), Rouse::Thread(5)));
+    store_waker(&rt, &mut receiver, AnyWaker::Thread(5));
+    assert!(rt; matches!(begin_send(&rt, &mut sender, 7), AnyWaker::Thread(5)));
     assert_eq!(rt; sender.swap(4), 1);
     assert_eq!(rt; stop_over_the_message(&rt, &mut receiver), 7);
     assert_eq!(rt; receiver.peek(), 2);
@@ -91,8 +91,8 @@ fn a_receiver_that_stops_over_the_message_gets_it(rt: HostRuntime) -> Result<(),
 fn a_receiver_that_stops_over_an_end_closes(rt: HostRuntime) -> Result<(), Fail> {
     let (mut sender, mut receiver) = open::<u8, u8, u8, ()>(rt.alloc(), &())?;
     look(&rt, &mut receiver);
-    store_waker(&rt, &mut receiver, Rouse::Thread(5));
-    assert!(rt; matches!(begin_drop(&rt, &mut sender), Rouse::Thread(5)));
+    store_waker(&rt, &mut receiver, AnyWaker::Thread(5));
+    assert!(rt; matches!(begin_drop(&rt, &mut sender), AnyWaker::Thread(5)));
     assert_eq!(rt; sender.swap(2), 1);
     stop_over_the_end(&rt, &mut receiver);
     assert_eq!(rt; receiver.peek(), 2);
@@ -109,7 +109,7 @@ fn look(rt: &impl Abort, receiver: &mut ReceiverSide<u8, u8, u8>)
     assert!(rt; found == 3);
 }
 
-fn store_waker(rt: &impl Abort, receiver: &mut ReceiverSide<u8, u8, u8>, waker: Rouse<u8, u8>)
+fn store_waker(rt: &impl Abort, receiver: &mut ReceiverSide<u8, u8, u8>, waker: AnyWaker<u8, u8>)
     requires at { receiver_at receiver.old.log ≡ here looked }
     requires waker { receiver.old.waker ≡ vacant }
     ensures at { receiver_at receiver.new.log ≡ waits blocked }
@@ -123,7 +123,7 @@ fn store_waker(rt: &impl Abort, receiver: &mut ReceiverSide<u8, u8, u8>, waker: 
 }
 
 // It gives its waker.
-fn stop(rt: &impl Abort, receiver: &mut ReceiverSide<u8, u8, u8>) -> Rouse<u8, u8>
+fn stop(rt: &impl Abort, receiver: &mut ReceiverSide<u8, u8, u8>) -> AnyWaker<u8, u8>
     requires { ReceiverCan receiver.old (Swap 3) }
     ensures at { receiver_at receiver.new.log ≡ here looked }
     ensures waker { receiver.new.waker ≡ vacant }
@@ -166,7 +166,7 @@ fn stop_over_the_end(rt: &impl Abort, receiver: &mut ReceiverSide<u8, u8, u8>)
 }
 
 // It gives the waker that it found.
-fn begin_send(rt: &impl Abort, sender: &mut SenderSide<u8, u8, u8>, message: u8) -> Rouse<u8, u8>
+fn begin_send(rt: &impl Abort, sender: &mut SenderSide<u8, u8, u8>, message: u8) -> AnyWaker<u8, u8>
     requires { (sender_at sender.old.log ≡ fresh) × (sender.old.message ≡ vacant) }
     ensures { SenderCan sender.new (Swap 4) }
 {
@@ -178,7 +178,7 @@ fn begin_send(rt: &impl Abort, sender: &mut SenderSide<u8, u8, u8>, message: u8)
 }
 
 // It gives the waker that it found.
-fn begin_drop(rt: &impl Abort, sender: &mut SenderSide<u8, u8, u8>) -> Rouse<u8, u8>
+fn begin_drop(rt: &impl Abort, sender: &mut SenderSide<u8, u8, u8>) -> AnyWaker<u8, u8>
     requires { (sender_at sender.old.log ≡ fresh) × (sender.old.message ≡ vacant) }
     ensures { SenderCan sender.new (Swap 2) }
 {

@@ -31,7 +31,7 @@ pub(crate) struct Scripts {
 
 /// What a trace tells.
 #[derive(Drop)]
-pub(crate) struct Told {
+pub(crate) struct DrawnTrace {
     /// An entry a move.
     pub(crate) entries: Vec<Entry>,
     /// Whether the block is freed.
@@ -41,7 +41,7 @@ pub(crate) struct Told {
 }
 
 /// Accepts the trace of these scripts, or says what is wrong, at the first entry where it shows.
-pub(crate) fn audit(scripts: &Scripts, told: &Told) -> Result<(), Finding> {
+pub(crate) fn audit(scripts: &Scripts, told: &DrawnTrace) -> Result<(), Finding> {
     let mut auditor = Auditor::new(scripts);
     let entries = told.entries.as_slice();
     for before in 0..entries.len() {
@@ -118,7 +118,7 @@ impl Auditor {
     }
 
     /// What has to hold after the last entry.
-    fn read_end(&self, told: &Told) -> Result<(), Fault> {
+    fn read_end(&self, told: &DrawnTrace) -> Result<(), Fault> {
         if self.history.have_all_ended() {
             self.message.read_end()?;
             wakers::read_end(told.entries.as_slice())?;

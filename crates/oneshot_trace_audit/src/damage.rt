@@ -2,7 +2,7 @@
 
 ghost use Rattle.std.specs.Prelude.{◌<◌, vec_len};
 
-use crate::auditor::Told;
+use crate::auditor::DrawnTrace;
 use oneshot_machine::machine::{End, Reply, Seen, Step};
 use oneshot_replay::{Entry, Made, Place, WakerName, WakerPlace};
 use std::alloc::AllocError;
@@ -44,7 +44,11 @@ pub(crate) enum Edit {
 }
 
 /// Makes a change of a trace, which has the entries that it names.
-pub(crate) fn apply(rt: &impl Abort, told: &mut Told, change: Edit) -> Result<(), AllocError> {
+pub(crate) fn apply(
+    rt: &impl Abort,
+    told: &mut DrawnTrace,
+    change: Edit,
+) -> Result<(), AllocError> {
     match change {
         Edit::Remove(number) => {
             let _ = remove(rt, told, number);
@@ -95,36 +99,41 @@ fn changed(made: Made, change: Edit) -> Made {
     }
 }
 
-fn entry_of(rt: &impl Abort, told: &Told, number: usize) -> Entry {
+fn entry_of(rt: &impl Abort, told: &DrawnTrace, number: usize) -> Entry {
     let at = index_of(rt, told, number);
     told.entries[at]
 }
 
-fn step_of(rt: &impl Abort, told: &Told, number: usize) -> Made {
+fn step_of(rt: &impl Abort, told: &DrawnTrace, number: usize) -> Made {
     match entry_of(rt, told, number) {
         Entry::Made(made) => made,
         Entry::Idle(end) => panic!(rt; "entry {number}: {end:?} is idle"),
     }
 }
 
-fn remove(rt: &impl Abort, told: &mut Told, number: usize) -> Entry {
+fn remove(rt: &impl Abort, told: &mut DrawnTrace, number: usize) -> Entry {
     let at = index_of(rt, told, number);
     told.entries.remove(at)
 }
 
-fn insert(rt: &impl Abort, told: &mut Told, number: usize, entry: Entry) -> Result<(), AllocError> {
+fn insert(
+    rt: &impl Abort,
+    told: &mut DrawnTrace,
+    number: usize,
+    entry: Entry,
+) -> Result<(), AllocError> {
     let at = index_of(rt, told, number);
     told.entries.insert(at, entry)?;
     Ok(())
 }
 
-fn replace(rt: &impl Abort, told: &mut Told, number: usize, entry: Entry) {
+fn replace(rt: &impl Abort, told: &mut DrawnTrace, number: usize, entry: Entry) {
     let at = index_of(rt, told, number);
     told.entries[at] = entry;
 }
 
 /// The index of an entry that there is.
-fn index_of(rt: &impl Abort, told: &Told, number: usize) -> usize
+fn index_of(rt: &impl Abort, told: &DrawnTrace, number: usize) -> usize
     ensures { result < vec_len told.now.entries }
 {
     assert!(rt;

@@ -1,6 +1,6 @@
 //! A number for all that traces tell, in its order, or for a text: a guard against change.
 
-use crate::auditor::Told;
+use crate::auditor::DrawnTrace;
 use oneshot_machine::machine::{Seen, Step};
 use oneshot_machine::states::Op;
 use oneshot_replay::{Entry, Made, Place, WakerName, WakerPlace};
@@ -28,7 +28,7 @@ impl Digest {
     }
 
     /// Adds a trace: each field of each entry, and what is told of the end.
-    pub(crate) fn add_trace(&mut self, told: &Told) {
+    pub(crate) fn add_trace(&mut self, told: &DrawnTrace) {
         for entry in told.entries.as_slice() {
             match entry {
                 Entry::Idle(end) => self.add_two(0, *end as u64),

@@ -1,6 +1,6 @@
 //! Two scripts that are run, what their trace tells, and its printed text.
 
-use crate::auditor::{Scripts, Told};
+use crate::auditor::{DrawnTrace, Scripts};
 use crate::scripts::{Receiving, Sending};
 use oneshot_replay::{Move, Place, Replayer, Rest, SenderLast, replay};
 use oneshot_text::write_run;
@@ -22,11 +22,11 @@ pub(crate) fn scripts_of(
 }
 
 /// Runs both scripts under a schedule.
-pub(crate) fn run(alloc: Global, scripts: Scripts, moves: &[Move]) -> Result<Told, Fail> {
+pub(crate) fn run(alloc: Global, scripts: Scripts, moves: &[Move]) -> Result<DrawnTrace, Fail> {
     let Scripts { sender, receiver } = scripts;
     let trace = replay(alloc, sender, receiver, moves)?;
     let entries = Vec::from_slice(alloc, trace.entries())?;
-    Ok(Told {
+    Ok(DrawnTrace {
         entries,
         block_freed: trace.block_freed(),
         rest: trace.into_rest().map(place_of),

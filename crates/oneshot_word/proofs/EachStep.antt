@@ -1,7 +1,7 @@
 -- Each step of an end keeps the rule, and tells the end what it found.
 use Rattle.std.proofs.Common.{◌≡◌, ℕ, Bool, Option, Some, None, List, [], ◌∷◌, refl}
 use mathlib.Core.Option as maybe
-use Rattle.oneshot_word.proofs.Names.{◌++◌, get_or, set, sym, ◌∙◌, subst, State, Me, Act, Valid, Allows, homes_after, carried_after, Op, Noted, saw, Reaches, fresh, sender_at, sender_owns, sender_next, sender_moves, first, receiver_at, receiver_owns, receiver_next, receiver_moves, Held, away, SenderMay, ReceiverMay, Finds, finds, phase_from-snoc, Rouse, Slot, Message, View, Home, message_home, waker_home, Lies, IsGiven, IsTaken, Tied, runs, view, any, with_waker, message_in, waker_in, Front, waker_first, message_first, SeatOf, GivesOnce, HoldsTaken, gave, took, SenderSeat, ReceiverSeat, SenderStepped, ReceiverStepped}
+use Rattle.oneshot_word.proofs.Names.{◌++◌, get_or, set, sym, ◌∙◌, subst, State, Me, Act, Valid, Allows, homes_after, carried_after, Op, Noted, saw, Reaches, fresh, sender_at, sender_owns, sender_next, sender_moves, first, receiver_at, receiver_owns, receiver_next, receiver_moves, Held, away, SenderMay, ReceiverMay, Finds, finds, phase_from-snoc, AnyWaker, Slot, Message, View, Home, message_home, waker_home, Lies, IsGiven, IsTaken, Tied, runs, view, any, with_waker, message_in, waker_in, Front, waker_first, message_first, SeatOf, GivesOnce, HoldsTaken, gave, took, SenderSeat, ReceiverSeat, SenderStepped, ReceiverStepped}
 use Rattle.oneshot_word.specs.declared.rule.Role.TheVariants.{Sender, Receiver}
 use Rattle.oneshot_word.proofs.Sits.{Sits, sender_sits, receiver_sits, sits, knows}
 use Rattle.oneshot_word.proofs.KeptRows.{stepped}
@@ -17,7 +17,7 @@ module _ {T H K P : Type 0} (keeps : P → T → Type 0) (q : P) where
 
   -- the rule after one operation more, where the slots are as the phase after it says
   module _ {xs ys : List Noted} {given taken : Option T} {op : Op} {word : ℕ} {h k : Home T H K} {m m' : Held T}
-      {w w' : Held (Rouse H K)} where
+      {w w' : Held (AnyWaker H K)} where
     sender_runs : Reaches xs ys word → Finds sender_moves (sender_at xs) op word m w m' w'
         → Lies (IsGiven keeps q given) Message
         (message_home (sender_next (sender_at xs) op (saw op word)) (receiver_at ys)) h

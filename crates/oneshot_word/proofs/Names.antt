@@ -36,7 +36,7 @@ pub use Rattle.oneshot_word.specs.contracts.sender.SenderSide.{the_row}
 pub use Rattle.oneshot_word.specs.contracts.sender.SenderSide.TheInside.{the_type}
 pub use Rattle.oneshot_word.specs.contracts.sender.SenderSide.new.{clauses}
 pub use Rattle.oneshot_word.specs.declared.promise.Promise.{Ghosts}
-pub use Rattle.oneshot_word.specs.declared.rouse.Rouse.{Rouse}
+pub use Rattle.oneshot_word.specs.declared.any_waker.AnyWaker.{AnyWaker}
 pub use Rattle.oneshot_word.specs.declared.rule.Role.{Role}
 pub use Rattle.oneshot_word.specs.declared.rule.Role.TheVariants.{Maker, Dealer}
 pub use Rattle.oneshot_word.specs.declared.rule.Slot.{Slot}

@@ -1,6 +1,6 @@
 -- Which message passed after an operation: it is the one at home that the sender gave and that the receiver took.
 use Rattle.std.proofs.Common.{◌≡◌, Bool, Option, Some, None, refl}
-use Rattle.oneshot_word.proofs.Names.{sym, ap, ◌∙◌, subst, Op, Share, SenderAt, fresh, owes, finished, late, overtaken, no_sender, sender_owns, ReceiverAt, Held, away, vacant, held, SenderMay, may, Turns, stays_away, stays_vacant, stays_held, gives_room, gives_thing, gets_room, gets_thing, Rouse, Slot, Message, Home, message_home, Lies, lies_out, lies_bare, lies_filled, IsGiven, IsTaken, took_none, took_it, Carried, Front, slot_vacant, slot_held, not_carried, carried, SeatOf, seat_of, GivesOnce, has_given, gave_none, HoldsTaken, holds_no_slot, holds_none, holds_it, gave, took}
+use Rattle.oneshot_word.proofs.Names.{sym, ap, ◌∙◌, subst, Op, Share, SenderAt, fresh, owes, finished, late, overtaken, no_sender, sender_owns, ReceiverAt, Held, away, vacant, held, SenderMay, may, Turns, stays_away, stays_vacant, stays_held, gives_room, gives_thing, gets_room, gets_thing, AnyWaker, Slot, Message, Home, message_home, Lies, lies_out, lies_bare, lies_filled, IsGiven, IsTaken, took_none, took_it, Carried, Front, slot_vacant, slot_held, not_carried, carried, SeatOf, seat_of, GivesOnce, has_given, gave_none, HoldsTaken, holds_no_slot, holds_none, holds_it, gave, took}
 
 -- a message that the sender has given once it has given up its slot
 abbrev pub Offers : {T P : Type 0} → (P → T → Type 0) → P → Held T → T → Type 0
@@ -15,21 +15,21 @@ module _ {T H K : Type 0} where
   lies_as so (lies_filled x k) = lies_filled x (so x k)
 
   pub seat_as : {kept kept' : T → Type 0} {front : Front} {o : Option (Bool × Bool)} {c : Carried T H K} {m : Held T}
-      {w : Held (Rouse H K)} → ((x : T) → m ≡ held x → kept x → kept' x) → SeatOf kept front o c m w
+      {w : Held (AnyWaker H K)} → ((x : T) → m ≡ held x → kept x → kept' x) → SeatOf kept front o c m w
       → SeatOf kept' front o c m w
   seat_as so (seat_of not_carried waker) = seat_of not_carried waker
   seat_as so (seat_of (carried slot_vacant) waker) = seat_of (carried slot_vacant) waker
   seat_as so (seat_of (carried (slot_held x k)) waker) = seat_of (carried (slot_held x (so x refl k))) waker
 
   pub seat_keeps : {kept : T → Type 0} {front : Front} {o : Option (Bool × Bool)} {c : Carried T H K} {m : Held T}
-      {w : Held (Rouse H K)} {x : T} → SeatOf kept front o c m w → m ≡ held x → kept x
+      {w : Held (AnyWaker H K)} {x : T} → SeatOf kept front o c m w → m ≡ held x → kept x
   seat_keeps (seat_of not_carried waker) is = absurd (cc is)
   seat_keeps (seat_of (carried slot_vacant) waker) is = absurd (cc is)
   seat_keeps {kept} (seat_of (carried (slot_held y k)) waker) is = subst kept (cc is) k
 
   -- a sender that may make an operation has given nothing
   pub gave_no : {kept : T → Type 0} {front : Front} (p : SenderAt) {op : Op} {c : Carried T H K} {m : Held T}
-      {w : Held (Rouse H K)} {given : Option T} → SenderMay p op m w → SeatOf kept front (sender_owns p) c m w
+      {w : Held (AnyWaker H K)} {given : Option T} → SenderMay p op m w → SeatOf kept front (sender_owns p) c m w
       → GivesOnce given m → given ≡ None
   gave_no fresh asks (seat_of (carried slot_vacant) waker) gave_none = refl
   gave_no fresh asks (seat_of (carried (slot_held x k)) waker) gave_none = refl
@@ -42,7 +42,7 @@ module _ {T H K : Type 0} where
 
   -- at home is what it has given, since it has its slot or none lies there
   pub gave_what_lies : {P : Type 0} (keeps : P → T → Type 0) (q : P) {kept : T → Type 0} {front : Front}
-      (p : SenderAt) (r : ReceiverAt) {c : Carried T H K} (m : Held T) {m' : Held T} {w : Held (Rouse H K)}
+      (p : SenderAt) (r : ReceiverAt) {c : Carried T H K} (m : Held T) {m' : Held T} {w : Held (AnyWaker H K)}
       {h : Home T H K} → SeatOf kept front (sender_owns p) c m' w → Lies (Offers keeps q m) Message (message_home p r) h
       → Lies (IsGiven keeps q (gave m m' None)) Message (message_home p r) h
   gave_what_lies keeps q fresh r m seat lies_out = lies_out

@@ -1,7 +1,7 @@
 -- The examples of the rule: each state by its row, and why no row fits the others.
 use Rattle.std.proofs.Common.{[], ◌∷◌, refl}
-use Rattle.oneshot_word.proofs.Names.{◌≢◌, Word, Add, sending, dropping, Rouse, stopped_over, polled, polled_over, exchanged_back, left_meanwhile, sent_over, dropped_over, StatesThatAre, StatesThatAreNot, Home, out, bare, has_waker, IsSenders, IsReceivers, IsWords, Owned, both_open, waker_stored, waker_claimed, claimed_overdue, claimed_gone, receiver_gone, sender_after, written, sender_has_it, left_for_sender, left_for_receiver, receiver_has_it, receiver_found_it, waits_for_receiver, waker_at_home}
-use Rattle.oneshot_word.specs.declared.rouse.Rouse.TheVariants as R
+use Rattle.oneshot_word.proofs.Names.{◌≢◌, Word, Add, sending, dropping, AnyWaker, stopped_over, polled, polled_over, exchanged_back, left_meanwhile, sent_over, dropped_over, StatesThatAre, StatesThatAreNot, Home, out, bare, has_waker, IsSenders, IsReceivers, IsWords, Owned, both_open, waker_stored, waker_claimed, claimed_overdue, claimed_gone, receiver_gone, sender_after, written, sender_has_it, left_for_sender, left_for_receiver, receiver_has_it, receiver_found_it, waits_for_receiver, waker_at_home}
+use Rattle.oneshot_word.specs.declared.any_waker.AnyWaker.TheVariants as R
 use Rattle.oneshot_word.specs.Examples.{waits, claims}
 use Rattle.oneshot_word.specs.EndLogs.{send_found, sent as sent_alone, sent_to_it, sent_to_overdue, dropped_before_overdue, sent_overtaken, dropped_overtaken}
 use Rattle.oneshot_word.specs.ReadRule.{sent, dropped}
@@ -29,17 +29,17 @@ module _ {T H K : Type 0} where
         dropped_after_it = sender_after dropping dropped_overtaken refl sender_has_it sender_has_it;
       }
 
-  waker_not_senders : (k : Rouse H K) → IsSenders {T = T} (has_waker k) → ⊥
+  waker_not_senders : (k : AnyWaker H K) → IsSenders {T = T} (has_waker k) → ⊥
   waker_not_senders (R.Thread half) is = elim is [ ]
   waker_not_senders (R.Task copy) is = elim is [ ]
   waker_not_senders R.Nobody is = elim is [ ]
 
-  waker_not_receivers : (k : Rouse H K) → IsReceivers {T = T} (has_waker k) → ⊥
+  waker_not_receivers : (k : AnyWaker H K) → IsReceivers {T = T} (has_waker k) → ⊥
   waker_not_receivers (R.Thread half) is = elim is [ ]
   waker_not_receivers (R.Task copy) is = elim is [ ]
   waker_not_receivers R.Nobody is = elim is [ ]
 
-  bare_has_no_waker : (k : Rouse H K) → has_waker {T = T} k ≢ bare
+  bare_has_no_waker : (k : AnyWaker H K) → has_waker {T = T} k ≢ bare
   bare_has_no_waker (R.Thread half) e = cc
   bare_has_no_waker (R.Task copy) e = cc
   bare_has_no_waker R.Nobody e = cc
@@ -52,7 +52,7 @@ module _ {T H K : Type 0} where
   overdue_leaves_1 (sender_after by made is m w) = elim made [ ]
   overdue_leaves_1 (written by made is m w) = elim made [ ]
 
-  overdue_has_its_waker : {h : Home T H K} (k : Rouse H K) → Owned claims (stopped_over 1) 3 h (has_waker k) → ⊥
+  overdue_has_its_waker : {h : Home T H K} (k : AnyWaker H K) → Owned claims (stopped_over 1) 3 h (has_waker k) → ⊥
   overdue_has_its_waker k (both_open none stores here m w) = cc
   overdue_has_its_waker k (claimed_overdue by found late here m w) = waker_not_senders k w
   overdue_has_its_waker k (sender_after by made is m w) = elim made [ ]
@@ -112,7 +112,7 @@ module _ {T H K : Type 0} where
   takes_back_and_leaves_0 (sender_after by made is m w) = elim made [ ]
   takes_back_and_leaves_0 (written by made is m w) = elim made [ ]
 
-  takes_nothing_back : {h : Home T H K} (k : Rouse H K) → Owned [] (exchanged_back 0) 3 h (has_waker k) → ⊥
+  takes_nothing_back : {h : Home T H K} (k : AnyWaker H K) → Owned [] (exchanged_back 0) 3 h (has_waker k) → ⊥
   takes_nothing_back k (both_open none stores here m w) = waker_not_receivers k w
   takes_nothing_back k (claimed_overdue by found late here m w) = elim found [ ]
   takes_nothing_back k (sender_after by made is m w) = elim made [ ]
@@ -134,7 +134,7 @@ module _ {T H K : Type 0} where
   dropped_and_leaves_1 (sender_after by made is m w) = elim made [ ]
   dropped_and_leaves_1 (written by made is m w) = elim made [ ]
 
-  dropped_with_its_waker : {h : Home T H K} (k : Rouse H K) → Owned claims left_meanwhile 2 h (has_waker k) → ⊥
+  dropped_with_its_waker : {h : Home T H K} (k : AnyWaker H K) → Owned claims left_meanwhile 2 h (has_waker k) → ⊥
   dropped_with_its_waker k (claimed_gone by found is m w) = waker_not_senders k w
   dropped_with_its_waker k (receiver_gone none is m w) = cc
   dropped_with_its_waker k (sender_after by made is m w) = elim made [ ]

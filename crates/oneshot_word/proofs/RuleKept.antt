@@ -1,6 +1,6 @@
 -- Each operation of an end keeps the rule: computed for each pair of phases.
 use Rattle.std.proofs.Common.{◌≡◌, ℕ, Bool, true, List, [], ◌∷◌, Option, Some, None, refl}
-use Rattle.oneshot_word.proofs.Names.{◌≤◌, sym, subst, leb, list_all, and_parts, leb-true, Act, Valid, homes_after, carried_after, Op, saw, Slots, Row, sending, dropping, SenderAt, fresh, owes, finished, late, overtaken, no_sender, sender_moves, sender_owns, sender_next, blocked, storing, swapped, found_closed, ReceiverAt, first, here, full, unclosed, disconnected, resolved, receiver_moves, receiver_owns, receiver_next, Held, IsSlot, In, head, tail, May, may, SenderMay, ReceiverMay, Finds, finds, each_passes, Rouse, Slot, Message, any, with_waker, Carried, Part, message_first, waker_first, carried_as, SeatOf, seat_of, Home, Lies}
+use Rattle.oneshot_word.proofs.Names.{◌≤◌, sym, subst, leb, list_all, and_parts, leb-true, Act, Valid, homes_after, carried_after, Op, saw, Slots, Row, sending, dropping, SenderAt, fresh, owes, finished, late, overtaken, no_sender, sender_moves, sender_owns, sender_next, blocked, storing, swapped, found_closed, ReceiverAt, first, here, full, unclosed, disconnected, resolved, receiver_moves, receiver_owns, receiver_next, Held, IsSlot, In, head, tail, May, may, SenderMay, ReceiverMay, Finds, finds, each_passes, AnyWaker, Slot, Message, any, with_waker, Carried, Part, message_first, waker_first, carried_as, SeatOf, seat_of, Home, Lies}
 use Rattle.oneshot_machine.specs.Phases.{looked, waits}
 use Rattle.oneshot_word.proofs.Alike.{is_bool, bools_are}
 use Rattle.oneshot_word.proofs.FoundRow.{row_of, Found, found_none, found_row, found}
@@ -10,7 +10,7 @@ use Rattle.oneshot_word.proofs.KeptRows.{stepped, is_slots, OneEnd, sender_end, 
 
 module _ {T H K At : Type 0} (kept : T → Type 0) (e : OneEnd At) where
   -- both parts of what its seat carries
-  seated : {o : Option (Bool × Bool)} (after : Slots) {cm cw : Carried T H K} {m : Held T} {w : Held (Rouse H K)}
+  seated : {o : Option (Bool × Bool)} (after : Slots) {cm cw : Carried T H K} {m : Held T} {w : Held (AnyWaker H K)}
       → is_slots o after ≡ true → Part kept 0 Message (is_owned after.0) cm m
       → Part any 1 with_waker (is_owned after.1) cw w → SeatOf kept e.front o (carried_as e.front cm cw) m w
   seated {o = None} after fits message waker = absurd (cc)
@@ -25,8 +25,8 @@ module _ {T H K At : Type 0} (kept : T → Type 0) (e : OneEnd At) where
 
   -- the end's turn: its act on the slots, and the rule after it
   pub data Turn (at : At) (op : Op) (word : ℕ) (h k : Home T H K) (c : Carried T H K) (m : Held T)
-      (w : Held (Rouse H K)) : Type 0 where
-    turn : {h' k' : Home T H K} {m' : Held T} {w' : Held (Rouse H K)} (act : Act (Slot T H K))
+      (w : Held (AnyWaker H K)) : Type 0 where
+    turn : {h' k' : Home T H K} {m' : Held T} {w' : Held (AnyWaker H K)} (act : Act (Slot T H K))
         → Valid (h ∷ k ∷ []) c act → homes_after (h ∷ k ∷ []) c act ≡ h' ∷ k' ∷ []
         → Is (e.word (e.next at op (saw op word))) (stepped op word)
         → Lies kept Message (e.message (e.next at op (saw op word))) h'
@@ -36,7 +36,7 @@ module _ {T H K At : Type 0} (kept : T → Type 0) (e : OneEnd At) where
         → Turn at op word h k c m w
 
   module _ (at : At) (op : Op) (word : ℕ) {h k : Home T H K} where
-    turned : {before : Slots} (slots : Slots) {at' : At} {cm cw : Carried T H K} {m : Held T} {w : Held (Rouse H K)}
+    turned : {before : Slots} (slots : Slots) {at' : At} {cm cw : Carried T H K} {m : Held T} {w : Held (AnyWaker H K)}
         → word ≤ 4 → In (op, before, word, at', slots) (e.moves at)
         → leaves_word e at op before word ≡ true → is_slots (e.owns (after e at op before word)) slots ≡ true
         → has_act e at op before word slots ≡ true
@@ -52,8 +52,8 @@ module _ {T H K At : Type 0} (kept : T → Type 0) (e : OneEnd At) where
               (subst (λ c. SeatOf kept e.front (e.owns at') c m' w') (sym left) (seated slots owned part part')) code
         ]
 
-    right : {before : Slots} {o : Option Slots} {cm cw : Carried T H K} {m : Held T} {w : Held (Rouse H K)} → word ≤ 4
-        → Found (e.moves at) op before word o → is_right e at op before word o ≡ true
+    right : {before : Slots} {o : Option Slots} {cm cw : Carried T H K} {m : Held T} {w : Held (AnyWaker H K)}
+        → word ≤ 4 → Found (e.moves at) op before word o → is_right e at op before word o ≡ true
         → Carries kept 0 Message before.0 cm m → Carries any 1 with_waker before.1 cw w
         → Lies kept Message (e.message at) h → Lies any with_waker (e.waker at) k
         → Turn at op word h k (carried_as e.front cm cw) m w
@@ -66,7 +66,7 @@ module _ {T H K At : Type 0} (kept : T → Type 0) (e : OneEnd At) where
         (goes any 1 with_waker waker slots.1 (e.waker at') lies' so.of_waker)
 
     turns_from : {before : Slots} {o : Option ℕ} {owns : Option (Bool × Bool)} {c : Carried T H K} {m : Held T}
-        {w : Held (Rouse H K)} → Is o word → is_kept e at op before o ≡ true
+        {w : Held (AnyWaker H K)} → Is o word → is_kept e at op before o ≡ true
         → IsSlot before.0 m → IsSlot before.1 w → SeatOf kept e.front owns c m w → Lies kept Message (e.message at) h
         → Lies any with_waker (e.waker at) k → Turn at op word h k c m w
     turns_from {before} is computed message waker (seat_of part part') lies lies' =
@@ -75,7 +75,7 @@ module _ {T H K At : Type 0} (kept : T → Type 0) (e : OneEnd At) where
         right (leb-true word 4 parts.0) (found (e.moves at) op before word) parts.1
         (carries kept 0 Message message part) (carries any 1 with_waker waker part') lies lies'
 
-    keeps_turn : {c : Carried T H K} {m : Held T} {w : Held (Rouse H K)} → keeps_rule e at ≡ true
+    keeps_turn : {c : Carried T H K} {m : Held T} {w : Held (AnyWaker H K)} → keeps_rule e at ≡ true
         → May e.moves at op m w → SeatOf kept e.front (e.owns at) c m w → Is (e.word at) word
         → Lies kept Message (e.message at) h → Lies any with_waker (e.waker at) k → Turn at op word h k c m w
     keeps_turn all (may row message waker) seat number lies lies' =
@@ -129,7 +129,7 @@ receiver_keeps (resolved found_closed) = refl
 receiver_keeps _ = refl
 
 module _ {T H K : Type 0} {kept : T → Type 0} {p : SenderAt} {q : ReceiverAt} {op : Op} {word : ℕ} {h k : Home T H K}
-    {c : Carried T H K} {m : Held T} {w : Held (Rouse H K)} where
+    {c : Carried T H K} {m : Held T} {w : Held (AnyWaker H K)} where
   pub sender_turns : SenderMay p op m w → SeatOf kept waker_first (sender_owns p) c m w → Meet T H K kept p q word h k
       → Turn kept (sender_end q) p op word h k c m w
   sender_turns asks seat (meet now lies lies') =

@@ -1,7 +1,7 @@
 -- The examples of seats: each by its parts, and what the others lack.
 use Rattle.std.proofs.Common.{◌≡◌, ℕ, Bool, true, false, [], ◌∷◌, Option, Some, refl, if◌then◌else◌}
-use Rattle.oneshot_word.proofs.Names.{ap, subst, TableId, Word, Load, Swap, Add, Reaches, nothing_made, sender_makes, receiver_makes, has_row, Held, vacant, held, head, tail, Rouse, Empty, Message, Kept, Carries, MessagePart, WakerPart, received, SlotsAsSeen, SeatsThatAre, SeatsThatAreNot, Front, slot_vacant, slot_held, MessageSlot, WakerSlot, message_of, not_carried, carried, message_first, waker_first, SeatOf, seat_of, has_given, gave_none, HoldsTaken, holds_no_slot, holds_none, holds_it}
-use Rattle.oneshot_word.specs.declared.rouse.Rouse.TheVariants as R
+use Rattle.oneshot_word.proofs.Names.{ap, subst, TableId, Word, Load, Swap, Add, Reaches, nothing_made, sender_makes, receiver_makes, has_row, Held, vacant, held, head, tail, AnyWaker, Empty, Message, Kept, Carries, MessagePart, WakerPart, received, SlotsAsSeen, SeatsThatAre, SeatsThatAreNot, Front, slot_vacant, slot_held, MessageSlot, WakerSlot, message_of, not_carried, carried, message_first, waker_first, SeatOf, seat_of, has_given, gave_none, HoldsTaken, holds_no_slot, holds_none, holds_it}
+use Rattle.oneshot_word.specs.declared.any_waker.AnyWaker.TheVariants as R
 use Rattle.oneshot_word.specs.declared.rule.Role.TheVariants.{Sender, Receiver}
 use Rattle.oneshot_word.specs.SeatExamples.{claims}
 use Rattle.oneshot_word.proofs.Passes.{seat_keeps}
@@ -106,7 +106,7 @@ is_kept : {kept : ℕ → Type 0} {s : Kept} {seen : Held ℕ} {m : ℕ} → Mes
 is_kept slot_vacant is = absurd (cc is)
 is_kept {kept} (slot_held m k) is = subst kept (cc is) k
 
-is_for_waker : {s : Kept} {seen : Held (Rouse ℕ ℕ)} → WakerSlot s seen → for_waker s ≡ true
+is_for_waker : {s : Kept} {seen : Held (AnyWaker ℕ ℕ)} → WakerSlot s seen → for_waker s ≡ true
 is_for_waker slot_vacant = refl
 is_for_waker (slot_held (R.Thread h) k) = refl
 is_for_waker (slot_held (R.Task h) k) = refl
@@ -122,24 +122,24 @@ message_part : {own : Bool} {c : Carries} {seen : Held ℕ} → MessagePart own 
 message_part not_carried = refl
 message_part (carried s) = refl
 
-waker_part : {own : Bool} {c : Carries} {seen : Held (Rouse ℕ ℕ)} → WakerPart own c seen
+waker_part : {own : Bool} {c : Carries} {seen : Held (AnyWaker ℕ ℕ)} → WakerPart own c seen
     → in_front c ≡ (if own then 1 else 2)
 waker_part not_carried = refl
 waker_part (carried s) = refl
 
-waker_leads : {kept : ℕ → Type 0} {c : Carries} {m : Held ℕ} {w : Held (Rouse ℕ ℕ)}
+waker_leads : {kept : ℕ → Type 0} {c : Carries} {m : Held ℕ} {w : Held (AnyWaker ℕ ℕ)}
     → SeatOf kept waker_first (Some (true, true)) c m w → in_front c ≡ 1
 waker_leads (seat_of (carried s) (carried t)) = refl
 
-message_leads : {kept : ℕ → Type 0} {c : Carries} {m : Held ℕ} {w : Held (Rouse ℕ ℕ)}
+message_leads : {kept : ℕ → Type 0} {c : Carries} {m : Held ℕ} {w : Held (AnyWaker ℕ ℕ)}
     → SeatOf kept message_first (Some (true, true)) c m w → in_front c ≡ 0
 message_leads (seat_of (carried s) (carried t)) = refl
 
-message_alone : {kept : ℕ → Type 0} {c : Carries} {m : Held ℕ} {w : Held (Rouse ℕ ℕ)}
+message_alone : {kept : ℕ → Type 0} {c : Carries} {m : Held ℕ} {w : Held (AnyWaker ℕ ℕ)}
     → SeatOf kept waker_first (Some (true, false)) c m w → in_front c ≡ 0
 message_alone (seat_of (carried s) not_carried) = refl
 
-carries_none : {kept : ℕ → Type 0} (front : Front) {c : Carries} {m : Held ℕ} {w : Held (Rouse ℕ ℕ)}
+carries_none : {kept : ℕ → Type 0} (front : Front) {c : Carries} {m : Held ℕ} {w : Held (AnyWaker ℕ ℕ)}
     → SeatOf kept front (Some (false, false)) c m w → in_front c ≡ 2
 carries_none message_first (seat_of not_carried not_carried) = refl
 carries_none waker_first (seat_of not_carried not_carried) = refl

@@ -1,9 +1,9 @@
 -- How the slots that a seat carries read as its end has them, and what may lie in each.
 use Rattle.std.proofs.Common.{◌≡◌, Bool, List, Option, refl}
-use Rattle.oneshot_word.proofs.Names.{sym, subst, Me, Noted, Held, vacant, held, Rouse, Slot, Empty, Message, Thread, Task, Nobody, View, Role, Keeps, held_keeps, with_waker, Carried, message_of, waker_of, message_in, waker_in, MessageSlot, WakerSlot, slot_vacant, slot_held, not_carried, carried, Front, message_first, waker_first, SeatOf, seat_of, IsOrdered, SeatIs}
-use Rattle.oneshot_word.specs.declared.rouse.Rouse.TheVariants as R
+use Rattle.oneshot_word.proofs.Names.{sym, subst, Me, Noted, Held, vacant, held, AnyWaker, Slot, Empty, Message, Thread, Task, Nobody, View, Role, Keeps, held_keeps, with_waker, Carried, message_of, waker_of, message_in, waker_in, MessageSlot, WakerSlot, slot_vacant, slot_held, not_carried, carried, Front, message_first, waker_first, SeatOf, seat_of, IsOrdered, SeatIs}
+use Rattle.oneshot_word.specs.declared.any_waker.AnyWaker.TheVariants as R
 
-reads_back : (T : Type 0) {H K : Type 0} (k : Rouse H K) → waker_of (with_waker {T = T} k) ≡ held k
+reads_back : (T : Type 0) {H K : Type 0} (k : AnyWaker H K) → waker_of (with_waker {T = T} k) ≡ held k
 reads_back T (R.Thread half) = refl
 reads_back T (R.Task copy) = refl
 reads_back T R.Nobody = refl
@@ -13,7 +13,7 @@ module _ {T H K : Type 0} where
   message_reads slot_vacant = refl
   message_reads (slot_held x _) = refl
 
-  pub waker_reads : {t : Slot T H K} {w : Held (Rouse H K)} → WakerSlot t w → waker_of t ≡ w
+  pub waker_reads : {t : Slot T H K} {w : Held (AnyWaker H K)} → WakerSlot t w → waker_of t ≡ w
   waker_reads slot_vacant = refl
   waker_reads (slot_held k _) = reads_back T k
 
@@ -32,11 +32,11 @@ module _ {T H K : Type 0} where
   fits_waker Nobody e = slot_held R.Nobody tt
 
   -- what a seat carries reads as what its end has
-  abbrev pub Reads : Carried T H K → Held T → Held (Rouse H K) → Type 0
+  abbrev pub Reads : Carried T H K → Held T → Held (AnyWaker H K) → Type 0
   Reads c m w = (message_in c ≡ m) × (waker_in c ≡ w)
 
   pub reads : {kept : T → Type 0} {front : Front} {o : Option (Bool × Bool)} {c : Carried T H K} {m : Held T}
-      {w : Held (Rouse H K)} → SeatOf kept front o c m w → Reads c m w
+      {w : Held (AnyWaker H K)} → SeatOf kept front o c m w → Reads c m w
   reads {front = message_first} (seat_of not_carried not_carried) = (refl, refl)
   reads {front = message_first} (seat_of not_carried (carried other)) = (refl, waker_reads other)
   reads {front = message_first} (seat_of (carried slot) not_carried) = (message_reads slot, refl)
@@ -46,14 +46,14 @@ module _ {T H K : Type 0} where
   reads {front = waker_first} (seat_of (carried slot) not_carried) = (message_reads slot, refl)
   reads {front = waker_first} (seat_of (carried slot) (carried other)) = (message_reads slot, waker_reads other)
 
-  pub as_read : (c : Carried T H K) {m : Held T} {w : Held (Rouse H K)} (P : Held T → Held (Rouse H K) → Type 0)
+  pub as_read : (c : Carried T H K) {m : Held T} {w : Held (AnyWaker H K)} (P : Held T → Held (AnyWaker H K) → Type 0)
       → Reads c m w → P m w → P (message_in c) (waker_in c)
   as_read c {m} P reads p = subst (λ m. P m (waker_in c)) (sym reads.0) (subst (λ w. P m w) (sym reads.1) p)
 
   -- the seat that an end has then
   pub as_seat : {P : Type 0} {keeps : P → T → Type 0} {whose : Role} {front : Front}
       {owns : List Noted → Option (Bool × Bool)} {Passed : Option T → Held T → Type 0}
-      {me : Me (Slot T H K) (View T P)} {m : Held T} {w : Held (Rouse H K)}
+      {me : Me (Slot T H K) (View T P)} {m : Held T} {w : Held (AnyWaker H K)}
       → me.0.role ≡ whose → SeatOf (keeps me.0.about) front (owns me.0.log) me.1 m w → Passed me.0.passed m
       → IsOrdered whose me.0.log → SeatIs keeps whose front owns Passed me
   as_seat {keeps} {front} {owns} {Passed} {me} role has passed ordered =

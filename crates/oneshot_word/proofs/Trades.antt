@@ -1,6 +1,6 @@
 -- What is put into a slot of an end's is what the end has there then, and what it carries else stays.
 use Rattle.std.proofs.Common.{◌≡◌, ℕ, Bool, List, [], ◌∷◌, Option, refl}
-use Rattle.oneshot_word.proofs.Names.{◌≢◌, sym, ap, ◌∙◌, subst, TableId, Me, rest, turned, Noted, Held, away, Rouse, Slot, View, Role, Carried, message_in, waker_in, MessageSlot, WakerSlot, slot_vacant, not_carried, carried, Front, message_first, waker_first, SeatOf, seat_of, GivesOnce, has_given, gave_none, HoldsTaken, SeatIs, SenderSeat, ReceiverSeat, Side, side_of}
+use Rattle.oneshot_word.proofs.Names.{◌≢◌, sym, ap, ◌∙◌, subst, TableId, Me, rest, turned, Noted, Held, away, AnyWaker, Slot, View, Role, Carried, message_in, waker_in, MessageSlot, WakerSlot, slot_vacant, not_carried, carried, Front, message_first, waker_first, SeatOf, seat_of, GivesOnce, has_given, gave_none, HoldsTaken, SeatIs, SenderSeat, ReceiverSeat, Side, side_of}
 use Rattle.oneshot_word.proofs.SlotReads.{Reads, reads, as_seat}
 
 -- while the sender has the slot it has given none, whatever it puts there
@@ -30,7 +30,7 @@ module _ {T H K : Type 0} where
 
   -- in the sender's seat the waker's slot is in front, wherever it has both
   sender_trades_message : {kept : T → Type 0} {o : Option (Bool × Bool)} {c : Carried T H K} {new : Slot T H K}
-      {m m' : Held T} {w : Held (Rouse H K)} → SeatOf kept waker_first o c m w → m ≢ away → MessageSlot kept new m'
+      {m m' : Held T} {w : Held (AnyWaker H K)} → SeatOf kept waker_first o c m w → m ≢ away → MessageSlot kept new m'
       → TradeBehind 0 (λ s. MessageSlot kept s m) (λ c. SeatOf kept waker_first o c m' w) c new
   sender_trades_message (seat_of (carried {s} slot) not_carried) its new =
       record { was = s; fits = slot; in_front = refl; has = seat_of (carried new) not_carried }
@@ -39,7 +39,7 @@ module _ {T H K : Type 0} where
   sender_trades_message _ its new = absurd (its refl)
 
   sender_trades_waker : {kept : T → Type 0} {o : Option (Bool × Bool)} {c : Carried T H K} {new : Slot T H K}
-      {m : Held T} {w w' : Held (Rouse H K)} → SeatOf kept waker_first o c m w → w ≢ away → WakerSlot new w'
+      {m : Held T} {w w' : Held (AnyWaker H K)} → SeatOf kept waker_first o c m w → w ≢ away → WakerSlot new w'
       → TradeHere 1 (λ s. WakerSlot s w) (λ c. SeatOf kept waker_first o c m w') c new
   sender_trades_waker (seat_of slot (carried {s = t} other)) its new =
       record { was = t; fits = other; in_front = refl; has = seat_of slot (carried new) }
@@ -47,14 +47,14 @@ module _ {T H K : Type 0} where
 
   -- in the receiver's the message's
   receiver_trades_message : {kept : T → Type 0} {o : Option (Bool × Bool)} {c : Carried T H K} {new : Slot T H K}
-      {m m' : Held T} {w : Held (Rouse H K)} → SeatOf kept message_first o c m w → m ≢ away → MessageSlot kept new m'
+      {m m' : Held T} {w : Held (AnyWaker H K)} → SeatOf kept message_first o c m w → m ≢ away → MessageSlot kept new m'
       → TradeHere 0 (λ s. MessageSlot kept s m) (λ c. SeatOf kept message_first o c m' w) c new
   receiver_trades_message (seat_of (carried {s} slot) other) its new =
       record { was = s; fits = slot; in_front = refl; has = seat_of (carried new) other }
   receiver_trades_message _ its new = absurd (its refl)
 
   receiver_trades_waker : {kept : T → Type 0} {o : Option (Bool × Bool)} {c : Carried T H K} {new : Slot T H K}
-      {m : Held T} {w w' : Held (Rouse H K)} → SeatOf kept message_first o c m w → w ≢ away → WakerSlot new w'
+      {m : Held T} {w w' : Held (AnyWaker H K)} → SeatOf kept message_first o c m w → w ≢ away → WakerSlot new w'
       → TradeBehind 1 (λ s. WakerSlot s w) (λ c. SeatOf kept message_first o c m w') c new
   receiver_trades_waker (seat_of not_carried (carried {s = t} other)) its new =
       record { was = t; fits = other; in_front = refl; has = seat_of not_carried (carried new) }
@@ -74,7 +74,8 @@ module _ {T H K : Type 0} where
 
   -- what a trade leaves that gave `old`, seen at the seats
   pub record Traded {P : Type 0} (Fits : Slot T H K → Type 0) (Seat : Me (Slot T H K) (View T P) → Type 0)
-      (before after : Me (Slot T H K) (View T P)) (old : Slot T H K) (m : Held T) (w : Held (Rouse H K)) : Type 0 where
+      (before after : Me (Slot T H K) (View T P)) (old : Slot T H K) (m : Held T) (w : Held (AnyWaker H K)) : Type
+      0 where
     pub was : Fits old
     pub seat : Seat after
     pub view : after.0 ≡ before.0
@@ -83,14 +84,14 @@ module _ {T H K : Type 0} where
 
   -- the seat that an end has then
   record Seated {P : Type 0} (Seat : Me (Slot T H K) (View T P) → Type 0) (v : View T P) (c : Carried T H K)
-      (m : Held T) (w : Held (Rouse H K)) : Type 0 where
+      (m : Held T) (w : Held (AnyWaker H K)) : Type 0 where
     seat : Seat (v, c)
     reads : Reads c m w
 
   seated : {P : Type 0} {keeps : P → T → Type 0} {whose : Role} {front : Front}
       {owns : List Noted → Option (Bool × Bool)} {Passed : Option T → Held T → Type 0}
       (before : Me (Slot T H K) (View T P)) (c : Carried T H K) {m : Held T}
-      {w : Held (Rouse H K)} → SeatIs keeps whose front owns Passed before
+      {w : Held (AnyWaker H K)} → SeatIs keeps whose front owns Passed before
       → SeatOf (keeps before.0.about) front (owns before.0.log) c m w → Passed before.0.passed m
       → Seated (SeatIs keeps whose front owns Passed) before.0 c m w
   seated {owns} {Passed} before c seat has passed =
@@ -100,7 +101,7 @@ module _ {T H K : Type 0} where
       }
 
   trade_done : {P : Type 0} {place : ℕ} {Fits : Slot T H K → Type 0} {Seat : Me (Slot T H K) (View T P) → Type 0}
-      {Has : Carried T H K → Type 0} {front c : Carried T H K} {old : Slot T H K} {m : Held T} {w : Held (Rouse H K)}
+      {Has : Carried T H K → Type 0} {front c : Carried T H K} {old : Slot T H K} {m : Held T} {w : Held (AnyWaker H K)}
       (before after : Me (Slot T H K) (View T P)) → Trade place Fits Has front c → Seated Seat before.0 c m w
       → front ≡ renewed place front old → after ≡ (before.0, c) → Traded Fits Seat before after old m w
   trade_done {P} {Fits} {Seat} before after t s here is =
@@ -166,7 +167,7 @@ module _ {T H K : Type 0} where
   sender_waker_front before seat its = let t = sender_trades_waker seat.has its slot_vacant in (t.was, t.in_front)
 
   pub sender_waker_traded : {P : Type 0} {keeps : P → T → Type 0} (before after : Me (Slot T H K) (View T P))
-      {old new : Slot T H K} {w : Held (Rouse H K)} → SenderSeat keeps before → waker_in before.1 ≢ away
+      {old new : Slot T H K} {w : Held (AnyWaker H K)} → SenderSeat keeps before → waker_in before.1 ≢ away
       → WakerSlot new w → before.1 ≡ renewed 1 before.1 old → after ≡ (before.0, renewed 1 before.1 new)
       → Traded (λ s. WakerSlot s (waker_in before.1)) (SenderSeat keeps) before after old (message_in before.1) w
   sender_waker_traded before after seat its fits front is =
@@ -196,7 +197,7 @@ module _ {T H K : Type 0} where
       front_there before there (receiver_trades_waker seat.has its slot_vacant) turn
 
   pub receiver_waker_traded : {P : Type 0} {keeps : P → T → Type 0}
-      (before there traded after : Me (Slot T H K) (View T P)) {old new : Slot T H K} {w : Held (Rouse H K)}
+      (before there traded after : Me (Slot T H K) (View T P)) {old new : Slot T H K} {w : Held (AnyWaker H K)}
       → ReceiverSeat keeps before → waker_in before.1 ≢ away → WakerSlot new w
       → Turned 1 before there traded after old new
       → Traded (λ s. WakerSlot s (waker_in before.1)) (ReceiverSeat keeps) before after old (message_in before.1) w
@@ -207,28 +208,28 @@ module _ {T H K : Type 0} where
   -- and what their ends' sides show then
   pub message_side : {P : Type 0} {Fits : Slot T H K → Type 0} {Seat : Me (Slot T H K) (View T P) → Type 0}
       (table table' : TableId) (before after : Me (Slot T H K) (View T P)) {old : Slot T H K} {m : Held T}
-      (now : Side T (Rouse H K) P) → side_of table before ≡ now → table' ≡ table
+      (now : Side T (AnyWaker H K) P) → side_of table before ≡ now → table' ≡ table
       → Traded Fits Seat before after old m (waker_in before.1) → side_of table' after ≡ record now { message = m }
   message_side {P} table table' before after now is same t =
       λ i. record {
-        table = (same ∙ ap (λ (s : Side T (Rouse H K) P). s.table) is) i;
-        log = (ap (λ (v : View T P). v.log) t.view ∙ ap (λ (s : Side T (Rouse H K) P). s.log) is) i;
-        passed = (ap (λ (v : View T P). v.passed) t.view ∙ ap (λ (s : Side T (Rouse H K) P). s.passed) is) i;
-        about = (ap (λ (v : View T P). v.about) t.view ∙ ap (λ (s : Side T (Rouse H K) P). s.about) is) i;
+        table = (same ∙ ap (λ (s : Side T (AnyWaker H K) P). s.table) is) i;
+        log = (ap (λ (v : View T P). v.log) t.view ∙ ap (λ (s : Side T (AnyWaker H K) P). s.log) is) i;
+        passed = (ap (λ (v : View T P). v.passed) t.view ∙ ap (λ (s : Side T (AnyWaker H K) P). s.passed) is) i;
+        about = (ap (λ (v : View T P). v.about) t.view ∙ ap (λ (s : Side T (AnyWaker H K) P). s.about) is) i;
         message = t.message i;
-        waker = (t.waker ∙ ap (λ (s : Side T (Rouse H K) P). s.waker) is) i;
+        waker = (t.waker ∙ ap (λ (s : Side T (AnyWaker H K) P). s.waker) is) i;
       }
 
   pub waker_side : {P : Type 0} {Fits : Slot T H K → Type 0} {Seat : Me (Slot T H K) (View T P) → Type 0}
-      (table table' : TableId) (before after : Me (Slot T H K) (View T P)) {old : Slot T H K} {w : Held (Rouse H K)}
-      (now : Side T (Rouse H K) P) → side_of table before ≡ now → table' ≡ table
+      (table table' : TableId) (before after : Me (Slot T H K) (View T P)) {old : Slot T H K} {w : Held (AnyWaker H K)}
+      (now : Side T (AnyWaker H K) P) → side_of table before ≡ now → table' ≡ table
       → Traded Fits Seat before after old (message_in before.1) w → side_of table' after ≡ record now { waker = w }
   waker_side {P} table table' before after now is same t =
       λ i. record {
-        table = (same ∙ ap (λ (s : Side T (Rouse H K) P). s.table) is) i;
-        log = (ap (λ (v : View T P). v.log) t.view ∙ ap (λ (s : Side T (Rouse H K) P). s.log) is) i;
-        message = (t.message ∙ ap (λ (s : Side T (Rouse H K) P). s.message) is) i;
+        table = (same ∙ ap (λ (s : Side T (AnyWaker H K) P). s.table) is) i;
+        log = (ap (λ (v : View T P). v.log) t.view ∙ ap (λ (s : Side T (AnyWaker H K) P). s.log) is) i;
+        message = (t.message ∙ ap (λ (s : Side T (AnyWaker H K) P). s.message) is) i;
         waker = t.waker i;
-        passed = (ap (λ (v : View T P). v.passed) t.view ∙ ap (λ (s : Side T (Rouse H K) P). s.passed) is) i;
-        about = (ap (λ (v : View T P). v.about) t.view ∙ ap (λ (s : Side T (Rouse H K) P). s.about) is) i;
+        passed = (ap (λ (v : View T P). v.passed) t.view ∙ ap (λ (s : Side T (AnyWaker H K) P). s.passed) is) i;
+        about = (ap (λ (v : View T P). v.about) t.view ∙ ap (λ (s : Side T (AnyWaker H K) P). s.about) is) i;
       }

@@ -4,7 +4,7 @@ use Rattle.std.specs.Prelude.{◌≡◌, ℕ, true, false, List, [], ◌∷◌, 
 use Rattle.oneshot_machine.specs.declared.machine.Seen.TheVariants.{Done, Word}
 use Rattle.oneshot_machine.specs.declared.states.Op.TheVariants.{Load, Store, Swap, Exchange, Add, Xor}
 use Rattle.oneshot_machine.specs.Noted.{Noted}
-use Rattle.oneshot_word.specs.declared.rouse.Rouse.{Rouse}
+use Rattle.oneshot_word.specs.declared.any_waker.AnyWaker.{AnyWaker}
 use Rattle.oneshot_word.specs.EndLogs.{stores_waker, is_overdue, is_gone, wrote_since}
 use Rattle.oneshot_word.specs.ReadRule.{Owned}
 use Rattle.oneshot_word.specs.Rule.{Home, out, bare, has_message, has_waker}
@@ -75,7 +75,7 @@ pub record LogsSay : Type 0 where
 -- the sender's log, the receiver's log, the word, and what of both slots is at home
 pub record StatesThatAre (T H K : Type 0) : Type 0 where
   pub new : Owned {T = T} {H = H} {K = K} [] [] 3 out bare
-  pub waiting : (k : Rouse H K) → Owned {T = T} [] waits 0 out (has_waker k)
+  pub waiting : (k : AnyWaker H K) → Owned {T = T} [] waits 0 out (has_waker k)
   pub claimed : Owned {T = T} {H = H} {K = K} claims waits 1 out out
   pub claimed_too_late : Owned {T = T} {H = H} {K = K} claims (stopped_over 1) 3 out out
   pub sent_to_it : (x : T) → Owned {H = H} {K = K} (sent_over 1) waits 4 (has_message x) bare
@@ -84,7 +84,7 @@ pub record StatesThatAre (T H K : Type 0) : Type 0 where
   pub stopped_over_the_message : Owned {T = T} {H = H} {K = K} (sent_over 1) (stopped_over 4) 3 out out
   pub gone_first : Owned {T = T} {H = H} {K = K} [] went 2 out bare
   -- a poll
-  pub polls : (k : Rouse H K) → Owned {T = T} [] polled 0 out (has_waker k)
+  pub polls : (k : AnyWaker H K) → Owned {T = T} [] polled 0 out (has_waker k)
   pub took_back : Owned {T = T} {H = H} {K = K} [] (exchanged_back 0) 3 out out
   pub claimed_in_a_poll : Owned {T = T} {H = H} {K = K} claims (exchanged_back 1) 1 out out
   pub sent_to_a_future : (x : T) → Owned {H = H} {K = K} (sent_over 1) polled 4 (has_message x) bare
@@ -97,7 +97,7 @@ pub record StatesThatAre (T H K : Type 0) : Type 0 where
 pub record StatesThatAreNot (T H K : Type 0) : Type 0 where
   -- an overdue receiver leaves 3, and its waker to the sender
   pub overdue_leaves_1 : {h k : Home T H K} → Owned claims (stopped_over 1) 1 h k → ⊥
-  pub overdue_has_its_waker : {h : Home T H K} (k : Rouse H K) → Owned claims (stopped_over 1) 3 h (has_waker k) → ⊥
+  pub overdue_has_its_waker : {h : Home T H K} (k : AnyWaker H K) → Owned claims (stopped_over 1) 3 h (has_waker k) → ⊥
   -- one that waits does not
   pub waits_at_3 : {h k : Home T H K} → Owned claims waits 3 h k → ⊥
   -- a sender that finishes over 3 leaves its own word
@@ -113,11 +113,11 @@ pub record StatesThatAreNot (T H K : Type 0) : Type 0 where
   pub poll_leaves_3 : {h k : Home T H K} → Owned [] polled 3 h k → ⊥
   pub poll_has_its_copy : {h : Home T H K} → Owned [] polled 0 h out → ⊥
   pub takes_back_and_leaves_0 : {h k : Home T H K} → Owned [] (exchanged_back 0) 0 h k → ⊥
-  pub takes_nothing_back : {h : Home T H K} (k : Rouse H K) → Owned [] (exchanged_back 0) 3 h (has_waker k) → ⊥
+  pub takes_nothing_back : {h : Home T H K} (k : AnyWaker H K) → Owned [] (exchanged_back 0) 3 h (has_waker k) → ⊥
   -- one that did not leaves the word that it found
   pub late_poll_leaves_0 : {h k : Home T H K} → Owned ((Add, Word 3) ∷ []) (polled_over 4) 0 h k → ⊥
   pub takes_back_over_1 : {h k : Home T H K} → Owned claims (exchanged_back 1) 3 h k → ⊥
   -- a future that is dropped over 1 leaves 2, and both slots to the sender
   pub dropped_and_leaves_1 : {h k : Home T H K} → Owned claims left_meanwhile 1 h k → ⊥
-  pub dropped_with_its_waker : {h : Home T H K} (k : Rouse H K) → Owned claims left_meanwhile 2 h (has_waker k) → ⊥
+  pub dropped_with_its_waker : {h : Home T H K} (k : AnyWaker H K) → Owned claims left_meanwhile 2 h (has_waker k) → ⊥
   pub late_send_leaves_3 : {h k : Home T H K} → Owned (sent_over 2) left_meanwhile 3 h k → ⊥

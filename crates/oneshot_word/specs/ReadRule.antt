@@ -3,7 +3,7 @@
 use Rattle.std.specs.Prelude.{◌≡◌, ℕ, true, false, List, [], ◌∷◌, Option, Some, None}
 use Rattle.oneshot_machine.specs.Noted.{Noted}
 use Rattle.oneshot_machine.specs.Phases.{By, sending, dropping}
-use Rattle.oneshot_word.specs.declared.rouse.Rouse.{Rouse}
+use Rattle.oneshot_word.specs.declared.any_waker.AnyWaker.{AnyWaker}
 use Rattle.oneshot_word.specs.declared.rule.Role.TheVariants.{Maker, Dealer, Sender, Receiver}
 use Rattle.oneshot_word.specs.declared.rule.View.{View}
 use Rattle.oneshot_word.specs.EndLogs.{FoundZero, MadeLast, MadeLate, stores_waker, is_overdue, is_gone, wrote_since}
@@ -29,7 +29,7 @@ pub data IsReceiversFull {T H K : Type 0} : Home T H K → Type 0 where
 
 -- a slot that is neither end's, with the receiver's waker in it
 pub data IsWords {T H K : Type 0} : Home T H K → Type 0 where
-  waker_at_home : (k : Rouse H K) → IsWords (has_waker k)
+  waker_at_home : (k : AnyWaker H K) → IsWords (has_waker k)
 
 -- the sender's log, the receiver's log, the word, the message's slot and the waker's
 pub data Owned {T H K : Type 0} (xs ys : List Noted) : ℕ → Home T H K → Home T H K → Type 0 where

@@ -6,7 +6,7 @@ use Rattle.oneshot_machine.specs.Noted.{Noted}
 use Rattle.oneshot_machine.specs.Orders.{Reaches}
 use Rattle.oneshot_machine.specs.Phases.{sending, SenderAt, fresh, finished, sender_at, sender_owns, ReceiverAt, waits, receiver_at, receiver_owns, Share, none, empty, filled}
 use Rattle.oneshot_word.specs.declared.rule.Role.TheVariants.{Maker, Dealer, Sender, Receiver}
-use Rattle.oneshot_word.specs.declared.rouse.Rouse.{Rouse}
+use Rattle.oneshot_word.specs.declared.any_waker.AnyWaker.{AnyWaker}
 use Rattle.oneshot_word.specs.declared.rule.Slot.{Slot}
 use Rattle.oneshot_word.specs.declared.rule.Slot.TheVariants.{Empty, Message}
 use Rattle.oneshot_word.specs.declared.rule.View.{View}
@@ -26,7 +26,7 @@ module _ {T H K : Type 0} where
   abbrev pub has_message : T → Home T H K
   has_message m = maybe.some (Message m)
 
-  abbrev pub has_waker : Rouse H K → Home T H K
+  abbrev pub has_waker : AnyWaker H K → Home T H K
   has_waker k = maybe.some (with_waker k)
 
 -- A slot that is neither end's is at home. The message's is filled once the sender has sent, and the

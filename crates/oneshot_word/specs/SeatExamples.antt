@@ -7,8 +7,8 @@ use Rattle.oneshot_machine.specs.declared.machine.Seen.TheVariants.{Word}
 use Rattle.oneshot_machine.specs.declared.states.Op.TheVariants.{Load, Add}
 use Rattle.oneshot_machine.specs.Noted.{Noted}
 use Rattle.oneshot_machine.specs.Slots.{Held, away, vacant, held}
-use Rattle.oneshot_word.specs.declared.rouse.Rouse.{Rouse}
-use Rattle.oneshot_word.specs.declared.rouse.Rouse.TheVariants as R
+use Rattle.oneshot_word.specs.declared.any_waker.AnyWaker.{AnyWaker}
+use Rattle.oneshot_word.specs.declared.any_waker.AnyWaker.TheVariants as R
 use Rattle.oneshot_word.specs.declared.rule.Role.{Role}
 use Rattle.oneshot_word.specs.declared.rule.Role.TheVariants.{Sender, Receiver}
 use Rattle.oneshot_word.specs.declared.rule.Slot.{Slot}
@@ -62,7 +62,7 @@ some_carried =
 abbrev pub MessagePart : Bool → Carries → Held ℕ → Type 0
 MessagePart = Part (keeps 7) 0 Message
 
-abbrev pub WakerPart : Bool → Carries → Held (Rouse ℕ ℕ) → Type 0
+abbrev pub WakerPart : Bool → Carries → Held (AnyWaker ℕ ℕ) → Type 0
 WakerPart = Part any 1 with_waker
 
 -- the logs of a sender that found the receiver here, or a waker, and of a receiver that found nothing, or the message
@@ -127,13 +127,13 @@ pub record SeatsThatAreNot : Type 0 where
   -- a slot: a message that breaks its promise, a waker for a message and the other way, and what is not seen there
   pub breaks_its_promise : MessageSlot (keeps 7) (message 8) (held 8) → ⊥
   pub waker_for_message : {seen : Held ℕ} → MessageSlot (keeps 7) half seen → ⊥
-  pub message_for_waker : {seen : Held (Rouse ℕ ℕ)} → WakerSlot (message 7) seen → ⊥
+  pub message_for_waker : {seen : Held (AnyWaker ℕ ℕ)} → WakerSlot (message 7) seen → ⊥
   pub seen_as_room : MessageSlot (keeps 7) (message 7) vacant → ⊥
   -- a part: a slot of its own that it does not carry, one of another that it does, and one of another number
   pub lost_its_slot : {seen : Held ℕ} → MessagePart true [] seen → ⊥
   pub has_anothers : {seen : Held ℕ} → MessagePart false (room 0) seen → ⊥
   pub has_the_wakers : {seen : Held ℕ} → MessagePart true (room 1) seen → ⊥
-  pub has_the_messages : {seen : Held (Rouse ℕ ℕ)} → WakerPart true (room 0) seen → ⊥
+  pub has_the_messages : {seen : Held (AnyWaker ℕ ℕ)} → WakerPart true (room 0) seen → ⊥
   -- both: the one that it took first in front, and no end's
   pub message_before_waker : SeatOf (keeps 7) waker_first (Some (true, true)) (with_message 7 ++ with_half)
       (held 7) (held (R.Thread 1)) → ⊥

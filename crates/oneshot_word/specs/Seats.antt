@@ -9,8 +9,8 @@ use Rattle.oneshot_machine.specs.Orders.{Reaches}
 use Rattle.oneshot_machine.specs.Slots.{Held, away, vacant, held, Finds}
 use Rattle.oneshot_word.specs.declared.rule.Role.{Role}
 use Rattle.oneshot_word.specs.declared.rule.Role.TheVariants.{Sender, Receiver}
-use Rattle.oneshot_word.specs.declared.rouse.Rouse.{Rouse}
-use Rattle.oneshot_word.specs.declared.rouse.Rouse.TheVariants as R
+use Rattle.oneshot_word.specs.declared.any_waker.AnyWaker.{AnyWaker}
+use Rattle.oneshot_word.specs.declared.any_waker.AnyWaker.TheVariants as R
 use Rattle.oneshot_word.specs.declared.rule.Slot.{Slot}
 use Rattle.oneshot_word.specs.declared.rule.Slot.TheVariants.{Empty, Message, Thread, Task, Nobody}
 use Rattle.oneshot_word.specs.declared.rule.View.{View}
@@ -34,7 +34,7 @@ Carried T H K = List (ℕ × Slot T H K)
 
 module _ {T H K : Type 0} where
   -- a waker's slot that is full
-  abbrev pub with_waker : Rouse H K → Slot T H K
+  abbrev pub with_waker : AnyWaker H K → Slot T H K
   with_waker (R.Thread half) = Thread half
   with_waker (R.Task copy) = Task copy
   with_waker R.Nobody = Nobody
@@ -47,7 +47,7 @@ module _ {T H K : Type 0} where
   message_of (Task copy) = vacant
   message_of Nobody = vacant
 
-  abbrev pub waker_of : Slot T H K → Held (Rouse H K)
+  abbrev pub waker_of : Slot T H K → Held (AnyWaker H K)
   waker_of Empty = vacant
   waker_of (Message m) = vacant
   waker_of (Thread half) = held (R.Thread half)
@@ -59,7 +59,7 @@ module _ {T H K : Type 0} where
   message_in ((zero, s) ∷ c) = message_of s
   message_in ((suc n, s) ∷ c) = message_in c
 
-  abbrev pub waker_in : Carried T H K → Held (Rouse H K)
+  abbrev pub waker_in : Carried T H K → Held (AnyWaker H K)
   waker_in [] = away
   waker_in ((zero, s) ∷ c) = waker_in c
   waker_in ((suc n, s) ∷ c) = waker_of s
@@ -75,7 +75,7 @@ module _ {T H K : Type 0} where
   MessageSlot kept = SlotOf kept Message
 
   -- nor a waker's slot a message
-  abbrev pub WakerSlot : Slot T H K → Held (Rouse H K) → Type 0
+  abbrev pub WakerSlot : Slot T H K → Held (AnyWaker H K) → Type 0
   WakerSlot = SlotOf any with_waker
 
 -- what a seat carries of the slot with this number, where it is its end's, and where it is not
@@ -97,8 +97,8 @@ module _ {T H K : Type 0} where
 
   -- what a seat carries whose end has these slots
   pub data SeatOf (kept : T → Type 0) (front : Front)
-      : Option (Bool × Bool) → Carried T H K → Held T → Held (Rouse H K) → Type 0 where
-    seat_of : {message waker : Bool} {cm cw : Carried T H K} {m : Held T} {w : Held (Rouse H K)}
+      : Option (Bool × Bool) → Carried T H K → Held T → Held (AnyWaker H K) → Type 0 where
+    seat_of : {message waker : Bool} {cm cw : Carried T H K} {m : Held T} {w : Held (AnyWaker H K)}
         → Part kept 0 Message message cm m → Part any 1 with_waker waker cw w
         → SeatOf kept front (Some (message, waker)) (carried_as front cm cw) m w
 

@@ -6,7 +6,7 @@ use Rattle.oneshot_machine.specs.declared.states.Op.{Op}
 use Rattle.oneshot_machine.specs.Noted.{Noted, saw}
 use Rattle.oneshot_machine.specs.Phases.{sender_at, sender_moves, receiver_at, receiver_moves, Row}
 use Rattle.oneshot_machine.specs.Slots.{Held, away, vacant, SenderMay, ReceiverMay, Finds}
-use Rattle.oneshot_word.specs.declared.rouse.Rouse.{Rouse}
+use Rattle.oneshot_word.specs.declared.any_waker.AnyWaker.{AnyWaker}
 use Rattle.oneshot_word.specs.declared.rule.Slot.{Slot}
 use Rattle.oneshot_word.specs.declared.rule.View.{View}
 use Rattle.oneshot_word.specs.Seats.{message_in, waker_in, gave, took}
@@ -23,7 +23,7 @@ pub record Side (T W P : Type 0) : Type 0 where
   pub about : P
 
 -- what a seat of such a table shows
-abbrev pub side_of : {T H K P : Type 0} → TableId → Me (Slot T H K) (View T P) → Side T (Rouse H K) P
+abbrev pub side_of : {T H K P : Type 0} → TableId → Me (Slot T H K) (View T P) → Side T (AnyWaker H K) P
 side_of table me =
     record {
       table = table;

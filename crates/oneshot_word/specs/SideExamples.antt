@@ -3,7 +3,7 @@ use Rattle.std.specs.Prelude.{◌≡◌, ℕ, List, [], ◌++◌, Option, Some, 
 use Rattle.oneshot_machine.specs.declared.states.Op.TheVariants.{Load, Swap, Add, Xor}
 use Rattle.oneshot_machine.specs.Noted.{Noted}
 use Rattle.oneshot_machine.specs.Slots.{Held, away, vacant, held}
-use Rattle.oneshot_word.specs.declared.rouse.Rouse.TheVariants as R
+use Rattle.oneshot_word.specs.declared.any_waker.AnyWaker.TheVariants as R
 use Rattle.oneshot_word.specs.declared.rule.Role.TheVariants.{Sender, Receiver}
 use Rattle.oneshot_word.specs.SeatExamples.{table, seat, with_half, with_message, claims, looked, received, sent_at_once}
 use Rattle.oneshot_word.specs.Side.{Side, side_of, AreEnds, SenderCan, SenderDid, ReceiverCan, ReceiverDid}

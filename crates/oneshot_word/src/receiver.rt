@@ -4,13 +4,13 @@ ghost use Rattle.std.specs.Prelude.{◌≡◌, ◌≢◌, Some};
 ghost use Rattle.oneshot_machine.specs.declared.states.Op.TheVariants.{Load, Store, Swap, Exchange};
 ghost use Rattle.oneshot_machine.specs.Phases.{receiver_at};
 ghost use Rattle.oneshot_machine.specs.Slots.{ReceiverOwns, away, vacant, held};
-ghost use Rattle.oneshot_word.specs.declared.rouse.Rouse.{Rouse};
+ghost use Rattle.oneshot_word.specs.declared.any_waker.AnyWaker.{AnyWaker};
 ghost use Rattle.oneshot_word.specs.Seats.{HoldsTaken, Keeps, MessageSlot, WakerSlot, message_of, waker_of};
 ghost use Rattle.oneshot_word.specs.Side.{ReceiverCan, ReceiverDid};
 
+use crate::any_waker::AnyWaker;
 use crate::plays::{Exchanges, Loads, Stores, Swaps};
 use crate::promise::Promise;
-use crate::rouse::Rouse;
 use crate::rule::Slot;
 use crate::table::{WordSeat, WordTable};
 use std::alloc::Global;
@@ -27,9 +27,9 @@ impl<T, H, K, P: Promise<T>> Model for ReceiverSide<T, H, K, P> {
     ghost use Rattle.std.specs.Arc.{arc_value};
     ghost use Rattle.oneshot_word.specs.Seats.{IsAt, ReceiverSeat};
     ghost use Rattle.oneshot_word.specs.Side.{Side, side_of};
-    ghost use Rattle.oneshot_word.specs.declared.rouse.Rouse.{Rouse};
+    ghost use Rattle.oneshot_word.specs.declared.any_waker.AnyWaker.{AnyWaker};
 
-    ghost Value = { Side T (Rouse H K) P };
+    ghost Value = { Side T (AnyWaker H K) P };
 
     ghost view = { λ s. side_of s.seat.table_id s.seat.me };
 
@@ -97,7 +97,7 @@ impl<T: Drop, H: Drop, K: Drop, P: Promise<T>> ReceiverSide<T, H, K, P> {
     }
 
     /// Puts the waker into its slot, which is the receiver's and empty.
-    pub fn write_waker(&mut self, waker: Rouse<H, K>)
+    pub fn write_waker(&mut self, waker: AnyWaker<H, K>)
         requires { self.old.waker ≡ vacant }
         ensures { self.new ≡ record self.old { waker = held waker } }
     {
@@ -105,8 +105,8 @@ impl<T: Drop, H: Drop, K: Drop, P: Promise<T>> ReceiverSide<T, H, K, P> {
     }
 
     /// Takes the waker back out of its slot, which is the receiver's and full.
-    pub fn take_waker(&mut self) -> Rouse<H, K>
-        requires { (waker : Rouse H K) × (self.old.waker ≡ held waker) }
+    pub fn take_waker(&mut self) -> AnyWaker<H, K>
+        requires { (waker : AnyWaker H K) × (self.old.waker ≡ held waker) }
         ensures waker { self.old.waker ≡ held result }
         ensures rest { self.new ≡ record self.old { waker = vacant } }
     {

@@ -2,17 +2,17 @@
 
 ghost use Rattle.std.specs.Prelude.{◌≡◌};
 ghost use Rattle.oneshot_machine.specs.Slots.{held};
-ghost use Rattle.oneshot_word.specs.declared.rouse.Rouse.{Rouse};
+ghost use Rattle.oneshot_word.specs.declared.any_waker.AnyWaker.{AnyWaker};
 ghost use Rattle.oneshot_word.specs.Seats.{with_waker, message_of, waker_of};
 
+use crate::any_waker::AnyWaker;
 use crate::promise::Promise;
-use crate::rouse::Rouse;
 use atomic_table::TableRule;
 use oneshot_machine::machine::Seen;
 use oneshot_machine::states::Op;
 use std::collections::LinkedList;
 
-// One flat enum: an `Option` or a `Rouse` inside would have a tag of its own.
+// One flat enum: an `Option` or a `AnyWaker` inside would have a tag of its own.
 /// What lies in a slot: nothing, the message that was sent, or by what a receiver that waits is woken.
 #[derive(Drop)]
 pub enum Slot<T, H, K> {
@@ -30,13 +30,13 @@ pub enum Slot<T, H, K> {
 
 impl<T, H, K> Slot<T, H, K> {
     /// A waker's slot that is full.
-    pub(crate) fn of(waker: Rouse<H, K>) -> Slot<T, H, K>
+    pub(crate) fn of(waker: AnyWaker<H, K>) -> Slot<T, H, K>
         ensures { result ≡ with_waker waker }
     {
         match waker {
-            Rouse::Thread(half) => Slot::Thread(half),
-            Rouse::Task(copy) => Slot::Task(copy),
-            Rouse::Nobody => Slot::Nobody,
+            AnyWaker::Thread(half) => Slot::Thread(half),
+            AnyWaker::Task(copy) => Slot::Task(copy),
+            AnyWaker::Nobody => Slot::Nobody,
         }
     }
 }
@@ -54,14 +54,14 @@ impl<T: Drop, H: Drop, K: Drop> Slot<T, H, K> {
     }
 
     /// The waker in a waker's slot that is full.
-    pub(crate) fn into_waker(self) -> Rouse<H, K>
-        requires { (waker : Rouse H K) × (waker_of self ≡ held waker) }
+    pub(crate) fn into_waker(self) -> AnyWaker<H, K>
+        requires { (waker : AnyWaker H K) × (waker_of self ≡ held waker) }
         ensures { waker_of self ≡ held result }
     {
         match self {
-            Slot::Thread(half) => Rouse::Thread(half),
-            Slot::Task(copy) => Rouse::Task(copy),
-            Slot::Nobody => Rouse::Nobody,
+            Slot::Thread(half) => AnyWaker::Thread(half),
+            Slot::Task(copy) => AnyWaker::Task(copy),
+            Slot::Nobody => AnyWaker::Nobody,
             _ => unreachable!(),
         }
     }

@@ -4,13 +4,13 @@ ghost use Rattle.std.specs.Prelude.{◌≡◌, ◌≢◌};
 ghost use Rattle.std.specs.Arc.{arc_value};
 ghost use Rattle.oneshot_machine.specs.declared.states.Op.TheVariants.{Swap, Add, Xor};
 ghost use Rattle.oneshot_machine.specs.Slots.{away, vacant, held};
-ghost use Rattle.oneshot_word.specs.declared.rouse.Rouse.{Rouse};
+ghost use Rattle.oneshot_word.specs.declared.any_waker.AnyWaker.{AnyWaker};
 ghost use Rattle.oneshot_word.specs.Seats.{IsAt, Keeps, MessageSlot, SenderSeat, WakerSlot, message_of, waker_of};
 ghost use Rattle.oneshot_word.specs.Side.{SenderCan, SenderDid, side_of};
 
+use crate::any_waker::AnyWaker;
 use crate::plays::{Adds, Finishes, Flips};
 use crate::promise::Promise;
-use crate::rouse::Rouse;
 use crate::rule::Slot;
 use crate::table::{WordSeat, WordTable};
 use std::alloc::Global;
@@ -28,9 +28,9 @@ impl<T, H, K, P: Promise<T>> Model for SenderSide<T, H, K, P> {
     ghost use Rattle.std.specs.Arc.{arc_value};
     ghost use Rattle.oneshot_word.specs.Seats.{IsAt, SenderSeat};
     ghost use Rattle.oneshot_word.specs.Side.{Side, side_of};
-    ghost use Rattle.oneshot_word.specs.declared.rouse.Rouse.{Rouse};
+    ghost use Rattle.oneshot_word.specs.declared.any_waker.AnyWaker.{AnyWaker};
 
-    ghost Value = { Side T (Rouse H K) P };
+    ghost Value = { Side T (AnyWaker H K) P };
 
     ghost view = { λ s. side_of s.seat.table_id s.seat.me };
 
@@ -111,8 +111,8 @@ impl<T: Drop, H: Drop, K: Drop, P: Promise<T>> SenderSide<T, H, K, P> {
     }
 
     /// Takes the receiver's waker out of its slot, which is the sender's and full.
-    pub fn take_waker(&mut self) -> Rouse<H, K>
-        requires { (waker : Rouse H K) × (self.old.waker ≡ held waker) }
+    pub fn take_waker(&mut self) -> AnyWaker<H, K>
+        requires { (waker : AnyWaker H K) × (self.old.waker ≡ held waker) }
         ensures waker { self.old.waker ≡ held result }
         ensures rest { self.new ≡ record self.old { waker = vacant } }
     {

@@ -1,6 +1,6 @@
 -- What a turn does is the same by classes: a step asks of a waker only whether it is the parker's half, and
 -- of a poll nothing.
-use Rattle.oneshot_world.proofs.Names.{◌≡◌, Bool, true, false, Option, Some, None, refl, ap, if◌then◌else◌, option_map, option_and_then, receiver_step, receiver_row, Outcome, sender_step, sender_row, End, Sender, Receiver, Reply, Step, ReceiverPos, SenderPos, Call, Poll, as_sender_call, as_receiver_call, Classes, as_name, as_wakers, as_told, as_state, as_call, as_made, as_turned, Control, Begin, control_then, control_turn, sender_under_way, receiver_under_way, as_begin, as_control, as_control_turned, turns, sender_turns_at, receiver_turns_at, position_of_sender, position_of_receiver, sender_stepped, sender_moved, receiver_moved, receiver_stepped, made, made_entry, sender_fits, receiver_fits, hand_kept, seen_by, reply_of, is_future, sender_puts, receiver_puts, wakers_left, sets_token, own_of, ReceiverState, SenderState, State, Entry, Made, Place, Told, Wakers}
+use Rattle.oneshot_world.proofs.Names.{◌≡◌, Bool, true, false, Option, Some, None, refl, ap, if◌then◌else◌, option_map, option_and_then, receiver_step, receiver_row, Outcome, sender_step, sender_row, End, Sender, Receiver, Reply, Step, ReceiverPos, SenderPos, Call, Poll, as_sender_call, as_receiver_call, Classes, as_name, as_wakers, as_told, as_state, as_call, as_made, as_turned, Control, Begin, control_then, control_turn, sender_under_way, receiver_under_way, as_begin, as_control, as_control_turned, turns, sender_turns_at, receiver_turns_at, position_of_sender, position_of_receiver, sender_stepped, sender_moved, receiver_moved, receiver_stepped, made, made_entry, sender_fits, receiver_fits, hand_kept, seen_by, reply_of, is_future, sender_puts, receiver_puts, wakers_left, sets_token, own_of, ReceiverState, SenderState, State, Entry, Made, Place, Input, Wakers}
 use Rattle.oneshot_machine.specs.declared.machine.Step.TheVariants as T
 use Rattle.oneshot_machine.specs.declared.states.Op.TheVariants as O
 use Rattle.oneshot_world.specs.declared.state.ReceiverState.TheVariants as RS
@@ -11,7 +11,7 @@ token_as : (k : Classes) (w : Wakers) (step : Step) → sets_token (as_wakers k 
 token_as k w T.Wake = parker_as k w.taken
 token_as k w _ = refl
 
-own_as : (k : Classes) (t : Told) (step : Step) → own_of (as_told k t) step ≡ option_map k.polls (own_of t step)
+own_as : (k : Classes) (t : Input) (step : Step) → own_of (as_told k t) step ≡ option_map k.polls (own_of t step)
 own_as k t T.WakeOwn = refl
 own_as k t _ = refl
 
@@ -35,13 +35,13 @@ receiver_fits_as k s T.Copy = none_as (as_name k) s.wakers.hand
 receiver_fits_as k s _ = refl
 
 -- what is told, and the state after
-made_as : (k : Classes) (side : End) (t : Told) (s : State) (step : Step) (reply : Option Reply) (to : Option Place)
+made_as : (k : Classes) (side : End) (t : Input) (s : State) (step : Step) (reply : Option Reply) (to : Option Place)
     → made side (as_told k t) (as_state k s) step reply to ≡ as_made k (made side t s step reply to)
 made_as k side t s step reply to =
     rw (seen_as k t.answer s step, waker_moved_as k t s.word s.wakers step, token_as k s.wakers step, own_as k t step)
     refl
 
-sender_moved_as : (k : Classes) (t : Told) (s : State) (step : Step) (row : Outcome SenderPos)
+sender_moved_as : (k : Classes) (t : Input) (s : State) (step : Step) (row : Outcome SenderPos)
     → sender_moved (as_told k t) (as_state k s) step row ≡ as_state k (sender_moved t s step row)
 sender_moved_as k t s step row = rw (wakers_as k t s.word s.wakers step) refl
 
@@ -50,7 +50,7 @@ kept_as : (k : Classes) (future : Bool) (w : Wakers)
 kept_as k true w = refl
 kept_as k false w = refl
 
-receiver_moved_as : (k : Classes) (t : Told) (s : State) (step : Step) (row : Outcome ReceiverPos)
+receiver_moved_as : (k : Classes) (t : Input) (s : State) (step : Step) (row : Outcome ReceiverPos)
     → receiver_moved (as_told k t) (as_state k s) step row ≡ as_state k (receiver_moved t s step row)
 receiver_moved_as k t s step row =
     rw (wakers_as k t s.word s.wakers step, kept_as k (is_future (reply_of row)) (wakers_left t s.word s.wakers step))
@@ -69,7 +69,7 @@ by_row k true gits f g (Some r) rov fit same each =
     rw (fit, same) (ap (λ (t : Made × State). Some (made_entry t)) (each r))
 by_row k false gits f g row rov fit same each = rw fit refl
 
-sender_turns_as : (k : Classes) (t : Told) (s : State) (position : Option SenderPos)
+sender_turns_as : (k : Classes) (t : Input) (s : State) (position : Option SenderPos)
     → sender_turns_at (as_told k t) (as_state k s) position ≡ option_map (as_turned k) (sender_turns_at t s position)
 sender_turns_as k t s None = refl
 sender_turns_as k t s (Some position) =
@@ -85,7 +85,7 @@ sender_turns_as k t s (Some position) =
       sender_moved_as k t s (sender_step position) row,
     ) refl)
 
-receiver_turns_as : (k : Classes) (t : Told) (s : State) (position : Option ReceiverPos)
+receiver_turns_as : (k : Classes) (t : Input) (s : State) (position : Option ReceiverPos)
     → receiver_turns_at (as_told k t) (as_state k s) position
     ≡ option_map (as_turned k) (receiver_turns_at t s position)
 receiver_turns_as k t s None = refl
@@ -116,7 +116,7 @@ receiver_call_as k (Some (Poll number)) = refl
 receiver_call_as k (Some _) = refl
 
 -- A turn by classes is the turn's classes.
-pub turns_as : (k : Classes) (side : End) (t : Told) (s : State) (call : Option Call)
+pub turns_as : (k : Classes) (side : End) (t : Input) (s : State) (call : Option Call)
     → turns side (as_told k t) (as_state k s) (option_map (as_call k) call)
     ≡ option_map (as_turned k) (turns side t s call)
 turns_as k Sender t s call = rw (sender_call_as k call) (sender_turns_as k t s (position_of_sender s call))

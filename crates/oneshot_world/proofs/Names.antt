@@ -48,7 +48,7 @@ pub use Rattle.oneshot_world.specs.declared.trace.Place.TheVariants.{NotSent, In
 pub use Rattle.oneshot_world.specs.declared.trace.WakerName.{WakerName}
 pub use Rattle.oneshot_world.specs.declared.trace.WakerName.TheVariants.{Parker, Copy}
 pub use Rattle.oneshot_world.specs.declared.trace.WakerPlace.{WakerPlace}
-pub use Rattle.oneshot_world.specs.declared.wakers.Told.{Told}
+pub use Rattle.oneshot_world.specs.declared.wakers.Input.{Input}
 pub use Rattle.oneshot_world.specs.declared.wakers.Wakers.{Wakers}
 pub use Rattle.std.proofs.Common.{◌≡◌, ◌==◌, Bool, true, false, List, [], ◌∷◌, Option, Some, None, refl, sym, ap, subst, ◌||◌, if◌then◌else◌, ◌≤◌, ℕ, ◌∙◌, ◌&&◌, nat_le, is_some, is_none, suc, zero, ◌++◌, replicate, nat_lt, get_or, map, ◌+◌, ◌<◌, length, drop, add-one, drop-cons, filter, rules}
 pub use Rattle.std.proofs.lemmas.Bool.{leb-true, eqb-true}

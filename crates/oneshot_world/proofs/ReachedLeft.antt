@@ -1,5 +1,5 @@
 -- What is left after a step by a row is what a run can have left.
-use Rattle.oneshot_world.proofs.Names.{◌≡◌, ◌==◌, Bool, true, false, List, [], ◌∷◌, Option, Some, None, refl, sym, ap, subst, ◌||◌, if◌then◌else◌, Outcome, Goes, Answers, Sender, Receiver, Reply, Step, ReceiverPos, SenderPos, Call, Unanswered, first, rest, is_none_left, left_by, all_alike, Control, control_of, as_control, sender_under_way, receiver_under_way, control_then, is_reached, IsReached, bool_code, is_sender_script, is_error_script, has_script, sender_has, receiver_has, sender_moved, receiver_moved, place_left, reply_of, sender_goes, receiver_goes, is_plain, is_free, is_future, sender_puts, receiver_puts, World, nothing_told, ReceiverState, State, Place, Told}
+use Rattle.oneshot_world.proofs.Names.{◌≡◌, ◌==◌, Bool, true, false, List, [], ◌∷◌, Option, Some, None, refl, sym, ap, subst, ◌||◌, if◌then◌else◌, Outcome, Goes, Answers, Sender, Receiver, Reply, Step, ReceiverPos, SenderPos, Call, Unanswered, first, rest, is_none_left, left_by, all_alike, Control, control_of, as_control, sender_under_way, receiver_under_way, control_then, is_reached, IsReached, bool_code, is_sender_script, is_error_script, has_script, sender_has, receiver_has, sender_moved, receiver_moved, place_left, reply_of, sender_goes, receiver_goes, is_plain, is_free, is_future, sender_puts, receiver_puts, World, nothing_told, ReceiverState, State, Place, Input}
 use Rattle.oneshot_machine.specs.declared.machine.Reply.TheVariants as Replies
 use Rattle.oneshot_world.specs.declared.state.ReceiverState.TheVariants as RS
 use Rattle.oneshot_world.specs.declared.state.SenderState.TheVariants as SS
@@ -17,7 +17,7 @@ sender_world w step row =
       receiver = w.receiver;
     }
 
-abbrev pub receiver_world : Told → World → Step → Outcome ReceiverPos → World
+abbrev pub receiver_world : Input → World → Step → Outcome ReceiverPos → World
 receiver_world t w step row =
     record {
       state = receiver_moved t w.state step row;
@@ -57,7 +57,7 @@ sender_control_is w step (Answers reply) =
     ap (λ call. control_by (sender_moved nothing_told w.state step (Answers reply)) call (control_of w).receiver)
     (sender_idles step reply (first w.sender.calls) (first (left_by Sender (Some reply) w.sender).calls))
 
-pub receiver_control_is : (t : Told) (w : World) (step : Step) (row : Outcome ReceiverPos)
+pub receiver_control_is : (t : Input) (w : World) (step : Step) (row : Outcome ReceiverPos)
     → control_then Receiver (first w.receiver.calls) (control_of w) (receiver_moved t w.state step row)
     ≡ control_of (receiver_world t w step row)
 unfolding control_by
@@ -173,7 +173,7 @@ receiver_row_left w step (Goes next) script by =
 receiver_row_left w step (Answers reply) script by =
     receiver_left reply (receiver_goes step (Answers reply)) w.state.future w.receiver.calls script by
 
-pub receiver_stays_reached : (t : Told) (w : World) (step : Step) (row : Outcome ReceiverPos) → IsReached w
+pub receiver_stays_reached : (t : Input) (w : World) (step : Step) (row : Outcome ReceiverPos) → IsReached w
     → has_script w.state.future w.receiver.calls ≡ true → is_reached (as_control all_alike
     (control_then Receiver (first w.receiver.calls) (control_of w) (receiver_moved t w.state step row))) ≡ true
     → receiver_left_by_its_call (reply_of row) (receiver_goes step row) (first w.receiver.calls) ≡ true

@@ -1,5 +1,5 @@
 -- Each move from a world that a run reaches has its row, and leads to a world that a run reaches.
-use Rattle.oneshot_world.proofs.Names.{◌≡◌, ℕ, Bool, true, Option, Some, None, refl, sym, ◌∙◌, ap, subst, option_map, IsSome, receiver_step, receiver_row, Outcome, sender_step, sender_row, Sender, Receiver, Reply, ReceiverPos, SenderPos, Call, Poll, first, left_by, Classes, all_alike, as_call, control_of, as_begin, as_control, control_then, is_reached, IsReached, sender_steps, receiver_steps, sender_moved, sender_stepped, receiver_moved, receiver_stepped, sender_fits, receiver_fits, reply_of, sender_goes, receiver_goes, seen_by, World, nothing_told, receiver_told, ReceiverState, SenderState, State, Made, Told}
+use Rattle.oneshot_world.proofs.Names.{◌≡◌, ℕ, Bool, true, Option, Some, None, refl, sym, ◌∙◌, ap, subst, option_map, IsSome, receiver_step, receiver_row, Outcome, sender_step, sender_row, Sender, Receiver, Reply, ReceiverPos, SenderPos, Call, Poll, first, left_by, Classes, all_alike, as_call, control_of, as_begin, as_control, control_then, is_reached, IsReached, sender_steps, receiver_steps, sender_moved, sender_stepped, receiver_moved, receiver_stepped, sender_fits, receiver_fits, reply_of, sender_goes, receiver_goes, seen_by, World, nothing_told, receiver_told, ReceiverState, SenderState, State, Made, Input}
 use Rattle.oneshot_machine.specs.declared.machine.Reply.TheVariants as Replies
 use Rattle.oneshot_world.specs.declared.state.ReceiverState.TheVariants as RS
 use Rattle.oneshot_world.specs.declared.state.SenderState.TheVariants as SS
@@ -83,14 +83,14 @@ receiver_row_reaches answer entry w position row h at steps =
     (receiver_moved (receiver_told answer entry w) w.state (receiver_step position) row)))) _ leads))
 
 -- a step that is made, is made by a row
-pub sender_made_by : (t : Told) (s : State) (position : SenderPos) (x : Made × State)
+pub sender_made_by : (t : Input) (s : State) (position : SenderPos) (x : Made × State)
     → sender_steps t s position ≡ Some x
     → (row : Outcome SenderPos) × (sender_stepped t s (sender_step position) row ≡ x)
 sender_made_by t s position x h =
     from_row (sender_fits s (sender_step position)) (sender_stepped t s (sender_step position))
     (sender_row position (seen_by t.answer s (sender_step position))) x h
 
-pub receiver_made_by : (t : Told) (s : State) (position : ReceiverPos) (x : Made × State)
+pub receiver_made_by : (t : Input) (s : State) (position : ReceiverPos) (x : Made × State)
     → receiver_steps t s position ≡ Some x
     → (row : Outcome ReceiverPos) × (receiver_stepped t s (receiver_step position) row ≡ x)
 receiver_made_by t s position x h =

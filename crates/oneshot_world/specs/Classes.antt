@@ -11,7 +11,7 @@ use Rattle.oneshot_world.specs.declared.trace.Entry.TheVariants.{Idle, Made as M
 use Rattle.oneshot_world.specs.declared.trace.Made.{Made}
 use Rattle.oneshot_world.specs.declared.trace.WakerName.{WakerName}
 use Rattle.oneshot_world.specs.declared.trace.WakerName.TheVariants.{Parker, Copy}
-use Rattle.oneshot_world.specs.declared.wakers.Told.{Told}
+use Rattle.oneshot_world.specs.declared.wakers.Input.{Input}
 use Rattle.oneshot_world.specs.declared.wakers.Wakers.{Wakers}
 
 -- the class of a copy, by the number of its waker and the entry in which it was made; and of a poll, by its number
@@ -35,7 +35,7 @@ as_wakers k w =
       taken = option_map (as_name k) w.taken;
     }
 
-abbrev pub as_told : Classes → Told → Told
+abbrev pub as_told : Classes → Input → Input
 as_told k t = record t { copy = option_map (as_name k) t.copy; own = option_map k.polls t.own }
 
 abbrev pub as_state : Classes → State → State

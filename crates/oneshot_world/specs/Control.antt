@@ -20,7 +20,7 @@ use Rattle.oneshot_world.specs.declared.state.State.{State}
 use Rattle.oneshot_world.specs.declared.trace.Entry.{Entry}
 use Rattle.oneshot_world.specs.declared.trace.Place.{Place}
 use Rattle.oneshot_world.specs.declared.trace.WakerName.TheVariants.{Copy}
-use Rattle.oneshot_world.specs.declared.wakers.Told.{Told}
+use Rattle.oneshot_world.specs.declared.wakers.Input.{Input}
 
 -- the state, and each end's call under way
 pub record Control : Type 0 where
@@ -51,11 +51,11 @@ control_of w =
 -- a move: the end that makes it, what it is told, and the call that the end has under way or begins
 pub record Begin : Type 0 where
   pub side : End
-  pub told : Told
+  pub told : Input
   pub call : Option Call
 
 -- one for each of these calls that the end may begin
-abbrev pub begins_with : End → Told → (Call → Bool) → List Call → List Begin
+abbrev pub begins_with : End → Input → (Call → Bool) → List Call → List Begin
 begins_with side t may calls = map (λ call. record { side = side; told = t; call = Some call }) (filter may calls)
 
 -- the moves of an end: it goes on with the call under way, or begins any call
@@ -66,11 +66,11 @@ sender_begins message (SS.At position) call = record { side = Sender; told = not
 sender_begins message SS.Failed call = begins_with Sender nothing_told begins_error (map Of_sender all_sender_calls)
 sender_begins message SS.Ended call = []
 
-abbrev pub plain_told : Bool → Told
+abbrev pub plain_told : Bool → Input
 plain_told answer = record { answer = answer; copy = None; own = None }
 
 -- what a poll of a class is told, with the class of its copy
-abbrev pub poll_told : Bool → ℕ → ℕ → Told
+abbrev pub poll_told : Bool → ℕ → ℕ → Input
 poll_told answer number copy = record { answer = answer; copy = Some (Copy copy 0); own = Some number }
 
 abbrev pub poll_begin : Bool → ℕ → ℕ → Begin

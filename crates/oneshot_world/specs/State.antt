@@ -27,7 +27,7 @@ use Rattle.oneshot_world.specs.declared.trace.Entry.TheVariants.{Idle, Made as M
 use Rattle.oneshot_world.specs.declared.trace.Made.{Made}
 use Rattle.oneshot_world.specs.declared.trace.Place.{Place}
 use Rattle.oneshot_world.specs.declared.trace.Place.TheVariants.{NotSent, InCell, InError}
-use Rattle.oneshot_world.specs.declared.wakers.Told.{Told}
+use Rattle.oneshot_world.specs.declared.wakers.Input.{Input}
 use Rattle.oneshot_world.specs.declared.wakers.Wakers.{Wakers}
 
 -- before the first move
@@ -83,7 +83,7 @@ receiver_fits s Wake = false
 receiver_fits s _ = true
 
 -- what an end's step tells, with its reply if it ends the call, and the place where it puts the message
-abbrev pub made : End → Told → State → Step → Option Reply → Option Place → Made
+abbrev pub made : End → Input → State → Step → Option Reply → Option Place → Made
 made side t s step reply to =
     record {
       side = side;
@@ -99,7 +99,7 @@ made side t s step reply to =
     }
 
 -- the state after a step that puts the message there, but for where its end stands
-abbrev pub moved : Told → State → Step → Option Place → State
+abbrev pub moved : Input → State → Step → Option Place → State
 moved t s step to =
     record s {
       word = word_left s.word step;
@@ -109,10 +109,10 @@ moved t s step to =
     }
 
 -- a step by a row of its table
-abbrev pub sender_moved : Told → State → Step → Outcome SenderPos → State
+abbrev pub sender_moved : Input → State → Step → Outcome SenderPos → State
 sender_moved t s step row = record (moved t s step (sender_puts step (reply_of row))) { sender = sender_goes step row }
 
-abbrev pub sender_stepped : Told → State → Step → Outcome SenderPos → Made × State
+abbrev pub sender_stepped : Input → State → Step → Outcome SenderPos → Made × State
 sender_stepped t s step row = (
   made Sender t s step (reply_of row) (sender_puts step (reply_of row)),
   sender_moved t s step row,
@@ -122,7 +122,7 @@ sender_stepped t s step row = (
 abbrev pub hand_kept : Bool → Wakers → Wakers
 hand_kept future w = record w { hand = if future then None else w.hand }
 
-abbrev pub receiver_moved : Told → State → Step → Outcome ReceiverPos → State
+abbrev pub receiver_moved : Input → State → Step → Outcome ReceiverPos → State
 receiver_moved t s step row =
     record (moved t s step (receiver_puts step)) {
       receiver = receiver_goes step row;
@@ -130,7 +130,7 @@ receiver_moved t s step row =
       wakers = hand_kept (is_future (reply_of row)) (wakers_left t s.word s.wakers step);
     }
 
-abbrev pub receiver_stepped : Told → State → Step → Outcome ReceiverPos → Made × State
+abbrev pub receiver_stepped : Input → State → Step → Outcome ReceiverPos → Made × State
 receiver_stepped t s step row = (
   made Receiver t s step (reply_of row) (receiver_puts step),
   receiver_moved t s step row,
@@ -138,7 +138,7 @@ receiver_stepped t s step row = (
 
 -- the step that is made at a position; none where the table has no row for what is seen, or the cell is not
 -- as the step needs it
-abbrev pub sender_steps : Told → State → SenderPos → Option (Made × State)
+abbrev pub sender_steps : Input → State → SenderPos → Option (Made × State)
 sender_steps t s position =
     if sender_fits s (sender_step position)
     then option_map
@@ -146,7 +146,7 @@ sender_steps t s position =
     (sender_row position (seen_by t.answer s (sender_step position)))
     else None
 
-abbrev pub receiver_steps : Told → State → ReceiverPos → Option (Made × State)
+abbrev pub receiver_steps : Input → State → ReceiverPos → Option (Made × State)
 receiver_steps t s position =
     if receiver_fits s (receiver_step position)
     then option_map
@@ -170,11 +170,11 @@ abbrev pub made_entry : Made × State → Entry × State
 made_entry stepped = (Made_entry stepped.0, stepped.1)
 
 -- what an end does at its position: without one it has no step to make, and is idle
-abbrev pub sender_turns_at : Told → State → Option SenderPos → Option (Entry × State)
+abbrev pub sender_turns_at : Input → State → Option SenderPos → Option (Entry × State)
 sender_turns_at t s None = Some (Idle Sender, s)
 sender_turns_at t s (Some position) = option_map made_entry (sender_steps t s position)
 
-abbrev pub receiver_turns_at : Told → State → Option ReceiverPos → Option (Entry × State)
+abbrev pub receiver_turns_at : Input → State → Option ReceiverPos → Option (Entry × State)
 receiver_turns_at t s None = Some (Idle Receiver, s)
 receiver_turns_at t s (Some position) = option_map made_entry (receiver_steps t s position)
 
@@ -186,6 +186,6 @@ abbrev pub position_of_receiver : State → Option Call → Option ReceiverPos
 position_of_receiver s call = receiver_position s.receiver (option_and_then as_receiver_call call)
 
 -- and what it does
-abbrev pub turns : End → Told → State → Option Call → Option (Entry × State)
+abbrev pub turns : End → Input → State → Option Call → Option (Entry × State)
 turns Sender t s call = sender_turns_at t s (position_of_sender s call)
 turns Receiver t s call = receiver_turns_at t s (position_of_receiver s call)

@@ -9,7 +9,7 @@ use Rattle.oneshot_world.specs.declared.trace.WakerName.{WakerName}
 use Rattle.oneshot_world.specs.declared.trace.WakerName.TheVariants.{Parker, Copy}
 use Rattle.oneshot_world.specs.declared.trace.WakerPlace.{WakerPlace}
 use Rattle.oneshot_world.specs.declared.trace.WakerPlace.TheVariants.{New, Hand, Cell, SenderHand, Used, Dropped}
-use Rattle.oneshot_world.specs.declared.wakers.Told.{Told}
+use Rattle.oneshot_world.specs.declared.wakers.Input.{Input}
 use Rattle.oneshot_world.specs.declared.wakers.Wakers.{Wakers}
 
 -- the receiver begins with its parker's half in its hand
@@ -40,7 +40,7 @@ back_to (Copy number entry) = Dropped
 
 -- after a step; a park uses the token, if there is one; a copy that is not refused goes into the hand; an
 -- exchange that fails drops what is in the hand
-abbrev pub wakers_left : Told → ℕ → Wakers → Step → Wakers
+abbrev pub wakers_left : Input → ℕ → Wakers → Step → Wakers
 wakers_left t word w WriteWaker = record w { cell = w.hand; hand = None }
 wakers_left t word w TakeWaker = record w { cell = None; taken = w.cell }
 wakers_left t word w Withdraw = record w { cell = None; hand = withdrawn w.cell w.hand }
@@ -54,7 +54,7 @@ wakers_left t word w _ = w
 abbrev pub WakerMove : Type 0
 WakerMove = WakerName × WakerPlace × WakerPlace
 
-abbrev pub waker_move : Told → ℕ → Wakers → Step → Option WakerMove
+abbrev pub waker_move : Input → ℕ → Wakers → Step → Option WakerMove
 waker_move t word w WriteWaker = option_map (λ name. (name, Hand, Cell)) w.hand
 waker_move t word w TakeWaker = option_map (λ name. (name, Cell, SenderHand)) w.cell
 waker_move t word w Withdraw = option_map (λ name. (name, Cell, back_to name)) w.cell
@@ -65,7 +65,7 @@ waker_move t word w (T.Word (Exchange expected new)) =
 waker_move t word w _ = None
 
 -- the number of the poll's own waker, where the poll wakes it
-abbrev pub own_of : Told → Step → Option ℕ
+abbrev pub own_of : Input → Step → Option ℕ
 own_of t WakeOwn = t.own
 own_of t _ = None
 

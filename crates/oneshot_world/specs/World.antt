@@ -22,7 +22,7 @@ use Rattle.oneshot_world.specs.declared.trace.Entry.{Entry}
 use Rattle.oneshot_world.specs.declared.trace.Entry.TheVariants.{Idle, Made as Made_entry}
 use Rattle.oneshot_world.specs.declared.trace.Place.{Place}
 use Rattle.oneshot_world.specs.declared.trace.WakerName.TheVariants.{Copy}
-use Rattle.oneshot_world.specs.declared.wakers.Told.{Told}
+use Rattle.oneshot_world.specs.declared.wakers.Input.{Input}
 use Rattle.oneshot_world.specs.declared.trace.Place.TheVariants.{NotSent}
 
 -- the word, the block, both ends' positions, the message's place and the wakers; and what each script has left
@@ -65,11 +65,11 @@ abbrev pub answer_told : Option ReceiverPos → Bool → Bool → Bool
 answer_told position over refuse = if copies_at position then refuse else over
 
 -- what a move is told that makes this entry: a poll also the copy that it makes then, and its number
-abbrev pub told_with : Bool → ℕ → Option ℕ → Told
+abbrev pub told_with : Bool → ℕ → Option ℕ → Input
 told_with answer entry number =
     record { answer = answer; copy = option_map (λ number. Copy number entry) number; own = number }
 
-abbrev pub nothing_told : Told
+abbrev pub nothing_told : Input
 nothing_told = record { answer = false; copy = None; own = None }
 
 abbrev pub by_end : {X : Type 0} → End → X → X → X
@@ -98,14 +98,14 @@ world_then side w turned = (
 )
 
 -- what the receiver is told
-abbrev pub receiver_told : Bool → ℕ → World → Told
+abbrev pub receiver_told : Bool → ℕ → World → Input
 receiver_told answer entry w = told_with answer entry (option_and_then number_of (first w.receiver.calls))
 
 -- what an end of a world does
-abbrev pub turn_of : End → Told → World → Option (Entry × World)
+abbrev pub turn_of : End → Input → World → Option (Entry × World)
 turn_of side t w = option_map (world_then side w) (turns side t w.state (first (by_end side w.sender w.receiver).calls))
 
-abbrev pub told_of : Move → ℕ → World → Told
+abbrev pub told_of : Move → ℕ → World → Input
 told_of M.Sender entry w = nothing_told
 told_of (M.Receiver over refuse) entry w =
     receiver_told (answer_told (position_of_receiver w.state (first w.receiver.calls)) over refuse) entry w

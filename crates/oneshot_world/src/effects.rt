@@ -7,13 +7,13 @@ ghost use Rattle.oneshot_world.specs.Wakers.{own_of};
 
 use crate::state::{ReceiverState, SenderState, State};
 use crate::trace::Place;
-use crate::wakers::Told;
+use crate::wakers::Input;
 use oneshot_machine::machine::{ReceiverPos, Reply, Seen, SenderPos, Step};
 use oneshot_machine::states::Op;
 
 /// The number of the poll's own waker, where the poll wakes it.
 #[inline(always)]
-pub(crate) fn own_of(told: Told, step: Step) -> Option<u64>
+pub(crate) fn own_of(told: Input, step: Step) -> Option<u64>
     ensures { result ≡ own_of told step }
 {
     match step {

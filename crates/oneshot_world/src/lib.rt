@@ -17,5 +17,5 @@ pub use script::{
 };
 pub use state::{ReceiverState, SenderState, State};
 pub use trace::{Entry, Made, Place, WakerName, WakerPlace};
-pub use wakers::{Told, Wakers};
+pub use wakers::{Input, Wakers};
 pub use world::World;

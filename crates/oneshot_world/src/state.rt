@@ -8,7 +8,7 @@ use crate::effects::{
     sender_goes, sender_puts, shown, word_left,
 };
 use crate::trace::{Made, Place};
-use crate::wakers::{Told, Wakers};
+use crate::wakers::{Input, Wakers};
 use oneshot_machine::machine::{End, ReceiverPos, Reply, Seen, SenderPos, Step};
 use oneshot_machine::states::EMPTY;
 
@@ -73,7 +73,7 @@ impl State {
 
     /// Makes the sender's step at `position`, and tells it.
     #[inline(always)]
-    pub(crate) fn step_sender(&mut self, position: SenderPos, told: Told) -> Made
+    pub(crate) fn step_sender(&mut self, position: SenderPos, told: Input) -> Made
         requires row { IsSome (sender_steps told self.old position) }
         requires code { self.old.word ≤ 4 }
         ensures { sender_steps told self.old position ≡ Some (result, self.new) }
@@ -89,7 +89,7 @@ impl State {
 
     /// Makes the receiver's step at `position`, and tells it.
     #[inline(always)]
-    pub(crate) fn step_receiver(&mut self, position: ReceiverPos, told: Told) -> Made
+    pub(crate) fn step_receiver(&mut self, position: ReceiverPos, told: Input) -> Made
         requires row { IsSome (receiver_steps told self.old position) }
         requires code { self.old.word ≤ 4 }
         ensures { receiver_steps told self.old position ≡ Some (result, self.new) }
@@ -110,7 +110,7 @@ impl State {
     fn make(
         &mut self,
         side: End,
-        told: Told,
+        told: Input,
         step: Step,
         seen: Seen,
         reply: Option<Reply>,

@@ -15,7 +15,7 @@ type WakerMove = (WakerName, WakerPlace, WakerPlace);
 
 /// What a move is told.
 #[derive(Clone, Copy)]
-pub struct Told {
+pub struct Input {
     /// What its clock answers, or whether its copy of a waker is refused.
     pub answer: bool,
     /// The copy of a waker that it makes, if it makes one.
@@ -53,7 +53,7 @@ impl Wakers {
     /// What a step does that finds this word and is told this, and the move that it makes with a waker:
     /// the waker, and the places that it leaves and goes to.
     #[inline(always)]
-    pub(crate) fn moved(&mut self, told: Told, word: u8, step: Step) -> Option<WakerMove>
+    pub(crate) fn moved(&mut self, told: Input, word: u8, step: Step) -> Option<WakerMove>
         ensures leaves { self.new ≡ wakers_left told word self.old step }
         ensures tells { result ≡ waker_move told word self.old step }
     {

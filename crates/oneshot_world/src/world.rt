@@ -13,7 +13,7 @@ use crate::calls::sender::SenderCalls;
 use crate::script::{Move, ReceiverScript, SenderLast, SenderScript};
 use crate::state::{ReceiverState, SenderState, State};
 use crate::trace::{Entry, Place, WakerName};
-use crate::wakers::Told;
+use crate::wakers::Input;
 use oneshot_machine::machine::{End, FuturePos, ReceiverPos, ReceiverStart, SenderCall, SenderPos};
 use std::marker::Model;
 
@@ -120,7 +120,7 @@ impl World {
         let Some(position) = self.sender_position() else {
             return Entry::Idle(End::Sender);
         };
-        let told = Told {
+        let told = Input {
             answer: false,
             copy: None,
             own: None,
@@ -157,14 +157,14 @@ fn answer_at(position: ReceiverPos, over: bool, refuse: bool) -> bool
 }
 
 /// What a move is told that answers so and makes this entry.
-fn told_with(answer: bool, entry: usize, own: Option<u64>) -> Told
+fn told_with(answer: bool, entry: usize, own: Option<u64>) -> Input
     ensures { result ≡ told_with answer entry own }
 {
     let copy = match own {
         Some(number) => Some(WakerName::Copy { number, entry }),
         None => None,
     };
-    Told { answer, copy, own }
+    Input { answer, copy, own }
 }
 
 /// Where the message of a script is before the first move.

@@ -7,29 +7,29 @@ ghost use Rattle.oneshot_drive.specs.BetweenCalls.{IsError, IsLate};
 ghost use Rattle.oneshot_ends.specs.Grounds.{state_of};
 
 use crate::freed::Freed;
-use crate::rouse::wake;
 use crate::token::WakingHalf;
+use crate::waker::wake;
 use futures::task::Waker;
 use oneshot_drive::SenderGround;
-use oneshot_word::{Promise, Rouse, SenderSide};
+use oneshot_word::{AnyWaker, Promise, SenderSide};
 use std::marker::Model;
 
 /// The ground of an error, which has the refused message in its own hands.
-pub(crate) struct ErrorOffWord<T, H, K, P: Promise<T>> {
+pub(crate) struct RefusedSender<T, H, K, P: Promise<T>> {
     message: Option<T>,
     side: SenderSide<T, H, K, P>,
     freed: Freed,
 }
 
-impl<T, H, K, P: Promise<T>> Model for ErrorOffWord<T, H, K, P> {
+impl<T, H, K, P: Promise<T>> Model for RefusedSender<T, H, K, P> {
     ghost use Rattle.oneshot_machine.specs.Phases.{sender_at};
     ghost use Rattle.oneshot_machine.specs.Slots.{vacant};
     ghost use Rattle.oneshot_drive.specs.BetweenCalls.{IsLate};
     ghost use Rattle.oneshot_word.specs.Side.{Side};
-    ghost use Rattle.oneshot_word.specs.declared.rouse.Rouse.{Rouse};
+    ghost use Rattle.oneshot_word.specs.declared.any_waker.AnyWaker.{AnyWaker};
     ghost use Rattle.oneshot_ends.specs.Grounds.{unless_freed, slot_of};
 
-    ghost Value = { Side T (Rouse H K) P };
+    ghost Value = { Side T (AnyWaker H K) P };
 
     ghost view = { λ e. record e.side {
       message = unless_freed e.freed.value (slot_of e.message);
@@ -39,14 +39,14 @@ impl<T, H, K, P: Promise<T>> Model for ErrorOffWord<T, H, K, P> {
     ghost invariant = { λ e. IsLate (sender_at e.side.log) };
 }
 
-impl<T, H, K, P: Promise<T>> ErrorOffWord<T, H, K, P> {
+impl<T, H, K, P: Promise<T>> RefusedSender<T, H, K, P> {
     /// The ground of an error that has freed nothing.
-    pub(crate) fn new(message: T, side: SenderSide<T, H, K, P>) -> ErrorOffWord<T, H, K, P>
+    pub(crate) fn new(message: T, side: SenderSide<T, H, K, P>) -> RefusedSender<T, H, K, P>
         requires { IsLate (sender_at side.log) }
         ensures { IsError (held message) (state_of result) }
     {
         let freed = Freed::of(false);
-        ErrorOffWord {
+        RefusedSender {
             message: Some(message),
             side,
             freed,
@@ -61,8 +61,8 @@ impl<T, H, K, P: Promise<T>> ErrorOffWord<T, H, K, P> {
     }
 }
 
-impl<T: Drop, P: Promise<T>> SenderGround<T, Rouse<WakingHalf, Waker>>
-    for ErrorOffWord<T, WakingHalf, Waker, P> {
+impl<T: Drop, P: Promise<T>> SenderGround<T, AnyWaker<WakingHalf, Waker>>
+    for RefusedSender<T, WakingHalf, Waker, P> {
     ghost use Rattle.oneshot_ends.specs.Grounds.{state_of};
 
     ghost state = { state_of };
@@ -101,12 +101,12 @@ impl<T: Drop, P: Promise<T>> SenderGround<T, Rouse<WakingHalf, Waker>>
     }
 
     // No receiver waits for a sender that found it gone.
-    fn take_waker(&mut self) -> Rouse<WakingHalf, Waker> {
+    fn take_waker(&mut self) -> AnyWaker<WakingHalf, Waker> {
         self.known();
         unreachable!()
     }
 
-    fn wake(&mut self, waker: Rouse<WakingHalf, Waker>) {
+    fn wake(&mut self, waker: AnyWaker<WakingHalf, Waker>) {
         self.known();
         wake(waker);
     }
@@ -116,9 +116,9 @@ impl<T: Drop, P: Promise<T>> SenderGround<T, Rouse<WakingHalf, Waker>>
     }
 }
 
-impl<T: Drop, H: Drop, K: Drop, P: Promise<T>> Drop for ErrorOffWord<T, H, K, P> {
+impl<T: Drop, H: Drop, K: Drop, P: Promise<T>> Drop for RefusedSender<T, H, K, P> {
     fn drop(self) {
-        let ErrorOffWord {
+        let RefusedSender {
             message: _,
             side: _,
             freed: _,

@@ -1,6 +1,6 @@
 //! The looks of the ends, and the load that only they make.
 
-use super::{ReceiverOnWord, Unsent};
+use super::{SharedReceiver, Unsent};
 use crate::future::AsyncReceiver;
 use crate::receiver::Receiver;
 use crate::sender::Sender;
@@ -14,7 +14,7 @@ impl<T, H, K, P: Promise<T>> Unsent<T, H, K, P> {
     }
 }
 
-impl<T, H, K, P: Promise<T>> ReceiverOnWord<T, H, K, P> {
+impl<T, H, K, P: Promise<T>> SharedReceiver<T, H, K, P> {
     fn peek(&self) -> u8 {
         self.side.peek()
     }

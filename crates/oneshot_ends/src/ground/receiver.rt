@@ -8,38 +8,38 @@ use crate::token::WakingHalf;
 use futures::task::Waker;
 use oneshot_drive::ReceiverGround;
 use oneshot_word::laws::a_receiver_is_in_an_order;
-use oneshot_word::{Promise, ReceiverSide, Rouse};
+use oneshot_word::{AnyWaker, Promise, ReceiverSide};
 use std::marker::Model;
 
 /// The ground of a channel's receiver.
-pub(crate) type OnWord<T, P> = ReceiverOnWord<T, WakingHalf, Waker, P>;
+pub(crate) type ChannelReceiver<T, P> = SharedReceiver<T, WakingHalf, Waker, P>;
 
 /// The receiver's ground.
-pub(crate) struct ReceiverOnWord<T, H, K, P: Promise<T>> {
+pub(crate) struct SharedReceiver<T, H, K, P: Promise<T>> {
     pub(super) side: ReceiverSide<T, H, K, P>,
     freed: Freed,
 }
 
-impl<T, H, K, P: Promise<T>> Model for ReceiverOnWord<T, H, K, P> {
+impl<T, H, K, P: Promise<T>> Model for SharedReceiver<T, H, K, P> {
     ghost use Rattle.oneshot_word.specs.Side.{Side};
-    ghost use Rattle.oneshot_word.specs.declared.rouse.Rouse.{Rouse};
+    ghost use Rattle.oneshot_word.specs.declared.any_waker.AnyWaker.{AnyWaker};
     ghost use Rattle.oneshot_ends.specs.Grounds.{left_of, MayBeFreed};
     ghost use Rattle.oneshot_machine.specs.Phases.{receiver_at};
 
-    ghost Value = { Side T (Rouse H K) P };
+    ghost Value = { Side T (AnyWaker H K) P };
 
     ghost view = { λ s. left_of s.freed.value s.side };
 
     ghost invariant = { λ s. MayBeFreed s.freed.value (receiver_at s.side.log) };
 }
 
-impl<T, H, K, P: Promise<T>> ReceiverOnWord<T, H, K, P> {
+impl<T, H, K, P: Promise<T>> SharedReceiver<T, H, K, P> {
     /// The ground of a receiver that has freed nothing.
-    pub(crate) fn new(side: ReceiverSide<T, H, K, P>) -> ReceiverOnWord<T, H, K, P>
+    pub(crate) fn new(side: ReceiverSide<T, H, K, P>) -> SharedReceiver<T, H, K, P>
         ensures { result ≡ side }
     {
         let freed = Freed::of(false);
-        ReceiverOnWord { side, freed }
+        SharedReceiver { side, freed }
     }
 
     pub(crate) fn is_in_an_order(&self)
@@ -49,8 +49,8 @@ impl<T, H, K, P: Promise<T>> ReceiverOnWord<T, H, K, P> {
     }
 }
 
-impl<T: Drop, H: Drop, K: Drop, P: Promise<T>> ReceiverGround<T, Rouse<H, K>>
-    for ReceiverOnWord<T, H, K, P> {
+impl<T: Drop, H: Drop, K: Drop, P: Promise<T>> ReceiverGround<T, AnyWaker<H, K>>
+    for SharedReceiver<T, H, K, P> {
     ghost use Rattle.std.proofs.Common.{◌∙◌, refl, subst};
     ghost use Rattle.oneshot_ends.specs.Grounds.{state_of};
 
@@ -91,11 +91,11 @@ impl<T: Drop, H: Drop, K: Drop, P: Promise<T>> ReceiverGround<T, Rouse<H, K>>
         self.side.take_message();
     }
 
-    fn write_waker(&mut self, waker: Rouse<H, K>) {
+    fn write_waker(&mut self, waker: AnyWaker<H, K>) {
         self.side.write_waker(waker);
     }
 
-    fn withdraw(&mut self) -> Rouse<H, K> {
+    fn withdraw(&mut self) -> AnyWaker<H, K> {
         self.side.take_waker()
     }
 
@@ -105,8 +105,8 @@ impl<T: Drop, H: Drop, K: Drop, P: Promise<T>> ReceiverGround<T, Rouse<H, K>>
     }
 }
 
-impl<T: Drop, H: Drop, K: Drop, P: Promise<T>> Drop for ReceiverOnWord<T, H, K, P> {
+impl<T: Drop, H: Drop, K: Drop, P: Promise<T>> Drop for SharedReceiver<T, H, K, P> {
     fn drop(self) {
-        let ReceiverOnWord { side: _, freed: _ } = self;
+        let SharedReceiver { side: _, freed: _ } = self;
     }
 }

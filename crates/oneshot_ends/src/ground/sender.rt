@@ -5,12 +5,12 @@ ghost use Rattle.oneshot_machine.specs.Slots.{held};
 ghost use Rattle.oneshot_ends.specs.Ends.{SenderIsOrdered};
 
 use crate::freed::Freed;
-use crate::rouse::wake;
 use crate::token::{Given, WakingHalf};
+use crate::waker::wake;
 use futures::task::Waker;
 use oneshot_drive::SenderGround;
 use oneshot_word::laws::a_sender_is_in_an_order;
-use oneshot_word::{Promise, Rouse, SenderSide};
+use oneshot_word::{AnyWaker, Promise, SenderSide};
 use std::marker::Model;
 
 /// The side of a sender that has made no operation. Only its look can load the word.
@@ -20,9 +20,9 @@ pub(crate) struct Unsent<T, H, K, P: Promise<T>> {
 
 impl<T, H, K, P: Promise<T>> Model for Unsent<T, H, K, P> {
     ghost use Rattle.oneshot_word.specs.Side.{Side};
-    ghost use Rattle.oneshot_word.specs.declared.rouse.Rouse.{Rouse};
+    ghost use Rattle.oneshot_word.specs.declared.any_waker.AnyWaker.{AnyWaker};
 
-    ghost Value = { Side T (Rouse H K) P };
+    ghost Value = { Side T (AnyWaker H K) P };
 
     ghost view = { λ s. s.side };
 }
@@ -41,11 +41,11 @@ impl<T, H, K, P: Promise<T>> Unsent<T, H, K, P> {
     }
 
     /// The ground of the sender's one call.
-    pub(crate) fn into_ground(self) -> SenderOnWord<T, H, K, P>
+    pub(crate) fn into_ground(self) -> SharedSender<T, H, K, P>
         ensures { result.side ≡ self }
     {
         let Unsent { side } = self;
-        SenderOnWord::new(side)
+        SharedSender::new(side)
     }
 }
 
@@ -57,7 +57,7 @@ impl<T: Drop, H: Drop, K: Drop, P: Promise<T>> Drop for Unsent<T, H, K, P> {
 }
 
 /// The sender's ground.
-pub(crate) struct SenderOnWord<T, H, K, P: Promise<T>> {
+pub(crate) struct SharedSender<T, H, K, P: Promise<T>> {
     side: SenderSide<T, H, K, P>,
     // The block goes with the last of both shares, so that nothing is left to do; only proofs read this.
     freed: Freed,
@@ -65,23 +65,23 @@ pub(crate) struct SenderOnWord<T, H, K, P: Promise<T>> {
     given: Option<Given>,
 }
 
-impl<T, H, K, P: Promise<T>> Model for SenderOnWord<T, H, K, P> {
-    ghost use Rattle.oneshot_word.specs.declared.rouse.Rouse.{Rouse};
+impl<T, H, K, P: Promise<T>> Model for SharedSender<T, H, K, P> {
+    ghost use Rattle.oneshot_word.specs.declared.any_waker.AnyWaker.{AnyWaker};
     ghost use Rattle.oneshot_ends.specs.Grounds.{left_of};
     ghost use Rattle.oneshot_ends.specs.Woken.{Sending};
 
-    ghost Value = { Sending T (Rouse H K) P };
+    ghost Value = { Sending T (AnyWaker H K) P };
 
     ghost view = { λ s. record { side = left_of s.freed.value s.side; given = s.given } };
 }
 
-impl<T, H, K, P: Promise<T>> SenderOnWord<T, H, K, P> {
+impl<T, H, K, P: Promise<T>> SharedSender<T, H, K, P> {
     /// The ground of a sender that has freed nothing.
-    fn new(side: SenderSide<T, H, K, P>) -> SenderOnWord<T, H, K, P>
+    fn new(side: SenderSide<T, H, K, P>) -> SharedSender<T, H, K, P>
         ensures { result.side ≡ side }
     {
         let freed = Freed::of(false);
-        SenderOnWord {
+        SharedSender {
             side,
             freed,
             given: None,
@@ -89,7 +89,7 @@ impl<T, H, K, P: Promise<T>> SenderOnWord<T, H, K, P> {
     }
 }
 
-impl<T: Drop, H: Drop, K: Drop, P: Promise<T>> SenderOnWord<T, H, K, P> {
+impl<T: Drop, H: Drop, K: Drop, P: Promise<T>> SharedSender<T, H, K, P> {
     /// Takes the message out of its slot, with the side that it lay in.
     pub(crate) fn into_refused(self) -> (T, SenderSide<T, H, K, P>)
         requires { (x : T) × (self.side.message ≡ held x) }
@@ -98,7 +98,7 @@ impl<T: Drop, H: Drop, K: Drop, P: Promise<T>> SenderOnWord<T, H, K, P> {
         ensures table { result.1.table ≡ self.side.table }
         ensures log { result.1.log ≡ self.side.log }
     {
-        let SenderOnWord {
+        let SharedSender {
             mut side,
             freed: _,
             given: _,
@@ -108,8 +108,8 @@ impl<T: Drop, H: Drop, K: Drop, P: Promise<T>> SenderOnWord<T, H, K, P> {
     }
 }
 
-impl<T: Drop, P: Promise<T>> SenderGround<T, Rouse<WakingHalf, Waker>>
-    for SenderOnWord<T, WakingHalf, Waker, P> {
+impl<T: Drop, P: Promise<T>> SenderGround<T, AnyWaker<WakingHalf, Waker>>
+    for SharedSender<T, WakingHalf, Waker, P> {
     ghost use Rattle.oneshot_ends.specs.Grounds.{state_of};
     ghost use Rattle.oneshot_ends.specs.Woken.{IsWoken};
 
@@ -143,11 +143,11 @@ impl<T: Drop, P: Promise<T>> SenderGround<T, Rouse<WakingHalf, Waker>>
         self.side.take_message();
     }
 
-    fn take_waker(&mut self) -> Rouse<WakingHalf, Waker> {
+    fn take_waker(&mut self) -> AnyWaker<WakingHalf, Waker> {
         self.side.take_waker()
     }
 
-    fn wake(&mut self, waker: Rouse<WakingHalf, Waker>) {
+    fn wake(&mut self, waker: AnyWaker<WakingHalf, Waker>) {
         self.given = wake(waker);
     }
 
@@ -156,9 +156,9 @@ impl<T: Drop, P: Promise<T>> SenderGround<T, Rouse<WakingHalf, Waker>>
     }
 }
 
-impl<T: Drop, H: Drop, K: Drop, P: Promise<T>> Drop for SenderOnWord<T, H, K, P> {
+impl<T: Drop, H: Drop, K: Drop, P: Promise<T>> Drop for SharedSender<T, H, K, P> {
     fn drop(self) {
-        let SenderOnWord {
+        let SharedSender {
             side: _,
             freed: _,
             given: _,

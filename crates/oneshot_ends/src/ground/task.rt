@@ -6,9 +6,9 @@ ghost use Rattle.oneshot_machine.specs.Logs.{Grows, copied};
 ghost use Rattle.oneshot_ends.specs.Copies.{HasMade, HasNoneOf};
 ghost use Rattle.oneshot_ends.specs.Polling.{polled_state, token_of};
 
-use super::OnWord;
+use super::ChannelReceiver;
 use crate::copies::Copies;
-use crate::rouse::Rouse;
+use crate::waker::ChannelWaker;
 use futures::task::{Context, Poll, Source, Waker};
 use oneshot_drive::{ReceiverGround, TaskGround};
 use oneshot_word::Promise;
@@ -29,7 +29,7 @@ pub(crate) struct Polling<'g, 'c, 'x, G> {
 }
 
 impl<'g, 'c, 'x, T: Drop, P: Promise<T>> ReceiverGround<T, Copied>
-    for Polling<'g, 'c, 'x, OnWord<T, P>> {
+    for Polling<'g, 'c, 'x, ChannelReceiver<T, P>> {
     ghost use Rattle.oneshot_ends.specs.Polling.{polled_state};
     ghost use Rattle.std.proofs.Common.{◌∙◌, refl, subst};
 
@@ -90,7 +90,7 @@ impl<'g, 'c, 'x, T: Drop, P: Promise<T>> ReceiverGround<T, Copied>
 }
 
 impl<'g, 'c, 'x, T: Drop, P: Promise<T>> TaskGround<T, Copied>
-    for Polling<'g, 'c, 'x, OnWord<T, P>> {
+    for Polling<'g, 'c, 'x, ChannelReceiver<T, P>> {
     ghost use Rattle.std.proofs.Common.{subst};
 
     ghost heard = { λ b. IsArmed b.cx.now × Hears b.cx.now b.source.now.id };
@@ -144,22 +144,22 @@ fn register(copies: &mut Copies<Waker>, cx: &mut Context<'_>, source: &Source) -
 }
 
 /// The copy that was made.
-fn given(copies: &mut Copies<Waker>, cx: &mut Context<'_>) -> Rouse
+fn given(copies: &mut Copies<Waker>, cx: &mut Context<'_>) -> ChannelWaker
     ensures { Keeps cx.old cx.new }
 {
     match copies.give() {
-        Some(waker) => Rouse::Task(waker),
+        Some(waker) => ChannelWaker::Task(waker),
         // No driver stores a copy that it has not made.
         None => {
             let _again: Poll<()> = cx.yield_now();
-            Rouse::Nobody
+            ChannelWaker::Nobody
         }
     }
 }
 
 /// Keeps a copy that was taken back.
-fn keep(copies: &mut Copies<Waker>, copy: Rouse) {
-    if let Rouse::Task(waker) = copy {
+fn keep(copies: &mut Copies<Waker>, copy: ChannelWaker) {
+    if let ChannelWaker::Task(waker) = copy {
         copies.take_back(waker);
     }
 }

@@ -3,11 +3,11 @@
 ghost use Rattle.std.specs.Prelude.{◌≡◌, ◌↔◌, true, false, IsTrue};
 ghost use Rattle.oneshot_ends.specs.Spins.{MaySpin};
 
-use super::OnWord;
+use super::ChannelReceiver;
 use crate::deadline::{Deadline, Reading, read};
-use crate::rouse::Rouse;
 use crate::spin::{SPINS, spin};
 use crate::token::ParkingHalf;
+use crate::waker::ChannelWaker;
 use oneshot_drive::{BlockGround, ReceiverGround};
 use oneshot_word::Promise;
 use std::sync::Wait;
@@ -66,8 +66,8 @@ impl<'g, 'p, 'r, G, Rt> Blocking<'g, 'p, 'r, G, Rt> {
     }
 }
 
-impl<'g, 'p, 'r, T: Drop, Rt, P: Promise<T>> ReceiverGround<T, Rouse>
-    for Blocking<'g, 'p, 'r, OnWord<T, P>, Rt> {
+impl<'g, 'p, 'r, T: Drop, Rt, P: Promise<T>> ReceiverGround<T, ChannelWaker>
+    for Blocking<'g, 'p, 'r, ChannelReceiver<T, P>, Rt> {
     ghost use Rattle.std.specs.Prelude.{[], ◌∷◌};
     ghost use Rattle.std.proofs.Common.{◌∙◌, refl, subst};
     ghost use Rattle.oneshot_ends.specs.Grounds.{lent};
@@ -113,11 +113,11 @@ impl<'g, 'p, 'r, T: Drop, Rt, P: Promise<T>> ReceiverGround<T, Rouse>
         self.ground.drop_message();
     }
 
-    fn write_waker(&mut self, waker: Rouse) {
+    fn write_waker(&mut self, waker: ChannelWaker) {
         self.ground.write_waker(waker);
     }
 
-    fn withdraw(&mut self) -> Rouse {
+    fn withdraw(&mut self) -> ChannelWaker {
         self.ground.withdraw()
     }
 
@@ -126,8 +126,8 @@ impl<'g, 'p, 'r, T: Drop, Rt, P: Promise<T>> ReceiverGround<T, Rouse>
     }
 }
 
-impl<'g, 'p, 'r, T: Drop, Rt: Wait + Clock, P: Promise<T>> BlockGround<T, Rouse>
-    for Blocking<'g, 'p, 'r, OnWord<T, P>, Rt> {
+impl<'g, 'p, 'r, T: Drop, Rt: Wait + Clock, P: Promise<T>> BlockGround<T, ChannelWaker>
+    for Blocking<'g, 'p, 'r, ChannelReceiver<T, P>, Rt> {
     ghost use Rattle.oneshot_ends.specs.Spins.{MaySpin, Parked};
 
     ghost parks = { λ timed a b. Parked (MaySpin timed a.spins a.deadline a.reading) timed

@@ -1,0 +1,16 @@
+-- The goals that `store` of `SharedReceiver` as a `ReceiverGround` leaves.
+use Rattle.oneshot_ends.proofs.GroundSlots.{receiver_can, receiver_stays, receiver_found}
+use Rattle.oneshot_ends.proofs.ground.receiver.SharedReceiverReceiverGroundAnyWaker.store.Goals as goal
+
+pub store-requires : goal.store-requires
+store-requires g c =
+    receiver_can c.self.inside.freed.value c.self.inside.side c.self.invariant c.self.view_is c.requires
+
+pub invariant_of-self : goal.invariant_of-self
+invariant_of-self g c =
+    receiver_stays c.self.inside.freed.value c.self.inside.side c.self.invariant c.self.view_is c.requires _
+
+pub returns-clause-finds : goal.returns-clause-finds
+returns-clause-finds g c =
+    receiver_found c.self.inside.freed.value c.self.inside.side c.self.invariant c.self.view_is c.requires
+    c.store.new.self c.store.ensures.finds

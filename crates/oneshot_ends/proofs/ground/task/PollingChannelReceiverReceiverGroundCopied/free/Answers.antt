@@ -1,0 +1,7 @@
+-- The goals that `free` of `Polling` as a `ReceiverGround` leaves.
+use Rattle.std.proofs.Common.{refl, [], ◌∷◌}
+use Rattle.oneshot_ends.proofs.PollingTokens.{told}
+use Rattle.oneshot_ends.proofs.ground.task.PollingChannelReceiverReceiverGroundCopied.free.Goals as goal
+
+pub returns-clause-log : goal.returns-clause-log
+returns-clause-log g c = told (_ ∷ _ ∷ _ ∷ []) c.args.self.now.ground.now c.free.new.self _ _ refl c.free.ensures.log

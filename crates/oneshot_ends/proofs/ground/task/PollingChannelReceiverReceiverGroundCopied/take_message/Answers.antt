@@ -1,0 +1,8 @@
+-- The goals that `take_message` of `Polling` as a `ReceiverGround` leaves.
+use Rattle.std.proofs.Common.{refl, [], ◌∷◌}
+use Rattle.oneshot_ends.proofs.PollingTokens.{told}
+use Rattle.oneshot_ends.proofs.ground.task.PollingChannelReceiverReceiverGroundCopied.take_message.Goals as goal
+
+pub returns-clause-log : goal.returns-clause-log
+returns-clause-log g c =
+    told (_ ∷ _ ∷ _ ∷ []) c.args.self.now.ground.now c.take_message.new.self _ _ refl c.take_message.ensures.log

@@ -1,0 +1,8 @@
+-- The goals that `withdraw` of `Polling` as a `ReceiverGround` leaves.
+use Rattle.std.proofs.Common.{refl, [], ◌∷◌}
+use Rattle.oneshot_ends.proofs.PollingTokens.{told}
+use Rattle.oneshot_ends.proofs.ground.task.PollingChannelReceiverReceiverGroundCopied.withdraw.Goals as goal
+
+pub returns-clause-log : goal.returns-clause-log
+returns-clause-log g c =
+    told (_ ∷ _ ∷ _ ∷ []) c.args.self.now.ground.now c.withdraw-copy.new.self _ _ refl c.withdraw-copy.ensures.log
