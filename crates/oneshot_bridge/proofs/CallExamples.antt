@@ -1,5 +1,6 @@
 -- The examples of calls: each log call by call, and why the others are none.
-use Rattle.oneshot_bridge.proofs.Names.{◌≡◌, true, false, List, [], ◌∷◌, ◌++◌, Some, None, get_or, refl, ap, subst, ◌∙◌, cons_option, option_map, Reply, Seen, Refused, Step, Try, Future, ReceiverStart, TryRecv, Recv, Poll, SenderCall, Send, SendAdd, TryLoad, Close, Take, Op, Load, Store, Exchange, Add, Form, as_receiver, stays, ReceiverCalled, not_called, called, became_future, SenderCalled, not_called_yet, called_once, Event, did, worded, words, Noted, op_of, receiver_start, receiver_step, receiver_row, Run, last, more, Goes, Answers, not_empty, same_start, same_last, tried_twice, WorkedCalls, WrongCalls}
+use Rattle.oneshot_bridge.proofs.Names.{◌≡◌, true, false, List, [], ◌∷◌, ◌++◌, None, refl, ap, subst, Reply, Seen, Refused, Step, Try, Future, ReceiverStart, TryRecv, Recv, Poll, SenderCall, Send, SendAdd, Close, Take, Load, Store, Exchange, Add, Form, as_receiver, stays, ReceiverCalled, not_called, called, became_future, SenderCalled, not_called_yet, called_once, Event, did, worded, words, Noted, receiver_start, receiver_step, receiver_row, Run, last, more, not_empty, same_start, same_last, tried_twice, WorkedCalls, WrongCalls}
+use Rattle.oneshot_machine.proofs.FirstSteps.{tries_in_vain}
 use Rattle.oneshot_machine.specs.declared.machine.Reply.TheVariants as R
 use Rattle.oneshot_machine.specs.declared.machine.Seen.TheVariants.{Word}
 use Rattle.oneshot_machine.specs.declared.machine.Step.TheVariants as Steps
@@ -59,24 +60,6 @@ module _ {T W : Type 0} where
         made = made;
         leaves = ap (λ ns. ns ++ words run) (made_none was (same_start calls [] (call, reply) x is));
       })
-
-  -- what the first step saw, by the log
-  pub first_seen : (x : Event T W) (xs : List (Event T W)) {op : Op} {seen : Seen} {zs : List Noted}
-      → x.step ≡ Steps.Word op → (op, seen) ∷ zs ≡ words (x ∷ xs) → seen ≡ x.seen
-  first_seen x xs {op} {seen} is same =
-      let begins : words (x ∷ xs) ≡ (op, x.seen) ∷ words xs =
-      ap (λ step. cons_option (option_map (λ op. (op, x.seen)) (op_of step)) (words xs)) is in
-      ap (λ (log : List Noted). (get_or {A = Noted} log 0 (op, seen)).1) (same ∙ begins)
-
-  -- a `try_recv` that found 3 answers that nothing is there
-  pub tries_in_vain : {run : List (Event T W)} → Run receiver_step receiver_row (Try TryLoad) run R.Message
-      → (Load, Word 3) ∷ [] ≡ words run → ⊥
-  tries_in_vain (last x is leads) same =
-      let row : Some (Answers R.Empty) ≡ Some (Answers R.Message) =
-      ap (receiver_row (Try TryLoad)) (first_seen x [] is same) ∙ leads in cc row
-  tries_in_vain (more next x xs is leads rest) same =
-      let row : Some (Answers R.Empty) ≡ Some (Goes next) =
-      ap (receiver_row (Try TryLoad)) (first_seen x xs is same) ∙ leads in cc row
 
   sends_once : {calls : List (SenderCall × Reply)} {log : List Noted} → SenderCalled T W calls log
       → calls ≡ (Send, R.Sent) ∷ (Drop, R.Done) ∷ [] → ⊥

@@ -21,8 +21,9 @@ use Rattle.oneshot_machine.specs.Slots.{head, tail}
 use Rattle.oneshot_word.proofs.ByRows.{sender_is, receiver_is}
 use Rattle.oneshot_word.proofs.LastOnes.{not_empty, same_last}
 use Rattle.oneshot_ends.specs.Ends.{Waking}
+use Rattle.oneshot_machine.proofs.FirstSteps.{tries_in_vain}
 use Rattle.oneshot_bridge.specs.CallExamples.{tried_twice}
-use Rattle.oneshot_bridge.proofs.CallExamples.{worked_calls, tries_in_vain}
+use Rattle.oneshot_bridge.proofs.CallExamples.{worked_calls}
 use Rattle.oneshot_values.specs.Examples.{WorkedValues, WrongValues}
 use Rattle.oneshot_values.proofs.ValuesRun.{receiver_runs, error_runs}
 
