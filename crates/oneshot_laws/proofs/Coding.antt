@@ -28,6 +28,10 @@ flag_is false false h = refl
 abbrev pub flags : Coding Bool
 flags = record { width = 2; code = bool_code; is_same = is_same_flag; sound = flag_is }
 
+-- a type with one value
+abbrev pub alone : Coding (Unit {0})
+alone = record { width = 1; code = λ _. 0; is_same = λ _ _. true; sound = λ a b h. refl }
+
 -- two values, one after the other
 abbrev pub pairs : {X Y : Type 0} → Coding X → Coding Y → Coding (X × Y)
 pairs c d =

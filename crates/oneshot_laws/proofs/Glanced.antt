@@ -4,7 +4,7 @@ use Rattle.oneshot_laws.proofs.Names.{◌≡◌, ℕ, Bool, true, ◌&&◌, List
 use Rattle.oneshot_machine.specs.declared.machine.receiver.ReceiverStart.TheVariants as RC
 use Rattle.oneshot_machine.specs.declared.machine.sender.SenderCall.TheVariants as SC
 use Rattle.oneshot_world.specs.declared.trace.Entry.TheVariants.{Idle, Made as Made_entry}
-use Rattle.oneshot_laws.proofs.Coding.{Coding, pairs, by_parts}
+use Rattle.oneshot_laws.proofs.Coding.{Coding, alone, pairs, by_parts}
 use Rattle.oneshot_laws.proofs.Glances.{Glance, glance_of, glance_at, glances}
 use Rattle.oneshot_laws.proofs.HistoryReader.{Receives, hits, object_as, Reader, Watch, new_reader, watch_at, accepts, reads, readers, histories, histories_nameless}
 use Rattle.oneshot_laws.proofs.HistoryRuns.{marks_run}
@@ -202,7 +202,7 @@ holds_by law nameless each claim meets s r worlds moves entries told =
 
 -- two laws that know no name, as one: so both are explored at once
 module _ {N M : Type 0} (a : Law N) (b : Law M) where
-  abbrev pub together : Law (N × M)
+  abbrev together : Law (N × M)
   together =
       record {
         coding = pairs a.coding b.coding;
@@ -220,8 +220,36 @@ module _ {N M : Type 0} (a : Law N) (b : Law M) where
   second_passes [] x p = tt
   second_passes (g ∷ gs) x p = (and_right (a.passes x.0 g) _ p.0, second_passes gs _ p.1)
 
-  pub first_passed : {T : Type 0} → Passed together T → Passed a T
+  first_passed : {T : Type 0} → Passed together T → Passed a T
   first_passed both s r worlds moves entries told = first_passes _ _ (both s r worlds moves entries told)
 
-  pub second_passed : {T : Type 0} → Passed together T → Passed b T
+  second_passed : {T : Type 0} → Passed together T → Passed b T
   second_passed both s r worlds moves entries told = second_passes _ _ (both s r worlds moves entries told)
+
+-- the law that asks nothing
+abbrev no_law : Law (Unit {0})
+no_law = record { coding = alone; passes = λ _ _. true; sees = λ _ _. tt; names = no_names; first = λ _. tt }
+
+-- laws that know no name, which one search explores
+pub data Laws : Type 1 where
+  no_laws : Laws
+  also : {N : Type 0} → Law N → Laws → Laws
+
+abbrev pub States : Laws → Type 0
+States no_laws = Unit {0}
+States (also {N} law laws) = N × States laws
+
+-- all of them, as one law
+abbrev pub all_of : (laws : Laws) → Law (States laws)
+all_of no_laws = no_law
+all_of (also law laws) = together law (all_of laws)
+
+-- each run passes each of them
+abbrev pub Each : Laws → Type 0 → Type 0
+Each no_laws T = Unit {0}
+Each (also law laws) T = Passed law T × Each laws T
+
+pub each_passed : {T : Type 0} (laws : Laws) → Passed (all_of laws) T → Each laws T
+each_passed no_laws all = tt
+each_passed (also law laws) all =
+    (first_passed law (all_of laws) all, each_passed laws (second_passed law (all_of laws) all))
