@@ -1,4 +1,4 @@
-//! A channel under a promise of one's own, proved and run; docs/CALLING.md shows it.
+//! A channel under a promise of one's own; docs/CALLING.md shows it.
 
 ghost use Rattle.std.specs.Prelude.{◌<◌, IfSome};
 

@@ -1,4 +1,4 @@
-//! Two tickets that one task awaits, for replies that are right in two ways, proved and run; docs/CALLING.md shows it.
+//! Two tickets that one task awaits, for replies that are right in two ways; docs/CALLING.md shows them.
 
 ghost use Rattle.std.specs.Prelude.{◌≡◌, ◌≤◌, IfOk, IfSome};
 
