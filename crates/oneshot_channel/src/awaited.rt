@@ -1,4 +1,4 @@
-//! A message that a future waits for, under an executor; docs/CALLING.md shows it.
+//! A message that a future waits for, under an executor.
 
 use crate::{AsyncReceiver, RecvError, async_channel};
 use futures::executor::block_on;

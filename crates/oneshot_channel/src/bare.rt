@@ -1,4 +1,4 @@
-//! A future without a runtime, since none of its calls waits; docs/CALLING.md shows it.
+//! A future without a runtime, since none of its calls waits.
 
 use crate::{AsyncReceiver, RecvError, TryRecvError, async_channel};
 use futures::executor::block_on;

@@ -1,4 +1,4 @@
-//! Callers of the calls whose contracts tell more than their answers, proved and run; docs/CALLING.md shows them.
+//! Callers of the calls whose contracts state more than what is returned; docs/CALLING.md shows four.
 
 ghost use Rattle.std.specs.Prelude.{◌≡◌, ◌≢◌, None, Ok, Err, IsErr, IfSome};
 ghost use Rattle.oneshot_channel.specs.Ends.{IsClosed, IsOpen};
@@ -41,7 +41,7 @@ fn twice<T: Drop, Rt: Wait + Clock + Drop>(
     (first, receiver.try_recv())
 }
 
-/// Receives by `deadline`; past it, says so by `late` and blocks on.
+/// Receives by `deadline`; past it, calls `late` and blocks on.
 fn keep_waiting<T: Drop, Rt: Wait + Clock + Drop, F: FnOnce()>(
     mut receiver: Receiver<T, Rt>,
     deadline: Instant,

@@ -1,4 +1,4 @@
-//! A request and its reply between two threads, proved and run; docs/CALLING.md shows it.
+//! A request and its reply between two threads, over plain channels: whoever asked compares the reply.
 
 ghost use Rattle.std.specs.Prelude.{◌≡◌, ◌*◌, IfOk};
 

@@ -1,4 +1,4 @@
-//! A receiver that is looked at before it is awaited, proved and run; docs/CALLING.md shows it.
+//! A future that is tried before it is awaited; docs/CALLING.md shows how it is tried.
 
 ghost use Rattle.std.specs.Prelude.{◌≡◌, ◌≢◌, None};
 ghost use Rattle.oneshot_channel.specs.Ends.{IsDone, IsUnfinished};

@@ -1,4 +1,4 @@
-//! A struct that keeps a receiver and whether it is done, proved and run; docs/CALLING.md shows it.
+//! A struct that keeps a receiver and whether it is done; docs/CALLING.md shows it.
 
 ghost use Rattle.std.specs.Prelude.{◌≡◌, true, IfOk, IsNone};
 ghost use Rattle.oneshot_channel.specs.Ends.{IsClosed, IsOpen};

@@ -15,7 +15,11 @@ mod glanced;
 #[cfg(test)]
 mod inbox;
 #[cfg(test)]
+mod promised;
+#[cfg(test)]
 mod tallied;
+#[cfg(test)]
+mod tickets;
 
 pub use oneshot_ends::{
     AsyncReceiver, Promise, RawReceiver, RawSender, Receiver, SendError, Sender, async_channel,

@@ -1,0 +1,31 @@
+//! A channel under a promise of one's own; docs/CALLING.md shows it.
+
+ghost use Rattle.std.specs.Prelude.{◌<◌, IfSome};
+
+use crate::{Promise, Receiver, TryRecvError, channel_for};
+use std::test::Fail;
+
+/// Promises an index below a length.
+#[derive(Drop)]
+struct Below(usize);
+
+impl Promise<usize> for Below {
+    ghost keeps = { λ below index. index < below.0 };
+}
+
+/// The index, if it is there.
+fn index_of<Rt: Drop>(receiver: &mut Receiver<usize, Rt, Below>) -> Option<usize>
+    ensures { IfSome result (λ index. index < receiver.old.about.0) }
+{
+    receiver.try_recv().ok()
+}
+
+#[test]
+fn an_index_is_below_its_length(rt: HostRuntime) -> Result<(), Fail> {
+    let (sender, mut receiver) = channel_for((), rt.alloc(), &Below(3))?;
+    assert_eq!(rt; index_of(&mut receiver), None);
+    assert!(rt; sender.send_kept(2).is_ok());
+    assert_eq!(rt; index_of(&mut receiver), Some(2));
+    assert_eq!(rt; receiver.try_recv(), Err(TryRecvError::Disconnected));
+    Ok(())
+}

@@ -1,0 +1,114 @@
+//! Two tickets that one task awaits, for replies that are right in two ways; docs/CALLING.md shows them.
+
+ghost use Rattle.std.specs.Prelude.{◌≡◌, ◌≤◌, IfOk, IfSome};
+
+use crate::reply::{Answer, Request, Ticket, request};
+use futures::executor::block_on;
+use futures::future::{Either, join, select};
+use std::alloc::{AllocError, AllocGlobal};
+use std::io;
+use std::random::RandomSource;
+use std::sync::Wait;
+use std::test::Fail;
+
+/// How many seats are given to whoever asked for some.
+#[derive(Drop)]
+struct Seats {
+    wanted: u32,
+    given: u32,
+    ghost within: { given ≤ wanted },
+    ghost few: { given ≤ 10 },
+}
+
+impl Seats {
+    /// As many as are wanted, and ten at most.
+    fn of(wanted: u32) -> Seats
+        ensures { result.wanted ≡ wanted }
+    {
+        if wanted < 10 {
+            Seats {
+                wanted,
+                given: wanted,
+            }
+        } else {
+            Seats { wanted, given: 10 }
+        }
+    }
+}
+
+impl Answer<u32> for Seats {
+    ghost use Rattle.std.specs.Prelude.{◌≤◌};
+
+    ghost asked = { λ seats. seats.wanted };
+
+    ghost answers = { λ wanted seats. (seats.given ≤ wanted) × (seats.given ≤ 10) };
+
+    ghost is_right = { λ seats. (seats.within, seats.few) };
+
+    fn question(&self) -> &u32 {
+        &self.wanted
+    }
+}
+
+/// Answers a request. `false`: nobody waits for the reply.
+fn serve(request: Request<u32, Seats>) -> bool {
+    let seats = Seats::of(*request.question());
+    request.answer(seats).is_ok()
+}
+
+/// Awaits both replies, in whichever order they come. `None`: at least one will not come.
+fn both_replies<R, Rt>(
+    rt: &R,
+    first: Ticket<u32, Seats, Rt>,
+    second: Ticket<u32, Seats, Rt>,
+) -> io::Result<Option<(u32, u32)>>
+where
+    R: Wait + RandomSource + AllocGlobal,
+    Rt: Drop,
+    ensures first { IfOk result (λ both. IfSome both (λ given. given.0 ≤ first.about.question)) }
+    ensures second { IfOk result (λ both. IfSome both (λ given. given.1 ≤ second.about.question)) }
+{
+    match block_on(rt, join(first.into_future(), second.into_future()))? {
+        (Ok(one), Ok(other)) => Ok(Some((one.given, other.given))),
+        _ => Ok(None),
+    }
+}
+
+/// Awaits the reply that comes first, and drops the other future. `None`: it will not come.
+fn first_reply<R, Rt>(
+    rt: &R,
+    first: Ticket<u32, Seats, Rt>,
+    second: Ticket<u32, Seats, Rt>,
+) -> io::Result<Option<u32>>
+where
+    R: Wait + RandomSource + AllocGlobal,
+    Rt: Drop,
+    requires { second.about.question ≡ first.about.question }
+    ensures { IfOk result (λ reply. IfSome reply (λ given. given ≤ first.about.question)) }
+{
+    match block_on(rt, select(first.into_future(), second.into_future()))? {
+        Either::Left((Ok(seats), _)) => Ok(Some(seats.given)),
+        Either::Right((Ok(seats), _)) => Ok(Some(seats.given)),
+        _ => Ok(None),
+    }
+}
+
+#[test]
+fn both_replies_come(rt: HostRuntime) -> Result<(), Fail> {
+    let (few, first) = request((), rt.alloc(), 7u32).map_err(|_| AllocError)?;
+    let (many, second) = request((), rt.alloc(), 11u32).map_err(|_| AllocError)?;
+    assert!(rt; serve(many));
+    assert!(rt; serve(few));
+    assert_eq!(rt; both_replies(&rt, first, second)?, Some((7, 10)));
+    Ok(())
+}
+
+#[test]
+fn one_reply_comes_first(rt: HostRuntime) -> Result<(), Fail> {
+    let (unserved, first) = request((), rt.alloc(), 7u32).map_err(|_| AllocError)?;
+    let (served, second) = request((), rt.alloc(), 7u32).map_err(|_| AllocError)?;
+    assert!(rt; serve(served));
+    assert_eq!(rt; first_reply(&rt, first, second)?, Some(7));
+    assert!(rt; !serve(unserved));
+    Ok(())
+}
