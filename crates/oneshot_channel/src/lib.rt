@@ -9,8 +9,6 @@ mod bare;
 #[cfg(test)]
 mod callers;
 #[cfg(test)]
-mod example;
-#[cfg(test)]
 mod glanced;
 #[cfg(test)]
 mod inbox;
