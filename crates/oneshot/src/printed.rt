@@ -17,7 +17,7 @@ fn lines_of(
 ) -> Result<Vec<String>, AllocError> {
     let mut lines = Vec::new(alloc);
     for m in moves {
-        // `step` asks that the entry has a number.
+        // What `step` requires.
         if run.count() == usize::MAX {
             break;
         }
@@ -55,6 +55,7 @@ fn a_message_comes_back_and_its_lines_are_printed(rt: HostRuntime) -> Result<(),
     };
     let moves = [receives, Move::Sender, Move::Sender];
     let lines = lines_of(rt.alloc(), &mut run, &moves, 7)?;
+
     let [dropped, written, refused] = lines.as_slice() else {
         panic!(rt; "a line a move")
     };

@@ -1,4 +1,4 @@
-//! A caller of `replay` that is proved and run; docs/MODEL.md shows it.
+//! A caller of `replay` that is proved and run; docs/MODEL.md shows its contract.
 
 ghost use Rattle.std.specs.Prelude.{◌≡◌, IfSome};
 ghost use Rattle.oneshot_replay.specs.declared.rest.Rest.TheVariants as Rest;
