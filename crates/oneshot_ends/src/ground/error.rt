@@ -102,7 +102,8 @@ impl<T: Drop, P: Promise<T>> SenderGround<T, AnyWaker<WakingHalf, Waker>>
 
     // No receiver waits for a sender that found it gone.
     fn take_waker(&mut self) -> AnyWaker<WakingHalf, Waker> {
-        self.known();
+        // Reads the side, so that its view, which has no waker, is known here.
+        let _side = &self.side;
         unreachable!()
     }
 
