@@ -23,7 +23,8 @@ pub use Rattle.oneshot_world.specs.Control.{Control, control_of, as_control, sen
 pub use Rattle.oneshot_world.specs.ControlCodes.{bool_code, control_code, is_same_control, sender_code, receiver_code, sender_call_code, receiver_call_code, is_same_call, is_same_under_way, place_code, is_same_wakers, is_same_state, is_same_name}
 pub use Rattle.oneshot_world.specs.Effects.{place_left, reply_of, sender_goes, receiver_goes, is_plain, is_free, is_future, sender_puts, receiver_puts, seen_by}
 pub use Rattle.oneshot_world.specs.Explore.{all_in, Tree, Leaf, Node, is_in}
-pub use Rattle.oneshot_world.specs.Reached.{is_reached, IsReached, one_poll, one_copy, reached, opening_control}
+unfoldable pub use Rattle.oneshot_world.specs.Reached.{reached}
+pub use Rattle.oneshot_world.specs.Reached.{is_reached, IsReached, one_poll, one_copy, opening_control}
 pub use Rattle.oneshot_world.specs.Scripts.{stays_sender, ends_sender, stays_error, ends_error, sender_last, error_last, receiver_calls, async_calls, ends_receiver, ends_async, makes_future, begins_receiver, stays_receiver, stays_async, error_calls, receiver_call, async_call, begins_sender, begins_error, begins_async}
 pub use Rattle.oneshot_world.specs.ScriptsLeft.{is_sender_script, is_error_script, has_script, sender_has, receiver_has, is_script, is_receiver_script, is_async_script}
 pub use Rattle.oneshot_world.specs.State.{sender_moved, receiver_moved, sender_turns_at, receiver_turns_at, position_of_sender, position_of_receiver, sender_steps, receiver_steps, made_entry, sender_position, receiver_position, made, moved, hand_kept, sender_fits, receiver_fits, sender_stepped, receiver_stepped, turns}
