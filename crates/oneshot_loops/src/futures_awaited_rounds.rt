@@ -8,7 +8,7 @@ use crate::polled::{PolledRound, pend};
 use crate::queues::{awaited, task_fault};
 use crate::tally::Tally;
 use futures::Future;
-use futures::channel::oneshot_channel::channel;
+use futures::channel::oneshot::channel;
 use futures::executor::block_on;
 use futures::future::join;
 use futures::task::{Context, Poll, Queue};

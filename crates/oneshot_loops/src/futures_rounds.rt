@@ -7,7 +7,7 @@ use crate::message::Message;
 use crate::polled::PolledRound;
 use crate::tally::Tally;
 use futures::Future;
-use futures::channel::oneshot_channel::channel;
+use futures::channel::oneshot::channel;
 use futures::task::{Context, Poll};
 use std::alloc::Global;
 

@@ -6,7 +6,7 @@ use crate::fault::Fault;
 use crate::queues::{awaited, queue};
 use crate::round_trip::BATCH;
 use crate::tally::Tally;
-use futures::channel::oneshot_channel::{Receiver, Sender, channel};
+use futures::channel::oneshot::{Receiver, Sender, channel};
 use futures::task::Queue;
 use std::alloc::{AllocGlobal, Global};
 use std::mem::size_of;

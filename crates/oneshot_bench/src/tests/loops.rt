@@ -1,7 +1,7 @@
 //! That each loop does what its name says, and tells a message that is lost.
 
 use crossbeam_channel::bounded;
-use futures::channel::oneshot_channel::channel as futures_channel;
+use futures::channel::oneshot::channel as futures_channel;
 use futures::future::ready;
 use futures::task::Context;
 use oneshot_channel::{async_channel, channel};
