@@ -89,6 +89,6 @@ wrong_values {T} m =
       finds_a_waker = λ so. let is : false ≡ true = receiver_is so.order in cc is;
       got_two = λ e. cc e;
       found_nothing = λ so. let end : IsLast T (TryRecv, R.Message) ((Load, Word 3) ∷ []) =
-      last_call so.0 (TryRecv, R.Message) so.1 refl in takes_nothing end.made end.before end.leaves;
+          last_call so.0 (TryRecv, R.Message) so.1 refl in takes_nothing end.made end.before end.leaves;
       looked = λ so. let is : false ≡ true = sender_is so.order in cc is;
     }
