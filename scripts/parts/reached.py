@@ -19,13 +19,12 @@ EXAMPLES = re.compile(r"\w+\.\w*Examples\.|oneshot_law_examples\.|oneshot_word\.
 
 # "crate.File", its definitions (also as patterns of the shell), and why no example has to reach them.
 UNREACHED = [
-    ("oneshot_drive.Blocking", "EndsAt HandAt Refills Stretch Way Went end_of load_of ref_end value_end",
+    ("oneshot_drive.Blocking", "EndsAt HandAt Path ReceiveBy Refills Stretch end_of load_of ref_end value_end",
      "of `find`, which the drivers alone call, and from which their own clauses are proved"),
     ("oneshot_machine.Exact", "Accepts IsAllowed IsExact IsFound", "the parts of the law `tables_are_exact`"),
     ("oneshot_machine.Standing", "*", "what that law computes of each table"),
     ("oneshot_machine.*", "*_number *_positions *_opens receiver_count", "the positions that it computes this of"),
     ("oneshot_world.Classes", "*", "of the law `turns_commute`, for all classes"),
-    ("oneshot_bridge.Gives", "WhereverTheyReach HaveReached", "where a law holds"),
 ]
 
 NAME = r"[A-Za-z_][A-Za-z0-9_']*"

@@ -10,7 +10,7 @@ use Rattle.oneshot_world.specs.declared.script.SenderLast.TheVariants as SL
 use Rattle.oneshot_world.specs.declared.script.SenderScript.{SenderScript}
 use Rattle.oneshot_world.specs.declared.trace.Entry.{Entry}
 use Rattle.oneshot_world.proofs.WorldDetermined.{run_is}
-use Rattle.oneshot_replay.specs.TraceView.{Told, IsReplayed}
+use Rattle.oneshot_replay.specs.TraceView.{TraceView, IsReplayed}
 use Rattle.oneshot_replay.specs.declared.rest.Rest.TheVariants as Rest
 
 abbrev sends : {T : Type 0} → T → ErrorScript → SenderScript T
@@ -25,7 +25,7 @@ moves = M.Receiver false false ∷ M.Sender ∷ M.Sender ∷ []
 worlds_are : (a b : List Entry × List World) → Some a ≡ Some b → a.1 ≡ b.1
 worlds_are a b h = cc
 
-pub comes_back : {T : Type 0} (message : T) (error : ErrorScript) (t : Told T)
+pub comes_back : {T : Type 0} (message : T) (error : ErrorScript) (t : TraceView T)
     → IsReplayed (sends message error) drops moves t → t.rest ≡ Some (Rest.InError message)
 comes_back message error t replayed =
     let told = run_is 1 (opening (sends message error) drops) replayed.worlds moves t.entries replayed.tells in

@@ -1,5 +1,5 @@
 -- Between calls: an order of both ends' logs is that of a run with the calls that the ends have answered.
-use Rattle.oneshot_bridge.proofs.Names.{subst, filter, CallsAreRuns, BothCallsAreRuns, OneCallGets, HaveCome, gave_message}
+use Rattle.oneshot_bridge.proofs.Names.{subst, filter, CallsAreRuns, BothCallsAreRuns, OneCallGets, HaveCome, InOrder, gave_message}
 use Rattle.std.specs.Prelude.{◌≤◌, length}
 use Rattle.oneshot_machine.proofs.InOrders.{in_order}
 use Rattle.oneshot_bridge.proofs.Given.{one_receive_gets}
@@ -49,7 +49,7 @@ pub one_call_gets : (T W : Type 0) → OneCallGets T W
 one_call_gets T W message form received xs ys word order was =
     let a = sender_scripted T message xs ys word order in
     let b : ReceiverDone received ys = receiver_done form was in
-    let come : HaveCome a.0 b.script xs ys word a.2 b.stand =
+    let come : HaveCome InOrder a.0 b.script xs ys word a.2 b.stand =
     record { order = in_order order; sender = a.3; receiver = b.walk } in
     subst (λ told. length (filter gave_message told) ≤ 1) b.answered
     (one_receive_gets T a.0 b.script xs ys word a.2 b.stand come)

@@ -3,7 +3,7 @@ pub use Rattle.oneshot_bridge.specs.CallExamples.{tried_twice, WorkedCalls, Wron
 pub use Rattle.oneshot_bridge.specs.CallsRun.{RunsCalls, in_script, receiver_answered, sender_answered, is_at_rest, CallsAreRuns, BothCallsAreRuns, OneCallGets}
 pub use Rattle.oneshot_bridge.specs.CellExamples.{worlds_by, WorkedCells, WrongCells, WrongUses, world_by, scene_at}
 pub use Rattle.oneshot_bridge.specs.Examples.{sends, receives, r, sent, received, worlds, WorkedRun, WrongRuns}
-pub use Rattle.oneshot_bridge.specs.Gives.{HaveReached, HaveCome, gave_message, OneReceiveGets, RunLosesNoWakeup, RunFreesOnce, RunFreesLast, RunFreesByItsHolder}
+pub use Rattle.oneshot_bridge.specs.Gives.{HaveCome, gave_message, OneReceiveGets, RunLosesNoWakeup, RunFreesOnce, RunFreesLast, RunFreesByItsHolder}
 pub use Rattle.oneshot_bridge.specs.Homes.{one_has_both, CellsAreSo, message_of_logs, waker_of_logs, RunsHaveCells}
 pub use Rattle.oneshot_bridge.specs.Joined.{SlotsAreSo, Passed, none_passed, it_passed, maker_before, dealer_before, is_run, TablesAreOfRuns, OfARun}
 pub use Rattle.oneshot_bridge.specs.OrdersRun.{log_of, RunsSo, answered_by, RunsTo, noted_of, operation_of, OrdersAreRuns, answered_at}

@@ -1,5 +1,5 @@
 -- The examples of runs: the worked one step by step, and what each field of the others says.
-use Rattle.oneshot_bridge.proofs.Names.{◌≡◌, ℕ, List, [], ◌∷◌, None, Some, refl, sym, ap, ◌∙◌, Done, Try, SendWrite, SendAdd, TryLoad, Close, Take, Load, Store, Add, Noted, Goes, Answers, orders_that_are, orders_that_are_not, calls_of, Entry, marks, is_right, View, Home, view, receiver_answered, sender_answered, is_at_rest, RunsCalls, worlds_by, world_by, scene_at, sends, HaveCome, OfARun, maker_before, dealer_before, is_run, log_of, answered_by, RunsSo, RunsTo, tries, stops, in_turn, sent_log, tried_log, sent_call, tried_call, sender_stands, receiver_stands, told, AnswersThatAre, RunsThatAre, RunsThatAreNot, RunsSay, SendsOnly, begins, quietly, by_one, Quiet, quiet, Operates, operates, the_sender, SenderStand, ReceiverStand, SenderWalk}
+use Rattle.oneshot_bridge.proofs.Names.{◌≡◌, ℕ, List, [], ◌∷◌, None, Some, refl, sym, ap, ◌∙◌, Done, Try, SendWrite, SendAdd, TryLoad, Close, Take, Load, Store, Add, Noted, Goes, Answers, orders_that_are, orders_that_are_not, calls_of, Entry, marks, is_right, View, Home, view, receiver_answered, sender_answered, is_at_rest, RunsCalls, worlds_by, world_by, scene_at, sends, HaveCome, InOrder, OfARun, maker_before, dealer_before, is_run, log_of, answered_by, RunsSo, RunsTo, tries, stops, in_turn, sent_log, tried_log, sent_call, tried_call, sender_stands, receiver_stands, told, AnswersThatAre, RunsThatAre, RunsThatAreNot, RunsSay, SendsOnly, begins, quietly, by_one, Quiet, quiet, Operates, operates, the_sender, SenderStand, ReceiverStand, SenderWalk}
 use Rattle.oneshot_machine.specs.declared.machine.End.TheVariants as End
 use Rattle.oneshot_machine.specs.declared.machine.Reply.TheVariants as R
 use Rattle.oneshot_machine.specs.declared.machine.Seen.TheVariants.{Word}
@@ -32,7 +32,7 @@ abbrev r_end : ReceiverStand
 r_end = receiver_stands (receiver_answered tried_call)
 
 module _ {T : Type 0} (m : T) where
-  come : HaveCome (sends m) tries sent_log tried_log 2 s_end r_end
+  come : HaveCome InOrder (sends m) tries sent_log tried_log 2 s_end r_end
   come =
       record {
         order = in_order orders_that_are.received;

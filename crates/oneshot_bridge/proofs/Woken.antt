@@ -1,6 +1,6 @@
 -- Nobody waits once the sender's call has answered; and where its last operation found the receiver here, its next
 -- step is the wake after which nobody waits.
-use Rattle.oneshot_bridge.proofs.Names.{◌≡◌, ℕ, ◌+◌, Bool, true, false, not, ◌&&◌, ◌||◌, List, [], ◌∷◌, ◌++◌, Option, Some, refl, sym, ap, ◌∙◌, subst, list_any, option_map, and_parts, End, Reply, Done, Step, Wake, SenderPos, Noted, By, finished, ReceiverAt, gone, sender_step, sender_row, Outcome, Answers, Call, all_alike, as_call, sender_under_way, seen_by, IsReached, calls_of, sender_fits, sender_stepped, World, opening, turn, nothing_told, side_of, Tells_from, Move, ReceiverScript, SenderScript, ReceiverState, SenderState, State, Entry, Made, sender_world, Turned, sender_idle, sender_made, receiver_idle, receiver_made, turned, is_end_of_sender, has_answered, marks, or_stray, call_under_way, of_call, class_is, IsRight, HasRun, told_at, Scene, last_of, is_right, goes_on, HaveReached, answered_by, RunsTo, Answered, opening_sender, the_sender, SenderStand, ReceiverStand, NobodyWaitsInARun, WakeIsNextInARun, found_it_gone, WasDropped, NobodyIsLeft}
+use Rattle.oneshot_bridge.proofs.Names.{◌≡◌, ℕ, ◌+◌, Bool, true, false, not, ◌&&◌, ◌||◌, List, [], ◌∷◌, ◌++◌, Option, Some, refl, sym, ap, ◌∙◌, subst, list_any, option_map, and_parts, End, Reply, Done, Step, Wake, SenderPos, Noted, By, finished, ReceiverAt, gone, sender_step, sender_row, Outcome, Answers, Call, all_alike, as_call, sender_under_way, seen_by, IsReached, calls_of, sender_fits, sender_stepped, World, opening, turn, nothing_told, side_of, Tells_from, Move, ReceiverScript, SenderScript, ReceiverState, SenderState, State, Entry, Made, sender_world, Turned, sender_idle, sender_made, receiver_idle, receiver_made, turned, is_end_of_sender, has_answered, marks, or_stray, call_under_way, of_call, class_is, IsRight, HasRun, told_at, Scene, last_of, is_right, goes_on, HaveCome, Reaches, answered_by, RunsTo, Answered, opening_sender, the_sender, SenderStand, ReceiverStand, NobodyWaitsInARun, WakeIsNextInARun, found_it_gone, WasDropped, NobodyIsLeft}
 use Rattle.oneshot_machine.specs.declared.machine.End.TheVariants.{Sender}
 use Rattle.oneshot_machine.specs.Phases.{sender_at, receiver_at}
 use Rattle.oneshot_machine.proofs.InOrders.{in_order}
@@ -184,7 +184,7 @@ ended_is RS.Ended e = refl
 ended_is _ e = absurd (cc e)
 
 module _ {T : Type 0} {a : SenderScript T} {b : ReceiverScript} {xs ys : List Noted} {word : ℕ} {s : SenderStand}
-    {r : ReceiverStand} (come : HaveReached a b xs ys word s r)
+    {r : ReceiverStand} (come : HaveCome Reaches a b xs ys word s r)
     (found : found_it_gone (sender_at xs) ≡ true) where
   is_over : (receiver_at ys ≡ gone) × (r.0 ≡ RS.Ended)
   is_over =

@@ -91,7 +91,7 @@ module _ {T : Type 0} (m : T) where
         ≡ sender_answered sent_call
     pub not_yet : answered_by End.Receiver (marks (calls_of (sends m) tries) (take 4 told)) ≡ []
     pub answered : answered_by End.Receiver (marks (calls_of (sends m) tries) told) ≡ receiver_answered tried_call
-    pub come : HaveCome (sends m) tries sent_log tried_log 2
+    pub come : HaveCome InOrder (sends m) tries sent_log tried_log 2
         (sender_stands (sender_answered sent_call)) (receiver_stands (receiver_answered tried_call))
     pub run : RunsTo (sends m) tries sent_log tried_log 2
         (sender_stands (sender_answered sent_call)) (receiver_stands (receiver_answered tried_call))
@@ -100,16 +100,17 @@ module _ {T : Type 0} (m : T) where
     pub state : IsOfARun m sent_log tried_log 2
     pub calls : RunsCalls m tried_call sent_log tried_log 2
     pub both : RunsBoth m sent_call tried_call sent_log tried_log 2
-    pub have_an_order : WhereverTheyCome T (λ a b xs ys word s r. InOrder xs ys word)
+    pub have_an_order : WhereverTheyCome T InOrder (λ a b xs ys word s r. InOrder xs ys word)
     -- of a table without ends
     pub no_ends : OfARun {T = T} {H = ⊤} {K = ⊤} {P = ⊤} ⊤ tt (3 ∷ []) [] (view tt Role.Maker [] None ∷ [])
 
   pub record RunsThatAreNot : Type 0 where
     -- logs without an order, and of no walk of their script
-    pub have_no_order : (s : SenderStand) (r : ReceiverStand) → HaveCome (sends m) tries [] [] 0 s r → ⊥
-    pub sends_unasked : (s : SenderStand) (r : ReceiverStand) → HaveCome (stops {T = T}) tries sent_log [] 4 s r → ⊥
+    pub have_no_order : (s : SenderStand) (r : ReceiverStand) → HaveCome InOrder (sends m) tries [] [] 0 s r → ⊥
+    pub sends_unasked : (s : SenderStand) (r : ReceiverStand)
+        → HaveCome InOrder (stops {T = T}) tries sent_log [] 4 s r → ⊥
     pub skips_its_load : (s : SenderStand) (r : ReceiverStand)
-        → HaveCome (sends m) receives [] ((Swap 0, Word 3) ∷ []) 0 s r → ⊥
+        → HaveCome InOrder (sends m) receives [] ((Swap 0, Word 3) ∷ []) 0 s r → ⊥
     -- a run with these entries and another log, or whose end stands where it has answered nothing
     pub has_sent_nothing : {ys : List Noted} {word : ℕ} {s : SenderStand} {r : ReceiverStand}
         (run : RunsTo (sends m) tries [] ys word s r) → run.entries ≡ told → ⊥
@@ -120,7 +121,7 @@ module _ {T : Type 0} (m : T) where
     pub receiver_is_silent : {xs ys : List Noted} {word : ℕ} {s : SenderStand}
         (run : RunsTo (sends m) tries xs ys word s (receiver_stands [])) → run.entries ≡ told → ⊥
     -- what does not hold of the logs above does not hold wherever both ends come to
-    pub send_nothing : WhereverTheyCome T (λ a b xs ys word s r. xs ≡ []) → ⊥
+    pub send_nothing : WhereverTheyCome T InOrder (λ a b xs ys word s r. xs ≡ []) → ⊥
     -- a table with one end
     pub one_end : (word : ℕ)
         → OfARun {T = T} {H = ⊤} {K = ⊤} {P = ⊤} ⊤ tt (word ∷ []) [] (view tt Role.Sender [] None ∷ []) → ⊥

@@ -5,6 +5,7 @@ use Rattle.std.specs.List.{list_any}
 use Rattle.oneshot_machine.specs.declared.machine.End.TheVariants as End
 use Rattle.oneshot_machine.specs.declared.machine.Step.TheVariants.{Wake}
 use Rattle.oneshot_machine.specs.declared.machine.sender.SenderPos.{SenderPos}
+use Rattle.oneshot_machine.specs.Orders.{InOrder, Reaches}
 use Rattle.oneshot_machine.specs.Phases.{By, SenderAt, finished, late, overtaken, sender_at, gone, receiver_at}
 use Rattle.oneshot_world.specs.Ahead.{ahead_of}
 use Rattle.oneshot_world.specs.Scripts.{calls_of}
@@ -20,7 +21,7 @@ use Rattle.oneshot_world.specs.declared.trace.Made.{Made}
 use Rattle.oneshot_laws.specs.Actions.{is_end_of_sender}
 use Rattle.oneshot_laws.specs.Marks.{marks}
 use Rattle.oneshot_laws.specs.Unwoken.{waits_in_park, waits_in_task}
-use Rattle.oneshot_bridge.specs.Gives.{WhereverTheyCome, WhereverTheyReach}
+use Rattle.oneshot_bridge.specs.Gives.{WhereverTheyCome}
 use Rattle.oneshot_bridge.specs.OrdersRun.{RunsTo}
 
 module _ {T : Type 0} (a : SenderScript T) (b : ReceiverScript) where
@@ -41,14 +42,14 @@ module _ {T : Type 0} (a : SenderScript T) (b : ReceiverScript) where
 -- Where the sender's `send` or drop has answered, the receiver does not wait.
 abbrev pub NobodyWaitsInARun : (T : Type 0) → Type 0
 NobodyWaitsInARun T =
-    WhereverTheyCome T (λ a b xs ys word s r. IsTrue (list_any (λ x. is_end_of_sender x.0) s.2)
+    WhereverTheyCome T InOrder (λ a b xs ys word s r. IsTrue (list_any (λ x. is_end_of_sender x.0) s.2)
     → (run : RunsTo a b xs ys word s r) → IsFalse (waits a b run.entries run.now.world))
 
 -- Where the sender's last operation is made, which found the receiver here, and its call is under way, the wake
 -- is still to come, and is the sender's next step.
 abbrev pub WakeIsNextInARun : (T : Type 0) → Type 0
 WakeIsNextInARun T =
-    WhereverTheyReach T (λ a b xs ys word s r. (by : By) (p : SenderPos)
+    WhereverTheyCome T Reaches (λ a b xs ys word s r. (by : By) (p : SenderPos)
     → sender_at xs ≡ finished by → s.0 ≡ At p
     → (run : RunsTo a b xs ys word s r) → WakesNext a b run.entries (run.now.count + 1) run.now.world)
 
@@ -60,11 +61,11 @@ found_it_gone _ = false
 
 abbrev pub WasDropped : (T : Type 0) → Type 0
 WasDropped T =
-    WhereverTheyReach T (λ a b xs ys word s r. IsTrue (found_it_gone (sender_at xs))
+    WhereverTheyCome T Reaches (λ a b xs ys word s r. IsTrue (found_it_gone (sender_at xs))
     → receiver_at ys ≡ gone)
 
 -- and the receiver has ended: nobody is left to wait.
 abbrev pub NobodyIsLeft : (T : Type 0) → Type 0
 NobodyIsLeft T =
-    WhereverTheyReach T (λ a b xs ys word s r. IsTrue (found_it_gone (sender_at xs))
+    WhereverTheyCome T Reaches (λ a b xs ys word s r. IsTrue (found_it_gone (sender_at xs))
     → r.0 ≡ Ended)

@@ -1,5 +1,5 @@
 -- How the drop of a future takes its copy back, and the runs of the drop.
-use Rattle.oneshot_drive.proofs.Names.{◌≡◌, ℕ, true, [], ◌∷◌, Some, refl, AsyncDrop, AsyncLoad, AsyncExchange, AsyncBack, AsyncSwap, Load, Swap, Exchange, Log, Grows, receiver_of, handed, worded, ReceiverAt, waits, again, withdrew, receiver_moves, Slots, receiver_step, receiver_row, Goes, Ran, ReceiverRan, vacant, GroundState, Stands, ReceiverAsks, Went, has_row, landings}
+use Rattle.oneshot_drive.proofs.Names.{◌≡◌, ℕ, true, [], ◌∷◌, Some, refl, AsyncDrop, AsyncLoad, AsyncExchange, AsyncBack, AsyncSwap, Load, Swap, Exchange, Log, Grows, receiver_of, handed, worded, ReceiverAt, waits, again, withdrew, receiver_moves, Slots, receiver_step, receiver_row, Goes, Ran, ReceiverRan, vacant, GroundState, Stands, ReceiverAsks, Path, has_row, landings}
 use Rattle.oneshot_machine.specs.declared.machine.Reply.TheVariants as R
 use Rattle.oneshot_machine.specs.declared.machine.Seen.TheVariants as S
 use Rattle.oneshot_machine.specs.declared.machine.Step.TheVariants as Steps
@@ -30,20 +30,20 @@ module _ {T W : Type 0} where
     withdrawn_ends e back message waker = withdrew_waker (backed_copy found e) back message waker
 
   pub backed_out : {s : GroundState T W} {l k : Log T W} (n : ℕ) → OneOf receiver_of n s Ends
-      → Grows l k (worded (Exchange 0 3) n ∷ []) → Went (AsyncDrop AsyncExchange) (Goes (AsyncDrop AsyncSwap)) l k
+      → Grows l k (worded (Exchange 0 3) n ∷ []) → Path (AsyncDrop AsyncExchange) (Goes (AsyncDrop AsyncSwap)) l k
   backed_out n found s = by_word _ (Exchange 0 3) n s refl found.is_so.1
 
-  pub withdrawn_went : {l k j : Log T W} (z : W) (n : ℕ) → n ≡ 0 → Grows l k (worded (Exchange 0 3) n ∷ [])
-      → Grows k j (handed Steps.Withdraw z ∷ []) → Went (AsyncDrop AsyncExchange) (Goes (AsyncDrop AsyncSwap)) l j
-  withdrawn_went z n e s t =
+  pub withdrawn_path : {l k j : Log T W} (z : W) (n : ℕ) → n ≡ 0 → Grows l k (worded (Exchange 0 3) n ∷ [])
+      → Grows k j (handed Steps.Withdraw z ∷ []) → Path (AsyncDrop AsyncExchange) (Goes (AsyncDrop AsyncSwap)) l j
+  withdrawn_path z n e s t =
       on (exchanged_to 0 3 (Goes (AsyncDrop AsyncBack)) n 0 refl refl e s) (by_withdraw _ z t refl refl)
 
   -- `drop_async`: what it does before its swap
   module _ {l k : Log T W} (n : ℕ) (s : Grows l k (worded Load n ∷ [])) where
-    pub drop_after : {j z : Log T W} → n ≡ 0 → Went (AsyncDrop AsyncExchange) (Goes (AsyncDrop AsyncSwap)) k j
+    pub drop_after : {j z : Log T W} → n ≡ 0 → Path (AsyncDrop AsyncExchange) (Goes (AsyncDrop AsyncSwap)) k j
         → Ran receiver_step receiver_row (AsyncDrop AsyncSwap) j z R.Done [] []
         → ReceiverRan C.DropAsync l z R.Done [] []
-    drop_after e went run = before (on (loaded_to (Goes (AsyncDrop AsyncExchange)) n 0 refl refl e s) went) run
+    drop_after e path run = before (on (loaded_to (Goes (AsyncDrop AsyncExchange)) n 0 refl refl e s) path) run
 
     pub drop_at_once : {z : Log T W} → receiver_row (AsyncDrop AsyncLoad) (S.Word n) ≡ Some (Goes (AsyncDrop AsyncSwap))
         → Ran receiver_step receiver_row (AsyncDrop AsyncSwap) k z R.Done [] []

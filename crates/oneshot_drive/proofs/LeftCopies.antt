@@ -1,5 +1,5 @@
 -- What a poll does to leave a copy of its waker: the copy in the slot, its exchange, and that of an earlier copy.
-use Rattle.oneshot_drive.proofs.Names.{◌≡◌, ℕ, true, false, [], ◌∷◌, Option, Some, None, refl, sym, ap, ◌∙◌, subst, Pending, Found, ReceiverPos, Future, PollCopy, PollWrite, PollExchange, PollBackFull, PollBackClosed, AgainCopy, AgainExchange, AgainBack, PollOwn, Exchange, Log, Grows, receiver_of, did, handed, copied, worded, ReceiverAt, here, looked, waits, polled, again, claimed, withdrew, full, by_future, by_poll, found_closed, disconnected, resolved, receiver_moves, Share, none, empty, filled, Slots, receiver_step, receiver_row, Outcome, Goes, Answers, Held, vacant, held, IsSlot, is_held, ReceiverMay, ReceiverFinds, GroundState, StandsWith, Stands, ReceiverMakes, Went, LeavesPolled, leaves_waiting, poll_end, EndsPoll, MayLeave, is_room, has_row, Each, landings}
+use Rattle.oneshot_drive.proofs.Names.{◌≡◌, ℕ, true, false, [], ◌∷◌, Option, Some, None, refl, sym, ap, ◌∙◌, subst, Pending, Found, ReceiverPos, Future, PollCopy, PollWrite, PollExchange, PollBackFull, PollBackClosed, AgainCopy, AgainExchange, AgainBack, PollOwn, Exchange, Log, Grows, receiver_of, did, handed, copied, worded, ReceiverAt, here, looked, waits, polled, again, claimed, withdrew, full, by_future, by_poll, found_closed, disconnected, resolved, receiver_moves, Share, none, empty, filled, Slots, receiver_step, receiver_row, Outcome, Goes, Answers, Held, vacant, held, IsSlot, is_held, ReceiverMay, ReceiverFinds, GroundState, StandsWith, Stands, ReceiverMakes, Path, LeavesPolled, leaves_waiting, poll_end, EndsPoll, MayLeave, is_room, has_row, Each, landings}
 use Rattle.oneshot_drive.specs.declared.waiting.Found.TheVariants as F
 use Rattle.oneshot_machine.specs.declared.machine.Reply.TheVariants as R
 use Rattle.oneshot_machine.specs.declared.machine.Seen.TheVariants as S
@@ -24,16 +24,16 @@ module _ {T W : Type 0} where
   -- a copy, or a refusal
   refuses : {p : ReceiverPos} {l k z : Log T W} → Steps.Copy ≡ receiver_step p
       → receiver_row p (S.Refused true) ≡ Some (Goes (Future PollOwn)) → Grows l k (copied None ∷ [])
-      → Grows k z (did Steps.WakeOwn ∷ []) → Went p (Answers R.Pending) l z
+      → Grows k z (did Steps.WakeOwn ∷ []) → Path p (Answers R.Pending) l z
   refuses at leads s t = on (by_refusal (Goes (Future PollOwn)) s at leads) (by_own _ t refl refl)
 
   pub refused : {p : ReceiverPos} {l k z : Log T W} (c : Option W) → c ≡ None → Steps.Copy ≡ receiver_step p
       → receiver_row p (S.Refused true) ≡ Some (Goes (Future PollOwn)) → Grows l k (copied c ∷ [])
-      → Grows k z (did Steps.WakeOwn ∷ []) → Went p (Answers R.Pending) l z
+      → Grows k z (did Steps.WakeOwn ∷ []) → Path p (Answers R.Pending) l z
   refused {l} {k} c no_copy at leads s t = refuses at leads (subst (λ c. Grows l k (copied c ∷ [])) no_copy s) t
 
   pub copies : {p r : ReceiverPos} {l k : Log T W} (c : Option W) (y : W) → c ≡ Some y → Steps.Copy ≡ receiver_step p
-      → receiver_row p (S.Refused false) ≡ Some (Goes r) → Grows l k (copied c ∷ []) → Went p (Goes r) l k
+      → receiver_row p (S.Refused false) ≡ Some (Goes r) → Grows l k (copied c ∷ []) → Path p (Goes r) l k
   copies {r} {l} {k} c y made at leads s = by_copy (Goes r) y (subst (λ c. Grows l k (copied c ∷ [])) made s) at leads
 
   -- a copy, or its refusal, leaves a future where it is
@@ -121,29 +121,29 @@ module _ {T W : Type 0} where
           }
 
   writes : {l k : Log T W} (y : W) → Grows l k (handed Steps.WriteWaker y ∷ [])
-      → Went (Future PollWrite) (Goes (Future PollExchange)) l k
+      → Path (Future PollWrite) (Goes (Future PollExchange)) l k
   writes y s = by_write _ y s refl refl
 
   pub exchanged_to : {l k : Log T W} {p : ReceiverPos} (a b : ℕ) (o : Outcome ReceiverPos) (n found : ℕ)
       → Steps.Word (Exchange a b) ≡ receiver_step p → receiver_row p (S.Word found) ≡ Some o → n ≡ found
-      → Grows l k (worded (Exchange a b) n ∷ []) → Went p o l k
+      → Grows l k (worded (Exchange a b) n ∷ []) → Path p o l k
   exchanged_to {p} a b o n found at leads e s =
       by_word o (Exchange a b) n s at (ap (λ n. receiver_row p (S.Word n)) e ∙ leads)
 
   pub leave_waits : {l k j : Log T W} (y : W) (n : ℕ) → n ≡ 3 → Grows l k (handed Steps.WriteWaker y ∷ [])
-      → Grows k j (worded (Exchange 3 0) n ∷ []) → Went (Future PollWrite) (poll_end F.Nothing) l j
+      → Grows k j (worded (Exchange 3 0) n ∷ []) → Path (Future PollWrite) (poll_end F.Nothing) l j
   leave_waits y n e s t = on (writes y s) (exchanged_to 3 0 _ n 3 refl refl e t)
 
   pub leave_full : {l k j z : Log T W} (y u : W) (n : ℕ) → n ≡ 4 → Grows l k (handed Steps.WriteWaker y ∷ [])
       → Grows k j (worded (Exchange 3 0) n ∷ []) → Grows j z (handed Steps.Withdraw u ∷ [])
-      → Went (Future PollWrite) (poll_end F.Message) l z
+      → Path (Future PollWrite) (poll_end F.Message) l z
   leave_full y u n e s t v =
       on (writes y s) (on (exchanged_to 3 0 (Goes (Future PollBackFull)) n 4 refl refl e t)
       (by_withdraw _ u v refl refl))
 
   pub leave_over : {l k j z : Log T W} (y u : W) (n : ℕ) → n ≡ 2 → Grows l k (handed Steps.WriteWaker y ∷ [])
       → Grows k j (worded (Exchange 3 0) n ∷ []) → Grows j z (handed Steps.Withdraw u ∷ [])
-      → Went (Future PollWrite) (poll_end F.Closed) l z
+      → Path (Future PollWrite) (poll_end F.Closed) l z
   leave_over y u n e s t v =
       on (writes y s) (on (exchanged_to 3 0 (Goes (Future PollBackClosed)) n 2 refl refl e t)
       (by_withdraw _ u v refl refl))
@@ -180,20 +180,20 @@ module _ {T W : Type 0} where
   module _ {l k : Log T W} (c : Option W) (y : W) (made : c ≡ Some y) (s : Grows l k (copied c ∷ [])) where
     pub again_to : {j : Log T W} (o : Outcome ReceiverPos) (n found : ℕ)
         → receiver_row (Future AgainExchange) (S.Word found) ≡ Some o → n ≡ found
-        → Grows k j (worded (Exchange 0 3) n ∷ []) → Went (Future AgainCopy) o l j
+        → Grows k j (worded (Exchange 0 3) n ∷ []) → Path (Future AgainCopy) o l j
     again_to o n found leads e t = on (copies c y made refl refl s) (exchanged_to 0 3 o n found refl leads e t)
 
     pub again_left : {j i z : Log T W} (f : Found) (n : ℕ) (u : W) → n ≡ 0 → Grows k j (worded (Exchange 0 3) n ∷ [])
-        → Grows j i (handed Steps.Withdraw u ∷ []) → Went (Future PollWrite) (poll_end f) i z
-        → Went (Future AgainCopy) (poll_end f) l z
-    again_left f n u e t v went =
+        → Grows j i (handed Steps.Withdraw u ∷ []) → Path (Future PollWrite) (poll_end f) i z
+        → Path (Future AgainCopy) (poll_end f) l z
+    again_left f n u e t v path =
         on (again_to (Goes (Future AgainBack)) n 0 refl e t)
-        (on (by_withdraw (Goes (Future PollWrite)) u v refl refl) went)
+        (on (by_withdraw (Goes (Future PollWrite)) u v refl refl) path)
 
     pub again_late : {j z : Log T W} (n : ℕ) → n ≡ 1 → Grows k j (worded (Exchange 0 3) n ∷ [])
-        → Grows j z (did Steps.WakeOwn ∷ []) → Went (Future AgainCopy) (poll_end F.Nothing) l z
+        → Grows j z (did Steps.WakeOwn ∷ []) → Path (Future AgainCopy) (poll_end F.Nothing) l z
     again_late n e t v = on (again_to (Goes (Future PollOwn)) n 1 refl e t) (by_own _ v refl refl)
 
-    pub first_left : {z : Log T W} (f : Found) → Went (Future PollWrite) (poll_end f) k z
-        → Went (Future PollCopy) (poll_end f) l z
-    first_left f went = on (copies c y made refl refl s) went
+    pub first_left : {z : Log T W} (f : Found) → Path (Future PollWrite) (poll_end f) k z
+        → Path (Future PollCopy) (poll_end f) l z
+    first_left f path = on (copies c y made refl refl s) path

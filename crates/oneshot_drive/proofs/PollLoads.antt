@@ -1,5 +1,5 @@
 -- What a future between two calls finds by its load, and the run of a poll.
-use Rattle.oneshot_drive.proofs.Names.{◌≡◌, ℕ, true, [], ◌∷◌, Some, Ok, Err, refl, sym, ap, ◌∙◌, subst, Ready, Pending, RecvError, Found, ReceiverPos, Try, Future, AsyncDrop, Close, Take, PollLoad, AsyncLoad, AsyncSwap, Load, Store, Swap, Log, Grows, receiver_of, did, took, worded, ReceiverAt, here, looked, between, waits, again, claimed, full, Got, at_once, waited, swapped, by_future, by_poll, Closing, found_closed, closed_itself, disconnected, resolved, receiver_next, receiver_moves, empty, word_of, receiver_step, receiver_row, Outcome, Goes, Answers, last, more, ReceiverRan, and_then, GroundState, StandsWith, Stands, StandsIn, receiver_slots, ReceiverAsks, ReceiverMakes, Went, rests_new, rests_open, rests_closed, IsClosedAt, Polled, unpolled, left_copy, kept_copy, found_sender, has_resolved, IsPolled, LeavesPolled, leaves_resolved, leaves_over, leaves_gone, leaves_uncopied, leaves_waiting, leaves_its_copy, leaves_claimed, EndsPoll, has_row, Each, landings}
+use Rattle.oneshot_drive.proofs.Names.{◌≡◌, ℕ, true, [], ◌∷◌, Some, Ok, Err, refl, sym, ap, ◌∙◌, subst, Ready, Pending, RecvError, Found, ReceiverPos, Try, Future, AsyncDrop, Close, Take, PollLoad, AsyncLoad, AsyncSwap, Load, Store, Swap, Log, Grows, receiver_of, did, took, worded, ReceiverAt, here, looked, between, waits, again, claimed, full, Got, at_once, waited, swapped, by_future, by_poll, Closing, found_closed, closed_itself, disconnected, resolved, receiver_next, receiver_moves, empty, word_of, receiver_step, receiver_row, Outcome, Goes, Answers, last, more, ReceiverRan, and_then, GroundState, StandsWith, Stands, StandsIn, receiver_slots, ReceiverAsks, ReceiverMakes, Path, rests_new, rests_open, rests_closed, IsClosedAt, Polled, unpolled, left_copy, kept_copy, found_sender, has_resolved, IsPolled, LeavesPolled, leaves_resolved, leaves_over, leaves_gone, leaves_uncopied, leaves_waiting, leaves_its_copy, leaves_claimed, EndsPoll, has_row, Each, landings}
 use Rattle.oneshot_drive.specs.declared.waiting.Found.TheVariants as F
 use Rattle.oneshot_machine.specs.declared.machine.Reply.TheVariants as R
 use Rattle.oneshot_machine.specs.declared.machine.Seen.TheVariants as S
@@ -137,18 +137,18 @@ module _ {T W : Type 0} where
 
   pub loaded_to : {l k : Log T W} {p : ReceiverPos} (o : Outcome ReceiverPos) (n found : ℕ)
       → Steps.Word Load ≡ receiver_step p → receiver_row p (S.Word found) ≡ Some o → n ≡ found
-      → Grows l k (worded Load n ∷ []) → Went p o l k
+      → Grows l k (worded Load n ∷ []) → Path p o l k
   loaded_to {p} o n found at leads e s = by_word o Load n s at (ap (λ n. receiver_row p (S.Word n)) e ∙ leads)
 
-  pub met_went : {l k z : Log T W} {p : ReceiverPos} {o : Outcome ReceiverPos} (n found : ℕ)
+  pub met_path : {l k z : Log T W} {p : ReceiverPos} {o : Outcome ReceiverPos} (n found : ℕ)
       → receiver_row (Future PollLoad) (S.Word found) ≡ Some (Goes p) → n ≡ found → Grows l k (worded Load n ∷ [])
-      → Went p o k z → Went (Future PollLoad) o l z
-  met_went {p} n found leads e s went = on (loaded_to (Goes p) n found refl leads e s) went
+      → Path p o k z → Path (Future PollLoad) o l z
+  met_path {p} n found leads e s path = on (loaded_to (Goes p) n found refl leads e s) path
 
   -- it finds the sender about to finish, and wakes its own task
   pub met_own : {l k z : Log T W} (n : ℕ) → n ≡ 1 → Grows l k (worded Load n ∷ []) → Grows k z (did Steps.WakeOwn ∷ [])
-      → Went (Future PollLoad) (Answers R.Pending) l z
-  met_own n e s t = met_went n 1 refl e s (by_own _ t refl refl)
+      → Path (Future PollLoad) (Answers R.Pending) l z
+  met_own n e s t = met_path n 1 refl e s (by_own _ t refl refl)
 
   -- `poll`: it closes over the message, and takes it
   pub taken_rests : {s : GroundState T W} (g : Got)
@@ -162,10 +162,10 @@ module _ {T W : Type 0} where
   taken_rests by_future is = record { at = resolved closed_itself; is_one = has_resolved closed_itself; stands = is }
   taken_rests by_poll is = record { at = resolved closed_itself; is_one = has_resolved closed_itself; stands = is }
 
-  pub poll_ran : {l k j z : Log T W} (n : ℕ) (x : T) → Went (Future PollLoad) (Goes (Try Close)) l k
+  pub poll_ran : {l k j z : Log T W} (n : ℕ) (x : T) → Path (Future PollLoad) (Goes (Try Close)) l k
       → Grows k j (worded (Store 2) n ∷ []) → Grows j z (took x ∷ []) → ReceiverRan C.Poll l z R.Message [] (x ∷ [])
-  poll_ran n x went s t =
-      ran went (worded (Store 2) n ∷ took x ∷ []) (more (Try Take) _ _ refl refl (last _ refl refl))
+  poll_ran n x path s t =
+      ran path (worded (Store 2) n ∷ took x ∷ []) (more (Try Take) _ _ refl refl (last _ refl refl))
       (and_then (worded (Store 2) n ∷ []) _ s t) refl refl
 
   -- or leaves the future open

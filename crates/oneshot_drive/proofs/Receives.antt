@@ -1,5 +1,5 @@
 -- What each receive that blocks owes its ground once it is decided, and that its steps make a run.
-use Rattle.oneshot_drive.proofs.Names.{◌≡◌, ℕ, Bool, true, false, List, [], ◌∷◌, Option, Result, Ok, Err, refl, sym, subst, RecvError, RecvTimeoutError, Found, Reply, ReceiverPos, Try, Ref, Timed, Value, Close, Take, CloseOnly, StartLoad, SumClock, RecvLoad, RecvTake, RecvFreeGot, RecvFreeGone, Recv, RecvTimeout, Store, Log, Grows, receiver_of, did, took, clocked, worded, between, ReceiverAt, here, full, Got, at_once, waited, swapped, by_future, by_poll, unclosed, Swapping, Closing, closed_itself, disconnected, receiver_moves, receiver_next, empty, filled, receiver_step, receiver_row, Goes, last, more, Ran, ReceiverRan, vacant, receiver_moved, and_then, GroundState, StandsWith, Stands, receiver_slots, ReceiverAsks, ReceiverMakes, Went, value_end, EndsAt, Returns, returned, taken, Refills, refilled, HandAt, AtRest, rests_open, IsClosedAt, LeavesClosed, left_received, left_closed, LeavesTimed, timed_received, timed_out, timed_closed, IsReady, Hands, as_it_was, sender_took, came_back, is_room, has_row, Each, landings}
+use Rattle.oneshot_drive.proofs.Names.{◌≡◌, ℕ, Bool, true, false, List, [], ◌∷◌, Option, Result, Ok, Err, refl, sym, subst, RecvError, RecvTimeoutError, Found, Reply, ReceiverPos, Try, Ref, Timed, Value, Close, Take, CloseOnly, StartLoad, SumClock, RecvLoad, RecvTake, RecvFreeGot, RecvFreeGone, Recv, RecvTimeout, Store, Log, Grows, receiver_of, did, took, clocked, worded, between, ReceiverAt, here, full, Got, at_once, waited, swapped, by_future, by_poll, unclosed, Swapping, Closing, closed_itself, disconnected, receiver_moves, receiver_next, empty, filled, receiver_step, receiver_row, Goes, last, more, Ran, ReceiverRan, vacant, receiver_moved, and_then, GroundState, StandsWith, Stands, receiver_slots, ReceiverAsks, ReceiverMakes, Path, value_end, EndsAt, Returns, returned, taken, Refills, refilled, HandAt, AtRest, rests_open, IsClosedAt, LeavesClosed, left_received, left_closed, LeavesTimed, timed_received, timed_out, timed_closed, IsReady, Hands, as_it_was, sender_took, came_back, is_room, has_row, Each, landings}
 use Rattle.oneshot_errors.specs.declared.recv_timeout.RecvTimeoutError.TheVariants as Timed
 use Rattle.oneshot_drive.specs.declared.waiting.Found.TheVariants as F
 use Rattle.oneshot_machine.specs.declared.machine.Reply.TheVariants as R
@@ -61,11 +61,11 @@ module _ {T W : Type 0} where
   ended_full {a} n ends made grows =
       subst (λ at. StandsWith receiver_of at (filled, empty) a) ends.1 (closed_over n ends.2 made grows)
 
-  pub full_ran : {p : ReceiverPos} {l k j z : Log T W} (n : ℕ) (x : T) → Went p (Goes (Try Close)) l k
+  pub full_ran : {p : ReceiverPos} {l k j z : Log T W} (n : ℕ) (x : T) → Path p (Goes (Try Close)) l k
       → Grows k j (worded (Store 2) n ∷ []) → Grows j z (took x ∷ [])
       → Ran receiver_step receiver_row p l z R.Message [] (x ∷ [])
-  full_ran n x went s t =
-      ran went (worded (Store 2) n ∷ took x ∷ []) (more (Try Take) _ _ refl refl (last _ refl refl))
+  full_ran n x path s t =
+      ran path (worded (Store 2) n ∷ took x ∷ []) (more (Try Take) _ _ refl refl (last _ refl refl))
       (and_then (worded (Store 2) n ∷ []) _ s t) refl refl
 
   -- or where the sender is gone
@@ -77,9 +77,9 @@ module _ {T W : Type 0} where
       → LeavesTimed {T = T} (Err Timed.Disconnected) (receiver_of s.log)
   over_leaves {c} is = subst (λ at. LeavesTimed {T = T} (Err Timed.Disconnected) at) (sym is.phase) (timed_closed c)
 
-  pub shut_ran : {p : ReceiverPos} {l k j : Log T W} (n : ℕ) → Went p (Goes (Try CloseOnly)) l k
+  pub shut_ran : {p : ReceiverPos} {l k j : Log T W} (n : ℕ) → Path p (Goes (Try CloseOnly)) l k
       → Grows k j (worded (Store 2) n ∷ []) → Ran receiver_step receiver_row p l j R.Disconnected [] []
-  shut_ran n went s = ran went (worded (Store 2) n ∷ []) (last _ refl refl) s refl refl
+  shut_ran n path s = ran path (worded (Store 2) n ∷ []) (last _ refl refl) s refl refl
 
   -- or its deadline is over
   pub out_rests : {s : GroundState T W} → Stands (here between) s → AtRest s
@@ -105,7 +105,7 @@ module _ {T W : Type 0} where
   clock_closed past s is = subst IsClosedAt (sym (still (clocked past ∷ []) refl s)) is
 
   sums : {representable : Bool} {l k : Log T W} (past : Bool) → Grows l k (clocked past ∷ [])
-      → Went (Timed (SumClock representable)) (Goes (Ref (StartLoad representable))) l k
+      → Path (Timed (SumClock representable)) (Goes (Ref (StartLoad representable))) l k
   sums true s = by_clock _ true s refl refl
   sums false s = by_clock _ false s refl refl
 
@@ -115,10 +115,10 @@ module _ {T W : Type 0} where
   sum_ran past s run = before (sums past s) run
 
   -- `recv`
-  pub full_freed : {l k j z : Log T W} (x : T) → Went (Value RecvLoad) (Goes (Value RecvTake)) l k
+  pub full_freed : {l k j z : Log T W} (x : T) → Path (Value RecvLoad) (Goes (Value RecvTake)) l k
       → Grows k j (took x ∷ []) → Grows j z (did Steps.Free ∷ []) → ReceiverRan Recv l z R.Message [] (x ∷ [])
-  full_freed x went s t =
-      ran went (took x ∷ did Steps.Free ∷ []) (more (Value RecvFreeGot) _ _ refl refl (last _ refl refl))
+  full_freed x path s t =
+      ran path (took x ∷ did Steps.Free ∷ []) (more (Value RecvFreeGot) _ _ refl refl (last _ refl refl))
       (and_then (took x ∷ []) _ s t) refl refl
 
   -- without a message the sender is gone: both slots are empty, and the block is to be freed
@@ -134,10 +134,10 @@ module _ {T W : Type 0} where
   gone s F.Nothing a ends = let timed = ends.0 in absurd (cc)
 
   pub gone_freed : {l k j : Log T W} {f : Found} {s : GroundState T W} → Gone f s
-      → Went (Value RecvLoad) (value_end f) l k → Grows k j (did Steps.Free ∷ [])
+      → Path (Value RecvLoad) (value_end f) l k → Grows k j (did Steps.Free ∷ [])
       → ReceiverRan Recv l j R.Disconnected [] []
-  gone_freed {l} {k} is went s =
-      ran (subst (λ o. Went (Value RecvLoad) o l k) is.leads went) (did Steps.Free ∷ []) (last _ refl refl) s refl refl
+  gone_freed {l} {k} is path s =
+      ran (subst (λ o. Path (Value RecvLoad) o l k) is.leads path) (did Steps.Free ∷ []) (last _ refl refl) s refl refl
 
   -- its hand: without a deadline no waker comes back from the wait
   pub hand_back : (s : GroundState T W) {hand after : Option W} (f : Found) → EndsAt false f s → HandAt f hand after

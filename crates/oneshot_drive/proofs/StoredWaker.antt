@@ -1,5 +1,5 @@
 -- What a receive that blocks does before it waits: its load, its waker in the slot, and its first swap.
-use Rattle.oneshot_drive.proofs.Names.{◌≡◌, ℕ, Bool, true, false, [], ◌∷◌, Option, Some, None, refl, sym, ap, ◌∙◌, subst, Found, ReceiverPos, Ref, Value, StartSwap, RecvSwap, Load, Swap, Log, Grows, receiver_of, handed, worded, ReceiverAt, here, looked, waits, blocked, swapped, storing, unclosed, receiver_moves, none, empty, filled, receiver_step, receiver_row, Outcome, Goes, Held, vacant, held, IsSlot, ReceiverFinds, GroundState, StandsWith, Stands, ReceiverAsks, ReceiverMakes, IsReady, Went, Way, by_ref, by_value, load_of, write_of, wait_of, end_of, EndsAt, Returns, returned, taken, refilled, HandAt, WaitedHand, landings}
+use Rattle.oneshot_drive.proofs.Names.{◌≡◌, ℕ, Bool, true, false, [], ◌∷◌, Option, Some, None, refl, sym, ap, ◌∙◌, subst, Found, ReceiverPos, Ref, Value, StartSwap, RecvSwap, Load, Swap, Log, Grows, receiver_of, handed, worded, ReceiverAt, here, looked, waits, blocked, swapped, storing, unclosed, receiver_moves, none, empty, filled, receiver_step, receiver_row, Outcome, Goes, Held, vacant, held, IsSlot, ReceiverFinds, GroundState, StandsWith, Stands, ReceiverAsks, ReceiverMakes, IsReady, Path, ReceiveBy, by_ref, by_value, load_of, write_of, wait_of, end_of, EndsAt, Returns, returned, taken, refilled, HandAt, WaitedHand, landings}
 use Rattle.oneshot_drive.specs.declared.waiting.Found.TheVariants as F
 use Rattle.oneshot_machine.specs.declared.machine.Seen.TheVariants as S
 use Rattle.oneshot_machine.specs.declared.machine.Step.TheVariants as Steps
@@ -7,7 +7,7 @@ use Rattle.oneshot_drive.proofs.AfterOperations.{Lands, Lone, lone, at_word, not
 use Rattle.oneshot_drive.proofs.RestLoads.{never}
 use Rattle.oneshot_drive.proofs.Stretches.{on, by_word, by_write, by_withdraw}
 
-abbrev swap_of : {timed : Bool} → Way timed → ReceiverPos
+abbrev swap_of : {timed : Bool} → ReceiveBy timed → ReceiverPos
 swap_of (by_ref timed) = Ref (StartSwap timed)
 swap_of by_value = Value RecvSwap
 
@@ -18,24 +18,26 @@ pub data TakesBack : ℕ → Found → Type 0 where
 
 module _ {T W : Type 0} where
   -- `find`: its load
-  pub full_at_once : {timed : Bool} {l k : Log T W} (way : Way timed) (n : ℕ) → n ≡ 4 → Grows l k (worded Load n ∷ [])
-      → Went (load_of way) (end_of way F.Message) l k
+  pub full_at_once : {timed : Bool} {l k : Log T W} (way : ReceiveBy timed) (n : ℕ) → n ≡ 4
+      → Grows l k (worded Load n ∷ [])
+      → Path (load_of way) (end_of way F.Message) l k
   full_at_once (by_ref timed) n e s = by_word _ Load n s refl (rw e)
   full_at_once by_value n e s = by_word _ Load n s refl (rw e)
 
-  pub over_at_once : {timed : Bool} {l k : Log T W} (way : Way timed) (n : ℕ) → n ≡ 2 → Grows l k (worded Load n ∷ [])
-      → Went (load_of way) (end_of way F.Closed) l k
+  pub over_at_once : {timed : Bool} {l k : Log T W} (way : ReceiveBy timed) (n : ℕ) → n ≡ 2
+      → Grows l k (worded Load n ∷ [])
+      → Path (load_of way) (end_of way F.Closed) l k
   over_at_once (by_ref timed) n e s = by_word _ Load n s refl (rw e)
   over_at_once by_value n e s = by_word _ Load n s refl (rw e)
 
-  loads_none : {timed : Bool} {l k : Log T W} (way : Way timed) (n : ℕ) → n ≡ 3 → Grows l k (worded Load n ∷ [])
-      → Went (load_of way) (Goes (write_of way)) l k
+  loads_none : {timed : Bool} {l k : Log T W} (way : ReceiveBy timed) (n : ℕ) → n ≡ 3 → Grows l k (worded Load n ∷ [])
+      → Path (load_of way) (Goes (write_of way)) l k
   loads_none (by_ref timed) n e s = by_word _ Load n s refl (rw e)
   loads_none by_value n e s = by_word _ Load n s refl (rw e)
 
-  pub found_none : {timed : Bool} {o : Outcome ReceiverPos} {l k z : Log T W} (way : Way timed) (n : ℕ) → n ≡ 3
-      → Grows l k (worded Load n ∷ []) → Went (write_of way) o k z → Went (load_of way) o l z
-  found_none way n e s went = on (loads_none way n e s) went
+  pub found_none : {timed : Bool} {o : Outcome ReceiverPos} {l k z : Log T W} (way : ReceiveBy timed) (n : ℕ) → n ≡ 3
+      → Grows l k (worded Load n ∷ []) → Path (write_of way) o k z → Path (load_of way) o l z
+  found_none way n e s path = on (loads_none way n e s) path
 
   pub ready_waker : {at : ReceiverAt} {m m' : Held T} {w w' : Held W} (hand : Option W) (n : ℕ) → IsReady hand at
       → ReceiverFinds at Load n m w m' w' → n ≡ 3 → (k : W) × (hand ≡ Some k)
@@ -85,13 +87,14 @@ module _ {T W : Type 0} where
       withdrew_over timed no_empty no_message =
           (storing, withdrew_waker (stored_over no_empty no_message).stands back message waker)
 
-  writes : {timed : Bool} {l k : Log T W} (way : Way timed) (y : W) → Grows l k (handed Steps.WriteWaker y ∷ [])
-      → Went (write_of way) (Goes (swap_of way)) l k
+  writes : {timed : Bool} {l k : Log T W} (way : ReceiveBy timed) (y : W) → Grows l k (handed Steps.WriteWaker y ∷ [])
+      → Path (write_of way) (Goes (swap_of way)) l k
   writes (by_ref timed) y s = by_write _ y s refl refl
   writes by_value y s = by_write _ y s refl refl
 
-  swaps_open : {timed : Bool} {l k : Log T W} (way : Way timed) (n : ℕ) → n ≡ 3 → Grows l k (worded (Swap 0) n ∷ [])
-      → Went (swap_of way) (Goes (wait_of way)) l k
+  swaps_open : {timed : Bool} {l k : Log T W} (way : ReceiveBy timed) (n : ℕ) → n ≡ 3
+      → Grows l k (worded (Swap 0) n ∷ [])
+      → Path (swap_of way) (Goes (wait_of way)) l k
   swaps_open (by_ref false) n e s = by_word _ (Swap 0) n s refl (rw e)
   swaps_open (by_ref true) n e s = by_word _ (Swap 0) n s refl (rw e)
   swaps_open by_value n e s = by_word _ (Swap 0) n s refl (rw e)
@@ -100,14 +103,15 @@ module _ {T W : Type 0} where
   took_back : {p r : ReceiverPos} {o : Outcome ReceiverPos} {k j z : Log T W} (u : W) (n word : ℕ) → n ≡ word
       → Steps.Word (Swap 0) ≡ receiver_step p → receiver_row p (S.Word word) ≡ Some (Goes r)
       → Steps.Withdraw ≡ receiver_step r → receiver_row r S.Done ≡ Some o → Grows k j (worded (Swap 0) n ∷ [])
-      → Grows j z (handed Steps.Withdraw u ∷ []) → Went p o k z
+      → Grows j z (handed Steps.Withdraw u ∷ []) → Path p o k z
   took_back {p} {r} u n word e swaps leads withdraws ends s t =
       on (by_word (Goes r) (Swap 0) n s swaps (ap (λ n. receiver_row p (S.Word n)) e ∙ leads))
       (by_withdraw _ u t withdraws ends)
 
-  swaps_back : {timed : Bool} {word : ℕ} {f : Found} {k j z : Log T W} (way : Way timed) → TakesBack word f → (u : W)
+  swaps_back : {timed : Bool} {word : ℕ} {f : Found} {k j z : Log T W} (way : ReceiveBy timed)
+      → TakesBack word f → (u : W)
       (n : ℕ) → n ≡ word → Grows k j (worded (Swap 0) n ∷ []) → Grows j z (handed Steps.Withdraw u ∷ [])
-      → Went (swap_of way) (end_of way f) k z
+      → Path (swap_of way) (end_of way f) k z
   swaps_back (by_ref false) over_message u n e s t = took_back u n 4 e refl refl refl refl s t
   swaps_back (by_ref true) over_message u n e s t = took_back u n 4 e refl refl refl refl s t
   swaps_back by_value over_message u n e s t = took_back u n 4 e refl refl refl refl s t
@@ -115,16 +119,16 @@ module _ {T W : Type 0} where
   swaps_back (by_ref true) over_end u n e s t = took_back u n 2 e refl refl refl refl s t
   swaps_back by_value over_end u n e s t = took_back u n 2 e refl refl refl refl s t
 
-  pub stored_went : {timed : Bool} {o : Outcome ReceiverPos} {l k j z : Log T W} (way : Way timed) (y : W) (n : ℕ)
+  pub stored_path : {timed : Bool} {o : Outcome ReceiverPos} {l k j z : Log T W} (way : ReceiveBy timed) (y : W) (n : ℕ)
       → n ≡ 3 → Grows l k (handed Steps.WriteWaker y ∷ []) → Grows k j (worded (Swap 0) n ∷ [])
-      → Went (wait_of way) o j z → Went (write_of way) o l z
-  stored_went way y n e s t went = on (writes way y s) (on (swaps_open way n e t) went)
+      → Path (wait_of way) o j z → Path (write_of way) o l z
+  stored_path way y n e s t path = on (writes way y s) (on (swaps_open way n e t) path)
 
-  pub back_went : {timed : Bool} {word : ℕ} {f : Found} {l k j z : Log T W} (way : Way timed) → TakesBack word f
+  pub back_path : {timed : Bool} {word : ℕ} {f : Found} {l k j z : Log T W} (way : ReceiveBy timed) → TakesBack word f
       → (y u : W) (n : ℕ) → n ≡ word → Grows l k (handed Steps.WriteWaker y ∷ [])
       → Grows k j (worded (Swap 0) n ∷ []) → Grows j z (handed Steps.Withdraw u ∷ [])
-      → Went (write_of way) (end_of way f) l z
-  back_went way over y u n e s t v = on (writes way y s) (swaps_back way over u n e t v)
+      → Path (write_of way) (end_of way f) l z
+  back_path way over y u n e s t v = on (writes way y s) (swaps_back way over u n e t v)
 
 -- the hand has its waker again, or the sender took it, or it came back at the deadline
 pub back : {W : Type 0} {hand : Option W} {w : Held W} (y z : W) → hand ≡ Some y → w ≡ held y → w ≡ held z

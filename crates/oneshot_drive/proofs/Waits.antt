@@ -1,5 +1,5 @@
 -- What a receive does while its waker is stored: it asks its clock, parks and loads, up to the word that decides it.
-use Rattle.oneshot_drive.proofs.Names.{◌≡◌, ℕ, Bool, true, false, [], ◌∷◌, Some, refl, sym, ap, ◌∙◌, subst, Found, ReceiverPos, Ref, Timed, Value, Park, ParkLoad, Clock, TimedLoad, EndSwap, EndBack, LatePark, LateLoad, RecvPark, RecvParkLoad, Load, Swap, Log, Grows, receiver_of, handed, parked, clocked, worded, ReceiverAt, here, between, waits, blocked, overdue, waited, swapped, stopping, found_closed, receiver_moves, none, filled, receiver_row, receiver_rows, receiver_step, Outcome, Goes, row_for, vacant, GroundState, StandsWith, Stands, receiver_slots, ReceiverAsks, ReceiverMakes, Went, Way, by_ref, by_value, wait_of, asked_of, ref_end, end_of, EndsAt, Parks, parks_waiting, parks_overdue, has_row, landings}
+use Rattle.oneshot_drive.proofs.Names.{◌≡◌, ℕ, Bool, true, false, [], ◌∷◌, Some, refl, sym, ap, ◌∙◌, subst, Found, ReceiverPos, Ref, Timed, Value, Park, ParkLoad, Clock, TimedLoad, EndSwap, EndBack, LatePark, LateLoad, RecvPark, RecvParkLoad, Load, Swap, Log, Grows, receiver_of, handed, parked, clocked, worded, ReceiverAt, here, between, waits, blocked, overdue, waited, swapped, stopping, found_closed, receiver_moves, none, filled, receiver_row, receiver_rows, receiver_step, Outcome, Goes, row_for, vacant, GroundState, StandsWith, Stands, receiver_slots, ReceiverAsks, ReceiverMakes, Path, ReceiveBy, by_ref, by_value, wait_of, asked_of, ref_end, end_of, EndsAt, Parks, parks_waiting, parks_overdue, has_row, landings}
 use Rattle.oneshot_drive.specs.declared.waiting.Found.TheVariants as F
 use Rattle.oneshot_machine.specs.declared.machine.Seen.TheVariants as S
 use Rattle.oneshot_machine.specs.declared.machine.Step.TheVariants as Steps
@@ -7,18 +7,18 @@ use Rattle.oneshot_drive.proofs.AfterOperations.{Lands, Lone, lone, at_word, not
 use Rattle.oneshot_drive.proofs.Stretches.{on, begun, by_word, by_withdraw, by_park, by_clock}
 
 -- where the load after a park stands, of each way
-abbrev woken_of : {timed : Bool} → Way timed → ReceiverPos
+abbrev woken_of : {timed : Bool} → ReceiveBy timed → ReceiverPos
 woken_of (by_ref false) = Ref ParkLoad
 woken_of (by_ref true) = Timed TimedLoad
 woken_of by_value = Value RecvParkLoad
 
 -- it loads, and each word leads on alike
-woken_loads : {timed : Bool} (way : Way timed) → Steps.Word Load ≡ receiver_step (woken_of way)
+woken_loads : {timed : Bool} (way : ReceiveBy timed) → Steps.Word Load ≡ receiver_step (woken_of way)
 woken_loads (by_ref false) = refl
 woken_loads (by_ref true) = refl
 woken_loads by_value = refl
 
-woken_rows : {timed : Bool} (way : Way timed)
+woken_rows : {timed : Bool} (way : ReceiveBy timed)
     → receiver_rows (woken_of way)
     ≡ (S.Word 4, end_of way F.Message) ∷ (S.Word 2, end_of way F.Closed) ∷ (S.Word 0, Goes (wait_of way))
     ∷ (S.Word 1, Goes (wait_of way)) ∷ []
@@ -31,7 +31,7 @@ pub data Decides : ℕ → Found → Type 0 where
   by_message : Decides 4 F.Message
   by_end : Decides 2 F.Closed
 
-decided_row : {timed : Bool} {word : ℕ} {f : Found} (way : Way timed) → Decides word f
+decided_row : {timed : Bool} {word : ℕ} {f : Found} (way : ReceiveBy timed) → Decides word f
     → receiver_row (woken_of way) (S.Word word) ≡ Some (end_of way f)
 decided_row way by_message = ap (row_for (S.Word 4)) (woken_rows way)
 decided_row way by_end = ap (row_for (S.Word 2)) (woken_rows way)
@@ -46,7 +46,7 @@ data Longer : ℕ → ReceiverAt → Type 0 where
   longer : Longer 0 (waits blocked)
   claimed : Longer 1 (waits blocked)
 
-longer_row : {timed : Bool} {n : ℕ} {at : ReceiverAt} (way : Way timed) → Longer n at
+longer_row : {timed : Bool} {n : ℕ} {at : ReceiverAt} (way : ReceiveBy timed) → Longer n at
     → receiver_row (woken_of way) (S.Word n) ≡ Some (Goes (wait_of way))
 longer_row way longer = ap (row_for (S.Word 0)) (woken_rows way)
 longer_row way claimed = ap (row_for (S.Word 1)) (woken_rows way)
@@ -57,14 +57,14 @@ longer_waits claimed = refl
 
 module _ {T W : Type 0} where
   -- `is_over`: a read of the clock, where there is a deadline
-  pub asked : {l k : Log T W} {timed : Bool} (way : Way timed) (past : Bool) → timed ≡ true
-      → Grows l k (clocked past ∷ []) → Went (wait_of way) (Goes (asked_of way past)) l k
+  pub asked : {l k : Log T W} {timed : Bool} (way : ReceiveBy timed) (past : Bool) → timed ≡ true
+      → Grows l k (clocked past ∷ []) → Path (wait_of way) (Goes (asked_of way past)) l k
   asked (by_ref true) true e s = by_clock _ true s refl refl
   asked (by_ref true) false e s = by_clock _ false s refl refl
   asked _ past e s = absurd (cc)
 
-  pub not_asked : {timed : Bool} (way : Way timed) (l : Log T W) → timed ≡ false
-      → Went (wait_of way) (Goes (asked_of way false)) l l
+  pub not_asked : {timed : Bool} (way : ReceiveBy timed) (l : Log T W) → timed ≡ false
+      → Path (wait_of way) (Goes (asked_of way false)) l l
   not_asked (by_ref true) l e = absurd (cc)
   not_asked (by_ref false) l e = begun (Ref Park) l
   not_asked by_value l e = begun (Value RecvPark) l
@@ -107,41 +107,41 @@ module _ {T W : Type 0} where
         let on = again no_message not_closed in subst (λ at. Stands at s) (longer_waits on.is_so) on.stands
 
   -- a park, and where the load after it leads
-  parks : {timed : Bool} {k j : Log T W} (way : Way timed) (woken : Bool) → Grows k j (parked woken ∷ [])
-      → Went (asked_of way false) (Goes (woken_of way)) k j
+  parks : {timed : Bool} {k j : Log T W} (way : ReceiveBy timed) (woken : Bool) → Grows k j (parked woken ∷ [])
+      → Path (asked_of way false) (Goes (woken_of way)) k j
   parks (by_ref false) woken s = by_park _ woken s refl refl refl
   parks (by_ref true) woken s = by_park _ woken s refl refl refl
   parks by_value woken s = by_park _ woken s refl refl refl
 
   -- it knows that its deadline is not over
-  on_time : {timed past : Bool} {l i k : Log T W} (way : Way timed) → Went (wait_of way) (Goes (wait_of way)) l i
-      → Went (wait_of way) (Goes (asked_of way past)) i k → past ≡ false
-      → Went (wait_of way) (Goes (asked_of way false)) l k
-  on_time {i} {k} way went asks e = on went (subst (λ past. Went (wait_of way) (Goes (asked_of way past)) i k) e asks)
+  on_time : {timed past : Bool} {l i k : Log T W} (way : ReceiveBy timed) → Path (wait_of way) (Goes (wait_of way)) l i
+      → Path (wait_of way) (Goes (asked_of way past)) i k → past ≡ false
+      → Path (wait_of way) (Goes (asked_of way false)) l k
+  on_time {i} {k} way path asks e = on path (subst (λ past. Path (wait_of way) (Goes (asked_of way past)) i k) e asks)
 
-  module _ {timed past : Bool} {l i k j z : Log T W} (way : Way timed)
-      (went : Went (wait_of way) (Goes (wait_of way)) l i) (asks : Went (wait_of way) (Goes (asked_of way past)) i k)
+  module _ {timed past : Bool} {l i k j z : Log T W} (way : ReceiveBy timed)
+      (path : Path (wait_of way) (Goes (wait_of way)) l i) (asks : Path (wait_of way) (Goes (asked_of way past)) i k)
       (no : past ≡ false) (woken : Bool) (s : Grows k j (parked woken ∷ [])) (n : ℕ)
       (t : Grows j z (worded Load n ∷ [])) where
-    parks_to : (o : Outcome ReceiverPos) → receiver_row (woken_of way) (S.Word n) ≡ Some o → Went (wait_of way) o l z
+    parks_to : (o : Outcome ReceiverPos) → receiver_row (woken_of way) (S.Word n) ≡ Some o → Path (wait_of way) o l z
     parks_to o leads =
-        on (on_time way went asks no) (on (parks way woken s) (by_word o Load n t (woken_loads way) leads))
+        on (on_time way path asks no) (on (parks way woken s) (by_word o Load n t (woken_loads way) leads))
 
     pub parks_again : {state : GroundState T W}
         → Lands receiver_of n state (landings Load (receiver_moves (waits blocked))) → ¬ (n ≡ 4) → ¬ (n ≡ 2)
-        → Went (wait_of way) (Goes (wait_of way)) l z
+        → Path (wait_of way) (Goes (wait_of way)) l z
     parks_again found no_message not_closed = parks_to _ (longer_row way (again found no_message not_closed).is_so)
 
-    pub parks_decided : {word : ℕ} {f : Found} → Decides word f → n ≡ word → Went (wait_of way) (end_of way f) l z
+    pub parks_decided : {word : ℕ} {f : Found} → Decides word f → n ≡ word → Path (wait_of way) (end_of way f) l z
     parks_decided by e = parks_to _ (ap (λ n. receiver_row (woken_of way) (S.Word n)) e ∙ decided_row way by)
 
   -- or that it is over
-  pub stops_went : {timed past : Bool} {l i k z : Log T W} (f : Found) (way : Way timed)
-      → Went (wait_of way) (Goes (wait_of way)) l i → Went (wait_of way) (Goes (asked_of way past)) i k → past ≡ true
-      → timed ≡ true → Went (Timed EndSwap) (ref_end f) k z → Went (wait_of way) (end_of way f) l z
-  stops_went {i} {k} f (by_ref true) went asks e is stops =
-      on went (on (subst (λ past. Went (Timed Clock) (Goes (asked_of (by_ref true) past)) i k) e asks) stops)
-  stops_went f _ went asks e is stops = absurd (cc)
+  pub stops_path : {timed past : Bool} {l i k z : Log T W} (f : Found) (way : ReceiveBy timed)
+      → Path (wait_of way) (Goes (wait_of way)) l i → Path (wait_of way) (Goes (asked_of way past)) i k → past ≡ true
+      → timed ≡ true → Path (Timed EndSwap) (ref_end f) k z → Path (wait_of way) (end_of way f) l z
+  stops_path {i} {k} f (by_ref true) path asks e is stops =
+      on path (on (subst (λ past. Path (Timed Clock) (Goes (asked_of (by_ref true) past)) i k) e asks) stops)
+  stops_path f _ path asks e is stops = absurd (cc)
 
   -- `stop`: where its swap landed
   pub stopped : {b a : GroundState T W} (n : ℕ) → Stands (waits blocked) b → ReceiverMakes (Swap 3) n b a
@@ -171,17 +171,17 @@ module _ {T W : Type 0} where
 
   pub stops_to : {l k : Log T W} (o : Outcome ReceiverPos) (n found : ℕ)
       → receiver_row (Timed EndSwap) (S.Word found) ≡ Some o → n ≡ found → Grows l k (worded (Swap 3) n ∷ [])
-      → Went (Timed EndSwap) o l k
+      → Path (Timed EndSwap) o l k
   stops_to o n found leads e s =
       by_word o (Swap 3) n s refl (ap (λ n. receiver_row (Timed EndSwap) (S.Word n)) e ∙ leads)
 
-  pub nothing_went : {l k j : Log T W} (z : W) (n : ℕ) → n ≡ 0 → Grows l k (worded (Swap 3) n ∷ [])
-      → Grows k j (handed Steps.Withdraw z ∷ []) → Went (Timed EndSwap) (ref_end F.Nothing) l j
-  nothing_went z n e s t = on (stops_to (Goes (Timed EndBack)) n 0 refl e s) (by_withdraw _ z t refl refl)
+  pub nothing_path : {l k j : Log T W} (z : W) (n : ℕ) → n ≡ 0 → Grows l k (worded (Swap 3) n ∷ [])
+      → Grows k j (handed Steps.Withdraw z ∷ []) → Path (Timed EndSwap) (ref_end F.Nothing) l j
+  nothing_path z n e s t = on (stops_to (Goes (Timed EndBack)) n 0 refl e s) (by_withdraw _ z t refl refl)
 
-  pub late_went : {l k z : Log T W} (f : Found) (n : ℕ) → n ≡ 1 → Grows l k (worded (Swap 3) n ∷ [])
-      → Went (Timed LatePark) (ref_end f) k z → Went (Timed EndSwap) (ref_end f) l z
-  late_went f n e s went = on (stops_to (Goes (Timed LatePark)) n 1 refl e s) went
+  pub late_path : {l k z : Log T W} (f : Found) (n : ℕ) → n ≡ 1 → Grows l k (worded (Swap 3) n ∷ [])
+      → Path (Timed LatePark) (ref_end f) k z → Path (Timed EndSwap) (ref_end f) l z
+  late_path f n e s path = on (stops_to (Goes (Timed LatePark)) n 1 refl e s) path
 
   -- `wait_late`: each word that its load may find
   module _ {n : ℕ} {s : GroundState T W} (found : Lands receiver_of n s (landings Load (receiver_moves overdue))) where
@@ -194,13 +194,13 @@ module _ {T W : Type 0} where
 
   pub late_to : {l k j z : Log T W} (o : Outcome ReceiverPos) (n found : ℕ)
       → receiver_row (Timed LateLoad) (S.Word found) ≡ Some o → n ≡ found
-      → Went (Timed LatePark) (Goes (Timed LatePark)) l k → (woken : Bool) → Grows k j (parked woken ∷ [])
-      → Grows j z (worded Load n ∷ []) → Went (Timed LatePark) o l z
-  late_to o n found leads e went woken s t =
-      on went (on (by_park (Goes (Timed LateLoad)) woken s refl refl refl)
+      → Path (Timed LatePark) (Goes (Timed LatePark)) l k → (woken : Bool) → Grows k j (parked woken ∷ [])
+      → Grows j z (worded Load n ∷ []) → Path (Timed LatePark) o l z
+  late_to o n found leads e path woken s t =
+      on path (on (by_park (Goes (Timed LateLoad)) woken s refl refl refl)
       (by_word o Load n t refl (ap (λ n. receiver_row (Timed LateLoad) (S.Word n)) e ∙ leads)))
 
   pub late_decided : {word : ℕ} {f : Found} {l k j z : Log T W} → Decides word f → (n : ℕ) → n ≡ word
-      → Went (Timed LatePark) (Goes (Timed LatePark)) l k → (woken : Bool) → Grows k j (parked woken ∷ [])
-      → Grows j z (worded Load n ∷ []) → Went (Timed LatePark) (ref_end f) l z
-  late_decided {word} {f} by n e went woken s t = late_to (ref_end f) n word (decided_late by) e went woken s t
+      → Path (Timed LatePark) (Goes (Timed LatePark)) l k → (woken : Bool) → Grows k j (parked woken ∷ [])
+      → Grows j z (worded Load n ∷ []) → Path (Timed LatePark) (ref_end f) l z
+  late_decided {word} {f} by n e path woken s t = late_to (ref_end f) n word (decided_late by) e path woken s t

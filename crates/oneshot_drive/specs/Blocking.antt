@@ -28,7 +28,7 @@ pub data Stretch {T W : Type 0} : ReceiverPos → List (Event T W) → Outcome R
 
 -- Between the two logs a ground made steps that hand no message in or out, and that lead from this
 -- position to there.
-pub record Went {T W : Type 0} (from : ReceiverPos) (to : Outcome ReceiverPos) (before after : Log T W) : Type 0 where
+pub record Path {T W : Type 0} (from : ReceiverPos) (to : Outcome ReceiverPos) (before after : Log T W) : Type 0 where
   pub steps : List (Event T W)
   pub grows : Grows before after steps
   pub gives : messages_given steps ≡ []
@@ -37,26 +37,26 @@ pub record Went {T W : Type 0} (from : ReceiverPos) (to : Outcome ReceiverPos) (
 
 -- whose rows a receive runs: those of the calls by reference, with a deadline or without, or those of
 -- `recv`, which has none
-pub data Way : Bool → Type 0 where
-  by_ref : (timed : Bool) → Way timed
-  by_value : Way false
+pub data ReceiveBy : Bool → Type 0 where
+  by_ref : (timed : Bool) → ReceiveBy timed
+  by_value : ReceiveBy false
 
 -- where it loads, where it stores its waker, and where it begins to wait
-abbrev pub load_of : {timed : Bool} → Way timed → ReceiverPos
+abbrev pub load_of : {timed : Bool} → ReceiveBy timed → ReceiverPos
 load_of (by_ref timed) = Ref (StartLoad timed)
 load_of by_value = Value RecvLoad
 
-abbrev pub write_of : {timed : Bool} → Way timed → ReceiverPos
+abbrev pub write_of : {timed : Bool} → ReceiveBy timed → ReceiverPos
 write_of (by_ref timed) = Ref (StartWrite timed)
 write_of by_value = Value RecvWrite
 
-abbrev pub wait_of : {timed : Bool} → Way timed → ReceiverPos
+abbrev pub wait_of : {timed : Bool} → ReceiveBy timed → ReceiverPos
 wait_of (by_ref false) = Ref Park
 wait_of (by_ref true) = Timed Clock
 wait_of by_value = Value RecvPark
 
 -- where it is once it knows whether its deadline is over
-abbrev pub asked_of : {timed : Bool} → Way timed → Bool → ReceiverPos
+abbrev pub asked_of : {timed : Bool} → ReceiveBy timed → Bool → ReceiverPos
 asked_of (by_ref false) is_over = Ref Park
 asked_of (by_ref true) false = Timed TimedPark
 asked_of (by_ref true) true = Timed EndSwap
@@ -73,7 +73,7 @@ abbrev pub value_end : Found → Outcome ReceiverPos
 value_end F.Message = Goes (Value RecvTake)
 value_end _ = Goes (Value RecvFreeGone)
 
-abbrev pub end_of : {timed : Bool} → Way timed → Found → Outcome ReceiverPos
+abbrev pub end_of : {timed : Bool} → ReceiveBy timed → Found → Outcome ReceiverPos
 end_of (by_ref timed) = ref_end
 end_of by_value = value_end
 

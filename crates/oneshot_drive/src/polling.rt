@@ -16,7 +16,7 @@ ghost use Rattle.oneshot_machine.specs.Receiver.{receiver_step, receiver_row};
 ghost use Rattle.oneshot_machine.specs.Runs.{Ran, ReceiverRan};
 ghost use Rattle.oneshot_machine.specs.TableRows.{Goes};
 ghost use Rattle.oneshot_drive.specs.declared.waiting.Found.TheVariants as F;
-ghost use Rattle.oneshot_drive.specs.Blocking.{Went};
+ghost use Rattle.oneshot_drive.specs.Blocking.{Path};
 ghost use Rattle.oneshot_drive.specs.BetweenCalls.{IsClosedAt, try_recv_reply, received};
 ghost use Rattle.oneshot_drive.specs.Grounds.{Stands, ReceiverAsks};
 ghost use Rattle.oneshot_drive.specs.Polls.{IsPolled, LeavesPolled, LeavesTried, StaysRegistered, poll_reply, poll_received, poll_end, EndsPoll, MayLeave, IsDisconnected, WroteCopies, WritesItsCopy, HandsNoWaker};
@@ -60,7 +60,7 @@ pub fn poll<T, W: Drop, G: TaskGround<T, W>>(g: &mut G) -> Poll<Result<T, RecvEr
 // Reads the word, and leaves a copy where nothing is there yet.
 fn meet<T, W: Drop, G: TaskGround<T, W>>(g: &mut G) -> Found
     requires { IsPolled (G.state g.old) }
-    ensures went { Went (Future PollLoad) (poll_end result) (G.state g.old).log (G.state g.new).log }
+    ensures path { Path (Future PollLoad) (poll_end result) (G.state g.old).log (G.state g.new).log }
     ensures ends { EndsPoll result (G.state g.new) }
     ensures stays { IsClosedAt (receiver_of (G.state g.old).log) → result ≡ F.Closed }
     ensures heard { result ≡ F.Nothing → G.heard g.new }
@@ -82,7 +82,7 @@ fn meet<T, W: Drop, G: TaskGround<T, W>>(g: &mut G) -> Found
 // Leaves a copy where there is none.
 fn leave_first<T, W: Drop, G: TaskGround<T, W>>(g: &mut G) -> Found
     requires { Stands (here looked) (G.state g.old) }
-    ensures went { Went (Future PollCopy) (poll_end result) (G.state g.old).log (G.state g.new).log }
+    ensures path { Path (Future PollCopy) (poll_end result) (G.state g.old).log (G.state g.new).log }
     ensures ends { EndsPoll result (G.state g.new) }
     ensures heard { result ≡ F.Nothing → G.heard g.new }
     ensures own { WritesItsCopy (G.state g.old).log (G.state g.new).log }
@@ -99,7 +99,7 @@ fn leave_first<T, W: Drop, G: TaskGround<T, W>>(g: &mut G) -> Found
 fn leave<T, W: Drop, G: TaskGround<T, W>>(g: &mut G, copy: W) -> Found
     requires open { MayLeave (G.state g.old) }
     requires heard { G.heard g.old }
-    ensures went { Went (Future PollWrite) (poll_end result) (G.state g.old).log (G.state g.new).log }
+    ensures path { Path (Future PollWrite) (poll_end result) (G.state g.old).log (G.state g.new).log }
     ensures ends { EndsPoll result (G.state g.new) }
     ensures heard { result ≡ F.Nothing → G.heard g.new }
     ensures own { WroteCopies (Some copy) (G.state g.old).log (G.state g.new).log }
@@ -121,7 +121,7 @@ fn leave<T, W: Drop, G: TaskGround<T, W>>(g: &mut G, copy: W) -> Found
 // Leaves a copy in place of that of an earlier poll.
 fn leave_again<T, W: Drop, G: TaskGround<T, W>>(g: &mut G) -> Found
     requires { Stands (waits again) (G.state g.old) }
-    ensures went { Went (Future AgainCopy) (poll_end result) (G.state g.old).log (G.state g.new).log }
+    ensures path { Path (Future AgainCopy) (poll_end result) (G.state g.old).log (G.state g.new).log }
     ensures ends { EndsPoll result (G.state g.new) }
     ensures heard { result ≡ F.Nothing → G.heard g.new }
     ensures own { WritesItsCopy (G.state g.old).log (G.state g.new).log }
@@ -196,7 +196,7 @@ pub fn drop_async<T, W: Drop, G: ReceiverGround<T, W>>(g: &mut G)
 // Takes the copy back, unless the sender has acted before.
 fn take_back<T, W: Drop, G: ReceiverGround<T, W>>(g: &mut G)
     requires { Stands (waits again) (G.state g.old) }
-    ensures went { Went (AsyncDrop AsyncExchange) (Goes (AsyncDrop AsyncSwap)) (G.state g.old).log (G.state g.new).log }
+    ensures path { Path (AsyncDrop AsyncExchange) (Goes (AsyncDrop AsyncSwap)) (G.state g.old).log (G.state g.new).log }
     ensures ends { ReceiverAsks (Swap 2) (G.state g.new) }
 {
     match g.exchange(RECEIVING, EMPTY) {

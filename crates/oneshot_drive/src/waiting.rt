@@ -7,7 +7,7 @@ ghost use Rattle.oneshot_machine.specs.Logs.{receiver_of};
 ghost use Rattle.oneshot_machine.specs.Phases.{here, looked, waits, blocked, overdue};
 ghost use Rattle.oneshot_machine.specs.TableRows.{Goes};
 ghost use Rattle.oneshot_drive.specs.declared.waiting.Found.TheVariants as F;
-ghost use Rattle.oneshot_drive.specs.Blocking.{Went, Way, load_of, write_of, wait_of, asked_of, ref_end, end_of, EndsAt, HandAt, WaitedHand};
+ghost use Rattle.oneshot_drive.specs.Blocking.{Path, ReceiveBy, load_of, write_of, wait_of, asked_of, ref_end, end_of, EndsAt, HandAt, WaitedHand};
 ghost use Rattle.oneshot_drive.specs.BetweenCalls.{AtRest, IsClosedAt, IsReady};
 ghost use Rattle.oneshot_drive.specs.Grounds.{Stands};
 
@@ -37,7 +37,7 @@ pub(crate) fn find<T, W: Drop, G: BlockGround<T, W>>(
 ) -> Found
     requires rests { AtRest (G.state g.old) }
     requires ready { IsReady hand.old (receiver_of (G.state g.old).log) }
-    ensures went { (way : Way timed) → Went (load_of way) (end_of way result) (G.state g.old).log (G.state g.new).log }
+    ensures path { (way : ReceiveBy timed) → Path (load_of way) (end_of way result) (G.state g.old).log (G.state g.new).log }
     ensures ends { EndsAt timed result (G.state g.new) }
     ensures stays { IsClosedAt (receiver_of (G.state g.old).log) → result ≡ F.Closed }
     ensures hand { HandAt result hand.old hand.new }
@@ -59,7 +59,7 @@ fn store_and_wait<T, W: Drop, G: BlockGround<T, W>>(
 ) -> Found
     requires open { Stands (here looked) (G.state g.old) }
     requires ready { (k : W) × (hand.old ≡ Some k) }
-    ensures went { (way : Way timed) → Went (write_of way) (end_of way result) (G.state g.old).log (G.state g.new).log }
+    ensures path { (way : ReceiveBy timed) → Path (write_of way) (end_of way result) (G.state g.old).log (G.state g.new).log }
     ensures ends { EndsAt timed result (G.state g.new) }
     ensures hand { HandAt result hand.old hand.new }
     ensures keeps { G.keeps g.old g.new }
@@ -88,7 +88,7 @@ fn wait<T, W: Drop, G: BlockGround<T, W>>(
     timed: bool,
 ) -> Found
     requires { Stands (waits blocked) (G.state g.old) }
-    ensures went { (way : Way timed) → Went (wait_of way) (end_of way result) (G.state g.old).log (G.state g.new).log }
+    ensures path { (way : ReceiveBy timed) → Path (wait_of way) (end_of way result) (G.state g.old).log (G.state g.new).log }
     ensures ends { EndsAt timed result (G.state g.new) }
     ensures hand { WaitedHand result hand.old hand.new }
     ensures keeps { G.keeps g.old g.new }
@@ -110,8 +110,8 @@ fn wait<T, W: Drop, G: BlockGround<T, W>>(
 // Whether there is a deadline that is over. Only where there is one, the clock is read.
 fn is_over<T, W, G: BlockGround<T, W>>(g: &mut G, timed: bool) -> bool
     requires { Stands (waits blocked) (G.state g.old) }
-    ensures went { (way : Way timed)
-        → Went (wait_of way) (Goes (asked_of way result)) (G.state g.old).log (G.state g.new).log }
+    ensures path { (way : ReceiveBy timed)
+        → Path (wait_of way) (Goes (asked_of way result)) (G.state g.old).log (G.state g.new).log }
     ensures waits { Stands (waits blocked) (G.state g.new) }
     ensures deadline { result ≡ true → timed ≡ true }
     ensures keeps { G.keeps g.old g.new }
@@ -122,7 +122,7 @@ fn is_over<T, W, G: BlockGround<T, W>>(g: &mut G, timed: bool) -> bool
 // Ends the wait of a receiver whose deadline is over, unless the sender has acted before.
 fn stop<T, W: Drop, G: BlockGround<T, W>>(g: &mut G, rt: &impl Wait, hand: &mut Option<W>) -> Found
     requires { Stands (waits blocked) (G.state g.old) }
-    ensures went { Went (Timed EndSwap) (ref_end result) (G.state g.old).log (G.state g.new).log }
+    ensures path { Path (Timed EndSwap) (ref_end result) (G.state g.old).log (G.state g.new).log }
     ensures ends { EndsAt true result (G.state g.new) }
     ensures hand { WaitedHand result hand.old hand.new }
     ensures keeps { G.keeps g.old g.new }
@@ -141,7 +141,7 @@ fn stop<T, W: Drop, G: BlockGround<T, W>>(g: &mut G, rt: &impl Wait, hand: &mut 
 // Parks, past the deadline, until the sender has finished.
 fn wait_late<T, W, G: BlockGround<T, W>>(g: &mut G, rt: &impl Wait) -> Found
     requires { Stands overdue (G.state g.old) }
-    ensures went { Went (Timed LatePark) (ref_end result) (G.state g.old).log (G.state g.new).log }
+    ensures path { Path (Timed LatePark) (ref_end result) (G.state g.old).log (G.state g.new).log }
     ensures ends { EndsAt true result (G.state g.new) }
     ensures sent { ¬ (result ≡ F.Nothing) }
     ensures keeps { G.keeps g.old g.new }

@@ -35,9 +35,9 @@ impl Protocol<bool, Half> for TokenRule {
     ghost first = { Both };
 }
 
-struct Halves;
+struct SplitsToken;
 
-impl Split<Half> for Halves {
+impl Split<Half> for SplitsToken {
     ghost left = { λ _. Parking false };
 
     ghost right = { λ _. Waking false };
@@ -100,7 +100,7 @@ pub(crate) fn parker(alloc: Global) -> Result<(ParkingHalf, WakingHalf), AllocEr
 {
     let (parker, mut pass): (RuledParker<Half, TokenRule>, Pass<Half>) = RuledParker::ruled(alloc)?;
     let unparker = parker.unparker().clone()?;
-    let waking = unparker.split_pass::<Halves>(&mut pass);
+    let waking = unparker.split_pass::<SplitsToken>(&mut pass);
     Ok((
         ParkingHalf { parker, pass },
         WakingHalf {

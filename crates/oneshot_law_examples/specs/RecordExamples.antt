@@ -25,7 +25,7 @@ use Rattle.oneshot_laws.specs.Marks.{Mark}
 use Rattle.oneshot_laws.specs.Unwoken.{NeverUnwoken}
 use Rattle.oneshot_laws.specs.WakerPlaces.{AreWakersRight}
 use Rattle.oneshot_replay.specs.Right.{IsRight}
-use Rattle.oneshot_replay.specs.TraceView.{Told, IsReplayed}
+use Rattle.oneshot_replay.specs.TraceView.{TraceView, IsReplayed}
 use Rattle.oneshot_replay.specs.declared.rest.Rest.{Rest}
 use Rattle.oneshot_replay.specs.declared.rest.Rest.TheVariants.{NotSent, Delivered, Dropped}
 use Rattle.oneshot_law_examples.specs.Notation.{Example, move_in, up_to, without, exchanged, twice, answered_by, unmoved_by, moved_by, uncarried_by}
@@ -70,7 +70,7 @@ worlds_from n w (entry ∷ entries) =
 abbrev pub worlds_in : SenderScript ℕ → ReceiverScript → Example → List World
 worlds_in s r x = worlds_from 1 (opening s r) x.entries
 
-abbrev pub shows : Example → Bool → Option (Rest ℕ) → Told ℕ
+abbrev pub shows : Example → Bool → Option (Rest ℕ) → TraceView ℕ
 shows x freed rest = record { entries = x.entries; block_freed = freed; rest = rest }
 
 -- a receiver that parks, and gets the message; and a future whose drop takes its copy back

@@ -7,22 +7,22 @@ use Rattle.oneshot_world.specs.declared.script.SenderScript.{SenderScript}
 use Rattle.oneshot_world.specs.declared.trace.Entry.{Entry}
 use Rattle.oneshot_world.proofs.WorldDetermined.{run_is}
 use Rattle.oneshot_replay.specs.Rest.{message_of, rest_at}
-use Rattle.oneshot_replay.specs.TraceView.{Told, IsReplayed, last_of}
+use Rattle.oneshot_replay.specs.TraceView.{TraceView, IsReplayed, last_of}
 use Rattle.oneshot_replay.specs.declared.rest.Rest.{Rest}
 
 same_value : {X : Type 0} {a b : X} → Some a ≡ Some b → a ≡ b
 same_value is = cc
 
 module _ {T : Type 0} where
-  told_with : List Entry → Bool → Option (Rest T) → Told T
+  told_with : List Entry → Bool → Option (Rest T) → TraceView T
   told_with entries freed rest = record { entries = entries; block_freed = freed; rest = rest }
 
-  told_parts : (t : Told T) → told_with t.entries t.block_freed t.rest ≡ t
+  told_parts : (t : TraceView T) → told_with t.entries t.block_freed t.rest ≡ t
   unfolding told_with
   told_parts t = refl
 
-  pub one_trace : (s : SenderScript T) (r : ReceiverScript) (moves : List Move) (t u : Told T) → IsReplayed s r moves t
-      → IsReplayed s r moves u → t ≡ u
+  pub one_trace : (s : SenderScript T) (r : ReceiverScript) (moves : List Move) (t u : TraceView T)
+      → IsReplayed s r moves t → IsReplayed s r moves u → t ≡ u
   one_trace s r moves t u a b =
       let same : (t.entries, a.worlds) ≡ (u.entries, b.worlds) =
       same_value (sym (run_is 1 (opening s r) a.worlds moves t.entries a.tells) ∙ run_is 1 (opening s r) b.worlds moves

@@ -16,10 +16,10 @@ use Rattle.oneshot_laws.specs.Replies.{is_gone_after_got, is_got_after_full, is_
 use Rattle.oneshot_laws.specs.Alone.{are_lone_calls_right}
 use Rattle.oneshot_laws.specs.Bounds.{are_calls_bounded, is_soon_answered}
 use Rattle.oneshot_replay.specs.Rest.{message_of, rest_of}
-use Rattle.oneshot_replay.specs.TraceView.{Told, IsReplayed}
+use Rattle.oneshot_replay.specs.TraceView.{TraceView, IsReplayed}
 
 pub record IsRight {T : Type 0}
-    (s : SenderScript T) (r : ReceiverScript) (moves : List Move) (t : Told T) : Type 0 where
+    (s : SenderScript T) (r : ReceiverScript) (moves : List Move) (t : TraceView T) : Type 0 where
   pub run : IsReplayed s r moves t
   pub an_entry_a_move : length t.entries ≡ length moves
   pub idle : IsTrue (is_idle_right (calls_of s r) t.entries)

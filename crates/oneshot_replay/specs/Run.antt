@@ -7,7 +7,7 @@ use Rattle.oneshot_world.specs.declared.script.SenderScript.{SenderScript}
 use Rattle.oneshot_world.specs.declared.trace.Entry.{Entry}
 use Rattle.oneshot_replay.specs.Rest.{message_of, rest_at}
 use Rattle.oneshot_replay.specs.Scene.{Scene}
-use Rattle.oneshot_replay.specs.TraceView.{Told, last_of}
+use Rattle.oneshot_replay.specs.TraceView.{TraceView, last_of}
 
 -- A run of these scripts under these moves, which made these entries and has come to `now`: entry k tells the
 -- step from world k to world k + 1.
@@ -20,7 +20,7 @@ pub record HasRun {T : Type 0} (s : SenderScript T) (r : ReceiverScript) (moves 
   pub message : now.message ≡ message_of s.last
 
 -- what a trace tells that ends here
-abbrev pub told_at : {T : Type 0} → List Entry → Scene T → Told T
+abbrev pub told_at : {T : Type 0} → List Entry → Scene T → TraceView T
 told_at entries now =
     record {
       entries = entries;

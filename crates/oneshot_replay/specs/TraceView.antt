@@ -8,7 +8,7 @@ use Rattle.oneshot_world.specs.declared.trace.Entry.{Entry}
 use Rattle.oneshot_replay.specs.Rest.{message_of, rest_at}
 use Rattle.oneshot_replay.specs.declared.rest.Rest.{Rest}
 
-pub record Told (T : Type 0) : Type 0 where
+pub record TraceView (T : Type 0) : Type 0 where
   pub entries : List Entry
   pub block_freed : Bool
   pub rest : Option (Rest T)
@@ -21,8 +21,8 @@ last_of w (next ∷ worlds) = last_of next worlds
 -- There is a run of the two scripts, a list of worlds one longer than the moves: entry k tells the step from
 -- world k to world k + 1. The block and the message's rest are those of its last world, with the script's own
 -- message.
-pub record IsReplayed {T : Type 0} (s : SenderScript T) (r : ReceiverScript) (moves : List Move) (t : Told T) : Type
-    0 where
+pub record IsReplayed {T : Type 0} (s : SenderScript T) (r : ReceiverScript) (moves : List Move) (t : TraceView T)
+    : Type 0 where
   pub worlds : List World
   pub tells : Tells (opening s r) worlds moves t.entries
   pub block_freed : t.block_freed ≡ (last_of (opening s r) worlds).state.freed
@@ -31,5 +31,5 @@ pub record IsReplayed {T : Type 0} (s : SenderScript T) (r : ReceiverScript) (mo
 -- There is one trace at most of two scripts under these moves.
 abbrev pub IsDetermined : (T : Type 0) → Type 0
 IsDetermined T =
-    (s : SenderScript T) (r : ReceiverScript) (moves : List Move) (t u : Told T)
+    (s : SenderScript T) (r : ReceiverScript) (moves : List Move) (t u : TraceView T)
     → IsReplayed s r moves t → IsReplayed s r moves u → t ≡ u

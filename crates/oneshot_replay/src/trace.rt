@@ -16,9 +16,9 @@ pub struct Trace<T> {
 
 impl<T> Model for Trace<T> {
     ghost use Rattle.oneshot_replay.specs.Rest.{rest_at};
-    ghost use Rattle.oneshot_replay.specs.TraceView.{Told};
+    ghost use Rattle.oneshot_replay.specs.TraceView.{TraceView};
 
-    ghost Value = { Told T };
+    ghost Value = { TraceView T };
 
     ghost view = { λ t. record {
       entries = t.entries.items;

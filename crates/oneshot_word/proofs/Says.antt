@@ -12,25 +12,26 @@ along-snoc next a [] x = refl
 along-snoc next a (y ∷ xs) x = along-snoc next (next a y.0 y.1) xs x
 
 -- all that is told by a receiver's log, so far and after one operation more
-abbrev Told : Type 0
-Told = Bool × Bool × Bool × Option ℕ
+abbrev Facts : Type 0
+Facts = Bool × Bool × Bool × Option ℕ
 
-abbrev told_at : ReceiverAt → Told
-told_at q = (stores_of q, overdue_of q, gone_of q, wrote_of q)
+abbrev facts_at : ReceiverAt → Facts
+facts_at q = (stores_of q, overdue_of q, gone_of q, wrote_of q)
 
-abbrev told_next : Told → Op → Seen → Told
-told_next t op seen = (stores_next t.0 op seen, overdue_next t.1 op seen, gone_next t.2 op seen, wrote_next t.3 op seen)
+abbrev facts_next : Facts → Op → Seen → Facts
+facts_next t op seen =
+    (stores_next t.0 op seen, overdue_next t.1 op seen, gone_next t.2 op seen, wrote_next t.3 op seen)
 
-abbrev is_told : Told → Told → Bool
-is_told s t = is_bool s.0 t.0 && is_bool s.1 t.1 && is_bool s.2 t.2 && is_word s.3 t.3
+abbrev agree : Facts → Facts → Bool
+agree s t = is_bool s.0 t.0 && is_bool s.1 t.1 && is_bool s.2 t.2 && is_word s.3 t.3
 
-record Tells (s t : Told) : Type 0 where
+record Tells (s t : Facts) : Type 0 where
   stores : s.0 ≡ t.0
   overdue : s.1 ≡ t.1
   gone : s.2 ≡ t.2
   wrote : s.3 ≡ t.3
 
-tells : (s t : Told) → is_told s t ≡ true → Tells s t
+tells : (s t : Facts) → agree s t ≡ true → Tells s t
 tells s t all =
     let wrote = and_parts (is_bool s.0 t.0 && is_bool s.1 t.1 && is_bool s.2 t.2) (is_word s.3 t.3) all in
     let gone = and_parts (is_bool s.0 t.0 && is_bool s.1 t.1) (is_bool s.2 t.2) wrote.0 in
@@ -43,11 +44,11 @@ tells s t all =
     }
 
 -- which is computed for each row of the receiver's table
-abbrev is_told_by : ReceiverAt → Row ReceiverAt → Bool
-is_told_by q row =
-    let seen = saw row.0 row.2 in is_told (told_next (told_at q) row.0 seen) (told_at (receiver_next q row.0 seen))
+abbrev agree_by : ReceiverAt → Row ReceiverAt → Bool
+agree_by q row =
+    let seen = saw row.0 row.2 in agree (facts_next (facts_at q) row.0 seen) (facts_at (receiver_next q row.0 seen))
 
-told : (q : ReceiverAt) → list_all (is_told_by q) (receiver_moves q) ≡ true
+told : (q : ReceiverAt) → list_all (agree_by q) (receiver_moves q) ≡ true
 told (here looked) = refl
 told (waits blocked) = refl
 told (full (swapped storing)) = refl
@@ -80,8 +81,8 @@ sender_says _ (says_overtaken _ _) there = elim there [ ]
 
 adds : (q : ReceiverAt) {next : ReceiverAt} {op : Op} {before after : Slots} (word : ℕ)
     → In (op, before, word, next, after) (receiver_moves q)
-    → Tells (told_next (told_at q) op (saw op word)) (told_at (receiver_next q op (saw op word)))
-adds q word row = tells _ _ (each_passes (is_told_by q) (receiver_moves q) (told q) row)
+    → Tells (facts_next (facts_at q) op (saw op word)) (facts_at (receiver_next q op (saw op word)))
+adds q word row = tells _ _ (each_passes (agree_by q) (receiver_moves q) (told q) row)
 
 pub receiver_says : {ys : List Noted} (q : ReceiverAt) {next : ReceiverAt} {op : Op} {before after : Slots} (word : ℕ)
     → In (op, before, word, next, after) (receiver_moves q) → ReceiverSays ys q

@@ -5,7 +5,7 @@ ghost use Rattle.std.specs.Arc.{arc_value};
 ghost use Rattle.oneshot_word.specs.Side.{AreEnds};
 ghost use Rattle.oneshot_word.specs.declared.rule.Slot.TheVariants.{Empty};
 
-use crate::plays::{Deals, Halves};
+use crate::plays::{MakesReceiver, TakesMessageSlot};
 use crate::promise::Promise;
 use crate::receiver::ReceiverSide;
 use crate::rule::Slot;
@@ -27,8 +27,8 @@ pub fn open<T: Send + Drop, H: Send + Drop, K: Send + Drop, P: Promise<T>>(
     let Ok((made, mut seat)) = Table::new(alloc, &[EMPTY as u64], empty_slots(alloc)?, about) else {
         return Err(AllocError);
     };
-    made.shared.load::<Deals>(&mut seat, 0);
-    let other = made.shared.split_seat::<Halves>(&mut seat);
+    made.shared.load::<TakesMessageSlot>(&mut seat, 0);
+    let other = made.shared.split_seat::<MakesReceiver>(&mut seat);
     match shared(alloc, made) {
         Ok((table, shared)) => {
             let sender = SenderSide::new(table, seat);

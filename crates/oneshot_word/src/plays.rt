@@ -53,16 +53,16 @@ impl<T, H, K, P: Promise<T>> Play<Slot<T, H, K>, View<T, P>> for Exchanges {
 }
 
 // The maker takes the message's slot.
-pub(crate) struct Deals;
+pub(crate) struct TakesMessageSlot;
 
-impl<T, H, K, P> Play<Slot<T, H, K>, View<T, P>> for Deals {
+impl<T, H, K, P> Play<Slot<T, H, K>, View<T, P>> for TakesMessageSlot {
     ghost then = { λ _ before found after. after ≡ (view before.0.about Dealer [] None, (0, Empty) ∷ []) };
 }
 
 // The sender's seat keeps the slot, and the receiver has a new seat.
-pub(crate) struct Halves;
+pub(crate) struct MakesReceiver;
 
-impl<T, P> Split<View<T, P>> for Halves {
+impl<T, P> Split<View<T, P>> for MakesReceiver {
     ghost left = { λ v. view v.about Sender [] None };
 
     ghost right = { λ v. view v.about Receiver [] None };

@@ -24,7 +24,7 @@ returns-in-Message g c =
     c.take_message.ensures.log c.take_message.ensures.message c.take_message.ensures.waker in
     record {
       run = full_ran c.store.result c.take_message.result
-          (rw c.in-Message.is at (c.find.ensures.went (by_ref c.args.timed))) c.store.ensures.log
+          (rw c.in-Message.is at (c.find.ensures.path (by_ref c.args.timed))) c.store.ensures.log
           c.take_message.ensures.log;
       rests = rests_over over;
       leaves = full_leaves c.take_message.result over.phase;
@@ -39,7 +39,7 @@ pub returns-in-Closed : goal.returns-in-Closed
 returns-in-Closed g c =
     let ends = rw c.in-Closed.is at c.find.ensures.ends in
     record {
-      run = whole (rw c.in-Closed.is at (c.find.ensures.went (by_ref c.args.timed)));
+      run = whole (rw c.in-Closed.is at (c.find.ensures.path (by_ref c.args.timed)));
       rests = rests_over ends.1;
       leaves = over_leaves ends.1;
       stays = λ is_closed. refl;
@@ -58,7 +58,7 @@ returns-in-Unclosed g c =
     let over =
     shut c.store-in-Unclosed.result ends.1 c.store-in-Unclosed.ensures.finds c.store-in-Unclosed.ensures.log in
     record {
-      run = shut_ran c.store-in-Unclosed.result (rw c.in-Unclosed.is at (c.find.ensures.went (by_ref c.args.timed)))
+      run = shut_ran c.store-in-Unclosed.result (rw c.in-Unclosed.is at (c.find.ensures.path (by_ref c.args.timed)))
           c.store-in-Unclosed.ensures.log;
       rests = rests_over over;
       leaves = over_leaves over;
@@ -73,7 +73,7 @@ pub returns-in-Nothing : goal.returns-in-Nothing
 returns-in-Nothing g c =
     let ends = rw c.in-Nothing.is at c.find.ensures.ends in
     record {
-      run = whole (rw c.in-Nothing.is at (c.find.ensures.went (by_ref c.args.timed)));
+      run = whole (rw c.in-Nothing.is at (c.find.ensures.path (by_ref c.args.timed)));
       rests = out_rests ends.1;
       leaves = out_leaves ends.1.phase;
       stays = λ is_closed. let e = sym c.in-Nothing.is ∙ c.find.ensures.stays is_closed in absurd (cc);

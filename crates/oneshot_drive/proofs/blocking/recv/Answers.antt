@@ -13,7 +13,7 @@ pub returns-in_default : goal.returns-in_default
 returns-in_default g c =
     record {
       run = gone_freed (gone (g.G.ReceiverGround.state c.find.new.g) c.find.result c.in_default.not-Message
-          c.find.ensures.ends) (c.find.ensures.went by_value) c.free.ensures.log;
+          c.find.ensures.ends) (c.find.ensures.path by_value) c.free.ensures.log;
       stays = λ _. refl;
       hand = hand_back
           (g.G.ReceiverGround.state c.find.new.g) c.find.result c.find.ensures.ends c.find.ensures.hand;
@@ -32,7 +32,7 @@ free-requires-2-clause-waker g c =
 
 pub returns-clause-run : goal.returns-clause-run
 returns-clause-run g c =
-    full_freed c.take_message-message.result (rw c.in-Message.is at (c.find.ensures.went by_value))
+    full_freed c.take_message-message.result (rw c.in-Message.is at (c.find.ensures.path by_value))
     c.take_message-message.ensures.log c.free-2.ensures.log
 
 pub returns-clause-hand : goal.returns-clause-hand

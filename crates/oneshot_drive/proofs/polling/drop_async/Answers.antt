@@ -16,7 +16,7 @@ close-requires-in_default g c =
 
 pub returns-in-0-clause-run : goal.returns-in-0-clause-run
 returns-in-0-clause-run g c =
-    drop_after c.load.result c.load.ensures.log c.in-0.is c.take_back.ensures.went c.close.ensures
+    drop_after c.load.result c.load.ensures.log c.in-0.is c.take_back.ensures.path c.close.ensures
 
 pub returns-in_default-clause-run : goal.returns-in_default-clause-run
 returns-in_default-clause-run g c =

@@ -9,8 +9,8 @@ exchange-word-requires g c =
     leave_asks c.args.copy c.requires.open c.write_waker.ensures.log c.write_waker.ensures.message
     c.write_waker.ensures.waker
 
-pub returns-then-word-eq-EMPTY-clause-went : goal.returns-then-word-eq-EMPTY-clause-went
-returns-then-word-eq-EMPTY-clause-went g c =
+pub returns-then-word-eq-EMPTY-clause-path : goal.returns-then-word-eq-EMPTY-clause-path
+returns-then-word-eq-EMPTY-clause-path g c =
     leave_waits c.args.copy c.exchange-word.result c.if-word-eq-EMPTY.true c.write_waker.ensures.log
     c.exchange-word.ensures.log
 
@@ -34,7 +34,7 @@ returns-then-word-eq-MESSAGE g c =
     let on = g.G.ReceiverGround.keeps_on in
     let found = left c.exchange-word.result c.exchange-word.ensures.finds c.exchange-word.ensures.log in
     record {
-      went = leave_full c.args.copy c.withdraw.result c.exchange-word.result c.if-word-eq-MESSAGE.true
+      path = leave_full c.args.copy c.withdraw.result c.exchange-word.result c.if-word-eq-MESSAGE.true
           c.write_waker.ensures.log c.exchange-word.ensures.log c.withdraw.ensures.log;
       ends = withdrew_full found c.withdraw.ensures.log c.withdraw.ensures.message c.withdraw.ensures.waker
           c.if-word-eq-MESSAGE.true;
@@ -49,7 +49,7 @@ returns-else-word-eq-MESSAGE g c =
     let on = g.G.ReceiverGround.keeps_on in
     let found = left c.exchange-word.result c.exchange-word.ensures.finds c.exchange-word.ensures.log in
     record {
-      went = leave_over c.args.copy c.withdraw.result c.exchange-word.result
+      path = leave_over c.args.copy c.withdraw.result c.exchange-word.result
           (none_left found c.if-word-eq-EMPTY.false c.if-word-eq-MESSAGE.false)
           c.write_waker.ensures.log c.exchange-word.ensures.log c.withdraw.ensures.log;
       ends = withdrew_over found c.withdraw.ensures.log c.withdraw.ensures.message c.withdraw.ensures.waker

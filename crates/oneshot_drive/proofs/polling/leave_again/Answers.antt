@@ -8,7 +8,7 @@ use Rattle.oneshot_drive.proofs.polling.leave_again.Goals as goal
 pub returns-in_default : goal.returns-in_default
 returns-in_default g c =
     record {
-      went = refused c.copy.result (search rules) refl refl c.copy.ensures.log c.wake_own.ensures.log;
+      path = refused c.copy.result (search rules) refl refl c.copy.ensures.log c.wake_own.ensures.log;
       ends = owned_ends leaves_its_copy (copied_on c.copy.result c.requires c.copy.ensures.log c.copy.ensures.message
           c.copy.ensures.waker) c.wake_own.ensures.log c.wake_own.ensures.message c.wake_own.ensures.waker;
       heard = λ nothing. c.wake_own.ensures.heard;
@@ -37,8 +37,8 @@ pub returns-in-0 : goal.returns-in-0
 returns-in-0 g c =
     let on = g.G.ReceiverGround.keeps_on in
     record {
-      went = again_left c.copy.result c.in-Some.copy c.in-Some.is c.copy.ensures.log c.leave.result c.exchange.result
-          c.withdraw-stored.result c.in-0.is c.exchange.ensures.log c.withdraw-stored.ensures.log c.leave.ensures.went;
+      path = again_left c.copy.result c.in-Some.copy c.in-Some.is c.copy.ensures.log c.leave.result c.exchange.result
+          c.withdraw-stored.result c.in-0.is c.exchange.ensures.log c.withdraw-stored.ensures.log c.leave.ensures.path;
       ends = c.leave.ensures.ends;
       heard = c.leave.ensures.heard;
       own = on_copy c.in-Some.copy c.in-Some.is c.copy.ensures.log
@@ -51,7 +51,7 @@ returns-in-0 g c =
 pub returns-in-4 : goal.returns-in-4
 returns-in-4 g c =
     record {
-      went = again_to c.copy.result c.in-Some.copy c.in-Some.is c.copy.ensures.log _ c.exchange.result 4 refl c.in-4.is
+      path = again_to c.copy.result c.in-Some.copy c.in-Some.is c.copy.ensures.log _ c.exchange.result 4 refl c.in-4.is
           c.exchange.ensures.log;
       ends = backed_full (again_backed c.copy.result c.exchange.result c.requires c.copy.ensures.log
           c.copy.ensures.message c.copy.ensures.waker c.exchange.ensures.finds c.exchange.ensures.log) c.in-4.is;
@@ -64,7 +64,7 @@ returns-in-4 g c =
 pub returns-in-2 : goal.returns-in-2
 returns-in-2 g c =
     record {
-      went = again_to c.copy.result c.in-Some.copy c.in-Some.is c.copy.ensures.log _ c.exchange.result 2 refl c.in-2.is
+      path = again_to c.copy.result c.in-Some.copy c.in-Some.is c.copy.ensures.log _ c.exchange.result 2 refl c.in-2.is
           c.exchange.ensures.log;
       ends = backed_none (again_backed c.copy.result c.exchange.result c.requires c.copy.ensures.log
           c.copy.ensures.message c.copy.ensures.waker c.exchange.ensures.finds c.exchange.ensures.log) c.in-2.is;
@@ -82,7 +82,7 @@ returns-in_default-exchange g c =
     c.copy.ensures.waker c.exchange.ensures.finds c.exchange.ensures.log)
     (search rules) (search rules) (search rules) in
     record {
-      went = again_late c.copy.result c.in-Some.copy c.in-Some.is c.copy.ensures.log c.exchange.result late.word
+      path = again_late c.copy.result c.in-Some.copy c.in-Some.is c.copy.ensures.log c.exchange.result late.word
           c.exchange.ensures.log c.wake_own-in_default-exchange.ensures.log;
       ends = owned_ends leaves_claimed late.stands c.wake_own-in_default-exchange.ensures.log
           c.wake_own-in_default-exchange.ensures.message c.wake_own-in_default-exchange.ensures.waker;

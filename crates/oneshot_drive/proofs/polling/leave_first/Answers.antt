@@ -4,8 +4,8 @@ use Rattle.oneshot_drive.proofs.LeftCopies.{refused, copied_on, owned_ends, may_
 use Rattle.oneshot_drive.proofs.OwnCopies.{wrote_none, on_own, on_copy, on_refusal}
 use Rattle.oneshot_drive.proofs.polling.leave_first.Goals as goal
 
-pub returns-in_default-clause-went : goal.returns-in_default-clause-went
-returns-in_default-clause-went g c =
+pub returns-in_default-clause-path : goal.returns-in_default-clause-path
+returns-in_default-clause-path g c =
     refused c.copy.result (search rules) refl refl c.copy.ensures.log c.wake_own.ensures.log
 
 pub returns-in_default-clause-ends : goal.returns-in_default-clause-ends
@@ -19,9 +19,9 @@ leave-requires-clause-open g c =
     may_leave (copied_on c.copy.result c.requires c.copy.ensures.log c.copy.ensures.message
     c.copy.ensures.waker) refl
 
-pub returns-clause-went : goal.returns-clause-went
-returns-clause-went g c =
-    first_left c.copy.result c.in-Some.copy c.in-Some.is c.copy.ensures.log c.leave.result c.leave.ensures.went
+pub returns-clause-path : goal.returns-clause-path
+returns-clause-path g c =
+    first_left c.copy.result c.in-Some.copy c.in-Some.is c.copy.ensures.log c.leave.result c.leave.ensures.path
 
 pub returns-in_default-clause-own : goal.returns-in_default-clause-own
 returns-in_default-clause-own g c = on_refusal c.copy.ensures.log (on_own c.wake_own.ensures.log (wrote_none _))

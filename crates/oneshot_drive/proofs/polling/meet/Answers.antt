@@ -1,7 +1,7 @@
 -- The goals that `meet` leaves.
 use Rattle.oneshot_drive.proofs.Names.{rules, refl, leaves_claimed}
 use Rattle.oneshot_drive.proofs.RestLoads.{never}
-use Rattle.oneshot_drive.proofs.PollLoads.{meet_asks, met, met_open, met_copied, met_claimed, met_full, met_none, met_went, met_own, loaded_to}
+use Rattle.oneshot_drive.proofs.PollLoads.{meet_asks, met, met_open, met_copied, met_claimed, met_full, met_none, met_path, met_own, loaded_to}
 use Rattle.oneshot_drive.proofs.LeftCopies.{owned_ends}
 use Rattle.oneshot_drive.proofs.OwnCopies.{wrote_none, on_word, on_own}
 use Rattle.oneshot_drive.proofs.polling.meet.Goals as goal
@@ -12,8 +12,8 @@ load-requires g c = meet_asks c.requires
 pub leave_first-requires : goal.leave_first-requires
 leave_first-requires g c = met_open (met c.load.result c.requires c.load.ensures.finds c.load.ensures.log) c.in-3.is
 
-pub returns-in-3-clause-went : goal.returns-in-3-clause-went
-returns-in-3-clause-went g c = met_went c.load.result 3 refl c.in-3.is c.load.ensures.log c.leave_first.ensures.went
+pub returns-in-3-clause-path : goal.returns-in-3-clause-path
+returns-in-3-clause-path g c = met_path c.load.result 3 refl c.in-3.is c.load.ensures.log c.leave_first.ensures.path
 
 pub returns-in-3-clause-stays : goal.returns-in-3-clause-stays
 returns-in-3-clause-stays g c is_closed = never 3 refl c.in-3.is is_closed c.load.ensures.finds
@@ -21,14 +21,14 @@ returns-in-3-clause-stays g c is_closed = never 3 refl c.in-3.is is_closed c.loa
 pub leave_again-requires : goal.leave_again-requires
 leave_again-requires g c = met_copied (met c.load.result c.requires c.load.ensures.finds c.load.ensures.log) c.in-0.is
 
-pub returns-in-0-clause-went : goal.returns-in-0-clause-went
-returns-in-0-clause-went g c = met_went c.load.result 0 refl c.in-0.is c.load.ensures.log c.leave_again.ensures.went
+pub returns-in-0-clause-path : goal.returns-in-0-clause-path
+returns-in-0-clause-path g c = met_path c.load.result 0 refl c.in-0.is c.load.ensures.log c.leave_again.ensures.path
 
 pub returns-in-0-clause-stays : goal.returns-in-0-clause-stays
 returns-in-0-clause-stays g c is_closed = never 0 refl c.in-0.is is_closed c.load.ensures.finds
 
-pub returns-in-4-clause-went : goal.returns-in-4-clause-went
-returns-in-4-clause-went g c = loaded_to _ c.load.result 4 refl refl c.in-4.is c.load.ensures.log
+pub returns-in-4-clause-path : goal.returns-in-4-clause-path
+returns-in-4-clause-path g c = loaded_to _ c.load.result 4 refl refl c.in-4.is c.load.ensures.log
 
 pub returns-in-4-clause-ends : goal.returns-in-4-clause-ends
 returns-in-4-clause-ends g c =
@@ -37,8 +37,8 @@ returns-in-4-clause-ends g c =
 pub returns-in-4-clause-stays : goal.returns-in-4-clause-stays
 returns-in-4-clause-stays g c is_closed = never 4 refl c.in-4.is is_closed c.load.ensures.finds
 
-pub returns-in-1-clause-went : goal.returns-in-1-clause-went
-returns-in-1-clause-went g c = met_own c.load.result c.in-1.is c.load.ensures.log c.wake_own.ensures.log
+pub returns-in-1-clause-path : goal.returns-in-1-clause-path
+returns-in-1-clause-path g c = met_own c.load.result c.in-1.is c.load.ensures.log c.wake_own.ensures.log
 
 pub returns-in-1-clause-ends : goal.returns-in-1-clause-ends
 returns-in-1-clause-ends g c =
@@ -48,8 +48,8 @@ returns-in-1-clause-ends g c =
 pub returns-in-1-clause-stays : goal.returns-in-1-clause-stays
 returns-in-1-clause-stays g c is_closed = never 1 refl c.in-1.is is_closed c.load.ensures.finds
 
-pub returns-in_default-clause-went : goal.returns-in_default-clause-went
-returns-in_default-clause-went g c =
+pub returns-in_default-clause-path : goal.returns-in_default-clause-path
+returns-in_default-clause-path g c =
     loaded_to _ c.load.result 2 refl refl
     (met_none (met c.load.result c.requires c.load.ensures.finds c.load.ensures.log) (search rules) (search rules)
     (search rules) (search rules)).0 c.load.ensures.log

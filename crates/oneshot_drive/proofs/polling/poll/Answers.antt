@@ -20,7 +20,7 @@ returns-in-Message g c =
     let ends = rw c.in-Message.is at c.meet.ensures.ends in
     let over = took_message (closed_over c.store.result ends.2 c.store.ensures.finds c.store.ensures.log)
     c.take_message.ensures.log c.take_message.ensures.message c.take_message.ensures.waker in
-    let run = poll_ran c.store.result c.take_message.result (rw c.in-Message.is at c.meet.ensures.went)
+    let run = poll_ran c.store.result c.take_message.result (rw c.in-Message.is at c.meet.ensures.path)
     c.store.ensures.log c.take_message.ensures.log in
     record {
       run = run;
@@ -40,7 +40,7 @@ returns-in-Message g c =
 pub returns-in-Nothing : goal.returns-in-Nothing
 returns-in-Nothing g c =
     let ends = rw c.in-Nothing.is at c.meet.ensures.ends in
-    let run = whole (rw c.in-Nothing.is at c.meet.ensures.went) in
+    let run = whole (rw c.in-Nothing.is at c.meet.ensures.path) in
     record {
       run = run;
       rests = pending_rests ends;
@@ -57,7 +57,7 @@ pub returns-in_default : goal.returns-in_default
 returns-in_default g c =
     let over = gone (g.G.ReceiverGround.state c.meet.new.g) c.meet.result c.meet.ensures.ends c.in_default.not-Message
     c.in_default.not-Nothing in
-    let run = whole (rw over.0 at c.meet.ensures.went) in
+    let run = whole (rw over.0 at c.meet.ensures.path) in
     record {
       run = run;
       rests = gone_rests over.1;

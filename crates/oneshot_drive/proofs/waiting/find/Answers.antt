@@ -11,7 +11,7 @@ pub returns-in-4 : goal.returns-in-4
 returns-in-4 g c =
     let full = loaded_full (loaded c.load.result c.requires.rests c.load.ensures.finds c.load.ensures.log) c.in-4.is in
     record {
-      went = λ way. full_at_once way c.load.result c.in-4.is c.load.ensures.log;
+      path = λ way. full_at_once way c.load.result c.in-4.is c.load.ensures.log;
       ends = (at_once, refl, full);
       stays = λ is_closed. never 4 refl c.in-4.is is_closed c.load.ensures.finds;
       hand = returned c.args.hand.now;
@@ -26,9 +26,9 @@ pub store_and_wait-requires-clause-ready : goal.store_and_wait-requires-clause-r
 store_and_wait-requires-clause-ready g c =
     ready_waker c.args.hand.now c.load.result c.requires.ready c.load.ensures.finds c.in-3.is
 
-pub returns-in-3-clause-went : goal.returns-in-3-clause-went
-returns-in-3-clause-went g c way =
-    found_none way c.load.result c.in-3.is c.load.ensures.log (c.store_and_wait.ensures.went way)
+pub returns-in-3-clause-path : goal.returns-in-3-clause-path
+returns-in-3-clause-path g c way =
+    found_none way c.load.result c.in-3.is c.load.ensures.log (c.store_and_wait.ensures.path way)
 
 pub returns-in-3-clause-stays : goal.returns-in-3-clause-stays
 returns-in-3-clause-stays g c is_closed = never 3 refl c.in-3.is is_closed c.load.ensures.finds
@@ -43,7 +43,7 @@ returns-in_default g c =
     loaded_none (loaded c.load.result c.requires.rests c.load.ensures.finds c.load.ensures.log) (search rules)
     (search rules) in
     record {
-      went = λ way. over_at_once way c.load.result over.0 c.load.ensures.log;
+      path = λ way. over_at_once way c.load.result over.0 c.load.ensures.log;
       ends = (over.1, over.2);
       stays = λ is_closed. refl;
       hand = returned c.args.hand.now;

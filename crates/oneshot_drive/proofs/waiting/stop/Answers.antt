@@ -1,7 +1,7 @@
 -- The goals that `stop` leaves.
 use Rattle.oneshot_drive.proofs.Names.{rules, refl, Swap, is_in}
 use Rattle.oneshot_drive.proofs.AfterOperations.{asks}
-use Rattle.oneshot_drive.proofs.Waits.{stopped, stopped_open, stopped_full, stopped_over, stopped_late, withdrew_nothing, stops_to, nothing_went, late_went}
+use Rattle.oneshot_drive.proofs.Waits.{stopped, stopped_open, stopped_full, stopped_over, stopped_late, withdrew_nothing, stops_to, nothing_path, late_path}
 use Rattle.oneshot_drive.proofs.waiting.stop.Goals as goal
 
 pub swap-requires : goal.swap-requires
@@ -11,9 +11,9 @@ pub withdraw-requires : goal.withdraw-requires
 withdraw-requires g c =
     is_in (stopped_open (stopped c.swap.result c.requires c.swap.ensures.finds c.swap.ensures.log) c.in-0.is).waker
 
-pub returns-in-0-clause-went : goal.returns-in-0-clause-went
-returns-in-0-clause-went g c =
-    nothing_went c.withdraw.result c.swap.result c.in-0.is c.swap.ensures.log c.withdraw.ensures.log
+pub returns-in-0-clause-path : goal.returns-in-0-clause-path
+returns-in-0-clause-path g c =
+    nothing_path c.withdraw.result c.swap.result c.in-0.is c.swap.ensures.log c.withdraw.ensures.log
 
 pub returns-in-0-clause-ends : goal.returns-in-0-clause-ends
 returns-in-0-clause-ends g c =
@@ -23,15 +23,15 @@ returns-in-0-clause-ends g c =
 pub returns-in-0-clause-hand : goal.returns-in-0-clause-hand
 returns-in-0-clause-hand g c = (c.withdraw.result, refl)
 
-pub returns-in-4-clause-went : goal.returns-in-4-clause-went
-returns-in-4-clause-went g c = stops_to _ c.swap.result 4 refl c.in-4.is c.swap.ensures.log
+pub returns-in-4-clause-path : goal.returns-in-4-clause-path
+returns-in-4-clause-path g c = stops_to _ c.swap.result 4 refl c.in-4.is c.swap.ensures.log
 
 pub returns-in-4-clause-ends : goal.returns-in-4-clause-ends
 returns-in-4-clause-ends g c =
     stopped_full (stopped c.swap.result c.requires c.swap.ensures.finds c.swap.ensures.log) c.in-4.is
 
-pub returns-in-2-clause-went : goal.returns-in-2-clause-went
-returns-in-2-clause-went g c = stops_to _ c.swap.result 2 refl c.in-2.is c.swap.ensures.log
+pub returns-in-2-clause-path : goal.returns-in-2-clause-path
+returns-in-2-clause-path g c = stops_to _ c.swap.result 2 refl c.in-2.is c.swap.ensures.log
 
 pub returns-in-2-clause-ends : goal.returns-in-2-clause-ends
 returns-in-2-clause-ends g c =
@@ -42,12 +42,12 @@ wait_late-requires g c =
     (stopped_late (stopped c.swap.result c.requires c.swap.ensures.finds c.swap.ensures.log) (search rules)
     (search rules) (search rules)).stands
 
-pub returns-in_default-clause-went : goal.returns-in_default-clause-went
-returns-in_default-clause-went g c =
+pub returns-in_default-clause-path : goal.returns-in_default-clause-path
+returns-in_default-clause-path g c =
     let late =
     stopped_late (stopped c.swap.result c.requires c.swap.ensures.finds c.swap.ensures.log) (search rules)
     (search rules) (search rules) in
-    late_went c.wait_late.result c.swap.result late.word c.swap.ensures.log c.wait_late.ensures.went
+    late_path c.wait_late.result c.swap.result late.word c.swap.ensures.log c.wait_late.ensures.path
 
 pub returns-in-0-clause-keeps : goal.returns-in-0-clause-keeps
 returns-in-0-clause-keeps g c =

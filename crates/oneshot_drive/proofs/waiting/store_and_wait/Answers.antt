@@ -1,6 +1,6 @@
 -- The goals that `store_and_wait` leaves.
 use Rattle.oneshot_drive.proofs.Names.{◌≡◌, Some, rules, is_room, waker_kept}
-use Rattle.oneshot_drive.proofs.StoredWaker.{over_message, over_end, stored_asks, stored, stored_waits, stored_there, over_word, stored_went, back_went, withdrew_full, withdrew_over, back, waited_hand}
+use Rattle.oneshot_drive.proofs.StoredWaker.{over_message, over_end, stored_asks, stored, stored_waits, stored_there, over_word, stored_path, back_path, withdrew_full, withdrew_over, back, waited_hand}
 use Rattle.oneshot_drive.proofs.waiting.store_and_wait.Goals as goal
 
 pub write_waker-requires : goal.write_waker-requires
@@ -16,10 +16,10 @@ wait-requires g c =
     c.write_waker.ensures.waker c.swap-word.result c.swap-word.ensures.finds c.swap-word.ensures.log)
     c.if-word-eq-EMPTY.true
 
-pub returns-then-word-eq-EMPTY-clause-went : goal.returns-then-word-eq-EMPTY-clause-went
-returns-then-word-eq-EMPTY-clause-went g c way =
-    stored_went way c.in-Some.waker c.swap-word.result c.if-word-eq-EMPTY.true c.write_waker.ensures.log
-    c.swap-word.ensures.log (c.wait.ensures.went way)
+pub returns-then-word-eq-EMPTY-clause-path : goal.returns-then-word-eq-EMPTY-clause-path
+returns-then-word-eq-EMPTY-clause-path g c way =
+    stored_path way c.in-Some.waker c.swap-word.result c.if-word-eq-EMPTY.true c.write_waker.ensures.log
+    c.swap-word.ensures.log (c.wait.ensures.path way)
 
 pub returns-then-word-eq-EMPTY-clause-hand : goal.returns-then-word-eq-EMPTY-clause-hand
 returns-then-word-eq-EMPTY-clause-hand g c =
@@ -48,7 +48,7 @@ returns-then-word-eq-MESSAGE g c =
     stored c.requires.open c.write_waker.ensures.log c.write_waker.ensures.message c.write_waker.ensures.waker
     c.swap-word.result c.swap-word.ensures.finds c.swap-word.ensures.log in
     record {
-      went = λ way. back_went way over_message c.in-Some.waker c.withdraw.result c.swap-word.result
+      path = λ way. back_path way over_message c.in-Some.waker c.withdraw.result c.swap-word.result
           c.if-word-eq-MESSAGE.true c.write_waker.ensures.log c.swap-word.ensures.log c.withdraw.ensures.log;
       ends = withdrew_full found c.withdraw.ensures.log c.withdraw.ensures.message
           c.withdraw.ensures.waker c.args.timed c.if-word-eq-MESSAGE.true;
@@ -65,7 +65,7 @@ returns-else-word-eq-MESSAGE g c =
     stored c.requires.open c.write_waker.ensures.log c.write_waker.ensures.message c.write_waker.ensures.waker
     c.swap-word.result c.swap-word.ensures.finds c.swap-word.ensures.log in
     record {
-      went = λ way. back_went way over_end c.in-Some.waker c.withdraw.result c.swap-word.result
+      path = λ way. back_path way over_end c.in-Some.waker c.withdraw.result c.swap-word.result
           (over_word found c.if-word-eq-EMPTY.false c.if-word-eq-MESSAGE.false)
           c.write_waker.ensures.log c.swap-word.ensures.log c.withdraw.ensures.log;
       ends = withdrew_over found c.withdraw.ensures.log c.withdraw.ensures.message

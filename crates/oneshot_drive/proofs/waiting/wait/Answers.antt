@@ -1,7 +1,7 @@
 -- The goals that `wait` leaves.
-use Rattle.oneshot_drive.proofs.Names.{◌≡◌, ℕ, refl, rules, Found, Went, Way, wait_of, end_of, EndsAt}
+use Rattle.oneshot_drive.proofs.Names.{◌≡◌, ℕ, refl, rules, Found, Path, ReceiveBy, wait_of, end_of, EndsAt}
 use Rattle.oneshot_drive.proofs.Stretches.{begun}
-use Rattle.oneshot_drive.proofs.Waits.{may_park, parked_asks, woke, Decides, by_message, by_end, woke_at, woke_again, parks_again, parks_decided, stops_went}
+use Rattle.oneshot_drive.proofs.Waits.{may_park, parked_asks, woke, Decides, by_message, by_end, woke_at, woke_again, parks_again, parks_decided, stops_path}
 use Rattle.oneshot_drive.proofs.waiting.wait.Given as given
 use Rattle.oneshot_drive.proofs.waiting.wait.Goals as goal
 use Rattle.oneshot_drive.proofs.waiting.wait.Goals.{After-load}
@@ -11,16 +11,16 @@ loop-init g c =
     record {
       can_next = tt;
       is_finite = tt;
-      went = λ way. begun (wait_of way) (g.G.ReceiverGround.state c.args.g.now).log;
+      path = λ way. begun (wait_of way) (g.G.ReceiverGround.state c.args.g.now).log;
       waits = c.requires;
       hand = refl;
       keeps = g.G.ReceiverGround.keeps_same _;
     }
 
-pub returns-then-is_over-clause-went : goal.returns-then-is_over-clause-went
-returns-then-is_over-clause-went g c way =
-    stops_went c.stop.result way (c.loop.invariant.went way) (c.is_over.ensures.went way) c.if-is_over.true
-    (c.is_over.ensures.deadline c.if-is_over.true) c.stop.ensures.went
+pub returns-then-is_over-clause-path : goal.returns-then-is_over-clause-path
+returns-then-is_over-clause-path g c way =
+    stops_path c.stop.result way (c.loop.invariant.path way) (c.is_over.ensures.path way) c.if-is_over.true
+    (c.is_over.ensures.deadline c.if-is_over.true) c.stop.ensures.path
 
 pub returns-then-is_over-clause-keeps : goal.returns-then-is_over-clause-keeps
 returns-then-is_over-clause-keeps g c =
@@ -37,13 +37,13 @@ load-requires g c =
 
 -- a load that decides it
 decided : (g : given.Over) (c : After-load g) {word : ℕ} {f : Found} → Decides word f → c.load.result ≡ word
-    → ((way : Way c.args.timed) → Went (wait_of way) (end_of way f) (g.G.ReceiverGround.state c.args.g.now).log
+    → ((way : ReceiveBy c.args.timed) → Path (wait_of way) (end_of way f) (g.G.ReceiverGround.state c.args.g.now).log
     (g.G.ReceiverGround.state c.load.new.self).log)
     × EndsAt c.args.timed f (g.G.ReceiverGround.state c.load.new.self)
     × g.G.ReceiverGround.keeps c.args.g.now c.load.new.self
 decided g c by e =
     let on = g.G.ReceiverGround.keeps_on in (
-      λ way. parks_decided way (c.loop.invariant.went way) (c.is_over.ensures.went way) c.if-is_over.false
+      λ way. parks_decided way (c.loop.invariant.path way) (c.is_over.ensures.path way) c.if-is_over.false
           c.park.ensures.log.0 c.park.ensures.log.1 c.load.result c.load.ensures.log by e,
       woke_at (woke c.park.ensures.log.0 c.is_over.ensures.waits c.park.ensures.log.1 c.park.ensures.message
           c.park.ensures.waker c.load.result c.load.ensures.finds c.load.ensures.log) c.args.timed by e,
@@ -54,12 +54,12 @@ decided g c by e =
 pub returns-in-4 : goal.returns-in-4
 returns-in-4 g c =
     let d = decided g (goal.at.returns-in-4 g c).After-load by_message c.in-4.is in
-    record { went = d.0; ends = d.1; hand = c.loop.invariant.hand; keeps = d.2 }
+    record { path = d.0; ends = d.1; hand = c.loop.invariant.hand; keeps = d.2 }
 
 pub returns-in-2 : goal.returns-in-2
 returns-in-2 g c =
     let d = decided g (goal.at.returns-in-2 g c).After-load by_end c.in-2.is in
-    record { went = d.0; ends = d.1; hand = c.loop.invariant.hand; keeps = d.2 }
+    record { path = d.0; ends = d.1; hand = c.loop.invariant.hand; keeps = d.2 }
 
 pub loop-preserved : goal.loop-preserved
 loop-preserved g c =
@@ -70,7 +70,7 @@ loop-preserved g c =
     record {
       can_next = tt;
       is_finite = tt;
-      went = λ way. parks_again way (c.loop.invariant.went way) (c.is_over.ensures.went way) c.if-is_over.false
+      path = λ way. parks_again way (c.loop.invariant.path way) (c.is_over.ensures.path way) c.if-is_over.false
           c.park.ensures.log.0 c.park.ensures.log.1 c.load.result c.load.ensures.log found (search rules)
           (search rules);
       waits = woke_again found (search rules) (search rules);
