@@ -4,7 +4,7 @@ ghost use Rattle.std.specs.Prelude.{◌≡◌, true, false, None, Some, MatchOpt
 
 /// A copy of a waker, with the number that its task has in its queue.
 #[derive(Drop)]
-pub struct TaskCopy<K> {
+pub(crate) struct TaskCopy<K> {
     waker: K,
     task: usize,
 }
@@ -14,7 +14,7 @@ pub struct TaskCopy<K> {
 /// A waker wakes its task when it is dropped. So a copy that the channel gives back is kept, and is the copy
 /// that is made when the same task polls again: no task is polled more often than it asked.
 #[derive(Drop)]
-pub struct Copies<K> {
+pub(crate) struct Copies<K> {
     // The copy that was made, or one that is spare.
     hand: Option<TaskCopy<K>>,
     // One that was taken back while there was another.
@@ -25,7 +25,9 @@ pub struct Copies<K> {
 
 impl<K: Drop> Copies<K> {
     /// No copy: none in hand, none spare, and none in the channel.
-    pub fn new() -> Copies<K> {
+    pub(crate) fn new() -> Copies<K>
+        ensures { (result.hand ≡ None) × (result.spare ≡ None) }
+    {
         Copies {
             hand: None,
             spare: None,
@@ -39,7 +41,7 @@ impl<K: Drop> Copies<K> {
     /// - `None`: there is none, or it is another task's, which stays there: in its place no refusal could be told.
     ///
     /// Tasks of two executors may have one number; no call of the toolchain tells them apart.
-    pub fn take_of(&mut self, task: usize) -> Option<K>
+    pub(crate) fn take_of(&mut self, task: usize) -> Option<K>
         ensures taken { IfSome result (λ waker.
             self.old.hand ≡ Some (record { waker = waker; task = task })) }
         ensures left { IfSome result (λ _. self.new ≡ record self.old { hand = None }) }
@@ -56,7 +58,7 @@ impl<K: Drop> Copies<K> {
 
     /// Takes the copy of this task that was made into the hand, and wakes the task of another that was there.
     /// `false` where none was made: then all stays as it was.
-    pub fn keep_made(&mut self, task: usize, made: Option<K>) -> bool
+    pub(crate) fn keep_made(&mut self, task: usize, made: Option<K>) -> bool
         ensures { MatchOption made ((result ≡ false) × (self.new ≡ self.old)) (λ waker. (result ≡ true)
             × (self.new ≡ record self.old { hand = Some (record { waker = waker; task = task }) })) }
     {
@@ -70,7 +72,12 @@ impl<K: Drop> Copies<K> {
     }
 
     /// Gives the copy in hand to the channel, and takes the spare one in its place. `None`: none was in hand.
-    pub fn give(&mut self) -> Option<K> {
+    pub(crate) fn give(&mut self) -> Option<K>
+        ensures given { MatchOption self.old.hand ((result ≡ None) × (self.new.stored ≡ self.old.stored))
+            (λ copy. (result ≡ Some copy.waker) × (self.new.stored ≡ copy.task)) }
+        ensures hand { self.new.hand ≡ self.old.spare }
+        ensures spare { self.new.spare ≡ None }
+    {
         let given = self.hand.take();
         self.hand = self.spare.take();
         let TaskCopy { waker, task } = given?;
@@ -78,8 +85,12 @@ impl<K: Drop> Copies<K> {
         Some(waker)
     }
 
-    /// Keeps a copy that the channel gave back.
-    pub fn take_back(&mut self, waker: K) {
+    /// Keeps a copy that the channel gave back: in hand, or as the spare one where another is in hand.
+    pub(crate) fn take_back(&mut self, waker: K)
+        ensures { MatchOption self.old.hand
+            (self.new ≡ record self.old { hand = Some (record { waker = waker; task = self.old.stored }) })
+            (λ _. self.new ≡ record self.old { spare = Some (record { waker = waker; task = self.old.stored }) }) }
+    {
         let copy = Some(TaskCopy {
             waker,
             task: self.stored,

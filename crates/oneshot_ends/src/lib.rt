@@ -16,7 +16,6 @@ mod spin;
 mod token;
 mod waker;
 
-pub use copies::Copies;
 pub use error::SendError;
 pub use future::AsyncReceiver;
 pub use oneshot_word::Promise;

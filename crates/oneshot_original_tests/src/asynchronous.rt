@@ -10,6 +10,7 @@ use futures::executor::block_on;
 use futures::task::Poll;
 use futures::test::MockTask;
 use oneshot::{RecvError, async_channel, channel};
+use oneshot_asserts::assert_same;
 use std::alloc::AllocGlobal;
 use std::process::Abort;
 use std::random::RandomSource;
@@ -21,7 +22,7 @@ use std::time::{Clock, Duration};
 fn send_before_await<R: Wait + RandomSource + AllocGlobal + Abort>(rt: &R) -> Result<(), Fail> {
     let (sender, receiver) = channel(rt, rt.alloc())?;
     assert!(rt; sender.send(19i128).is_ok());
-    assert_eq!(rt; block_on(rt, receiver.into_future())?, Ok(19));
+    assert_same(rt, block_on(rt, receiver.into_future())?, Ok(19));
     Ok(())
 }
 
@@ -40,7 +41,7 @@ fn await_with_dropped_sender<R: Wait + RandomSource + AllocGlobal + Abort>(
 ) -> Result<(), Fail> {
     let (sender, receiver) = channel::<u128, _>(rt, rt.alloc())?;
     drop(sender);
-    assert_eq!(rt; block_on(rt, receiver.into_future())?, Err(RecvError));
+    assert_same(rt, block_on(rt, receiver.into_future())?, Err(RecvError));
     Ok(())
 }
 
@@ -71,10 +72,10 @@ fn await_before_send<R: Threads + Wait + Clock + RandomSource + AllocGlobal + Ab
     let Ok(returned) = received? else {
         panic!(rt; "it was sent");
     };
-    assert_eq!(rt; drops.count(), 0);
-    assert_eq!(rt; returned.value, 79);
+    assert_same(rt, drops.count(), 0);
+    assert_same(rt, returned.value, 79);
     drop(returned);
-    assert_eq!(rt; drops.count(), 1);
+    assert_same(rt, drops.count(), 1);
     assert!(rt; sent);
     Ok(())
 }
@@ -101,7 +102,7 @@ fn await_before_send_then_drop_sender<
         },
         |receiver| block_on(rt, receiver.into_future()),
     );
-    assert_eq!(rt; received?, Err(RecvError));
+    assert_same(rt, received?, Err(RecvError));
     Ok(())
 }
 
@@ -120,9 +121,9 @@ fn await_before_send_then_drop_sender_async_std(rt: HostRuntime) -> Result<(), F
 fn poll_receiver_then_drop_it(rt: HostRuntime) -> Result<(), Fail> {
     let task = MockTask::new(&rt)?;
     let (sender, mut receiver) = async_channel::<(), _>(&rt, rt.alloc())?;
-    assert_eq!(rt; task.poll(&mut receiver), Poll::Pending);
+    assert_same(&rt, task.poll(&mut receiver), Poll::Pending);
     sleep(&rt, Duration::from_millis(100));
-    assert_eq!(rt; task.poll(&mut receiver), Poll::Pending);
+    assert_same(&rt, task.poll(&mut receiver), Poll::Pending);
     drop(receiver);
     assert!(rt; sender.send(()).is_err());
     Ok(())

@@ -6,6 +6,7 @@ use crossbeam_channel as queue;
 use futures::executor::block_on;
 use oneshot::reply::{self, Length};
 use oneshot::{Sender, channel};
+use oneshot_asserts::assert_same;
 use std::alloc::AllocError;
 use std::process::Abort;
 use std::sync::Wait;
@@ -52,7 +53,7 @@ fn a_processing_thread_answers_lengths(rt: HostRuntime) -> Result<(), Fail> {
         let (reply, answer) = channel(&rt, rt.alloc())?;
         let request = String::from_str(rt.alloc(), text)?;
         assert!(rt; ask(&rt, &requests, request, reply));
-        assert_eq!(rt; block_on(&rt, answer.into_future())?, Ok(length));
+        assert_same(&rt, block_on(&rt, answer.into_future())?, Ok(length));
     }
     drop(requests);
     processor.join(&rt);
@@ -83,7 +84,7 @@ fn a_processing_thread_answers_typed_requests(rt: HostRuntime) -> Result<(), Fai
         let (request, mut ticket) = made.map_err(|_| AllocError)?;
         assert!(rt; requests.send(&rt, request).is_ok());
         let reply = ticket.wait_for(patience());
-        assert_eq!(rt; reply.map(|length| length.bytes()), Ok(bytes));
+        assert_same(&rt, reply.map(|length| length.bytes()), Ok(bytes));
     }
     drop(requests);
     processor.join(&rt);

@@ -3,6 +3,7 @@
 use super::threads::on_two_threads;
 use super::times::{answers, in_time, tenth};
 use oneshot::{RecvError, RecvTimeoutError, Sender, channel};
+use oneshot_asserts::assert_same;
 use std::test::Fail;
 use std::thread::sleep;
 use std::time::{Clock, Duration};
@@ -24,7 +25,7 @@ fn send_with_dropped_receiver(rt: HostRuntime) -> Result<(), Fail> {
     let (sender, receiver) = channel::<u128, ()>((), rt.alloc())?;
     drop(receiver);
     let back = sender.send(5).err().map(|refused| refused.into_inner());
-    assert_eq!(rt; back, Some(5));
+    assert_same(&rt, back, Some(5));
     Ok(())
 }
 
@@ -32,7 +33,7 @@ fn send_with_dropped_receiver(rt: HostRuntime) -> Result<(), Fail> {
 fn send_before_recv(rt: HostRuntime) -> Result<(), Fail> {
     let (sender, receiver) = channel::<i128, _>(&rt, rt.alloc())?;
     let sent = sender.send(19).is_ok();
-    assert_eq!(rt; (sent, receiver.recv()), (true, Ok(19)));
+    assert_same(&rt, (sent, receiver.recv()), (true, Ok(19)));
     Ok(())
 }
 
@@ -44,7 +45,7 @@ fn recv_before_send(rt: HostRuntime) -> Result<(), Fail> {
         |sender| send_later(&rt, sender),
         |receiver| receiver.recv(),
     );
-    assert_eq!(rt; answers, (true, Ok(9)));
+    assert_same(&rt, answers, (true, Ok(9)));
     Ok(())
 }
 
@@ -56,7 +57,7 @@ fn recv_before_send_then_drop_sender(rt: HostRuntime) -> Result<(), Fail> {
         |sender| drop_later(&rt, sender),
         |receiver| receiver.recv(),
     );
-    assert_eq!(rt; received, Err(RecvError));
+    assert_same(&rt, received, Err(RecvError));
     Ok(())
 }
 
@@ -68,7 +69,7 @@ fn recv_ref_before_send(rt: HostRuntime) -> Result<(), Fail> {
         |sender| send_later(&rt, sender),
         |mut receiver| receiver.recv_ref(),
     );
-    assert_eq!(rt; answers, (true, Ok(9)));
+    assert_same(&rt, answers, (true, Ok(9)));
     Ok(())
 }
 
@@ -80,7 +81,7 @@ fn recv_ref_before_send_then_drop_sender(rt: HostRuntime) -> Result<(), Fail> {
         |sender| drop_later(&rt, sender),
         |mut receiver| receiver.recv_ref(),
     );
-    assert_eq!(rt; received, Err(RecvError));
+    assert_same(&rt, received, Err(RecvError));
     Ok(())
 }
 

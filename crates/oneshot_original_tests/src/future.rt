@@ -2,6 +2,7 @@
 
 use futures::task::Poll;
 use oneshot::drive::poll;
+use oneshot_asserts::assert_same;
 use oneshot_memory::{MemoryFuture, MemoryTask};
 
 #[test]
@@ -9,10 +10,10 @@ fn multiple_receiver_polls_keeps_only_latest_waker(rt: HostRuntime) {
     let first = MemoryTask::new();
     let second = MemoryTask::new();
     let mut receiver = MemoryFuture::<'_, '_, (), _>::new(&rt, rt.alloc(), &first);
-    assert_eq!(rt; poll(&mut receiver), Poll::Pending);
-    assert_eq!(rt; (first.copies(), first.ended()), (1, 0));
+    assert_same(&rt, poll(&mut receiver), Poll::Pending);
+    assert_same(&rt, (first.copies(), first.ended()), (1, 0));
     receiver.task = &second;
-    assert_eq!(rt; poll(&mut receiver), Poll::Pending);
-    assert_eq!(rt; (second.copies(), second.ended()), (1, 0));
-    assert_eq!(rt; (first.copies(), first.ended()), (1, 1));
+    assert_same(&rt, poll(&mut receiver), Poll::Pending);
+    assert_same(&rt, (second.copies(), second.ended()), (1, 0));
+    assert_same(&rt, (first.copies(), first.ended()), (1, 1));
 }

@@ -9,6 +9,7 @@ use futures::executor::block_on;
 use futures::task::Poll;
 use futures::test::MockTask;
 use oneshot::{async_channel, channel, drive};
+use oneshot_asserts::assert_same;
 use oneshot_memory::{MemoryFuture, MemoryTask};
 use std::test::Fail;
 use std::time::Duration;
@@ -23,7 +24,7 @@ fn try_recv(rt: HostRuntime) -> Result<(), Fail> {
             |mut receiver| poll(&rt, &mut receiver),
         );
         assert!(rt; sent);
-        assert_eq!(rt; received, Ok(19));
+        assert_same(&rt, received, Ok(19));
     }
     Ok(())
 }
@@ -39,7 +40,7 @@ fn send_recv_different_threads(rt: HostRuntime) -> Result<(), Fail> {
             |mut receiver| receiver.recv_timeout(patience()),
         );
         assert!(rt; sent);
-        assert_eq!(rt; received, Ok(9));
+        assert_same(&rt, received, Ok(9));
     }
     Ok(())
 }
@@ -68,7 +69,7 @@ fn async_recv(rt: HostRuntime) -> Result<(), Fail> {
             |receiver| block_on(&rt, receiver.into_future()),
         );
         assert!(rt; sent);
-        assert_eq!(rt; received?, Ok(987));
+        assert_same(&rt, received?, Ok(987));
     }
     Ok(())
 }
@@ -83,14 +84,14 @@ fn send_then_poll(rt: HostRuntime) -> Result<(), Fail> {
     let task = MockTask::new(&rt)?;
     let (sender, mut receiver) = async_channel(&rt, rt.alloc())?;
     assert!(rt; sender.send(1234u128).is_ok());
-    assert_eq!(rt; task.poll(&mut receiver), Poll::Ready(Ok(1234)));
+    assert_same(&rt, task.poll(&mut receiver), Poll::Ready(Ok(1234)));
     assert!(rt; !task.is_woken());
 
     let task = MemoryTask::new();
     let mut receiver = MemoryFuture::<'_, '_, u128, _>::new(&rt, rt.alloc(), &task);
     receiver.receiver.sender_sends(1234);
-    assert_eq!(rt; drive::poll(&mut receiver), Poll::Ready(Ok(1234)));
-    assert_eq!(rt; counts(&task), (0, 0, 0));
+    assert_same(&rt, drive::poll(&mut receiver), Poll::Ready(Ok(1234)));
+    assert_same(&rt, counts(&task), (0, 0, 0));
     Ok(())
 }
 
@@ -100,7 +101,7 @@ fn poll_then_drop_receiver_during_send(rt: HostRuntime) -> Result<(), Fail> {
     let task = MockTask::new(&rt)?;
     for _ in 0..ROUNDS {
         let (sender, mut receiver) = async_channel(&rt, rt.alloc())?;
-        assert_eq!(rt; task.poll(&mut receiver), Poll::Pending);
+        assert_same(&rt, task.poll(&mut receiver), Poll::Pending);
         on_two_threads(
             &rt,
             (sender, receiver),
@@ -115,21 +116,21 @@ fn poll_then_drop_receiver_during_send(rt: HostRuntime) -> Result<(), Fail> {
 fn poll_then_send(rt: HostRuntime) -> Result<(), Fail> {
     let task = MockTask::new(&rt)?;
     let (sender, mut receiver) = async_channel(&rt, rt.alloc())?;
-    assert_eq!(rt; task.poll(&mut receiver), Poll::Pending);
+    assert_same(&rt, task.poll(&mut receiver), Poll::Pending);
     assert!(rt; !task.is_woken());
     assert!(rt; sender.send(1234u128).is_ok());
     assert!(rt; task.is_woken());
-    assert_eq!(rt; task.poll(&mut receiver), Poll::Ready(Ok(1234)));
+    assert_same(&rt, task.poll(&mut receiver), Poll::Ready(Ok(1234)));
     assert!(rt; !task.is_woken());
 
     let task = MemoryTask::new();
     let mut receiver = MemoryFuture::<'_, '_, u128, _>::new(&rt, rt.alloc(), &task);
-    assert_eq!(rt; drive::poll(&mut receiver), Poll::Pending);
-    assert_eq!(rt; counts(&task), (1, 0, 0));
+    assert_same(&rt, drive::poll(&mut receiver), Poll::Pending);
+    assert_same(&rt, counts(&task), (1, 0, 0));
     receiver.receiver.sender_sends(1234);
-    assert_eq!(rt; counts(&task), (1, 1, 1));
-    assert_eq!(rt; drive::poll(&mut receiver), Poll::Ready(Ok(1234)));
-    assert_eq!(rt; counts(&task), (1, 1, 1));
+    assert_same(&rt, counts(&task), (1, 1, 1));
+    assert_same(&rt, drive::poll(&mut receiver), Poll::Ready(Ok(1234)));
+    assert_same(&rt, counts(&task), (1, 1, 1));
     Ok(())
 }
 
@@ -138,21 +139,29 @@ fn poll_with_different_wakers(rt: HostRuntime) -> Result<(), Fail> {
     let first = MockTask::new(&rt)?;
     let second = MockTask::new(&rt)?;
     let (sender, mut receiver) = async_channel(&rt, rt.alloc())?;
-    assert_eq!(rt; first.poll(&mut receiver), Poll::Pending);
-    assert_eq!(rt; second.poll(&mut receiver), Poll::Pending);
-    assert_eq!(rt; (first.is_woken(), second.is_woken()), (false, false));
+    assert_same(&rt, first.poll(&mut receiver), Poll::Pending);
+    assert_same(&rt, second.poll(&mut receiver), Poll::Pending);
+    assert_same(&rt, (first.is_woken(), second.is_woken()), (false, false));
     assert!(rt; sender.send(1234u128).is_ok());
-    assert_eq!(rt; (first.is_woken(), second.is_woken()), (false, true));
+    assert_same(&rt, (first.is_woken(), second.is_woken()), (false, true));
 
     let first = MemoryTask::new();
     let second = MemoryTask::new();
     let mut receiver = MemoryFuture::<'_, '_, u128, _>::new(&rt, rt.alloc(), &first);
-    assert_eq!(rt; drive::poll(&mut receiver), Poll::Pending);
-    assert_eq!(rt; counts(&first), (1, 0, 0));
+    assert_same(&rt, drive::poll(&mut receiver), Poll::Pending);
+    assert_same(&rt, counts(&first), (1, 0, 0));
     receiver.task = &second;
-    assert_eq!(rt; drive::poll(&mut receiver), Poll::Pending);
-    assert_eq!(rt; (counts(&first), counts(&second)), ((1, 1, 0), (1, 0, 0)));
+    assert_same(&rt, drive::poll(&mut receiver), Poll::Pending);
+    assert_same(
+        &rt,
+        (counts(&first), counts(&second)),
+        ((1, 1, 0), (1, 0, 0)),
+    );
     receiver.receiver.sender_sends(1234);
-    assert_eq!(rt; (counts(&first), counts(&second)), ((1, 1, 0), (1, 1, 1)));
+    assert_same(
+        &rt,
+        (counts(&first), counts(&second)),
+        ((1, 1, 0), (1, 1, 1)),
+    );
     Ok(())
 }

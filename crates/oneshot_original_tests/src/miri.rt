@@ -8,6 +8,7 @@ use futures::test::MockTask;
 use oneshot::{
     AsyncReceiver, RecvError, RecvTimeoutError, Sender, TryRecvError, async_channel, channel,
 };
+use oneshot_asserts::assert_same;
 use std::alloc::AllocGlobal;
 use std::hint::spin_loop;
 use std::io;
@@ -69,7 +70,7 @@ fn tx_send_rx_drop(rt: HostRuntime) -> Result<(), Fail> {
 fn tx_send_rx_recv_done(rt: HostRuntime) -> Result<(), Fail> {
     for _ in 0..ROUNDS {
         let answers = beside_a_send(&rt, channel(&rt, rt.alloc())?, |receiver| receiver.recv());
-        assert_eq!(rt; answers, (Ok(999), None));
+        assert_same(&rt, answers, (Ok(999), None));
     }
     Ok(())
 }
@@ -82,7 +83,7 @@ fn tx_send_rx_recv_ref(rt: HostRuntime) -> Result<(), Fail> {
             channel(&rt, rt.alloc())?,
             |mut receiver| receiver.recv_ref(),
         );
-        assert_eq!(rt; answers, (Ok(999), None));
+        assert_same(&rt, answers, (Ok(999), None));
     }
     Ok(())
 }
@@ -110,7 +111,7 @@ fn tx_send_rx_try_recv_to_completion(rt: HostRuntime) -> Result<(), Fail> {
             channel(&rt, rt.alloc())?,
             |mut receiver| poll(&rt, &mut receiver),
         );
-        assert_eq!(rt; answers, (Ok(999), None));
+        assert_same(&rt, answers, (Ok(999), None));
     }
     Ok(())
 }
@@ -136,7 +137,7 @@ fn tx_send_rx_poll_to_completion(rt: HostRuntime) -> Result<(), Fail> {
             async_channel(&rt, rt.alloc())?,
             |receiver| poll_to_completion(&rt, receiver),
         );
-        assert_eq!(rt; (received?, back), (Ok(999), None));
+        assert_same(&rt, (received?, back), (Ok(999), None));
     }
     Ok(())
 }
@@ -167,7 +168,7 @@ fn tx_drop_rx_drop(rt: HostRuntime) -> Result<(), Fail> {
 fn tx_drop_rx_recv_done(rt: HostRuntime) -> Result<(), Fail> {
     for _ in 0..ROUNDS {
         let received = beside_a_drop(&rt, channel(&rt, rt.alloc())?, |receiver| receiver.recv());
-        assert_eq!(rt; received, Err(RecvError));
+        assert_same(&rt, received, Err(RecvError));
     }
     Ok(())
 }
@@ -180,7 +181,7 @@ fn tx_drop_rx_recv_ref(rt: HostRuntime) -> Result<(), Fail> {
             channel(&rt, rt.alloc())?,
             |mut receiver| receiver.recv_ref(),
         );
-        assert_eq!(rt; received, Err(RecvError));
+        assert_same(&rt, received, Err(RecvError));
     }
     Ok(())
 }
@@ -206,7 +207,7 @@ fn tx_drop_rx_try_recv_to_completion(rt: HostRuntime) -> Result<(), Fail> {
             channel(&rt, rt.alloc())?,
             |mut receiver| poll(&rt, &mut receiver),
         );
-        assert_eq!(rt; received, Err(TryRecvError::Disconnected));
+        assert_same(&rt, received, Err(TryRecvError::Disconnected));
     }
     Ok(())
 }
@@ -232,7 +233,7 @@ fn tx_drop_rx_poll_to_completion(rt: HostRuntime) -> Result<(), Fail> {
             async_channel(&rt, rt.alloc())?,
             |receiver| poll_to_completion(&rt, receiver),
         );
-        assert_eq!(rt; received?, Err(RecvError));
+        assert_same(&rt, received?, Err(RecvError));
     }
     Ok(())
 }

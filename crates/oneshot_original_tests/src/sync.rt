@@ -6,6 +6,7 @@ use super::counted::Drops;
 use super::threads::{ROUNDS, on_two_threads};
 use super::times::{answers, in_time, linger, second, tenth};
 use oneshot::{RecvError, RecvTimeoutError, SendError, Sender, TryRecvError, channel};
+use oneshot_asserts::assert_same;
 use std::alloc::{AllocError, Global};
 use std::process::Abort;
 use std::sync::Wait;
@@ -19,13 +20,17 @@ fn send_before_try_recv(rt: HostRuntime) -> Result<(), Fail> {
     assert!(rt; !before && sender.send(19i128).is_ok());
     let sent = receiver.has_message();
     let received = receiver.try_recv();
-    assert_eq!(rt; (sent, received), (true, Ok(19)));
+    assert_same(&rt, (sent, received), (true, Ok(19)));
     let after = receiver.has_message();
     let again = receiver.try_recv();
-    assert_eq!(rt; (after, again), (false, Err(TryRecvError::Disconnected)));
-    assert_eq!(rt; receiver.recv_ref(), Err(RecvError));
+    assert_same(
+        &rt,
+        (after, again),
+        (false, Err(TryRecvError::Disconnected)),
+    );
+    assert_same(&rt, receiver.recv_ref(), Err(RecvError));
     let timed = receiver.recv_timeout(second());
-    assert_eq!(rt; timed, Err(RecvTimeoutError::Disconnected));
+    assert_same(&rt, timed, Err(RecvTimeoutError::Disconnected));
     Ok(())
 }
 
@@ -44,9 +49,9 @@ fn carried<R: Wait + Clock, T: Send + Drop>(
 
 #[test]
 fn send_before_recv(rt: HostRuntime) -> Result<(), Fail> {
-    assert_eq!(rt; carried(&rt, rt.alloc(), ())?, Some(()));
-    assert_eq!(rt; carried(&rt, rt.alloc(), 19u8)?, Some(19));
-    assert_eq!(rt; carried(&rt, rt.alloc(), 21u64)?, Some(21));
+    assert_same(&rt, carried(&rt, rt.alloc(), ())?, Some(()));
+    assert_same(&rt, carried(&rt, rt.alloc(), 19u8)?, Some(19));
+    assert_same(&rt, carried(&rt, rt.alloc(), 21u64)?, Some(21));
     let page = [0b1010_1010u8; 4096];
     let received = carried(&rt, rt.alloc(), page)?;
     assert!(rt; received.is_some_and(|bytes| bytes.as_slice() == page.as_slice()));
@@ -57,13 +62,13 @@ fn send_before_recv(rt: HostRuntime) -> Result<(), Fail> {
 fn send_before_recv_ref(rt: HostRuntime) -> Result<(), Fail> {
     let (sender, mut receiver) = channel(&rt, rt.alloc())?;
     let sent = sender.send(19i128).is_ok();
-    assert_eq!(rt; (sent, receiver.recv_ref()), (true, Ok(19)));
+    assert_same(&rt, (sent, receiver.recv_ref()), (true, Ok(19)));
     let by_ref = receiver.recv_ref();
     let tried = receiver.try_recv();
     let timed = receiver.recv_timeout(second());
-    assert_eq!(rt; by_ref, Err(RecvError));
-    assert_eq!(rt; tried, Err(TryRecvError::Disconnected));
-    assert_eq!(rt; timed, Err(RecvTimeoutError::Disconnected));
+    assert_same(&rt, by_ref, Err(RecvError));
+    assert_same(&rt, tried, Err(TryRecvError::Disconnected));
+    assert_same(&rt, timed, Err(RecvTimeoutError::Disconnected));
     Ok(())
 }
 
@@ -75,12 +80,12 @@ fn send_before_recv_timeout(rt: HostRuntime) -> Result<(), Fail> {
         let before = Instant::now(&rt)?;
         let received = receiver.recv_timeout(second());
         let took = before.elapsed(&rt)?;
-        assert_eq!(rt; (sent, received), (true, Ok(19)));
+        assert_same(&rt, (sent, received), (true, Ok(19)));
         let timed = receiver.recv_timeout(second());
         let tried = receiver.try_recv();
-        assert_eq!(rt; timed, Err(RecvTimeoutError::Disconnected));
-        assert_eq!(rt; tried, Err(TryRecvError::Disconnected));
-        assert_eq!(rt; receiver.recv(), Err(RecvError));
+        assert_same(&rt, timed, Err(RecvTimeoutError::Disconnected));
+        assert_same(&rt, tried, Err(TryRecvError::Disconnected));
+        assert_same(&rt, receiver.recv(), Err(RecvError));
         Ok(took < tenth())
     })
 }
@@ -111,7 +116,7 @@ fn refused<T: Send + Drop>(
 fn send_with_dropped_receiver(rt: HostRuntime) -> Result<(), Fail> {
     let error = refused(&rt, rt.alloc(), 5u128)?;
     let seen = *error.as_inner();
-    assert_eq!(rt; (seen, error.into_inner()), (5, 5));
+    assert_same(&rt, (seen, error.into_inner()), (5, 5));
     Ok(())
 }
 
@@ -120,14 +125,18 @@ fn try_recv_with_dropped_sender(rt: HostRuntime) -> Result<(), Fail> {
     let (_, mut receiver) = channel::<u128, ()>((), rt.alloc())?;
     let found = receiver.has_message();
     let received = receiver.try_recv();
-    assert_eq!(rt; (found, received), (false, Err(TryRecvError::Disconnected)));
+    assert_same(
+        &rt,
+        (found, received),
+        (false, Err(TryRecvError::Disconnected)),
+    );
     Ok(())
 }
 
 #[test]
 fn recv_with_dropped_sender(rt: HostRuntime) -> Result<(), Fail> {
     let (_, receiver) = channel::<u128, _>(&rt, rt.alloc())?;
-    assert_eq!(rt; receiver.recv(), Err(RecvError));
+    assert_same(&rt, receiver.recv(), Err(RecvError));
     Ok(())
 }
 
@@ -143,7 +152,7 @@ fn recv_before_send(rt: HostRuntime) -> Result<(), Fail> {
             },
             |receiver| receiver.recv(),
         );
-        assert_eq!(rt; answers, (true, Ok(9)));
+        assert_same(&rt, answers, (true, Ok(9)));
     }
     Ok(())
 }
@@ -181,7 +190,7 @@ fn recv_before_send_then_drop_sender(rt: HostRuntime) -> Result<(), Fail> {
             },
             |receiver| receiver.recv(),
         );
-        assert_eq!(rt; received, Err(RecvError));
+        assert_same(&rt, received, Err(RecvError));
     }
     Ok(())
 }
@@ -210,7 +219,7 @@ fn try_recv(rt: HostRuntime) -> Result<(), Fail> {
     let (sender, mut receiver) = channel::<u128, ()>((), rt.alloc())?;
     let received = receiver.try_recv();
     drop(sender);
-    assert_eq!(rt; received, Err(TryRecvError::Empty));
+    assert_same(&rt, received, Err(TryRecvError::Empty));
     Ok(())
 }
 
@@ -281,11 +290,11 @@ fn message_in_channel_dropped_on_receiver_drop(rt: HostRuntime) -> Result<(), Fa
     let drops = Drops::new();
     let (sender, receiver) = channel::<_, ()>((), rt.alloc())?;
     let message = drops.message(());
-    assert_eq!(rt; drops.count(), 0);
+    assert_same(&rt, drops.count(), 0);
     assert!(rt; sender.send(message).is_ok());
-    assert_eq!(rt; drops.count(), 0);
+    assert_same(&rt, drops.count(), 0);
     drop(receiver);
-    assert_eq!(rt; drops.count(), 1);
+    assert_same(&rt, drops.count(), 1);
     Ok(())
 }
 
@@ -293,9 +302,9 @@ fn message_in_channel_dropped_on_receiver_drop(rt: HostRuntime) -> Result<(), Fa
 fn send_error_drops_message_correctly(rt: HostRuntime) -> Result<(), Fail> {
     let drops = Drops::new();
     let error = refused(&rt, rt.alloc(), drops.message(()))?;
-    assert_eq!(rt; drops.count(), 0);
+    assert_same(&rt, drops.count(), 0);
     drop(error);
-    assert_eq!(rt; drops.count(), 1);
+    assert_same(&rt, drops.count(), 1);
     Ok(())
 }
 
@@ -303,11 +312,11 @@ fn send_error_drops_message_correctly(rt: HostRuntime) -> Result<(), Fail> {
 fn send_error_drops_message_correctly_on_into_inner(rt: HostRuntime) -> Result<(), Fail> {
     let drops = Drops::new();
     let error = refused(&rt, rt.alloc(), drops.message(5u8))?;
-    assert_eq!(rt; drops.count(), 0);
+    assert_same(&rt, drops.count(), 0);
     let back = error.into_inner();
-    assert_eq!(rt; (back.value, drops.count()), (5, 0));
+    assert_same(&rt, (back.value, drops.count()), (5, 0));
     drop(back);
-    assert_eq!(rt; drops.count(), 1);
+    assert_same(&rt, drops.count(), 1);
     Ok(())
 }
 

@@ -1,6 +1,7 @@
 //! How long the tests wait, how late a receive may answer, and what they do on a busy machine.
 
 use oneshot::RecvTimeoutError;
+use oneshot_asserts::assert_same;
 use std::fmt::Debug;
 use std::process::Abort;
 use std::test::Fail;
@@ -51,7 +52,7 @@ pub(super) fn answers<T: Debug + Drop + PartialEq>(
     if received == Err(RecvTimeoutError::Timeout) {
         return false;
     }
-    assert_eq!(rt; received, wanted);
+    assert_same(rt, received, wanted);
     true
 }
 

@@ -1,10 +1,8 @@
 //! Tests of what stands beneath the real channel and beside it, each by public names of its crate: the
-//! operations on the word, the drivers over grounds in memory, both sides of the shared word, the copies
-//! of a future, lists of calls, runs that are stepped by hand, and texts.
+//! operations on the word, the drivers over grounds in memory, both sides of the shared word, lists of
+//! calls, runs that are stepped by hand, and texts.
 #![tactic(auto)]
 
-#[cfg(test)]
-mod copies;
 #[cfg(test)]
 mod drive;
 #[cfg(test)]

@@ -1,5 +1,6 @@
 //! Runs that are stepped by hand.
 
+use oneshot_asserts::assert_same;
 use oneshot_machine::machine::{End, ReceiverStart, Seen, SenderCall, Step};
 use oneshot_machine::states::Op;
 use oneshot_replay::{
@@ -41,12 +42,12 @@ fn a_refused_message_is_followed_move_by_move(rt: HostRuntime) {
         last: ReceiverLast::Drop,
     };
     let mut replayer = Replayer::new(send(7, ErrorLast::IntoInner), receiver);
-    assert_eq!(rt; replayer.sender_call(), Some(SenderCall::Send));
-    assert_eq!(rt; replayer.receiver_call(), Some(ReceiverStart::Drop));
+    assert_same(&rt, replayer.sender_call(), Some(SenderCall::Send));
+    assert_same(&rt, replayer.receiver_call(), Some(ReceiverStart::Drop));
     for (i, (made, sender, receiver, freed)) in cases.iter().enumerate() {
         let number = i + 1;
         let _ = replayer.step(*made);
-        assert_eq!(rt; replayer.count(), number);
+        assert_same(&rt, replayer.count(), number);
         assert_eq!(rt; replayer.sender_call(), *sender, "after move {number}");
         assert_eq!(rt; replayer.receiver_call(), *receiver, "after move {number}");
         assert_eq!(rt; replayer.block_freed(), *freed, "after move {number}");
@@ -91,6 +92,6 @@ fn a_receiver_that_nobody_wakes_parks_and_loads_in_turn(rt: HostRuntime) -> Resu
         let number = i + 1;
         assert_eq!(rt; replayer.step(RECEIVER), waiting(number), "entry {number}");
     }
-    assert_eq!(rt; replayer.count(), MOVES);
+    assert_same(&rt, replayer.count(), MOVES);
     Ok(())
 }

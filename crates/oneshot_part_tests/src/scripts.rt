@@ -1,5 +1,6 @@
 //! The lists of calls of the scripts.
 
+use oneshot_asserts::assert_same;
 use oneshot_replay::{CallList, ReceiverCall};
 use std::test::Fail;
 
@@ -13,7 +14,7 @@ fn a_list_gives_its_calls_back(rt: HostRuntime) -> Result<(), Fail> {
     let mut given = Vec::new(rt.alloc());
     given.extend_from_slice(&calls)?;
     let list = CallList::from(given);
-    assert_eq!(rt; list.as_slice(), calls.as_slice());
-    assert_eq!(rt; list.into_vec().as_slice(), calls.as_slice());
+    assert_same(&rt, list.as_slice(), calls.as_slice());
+    assert_same(&rt, list.into_vec().as_slice(), calls.as_slice());
     Ok(())
 }

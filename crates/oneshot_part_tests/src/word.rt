@@ -6,6 +6,7 @@ ghost use Rattle.oneshot_machine.specs.Phases.{fresh, sender_at, looked, first, 
 ghost use Rattle.oneshot_machine.specs.Slots.{vacant};
 ghost use Rattle.oneshot_word.specs.Side.{SenderCan, ReceiverCan};
 
+use oneshot_asserts::assert_same;
 use oneshot_word::{AnyWaker, Peek, ReceiverSide, SenderSide, Slot, open};
 use std::mem::size_of;
 use std::process::Abort;
@@ -14,8 +15,8 @@ use std::test::Fail;
 #[test]
 fn a_new_table_reads_3_at_both_ends(rt: HostRuntime) -> Result<(), Fail> {
     let (sender, receiver) = open::<u64, u64, u64, ()>(rt.alloc(), &())?;
-    assert_eq!(rt; sender.peek(), 3);
-    assert_eq!(rt; receiver.peek(), 3);
+    assert_same(&rt, sender.peek(), 3);
+    assert_same(&rt, receiver.peek(), 3);
     Ok(())
 }
 
@@ -32,8 +33,8 @@ fn a_waker_goes_one_way_and_a_message_the_other(rt: HostRuntime) -> Result<(), F
     look(&rt, &mut receiver);
     store_waker(&rt, &mut receiver, AnyWaker::Thread(5));
     assert!(rt; matches!(begin_send(&rt, &mut sender, 7), AnyWaker::Thread(5)));
-    assert_eq!(rt; sender.swap(4), 1);
-    assert_eq!(rt; receive(&rt, &mut receiver), 7);
+    assert_same(&rt, sender.swap(4), 1);
+    assert_same(&rt, receive(&rt, &mut receiver), 7);
     Ok(())
 }
 
@@ -43,11 +44,11 @@ fn a_receiver_that_stops_waiting_goes_on(rt: HostRuntime) -> Result<(), Fail> {
     look(&rt, &mut receiver);
     store_waker(&rt, &mut receiver, AnyWaker::Thread(5));
     assert!(rt; matches!(stop(&rt, &mut receiver), AnyWaker::Thread(5)));
-    assert_eq!(rt; sender.peek(), 3);
+    assert_same(&rt, sender.peek(), 3);
     store_waker(&rt, &mut receiver, AnyWaker::Task(6));
     assert!(rt; matches!(begin_send(&rt, &mut sender, 7), AnyWaker::Task(6)));
-    assert_eq!(rt; sender.swap(4), 1);
-    assert_eq!(rt; receive(&rt, &mut receiver), 7);
+    assert_same(&rt, sender.swap(4), 1);
+    assert_same(&rt, receive(&rt, &mut receiver), 7);
     Ok(())
 }
 
@@ -58,8 +59,8 @@ fn an_overdue_receiver_gets_the_message(rt: HostRuntime) -> Result<(), Fail> {
     store_waker(&rt, &mut receiver, AnyWaker::Thread(5));
     assert!(rt; matches!(begin_send(&rt, &mut sender, 7), AnyWaker::Thread(5)));
     stop_too_late(&rt, &mut receiver);
-    assert_eq!(rt; sender.swap(4), 3);
-    assert_eq!(rt; receive(&rt, &mut receiver), 7);
+    assert_same(&rt, sender.swap(4), 3);
+    assert_same(&rt, receive(&rt, &mut receiver), 7);
     Ok(())
 }
 
@@ -70,8 +71,8 @@ fn an_overdue_receiver_finds_the_sender_gone(rt: HostRuntime) -> Result<(), Fail
     store_waker(&rt, &mut receiver, AnyWaker::Nobody);
     assert!(rt; matches!(begin_drop(&rt, &mut sender), AnyWaker::Nobody));
     stop_too_late(&rt, &mut receiver);
-    assert_eq!(rt; sender.swap(2), 3);
-    assert_eq!(rt; receiver.load(), 2);
+    assert_same(&rt, sender.swap(2), 3);
+    assert_same(&rt, receiver.load(), 2);
     Ok(())
 }
 
@@ -81,9 +82,9 @@ fn a_receiver_that_stops_over_the_message_gets_it(rt: HostRuntime) -> Result<(),
     look(&rt, &mut receiver);
     store_waker(&rt, &mut receiver, AnyWaker::Thread(5));
     assert!(rt; matches!(begin_send(&rt, &mut sender, 7), AnyWaker::Thread(5)));
-    assert_eq!(rt; sender.swap(4), 1);
-    assert_eq!(rt; stop_over_the_message(&rt, &mut receiver), 7);
-    assert_eq!(rt; receiver.peek(), 2);
+    assert_same(&rt, sender.swap(4), 1);
+    assert_same(&rt, stop_over_the_message(&rt, &mut receiver), 7);
+    assert_same(&rt, receiver.peek(), 2);
     Ok(())
 }
 
@@ -93,9 +94,9 @@ fn a_receiver_that_stops_over_an_end_closes(rt: HostRuntime) -> Result<(), Fail>
     look(&rt, &mut receiver);
     store_waker(&rt, &mut receiver, AnyWaker::Thread(5));
     assert!(rt; matches!(begin_drop(&rt, &mut sender), AnyWaker::Thread(5)));
-    assert_eq!(rt; sender.swap(2), 1);
+    assert_same(&rt, sender.swap(2), 1);
     stop_over_the_end(&rt, &mut receiver);
-    assert_eq!(rt; receiver.peek(), 2);
+    assert_same(&rt, receiver.peek(), 2);
     Ok(())
 }
 

@@ -6,6 +6,7 @@ mod threads;
 mod waits;
 
 use futures::executor::block_on;
+use oneshot_asserts::assert_same;
 use oneshot_channel::reply::{Answer, Length, Request, Ticket, request};
 use oneshot_channel::{RecvError, RecvTimeoutError, TryRecvError};
 use std::alloc::{AllocError, Global};
@@ -41,14 +42,15 @@ fn bytes_of(length: Length) -> usize {
 #[test]
 fn a_reply_is_taken_once(rt: HostRuntime) -> Result<(), Fail> {
     let (request, mut ticket) = ask((), rt.alloc())?;
-    assert_eq!(rt; request.question().as_str(), TEXT);
+    assert_same(&rt, request.question().as_str(), TEXT);
     assert!(rt; !request.is_cancelled() && !ticket.is_closed());
     assert!(rt; answer(request)?.is_ok());
     assert!(rt; !ticket.is_closed());
-    assert_eq!(rt; ticket.try_take().map(bytes_of), Ok(21));
-    assert_eq!(rt;
+    assert_same(&rt, ticket.try_take().map(bytes_of), Ok(21));
+    assert_same(
+        &rt,
         ticket.try_take().map(bytes_of),
-        Err(TryRecvError::Disconnected)
+        Err(TryRecvError::Disconnected),
     );
     assert!(rt; ticket.is_closed());
     Ok(())
@@ -62,8 +64,8 @@ fn an_answer_without_a_ticket_gives_the_reply_back(rt: HostRuntime) -> Result<()
     let Err(length) = answer(request)? else {
         return Err(Fail::new("an answer without a ticket"));
     };
-    assert_eq!(rt; length.bytes(), 21);
-    assert_eq!(rt; length.question().as_str(), TEXT);
+    assert_same(&rt, length.bytes(), 21);
+    assert_same(&rt, length.question().as_str(), TEXT);
     Ok(())
 }
 
@@ -72,25 +74,31 @@ fn a_dropped_request_has_no_reply(rt: HostRuntime) -> Result<(), Fail> {
     let (request, ticket) = ask(&rt, rt.alloc())?;
     drop(request);
     assert!(rt; ticket.is_closed());
-    assert_eq!(rt; ticket.wait().map(bytes_of), Err(RecvError));
+    assert_same(&rt, ticket.wait().map(bytes_of), Err(RecvError));
     Ok(())
 }
 
 #[test]
 fn a_request_that_is_there_has_no_reply_yet(rt: HostRuntime) -> Result<(), Fail> {
     let (request, mut ticket) = ask(&rt, rt.alloc())?;
-    assert_eq!(rt; ticket.try_take().map(bytes_of), Err(TryRecvError::Empty));
+    assert_same(
+        &rt,
+        ticket.try_take().map(bytes_of),
+        Err(TryRecvError::Empty),
+    );
     let moment = Duration::from_millis(1);
-    assert_eq!(rt;
+    assert_same(
+        &rt,
         ticket.wait_for(moment).map(bytes_of),
-        Err(RecvTimeoutError::Timeout)
+        Err(RecvTimeoutError::Timeout),
     );
     assert!(rt; !request.is_cancelled());
     assert!(rt; answer(request)?.is_ok());
-    assert_eq!(rt; ticket.wait_for(moment).map(bytes_of), Ok(21));
-    assert_eq!(rt;
+    assert_same(&rt, ticket.wait_for(moment).map(bytes_of), Ok(21));
+    assert_same(
+        &rt,
         ticket.wait_for(moment).map(bytes_of),
-        Err(RecvTimeoutError::Disconnected)
+        Err(RecvTimeoutError::Disconnected),
     );
     Ok(())
 }
@@ -99,7 +107,7 @@ fn a_request_that_is_there_has_no_reply_yet(rt: HostRuntime) -> Result<(), Fail>
 fn a_reply_is_waited_for(rt: HostRuntime) -> Result<(), Fail> {
     let (request, ticket) = ask(&rt, rt.alloc())?;
     assert!(rt; answer(request)?.is_ok());
-    assert_eq!(rt; ticket.wait().map(bytes_of), Ok(21));
+    assert_same(&rt, ticket.wait().map(bytes_of), Ok(21));
     Ok(())
 }
 
@@ -107,7 +115,11 @@ fn a_reply_is_waited_for(rt: HostRuntime) -> Result<(), Fail> {
 fn a_reply_is_awaited(rt: HostRuntime) -> Result<(), Fail> {
     let (request, ticket) = ask((), rt.alloc())?;
     assert!(rt; answer(request)?.is_ok());
-    assert_eq!(rt; block_on(&rt, ticket.into_future())?.map(bytes_of), Ok(21));
+    assert_same(
+        &rt,
+        block_on(&rt, ticket.into_future())?.map(bytes_of),
+        Ok(21),
+    );
     Ok(())
 }
 

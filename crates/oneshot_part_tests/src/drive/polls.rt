@@ -3,6 +3,7 @@
 
 use crate::drive::steps::steps_of;
 use futures::task::Poll;
+use oneshot_asserts::assert_same;
 use oneshot_drive::{async_try_recv, drop_async, poll};
 use oneshot_errors::{RecvError, TryRecvError};
 use oneshot_memory::{MemoryFuture, MemoryTask};
@@ -49,7 +50,7 @@ fn a_refused_copy_wakes_its_task(rt: HostRuntime) -> Result<(), Fail> {
     assert!(rt; matches!(&poll(&mut g), Poll::Pending));
     assert!(rt; counts(&task) == (0, 0, 1));
     let steps = steps_of(rt.alloc(), g.receiver.events())?;
-    assert_eq!(rt; steps.as_str(), "load:3, copy:refused, wake-own");
+    assert_same(&rt, steps.as_str(), "load:3, copy:refused, wake-own");
     g.receiver.sender_sends(1234);
     assert!(rt; matches!(&poll(&mut g), Poll::Ready(Ok(1234))));
     Ok(())
@@ -66,9 +67,10 @@ fn a_refused_copy_leaves_the_stored_one(rt: HostRuntime) -> Result<(), Fail> {
     assert!(rt; matches!(&poll(&mut g), Poll::Pending));
     assert!(rt; counts(&second) == (0, 0, 1));
     let steps = steps_of(rt.alloc(), g.receiver.events())?;
-    assert_eq!(rt;
+    assert_same(
+        &rt,
         steps.as_str(),
-        "load:3, copy:made, write-waker, exchange 3 0:3, load:0, copy:refused, wake-own"
+        "load:3, copy:made, write-waker, exchange 3 0:3, load:0, copy:refused, wake-own",
     );
     g.receiver.sender_drops();
     assert!(rt; counts(&first) == (1, 1, 1));
@@ -91,10 +93,11 @@ fn a_copy_refused_at_the_third_poll_leaves_the_stored_one(rt: HostRuntime) -> Re
     assert!(rt; counts(&first) == (1, 1, 1));
     assert!(rt; counts(&second) == (1, 0, 0));
     let steps = steps_of(rt.alloc(), g.receiver.events())?;
-    assert_eq!(rt;
+    assert_same(
+        &rt,
         steps.as_str(),
         "load:3, copy:made, write-waker, exchange 3 0:3, load:0, copy:made, exchange 0 3:0, \
-        withdraw, write-waker, exchange 3 0:3, load:0, copy:refused, wake-own"
+        withdraw, write-waker, exchange 3 0:3, load:0, copy:refused, wake-own",
     );
     g.receiver.sender_sends(1234);
     assert!(rt; counts(&second) == (1, 1, 1));
@@ -136,15 +139,16 @@ fn a_dropped_future_ends_its_copy(rt: HostRuntime) {
 fn a_future_that_was_not_polled_finds_3_4_and_2(rt: HostRuntime) -> Result<(), Fail> {
     let task = MemoryTask::new();
     let mut g = MemoryFuture::<'_, '_, u64, _>::new(&rt, rt.alloc(), &task);
-    assert_eq!(rt; async_try_recv(&mut g), Err(TryRecvError::Empty));
+    assert_same(&rt, async_try_recv(&mut g), Err(TryRecvError::Empty));
     g.receiver.sender_sends(1234);
-    assert_eq!(rt; async_try_recv(&mut g), Ok(1234));
-    assert_eq!(rt; async_try_recv(&mut g), Err(TryRecvError::Disconnected));
+    assert_same(&rt, async_try_recv(&mut g), Ok(1234));
+    assert_same(&rt, async_try_recv(&mut g), Err(TryRecvError::Disconnected));
     assert!(rt; counts(&task) == (0, 0, 0));
     let steps = steps_of(rt.alloc(), g.receiver.events())?;
-    assert_eq!(rt;
+    assert_same(
+        &rt,
         steps.as_str(),
-        "load:3, load:4, store 2, take-message, load:2"
+        "load:3, load:4, store 2, take-message, load:2",
     );
     Ok(())
 }
@@ -155,16 +159,17 @@ fn a_look_leaves_the_copy_in_its_slot(rt: HostRuntime) -> Result<(), Fail> {
     let task = MemoryTask::new();
     let mut g = MemoryFuture::<'_, '_, u64, _>::new(&rt, rt.alloc(), &task);
     assert!(rt; matches!(&poll(&mut g), Poll::Pending));
-    assert_eq!(rt; async_try_recv(&mut g), Err(TryRecvError::Empty));
-    assert_eq!(rt; async_try_recv(&mut g), Err(TryRecvError::Empty));
+    assert_same(&rt, async_try_recv(&mut g), Err(TryRecvError::Empty));
+    assert_same(&rt, async_try_recv(&mut g), Err(TryRecvError::Empty));
     assert!(rt; counts(&task) == (1, 0, 0));
     g.receiver.sender_drops();
     assert!(rt; counts(&task) == (1, 1, 1));
-    assert_eq!(rt; async_try_recv(&mut g), Err(TryRecvError::Disconnected));
+    assert_same(&rt, async_try_recv(&mut g), Err(TryRecvError::Disconnected));
     let steps = steps_of(rt.alloc(), g.receiver.events())?;
-    assert_eq!(rt;
+    assert_same(
+        &rt,
         steps.as_str(),
-        "load:3, copy:made, write-waker, exchange 3 0:3, load:0, load:0, load:2"
+        "load:3, copy:made, write-waker, exchange 3 0:3, load:0, load:0, load:2",
     );
     Ok(())
 }
@@ -179,14 +184,15 @@ fn a_look_does_not_wait_for_a_sender_about_to_finish(rt: HostRuntime) -> Result<
     g.receiver.sender_will_linger(3);
     assert!(rt; matches!(&poll(&mut g), Poll::Pending));
     assert!(rt; counts(&task) == (2, 1, 1));
-    assert_eq!(rt; async_try_recv(&mut g), Err(TryRecvError::Empty));
-    assert_eq!(rt; async_try_recv(&mut g), Err(TryRecvError::Empty));
-    assert_eq!(rt; async_try_recv(&mut g), Ok(7));
+    assert_same(&rt, async_try_recv(&mut g), Err(TryRecvError::Empty));
+    assert_same(&rt, async_try_recv(&mut g), Err(TryRecvError::Empty));
+    assert_same(&rt, async_try_recv(&mut g), Ok(7));
     let steps = steps_of(rt.alloc(), g.receiver.events())?;
-    assert_eq!(rt;
+    assert_same(
+        &rt,
         steps.as_str(),
         "load:3, copy:made, write-waker, exchange 3 0:3, load:0, copy:made, exchange 0 3:1, \
-        wake-own, load:1, load:1, load:4, store 2, take-message"
+        wake-own, load:1, load:1, load:4, store 2, take-message",
     );
     Ok(())
 }
@@ -201,15 +207,16 @@ fn no_poll_takes_longer_because_the_sender_is_between_its_two_swaps(
     assert!(rt; matches!(&poll(&mut g), Poll::Pending));
     g.receiver.sender_will_send(0, 7);
     g.receiver.sender_will_linger(u64::MAX);
-    assert_eq!(rt; async_try_recv(&mut g), Err(TryRecvError::Empty));
+    assert_same(&rt, async_try_recv(&mut g), Err(TryRecvError::Empty));
     assert!(rt; matches!(&poll(&mut g), Poll::Pending));
     assert!(rt; matches!(&poll(&mut g), Poll::Pending));
     assert!(rt; matches!(&poll(&mut g), Poll::Pending));
     let steps = steps_of(rt.alloc(), g.receiver.events())?;
-    assert_eq!(rt;
+    assert_same(
+        &rt,
         steps.as_str(),
         "load:3, copy:made, write-waker, exchange 3 0:3, load:0, load:1, wake-own, load:1, \
-        wake-own, load:1, wake-own"
+        wake-own, load:1, wake-own",
     );
     assert!(rt; counts(&task) == (1, 0, 3));
     Ok(())
@@ -222,7 +229,7 @@ fn a_poll_meets_the_sender_once_it_has_finished(rt: HostRuntime) {
     assert!(rt; matches!(&poll(&mut g), Poll::Pending));
     g.receiver.sender_will_send(0, 7);
     g.receiver.sender_will_linger(2);
-    assert_eq!(rt; async_try_recv(&mut g), Err(TryRecvError::Empty));
+    assert_same(&rt, async_try_recv(&mut g), Err(TryRecvError::Empty));
     assert!(rt; matches!(&poll(&mut g), Poll::Pending));
     assert!(rt; counts(&task) == (1, 0, 1));
     assert!(rt; matches!(&poll(&mut g), Poll::Pending));
@@ -238,13 +245,14 @@ fn a_future_that_finds_1_leaves_its_copy_to_the_sender(rt: HostRuntime) -> Resul
     assert!(rt; matches!(&poll(&mut g), Poll::Pending));
     g.receiver.sender_will_send(0, 7);
     g.receiver.sender_will_linger(9);
-    assert_eq!(rt; async_try_recv(&mut g), Err(TryRecvError::Empty));
+    assert_same(&rt, async_try_recv(&mut g), Err(TryRecvError::Empty));
     drop_async(&mut g);
     assert!(rt; counts(&task) == (1, 1, 1));
     let steps = steps_of(rt.alloc(), g.receiver.events())?;
-    assert_eq!(rt;
+    assert_same(
+        &rt,
         steps.as_str(),
-        "load:3, copy:made, write-waker, exchange 3 0:3, load:0, load:1, swap 2:1"
+        "load:3, copy:made, write-waker, exchange 3 0:3, load:0, load:1, swap 2:1",
     );
     Ok(())
 }
@@ -262,9 +270,10 @@ fn a_future_whose_exchange_finds_1_leaves_its_copy_to_the_sender(
     drop_async(&mut g);
     assert!(rt; counts(&task) == (1, 1, 1));
     let steps = steps_of(rt.alloc(), g.receiver.events())?;
-    assert_eq!(rt;
+    assert_same(
+        &rt,
         steps.as_str(),
-        "load:3, copy:made, write-waker, exchange 3 0:3, load:0, exchange 0 3:1, swap 2:1"
+        "load:3, copy:made, write-waker, exchange 3 0:3, load:0, exchange 0 3:1, swap 2:1",
     );
     Ok(())
 }
@@ -279,10 +288,11 @@ fn a_future_whose_exchange_finds_the_message_drops_it(rt: HostRuntime) -> Result
     drop_async(&mut g);
     assert!(rt; counts(&task) == (1, 1, 1));
     let steps = steps_of(rt.alloc(), g.receiver.events())?;
-    assert_eq!(rt;
+    assert_same(
+        &rt,
         steps.as_str(),
         "load:3, copy:made, write-waker, exchange 3 0:3, load:0, exchange 0 3:4, swap 2:4, \
-        drop-message, free"
+        drop-message, free",
     );
     Ok(())
 }

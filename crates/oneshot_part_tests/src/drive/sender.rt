@@ -3,6 +3,7 @@
 ghost use Rattle.oneshot_drive.specs.BetweenCalls.{IsFresh};
 
 use crate::drive::steps::steps_of;
+use oneshot_asserts::assert_same;
 use oneshot_drive::{drop_error, drop_sender, into_inner, send};
 use oneshot_memory::MemorySender;
 use std::alloc::Global;
@@ -74,7 +75,7 @@ fn send_makes_its_steps(rt: HostRuntime) -> Result<(), Fail> {
             assert!(rt; sent, "case {number}");
         } else {
             assert!(rt; !sent, "case {number}");
-            assert_eq!(rt; into_inner(&mut g), 7);
+            assert_same(&rt, into_inner(&mut g), 7);
         }
         assert_eq!(rt;
             steps_of(rt.alloc(), g.events())?.as_str(),
@@ -91,14 +92,16 @@ fn the_error_of_a_receiver_that_left_meanwhile_frees_once(rt: HostRuntime) -> Re
     if send(&mut g, 7) {
         panic!(rt; "the receiver left")
     }
-    assert_eq!(rt;
+    assert_same(
+        &rt,
         steps_of(rt.alloc(), g.events())?.as_str(),
-        "write-message, add:0, take-waker, swap 4:2, wake"
+        "write-message, add:0, take-waker, swap 4:2, wake",
     );
     drop_error(&mut g);
-    assert_eq!(rt;
+    assert_same(
+        &rt,
         steps_of(rt.alloc(), g.events())?.as_str(),
-        "write-message, add:0, take-waker, swap 4:2, wake, drop-message, free"
+        "write-message, add:0, take-waker, swap 4:2, wake, drop-message, free",
     );
     Ok(())
 }

@@ -1,5 +1,6 @@
 //! Receives by a clock that answers what the test wrote down, and fails afterwards.
 
+use oneshot_asserts::assert_same;
 use oneshot_channel::{Receiver, RecvTimeoutError, Sender, channel};
 use std::alloc::{AllocError, Global};
 use std::cell::Cell;
@@ -66,8 +67,8 @@ fn an_instant_is_not_over_at_itself(rt: HostRuntime) -> Result<(), Fail> {
     let clock = Written::new(&rt, &[5, 5, 6, 7]);
     let (_sender, mut receiver) = by_clock(&clock, rt.alloc())?;
     let received = receiver.recv_deadline(five(&rt)?);
-    assert_eq!(rt; received, Err(RecvTimeoutError::Timeout));
-    assert_eq!(rt; clock.left(), 1);
+    assert_same(&rt, received, Err(RecvTimeoutError::Timeout));
+    assert_same(&rt, clock.left(), 1);
     Ok(())
 }
 
@@ -78,8 +79,8 @@ fn each_turn_of_a_wait_parks(rt: HostRuntime) -> Result<(), Fail> {
     let clock = Written::new(&rt, &[1, 7, 2, 7, 3, 7, 6, 8]);
     let (_sender, mut receiver) = by_clock(&clock, rt.alloc())?;
     let received = receiver.recv_deadline(five(&rt)?);
-    assert_eq!(rt; received, Err(RecvTimeoutError::Timeout));
-    assert_eq!(rt; clock.left(), 1);
+    assert_same(&rt, received, Err(RecvTimeoutError::Timeout));
+    assert_same(&rt, clock.left(), 1);
     Ok(())
 }
 
@@ -88,8 +89,8 @@ fn a_later_instant_is_over_at_once(rt: HostRuntime) -> Result<(), Fail> {
     let clock = Written::new(&rt, &[6, 7]);
     let (_sender, mut receiver) = by_clock(&clock, rt.alloc())?;
     let received = receiver.recv_deadline(five(&rt)?);
-    assert_eq!(rt; received, Err(RecvTimeoutError::Timeout));
-    assert_eq!(rt; clock.left(), 1);
+    assert_same(&rt, received, Err(RecvTimeoutError::Timeout));
+    assert_same(&rt, clock.left(), 1);
     Ok(())
 }
 
@@ -101,8 +102,8 @@ fn a_clock_that_fails_counts_as_past_the_deadline(rt: HostRuntime) -> Result<(),
         let clock = Written::new(&rt, written);
         let (_sender, mut receiver) = by_clock(&clock, rt.alloc())?;
         let received = receiver.recv_deadline(five(&rt)?);
-        assert_eq!(rt; received, Err(RecvTimeoutError::Timeout));
-        assert_eq!(rt; clock.left(), 0);
+        assert_same(&rt, received, Err(RecvTimeoutError::Timeout));
+        assert_same(&rt, clock.left(), 0);
     }
     Ok(())
 }
@@ -123,8 +124,8 @@ fn a_timeout_counts_from_one_reading(rt: HostRuntime) -> Result<(), Fail> {
         let clock = Written::new(&rt, written);
         let (_sender, mut receiver) = by_clock(&clock, rt.alloc())?;
         let received = receiver.recv_timeout(Duration::from_nanos(5));
-        assert_eq!(rt; received, Err(RecvTimeoutError::Timeout));
-        assert_eq!(rt; clock.left(), left);
+        assert_same(&rt, received, Err(RecvTimeoutError::Timeout));
+        assert_same(&rt, clock.left(), left);
     }
     Ok(())
 }
@@ -134,10 +135,11 @@ fn a_clock_that_fails_hides_no_message(rt: HostRuntime) -> Result<(), Fail> {
     let clock = Written::new(&rt, &[]);
     let (sender, mut receiver) = by_clock(&clock, rt.alloc())?;
     assert!(rt; sender.send(19).is_ok());
-    assert_eq!(rt; receiver.recv_timeout(Duration::from_nanos(5)), Ok(19));
-    assert_eq!(rt;
+    assert_same(&rt, receiver.recv_timeout(Duration::from_nanos(5)), Ok(19));
+    assert_same(
+        &rt,
         receiver.recv_timeout(Duration::from_nanos(5)),
-        Err(RecvTimeoutError::Disconnected)
+        Err(RecvTimeoutError::Disconnected),
     );
     Ok(())
 }
@@ -171,11 +173,11 @@ fn a_receive_that_waits_reads_the_clock_few_times(rt: HostRuntime) -> Result<(),
     };
     let (_sender, mut receiver) = channel::<u8, _>(&counting, rt.alloc())?;
     let received = receiver.recv_timeout(Duration::from_millis(20));
-    assert_eq!(rt; received, Err(RecvTimeoutError::Timeout));
+    assert_same(&rt, received, Err(RecvTimeoutError::Timeout));
     assert!(rt; counting.readings.get() < 100);
     let end = Instant::now(&rt)?.checked_add(Duration::from_millis(20));
     let received = receiver.recv_deadline(end.ok_or("an instant can hold it")?);
-    assert_eq!(rt; received, Err(RecvTimeoutError::Timeout));
+    assert_same(&rt, received, Err(RecvTimeoutError::Timeout));
     assert!(rt; counting.readings.get() < 200);
     Ok(())
 }
@@ -196,13 +198,13 @@ fn a_receive_spins_few_times_before_it_sleeps(rt: HostRuntime) -> Result<(), Fai
     };
     let (_sender, mut receiver) = channel::<u8, _>(&counting, rt.alloc())?;
     let received = receiver.recv_timeout(Duration::from_millis(150));
-    assert_eq!(rt; received, Err(RecvTimeoutError::Timeout));
+    assert_same(&rt, received, Err(RecvTimeoutError::Timeout));
     assert!(rt; counting.readings.get() < READINGS);
     counting.readings.set(0);
     // Where less than a tenth of a second is left it does not spin: it reads the clock for the sum, before it
     // sleeps, twice in its sleep, and after.
     let received = receiver.recv_timeout(Duration::from_millis(5));
-    assert_eq!(rt; received, Err(RecvTimeoutError::Timeout));
+    assert_same(&rt, received, Err(RecvTimeoutError::Timeout));
     assert!(rt; counting.readings.get() < SPINLESS);
     Ok(())
 }
@@ -260,12 +262,12 @@ fn what_comes_at_the_deadline_is_found(rt: HostRuntime) -> Result<(), Fail> {
     let clock = Meanwhile::new(&rt);
     let (sender, mut receiver) = channel::<u8, _>(&clock, rt.alloc())?;
     clock.will(Act::Send(sender, 19));
-    assert_eq!(rt; receiver.recv_deadline(five(&rt)?), Ok(19));
+    assert_same(&rt, receiver.recv_deadline(five(&rt)?), Ok(19));
     assert!(rt; receiver.is_closed());
     let (sender, mut receiver) = channel::<u8, _>(&clock, rt.alloc())?;
     clock.will(Act::Go(sender));
     let received = receiver.recv_deadline(five(&rt)?);
-    assert_eq!(rt; received, Err(RecvTimeoutError::Disconnected));
+    assert_same(&rt, received, Err(RecvTimeoutError::Disconnected));
     assert!(rt; receiver.is_closed());
     Ok(())
 }

@@ -1,5 +1,6 @@
 //! Receives with a deadline or a timeout, alone and against a sender on another thread.
 
+use oneshot_asserts::assert_same;
 use oneshot_channel::{Receiver, RecvError, RecvTimeoutError, TryRecvError, channel};
 use std::io;
 use std::process::Abort;
@@ -33,19 +34,21 @@ fn a_message_that_is_there_is_received_whatever_the_deadline(rt: HostRuntime) ->
     for deadline in around_now(&rt)? {
         let (sender, mut receiver) = channel::<u8, _>(&rt, rt.alloc())?;
         assert!(rt; sender.send(19).is_ok());
-        assert_eq!(rt; receiver.recv_deadline(deadline), Ok(19));
-        assert_eq!(rt;
+        assert_same(&rt, receiver.recv_deadline(deadline), Ok(19));
+        assert_same(
+            &rt,
             receiver.recv_deadline(deadline),
-            Err(RecvTimeoutError::Disconnected)
+            Err(RecvTimeoutError::Disconnected),
         );
     }
     for timeout in [Duration::ZERO, hour(), Duration::MAX] {
         let (sender, mut receiver) = channel::<u8, _>(&rt, rt.alloc())?;
         assert!(rt; sender.send(19).is_ok());
-        assert_eq!(rt; receiver.recv_timeout(timeout), Ok(19));
-        assert_eq!(rt;
+        assert_same(&rt, receiver.recv_timeout(timeout), Ok(19));
+        assert_same(
+            &rt,
             receiver.recv_timeout(timeout),
-            Err(RecvTimeoutError::Disconnected)
+            Err(RecvTimeoutError::Disconnected),
         );
     }
     Ok(())
@@ -56,17 +59,19 @@ fn a_sender_that_is_gone_is_told_whatever_the_deadline(rt: HostRuntime) -> Resul
     for deadline in around_now(&rt)? {
         let (sender, mut receiver) = channel::<u8, _>(&rt, rt.alloc())?;
         drop(sender);
-        assert_eq!(rt;
+        assert_same(
+            &rt,
             receiver.recv_deadline(deadline),
-            Err(RecvTimeoutError::Disconnected)
+            Err(RecvTimeoutError::Disconnected),
         );
     }
     for timeout in [Duration::ZERO, hour(), Duration::MAX] {
         let (sender, mut receiver) = channel::<u8, _>(&rt, rt.alloc())?;
         drop(sender);
-        assert_eq!(rt;
+        assert_same(
+            &rt,
             receiver.recv_timeout(timeout),
-            Err(RecvTimeoutError::Disconnected)
+            Err(RecvTimeoutError::Disconnected),
         );
     }
     Ok(())
@@ -76,24 +81,31 @@ fn a_sender_that_is_gone_is_told_whatever_the_deadline(rt: HostRuntime) -> Resul
 fn a_deadline_that_runs_out_leaves_the_receiver_open(rt: HostRuntime) -> Result<(), Fail> {
     let [past, now, _] = around_now(&rt)?;
     let (sender, mut receiver) = channel::<u8, _>(&rt, rt.alloc())?;
-    assert_eq!(rt;
+    assert_same(
+        &rt,
         receiver.recv_deadline(past),
-        Err(RecvTimeoutError::Timeout)
+        Err(RecvTimeoutError::Timeout),
     );
-    assert_eq!(rt; receiver.recv_deadline(now), Err(RecvTimeoutError::Timeout));
-    assert_eq!(rt;
+    assert_same(
+        &rt,
+        receiver.recv_deadline(now),
+        Err(RecvTimeoutError::Timeout),
+    );
+    assert_same(
+        &rt,
         receiver.recv_timeout(Duration::ZERO),
-        Err(RecvTimeoutError::Timeout)
+        Err(RecvTimeoutError::Timeout),
     );
     let short = Duration::from_millis(2);
     let start = Instant::now(&rt)?;
-    assert_eq!(rt;
+    assert_same(
+        &rt,
         receiver.recv_timeout(short),
-        Err(RecvTimeoutError::Timeout)
+        Err(RecvTimeoutError::Timeout),
     );
     assert!(rt; Instant::now(&rt)?.duration_since(start) > short);
     assert!(rt; !receiver.is_closed() && !sender.is_closed());
-    assert_eq!(rt; receiver.try_recv(), Err(TryRecvError::Empty));
+    assert_same(&rt, receiver.try_recv(), Err(TryRecvError::Empty));
     // Its waker came back each time, so that it can wait again and be woken.
     let ((), received) = join(
         &rt,
@@ -103,7 +115,7 @@ fn a_deadline_that_runs_out_leaves_the_receiver_open(rt: HostRuntime) -> Result<
         },
         || receiver.recv_ref(),
     );
-    assert_eq!(rt; received, Ok(19));
+    assert_same(&rt, received, Ok(19));
     Ok(())
 }
 
@@ -113,14 +125,15 @@ fn every_receive_of_a_message_that_crossed(rt: HostRuntime) -> Result<(), Fail> 
     assert!(rt; !receiver.has_message());
     assert!(rt; sender.send(19).is_ok());
     assert!(rt; receiver.has_message());
-    assert_eq!(rt; receiver.try_recv(), Ok(19));
+    assert_same(&rt, receiver.try_recv(), Ok(19));
     assert!(rt; !receiver.has_message());
-    assert_eq!(rt; receiver.try_recv(), Err(TryRecvError::Disconnected));
-    assert_eq!(rt; receiver.recv_ref(), Err(RecvError));
+    assert_same(&rt, receiver.try_recv(), Err(TryRecvError::Disconnected));
+    assert_same(&rt, receiver.recv_ref(), Err(RecvError));
     let second = Duration::from_secs(1);
-    assert_eq!(rt;
+    assert_same(
+        &rt,
         receiver.recv_timeout(second),
-        Err(RecvTimeoutError::Disconnected)
+        Err(RecvTimeoutError::Disconnected),
     );
     Ok(())
 }
@@ -142,7 +155,7 @@ fn a_deadline_in_an_hour_waits_for_the_message(rt: HostRuntime) -> Result<(), Fa
             },
         );
         assert!(rt; sent);
-        assert_eq!(rt; received, Ok(19));
+        assert_same(&rt, received, Ok(19));
     }
     Ok(())
 }
@@ -159,7 +172,7 @@ fn a_deadline_in_an_hour_waits_for_the_senders_drop(rt: HostRuntime) -> Result<(
         },
         || receiver.recv_deadline(deadline),
     );
-    assert_eq!(rt; received, Err(RecvTimeoutError::Disconnected));
+    assert_same(&rt, received, Err(RecvTimeoutError::Disconnected));
     Ok(())
 }
 
@@ -193,8 +206,8 @@ fn two_threads_answer_each_other_promptly(rt: HostRuntime) -> Result<(), Fail> {
             (to_left.send(2).is_ok(), received)
         },
     );
-    assert_eq!(rt; left, (true, (Ok(2), true)));
-    assert_eq!(rt; right, (true, (Ok(1), true)));
+    assert_same(&rt, left, (true, (Ok(2), true)));
+    assert_same(&rt, right, (true, (Ok(1), true)));
     Ok(())
 }
 
@@ -241,10 +254,10 @@ fn a_message_beside_a_limit_is_received_once(rt: HostRuntime) -> Result<(), Fail
         let Ok(message) = received? else {
             panic!(rt; "the message comes")
         };
-        assert_eq!(rt; *message, round);
-        assert_eq!(rt; Arc::strong_count(&shared), 2);
+        assert_same(&rt, *message, round);
+        assert_same(&rt, Arc::strong_count(&shared), 2);
         drop(message);
-        assert_eq!(rt; Arc::strong_count(&shared), 1);
+        assert_same(&rt, Arc::strong_count(&shared), 1);
     }
     Ok(())
 }
@@ -261,7 +274,7 @@ fn a_drop_beside_a_limit_is_told(rt: HostRuntime) -> Result<(), Fail> {
             },
             || within(&rt, receiver, round),
         );
-        assert_eq!(rt; received?, Err(RecvError));
+        assert_same(&rt, received?, Err(RecvError));
     }
     Ok(())
 }

@@ -1,5 +1,6 @@
 //! A message that was received, and one that was never sent, is its holder's to drop; an `Arc` counts who holds it.
 
+use oneshot_asserts::assert_same;
 use oneshot_channel::channel;
 use std::sync::Arc;
 use std::test::Fail;
@@ -11,9 +12,9 @@ fn a_received_message_is_the_tests_to_drop(rt: HostRuntime) -> Result<(), Fail> 
     assert!(rt; sender.send(Arc::try_clone(&shared)?).is_ok());
     let received = receiver.try_recv();
     drop(receiver);
-    assert_eq!(rt; Arc::strong_count(&shared), 2);
+    assert_same(&rt, Arc::strong_count(&shared), 2);
     drop(received);
-    assert_eq!(rt; Arc::strong_count(&shared), 1);
+    assert_same(&rt, Arc::strong_count(&shared), 1);
     Ok(())
 }
 
@@ -27,8 +28,8 @@ fn the_ends_drop_nothing_that_was_not_sent(rt: HostRuntime) -> Result<(), Fail> 
     let (sender, receiver) = channel::<Arc<u8>, ()>((), rt.alloc())?;
     drop(receiver);
     drop(sender);
-    assert_eq!(rt; Arc::strong_count(&shared), 2);
+    assert_same(&rt, Arc::strong_count(&shared), 2);
     drop(message);
-    assert_eq!(rt; Arc::strong_count(&shared), 1);
+    assert_same(&rt, Arc::strong_count(&shared), 1);
     Ok(())
 }

@@ -4,6 +4,7 @@ use super::clocks::{Act, Meanwhile, five};
 use super::lives::{DROPPED, LIVES, Life, RAW, READY, TRIED, live};
 use super::steps::{Ends, Look};
 use futures::test::MockTask;
+use oneshot_asserts::assert_same;
 use oneshot_channel::{RecvError, channel};
 use std::process::Abort;
 use std::random::RandomSource;
@@ -224,18 +225,18 @@ fn the_runtime_is_dropped_with_the_receiver(rt: HostRuntime) -> Result<(), Fail>
         channel::<u8, _>(counted, rt.alloc())
     };
     let (sender, receiver) = ends()?;
-    assert_eq!(rt; Arc::strong_count(&alive), 2);
+    assert_same(&rt, Arc::strong_count(&alive), 2);
     drop(receiver);
-    assert_eq!(rt; Arc::strong_count(&alive), 1);
+    assert_same(&rt, Arc::strong_count(&alive), 1);
     drop(sender);
     let (sender, receiver) = ends()?;
     assert!(rt; sender.send(19).is_ok());
-    assert_eq!(rt; receiver.recv(), Ok(19));
-    assert_eq!(rt; Arc::strong_count(&alive), 1);
+    assert_same(&rt, receiver.recv(), Ok(19));
+    assert_same(&rt, Arc::strong_count(&alive), 1);
     let (sender, receiver) = ends()?;
     drop(sender);
-    assert_eq!(rt; receiver.recv(), Err(RecvError));
-    assert_eq!(rt; Arc::strong_count(&alive), 1);
+    assert_same(&rt, receiver.recv(), Err(RecvError));
+    assert_same(&rt, Arc::strong_count(&alive), 1);
     Ok(())
 }
 

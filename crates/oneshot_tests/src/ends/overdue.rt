@@ -1,6 +1,7 @@
 //! Deadlines that end while the sender is in its send or its drop. Where the receiver is not woken then, or
 //! waits once more than it is woken, these tests do not end.
 
+use oneshot_asserts::assert_same;
 use oneshot_channel::{Receiver, RecvError, RecvTimeoutError, channel};
 use std::io;
 use std::process::Abort;
@@ -87,7 +88,7 @@ fn a_message_that_comes_at_the_deadline_is_received_once(rt: HostRuntime) -> Res
             },
         );
         assert!(rt; sent);
-        assert_eq!(rt; received?, Ok(round));
+        assert_same(&rt, received?, Ok(round));
     }
     Ok(())
 }
@@ -113,7 +114,7 @@ fn a_sender_that_goes_at_the_deadline_is_told(rt: HostRuntime) -> Result<(), Fai
                 just_in_time(&rt, receiver, round)
             },
         );
-        assert_eq!(rt; received?, Err(RecvError));
+        assert_same(&rt, received?, Err(RecvError));
     }
     Ok(())
 }

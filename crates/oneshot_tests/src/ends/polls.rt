@@ -6,6 +6,7 @@ use futures::Future;
 use futures::executor::block_on;
 use futures::future::join;
 use futures::task::{Context, Poll};
+use oneshot_asserts::assert_same;
 use oneshot_channel::{AsyncReceiver, RecvError, async_channel};
 use std::random::RandomSource;
 use std::sync::Wait;
@@ -66,7 +67,7 @@ fn a_send_of_another_thread_wakes_the_task(rt: HostRuntime) -> Result<(), Fail> 
         },
     );
     assert!(rt; sent);
-    assert_eq!(rt; received?, Ok(19));
+    assert_same(&rt, received?, Ok(19));
     assert!(rt; polls.load(Ordering::SeqCst) <= 10);
     Ok(())
 }
@@ -97,7 +98,7 @@ fn two_joined_receivers_are_polled_as_often_as_they_are_woken(rt: HostRuntime) -
         },
     );
     assert!(rt; sent);
-    assert_eq!(rt; received?, (Ok(19), Ok(1)));
+    assert_same(&rt, received?, (Ok(19), Ok(1)));
     assert!(rt; polls.load(Ordering::SeqCst) <= 10);
     Ok(())
 }
@@ -113,7 +114,7 @@ fn a_sender_that_is_dropped_ends_the_wait(rt: HostRuntime) -> Result<(), Fail> {
             drop(sender);
         },
     );
-    assert_eq!(rt; received?, Err(RecvError));
+    assert_same(&rt, received?, Err(RecvError));
     Ok(())
 }
 
@@ -143,7 +144,7 @@ fn two_threads_and_two_executors_poll_one_receiver(rt: HostRuntime) -> Result<()
         },
     );
     assert!(rt; sent);
-    assert_eq!(rt; received?, Ok(19));
+    assert_same(&rt, received?, Ok(19));
     Ok(())
 }
 
@@ -156,7 +157,7 @@ fn a_message_that_was_sent_before_is_ready_at_once(rt: HostRuntime) -> Result<()
         receiver,
         polls: &polls,
     };
-    assert_eq!(rt; block_on(&rt, counted)?, Ok(19));
-    assert_eq!(rt; polls.load(Ordering::SeqCst), 1);
+    assert_same(&rt, block_on(&rt, counted)?, Ok(19));
+    assert_same(&rt, polls.load(Ordering::SeqCst), 1);
     Ok(())
 }

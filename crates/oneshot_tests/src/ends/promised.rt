@@ -5,6 +5,7 @@ ghost use Rattle.std.specs.Prelude.{◌≡◌};
 use super::leaks::assert_no_leak;
 use futures::executor::block_on;
 use futures::test::MockTask;
+use oneshot_asserts::assert_same;
 use oneshot_channel::{Promise, TryRecvError, async_channel_for, channel_for};
 use std::alloc::{AllocGlobal, Global};
 use std::io;
@@ -27,9 +28,9 @@ impl Promise<Box<u32>> for Only {
 #[test]
 fn a_channel_under_a_promise_carries_its_message(rt: HostRuntime) -> Result<(), Fail> {
     let (sender, mut receiver) = channel_for((), rt.alloc(), &Only(5))?;
-    assert_eq!(rt; receiver.try_recv(), Err(TryRecvError::Empty));
+    assert_same(&rt, receiver.try_recv(), Err(TryRecvError::Empty));
     assert!(rt; sender.send_kept(5).is_ok());
-    assert_eq!(rt; receiver.try_recv(), Ok(5));
+    assert_same(&rt, receiver.try_recv(), Ok(5));
     Ok(())
 }
 
@@ -38,7 +39,7 @@ fn a_future_under_a_promise_carries_its_message(rt: HostRuntime) -> Result<(), F
     let (sender, receiver) = async_channel_for((), rt.alloc(), &Only(5))?;
     assert!(rt; !receiver.is_closed());
     assert!(rt; sender.send_kept(5).is_ok());
-    assert_eq!(rt; block_on(&rt, receiver)?, Ok(5));
+    assert_same(&rt, block_on(&rt, receiver)?, Ok(5));
     Ok(())
 }
 
@@ -47,7 +48,7 @@ fn a_send_to_a_dropped_future_is_refused(rt: HostRuntime) -> Result<(), Fail> {
     let (sender, receiver) = async_channel_for::<u32, (), Only>((), rt.alloc(), &Only(5))?;
     drop(receiver);
     let refused = sender.send_kept(5);
-    assert_eq!(rt; refused.map_err(|error| error.into_inner()), Err(5));
+    assert_same(&rt, refused.map_err(|error| error.into_inner()), Err(5));
     Ok(())
 }
 

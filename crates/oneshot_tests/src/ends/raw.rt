@@ -1,5 +1,6 @@
 //! The ends as opaque values: made of an end, made an end again, moved between threads, and dropped.
 
+use oneshot_asserts::assert_same;
 use oneshot_channel::{RawReceiver, RawSender, Receiver, RecvError, Sender, TryRecvError, channel};
 use std::sync::Arc;
 use std::test::Fail;
@@ -12,10 +13,10 @@ fn both_ends_come_out_as_they_went_in(rt: HostRuntime) -> Result<(), Fail> {
     let raw_receiver = receiver.into_raw();
     let sender = Sender::from_raw(raw_sender);
     let mut receiver = Receiver::from_raw(raw_receiver);
-    assert_eq!(rt; receiver.try_recv(), Err(TryRecvError::Empty));
+    assert_same(&rt, receiver.try_recv(), Err(TryRecvError::Empty));
     assert!(rt; !sender.is_closed());
     assert!(rt; sender.send(100).is_ok());
-    assert_eq!(rt; receiver.try_recv(), Ok(100));
+    assert_same(&rt, receiver.try_recv(), Ok(100));
     Ok(())
 }
 
@@ -25,10 +26,10 @@ fn a_message_waits_in_a_raw_receiver(rt: HostRuntime) -> Result<(), Fail> {
     assert!(rt; sender.send(100).is_ok());
     let mut receiver = Receiver::from_raw(receiver.into_raw());
     assert!(rt; receiver.has_message());
-    assert_eq!(rt; receiver.try_recv(), Ok(100));
+    assert_same(&rt, receiver.try_recv(), Ok(100));
     let mut receiver = Receiver::from_raw(receiver.into_raw());
     assert!(rt; receiver.is_closed());
-    assert_eq!(rt; receiver.try_recv(), Err(TryRecvError::Disconnected));
+    assert_same(&rt, receiver.try_recv(), Err(TryRecvError::Disconnected));
     Ok(())
 }
 
@@ -42,7 +43,7 @@ fn a_send_to_a_dropped_raw_receiver_is_refused(rt: HostRuntime) -> Result<(), Fa
     let Err(error) = sender.send(5) else {
         panic!(rt; "the receiver is gone")
     };
-    assert_eq!(rt; error.into_inner(), 5);
+    assert_same(&rt, error.into_inner(), 5);
     Ok(())
 }
 
@@ -50,9 +51,9 @@ fn a_send_to_a_dropped_raw_receiver_is_refused(rt: HostRuntime) -> Result<(), Fa
 fn a_receiver_of_a_dropped_raw_sender_is_disconnected(rt: HostRuntime) -> Result<(), Fail> {
     let (sender, mut receiver) = channel::<u32, ()>((), rt.alloc())?;
     let raw = sender.into_raw();
-    assert_eq!(rt; receiver.try_recv(), Err(TryRecvError::Empty));
+    assert_same(&rt, receiver.try_recv(), Err(TryRecvError::Empty));
     drop(raw);
-    assert_eq!(rt; receiver.try_recv(), Err(TryRecvError::Disconnected));
+    assert_same(&rt, receiver.try_recv(), Err(TryRecvError::Disconnected));
     Ok(())
 }
 
@@ -61,7 +62,7 @@ fn a_dropped_raw_sender_wakes_its_receiver(rt: HostRuntime) -> Result<(), Fail> 
     let (sender, receiver) = channel::<u32, _>(&rt, rt.alloc())?;
     let raw = sender.into_raw();
     let ((), received) = join(&rt, move || drop(raw), || receiver.recv());
-    assert_eq!(rt; received, Err(RecvError));
+    assert_same(&rt, received, Err(RecvError));
     Ok(())
 }
 
@@ -85,7 +86,7 @@ fn raw_ends_go_to_other_threads_and_back(rt: HostRuntime) -> Result<(), Fail> {
     let (sender, receiver) = channel::<u32, ()>((), rt.alloc())?;
     let (sender, receiver) = both_there_and_back(&rt, sender.into_raw(), receiver.into_raw());
     assert!(rt; Sender::from_raw(sender).send(100).is_ok());
-    assert_eq!(rt; Receiver::from_raw(receiver).try_recv(), Ok(100));
+    assert_same(&rt, Receiver::from_raw(receiver).try_recv(), Ok(100));
     Ok(())
 }
 
@@ -105,7 +106,7 @@ fn raw_ends_are_used_on_other_threads(rt: HostRuntime) -> Result<(), Fail> {
         move || Receiver::from_raw(raw_receiver).try_recv(),
         || (),
     );
-    assert_eq!(rt; received, Ok(100));
+    assert_same(&rt, received, Ok(100));
     Ok(())
 }
 
@@ -116,11 +117,11 @@ fn a_raw_receiver_drops_its_message_and_its_runtime(rt: HostRuntime) -> Result<(
     let (sender, receiver) = channel(Arc::try_clone(&runtime)?, rt.alloc())?;
     assert!(rt; sender.send(Arc::try_clone(&message)?).is_ok());
     let raw = receiver.into_raw();
-    assert_eq!(rt; Arc::strong_count(&message), 2);
-    assert_eq!(rt; Arc::strong_count(&runtime), 2);
+    assert_same(&rt, Arc::strong_count(&message), 2);
+    assert_same(&rt, Arc::strong_count(&runtime), 2);
     drop(raw);
-    assert_eq!(rt; Arc::strong_count(&message), 1);
-    assert_eq!(rt; Arc::strong_count(&runtime), 1);
+    assert_same(&rt, Arc::strong_count(&message), 1);
+    assert_same(&rt, Arc::strong_count(&runtime), 1);
     Ok(())
 }
 
@@ -138,8 +139,8 @@ fn raw_ends_drop_nothing_that_was_not_sent(rt: HostRuntime) -> Result<(), Fail> 
     let Err(error) = Sender::from_raw(raw_sender).send(message) else {
         panic!(rt; "the receiver is gone")
     };
-    assert_eq!(rt; Arc::strong_count(&shared), 2);
+    assert_same(&rt, Arc::strong_count(&shared), 2);
     drop(error);
-    assert_eq!(rt; Arc::strong_count(&shared), 1);
+    assert_same(&rt, Arc::strong_count(&shared), 1);
     Ok(())
 }

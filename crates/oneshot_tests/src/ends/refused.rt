@@ -1,5 +1,6 @@
 //! The texts of an error that has a refused message.
 
+use oneshot_asserts::assert_same;
 use oneshot_channel::channel;
 use std::test::Fail;
 
@@ -11,10 +12,10 @@ fn the_errors_texts_are_printed(rt: HostRuntime) -> Result<(), Fail> {
         panic!(rt; "the receiver is gone")
     };
     let shown = format!(in rt.alloc(); "{error}")?;
-    assert_eq!(rt; shown.as_str(), "sending on a closed channel");
+    assert_same(&rt, shown.as_str(), "sending on a closed channel");
     let wide = format!(in rt.alloc(); "{error:>30}")?;
-    assert_eq!(rt; wide.as_str(), "   sending on a closed channel");
+    assert_same(&rt, wide.as_str(), "   sending on a closed channel");
     let debugged = format!(in rt.alloc(); "{error:?}")?;
-    assert_eq!(rt; debugged.as_str(), "SendError(_)");
+    assert_same(&rt, debugged.as_str(), "SendError(_)");
     Ok(())
 }

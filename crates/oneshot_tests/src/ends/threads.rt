@@ -1,5 +1,6 @@
 //! Each end on a thread of its own.
 
+use oneshot_asserts::assert_same;
 use oneshot_channel::{RawSender, Receiver, SendError, Sender, TryRecvError, channel};
 use std::mem::size_of_val;
 use std::test::Fail;
@@ -28,9 +29,9 @@ fn two_looks<T: Send + Sync>(rt: &impl Threads, sender: &Sender<T>) -> (bool, bo
 #[test]
 fn two_threads_look_at_one_sender(rt: HostRuntime) -> Result<(), Fail> {
     let (sender, receiver) = channel::<u8, ()>((), rt.alloc())?;
-    assert_eq!(rt; two_looks(&rt, &sender), (false, false));
+    assert_same(&rt, two_looks(&rt, &sender), (false, false));
     drop(receiver);
-    assert_eq!(rt; two_looks(&rt, &sender), (true, true));
+    assert_same(&rt, two_looks(&rt, &sender), (true, true));
     Ok(())
 }
 
@@ -52,8 +53,8 @@ fn an_error_is_read_and_emptied_by_other_threads(rt: HostRuntime) -> Result<(), 
     let Err(error) = sender.send(5) else {
         panic!(rt; "the receiver is gone")
     };
-    assert_eq!(rt; two_readings(&rt, &error), (5, 5));
-    assert_eq!(rt; taken_there(&rt, error), 5);
+    assert_same(&rt, two_readings(&rt, &error), (5, 5));
+    assert_same(&rt, taken_there(&rt, error), 5);
     Ok(())
 }
 
@@ -67,7 +68,7 @@ fn two_threads_share_a_raw_sender(rt: HostRuntime) -> Result<(), Fail> {
     let (sender, receiver) = channel::<u8, ()>((), rt.alloc())?;
     let raw = sender.into_raw();
     let size = size_of_val(&raw);
-    assert_eq!(rt; two_sights(&rt, &raw), (size, size));
+    assert_same(&rt, two_sights(&rt, &raw), (size, size));
     assert!(rt; Sender::from_raw(raw).send(5).is_ok());
     assert!(rt; receiver.has_message());
     Ok(())
@@ -90,7 +91,7 @@ fn received_there<T: Send + Drop, Rt: Send + Drop>(
 fn a_receiver_may_go_to_another_thread(rt: HostRuntime) -> Result<(), Fail> {
     for round in 0..ROUNDS {
         let ends = channel(&rt, rt.alloc())?;
-        assert_eq!(rt; received_there(&rt, ends, round), (Ok(round), true));
+        assert_same(&rt, received_there(&rt, ends, round), (Ok(round), true));
     }
     Ok(())
 }

@@ -1,5 +1,6 @@
 //! Receives that wait, against a sender on another thread. Where a wake does nothing they do not end.
 
+use oneshot_asserts::assert_same;
 use oneshot_channel::{Receiver, RecvError, TryRecvError, channel};
 use std::sync::{Arc, Wait};
 use std::test::Fail;
@@ -19,13 +20,13 @@ fn linger(rt: &impl Clock, round: u64) {
 fn a_message_that_is_there_is_received(rt: HostRuntime) -> Result<(), Fail> {
     let (sender, receiver) = channel::<u8, _>(&rt, rt.alloc())?;
     assert!(rt; sender.send(19).is_ok());
-    assert_eq!(rt; receiver.recv(), Ok(19));
+    assert_same(&rt, receiver.recv(), Ok(19));
     let (sender, mut receiver) = channel::<u8, _>(&rt, rt.alloc())?;
     assert!(rt; sender.send(19).is_ok());
-    assert_eq!(rt; receiver.recv_ref(), Ok(19));
-    assert_eq!(rt; receiver.recv_ref(), Err(RecvError));
-    assert_eq!(rt; receiver.try_recv(), Err(TryRecvError::Disconnected));
-    assert_eq!(rt; receiver.recv(), Err(RecvError));
+    assert_same(&rt, receiver.recv_ref(), Ok(19));
+    assert_same(&rt, receiver.recv_ref(), Err(RecvError));
+    assert_same(&rt, receiver.try_recv(), Err(TryRecvError::Disconnected));
+    assert_same(&rt, receiver.recv(), Err(RecvError));
     Ok(())
 }
 
@@ -33,8 +34,8 @@ fn a_message_that_is_there_is_received(rt: HostRuntime) -> Result<(), Fail> {
 fn nobody_is_waited_for_once_the_sender_is_gone(rt: HostRuntime) -> Result<(), Fail> {
     let (sender, mut receiver) = channel::<u8, _>(&rt, rt.alloc())?;
     drop(sender);
-    assert_eq!(rt; receiver.recv_ref(), Err(RecvError));
-    assert_eq!(rt; receiver.recv(), Err(RecvError));
+    assert_same(&rt, receiver.recv_ref(), Err(RecvError));
+    assert_same(&rt, receiver.recv(), Err(RecvError));
     Ok(())
 }
 
@@ -65,10 +66,10 @@ fn recv_gets_each_message_once(rt: HostRuntime) -> Result<(), Fail> {
         let Ok(message) = received else {
             panic!(rt; "the message comes")
         };
-        assert_eq!(rt; *message, round);
-        assert_eq!(rt; Arc::strong_count(&shared), 2);
+        assert_same(&rt, *message, round);
+        assert_same(&rt, Arc::strong_count(&shared), 2);
         drop(message);
-        assert_eq!(rt; Arc::strong_count(&shared), 1);
+        assert_same(&rt, Arc::strong_count(&shared), 1);
     }
     Ok(())
 }
@@ -91,10 +92,10 @@ fn recv_ref_gets_each_message_once(rt: HostRuntime) -> Result<(), Fail> {
         let Ok(message) = received else {
             panic!(rt; "the message comes")
         };
-        assert_eq!(rt; *message, round);
-        assert_eq!(rt; Arc::strong_count(&shared), 2);
+        assert_same(&rt, *message, round);
+        assert_same(&rt, Arc::strong_count(&shared), 2);
         drop(message);
-        assert_eq!(rt; Arc::strong_count(&shared), 1);
+        assert_same(&rt, Arc::strong_count(&shared), 1);
     }
     Ok(())
 }
@@ -111,7 +112,7 @@ fn recv_sees_each_drop_of_the_sender(rt: HostRuntime) -> Result<(), Fail> {
             },
             || receiver.recv(),
         );
-        assert_eq!(rt; received, Err(RecvError));
+        assert_same(&rt, received, Err(RecvError));
     }
     Ok(())
 }
@@ -128,7 +129,7 @@ fn recv_ref_sees_each_drop_of_the_sender(rt: HostRuntime) -> Result<(), Fail> {
             },
             || by_ref(receiver),
         );
-        assert_eq!(rt; received, Err(RecvError));
+        assert_same(&rt, received, Err(RecvError));
         assert!(rt; over);
     }
     Ok(())

@@ -4,6 +4,7 @@ use self::Deed::{First, Look, Second};
 use futures::Future;
 use futures::executor::LocalPool;
 use futures::task::{Context, Poll, Source, Waker};
+use oneshot_asserts::assert_same;
 use oneshot_channel::{AsyncReceiver, Promise, TryRecvError, async_channel};
 use std::alloc::AllocError;
 use std::cell::Cell;
@@ -184,10 +185,10 @@ fn a_task_that_waits_beside_others_is_woken_by_the_sender_alone(
         let (sender, receiver) = async_channel((), rt.alloc())?;
         let act = || assert!(&rt; sender.send(19u8).is_ok());
         let mut receiver = waited_for(&rt, waits, receiver, act)?;
-        assert_eq!(rt; receiver.try_recv(), Ok(19));
+        assert_same(&rt, receiver.try_recv(), Ok(19));
         let (sender, receiver) = async_channel::<u8, _>((), rt.alloc())?;
         let mut receiver = waited_for(&rt, waits, receiver, || drop(sender))?;
-        assert_eq!(rt; receiver.try_recv(), Err(TryRecvError::Disconnected));
+        assert_same(&rt, receiver.try_recv(), Err(TryRecvError::Disconnected));
     }
     Ok(())
 }

@@ -1,5 +1,6 @@
 //! The texts that `{}` prints, asked of each error through the trait `Error`.
 
+use oneshot_asserts::assert_same;
 use oneshot_channel::{RecvError, RecvTimeoutError, TryRecvError};
 use std::alloc::Global;
 use std::error::Error;
@@ -13,7 +14,7 @@ fn display_is<E: Error>(
     expected: &str,
 ) -> Result<(), Fail> {
     let text = format!(in alloc; "{error}")?;
-    assert_eq!(rt; text.as_str(), expected);
+    assert_same(rt, text.as_str(), expected);
     Ok(())
 }
 

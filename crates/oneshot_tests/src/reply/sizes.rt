@@ -3,6 +3,7 @@
 ghost use Rattle.std.specs.Prelude.{◌≡◌};
 
 use futures::executor::block_on;
+use oneshot_asserts::assert_same;
 use oneshot_channel::async_channel;
 use oneshot_channel::reply::{Answer, Ticket, request};
 use std::fmt::Debug;
@@ -59,17 +60,17 @@ fn assert_comes<
 >(rt: &R, question: Q) -> Result<(), Fail> {
     let (sender, mut receiver) = async_channel((), rt.alloc())?;
     assert!(rt; sender.send(question).is_ok());
-    assert_eq!(rt; receiver.try_recv(), Ok(question));
+    assert_same(rt, receiver.try_recv(), Ok(question));
     let taken = answered(rt, question)?.try_take();
-    assert_eq!(rt; taken.map(question_of), Ok(question));
+    assert_same(rt, taken.map(question_of), Ok(question));
     let waited = answered(rt, question)?.wait();
-    assert_eq!(rt; waited.map(question_of), Ok(question));
+    assert_same(rt, waited.map(question_of), Ok(question));
     let waited = answered(rt, question)?.wait_for(Duration::ZERO);
-    assert_eq!(rt; waited.map(question_of), Ok(question));
+    assert_same(rt, waited.map(question_of), Ok(question));
     let tried = answered(rt, question)?.into_future().try_recv();
-    assert_eq!(rt; tried.map(question_of), Ok(question));
+    assert_same(rt, tried.map(question_of), Ok(question));
     let awaited = block_on(rt, answered(rt, question)?.into_future())?;
-    assert_eq!(rt; awaited.map(question_of), Ok(question));
+    assert_same(rt, awaited.map(question_of), Ok(question));
     Ok(())
 }
 

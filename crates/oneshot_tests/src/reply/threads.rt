@@ -1,6 +1,7 @@
 //! Requests, tickets and replies on other threads than their makers'.
 
 use super::{TEXT, ask, bytes_of};
+use oneshot_asserts::assert_same;
 use oneshot_channel::TryRecvError;
 use oneshot_channel::reply::{Answer, Length, Request, Ticket};
 use std::test::Fail;
@@ -34,7 +35,7 @@ fn a_request_and_its_ticket_go_to_other_threads(rt: HostRuntime) -> Result<(), F
     let (request, ticket) = ask((), rt.alloc())?;
     let length = Length::of(String::from_str(rt.alloc(), TEXT)?);
     assert!(rt; answered_there(&rt, request, length));
-    assert_eq!(rt; taken_there(&rt, ticket).map(bytes_of), Ok(21));
+    assert_same(&rt, taken_there(&rt, ticket).map(bytes_of), Ok(21));
     Ok(())
 }
 
@@ -49,9 +50,9 @@ fn two_looks<Q: Eq + Send + Sync, A: Answer<Q> + Send + Sync>(
 #[test]
 fn two_threads_look_at_one_request(rt: HostRuntime) -> Result<(), Fail> {
     let (request, ticket) = ask((), rt.alloc())?;
-    assert_eq!(rt; two_looks(&rt, &request), (false, false));
+    assert_same(&rt, two_looks(&rt, &request), (false, false));
     drop(ticket);
-    assert_eq!(rt; two_looks(&rt, &request), (true, true));
+    assert_same(&rt, two_looks(&rt, &request), (true, true));
     Ok(())
 }
 
@@ -63,6 +64,6 @@ fn two_readings(rt: &impl Threads, length: &Length) -> (usize, usize) {
 #[test]
 fn two_threads_read_one_reply(rt: HostRuntime) -> Result<(), Fail> {
     let length = Length::of(String::from_str(rt.alloc(), TEXT)?);
-    assert_eq!(rt; two_readings(&rt, &length), (21, 21));
+    assert_same(&rt, two_readings(&rt, &length), (21, 21));
     Ok(())
 }

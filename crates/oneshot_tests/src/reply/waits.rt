@@ -3,6 +3,7 @@
 use super::{answer, ask, bytes_of};
 use crate::ends::clocks::{FIVE_NANOSECONDS, Written};
 use crate::ends::wakes::{WAITS, waited_for};
+use oneshot_asserts::assert_same;
 use oneshot_channel::{RecvTimeoutError, TryRecvError};
 use std::test::Fail;
 use std::time::Duration;
@@ -16,12 +17,13 @@ fn a_task_that_waits_for_a_reply_is_woken_by_the_request_alone(
         let mut reply = waited_for(&rt, waits, ticket.into_future(), || {
             assert!(rt; matches!(answer(request), Ok(Ok(()))));
         })?;
-        assert_eq!(rt; reply.try_recv().map(bytes_of), Ok(21));
+        assert_same(&rt, reply.try_recv().map(bytes_of), Ok(21));
         let (request, ticket) = ask((), rt.alloc())?;
         let mut reply = waited_for(&rt, waits, ticket.into_future(), || drop(request))?;
-        assert_eq!(rt;
+        assert_same(
+            &rt,
             reply.try_recv().map(bytes_of),
-            Err(TryRecvError::Disconnected)
+            Err(TryRecvError::Disconnected),
         );
     }
     Ok(())
@@ -33,16 +35,17 @@ fn a_ticket_waits_to_the_nanosecond(rt: HostRuntime) -> Result<(), Fail> {
     for (written, left) in FIVE_NANOSECONDS {
         let clock = Written::new(&rt, written);
         let (_request, mut ticket) = ask(&clock, rt.alloc())?;
-        assert_eq!(rt;
+        assert_same(
+            &rt,
             ticket.wait_for(timeout).map(bytes_of),
-            Err(RecvTimeoutError::Timeout)
+            Err(RecvTimeoutError::Timeout),
         );
-        assert_eq!(rt; clock.left(), left);
+        assert_same(&rt, clock.left(), left);
     }
     // A reply that is there comes though the clock fails.
     let clock = Written::new(&rt, &[]);
     let (request, mut ticket) = ask(&clock, rt.alloc())?;
     assert!(rt; answer(request)?.is_ok());
-    assert_eq!(rt; ticket.wait_for(timeout).map(bytes_of), Ok(21));
+    assert_same(&rt, ticket.wait_for(timeout).map(bytes_of), Ok(21));
     Ok(())
 }
