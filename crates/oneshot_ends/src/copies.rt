@@ -54,8 +54,8 @@ impl<K: Drop> Copies<K> {
         }
     }
 
-    /// Puts `made`, a copy for the task numbered `task`, in hand. A copy that was there is dropped, which wakes
-    /// its task. `false`: none was made, and nothing changes.
+    /// Puts `made`, a copy for the task numbered `task`, in hand. A copy that was there is dropped, which
+    /// wakes its task. `false`: none was made, and nothing changes.
     pub fn keep_made(&mut self, task: usize, made: Option<K>) -> bool
         ensures { MatchOption made ((result ≡ false) × (self.new ≡ self.old)) (λ waker. (result ≡ true)
             × (self.new ≡ record self.old { hand = Some (record { waker = waker; task = task }) })) }

@@ -44,8 +44,8 @@ pub fn a_future_has_its_calls<T, Rt, P: Promise<T>>(future: &AsyncReceiver<T, Rt
     let _ground = &future.ground;
 }
 
-/// Adds up the calls of a receiver or a future. If its log was that of some calls, and one more call left it in
-/// place and appended the operations of one run that ends in its reply, its log is that of all these calls.
+/// Adds up the calls of a receiver or a future. If its log was that of some calls, and one more call left it
+/// in place and appended the operations of one run that ends in its reply, the log is that of all the calls.
 pub fn calls_add_up<T>()
     ensures { CallsAddUp T }
 {}
@@ -78,8 +78,8 @@ pub fn an_error_is_in_an_order<T, P: Promise<T>>(error: &SendError<T, P>)
     error.is_in_an_order();
 }
 
-/// The token of a blocking receiver is given at most once, taken at most once, and never taken before it is given.
-/// The rule that both halves of its parker keep has exactly the states that a token's life can lead to.
+/// The token of a blocking receiver is given at most once, taken at most once, and never taken before it is
+/// given. The rule of both halves of its parker has exactly the states that a token's life can lead to.
 pub fn a_token_is_given_once_and_then_taken()
     ensures states { LivesLeadToStates }
     ensures once { TokensAreGivenOnce }

@@ -9,8 +9,7 @@ use std::marker::Model;
 
 /// An opaque sender, which `Sender::from_raw` turns back. The Rust crate has a pointer here.
 ///
-/// Dropping it drops the sender, which wakes a waiting receiver: its receive then returns an error. The drop
-/// never blocks.
+/// Dropping it drops the sender: it wakes a waiting receiver, and no message comes. The drop never blocks.
 ///
 /// A contract sees it as the sender that it owns. It may go to another thread where `T` is `Send`.
 pub struct RawSender<T, P: Promise<T> = ()> {
@@ -56,7 +55,7 @@ impl<T, P: Promise<T>> RawSender<T, P> {
     }
 }
 
-// Written out: a derived `Drop` would require `P: Drop`, but a channel holds no value of `P`.
+// Written out: a derived `Drop` would require `P: Drop`, and a channel holds no value of `P`.
 impl<T: Drop, P: Promise<T>> Drop for RawSender<T, P> {
     fn drop(self) {
         let RawSender { sender: _ } = self;

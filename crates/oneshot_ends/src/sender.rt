@@ -18,8 +18,7 @@ use std::marker::Model;
 
 /// Sends one message to its receiver.
 ///
-/// Dropping it without a `send` wakes a waiting receiver, whose receive then returns an error. The drop
-/// never blocks.
+/// Dropping it without a `send` wakes a waiting receiver, and no message comes. The drop never blocks.
 ///
 /// A contract sees the sender's channel, the value that the channel is about, and the log of the sender's
 /// operations on the word, which is empty until its one call.

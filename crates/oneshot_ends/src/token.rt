@@ -87,7 +87,7 @@ pub(crate) struct WakingHalf {
     ghost not_given: { parker_view pass ≡ Waking false },
 }
 
-/// Evidence that a waking half gave the token. It has that half's pass, and only `WakingHalf::wake` makes one.
+/// Evidence that a waking half gave the token. It has the half's pass, and only `WakingHalf::wake` makes one.
 #[derive(Drop)]
 pub(crate) struct Given {
     pass: Pass<Half>,

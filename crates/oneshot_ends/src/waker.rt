@@ -9,7 +9,7 @@ use futures::task::Waker;
 /// which wakes the task when it is dropped.
 pub(crate) type ChannelWaker = oneshot_word::AnyWaker<WakingHalf, Waker>;
 
-/// Wakes the receiver by `waker`. `Some`: it is a thread, and was given its token. `None`: it is no thread.
+/// Wakes the receiver by `waker`. `Some`: a thread was given its token. `None`: the waker is no thread's.
 pub(crate) fn wake(waker: ChannelWaker) -> Option<Given>
     ensures { IsWoken waker result }
 {

@@ -49,7 +49,7 @@ impl<T, H, K, P: Promise<T>> Unsent<T, H, K, P> {
     }
 }
 
-// Written out, as below: a derived `Drop` would require `P: Drop`, but a channel holds no value of `P`.
+// Written out, as below: a derived `Drop` would require `P: Drop`, and a channel holds no value of `P`.
 impl<T: Drop, H: Drop, K: Drop, P: Promise<T>> Drop for Unsent<T, H, K, P> {
     fn drop(self) {
         let Unsent { side: _ } = self;

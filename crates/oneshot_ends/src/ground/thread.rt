@@ -13,8 +13,8 @@ use oneshot_word::Promise;
 use std::sync::Wait;
 use std::time::Clock;
 
-// The ground's type is one parameter `G`: a derived `Drop` requires `Drop` of each parameter, but a channel holds
-// no value of its `P`.
+// The ground's type is one parameter `G`: a derived `Drop` requires `Drop` of each parameter, and a channel
+// holds no value of its `P`.
 /// The ground of a receiver, lent for one call that blocks, with what it parks by.
 #[derive(Drop)]
 pub(crate) struct Blocking<'g, 'p, 'r, G, Rt> {
@@ -33,7 +33,8 @@ pub(crate) struct Blocking<'g, 'p, 'r, G, Rt> {
 }
 
 impl<'g, 'p, 'r, G, Rt> Blocking<'g, 'p, 'r, G, Rt> {
-    /// Lends `ground` for a call with this deadline. `made` is a reading of the clock that the call took before.
+    /// Lends `ground` for a call with this deadline. `made`: the reading of the clock that the call has
+    /// taken, if any.
     pub(crate) fn lend(
         ground: &'g mut G,
         parker: &'p mut ParkingHalf,
@@ -137,7 +138,7 @@ impl<'g, 'p, 'r, T: Drop, Rt: Wait + Clock, P: Promise<T>> BlockGround<T, Channe
     fn park(&mut self, timed: bool) {
         if self.may_spin(timed) {
             self.spins += 1;
-            // This park ends before the token is there: the receiver then checks whether the sender has acted.
+            // This park ends without the token: the receiver then checks whether the sender has acted.
             spin(self.spins);
             return;
         }
