@@ -35,7 +35,7 @@ module _ {P : Type 0} where
   polled_about keeps result same kept =
       subst (λ q. IfReady result (λ answer. IfOk answer (λ message. keeps q message))) same kept
 
-  -- and so does the message that a pending future will return
+  -- so does the message that a pending future will return
   pub pending_about : {T E : Type 0} (keeps : P → T → Type 0) (result : Poll (Result T E)) {a b : P} → b ≡ a
       → OnPending result ((answer : Result T E) → IfOk answer (λ message. keeps b message)
       → IfOk answer (λ message. keeps a message))

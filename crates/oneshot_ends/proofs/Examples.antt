@@ -1,4 +1,4 @@
--- The examples of open and closed ends, logs of calls, deadlines, copies and grounds, computed.
+-- The examples of open and closed ends, logs of calls, orders, deadlines, copies and grounds, computed.
 use Rattle.std.proofs.Common.{◌≡◌, ℕ, Bool, true, false, List, [], ◌∷◌, Option, Some, None, get_or, drop, refl, sym, ap, subst, arith, inl, inr}
 use Rattle.atomic_table.specs.Seated.{TableId}
 use Rattle.futures.specs.declared.task.context.Context.{Context}

@@ -1,5 +1,5 @@
--- Examples that the definitions of the ends accept or refuse: open and closed ends, logs of calls, deadlines, copies
--- of wakers, and grounds.
+-- Examples that the definitions of the ends accept or refuse: open and closed ends, logs of calls, logs that have an
+-- order, deadlines, copies of wakers, and grounds.
 use Rattle.std.specs.Prelude.{◌≡◌, ◌≢◌, ℕ, ◌+◌, true, false, List, [], ◌∷◌, ◌++◌, Option, Some, None}
 use Rattle.std.specs.Duration.{as_nanos}
 use Rattle.std.specs.declared.time.Duration.{Duration}

@@ -36,7 +36,7 @@ impl<K: Drop> Copies<K> {
     /// Takes the copy in hand, if its task has the number `task`.
     ///
     /// - `Some`: that copy. Then none is in hand.
-    /// - `None`: none is in hand, or that of another task, which stays there. Taken, it would hide a refusal.
+    /// - `None`: no copy is in hand, or another task's is, and stays there: taken, it would hide a refusal.
     ///
     /// Tasks of two executors may have the same number, and no library call tells them apart.
     pub fn take_of(&mut self, task: usize) -> Option<K>

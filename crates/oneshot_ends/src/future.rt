@@ -91,8 +91,8 @@ impl<T: Drop, Rt: Drop, P: Promise<T>> AsyncReceiver<T, Rt, P> {
     /// Receives the message if it is there. It never blocks and does not allocate. The Rust crate has no
     /// `try_recv` of a future: this one follows that of a `Receiver`.
     ///
-    /// A registered task stays registered, as clause `registered` states. That a later `send`, or the
-    /// sender's drop, then wakes it is only tested.
+    /// After `Empty` a registered task is still registered, as clause `registered` states. That a later
+    /// `send`, or the sender's drop, then wakes it is only tested.
     ///
     /// - `Ok`: the message. The future is done from then on.
     /// - `Err(Empty)`: nothing was sent yet, or a `send` or the sender's drop is under way. The future stays

@@ -97,8 +97,8 @@ impl<'g, 'c, 'x, T: Drop, P: Promise<T>> TaskGround<T, Copied>
 
     ghost heard_on = { λ a b h k. (k.0 _ h.0, subst (λ id. Hears b.cx.now id) k.1 (k.0 _ h.1)) };
 
-    /// As in any `TaskGround`. `Some`: the copy in hand has the task's number, and wakes that task if the
-    /// context could make one. `None`: the copies are unchanged, unless that in hand had the task's number.
+    /// As in any `TaskGround`. `Some`: the copy in hand has the task's number, and wakes the task if the
+    /// context could make a waker. `None`: the copies are unchanged, unless one in hand has that number.
     fn copy(&mut self) -> Option<Copied>
         ensures log { Grows
             (polled_state (self.old.ground.ghost_name ∷ self.old.cx.ghost_name ∷ self.old.copies.ghost_name ∷ [])

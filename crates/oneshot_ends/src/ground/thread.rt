@@ -24,7 +24,7 @@ pub(crate) struct Blocking<'g, 'p, 'r, G, Rt> {
     deadline: Deadline,
     /// The first reading of the clock, if the call took it before it lent its ground.
     made: Option<Reading>,
-    /// The last reading of the clock; `None` before the first.
+    /// The last reading of the clock; `None` if it failed, or before the first.
     reading: Reading,
     /// How often it spun, since it began to wait or since its deadline was over.
     spins: u32,
