@@ -1,4 +1,4 @@
--- The calls that an end has answered, one more at each call.
+-- The calls that an end has replied to, one more after each call.
 use Rattle.std.proofs.Common.{◌≡◌, true, List, [], ◌∷◌, ◌++◌, refl, sym, ap, ◌∙◌, subst}
 use Rattle.oneshot_machine.specs.declared.machine.Reply.{Reply}
 use Rattle.oneshot_machine.specs.declared.machine.Reply.TheVariants as R
@@ -12,14 +12,14 @@ use Rattle.oneshot_ends.specs.Ends.{Waking, SenderGrew, ReceiverGrew, HasCalls, 
 use Rattle.oneshot_ends.specs.Grounds.{IsNewReceiver}
 
 module _ {T : Type 0} where
-  -- a new receiver has answered none
+  -- a new receiver has replied to none
   pub none_answered : {W P : Type 0} (s now : Side T W P) → now ≡ s → IsNewReceiver s → HasCalls T as_receiver now.log
   none_answered s now is new = (
     [],
     subst (ReceiverCalled T Waking as_receiver []) (sym (ap (λ (s : Side _ _ _). s.log) is ∙ new.log)) not_called,
   )
 
-  -- One call more, which leaves the receiver in place. A caller adds up its calls so.
+  -- Adds one more call, which leaves the receiver in place.
   pub one_more : {form : Form} {calls : List (ReceiverStart × Reply)} {before after : List Noted} {reply : Reply}
       (call : ReceiverStart) → stays form call ≡ true → ReceiverCalled T Waking form calls before
       → ReceiverGrew T call before after reply → ReceiverCalled T Waking form (calls ++ (call, reply) ∷ []) after
@@ -32,7 +32,7 @@ module _ {T : Type 0} where
       → HasCalls T form after
   one_answered {reply = reply} call its (calls, was) grew = (calls ++ (call, reply) ∷ [], one_more call its was grew)
 
-  -- and a receiver that became a future
+  -- a receiver that became a future
   pub then_future : {log : List Noted} → HasCalls T as_receiver log → HasCalls T as_future log
   then_future (calls, was) = (calls ++ (RC.IntoFuture, R.Future) ∷ [], became_future was)
 

@@ -29,7 +29,7 @@ lives_that_are =
       took_none = refl;
     }
 
--- a parker that is not divided has one half
+-- an undivided parker has one half, which is `Both`
 is_both : {is_there : Bool} {halves : List Half} {id : ℕ} {half : Half} → Has is_there halves id half
     → halves ≡ Both ∷ [] → half ≡ Both
 is_both undivided_has e = refl

@@ -1,4 +1,4 @@
--- What each row of an end's table needs: a slot that the end has not once it freed the block.
+-- Each row of an end's phase needs a slot, which the end no longer has once it freed the block.
 use Rattle.std.proofs.Common.{◌≡◌, Bool, true, false, List, Option, Some, refl, subst}
 use Rattle.std.specs.List.{list_all}
 use Rattle.oneshot_machine.specs.Phases.{SenderAt, fresh, owes, finished, late, overtaken, no_sender, sending, dropping, sender_moves, ReceiverAt, first, here, looked, between, waits, blocked, polled, again, claimed, withdrew, overdue, full, at_once, waited, swapped, by_future, by_poll, unclosed, disconnected, resolved, gone, ended, no_receiver, receiver_moves, receiver_owns, Share, none, empty, filled, Row}
@@ -6,13 +6,13 @@ use Rattle.oneshot_machine.specs.Slots.{In}
 use Rattle.oneshot_machine.proofs.Sameness.{each_passes}
 use Rattle.oneshot_ends.specs.Grounds.{MayBeFreed}
 
--- which share of a slot is the end's
+-- whether a slot with this share is the end's
 abbrev pub is_own : Share → Bool
 is_own none = false
 is_own empty = true
 is_own filled = true
 
--- Each row of the sender's needs the message's slot.
+-- Each row of the sender needs the message's slot.
 abbrev is_senders_row : Row SenderAt → Bool
 is_senders_row row = is_own row.1.0
 
@@ -25,7 +25,7 @@ senders_rows (late by) = refl
 senders_rows (overtaken by) = refl
 senders_rows no_sender = refl
 
--- Each of the receiver's does where both slots are its own.
+-- So does each row of the receiver, if both slots are its own.
 abbrev where_both : Option (Bool × Bool) → Bool → Bool
 where_both (Some (true, true)) needs = needs
 where_both _ needs = true
@@ -55,7 +55,7 @@ receivers_rows gone = refl
 receivers_rows ended = refl
 receivers_rows no_receiver = refl
 
--- each of these rows needs the message's slot
+-- every row of the list needs the message's slot
 abbrev pub Need : {At : Type 0} → List (Row At) → Type 0
 Need {At} rows = (row : Row At) → In row rows → is_own row.1.0 ≡ true
 

@@ -1,4 +1,4 @@
--- What two views of one end have alike, and what a receive keeps as the caller sees it.
+-- What two views of one end have in common, and the promise of a message as the caller sees it.
 use Rattle.std.proofs.Common.{◌≡◌, Result, ap, ◌∙◌, subst}
 use Rattle.std.specs.Prelude.{IfOk}
 use Rattle.futures.specs.declared.task.Poll.{Poll}
@@ -20,11 +20,11 @@ module _ {P : Type 0} where
   pub future_about : {a b : FutureEndOf P} → a ≡ b → a.about ≡ b.about
   future_about is = ap (λ (e : FutureEndOf P). e.about) is
 
-  -- a side that was lent is about what its end is about
+  -- a side that was lent is about the same value as its end
   pub lent_about : {T W : Type 0} {own s : Side T W P} {about : P} → s ≡ own → own.about ≡ about → s.about ≡ about
   lent_about is shown = ap (λ s. s.about) is ∙ shown
 
-  -- the message keeps its promise about the same value, by whichever name
+  -- the message keeps its promise about an equal value
   pub kept_about : {T E : Type 0} (keeps : P → T → Type 0) (result : Result T E) {a b : P}
       → a ≡ b → IfOk result (λ message. keeps a message) → IfOk result (λ message. keeps b message)
   kept_about keeps result same kept = subst (λ q. IfOk result (λ message. keeps q message)) same kept
@@ -35,7 +35,7 @@ module _ {P : Type 0} where
   polled_about keeps result same kept =
       subst (λ q. IfReady result (λ answer. IfOk answer (λ message. keeps q message))) same kept
 
-  -- and what a pending future will give stays the same
+  -- so does the message that a pending future will return
   pub pending_about : {T E : Type 0} (keeps : P → T → Type 0) (result : Poll (Result T E)) {a b : P} → b ≡ a
       → OnPending result ((answer : Result T E) → IfOk answer (λ message. keeps b message)
       → IfOk answer (λ message. keeps a message))

@@ -1,4 +1,4 @@
--- A receive that has no end never runs out: no run of its table answers `Timeout`.
+-- A receive without an end never runs out: no run of its table ends in `Timeout`.
 use Rattle.std.proofs.Common.{◌≡◌, Bool, true, false, not, List, [], ◌∷◌, Some, refl, subst}
 use Rattle.std.proofs.lemmas.Bool.{and_parts}
 use Rattle.std.specs.Prelude.{if◌then◌else◌}
@@ -35,7 +35,7 @@ abbrev is_timeout : Reply → Bool
 is_timeout Timeout = true
 is_timeout _ = false
 
--- a row that leads to such a position, or to another reply
+-- a row leads to such a position, or to a reply other than `Timeout`
 abbrev goes_on : Outcome ReceiverPos → Bool
 goes_on (Goes p) = is_endless p
 goes_on (Answers r) = not (is_timeout r)

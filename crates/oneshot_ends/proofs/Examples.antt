@@ -1,4 +1,4 @@
--- The examples of open and closed ends, of the logs of calls, of deadlines, copies and grounds, computed.
+-- The examples of open and closed ends, logs of calls, orders, deadlines, copies and grounds, computed.
 use Rattle.std.proofs.Common.{◌≡◌, ℕ, Bool, true, false, List, [], ◌∷◌, Option, Some, None, get_or, drop, refl, sym, ap, subst, arith, inl, inr}
 use Rattle.atomic_table.specs.Seated.{TableId}
 use Rattle.futures.specs.declared.task.context.Context.{Context}
@@ -121,7 +121,7 @@ module _ {T : Type 0} where
       tried : ReceiverGrew T TryRecv [] ((Load, Word 3) ∷ []) R.Empty
       tried = record { run = worded Load 3 ∷ []; is_run = last _ refl refl; list = refl }
 
-  -- of an error its call, which it has answered
+  -- the one call of an error, from its log
   refused_with : {calls : List (SenderCall × Reply)} {log : List Noted} → SenderCalled T Waking calls log
       → calls ≡ (Send, R.Refused) ∷ [] → SenderGrew T Send [] log R.Refused
   refused_with not_called_yet is = absurd (cc is)
@@ -133,7 +133,7 @@ module _ {T : Type 0} where
         list = refl;
       }
 
-  -- a receive without an end, of whatever log
+  -- a receive without an end never runs out, whatever its log
   never_ends : {log : List Noted} (has_end : Bool) → (has_end ≡ true → ⊥)
       → ReceiverGrew T (RecvTimeout has_end) [] log R.Timeout → ⊥
   never_ends true ends grew = ends refl

@@ -1,4 +1,4 @@
--- What a driver's run on a real end's ground tells of the end's own log: it grew by the run's operations.
+-- A driver's run on a real end's ground appends its operations to the end's own log.
 use Rattle.std.proofs.Common.{◌≡◌, Bool, false, List, [], ◌∷◌, ◌++◌, Option, map, refl, sym, ap, ◌∙◌, subst}
 use Rattle.std.specs.List.{cons_option}
 use Rattle.std.specs.Option.{option_map}
@@ -24,7 +24,7 @@ use Rattle.oneshot_word.specs.Side.{Side}
 use Rattle.oneshot_ends.specs.Ends.{Waking, SenderGrew, ReceiverGrew}
 use Rattle.oneshot_ends.specs.Grounds.{events_of, state_of}
 
--- the operations in a ground's log are those of its end's
+-- the operations in a ground's log are those in its end's log
 pub words_of : (T W : Type 0) (xs : List Noted) → words (events_of {T = T} {W = W} xs) ≡ xs
 words_of T W [] = refl
 words_of T W (x ∷ xs) = ap (λ noted. x ∷ noted) (words_of T W xs)
@@ -34,7 +34,7 @@ pub began_at : {T W P : Type 0} {own s : Side T W P} {log : List Noted} → s �
 began_at {T} {W} {s} is has = words_of T W s.log ∙ ap (λ s. s.log) is ∙ has
 
 module _ {T W : Type 0} where
-  -- a run, whichever wakers it hands in and out
+  -- an event of a run, without the name of its waker
   abbrev unnamed : Event T W → Event T Waking
   unnamed x = record { step = x.step; seen = x.seen; message = x.message; waker = option_map (λ k. tt) x.waker }
 
@@ -49,7 +49,7 @@ module _ {T W : Type 0} where
   words_unnamed (x ∷ xs) = ap (λ rest. cons_option (noted x) rest) (words_unnamed xs)
 
   module _ {a b : Log T W} {before after : List Noted} (was : words a.list ≡ before) (is : words b.list ≡ after) where
-    -- the end's log grows by the operations of what its ground does
+    -- the end's log grows by the operations among its ground's steps
     pub grown : (xs : List (Event T W)) → Grows a b xs → after ≡ before ++ words xs
     grown xs grows = sym is ∙ words_after xs grows ∙ ap (λ ns. ns ++ words xs) was
 
@@ -83,7 +83,7 @@ send_refused {T} {W} {ground = ground} {given = given} {got = got} after is was 
     sender_grew (began_at is was) (words_of T W after.log ∙ ends) Send
     (subst (λ sent. SenderRan Send (state_of ground).log (state_of after).log (send_reply sent) given got) found ran)
 
--- and by no more operations than a run of the call makes
+-- a log grows by no more operations than a run of the call performs
 module _ {T : Type 0} {before after : List Noted} {reply : Reply} where
   pub try_recv_few : ReceiverGrew T TryRecv before after reply → GrewWithin (receiver_bound TryRecv) before after
   try_recv_few grew = record { added = words grew.run; list = grew.list; few = try_recv_makes grew.run grew.is_run }

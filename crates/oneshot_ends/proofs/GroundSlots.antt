@@ -1,4 +1,4 @@
--- What a ground may do and finds by its end's side: one that freed the block makes no operation, and any
+-- What a ground may do and finds, by its end's side: one that freed the block performs no operation, and any
 -- other shows its side as it is.
 use Rattle.std.proofs.Common.{◌≡◌, ℕ, Bool, true, false, List, Option, Some, refl, sym, subst, true≢false}
 use Rattle.oneshot_machine.specs.declared.states.Op.{Op}
@@ -13,7 +13,7 @@ use Rattle.oneshot_ends.specs.Grounds.{MayBeFreed, unless_freed, left_of, events
 use Rattle.oneshot_ends.proofs.EndRows.{is_own, Need, sender_needs, receiver_needs}
 use Rattle.oneshot_ends.proofs.GrewByRuns.{words_of}
 
--- a slot that an end shows as its own is so
+-- a slot that an end shows as its own is its own
 pub own_slot : {X : Type 0} (freed : Bool) (slot : Held X) {shown : Held X} → unless_freed freed slot ≡ shown
     → (away ≡ shown → ⊥) → slot ≡ shown
 own_slot false slot is own = is
@@ -23,7 +23,7 @@ not_away : {X : Type 0} {share : Share} → IsSlot {X = X} share away → is_own
 not_away is_away own = true≢false (sym own)
 
 module _ {At : Type 0} (moves : At → List (Row At)) (at : List Noted → At) {T W : Type 0} where
-  -- an end whose ground may make an operation has not freed, and may make it
+  -- an end whose ground may perform an operation has not freed the block, and may perform it
   unfreed : (freed : Bool) (q : At) (op : Op) (m : Held T) (w : Held W) → (freed ≡ true → Need (moves q))
       → May moves q op (unless_freed freed m) (unless_freed freed w) → (freed ≡ false) × May moves q op m w
   unfreed false q op m w needs asks = (refl, asks)
@@ -40,7 +40,7 @@ module _ {At : Type 0} (moves : At → List (Row At)) (at : List Noted → At) {
       (subst (λ now. May moves (at (words (events_of {T = T} {W = W} now.log))) op now.message now.waker) (sym is)
       asks))
 
-  -- what it found, as its ground shows it
+  -- what the end found, as its ground shows it
   found : {P : Type 0} (freed : Bool) (s next : Side T W P) {now : Side T W P} {op : Op} {word : ℕ}
       → left_of freed s ≡ now → freed ≡ false
       → Finds moves (at s.log) op word s.message s.waker next.message next.waker
@@ -54,11 +54,11 @@ module _ {At : Type 0} (moves : At → List (Row At)) (at : List Noted → At) {
       (subst (λ xs. Finds moves (at xs) op word s.message s.waker next.message next.waker) (sym (words_of T W s.log))
       makes))
 
--- a receiver that has not freed may be anywhere
+-- a receiver that has not freed the block may be in any phase
 pub stays_unfreed : (freed : Bool) (at : ReceiverAt) → freed ≡ false → MayBeFreed freed at
 stays_unfreed freed at unfreed = subst (λ f. MayBeFreed f at) (sym unfreed) tt
 
--- so a sender's ground may make it, and shows what it found
+-- so a sender may perform what its ground may, and the ground shows what it found
 module _ {T W P : Type 0} (freed : Bool) (s : Side T W P) {now : Side T W P} {op : Op}
     (is : left_of freed s ≡ now) (asks : SenderAsks op (state_of now)) where
   sender_unfreed : (freed ≡ false) × SenderCan s op
@@ -73,7 +73,7 @@ module _ {T W P : Type 0} (freed : Bool) (s : Side T W P) {now : Side T W P} {op
       (unless_freed freed next.message) (unless_freed freed next.waker)
   sender_found next = found sender_moves sender_at freed s next is sender_unfreed.0
 
--- and a receiver's, which has not freed after it either
+-- so may a receiver, which has not freed the block after it either
 module _ {T W P : Type 0} (freed : Bool) (s : Side T W P) {now : Side T W P} {op : Op}
     (stands : MayBeFreed freed (receiver_at s.log)) (is : left_of freed s ≡ now) (asks : ReceiverAsks op
     (state_of now)) where
@@ -96,7 +96,7 @@ module _ {T W P : Type 0} (freed : Bool) (s : Side T W P) {now : Side T W P} {op
   receiver_found next = found receiver_moves receiver_at freed s next is receiver_unfreed.0
 
 module _ {T W : Type 0} where
-  -- a sender that came late makes none
+  -- a sender that came late performs no operation
   never_late : {at : SenderAt} {op : Op} {m : Held T} {w : Held W} → IsLate at → SenderMay at op m w → ⊥
   never_late (is_late by) (may there message waker) = elim there [ ]
   never_late (is_overtaken by) (may there message waker) = elim there [ ]
@@ -107,7 +107,7 @@ module _ {T W : Type 0} where
       never_late came_late
       (subst (λ xs. SenderMay (sender_at xs) op now.message now.waker) (words_of T W now.log) asks)
 
-  -- what it frees by
+  -- a receiver to which both slots are vacant owns both
   both_own : {own : Option (Bool × Bool)} → Owns {T = T} {W = W} own vacant vacant → own ≡ Some (true, true)
   both_own (owns own_vacant own_vacant) = refl
 

@@ -1,4 +1,4 @@
--- How a ground that was lent stands is how the receiver's own does.
+-- A ground that was lent has the phase and the slots of the receiver's own ground.
 use Rattle.std.proofs.Common.{◌≡◌, ℕ, List, Option, refl, sym, ◌∙◌, subst}
 use Rattle.oneshot_machine.specs.Logs.{receiver_of}
 use Rattle.oneshot_machine.specs.Phases.{ReceiverAt, Share}
@@ -8,7 +8,7 @@ use Rattle.oneshot_drive.specs.Grounds.{GroundState, StandsIn}
 use Rattle.oneshot_word.specs.Side.{Side}
 use Rattle.oneshot_ends.specs.Grounds.{state_of, lent}
 
--- one ground stands as another does that is as far and has the same of its slots
+-- one ground stands as another does if both have the same phase and the same shares of the slots
 pub stands_again : {Phases : ReceiverAt → Type 0} {T W V : Type 0} {s : GroundState T W} {t : GroundState T V}
     → receiver_of t.log ≡ receiver_of s.log → ((share : Share) → IsSlot share s.message → IsSlot share t.message)
     → ((share : Share) → IsSlot share s.waker → IsSlot share t.waker) → StandsIn Phases s → StandsIn Phases t
@@ -33,7 +33,7 @@ module _ {T W P : Type 0} {Phases : ReceiverAt → Type 0} where
   pub given_back : (names : List ℕ) (s : Side T W P) → StandsIn Phases (lent names s) → StandsIn Phases (state_of s)
   given_back names s = stands_again refl (λ share m. m) (λ share w. w)
 
--- and its hand is as ready
+-- and the hand beside it is as ready
 pub hand_lent : {T W V P : Type 0} {own s : Side T W P} (hand : Option V) → s ≡ own
     → IsReady hand (receiver_of (state_of own).log) → IsReady hand (receiver_of (state_of s).log)
 hand_lent hand is ready = subst (λ s. IsReady hand (receiver_of (state_of s).log)) (sym is) ready

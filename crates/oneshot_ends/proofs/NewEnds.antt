@@ -1,4 +1,4 @@
--- How the sides of a channel that was opened are, and their grounds stand.
+-- The sides of a new channel are new, and their grounds stand at the first phase.
 use Rattle.std.proofs.Common.{◌≡◌, List, [], sym, ap, subst}
 use Rattle.oneshot_machine.specs.Logs.{Log, words}
 use Rattle.oneshot_machine.specs.Phases.{first, receiver_at, none, empty, Slots}
@@ -9,7 +9,7 @@ use Rattle.oneshot_drive.specs.Grounds.{StandsWith}
 use Rattle.oneshot_word.specs.Side.{Side, AreEnds}
 use Rattle.oneshot_ends.specs.Grounds.{events_of, state_of, IsNew, IsNewSender, IsNewReceiver}
 
--- the sides of a channel that was opened
+-- the sides of a new channel
 module _ {T W P : Type 0} {about : P} {sender receiver : Side T W P} (are : AreEnds about sender receiver) where
   pub new_sender : IsNewSender sender
   new_sender =

@@ -1,4 +1,4 @@
--- Whether a poll or a `try_recv` leaves its future closed or open, by its answer, and registered or not.
+-- Whether a poll or a `try_recv` leaves its future closed or open, by its result, and registered or not.
 use Rattle.std.proofs.Common.{◌≡◌, ◌≢◌, List, Result, Err, refl, sym, ap, ◌∙◌, subst}
 use Rattle.futures.specs.declared.task.Poll.{Poll}
 use Rattle.futures.specs.declared.task.Poll.TheVariants.{Ready, Pending}
@@ -50,7 +50,7 @@ module _ {T : Type 0} where
   open_tried tried_claimed nothing = refl
   open_tried _ nothing = absurd (cc nothing)
 
-  -- said of the same logs
+  -- the same of equal logs
   pub registered_by : (result : Result T TryRecvError) {xs ys before after : List Noted} → xs ≡ before → ys ≡ after
       → StaysRegistered result (receiver_at xs) (receiver_at ys)
       → StaysRegistered result (receiver_at before) (receiver_at after)

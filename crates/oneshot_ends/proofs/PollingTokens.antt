@@ -1,4 +1,4 @@
--- A ground with a token for each waker may do, finds and tells what the receiver's own does.
+-- The ground of a poll, with a `Copied` for each waker, may do, finds and logs what the receiver's own ground does.
 use Rattle.std.proofs.Common.{◌≡◌, ℕ, false, List, ◌++◌, refl, sym, ap, ◌∙◌, subst}
 use Rattle.std.proofs.lemmas.List.{map-append}
 use Rattle.oneshot_machine.specs.declared.states.Op.{Op}
@@ -60,7 +60,7 @@ module _ {T W : Type 0} where
       (token_finds (subst (λ xs. ReceiverFinds (receiver_at xs) op n s.message s.waker t.message t.waker)
       (words_of T W s.log) makes))
 
-  -- what the log of the receiver's own ground says, its own does
+  -- its log grows as that of the receiver's own ground does
   pub told : {P : Type 0} (names : List ℕ) (before after : Side T W P) (run : List (Event T W))
       (ys : List (Event T Copied)) → events_of {T = T} {W = Copied} (words run) ≡ kept false ys
       → Grows (state_of before).log (state_of after).log run
@@ -75,7 +75,7 @@ module _ {T W : Type 0} where
             ∙ ap (λ ys. events_of {T = T} {W = Copied} before.log ++ ys) same;
       }
 
-  -- and it stands as that does
+  -- and it stands as that ground does
   pub stands_by_tokens : {P : Type 0} {Phases : ReceiverAt → Type 0} (names : List ℕ) (s : Side T W P)
       → StandsIn Phases (state_of s) → StandsIn Phases (polled_state names s)
   stands_by_tokens names s =

@@ -1,4 +1,4 @@
--- A timeout has an end just where an instant can hold its sum.
+-- A timeout has an end exactly if its clock failed or an instant can hold the sum.
 use Rattle.std.proofs.Common.{Option, Some, None, refl, sym, subst}
 use Rattle.std.specs.Prelude.{◌↔◌, IsTrue}
 use Rattle.std.specs.declared.time.Duration.{Duration}

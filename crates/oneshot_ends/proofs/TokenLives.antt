@@ -1,4 +1,4 @@
--- Each life of a token leads to one of its four states, and gives it once.
+-- Each life of a token leads to one of its four states, and gives it at most once.
 use Rattle.std.proofs.Common.{◌≡◌, ℕ, suc, ◌+◌, Bool, true, false, List, [], ◌∷◌, ◌++◌, set, refl, arith}
 use Rattle.std.specs.Prelude.{if◌then◌else◌, ◌≤◌}
 use Rattle.oneshot_ends.specs.declared.token.Half.{Half}
@@ -6,7 +6,7 @@ use Rattle.oneshot_ends.specs.declared.token.Half.TheVariants.{Both, Parking, Wa
 use Rattle.oneshot_ends.specs.Tokens.{TokenIs, undivided, to_come, there, taken, Act, divides, gives, takes, Turn, was_divided, was_given, was_taken, was_missed, Life, made, and_then, given_by, taken_by, times_given, times_taken, LivesLeadToStates, TokensAreGivenOnce}
 use Rattle.oneshot_ends.proofs.Tokens.{Has, has, undivided_has, to_come_waking, there_parking}
 
--- how often the token was given and taken, and the state then
+-- how often the token was given and taken, in each state
 data Stands : ℕ → ℕ → Bool → List Half → Type 0 where
   stands_undivided : Stands 0 0 false (Both ∷ [])
   stands_to_come : Stands 0 0 false (Parking false ∷ Waking false ∷ [])
@@ -37,7 +37,7 @@ on_taken : {g t : ℕ} {vs : List Half} {id : ℕ} {before : Bool} → Stands g 
     → Stands g (suc t) false (set vs id (Parking true))
 on_taken stands_there there_parking = stands_taken
 
--- one act more
+-- one more act
 after : {act : Act} {g t : ℕ} {x y : Bool} {vs ws : List Half} → Stands g t x vs → Turn act x vs y ws
     → Stands (given_by act g) (taken_by act t) y ws
 after s (was_divided id at) = on_divided s (has (state_of s) id at)

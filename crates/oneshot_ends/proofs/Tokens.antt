@@ -1,4 +1,4 @@
--- What one half says of the token, and that each call keeps the rule.
+-- What one half knows of the token's state, and that each act of a half keeps the rule.
 use Rattle.std.proofs.Common.{◌≡◌, ℕ, zero, suc, Bool, true, false, List, [], ◌∷◌, ◌++◌, ◌||◌, set, refl, sym, subst}
 use mathlib.Core.Option as maybe
 use mathlib.Core.Option.{some-injective, some-ne-none}

@@ -1,4 +1,4 @@
--- When the wait of a receive is over, by what its clock reads.
+-- When a receive stops waiting, by what its clock reads.
 use Rattle.std.specs.Prelude.{◌≡◌, ◌+◌, Bool, true, false, ◌<◌, ◌≤◌, Option, Some, None}
 use Rattle.std.specs.Duration.{as_nanos}
 use Rattle.std.specs.declared.time.Duration.{Duration}
@@ -7,14 +7,14 @@ use Rattle.std.specs.declared.time.Instant.{Instant}
 use Rattle.oneshot_ends.specs.declared.deadline.Deadline.{Deadline}
 use Rattle.oneshot_ends.specs.declared.deadline.Deadline.TheVariants.{At, Passed, Never}
 
--- once the clock is past the instant; where it cannot be read it counts as past each
+-- the clock is past the instant; a failed reading counts as past every instant
 abbrev pub IsOver : Deadline → Option Instant → Type 0
 IsOver (At end) (Some now) = instant_nanos end < instant_nanos now
 IsOver (At end) None = Unit {0}
 IsOver Passed reading = Unit {0}
 IsOver Never reading = ⊥
 
--- so much is left of it, by this reading, that all spins of a receive end before it
+-- by this reading at least 100 milliseconds are left, more than all spins of a receive take
 abbrev pub IsFar : Deadline → Option Instant → Type 0
 IsFar (At end) (Some now) = instant_nanos now + 100_000_000 ≤ instant_nanos end
 IsFar _ _ = ⊥
@@ -24,7 +24,7 @@ has_end (At end) = true
 has_end Passed = true
 has_end Never = false
 
--- so long after a reading of the clock, which may have failed, and the sum may be one that no instant holds
+-- the deadline after this reading: `Passed` if it failed, and `Never` if no instant can hold the sum
 abbrev pub IsAfter : Duration → Option Instant → Deadline → Type 0
 IsAfter timeout None deadline = deadline ≡ Passed
 IsAfter timeout (Some now) (At end) =
@@ -32,8 +32,8 @@ IsAfter timeout (Some now) (At end) =
 IsAfter timeout (Some now) Passed = ⊥
 IsAfter timeout (Some now) Never = FitsClock (instant_nanos now + as_nanos timeout) → ⊥
 
--- An instant can hold the sum of a reading and a timeout. After a reading that failed the wait has an end
--- too, which is over at once.
+-- An instant can hold the sum of the reading and the timeout. After a failed reading the wait has an end too,
+-- which is over at once.
 abbrev pub HasEnd : Duration → Option Instant → Type 0
 HasEnd timeout None = Unit {0}
 HasEnd timeout (Some now) = FitsClock (instant_nanos now + as_nanos timeout)

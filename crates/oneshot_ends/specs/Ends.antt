@@ -21,21 +21,21 @@ use Rattle.oneshot_machine.specs.Noted.{Noted}
 use Rattle.oneshot_drive.specs.BetweenCalls.{IsClosedAt, IsOpenAt}
 use Rattle.oneshot_ends.specs.Deadlines.{HasEnd}
 
--- a waker of a run: which one it is, no contract says
+-- a waker in a run; contracts leave open which one
 abbrev pub Waking : Type 0
 Waking = Unit {0}
 
--- with the value that its channel is about, by which each message keeps a promise
+-- a sender or a receiver, with the value that the promise of its channel is about
 pub record EndOf (P : Type 0) : Type 0 where
   pub channel : TableId
   pub log : List Noted
   pub about : P
 
--- of a channel without a promise
+-- an end of a channel without a promise
 abbrev pub End : Type 0
 End = EndOf (Unit {0})
 
--- the same of a future, with the source at which its polls register
+-- a future: the same, with the source at which its polls register
 pub record FutureEndOf (P : Type 0) : Type 0 where
   pub channel : TableId
   pub log : List Noted
@@ -45,13 +45,13 @@ pub record FutureEndOf (P : Type 0) : Type 0 where
 abbrev pub FutureEnd : Type 0
 FutureEnd = FutureEndOf (Unit {0})
 
--- the same of an error, with the message that was refused
+-- an error: the message that was refused, and the sender's channel and log
 pub record Failed (T : Type 0) : Type 0 where
   pub message : T
   pub channel : TableId
   pub log : List Noted
 
--- the log grew by the operations of one run of this call, which answers this reply
+-- the log grew by the operations of one run of this call, which ends in this reply
 pub record SenderGrew (T : Type 0) (call : SenderCall) (before after : List Noted) (reply : Reply) : Type 0 where
   pub run : List (Event T Waking)
   pub is_run : Run sender_step sender_row (sender_start call) run reply
@@ -62,39 +62,39 @@ pub record ReceiverGrew (T : Type 0) (call : ReceiverStart) (before after : List
   pub is_run : Run receiver_step receiver_row (receiver_start call) run reply
   pub list : after ≡ before ++ words run
 
--- The same of a receive with this timeout whose clock read so, or failed: it waits without end just where
--- no instant can hold the sum.
+-- The same of a receive with this timeout after this reading of the clock, which may have failed. It waits
+-- without an end exactly if no instant can hold the sum.
 pub record TimeoutRan (T : Type 0) (timeout : Duration) (reading : Option Instant) (before after : List Noted)
     (reply : Reply) : Type 0 where
   pub has_end : Bool
   pub held : IsTrue has_end ↔ HasEnd timeout reading
   pub grew : ReceiverGrew T (RecvTimeout has_end) before after reply
 
--- and so for some reading: a clock promises nothing of what it reads
+-- the same for some reading: no contract states what a clock reads
 pub record TimeoutGrew (T : Type 0) (timeout : Duration) (before after : List Noted) (reply : Reply) : Type 0 where
   pub reading : Option Instant
   pub readable : IfSome reading (λ now. FitsClock (instant_nanos now))
   pub ran : TimeoutRan T timeout reading before after reply
 
--- A receiver between two calls, or a future: its log is that of some calls, which it has answered.
+-- The log of a receiver or a future between two calls is that of some calls that it has replied to.
 abbrev pub HasCalls : (T : Type 0) → Form → List Noted → Type 0
 HasCalls T form log = (calls : List (ReceiverStart × Reply)) × ReceiverCalled T Waking form calls log
 
--- One call more, which leaves the receiver in place: a caller adds up its calls so.
+-- Adds one more call, which leaves the receiver in place, to those before it.
 abbrev pub CallsAddUp : (T : Type 0) → Type 0
 CallsAddUp T =
     (form : Form) (calls : List (ReceiverStart × Reply)) (before after : List Noted) (reply : Reply)
     (call : ReceiverStart) → IsTrue (stays form call) → ReceiverCalled T Waking form calls before
     → ReceiverGrew T call before after reply → ReceiverCalled T Waking form (calls ++ (call, reply) ∷ []) after
 
--- a log that is that of an order of both ends' operations
+-- the log is its end's part of some order of both ends' operations
 abbrev pub SenderIsOrdered : List Noted → Type 0
 SenderIsOrdered xs = (ys : List Noted) × (word : ℕ) × Reaches xs ys word
 
 abbrev pub ReceiverIsOrdered : List Noted → Type 0
 ReceiverIsOrdered ys = (xs : List Noted) × (word : ℕ) × Reaches xs ys word
 
--- the error of a `send`: its log is that of one call, which was refused
+-- the log of an error is that of one call, a `send` that was refused
 abbrev pub WasRefused : (T : Type 0) → List Noted → Type 0
 WasRefused T log = SenderCalled T Waking ((Send, Refused) ∷ []) log
 
@@ -109,6 +109,6 @@ IsOpen receiver = IsOpenAt (receiver_at receiver.log)
 abbrev pub IsDone : {P : Type 0} → FutureEndOf P → Type 0
 IsDone future = IsClosedAt (receiver_at future.log)
 
--- one that is not done: a later poll may give the message
+-- one that is not done: a later poll may return the message
 abbrev pub IsUnfinished : {P : Type 0} → FutureEndOf P → Type 0
 IsUnfinished future = IsOpenAt (receiver_at future.log)

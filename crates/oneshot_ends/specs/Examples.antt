@@ -1,5 +1,5 @@
--- What the definitions of the ends take for open and closed, for the log of a call, for a deadline and for a copy of a
--- task, by examples; and what they do not.
+-- Examples that the definitions of the ends accept or refuse: open and closed ends, logs of calls, logs that have an
+-- order, deadlines, copies of wakers, and grounds.
 use Rattle.std.specs.Prelude.{◌≡◌, ◌≢◌, ℕ, ◌+◌, true, false, List, [], ◌∷◌, ◌++◌, Option, Some, None}
 use Rattle.std.specs.Duration.{as_nanos}
 use Rattle.std.specs.declared.time.Duration.{Duration}
@@ -82,7 +82,7 @@ module _ (T : Type 0) where
     pub takes : ReceiverGrew T TryRecv [] received Message
     pub has_tried : HasCalls T as_receiver ((Load, Word 3) ∷ [])
     pub has_not_polled : HasCalls T as_future []
-    -- a deadline whose clock failed, and one whose instant is there
+    -- a timeout whose clock failed, and one whose end an instant can hold
     pub runs_out_at_once : (timeout : Duration) → TimeoutGrew T timeout [] ran_out Timeout
     pub runs_out : (timeout : Duration) (now : Instant) → FitsClock (instant_nanos now)
         → FitsClock (instant_nanos now + as_nanos timeout) → TimeoutRan T timeout (Some now) [] ran_out Timeout
@@ -136,7 +136,7 @@ pub record DeadlinesThatAreNot : Type 0 where
   pub never_where_it_fits : (timeout : Duration) (now : Instant)
       → FitsClock (instant_nanos now + as_nanos timeout) → IsAfter timeout (Some now) Never → ⊥
 
--- COPIES of a task's waker: none, and one in hand
+-- COPIES of wakers: none, or one in hand
 abbrev pub copies_with : Option (TaskCopy Waker) → Copies Waker
 copies_with hand = record { hand = hand; spare = None; stored = 0 }
 
@@ -157,7 +157,7 @@ module _ (before after : Context) where
     pub has_one : (copy : TaskCopy Waker) → copy.task ≡ before.turn.task
         → HasNoneOf before.turn.task (copies_with (Some copy)) → ⊥
 
--- WHAT A GROUND SHOWS: a side with both slots, which loses them where it freed the block
+-- WHAT A GROUND SHOWS: a side with both slots, which loses them when it frees the block
 module _ (table : TableId) where
   abbrev pub side_with : List Noted → Side ℕ ℕ ℕ
   side_with log = record { table = table; log = log; message = held 7; waker = held 1; passed = None; about = 5 }
@@ -171,7 +171,7 @@ module _ (table : TableId) where
     pub a_message : slot_of (Some table) ≡ held table
     pub a_copy : token_of (held table) ≡ held (record {})
     pub no_copy : token_of {W = ℕ} vacant ≡ vacant
-    -- its state: the operations of its log alone, at this table, beside what was lent under these names
+    -- its state: the operations of its log alone, with the names of its table and of what was lent
     pub shows_operations :
         (state_of (side_with received)).log.list ≡ worded Load 4 ∷ worded (Store 2) 4 ∷ []
     pub is_not_whole : (state_of (side_with [])).log.whole ≡ false

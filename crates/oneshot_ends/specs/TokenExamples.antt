@@ -1,5 +1,5 @@
--- States and lives of a token that the definitions take or refuse, steps of a sender that leave a wake out, wakers that
--- gave no token, and parks that spin too long or end too early.
+-- Examples that the definitions accept or refuse: states and lives of a token, steps of a sender that wake or do not,
+-- wakers that were used or not, and parks of a receive.
 use Rattle.std.specs.Prelude.{◌≡◌, ℕ, ◌+◌, ⊤, Bool, true, false, List, [], ◌∷◌, Option, Some, None}
 use Rattle.crossbeam_utils.specs.Token.{IsSamePass}
 use Rattle.std.specs.declared.time.Instant.{Instant}
@@ -24,7 +24,7 @@ pub record StatesThatAreNot : Type 0 where
   pub lost : TokenIs false (Parking false ∷ Waking true ∷ []) → ⊥
   pub there_again : TokenIs true (Parking true ∷ Waking true ∷ []) → ⊥
 
--- of the acts of a life, the latest stands first
+-- the latest act of a life comes first
 pub record LivesThatAre : Type 0 where
   pub given_and_taken : IsGivenOnce (takes ∷ gives ∷ divides ∷ []) false
   pub there : IsGivenOnce (gives ∷ divides ∷ []) true
@@ -42,7 +42,7 @@ pub record LivesThatAreNot : Type 0 where
   pub takes_first : {is_there : Bool} {halves : List Half} → Life (takes ∷ divides ∷ []) is_there halves → ⊥
   pub gave_and_took : took (Waking true) ≡ true → ⊥
 
--- a `send` that found a receiver waiting, up to the use of its waker, which is 1
+-- a `send` that found a receiver waiting, up to the use of its waker, named 1
 abbrev pub up_to_its_wake : List (Event ⊤ ℕ) → List (Event ⊤ ℕ)
 up_to_its_wake rest = worded Add 0 ∷ handed TakeWaker 1 ∷ worded (Swap 4) 1 ∷ rest
 
@@ -61,7 +61,7 @@ pub record StepsThatDoNot : Type 0 where
   pub by_another : Wakes any_wakes (up_to_its_wake (handed Wake 2 ∷ [])) → ⊥
   pub in_vain : Wakes none_wakes (up_to_its_wake (handed Wake 1 ∷ [])) → ⊥
 
--- A WAKER THAT WAS USED: of a thread the proof is that of its own half
+-- A WAKER THAT WAS USED: for a thread, with the evidence of its own half
 pub record WakersThatWoke : Type 0 where
   pub thread : (s : Sending ⊤ ⊤ ⊤) (half : WakingHalf) (given : Given) → s.given ≡ Some given
       → IsSamePass half.pass given.pass → IsWoken {K = ℕ} (Thread half) s.given

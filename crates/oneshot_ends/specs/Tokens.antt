@@ -25,7 +25,7 @@ pub data Act : Type 0 where
   takes : Act
   finds_none : Act
 
--- From one state to the next, whichever halves there are: the half that acts is the one of this number.
+-- A turn from one state to the next, for any list of halves. `id` is the number of the half that acts.
 pub data Turn : Act → Bool → List Half → Bool → List Half → Type 0 where
   was_divided : {is_there : Bool} {halves : List Half} (id : ℕ) → get_elem? halves id ≡ some Both
       → Turn divides is_there halves is_there (slice_set halves id (Parking false) ++ Waking false ∷ [])
@@ -42,7 +42,7 @@ pub data Life : List Act → Bool → List Half → Type 0 where
   and_then : {act : Act} {acts : List Act} {is_there now_there : Bool} {halves now : List Half}
       → Life acts is_there halves → Turn act is_there halves now_there now → Life (act ∷ acts) now_there now
 
--- one more where this act gives, or takes
+-- one more if this act gives, or takes
 abbrev pub given_by : Act → ℕ → ℕ
 given_by gives n = suc n
 given_by _ n = n
@@ -59,20 +59,20 @@ abbrev pub times_taken : List Act → ℕ
 times_taken [] = 0
 times_taken (act ∷ acts) = taken_by act (times_taken acts)
 
--- Given at most once. It is there, or was taken as often as it was given: so it is taken at most once, only after
--- it was given, and none that was given is lost.
+-- The token is given at most once, and is there or was taken as often as it was given. So it is taken at most
+-- once, only after it was given, and it is not lost.
 pub record IsGivenOnce (acts : List Act) (is_there : Bool) : Type 0 where
   pub given : times_given acts ≤ 1
   pub taken : times_given acts ≡ times_taken acts + (if is_there then 1 else 0)
 
--- Each life leads to one of the four states, and each of these is one that a life leads to.
+-- Each life leads to one of the four states, and some life leads to each state.
 abbrev pub LivesLeadToStates : Type 0
 LivesLeadToStates =
     ((acts : List Act) (is_there : Bool) (halves : List Half) → Life acts is_there halves → TokenIs is_there halves)
     × ((is_there : Bool) (halves : List Half) → TokenIs is_there halves
     → (acts : List Act) × Life acts is_there halves)
 
--- Of each life that leads to a state, and of each that led to a state before.
+-- This holds of each life, and so of each earlier part of it.
 abbrev pub TokensAreGivenOnce : Type 0
 TokensAreGivenOnce =
     (acts : List Act) (is_there : Bool) (halves : List Half) → Life acts is_there halves → IsGivenOnce acts is_there

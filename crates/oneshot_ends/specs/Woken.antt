@@ -7,17 +7,17 @@ use Rattle.oneshot_word.specs.Side.{Side}
 use Rattle.oneshot_ends.specs.declared.token.Given.{Given}
 use Rattle.oneshot_ends.specs.declared.token.WakingHalf.{WakingHalf}
 
--- this is the proof that this half gave the token
+-- there is evidence that this half gave the token
 abbrev pub IsGivenBy : WakingHalf → Option Given → Type 0
 IsGivenBy half None = ⊥
 IsGivenBy half (Some given) = IsSamePass half.pass given.pass
 
--- A waker that was used: that of a thread gave its token. Of a task's the toolchain's contracts say nothing.
+-- A waker that was used: a thread's gave its token. Rattle's contracts state nothing of a task's.
 abbrev pub IsWoken : {K : Type 0} → AnyWaker WakingHalf K → Option Given → Type 0
 IsWoken (Thread half) given = IsGivenBy half given
 IsWoken _ given = ⊤
 
--- the ground of a sender: its side, and the proof of the token that it gave, once it has
+-- the ground of a sender: its side, and evidence of the token once it gave one
 pub record Sending (T W P : Type 0) : Type 0 where
   pub side : Side T W P
   pub given : Option Given

@@ -1,6 +1,6 @@
-//! The copies of wakers that a future has beside its channel, each with the task that it wakes.
+//! The copies of wakers that a future keeps outside its channel, each with the number of its task.
 
-ghost use Rattle.std.specs.Prelude.{◌≡◌, true, false, None, Some, MatchOption, IfSome, IfNone};
+ghost use Rattle.std.specs.Prelude.{◌≡◌, ◌≢◌, true, false, None, Some, MatchOption, IfSome, IfNone};
 
 /// A copy of a waker, with the number that its task has in its queue.
 #[derive(Drop)]
@@ -11,15 +11,15 @@ pub(crate) struct TaskCopy<K> {
 
 /// The copies of wakers that are not in the channel.
 ///
-/// A waker wakes its task when it is dropped. So a copy that the channel gives back is kept, and is the copy
-/// that is made when the same task polls again: no task is polled more often than it asked.
+/// Dropping a waker wakes its task. So a copy that the channel gives back is kept, and reused when the same
+/// task polls again: otherwise each poll would wake its own task.
 #[derive(Drop)]
 pub(crate) struct Copies<K> {
-    // The copy that was made, or one that is spare.
+    // The copy that was made, or a spare one.
     hand: Option<TaskCopy<K>>,
-    // One that was taken back while there was another.
+    // A copy that came back while another was in hand.
     spare: Option<TaskCopy<K>>,
-    // The task of the copy in the channel.
+    // The number of the task whose copy is in the channel.
     stored: usize,
 }
 
@@ -35,17 +35,18 @@ impl<K: Drop> Copies<K> {
         }
     }
 
-    /// Takes the copy in hand, if it wakes the task of this number.
+    /// Takes the copy in hand, if its task has the number `task`.
     ///
-    /// - `Some`: that copy. None is in hand then.
-    /// - `None`: there is none, or it is another task's, which stays there: in its place no refusal could be told.
+    /// - `Some`: that copy. Then none is in hand.
+    /// - `None`: no copy is in hand, or another task's is, and stays there: taken, it would hide a refusal.
     ///
-    /// Tasks of two executors may have one number; no call of the toolchain tells them apart.
+    /// Tasks of two executors may have the same number, and no library call tells them apart.
     pub(crate) fn take_of(&mut self, task: usize) -> Option<K>
         ensures taken { IfSome result (λ waker.
             self.old.hand ≡ Some (record { waker = waker; task = task })) }
         ensures left { IfSome result (λ _. self.new ≡ record self.old { hand = None }) }
         ensures stays { IfNone result (self.new ≡ self.old) }
+        ensures others { IfNone result (IfSome self.old.hand (λ copy. copy.task ≢ task)) }
     {
         match self.hand.take() {
             Some(copy) if copy.task == task => Some(copy.waker),
@@ -56,8 +57,8 @@ impl<K: Drop> Copies<K> {
         }
     }
 
-    /// Takes the copy of this task that was made into the hand, and wakes the task of another that was there.
-    /// `false` where none was made: then all stays as it was.
+    /// Puts `made`, a copy for the task numbered `task`, in hand. A copy that was there is dropped, which
+    /// wakes its task. `false`: none was made, and nothing changes.
     pub(crate) fn keep_made(&mut self, task: usize, made: Option<K>) -> bool
         ensures { MatchOption made ((result ≡ false) × (self.new ≡ self.old)) (λ waker. (result ≡ true)
             × (self.new ≡ record self.old { hand = Some (record { waker = waker; task = task }) })) }
@@ -71,7 +72,7 @@ impl<K: Drop> Copies<K> {
         }
     }
 
-    /// Gives the copy in hand to the channel, and takes the spare one in its place. `None`: none was in hand.
+    /// Returns the copy in hand, for the channel, and puts the spare one in hand. `None`: none was in hand.
     pub(crate) fn give(&mut self) -> Option<K>
         ensures given { MatchOption self.old.hand ((result ≡ None) × (self.new.stored ≡ self.old.stored))
             (λ copy. (result ≡ Some copy.waker) × (self.new.stored ≡ copy.task)) }
@@ -85,7 +86,7 @@ impl<K: Drop> Copies<K> {
         Some(waker)
     }
 
-    /// Keeps a copy that the channel gave back: in hand, or as the spare one where another is in hand.
+    /// Keeps `waker`, which the channel gave back: in hand if that is empty, else as the spare one.
     pub(crate) fn take_back(&mut self, waker: K)
         ensures { MatchOption self.old.hand
             (self.new ≡ record self.old { hand = Some (record { waker = waker; task = self.old.stored }) })

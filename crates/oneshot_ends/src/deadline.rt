@@ -1,4 +1,4 @@
-//! When the wait of a receive is over, by what its clock reads.
+//! When a receive stops waiting, by what its clock reads.
 
 ghost use Rattle.std.specs.Prelude.{◌≡◌, ◌↔◌, true, IsTrue, IfSome};
 ghost use Rattle.std.specs.Time.{instant_nanos, FitsClock};
@@ -6,12 +6,12 @@ ghost use Rattle.oneshot_ends.specs.Deadlines.{IsAfter, IsFar, IsOver, has_end};
 
 use std::time::{Clock, Duration, Instant};
 
-/// How many nanoseconds have to be left for a receive with a deadline to spin: more than all its spins take. Its
-/// pauses end in microseconds, but a yield takes as long as the scheduler lets some other threads run, a few
-/// milliseconds each, and must not make a receive late.
+/// How many nanoseconds must be left before its deadline for a receive to spin: more than all its spins take.
+/// Its pauses take microseconds, but in its yield the scheduler may run other threads for a few milliseconds
+/// each, which must not make the receive late.
 const FAR: u128 = 100_000_000;
 
-/// A reading of the clock: `None` where it failed.
+/// A reading of the clock: `None` if it failed.
 pub(crate) type Reading = Option<Instant>;
 
 /// Reads the clock.
@@ -26,16 +26,16 @@ pub(crate) fn read(clock: &impl Clock) -> Reading
 pub(crate) enum Deadline {
     /// Once the clock is past this instant.
     At(Instant),
-    /// At once: the clock could not be read for the instant.
+    /// At once: the reading for the instant failed.
     Passed,
     /// Never.
     Never,
 }
 
 impl Deadline {
-    /// The instant that is `timeout` after the clock's reading.
+    /// The instant that is `timeout` after `reading`.
     ///
-    /// `Passed` after a failed reading, and `Never` where no instant can hold the sum.
+    /// `Passed` if the reading failed, and `Never` if no instant can hold the sum.
     pub(crate) fn after(reading: Reading, timeout: Duration) -> Deadline
         ensures { IsAfter timeout reading result }
     {
@@ -48,8 +48,8 @@ impl Deadline {
         }
     }
 
-    /// Whether it is over for this reading of the clock. An instant is not over at itself, and a failed
-    /// reading counts as over.
+    /// Whether the deadline is over by this reading of the clock. A reading of the instant itself is not past
+    /// it, and a failed reading counts as past every instant.
     pub(crate) fn is_over(self, reading: Reading) -> bool
         ensures { IsTrue result ↔ IsOver self reading }
     {
@@ -63,7 +63,7 @@ impl Deadline {
         }
     }
 
-    /// Whether the deadline is so far after this reading of the clock that a receive which spins is not late.
+    /// Whether `FAR` or more is left by this reading of the clock. `false` without an instant or a reading.
     pub(crate) fn is_far(self, reading: Reading) -> bool
         ensures { IsTrue result ↔ IsFar self reading }
     {
@@ -76,7 +76,7 @@ impl Deadline {
         }
     }
 
-    /// Whether a call with this deadline can run out.
+    /// Whether a receive with this deadline can run out.
     pub(crate) fn has_end(self) -> bool
         ensures { result ≡ has_end self }
     {

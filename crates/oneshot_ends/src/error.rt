@@ -1,4 +1,4 @@
-//! The error of a refused message, which owns the block in the sender's place.
+//! The error of a refused `send`, which owns the message, and the block in the sender's place.
 
 ghost use Rattle.std.specs.Prelude.{◌≡◌};
 ghost use Rattle.oneshot_machine.specs.Phases.{sender_at};
@@ -17,10 +17,10 @@ use std::fmt;
 use std::fmt::{Debug, Display, Formatter};
 use std::marker::Model;
 
-/// The message of a `send` that was refused, since the receiver was gone.
+/// The error of a `send` that was refused, since the receiver was gone.
 ///
-/// The error owns the message, and the channel's memory in the sender's place. Dropping it drops both;
-/// `into_inner` gives the message back and gives up the memory. No call of the error blocks or allocates.
+/// It owns the message, and the channel's memory in the sender's place. Dropping it drops both;
+/// `into_inner` returns the message and releases the memory. None of its calls blocks or allocates.
 ///
 /// It may go to another thread where `T` is `Send`.
 ///
@@ -43,7 +43,7 @@ impl<T, P: Promise<T>> Model for SendError<T, P> {
 }
 
 impl<T, P: Promise<T>> SendError<T, P> {
-    /// The message, which stays in the error.
+    /// Returns a reference to the message, which stays in the error.
     pub fn as_inner(&self) -> &T
         ensures { result.now ≡ self.now.message }
     {
@@ -80,7 +80,7 @@ impl<T: Drop, P: Promise<T>> SendError<T, P> {
         SendError { message, side }
     }
 
-    /// Gives the message back, and gives up the error's share of the channel's memory.
+    /// Returns the message, and releases the error's share of the channel's memory.
     pub fn into_inner(self) -> T
         ensures { result ≡ self.message }
     {

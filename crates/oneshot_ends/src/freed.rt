@@ -4,7 +4,7 @@ ghost use Rattle.std.specs.Prelude.{◌≡◌, Bool};
 
 use std::marker::Model;
 
-// In place of a `Snapshot<bool>`: a caller's proof finds no lemma that one may go to another thread.
+// In place of a `Snapshot<bool>`: callers' proofs find no lemma that a `Snapshot` may go to another thread.
 /// Whether an end freed the block. It has no bytes, and only proofs read it.
 #[derive(Drop)]
 pub(crate) struct Freed {
@@ -17,11 +17,11 @@ impl Model for Freed {
     ghost also_owns = { λ _. ftrue };
 }
 
-// Proved, in proofs/freed/Freed/TheSendSync.
+// Proved in proofs/freed/Freed/TheSendSync.
 unsafe impl Send for Freed {}
 
 impl Freed {
-    /// What says `freed`.
+    /// Records `freed` for proofs.
     pub(crate) fn of(freed: bool) -> Freed
         ensures { result.value ≡ freed }
     {

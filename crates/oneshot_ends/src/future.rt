@@ -25,26 +25,26 @@ use oneshot_errors::{RecvError, TryRecvError};
 use oneshot_word::Promise;
 use std::marker::Model;
 
-/// Receives one message from its sender, as a future: `Ok` with the message, or `Err` where the sender
-/// was dropped without a message or the message was received before.
+/// A future that receives one message from its sender. Its output is `Ok` with the message, or `Err` if the
+/// sender was dropped without a message or the message was received before.
 ///
-/// Dropping it drops a message that was sent and not received, and a later `send` is refused: its error
-/// gives the message back. The drop never blocks: where the sender is about to finish, it leaves at once, and the
-/// sender frees the memory; a `send` is refused then too. `rt` is dropped with the future.
+/// Dropping it also drops its `rt`, and a message that was sent and not received. A later `send` is
+/// refused: its error owns the message. The drop never blocks. If the sender is about to finish, the drop
+/// returns at once, the sender's side frees the memory, and a `send` is refused too.
 ///
-/// A contract sees the channel that it belongs to, the log of its operations on the word, from which it
-/// reads whether the future is done, and the source at which its polls register.
+/// A contract sees the future's channel, the value that the channel is about, the log of the future's
+/// operations on the word, which determines whether it is done, and the source at which its polls register.
 ///
-/// `P` is the promise of its channel, which the message that it gives keeps.
+/// `P` is the promise of its channel: the message that it returns keeps it.
 ///
-/// Where `T` and `Rt` are `Send` it may go to another thread between two polls. The compiler does not refuse a shared
-/// `&` to it, and no proof covers one: share none.
+/// It may go to another thread between two polls where `T` and `Rt` are `Send`. Do not share a `&` to it:
+/// the compiler does not refuse one, but no proof covers it.
 pub struct AsyncReceiver<T, Rt, P: Promise<T> = ()> {
     pub(crate) ground: SharedReceiver<T, WakingHalf, Waker, P>,
     source: Source,
     // Copies of wakers that are not in the channel.
     copies: Copies<Waker>,
-    // What `into_future` was given in the receiver: no call of a future uses it.
+    // The runtime of the receiver, which no call of a future uses.
     rt: Rt,
 }
 
@@ -89,16 +89,16 @@ impl<T, Rt, P: Promise<T>> AsyncReceiver<T, Rt, P> {
 
 impl<T: Drop, Rt: Drop, P: Promise<T>> AsyncReceiver<T, Rt, P> {
     /// Receives the message if it is there. It never blocks and does not allocate. The Rust crate has no
-    /// `try_recv` of a future: this one answers as that of a `Receiver`.
+    /// `try_recv` of a future: this one follows that of a `Receiver`.
     ///
-    /// A task that is registered stays so, by the log of the operations. That a later `send`, or the sender's
-    /// drop, then wakes it is tested.
+    /// After `Empty` a registered task is still registered, as clause `registered` states. That a later
+    /// `send`, or the sender's drop, then wakes it is only tested.
     ///
     /// - `Ok`: the message. The future is done from then on.
     /// - `Err(Empty)`: nothing was sent yet, or a `send` or the sender's drop is under way. The future stays
-    ///   open, and registers nobody.
+    ///   open, and registers no task.
     /// - `Err(Disconnected)`: the sender is gone without a message, or the message was received before.
-    ///   Every later call and poll says the same.
+    ///   Every later call and poll fails in the same way.
     pub fn try_recv(&mut self) -> Result<T, TryRecvError>
         ensures channel { self.new.channel ≡ self.old.channel }
         ensures source { self.new.source ≡ self.old.source }
@@ -121,16 +121,16 @@ impl<T: Drop, Rt: Drop, P: Promise<T>> Future for AsyncReceiver<T, Rt, P> {
 
     ghost needs = { λ r s. s ≡ r.source };
 
-    // The message that comes keeps the promise, also as an executor or a combinator hands it on.
+    // The message keeps the promise, also after an executor or a combinator has passed it on.
     ghost gives = { λ r answer. IfOk answer (λ message. P.keeps r.about message) };
 
-    /// Polls once. It allocates nothing and never blocks: no poll waits for the sender.
+    /// Polls once, for the task of `cx`. It never blocks and does not allocate: no poll waits for the sender.
     ///
     /// - `Ready(Ok)`: the message.
     /// - `Ready(Err)`: the sender was dropped without a message, or the message was received before. A
-    ///   future that was ready answers this from then on.
-    /// - `Pending`: nothing is there yet. The task is registered, and woken when that changes. Where no copy of
-    ///   its waker could be made, or the sender is about to finish, it is woken at once.
+    ///   future that was ready returns this from then on.
+    /// - `Pending`: no message yet. The task is registered, and woken when that changes. If no copy of its
+    ///   waker could be made, or the sender is about to finish, the task is woken at once.
     fn poll(&mut self, cx: &mut Context<'_>) -> Poll<Result<T, RecvError>>
         ensures value { IfReady result (λ answer. IfOk answer (λ message. P.keeps self.old.about message)) }
         ensures again { OnPending result ⊤ }

@@ -1,4 +1,4 @@
-//! What a real end does to the world: the grounds on which the drivers act.
+//! The grounds of real ends, on which the drivers act.
 
 mod error;
 mod looks;

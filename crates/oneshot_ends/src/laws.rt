@@ -1,4 +1,4 @@
-//! What always holds of the ends between their calls: each function's contract is the law, its body nothing.
+//! What always holds of the ends between their calls: each function's contract states a law, and its body does nothing.
 
 ghost use Rattle.atomic_table.specs.Seated.{TableId};
 ghost use Rattle.futures.specs.declared.task.context.Context.{Context};
@@ -15,79 +15,79 @@ use crate::receiver::Receiver;
 use crate::sender::Sender;
 use oneshot_word::Promise;
 
-/// A sender has made no operation: its one call ends it.
+/// A sender has performed no operation: its one call consumes it.
 pub fn a_sender_has_made_none<T, P: Promise<T>>(sender: &Sender<T, P>)
     ensures { sender.now.log ≡ [] }
 {
     let _side = &sender.side;
 }
 
-/// The log of a refused `send` is that of one call.
+/// The log of an error is that of one call, a refused `send`.
 pub fn an_error_was_refused<T, P: Promise<T>>(error: &SendError<T, P>)
     ensures { WasRefused T error.now.log }
 {
     error.was_refused();
 }
 
-/// A receiver's log is that of calls which it has answered, whatever a program did with it: it has the operations
-/// of one run of each call.
+/// A receiver's log is that of calls that it has replied to, whatever a program did with it: it has the
+/// operations of one run of each call.
 pub fn a_receiver_has_its_calls<T, Rt, P: Promise<T>>(receiver: &Receiver<T, Rt, P>)
     ensures { HasCalls T as_receiver receiver.now.log }
 {
     let _ground = &receiver.ground;
 }
 
-/// A future's log is that of the calls which it has answered, as a receiver before and as a future since.
+/// A future's log is that of calls that it has replied to, first as a receiver and then as a future.
 pub fn a_future_has_its_calls<T, Rt, P: Promise<T>>(future: &AsyncReceiver<T, Rt, P>)
     ensures { HasCalls T as_future future.now.log }
 {
     let _ground = &future.ground;
 }
 
-/// What adds up the calls of a receiver, or of a future: where it had answered some calls, and one call more appended
-/// the operations of one run with this reply, it has answered these calls and that one.
+/// Adds up the calls of a receiver or a future. If its log was that of some calls, and one more call left it
+/// in place and appended the operations of one run that ends in its reply, the log is that of all the calls.
 pub fn calls_add_up<T>()
     ensures { CallsAddUp T }
 {}
 
-/// A sender's log is that of an order of both ends' operations, whatever a program did with either.
+/// A sender's log is its part of some order of both ends' operations, whatever a program did with either end.
 pub fn a_sender_is_in_an_order<T, P: Promise<T>>(sender: &Sender<T, P>)
     ensures { SenderIsOrdered sender.now.log }
 {
     sender.side.is_in_an_order();
 }
 
-/// So is that of a receiver,
+/// A receiver's log is its part of such an order.
 pub fn a_receiver_is_in_an_order<T, Rt, P: Promise<T>>(receiver: &Receiver<T, Rt, P>)
     ensures { ReceiverIsOrdered receiver.now.log }
 {
     receiver.ground.is_in_an_order();
 }
 
-/// of a future,
+/// A future's log is the receiver's part of such an order.
 pub fn a_future_is_in_an_order<T, Rt, P: Promise<T>>(future: &AsyncReceiver<T, Rt, P>)
     ensures { ReceiverIsOrdered future.now.log }
 {
     future.ground.is_in_an_order();
 }
 
-/// and of a `send` that was refused.
+/// The log of an error is the sender's part of such an order.
 pub fn an_error_is_in_an_order<T, P: Promise<T>>(error: &SendError<T, P>)
     ensures { SenderIsOrdered error.now.log }
 {
     error.is_in_an_order();
 }
 
-/// The token of a receiver that blocks is given at most once, taken at most once, and never taken before it was given.
-/// The rule that both halves of its parker keep has the states to which its lives lead.
+/// The token of a blocking receiver is given at most once, taken at most once, and never taken before it is
+/// given. The rule of both halves of its parker has exactly the states that a token's life can lead to.
 pub fn a_token_is_given_once_and_then_taken()
     ensures states { LivesLeadToStates }
     ensures once { TokensAreGivenOnce }
 {}
 
-/// Which ends the definitions take for open and closed, which logs for those of a call, when a deadline is over,
-/// of which task a copy is, what a ground shows, which logs have an order, which states and lives a token has, which
-/// steps of a sender and which wakers wake, and how a receive waits, by examples.
+/// Examples that the definitions accept or refuse: open and closed ends, logs of calls, deadlines, copies of
+/// wakers, grounds, logs that have an order, states and lives of a token, steps of a sender and wakers that
+/// wake, and receives that wait.
 pub fn examples_are_so<T>()
     ensures ends { (channel : TableId) → EndsThatAre channel }
     ensures no_ends { (channel : TableId) → EndsThatAreNot channel }

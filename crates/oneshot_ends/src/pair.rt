@@ -1,4 +1,4 @@
-//! How both ends of a channel are made.
+//! The functions that make a channel.
 
 ghost use Rattle.std.specs.Prelude.{◌≡◌, [], IfOk};
 ghost use Rattle.oneshot_ends.specs.Ends.{IsOpen, IsUnfinished};
@@ -11,13 +11,13 @@ use crate::waker::ChannelWaker;
 use oneshot_word::{Promise, open};
 use std::alloc::{AllocError, Global};
 
-/// Makes a channel for one message: its sender and its receiver.
+/// Makes a channel for one message, and returns its sender and its receiver.
 ///
 /// `rt` is the runtime of the receives that block, which need `Rt: Wait + Clock`. The receiver keeps it.
 /// Pass `()` for a receiver that never blocks. `alloc` is the allocator of the channel's memory; no later
 /// call allocates.
 ///
-/// `Err`: an allocation failed. Nothing is kept then, and `rt` is dropped.
+/// `Err`: an allocation failed. Then nothing is kept, and `rt` is dropped.
 pub fn channel<T: Send + Drop, Rt: Drop>(
     rt: Rt,
     alloc: Global,
@@ -27,7 +27,7 @@ pub fn channel<T: Send + Drop, Rt: Drop>(
     ensures new_receiver { IfOk result (λ ends. ends.1.log ≡ []) }
     ensures open { IfOk result (λ ends. IsOpen ends.1) }
 {
-    // A body of its own: through `channel_for` both ends would be copied once more.
+    // Does not call `channel_for`, which would copy both ends once more.
     let (sender, receiver) = open(alloc, &())?;
     let (parking, waking) = parker(alloc)?;
     Ok((
@@ -36,11 +36,11 @@ pub fn channel<T: Send + Drop, Rt: Drop>(
     ))
 }
 
-/// Makes a channel whose every message keeps a promise about `about`: `Sender::send_kept` requires it, and
-/// each receive ensures it of the message that it gives. Nothing of `about` is kept, and the channel runs as
-/// one of `channel` does.
+/// Makes a channel whose messages keep a promise about `about`: `Sender::send_kept` requires it of its
+/// message, and each receive guarantees it of the message that it returns. The channel stores nothing of
+/// `about`, and runs as one of `channel` does.
 ///
-/// `rt`, `alloc` and `Err` are those of `channel`.
+/// `rt`, `alloc` and `Err` are as in `channel`.
 pub fn channel_for<T: Send + Drop, Rt: Drop, P: Promise<T>>(
     rt: Rt,
     alloc: Global,
@@ -63,8 +63,7 @@ pub fn channel_for<T: Send + Drop, Rt: Drop, P: Promise<T>>(
 
 /// Makes a channel whose receiver is a future: `channel` followed by `Receiver::into_future`.
 ///
-/// The future keeps `rt`, which no call of it uses: `()` is a runtime for it. `Err` comes only where an
-/// allocation was refused; then nothing was made.
+/// The future keeps `rt`, but none of its calls uses it: pass `()`. `alloc` and `Err` are as in `channel`.
 pub fn async_channel<T: Send + Drop, Rt: Drop>(
     rt: Rt,
     alloc: Global,
@@ -78,8 +77,8 @@ pub fn async_channel<T: Send + Drop, Rt: Drop>(
     Ok((sender, receiver.into_future()))
 }
 
-/// Makes a channel under a promise about `about`, whose receiver is a future: `channel_for` followed by
-/// `Receiver::into_future`. `rt`, `alloc` and `Err` are those of `async_channel`.
+/// Makes a channel with a promise about `about`, whose receiver is a future: `channel_for` followed by
+/// `Receiver::into_future`. `rt`, `alloc` and `Err` are as in `async_channel`.
 pub fn async_channel_for<T: Send + Drop, Rt: Drop, P: Promise<T>>(
     rt: Rt,
     alloc: Global,

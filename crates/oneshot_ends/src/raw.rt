@@ -1,4 +1,4 @@
-//! The ends of a channel as opaque values, which keep an end and have no calls.
+//! Opaque values that own an end of a channel and have no calls.
 
 ghost use Rattle.std.specs.Prelude.{◌≡◌};
 
@@ -9,10 +9,9 @@ use std::marker::Model;
 
 /// An opaque sender, which `Sender::from_raw` turns back. The Rust crate has a pointer here.
 ///
-/// Dropping it drops the sender: a receiver that waits is woken, and learns that no message will come.
-/// The drop never blocks.
+/// Dropping it drops the sender: it wakes a waiting receiver, and no message comes. The drop never blocks.
 ///
-/// Its contracts speak of the channel and the log of the sender. It may go to another thread where `T` is `Send`.
+/// A contract sees it as the sender that it owns. It may go to another thread where `T` is `Send`.
 pub struct RawSender<T, P: Promise<T> = ()> {
     sender: Sender<T, P>,
 }
@@ -26,17 +25,17 @@ impl<T, P: Promise<T>> Model for RawSender<T, P> {
 }
 
 impl<T, P: Promise<T>> Sender<T, P> {
-    /// Makes an opaque value of the sender. It makes no operation on the word and does not allocate.
+    /// Turns the sender into an opaque value. It performs no operation on the word and does not allocate.
     ///
-    /// In the Rust crate it gives a pointer, and the channel's memory leaks if no sender is made of that
-    /// again. Here the value owns the sender, and dropping it drops the sender.
+    /// In the Rust crate it returns a pointer, and the channel's memory leaks unless that is turned back
+    /// into a sender. Here the value owns the sender, and dropping it drops the sender.
     pub fn into_raw(self) -> RawSender<T, P>
         ensures { result ≡ self }
     {
         RawSender { sender: self }
     }
 
-    /// Makes a sender of an opaque value. It makes no operation on the word and does not allocate.
+    /// Turns `raw` back into its sender. It performs no operation on the word and does not allocate.
     ///
     /// In the Rust crate it is `unsafe`, since its caller may pass any pointer. Here it is safe: only
     /// `into_raw` makes a `RawSender<T>`, and this call consumes it.
@@ -56,7 +55,7 @@ impl<T, P: Promise<T>> RawSender<T, P> {
     }
 }
 
-// Written out: a derived `Drop` would need one of `P`, of which a channel has no value.
+// Written out: a derived `Drop` would require `P: Drop`, and a channel holds no value of `P`.
 impl<T: Drop, P: Promise<T>> Drop for RawSender<T, P> {
     fn drop(self) {
         let RawSender { sender: _ } = self;
@@ -66,10 +65,10 @@ impl<T: Drop, P: Promise<T>> Drop for RawSender<T, P> {
 /// An opaque receiver, which `Receiver::from_raw` turns back. The Rust crate has a pointer here.
 ///
 /// Dropping it drops the receiver with its `rt`, and a message that was sent and not received. A later
-/// `send` is refused: its error gives the message back. The drop never blocks.
+/// `send` is refused: its error owns the message. The drop never blocks.
 ///
-/// Its contracts speak of the channel and the log of the receiver. It may go to another thread where `T` and
-/// `Rt` are `Send`.
+/// A contract sees it as the receiver that it owns. It may go to another thread where `T` and `Rt` are
+/// `Send`.
 pub struct RawReceiver<T, Rt, P: Promise<T> = ()> {
     receiver: Receiver<T, Rt, P>,
 }
@@ -83,17 +82,17 @@ impl<T, Rt, P: Promise<T>> Model for RawReceiver<T, Rt, P> {
 }
 
 impl<T, Rt, P: Promise<T>> Receiver<T, Rt, P> {
-    /// Makes an opaque value of the receiver. It makes no operation on the word and does not allocate.
+    /// Turns the receiver into an opaque value. It performs no operation on the word and does not allocate.
     ///
-    /// In the Rust crate it gives a pointer, and the channel's memory leaks if no receiver is made of that
-    /// again. Here the value owns the receiver, and dropping it drops the receiver.
+    /// In the Rust crate it returns a pointer, and the channel's memory leaks unless that is turned back
+    /// into a receiver. Here the value owns the receiver, and dropping it drops the receiver.
     pub fn into_raw(self) -> RawReceiver<T, Rt, P>
         ensures { result ≡ self }
     {
         RawReceiver { receiver: self }
     }
 
-    /// Makes a receiver of an opaque value. It makes no operation on the word and does not allocate.
+    /// Turns `raw` back into its receiver. It performs no operation on the word and does not allocate.
     ///
     /// In the Rust crate it is `unsafe`, since its caller may pass any pointer. Here it is safe: only
     /// `into_raw` makes a `RawReceiver<T, Rt>`, and this call consumes it.

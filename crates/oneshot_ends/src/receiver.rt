@@ -26,24 +26,24 @@ use std::time::{Clock, Duration, Instant};
 
 /// Receives one message from its sender.
 ///
-/// Dropping it drops a message that was sent and not received, and a later `send` is refused: its error
-/// gives the message back. The drop never blocks. `rt` is dropped with the receiver.
+/// Dropping it also drops its `rt`, and a message that was sent and not received. A later `send` is
+/// refused: its error owns the message. The drop never blocks.
 ///
 /// The receives that block (`recv`, `recv_ref`, `recv_deadline`, `recv_timeout`) need `Rt: Wait + Clock`.
-/// The others need nothing of `Rt`, which may be `()` then.
+/// The other calls accept any `Rt: Drop`, such as `()`.
 ///
-/// A contract sees the channel that the receiver belongs to, and the log of its operations on the word.
-/// Whether the receiver is closed is read off that log.
+/// A contract sees the receiver's channel, the value that the channel is about, and the log of the
+/// receiver's operations on the word. The log determines whether the receiver is closed.
 ///
-/// `P` is the promise of a channel of `channel_for`: each message that a receive gives keeps it.
-/// `Receiver<T, Rt>` is that of a channel without one.
+/// `P` is the promise of a channel of `channel_for`: each message that a receive returns keeps it.
+/// `Receiver<T, Rt>` is the receiver of a channel without one.
 ///
 /// It may go to another thread where `T` and `Rt` are `Send`. Two threads may not share it.
 pub struct Receiver<T, Rt, P: Promise<T> = ()> {
     pub(crate) ground: SharedReceiver<T, WakingHalf, Waker, P>,
     // The parker's waking half, unless the sender took it to wake the receiver.
     hand: Option<ChannelWaker>,
-    // A parker may not be shared, so that one thread at a time has the receiver.
+    // A parker is not `Sync`, so only one thread at a time has the receiver.
     parker: ParkingHalf,
     // Where its polls register, once it is a future.
     source: Source,
@@ -92,10 +92,10 @@ impl<T: Drop, Rt: Drop, P: Promise<T>> Receiver<T, Rt, P> {
     /// Receives the message if it is there. It never blocks and does not allocate.
     ///
     /// - `Ok`: the message. The receiver is closed from then on.
-    /// - `Err(Empty)`: nothing was sent yet, or a `send` is under way; the sender is there. The receiver
-    ///   stays open.
+    /// - `Err(Empty)`: no message yet. The sender is there, and may be in its `send`. The receiver stays
+    ///   open.
     /// - `Err(Disconnected)`: the sender is gone without a message, or the message was received before.
-    ///   Every later receive says the same.
+    ///   Every later receive fails in the same way.
     pub fn try_recv(&mut self) -> Result<T, TryRecvError>
         ensures channel { self.new.channel ≡ self.old.channel }
         ensures run { ReceiverGrew T TryRecv self.old.log self.new.log (try_recv_reply result) }
@@ -120,7 +120,7 @@ impl<T: Drop, Rt: Wait + Clock + Drop, P: Promise<T>> Receiver<T, Rt, P> {
     /// - `Ok`: the message.
     /// - `Err`: the sender is gone without a message, or the message was received before.
     ///
-    /// Either way the receiver is closed, and every later receive says that no message will come.
+    /// Either way the receiver is then closed, and every later receive returns an error.
     pub fn recv_ref(&mut self) -> Result<T, RecvError>
         ensures channel { self.new.channel ≡ self.old.channel }
         ensures run { ReceiverGrew T RecvRef self.old.log self.new.log (recv_reply result) }
@@ -136,17 +136,17 @@ impl<T: Drop, Rt: Wait + Clock + Drop, P: Promise<T>> Receiver<T, Rt, P> {
     }
 
     /// Blocks until the message is there or will never come, or until the runtime's clock is past
-    /// `deadline`. It does not allocate.
+    /// `deadline`, an instant of that clock. It does not allocate.
     ///
     /// - `Ok`: the message. A message that is there is received, however late the call is.
-    /// - `Err(Timeout)`: the clock is past `deadline`, and when the call last looked nothing had been sent
-    ///   and the sender was there. The receiver stays open.
+    /// - `Err(Timeout)`: the clock is past `deadline`. When the call last checked, the sender was there and
+    ///   had sent nothing. The receiver stays open.
     /// - `Err(Disconnected)`: the sender is gone without a message, or the message was received before.
-    ///   Every later receive says the same.
+    ///   Every later receive fails in the same way.
     ///
-    /// A clock that shows `deadline` itself is not past it. A clock that fails counts as past every
-    /// deadline, which is a rule of this port. A sender that has found this receiver parked and is in its
-    /// `send` or its drop is waited for, also past the deadline, as in the Rust crate.
+    /// A clock that reads `deadline` itself is not past it. A clock that fails counts as past every
+    /// deadline: a rule of this port. Past the deadline the call still waits for a sender that has found
+    /// this receiver waiting and is in its `send` or its drop, as in the Rust crate.
     pub fn recv_deadline(&mut self, deadline: Instant) -> Result<T, RecvTimeoutError>
         ensures channel { self.new.channel ≡ self.old.channel }
         ensures run { ReceiverGrew T RecvDeadline self.old.log self.new.log (timed_reply result) }
@@ -162,11 +162,11 @@ impl<T: Drop, Rt: Wait + Clock + Drop, P: Promise<T>> Receiver<T, Rt, P> {
         recv_deadline(&mut lent, &self.rt, &mut self.hand)
     }
 
-    /// Blocks as `recv_deadline` does, until the runtime's clock has gone on by more than `timeout`. It
-    /// does not allocate.
+    /// Blocks as `recv_deadline` does, until more than `timeout` has passed by the runtime's clock. It does
+    /// not allocate.
     ///
-    /// The answers are those of `recv_deadline`. If no instant can hold the sum of now and `timeout`, the
-    /// call blocks as `recv_ref` does and never answers `Timeout`. If the clock fails, the deadline is over
+    /// The results are those of `recv_deadline`. If no instant can hold the sum of now and `timeout`, the
+    /// call blocks as `recv_ref` does and never returns `Timeout`. If the clock fails, the deadline is over
     /// at once.
     pub fn recv_timeout(&mut self, timeout: Duration) -> Result<T, RecvTimeoutError>
         ensures channel { self.new.channel ≡ self.old.channel }
@@ -182,7 +182,7 @@ impl<T: Drop, Rt: Wait + Clock + Drop, P: Promise<T>> Receiver<T, Rt, P> {
         self.recv_after(reading, timeout)
     }
 
-    /// Blocks until the message is there or will never come, and ends the receiver. It does not allocate.
+    /// Blocks until the message is there or will never come. It consumes the receiver and does not allocate.
     ///
     /// - `Ok`: the message.
     /// - `Err`: the sender is gone without a message, or the message was received before.
@@ -206,8 +206,8 @@ impl<T: Drop, Rt: Wait + Clock + Drop, P: Promise<T>> Receiver<T, Rt, P> {
 }
 
 impl<T: Drop, Rt: Wait + Clock + Drop, P: Promise<T>> Receiver<T, Rt, P> {
-    // Receives by `timeout` after this reading of the clock. The ground has the reading too, so that the
-    // clock is not read twice for the sum.
+    // Waits until `timeout` after `reading`. The ground's first check of the deadline uses `reading` too,
+    // so the clock is read once for both.
     fn recv_after(&mut self, reading: Reading, timeout: Duration) -> Result<T, RecvTimeoutError>
         requires { IfSome reading (λ now. FitsClock (instant_nanos now)) }
         ensures channel { self.new.channel ≡ self.old.channel }
@@ -225,8 +225,8 @@ impl<T: Drop, Rt: Wait + Clock + Drop, P: Promise<T>> Receiver<T, Rt, P> {
 }
 
 impl<T: Drop, Rt: Drop, P: Promise<T>> Receiver<T, Rt, P> {
-    /// Makes a future of the receiver, which a task can poll. It makes no operation on the word, waits for
-    /// nobody and allocates nothing. The receiver's parker is dropped.
+    /// Turns the receiver into a future, which a task can poll. It performs no operation on the word, never
+    /// blocks and does not allocate. The receiver's parker is dropped.
     pub fn into_future(self) -> AsyncReceiver<T, Rt, P>
         ensures channel { result.channel ≡ self.channel }
         ensures log { result.log ≡ self.log }

@@ -1,4 +1,4 @@
-//! The end that sends: one message, or none where it is dropped.
+//! The end that sends: one message, or none if it is dropped.
 
 ghost use Rattle.std.specs.Prelude.{◌≡◌, IfErr};
 ghost use Rattle.oneshot_machine.specs.declared.machine.Reply.TheVariants.{Refused};
@@ -18,16 +18,15 @@ use std::marker::Model;
 
 /// Sends one message to its receiver.
 ///
-/// Dropping it without a `send` wakes a receiver that waits, whose receive then says that no message
-/// will come. The drop never blocks.
+/// Dropping it without a `send` wakes a waiting receiver, and no message comes. The drop never blocks.
 ///
-/// A contract sees the channel that the sender belongs to, and the log of its operations on the word,
-/// which is empty until its one call.
+/// A contract sees the sender's channel, the value that the channel is about, and the log of the sender's
+/// operations on the word, which is empty until its one call.
 ///
-/// `P` is the promise of a channel of `channel_for`. `Sender<T>` is that of a channel without one.
+/// `P` is the promise of a channel of `channel_for`. `Sender<T>` is the sender of a channel without one.
 ///
 /// It may go to another thread where `T` is `Send`. Several threads may share a `&` to it where `T` is
-/// also `Sync`, and ask `is_closed`.
+/// also `Sync`, and call `is_closed`.
 pub struct Sender<T, P: Promise<T> = ()> {
     pub(crate) side: Unsent<T, WakingHalf, Waker, P>,
 }
@@ -57,11 +56,11 @@ impl<T, P: Promise<T>> Sender<T, P> {
 }
 
 impl<T: Drop> Sender<T> {
-    /// Sends `message`, and wakes a receiver that waits. It never blocks and does not allocate.
+    /// Sends `message`, and wakes a waiting receiver. It never blocks and does not allocate.
     ///
     /// - `Ok`: the receiver was there. It may still be dropped before it receives the message.
-    /// - `Err`: the receiver was gone, or, as a future, was dropped while `send` was about to wake its task.
-    ///   The error has the message.
+    /// - `Err`: the receiver was gone, or was a future that was dropped while `send` was about to wake its
+    ///   task. The error owns the message.
     pub fn send(self, message: T) -> Result<(), SendError<T>>
         ensures message { IfErr result (λ error. error.message ≡ message) }
         ensures channel { IfErr result (λ error. error.channel ≡ self.channel) }
@@ -78,8 +77,8 @@ impl<T: Drop> Sender<T> {
 }
 
 impl<T: Drop, P: Promise<T>> Sender<T, P> {
-    /// Sends `message`, which keeps the channel's promise, as `send` does: whoever receives it knows that it
-    /// keeps the promise. The answers are those of `send`, and a refused message comes back in the error.
+    /// Sends `message` as `send` does. It requires that `message` keeps the channel's promise, which the
+    /// receive then guarantees. The results are those of `send`: the error owns a refused message.
     pub fn send_kept(self, message: T) -> Result<(), SendError<T, P>>
         requires kept { P.keeps self.about message }
         ensures message { IfErr result (λ error. error.message ≡ message) }

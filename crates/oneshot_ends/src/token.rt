@@ -15,10 +15,10 @@ use std::marker::Model;
 use std::sync::Wait;
 use std::time::{Clock, Instant};
 
-/// What a half of a parker knows of the token, for the proofs alone: no value of it is made.
+/// What a half of a parker knows of the token. Only proofs use it: no value of it is made.
 #[derive(Drop)]
 pub(crate) enum Half {
-    /// Both halves in one, which have done nothing.
+    /// The undivided parker, which has done nothing.
     Both,
     /// The parking half: whether it took the token.
     Parking(bool),
@@ -78,7 +78,7 @@ impl Model for ParkingHalf {
         × (parker_view p.pass ≡ Parking (took (parker_view p.pass))) };
 }
 
-/// The half that wakes the thread. It has not given the token.
+/// The half that wakes the thread. It has not given the token yet.
 #[derive(Drop)]
 pub(crate) struct WakingHalf {
     unparker: RuledUnparker<Half, TokenRule>,
@@ -87,14 +87,14 @@ pub(crate) struct WakingHalf {
     ghost not_given: { parker_view pass ≡ Waking false },
 }
 
-/// The proof that a waking half gave the token: it has what that half knows, and nothing else makes one.
+/// Evidence that a waking half gave the token. It has the half's pass, and only `WakingHalf::wake` makes one.
 #[derive(Drop)]
 pub(crate) struct Given {
     pass: Pass<Half>,
     ghost given: { parker_view pass ≡ Waking true },
 }
 
-/// A parker in its halves. No token is there.
+/// Makes a parker in its halves, without a token. `Err`: an allocation failed.
 pub(crate) fn parker(alloc: Global) -> Result<(ParkingHalf, WakingHalf), AllocError>
     ensures { IfOk result (λ halves. halves.0 ≡ false) }
 {
@@ -111,7 +111,7 @@ pub(crate) fn parker(alloc: Global) -> Result<(ParkingHalf, WakingHalf), AllocEr
 }
 
 impl ParkingHalf {
-    /// Blocks until the token is there, and takes it. With a token that was taken before it does not return.
+    /// Blocks until the token is there, and takes it. It never returns if the token was taken before.
     pub(crate) fn park<R: Wait>(&mut self, rt: &R)
         ensures first { self.old ≡ false }
         ensures takes { self.new ≡ true }
@@ -119,7 +119,7 @@ impl ParkingHalf {
         self.parker.park_as::<Takes, R>(rt, &mut self.pass);
     }
 
-    /// Blocks until the token is there, and takes it, or until `deadline`: whether it took the token.
+    /// Blocks until the token is there, and takes it, or until `deadline`. Returns whether it took the token.
     pub(crate) fn park_until<R: Wait + Clock>(&mut self, rt: &R, deadline: Instant) -> bool
         ensures first { result ≡ true → self.old ≡ false }
         ensures takes { self.new ≡ (result || self.old) }

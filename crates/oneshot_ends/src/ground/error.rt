@@ -1,4 +1,4 @@
-//! The ground of an error: it acts on the refused message, and no longer on the shared word.
+//! The ground of an error, which acts on the refused message and no longer on the shared word.
 
 ghost use Rattle.std.specs.Prelude.{◌≡◌, false, true, ⊤};
 ghost use Rattle.oneshot_machine.specs.Slots.{held};
@@ -14,7 +14,7 @@ use oneshot_drive::SenderGround;
 use oneshot_word::{AnyWaker, Promise, SenderSide};
 use std::marker::Model;
 
-/// The ground of an error, which has the refused message in its own hands.
+/// The ground of an error, which owns the refused message.
 pub(crate) struct RefusedSender<T, H, K, P: Promise<T>> {
     message: Option<T>,
     side: SenderSide<T, H, K, P>,
@@ -53,7 +53,7 @@ impl<T, H, K, P: Promise<T>> RefusedSender<T, H, K, P> {
         }
     }
 
-    /// That its `send` came too late, for a body that reads nothing of the ground.
+    /// States that its `send` came too late, for a body that does not read the ground.
     fn known(&self)
         ensures { IsLate (sender_at self.now.log) }
     {
@@ -102,7 +102,7 @@ impl<T: Drop, P: Promise<T>> SenderGround<T, AnyWaker<WakingHalf, Waker>>
 
     // No receiver waits for a sender that found it gone.
     fn take_waker(&mut self) -> AnyWaker<WakingHalf, Waker> {
-        // Reads the side, so that its view, which has no waker, is known here.
+        // Mentions the side, so that the prover knows its view, which has no waker.
         let _side = &self.side;
         unreachable!()
     }

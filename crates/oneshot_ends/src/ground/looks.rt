@@ -1,4 +1,4 @@
-//! The looks of the ends, and the load that only they make.
+//! The looks of the ends, and the peek that only they perform.
 
 use super::{SharedReceiver, Unsent};
 use crate::future::AsyncReceiver;
@@ -7,7 +7,7 @@ use crate::sender::Sender;
 use oneshot_machine::states::{DISCONNECTED, MESSAGE};
 use oneshot_word::{Peek, Promise};
 
-// Both loads are private here, so that no call of an end but its looks can make one.
+// Both peeks are private to this file, so that only the looks of an end can perform one.
 impl<T, H, K, P: Promise<T>> Unsent<T, H, K, P> {
     fn peek(&self) -> u8 {
         self.side.peek()
@@ -21,32 +21,34 @@ impl<T, H, K, P: Promise<T>> SharedReceiver<T, H, K, P> {
 }
 
 impl<T, P: Promise<T>> Sender<T, P> {
-    /// Whether the receiver is gone. A `send` is refused then. It is one load and never blocks.
+    /// Whether the receiver is gone; if so, a `send` is refused. It performs one load and never blocks.
     pub fn is_closed(&self) -> bool {
         self.side.peek() == DISCONNECTED
     }
 }
 
 impl<T, Rt, P: Promise<T>> Receiver<T, Rt, P> {
-    /// Whether the sender is gone without a message, or the message was received. Every later receive
-    /// says `Disconnected` then. It is one load and never blocks.
+    /// Whether the sender is gone without a message, or the message was received; if so, every later
+    /// receive returns an error. It performs one load and never blocks.
     pub fn is_closed(&self) -> bool {
         self.ground.peek() == DISCONNECTED
     }
 
-    /// Whether the message is there. The next receive gives it then. It is one load and never blocks.
+    /// Whether the message is there; if so, the next receive returns it. It performs one load and never
+    /// blocks.
     pub fn has_message(&self) -> bool {
         self.ground.peek() == MESSAGE
     }
 }
 
 impl<T, Rt, P: Promise<T>> AsyncReceiver<T, Rt, P> {
-    /// Whether the sender is gone without a message, or the message was received. One load, which never blocks.
+    /// Whether the sender is gone without a message, or the message was received. It performs one load and
+    /// never blocks.
     pub fn is_closed(&self) -> bool {
         self.ground.peek() == DISCONNECTED
     }
 
-    /// Whether the message is there; if so, the next poll gives it. One load, which never blocks.
+    /// Whether the message is there; if so, the next poll returns it. It performs one load and never blocks.
     pub fn has_message(&self) -> bool {
         self.ground.peek() == MESSAGE
     }

@@ -1,4 +1,4 @@
-//! The ground of a receiver, which each of its calls lends.
+//! The ground of a receiver, which each of its calls lends to a driver.
 
 ghost use Rattle.std.specs.Prelude.{◌≡◌, false, true};
 ghost use Rattle.oneshot_ends.specs.Ends.{ReceiverIsOrdered};
@@ -56,7 +56,7 @@ impl<T: Drop, H: Drop, K: Drop, P: Promise<T>> ReceiverGround<T, AnyWaker<H, K>>
 
     ghost state = { state_of };
 
-    // What the channel is about stays so.
+    // The channel stays about the same value.
     ghost keeps = { λ a b. b.about ≡ a.about };
 
     ghost keeps_same = { λ _. refl };

@@ -1,4 +1,4 @@
-//! The ground of a sender, before its one call and in it.
+//! A sender's side before its one call, and its ground in that call.
 
 ghost use Rattle.std.specs.Prelude.{◌≡◌, false, true};
 ghost use Rattle.oneshot_machine.specs.Slots.{held};
@@ -13,7 +13,7 @@ use oneshot_word::laws::a_sender_is_in_an_order;
 use oneshot_word::{AnyWaker, Promise, SenderSide};
 use std::marker::Model;
 
-/// The side of a sender that has made no operation. Only its look can load the word.
+/// The side of a sender that has performed no operation. Only its look can load the word.
 pub(crate) struct Unsent<T, H, K, P: Promise<T>> {
     pub(super) side: SenderSide<T, H, K, P>,
 }
@@ -49,7 +49,7 @@ impl<T, H, K, P: Promise<T>> Unsent<T, H, K, P> {
     }
 }
 
-// Written out, as below: a derived `Drop` would need one of `P`, of which a channel has no value.
+// Written out, as below: a derived `Drop` would require `P: Drop`, and a channel holds no value of `P`.
 impl<T: Drop, H: Drop, K: Drop, P: Promise<T>> Drop for Unsent<T, H, K, P> {
     fn drop(self) {
         let Unsent { side: _ } = self;
@@ -59,9 +59,9 @@ impl<T: Drop, H: Drop, K: Drop, P: Promise<T>> Drop for Unsent<T, H, K, P> {
 /// The sender's ground.
 pub(crate) struct SharedSender<T, H, K, P: Promise<T>> {
     side: SenderSide<T, H, K, P>,
-    // The block goes with the last of both shares, so that nothing is left to do; only proofs read this.
+    // Whether `free` was called, for proofs alone: the block is freed with the last of both shares.
     freed: Freed,
-    // Once it woke a thread, that it gave the token. Only proofs read it.
+    // Once it woke a thread, evidence that it gave the token. Only proofs read it.
     given: Option<Given>,
 }
 
@@ -90,7 +90,7 @@ impl<T, H, K, P: Promise<T>> SharedSender<T, H, K, P> {
 }
 
 impl<T: Drop, H: Drop, K: Drop, P: Promise<T>> SharedSender<T, H, K, P> {
-    /// Takes the message out of its slot, with the side that it lay in.
+    /// Takes the message out of its slot, and returns it with the side.
     pub(crate) fn into_refused(self) -> (T, SenderSide<T, H, K, P>)
         requires { (x : T) × (self.side.message ≡ held x) }
         ensures message { self.side.message ≡ held result.0 }

@@ -1,4 +1,4 @@
-//! What a receiver does to the world in a poll: its ground, with the task of the poll beside it.
+//! The ground of a poll: the future's ground, with the poll's task and the copies of wakers.
 
 ghost use Rattle.std.specs.Prelude.{◌≡◌, true, false, [], ◌∷◌, IfSome, IfNone};
 ghost use Rattle.futures.specs.Task.{IsArmed, Hears, Keeps};
@@ -13,13 +13,13 @@ use futures::task::{Context, Poll, Source, Waker};
 use oneshot_drive::{ReceiverGround, TaskGround};
 use oneshot_word::Promise;
 
-/// Stands for a copy of a waker that the ground keeps. Dropping it ends no copy.
+/// Stands for a copy of a waker that the ground keeps. Dropping it drops no copy.
 #[derive(Drop)]
 pub(crate) struct Copied;
 
-// The drivers have a token for each copy, and a copy whose token they drop stays among the copies.
-/// The ground of a receiver, lent for one poll, with the poll's task. All that is the receiver's has one lifetime,
-/// or the borrow checker would not cover the future's `poll`.
+// A driver has a `Copied` for each copy. A copy whose `Copied` it drops stays among the copies.
+/// The ground of a future, lent for one poll, with the poll's task. All borrows of the future share one
+/// lifetime, or the borrow checker would not cover its `poll`.
 #[derive(Drop)]
 pub(crate) struct Polling<'g, 'c, 'x, G> {
     pub(crate) ground: &'g mut G,
@@ -33,11 +33,11 @@ impl<'g, 'c, 'x, T: Drop, P: Promise<T>> ReceiverGround<T, Copied>
     ghost use Rattle.oneshot_ends.specs.Polling.{polled_state};
     ghost use Rattle.std.proofs.Common.{◌∙◌, refl, subst};
 
-    // The channel names what was lent too, so that a caller knows it again.
+    // The state's channel also names what was lent, so that a caller recognizes it.
     ghost state = { λ b.
         polled_state (b.ground.ghost_name ∷ b.cx.ghost_name ∷ b.copies.ghost_name ∷ []) b.ground.now };
 
-    // What the channel is about stays so, and so does what the task has registered.
+    // The channel stays about the same value, and what the task has registered stays registered.
     ghost keeps = { λ a b. Keeps a.cx.now b.cx.now × (a.source.now.id ≡ b.source.now.id)
         × (b.ground.now.about ≡ a.ground.now.about) };
 
@@ -97,8 +97,8 @@ impl<'g, 'c, 'x, T: Drop, P: Promise<T>> TaskGround<T, Copied>
 
     ghost heard_on = { λ a b h k. (k.0 _ h.0, subst (λ id. Hears b.cx.now id) k.1 (k.0 _ h.1)) };
 
-    /// As the ground of any poll. A copy that is told as made is in hand, and is of the poll's task. A refused one
-    /// leaves the copies as they were, unless one in hand has the task's number.
+    /// As in any `TaskGround`. `Some`: the copy in hand has the task's number, and wakes the task if the
+    /// context could make a waker. `None`: the copies are unchanged, unless one in hand has that number.
     fn copy(&mut self) -> Option<Copied>
         ensures log { Grows
             (polled_state (self.old.ground.ghost_name ∷ self.old.cx.ghost_name ∷ self.old.copies.ghost_name ∷ [])
@@ -128,8 +128,8 @@ impl<'g, 'c, 'x, T: Drop, P: Promise<T>> TaskGround<T, Copied>
     }
 }
 
-/// Registers the task of the poll. `false` where no copy of its waker can be made; then the task is woken, and
-/// the copies of other tasks stay as they were.
+/// Registers the task of the poll. `false`: no copy of its waker could be made; the task is woken, and the
+/// copies of other tasks are unchanged.
 fn register(copies: &mut Copies<Waker>, cx: &mut Context<'_>, source: &Source) -> bool
     ensures made { result ≡ true → HasMade cx.old cx.new copies.new }
     ensures refused { result ≡ false → HasNoneOf cx.old.turn.task copies.old → copies.new ≡ copies.old }
@@ -143,7 +143,7 @@ fn register(copies: &mut Copies<Waker>, cx: &mut Context<'_>, source: &Source) -
     copies.keep_made(task, place)
 }
 
-/// The copy that was made.
+/// Returns the copy that was made.
 fn given(copies: &mut Copies<Waker>, cx: &mut Context<'_>) -> ChannelWaker
     ensures { Keeps cx.old cx.new }
 {

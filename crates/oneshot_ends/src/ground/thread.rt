@@ -1,4 +1,4 @@
-//! What a receiver does to the world in a call that blocks: its ground, with its parker beside it.
+//! The ground of a call that blocks: the receiver's ground, with its parker, clock and deadline.
 
 ghost use Rattle.std.specs.Prelude.{◌≡◌, ◌↔◌, true, false, IsTrue};
 ghost use Rattle.oneshot_ends.specs.Spins.{MaySpin};
@@ -13,18 +13,18 @@ use oneshot_word::Promise;
 use std::sync::Wait;
 use std::time::Clock;
 
-// It names the ground as one type `G`, since a derived `Drop` needs one of each parameter: no channel has a
-// value of its `P`.
-/// The ground of a receiver, lent for one call, with what it parks by.
+// The ground's type is one parameter `G`: a derived `Drop` requires `Drop` of each parameter, and a channel
+// holds no value of its `P`.
+/// The ground of a receiver, lent for one call that blocks, with what it parks by.
 #[derive(Drop)]
 pub(crate) struct Blocking<'g, 'p, 'r, G, Rt> {
     ground: &'g mut G,
     parker: &'p mut ParkingHalf,
     rt: &'r Rt,
     deadline: Deadline,
-    /// The first reading of the clock, where the call made it before it lent its ground.
+    /// The first reading of the clock, if the call took it before it lent its ground.
     made: Option<Reading>,
-    /// The last reading of the clock, if there was one.
+    /// The last reading of the clock; `None` if it failed, or before the first.
     reading: Reading,
     /// How often it spun, since it began to wait or since its deadline was over.
     spins: u32,
@@ -33,7 +33,8 @@ pub(crate) struct Blocking<'g, 'p, 'r, G, Rt> {
 }
 
 impl<'g, 'p, 'r, G, Rt> Blocking<'g, 'p, 'r, G, Rt> {
-    /// Lends the ground, with this deadline, and the reading of the clock that the call has made, if it has.
+    /// Lends `ground` for a call with this deadline. `made`: the reading of the clock that the call has
+    /// taken, if any.
     pub(crate) fn lend(
         ground: &'g mut G,
         parker: &'p mut ParkingHalf,
@@ -58,7 +59,7 @@ impl<'g, 'p, 'r, G, Rt> Blocking<'g, 'p, 'r, G, Rt> {
         }
     }
 
-    /// Whether a park may spin in place of sleeping.
+    /// Whether a park may spin instead of sleeping.
     fn may_spin(&self, timed: bool) -> bool
         ensures { IsTrue result ↔ MaySpin timed self.now.spins self.now.deadline self.now.reading }
     {
@@ -73,10 +74,10 @@ impl<'g, 'p, 'r, T: Drop, Rt, P: Promise<T>> ReceiverGround<T, ChannelWaker>
     ghost use Rattle.oneshot_ends.specs.Grounds.{lent};
     ghost use Rattle.oneshot_ends.specs.Spins.{HasToken};
 
-    // The channel names the ground that was lent too, so that a caller knows it again.
+    // The state's channel also names what was lent, so that a caller recognizes it.
     ghost state = { λ b. lent (b.ground.ghost_name ∷ b.parker.ghost_name ∷ []) b.ground.now };
 
-    // What the channel is about stays so, and that a receive which slept without a deadline has its token.
+    // The channel stays about the same value, and a receive that slept without a deadline has its token.
     ghost keeps = { λ a b. (b.ground.now.about ≡ a.ground.now.about) × (
         HasToken (record { spins = a.spins; slept = a.slept; taken = a.parker.now })
         → HasToken (record { spins = b.spins; slept = b.slept; taken = b.parker.now })) };
@@ -137,7 +138,7 @@ impl<'g, 'p, 'r, T: Drop, Rt: Wait + Clock, P: Promise<T>> BlockGround<T, Channe
     fn park(&mut self, timed: bool) {
         if self.may_spin(timed) {
             self.spins += 1;
-            // A park that ends before the token is there: the receiver looks whether the sender has acted.
+            // This park ends without the token: the receiver then checks whether the sender has acted.
             spin(self.spins);
             return;
         }
@@ -161,7 +162,7 @@ impl<'g, 'p, 'r, T: Drop, Rt: Wait + Clock, P: Promise<T>> BlockGround<T, Channe
         };
         let over = self.deadline.is_over(self.reading);
         if over {
-            // The wait past the deadline, for a sender about to finish, spins anew.
+            // The wait past the deadline, for a sender about to finish, spins again.
             self.spins = 0;
         }
         over

@@ -1,4 +1,4 @@
--- It owns nothing, so it may go to another thread.
+-- A `Freed` owns nothing, so it may go to another thread.
 use denote.Param.Send.{IsSend, owning_send}
 use Rattle.oneshot_ends.specs.contracts.freed.Freed.{the_row, the_type}
 
