@@ -2,8 +2,8 @@
 
 ghost use Rattle.oneshot_drive.specs.Examples.{EndsThatAre, EndsThatAreNot, CallsThatLeave, CallsThatDoNot, RepliesThatAre, HandsThatAre, HandsThatAreNot, GroundsThatAre, GroundsThatAreNot, WakersThatAre, WakersThatAreNot};
 
-/// States by examples which phases are open, closed or between calls, what a call may leave and reply, which hands
-/// and grounds it may have, and which wakers it may pass on.
+/// States by examples which phases are open, closed or between calls, what a call may leave and reply, which
+/// hands and grounds it may have, and which wakers it may pass on.
 pub fn examples_are_so()
     ensures ends { EndsThatAre }
     ensures no_ends { EndsThatAreNot }
