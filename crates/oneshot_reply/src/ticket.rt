@@ -77,7 +77,7 @@ impl<Q: Eq, A: Answer<Q> + Drop, Rt: Drop> Ticket<Q, A, Rt> {
         self.replies.try_recv()
     }
 
-    /// Turns the ticket into a future, which a task can poll. Its replies have the guarantees of the ticket's.
+    /// Turns the ticket into a future that a task can poll. Its replies have the guarantees of the ticket's.
     /// It never blocks and does not allocate.
     pub fn into_future(self) -> AsyncReceiver<A, Rt, Asked<Q>>
         ensures about { result.about ≡ self.about }
