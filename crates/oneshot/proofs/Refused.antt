@@ -1,4 +1,4 @@
--- What a replay tells of a send to a receiver that was dropped: the run is computed.
+-- The rest of a replayed `send` to a dropped receiver, by computing the run.
 use Rattle.std.proofs.Common.{◌≡◌, List, [], ◌∷◌, Some, false, refl, sym, ◌∙◌}
 use Rattle.oneshot_world.specs.World.{World, opening}
 use Rattle.oneshot_world.specs.declared.script.ErrorScript.{ErrorScript}
