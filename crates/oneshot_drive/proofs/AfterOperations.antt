@@ -152,7 +152,7 @@ module _ {T W : Type 0} where
             (λ slots. StandsWith receiver_of found.next slots s) found.is_so.1 found.stands;
       }
 
-  -- writing a slot, or taking its content, leaves the phase
+  -- writing a slot, or taking its content, leaves the phase unchanged
   module _ {at : ReceiverAt} {b a : GroundState T W} where
     pub took_message : {w : Share} {x : T} → StandsWith receiver_of at (filled, w) b → Grows b.log a.log (took x ∷ [])
         → a.message ≡ vacant → a.waker ≡ b.waker → StandsWith receiver_of at (empty, w) a

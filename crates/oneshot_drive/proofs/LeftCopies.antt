@@ -36,7 +36,7 @@ module _ {T W : Type 0} where
       → receiver_row p (S.Refused false) ≡ Some (Goes r) → Grows l k (copied c ∷ []) → Went p (Goes r) l k
   copies {r} {l} {k} c y made at leads s = by_copy (Goes r) y (subst (λ c. Grows l k (copied c ∷ [])) made s) at leads
 
-  -- a copy, or its refusal, leaves a future where it is
+  -- a copy, or its refusal, leaves a future's state unchanged
   pub copied_on : {at : ReceiverAt} {b a : GroundState T W} (c : Option W) → Stands at b
       → Grows b.log a.log (copied c ∷ []) → a.message ≡ b.message → a.waker ≡ b.waker → Stands at a
   copied_on c is s message waker = stands_on (copied c ∷ []) refl is s message waker

@@ -150,7 +150,7 @@ module _ {T W : Type 0} where
       → Went (Future PollLoad) (Answers R.Pending) l z
   met_own n e s t = met_went n 1 refl e s (by_own _ t refl refl)
 
-  -- `poll`: it closes over the message, and takes it
+  -- `poll`: it closes the channel, and takes the message
   pub taken_rests : {s : GroundState T W} (g : Got)
       → StandsWith receiver_of (receiver_next (full g) (Store 2) S.Done) (empty, empty) s → IsPolled s
   taken_rests at_once is =

@@ -8,7 +8,7 @@ use Rattle.oneshot_machine.specs.declared.machine.Step.TheVariants as Steps
 use Rattle.oneshot_drive.proofs.AfterOperations.{lone, asks, lands, one_of, stands_on, still}
 use Rattle.oneshot_drive.proofs.Stretches.{by_clock, ran, before}
 
--- a receiver that has the message, in whatever way, may close the channel, and then still has the message
+-- a receiver that found the message, in any way, may close the channel, and still has the message then
 stores_full : (g : Got) → has_row (Store 2) (receiver_slots (full g)) (receiver_moves (full g)) ≡ true
 stores_full at_once = refl
 stores_full waited = refl
@@ -85,7 +85,7 @@ module _ {T W : Type 0} where
   pub out_rests : {s : GroundState T W} → Stands (here between) s → AtRest s
   out_rests is = record { at = here between; is_one = rests_open between; stands = is }
 
-  -- `recv_timeout`: its reading of the clock leaves its state
+  -- `recv_timeout`: its reading of the clock leaves its state unchanged
   pub clock_rests : {b a : GroundState T W} → AtRest b → (past : Bool) → Grows b.log a.log (clocked past ∷ [])
       → a.message ≡ b.message → a.waker ≡ b.waker → AtRest a
   clock_rests rests past s message waker =

@@ -6,7 +6,7 @@ use Rattle.oneshot_machine.specs.declared.machine.Step.TheVariants.{DropMessage}
 use Rattle.oneshot_machine.specs.declared.machine.sender.SenderCall.TheVariants.{Drop}
 use Rattle.oneshot_machine.specs.declared.machine.sender.SenderPos.TheVariants.{DropFree}
 
--- after its last operation a sender wakes the receiver, then replies whether that was here
+-- after its last operation a sender wakes the receiver, then replies whether it was here
 abbrev send_wake : Bool → SenderPos
 send_wake true = SendWake
 send_wake false = SendLateWake

@@ -63,7 +63,7 @@ module _ {T W : Type 0} where
     pub stored_waits : n ≡ 3 → Stands (waits blocked) s
     stored_waits e = (lone (at_word 3 e found)).stands
 
-    -- the waker is still in its slot, unless it waits
+    -- the waker is still in its slot, unless the receiver waits
     pub stored_there : ¬ (n ≡ 3) → IsSlot filled s.waker
     stored_there no_empty =
         let there = one_of (λ n next after. after.1 ≡ filled) (refl, (refl, tt)) (not_at 3 no_empty found) in

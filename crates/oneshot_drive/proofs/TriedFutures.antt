@@ -38,7 +38,7 @@ unsent (met_closed c) a b = absurd (b refl)
 unsent met_copy a b = tried_its_copy
 unsent met_sender a b = tried_claimed
 
--- its load leaves it registered exactly if it was before
+-- after its load it is registered if and only if it was before
 abbrev Unmoved : ReceiverAt → ℕ → ReceiverAt → Type 0
 Unmoved at n next = ¬ (n ≡ 4) → ¬ (n ≡ 2) → is_registered next ≡ is_registered at
 

@@ -76,7 +76,7 @@ module _ {T W : Type 0} where
   pub may_park_late : {s : GroundState T W} → Stands overdue s → Parks false (receiver_of s.log)
   may_park_late is = subst (Parks false) (sym is.phase) parks_overdue
 
-  -- a park leaves its state, and then it loads
+  -- a park leaves its state unchanged, and then it loads
   module _ {at : ReceiverAt} {b k : GroundState T W} (woken : Bool) (is : Stands at b)
       (park : Grows b.log k.log (parked woken ∷ [])) (message : k.message ≡ b.message) (waker : k.waker ≡ b.waker) where
     has_parked : Stands at k

@@ -104,7 +104,7 @@ abbrev pub HandAt : {W : Type 0} → Found → Option W → Option W → Type 0
 HandAt F.Nothing before after = Refills before after
 HandAt _ before after = Returns before after
 
--- the hand before and after a wait, while which the waker was in its slot
+-- the hand before and after a wait, during which the waker was in its slot
 abbrev pub WaitedHand : {W : Type 0} → Found → Option W → Option W → Type 0
 WaitedHand {W} F.Nothing before after = (back : W) × (after ≡ Some back)
 WaitedHand _ before after = after ≡ before

@@ -66,7 +66,7 @@ is_registered (waits w) = true
 is_registered claimed = true
 is_registered _ = false
 
--- After `Empty` it is registered exactly if it was before.
+-- After `Empty` it is registered if and only if it was before.
 abbrev pub StaysRegistered : {T : Type 0} → Result T TryRecvError → ReceiverAt → ReceiverAt → Type 0
 StaysRegistered result before after = result ≡ Err E.Empty → is_registered after ≡ is_registered before
 

@@ -75,7 +75,7 @@ pub trait SenderGround<T, W> {
         ensures waker { (state self.new).waker ≡ (state self.old).waker }
         ensures woken { woken self.new waker };
 
-    /// Frees the block, whose slots are the end's and empty. Then neither is the end's any more.
+    /// Frees the block. Before, both slots are the end's and empty; after, neither is the end's.
     fn free(&mut self)
         requires message { (state self.old).message ≡ vacant }
         requires waker { (state self.old).waker ≡ vacant }
@@ -166,7 +166,7 @@ pub trait ReceiverGround<T, W> {
         ensures waker { (state self.new).waker ≡ vacant }
         ensures keeps { keeps self.old self.new };
 
-    /// Frees the block, whose slots are the end's and empty. Then neither is the end's any more.
+    /// Frees the block. Before, both slots are the end's and empty; after, neither is the end's.
     fn free(&mut self)
         requires message { (state self.old).message ≡ vacant }
         requires waker { (state self.old).waker ≡ vacant }

@@ -31,9 +31,8 @@ use oneshot_machine::states::{DISCONNECTED, EMPTY, MESSAGE, RECEIVING, UNPARKING
 ///
 /// - `Ready(Ok)`: the message. The receiver is closed.
 /// - `Ready(Err)`: the sender was dropped without sending, or the message was received before.
-/// - `Pending`: nothing was sent yet, or the sender is about to finish. The channel has a new copy of the
-///   task's waker, in place of an earlier poll's; or the poll woke its own task, because the copy was
-///   refused or the sender is about to finish.
+/// - `Pending`: no message yet. The channel has a new copy of the task's waker, in place of an earlier
+///   poll's; or the poll woke its own task, because the copy was refused or the sender is about to finish.
 pub fn poll<T, W: Drop, G: TaskGround<T, W>>(g: &mut G) -> Poll<Result<T, RecvError>>
     requires { IsPolled (G.state g.old) }
     ensures run { ReceiverRan C.Poll (G.state g.old).log (G.state g.new).log
@@ -177,8 +176,9 @@ pub fn async_try_recv<T, W, G: ReceiverGround<T, W>>(g: &mut G) -> Result<T, Try
 }
 
 /// Drops the future, its copy of a waker in the channel, and the message if it is there. `g` is between two
-/// calls. It never blocks. A sender that is about to finish takes the copy instead, and the sender's side
-/// frees the block.
+/// calls. It never blocks. A sender that is about to finish takes that copy instead.
+///
+/// It frees the block if the sender was gone or had sent. Otherwise the sender's side frees it.
 pub fn drop_async<T, W: Drop, G: ReceiverGround<T, W>>(g: &mut G)
     requires { IsPolled (G.state g.old) }
     ensures run { ReceiverRan C.DropAsync (G.state g.old).log (G.state g.new).log R.Done [] [] }

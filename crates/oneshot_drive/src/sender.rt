@@ -59,7 +59,7 @@ pub fn drop_sender<T, W, G: SenderGround<T, W>>(g: &mut G)
     }
 }
 
-// Leaves the word `last` to a waiting receiver, and uses its waker. `false`: it was dropped meanwhile.
+// Leaves the word `last` to a waiting receiver, and uses its waker. `false`: the receiver was dropped.
 fn finish<T, W, G: SenderGround<T, W>>(g: &mut G, last: u8) -> bool
     requires { Owes last (G.state g.old) }
     ensures finishes { Finishes last result (G.woken g.new) (G.state g.old).log (G.state g.new).log }

@@ -6,7 +6,7 @@ use Rattle.std.specs.Prelude.{◌≡◌, ◌↔◌, ℕ, Bool, List, IsTrue}
 -- `Hash` requires of every type that equal values make the same writes (its law `respects_eq`). This record
 -- adds the converse, and that only a value itself is equal to it.
 pub record AgreesWithHashing {E : Type 0} (eq : E → E → Bool) (writes : E → List (List ℕ)) : Type 0 where
-  -- values are equal exactly if they are the same
+  -- values are equal if and only if they are the same
   pub same : (x y : E) → (IsTrue (eq x y) ↔ (x ≡ y))
-  -- values are equal exactly if they make the same writes
+  -- values are equal if and only if they make the same writes
   pub alike : (x y : E) → (IsTrue (eq x y) ↔ (writes x ≡ writes y))

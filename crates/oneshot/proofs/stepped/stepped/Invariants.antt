@@ -1,4 +1,4 @@
--- What holds on each round of the loop in `stepped`.
+-- The invariant of the loop in `stepped`.
 use Rattle.std.proofs.Common.{take}
 use Rattle.oneshot_replay.specs.Run.{HasRun}
 use Rattle.oneshot.proofs.stepped.stepped.Given as goal
