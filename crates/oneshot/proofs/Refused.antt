@@ -1,4 +1,4 @@
--- The rest of a replayed `send` to a dropped receiver, by computing the run.
+-- A replayed `send` to a dropped receiver leaves its message in the error: the run is computed.
 use Rattle.std.proofs.Common.{◌≡◌, List, [], ◌∷◌, Some, false, refl, sym, ◌∙◌}
 use Rattle.oneshot_world.specs.World.{World, opening}
 use Rattle.oneshot_world.specs.declared.script.ErrorScript.{ErrorScript}

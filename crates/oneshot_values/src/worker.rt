@@ -9,7 +9,7 @@ use oneshot_ends::{Receiver, channel};
 use oneshot_errors::TryRecvError;
 use std::test::Fail;
 
-/// Tries to receive, whatever was done with the receiver before. `Ok`: no other receive returned the message.
+/// Tries to receive, whatever was done with the receiver before. `Ok`: no earlier receive got the message.
 fn tried<T: Send + Drop, Rt: Drop>(receiver: &mut Receiver<T, Rt>) -> Result<T, TryRecvError>
     ensures { IfOk result (λ _. OnlyTheLastGot T receiver.new.log) }
 {
