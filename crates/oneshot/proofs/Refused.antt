@@ -1,4 +1,4 @@
--- What a replay tells of a send to a receiver that was dropped: the run is computed.
+-- A replayed `send` to a dropped receiver leaves its message in the error: the run is computed.
 use Rattle.std.proofs.Common.{◌≡◌, List, [], ◌∷◌, Some, false, refl, sym, ◌∙◌}
 use Rattle.oneshot_world.specs.World.{World, opening}
 use Rattle.oneshot_world.specs.declared.script.ErrorScript.{ErrorScript}

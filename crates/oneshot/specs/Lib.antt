@@ -1,4 +1,4 @@
--- what the contracts of the ends name
+-- the definitions that the contracts of the ends name
 pub use Rattle.oneshot_ends.specs.Deadlines
 pub use Rattle.oneshot_ends.specs.Ends
 pub use Rattle.oneshot_ends.specs.Grounds as EndGrounds
@@ -6,7 +6,7 @@ pub use Rattle.oneshot_ends.specs.Polling
 pub use Rattle.oneshot_errors.specs.declared.recv.RecvError
 pub use Rattle.oneshot_errors.specs.declared.recv_timeout.RecvTimeoutError
 pub use Rattle.oneshot_errors.specs.declared.try_recv.TryRecvError
--- what those of the drivers name
+-- those that the contracts of the drivers name
 pub use Rattle.oneshot_drive.specs.BetweenCalls
 pub use Rattle.oneshot_drive.specs.Blocking
 pub use Rattle.oneshot_drive.specs.Grounds
@@ -19,7 +19,7 @@ pub use Rattle.oneshot_machine.specs.Phases
 pub use Rattle.oneshot_machine.specs.Runs
 pub use Rattle.oneshot_machine.specs.Slots
 pub use Rattle.oneshot_machine.specs.Noted
--- what those of the machines name
+-- those that the contracts of the machines name
 pub use Rattle.oneshot_machine.specs.Look
 pub use Rattle.oneshot_machine.specs.TryRecv
 pub use Rattle.oneshot_machine.specs.ByRef
@@ -35,7 +35,7 @@ pub use Rattle.oneshot_machine.specs.States
 pub use Rattle.oneshot_machine.specs.declared.machine.Reply
 pub use Rattle.oneshot_machine.specs.declared.machine.receiver.ReceiverStart
 pub use Rattle.oneshot_machine.specs.declared.machine.sender.SenderCall
--- what those of `replay` name
+-- those that the contracts of `replay` name
 pub use Rattle.oneshot_replay.specs.Rest
 pub use Rattle.oneshot_replay.specs.Right
 pub use Rattle.oneshot_replay.specs.Run
@@ -61,5 +61,5 @@ pub use Rattle.oneshot_laws.specs.Object
 pub use Rattle.oneshot_laws.specs.Replies
 pub use Rattle.oneshot_laws.specs.Unwoken
 pub use Rattle.oneshot_laws.specs.WakerPlaces
--- what those of `reply` name
+-- those that the contracts of `reply` name
 pub use Rattle.oneshot_reply.specs.declared.asked.Asked

@@ -1,4 +1,4 @@
-//! The channel beside its model: the machines of both ends, their drivers, and runs that a program makes and prints.
+//! The channel with its model: both ends' machines and drivers, and runs that a program steps and prints.
 #![tactic(auto)]
 
 #[cfg(test)]

@@ -1,4 +1,4 @@
-//! A run that a program steps and prints, a line an entry, proved and run; docs/MODEL.md shows it.
+//! A caller that steps a run and prints each entry, proved and tested; docs/MODEL.md shows it.
 
 use crate::replay::{
     CallList, ErrorLast, ErrorScript, Move, ReceiverLast, ReceiverScript, Replayer, SenderLast,
@@ -8,7 +8,7 @@ use crate::text::EntryLine;
 use std::alloc::{AllocError, Global};
 use std::test::Fail;
 
-/// Makes each move, and shows its entry as `oneshot-run` prints it.
+/// Makes each move, and returns its entry's line as `oneshot-run` prints it.
 fn lines_of(
     alloc: Global,
     run: &mut Replayer<u64>,

@@ -1,4 +1,4 @@
-//! A caller of `replay` that is proved and run; docs/MODEL.md shows its contract.
+//! A caller of `replay`, proved and tested; docs/MODEL.md shows its contract.
 
 ghost use Rattle.std.specs.Prelude.{◌≡◌, IfSome};
 ghost use Rattle.oneshot_replay.specs.declared.rest.Rest.TheVariants as Rest;
@@ -9,7 +9,7 @@ use crate::replay::{
 };
 use std::alloc::Global;
 
-/// The receiver is dropped, and only then the message is sent: it comes back with the error.
+/// Replays a `send` after the receiver's drop: the message comes back in the error.
 fn refused(alloc: Global, message: u64) -> Option<Rest<u64>>
     ensures { IfSome result (λ rest. rest ≡ Rest.InError message) }
 {

@@ -1,4 +1,4 @@
-//! A caller that makes the moves of a `Replayer` by hand, proved and run.
+//! A caller that makes the moves of a `Replayer` one by one, proved and tested.
 
 ghost use Rattle.std.specs.Prelude.{IfOk, IsTrue};
 ghost use Rattle.oneshot_world.specs.Scripts.{calls_of};
@@ -14,7 +14,7 @@ use crate::replay::{
 use std::alloc::{AllocError, Global};
 use std::test::Fail;
 
-/// Makes these moves one by one, and keeps the entries.
+/// Makes these moves one by one, and returns their entries.
 fn stepped(
     alloc: Global,
     s: SenderScript<u64>,

@@ -1,4 +1,4 @@
--- what the contracts of the channel and of `reply` name
+-- the definitions that the contracts of the channel and of `reply` name
 pub use Rattle.oneshot_ends.specs.Deadlines
 pub use Rattle.oneshot_ends.specs.Ends
 pub use Rattle.oneshot_errors.specs.declared.recv.RecvError

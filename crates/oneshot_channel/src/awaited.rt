@@ -1,4 +1,4 @@
-//! A message that a future waits for, under an executor.
+//! A caller that awaits a message under an executor, and its tests.
 
 use crate::{AsyncReceiver, RecvError, async_channel};
 use futures::executor::block_on;
@@ -8,7 +8,7 @@ use std::sync::Wait;
 use std::test::Fail;
 use std::thread::join;
 
-/// Blocks this thread until the message is there or will never come.
+/// Blocks this thread until the sender sends or is dropped.
 fn awaited<R: Wait + RandomSource + AllocGlobal, T: Drop, Rt: Drop>(
     rt: &R,
     receiver: AsyncReceiver<T, Rt>,

@@ -1,4 +1,4 @@
-//! A future without a runtime, since none of its calls waits.
+//! A future without a runtime, because none of its calls blocks.
 
 use crate::{AsyncReceiver, RecvError, TryRecvError, async_channel};
 use futures::executor::block_on;
@@ -9,7 +9,7 @@ use std::io;
 use std::test::Fail;
 use std::thread::{Threads, join, spawn};
 
-/// Starts a thread that sends `number`. Only whoever awaits it needs a runtime that waits.
+/// Starts a thread that sends `number`. Only the caller that awaits it needs a runtime that waits.
 fn start<R: Threads>(rt: &R, alloc: Global, number: u64) -> io::Result<AsyncReceiver<u64, ()>> {
     let (sender, receiver) = async_channel((), alloc)?;
     spawn(rt, move || sender.send(number).is_ok())?;

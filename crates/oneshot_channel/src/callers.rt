@@ -1,4 +1,4 @@
-//! Callers of the calls whose contracts state more than what is returned; docs/CALLING.md shows four.
+//! Callers that rely on contracts which state more than the result; docs/CALLING.md shows four.
 
 ghost use Rattle.std.specs.Prelude.{◌≡◌, ◌≢◌, None, Ok, Err, IsErr, IfSome};
 ghost use Rattle.oneshot_channel.specs.Ends.{IsClosed, IsOpen};
@@ -19,7 +19,7 @@ fn send_or_keep(sender: Sender<u64>, message: u64) -> Option<u64>
         .map(|refused| refused.into_inner())
 }
 
-/// Receives if the message is there. `Ok(None)`: ask again, since the channel is open.
+/// Receives if the message is there. `Ok(None)`: the channel is open, so try again.
 fn poll<T: Drop, Rt: Drop>(receiver: &mut Receiver<T, Rt>) -> Result<Option<T>, RecvError>
     ensures open { result ≡ Ok None → IsOpen receiver.new }
     ensures closed { result ≢ Ok None → IsClosed receiver.new }
@@ -31,7 +31,7 @@ fn poll<T: Drop, Rt: Drop>(receiver: &mut Receiver<T, Rt>) -> Result<Option<T>, 
     }
 }
 
-/// Receives, and asks once more: no second message ever comes.
+/// Receives, and tries once more: no second message ever comes.
 fn twice<T: Drop, Rt: Wait + Clock + Drop>(
     receiver: &mut Receiver<T, Rt>,
 ) -> (Result<T, RecvError>, Result<T, TryRecvError>)
@@ -41,7 +41,7 @@ fn twice<T: Drop, Rt: Wait + Clock + Drop>(
     (first, receiver.try_recv())
 }
 
-/// Receives by `deadline`; past it, calls `late` and blocks on.
+/// Receives by `deadline`. If that passes, calls `late` and then blocks without a deadline.
 fn keep_waiting<T: Drop, Rt: Wait + Clock + Drop, F: FnOnce()>(
     mut receiver: Receiver<T, Rt>,
     deadline: Instant,
@@ -59,7 +59,7 @@ fn keep_waiting<T: Drop, Rt: Wait + Clock + Drop, F: FnOnce()>(
     }
 }
 
-/// Ends a receiver whose message was received.
+/// Receives with a closed receiver: no message comes.
 fn received_before<T: Drop, Rt: Wait + Clock + Drop>(
     receiver: Receiver<T, Rt>,
 ) -> Result<T, RecvError>
@@ -69,7 +69,7 @@ fn received_before<T: Drop, Rt: Wait + Clock + Drop>(
     receiver.recv()
 }
 
-/// Ends an opaque receiver whose message was received, after it was kept elsewhere.
+/// Receives with a closed receiver that was kept as a raw value: no message comes.
 fn opaque_received_before<T: Drop, Rt: Wait + Clock + Drop>(
     raw: RawReceiver<T, Rt>,
 ) -> Result<T, RecvError>

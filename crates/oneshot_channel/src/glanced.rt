@@ -1,4 +1,4 @@
-//! A future that is tried before it is awaited; docs/CALLING.md shows how it is tried.
+//! A caller that tries a future before it awaits it; docs/CALLING.md shows how it tries.
 
 ghost use Rattle.std.specs.Prelude.{◌≡◌, ◌≢◌, None};
 ghost use Rattle.oneshot_channel.specs.Ends.{IsDone, IsUnfinished};
@@ -15,7 +15,7 @@ use std::sync::Wait;
 use std::test::Fail;
 use std::thread::join;
 
-/// What was received, or that no message comes. `None`: ask or wait on, and a task that waits still does.
+/// Returns the message, or an error if none can come. `None`: try or poll again; a waiting task still waits.
 fn glance<T: Drop, Rt: Drop>(receiver: &mut AsyncReceiver<T, Rt>) -> Option<Result<T, RecvError>>
     ensures open { result ≡ None → IsUnfinished receiver.new }
     ensures done { result ≢ None → IsDone receiver.new }

@@ -1,4 +1,4 @@
-//! A struct that keeps a receiver and whether it is done; docs/CALLING.md shows it.
+//! A struct of a receiver and whether it is done; docs/CALLING.md shows it.
 
 ghost use Rattle.std.specs.Prelude.{◌≡◌, true, IfOk, IsNone};
 ghost use Rattle.oneshot_channel.specs.Ends.{IsClosed, IsOpen};
@@ -7,7 +7,7 @@ use crate::{Receiver, Sender, TryRecvError, channel};
 use std::alloc::{AllocError, Global};
 use std::test::Fail;
 
-/// A receiver that is asked now and then, and whether its message came or can never come.
+/// A receiver that is tried now and then, and whether its message came or can never come.
 #[derive(Drop)]
 struct Inbox<T: Drop> {
     receiver: Receiver<T, ()>,
@@ -16,7 +16,7 @@ struct Inbox<T: Drop> {
 }
 
 impl<T: Send + Drop> Inbox<T> {
-    /// An inbox, with the sender of its message.
+    /// Makes an inbox and the sender of its message. `Err`: out of memory.
     fn new(alloc: Global) -> Result<(Sender<T>, Inbox<T>), AllocError>
         ensures { IfOk result (λ made. IsOpen made.1.receiver) }
     {
@@ -30,7 +30,7 @@ impl<T: Send + Drop> Inbox<T> {
 }
 
 impl<T: Drop> Inbox<T> {
-    /// The message, if it is there. None comes after the inbox is done.
+    /// Returns the message if it is there. After the inbox is done, none comes.
     fn look(&mut self) -> Option<T>
         ensures { self.old.done ≡ true → IsNone result }
     {

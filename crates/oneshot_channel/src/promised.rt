@@ -1,11 +1,11 @@
-//! A channel under a promise of one's own; docs/CALLING.md shows it.
+//! A channel with a user's own promise; docs/CALLING.md shows it.
 
 ghost use Rattle.std.specs.Prelude.{◌<◌, IfSome};
 
 use crate::{Promise, Receiver, TryRecvError, channel_for};
 use std::test::Fail;
 
-/// Promises an index below a length.
+/// Promises an index below this length.
 #[derive(Drop)]
 struct Below(usize);
 
@@ -13,7 +13,7 @@ impl Promise<usize> for Below {
     ghost keeps = { λ below index. index < below.0 };
 }
 
-/// The index, if it is there.
+/// Returns the index if it is there.
 fn index_of<Rt: Drop>(receiver: &mut Receiver<usize, Rt, Below>) -> Option<usize>
     ensures { IfSome result (λ index. index < receiver.old.about.0) }
 {

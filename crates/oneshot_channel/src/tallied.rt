@@ -1,4 +1,4 @@
-//! A caller that adds up its calls: its receiver's log is that of both.
+//! A caller that adds up its two calls: its receiver's log is that of both.
 
 ghost use Rattle.std.specs.Prelude.{◌≡◌, [], ◌∷◌};
 ghost use Rattle.oneshot_channel.specs.BetweenCalls.{try_recv_reply};
@@ -10,7 +10,7 @@ use crate::laws::calls_add_up;
 use crate::{Receiver, TryRecvError, channel};
 use std::test::Fail;
 
-/// Tries twice to receive. The receiver has made no call before.
+/// Tries twice to receive, with a receiver whose log is empty.
 fn tried_twice<T: Send + Drop>(
     receiver: &mut Receiver<T, ()>,
 ) -> (Result<T, TryRecvError>, Result<T, TryRecvError>)

@@ -1,4 +1,4 @@
-//! Two tickets that one task awaits, for replies that are right in two ways; docs/CALLING.md shows them.
+//! Two tickets that one task awaits, for replies with two invariants; docs/CALLING.md shows them.
 
 ghost use Rattle.std.specs.Prelude.{◌≡◌, ◌≤◌, IfOk, IfSome};
 
@@ -11,7 +11,7 @@ use std::random::RandomSource;
 use std::sync::Wait;
 use std::test::Fail;
 
-/// How many seats are given to whoever asked for some.
+/// How many seats were wanted, and how many are given.
 #[derive(Drop)]
 struct Seats {
     wanted: u32,
@@ -21,7 +21,7 @@ struct Seats {
 }
 
 impl Seats {
-    /// As many as are wanted, and ten at most.
+    /// Gives as many seats as are wanted, but at most ten.
     fn of(wanted: u32) -> Seats
         ensures { result.wanted ≡ wanted }
     {
@@ -50,13 +50,13 @@ impl Answer<u32> for Seats {
     }
 }
 
-/// Answers a request. `false`: nobody waits for the reply.
+/// Answers a request. `false`: its ticket was dropped.
 fn serve(request: Request<u32, Seats>) -> bool {
     let seats = Seats::of(*request.question());
     request.answer(seats).is_ok()
 }
 
-/// Awaits both replies, in whichever order they come. `None`: at least one will not come.
+/// Awaits both replies, in either order. `None`: at least one will not come.
 fn both_replies<R, Rt>(
     rt: &R,
     first: Ticket<u32, Seats, Rt>,
@@ -74,7 +74,7 @@ where
     }
 }
 
-/// Awaits the reply that comes first, and drops the other future. `None`: it will not come.
+/// Awaits the future that is ready first, and drops the other. `None`: it had no reply.
 fn first_reply<R, Rt>(
     rt: &R,
     first: Ticket<u32, Seats, Rt>,

@@ -1,4 +1,4 @@
--- What a ground may do at a phase, and how it stands after an operation, by the rows of the table.
+-- What a ground may do at a phase, and its state after an operation, by the rows of the table.
 use Rattle.oneshot_drive.proofs.Names.{◌≡◌, ℕ, not, List, [], ◌∷◌, true, refl, sym, ap, ◌∙◌, subst, ◌==◌, eq-eqb, WriteWaker, Withdraw, Op, Event, Log, Grows, words, sender_of, receiver_of, took, handed, worded, SenderAt, no_sender, sender_moves, sender_at, ReceiverAt, no_receiver, receiver_moves, receiver_at, Share, empty, filled, Slots, Row, next_by, vacant, held, In, head, tail, May, may, Finds, finds, saw, is_same_op, same_op, differ, leads, words_stay, sender_moved, receiver_moved, put_in, emptied, as_before, turned, has_row, row_of, Landing, landings, landed, Each, each, among, is_among, differs, sender_apart, receiver_apart, GroundState, StandsWith, Stands, receiver_slots, SenderAsks, SenderMakes, ReceiverAsks, ReceiverMakes}
 
 -- an operation that found this word landed at one of these
@@ -9,12 +9,12 @@ pub record Lands {At T W : Type 0} (of : Log T W → At) (n : ℕ) (s : GroundSt
   landing : In (n, next, after) ls
   stands : StandsWith of next after s
 
--- at this one
+-- it landed at this one
 pub record Lone {At T W : Type 0} (of : Log T W → At) (n : ℕ) (s : GroundState T W) (l : Landing At) : Type 0 where
   pub word : n ≡ l.0
   pub stands : StandsWith of l.1 l.2 s
 
--- or at one for which this holds
+-- it landed at one for which this holds
 pub record OneOf {At T W : Type 0} (of : Log T W → At) (n : ℕ) (s : GroundState T W) (fact : ℕ → At → Slots → Type 0)
     : Type 0 where
   pub next : At
@@ -30,7 +30,7 @@ module _ {At T W : Type 0} {of : Log T W → At} where
   the_lone word at slots (tail there) stands = elim there [ ]
 
   module _ {n : ℕ} {s : GroundState T W} where
-    -- the word is known, or it is another
+    -- the word is this one, or it is another
     pub at_word : {ls : List (Landing At)} (word : ℕ) → n ≡ word → Lands of n s ls
         → Lands of n s (among (λ found. found == word) ls)
     at_word {ls} word is lands =
@@ -53,7 +53,7 @@ module _ {At T W : Type 0} {of : Log T W → At} where
           stands = lands.stands;
         }
 
-    -- the only one that is left, or each that is
+    -- the only landing that is left, or a fact of each that is left
     pub lone : {l : Landing At} → Lands of n s (l ∷ []) → Lone of n s l
     lone {l} lands = the_lone l.0 l.1 l.2 lands.landing lands.stands
 
@@ -90,7 +90,7 @@ module _ {At T W : Type 0} {of : Log T W → At} where
       (may (row_of op slots (moves at) has).row is.message is.waker)
 
 module _ {T W : Type 0} where
-  -- what a ground may do where it stands
+  -- what a ground may do at its phase
   pub sender_asks : {at : SenderAt} {slots : Slots} {s : GroundState T W} (op : Op) → StandsWith sender_of at slots s
       → has_row op slots (sender_moves at) ≡ true → SenderAsks op s
   sender_asks op is has = asks_by sender_moves op is has
@@ -99,7 +99,7 @@ module _ {T W : Type 0} where
       → has_row op slots (receiver_moves at) ≡ true → ReceiverAsks op s
   asks op is has = asks_by receiver_moves op is has
 
-  -- where an operation landed, from a phase
+  -- where an operation from a phase landed
   pub sender_lands : {at : SenderAt} (b : GroundState T W) {a : GroundState T W} (op : Op) (n : ℕ)
       → sender_of b.log ≡ at → SenderMakes op n b a → Grows b.log a.log (worded op n ∷ [])
       → Lands sender_of n a (landings op (sender_moves at))
@@ -114,7 +114,7 @@ module _ {T W : Type 0} where
       subst (λ at. Lands receiver_of n a (landings op (receiver_moves at))) at (lands_by no_receiver receiver_moves
       (λ l k op n s. receiver_moved op n s) receiver_apart b a op n made grows)
 
-  -- steps that are no operation leave an end at its phase
+  -- steps other than operations leave an end at its phase
   pub sender_still : {l k : Log T W} (steps : List (Event T W)) → words steps ≡ [] → Grows l k steps
       → sender_of k ≡ sender_of l
   sender_still steps no_word grows = ap sender_at (words_stay steps no_word grows)
@@ -123,7 +123,7 @@ module _ {T W : Type 0} where
       → receiver_of k ≡ receiver_of l
   still steps no_word grows = ap receiver_at (words_stay steps no_word grows)
 
-  -- and where they leave its slots too, as it stood
+  -- if they leave its slots too, its state is unchanged
   pub stands_on : {at : ReceiverAt} {slots : Slots} {b a : GroundState T W} (steps : List (Event T W))
       → words steps ≡ [] → StandsWith receiver_of at slots b → Grows b.log a.log steps
       → a.message ≡ b.message → a.waker ≡ b.waker → StandsWith receiver_of at slots a
@@ -135,7 +135,7 @@ module _ {T W : Type 0} where
         waker = as_before is.waker waker;
       }
 
-  -- an operation after which the slots are as a receiver stands at the phase
+  -- an operation after which the slots are those of a receiver at the phase
   pub record Came (fact : ℕ → ReceiverAt → Type 0) (n : ℕ) (s : GroundState T W) : Type 0 where
     pub at : ReceiverAt
     pub is_so : fact n at
@@ -152,7 +152,7 @@ module _ {T W : Type 0} where
             (λ slots. StandsWith receiver_of found.next slots s) found.is_so.1 found.stands;
       }
 
-  -- what is put into the slots, or taken out, leaves the phase
+  -- writing a slot, or taking its content, leaves the phase unchanged
   module _ {at : ReceiverAt} {b a : GroundState T W} where
     pub took_message : {w : Share} {x : T} → StandsWith receiver_of at (filled, w) b → Grows b.log a.log (took x ∷ [])
         → a.message ≡ vacant → a.waker ≡ b.waker → StandsWith receiver_of at (empty, w) a

@@ -1,4 +1,4 @@
--- The examples of grounds and of the wakers that a call hands on, computed.
+-- Proofs of the examples of grounds and of the wakers that a call passes on.
 use Rattle.oneshot_drive.proofs.Names.{◌≡◌, ℕ, true, List, [], ◌∷◌, None, refl, sym, subst, arith, Sent, Send, waking, Event, Grows, receiver_of, ReceiverAt, blocked, first, here, looked, disconnected, found_closed, waits, polled, is_away, is_vacant, IsSlot, runs_that_are, slots_that_are, slots_that_are_not, rests_new, rests_open, rests_closed, parks_waiting, parks_overdue, log_of, GroundsThatAre, GroundsThatAreNot, WakersThatAre, WakersThatAreNot, GroundState, StandsIn, receiver_slots, WritesCopies, WritesItsCopy, left_copy, wakers_handed, HandsNoWaker, Wakes, wakes, wakes_none, SenderWoke}
 
 pub grounds_that_are : GroundsThatAre
@@ -38,7 +38,7 @@ grounds_that_are =
       parks_on = parks_overdue;
     }
 
--- a ground that stands at one of some phases is at the one of its log, with the slots of that
+-- a ground at one of some phases is at its log's phase, with that phase's slots
 module _ {Phases : ReceiverAt → Type 0} {s : GroundState ℕ ℕ} (stands : StandsIn Phases s) where
   is_one_of_them : Phases (receiver_of s.log)
   is_one_of_them = subst Phases (sym stands.stands.phase) stands.is_one
@@ -64,7 +64,7 @@ grounds_that_are_not =
       parks_until_what_is_over = λ parks. elim parks [ ];
     }
 
--- a whole ground that had done nothing has done what its log has
+-- a whole ground that began with an empty log made the steps that its log has
 begun : (xs : List (Event ℕ ℕ)) → Grows (log_of []) (log_of xs) xs
 begun xs = record { whole = refl; channel = refl; list = refl }
 

@@ -9,7 +9,7 @@ use Rattle.oneshot_machine.specs.declared.machine.drop.DropPos.TheVariants.{Drop
 -- the word that it finds, with the slots then
 pub data Swapped : ℕ → Slots → Type 0 where
   swapped_empty : Swapped 3 (none, none)
-  -- as a future, where the sender has its waker
+  -- a future's, where the sender has its waker
   swapped_sender : Swapped 1 (none, none)
   swapped_message : Swapped 4 (filled, empty)
   swapped_closed : Swapped 2 (empty, empty)
@@ -26,7 +26,7 @@ swaps (disconnected c) = (swapped_closed, tt)
 swaps (waits blocked) = tt
 swaps _ = tt
 
--- a receiver that is no future never meets a sender that is about to finish
+-- the swap of a receiver that is no future never finds a sender about to finish
 rests_swaps : {at : ReceiverAt} → Rests at → Each (λ n next after. ¬ (n ≡ 1)) (landings (Swap 2) (receiver_moves at))
 rests_swaps rests_new = ((λ e. cc), ((λ e. cc), ((λ e. cc), tt)))
 rests_swaps (rests_open looked) = ((λ e. cc), ((λ e. cc), ((λ e. cc), tt)))
@@ -39,7 +39,7 @@ slots_full swapped_message = refl
 slots_over : {slots : Slots} → Swapped 2 slots → slots ≡ (empty, empty)
 slots_over swapped_closed = refl
 
--- the word of one that is gone, or the row of one that leaves it all to the sender
+-- the word of a sender that is gone, or the row that leaves the block to the sender
 closed_word : {n : ℕ} {slots : Slots} → Swapped n slots → ¬ (n ≡ 4) → ¬ (n ≡ 3) → ¬ (n ≡ 1) → n ≡ 2
 closed_word swapped_message a b c = absurd (a refl)
 closed_word swapped_empty a b c = absurd (b refl)
@@ -68,7 +68,7 @@ module _ {T W : Type 0} where
     as_slots message waker is =
         (subst (λ slots. IsSlot slots.0 m') is swapped.message, subst (λ slots. IsSlot slots.1 w') is swapped.waker)
 
-    -- the message, or that the sender is gone
+    -- it found the message, or that the sender is gone
     pub swapped_full : n ≡ 4 → IsSlot filled m' × IsSlot empty w'
     swapped_full e = as_slots filled empty (slots_full (subst (λ n. Swapped n swapped.after) e swapped.is_so))
 

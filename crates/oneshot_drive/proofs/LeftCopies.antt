@@ -36,18 +36,18 @@ module _ {T W : Type 0} where
       → receiver_row p (S.Refused false) ≡ Some (Goes r) → Grows l k (copied c ∷ []) → Path p (Goes r) l k
   copies {r} {l} {k} c y made at leads s = by_copy (Goes r) y (subst (λ c. Grows l k (copied c ∷ [])) made s) at leads
 
-  -- a copy, or its refusal, leaves a future where it is
+  -- a copy, or its refusal, leaves a future's state unchanged
   pub copied_on : {at : ReceiverAt} {b a : GroundState T W} (c : Option W) → Stands at b
       → Grows b.log a.log (copied c ∷ []) → a.message ≡ b.message → a.waker ≡ b.waker → Stands at a
   copied_on c is s message waker = stands_on (copied c ∷ []) refl is s message waker
 
-  -- the task woke itself: the poll ends with nothing found, where it stands
+  -- the poll woke its own task: it ends with nothing found, in the same state
   pub owned_ends : {at : ReceiverAt} {b a : GroundState T W} → LeavesPolled {T = T} Pending at → Stands at b
       → Grows b.log a.log (did Steps.WakeOwn ∷ []) → a.message ≡ b.message → a.waker ≡ b.waker → EndsPoll F.Nothing a
   owned_ends {at} leaves is s message waker =
       record { at = at; is_one = leaves; stands = stands_on (did Steps.WakeOwn ∷ []) refl is s message waker }
 
-  -- `leave`: it may store a copy where its slot is empty
+  -- `leave`: it may store a copy if the slot is empty
   pub may_leave : {at : ReceiverAt} {share : Share} {s : GroundState T W} → StandsWith receiver_of at (share, empty) s
       → has_row (Exchange 3 0) (share, filled) (receiver_moves at) ≡ true → MayLeave s
   may_leave {s} is has =

@@ -1,4 +1,4 @@
--- The names of other crates and of this one's definitions that the proofs cite, passed on from one place.
+-- The names of other crates and of this one's definitions that the proofs use, exported from one place.
 pub use Rattle.futures.specs.declared.task.Poll.TheVariants.{Ready, Pending}
 pub use Rattle.oneshot_drive.specs.BetweenCalls.{AtRest, rests_open, IsClosedAt, LeavesClosed, left_received, left_closed, LeavesTimed, timed_received, timed_out, timed_closed, IsReady, Hands, as_it_was, sender_took, came_back, rests_new, rests_closed, is_late, is_overtaken, leaves_open, leaves_closed, Rests, Leaves, finishing, LastFinds, finds_waiting, finds_overdue, finds_gone, Finishes, send_reply, IsFresh, IsError, IsLate, Owes, IsOvertaken, IsOpenAt}
 pub use Rattle.oneshot_drive.specs.Blocking.{Path, value_end, EndsAt, Returns, returned, taken, Refills, refilled, HandAt, Stretch, nothing, answers, onward, ReceiveBy, by_ref, by_value, load_of, write_of, wait_of, end_of, WaitedHand, parks_waiting, parks_overdue, asked_of, ref_end, Parks}

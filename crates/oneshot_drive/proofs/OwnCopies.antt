@@ -1,4 +1,4 @@
--- That a poll writes no waker but its own copy, carried along its steps.
+-- Proves step by step that a poll writes no waker but its own copy.
 use Rattle.oneshot_drive.proofs.Names.{◌≡◌, ℕ, List, [], ◌∷◌, ◌++◌, Option, Some, refl, sym, subst, WakeOwn, WriteWaker, Withdraw, Op, Event, Log, Grows, did, took, handed, copied, worded, and_then, hand_after, WritesHand, WritesCopies, WroteCopies}
 use Rattle.oneshot_drive.proofs.Stretches.{stays}
 
@@ -30,7 +30,7 @@ module _ {T W : Type 0} where
     pub on_refusal : {copy : Option W} → Grows a b (copied copy ∷ []) → WroteCopies copy b c → WroteCopies hand a c
     on_refusal {copy} s after = wrote_on (copied copy) s tt after
 
-  -- and is the one that is written
+  -- and the step that writes a waker writes that copy
   pub on_write : {a b c : Log T W} (k : W) → Grows a b (handed WriteWaker k ∷ []) → WroteCopies (Some k) b c
       → WroteCopies (Some k) a c
   on_write k s after = wrote_on (handed WriteWaker k) s refl after

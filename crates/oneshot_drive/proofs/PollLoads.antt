@@ -20,7 +20,7 @@ polled_loads kept_copy = refl
 polled_loads found_sender = refl
 polled_loads (has_resolved c) = refl
 
--- one that stands at this phase may be dropped
+-- a receiver at this phase may be dropped
 abbrev pub Drops : ReceiverAt → Type 0
 Drops at = has_row (Swap 2) (receiver_slots at) (receiver_moves at) ≡ true
 
@@ -47,7 +47,7 @@ meets kept_copy =
 meets found_sender = ((met_sender, refl), ((met_message refl refl, refl), ((met_closed found_closed, refl), tt)))
 meets (has_resolved c) = ((met_closed c, refl), tt)
 
--- the drop's load keeps it only where its copy is there
+-- after its load the drop goes on to its swap, unless the load found a stored copy
 ends_met : {n : ℕ} {at : ReceiverAt} → Met n at → ¬ (n ≡ 0)
     → Drops at × (receiver_row (AsyncDrop AsyncLoad) (S.Word n) ≡ Some (Goes (AsyncDrop AsyncSwap)))
 ends_met met_empty a = (refl, refl)
@@ -150,7 +150,7 @@ module _ {T W : Type 0} where
       → Path (Future PollLoad) (Answers R.Pending) l z
   met_own n e s t = met_path n 1 refl e s (by_own _ t refl refl)
 
-  -- `poll`: it closes over the message, and takes it
+  -- `poll`: it closes the channel, and takes the message
   pub taken_rests : {s : GroundState T W} (g : Got)
       → StandsWith receiver_of (receiver_next (full g) (Store 2) S.Done) (empty, empty) s → IsPolled s
   taken_rests at_once is =

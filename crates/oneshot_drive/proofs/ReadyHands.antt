@@ -1,11 +1,10 @@
--- After a call that leaves the receiver in place its hand is ready again: the waker is in it, or the receiver
--- is closed.
+-- After a call that does not end the receiver its hand is ready: it has a waker, or the receiver is closed.
 use Rattle.oneshot_drive.proofs.Names.{◌≡◌, ◌≢◌, Option, Result, Err, refl, IsClosedAt, IsOpenAt, Leaves, leaves_open, leaves_closed, LeavesClosed, left_received, left_closed, LeavesTimed, timed_received, timed_out, timed_closed, Hands, as_it_was, sender_took, came_back, IsReady, RecvError, RecvTimeoutError, TryRecvError, ReceiverAt}
 use Rattle.oneshot_drive.specs.BetweenCalls.{leaves_received}
 use Rattle.oneshot_errors.specs.declared.recv_timeout.RecvTimeoutError.TheVariants as Timed
 use Rattle.oneshot_errors.specs.declared.try_recv.TryRecvError.TheVariants as Tried
 
--- `try_recv` leaves the receiver open where it found nothing, and else closed
+-- `try_recv` leaves the receiver open after `Empty`, otherwise closed
 pub closed_tried : {T : Type 0} {result : Result T TryRecvError} {at : ReceiverAt} → Leaves result at
     → result ≢ Err Tried.Empty → IsClosedAt at
 closed_tried (leaves_received x) found = refl
@@ -34,7 +33,7 @@ pub ready_closed : {T W : Type 0} (hand : Option W) (result : Result T RecvError
     → LeavesClosed result at → IsReady hand at
 ready_closed hand result at leaves = λ none. closed_by result at leaves
 
--- a receive with a deadline leaves it open where the deadline was over, and else closed
+-- a receive with a deadline leaves it open after `Timeout`, otherwise closed
 pub closed_in_time : {T : Type 0} {result : Result T RecvTimeoutError} {at : ReceiverAt} → LeavesTimed result at
     → result ≢ Err Timed.Timeout → IsClosedAt at
 closed_in_time (timed_received x) found = refl

@@ -1,4 +1,4 @@
--- What each receive that blocks owes its ground once it is decided, and that its steps make a run.
+-- The obligations of each receive that blocks after the word that decides it, and the runs that its steps make.
 use Rattle.oneshot_drive.proofs.Names.{◌≡◌, ℕ, Bool, true, false, List, [], ◌∷◌, Option, Result, Ok, Err, refl, sym, subst, RecvError, RecvTimeoutError, Found, Reply, ReceiverPos, Try, Ref, Timed, Value, Close, Take, CloseOnly, StartLoad, SumClock, RecvLoad, RecvTake, RecvFreeGot, RecvFreeGone, Recv, RecvTimeout, Store, Log, Grows, receiver_of, did, took, clocked, worded, between, ReceiverAt, here, full, Got, at_once, waited, swapped, by_future, by_poll, unclosed, Swapping, Closing, closed_itself, disconnected, receiver_moves, receiver_next, empty, filled, receiver_step, receiver_row, Goes, last, more, Ran, ReceiverRan, vacant, receiver_moved, and_then, GroundState, StandsWith, Stands, receiver_slots, ReceiverAsks, ReceiverMakes, Path, value_end, EndsAt, Returns, returned, taken, Refills, refilled, HandAt, AtRest, rests_open, IsClosedAt, LeavesClosed, left_received, left_closed, LeavesTimed, timed_received, timed_out, timed_closed, IsReady, Hands, as_it_was, sender_took, came_back, is_room, has_row, Each, landings}
 use Rattle.oneshot_errors.specs.declared.recv_timeout.RecvTimeoutError.TheVariants as Timed
 use Rattle.oneshot_drive.specs.declared.waiting.Found.TheVariants as F
@@ -8,7 +8,7 @@ use Rattle.oneshot_machine.specs.declared.machine.Step.TheVariants as Steps
 use Rattle.oneshot_drive.proofs.AfterOperations.{lone, asks, lands, one_of, stands_on, still}
 use Rattle.oneshot_drive.proofs.Stretches.{by_clock, ran, before}
 
--- one that has the message may close over it, however it came to it, and then it has it still
+-- a receiver that found the message, in any way, may close the channel, and still has the message then
 stores_full : (g : Got) → has_row (Store 2) (receiver_slots (full g)) (receiver_moves (full g)) ≡ true
 stores_full at_once = refl
 stores_full waited = refl
@@ -53,7 +53,7 @@ module _ {T W : Type 0} where
         waker = has.waker;
       }
 
-  -- `receive`: it closes over the message
+  -- `receive`: it closes the channel, with the message in its slot
   pub ended_full : {b a : GroundState T W} (n : ℕ)
       → (g : Got) × (receiver_next (full g) (Store 2) S.Done ≡ disconnected closed_itself) × Stands (full g) b
       → ReceiverMakes (Store 2) n b a → Grows b.log a.log (worded (Store 2) n ∷ [])
@@ -68,7 +68,7 @@ module _ {T W : Type 0} where
       ran path (worded (Store 2) n ∷ took x ∷ []) (more (Try Take) _ _ refl refl (last _ refl refl))
       (and_then (worded (Store 2) n ∷ []) _ s t) refl refl
 
-  -- or where the sender is gone
+  -- or the sender is gone
   pub shut : {by : Swapping} {b a : GroundState T W} (n : ℕ) → Stands (unclosed by) b → ReceiverMakes (Store 2) n b a
       → Grows b.log a.log (worded (Store 2) n ∷ []) → Stands (disconnected closed_itself) a
   shut {b} n is made grows = (lone (lands b (Store 2) n is.phase made grows)).stands
@@ -85,7 +85,7 @@ module _ {T W : Type 0} where
   pub out_rests : {s : GroundState T W} → Stands (here between) s → AtRest s
   out_rests is = record { at = here between; is_one = rests_open between; stands = is }
 
-  -- `recv_timeout`: its read of the clock leaves it where it was
+  -- `recv_timeout`: its reading of the clock leaves its state unchanged
   pub clock_rests : {b a : GroundState T W} → AtRest b → (past : Bool) → Grows b.log a.log (clocked past ∷ [])
       → a.message ≡ b.message → a.waker ≡ b.waker → AtRest a
   clock_rests rests past s message waker =
@@ -139,7 +139,7 @@ module _ {T W : Type 0} where
   gone_freed {l} {k} is path s =
       ran (subst (λ o. Path (Value RecvLoad) o l k) is.leads path) (did Steps.Free ∷ []) (last _ refl refl) s refl refl
 
-  -- its hand: without a deadline no waker comes back from the wait
+  -- its hand: without a deadline no waker is taken back after the wait
   pub hand_back : (s : GroundState T W) {hand after : Option W} (f : Found) → EndsAt false f s → HandAt f hand after
       → Returns hand after
   hand_back s F.Message at hand = hand
@@ -163,7 +163,7 @@ full_leaves x at = subst (λ q. LeavesTimed (Ok x) q) (sym at) (timed_received x
 pub out_leaves : {T : Type 0} {q : ReceiverAt} → q ≡ here between → LeavesTimed {T = T} (Err Timed.Timeout) q
 out_leaves at = rw at timed_out
 
--- `recv_ref`: without a deadline the receiver is closed then
+-- `recv_ref`: without a deadline the receiver is closed afterwards
 pub untimed_full : {T : Type 0} {r : Result T RecvTimeoutError} {q : ReceiverAt} (x : T) → r ≡ Ok x → LeavesTimed r q
     → LeavesClosed (Ok x) q
 untimed_full x is (timed_received y) = left_received x

@@ -84,7 +84,7 @@ module _ {T W : Type 0} where
       let same : (word == 2) ≡ true = eq-eqb word 2 closed in
       absurd (cc)
 
-  -- `try_recv`: it closes over the message
+  -- `try_recv`: it closes the channel, with the message in its slot
   pub closed : {b a : GroundState T W} (n : ℕ) → Stands (full at_once) b → ReceiverMakes (Store 2) n b a
       → Grows b.log a.log (worded (Store 2) n ∷ [])
       → StandsWith receiver_of (disconnected closed_itself) (filled, empty) a

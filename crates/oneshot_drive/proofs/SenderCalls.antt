@@ -1,13 +1,13 @@
--- What each call of the sender owes its ground.
+-- The obligations of each call of the sender to its ground.
 use Rattle.oneshot_drive.proofs.Names.{◌≡◌, ℕ, Bool, true, false, not, [], ◌∷◌, refl, sym, ◌∙◌, subst, ◌==◌, TakeWaker, Wake, Op, Swap, Add, Xor, Log, Grows, sender_of, wrote, handed, worded, By, sending, dropping, SenderAt, fresh, owes, late, no_sender, sender_moves, Share, none, empty, filled, Slots, Held, away, vacant, held, IsSlot, is_away, is_vacant, is_held, Turns, stays_away, stays_vacant, stays_held, gives_room, gives_thing, gets_room, gets_thing, In, finds, SenderMay, SenderFinds, leads, and_then, sender_moved, GroundState, StandsWith, SenderMakes, IsFresh, IsError, IsLate, is_late, is_overtaken, Owes, LastFinds, finds_waiting, finds_overdue, finds_gone, Finishes, IsOvertaken, is_in, is_room, put_in, as_before, turned, message_kept, has_row, landings_of, landed, Each, each, found_so, sender_apart}
 use Rattle.oneshot_drive.proofs.AfterOperations.{Lone, lone, at_word, not_at, sender_asks, sender_lands, sender_still}
 
--- the sender's swap is that operation
+-- whether the operation is the sender's swap
 abbrev is_swap : Op → Bool
 is_swap (Swap new) = true
 is_swap _ = false
 
--- the word that it finds, and how it then stands
+-- the word that it finds, and the sender's state then
 record EndsAt (n : ℕ) (next : SenderAt) (after : Slots) : Type 0 where
   here : Bool
   finds : LastFinds n here
@@ -33,7 +33,7 @@ last_ends (owes dropping) = (
 )
 last_ends _ = tt
 
--- a slot that is the end's before and after holds the same
+-- a slot that is the end's before and after is unchanged
 not_away : {X : Type 0} {s : Share} {h : Held X} → ¬ (s ≡ none) → IsSlot s h → ¬ (h ≡ away)
 not_away own is_away e = own refl
 not_away own is_vacant e = cc
@@ -48,7 +48,7 @@ unmoved (gives_thing x) own has = absurd (own refl)
 unmoved gets_room own has = absurd (has refl)
 unmoved (gets_thing x) own has = absurd (has refl)
 
--- whether the receiver is here, by the word that was found
+-- whether the receiver is here, by the word that the swap found
 here_by : {n : ℕ} {here : Bool} → LastFinds n here → here ≡ not (n == 2)
 here_by finds_waiting = refl
 here_by finds_overdue = refl
@@ -67,7 +67,7 @@ module _ {T W : Type 0} where
       }
 
   module _ {slots : Slots} {b a : GroundState T W} (n : ℕ) (is : StandsWith sender_of fresh slots b) where
-    -- it found a receiver that waits, or none
+    -- it found a waiting receiver, or none
     pub added : ¬ (n ≡ 3) → ¬ (n ≡ 0) → SenderMakes Add n b a → Grows b.log a.log (worded Add n ∷ [])
         → Lone sender_of n a (2, late sending, (filled, empty))
     added not_3 not_0 made grows = lone (not_at 0 not_0 (not_at 3 not_3 (sender_lands b Add n is.phase made grows)))
@@ -92,7 +92,7 @@ module _ {T W : Type 0} where
     send_owes e made grows =
         owed 4 (λ e. cc) (lone (at_word 0 e (sender_lands b Add n is.phase made grows))).stands refl
 
-    -- the message that it wrote is where it was
+    -- the message that it wrote is still in its slot
     pub added_kept : {x : T} → n ≡ 0 → SenderMakes Add n b a → Grows b.log a.log (worded Add n ∷ [])
         → b.message ≡ held x → a.message ≡ held x
     added_kept e made grows message =
@@ -102,7 +102,7 @@ module _ {T W : Type 0} where
     drop_owes e made grows =
         owed 2 (λ e. cc) (lone (at_word 0 e (sender_lands b Xor n is.phase made grows))).stands refl
 
-    -- its slot is as empty as it was
+    -- its slot is still empty
     pub flipped_room : n ≡ 0 → SenderMakes Xor n b a → Grows b.log a.log (worded Xor n ∷ []) → a.message ≡ vacant
     flipped_room e made grows = is_room (lone (at_word 0 e (sender_lands b Xor n is.phase made grows))).stands.message
 
@@ -115,7 +115,7 @@ module _ {T W : Type 0} where
       → IsLate (sender_of a.log)
   is_too_late {by} stands = subst IsLate (sym stands.phase) (is_late by)
 
-  -- the last word to a receiver that waits
+  -- the last word to a waiting receiver
   module _ {b : GroundState T W} {k : Log T W} {m : Held T} {w : Held W} {word : ℕ} (y : W) (is : Owes word b)
       (s : Grows b.log k (handed TakeWaker y ∷ [])) (message : m ≡ b.message) (waker : w ≡ vacant) where
     pub finish_asks : SenderMay (sender_of k) (Swap word) m w

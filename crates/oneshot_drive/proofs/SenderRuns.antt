@@ -1,4 +1,4 @@
--- What each call of the sender makes is a run.
+-- The steps of each call of the sender are a run.
 use Rattle.oneshot_drive.proofs.Names.{◌≡◌, ℕ, Bool, true, false, [], ◌∷◌, Some, refl, TakeWaker, Wake, Free, Send, IntoInner, DropError, SendAdd, SendTakeWaker, SendFinal, SendWake, SendLateWake, DropTakeWaker, DropFinal, DropWake, DropLateWake, IntoFree, ErrorFree, SenderPos, Swap, Add, Xor, Log, Grows, did, wrote, took, handed, worded, Goes, Answers, last, more, SenderRan, sender_step, sender_row, and_then, wakes, wakes_none, SenderWoke, finishing, LastFinds, finds_waiting, finds_overdue, finds_gone, Finishes, send_reply}
 use Rattle.oneshot_machine.specs.declared.machine.Reply.TheVariants as R
 use Rattle.oneshot_machine.specs.declared.machine.Seen.TheVariants as S
@@ -6,7 +6,7 @@ use Rattle.oneshot_machine.specs.declared.machine.Step.TheVariants.{DropMessage}
 use Rattle.oneshot_machine.specs.declared.machine.sender.SenderCall.TheVariants.{Drop}
 use Rattle.oneshot_machine.specs.declared.machine.sender.SenderPos.TheVariants.{DropFree}
 
--- after its last operation a sender wakes, and then answers whether the receiver was here
+-- after its last operation a sender wakes the receiver, then replies whether it was here
 abbrev send_wake : Bool → SenderPos
 send_wake true = SendWake
 send_wake false = SendLateWake

@@ -11,7 +11,7 @@ abbrev swap_of : {timed : Bool} → ReceiveBy timed → ReceiverPos
 swap_of (by_ref timed) = Ref (StartSwap timed)
 swap_of by_value = Value RecvSwap
 
--- the words over which it takes its waker back, and what it found then
+-- the words on which it takes its waker back, and what it has found
 pub data TakesBack : ℕ → Found → Type 0 where
   over_message : TakesBack 4 F.Message
   over_end : TakesBack 2 F.Unclosed
@@ -44,7 +44,7 @@ module _ {T W : Type 0} where
   ready_waker (Some k) n ready made e = (k, refl)
   ready_waker None n ready made e = never 3 refl e (ready refl) made
 
-  -- `store_and_wait`: its waker is in the slot, and there it swaps
+  -- `store_and_wait`: it swaps, with its waker in the slot
   module _ {b k : GroundState T W} {y : W} (is : Stands (here looked) b)
       (write : Grows b.log k.log (handed Steps.WriteWaker y ∷ [])) (message : k.message ≡ b.message)
       (waker : k.waker ≡ held y) where
@@ -65,7 +65,7 @@ module _ {T W : Type 0} where
     pub stored_waits : n ≡ 3 → Stands (waits blocked) s
     stored_waits e = (lone (at_word 3 e found)).stands
 
-    -- the waker is there still, unless it waits
+    -- the waker is still in its slot, unless the receiver waits
     pub stored_there : ¬ (n ≡ 3) → IsSlot filled s.waker
     stored_there no_empty =
         let there = one_of (λ n next after. after.1 ≡ filled) (refl, (refl, tt)) (not_at 3 no_empty found) in

@@ -1,4 +1,4 @@
--- Stretches of a receive, one after the other, and what they make with the steps that end it.
+-- How stretches of a receive are joined to each other and to the steps that end it.
 use Rattle.oneshot_drive.proofs.Names.{◌≡◌, ℕ, Bool, true, false, List, [], ◌∷◌, ◌++◌, Some, None, refl, sym, ap, ◌∙◌, append-nil, filter_map-append, Reply, ReceiverPos, Op, Event, Log, Grows, kept, did, handed, parked, clocked, copied, worded, when_written, when_taken, messages_given, messages_got, receiver_step, receiver_row, Outcome, Goes, Answers, Run, last, more, Ran, saw, and_then, Stretch, nothing, answers, onward, Path}
 use Rattle.oneshot_machine.specs.declared.machine.Seen.TheVariants as S
 use Rattle.oneshot_machine.specs.declared.machine.Step.TheVariants as Steps
@@ -25,7 +25,7 @@ module _ {T W : Type 0} where
   one (Goes next) x is leads = onward next x [] is leads nothing
   one (Answers r) x is leads = answers r x is leads
 
-  -- messages of two lists
+  -- the messages of two joined lists
   no_given : (xs ys : List (Event T W)) → messages_given xs ≡ [] → messages_given (xs ++ ys) ≡ messages_given ys
   no_given xs ys none =
       filter_map-append (λ x. when_written x.step x.message) xs ys ∙ ap (λ l. l ++ messages_given ys) none

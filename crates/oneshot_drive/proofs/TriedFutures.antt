@@ -8,7 +8,7 @@ use Rattle.oneshot_drive.proofs.Stretches.{whole, by_word}
 use Rattle.oneshot_drive.proofs.Receives.{full_ran}
 use Rattle.oneshot_drive.proofs.PollLoads.{Met, met_empty, met_message, met_closed, met_copy, met_sender, loaded_to}
 
--- each answer leaves it between two calls
+-- each result leaves it between two calls
 tried_polled : {T : Type 0} {result : Result T TryRecvError} {at : ReceiverAt} → LeavesTried result at → Polled at
 tried_polled (tried_received x) = unpolled (rests_closed closed_itself)
 tried_polled (tried_resolved x) = has_resolved closed_itself
@@ -38,7 +38,7 @@ unsent (met_closed c) a b = absurd (b refl)
 unsent met_copy a b = tried_its_copy
 unsent met_sender a b = tried_claimed
 
--- its load registers nothing, and leaves registered what was so
+-- after its load it is registered if and only if it was before
 abbrev Unmoved : ReceiverAt → ℕ → ReceiverAt → Type 0
 Unmoved at n next = ¬ (n ≡ 4) → ¬ (n ≡ 2) → is_registered next ≡ is_registered at
 
@@ -53,7 +53,7 @@ unmoved found_sender = (λ a b. refl, (λ a b. absurd (a refl), (λ a b. absurd 
 unmoved (has_resolved c) = (λ a b. refl, tt)
 
 module _ {T W : Type 0} where
-  -- how it ends: with the message, without one that comes, or with none yet
+  -- how it ends: with the message, disconnected, or with no message yet
   pub taken_ends : {s : GroundState T W} (g : Got) (x : T)
       → StandsWith receiver_of (receiver_next (full g) (Store 2) S.Done) (empty, empty) s
       → StandsIn (LeavesTried (Ok x)) s
@@ -109,7 +109,7 @@ module _ {T W : Type 0} where
   unsent_ran n found a b s =
       whole (by_word {p = Future AsyncTryLoad} (Answers R.Empty) Load n s refl (empty_row found.is_so a b))
 
-  -- and which wakers they hand on
+  -- which pass on no waker
   pub load_alone : {l k : Log T W} (n : ℕ) → Grows l k (worded Load n ∷ []) → HandsNoWaker l k
   load_alone n s = record { steps = worded Load n ∷ []; grows = s; none = refl }
 

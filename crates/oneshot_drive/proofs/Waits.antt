@@ -1,4 +1,4 @@
--- What a receive does while its waker is stored: it asks its clock, parks and loads, up to the word that decides it.
+-- What a receive does while its waker is stored: it reads the clock, parks and loads, until a word decides it.
 use Rattle.oneshot_drive.proofs.Names.{◌≡◌, ℕ, Bool, true, false, [], ◌∷◌, Some, refl, sym, ap, ◌∙◌, subst, Found, ReceiverPos, Ref, Timed, Value, Park, ParkLoad, Clock, TimedLoad, EndSwap, EndBack, LatePark, LateLoad, RecvPark, RecvParkLoad, Load, Swap, Log, Grows, receiver_of, handed, parked, clocked, worded, ReceiverAt, here, between, waits, blocked, overdue, waited, swapped, stopping, found_closed, receiver_moves, none, filled, receiver_row, receiver_rows, receiver_step, Outcome, Goes, row_for, vacant, GroundState, StandsWith, Stands, receiver_slots, ReceiverAsks, ReceiverMakes, Path, ReceiveBy, by_ref, by_value, wait_of, asked_of, ref_end, end_of, EndsAt, Parks, parks_waiting, parks_overdue, has_row, landings}
 use Rattle.oneshot_drive.specs.declared.waiting.Found.TheVariants as F
 use Rattle.oneshot_machine.specs.declared.machine.Seen.TheVariants as S
@@ -6,13 +6,13 @@ use Rattle.oneshot_machine.specs.declared.machine.Step.TheVariants as Steps
 use Rattle.oneshot_drive.proofs.AfterOperations.{Lands, Lone, lone, at_word, not_at, Came, came, asks, lands, stands_on, withdrew_waker}
 use Rattle.oneshot_drive.proofs.Stretches.{on, begun, by_word, by_withdraw, by_park, by_clock}
 
--- where the load after a park stands, of each way
+-- the position of the load after a park, in each way
 abbrev woken_of : {timed : Bool} → ReceiveBy timed → ReceiverPos
 woken_of (by_ref false) = Ref ParkLoad
 woken_of (by_ref true) = Timed TimedLoad
 woken_of by_value = Value RecvParkLoad
 
--- it loads, and each word leads on alike
+-- the step there is a load, with the same rows in each way
 woken_loads : {timed : Bool} (way : ReceiveBy timed) → Steps.Word Load ≡ receiver_step (woken_of way)
 woken_loads (by_ref false) = refl
 woken_loads (by_ref true) = refl
@@ -26,7 +26,7 @@ woken_rows (by_ref false) = refl
 woken_rows (by_ref true) = refl
 woken_rows by_value = refl
 
--- the words that decide one that waits, and what it found then
+-- the words that decide a waiting receive, and what it has found
 pub data Decides : ℕ → Found → Type 0 where
   by_message : Decides 4 F.Message
   by_end : Decides 2 F.Closed
@@ -41,7 +41,7 @@ decided_late : {word : ℕ} {f : Found} → Decides word f
 decided_late by_message = refl
 decided_late by_end = refl
 
--- the words by which one that waits, or that is overdue, has to wait on
+-- the words after which a waiting receive waits on
 data Longer : ℕ → ReceiverAt → Type 0 where
   longer : Longer 0 (waits blocked)
   claimed : Longer 1 (waits blocked)
@@ -56,7 +56,7 @@ longer_waits longer = refl
 longer_waits claimed = refl
 
 module _ {T W : Type 0} where
-  -- `is_over`: a read of the clock, where there is a deadline
+  -- `is_over`: a reading of the clock, if there is a deadline
   pub asked : {l k : Log T W} {timed : Bool} (way : ReceiveBy timed) (past : Bool) → timed ≡ true
       → Grows l k (clocked past ∷ []) → Path (wait_of way) (Goes (asked_of way past)) l k
   asked (by_ref true) true e s = by_clock _ true s refl refl
@@ -69,14 +69,14 @@ module _ {T W : Type 0} where
   not_asked (by_ref false) l e = begun (Ref Park) l
   not_asked by_value l e = begun (Value RecvPark) l
 
-  -- one that waits may park, until its deadline or without; one that is overdue parks without
+  -- a waiting receive may park with a deadline or without; an overdue one parks without
   pub may_park : {s : GroundState T W} (timed : Bool) → Stands (waits blocked) s → Parks timed (receiver_of s.log)
   may_park timed is = subst (Parks timed) (sym is.phase) (parks_waiting timed blocked)
 
   pub may_park_late : {s : GroundState T W} → Stands overdue s → Parks false (receiver_of s.log)
   may_park_late is = subst (Parks false) (sym is.phase) parks_overdue
 
-  -- a park leaves it where it was, and there it loads
+  -- a park leaves its state unchanged, and then it loads
   module _ {at : ReceiverAt} {b k : GroundState T W} (woken : Bool) (is : Stands at b)
       (park : Grows b.log k.log (parked woken ∷ [])) (message : k.message ≡ b.message) (waker : k.waker ≡ b.waker) where
     has_parked : Stands at k

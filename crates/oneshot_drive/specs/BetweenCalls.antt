@@ -1,4 +1,4 @@
--- How an end stands between its calls, and what a call answers.
+-- The states of an end between its calls, and what a call leaves and replies.
 use Rattle.std.specs.Prelude.{◌≡◌, ℕ, Bool, true, false, IsTrue, List, [], ◌∷◌, Option, Some, None, Result, Ok, Err}
 use Rattle.oneshot_errors.specs.declared.recv.RecvError.{RecvError}
 use Rattle.oneshot_errors.specs.declared.recv_timeout.RecvTimeoutError.{RecvTimeoutError}
@@ -14,11 +14,11 @@ use Rattle.oneshot_machine.specs.Phases.{By, SenderAt, fresh, late, overtaken, C
 use Rattle.oneshot_machine.specs.Slots.{Held, away, vacant, held, SenderMay}
 use Rattle.oneshot_drive.specs.Grounds.{GroundState, SenderStands, StandsIn}
 
--- a sender that has made no operation: the message's slot is its own and empty
+-- a sender that has performed no operation: it owns the message's slot, which is empty
 abbrev pub IsFresh : {T W : Type 0} → GroundState T W → Type 0
 IsFresh = SenderStands fresh
 
--- The end of a refused `send`: both slots are its own, with this in the message's.
+-- The end of a refused `send`: it owns both slots, with this in the message's and no waker.
 pub record IsError {T W : Type 0} (refused : Held T) (s : GroundState T W) : Type 0 where
   pub keeps : s.message ≡ refused
   pub no_waker : s.waker ≡ vacant
@@ -28,26 +28,26 @@ pub data IsLate : SenderAt → Type 0 where
   is_late : (by : By) → IsLate (late by)
   is_overtaken : (by : By) → IsLate (overtaken by)
 
--- A sender that found a receiver that waits: it has its waker, and owes it this last word once it has
--- taken that out of its slot.
+-- A sender that found a waiting receiver: it owns the slot with that receiver's waker. Once it has taken
+-- the waker out, it owes this last word.
 pub record Owes {T W : Type 0} (last : ℕ) (s : GroundState T W) : Type 0 where
   pub waker : W
   pub has_waker : s.waker ≡ held waker
   pub has_slot : ¬ (s.message ≡ away)
   pub asks : SenderMay {W = W} (sender_of s.log) (Swap last) s.message vacant
 
--- what it does then
+-- the steps that it makes then
 abbrev pub finishing : {T W : Type 0} → ℕ → ℕ → W → List (Event T W)
 finishing last found k = handed TakeWaker k ∷ worded (Swap last) found ∷ handed Wake k ∷ []
 
--- its last operation finds that the receiver waits, or that its deadline is over since; or that it is gone
+-- its last operation finds the receiver waiting, past its deadline, or gone
 pub data LastFinds : ℕ → Bool → Type 0 where
   finds_waiting : LastFinds 1 true
   finds_overdue : LastFinds 3 true
   finds_gone : LastFinds 2 false
 
--- Between the two logs it did so, left this last word, and found whether the receiver is here. Its waker has
--- woken it.
+-- Between the two logs it made these steps, left this last word, and found whether the receiver is here.
+-- The waker has woken the receiver.
 pub record Finishes {T W : Type 0} (last : ℕ) (here : Bool) (woken : W → Type 0) (before after : Log T W) : Type 0 where
   pub found : ℕ
   pub finds : LastFinds found here
@@ -55,7 +55,7 @@ pub record Finishes {T W : Type 0} (last : ℕ) (here : Bool) (woken : W → Typ
   pub woke : woken waker
   pub grows : Grows before after (finishing last found waker)
 
--- Between the two states it found the receiver gone: both slots are its own, and the message is where it was.
+-- Between the two states it found the receiver gone. It owns both slots, and the message's is unchanged.
 pub record IsOvertaken {T W : Type 0} (before after : GroundState T W) : Type 0 where
   pub late : IsLate (sender_of after.log)
   pub message : after.message ≡ before.message
@@ -76,46 +76,45 @@ is_closed_at (disconnected c) = true
 is_closed_at (resolved c) = true
 is_closed_at _ = false
 
--- a receiver that is closed: no message comes any more
+-- a closed receiver: no message can come
 abbrev pub IsClosedAt : ReceiverAt → Type 0
 IsClosedAt at = IsTrue (is_closed_at at)
 
 abbrev pub is_open_at : ReceiverAt → Bool
 is_open_at first = true
 is_open_at (here o) = true
--- a future, with its copy in the cell, or with the sender about to finish
+-- a future, with its copy in the slot, or with the sender about to finish
 is_open_at (waits w) = true
 is_open_at claimed = true
 is_open_at _ = false
 
--- one that is open between two calls: a later receive may give a message
+-- an open receiver between two calls: a later receive may return a message
 abbrev pub IsOpenAt : ReceiverAt → Type 0
 IsOpenAt at = IsTrue (is_open_at at)
 
--- The message and the disconnected error leave a receiver closed, and `Empty` leaves it open.
+-- How `try_recv` leaves a receiver: closed after the message or the disconnected error, open after `Empty`.
 pub data Leaves {T : Type 0} : Result T TryRecvError → ReceiverAt → Type 0 where
   leaves_received : (x : T) → Leaves (Ok x) (disconnected closed_itself)
   leaves_open : Leaves (Err E.Empty) (here looked)
   leaves_closed : (c : Closing) → Leaves (Err E.Disconnected) (disconnected c)
 
--- So does a receive that blocks, but for `Empty`.
+-- A receive that blocks without a deadline leaves it closed.
 pub data LeavesClosed {T : Type 0} : Result T RecvError → ReceiverAt → Type 0 where
   left_received : (x : T) → LeavesClosed (Ok x) (disconnected closed_itself)
   left_closed : (e : RecvError) (c : Closing) → LeavesClosed (Err e) (disconnected c)
 
--- One with a deadline leaves it open where the deadline was over first.
+-- One with a deadline leaves it open after `Timeout`, otherwise closed.
 pub data LeavesTimed {T : Type 0} : Result T RecvTimeoutError → ReceiverAt → Type 0 where
   timed_received : (x : T) → LeavesTimed (Ok x) (disconnected closed_itself)
   timed_out : LeavesTimed (Err Timed.Timeout) (here between)
   timed_closed : (c : Closing) → LeavesTimed (Err Timed.Disconnected) (disconnected c)
 
--- The hand of a receiver that may block: its waker is in it, unless the receiver is closed.
+-- The hand of a receiver that may block: it has a waker, unless the receiver is closed.
 abbrev pub IsReady : {W : Type 0} → Option W → ReceiverAt → Type 0
 IsReady hand q = hand ≡ None → IsClosedAt q
 
--- The hand before and after a call that blocks: as it was; or the sender took the waker out of its
--- cell, and then the receiver is closed; or the deadline was over, and there is a waker in
--- the hand again, which may be another.
+-- The hand before and after a call that blocks: unchanged; or empty, because the sender took the waker,
+-- and the receiver is closed; or, after the deadline, with a waker again, perhaps another.
 pub data Hands {W : Type 0} : Option W → Option W → ReceiverAt → Type 0 where
   as_it_was : (hand : Option W) (q : ReceiverAt) → Hands hand hand q
   sender_took : (k : W) (c : Closing) → Hands (Some k) None (disconnected c)
@@ -139,7 +138,7 @@ timed_reply (Ok x) = Message
 timed_reply (Err Timed.Timeout) = Timeout
 timed_reply (Err Timed.Disconnected) = Disconnected
 
--- the message that was answered, if one was
+-- the message that was returned, if any
 abbrev pub received : {T E : Type 0} → Result T E → List T
 received (Ok x) = x ∷ []
 received (Err e) = []

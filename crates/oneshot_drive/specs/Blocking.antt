@@ -1,4 +1,4 @@
--- How a receive that blocks comes to its end, in each call that does.
+-- How each receive that blocks goes through its positions, and how it ends.
 use Rattle.std.specs.Prelude.{◌≡◌, Bool, true, false, List, [], ◌∷◌, Option, Some, None}
 use Rattle.oneshot_drive.specs.declared.waiting.Found.{Found}
 use Rattle.oneshot_drive.specs.declared.waiting.Found.TheVariants as F
@@ -18,7 +18,7 @@ use Rattle.oneshot_machine.specs.Receiver.{receiver_step, receiver_row}
 use Rattle.oneshot_machine.specs.TableRows.{Outcome, Goes, Answers}
 use Rattle.oneshot_drive.specs.Grounds.{GroundState, Stands}
 
--- From this position these steps lead on: to another position, or to a reply.
+-- From this position these steps lead to another position, or to a reply.
 pub data Stretch {T W : Type 0} : ReceiverPos → List (Event T W) → Outcome ReceiverPos → Type 0 where
   nothing : {p : ReceiverPos} → Stretch p [] (Goes p)
   answers : {p : ReceiverPos} (r : Reply) (x : Event T W)
@@ -26,8 +26,8 @@ pub data Stretch {T W : Type 0} : ReceiverPos → List (Event T W) → Outcome R
   onward : {p : ReceiverPos} {o : Outcome ReceiverPos} (next : ReceiverPos) (x : Event T W) (xs : List (Event T W))
       → x.step ≡ receiver_step p → receiver_row p x.seen ≡ Some (Goes next) → Stretch next xs o → Stretch p (x ∷ xs) o
 
--- Between the two logs a ground made steps that hand no message in or out, and that lead from this
--- position to there.
+-- Between the two logs a ground made steps that lead from this position to this outcome. They hand no
+-- message in or out.
 pub record Path {T W : Type 0} (from : ReceiverPos) (to : Outcome ReceiverPos) (before after : Log T W) : Type 0 where
   pub steps : List (Event T W)
   pub grows : Grows before after steps
@@ -35,13 +35,12 @@ pub record Path {T W : Type 0} (from : ReceiverPos) (to : Outcome ReceiverPos) (
   pub gets : messages_got steps ≡ []
   pub leads : Stretch from steps to
 
--- whose rows a receive runs: those of the calls by reference, with a deadline or without, or those of
--- `recv`, which has none
+-- the rows that a receive runs: those of the calls by reference, with a deadline or without, or those of
+-- `recv`, which has no deadline
 pub data ReceiveBy : Bool → Type 0 where
   by_ref : (timed : Bool) → ReceiveBy timed
   by_value : ReceiveBy false
-
--- where it loads, where it stores its waker, and where it begins to wait
+-- the positions at which it loads, stores its waker, and begins to wait
 abbrev pub load_of : {timed : Bool} → ReceiveBy timed → ReceiverPos
 load_of (by_ref timed) = Ref (StartLoad timed)
 load_of by_value = Value RecvLoad
@@ -55,14 +54,14 @@ wait_of (by_ref false) = Ref Park
 wait_of (by_ref true) = Timed Clock
 wait_of by_value = Value RecvPark
 
--- where it is once it knows whether its deadline is over
+-- its position once it knows whether its deadline is over
 abbrev pub asked_of : {timed : Bool} → ReceiveBy timed → Bool → ReceiverPos
 asked_of (by_ref false) is_over = Ref Park
 asked_of (by_ref true) false = Timed TimedPark
 asked_of (by_ref true) true = Timed EndSwap
 asked_of by_value is_over = Value RecvPark
 
--- where the word that decides it leads it
+-- where the word that decides it leads
 abbrev pub ref_end : Found → Outcome ReceiverPos
 ref_end F.Message = Goes (Try Close)
 ref_end F.Closed = Answers R.Disconnected
@@ -77,7 +76,7 @@ abbrev pub end_of : {timed : Bool} → ReceiveBy timed → Found → Outcome Rec
 end_of (by_ref timed) = ref_end
 end_of by_value = value_end
 
--- how the receiver stands then: only a deadline ends a receive with nothing found
+-- the receiver's state then: only a deadline ends a receive with nothing found
 abbrev pub EndsAt : {T W : Type 0} → Bool → Found → GroundState T W → Type 0
 EndsAt timed F.Message s =
     (g : Got) × (receiver_next (full g) (Store 2) Done ≡ disconnected closed_itself) × Stands (full g) s
@@ -85,26 +84,26 @@ EndsAt timed F.Closed s = (c : Closing) × Stands (disconnected c) s
 EndsAt timed F.Unclosed s = (by : Swapping) × Stands (unclosed by) s
 EndsAt timed F.Nothing s = (timed ≡ true) × Stands (here between) s
 
--- How it may park: until its deadline only while it waits. One whose deadline is over parks without.
+-- How it may park: with a deadline or without while it waits, and without once its deadline is over.
 pub data Parks : Bool → ReceiverAt → Type 0 where
   parks_waiting : (timed : Bool) (w : Waiting) → Parks timed (waits w)
   parks_overdue : Parks false overdue
 
--- the waker is in the hand again, or the sender took it
+-- the hand is unchanged, or empty because the sender took the waker
 pub data Returns {W : Type 0} : Option W → Option W → Type 0 where
   returned : (hand : Option W) → Returns hand hand
   taken : (k : W) → Returns (Some k) None
 
--- the hand had a waker and has one again, which may be another
+-- the hand had a waker and has one again, perhaps another
 pub data Refills {W : Type 0} : Option W → Option W → Type 0 where
   refilled : (k back : W) → Refills (Some k) (Some back)
 
--- the hand before and after a receive that came to this end
+-- the hand before and after a receive that found this
 abbrev pub HandAt : {W : Type 0} → Found → Option W → Option W → Type 0
 HandAt F.Nothing before after = Refills before after
 HandAt _ before after = Returns before after
 
--- the hand of a receiver that waited, whose waker was in the cell
+-- the hand before and after a wait, during which the waker was in its slot
 abbrev pub WaitedHand : {W : Type 0} → Found → Option W → Option W → Type 0
 WaitedHand {W} F.Nothing before after = (back : W) × (after ≡ Some back)
 WaitedHand _ before after = after ≡ before

@@ -1,4 +1,4 @@
--- How an end stands between its calls and what a call leaves, by examples; and what is no such thing.
+-- Examples and counterexamples of ends between calls, of what calls leave and reply, of hands, grounds and wakers.
 use Rattle.std.specs.Prelude.{◌≡◌, ℕ, Bool, true, false, List, [], ◌∷◌, Some, None, Ok, Err}
 use Rattle.futures.specs.declared.task.Poll.TheVariants.{Ready, Pending}
 use Rattle.oneshot_errors.specs.declared.recv.RecvError.{RecvError}
@@ -54,12 +54,12 @@ pub record EndsThatAreNot : Type 0 where
   pub registered_is_closed : (w : Waiting) → IsClosedAt (waits w) → ⊥
   pub claimed_is_closed : IsClosedAt claimed → ⊥
   pub full_is_closed : (g : Got) → IsClosedAt (full g) → ⊥
-  -- in the midst of a call
+  -- during a call
   pub waiting_rests : (w : Waiting) → Rests (waits w) → ⊥
   pub overdue_rests : Rests overdue → ⊥
   pub full_rests : (g : Got) → Rests (full g) → ⊥
   pub unclosed_rests : (s : Swapping) → Rests (unclosed s) → ⊥
-  -- a future never rests in a call that blocks, nor with its copy taken back
+  -- a future between calls is in no call that blocks, and its copy is not taken back
   pub blocked_is_polled : Polled (waits blocked) → ⊥
   pub withdrawn_is_polled : Polled withdrew → ⊥
   pub sent_is_late : (by : By) → IsLate (finished by) → ⊥
@@ -145,7 +145,7 @@ pub record HandsThatAreNot : Type 0 where
   pub found_one : (o : Open) → Hands None (Some true) (here o) → ⊥
   pub returned_another : Returns (Some true) (Some false) → ⊥
 
--- GROUNDS, whole ones: what they have done, the message's slot and the waker's
+-- GROUNDS, whole ones: their steps, the message's slot and the waker's
 abbrev pub log_of : List (Event ℕ ℕ) → Log ℕ ℕ
 log_of list = record { whole = true; channel = []; list = list }
 
@@ -163,7 +163,7 @@ pub record GroundsThatAre : Type 0 where
   pub has_looked : AtRest (ground (worded Load 3 ∷ []) away vacant)
   pub found_closed_word : AtRest (ground (worded Load 2 ∷ []) vacant vacant)
   pub has_registered : IsPolled (ground registering away away)
-  -- which operations they may make, and what they find
+  -- which operations they may perform, and what these find
   pub asks_to_add : SenderAsks Add (ground [] (held 7) away)
   pub adds : SenderMakes Add 3 (ground [] (held 7) away) (ground (worded Add 3 ∷ []) away away)
   pub asks_to_look : ReceiverAsks Load (ground [] away away)
@@ -192,7 +192,7 @@ pub record WakersThatAre : Type 0 where
   pub a_later_copy : WritesItsCopy (log_of [])
       (log_of (copied (Some 5) ∷ copied (Some 6) ∷ handed WriteWaker 6 ∷ []))
   pub no_copy : WritesItsCopy (log_of []) (log_of (copied None ∷ did WakeOwn ∷ []))
-  -- a `send` uses the waker that it took: by this it woke its receiver
+  -- a `send` uses the waker that it took, and so wakes its receiver
   pub wakes : SenderWoke (λ waker. waker ≡ 1) Send (log_of []) (log_of waking) R.Sent (7 ∷ []) []
   pub looks_alone : HandsNoWaker (log_of []) (log_of (worded Load 3 ∷ []))
 

@@ -1,25 +1,25 @@
--- How a ground stands: its log and both slots, at a phase of the table, with what it may do there and has done.
+-- The state of a ground: its log and both slots at a phase, and the operations that it may perform there.
 use Rattle.std.specs.Prelude.{◌≡◌, ℕ, Bool, true, false, ◌&&◌, if◌then◌else◌, List, [], ◌∷◌}
 use Rattle.oneshot_machine.specs.declared.states.Op.{Op}
 use Rattle.oneshot_machine.specs.Logs.{Log, sender_of, receiver_of}
 use Rattle.oneshot_machine.specs.Phases.{SenderAt, sender_moves, ReceiverAt, receiver_moves, Share, none, empty, filled, Slots, Row}
 use Rattle.oneshot_machine.specs.Slots.{Held, IsSlot, SenderMay, SenderFinds, ReceiverMay, ReceiverFinds}
 
--- what a ground has done, and the message's slot and the waker's as its end sees them
+-- a ground's log, and both slots as its end sees them
 pub record GroundState (T W : Type 0) : Type 0 where
   pub log : Log T W
   pub message : Held T
   pub waker : Held W
 
 module _ {T W : Type 0} where
-  -- a ground may make this operation on the word
+  -- a ground may perform this operation on the word
   abbrev pub SenderAsks : Op → GroundState T W → Type 0
   SenderAsks op s = SenderMay (sender_of s.log) op s.message s.waker
 
   abbrev pub ReceiverAsks : Op → GroundState T W → Type 0
   ReceiverAsks op s = ReceiverMay (receiver_of s.log) op s.message s.waker
 
-  -- between the two it made this operation, which found this word
+  -- between the two states it performed this operation, which found this word
   abbrev pub SenderMakes : Op → ℕ → GroundState T W → GroundState T W → Type 0
   SenderMakes op word before after =
       SenderFinds (sender_of before.log) op word before.message before.waker after.message after.waker
@@ -33,14 +33,14 @@ is_unfilled none = true
 is_unfilled empty = true
 is_unfilled filled = false
 
--- the slots of the first row that needs neither filled, or else these
+-- the slots of the first row that needs no slot filled, or else these
 abbrev pub unfilled_or : {At : Type 0} → Slots → List (Row At) → Slots
 unfilled_or slots [] = slots
 unfilled_or slots (row ∷ rows) =
     if is_unfilled row.1.0 && is_unfilled row.1.1 then row.1 else unfilled_or slots rows
 
--- The slots of an end at a phase with these rows, which has put nothing into a slot there: those of the
--- first row that needs neither filled, or else of the first row. No contract names a phase without rows.
+-- The slots of an end at a phase with these rows, before it puts anything into a slot there: those of the
+-- first row that needs no slot filled, or else of the first row. No contract names a phase without rows.
 abbrev pub slots_by : {At : Type 0} → List (Row At) → Slots
 slots_by [] = (none, none)
 slots_by (row ∷ rows) = unfilled_or row.1 (row ∷ rows)
@@ -66,7 +66,7 @@ module _ {T W : Type 0} where
   abbrev pub Stands : ReceiverAt → GroundState T W → Type 0
   Stands at = StandsWith receiver_of at (receiver_slots at)
 
--- at one of these phases
+-- a ground at one of these phases, with its slots as the table has them there
 pub record StandsIn {T W : Type 0} (Phases : ReceiverAt → Type 0) (s : GroundState T W) : Type 0 where
   pub at : ReceiverAt
   pub is_one : Phases at

@@ -1,4 +1,4 @@
--- How a poll comes to its end, how a future stands between its calls, and which wakers its calls hand on.
+-- How a poll ends, the states of a future between its calls, and which wakers its calls pass on.
 use Rattle.std.specs.Prelude.{◌≡◌, ⊤, Bool, true, false, List, [], ◌∷◌, Option, None, Result, Ok, Err}
 use Rattle.std.specs.List.{filter_map}
 use Rattle.futures.specs.declared.task.Poll.{Poll}
@@ -29,18 +29,18 @@ pub data Polled : ReceiverAt → Type 0 where
   unpolled : {q : ReceiverAt} → Rests q → Polled q
   -- its last poll left a copy of its waker
   left_copy : Polled (waits polled)
-  -- and a later one could make no other
+  -- and a later call found it there
   kept_copy : Polled (waits again)
-  -- its last poll found a sender about to finish
+  -- its last call found the sender about to finish
   found_sender : Polled claimed
-  -- its last poll ended the channel, and it has made no operation since
+  -- a call ended the channel, and the future has performed no operation since
   has_resolved : (c : Closing) → Polled (resolved c)
 
 -- a future between two calls
 abbrev pub IsPolled : {T W : Type 0} → GroundState T W → Type 0
 IsPolled = StandsIn Polled
 
--- The message and the disconnected error leave it closed, and `Pending` leaves it open.
+-- How a poll leaves the future: closed after the message or the disconnected error, open after `Pending`.
 pub data LeavesPolled {T : Type 0} : Poll (Result T RecvError) → ReceiverAt → Type 0 where
   leaves_received : (x : T) → LeavesPolled (Ready (Ok x)) (disconnected closed_itself)
   leaves_resolved : (x : T) → LeavesPolled (Ready (Ok x)) (resolved closed_itself)
@@ -51,7 +51,7 @@ pub data LeavesPolled {T : Type 0} : Poll (Result T RecvError) → ReceiverAt �
   leaves_its_copy : LeavesPolled Pending (waits again)
   leaves_claimed : LeavesPolled Pending claimed
 
--- So does its `try_recv`, but for `Empty`, which leaves it open.
+-- How its `try_recv` leaves it: closed after the message or the disconnected error, open after `Empty`.
 pub data LeavesTried {T : Type 0} : Result T TryRecvError → ReceiverAt → Type 0 where
   tried_received : (x : T) → LeavesTried (Ok x) (disconnected closed_itself)
   tried_resolved : (x : T) → LeavesTried (Ok x) (resolved closed_itself)
@@ -66,7 +66,7 @@ is_registered (waits w) = true
 is_registered claimed = true
 is_registered _ = false
 
--- What was registered is so after an `Empty` too, and nothing else is.
+-- After `Empty` it is registered if and only if it was before.
 abbrev pub StaysRegistered : {T : Type 0} → Result T TryRecvError → ReceiverAt → ReceiverAt → Type 0
 StaysRegistered result before after = result ≡ Err E.Empty → is_registered after ≡ is_registered before
 
@@ -75,25 +75,25 @@ poll_reply (Ready (Ok x)) = R.Message
 poll_reply (Ready (Err e)) = R.Disconnected
 poll_reply Pending = R.Pending
 
--- the message that was answered, if one was
+-- the message that was returned, if any
 abbrev pub poll_received : {T : Type 0} → Poll (Result T RecvError) → List T
 poll_received (Ready result) = received result
 poll_received Pending = []
 
--- where the word that decides a poll leads it
+-- where the word that decides a poll leads
 abbrev pub poll_end : Found → Outcome ReceiverPos
 poll_end F.Message = Goes (Try Close)
 poll_end F.Nothing = Answers R.Pending
 poll_end _ = Answers R.Disconnected
 
--- how the receiver stands then
+-- the receiver's state then
 abbrev pub EndsPoll : {T W : Type 0} → Found → GroundState T W → Type 0
 EndsPoll F.Message s = (g : Got) × (word_of g ≡ 4) × Stands (full g) s
 EndsPoll F.Closed s = StandsIn IsClosedAt s
 EndsPoll F.Unclosed s = ⊥
 EndsPoll {T} F.Nothing s = StandsIn (LeavesPolled {T = T} Pending) s
 
--- one that may store a copy of its waker, once that is in its slot
+-- the waker's slot is empty, and with a copy in it the receiver may exchange 3 for 0
 pub record MayLeave {T W : Type 0} (s : GroundState T W) : Type 0 where
   pub room : s.waker ≡ vacant
   pub asks : (copy : W) → ReceiverMay (receiver_of s.log) (Exchange 3 0) s.message (held copy)
@@ -102,7 +102,7 @@ pub record MayLeave {T W : Type 0} (s : GroundState T W) : Type 0 where
 pub data IsDisconnected {T : Type 0} : Poll (Result T RecvError) → Type 0 where
   is_disconnected : (e : RecvError) → IsDisconnected (Ready (Err e))
 
--- the copy in hand after a step: the one that it gave, if it was a copy
+-- the copy in hand after a step: what the step gave, if it was a copy
 abbrev pub hand_after : {W : Type 0} → Step → Option W → Option W → Option W
 hand_after Copy given hand = given
 hand_after _ given hand = hand
@@ -119,8 +119,8 @@ module _ {T W : Type 0} where
   WritesCopies hand (x ∷ xs) =
       WritesHand x.step x.waker hand × WritesCopies (hand_after x.step x.waker hand) xs
 
-  -- Between the two logs a ground that had this copy in hand wrote no waker but its own copies. Of a
-  -- whole ground the log tells all its steps; of any other it tells no waker.
+  -- Between the two logs a ground with this copy in hand wrote no waker but its own copies. The log of a
+  -- whole ground has all its steps; any other log has no waker.
   pub record WroteCopies (hand : Option W) (before after : Log T W) : Type 0 where
     pub steps : List (Event T W)
     pub grows : Grows before after steps
@@ -134,8 +134,8 @@ module _ {T W : Type 0} where
   abbrev pub wakers_handed : List (Event T W) → List W
   wakers_handed = filter_map (λ x. x.waker)
 
-  -- Between the two logs a ground put no waker into a slot and took none out of it. Of a whole ground the
-  -- log tells all its steps; of any other it tells no waker.
+  -- Between the two logs a ground wrote, took, copied and used no waker. The log of a whole ground has all
+  -- its steps; any other log has no waker.
   pub record HandsNoWaker (before after : Log T W) : Type 0 where
     pub steps : List (Event T W)
     pub grows : Grows before after steps

@@ -11,7 +11,7 @@ use Rattle.oneshot_machine.specs.Noted.{Noted}
 use Rattle.oneshot_machine.specs.Runs.{SenderRan}
 use Rattle.oneshot_machine.specs.TableRows.{is_same_seen}
 
--- whether one of these operations found that the receiver waits
+-- whether one of these operations found the receiver waiting
 abbrev pub finds_waiting : List Noted → Bool
 finds_waiting [] = false
 finds_waiting (x ∷ xs) = is_same_seen x.1 (Word 0) || finds_waiting xs
@@ -32,14 +32,14 @@ module _ {T W : Type 0} where
   abbrev pub wakers_used : List (Event T W) → List W
   wakers_used = filter_map (λ x. when_used x.step x.waker)
 
-  -- These steps found that the receiver waits, took its waker, and used it: it has woken the receiver. Or
-  -- they found no such thing, and used none.
+  -- These steps found the receiver waiting, took its waker and used it, which has woken the receiver. Or
+  -- they did not find it waiting, and used no waker.
   pub data Wakes (woken : W → Type 0) (xs : List (Event T W)) : Type 0 where
     wakes : (k : W) → finds_waiting (words xs) ≡ true → wakers_taken xs ≡ k ∷ [] → wakers_used xs ≡ k ∷ []
         → woken k → Wakes woken xs
     wakes_none : finds_waiting (words xs) ≡ false → wakers_used xs ≡ [] → Wakes woken xs
 
-  -- between the two logs a ground made one run of the call, whose steps did so
+  -- between the two logs a ground made one run of the call, and woke a waiting receiver as above
   pub record SenderWoke (woken : W → Type 0) (call : SenderCall) (before after : Log T W) (reply : Reply)
       (given got : List T) : Type 0 where
     pub ran : SenderRan call before after reply given got

@@ -1,4 +1,4 @@
-//! The calls of the receiver that wait for the message.
+//! The drivers of the receives that block.
 
 ghost use Rattle.std.specs.Prelude.{◌≡◌, Err, IsErr, IfOk, false, []};
 ghost use Rattle.oneshot_errors.specs.declared.recv_timeout.RecvTimeoutError.TheVariants.{Timeout, Disconnected};
@@ -17,13 +17,14 @@ use oneshot_errors::{RecvError, RecvTimeoutError};
 use oneshot_machine::states::DISCONNECTED;
 use std::sync::Wait;
 
-/// Blocks until the message is there or will never come. Then the receiver is closed.
+/// Blocks until the sender sends or is dropped, and leaves the receiver closed.
 ///
-/// `hand` has the waker by which the sender wakes the receiver; that of a closed receiver may be
-/// empty. After the call it has the same waker again, unless the sender took it.
+/// `g` is between two calls. `rt` permits blocking. `hand` has the waker with which the sender wakes the
+/// receiver; it may be empty if the receiver is closed. The call leaves `hand` unchanged, or empty if the
+/// sender took the waker.
 ///
 /// - `Ok`: the message.
-/// - `Err`: the sender was dropped with nothing sent, or the receiver was closed before.
+/// - `Err`: the sender was dropped without sending, or the receiver was closed before.
 pub fn recv_ref<T, W: Drop, G: BlockGround<T, W>>(
     g: &mut G,
     rt: &impl Wait,
@@ -46,16 +47,14 @@ pub fn recv_ref<T, W: Drop, G: BlockGround<T, W>>(
     }
 }
 
-/// Blocks until the message is there or will never come, or until the deadline is over, which the
-/// ground's clock tells.
+/// Blocks until the sender sends or is dropped, or until the deadline is over by the ground's clock.
 ///
-/// `hand` is as for `recv_ref` before the call. After it, it has a waker again, unless the sender took
-/// it; and then the receiver is closed.
+/// `g`, `rt` and `hand` are as for `recv_ref`, but after `Timeout` the hand may have another waker.
 ///
 /// - `Ok`: the message. The receiver is closed.
-/// - `Err(Timeout)`: the deadline is over, and nothing had been sent when the call last looked. The
-///   receiver stays open.
-/// - `Err(Disconnected)`: the sender was dropped with nothing sent, or the receiver was closed before.
+/// - `Err(Timeout)`: the deadline is over, and the call's last operation found that the sender had not
+///   acted. The receiver stays open.
+/// - `Err(Disconnected)`: the sender was dropped without sending, or the receiver was closed before.
 ///   It is closed.
 pub fn recv_deadline<T, W: Drop, G: BlockGround<T, W>>(
     g: &mut G,
@@ -76,12 +75,12 @@ pub fn recv_deadline<T, W: Drop, G: BlockGround<T, W>>(
     receive(g, rt, hand, true)
 }
 
-/// Blocks as `recv_deadline` does, after one reading of the clock for the sum of now and a timeout.
+/// Reads the clock once, to add a timeout to it, then blocks as `recv_deadline` does.
 ///
-/// `representable` says whether an instant can hold that sum. Where none can, the call blocks without a
-/// deadline and never answers `Timeout`.
+/// `representable`: whether an instant can hold that sum. If not, the call blocks without a deadline and
+/// never returns `Timeout`.
 ///
-/// `hand`, the message and the errors are as for `recv_deadline`.
+/// The other arguments and the results are as for `recv_deadline`.
 pub fn recv_timeout<T, W: Drop, G: BlockGround<T, W>>(
     g: &mut G,
     rt: &impl Wait,
@@ -104,7 +103,7 @@ pub fn recv_timeout<T, W: Drop, G: BlockGround<T, W>>(
     receive(g, rt, hand, representable)
 }
 
-// Receives by reference, where `timed` until a deadline.
+// Receives by reference, until a deadline if `timed`.
 fn receive<T, W: Drop, G: BlockGround<T, W>>(
     g: &mut G,
     rt: &impl Wait,
@@ -137,13 +136,12 @@ fn receive<T, W: Drop, G: BlockGround<T, W>>(
     }
 }
 
-/// Blocks until the message is there or will never come. Then it frees the block, and the receiver is no
-/// more.
+/// Blocks until the sender sends or is dropped, then frees the block. This ends the receiver.
 ///
-/// `hand` is as for `recv_ref`, before and after.
+/// `g`, `rt` and `hand` are as for `recv_ref`.
 ///
 /// - `Ok`: the message.
-/// - `Err`: the sender was dropped with nothing sent, or the receiver was closed before.
+/// - `Err`: the sender was dropped without sending, or the receiver was closed before.
 pub fn recv<T, W: Drop, G: BlockGround<T, W>>(
     g: &mut G,
     rt: &impl Wait,

@@ -1,4 +1,4 @@
-//! What an end does to the world.
+//! The traits of grounds: what an end does to the world.
 
 ghost use Rattle.std.specs.Prelude.{◌≡◌, Bool, ◌∷◌, [], IfSome};
 ghost use Rattle.oneshot_machine.specs.declared.machine.Step.TheVariants.{DropMessage, WriteWaker, TakeWaker, Withdraw, Wake, WakeOwn, Free};
@@ -8,36 +8,36 @@ ghost use Rattle.oneshot_machine.specs.Slots.{away, vacant, held};
 ghost use Rattle.oneshot_drive.specs.Blocking.{Parks};
 ghost use Rattle.oneshot_drive.specs.Grounds.{GroundState, SenderAsks, SenderMakes, ReceiverAsks, ReceiverMakes};
 
-/// What the sender, or the error of its refused `send`, does to the world.
+/// The steps of the sender, and of the error of its refused `send`, for messages `T` and wakers `W`.
 pub trait SenderGround<T, W> {
-    // What the ground has done, with the message's slot and the waker's as the end sees them.
+    // The ground's log, and both slots as the end sees them.
     ghost state: { Self → GroundState T W };
 
-    // What the ground asks of a message that it takes in.
+    // What the ground requires of a message that is written.
     ghost admits: { Self → T → Type 0 };
 
-    // What the ground says once this waker was used: that it has woken its receiver.
+    // What the ground guarantees once this waker was used: it has woken its receiver.
     ghost woken: { Self → W → Type 0 };
 
-    /// Adds one to the word, and gives the word before.
+    /// Adds one to the word, and returns the word before.
     fn add(&mut self) -> u8
         requires { SenderAsks Add (state self.old) }
         ensures log { Grows (state self.old).log (state self.new).log (worded Add result ∷ []) }
         ensures finds { SenderMakes Add result (state self.old) (state self.new) };
 
-    /// Flips the word's lowest bit, and gives the word before.
+    /// Flips the word's lowest bit, and returns the word before.
     fn flip(&mut self) -> u8
         requires { SenderAsks Xor (state self.old) }
         ensures log { Grows (state self.old).log (state self.new).log (worded Xor result ∷ []) }
         ensures finds { SenderMakes Xor result (state self.old) (state self.new) };
 
-    /// Puts `last` into the word, the last that it does with it, and gives the word before.
+    /// Stores `last` in the word, as the sender's last operation, and returns the word before.
     fn swap(&mut self, last: u8) -> u8
         requires { SenderAsks (Swap last) (state self.old) }
         ensures log { Grows (state self.old).log (state self.new).log (worded (Swap last) result ∷ []) }
         ensures finds { SenderMakes (Swap last) result (state self.old) (state self.new) };
 
-    /// Puts the message into its slot, which is the end's and empty.
+    /// Writes `message` into its slot, which is the end's and empty.
     fn write_message(&mut self, message: T)
         requires slot { (state self.old).message ≡ vacant }
         requires kept { admits self.old message }
@@ -45,7 +45,7 @@ pub trait SenderGround<T, W> {
         ensures message { (state self.new).message ≡ held message }
         ensures waker { (state self.new).waker ≡ (state self.old).waker };
 
-    /// Takes the message out of its slot.
+    /// Takes the message out of its slot, and returns it.
     fn take_message(&mut self) -> T
         requires { (x : T) × ((state self.old).message ≡ held x) }
         ensures log { Grows (state self.old).log (state self.new).log (took result ∷ []) }
@@ -60,7 +60,7 @@ pub trait SenderGround<T, W> {
         ensures message { (state self.new).message ≡ vacant }
         ensures waker { (state self.new).waker ≡ (state self.old).waker };
 
-    /// Takes the waker of the receiver that waits out of its slot, and gives it.
+    /// Takes the waiting receiver's waker out of its slot, and returns it.
     fn take_waker(&mut self) -> W
         requires { (k : W) × ((state self.old).waker ≡ held k) }
         ensures log { Grows (state self.old).log (state self.new).log (handed TakeWaker result ∷ []) }
@@ -68,14 +68,14 @@ pub trait SenderGround<T, W> {
         ensures message { (state self.new).message ≡ (state self.old).message }
         ensures waker { (state self.new).waker ≡ vacant };
 
-    /// Wakes the receiver by its waker, which is used up.
+    /// Wakes the receiver with `waker`, and consumes it.
     fn wake(&mut self, waker: W)
         ensures log { Grows (state self.old).log (state self.new).log (handed Wake waker ∷ []) }
         ensures message { (state self.new).message ≡ (state self.old).message }
         ensures waker { (state self.new).waker ≡ (state self.old).waker }
         ensures woken { woken self.new waker };
 
-    /// Frees the block, whose slots are the end's and empty. Then neither is, so nothing follows.
+    /// Frees the block. Before, both slots are the end's and empty; after, neither is the end's.
     fn free(&mut self)
         requires message { (state self.old).message ≡ vacant }
         requires waker { (state self.old).waker ≡ vacant }
@@ -85,12 +85,12 @@ pub trait SenderGround<T, W> {
         ensures woken { (waker : W) → woken self.old waker → woken self.new waker };
 }
 
-/// What the receiver does to the world.
+/// The steps of the receiver in any call, for messages `T` and wakers `W`.
 pub trait ReceiverGround<T, W> {
-    // What the ground has done, with the message's slot and the waker's as the end sees them.
+    // The ground's log, and both slots as the end sees them.
     ghost state: { Self → GroundState T W };
 
-    // What the ground has beside the channel stays so, from one state to a later one.
+    // What the ground has beside the channel is kept from one state to a later one.
     ghost keeps: { Self → Self → Type 0 };
 
     ghost keeps_same: { (a : Self) → keeps a a };
@@ -100,38 +100,38 @@ pub trait ReceiverGround<T, W> {
     // What holds of a message that the ground hands out.
     ghost gives: { Self → T → Type 0 };
 
-    // What a later state says of a message, an earlier one says of it too.
+    // What holds of a message in a later state holds in an earlier one too.
     ghost gives_on: { (a b : Self) (x : T) → keeps a b → gives b x → gives a x };
 
-    /// Reads the word.
+    /// Loads the word, and returns it.
     fn load(&mut self) -> u8
         requires { ReceiverAsks Load (state self.old) }
         ensures log { Grows (state self.old).log (state self.new).log (worded Load result ∷ []) }
         ensures finds { ReceiverMakes Load result (state self.old) (state self.new) }
         ensures keeps { keeps self.old self.new };
 
-    /// Puts `new` into the word, and gives the word before.
+    /// Stores `new` in the word, and returns the word before.
     fn store(&mut self, new: u8) -> u8
         requires { ReceiverAsks (Store new) (state self.old) }
         ensures log { Grows (state self.old).log (state self.new).log (worded (Store new) result ∷ []) }
         ensures finds { ReceiverMakes (Store new) result (state self.old) (state self.new) }
         ensures keeps { keeps self.old self.new };
 
-    /// Puts `new` into the word, and gives the word before.
+    /// Swaps `new` into the word, and returns the word before.
     fn swap(&mut self, new: u8) -> u8
         requires { ReceiverAsks (Swap new) (state self.old) }
         ensures log { Grows (state self.old).log (state self.new).log (worded (Swap new) result ∷ []) }
         ensures finds { ReceiverMakes (Swap new) result (state self.old) (state self.new) }
         ensures keeps { keeps self.old self.new };
 
-    /// Puts `new` into the word where it is `expected`, and gives the word before.
+    /// Puts `new` into the word if it is `expected`, and returns the word before.
     fn exchange(&mut self, expected: u8, new: u8) -> u8
         requires { ReceiverAsks (Exchange expected new) (state self.old) }
         ensures log { Grows (state self.old).log (state self.new).log (worded (Exchange expected new) result ∷ []) }
         ensures finds { ReceiverMakes (Exchange expected new) result (state self.old) (state self.new) }
         ensures keeps { keeps self.old self.new };
 
-    /// Takes the message out of its slot.
+    /// Takes the message out of its slot, and returns it.
     fn take_message(&mut self) -> T
         requires { (x : T) × ((state self.old).message ≡ held x) }
         ensures log { Grows (state self.old).log (state self.new).log (took result ∷ []) }
@@ -149,7 +149,7 @@ pub trait ReceiverGround<T, W> {
         ensures waker { (state self.new).waker ≡ (state self.old).waker }
         ensures keeps { keeps self.old self.new };
 
-    /// Puts the waker into its slot, which is the end's and empty.
+    /// Writes `waker` into its slot, which is the end's and empty.
     fn write_waker(&mut self, waker: W)
         requires { (state self.old).waker ≡ vacant }
         ensures log { Grows (state self.old).log (state self.new).log (handed WriteWaker waker ∷ []) }
@@ -157,7 +157,7 @@ pub trait ReceiverGround<T, W> {
         ensures waker { (state self.new).waker ≡ held waker }
         ensures keeps { keeps self.old self.new };
 
-    /// Takes the waker back out of its slot, and gives it.
+    /// Takes the waker back out of its slot, and returns it.
     fn withdraw(&mut self) -> W
         requires { (k : W) × ((state self.old).waker ≡ held k) }
         ensures log { Grows (state self.old).log (state self.new).log (handed Withdraw result ∷ []) }
@@ -166,7 +166,7 @@ pub trait ReceiverGround<T, W> {
         ensures waker { (state self.new).waker ≡ vacant }
         ensures keeps { keeps self.old self.new };
 
-    /// Frees the block, whose slots are the end's and empty. Then neither is, so nothing follows.
+    /// Frees the block. Before, both slots are the end's and empty; after, neither is the end's.
     fn free(&mut self)
         requires message { (state self.old).message ≡ vacant }
         requires waker { (state self.old).waker ≡ vacant }
@@ -176,14 +176,14 @@ pub trait ReceiverGround<T, W> {
         ensures keeps { keeps self.old self.new };
 }
 
-/// What the receiver does to the world in a call that blocks.
+/// The steps of the receiver in a call that blocks.
 pub trait BlockGround<T, W>: ReceiverGround<T, W> {
-    // What a park, which may have a deadline, brings about beside the channel.
+    // What a park, with a deadline or without, does beside the channel.
     ghost parks: { Bool → Self → Self → Type 0 };
 
-    /// Blocks until the receiver is woken, and where `timed` until its deadline at the longest. It may
-    /// also go on before (a spurious wakeup). Whether it was woken is in the log alone. A receiver whose
-    /// deadline is over parks without it, or it would not block at all.
+    /// Blocks until the receiver is woken; if `timed`, at most until its deadline. It may return earlier (a
+    /// spurious wakeup). Only the log records whether the receiver was woken. A receiver whose deadline is
+    /// over parks without one, because a timed park would not block.
     fn park(&mut self, timed: bool)
         requires { Parks timed (receiver_of (Self.state self.old).log) }
         ensures log { (woken : Bool) × Grows (Self.state self.old).log (Self.state self.new).log (parked woken ∷ []) }
@@ -192,8 +192,8 @@ pub trait BlockGround<T, W>: ReceiverGround<T, W> {
         ensures keeps { Self.keeps self.old self.new }
         ensures parks { parks timed self.old self.new };
 
-    /// Whether the deadline is over, by a reading of the clock. A reading that fails counts as past every
-    /// deadline. The first answer of a timeout may rest on the reading that its sum was made from.
+    /// Reads the clock, and returns whether the deadline is over. A reading that fails counts as past every
+    /// deadline. The first call for a timeout may reuse the reading from which its deadline was computed.
     fn over(&mut self) -> bool
         ensures log { Grows (Self.state self.old).log (Self.state self.new).log (clocked result ∷ []) }
         ensures message { (Self.state self.new).message ≡ (Self.state self.old).message }
@@ -201,12 +201,12 @@ pub trait BlockGround<T, W>: ReceiverGround<T, W> {
         ensures keeps { Self.keeps self.old self.new };
 }
 
-/// What the receiver does to the world in a poll.
+/// The steps of the receiver in a poll.
 pub trait TaskGround<T, W>: ReceiverGround<T, W> {
-    // The task of the poll will be polled again: it asked for it, or it left a copy of its waker.
+    // The poll's task will be polled again: it was woken, or its waker was copied.
     ghost heard: { Self → Type 0 };
 
-    /// Copies the waker of the task, and gives the copy. `None` where it is refused.
+    /// Clones the task's waker, and returns this copy. `None`: the copy was refused.
     fn copy(&mut self) -> Option<W>
         ensures log { Grows (Self.state self.old).log (Self.state self.new).log (copied result ∷ []) }
         ensures message { (Self.state self.new).message ≡ (Self.state self.old).message }
@@ -214,7 +214,7 @@ pub trait TaskGround<T, W>: ReceiverGround<T, W> {
         ensures heard { IfSome result (λ _. heard self.new) }
         ensures keeps { Self.keeps self.old self.new };
 
-    /// Wakes the task of the poll by its own waker.
+    /// Wakes the poll's task with its own waker.
     fn wake_own(&mut self)
         ensures log { Grows (Self.state self.old).log (Self.state self.new).log (did WakeOwn ∷ []) }
         ensures message { (Self.state self.new).message ≡ (Self.state self.old).message }

@@ -1,9 +1,9 @@
-//! What the definitions are of, by examples: the function's contract is the law, its body nothing.
+//! Examples of the definitions, stated by the contract of a function with an empty body.
 
 ghost use Rattle.oneshot_drive.specs.Examples.{EndsThatAre, EndsThatAreNot, CallsThatLeave, CallsThatDoNot, RepliesThatAre, HandsThatAre, HandsThatAreNot, GroundsThatAre, GroundsThatAreNot, WakersThatAre, WakersThatAreNot};
 
-/// Which phases the definitions take for open, closed and at rest, what a call may leave and answer, how its hand
-/// and its ground may stand, and which wakers it may hand on, by examples.
+/// States by examples which phases are open, closed or between calls, what a call may leave and reply, which
+/// hands and grounds it may have, and which wakers it may pass on.
 pub fn examples_are_so()
     ensures ends { EndsThatAre }
     ensures no_ends { EndsThatAreNot }

@@ -1,4 +1,4 @@
-//! Each call as straight code over a ground, which names what an end does to the world.
+//! The drivers: the code of each call, over a ground that does the end's steps.
 #![tactic(auto)]
 
 mod blocking;

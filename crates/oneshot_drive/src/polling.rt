@@ -1,4 +1,4 @@
-//! The calls of a receiver that is a future: a poll, a receive that waits for nobody, and its drop.
+//! The drivers of a future's calls: a poll, a receive that never blocks, and the drop.
 
 ghost use Rattle.std.specs.Prelude.{◌≡◌, [], Some, Err, IfOk};
 ghost use Rattle.futures.specs.Poll.{IfReady, OnPending};
@@ -27,13 +27,12 @@ use futures::task::Poll;
 use oneshot_errors::{RecvError, TryRecvError};
 use oneshot_machine::states::{DISCONNECTED, EMPTY, MESSAGE, RECEIVING, UNPARKING};
 
-/// Polls the receiver once. It waits for nobody.
+/// Polls the receiver once. `g` is between two calls. It never blocks.
 ///
-/// - `Ready(Ok)`: the message, which closes the receiver.
-/// - `Ready(Err)`: the sender was dropped, or the message was received before.
-/// - `Pending`: nothing is there yet. The channel holds a new copy of the task's waker, in place of that
-///   of an earlier poll; or the poll woke its own task, where a copy was refused or the sender is about
-///   to finish.
+/// - `Ready(Ok)`: the message. The receiver is closed.
+/// - `Ready(Err)`: the sender was dropped without sending, or the message was received before.
+/// - `Pending`: no message yet. The channel has a new copy of the task's waker, in place of an earlier
+///   poll's; or the poll woke its own task, because the copy was refused or the sender is about to finish.
 pub fn poll<T, W: Drop, G: TaskGround<T, W>>(g: &mut G) -> Poll<Result<T, RecvError>>
     requires { IsPolled (G.state g.old) }
     ensures run { ReceiverRan C.Poll (G.state g.old).log (G.state g.new).log
@@ -57,7 +56,7 @@ pub fn poll<T, W: Drop, G: TaskGround<T, W>>(g: &mut G) -> Poll<Result<T, RecvEr
     }
 }
 
-// Reads the word, and leaves a copy where nothing is there yet.
+// Loads the word, and leaves a copy if the sender has not acted.
 fn meet<T, W: Drop, G: TaskGround<T, W>>(g: &mut G) -> Found
     requires { IsPolled (G.state g.old) }
     ensures path { Path (Future PollLoad) (poll_end result) (G.state g.old).log (G.state g.new).log }
@@ -79,7 +78,7 @@ fn meet<T, W: Drop, G: TaskGround<T, W>>(g: &mut G) -> Found
     }
 }
 
-// Leaves a copy where there is none.
+// Leaves a copy where there was none.
 fn leave_first<T, W: Drop, G: TaskGround<T, W>>(g: &mut G) -> Found
     requires { Stands (here looked) (G.state g.old) }
     ensures path { Path (Future PollCopy) (poll_end result) (G.state g.old).log (G.state g.new).log }
@@ -95,7 +94,7 @@ fn leave_first<T, W: Drop, G: TaskGround<T, W>>(g: &mut G) -> Found
     leave(g, copy)
 }
 
-// Leaves this copy, unless the sender has acted before.
+// Leaves this copy, unless the sender has acted.
 fn leave<T, W: Drop, G: TaskGround<T, W>>(g: &mut G, copy: W) -> Found
     requires open { MayLeave (G.state g.old) }
     requires heard { G.heard g.old }
@@ -118,7 +117,7 @@ fn leave<T, W: Drop, G: TaskGround<T, W>>(g: &mut G, copy: W) -> Found
     }
 }
 
-// Leaves a copy in place of that of an earlier poll.
+// Leaves a copy in place of an earlier poll's.
 fn leave_again<T, W: Drop, G: TaskGround<T, W>>(g: &mut G) -> Found
     requires { Stands (waits again) (G.state g.old) }
     ensures path { Path (Future AgainCopy) (poll_end result) (G.state g.old).log (G.state g.new).log }
@@ -146,12 +145,12 @@ fn leave_again<T, W: Drop, G: TaskGround<T, W>>(g: &mut G) -> Found
     }
 }
 
-/// Receives the message if it is there. It waits for nobody and frees nothing. A copy of a waker that a poll
-/// left stays where it is.
+/// Receives the message if it is there. `g` is between two calls. It never blocks, frees nothing, and leaves
+/// a poll's copy of a waker in place.
 ///
-/// - `Ok`: the message, which closes the receiver.
+/// - `Ok`: the message. The receiver is closed.
 /// - `Err(Empty)`: nothing was sent yet, or the sender is about to finish.
-/// - `Err(Disconnected)`: the sender is gone without a message, or the message was received before.
+/// - `Err(Disconnected)`: the sender was dropped without sending, or the message was received before.
 pub fn async_try_recv<T, W, G: ReceiverGround<T, W>>(g: &mut G) -> Result<T, TryRecvError>
     requires { IsPolled (G.state g.old) }
     ensures run { ReceiverRan C.AsyncTryRecv (G.state g.old).log (G.state g.new).log
@@ -176,9 +175,10 @@ pub fn async_try_recv<T, W, G: ReceiverGround<T, W>>(g: &mut G) -> Result<T, Try
     }
 }
 
-/// Drops the future, with the copy of a waker that it left with the channel and the message that it
-/// finds. It waits for nobody. A sender that is about to finish takes that copy itself, and its side frees
-/// the block.
+/// Drops the future, its copy of a waker in the channel, and the message if it is there. `g` is between two
+/// calls. It never blocks. A sender that is about to finish takes that copy instead.
+///
+/// It frees the block if the sender was gone or had sent. Otherwise the sender's side frees it.
 pub fn drop_async<T, W: Drop, G: ReceiverGround<T, W>>(g: &mut G)
     requires { IsPolled (G.state g.old) }
     ensures run { ReceiverRan C.DropAsync (G.state g.old).log (G.state g.new).log R.Done [] [] }
@@ -193,7 +193,7 @@ pub fn drop_async<T, W: Drop, G: ReceiverGround<T, W>>(g: &mut G)
     }
 }
 
-// Takes the copy back, unless the sender has acted before.
+// Takes the copy back, unless the sender has acted.
 fn take_back<T, W: Drop, G: ReceiverGround<T, W>>(g: &mut G)
     requires { Stands (waits again) (G.state g.old) }
     ensures path { Path (AsyncDrop AsyncExchange) (Goes (AsyncDrop AsyncSwap)) (G.state g.old).log (G.state g.new).log }
@@ -205,7 +205,7 @@ fn take_back<T, W: Drop, G: ReceiverGround<T, W>>(g: &mut G)
     }
 }
 
-// Closes the channel, and drops the message that it finds.
+// Closes the channel, and drops the message if it is there.
 fn close<T, W, G: ReceiverGround<T, W>>(g: &mut G)
     requires { ReceiverAsks (Swap 2) (G.state g.old) }
     ensures { Ran receiver_step receiver_row (AsyncDrop AsyncSwap) (G.state g.old).log (G.state g.new).log

@@ -1,4 +1,4 @@
-//! The calls of the receiver that never block.
+//! The drivers of the receiver's calls that never block.
 
 ghost use Rattle.std.specs.Prelude.{◌≡◌, Err, [], IfOk};
 ghost use Rattle.oneshot_errors.specs.declared.try_recv.TryRecvError.TheVariants.{Disconnected};
@@ -13,12 +13,11 @@ use crate::ground::ReceiverGround;
 use oneshot_errors::TryRecvError;
 use oneshot_machine::states::{DISCONNECTED, EMPTY, MESSAGE};
 
-/// Receives the message on `g`, where no receive is under way, if it is there. It never blocks and frees
-/// nothing.
+/// Receives the message if it is there. `g` is between two calls. It never blocks and frees nothing.
 ///
-/// - `Ok`: the message. The receiver is closed from then on.
-/// - `Err(Empty)`: nothing was sent yet, and the sender is there.
-/// - `Err(Disconnected)`: the sender is gone without a message, or the message was received before.
+/// - `Ok`: the message. The receiver is closed.
+/// - `Err(Empty)`: nothing was sent yet, and the sender was not dropped.
+/// - `Err(Disconnected)`: the sender was dropped without sending, or the message was received before.
 pub fn try_recv<T, W, G: ReceiverGround<T, W>>(g: &mut G) -> Result<T, TryRecvError>
     requires { AtRest (G.state g.old) }
     ensures run { ReceiverRan TryRecv (G.state g.old).log (G.state g.new).log
@@ -40,8 +39,8 @@ pub fn try_recv<T, W, G: ReceiverGround<T, W>>(g: &mut G) -> Result<T, TryRecvEr
     }
 }
 
-/// Drops the receiver on `g`, where no receive is under way, and the message that it finds. It never
-/// blocks and cannot fail.
+/// Drops the receiver, and the message if it is there. `g` is between two calls. It never blocks and cannot
+/// fail.
 ///
 /// It frees the block if the sender was gone or had sent. Otherwise the sender's side frees it.
 pub fn drop_receiver<T, W, G: ReceiverGround<T, W>>(g: &mut G)

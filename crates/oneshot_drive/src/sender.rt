@@ -1,4 +1,4 @@
-//! The calls of the sender, and of the error of its refused `send`.
+//! The drivers of the sender's calls, and of the error of its refused `send`.
 
 ghost use Rattle.std.specs.Prelude.{◌≡◌, false, [], ◌∷◌};
 ghost use Rattle.oneshot_machine.specs.declared.machine.Reply.TheVariants.{Message, Done};
@@ -13,12 +13,11 @@ ghost use Rattle.oneshot_drive.specs.BetweenCalls.{IsFresh, IsError, IsLate, Owe
 use crate::ground::SenderGround;
 use oneshot_machine::states::{DISCONNECTED, EMPTY, MESSAGE, RECEIVING};
 
-/// Sends `message` on `g`, which has made no operation yet, and wakes a receiver that waits. It never
-/// blocks.
+/// Sends `message`, and wakes a waiting receiver. `g` has performed no operation yet. It never blocks.
 ///
 /// - `true`: the receiver was there. The receiver's side frees the block.
-/// - `false`: the receiver was gone, or went while `send` took its waker. The message is in its slot, and
-///   `g` owns the block: `into_inner` or `drop_error` ends it.
+/// - `false`: the receiver was dropped, before or while `send` took its waker. The message is in its slot,
+///   and `g` owns the block, which `into_inner` or `drop_error` frees.
 pub fn send<T, W, G: SenderGround<T, W>>(g: &mut G, message: T) -> bool
     requires fresh { IsFresh (G.state g.old) }
     requires kept { G.admits g.old message }
@@ -38,10 +37,10 @@ pub fn send<T, W, G: SenderGround<T, W>>(g: &mut G, message: T) -> bool
     }
 }
 
-/// Drops the sender on `g`, which has made no operation yet, and wakes a receiver that waits. It never
-/// blocks and cannot fail.
+/// Drops the sender, and wakes a waiting receiver. `g` has performed no operation yet. It never blocks and
+/// cannot fail.
 ///
-/// It frees the block if the receiver was gone, or went while the drop took its waker. Otherwise the
+/// It frees the block if the receiver was dropped, before or while this drop took its waker. Otherwise the
 /// receiver's side frees it.
 pub fn drop_sender<T, W, G: SenderGround<T, W>>(g: &mut G)
     requires { IsFresh (G.state g.old) }
@@ -60,7 +59,7 @@ pub fn drop_sender<T, W, G: SenderGround<T, W>>(g: &mut G)
     }
 }
 
-// Leaves this last word to a receiver that waits, and uses its waker: `false` where it is gone meanwhile.
+// Leaves the word `last` to a waiting receiver, and uses its waker. `false`: the receiver was dropped.
 fn finish<T, W, G: SenderGround<T, W>>(g: &mut G, last: u8) -> bool
     requires { Owes last (G.state g.old) }
     ensures finishes { Finishes last result (G.woken g.new) (G.state g.old).log (G.state g.new).log }
@@ -72,7 +71,7 @@ fn finish<T, W, G: SenderGround<T, W>>(g: &mut G, last: u8) -> bool
     found != DISCONNECTED
 }
 
-/// Gives the message of a refused `send` back, and frees the block. It never blocks and cannot fail.
+/// Returns the message of a refused `send`, and frees the block. It never blocks and cannot fail.
 pub fn into_inner<T, W, G: SenderGround<T, W>>(g: &mut G) -> T
     requires { (x : T) × IsError (held x) (G.state g.old) }
     ensures run { SenderRan IntoInner (G.state g.old).log (G.state g.new).log Message [] (result ∷ []) }

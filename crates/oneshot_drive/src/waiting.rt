@@ -1,4 +1,4 @@
-//! How a receive that blocks comes to the word that decides it.
+//! How a receive that blocks waits for the word that decides it.
 
 ghost use Rattle.std.specs.Prelude.{◌≡◌, true, Some};
 ghost use Rattle.oneshot_machine.specs.declared.machine.receiver.ReceiverPos.TheVariants.{Timed};
@@ -15,20 +15,20 @@ use crate::ground::BlockGround;
 use oneshot_machine::states::{DISCONNECTED, EMPTY, MESSAGE, RECEIVING};
 use std::sync::Wait;
 
-// The word that decides a receive.
+// What the word that decides a receive means.
 #[derive(Drop)]
 pub(crate) enum Found {
     // The message is there.
     Message,
     // The channel is closed.
     Closed,
-    // The sender is gone, and the word is no longer that of a closed channel.
+    // The sender is gone, but a swap replaced the word of a closed channel.
     Unclosed,
-    // The deadline is over, and nothing is there.
+    // Nothing is there, and the deadline is over or a poll ends pending.
     Nothing,
 }
 
-// Looks, and waits where there is nothing yet: where `timed` until the deadline.
+// Loads, and waits if nothing is there yet; until the deadline if `timed`.
 pub(crate) fn find<T, W: Drop, G: BlockGround<T, W>>(
     g: &mut G,
     rt: &impl Wait,
@@ -50,7 +50,7 @@ pub(crate) fn find<T, W: Drop, G: BlockGround<T, W>>(
     }
 }
 
-// Stores the waker and waits, unless the sender has acted before.
+// Stores the waker and waits, unless the sender has acted.
 fn store_and_wait<T, W: Drop, G: BlockGround<T, W>>(
     g: &mut G,
     rt: &impl Wait,
@@ -107,7 +107,7 @@ fn wait<T, W: Drop, G: BlockGround<T, W>>(
     unreachable!()
 }
 
-// Whether there is a deadline that is over. Only where there is one, the clock is read.
+// Whether there is a deadline and it is over. Without one the clock is not read.
 fn is_over<T, W, G: BlockGround<T, W>>(g: &mut G, timed: bool) -> bool
     requires { Stands (waits blocked) (G.state g.old) }
     ensures path { (way : ReceiveBy timed)
@@ -119,7 +119,7 @@ fn is_over<T, W, G: BlockGround<T, W>>(g: &mut G, timed: bool) -> bool
     if timed { g.over() } else { false }
 }
 
-// Ends the wait of a receiver whose deadline is over, unless the sender has acted before.
+// Ends the wait of a receiver whose deadline is over, unless the sender has acted.
 fn stop<T, W: Drop, G: BlockGround<T, W>>(g: &mut G, rt: &impl Wait, hand: &mut Option<W>) -> Found
     requires { Stands (waits blocked) (G.state g.old) }
     ensures path { Path (Timed EndSwap) (ref_end result) (G.state g.old).log (G.state g.new).log }

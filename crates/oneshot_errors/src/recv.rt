@@ -1,13 +1,13 @@
-//! Why `recv` or `recv_ref` has no message.
+//! Why `recv`, `recv_ref` or a future has no message.
 
 use std::error::Error;
 use std::fmt;
 use std::fmt::{Display, Formatter};
 
-/// Why `recv` or `recv_ref` has no message: none will ever come.
+/// Why `recv`, `recv_ref` or a future has no message: none will ever come.
 ///
-/// The sender was dropped without a message, or this receiver has received its message before. The Rust
-/// crate knows no other reason either.
+/// The sender was dropped without sending, or this receiver received its message before. The Rust crate has
+/// the same reasons.
 #[derive(Clone, Copy, Debug, Eq, Hash, PartialEq)]
 pub struct RecvError;
 

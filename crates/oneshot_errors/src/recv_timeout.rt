@@ -9,12 +9,12 @@ use std::fmt::{Display, Formatter};
 /// The two reasons are those of the Rust crate.
 #[derive(Clone, Copy, Debug, Eq, Hash, PartialEq)]
 pub enum RecvTimeoutError {
-    /// The deadline was over while nothing was sent and the sender was still there. The receiver stays
-    /// open, and a later receive may find the message.
+    /// The deadline was over, nothing was sent, and the sender was not dropped. The receiver stays open, and
+    /// a later receive may return the message.
     ///
-    /// In this port the deadline also counts as over where the clock fails.
+    /// In this port the deadline also counts as over if the clock fails.
     Timeout,
-    /// The sender is gone without a message, or the message was received before. None will ever come.
+    /// The sender was dropped without sending, or the message was received before. None will ever come.
     Disconnected,
 }
 

@@ -9,10 +9,10 @@ use std::fmt::{Display, Formatter};
 /// The two reasons are those of the Rust crate.
 #[derive(Clone, Copy, Debug, Eq, Hash, PartialEq)]
 pub enum TryRecvError {
-    /// Nothing was sent yet, and the sender is still there. The receiver stays open, so that a later receive may
-    /// find the message.
+    /// Nothing was sent yet, and the sender was not dropped; or, for a future, the sender is about to finish.
+    /// The receiver stays open, and a later receive may return the message.
     Empty,
-    /// The sender is gone without a message, or the message was received before. None will ever come.
+    /// The sender was dropped without sending, or the message was received before. None will ever come.
     Disconnected,
 }
 

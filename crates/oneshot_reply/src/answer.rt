@@ -1,11 +1,11 @@
-//! What an answer is: it names its question, and its type keeps how the rest of it relates to that.
+//! The trait of answers: an answer names its question, and its type guarantees that it is right for it.
 
 ghost use Rattle.std.specs.Prelude.{◌≡◌};
 
-/// An answer to a question of type `Q`, which it names.
+/// An answer to a question of type `Q`. It names its question.
 ///
-/// The type keeps, in its own invariant, how the rest of an answer relates to the question that it names:
-/// an `impl` says that relation, and proves that every value of the type meets it.
+/// An `impl` states how the rest of an answer relates to that question, and proves from the type's
+/// invariant that every value of the type satisfies this.
 pub trait Answer<Q> {
     // `asked answer`: the question that `answer` names. `question` returns it.
     ghost asked: { Self → Q };
@@ -13,7 +13,7 @@ pub trait Answer<Q> {
     // `answers question answer`: the rest of `answer` is right for `question`.
     ghost answers: { Q → Self → Type 0 };
 
-    /// The question that this answer names.
+    /// Returns the question that this answer names.
     fn question(&self) -> &Q
         ensures { result.now ≡ asked self.now };
 

@@ -1,14 +1,14 @@
-//! What the channel of a request is about: its question.
+//! The value that the channel of a request is about: the question.
 
 ghost use Rattle.std.specs.Prelude.{◌≡◌, true};
 
 use crate::answer::Answer;
 use oneshot_ends::Promise;
 
-/// The question of a request, which the channel of its reply is about: each reply names an equal one.
+/// The value that the channel of a request is about. Every reply names a question equal to it.
 #[derive(Drop)]
 pub struct Asked<Q> {
-    /// The question, as the request was made with it.
+    /// The question that the request was made with.
     pub question: Q,
 }
 

@@ -1,21 +1,21 @@
-//! The length of a text as the answer to it.
+//! An answer type: the length of a text, as the answer to that text.
 
 ghost use Rattle.std.specs.Prelude.{◌≡◌, string_len};
 
 use crate::answer::Answer;
 
-/// How many bytes a text has, as the answer to that text. The type keeps that the count is right.
+/// The number of bytes of a text, as the answer to that text. The type guarantees that it is right.
 #[derive(Drop)]
 pub struct Length {
     /// The text, which is the question.
     pub question: String,
-    /// The count of its bytes in UTF-8.
+    /// The number of its bytes in UTF-8.
     pub bytes: usize,
     ghost counted: { bytes ≡ string_len question },
 }
 
 impl Length {
-    /// Counts the bytes of `question`, and names it.
+    /// Counts the bytes of `question`. The result has that text as its question.
     pub fn of(question: String) -> Length
         ensures { result.question ≡ question }
     {
@@ -23,7 +23,7 @@ impl Length {
         Length { question, bytes }
     }
 
-    /// The count of the question's bytes in UTF-8.
+    /// The number of the question's bytes in UTF-8.
     pub fn bytes(&self) -> usize
         ensures { result ≡ string_len self.now.question }
     {

@@ -1,4 +1,4 @@
-//! Typed requests: the reply that a ticket gives is right, and answers the ticket's own question.
+//! Typed requests: every reply that a ticket returns is right, and answers the ticket's own question.
 #![tactic(auto)]
 
 mod answer;

@@ -1,4 +1,4 @@
-//! How a request is made, with the ticket for its reply.
+//! The function that makes a request and the ticket for its reply.
 
 ghost use Rattle.std.specs.Prelude.{◌≡◌, IfOk, IfErr};
 ghost use Rattle.oneshot_ends.specs.Ends.{IsOpen};
@@ -10,12 +10,12 @@ use crate::ticket::Ticket;
 use oneshot_ends::channel_for;
 use std::alloc::Global;
 
-/// Makes a request with this question, and the ticket for its reply.
+/// Makes a request with `question`, and the ticket for its reply.
 ///
-/// `rt` is the runtime of the ticket's waits, which need `Rt: Wait + Clock`; the ticket keeps it. Pass `()`
-/// for a ticket that never waits. `alloc` is the allocator of the channel's memory; no later call allocates.
+/// `rt` is the runtime with which the ticket waits; waits need `Rt: Wait + Clock`. The ticket keeps it. Pass
+/// `()` for a ticket that never waits. `alloc` allocates the channel's memory; no later call allocates.
 ///
-/// `Err`: an allocation failed, and the question comes back. Nothing is kept then, and `rt` is dropped.
+/// `Err`: out of memory. The error is the question; nothing stays allocated, and `rt` is dropped.
 pub fn request<Q: Eq + Send, A: Answer<Q> + Send + Drop, Rt: Drop>(
     rt: Rt,
     alloc: Global,

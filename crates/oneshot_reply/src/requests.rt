@@ -1,4 +1,4 @@
-//! A request: a question, with where its reply goes.
+//! A request: a question, with the sender of its reply.
 
 ghost use Rattle.std.specs.Prelude.{◌≡◌, true, IfErr};
 
@@ -7,14 +7,14 @@ use crate::asked::Asked;
 use oneshot_ends::{SendError, Sender};
 use std::marker::Model;
 
-/// A question, with where its reply goes.
+/// A question, with the sender of its reply.
 ///
-/// Dropping it without an answer drops the sender of its reply: a ticket that waits is woken, and learns that
-/// no reply will come. The drop never blocks.
+/// Dropping it unanswered drops that sender: a waiting ticket is woken, and returns an error. The drop never
+/// blocks.
 ///
-/// It may go to another thread where `Q` and `A` are `Send`.
+/// It may be sent to another thread if `Q` and `A` are `Send`.
 ///
-/// A contract sees what it sees of that sender; what its channel is about has the question.
+/// In contracts a request is its sender's value (`EndOf`), whose `about` has the question.
 #[derive(Drop)]
 pub struct Request<Q: Eq, A: Answer<Q>> {
     asked: Asked<Q>,
@@ -41,31 +41,31 @@ impl<Q: Eq, A: Answer<Q>> Request<Q, A> {
         Request { asked, reply }
     }
 
-    /// The question.
+    /// Returns the question.
     pub fn question(&self) -> &Q
         ensures { result.now ≡ self.now.about.question }
     {
         &self.asked.question
     }
 
-    /// Whether the question that this reply names is equal to that of the request.
+    /// Returns whether `reply` names a question equal to the request's.
     pub fn fits(&self, reply: &A) -> bool
         ensures { result ≡ Q.eq (A.asked reply.now) self.now.about.question }
     {
         *reply.question() == self.asked.question
     }
 
-    /// Whether the ticket is gone. An answer is refused then. It is one load and never blocks.
+    /// Returns whether the ticket was dropped. Then an answer is refused. It is one load and never blocks.
     pub fn is_cancelled(&self) -> bool {
         self.reply.is_closed()
     }
 }
 
 impl<Q: Eq + Drop, A: Answer<Q> + Drop> Request<Q, A> {
-    /// Answers with a reply that fits, and wakes a ticket that waits. It never blocks and does not allocate.
+    /// Answers with a reply that fits, and wakes a waiting ticket. It never blocks and does not allocate.
     ///
     /// - `Ok`: the ticket was there. It may still be dropped before it takes the reply.
-    /// - `Err`: the ticket was gone. The error has the reply.
+    /// - `Err`: the ticket was dropped. The error has the reply.
     pub fn answer(self, reply: A) -> Result<(), SendError<A, Asked<Q>>>
         requires fits { Q.eq (A.asked reply) self.about.question ≡ true }
         ensures reply { IfErr result (λ error. error.message ≡ reply) }

@@ -1,4 +1,4 @@
-//! A ticket: where the reply to a question comes.
+//! A ticket: the receiver of the reply to a question.
 
 ghost use Rattle.std.specs.Prelude.{◌≡◌, ◌≢◌, true, Err, IsErr, IfOk};
 ghost use Rattle.oneshot_errors.specs.declared.recv_timeout.RecvTimeoutError.TheVariants as Timed;
@@ -17,16 +17,16 @@ use std::marker::Model;
 use std::sync::Wait;
 use std::time::{Clock, Duration};
 
-/// Where the reply to a question comes.
+/// The receiver of the reply to a question.
 ///
-/// Each reply that it gives names a question equal to its own, and is right for the question that it names.
+/// Every reply that it returns names a question equal to its own, and is right for the one that it names.
 ///
-/// Dropping it drops a reply that came and was not taken, and a later answer is refused: its error gives the
-/// reply back. The drop never blocks. `rt` is dropped with the ticket.
+/// Dropping it drops a reply that came and was not taken. A later answer is refused: its error has the reply.
+/// The drop never blocks. It drops `rt` too.
 ///
-/// It may go to another thread where `Q`, `A` and `Rt` are `Send`. Two threads may not share it.
+/// It may be sent to another thread if `Q`, `A` and `Rt` are `Send`. Two threads cannot share it.
 ///
-/// A contract sees what it sees of a receiver; what its channel is about has the question.
+/// In contracts a ticket is its receiver's value (`EndOf`), whose `about` has the question.
 #[derive(Drop)]
 pub struct Ticket<Q: Eq, A: Answer<Q>, Rt> {
     pub(crate) replies: Receiver<A, Rt, Asked<Q>>,
@@ -48,8 +48,8 @@ impl<Q: Eq, A: Answer<Q>, Rt> Ticket<Q, A, Rt> {
         Ticket { replies }
     }
 
-    /// Whether the request is gone without a reply, or the reply was taken. Every later call says that none will
-    /// come then. It is one load and never blocks.
+    /// Returns whether the request was dropped unanswered, or the reply was taken. Every later receive then
+    /// fails as disconnected. It is one load and never blocks.
     pub fn is_closed(&self) -> bool {
         self.replies.is_closed()
     }
@@ -59,9 +59,9 @@ impl<Q: Eq, A: Answer<Q> + Drop, Rt: Drop> Ticket<Q, A, Rt> {
     /// Takes the reply if it is there. It never blocks and does not allocate.
     ///
     /// - `Ok`: the reply. The ticket is closed from then on.
-    /// - `Err(Empty)`: no reply came yet, and the request is there. The ticket stays open.
-    /// - `Err(Disconnected)`: the request is gone without a reply, or the reply was taken before. Every later
-    ///   call says the same.
+    /// - `Err(Empty)`: no reply came yet, and the request was not dropped. The ticket stays open.
+    /// - `Err(Disconnected)`: the request was dropped unanswered, or the reply was taken before. Every later
+    ///   call returns the same.
     pub fn try_take(&mut self) -> Result<A, TryRecvError>
         ensures own { IfOk result (λ reply. Q.eq (A.asked reply) self.old.about.question ≡ true) }
         ensures right { IfOk result (λ reply. A.answers (A.asked reply) reply) }
@@ -77,8 +77,8 @@ impl<Q: Eq, A: Answer<Q> + Drop, Rt: Drop> Ticket<Q, A, Rt> {
         self.replies.try_recv()
     }
 
-    /// Makes a future of the ticket, which a task can poll: each reply that it gives keeps what a ticket's does.
-    /// It waits for nobody and allocates nothing.
+    /// Turns the ticket into a future that a task can poll. Its replies have the guarantees of the ticket's.
+    /// It never blocks and does not allocate.
     pub fn into_future(self) -> AsyncReceiver<A, Rt, Asked<Q>>
         ensures about { result.about ≡ self.about }
         ensures channel { result.channel ≡ self.channel }
@@ -90,13 +90,13 @@ impl<Q: Eq, A: Answer<Q> + Drop, Rt: Drop> Ticket<Q, A, Rt> {
 }
 
 impl<Q: Eq, A: Answer<Q> + Drop, Rt: Wait + Clock + Drop> Ticket<Q, A, Rt> {
-    /// Blocks until the reply is there or will never come, and ends the ticket. It does not allocate.
+    /// Blocks until the request is answered or dropped, and consumes the ticket. It does not allocate.
     ///
     /// - `Ok`: the reply.
-    /// - `Err`: the request is gone without a reply, or the reply was taken before.
+    /// - `Err`: the request was dropped unanswered, or the reply was taken before.
     ///
-    /// It blocks forever if the request is neither answered nor dropped, for example because this thread still
-    /// holds it.
+    /// It blocks forever if the request is neither answered nor dropped, for example because this thread
+    /// still holds it.
     pub fn wait(self) -> Result<A, RecvError>
         ensures own { IfOk result (λ reply. Q.eq (A.asked reply) self.about.question ≡ true) }
         ensures right { IfOk result (λ reply. A.answers (A.asked reply) reply) }
@@ -106,15 +106,15 @@ impl<Q: Eq, A: Answer<Q> + Drop, Rt: Wait + Clock + Drop> Ticket<Q, A, Rt> {
         replies.recv()
     }
 
-    /// Blocks until the reply is there or will never come, or until the runtime's clock has gone on by more
+    /// Blocks until the request is answered or dropped, or until the runtime's clock has advanced by more
     /// than `timeout`. It does not allocate.
     ///
     /// - `Ok`: the reply. The ticket is closed from then on.
-    /// - `Err(Timeout)`: no reply came in time, and the request is there. The ticket stays open.
-    /// - `Err(Disconnected)`: the request is gone without a reply, or the reply was taken before. Every later
-    ///   call says the same.
+    /// - `Err(Timeout)`: no reply came in time, and the request was not dropped. The ticket stays open.
+    /// - `Err(Disconnected)`: the request was dropped unanswered, or the reply was taken before. Every later
+    ///   call returns the same.
     ///
-    /// If no instant can hold the sum of now and `timeout`, the call never answers `Timeout`. If the clock
+    /// If no instant can hold the sum of now and `timeout`, the call never returns `Timeout`. If the clock
     /// fails, the deadline is over at once.
     pub fn wait_for(&mut self, timeout: Duration) -> Result<A, RecvTimeoutError>
         ensures own { IfOk result (λ reply. Q.eq (A.asked reply) self.old.about.question ≡ true) }

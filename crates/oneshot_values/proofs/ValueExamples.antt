@@ -1,4 +1,4 @@
--- The examples of values: the calls and the order of each log, and why the other logs have none.
+-- Proofs of the examples: the calls and the order of each worked log, and why the wrong logs have none.
 use Rattle.std.proofs.Common.{◌≡◌, false, true, List, [], ◌∷◌, ◌++◌, refl, sym, ◌∙◌, ap, subst}
 use Rattle.std.specs.List.{cons_option}
 use Rattle.std.specs.Option.{option_map}
@@ -27,7 +27,7 @@ use Rattle.oneshot_bridge.proofs.CallExamples.{worked_calls}
 use Rattle.oneshot_values.specs.Examples.{WorkedValues, WrongValues}
 use Rattle.oneshot_values.proofs.ValuesRun.{receiver_runs, error_runs}
 
--- the sender sends between both tries
+-- the sender sends between the two tries
 tried : Reaches ((Add, Word 3) ∷ []) tried_twice 2
 tried =
     receiver_makes (Store 2)

@@ -1,4 +1,4 @@
--- An end's log is that of an order, and each order is that of a run.
+-- An end's log belongs to an order of operations, and each order to a run.
 use Rattle.std.proofs.Common.{◌≡◌, ◌≤◌, ◌+◌, List, [], ◌∷◌, ◌++◌, arith, length, length-append, refl, ap, ◌∙◌}
 use Rattle.std.specs.Prelude.{filter, Result, Ok, Err, IfOk}
 use Rattle.std.proofs.lemmas.List.{map-append}
@@ -35,7 +35,7 @@ pub error_runs : {T : Type 0} (message : T) (xs : List Noted) → SenderIsOrdere
 error_runs {T} message xs (ys, word, order) =
     record { ys = ys; word = word; order = order; run = states_run T message xs ys word order }
 
--- the calls before and one more
+-- the messages of some calls and of one more
 messages_more : (calls : List (ReceiverStart × Reply)) (call : ReceiverStart × Reply)
     → message_replies (calls ++ call ∷ []) ≡ message_replies calls + message_replies (call ∷ [])
 messages_more calls call =
@@ -47,7 +47,7 @@ messages_more calls call =
     in_script_with : ReceiverStart × Reply → Answered
     in_script_with x = (in_script x.0, x.1)
 
--- a `try_recv` that gave the message was the only call that did
+-- a `try_recv` that returned the message was the only call that did
 pub only_the_last_got : {T : Type 0} (result : Result T TryRecvError) {before after : List Noted} → CallsAddUp T
     → HasCalls T as_receiver before → ReceiverGrew T TryRecv before after (try_recv_reply result)
     → ReceiverRuns T as_receiver after → IfOk result (λ message. OnlyTheLastGot T after)

@@ -1,4 +1,4 @@
--- What the definitions are of, by worked logs, and what they are not.
+-- Worked logs that the definitions accept, and wrong logs that they refuse.
 use Rattle.std.specs.Prelude.{◌≡◌, [], ◌∷◌}
 use Rattle.oneshot_machine.specs.declared.machine.Reply.TheVariants as R
 use Rattle.oneshot_machine.specs.declared.machine.Seen.TheVariants.{Word}
@@ -22,7 +22,7 @@ module _ {T : Type 0} (m : T) where
     pub finds_a_waker : ReceiverRuns T as_receiver ((Load, Word 0) ∷ []) → ⊥
     -- two messages are not one
     pub got_two : message_replies ((TryRecv, R.Message) ∷ (TryRecv, R.Message) ∷ []) ≡ 1 → ⊥
-    -- a `try_recv` that found nothing did not give the message, whatever was called before
+    -- a `try_recv` that found nothing did not return the message, whatever was called before
     pub found_nothing : OnlyTheLastGot T ((Load, Word 3) ∷ []) → ⊥
     -- no sender loads the word
     pub looked : ErrorRuns m ((Load, Word 3) ∷ []) → ⊥

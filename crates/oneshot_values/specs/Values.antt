@@ -1,4 +1,4 @@
--- What is known of the values that a program holds, by the run of the model that they are of.
+-- What the laws state of the values that a program holds: each has the log of a run of the model.
 use Rattle.std.specs.Prelude.{◌≡◌, ◌≤◌, ℕ, List, [], ◌∷◌, ◌++◌, filter, length}
 use Rattle.oneshot_machine.specs.declared.machine.Reply.{Reply}
 use Rattle.oneshot_machine.specs.declared.machine.receiver.ReceiverStart.{ReceiverStart}
@@ -12,33 +12,33 @@ use Rattle.oneshot_bridge.specs.CallsRun.{RunsCalls, receiver_answered}
 use Rattle.oneshot_bridge.specs.Gives.{gave_message}
 use Rattle.oneshot_bridge.specs.Scripted.{IsOfARun}
 
--- how many of a receiver's calls were answered with the message
+-- how many of a receiver's calls returned the message
 abbrev pub message_replies : List (ReceiverStart × Reply) → ℕ
 message_replies calls = length (filter gave_message (receiver_answered calls))
 
--- A receiver's log, or a future's. The sender's log, and the word that both leave, are such that the operations of
--- both have an order.
+-- A receiver's log, or a future's. With some log of a sender its operations have an order, which leaves this
+-- word.
 pub record ReceiverRuns (T : Type 0) (form : Form) (ys : List Noted) : Type 0 where
   pub xs : List Noted
   pub word : ℕ
   pub order : Reaches xs ys word
-  -- it has answered some calls
+  -- it is the log of some calls
   pub calls : HasCalls T form ys
-  -- and whichever calls these were, a run of the model has these logs and this word, and has answered just these
+  -- whichever calls these were, a run of the model has these logs and this word, and exactly these calls
   pub runs : (message : T) (calls : List (ReceiverStart × Reply)) → ReceiverCalled T Waking form calls ys
       → RunsCalls message calls xs ys word
-  -- at most one of them with the message
+  -- at most one of them returned the message
   pub one_gets : T → (calls : List (ReceiverStart × Reply)) → ReceiverCalled T Waking form calls ys
       → message_replies calls ≤ 1
 
--- The log of a receiver whose last call is a `try_recv` that was answered with the message, and no call before it was.
+-- The log of a receiver whose last call is a `try_recv` that returned the message, and no call before it did.
 abbrev pub OnlyTheLastGot : (T : Type 0) → List Noted → Type 0
 OnlyTheLastGot T log =
     (calls : List (ReceiverStart × Reply))
     × ReceiverCalled T Waking as_receiver (calls ++ (TryRecv, R.Message) ∷ []) log
     × (message_replies calls ≡ 0)
 
--- the log of a `send` that was refused, and its message
+-- the message and the log of a refused `send`
 pub record ErrorRuns {T : Type 0} (message : T) (xs : List Noted) : Type 0 where
   pub ys : List Noted
   pub word : ℕ

@@ -1,4 +1,4 @@
-//! Of what run of the model the values are that a program holds: each function's contract is a law, its body nothing.
+//! Laws of the values that a program holds, each a function's contract: their logs are those of runs of the model.
 #![tactic(auto)]
 
 ghost use Rattle.oneshot_machine.specs.Called.{as_receiver, as_future};
@@ -16,10 +16,10 @@ use oneshot_ends::{AsyncReceiver, Promise, Receiver, SendError};
 use oneshot_reply::laws::{a_ticket_has_its_calls, a_ticket_is_in_an_order};
 use oneshot_reply::{Answer, Ticket};
 
-/// A receiver, between two of its calls, whatever a program did with it and wherever the sender is: some run of the
-/// model has this receiver's log and has answered its calls, with the replies that the program got, and no other call.
-/// The run is right. At most one of the calls was answered with the message. Of a message type without a value nothing
-/// is said.
+/// For a receiver between two of its calls, whatever a program did with it and wherever the sender is, some
+/// run of the model has this receiver's log, and exactly its calls with the replies that the program got.
+/// The run keeps every law of a trace. At most one call returned the message. If `T` has no values, only
+/// this is stated: the log is that of some calls, and belongs to an order of both ends' operations.
 pub fn a_receiver_runs<T, Rt, P: Promise<T>>(receiver: &Receiver<T, Rt, P>)
     ensures { ReceiverRuns T as_receiver receiver.now.log }
 {
@@ -27,7 +27,7 @@ pub fn a_receiver_runs<T, Rt, P: Promise<T>>(receiver: &Receiver<T, Rt, P>)
     a_receiver_is_in_an_order(receiver);
 }
 
-/// The same of a future: its calls are those of the receiver before, and of the future since.
+/// The same of a future. Its calls are the receiver's before, and the future's since.
 pub fn a_future_runs<T, Rt, P: Promise<T>>(future: &AsyncReceiver<T, Rt, P>)
     ensures { ReceiverRuns T as_future future.now.log }
 {
@@ -43,14 +43,15 @@ pub fn a_ticket_runs<Q: Eq, A: Answer<Q>, Rt>(ticket: &Ticket<Q, A, Rt>)
     a_ticket_is_in_an_order(ticket);
 }
 
-/// A message that was refused: some run of the model has the log of its sender and sends this message, and is right.
+/// For the error of a refused `send`, some run of the model has its sender's log, sends its message, and
+/// keeps every law of a trace.
 pub fn an_error_runs<T, P: Promise<T>>(error: &SendError<T, P>)
     ensures { ErrorRuns error.now.message error.now.log }
 {
     an_error_is_in_an_order(error);
 }
 
-/// What the definitions are of, by worked logs, and what they are not.
+/// States, by worked and wrong logs, what the definitions accept and refuse.
 pub fn examples_are_so<T>()
     ensures worked { (m : T) → WorkedValues m }
     ensures wrong { (m : T) → WrongValues m }

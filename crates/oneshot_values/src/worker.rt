@@ -1,4 +1,4 @@
-//! A worker that knows from its own receiver that no other receive gave the message that it got.
+//! A worker that proves from its own receiver alone that no other receive returned its message.
 
 ghost use Rattle.std.specs.Prelude.{IfOk};
 ghost use Rattle.oneshot_values.specs.Values.{OnlyTheLastGot};
@@ -9,7 +9,7 @@ use oneshot_ends::{Receiver, channel};
 use oneshot_errors::TryRecvError;
 use std::test::Fail;
 
-/// Tries to receive, whatever was done with the receiver before.
+/// Tries to receive, whatever was done with the receiver before. `Ok`: no earlier receive got the message.
 fn tried<T: Send + Drop, Rt: Drop>(receiver: &mut Receiver<T, Rt>) -> Result<T, TryRecvError>
     ensures { IfOk result (λ _. OnlyTheLastGot T receiver.new.log) }
 {

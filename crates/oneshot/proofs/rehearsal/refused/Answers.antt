@@ -1,4 +1,4 @@
--- The trace's rest is the one that the run gives.
+-- The trace's rest is the run's.
 use Rattle.std.proofs.Common.{◌≡◌, [], ◌∙◌, refl}
 use Rattle.oneshot.proofs.Refused.{comes_back}
 use Rattle.oneshot.proofs.rehearsal.refused.Goals as goal

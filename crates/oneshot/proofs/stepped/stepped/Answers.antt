@@ -1,4 +1,4 @@
--- One more move, and what the law says of the run.
+-- One more move extends the run, and the law of the run gives the clauses.
 use Rattle.std.proofs.Common.{◌≡◌, take}
 use Rattle.std.proofs.lemmas.List.{take_more, take_all}
 use Rattle.oneshot_world.specs.declared.script.Move.TheVariants.{Sender}

@@ -1,4 +1,4 @@
--- What holds on each round of the loop in `wait`.
+-- The invariant of the loop in `wait`.
 use Rattle.oneshot_drive.proofs.Names.{◌≡◌, waits, blocked, Goes, Stands, Path, ReceiveBy, wait_of}
 use Rattle.oneshot_drive.proofs.waiting.wait.Given as goal
 

@@ -1,4 +1,4 @@
--- What holds on each round of the loop in `wait_late`.
+-- The invariant of the loop in `wait_late`.
 use Rattle.oneshot_drive.proofs.Names.{Timed, LatePark, overdue, Goes, Stands, Path}
 use Rattle.oneshot_drive.proofs.waiting.wait_late.Given as goal
 
