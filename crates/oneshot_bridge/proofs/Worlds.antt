@@ -53,7 +53,7 @@ module _ {X : Type 0} (a : SenderScript X) (b : ReceiverScript) where
       }
 
   module _ {xs ys : List Noted} {n : ℕ} where
-    -- the step that a sender's world makes by a row
+    -- a sender makes the step of its world by a row
     sender_made : {s : SenderStand} {r : ReceiverStand} (g : Got xs ys n s r) (p : SenderPos) (row : Outcome SenderPos)
         → the_sender.position s ≡ Some p → sender_row p (seen_by false g.now.world.state (sender_step p)) ≡ Some row
         → (sender_at g.now.world ≡ Some p) × (sender_steps nothing_told g.now.world.state p

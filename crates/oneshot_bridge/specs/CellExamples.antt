@@ -110,7 +110,7 @@ module _ {T : Type 0} (m : T) where
     pub frees_early : CellsAreSo sent stored (record w.state { freed = true }) → ⊥
     -- the message at home is not that of the run
     pub other_message : (other : T) → (other ≡ m → ⊥) → Slots (Some other) (scene_at w 7) → ⊥
-    -- nor is the message that an end gave or took
+    -- an end gave or took another message than the run's
     pub passed_another : (other : T) → (other ≡ m → ⊥) → Passed m (Some other) → ⊥
     -- a slot that holds one is not bare
     pub no_message : Slots None (scene_at w 7) → ⊥

@@ -38,7 +38,7 @@ RunsAreInOrder T =
     → RunsSo a b moves entries now xs ys word → Reaches xs ys word → IsInOrder entries xs ys
 
 module _ {T : Type 0} (m : T) where
-  -- the worked run, whose sender adds before the receiver looks again
+  -- the worked run, whose sender adds before the receiver loads again
   pub record WorkedOrder : Type 0 where
     pub ends : operators_of (entries m)
         ≡ Receiver ∷ Receiver ∷ Sender ∷ Receiver ∷ Sender ∷ Receiver ∷ []

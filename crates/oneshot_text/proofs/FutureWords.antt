@@ -62,7 +62,7 @@ abbrev pub Each : List (List ℕ) → List AsyncCall → List (List ℕ) → Typ
 Each all taken left =
     (future : AsyncScript) → HasNumbers future.calls → all ≡ words_of_future future → Ahead future taken left
 
--- what is known of the next call that is read
+-- what the contract states of the next call that is read
 abbrev pub ReadsEach : {F : Type 0} → List (List ℕ) → Result (Option AsyncCall) F → Type 0
 ReadsEach left read =
     (call : AsyncCall) (rest : List (List ℕ)) → HasNumber call → left ≡ words_of_future_call call ++ rest

@@ -77,7 +77,7 @@ text_ends message n start moves text now so_far =
       written = rw (so_far.written, so_far.ends) refl;
     }
 
--- bytes that grow twice
+-- bytes that are appended in two parts
 pub appends_more : (old mid new : Option (List ℕ)) (xs ys : List ℕ) → Appends old mid xs → Appends mid new ys
     → Appends old new (xs ++ ys)
 appends_more None mid new xs ys first_part second_part = tt

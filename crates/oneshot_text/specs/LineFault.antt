@@ -26,8 +26,8 @@ NumberMayFollow language front = (number : ℕ) × (number < 2 ^ 64) × MayFollo
 abbrev pub WordMayFollow : (List (List ℕ) → Type 0) → List (List ℕ) → Type 0
 WordMayFollow language front = (word : List ℕ) × MayFollow language front word
 
--- The fault of a line that goes wrong at the word of this number, after these words: a number had to
--- follow, or another word, or no word.
+-- The fault of a line that goes wrong at the word of this number, after these words: `BadNumber` if a
+-- number may follow, `UnknownWord` if only other words may, `FollowsLastCall` if none may.
 pub data IsFaultAt (line : Line) (word : ℕ) (language : List (List ℕ) → Type 0) (front : List (List ℕ)) : Malformed
     → Type 0 where
   needs_number : NumberMayFollow language front → IsFaultAt line word language front (BadNumber line word)

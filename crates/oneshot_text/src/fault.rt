@@ -20,7 +20,7 @@ pub enum Malformed {
     /// This word is unknown here.
     #[error("{line}: unknown word {word}")]
     UnknownWord { line: Line, word: usize },
-    /// A number must come here, but the word is missing or is no number.
+    /// A number must come here, but the word is missing or is no number below 2^64.
     #[error("{line}: bad number at word {word}")]
     BadNumber { line: Line, word: usize },
     /// The word follows the last call of its line, or the schedule's letters.

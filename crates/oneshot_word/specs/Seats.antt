@@ -126,7 +126,8 @@ IsOrdered Sender xs = (ys : List Noted) × (word : ℕ) × Reaches xs ys word
 IsOrdered Receiver ys = (xs : List Noted) × (word : ℕ) × Reaches xs ys word
 IsOrdered _ log = ⊤
 
--- an end's seat: its owner, what it carries in this phase, and which message passed
+-- an end's seat: its owner, what it carries in its end's phase, which message passed, and that its log
+-- has an order
 pub record SeatIs {T H K P : Type 0} (keeps : P → T → Type 0) (whose : Role) (front : Front)
     (owns : List Noted → Option (Bool × Bool)) (Passed : Option T → Held T → Type 0)
     (me : Me (Slot T H K) (View T P)) : Type 0 where

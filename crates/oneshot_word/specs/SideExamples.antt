@@ -52,7 +52,7 @@ pub record SidesThatAre : Type 0 where
   pub receives : ReceiverDid new_receiver Load 4 has_received
 
 pub record SidesThatAreNot : Type 0 where
-  -- ends of a new table, each but for one thing
+  -- ends of a new table, each wrong in one thing
   pub sender_about_another : AreEnds {P = ℕ} 7 (record new_sender { about = 8 }) new_receiver → ⊥
   pub receiver_about_another : AreEnds {P = ℕ} 7 new_sender (record new_receiver { about = 8 }) → ⊥
   pub of_two_tables : AreEnds {P = ℕ} 7 new_sender (record new_receiver { table = table 1 2 6 }) → ⊥

@@ -19,7 +19,7 @@ pub record Classes : Type 0 where
   pub copies : ℕ → ℕ → ℕ
   pub polls : ℕ → ℕ
 
--- all alike
+-- one class for all copies, and one for all polls
 abbrev pub all_alike : Classes
 all_alike = record { copies = λ number entry. 0; polls = λ number. 0 }
 

@@ -17,7 +17,7 @@ use oneshot_machine::states::EMPTY;
 pub enum SenderState {
     /// No call is under way.
     Ready,
-    /// A call is under way, and stands here.
+    /// A call is under way, at this position.
     At(SenderPos),
     /// The `send` was refused, and its error is in the sender's place. No call of the error is under way.
     Failed,
@@ -30,7 +30,7 @@ pub enum SenderState {
 pub enum ReceiverState {
     /// No call is under way.
     Ready,
-    /// A call is under way, and stands here.
+    /// A call is under way, at this position.
     At(ReceiverPos),
     /// The receiver has ended.
     Ended,
