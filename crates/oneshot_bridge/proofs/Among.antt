@@ -1,4 +1,4 @@
--- What is in a list that was made from another one.
+-- What is in a list that was made from another list.
 use Rattle.oneshot_bridge.proofs.Names.{◌≡◌, Bool, true, false, List, [], ◌∷◌, ◌++◌, Some, cond, refl, ap, subst, filter, flat_map, eqb-true, Seen, Done, Over, Refused, Token, In, head, tail, Outcome, Rows, row_for, is_same_seen}
 use Rattle.std.specs.Prelude.{if◌then◌else◌}
 use Rattle.oneshot_machine.specs.declared.machine.Seen.TheVariants.{Word}
@@ -46,7 +46,7 @@ module _ {X : Type 0} (test : X → Bool) {x : X} where
   in_such [] there = elim there [ ]
   in_such (y ∷ xs) there = such_of (test y) y xs (filter test xs) refl (in_such xs) there
 
--- what was seen is told apart by its test
+-- the test of what was seen proves equality
 seen_is : (a b : Seen) → is_same_seen a b ≡ true → a ≡ b
 seen_is Done Done e = refl
 seen_is (Word a) (Word b) e = ap Word (eqb-true a b e)

@@ -1,4 +1,4 @@
--- The examples of calls: each log call by call, and why the others are none.
+-- The examples of calls: each log call by call, and why the counterexamples are no calls.
 use Rattle.oneshot_bridge.proofs.Names.{◌≡◌, true, false, List, [], ◌∷◌, ◌++◌, None, refl, ap, subst, Reply, Seen, Refused, Step, Try, Future, ReceiverStart, TryRecv, Recv, Poll, SenderCall, Send, SendAdd, Close, Take, Load, Store, Exchange, Add, Form, as_receiver, stays, ReceiverCalled, not_called, called, became_future, SenderCalled, not_called_yet, called_once, Event, did, worded, words, Noted, receiver_start, receiver_step, receiver_row, Run, last, more, not_empty, same_start, same_last, tried_twice, WorkedCalls, WrongCalls}
 use Rattle.oneshot_machine.proofs.FirstSteps.{tries_in_vain}
 use Rattle.oneshot_machine.specs.declared.machine.Reply.TheVariants as R
@@ -42,7 +42,7 @@ module _ {T W : Type 0} where
             (more SendAdd (did Steps.WriteMessage) _ refl refl (last (worded Add 3) refl refl));
       }
 
-  -- without a call no operation
+  -- without a call there is no operation
   made_none : {form : Form} {calls : List (ReceiverStart × Reply)} {log : List Noted}
       → ReceiverCalled T W form calls log → calls ≡ [] → log ≡ []
   made_none not_called none = refl

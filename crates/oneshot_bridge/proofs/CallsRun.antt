@@ -1,4 +1,4 @@
--- Between calls: an order of both ends' logs is that of a run with the calls that the ends have answered.
+-- Between calls: an order of both ends' logs is that of a run with the calls that the ends have made.
 use Rattle.oneshot_bridge.proofs.Names.{subst, filter, CallsAreRuns, BothCallsAreRuns, OneCallGets, HaveCome, InOrder, gave_message}
 use Rattle.std.specs.Prelude.{◌≤◌, length}
 use Rattle.oneshot_machine.proofs.InOrders.{in_order}

@@ -1,4 +1,4 @@
--- A run of a call goes on a walk that stands at the call's first position, for either end.
+-- A run of a call continues a walk that is at the call's first position, for either end.
 use Rattle.oneshot_bridge.proofs.Names.{◌≡◌, Bool, true, ◌&&◌, ◌||◌, List, [], ◌∷◌, ◌++◌, Option, Some, None, refl, sym, ap, ◌∙◌, subst, append_assoc, append-nil, and_parts, cons_option, list_all, option_map, Reply, Seen, Step, Op, Event, words, Noted, op_of, Run, last, more, Outcome, Goes, Answers, Rows, row_for, each_passes, Unanswered, left_by, Answered, answers_with, Stand, Walker, may_see, stands_after, Quiet, quiet, Operates, operates, Walk, quietly, by_one}
 use Rattle.std.specs.Prelude.{is_some}
 use Rattle.oneshot_machine.specs.declared.machine.Step.TheVariants.{Word}
@@ -8,8 +8,8 @@ op_is : (op : Op) (step : Step) → op_of step ≡ Some op → step ≡ Word op
 op_is op (Word other) e = ap Word (cc e)
 op_is op _ e = absurd (cc e)
 
--- What is computed of an end's table, at the positions of the calls in question: a step that is no operation sees
--- what a walk may see, a row leads to such a position, and an answer leaves the end so.
+-- The test of an end's table, at the positions of the calls in question: a step that is no operation
+-- sees what a walk may see, a row leads to such a position, and a reply leaves the end so.
 pub record Walks {P S : Type 0} (w : Walker P S) (among : P → Bool) (Left : S → Type 0) : Type 0 where
   pub sees : (p : P) (seen : Seen) (row : Outcome P) → among p ≡ true → op_of (w.step p) ≡ None
       → w.row p seen ≡ Some row → may_see (w.step p) seen ≡ true
@@ -19,7 +19,7 @@ pub record Walks {P S : Type 0} (w : Walker P S) (among : P → Bool) (Left : S 
   pub stands : (p next : P) (left : Unanswered) (told : List Answered)
       → w.position (w.goes (w.step p) (Goes next), left, told) ≡ Some next
 
--- by a test of each row
+-- it follows from a test of each row
 module _ {P S : Type 0} (w : Walker P S) (among : P → Bool) (left : S → Bool) where
   abbrev leads_on : P → Outcome P → Bool
   leads_on p (Goes next) = among next

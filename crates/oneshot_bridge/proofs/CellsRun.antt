@@ -15,7 +15,7 @@ classed = all_classed phase_reader refl
 abbrev pub Found : World → Phases → Type 0
 Found w m = IsFound phase_reader all_alike classed explored w m
 
--- a reading that was found beside a world goes on with the run
+-- a reading that was found with a world follows the run
 reads_as : (k : Classes) (call : Call) (entry : Entry) (m : Phases)
     → reads_entry phase_reader call (as_entry k entry) m ≡ reads_of entry m
 reads_as k call (Idle side) m = refl
@@ -37,7 +37,7 @@ found_last n w m (next ∷ worlds) (move ∷ moves) (entry ∷ entries) at told 
     (turned_reaches n side w entry next at.0 by, subst (Found next) (reads_as all_alike call entry m) then) told.1
 found_last n w m _ _ _ at told = elim told [ ]
 
--- a run comes to a world beside which the phases of its logs were found
+-- a run leads to a world that was found with the phases of its logs
 pub comes_to : {T : Type 0} (a : SenderScript T) (b : ReceiverScript) {moves : List Move} {entries : List Entry}
     {now : Scene T} {xs ys : List Noted} {word : ℕ} → RunsSo a b moves entries now xs ys word → Reaches xs ys word
     → IsAt now.world (Some (sender_at xs, receiver_at ys))
@@ -63,7 +63,7 @@ so_as k s (Some m) =
     ap (λ some. is_so (message_home m.0 m.1) (is_in_cell s.message)
     && (is_so (waker_home m.0 m.1) some && only_if s.freed (one_has_both m.0 m.1))) (some_as (as_name k) s.wakers.cell)
 
--- what was computed of all that was found
+-- a test that all found worlds pass holds of each
 pub found_passes : (test : Watched Phases → Bool) → all_in test explored.found ≡ true → (w : World) (m : Phases)
     → Found w m → test (record { control = as_control all_alike (control_of w); reader = m }) ≡ true
 found_passes test all w m found =
@@ -71,7 +71,7 @@ found_passes test all w m found =
     (watched_coding phase_reader).sound test explored.found
     (record { control = as_control all_alike (control_of w); reader = m }) all found
 
--- by the share that is at home
+-- by the share at home
 in_filled : (share : Share) (full : Bool) → is_so share full ≡ true → share ≡ filled → full ≡ true
 in_filled filled full so is = so
 in_filled _ full so is = absurd (cc is)

@@ -1,4 +1,4 @@
--- The examples: each walk step by step, the order operation by operation, and why the others are none.
+-- The examples: each walk step by step, the order operation by operation, and why the counterexamples are false.
 use Rattle.oneshot_bridge.proofs.Names.{◌≡◌, ℕ, true, false, List, [], ◌∷◌, Some, get_or, refl, sym, ap, subst, ◌∙◌, Seen, Done, Token, Value, SendWrite, SendAdd, SendTakeWaker, SendFinal, SendWake, RecvLoad, RecvWrite, RecvSwap, RecvPark, RecvParkLoad, RecvTake, RecvFreeGot, Load, Swap, Add, Noted, Reaches, has_row, nothing_made, receiver_step, receiver_row, head, tail, Goes, Answers, sends, receives, sent, received, worlds, WorkedRun, WrongRuns, may_see, begins, quietly, by_one, Quiet, quiet, Operates, operates, the_receiver, opening_receiver, SenderStand, ReceiverStand, SenderWalk, ReceiverWalk, not_empty, same_start, same_last}
 use Rattle.std.specs.Option.{IsSome}
 use Rattle.oneshot_machine.specs.declared.machine.Reply.TheVariants as R
@@ -95,7 +95,7 @@ stays begins e = refl
 stays (quietly a q) e = absurd (rests_not (stays a e) q)
 stays (by_one {xs} x a made) e = absurd (not_empty xs x e)
 
--- which a row is for
+-- its first row has this operation and what it saw
 abbrev IsFirst : Noted → Type 0
 IsFirst x = (Load ≡ x.0) × IsSome (receiver_row (Value RecvLoad) x.1)
 

@@ -1,4 +1,4 @@
--- What the laws of the model say of both ends: each from the run that they are of.
+-- What the laws of the model state of both ends: each from the run that the ends' order is.
 use Rattle.std.proofs.Common.{if◌then◌else◌}
 use Rattle.std.specs.Prelude.{◌≤◌, length, is_some}
 use Rattle.oneshot_bridge.proofs.Names.{◌≡◌, ℕ, ◌+◌, Bool, true, false, not, ◌&&◌, ◌||◌, List, [], ◌∷◌, Option, Some, None, map, refl, sym, ap, ◌∙◌, subst, filter, list_any, cons_option, option_map, and_parts, Receiver, Reply, Noted, receiver_step, ahead_of, is_some_park, Call, calls_of, World, opening, Tells_from, Move, ReceiverScript, SenderScript, Entry, run_is, is_end_of_sender, has_answered, is_same_end, both_hold, is_free_last, is_freed_at_end, Mark, marks, side, is_unwoken, is_never_unwoken, waits_in_task, IsRight, HasRun, told_at, Scene, last_of, gave_message, OneReceiveGets, RunLosesNoWakeup, RunFreesOnce, RunFreesLast, RunFreesByItsHolder, answered_by, RunsTo, Answered, the_receiver, ReceiverStand, SenderStand}
@@ -37,7 +37,7 @@ run_frees_last T a b xs ys word s r come run earlier later m is freeing =
 pub run_frees_by_its_holder : (T : Type 0) → RunFreesByItsHolder T
 run_frees_by_its_holder T a b xs ys word s r come run = (held_and_last run).0
 
--- never unwoken, at the last moment of a run
+-- the receiver is not unwoken at the last moment of a run
 last_woken : (so_far : List Entry → List Mark) (k : ℕ) (w : World) (worlds : List World) (moves : List Move)
     (entries : List Entry) → Tells_from k w worlds moves entries
     → is_never_unwoken so_far (map ahead_of (w ∷ worlds)) entries ≡ true
@@ -48,7 +48,7 @@ last_woken so_far k w (next ∷ worlds) (move ∷ moves) (entry ∷ entries) tel
     (and_parts (not (is_unwoken (so_far []) (ahead_of w))) _ woken).1
 last_woken so_far k w _ _ _ tells woken = elim tells [ ]
 
--- a call that an end has answered, as its marks show it
+-- a call of an end that has replied, as its marks show it
 or_so : (a b : Bool) → b ≡ true → (a || b) ≡ true
 or_so true b e = refl
 or_so false b e = e
@@ -83,7 +83,7 @@ token_there true false false task e p woken = absurd (cc p)
 pub same_value : {X : Type 0} {a b : X} → Some a ≡ Some b → a ≡ b
 same_value is = cc
 
--- nor is it at the end of a run
+-- so it is not at the end of a run
 pub woken_at : {T : Type 0} (a : SenderScript T) (b : ReceiverScript) (moves : List Move) (entries : List Entry)
     (now : Scene T) → HasRun a b moves entries now → IsRight a b moves (told_at entries now)
     → not (is_unwoken (marks (calls_of a b) entries) (ahead_of now.world)) ≡ true

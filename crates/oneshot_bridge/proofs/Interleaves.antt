@@ -1,8 +1,7 @@
--- An order of both ends' operations, and a walk of each end, make a run of any model that can make each step
--- of a walk: the induction on the order.
+-- An order and a walk of each end make a run of any model that can make each step of a walk: by induction.
 use Rattle.oneshot_bridge.proofs.Names.{◌≡◌, ℕ, List, [], ◌∷◌, ◌++◌, refl, sym, subst, Op, Noted, saw, InOrder, none_made, by_sender, by_receiver, word_after, not_empty, same_start, same_last, Walk, begins, quietly, by_one}
 
--- what a model can do that makes each step of a walk
+-- a model that can make each step of a walk
 pub record CanStep {S R : Type 0} (SRests : S → S → Type 0) (SMakes : S → Noted → S → Type 0)
     (RRests : R → R → Type 0) (RMakes : R → Noted → R → Type 0) (s0 : S) (r0 : R)
     (Ran : List Noted → List Noted → ℕ → S → R → Type 0) : Type 0 where
@@ -19,7 +18,7 @@ pub record CanStep {S R : Type 0} (SRests : S → S → Type 0) (SMakes : S → 
 module _ {S R : Type 0} {SRests : S → S → Type 0} {SMakes : S → Noted → S → Type 0} {RRests : R → R → Type 0}
     {RMakes : R → Noted → R → Type 0} {s0 : S} {r0 : R} {Ran : List Noted → List Noted → ℕ → S → R → Type 0}
     (can : CanStep SRests SMakes RRests RMakes s0 r0 Ran) where
-  -- neither has made an operation
+  -- neither end has performed an operation
   both_rest : {xs ys : List Noted} {s : S} {r : R} → Walk SRests SMakes s0 xs s → xs ≡ []
       → Walk RRests RMakes r0 ys r → ys ≡ [] → Ran [] [] 3 s r
   both_rest begins e begins f = can.opens
@@ -28,7 +27,7 @@ module _ {S R : Type 0} {SRests : S → S → Type 0} {SMakes : S → Noted → 
   both_rest (quietly a q) e b f = can.sender_rests (both_rest a e b f) q
   both_rest (by_one {xs} x a m) e b f = absurd (not_empty xs x e)
 
-  -- one end has made the last operation, and rests since
+  -- one end performed the last operation, and then made only other steps
   module _ {xs ys : List Noted} {word : ℕ} (op : Op)
       (before : (s : S) (r : R) → Walk SRests SMakes s0 xs s → Walk RRests RMakes r0 ys r → Ran xs ys word s r) where
     sender_then : {zs : List Noted} {s : S} {r : R} → Walk SRests SMakes s0 zs s → zs ≡ xs ++ (op, saw op word) ∷ []

@@ -1,4 +1,4 @@
--- Each state that the rule of the table allows is of a run: its order, its slots at home, and its message.
+-- Each state that the rule of the table allows is that of a run: its order, its slots at home, and its message.
 use Rattle.oneshot_bridge.proofs.Names.{◌≡◌, ℕ, ◌+◌, List, [], ◌∷◌, Option, Some, None, refl, sym, ap, ◌∙◌, subst, End, Noted, Reaches, Share, empty, filled, receiver_step, sender_step, sender_puts, receiver_puts, place_left, reply_of, World, opening, opening_place, side_of, Tells_from, Move, ReceiverScript, SenderLast, SenderScript, Entry, Turned, sender_idle, sender_made, receiver_idle, receiver_made, turned, message_of, rest_at, HasRun, Scene, last_of, AnyWaker, Slot, Empty, Message, Home, bare, has_message, Lies, lies_out, lies_bare, lies_filled, IsGiven, IsTaken, took_none, took_it, opened, dealt, runs, any, with_waker, message_of_logs, waker_of_logs, CellsAreSo, SlotsAreSo, Passed, none_passed, it_passed, maker_before, dealer_before, is_run, TablesAreOfRuns, RunsSo, SendsOnly, IsOfARun, RunsCalls}
 use mathlib.Core.Option as maybe
 use Rattle.oneshot_world.specs.declared.script.SenderLast.TheVariants as SL
@@ -9,7 +9,7 @@ use Rattle.oneshot_bridge.proofs.CallsRun.{calls_run}
 use Rattle.oneshot_bridge.proofs.CellsRun.{cells_run}
 use Rattle.oneshot_bridge.proofs.StatesRun.{states_run}
 
--- a world without a message stays so
+-- a world without a message stays without one
 message_turn : (n : ℕ) (side : End) (w : World) (entry : Entry) (next : World) → Turned n w side entry next
     → w.state.message ≡ None → next.state.message ≡ None
 message_turn n _ w _ _ (sender_idle at) lacks = lacks
@@ -47,7 +47,7 @@ lies_there a b {moves} {entries} {now} m ran only there =
     ∙ message_last 1 (opening a b) ran.worlds moves entries ran.tells lacks)) in
     λ i. rest_at (there i) ((ran.message ∙ sent) i)
 
--- what lies at home, by its share
+-- what is at home, by its share
 module _ {T H K X : Type 0} {kept : X → Type 0} {put : X → Slot T H K} where
   is_filled : {share : Share} {home : Home T H K} (slot : Slot T H K) → (slot ≡ Empty → ⊥) → Lies kept put share home
       → home ≡ maybe.some slot → share ≡ filled

@@ -1,4 +1,4 @@
--- The names of other crates and of this one's definitions that the proofs cite, passed on from one place.
+-- The names of other crates and of this one's definitions that the proofs cite, re-exported in one place.
 pub use Rattle.oneshot_bridge.specs.CallExamples.{tried_twice, WorkedCalls, WrongCalls}
 pub use Rattle.oneshot_bridge.specs.CallsRun.{RunsCalls, in_script, receiver_answered, sender_answered, is_at_rest, CallsAreRuns, BothCallsAreRuns, OneCallGets}
 pub use Rattle.oneshot_bridge.specs.CellExamples.{worlds_by, WorkedCells, WrongCells, WrongUses, world_by, scene_at}

@@ -1,4 +1,4 @@
--- At most one receive is answered with the message, and at most one entry frees the block, the last that uses it.
+-- At most one receive returns the message, and at most one entry frees the block, the last that uses it.
 use Rattle.std.proofs.Common.{◌≤◌, if◌then◌else◌, length}
 use Rattle.oneshot_bridge.proofs.Names.{arith, ◌≡◌, ℕ, ◌+◌, Bool, true, false, not, ◌&&◌, ◌||◌, List, [], ◌∷◌, ◌++◌, Option, Some, None, cond, refl, sym, ap, subst, filter, list_all, list_any, cons_option, option_map, and_parts, Receiver, Reply, Step, Free, Call, is_receive, only_if, is_same_end, is_same_reply, is_reply, is_word, is_on_a_cell, is_free, agrees, frees, uses_block, is_free_last, Mark, side, answers, answers_only, is_gone_after_got, gave_message, answered_at, answered_by, Answered}
 use Rattle.oneshot_machine.specs.declared.machine.Reply.TheVariants as R
@@ -6,7 +6,7 @@ use Rattle.oneshot_machine.specs.declared.machine.Reply.TheVariants as R
 abbrev number_of : List Answered → ℕ
 number_of told = length (filter gave_message told)
 
--- what a mark adds: one at the most, and none where it gives no message
+-- what a mark adds to the count: at most one, and none if it does not give the message
 abbrev at_most : Bool → ℕ
 at_most gives = cond gives 1 0
 
@@ -37,7 +37,7 @@ mark_adds m later =
     adds (answers is_receive R.Message m) (answered_at Receiver m) (answered_by Receiver later)
     (gives_as (is_same_end (side m) Receiver) m.entry.reply m.call)
 
--- a receive that is answered with "disconnected" is not answered with the message
+-- a receive that returns "disconnected" does not return the message
 apart : (reply : Reply) → is_same_reply reply R.Disconnected ≡ true → is_same_reply R.Message reply ≡ false
 apart R.Disconnected e = refl
 apart _ e = absurd (cc e)
@@ -112,7 +112,7 @@ freed_once (m ∷ later) last =
         let more : length (filter frees (m ∷ later)) ≤ 0 + length (filter frees later) =
         one_more (frees m) false m (filter frees later) is in omega (arith, more, rest)
 
--- nothing uses it after that
+-- nothing uses it after its free
 pub unused_after : (earlier later : List Mark) (m : Mark) → is_free_last (earlier ++ m ∷ later) ≡ true → frees m ≡ true
     → list_any uses_block later ≡ false
 unused_after [] later m last is =

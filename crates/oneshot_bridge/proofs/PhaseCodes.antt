@@ -1,4 +1,4 @@
--- The phases of both ends, told apart by numbers while the checker explores.
+-- The phases of both ends, distinguished by numbers while the checker explores.
 use Rattle.oneshot_bridge.proofs.Names.{◌≡◌, ℕ, List, [], ◌∷◌, Option, refl, get_or, sending, dropping, SenderAt, fresh, owes, finished, late, overtaken, no_sender, looked, between, blocked, polled, again, storing, stopping, at_once, waited, swapped, by_future, by_poll, found_closed, closed_itself, ReceiverAt, here, claimed, withdrew, overdue, full, unclosed, disconnected, resolved, gone, ended, no_receiver, Coding, listed, pairs, or_none}
 use Rattle.oneshot_machine.specs.Phases.{first, waits}
 
@@ -120,7 +120,7 @@ receiver_back gone = refl
 receiver_back ended = refl
 receiver_back no_receiver = refl
 
--- the phases of both ends, or none once a log is no end's
+-- the phases of both ends, or none once a log is that of no end
 abbrev pub Phases : Type 0
 Phases = Option (SenderAt × ReceiverAt)
 

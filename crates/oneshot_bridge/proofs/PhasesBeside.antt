@@ -1,5 +1,4 @@
--- The phases of both ends beside the machines: the checker explores both together, and the cells of all that it
--- finds are as the rule of the word has it.
+-- The checker explores phases and machines together, and in all that it finds the cells are as the rule has them.
 use Rattle.std.proofs.Common.{is_some}
 use Rattle.oneshot_bridge.proofs.Names.{◌≡◌, Bool, true, false, not, ◌&&◌, Option, Some, None, refl, End, Receiver, Done, Step, Wake, SenderPos, Noted, SenderAt, fresh, finished, no_sender, sender_next, ReceiverAt, gone, no_receiver, receiver_next, Share, none, empty, filled, sender_step, sender_row, Outcome, Answers, Call, all_in, is_in_cell, ReceiverState, SenderState, State, Made, is_end_of_sender, only_if, or_stray, Watched, Automaton, Explored, no_names, all_watched, message_home, waker_home, one_has_both, operation_of, found_it_gone}
 use Rattle.oneshot_machine.specs.declared.machine.End.TheVariants.{Sender}
@@ -8,7 +7,7 @@ use Rattle.oneshot_world.specs.declared.state.ReceiverState.TheVariants as RS
 use Rattle.oneshot_world.specs.declared.state.SenderState.TheVariants as SS
 use Rattle.oneshot_bridge.proofs.PhaseCodes.{Phases, phases}
 
--- both phases, if they are an end's
+-- both phases, if each is that of an end
 abbrev pub with_phases : SenderAt → ReceiverAt → Phases
 with_phases no_sender q = None
 with_phases p no_receiver = None
@@ -44,7 +43,7 @@ phase_reader =
       first = λ place. Some (fresh, first);
     }
 
--- WHAT IS COMPUTED: the cells of all that a run can reach
+-- WHAT IS COMPUTED: the cells of every state that a run can reach
 abbrev pub is_so : Share → Bool → Bool
 is_so none full = true
 is_so empty full = not full
@@ -70,8 +69,8 @@ pub all_right : all_in is_right explored.found ≡ true
 unfolding explored
 all_right = refl
 
--- The sender whose last operation found the receiver here is about to wake it, if its call is under way, and
--- answers by that step.
+-- If the sender's last operation found the receiver here and its call is under way, its next step wakes
+-- the receiver and completes the call.
 abbrev pub is_wake : Step → Bool
 is_wake Wake = true
 is_wake _ = false

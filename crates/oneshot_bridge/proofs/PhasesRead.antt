@@ -1,4 +1,4 @@
--- What the reader of phases reads of a trace: the phases of both its logs.
+-- The reader of phases reads from a trace the phases of both its logs.
 use Rattle.oneshot_bridge.proofs.Names.{◌≡◌, ℕ, true, List, [], ◌∷◌, Option, Some, None, refl, ap, ◌∙◌, cons_option, End, Receiver, Noted, Reaches, SenderAt, no_sender, sender_next, ReceiverAt, no_receiver, receiver_next, phase_from, by_end, Entry, is_senders, is_receivers, sender_is, receiver_is, operation_of, log_of}
 use Rattle.oneshot_machine.specs.declared.machine.End.TheVariants.{Sender}
 use Rattle.oneshot_machine.specs.Phases.{sender_at, receiver_at}
@@ -14,7 +14,7 @@ abbrev pub read_all : Phases → List Entry → Phases
 read_all m [] = m
 read_all m (entry ∷ entries) = read_all (reads_of entry m) entries
 
--- a log that is no end's stays so
+-- a log that is that of no end stays so
 lost_sender : (x : Option Noted) → no_sender ≡ sender_after x no_sender
 lost_sender None = refl
 lost_sender (Some x) = refl
@@ -38,7 +38,7 @@ reads_both Receiver x p no_receiver = ap (with_phases p) (lost_receiver x)
 reads_both Sender x p q = refl
 reads_both Receiver x p q = refl
 
--- what the entries read, their logs show
+-- the reader finds what the logs of the entries show
 abbrev ReadSo : List Entry → Type 0
 ReadSo entries =
     (p : SenderAt) (q : ReceiverAt) → read_all (with_phases p q) entries

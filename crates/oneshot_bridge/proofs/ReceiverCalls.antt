@@ -1,4 +1,4 @@
--- The calls that a receiver has answered are those of a walk, which carried out a script of these calls.
+-- The calls that a receiver has made are those of a walk whose script has just these calls.
 use Rattle.oneshot_bridge.proofs.Names.{◌≡◌, Bool, true, false, List, [], ◌∷◌, ◌++◌, Some, refl, sym, subst, append-nil, map-append, Reply, StartLoad, StartWrite, StartSwap, AsyncLoad, DropSwap, LookFull, ReceiverPos, Look, Try, Ref, Timed, Value, Future, AsyncDrop, ReceiverStart, SumClock, TryLoad, RecvLoad, Plain, Form, as_receiver, ReceiverCalled, not_called, called, became_future, Event, did, words, Noted, receiver_start, receiver_step, receiver_row, receiver_rows, Run, last, as_receiver_call, receiver_position, ReceiverScript, ReceiverState, in_script, receiver_answered, ReceiverStand, ReceiverWalk, the_receiver, opening_receiver, begins}
 use Rattle.oneshot_machine.specs.declared.machine.Reply.TheVariants as R
 use Rattle.oneshot_machine.specs.declared.machine.future.FuturePos.TheVariants as F
@@ -61,7 +61,7 @@ abbrev after_of : Form → After
 after_of as_receiver = calls
 after_of as_future = polls
 
--- The receiver has answered these calls by a walk, whichever calls follow.
+-- The receiver has made these calls by a walk, whichever calls follow.
 record Walked (after : After) (received : List (ReceiverStart × Reply)) (ys : List Noted) : Type 0 where
   script : Rest after → ReceiverScript
   walk : (rest : Rest after)
@@ -69,7 +69,7 @@ record Walked (after : After) (received : List (ReceiverStart × Reply)) (ys : L
       (RS.Ready, record { calls = calls_in after rest; error = [] }, receiver_answered received)
 
 module _ {T W : Type 0} where
-  -- one call more
+  -- one more call
   walked : {from to : After} {received : List (ReceiverStart × Reply)} {ys : List Noted} {reply : Reply}
       {run : List (Event T W)} (call : ReceiverStart) (more : Rest to → Rest from)
       → ((rest : Rest to) → calls_in from (more rest) ≡ in_script call ∷ calls_in to rest)
@@ -124,7 +124,7 @@ module _ {T W : Type 0} where
       (walked RC.IntoFuture (λ rest. ([], RL.IntoFuture (record { calls = rest.0; last = rest.1 }))) (λ rest. refl) refl
       refl (last (did {T = T} {W = W} Plain) refl refl) (walks_of before))
 
--- A receiver that is between two calls, and has answered these, which are all of its script.
+-- A receiver that is between two calls, and has made these, which are all of its script.
 pub record ReceiverDone (received : List (ReceiverStart × Reply)) (ys : List Noted) : Type 0 where
   pub script : ReceiverScript
   pub stand : ReceiverStand

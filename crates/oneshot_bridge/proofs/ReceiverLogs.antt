@@ -1,4 +1,4 @@
--- For each log that an order allows a receiver there are a script and a walk.
+-- For each log that an order allows the receiver, there are a script and a walk.
 use Rattle.oneshot_bridge.proofs.Names.{◌≡◌, ◌==◌, ℕ, Bool, true, false, not, ◌&&◌, ◌||◌, List, [], ◌∷◌, ◌++◌, Option, Some, None, refl, sym, ap, subst, All, list_all, list_any, flat_map, cons_option, and_parts, All-nil, All-cons, All-head, All-tail, All-contains, Seen, Step, ReceiverPos, Op, Accepts, Noted, op_of, saw, Reaches, has_row, nothing_made, receiver_step, receiver_row, receiver_rows, In, head, tail, Table, Standpoint, plainly, standpoint_row, standpoint_step, standpoint_number, outcome_at, receiver_table, is_op, onward, onward_all, moved, made_at, operations, standing, standing_from, Outcome, Goes, row_for, receiver_exact, each_passes, some_passes, ops_are_same, ReceiverScript, ReceiverIsScripted, ReceiverStand, ReceiverWalk, opening_receiver, begins}
 use Rattle.std.specs.Prelude.{if◌then◌else◌, IsSome}
 use Rattle.oneshot_machine.specs.declared.machine.Step.TheVariants.{Word}
@@ -12,7 +12,8 @@ use Rattle.oneshot_bridge.proofs.ReceiverStands.{makes, opens, some_walk}
 use Rattle.oneshot_bridge.proofs.RowsTurn.{row_found, is_found}
 use Rattle.oneshot_bridge.proofs.Standpoints.{pos_of, is_met, Comes, receiver_begins, standpoint_is}
 
--- WHAT IS COMPUTED: each row of each standpoint that is met leads on as walks do, and so does each first call.
+-- WHAT IS COMPUTED: each row of a standpoint that walks meet leads on as walks do, and so does each
+-- first call.
 abbrev kind_of : Standpoint → ReceiverPos → Standpoint
 kind_of (plainly p) = plainly
 kind_of (as_future p) = as_future
@@ -75,7 +76,7 @@ in_both {q} ps there =
     let one = some_passes (λ r. standpoint_number r == standpoint_number q) ps such.passes in
     (such.among, subst (λ r. In r ps) (standpoint_is one.one q one.passes) one.among)
 
--- where an end may stand after one operation more
+-- where an end may be after one more operation
 module _ {P : Type 0} (t : Table P) where
   moved_more : (ps : List P) (xs : List Noted) (x : Noted)
       → standing_from t ps (xs ++ x ∷ []) ≡ moved t (standing_from t ps xs) x
@@ -126,7 +127,7 @@ module _ {ys : List Noted} where
       by true is there = by_row (standpoint_row s seen) refl (op_is op (standpoint_step s) is) there
       by false is there = elim (subst (In q) (nothing_onward 6 s) there) [ ]
 
-  -- one operation more
+  -- one more operation
   stood_more : {q : Standpoint} (op : Op) (seen : Seen) (ps : List Standpoint)
       → ((s : Standpoint) → In s ps → Stood ys s)
       → In q (moved receiver_table ps (op, seen)) → Stood (ys ++ (op, seen) ∷ []) q
@@ -149,7 +150,7 @@ stood_first there =
           (each_passes (λ s. leads_well 6 s (Goes s)) receiver_table.opens calls_lead each.among) start each.found;
     }
 
--- a walk meets each standpoint at which the table may stand
+-- a walk meets each standpoint at which the table may be
 stood : {xs ys : List Noted} {word : ℕ} → Reaches xs ys word
     → (s : Standpoint) → In s (standing receiver_table ys) → Stood ys s
 stood nothing_made s there = stood_first there
@@ -158,7 +159,7 @@ stood (receiver_makes {ys} {word} op order row) s there =
     stood_more op (saw op word) (standing receiver_table ys) (stood order)
     (subst (In s) (standing_more receiver_table ys (op, saw op word)) there)
 
--- the position that makes an operation which the table has there
+-- the position whose step is this operation, which the table has there
 record MadeAt (ps : List Standpoint) (op : Op) : Type 0 where
   one : Standpoint
   among : In one ps

@@ -1,5 +1,4 @@
--- For each log of the receiver that an order allows there are a script and a walk: each standpoint at which its
--- table can stand after the log is met by a walk.
+-- For each log that an order allows the receiver: a walk meets each standpoint that its table can reach by the log.
 use Rattle.oneshot_bridge.proofs.Names.{◌≡◌, ℕ, Bool, true, false, ◌&&◌, List, [], ◌∷◌, zero, suc, Option, Some, None, refl, sym, subst, list_all, flat_map, option_map, and_parts, Seen, ReceiverPos, Noted, op_of, receiver_step, receiver_row, In, Standpoint, plainly, standpoint_row, standpoint_step, standpoint_follows, outcome_at, receiver_table, sights, onward, Outcome, Goes, Answers, each_passes, may_see}
 use Rattle.std.specs.Prelude.{is_some, if◌then◌else◌}
 use Rattle.oneshot_machine.specs.Standing.{as_future}
@@ -7,7 +6,7 @@ use Rattle.oneshot_bridge.proofs.Among.{only, AmongEach, in_each}
 use Rattle.oneshot_bridge.proofs.ReceiverStands.{After, calls, polls, nothing, Stands, IsReady, Steps, rests, goes, answers}
 use Rattle.oneshot_bridge.proofs.Standpoints.{pos_of, after_of, is_met, Comes, stays_on, stays_ready, follows}
 
--- a step within a call: which calls may follow stays the same
+-- a step within a call does not change which calls may follow
 abbrev is_same_after : After → After → Bool
 is_same_after calls calls = true
 is_same_after polls polls = true
@@ -59,7 +58,7 @@ module _ {ys zs : List Noted} {seen : Seen} where
   steps_on (as_future p) o comes steps =
       steps_by as_future (λ p. refl) (as_future p) (receiver_row p seen) o comes steps refl
 
--- What is computed of each row: the steps that are no operations lead on as walks do, until the next operation.
+-- The test of each row: the steps that are no operations lead on as walks do, until the next operation.
 abbrev sees_well : (Standpoint → Outcome Standpoint → Bool) → Standpoint → Seen → Option (Outcome Standpoint) → Bool
 sees_well well s seen None = true
 sees_well well s seen (Some o) = may_see (receiver_step (pos_of s)) seen && (keeps s o && well s o)
@@ -77,7 +76,7 @@ nothing_onward zero s = refl
 nothing_onward (suc fuel) s = refl
 
 module _ {ys : List Noted} where
-  -- the next standpoint is met
+  -- a walk meets the next standpoint
   pub comes_onward : {q : Standpoint} (fuel : ℕ) (s : Standpoint) (o : Outcome Standpoint) → is_met s ≡ true
       → leads_well fuel s o ≡ true → Came ys s o → In q (onward receiver_table fuel s (Some o)) → Comes ys q
   comes_onward zero s o met well came there = absurd (cc well)

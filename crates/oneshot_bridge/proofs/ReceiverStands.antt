@@ -1,5 +1,4 @@
--- A receiver that stands in a call, with a script that any calls may go on: how its walk goes on by a step, by
--- an answer and by the next call.
+-- A receiver in a call, under a script with any further calls: its walk after a step, a reply, or a next call.
 use Rattle.oneshot_bridge.proofs.Names.{◌≡◌, true, List, [], ◌∷◌, ◌++◌, Some, refl, subst, Reply, Seen, ReceiverPos, Op, Noted, receiver_start, receiver_step, receiver_row, Outcome, Goes, Answers, Call, Of_receiver, as_receiver_call, receiver_goes, receiver_call, async_call, receiver_calls, async_calls, receiver_position, AsyncCall, AsyncLast, ReceiverCall, ReceiverLast, ReceiverScript, ReceiverState, Answered, may_see, quietly, by_one, quiet, operates, stands_after, the_receiver, ReceiverStand, ReceiverWalk, begins}
 use Rattle.oneshot_machine.specs.declared.machine.Step.TheVariants.{Word}
 use Rattle.oneshot_machine.specs.declared.machine.receiver.ReceiverStart.TheVariants as RC
@@ -23,7 +22,7 @@ calls_in calls rest = receiver_calls rest.0 rest.1
 calls_in polls rest = async_calls rest.0 rest.1
 calls_in nothing rest = []
 
--- a walk with this log stands at this position, whichever calls follow
+-- a walk with this log is at this position, whichever calls follow
 pub record Stands (ys : List Noted) (p : ReceiverPos) (after : After) : Type 0 where
   pub call : Call
   pub state : ReceiverState
@@ -33,7 +32,7 @@ pub record Stands (ys : List Noted) (p : ReceiverPos) (after : After) : Type 0 w
   pub walk : (rest : Rest after)
       → ReceiverWalk (script rest) ys (state, record { calls = call ∷ calls_in after rest; error = [] }, told)
 
--- it has answered its call, and these follow
+-- its call has replied, and these may follow
 pub record IsReady (ys : List Noted) (after : After) : Type 0 where
   pub told : List Answered
   pub script : Rest after → ReceiverScript
@@ -96,7 +95,7 @@ some_walk {after} row stands steps rows = (
 pub opens : IsReady [] calls
 opens = record { told = []; script = λ rest. record { calls = rest.0; last = rest.1 }; walk = λ rest. begins }
 
--- the next call, whose rest of a script makes one of the calls that may follow
+-- the next call, if the rest of a script has one of the calls that may follow
 call_begins : {ys : List Noted} {from to : After} → IsReady ys from → (call : Call) (p : ReceiverPos)
     → receiver_position RS.Ready (as_receiver_call call) ≡ Some p → (more : Rest to → Rest from)
     → ((rest : Rest to) → calls_in from (more rest) ≡ call ∷ calls_in to rest) → Stands ys p to
@@ -114,7 +113,7 @@ call_begins {ys} {from} {to} ready call p at more same =
           (same rest) (ready.walk (more rest));
     }
 
--- of a receiver: one that leaves it in place, its last, or the one that makes it a future
+-- of a receiver: a call that leaves it in place, its last, or the one that makes it a future
 module _ {ys : List Noted} (ready : IsReady ys calls) where
   pub receive_begins : (call : ReceiverCall) (p : ReceiverPos)
       → receiver_position RS.Ready (as_receiver_call (receiver_call call)) ≡ Some p → Stands ys p calls
@@ -134,7 +133,7 @@ module _ {ys : List Noted} (ready : IsReady ys calls) where
       call_begins ready (Of_receiver RC.IntoFuture) (receiver_start RC.IntoFuture) refl
       (λ rest. ([], RL.IntoFuture (record { calls = rest.0; last = rest.1 }))) (λ rest. refl)
 
--- the same of a future
+-- the same for a future
 module _ {ys : List Noted} (ready : IsReady ys polls) where
   pub poll_begins : (call : AsyncCall) (p : ReceiverPos)
       → receiver_position RS.Ready (as_receiver_call (async_call call)) ≡ Some p → Stands ys p polls

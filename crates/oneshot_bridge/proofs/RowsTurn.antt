@@ -1,12 +1,11 @@
--- A log that an order allows a receiver is one whose words its table may find, with slots that are so: what the
--- law of exact tables asks for.
+-- A log that an order allows the receiver has words that its table may find, as the law of exact tables requires.
 use Rattle.oneshot_bridge.proofs.Names.{◌≡◌, ℕ, Bool, true, false, ◌&&◌, List, refl, list_all, and_parts, Op, none_yet, one_more, Noted, Reaches, has_row, nothing_made, ReceiverAt, here, looked, between, blocked, polled, again, full, at_once, waited, swapped, by_future, by_poll, unclosed, disconnected, resolved, receiver_moves, Share, none, empty, filled, Slots, Row, Held, away, vacant, held, IsSlot, is_away, is_vacant, Turns, stays_away, stays_vacant, stays_held, gives_room, gives_thing, gets_room, gets_thing, In, ReceiverMay, may, ReceiverFinds, finds, each_passes}
 use Rattle.oneshot_machine.specs.Exact.{IsFound}
 use Rattle.oneshot_machine.specs.Orders.{sender_makes, receiver_makes}
 use Rattle.oneshot_machine.specs.Phases.{first, waits, receiver_at}
 use Rattle.oneshot_machine.specs.Slots.{is_held}
 
--- the slots of a row stay, are given up or come
+-- each slot of a row stays, is given up or comes
 abbrev can_turn : Share → Share → Bool
 can_turn empty filled = false
 can_turn filled empty = false
@@ -56,7 +55,7 @@ slot_before (gives_thing x) = is_held x
 slot_before gets_room = is_away
 slot_before (gets_thing x) = is_away
 
--- a row is found with some slots, and may be made with them
+-- a row is found with some slots, and its operation may be performed with them
 pub record RowFound (at : ReceiverAt) (op : Op) (word : ℕ) : Type 0 where
   pub m : Held (Unit {0})
   pub w : Held (Unit {0})

@@ -1,10 +1,10 @@
--- A run makes the operations of both its logs in an order, and logs have one order.
+-- A run performs the operations of both its logs in an order, and logs have only one order.
 use Rattle.oneshot_bridge.proofs.Names.{◌≡◌, ℕ, ◌+◌, Bool, false, List, [], ◌∷◌, ◌++◌, Option, None, refl, sym, ap, ◌∙◌, subst, cons_option, option_map, append_assoc, append-nil, filter_map-append, End, Receiver, Seen, Step, Op, Load, Swap, Add, Noted, op_of, saw, InOrder, none_made, by_sender, by_receiver, receiver_step, sender_step, word_after, seen_by, word_left, World, opening, side_of, by_end, Tells_from, Move, ReceiverScript, SenderScript, State, Entry, Turned, sender_idle, sender_made, receiver_idle, receiver_made, turned, Scene, last_of, ends_of, order_is_one, sent, received, noted_of, log_of, RunsSo, operator_of, operators_of, RunsAreInOrder, WorkedOrder, WrongOrder}
 use Rattle.oneshot_machine.specs.declared.machine.End.TheVariants.{Sender}
 use Rattle.oneshot_machine.specs.declared.machine.Step.TheVariants.{Word}
 use Rattle.oneshot_bridge.proofs.Seen.{op_sees}
 
--- an order of these logs that leaves this word, in which these ends make the operations
+-- an order of these logs that leaves this word, in which these ends operate
 record OrderedBy (xs ys : List Noted) (word : ℕ) (ends : List End) : Type 0 where
   order : InOrder xs ys word
   same : ends_of order ≡ ends
@@ -17,7 +17,7 @@ rests {xs} {ys} {word} {ends} so =
     (subst (λ ys. OrderedBy xs ys word (ends ++ [])) (sym (append-nil ys))
     (record { order = so.order; same = so.same ∙ sym (append-nil ends) }))
 
--- and one that is
+-- a step that is one
 sender_operates : {xs ys : List Noted} {word : ℕ} {ends : List End} (op : Op) (seen : Seen) → seen ≡ saw op word
     → OrderedBy xs ys word ends
     → OrderedBy (xs ++ (op, seen) ∷ []) (ys ++ []) (word_after op word) (ends ++ Sender ∷ [])
@@ -37,7 +37,7 @@ receiver_operates {xs} {ys} {word} {ends} op seen saw_so so =
     (sym (append-nil xs))
     (record { order = by_receiver op so.order; same = ap (λ es. es ++ Receiver ∷ []) so.same }))
 
--- what an entry notes
+-- what an entry adds to the log
 abbrev noted_by : Bool → State → Step → Option Noted
 noted_by answer s step = option_map (λ op. (op, seen_by answer s step)) (op_of step)
 

@@ -1,5 +1,4 @@
--- What a step of a walk sees, and what the same step sees in a world: the same, but for a park, which leads on
--- alike with its token and without.
+-- What a step sees in a walk and in a world: the same, except a park, whose rows are alike with and without its token.
 use Rattle.oneshot_bridge.proofs.Names.{◌≡◌, Bool, true, false, Option, refl, sym, ◌∙◌, Seen, Step, Park, AsyncLoad, DropSwap, LookFull, TryLoad, ReceiverPos, Look, Try, Ref, Timed, Value, Future, AsyncDrop, SenderPos, TimedPark, LatePark, RecvPark, Op, Load, Store, saw, receiver_step, receiver_row, sender_step, sender_row, seen_by, State, may_see}
 use Rattle.oneshot_machine.specs.declared.machine.Seen.TheVariants as S
 use Rattle.oneshot_machine.specs.declared.machine.Step.TheVariants as T
@@ -12,13 +11,13 @@ op_sees answer s (Store new) = refl
 op_sees answer s Load = refl
 op_sees answer s _ = refl
 
--- what the world is told, so that a clock or a copy answers so
+-- what the move tells the world, so that the clock or the copy replies so
 abbrev pub answer_in : Seen → Bool
 answer_in (S.Over over) = over
 answer_in (S.Refused refused) = refused
 answer_in _ = false
 
--- a row by what was seen, where a park's rows are alike
+-- a row by what was seen, if a park's rows are alike
 sees_alike : {X : Type 0} (row : Seen → Option X) (step : Step) (seen : Seen) (s : State)
     → ((a b : Bool) → step ≡ T.Park → row (S.Token a) ≡ row (S.Token b)) → may_see step seen ≡ true
     → row (seen_by (answer_in seen) s step) ≡ row seen
@@ -32,7 +31,7 @@ sees_alike row T.Copy seen s parks may = absurd (cc)
 sees_alike row _ S.Done s parks may = refl
 sees_alike row _ seen s parks may = absurd (cc)
 
--- the sender asks no clock and copies no waker
+-- the sender reads no clock and copies no waker
 pub sender_answers : (p : SenderPos) (answer : Bool) (s : State)
     → seen_by false s (sender_step p) ≡ seen_by answer s (sender_step p)
 sender_answers SP.LookClosed answer s = refl

@@ -1,4 +1,4 @@
--- The call that a sender has answered is that of a walk, which carried out a script of this call.
+-- The call that a sender has made is that of a walk whose script has just this call.
 use Rattle.oneshot_bridge.proofs.Names.{◌≡◌, Bool, true, List, [], ◌∷◌, Some, refl, subst, Reply, SenderCall, SenderPos, SenderCalled, not_called_yet, called_once, Event, words, Noted, Run, sender_start, sender_step, sender_row, sender_rows, Call, Of_sender, left_by, SenderScript, sender_answered, is_at_rest, SendsOnly, SenderStand, SenderWalk, the_sender, opening_sender, begins}
 use Rattle.oneshot_machine.specs.declared.machine.End.TheVariants as End
 use Rattle.oneshot_machine.specs.declared.machine.Reply.TheVariants as R
@@ -21,7 +21,7 @@ sender_walks : Walks the_sender any_position (λ s. is_at_rest s ≡ true)
 sender_walks =
     fit_walks the_sender any_position is_at_rest sender_rows (λ p seen. refl) sender_fits (λ p next left told. refl)
 
--- A sender that is between its calls, and has answered these.
+-- A sender that is between its calls, and has made these.
 pub record SenderDone {T : Type 0} (message : T) (sent : List (SenderCall × Reply)) (xs : List Noted) : Type 0 where
   pub script : SenderScript T
   pub sends : SendsOnly message script
@@ -31,7 +31,7 @@ pub record SenderDone {T : Type 0} (message : T) (sent : List (SenderCall × Rep
   pub answered : stand.2 ≡ sender_answered sent
   pub walk : SenderWalk script xs stand
 
--- a sender that has answered its one call has none left
+-- a sender that has made its one call has none left
 none_after : (call : Call) (reply : Reply)
     → (left_by End.Sender (Some reply) (record { calls = call ∷ []; error = [] })).calls ≡ []
 none_after call R.Refused = refl

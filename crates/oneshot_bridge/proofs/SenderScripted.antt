@@ -1,4 +1,4 @@
--- For each log of the sender that an order allows there are a script and a walk.
+-- For each log that an order allows the sender, there are a script and a walk.
 use Rattle.oneshot_bridge.proofs.Names.{◌≡◌, ℕ, List, [], ◌∷◌, ◌++◌, refl, sym, subst, Done, SendWrite, SendAdd, SendTakeWaker, SendFinal, SendWake, SendLateWake, DropXor, DropTakeWaker, DropFinal, DropWake, DropLateWake, DropFree, Op, Swap, Add, Xor, Noted, saw, Reaches, has_row, nothing_made, By, sending, dropping, SenderAt, fresh, owes, sender_next, sender_moves, Slots, Row, In, head, tail, Goes, Answers, phase_from-snoc, SenderPos, SenderScript, SendsOnly, SenderIsScripted, begins, quietly, by_one, quiet, operates, opening_sender, SenderStand, SenderWalk}
 use Rattle.oneshot_machine.specs.declared.machine.Reply.TheVariants as R
 use Rattle.oneshot_machine.specs.declared.machine.Seen.TheVariants.{Word}
@@ -9,7 +9,7 @@ use Rattle.oneshot_world.specs.declared.script.SenderLast.TheVariants as SL
 use Rattle.oneshot_world.specs.declared.state.SenderState.TheVariants as SS
 
 module _ {T : Type 0} (m : T) where
-  -- a script of one call, and where that call makes its final swap
+  -- a script of one call, and the position of that call's final swap
   abbrev script_of : By → SenderScript T
   script_of sending = record { looks = 0; last = SL.Send m (record { looks = 0; last = EL.Stop }) }
   script_of dropping = record { looks = 0; last = SL.Drop }
@@ -18,7 +18,7 @@ module _ {T : Type 0} (m : T) where
   swaps_at sending = SendFinal
   swaps_at dropping = DropFinal
 
-  -- the walk at each phase: one that owes its final swap stands there
+  -- the walk at each phase: a sender that owes its final swap is at that position
   data Scripted : List Noted → SenderAt → Type 0 where
     not_begun : Scripted [] fresh
     owing : {xs : List Noted} (by : By)

@@ -1,5 +1,4 @@
--- The standpoints of a receiver, as its walks meet them: which calls may follow at each, and that its number
--- tells it apart.
+-- The standpoints of a receiver that its walks meet: which calls may follow at each, and that its number is its own.
 use Rattle.oneshot_bridge.proofs.Names.{◌≡◌, ◌==◌, Bool, true, false, List, refl, get_or, map, Reply, AsyncLoad, StartLoad, StartWrite, StartSwap, ParkLoad, DropSwap, LookFull, TryLoad, Take, CloseOnly, ReceiverPos, Look, Try, Ref, Timed, Value, Future, AsyncDrop, SumClock, TimedLoad, EndBack, LateLoad, RecvLoad, Noted, receiver_opens, future_opens, receiver_step, In, head, tail, Standpoint, plainly, receiver_table, standpoint_number, standpoint_follows, Answers, receiver_goes, ReceiverState, same_by}
 use Rattle.oneshot_machine.specs.declared.machine.Reply.TheVariants as R
 use Rattle.oneshot_machine.specs.declared.machine.future.FuturePos.TheVariants.{IntoFuture}
@@ -35,7 +34,7 @@ is_met (as_future (Timed at)) = false
 is_met (as_future (Value at)) = false
 is_met _ = true
 
--- a walk with this log stands there
+-- a walk with this log is at this standpoint
 pub record Comes (ys : List Noted) (s : Standpoint) : Type 0 where
   pub met : is_met s ≡ true
   pub stands : Stands ys (pos_of s) (after_of s)
@@ -64,7 +63,7 @@ module _ {ys : List Noted} where
   polls_begin ready (tail (tail head)) = record { met = refl; stands = async_drop_begins ready }
   polls_begin ready (tail (tail (tail there))) = elim there [ ]
 
--- an answer at which calls may follow leaves the receiver ready
+-- a reply after which calls may follow leaves the receiver ready
 abbrev is_ready : ReceiverState → Bool
 is_ready RS.Ready = true
 is_ready _ = false
@@ -87,7 +86,7 @@ stays_ready (as_future (Try at)) reply e = is_ready_so _ e
 stays_ready (as_future _) reply e = is_ready_so _ e
 stays_ready (plainly p) reply e = is_ready_so _ e
 
--- the next call after an answer
+-- the next call after a reply
 module _ {ys : List Noted} where
   pub follows : {q : Standpoint} (s : Standpoint) (reply : Reply) → is_met s ≡ true → stays_on s reply ≡ true
       → IsReady ys (after_of s) → In q (standpoint_follows s reply) → Comes ys q
@@ -120,7 +119,7 @@ module _ {ys : List Noted} where
   follows (as_future (Timed at)) reply met stays ready there = absurd (cc met)
   follows (as_future (Value at)) reply met stays ready there = absurd (cc met)
 
--- each standpoint stands in the table's list under its number
+-- each standpoint is in the table's list under its number
 abbrev nowhere : Standpoint
 nowhere = plainly (Look LookFull)
 

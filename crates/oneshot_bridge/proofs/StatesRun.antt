@@ -1,5 +1,4 @@
--- Each order is a run, and each state that the rule of the word allows is one of a run: both ends are scripted,
--- and their order is a run.
+-- Each order is a run, and each state that the rule of the word allows is that of a run, since both ends are scripted.
 use Rattle.oneshot_machine.specs.declared.machine.End.TheVariants.{Sender}
 use Rattle.oneshot_machine.proofs.InOrders.{in_order}
 use Rattle.oneshot_bridge.proofs.Names.{Receiver, is_right, RunsHaveCells, RunsTo, OrdersAreRuns, StatesAreOfRuns}

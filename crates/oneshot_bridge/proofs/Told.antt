@@ -1,10 +1,10 @@
--- The answered calls of a trace that grows at its end, and those that its marks show.
+-- The calls that have replied in a trace that grows at its end, and those that its marks show.
 use Rattle.std.proofs.Common.{if◌then◌else◌}
 use Rattle.oneshot_bridge.proofs.Names.{◌≡◌, ℕ, ◌+◌, Bool, true, false, List, [], ◌∷◌, ◌++◌, Option, Some, None, refl, sym, ap, ◌∙◌, append_assoc, append-nil, cons_option, option_map, End, Receiver, Reply, Unanswered, left_by, calls_of, by_end, ReceiverScript, SenderScript, Entry, Made, is_same_end, Reading, read_by, call_under_way, marks, marks_from, until_reply, to_reply, mark_at, object_then, sender_reading, receiver_reading, Object, new_object, answered_by, Answered, answers_with, opening_sender, opening_receiver}
 use Rattle.oneshot_machine.specs.declared.machine.End.TheVariants.{Sender}
 use Rattle.oneshot_world.specs.declared.trace.Entry.TheVariants.{Idle, Made as Made_entry}
 
--- the calls that an end answers from here on, which has these left
+-- the calls that reply from here on, of an end that has these left
 abbrev pub told_by : End → Unanswered → List Entry → List Answered
 told_by end left [] = []
 told_by end left (Idle side ∷ entries) = told_by end left entries
@@ -12,7 +12,7 @@ told_by end left (Made_entry e ∷ entries) =
     if is_same_end e.side end then answers_with left e.reply ++ told_by end (left_by end e.reply left) entries
     else told_by end left entries
 
--- one entry more: of this end, with what it answers, and of the other
+-- one more entry: of this end, with the call that replies, or of the other
 module _ (end : End) (entry : Entry) (entries : List Entry) where
   pub tells_more : (from left next : Unanswered) (told answers : List Answered)
       → ((more : List Entry) → told_by end from (entries ++ more) ≡ told ++ told_by end left more)
@@ -31,7 +31,7 @@ module _ (end : End) (entry : Entry) (entries : List Entry) where
       ap (told_by end from) (append_assoc entries (entry ∷ []) more) ∙ before (entry ∷ more)
       ∙ ap (λ l. told ++ l) (last more)
 
--- what an end has left after these entries, and what it answers from there on
+-- what an end has left after these entries, and the calls that reply from there on
 abbrev pub left_all : End → Unanswered → List Entry → Unanswered
 left_all end left [] = left
 left_all end left (Idle side ∷ entries) = left_all end left entries
@@ -87,7 +87,7 @@ shows end (Made_entry e ∷ entries) s r n o =
     made_shown e.side end e entries (shows end entries) s r (n + 1)
     (object_then (mark_at n o (by_end e.side s r) e (until_reply e.reply (to_reply e.side entries) [])))
 
--- so of a whole trace
+-- the same for a whole trace
 module _ {T : Type 0} (a : SenderScript T) (b : ReceiverScript) (entries : List Entry) where
   pub shown : (end : End) → answered_by end (marks (calls_of a b) entries)
       ≡ told_by end (by_end end (opening_sender a).1 (opening_receiver b).1) entries

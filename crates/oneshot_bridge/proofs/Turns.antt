@@ -1,4 +1,4 @@
--- One turn of a world by a row, and the logs of a trace that is longer by an entry.
+-- One turn of a world by a row, and the logs of a trace with one more entry.
 use Rattle.std.proofs.Common.{if◌then◌else◌}
 use Rattle.oneshot_bridge.proofs.Names.{◌≡◌, ℕ, Bool, true, false, List, [], ◌∷◌, ◌++◌, Option, Some, None, refl, ap, ◌∙◌, append-nil, filter_map-append, cons_option, option_map, End, Receiver, Seen, Step, ReceiverPos, SenderPos, Noted, op_of, receiver_step, sender_step, Outcome, word_left, sender_steps, receiver_steps, sender_stepped, receiver_stepped, sender_turns_at, receiver_turns_at, made_entry, World, turn, turn_of, world_then, nothing_told, receiver_told, Entry, sender_world, receiver_world, noted_of, log_of, may_see}
 use Rattle.std.specs.Option.{IsSome}
@@ -8,7 +8,7 @@ use Rattle.oneshot_world.specs.declared.script.Move.TheVariants as M
 use Rattle.oneshot_world.specs.declared.trace.Entry.TheVariants.{Made as Made_entry}
 use Rattle.oneshot_world.proofs.ReachedLeads.{sender_at, receiver_at}
 
--- a step that sees what a row is for, and that is made, is made by that row
+-- a step is made by the row for what it sees
 pub by_row : {P X : Type 0} (fits : Bool) (f : P → X) (o : Option P) (x : P)
     → IsSome (if fits then option_map f o else None) → o ≡ Some x
     → (if fits then option_map f o else None) ≡ Some (f x)
@@ -27,7 +27,7 @@ pub quiet_op : (step : Step) (seen : Seen) → may_see step seen ≡ true → op
 quiet_op (T.Word op) seen may = absurd (cc)
 quiet_op _ seen may = refl
 
--- the logs of a trace that is longer by an entry
+-- the logs of a trace with one more entry
 module _ (end : End) (entries : List Entry) (entry : Entry) {xs : List Noted} where
   log_more : log_of end entries ≡ xs → log_of end (entries ++ entry ∷ []) ≡ xs ++ cons_option (noted_of end entry) []
   log_more log =

@@ -1,5 +1,4 @@
--- Nobody waits once the sender's call has answered; and where its last operation found the receiver here, its next
--- step is the wake after which nobody waits.
+-- Nobody waits once the sender's call has replied, or once it has made the wake that is next if it found the receiver.
 use Rattle.oneshot_bridge.proofs.Names.{◌≡◌, ℕ, ◌+◌, Bool, true, false, not, ◌&&◌, ◌||◌, List, [], ◌∷◌, ◌++◌, Option, Some, refl, sym, ap, ◌∙◌, subst, list_any, option_map, and_parts, End, Reply, Done, Step, Wake, SenderPos, Noted, By, finished, ReceiverAt, gone, sender_step, sender_row, Outcome, Answers, Call, all_alike, as_call, sender_under_way, seen_by, IsReached, calls_of, sender_fits, sender_stepped, World, opening, turn, nothing_told, side_of, Tells_from, Move, ReceiverScript, SenderScript, ReceiverState, SenderState, State, Entry, Made, sender_world, Turned, sender_idle, sender_made, receiver_idle, receiver_made, turned, is_end_of_sender, has_answered, marks, or_stray, call_under_way, of_call, class_is, IsRight, HasRun, told_at, Scene, last_of, is_right, goes_on, HaveCome, Reaches, answered_by, RunsTo, Answered, opening_sender, the_sender, SenderStand, ReceiverStand, NobodyWaitsInARun, WakeIsNextInARun, found_it_gone, WasDropped, NobodyIsLeft}
 use Rattle.oneshot_machine.specs.declared.machine.End.TheVariants.{Sender}
 use Rattle.oneshot_machine.specs.Phases.{sender_at, receiver_at}
@@ -20,7 +19,7 @@ use Rattle.oneshot_bridge.proofs.StatesRun.{orders_run}
 use Rattle.oneshot_bridge.proofs.Told.{left_all, told_by, told_more, shown}
 use Rattle.oneshot_bridge.proofs.Turns.{by_row, sender_turn}
 
--- the sender's call has answered, so nobody waits
+-- the sender's call has replied, so nobody waits
 not_waiting : (ended waiting : Bool) → ended ≡ true → not (ended && waiting) ≡ true → waiting ≡ false
 not_waiting true true e woken = absurd (cc woken)
 not_waiting true false e woken = refl
@@ -42,7 +41,7 @@ nobody_waits_in_a_run T a b xs ys word s r come answered run =
     none_waits a b run.moves run.entries run.now run.run.run run.right
     (subst (λ told. list_any (λ (x : Answered). is_end_of_sender x.0) told ≡ true) (sym told) answered)
 
--- what the sender has left, as the entries show it, is what its world has left
+-- what the sender has left by the entries is what its world has left
 left_turn : (n : ℕ) (side : End) (w : World) (entry : Entry) (next : World) → Turned n w side entry next
     → (entries : List Entry) → left_all Sender w.sender (entry ∷ entries) ≡ left_all Sender next.sender entries
 left_turn n _ w _ _ (sender_idle at) entries = refl
@@ -66,7 +65,7 @@ any_last test (x ∷ xs) ys any = or_later (test x) (any_last test xs ys any)
     or_later true e = refl
     or_later false e = e
 
--- an entry of the sender that answers its last call
+-- an entry of the sender that completes its last call
 module _ {T : Type 0} (a : SenderScript T) (b : ReceiverScript) {moves : List Move} {entries : List Entry}
     {now : Scene T} (ran : HasRun a b moves entries now) where
   answers_then : (e : Made) (reply : Reply) → e.side ≡ Sender → e.reply ≡ Some reply
@@ -94,7 +93,7 @@ reply_is : (row : Option (Outcome SenderPos)) → answers row ≡ true → (repl
 reply_is (Some (Answers reply)) e = (reply, refl)
 reply_is _ e = absurd (cc e)
 
--- the sender's next step is a wake, and it answers the sender's last call
+-- the sender's next step is a wake, and completes the sender's last call
 pub record IsAboutToWake (w : World) (p : SenderPos) : Type 0 where
   pub wakes : sender_step p ≡ Wake
   pub reply : Reply
@@ -127,7 +126,7 @@ about_to w m by p q found is at =
     w.sender.calls)))
     (is i)) ∙ so) (class_is all_alike w.sender)
 
--- the turn by which it is made
+-- the turn that makes that step
 module _ (w : World) (p : SenderPos) (reached : IsReached w) (at : w.state.sender ≡ SS.At p)
     (about : IsAboutToWake w p) where
   abbrev woke : Made × State

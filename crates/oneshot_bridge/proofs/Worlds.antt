@@ -1,4 +1,4 @@
--- The model makes each step of a walk: one move.
+-- The model makes each step of a walk by one move.
 use Rattle.oneshot_bridge.proofs.Names.{◌≡◌, ℕ, ◌+◌, Bool, false, List, [], ◌∷◌, ◌++◌, Some, refl, ap, ◌∙◌, option_map, Receiver, ReceiverPos, SenderPos, Op, Noted, op_of, saw, receiver_step, receiver_row, sender_step, sender_row, word_after, Outcome, left_by, seen_by, word_left, reply_of, IsReached, sender_fits, receiver_fits, sender_steps, receiver_steps, sender_stepped, receiver_stepped, World, turn, nothing_told, receiver_told, opening, Move, ReceiverScript, SenderScript, State, Entry, sender_world, receiver_world, sender_row_reaches, receiver_row_reaches, opening_reached, message_of, Scene, goes_on, log_of, RunsSo, answers_with, stands_after, opening_sender, opening_receiver, SenderStand, ReceiverStand, the_sender, the_receiver, Quiet, quiet, Operates, operates}
 use Rattle.oneshot_machine.specs.declared.machine.End.TheVariants.{Sender}
 use Rattle.oneshot_world.specs.declared.script.Move.TheVariants as M
@@ -53,7 +53,7 @@ module _ {X : Type 0} (a : SenderScript X) (b : ReceiverScript) where
       }
 
   module _ {xs ys : List Noted} {n : ℕ} where
-    -- the step that a sender's world makes by a row
+    -- a sender makes the step of its world by a row
     sender_made : {s : SenderStand} {r : ReceiverStand} (g : Got xs ys n s r) (p : SenderPos) (row : Outcome SenderPos)
         → the_sender.position s ≡ Some p → sender_row p (seen_by false g.now.world.state (sender_step p)) ≡ Some row
         → (sender_at g.now.world ≡ Some p) × (sender_steps nothing_told g.now.world.state p
@@ -119,7 +119,7 @@ module _ {X : Type 0} (a : SenderScript X) (b : ReceiverScript) where
         (λ i. option_map (λ op. (op, seen i)) (op_of (step i))))
         (ap (word_left state.word) step ∙ ap (word_after op) g.run.leaves)
 
-    -- the same of the receiver
+    -- the same for the receiver
     receiver_made : {s : SenderStand} {r : ReceiverStand} (answer : Bool) (g : Got xs ys n s r) (p : ReceiverPos)
         (row : Outcome ReceiverPos) → the_receiver.position r ≡ Some p
         → receiver_row p (seen_by answer g.now.world.state (receiver_step p)) ≡ Some row

@@ -1,4 +1,4 @@
--- What the calls of an end are, by worked logs, and what they are not.
+-- Examples and counterexamples of which calls a log is of.
 use Rattle.std.specs.Prelude.{List, [], ◌∷◌}
 use Rattle.oneshot_machine.specs.declared.machine.Reply.TheVariants as R
 use Rattle.oneshot_machine.specs.declared.machine.Seen.TheVariants.{Done, Word}
@@ -8,26 +8,26 @@ use Rattle.oneshot_machine.specs.declared.states.Op.TheVariants.{Load, Store, Ex
 use Rattle.oneshot_machine.specs.Called.{as_receiver, as_future, ReceiverCalled, SenderCalled}
 use Rattle.oneshot_machine.specs.Noted.{Noted}
 
--- a `try_recv` that found nothing, and one that took the message
+-- two calls of `try_recv`: the first found nothing, the second took the message
 abbrev pub tried_twice : List Noted
 tried_twice = (Load, Word 3) ∷ (Load, Word 4) ∷ (Store 2, Done) ∷ []
 
 module _ (T W : Type 0) where
   pub record WorkedCalls : Type 0 where
     pub tries : ReceiverCalled T W as_receiver ((TryRecv, R.Empty) ∷ (TryRecv, R.Message) ∷ []) tried_twice
-    -- a future whose poll registered its task, after the receiver had found nothing
+    -- a receiver that found nothing, and became a future whose poll registered its task
     pub polls : ReceiverCalled T W as_future ((TryRecv, R.Empty) ∷ (IntoFuture, R.Future) ∷ (Poll, R.Pending) ∷ [])
         ((Load, Word 3) ∷ (Load, Word 3) ∷ (Exchange 3 0, Word 3) ∷ [])
     pub sends : SenderCalled T W ((Send, R.Sent) ∷ []) ((Add, Word 3) ∷ [])
 
   pub record WrongCalls : Type 0 where
-    -- no call leaves no operation
+    -- without a call there is no operation
     pub leaves_none : ReceiverCalled T W as_receiver [] tried_twice → ⊥
-    -- a call that ends its receiver is none that it has answered
+    -- a call that ends its receiver is not among those that the receiver has made
     pub has_ended : (log : List Noted) → ReceiverCalled T W as_receiver ((Recv, R.Message) ∷ []) log → ⊥
     -- a receiver that is no future has not polled
     pub polls_not : (log : List Noted) → ReceiverCalled T W as_receiver ((Poll, R.Pending) ∷ []) log → ⊥
     -- the log is not that of another reply
     pub takes_nothing : ReceiverCalled T W as_receiver ((TryRecv, R.Message) ∷ []) ((Load, Word 3) ∷ []) → ⊥
-    -- a sender makes one call
+    -- a sender makes only one call
     pub sends_once : (log : List Noted) → SenderCalled T W ((Send, R.Sent) ∷ (Drop, R.Done) ∷ []) log → ⊥

@@ -1,5 +1,4 @@
--- Between calls: where both ends have answered some calls, a run of the model has answered these very calls with
--- these replies.
+-- Between calls: the calls that both ends have made, with their replies, are those of a run of the model.
 use Rattle.std.specs.Prelude.{◌≡◌, ◌≤◌, ℕ, Bool, true, false, List, [], map, filter, length, IsTrue}
 use Rattle.oneshot_machine.specs.declared.machine.Reply.{Reply}
 use Rattle.oneshot_machine.specs.declared.machine.receiver.ReceiverStart.{ReceiverStart}
@@ -19,7 +18,7 @@ use Rattle.oneshot_bridge.specs.OrdersRun.{RunsTo}
 use Rattle.oneshot_bridge.specs.Scripted.{SendsOnly}
 use Rattle.oneshot_bridge.specs.Walks.{Answered, SenderStand, ReceiverStand}
 
--- a call as a script has it: there a poll has the number of its waker, which no log tells
+-- a call as a script has it: there a poll has the number of its waker, which is in no log
 abbrev pub in_script : ReceiverStart → Call
 in_script RC.Poll = Poll 0
 in_script call = Of_receiver call
@@ -35,8 +34,8 @@ abbrev pub is_at_rest : SenderState → Bool
 is_at_rest (At position) = false
 is_at_rest _ = true
 
--- A run under two scripts, with these logs and this word. The receiver is between two calls. It has answered these
--- calls, which are all of its script.
+-- A run under two scripts, with these logs and this word. The receiver is between two calls. Its script
+-- has only these calls, and it has made them all, with these replies.
 pub record RunsCalls {T : Type 0} (message : T) (received : List (ReceiverStart × Reply)) (xs ys : List Noted)
     (word : ℕ) : Type 0 where
   pub sender : SenderScript T
@@ -49,7 +48,7 @@ pub record RunsCalls {T : Type 0} (message : T) (received : List (ReceiverStart 
   pub none_left : r.1.calls ≡ []
   pub answered : r.2 ≡ receiver_answered received
 
--- the same, where the sender is between its calls too, and has answered these
+-- the same, and the sender is between its calls too, and has made these
 pub record RunsBoth {T : Type 0} (message : T) (sent : List (SenderCall × Reply))
     (received : List (ReceiverStart × Reply)) (xs ys : List Noted) (word : ℕ) : Type 0 where
   pub calls : RunsCalls message received xs ys word
@@ -63,7 +62,7 @@ CallsAreRuns T W =
     (message : T) (form : Form) (received : List (ReceiverStart × Reply)) (xs ys : List Noted) (word : ℕ)
     → Reaches xs ys word → ReceiverCalled T W form received ys → RunsCalls message received xs ys word
 
--- And where both are between their calls: the own calls of both. The order may be any.
+-- If both are between their calls: the own calls of both. The order may be any.
 abbrev pub BothCallsAreRuns : (T W : Type 0) → Type 0
 BothCallsAreRuns T W =
     (message : T) (form : Form) (sent : List (SenderCall × Reply)) (received : List (ReceiverStart × Reply))
@@ -71,7 +70,7 @@ BothCallsAreRuns T W =
     → InOrder xs ys word → SenderCalled T W sent xs → ReceiverCalled T W form received ys
     → RunsBoth message sent received xs ys word
 
--- At most one of the receiver's own calls was answered with the message.
+-- At most one of the receiver's own calls returned the message.
 abbrev pub OneCallGets : (T W : Type 0) → Type 0
 OneCallGets T W =
     T → (form : Form) (received : List (ReceiverStart × Reply)) (xs ys : List Noted) (word : ℕ)

@@ -1,5 +1,4 @@
--- What the cells, the slots at home and a receiver that waits are, by a worked run that stops before the sender's
--- wake, and what they are not.
+-- Examples and counterexamples of cells, slots at home and waiting receivers: a run up to the sender's wake.
 use Rattle.std.specs.Prelude.{◌≡◌, ℕ, true, List, [], ◌∷◌, ◌++◌, map, Option, Some, None, IsTrue, IsFalse}
 use Rattle.oneshot_machine.specs.declared.machine.Seen.TheVariants.{Word}
 use Rattle.oneshot_machine.specs.declared.states.Op.TheVariants.{Load, Swap, Add, Xor}
@@ -29,14 +28,14 @@ use Rattle.oneshot_bridge.specs.Joined.{SlotsAreSo, Passed}
 use Rattle.oneshot_bridge.specs.OrdersRun.{RunsSo}
 use Rattle.oneshot_bridge.specs.Woken.{waits, WakesNext, found_it_gone}
 
--- a receiver that has stored its waker, in a call that blocks, or by a poll of a future
+-- a receiver that has stored its waker: the log of a call that blocks, and the script of a poll
 abbrev pub stored : List Noted
 stored = (Load, Word 3) ∷ (Swap 0, Word 3) ∷ []
 
 abbrev pub polls : ReceiverScript
 polls = record { calls = []; last = RL.IntoFuture (record { calls = AC.Poll 7 ∷ []; last = AL.Stop }) }
 
--- then the sender makes both its operations, and is about to wake
+-- then the sender performs both its operations, and is about to wake
 abbrev pub to_wake : List Move
 to_wake = Sender ∷ Sender ∷ Sender ∷ Sender ∷ []
 
@@ -64,13 +63,13 @@ module _ {T : Type 0} (m : T) where
   abbrev pub w : World
   w = world_by receives in_park
 
-  -- slots at home, of a table whose wakers are nothing
+  -- slots at home, in a table whose wakers have a unit type
   abbrev pub Slots : Option T → Scene T → Type 0
   Slots None now = SlotsAreSo {T = T} {H = Unit {0}} {K = Unit {0}} bare bare now
   Slots (Some m) now = SlotsAreSo {T = T} {H = Unit {0}} {K = Unit {0}} (has_message m) bare now
 
   pub record WorkedCells : Type 0 where
-    -- the message lies at home
+    -- the message is at home
     pub message : message_of_logs sent stored ≡ filled
     pub cells : CellsAreSo sent stored w.state
     pub slots : Slots (Some m) (scene_at w 7)
@@ -82,7 +81,7 @@ module _ {T : Type 0} (m : T) where
     -- a sender that found the receiver gone, and the one of this run
     pub finds_gone : IsTrue (found_it_gone (sender_at ((Add, Word 2) ∷ [])))
     pub finds_here : IsFalse (found_it_gone (sender_at sent))
-    -- a slot that an end has: with this log its cell is empty, and then full
+    -- an end's slot: with this log its cell is empty first, and then full
     pub has_slot : waker_of_logs [] ((Load, Word 3) ∷ []) ≡ none
     pub before : RunsSo (sends m) receives (r ∷ []) (entries_by receives (r ∷ []))
         (scene_at (world_by receives (r ∷ [])) 1) [] ((Load, Word 3) ∷ []) 3
@@ -99,27 +98,28 @@ module _ {T : Type 0} (m : T) where
   with_taken taken = record w { state = record w.state { wakers = record w.state.wakers { taken = taken } } }
 
   pub record WrongCells : Type 0 where
-    -- the message that lies at home was taken already
+    -- the message at home was already taken
     pub takes_early : CellsAreSo sent stored (record w.state { message = Some Delivered }) → ⊥
-    -- a sender that dropped left a message
+    -- a sender that was dropped left a message
     pub sends_and_drops : CellsAreSo ((Xor, Word 3) ∷ []) [] (record w.state { message = Some InCell }) → ⊥
-    -- the waker that a receiver stored is not there
+    -- the waker that a receiver stored is missing
     pub stores_nothing : CellsAreSo [] stored (with_cell None) → ⊥
     -- the sender is done and left the waker in its cell
     pub leaves_waker : CellsAreSo sent stored (with_cell (Some Parker)) → ⊥
-    -- the block is freed while the message lies at home
+    -- the block is freed while the message is at home
     pub frees_early : CellsAreSo sent stored (record w.state { freed = true }) → ⊥
     -- the message at home is not that of the run
     pub other_message : (other : T) → (other ≡ m → ⊥) → Slots (Some other) (scene_at w 7) → ⊥
-    -- nor is the message that an end gave or took
+    -- an end gave or took another message than the run's
     pub passed_another : (other : T) → (other ≡ m → ⊥) → Passed m (Some other) → ⊥
-    -- and a home that holds one is not bare
+    -- a slot that holds one is not bare
     pub no_message : Slots None (scene_at w 7) → ⊥
-    -- the sender is about to wake another than the one that waits, or nobody
+    -- the sender is about to wake another waker than the one that waits, or nobody
     pub wakes_another : WakesNext (sends m) receives (entries_by receives in_park) 8 (with_taken (Some (Copy 0 1))) → ⊥
     pub wakes_nobody : WakesNext (sends m) receives (entries_by receives in_park) 8 (with_taken None) → ⊥
 
-  -- a trace whose block is used once more after it was freed: it is not the last use, and its user does not hold it
+  -- a trace that uses its block once more after freeing it: the free is not the last use, and the user
+  -- does not hold the block
   abbrev pub used_freed : List Mark
   used_freed = marks (calls_of (sends m) receives) (entries m ++ entries_by receives (r ∷ []))
 

@@ -1,5 +1,4 @@
--- What the definitions of the bridge are of, by a worked run, and what they are not: a send that finds a
--- receiver waiting, which goes on once without being woken.
+-- Examples and counterexamples of the bridge: a send to a receiver that waits and wakes once too early.
 use Rattle.std.specs.Prelude.{◌≡◌, ℕ, ◌+◌, false, List, [], ◌∷◌, map, Some, None}
 use Rattle.oneshot_machine.specs.declared.machine.Seen.TheVariants.{Word}
 use Rattle.oneshot_machine.specs.declared.states.Op.TheVariants.{Load, Swap, Add}
@@ -19,7 +18,7 @@ use Rattle.oneshot_replay.specs.TraceView.{last_of}
 use Rattle.oneshot_bridge.specs.Walks.{SenderStand, ReceiverStand, SenderWalk, ReceiverWalk}
 use Rattle.oneshot_bridge.specs.OrdersRun.{RunsSo}
 
--- the scripts: a send, and a `recv`
+-- the scripts: a `send`, and a `recv`
 abbrev pub sends : {T : Type 0} → T → SenderScript T
 sends m = record { looks = 0; last = SL.Send m (record { looks = 0; last = EL.Stop }) }
 
@@ -42,7 +41,7 @@ abbrev pub schedule : List Move
 schedule =
     r ∷ r ∷ r ∷ Sender ∷ Sender ∷ r ∷ r ∷ Sender ∷ Sender ∷ Sender ∷ r ∷ r ∷ r ∷ r ∷ []
 
--- what a schedule tells, an entry and the world after it a move
+-- what a schedule leads to: for each move an entry, and the world after it
 abbrev pub told_from : ℕ → World → List Move → List (Entry × World)
 told_from n w [] = []
 told_from n w (move ∷ moves) =
@@ -68,19 +67,19 @@ module _ {T : Type 0} (m : T) where
     pub run : RunsSo (sends m) receives schedule entries last sent received 4
 
   pub record WrongRuns : Type 0 where
-    -- a receive that does not look first
+    -- a receive that does not load first
     pub skips_its_load : (s : ReceiverStand) → ReceiverWalk receives ((Swap 0, Word 3) ∷ []) s → ⊥
-    -- a receive never finds a waker that it did not store
+    -- a receive that finds a waker that it did not store
     pub finds_a_waker : (s : ReceiverStand) → ReceiverWalk receives ((Load, Word 0) ∷ []) s → ⊥
-    -- the words of the run are not those of the log: its add found 0, and its second load 1
+    -- a log with other words than the run found: its add found 0, and its second load 1
     pub adds_to_another_word : (now : Scene T) (ys : List Noted) (word : ℕ)
         → RunsSo (sends m) receives schedule entries now ((Add, Word 3) ∷ (Swap 4, Word 1) ∷ []) ys word → ⊥
     pub wakes_before_the_add : (now : Scene T) (xs : List Noted) (word : ℕ)
         → RunsSo (sends m) receives schedule entries now xs
         ((Load, Word 3) ∷ (Swap 0, Word 3) ∷ (Load, Word 0) ∷ (Load, Word 4) ∷ []) word → ⊥
-    -- nor does it lack an operation
+    -- a log that lacks an operation
     pub skips_the_swap : (now : Scene T) (ys : List Noted) (word : ℕ)
         → RunsSo (sends m) receives schedule entries now ((Add, Word 0) ∷ []) ys word → ⊥
-    -- nor is the last word of the run another one
+    -- the run leaves no other word than 4
     pub leaves_another_word : (word : ℕ) → RunsSo (sends m) receives schedule entries last sent received word
         → word ≡ 4

@@ -1,4 +1,4 @@
--- What the laws of the model say of both ends, once what these did is a run of it.
+-- What the laws of the model state of both ends, given that what they did is one of its runs.
 use Rattle.std.specs.Prelude.{◌≡◌, ◌≤◌, ℕ, Bool, true, ◌&&◌, List, ◌∷◌, ◌++◌, Some, filter, length, IsTrue, IsFalse}
 use Rattle.std.specs.List.{list_any}
 use Rattle.std.specs.Option.{option_map}
@@ -36,15 +36,15 @@ WhereverTheyCome T Order holds =
     (a : SenderScript T) (b : ReceiverScript) (xs ys : List Noted) (word : ℕ) (s : SenderStand) (r : ReceiverStand)
     → HaveCome Order a b xs ys word s r → holds a b xs ys word s r
 
--- at most one receive was answered with the message
+-- at most one receive returned the message
 abbrev pub gave_message : Answered → Bool
 gave_message answered = is_receive answered.0 && is_same_reply R.Message answered.1
 
 abbrev pub OneReceiveGets : (T : Type 0) → Type 0
 OneReceiveGets T = WhereverTheyCome T InOrder (λ a b xs ys word s r. length (filter gave_message r.2) ≤ 1)
 
--- Where the sender's `send` or drop has answered and the receiver's next step is a park, each run that leads
--- there has a token for it: the park ends at once.
+-- If the sender's `send` or drop has replied and the receiver's next step is a park, each run that
+-- leads there has a token for it: the park ends at once.
 abbrev pub RunLosesNoWakeup : (T : Type 0) → Type 0
 RunLosesNoWakeup T =
     WhereverTheyCome T InOrder (λ a b xs ys word s r. IsTrue (list_any (λ x. is_end_of_sender x.0) s.2)
@@ -64,7 +64,7 @@ RunFreesLast T =
     → (earlier later : List Mark) (m : Mark) → marks (calls_of a b) run.entries ≡ earlier ++ m ∷ later
     → IsTrue (frees m) → IsFalse (list_any uses_block later))
 
--- only an end that holds the block uses it, and the one that frees it is the only one that holds it
+-- only an end that holds the block uses it, and the end that frees it is the only one that holds it
 abbrev pub RunFreesByItsHolder : (T : Type 0) → Type 0
 RunFreesByItsHolder T =
     WhereverTheyCome T InOrder (λ a b xs ys word s r. (run : RunsTo a b xs ys word s r)

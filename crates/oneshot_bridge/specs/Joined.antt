@@ -1,5 +1,4 @@
--- The rule of the shared table and the runs of the model, in one: each state that the rule allows is of a run, whose
--- message is the one that passed.
+-- Each state that the rule of the shared table allows is that of a run, whose message is the one that passed.
 use Rattle.std.specs.Prelude.{◌≡◌, ℕ, List, [], ◌∷◌, Option, Some, None, is_some, IsTrue, IsFalse}
 use Rattle.oneshot_machine.specs.declared.machine.Reply.{Reply}
 use Rattle.oneshot_machine.specs.declared.machine.receiver.ReceiverStart.{ReceiverStart}
@@ -17,8 +16,8 @@ use Rattle.oneshot_word.specs.Seats.{view}
 use Rattle.oneshot_bridge.specs.CallsRun.{RunsCalls}
 use Rattle.oneshot_bridge.specs.Scripted.{IsOfARun}
 
--- The slots at home, the message's and the waker's, and the cells where a run has come to. Of a slot that an end
--- has taken nothing is said.
+-- The slots at home, the message's and the waker's, and the cells where a run has come to. A slot that
+-- an end has taken is left open.
 pub record SlotsAreSo {T H K : Type 0} (message waker : Home T H K) (now : Scene T) : Type 0 where
   -- a message at home is in its cell, and is the message of the run
   pub has_it : (m : T) → message ≡ has_message m → rest_at now.world.state.message now.message ≡ Some (InCell m)
@@ -37,9 +36,10 @@ pub data OfARun {T H K P : Type 0} (W : Type 0) (q : P) : List ℕ → List (Hom
   -- before there are ends
   maker_before : {homes : List (Home T H K)} → OfARun W q (3 ∷ []) homes (view q Maker [] None ∷ [])
   dealer_before : {homes : List (Home T H K)} → OfARun W q (3 ∷ []) homes (view q Dealer [] None ∷ [])
-  -- And then always: both views have the operations of a run, which has this word and these slots. Between two calls
-  -- of the receiver such a run has answered its own calls, with the same replies. The message of the run is the one
-  -- that the sender gave, if it gave one, and that the receiver took, if it took one.
+  -- From then on: both views have the operations of a run, which has this word and these slots. Between
+  -- two calls of the receiver there is also such a run that has made its own calls, with the same
+  -- replies. The message of the run is the one that the sender gave, if it gave one, and that the
+  -- receiver took, if it took one.
   is_run : {word : ℕ} {message waker : Home T H K} (m : T) (xs ys : List Noted) {given taken : Option T}
       (run : IsOfARun m xs ys word) → SlotsAreSo message waker run.now
       → ((form : Form) (received : List (ReceiverStart × Reply)) → ReceiverCalled T W form received ys
@@ -47,7 +47,7 @@ pub data OfARun {T H K P : Type 0} (W : Type 0) (q : P) : List ℕ → List (Hom
       → Passed m given → Passed m taken
       → OfARun W q (word ∷ []) (message ∷ waker ∷ []) (view q Sender xs given ∷ view q Receiver ys taken ∷ [])
 
--- Whatever the table is under its rule, it is so in a run of the model. A sender needs a message to send.
+-- Each state that the rule allows is that of a run of the model. A sender needs a message to send.
 abbrev pub TablesAreOfRuns : {T P : Type 0} (H K W : Type 0) → (P → T → Type 0) → Type 0
 TablesAreOfRuns {T} {P} H K W keeps =
     (m : T) (q : P) (words : List ℕ) (homes : List (Home T H K)) (views : List (View T P))

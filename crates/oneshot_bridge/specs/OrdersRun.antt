@@ -21,11 +21,11 @@ use Rattle.oneshot_replay.specs.Run.{HasRun, told_at}
 use Rattle.oneshot_replay.specs.Scene.{Scene}
 use Rattle.oneshot_bridge.specs.Walks.{Answered, SenderStand, ReceiverStand, SenderWalk, ReceiverWalk}
 
--- the operation on the word of an entry, with what it saw
+-- an entry's operation on the word, if it has one, with what it saw
 abbrev pub operation_of : Made → Option Noted
 operation_of e = option_map (λ op. (op, e.seen)) (op_of e.step)
 
--- if this end made the entry
+-- the same if this end made the entry, otherwise none
 abbrev pub noted_of : End → Entry → Option Noted
 noted_of end (Idle side) = None
 noted_of Sender (Made_entry e) = by_end e.side (operation_of e) None
@@ -35,14 +35,14 @@ noted_of Receiver (Made_entry e) = by_end e.side None (operation_of e)
 abbrev pub log_of : End → List Entry → List Noted
 log_of end = filter_map (noted_of end)
 
--- an end's answered calls, each with its reply, as the marks of a trace show them
+-- an end's calls that have replied, each with its reply, as the marks of a trace show them
 abbrev pub answered_at : End → Mark → Option Answered
 answered_at end m = if is_same_end (side m) end then option_map (λ reply. (m.call, reply)) m.entry.reply else None
 
 abbrev pub answered_by : End → List Mark → List Answered
 answered_by end = filter_map (answered_at end)
 
--- A run of both scripts under these moves. Its entries have these logs, and its last world has this word.
+-- A run of both scripts under these moves, whose entries have these logs, and whose last world has this word.
 pub record RunsSo {T : Type 0} (a : SenderScript T) (b : ReceiverScript) (moves : List Move) (entries : List Entry)
     (now : Scene T) (xs ys : List Noted) (word : ℕ) : Type 0 where
   pub run : HasRun a b moves entries now
@@ -50,7 +50,7 @@ pub record RunsSo {T : Type 0} (a : SenderScript T) (b : ReceiverScript) (moves 
   pub receiver_log : log_of Receiver entries ≡ ys
   pub leaves : now.world.state.word ≡ word
 
--- and at its end both ends stand here, and have answered the same calls alike
+-- at its end both ends are here in their scripts, with the same calls and replies
 pub record RunsTo {T : Type 0} (a : SenderScript T) (b : ReceiverScript) (xs ys : List Noted) (word : ℕ)
     (s : SenderStand) (r : ReceiverStand) : Type 0 where
   pub moves : List Move
@@ -61,9 +61,9 @@ pub record RunsTo {T : Type 0} (a : SenderScript T) (b : ReceiverScript) (xs ys 
   pub receiver : (now.world.state.receiver, now.world.receiver, answered_by Receiver (marks (calls_of a b) entries)) ≡ r
   pub right : IsRight a b moves (told_at entries now)
 
--- Whatever order the operations of both ends had: where each end alone carries out its script, a schedule
--- leads the model through the same operations, which find the same words, to where both ends stand, with the
--- same replies.
+-- Whatever order the operations of both ends had: if each end alone carries out its script, a schedule
+-- leads the model through the same operations, which find the same words, to where both ends are, with
+-- the same replies.
 abbrev pub OrdersAreRuns : (T : Type 0) → Type 0
 OrdersAreRuns T =
     (a : SenderScript T) (b : ReceiverScript) (xs ys : List Noted) (word : ℕ) (s : SenderStand) (r : ReceiverStand)

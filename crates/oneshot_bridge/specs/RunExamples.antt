@@ -1,5 +1,4 @@
--- What a run of both ends has that carry out their calls, by a worked run of a `send` and then a `try_recv`, and what
--- it has not.
+-- Examples and counterexamples of what a run of both ends has: a `send`, and then a `try_recv`.
 use Rattle.std.specs.Prelude.{◌≡◌, ⊤, ℕ, List, [], ◌∷◌, None, take, IsTrue, IsFalse}
 use Rattle.oneshot_machine.specs.declared.machine.End.TheVariants as End
 use Rattle.oneshot_machine.specs.declared.machine.Reply.{Reply}
@@ -48,7 +47,7 @@ stops = record { looks = 0; last = SL.Stop }
 abbrev pub in_turn : List Move
 in_turn = Sender ∷ Sender ∷ r ∷ r ∷ r ∷ []
 
--- both logs, both ends' calls, and where both stand then
+-- both logs, both ends' calls, and where both ends are then
 abbrev pub sent_log : List Noted
 sent_log = (Add, Word 3) ∷ []
 
@@ -72,7 +71,7 @@ pub record AnswersThatAre : Type 0 where
   pub polled : receiver_answered ((RC.Poll, R.Pending) ∷ []) ≡ (C.Poll 0, R.Pending) ∷ []
   pub became_future : in_script RC.IntoFuture ≡ C.Of_receiver RC.IntoFuture
   pub sent : sender_answered sent_call ≡ (C.Of_sender SC.Send, R.Sent) ∷ []
-  -- whether a sender has no call under way, and whether a call gave the message
+  -- whether a sender has no call under way, and whether a call returned the message
   pub is_ready : IsTrue (is_at_rest SS.Ready)
   pub has_ended : IsTrue (is_at_rest SS.Ended)
   pub is_sending : IsFalse (is_at_rest (SS.At SendAdd))
@@ -86,7 +85,7 @@ module _ {T : Type 0} (m : T) where
   told = entries_by m tries in_turn
 
   pub record RunsThatAre : Type 0 where
-    -- the `send` answers by the second entry, and the `try_recv` by the last
+    -- the `send` replies by the second entry, and the `try_recv` by the last
     pub answered_first : answered_by End.Sender (marks (calls_of (sends m) tries) (take 2 told))
         ≡ sender_answered sent_call
     pub not_yet : answered_by End.Receiver (marks (calls_of (sends m) tries) (take 4 told)) ≡ []
@@ -105,13 +104,13 @@ module _ {T : Type 0} (m : T) where
     pub no_ends : OfARun {T = T} {H = ⊤} {K = ⊤} {P = ⊤} ⊤ tt (3 ∷ []) [] (view tt Role.Maker [] None ∷ [])
 
   pub record RunsThatAreNot : Type 0 where
-    -- logs without an order, and of no walk of their script
+    -- logs that have no order, or are of no walk of their script
     pub have_no_order : (s : SenderStand) (r : ReceiverStand) → HaveCome InOrder (sends m) tries [] [] 0 s r → ⊥
     pub sends_unasked : (s : SenderStand) (r : ReceiverStand)
         → HaveCome InOrder (stops {T = T}) tries sent_log [] 4 s r → ⊥
     pub skips_its_load : (s : SenderStand) (r : ReceiverStand)
         → HaveCome InOrder (sends m) receives [] ((Swap 0, Word 3) ∷ []) 0 s r → ⊥
-    -- a run with these entries and another log, or whose end stands where it has answered nothing
+    -- a run with these entries and another log, or with an end that has made no call
     pub has_sent_nothing : {ys : List Noted} {word : ℕ} {s : SenderStand} {r : ReceiverStand}
         (run : RunsTo (sends m) tries [] ys word s r) → run.entries ≡ told → ⊥
     pub has_tried_nothing : {xs : List Noted} {word : ℕ} {s : SenderStand} {r : ReceiverStand}
@@ -120,7 +119,7 @@ module _ {T : Type 0} (m : T) where
         (run : RunsTo (sends m) tries xs ys word (sender_stands []) r) → run.entries ≡ told → ⊥
     pub receiver_is_silent : {xs ys : List Noted} {word : ℕ} {s : SenderStand}
         (run : RunsTo (sends m) tries xs ys word s (receiver_stands [])) → run.entries ≡ told → ⊥
-    -- what does not hold of the logs above does not hold wherever both ends come to
+    -- what is false of the logs above does not hold wherever both ends come to
     pub send_nothing : WhereverTheyCome T InOrder (λ a b xs ys word s r. xs ≡ []) → ⊥
     -- a table with one end
     pub one_end : (word : ℕ)
@@ -128,7 +127,7 @@ module _ {T : Type 0} (m : T) where
     -- a script with another message
     pub sends_another : (other : T) → (m ≡ other → ⊥) → SendsOnly other (sends m) → ⊥
 
-  -- what each field says of any run
+  -- what each field states of any run
   pub record RunsSay : Type 0 where
     pub is_legal : {xs ys : List Noted} {word : ℕ} {s : SenderStand} {r : ReceiverStand}
         (run : RunsTo (sends m) tries xs ys word s r)
@@ -138,7 +137,7 @@ module _ {T : Type 0} (m : T) where
         → log_of End.Receiver state.entries ≡ ys
     pub is_right : {xs ys : List Noted} {word : ℕ} (state : IsOfARun m xs ys word)
         → IsTrue (has_legal_history (marks (calls_of state.sender state.receiver) state.entries))
-    -- the receiver is between two calls, has none left, and has answered these
+    -- the receiver is between two calls, has none left, and has made these
     pub calls_send_only : {received : List (ReceiverStart × Reply)} {xs ys : List Noted} {word : ℕ}
         (calls : RunsCalls m received xs ys word) → SendsOnly m calls.sender
     pub calls_have_their_log : {received : List (ReceiverStart × Reply)} {xs ys : List Noted} {word : ℕ}
@@ -151,7 +150,7 @@ module _ {T : Type 0} (m : T) where
         (calls : RunsCalls m received xs ys word)
         → answered_by End.Receiver (marks (calls_of calls.sender calls.receiver) calls.run.entries)
         ≡ receiver_answered received
-    -- and so is, has and did the sender
+    -- and the same of the sender
     pub sender_rests : {sent : List (SenderCall × Reply)} {received : List (ReceiverStart × Reply)} {xs ys : List Noted}
         {word : ℕ} (both : RunsBoth m sent received xs ys word)
         → IsTrue (is_at_rest both.calls.run.now.world.state.sender)

@@ -1,4 +1,4 @@
--- In which order a run makes the operations of both ends.
+-- The order in which a run performs the operations of both ends.
 use Rattle.std.specs.Prelude.{◌≡◌, ℕ, List, [], ◌∷◌, Option, None}
 use Rattle.std.specs.List.{filter_map}
 use Rattle.std.specs.Option.{option_map}
@@ -16,12 +16,12 @@ use Rattle.oneshot_word.specs.OneOrder.{ends_of}
 use Rattle.oneshot_bridge.specs.Examples.{sent, received, entries}
 use Rattle.oneshot_bridge.specs.OrdersRun.{RunsSo}
 
--- the end that makes an entry, if the entry is an operation on the word
+-- the end that made an entry, if the entry is an operation on the word
 abbrev pub operator_of : Entry → Option End
 operator_of (Idle side) = None
 operator_of (Made_entry e) = option_map (λ op. e.side) (op_of e.step)
 
--- whose the operations of a trace are, from the first on
+-- the ends that performed a trace's operations, from the first on
 abbrev pub operators_of : List Entry → List End
 operators_of = filter_map operator_of
 
@@ -29,8 +29,8 @@ operators_of = filter_map operator_of
 abbrev pub IsInOrder : List Entry → List Noted → List Noted → Type 0
 IsInOrder entries xs ys = (word : ℕ) (order : InOrder xs ys word) → operators_of entries ≡ ends_of order
 
--- Each run that has the logs of an order by both phases' tables has their operations in their order. Which steps are
--- between them, no log says.
+-- Each run with the logs of an order by both phases' tables has their operations in that order. No log
+-- shows which steps are between them.
 abbrev pub RunsAreInOrder : (T : Type 0) → Type 0
 RunsAreInOrder T =
     (a : SenderScript T) (b : ReceiverScript) (moves : List Move) (entries : List Entry) (now : Scene T)
@@ -38,17 +38,17 @@ RunsAreInOrder T =
     → RunsSo a b moves entries now xs ys word → Reaches xs ys word → IsInOrder entries xs ys
 
 module _ {T : Type 0} (m : T) where
-  -- the worked run, whose sender adds before the receiver looks again
+  -- the worked run, whose sender adds before the receiver loads again
   pub record WorkedOrder : Type 0 where
     pub ends : operators_of (entries m)
         ≡ Receiver ∷ Receiver ∷ Sender ∷ Receiver ∷ Sender ∷ Receiver ∷ []
 
   pub record WrongOrder : Type 0 where
-    -- it does not look before that
+    -- it does not load before that
     pub not_sooner : operators_of (entries m)
         ≡ Receiver ∷ Receiver ∷ Receiver ∷ Sender ∷ Sender ∷ Receiver ∷ [] → ⊥
-    -- nor is a step that is no operation one of them
+    -- a step that is no operation is not one of them
     pub no_other_step : operators_of (entries m)
         ≡ Receiver ∷ Receiver ∷ Receiver ∷ Sender ∷ Receiver ∷ Sender ∷ Receiver ∷ [] → ⊥
-    -- nor does a trace without entries have them
+    -- a trace without entries lacks them
     pub lacks_them : IsInOrder [] sent received → ⊥

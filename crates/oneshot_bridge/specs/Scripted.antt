@@ -1,4 +1,4 @@
--- Each state that the word's rule allows is one of a run of the model, under two scripts and a schedule.
+-- Each state that the rule of the word allows is that of a run of the model, under two scripts and a schedule.
 use Rattle.std.specs.Prelude.{◌≡◌, ℕ, List, Some}
 use Rattle.oneshot_machine.specs.Noted.{Noted}
 use Rattle.oneshot_machine.specs.Orders.{Reaches}
@@ -17,8 +17,8 @@ use Rattle.oneshot_bridge.specs.Walks.{SenderStand, ReceiverStand, SenderWalk, R
 abbrev pub SendsOnly : {T : Type 0} → T → SenderScript T → Type 0
 SendsOnly {T} message s = (other : T) → message_of s.last ≡ Some other → other ≡ message
 
--- For each log that an order allows an end, a script of that end and a walk of it have this log. A sender
--- needs a message to send.
+-- For each log that an order allows an end, a script of that end and a walk of it have this log. A
+-- sender needs a message to send.
 abbrev pub SenderIsScripted : (T : Type 0) → Type 0
 SenderIsScripted T =
     (message : T) (xs ys : List Noted) (word : ℕ)
@@ -29,7 +29,7 @@ ReceiverIsScripted =
     (xs ys : List Noted) (word : ℕ)
     → Reaches xs ys word → (r : ReceiverScript) × (at : ReceiverStand) × ReceiverWalk r ys at
 
--- There are two scripts and a schedule. The run of the model has these operations of the sender, these of the
+-- Two scripts and a schedule: the run of the model has these operations of the sender, these of the
 -- receiver and this word, and it keeps every law of a trace.
 pub record IsOfARun {T : Type 0} (message : T) (xs ys : List Noted) (word : ℕ) : Type 0 where
   pub sender : SenderScript T
@@ -41,6 +41,6 @@ pub record IsOfARun {T : Type 0} (message : T) (xs ys : List Noted) (word : ℕ)
   pub run : RunsSo sender receiver moves entries now xs ys word
   pub right : IsRight sender receiver moves (told_at entries now)
 
--- Each state that the rule of the word allows is one of a run.
+-- Each state that the rule of the word allows is that of a run.
 abbrev pub StatesAreOfRuns : (T : Type 0) → Type 0
 StatesAreOfRuns T = (message : T) (xs ys : List Noted) (word : ℕ) → Reaches xs ys word → IsOfARun message xs ys word

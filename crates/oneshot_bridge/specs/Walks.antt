@@ -1,5 +1,6 @@
--- A walk: one end carries out its script alone, each step by a row of its table, and notes its operations on
--- the word and the replies of its calls. It knows no other end, no schedule and no word but those that it found.
+-- A walk: one end carries out its script alone, each step by a row of its table.
+-- It notes its operations on the word and the replies of its calls. It knows no other end, no schedule,
+-- and only the words that it found.
 use Rattle.std.specs.Prelude.{◌≡◌, Bool, true, false, List, [], ◌∷◌, ◌++◌, Option, Some, None}
 use Rattle.std.specs.Option.{option_and_then}
 use Rattle.oneshot_machine.specs.declared.machine.End.{End}
@@ -27,21 +28,21 @@ use Rattle.oneshot_world.specs.declared.state.SenderState.{SenderState}
 use Rattle.oneshot_world.specs.declared.state.SenderState.TheVariants as SS
 use Rattle.oneshot_laws.specs.Marks.{call_under_way}
 
--- an answered call with its reply
+-- a call that has replied, with its reply
 abbrev pub Answered : Type 0
 Answered = Call × Reply
 
--- where an end stands in its call, what is left of its script, and the calls that it has answered
+-- an end's state in its call, what is left of its script, and its calls that have replied
 abbrev pub Stand : Type 0 → Type 0
 Stand S = S × Unanswered × List Answered
 
--- the call under way, if a step answers it
+-- the call under way with its reply, if a step replies to it
 abbrev pub answers_with : Unanswered → Option Reply → List Answered
 answers_with left None = []
 answers_with left (Some reply) = (call_under_way left, reply) ∷ []
 
--- An end by its table: the position at which it makes its next step, the step there, the row for what that
--- step sees, and where the row leads the end.
+-- An end by its table: the position of its next step, the step there, the row for what that step sees,
+-- and where the row leads the end.
 pub record Walker (P S : Type 0) : Type 0 where
   pub side : End
   pub position : Stand S → Option P
@@ -49,8 +50,8 @@ pub record Walker (P S : Type 0) : Type 0 where
   pub row : P → Seen → Option (Outcome P)
   pub goes : Step → Outcome P → S
 
--- What a step may see that is no operation on the word: a park its token or none, a clock either answer, a
--- copy of a waker its refusal or none.
+-- What a step that is no operation on the word may see: a park its token or none, a clock either
+-- answer, a copy of a waker its refusal or none.
 abbrev pub may_see : Step → Seen → Bool
 may_see (Word op) seen = false
 may_see Park (Token woken) = true
@@ -63,7 +64,7 @@ may_see _ Done = true
 may_see _ seen = false
 
 module _ {P S : Type 0} (w : Walker P S) where
-  -- where the end stands after a row
+  -- where the end is after a row
   abbrev pub stands_after : P → Outcome P → Unanswered → List Answered → Stand S
   stands_after p row left told =
       (w.goes (w.step p) row, left_by w.side (reply_of row) left, told ++ answers_with left (reply_of row))

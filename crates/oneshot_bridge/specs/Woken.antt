@@ -1,5 +1,4 @@
--- What the laws of the model say of a receiver that waits, in a park or in a task: it was woken, or the sender's
--- next step wakes it.
+-- What the laws of the model state of a waiting receiver: it was woken, or the sender's next step wakes it.
 use Rattle.std.specs.Prelude.{◌≡◌, ℕ, ◌+◌, Bool, true, false, ◌||◌, List, [], ◌∷◌, ◌++◌, Some, IsTrue, IsFalse}
 use Rattle.std.specs.List.{list_any}
 use Rattle.oneshot_machine.specs.declared.machine.End.TheVariants as End
@@ -25,8 +24,8 @@ use Rattle.oneshot_bridge.specs.Gives.{WhereverTheyCome}
 use Rattle.oneshot_bridge.specs.OrdersRun.{RunsTo}
 
 module _ {T : Type 0} (a : SenderScript T) (b : ReceiverScript) where
-  -- The receiver waits in the world that these entries led to: its next step is a park, and no token is there;
-  -- or its last poll answered "pending", and nothing woke its task since.
+  -- The receiver waits in the world that these entries led to: its next step is a park, and no token is
+  -- there; or its last poll replied "pending", and nothing has woken its task since.
   abbrev pub waits : List Entry → World → Bool
   waits entries w = waits_in_park (ahead_of w) || waits_in_task (marks (calls_of a b) entries)
 
@@ -39,21 +38,21 @@ module _ {T : Type 0} (a : SenderScript T) (b : ReceiverScript) where
     pub wakes : made.step ≡ Wake
     pub woken : IsFalse (waits (entries ++ Made_entry made ∷ []) next)
 
--- Where the sender's `send` or drop has answered, the receiver does not wait.
+-- If the sender's `send` or drop has replied, the receiver does not wait.
 abbrev pub NobodyWaitsInARun : (T : Type 0) → Type 0
 NobodyWaitsInARun T =
     WhereverTheyCome T InOrder (λ a b xs ys word s r. IsTrue (list_any (λ x. is_end_of_sender x.0) s.2)
     → (run : RunsTo a b xs ys word s r) → IsFalse (waits a b run.entries run.now.world))
 
--- Where the sender's last operation is made, which found the receiver here, and its call is under way, the wake
--- is still to come, and is the sender's next step.
+-- If the sender's last operation found the receiver here and its call is still under way, the sender's
+-- next step is the wake.
 abbrev pub WakeIsNextInARun : (T : Type 0) → Type 0
 WakeIsNextInARun T =
     WhereverTheyCome T Reaches (λ a b xs ys word s r. (by : By) (p : SenderPos)
     → sender_at xs ≡ finished by → s.0 ≡ At p
     → (run : RunsTo a b xs ys word s r) → WakesNext a b run.entries (run.now.count + 1) run.now.world)
 
--- Where the sender's last operation found the receiver gone, the receiver's last operation is that of its drop,
+-- If the sender's last operation found the receiver gone, the receiver's last operation is that of its drop.
 abbrev pub found_it_gone : SenderAt → Bool
 found_it_gone (late by) = true
 found_it_gone (overtaken by) = true
@@ -64,7 +63,7 @@ WasDropped T =
     WhereverTheyCome T Reaches (λ a b xs ys word s r. IsTrue (found_it_gone (sender_at xs))
     → receiver_at ys ≡ gone)
 
--- and the receiver has ended: nobody is left to wait.
+-- In that case the receiver has ended: nobody is left to wait.
 abbrev pub NobodyIsLeft : (T : Type 0) → Type 0
 NobodyIsLeft T =
     WhereverTheyCome T Reaches (λ a b xs ys word s r. IsTrue (found_it_gone (sender_at xs))

@@ -35,6 +35,7 @@ pub record Path {T W : Type 0} (from : ReceiverPos) (to : Outcome ReceiverPos) (
   pub gets : messages_got steps ≡ []
   pub leads : Stretch from steps to
 
+
 -- the rows that a receive runs: those of the calls by reference, with a deadline or without, or those of
 -- `recv`, which has no deadline
 pub data ReceiveBy : Bool → Type 0 where

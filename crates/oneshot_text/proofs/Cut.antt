@@ -7,7 +7,7 @@ use Rattle.std.proofs.lemmas.List.Splits.{slice_split_none, slice_split_at, leng
 use Rattle.std.proofs.lemmas.Grind.{common_steps}
 use borrow.Author.Tests.{ne_eqb, eq-eqb}
 
--- the byte stands nowhere in the list
+-- the byte is nowhere in the list
 abbrev pub Lacks : ℕ → List ℕ → Type 0
 Lacks byte bs = (i : ℕ) → i < length bs → get_or bs i 0 ≢ byte
 
@@ -15,7 +15,7 @@ All-from_lacks : (byte : ℕ) (bs : List ℕ) → Lacks byte bs → All (λ b. e
 All-from_lacks byte bs lacks =
     All-from_get_or (λ b. eqb b byte ≡ false) bs 0 (λ i small. ne_eqb (get_or bs i 0) byte (lacks i small))
 
--- there is one part where the byte stands nowhere
+-- there is one part if the byte is nowhere
 pub slice_split-whole : (byte : ℕ) (bs : List ℕ) → Lacks byte bs → slice_split (λ b. eqb b byte) bs ≡ bs ∷ []
 slice_split-whole byte bs lacks = slice_split_none (λ b. eqb b byte) bs (All-from_lacks byte bs lacks)
 
@@ -26,7 +26,7 @@ slice_split-first byte bs first rest is lacks =
     ap (slice_split (λ b. eqb b byte)) is
     ∙ slice_split_at (λ b. eqb b byte) first byte rest (All-from_lacks byte first lacks) (eq-eqb byte byte refl)
 
--- there are no more parts than bytes, but for one
+-- there is at most one more part than bytes
 pub length-parts : (byte : ℕ) (bs : List ℕ) → length (slice_split (λ b. eqb b byte) bs) ≤ length bs + 1
 length-parts byte bs = grind (arith, common_steps, length-slice_split (λ b. eqb b byte) bs)
 
@@ -47,7 +47,7 @@ pub lines_of-whole : (bs : List ℕ) → 0 < length bs → Lacks 10 bs → lines
 lines_of-whole [] some lacks = absurd (omega arith)
 lines_of-whole (b ∷ bs) some lacks = rw (slice_split-whole 10 (b ∷ bs) lacks) refl
 
--- the same, as `split_once` and `unwrap_or` tell it
+-- the same, as the contracts of `split_once` and `unwrap_or` state it
 pub lines_of-cut : (text empty : Bor (List ℕ)) (r : Option (Bor (List ℕ) × Bor (List ℕ))) → 0 < length text.now
     → empty.now ≡ []
     → MatchOption r (Lacks 10 text.now) (λ x. (text.now ≡ x.0.now ++ (10 ∷ x.1.now)) × Lacks 10 x.0.now)

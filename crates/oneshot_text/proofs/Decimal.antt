@@ -1,4 +1,4 @@
--- A number has one text: its decimal digits, with no sign and no leading zero.
+-- A number has only one text: its decimal digits, with no sign and no leading zero.
 use Rattle.std.proofs.Common.{◌≡◌, ◌≢◌, ℕ, zero, suc, ◌^◌, ◌<◌, List, [], ◌∷◌, length, get_or, Result, Ok, Err, Some, IfSome, decimal, sym, ap, ◌∙◌, arith}
 use Rattle.std.specs.Result.{result_ok}
 use Rattle.std.specs.Str.Parse.{ParsesUnsigned, AllDigits, digits_value}
@@ -18,7 +18,7 @@ pub decimal-leads : (n : ℕ) → n < 2 ^ 64 → get_or (decimal n) 0 0 ≡ 48 �
 decimal-leads zero small leads = rw (decimal_digit 0 (omega arith))
 decimal-leads (suc n) small leads = let first = first_decimal (suc n) (omega arith) small in omega arith
 
--- what `parse` gives for a text with no '+' and no leading zero
+-- what `parse` returns for a text with no '+' and no leading zero
 pub parse-plain_decimal : {E : Type 0} (bs : List ℕ) (r : Result ℕ E) → ParsesUnsigned 64 10 bs r
     → get_or bs 0 0 ≢ 43 → (get_or bs 0 0 ≡ 48 → length bs ≡ 1) → IfSome (result_ok r) (λ n. bs ≡ decimal n)
 parse-plain_decimal {E} bs (Ok n) parses plain leads =
@@ -26,7 +26,7 @@ parse-plain_decimal {E} bs (Ok n) parses plain leads =
     sym (ap decimal read.1 ∙ decimal-digits_value numerals bs read.0.0 read.0.1 leads read.0.2)
 parse-plain_decimal bs (Err e) parses plain leads = tt
 
--- what `parse` gives for a decimal
+-- what `parse` returns for a decimal
 pub parse-of_decimal : {E : Type 0} (bs : List ℕ) (r : Result ℕ E) (n : ℕ) → ParsesUnsigned 64 10 bs r → n < 2 ^ 64
     → bs ≡ decimal n → result_ok r ≡ Some n
 parse-of_decimal bs r n parses small is = ap result_ok (parse-decimal 64 n bs r small small is parses)

@@ -1,4 +1,4 @@
--- The first fault of the lines of a text, from that of one line.
+-- The first fault of a text's lines, from that of one line.
 use Rattle.std.proofs.Common.{◌≡◌, ◌≢◌, ℕ, List, [], ◌∷◌, Some, length, map, slice_get, refl, arith}
 use Rattle.oneshot_replay.specs.declared.Move.{Move}
 use Rattle.oneshot_replay.specs.declared.ReceiverScript.{ReceiverScript}

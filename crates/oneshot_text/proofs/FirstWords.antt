@@ -1,4 +1,4 @@
--- What the first word of a line's words tells, where it is one of three words, each with its words behind it.
+-- What follows from the first word of a line's words, if it is one of three words, each with its own continuation.
 use Rattle.std.proofs.Common.{◌≡◌, ◌≢◌, ℕ, ◌^◌, ◌<◌, List, Some, slice_get, get_or, decimal, ap, ◌∙◌}
 use Rattle.oneshot_text.proofs.Decimal.{decimal-no_letter}
 
@@ -16,7 +16,7 @@ module _ {a b c : List ℕ} {A B C : List (List ℕ) → Type 0} where
   is_no_number n rest small _ letter _ (is_second is behind) = decimal-no_letter n b small letter is
   is_no_number n rest small _ _ letter (is_third is behind) = decimal-no_letter n c small letter is
 
-  -- which one it is tells what is behind it
+  -- which one it is determines what comes after it
   pub behind_first : {rest : List (List ℕ)} → a ≢ b → a ≢ c → FirstWord a b c A B C a rest → A rest
   behind_first no_b no_c (is_first is behind) = behind
   behind_first no_b no_c (is_second is behind) = absurd (no_b is)

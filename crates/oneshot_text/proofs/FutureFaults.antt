@@ -1,4 +1,4 @@
--- How the words of a future's script go on behind each word.
+-- Which words of a future's script may follow each word.
 use Rattle.std.proofs.Common.{◌≡◌, ◌≢◌, ℕ, ◌^◌, ◌<◌, List, [], ◌∷◌, ◌++◌, Some, slice_get, codes, decimal, refl, sym, ap, ◌∙◌, arith}
 use Rattle.oneshot_replay.specs.declared.AsyncCall.{AsyncCall}
 use Rattle.oneshot_replay.specs.declared.AsyncCall.TheVariants.{Poll, TryRecv, HasMessage, IsClosed}
@@ -10,14 +10,14 @@ use Rattle.oneshot_text.proofs.Decimal.{decimal-no_letter}
 use Rattle.oneshot_text.proofs.LineFaults.{number_and_from}
 use Rattle.oneshot_text.proofs.Unlike.{unlike}
 
--- what the first word of a future's words tells
+-- what follows from the first word of a future's words
 pub data FutureHead (word : List ℕ) (rest : List (List ℕ)) : Type 0 where
   poll : word ≡ codes "poll" → NumberAnd AsksForFuture rest → FutureHead word rest
   bare : (call : AsyncCall) → number_behind call ≡ [] → word ≡ first_word_of_future_call call → AsksForFuture rest
       → FutureHead word rest
   drop : word ≡ codes "drop" → rest ≡ [] → FutureHead word rest
 
--- how the words go on behind the first call
+-- the words after the first call
 abbrev as_future : (calls : List AsyncCall) (last : AsyncLast) (rest : List (List ℕ)) → HasNumbers calls
     → rest ≡ words_of_future_calls calls ++ words_of_future_last last → AsksForFuture rest
 as_future calls last rest fits is = record { script = record { calls = calls; last = last }; fits = fits; written = is }
@@ -46,8 +46,7 @@ future_head word rest asks = future_head_of asks.script.calls asks.script.last w
 pub no_future : AsksForFuture []
 no_future = record { script = record { calls = []; last = Stop }; fits = tt; written = refl }
 
--- the words of a future's calls are no numbers, and that of a call with no number behind it is neither `poll`
--- nor `drop`
+-- the word of a future's call is no number, and that of a call without a number is neither `poll` nor `drop`
 no_number_in_call : (n : ℕ) (call : AsyncCall) → n < 2 ^ 64 → decimal n ≡ first_word_of_future_call call → ⊥
 no_number_in_call n (Poll number) small is = decimal-no_letter n (codes "poll") small (omega arith) is
 no_number_in_call n TryRecv small is = decimal-no_letter n (codes "try") small (omega arith) is
@@ -74,7 +73,7 @@ no_number_in_future n xs small (drop is over) = decimal-no_letter n (codes "drop
 pub future-no_number : (n : ℕ) (xs : List (List ℕ)) → n < 2 ^ 64 → ¬ (AsksForFuture (decimal n ∷ xs))
 future-no_number n xs small asks = no_number_in_future n xs small (future_head (decimal n) xs asks)
 
--- behind `poll`
+-- after `poll`
 poll_from_head : (rest : List (List ℕ)) → FutureHead (codes "poll") rest → NumberAnd AsksForFuture rest
 poll_from_head rest (poll is asks) = asks
 poll_from_head rest (bare call none is asks) = absurd (bare-no_poll call none is)
@@ -90,7 +89,7 @@ poll_to rest asks = record {
 pub poll_from : (rest : List (List ℕ)) → AsksForFuture (codes "poll" ∷ rest) → NumberAnd AsksForFuture rest
 poll_from rest asks = poll_from_head rest (future_head (codes "poll") rest asks)
 
--- behind a call with no number
+-- after a call without a number
 bare_from_head : (call : AsyncCall) (rest : List (List ℕ)) → number_behind call ≡ []
     → FutureHead (first_word_of_future_call call) rest → AsksForFuture rest
 bare_from_head call rest none (poll is asks) = absurd (bare-no_poll call none (sym is))
@@ -112,7 +111,7 @@ bare_to call rest none fits asks = record {
       ++ words_of_future_last asks.script.last) (sym none);
 }
 
--- behind a run of calls
+-- after a run of calls
 pub calls_to : (calls : List AsyncCall) → HasNumbers calls → (rest : List (List ℕ)) → AsksForFuture rest
     → AsksForFuture (words_of_future_calls calls ++ rest)
 calls_to [] fits rest asks = asks
@@ -150,7 +149,7 @@ pub numbers_more : (calls : List AsyncCall) (call : AsyncCall) → HasNumbers ca
 numbers_more [] call fits small = (small, tt)
 numbers_more (first ∷ calls) call fits small = (fits.0, numbers_more calls call fits.1 small)
 
--- behind `drop`
+-- after `drop`
 drop_from_head : (rest : List (List ℕ)) → FutureHead (codes "drop") rest → IsOver rest
 drop_from_head rest (poll is asks) = absurd (unlike (codes "drop") (codes "poll") refl refl is)
 drop_from_head rest (bare call none is asks) = absurd (bare-no_drop call is)
@@ -163,7 +162,7 @@ future_drop_to rest over =
 pub future_drop_from : (rest : List (List ℕ)) → AsksForFuture (codes "drop" ∷ rest) → IsOver rest
 future_drop_from rest asks = drop_from_head rest (future_head (codes "drop") rest asks)
 
--- a word that is none of a future's
+-- a word that is not one of a future's
 module _ (left : List (List ℕ))
     (no_call : (call : AsyncCall) → slice_get left 0 ≢ Some (first_word_of_future_call call))
     (no_drop : slice_get left 0 ≢ Some (codes "drop")) where

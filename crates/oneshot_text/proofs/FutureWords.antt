@@ -1,4 +1,4 @@
--- The words of a future's script tell its calls, one after the other, and what the last one is.
+-- The words of a future's script determine its calls, one after the other, and its last one.
 use Rattle.std.proofs.Common.{◌≡◌, ◌≢◌, ℕ, List, [], ◌∷◌, ◌++◌, Option, Some, None, Result, Ok, Err, slice_get, refl, sym, ap, ◌∙◌, arith}
 use Rattle.std.proofs.lemmas.Grind.{common_steps, flat_map-append}
 use Rattle.std.proofs.lemmas.List.{append_assoc, append-nil}
@@ -18,7 +18,7 @@ future_last-no_call Drop HasMessage = λ is. grind (arith, common_steps)
 future_last-no_call Drop IsClosed = λ is. grind (arith, common_steps)
 future_last-no_call Stop call = λ is. grind (arith, common_steps)
 
--- the words of a call, and what comes behind them
+-- the words of a call, and what comes after them
 begins : (call : AsyncCall) (rest : List (List ℕ))
     → slice_get (words_of_future_call call ++ rest) 0 ≡ Some (first_word_of_future_call call)
 begins (Poll number) rest = refl
@@ -50,8 +50,8 @@ written_more all left next taken call all_is left_is =
     ∙ sym (append_assoc (words_of_future_calls taken) (words_of_future_calls (call ∷ [])) next)
     ∙ ap (λ ws. ws ++ next) (sym (flat_map-append words_of_future_call taken (call ∷ [])))
 
--- what the words that are left ask for, if all of them ask for this script: its calls behind those that were
--- taken, and its last one
+-- what the words left ask for, if all words ask for this script: the calls after those that were taken,
+-- and the last one
 pub record Ahead (future : AsyncScript) (taken : List AsyncCall) (left : List (List ℕ)) : Type 0 where
   pub more : List AsyncCall
   pub calls : future.calls ≡ taken ++ more
@@ -62,7 +62,7 @@ abbrev pub Each : List (List ℕ) → List AsyncCall → List (List ℕ) → Typ
 Each all taken left =
     (future : AsyncScript) → HasNumbers future.calls → all ≡ words_of_future future → Ahead future taken left
 
--- what is known of the next call that is read
+-- what the contract states of the next call that is read
 abbrev pub ReadsEach : {F : Type 0} → List (List ℕ) → Result (Option AsyncCall) F → Type 0
 ReadsEach left read =
     (call : AsyncCall) (rest : List (List ℕ)) → HasNumber call → left ≡ words_of_future_call call ++ rest

@@ -1,4 +1,4 @@
--- The faults that the reader of a last call passes on: a word behind the call, and a word that is no last call.
+-- The faults that the parser of a last call passes on: a word after the call, and a word that is no last call.
 use Rattle.std.proofs.Common.{◌≡◌, ℕ, ◌^◌, ◌<◌, List, [], ◌∷◌, ◌++◌, Result, Err, Option, Some, slice_get, replicate, decimal}
 use Rattle.std.specs.Result.{IsErrAnd, IsOk}
 use Rattle.oneshot_text.specs.declared.fault.Malformed.{Malformed}
@@ -13,7 +13,7 @@ use Rattle.oneshot_text.proofs.LineFaults.{fault_passed, fault_turned, fault_beh
 use Rattle.oneshot_text.proofs.Runs.{replicate_to, replicate_from}
 
 module _ (language : List (List ℕ) → Type 0) (words : Words) (given fault : Malformed) where
-  -- a word behind the last call
+  -- a word after the last call
   module _ (word : List ℕ) (to : (rest : List (List ℕ)) → IsOver rest → language (word ∷ rest))
       (from : (rest : List (List ℕ)) → language (word ∷ rest) → IsOver rest) (result : Option Word) (new : Words)
       (takes : TakesFirst words result new) (at : slice_get (words_left words) 0 ≡ Some word)
@@ -29,7 +29,7 @@ module _ (language : List (List ℕ) → Type 0) (words : Words) (given fault : 
         → r ≡ Err (NotOfTheGrammar fault) → HasLineFault language words fault
     last_turned r told is = fault_turned language words r given fault told is behind_last
 
-  -- a word that is no last call, as `stop` tells it
+  -- a word that is no last call, as the contract of `stop` states it
   module _ (other : List ℕ) (right : language (other ∷ []))
       (no_number : (n : ℕ) (rest : List (List ℕ)) → n < 2 ^ 64 → ¬ (language (decimal n ∷ rest)))
       (no_word : (word : List ℕ) → slice_get (words_left words) 0 ≡ Some word → (rest : List (List ℕ))
@@ -47,7 +47,7 @@ module _ (language : List (List ℕ) → Type 0) (words : Words) (given fault : 
         → r ≡ Err (NotOfTheGrammar fault) → HasLineFault language words fault
     unknown_turned r told is = fault_turned language words r given fault told is unknown_last
 
--- words of a run, with a fault behind it
+-- words of a run, with a fault after them
 pub run_passed : {T : Type 0} (language : List (List ℕ) → Type 0) (words : Words) (given fault : Malformed)
     (word : List ℕ) (to : (rest : List (List ℕ)) → language rest → language (word ∷ rest))
     (from : (rest : List (List ℕ)) → language (word ∷ rest) → language rest) (count : ℕ) (new : Words)

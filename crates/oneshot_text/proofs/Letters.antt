@@ -1,4 +1,4 @@
--- A word has the letters of no two lists of moves.
+-- No word has the letters of two different lists of moves.
 use Rattle.std.proofs.Common.{◌≡◌, ℕ, zero, suc, ◌<◌, ◌==◌, true, false, List, [], ◌∷◌, Option, Some, None, if◌then◌else◌, length, get_or, map, refl, sym, ◌∙◌, arith}
 use Rattle.oneshot_replay.specs.declared.Move.{Move}
 use Rattle.oneshot_replay.specs.declared.Move.TheVariants.{Sender, Receiver}
@@ -27,7 +27,7 @@ moves-same (x ∷ xs) (y ∷ ys) [] x_is y_is = absurd cc
 moves-same (x ∷ xs) (y ∷ ys) (letter ∷ text) x_is y_is =
     cc (move_lettered-letter x letter (cc), move_lettered-letter y letter (cc), moves-same xs ys text (cc) (cc))
 
--- each letter of the word is a move's
+-- each letter of the word is that of a move
 pub letter-at : (moves : List Move) (text : List ℕ) (i : ℕ) → map letter_of moves ≡ map Some text → i < length text
     → (move : Move) × (letter_of move ≡ Some (get_or text i 0))
 letter-at moves [] i is small = absurd (omega arith)

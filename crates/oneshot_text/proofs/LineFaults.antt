@@ -1,4 +1,4 @@
--- The fault of a line at its next word, and a fault of the words behind as one of all words.
+-- The fault of a line at its next word, and a fault of the words after it as one of all words.
 use Rattle.std.proofs.Common.{◌≡◌, ◌≢◌, ℕ, ◌+◌, ◌^◌, ◌<◌, List, [], ◌∷◌, ◌++◌, Result, Ok, Err, Option, Some, None, length, slice_get, decimal, refl, sym, ap, subst, ◌∙◌, append_assoc, length-append, arith, lit<}
 use Rattle.std.specs.Result.{IsErrAnd, IsOk}
 use Rattle.std.proofs.Math.Nat.{add-zero}
@@ -39,7 +39,7 @@ no_number_here : (language : List (List ℕ) → Type 0) (words : List (List ℕ
 no_number_here language [] none = λ right. absurd (cc right.written)
 no_number_here language (word ∷ words) none = λ b. none b.right.number b.right.small (cc b.right.written)
 
--- a number has to stand here
+-- a number must come here
 pub bad_number : (line : Line) (first : ℕ) (language : List (List ℕ) → Type 0) (words rest : List (List ℕ))
     → language rest → ((n : ℕ) → n < 2 ^ 64 → slice_get words 0 ≢ Some (decimal n))
     → IsLineFault line first (NumberAnd language) words (BadNumber line first)
@@ -51,7 +51,7 @@ bad_number line first language words rest right none =
     (no_number_here language words none)
     (needs_number (0, lit< tt, record { rest = rest; right = zero_and }))
 
--- no word may stand here
+-- no word may come here
 pub word_after_all : (line : Line) (first : ℕ) (word : List ℕ) (words : List (List ℕ))
     → IsLineFault line first IsOver (word ∷ words) (FollowsLastCall line first)
 word_after_all line first word words =
@@ -103,7 +103,7 @@ module _ (behind all : List (List ℕ) → Type 0) (front : List (List ℕ))
         kind = kind_to line (first + length (front ++ f.front)) f.front fault (rw number at f.kind);
       }
 
-  -- the words of a line, of which these are taken
+  -- the words of a line from which these were taken
   pub fault_behind : (old new : Words) (fault : Malformed) → IsSameLine old new
       → words_left old ≡ front ++ words_left new → HasLineFault behind new fault → HasLineFault all old fault
   fault_behind old new fault same is f =
@@ -119,7 +119,7 @@ pub same_line_on : (first then last : Words) → IsSameLine first then → IsSam
 same_line_on first then last before after =
     record { line = after.line ∙ before.line; count = after.count ∙ before.count }
 
--- the fault that an error names
+-- the fault in an error
 pub fault_of_err : {T : Type 0} (given fault : Malformed) → err T given ≡ err T fault → given ≡ fault
 fault_of_err given fault is = cc
 
@@ -153,7 +153,7 @@ error_is {T} read given fault was r told is =
     let same : NotOfTheGrammar fault ≡ given =
     subst (λ x. IsErrAnd x (λ e. e ≡ given)) is told in was ∙ ap (λ e. err T e) (sym same)
 
--- a word that is left where none may be
+-- a word that is left where none may follow
 pub word_over : (words : Words) (word : Word) (rest : List (List ℕ)) → words_left words ≡ word.text.now ∷ rest
     → IsNextOf words word
     → (fault : Malformed) → FollowsLastCall word.line word.number ≡ fault → HasLineFault IsOver words fault
@@ -174,7 +174,7 @@ not_over : {T E : Type 0} (words : List (List ℕ)) (r : Result T E) (e : E) →
 not_over {T} {E} words r e over is none =
     let ok : IsOk (err T e) = subst (λ (x : Result T E). IsOk x) is (over none) in absurd (cc ok)
 
--- a word that is none which may stand there, as `stop` tells it
+-- a word that is unknown here, as the contract of `stop` states it
 pub word_unknown : (language : List (List ℕ) → Type 0) (words : Words) (r : Result (Unit {0}) Malformed)
     (other : List ℕ) (others : List (List ℕ)) → language (other ∷ others)
     → ((n : ℕ) (xs : List (List ℕ)) → n < 2 ^ 64 → ¬ (language (decimal n ∷ xs)))
@@ -189,7 +189,7 @@ word_unknown language words r other others right no_number no_word over faulty g
 not_ok : (n : ℕ) (r : Result ℕ Malformed) (given : Malformed) → r ≡ Err given → r ≡ Ok n → ⊥
 not_ok n r given was is = cc (sym was ∙ is)
 
--- a number that is missing, as `number` tells it
+-- a number that is missing, as the contract of `number` states it
 pub number_missing : (language : List (List ℕ) → Type 0) (words : Words) (rest : List (List ℕ)) → language rest
     → (r : Result ℕ Malformed)
     → ((n : ℕ) → n < 2 ^ 64 → slice_get (words_left words) 0 ≡ Some (decimal n) → r ≡ Ok n)
@@ -208,7 +208,7 @@ next_taken old (Some w) new word takes at =
     let text : w.text.now ≡ word = cc same in
     takes.0 ∙ ap (λ t. t ∷ words_left new) text
 
--- a fault of the words behind that word
+-- a fault of the words after that word
 pub fault_behind_word : (behind all : List (List ℕ) → Type 0) (word : List ℕ)
     → ((words : List (List ℕ)) → behind words → all (word ∷ words))
     → ((words : List (List ℕ)) → all (word ∷ words) → behind words)
@@ -223,7 +223,7 @@ pub number_and_from : (language : List (List ℕ) → Type 0) (n : ℕ) (words :
 number_and_from language n words right =
     let same : right.rest ≡ words = cc right.written in subst language same right.right
 
--- a fault of the words behind a number
+-- a fault of the words after a number
 pub fault_behind_number : (language : List (List ℕ) → Type 0) (n : ℕ) → n < 2 ^ 64 → (old new : Words)
     → IsSameLine old new → words_left old ≡ decimal n ∷ words_left new
     → (fault : Malformed) → HasLineFault language new fault → HasLineFault (NumberAnd language) old fault

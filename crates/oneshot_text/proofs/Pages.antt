@@ -1,4 +1,4 @@
--- What a page and its writer hold together, as lines are added and written.
+-- What a writer and its page hold together, as lines are added and written.
 use Rattle.std.proofs.Common.{◌≡◌, ℕ, List, [], ◌++◌, Option, Some, None, IfSome, Result, Ok, Err, OnOk, sym, ap, ◌∙◌, subst}
 use Rattle.std.specs.Fmt.{WritesText}
 use Rattle.std.proofs.lemmas.Fmt.{contents_after_writes}
@@ -18,7 +18,7 @@ pub joined : (written : Option (List ℕ)) (old new line : List ℕ) → new ≡
 joined None old new line is = tt
 joined (Some bytes) old new line is = ap (λ lines. bytes ++ lines) is ∙ sym (append_assoc bytes old line)
 
--- those that wait are written, and then the line
+-- the waiting lines are written, and then the line
 pub passed : (written mid new : Option (List ℕ)) (old left line : List ℕ) → left ≡ [] → Appends written mid old
     → Appends mid new line → Appends (append_known written old) (append_known new left) line
 passed None mid new old left line none first_part second_part = tt
@@ -27,7 +27,7 @@ passed (Some bytes) (Some more) None old left line none first_part second_part =
 passed (Some bytes) (Some more) (Some most) old left line none first_part second_part =
     ap (λ lines. most ++ lines) none ∙ append-nil most ∙ second_part ∙ ap (λ b. b ++ line) first_part
 
--- at the end all that waited is written, and the writer keeps it
+-- at the end all waiting lines are written, and the writer keeps them
 pub written_out : (before written new kept : Option (List ℕ)) (lines text : List ℕ)
     → Appends before (append_known written lines) text → Appends written new lines → Keeps new kept
     → Appends before kept text
@@ -37,7 +37,7 @@ written_out (Some first) (Some bytes) None kept lines text grew out keeps = elim
 written_out (Some first) (Some bytes) (Some most) None lines text grew out keeps = elim keeps [ ]
 written_out (Some first) (Some bytes) (Some most) (Some last) lines text grew out keeps = keeps ∙ out ∙ grew
 
--- what was empty has the text that was written to it
+-- a writer that was empty has the text that was written to it
 pub text_is : {W : Type 0} (took : W → List ℕ → W → Type 0) (contents : W → List ℕ)
     (appends : (w : W) (bytes : List ℕ) (v : W) → took w bytes v → contents v ≡ contents w ++ bytes) (w v : W)
     (text : Option (List ℕ)) → contents w ≡ [] → WritesText took w text v → IfSome text (λ bytes. contents v ≡ bytes)
@@ -45,7 +45,7 @@ text_is took contents appends w v None empty writes = tt
 text_is took contents appends w v (Some bytes) empty writes =
     contents_after_writes took contents appends w bytes v writes ∙ ap (λ b. b ++ bytes) empty
 
--- a fact of the line is one of the text
+-- a fact about the line is one about the text
 pub of_text : {T E : Type 0} (fact : List ℕ → Type 0) (r : Result T E) (text : Option (List ℕ)) (line : List ℕ)
     → IfSome text (λ bytes. line ≡ bytes) → OnOk r (fact line) → OnOk r (IfSome text fact)
 of_text fact r None line is done = on_ok_weaker r (λ there. tt) done

@@ -1,4 +1,4 @@
--- How the words of a receiver's line go on behind each word.
+-- Which words of a receiver's line may follow each word.
 use Rattle.std.proofs.Common.{◌≡◌, ◌≢◌, ℕ, ◌^◌, ◌<◌, true, false, List, [], ◌∷◌, ◌++◌, Some, slice_get, map, get_or, codes, decimal, refl, sym, ap, ◌∙◌, arith}
 use Rattle.oneshot_replay.specs.declared.AsyncLast.TheVariants as A
 use Rattle.oneshot_replay.specs.declared.AsyncScript.{AsyncScript}
@@ -12,7 +12,7 @@ use Rattle.oneshot_text.proofs.Decimal.{decimal-no_letter}
 use Rattle.oneshot_text.proofs.ReceiverWords.{receiver_last-no_call}
 use Rattle.oneshot_text.proofs.Unlike.{unlike}
 
--- what the first word of a receiver's words tells
+-- what follows from the first word of a receiver's words
 pub data ReceiverHead (word : List ℕ) (rest : List (List ℕ)) : Type 0 where
   call : (c : ReceiverCall) → word ≡ word_of_call c → AsksForReceiver rest → ReceiverHead word rest
   recv : word ≡ codes "recv" → rest ≡ [] → ReceiverHead word rest
@@ -64,7 +64,7 @@ nothing = record { calls = []; last = A.Stop }
 no_future : (c : ReceiverCall) → word_of_call c ≢ codes "future"
 no_future c is = receiver_last-no_call (IntoFuture nothing) c (ap (λ w. Some w) (sym is))
 
--- behind a call
+-- after a call
 call_from_head : (c : ReceiverCall) (rest : List (List ℕ)) → ReceiverHead (word_of_call c) rest → AsksForReceiver rest
 call_from_head c rest (call d is asks) = asks
 call_from_head c rest (recv is over) = absurd (no_recv c is)
@@ -84,7 +84,7 @@ pub call_from : (c : ReceiverCall) (rest : List (List ℕ)) → AsksForReceiver 
     → AsksForReceiver rest
 call_from c rest asks = call_from_head c rest (receiver_head (word_of_call c) rest asks)
 
--- behind `recv` and behind `drop`
+-- after `recv` and after `drop`
 last_from_head : (word : List ℕ) (rest : List (List ℕ)) → ((c : ReceiverCall) → word_of_call c ≢ word)
     → word ≢ codes "future" → ReceiverHead word rest → IsOver rest
 last_from_head word rest no_call no_future (call c is asks) = absurd (no_call c (sym is))
@@ -108,7 +108,7 @@ pub receiver_drop_from : (rest : List (List ℕ)) → AsksForReceiver (codes "dr
 receiver_drop_from rest asks =
     last_from_head (codes "drop") rest no_drop (unlike _ _ refl refl) (receiver_head (codes "drop") rest asks)
 
--- behind `future`
+-- after `future`
 future_from_head : (rest : List (List ℕ)) → ReceiverHead (codes "future") rest → AsksForFuture rest
 future_from_head rest (call c is asks) = absurd (no_future c (sym is))
 future_from_head rest (recv is over) = absurd (unlike (codes "future") (codes "recv") refl refl is)
@@ -127,7 +127,7 @@ future_to rest asks =
 pub future_from : (rest : List (List ℕ)) → AsksForReceiver (codes "future" ∷ rest) → AsksForFuture rest
 future_from rest asks = future_from_head rest (receiver_head (codes "future") rest asks)
 
--- a word that is none of a receiver's
+-- a word that is not one of a receiver's
 module _ (left : List (List ℕ)) (no_call : (c : ReceiverCall) → slice_get left 0 ≢ Some (word_of_call c))
     (none_is_future : slice_get left 0 ≢ Some (codes "future")) (none_is_recv : slice_get left 0 ≢ Some (codes "recv"))
     (none_is_drop : slice_get left 0 ≢ Some (codes "drop")) where

@@ -1,4 +1,4 @@
--- The words of a receiver's script tell which calls they begin with, and what the last one is.
+-- The words of a receiver's script determine its first calls and its last one.
 use Rattle.std.proofs.Common.{◌≡◌, ◌≢◌, ℕ, List, ◌++◌, Option, Some, None, true, false, Result, Ok, Err, if◌then◌else◌, map, slice_get, codes, refl, sym, ap, ◌∙◌, arith}
 use Rattle.std.specs.Result.{IsErrAnd, MatchResult}
 use Rattle.std.specs.Str.{bytes_eq}

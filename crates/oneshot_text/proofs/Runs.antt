@@ -1,8 +1,8 @@
--- A run of one word, and what comes behind it.
+-- A run of one repeated word, and what comes after it.
 use Rattle.std.proofs.Common.{◌≡◌, ◌≢◌, ℕ, zero, suc, List, [], ◌∷◌, ◌++◌, Some, slice_get, map, replicate, refl, ap, sym}
 
 module _ {A : Type 0} (x : A) where
-  -- a run that is followed by another word, or by none, has one length and one rest
+  -- a run that another word or none follows has only one length and one rest
   pub replicate-same : (n m : ℕ) (xs ys : List A) → slice_get xs 0 ≢ Some x → slice_get ys 0 ≢ Some x
       → replicate n x ++ xs ≡ replicate m x ++ ys → (n ≡ m) × (xs ≡ ys)
   replicate-same zero zero xs ys other_x other_y is = (refl, is)
@@ -12,7 +12,7 @@ module _ {A : Type 0} (x : A) where
       let rest = replicate-same n m xs ys other_x other_y cc in (ap suc rest.0, rest.1)
 
 module _ {A B : Type 0} (f : A → B) (same : (a b : A) → f a ≡ f b → a ≡ b) where
-  -- the same of a run of words that each tell one value
+  -- the same for a run of words that each stand for one value
   pub map-same : (us vs : List A) (xs ys : List B) → ((a : A) → slice_get xs 0 ≢ Some (f a))
       → ((a : A) → slice_get ys 0 ≢ Some (f a)) → map f us ++ xs ≡ map f vs ++ ys → (us ≡ vs) × (xs ≡ ys)
   map-same [] [] xs ys other_x other_y is = (refl, is)
@@ -23,7 +23,7 @@ module _ {A B : Type 0} (f : A → B) (same : (a b : A) → f a ≡ f b → a �
       let first : f u ≡ f v = cc in
       (cc (same u v first, rest.0), rest.1)
 
--- words of a language behind a run are words of the language with it
+-- words of a language after a run are words of the language together with it
 module _ {A : Type 0} (language : List A → Type 0) (x : A) where
   pub replicate_to : ((xs : List A) → language xs → language (x ∷ xs)) → (n : ℕ) (xs : List A) → language xs
       → language (replicate n x ++ xs)

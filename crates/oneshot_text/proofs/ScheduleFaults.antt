@@ -1,4 +1,4 @@
--- How the words of a schedule's line go on behind each word.
+-- Which words of a schedule's line may follow each word.
 use Rattle.std.proofs.Common.{◌≡◌, ◌≢◌, ℕ, ◌^◌, ◌<◌, true, false, List, [], ◌∷◌, Result, Err, Some, length, map, get_or, decimal, alloc_error, refl, sym, ap, subst, arith}
 use Rattle.std.specs.Result.{MatchResult}
 use Rattle.std.proofs.lemmas.Fmt.{decimal_nonempty}
@@ -17,7 +17,7 @@ use Rattle.oneshot_text.proofs.Decimal.{decimal-no_letter}
 use Rattle.oneshot_text.proofs.Letters.{letter-at}
 use Rattle.oneshot_text.proofs.LineFaults.{unknown_word}
 
--- what the first word of a schedule's words tells
+-- what follows from the first word of a schedule's words
 pub record MovesHead (word : List ℕ) (rest : List (List ℕ)) : Type 0 where
   pub moves : List Move
   pub some : 0 < length moves
@@ -37,7 +37,7 @@ moves_head_of (move ∷ moves) word rest is =
 moves_head : (word : List ℕ) (rest : List (List ℕ)) → AsksForMoves (word ∷ rest) → MovesHead word rest
 moves_head word rest asks = moves_head_of asks.moves word rest asks.written
 
--- behind the letters
+-- after the letters
 moves_written : (moves : List Move) (word : List ℕ) → 0 < length moves → map letter_of moves ≡ map Some word
     → map (map Some) (word ∷ []) ≡ words_of_schedule moves
 moves_written [] word some is = absurd (omega arith)
@@ -64,7 +64,7 @@ schedule-no_number n xs small asks =
     let first = letter-at head.moves (decimal n) 0 head.letters (decimal_nonempty n small) in
     decimal-no_letter n (decimal n) small (letter_of-high first.0 (get_or (decimal n) 0 0) first.1) refl
 
--- what is known of letters that are read
+-- what the contract states of letters that are read
 abbrev pub ReadsEachMoves : {T : Type 0} → (T → List Move) → List ℕ → Result T ParseError → Type 0
 ReadsEachMoves items word read = (moves : List Move) → 0 < length moves → map letter_of moves ≡ map Some word
     → MatchResult read (λ r. items r ≡ moves) (λ error. error ≡ OutOfMemory alloc_error)

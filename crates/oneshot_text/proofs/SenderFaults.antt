@@ -1,4 +1,4 @@
--- How the words of a sender's line go on behind each word.
+-- Which words of a sender's line may follow each word.
 use Rattle.std.proofs.Common.{◌≡◌, ◌≢◌, ℕ, zero, suc, ◌^◌, ◌<◌, List, [], ◌∷◌, ◌++◌, Some, slice_get, replicate, codes, decimal, refl, ap, ◌∙◌, arith}
 use Rattle.oneshot_replay.specs.declared.SenderLast.{SenderLast}
 use Rattle.oneshot_replay.specs.declared.SenderLast.TheVariants as L
@@ -9,7 +9,7 @@ use Rattle.oneshot_text.specs.Sender.{words_of_error_last, words_of_error, words
 use Rattle.oneshot_text.proofs.FirstWords.{FirstWord, is_first, is_second, is_third, is_no_number, behind_first, behind_second, behind_third, is_none}
 use Rattle.oneshot_text.proofs.Unlike.{unlike}
 
--- what the first word of an error's words tells
+-- what follows from the first word of an error's words
 abbrev ErrorHead : List ℕ → List (List ℕ) → Type 0
 ErrorHead = FirstWord (codes "inner") (codes "into") (codes "drop") AsksForError IsOver IsOver
 
@@ -28,7 +28,7 @@ pub error-no_number : (n : ℕ) (xs : List (List ℕ)) → n < 2 ^ 64 → ¬ (As
 error-no_number n xs small asks =
     is_no_number n xs small (omega arith) (omega arith) (omega arith) (error_head (decimal n) xs asks)
 
--- behind `inner`
+-- after `inner`
 pub inner_to : (rest : List (List ℕ)) → AsksForError rest → AsksForError (codes "inner" ∷ rest)
 inner_to rest asks =
     record {
@@ -41,7 +41,7 @@ pub inner_from : (rest : List (List ℕ)) → AsksForError (codes "inner" ∷ re
 inner_from rest asks =
     behind_first (unlike _ _ refl refl) (unlike _ _ refl refl) (error_head (codes "inner") rest asks)
 
--- behind the last call
+-- after the last call
 pub into_to : (rest : List (List ℕ)) → IsOver rest → AsksForError (codes "into" ∷ rest)
 into_to rest over =
     record { script = record { looks = 0; last = E.IntoInner }; written = ap (λ ws. codes "into" ∷ ws) over }
@@ -58,14 +58,14 @@ pub error_drop_from : (rest : List (List ℕ)) → AsksForError (codes "drop" �
 error_drop_from rest asks =
     behind_third (unlike _ _ refl refl) (unlike _ _ refl refl) (error_head (codes "drop") rest asks)
 
--- a word that is none of an error's
+-- a word that is not one of an error's
 pub error-no_word : (left : List (List ℕ)) → slice_get left 0 ≢ Some (codes "inner")
     → slice_get left 0 ≢ Some (codes "into") → slice_get left 0 ≢ Some (codes "drop") → (word : List ℕ)
     → slice_get left 0 ≡ Some word → (rest : List (List ℕ)) → ¬ (AsksForError (word ∷ rest))
 error-no_word left no_inner no_into no_drop word at rest asks =
     is_none left no_inner no_into no_drop word at (error_head word rest asks)
 
--- what the first word of a sender's words tells
+-- what follows from the first word of a sender's words
 abbrev SenderHead : List ℕ → List (List ℕ) → Type 0
 SenderHead = FirstWord (codes "closed") (codes "send") (codes "drop") AsksForSender (NumberAnd AsksForError) IsOver
 
@@ -93,7 +93,7 @@ pub sender-no_number : (n : ℕ) (xs : List (List ℕ)) → n < 2 ^ 64 → ¬ (A
 sender-no_number n xs small asks =
     is_no_number n xs small (omega arith) (omega arith) (omega arith) (sender_head (decimal n) xs asks)
 
--- behind `closed`
+-- after `closed`
 pub closed_to : (rest : List (List ℕ)) → AsksForSender rest → AsksForSender (codes "closed" ∷ rest)
 closed_to rest asks =
     record {
@@ -107,7 +107,7 @@ pub closed_from : (rest : List (List ℕ)) → AsksForSender (codes "closed" ∷
 closed_from rest asks =
     behind_first (unlike _ _ refl refl) (unlike _ _ refl refl) (sender_head (codes "closed") rest asks)
 
--- behind `send`
+-- after `send`
 pub send_to : (rest : List (List ℕ)) → NumberAnd AsksForError rest → AsksForSender (codes "send" ∷ rest)
 send_to rest asks = record {
   script = record { looks = 0; last = L.Send asks.number asks.right.script };
@@ -119,7 +119,7 @@ pub send_from : (rest : List (List ℕ)) → AsksForSender (codes "send" ∷ res
 send_from rest asks =
     behind_second (unlike _ _ refl refl) (unlike _ _ refl refl) (sender_head (codes "send") rest asks)
 
--- behind `drop`
+-- after `drop`
 pub drop_to : (rest : List (List ℕ)) → IsOver rest → AsksForSender (codes "drop" ∷ rest)
 drop_to rest over =
     record { script = record { looks = 0; last = L.Drop }; fits = tt; written = ap (λ ws. codes "drop" ∷ ws) over }
@@ -128,13 +128,13 @@ pub drop_from : (rest : List (List ℕ)) → AsksForSender (codes "drop" ∷ res
 drop_from rest asks =
     behind_third (unlike _ _ refl refl) (unlike _ _ refl refl) (sender_head (codes "drop") rest asks)
 
--- a word that is none of a sender's
+-- a word that is not one of a sender's
 pub sender-no_word : (left : List (List ℕ)) → slice_get left 0 ≢ Some (codes "closed")
     → slice_get left 0 ≢ Some (codes "send") → slice_get left 0 ≢ Some (codes "drop") → (word : List ℕ)
     → slice_get left 0 ≡ Some word → (rest : List (List ℕ)) → ¬ (AsksForSender (word ∷ rest))
 sender-no_word left no_closed no_send no_drop word at rest asks =
     is_none left no_closed no_send no_drop word at (sender_head word rest asks)
 
--- the parts of a line that no word follows yet
+-- the parts of a line that may be empty
 pub no_error : AsksForError []
 no_error = record { script = record { looks = 0; last = E.Stop }; written = refl }

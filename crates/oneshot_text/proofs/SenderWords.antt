@@ -1,4 +1,4 @@
--- The words of a sender's script tell how many looks they begin with, and what its last call is.
+-- The words of a sender's script determine how many looks it begins with, and its last call.
 use Rattle.std.proofs.Common.{◌≡◌, ◌≢◌, ℕ, List, ◌++◌, Some, slice_get, replicate, codes, Result, Ok, ap, ◌∙◌, arith}
 use Rattle.std.proofs.lemmas.Grind.{common_steps}
 use Rattle.oneshot_replay.specs.declared.SenderLast.{SenderLast}

@@ -1,4 +1,4 @@
--- The text of a run that grows by a line a move.
+-- The text of a run, which grows by a line for each move.
 use Rattle.std.proofs.Common.{arith, ◌≡◌, ℕ, ◌+◌, suc, List, [], ◌∷◌, ◌++◌, length, Option, Some, None, refl, sym, subst, ap, ◌∙◌}
 use Rattle.std.specs.Prelude.{codes, unwrap_or}
 use Rattle.std.specs.Option.{option_and_then}
@@ -77,7 +77,7 @@ text_ends message n start moves text now so_far =
       written = rw (so_far.written, so_far.ends) refl;
     }
 
--- bytes that grow twice
+-- bytes that are appended in two parts
 pub appends_more : (old mid new : Option (List ℕ)) (xs ys : List ℕ) → Appends old mid xs → Appends mid new ys
     → Appends old new (xs ++ ys)
 appends_more None mid new xs ys first_part second_part = tt
@@ -86,7 +86,7 @@ appends_more (Some old) (Some mid) None xs ys first_part second_part = elim seco
 appends_more (Some old) (Some mid) (Some new) xs ys first_part second_part =
     second_part ∙ ap (λ bytes. bytes ++ ys) first_part ∙ append_assoc old xs ys
 
--- the last two lines, one behind the other
+-- the last two lines, one after the other
 pub ends_written : (old mid new : Option (List ℕ)) (message : Option ℕ) (w : World) (rest : Option (Rest ℕ))
     (word : List ℕ) → rest ≡ rest_at w.state.message message → word ≡ block_text w.state.freed
     → Appends old mid (codes "rest " ++ (rest_text rest ++ 10 ∷ []))
@@ -121,7 +121,7 @@ written_more message n start moves old mid new now move entry next so_far turned
       appends = appends_more old mid new so_far.text _ so_far.appends more;
     }
 
--- the same of an entry with all that its line shows, which has the number behind `count`
+-- the same for an `EntryLine`, whose number is the one after `count`
 pub written_line : (message n : ℕ) (start : World) (moves : List Move) (old mid new : Option (List ℕ)) (now : World)
     (move : Move) (e : EntryLine) (next : World) (count : ℕ) → HasWritten message n start moves old mid now
     → turn (count + 1) now move ≡ Some (e.entry, next) → e.number ≡ count + 1

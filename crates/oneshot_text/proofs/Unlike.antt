@@ -1,4 +1,4 @@
--- Two words that are told apart, and a test that cannot have both answers.
+-- Words are unequal if a test distinguishes them, and no test is both true and false.
 use Rattle.std.proofs.Common.{◌≡◌, ℕ, Bool, true, false, List, sym, ap, ◌∙◌}
 use Rattle.std.specs.Str.{bytes_eq}
 

@@ -19,7 +19,7 @@ abbrev pub word_text : Option ℕ → List ℕ
 word_text (Some code) = decimal code
 word_text None = codes "-"
 
--- Each field that an entry has stands behind a space.
+-- Each field that an entry has follows a space.
 abbrev pub message_field : Option (Place × Place) → List ℕ
 message_field (Some move) = codes " m:" ++ name_of_place move.0 ++ codes ">" ++ name_of_place move.1
 message_field None = []
@@ -35,7 +35,7 @@ abbrev pub token_field : Bool → List ℕ
 token_field true = codes " token+"
 token_field false = []
 
--- what the step found beside the word: a park its token or not, a clock a deadline that is over or not, a
+-- what the step found besides the word: a park its token or none, a clock past the deadline or not, a
 -- copy that was refused
 abbrev pub found_field : Seen → List ℕ
 found_field Done = []
@@ -47,7 +47,7 @@ found_field (Refused false) = []
 found_field (Token true) = codes " token-"
 found_field (Token false) = codes " spurious"
 
--- the waker of its own that a poll woke
+-- the poll's own waker that it woke
 abbrev pub own_field : Option ℕ → List ℕ
 own_field (Some number) = codes " own:" ++ decimal number
 own_field None = []
@@ -68,7 +68,8 @@ made_text call message made =
     ++ own_field made.own
     ++ reply_field made.side call message made.reply
 
--- The entry with this number. `call` is the call that the receiver has under way there, and `message` is the script's.
+-- The entry with this number. `call` is the call that the receiver has under way or next, and `message`
+-- is the script's.
 abbrev pub entry_text : ℕ → Option ReceiverStart → ℕ → Entry → List ℕ
 entry_text number call message (Idle end) = decimal number ++ codes " " ++ letter_of_end end ++ codes " idle"
 entry_text number call message (Made_entry made) = decimal number ++ codes " " ++ made_text call message made

@@ -1,4 +1,4 @@
--- The first fault of a text that is not of the grammar, line by line and from left to right.
+-- The first fault of a text that does not match the grammar, line by line and from left to right.
 use Rattle.std.specs.Prelude.{◌≢◌, ℕ, List, [], ◌∷◌, map, Some, slice_get}
 use Rattle.oneshot_text.specs.declared.fault.Malformed.{Malformed}
 use Rattle.oneshot_text.specs.declared.fault.Malformed.TheVariants.{MissingLine, MustBegin, InputAfterLines}
@@ -9,7 +9,8 @@ use Rattle.oneshot_text.specs.Grammar.{IsRight}
 use Rattle.oneshot_text.specs.Line.{letter_of_line}
 use Rattle.oneshot_text.specs.LineFault.{IsLineFault}
 
--- The first fault of these lines, of which these are still to come. Words are counted from 1 behind a line's letter.
+-- The first fault of what is left of a text, which should be these lines. Words are counted from 1,
+-- after a line's letter.
 pub data IsFirstFault : List Line → List (List (List ℕ)) → Malformed → Type 0 where
   is_missing : {line : Line} {lines : List Line} → IsFirstFault (line ∷ lines) [] (MissingLine line)
   begins_otherwise : {line : Line} {lines : List Line} {words : List (List ℕ)} {rest : List (List (List ℕ))}

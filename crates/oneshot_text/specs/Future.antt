@@ -1,4 +1,4 @@
--- The words that ask for a future's script, behind the word that makes the future.
+-- The words that ask for a future's script, after the word that makes the future.
 use Rattle.std.specs.Prelude.{ℕ, ◌^◌, ◌<◌, List, [], ◌∷◌, ◌++◌, codes, decimal}
 use Rattle.std.specs.List.{flat_map}
 use Rattle.oneshot_replay.specs.declared.AsyncCall.{AsyncCall}
@@ -7,7 +7,7 @@ use Rattle.oneshot_replay.specs.declared.AsyncLast.{AsyncLast}
 use Rattle.oneshot_replay.specs.declared.AsyncLast.TheVariants.{Drop, Stop}
 use Rattle.oneshot_replay.specs.declared.AsyncScript.{AsyncScript}
 
--- each call has a word, and a poll a number behind it
+-- each call has a word, and a poll a number after it
 abbrev pub first_word_of_future_call : AsyncCall → List ℕ
 first_word_of_future_call (Poll number) = codes "poll"
 first_word_of_future_call TryRecv = codes "try"

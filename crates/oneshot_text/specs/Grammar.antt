@@ -1,4 +1,4 @@
--- The languages of the grammar: the words that may follow each line's letter, and the parts that a line ends with.
+-- The languages of the grammar: the words that may follow each line's letter, and the parts at a line's end.
 use Rattle.std.specs.Prelude.{◌≡◌, ℕ, ◌^◌, ◌<◌, List, [], ◌∷◌, map, Some, decimal}
 use Rattle.oneshot_replay.specs.declared.AsyncScript.{AsyncScript}
 use Rattle.oneshot_replay.specs.declared.ErrorScript.{ErrorScript}
@@ -47,7 +47,7 @@ pub record NumberAnd (language : List (List ℕ) → Type 0) (words : List (List
   pub written : words ≡ decimal number ∷ rest
   pub right : language rest
 
--- the words are right behind the letter of this line
+-- the words that may follow the letter of this line
 abbrev pub IsRight : Line → List (List ℕ) → Type 0
 IsRight Sender = AsksForSender
 IsRight Receiver = AsksForReceiver

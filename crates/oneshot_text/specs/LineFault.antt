@@ -1,21 +1,21 @@
--- Where the words of a line stop being those of a language, and which fault that is.
+-- The word at which a line leaves a language, and which fault that is.
 use Rattle.std.specs.Prelude.{◌≡◌, ℕ, ◌+◌, ◌^◌, ◌<◌, List, [], ◌∷◌, ◌++◌, length, decimal}
 use Rattle.oneshot_text.specs.declared.fault.Malformed.{Malformed}
 use Rattle.oneshot_text.specs.declared.fault.Malformed.TheVariants.{UnknownWord, BadNumber, FollowsLastCall}
 use Rattle.oneshot_text.specs.declared.line.Line.{Line}
 
--- A language says which lists of words are right.
+-- A language states which lists of words are right.
 
 -- some right words begin with these
 pub record Begins (language : List (List ℕ) → Type 0) (front : List (List ℕ)) : Type 0 where
   pub rest : List (List ℕ)
   pub right : language (front ++ rest)
 
--- behind these words some right ones go on with this one
+-- after these words this one may follow
 abbrev pub MayFollow : (List (List ℕ) → Type 0) → List (List ℕ) → List ℕ → Type 0
 MayFollow language front word = Begins language (front ++ word ∷ [])
 
--- behind these words comes one that may not follow, or the end too early
+-- after these words comes one that may not follow, or the end too early
 abbrev pub GoesWrong : (List (List ℕ) → Type 0) → List (List ℕ) → List (List ℕ) → Type 0
 GoesWrong language front [] = ¬ (language front)
 GoesWrong language front (word ∷ rest) = ¬ (MayFollow language front word)
@@ -26,8 +26,8 @@ NumberMayFollow language front = (number : ℕ) × (number < 2 ^ 64) × MayFollo
 abbrev pub WordMayFollow : (List (List ℕ) → Type 0) → List (List ℕ) → Type 0
 WordMayFollow language front = (word : List ℕ) × MayFollow language front word
 
--- Which fault it is where a line goes wrong at the word of this number, behind these words: a number had to
--- follow, a word but no number, or no word.
+-- The fault of a line that goes wrong at the word of this number, after these words: `BadNumber` if a
+-- number may follow, `UnknownWord` if only other words may, `FollowsLastCall` if none may.
 pub data IsFaultAt (line : Line) (word : ℕ) (language : List (List ℕ) → Type 0) (front : List (List ℕ)) : Malformed
     → Type 0 where
   needs_number : NumberMayFollow language front → IsFaultAt line word language front (BadNumber line word)
@@ -35,7 +35,7 @@ pub data IsFaultAt (line : Line) (word : ℕ) (language : List (List ℕ) → Ty
       → IsFaultAt line word language front (UnknownWord line word)
   is_over : ¬ (WordMayFollow language front) → IsFaultAt line word language front (FollowsLastCall line word)
 
--- These words, of which the first has the number `first`, are right as far as `front`, and go wrong there.
+-- These words, the first with the number `first`, are right as far as `front`, and go wrong there.
 pub record IsLineFault (line : Line) (first : ℕ) (language : List (List ℕ) → Type 0) (words : List (List ℕ))
     (fault : Malformed) : Type 0 where
   pub front : List (List ℕ)

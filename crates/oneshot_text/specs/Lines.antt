@@ -1,4 +1,4 @@
--- What a contract sees of a text that is read: the lines that are left, each as its words.
+-- What contracts see of a text that is being read: the lines left, each as its words.
 use Rattle.std.specs.Prelude.{ℕ, List, map}
 use Rattle.oneshot_text.specs.declared.lines.Lines.{Lines}
 use Rattle.oneshot_text.specs.Cut.{words_of, lines_of}

@@ -58,7 +58,7 @@ name_of_waker_place W.SenderHand = codes "SenderHand"
 name_of_waker_place W.Used = codes "Used"
 name_of_waker_place W.Dropped = codes "Dropped"
 
--- p is the parker's; a copy has its number and the entry that made it
+-- `p` is the parker's half; a copy has its number and the entry that made it
 abbrev pub name_of_waker : WakerName → List ℕ
 name_of_waker Parker = codes "p"
 name_of_waker (Copy number entry) = codes "w" ++ decimal number ++ codes "@" ++ decimal entry

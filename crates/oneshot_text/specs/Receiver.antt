@@ -1,4 +1,4 @@
--- The words that ask for a receiver's script, behind the line's letter.
+-- The words that ask for a receiver's script, after the line's letter.
 use Rattle.std.specs.Prelude.{ℕ, true, false, List, [], ◌∷◌, ◌++◌, map, codes}
 use Rattle.oneshot_replay.specs.declared.ReceiverScript.{ReceiverScript}
 use Rattle.oneshot_replay.specs.declared.ReceiverCall.{ReceiverCall}

@@ -13,7 +13,7 @@ ok_text inside = codes "Ok(" ++ inside ++ codes ")"
 abbrev pub ready_text : List ℕ → List ℕ
 ready_text inside = codes "Ready(" ++ inside ++ codes ")"
 
--- the message: the sender's side has it back bare, a poll is ready with it, and any other receive has it in its `Ok`
+-- the message: bare for the sender's side, `Ready(Ok(..))` for a poll, and `Ok(..)` for any other receive
 abbrev pub message_text : End → Option ReceiverStart → ℕ → List ℕ
 message_text Sender call message = decimal message
 message_text Receiver (Some C.Poll) message = ready_text (ok_text (decimal message))
@@ -26,7 +26,7 @@ disconnected_text (Some C.Recv) = codes "Err(RecvError)"
 disconnected_text (Some C.RecvRef) = codes "Err(RecvError)"
 disconnected_text call = codes "Err(Disconnected)"
 
--- a reply of this end, whose call is `call` where it is the receiver
+-- a reply to this end; `call` is the call that it ends, if it is the receiver's
 abbrev pub reply_text : End → Option ReceiverStart → ℕ → Reply → List ℕ
 reply_text end call message R.Sent = codes "Ok"
 reply_text end call message R.Refused = codes "Err"

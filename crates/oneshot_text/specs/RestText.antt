@@ -1,4 +1,4 @@
--- The two lines behind the entries: where the message is left, and whether the block is freed.
+-- The words of the two lines after the entries: where the message is left, and whether the block is freed.
 use Rattle.std.specs.Prelude.{ℕ, Bool, true, false, List, ◌++◌, codes, decimal, Option, Some, None}
 use Rattle.oneshot_replay.specs.declared.rest.Rest.{Rest}
 use Rattle.oneshot_replay.specs.declared.rest.Rest.TheVariants.{NotSent, InCell, InError, Delivered, FromError, Dropped}

@@ -1,4 +1,4 @@
--- The words that ask for a sender's script, behind the line's letter.
+-- The words that ask for a sender's script, after the line's letter.
 use Rattle.std.specs.Prelude.{ℕ, ◌^◌, ◌<◌, List, [], ◌∷◌, ◌++◌, replicate, codes, decimal}
 use Rattle.oneshot_replay.specs.declared.SenderScript.{SenderScript}
 use Rattle.oneshot_replay.specs.declared.SenderLast.{SenderLast}

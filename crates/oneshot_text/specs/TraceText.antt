@@ -18,8 +18,8 @@ line text = text ++ 10 ∷ []
 abbrev pub line_of : EntryLine → List ℕ
 line_of e = line (entry_text e.number e.call e.message e.entry)
 
--- the entries from this number on, each with the world before it, whose receiver has the call under way that
--- a reply ends
+-- the entries from this number on, each with the world before it: the receiver's call there is the one
+-- that a reply ends
 abbrev pub entries_text : ℕ → ℕ → World → List World → List Entry → List ℕ
 entries_text message number w (next ∷ worlds) (entry ∷ entries) =
     line (entry_text number (option_and_then as_receiver_call (first w.receiver.calls)) message entry)
@@ -32,8 +32,8 @@ end_text message w =
     line (codes "rest " ++ rest_text (rest_at w.state.message message))
     ++ line (codes "block " ++ block_text w.state.freed)
 
--- The text is that of the run from this world on under these moves, whose first entry has this number. No
--- reply shows the message of a script without one.
+-- The text of the run from this world on under these moves, whose first entry has this number. If the
+-- script has no message, no reply shows one.
 pub record IsTextOf (message : Option ℕ) (number : ℕ) (w : World) (moves : List Move) (text : List ℕ) : Type 0 where
   pub worlds : List World
   pub entries : List Entry

@@ -1,4 +1,4 @@
-//! Why a text asks for no run.
+//! Why a text gives no request: the errors of `parse_request`.
 
 ghost use Rattle.oneshot_text.specs.declared.fault.ParseError.TheVariants.{Malformed as NotOfTheGrammar, OutOfMemory};
 ghost use Rattle.std.specs.Prelude.{◌≡◌, alloc_error};
@@ -7,8 +7,8 @@ use crate::line::Line;
 use std::alloc::{AllocError, AllocFailed};
 use thiserror::Error;
 
-/// The first fault of a text, line by line and from left to right. Words are counted from 1 after their
-/// line's first one.
+/// The first fault of a text, line by line and from left to right. Words are counted from 1, after the
+/// line's letter.
 #[derive(Clone, Copy, Debug, Eq, Error, PartialEq)]
 pub enum Malformed {
     /// The text ends before this line begins.
@@ -17,16 +17,16 @@ pub enum Malformed {
     /// The line's first word is not its letter.
     #[error("{0}: must begin with {letter}", letter = .0.letter())]
     MustBegin(Line),
-    /// The word is none that may stand there.
+    /// This word is unknown here.
     #[error("{line}: unknown word {word}")]
     UnknownWord { line: Line, word: usize },
-    /// A number has to stand there, and the word is missing or is none.
+    /// A number must come here, but the word is missing or is no number below 2^64.
     #[error("{line}: bad number at word {word}")]
     BadNumber { line: Line, word: usize },
-    /// The word stands after the last call of its line, or after the schedule's letters.
+    /// The word follows the last call of its line, or the schedule's letters.
     #[error("{line}: word {word} follows the last call")]
     FollowsLastCall { line: Line, word: usize },
-    /// A byte stands after the third line feed.
+    /// A byte follows the third line feed.
     #[error("input after line 3")]
     InputAfterLines,
 }
@@ -34,10 +34,10 @@ pub enum Malformed {
 /// Why a text gives no request.
 #[derive(Debug, Drop, Error)]
 pub enum ParseError {
-    /// The text is not of the grammar.
+    /// The text does not match the grammar; this is its first fault.
     #[error(transparent)]
     Malformed(Malformed),
-    /// A request for memory was refused.
+    /// Out of memory.
     #[error("out of memory")]
     OutOfMemory(AllocError),
 }

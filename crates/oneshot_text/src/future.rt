@@ -1,4 +1,4 @@
-//! The future's script: its calls in their order, and its last one.
+//! Parses the future's script: its calls in their order, and its last one.
 
 ghost use Rattle.std.specs.Prelude.{◌≡◌, ◌≢◌, ◌++◌, Some, None, Ok, Err, IfOk, OnOk, IfSome, MatchResult, List, ℕ, slice_get, alloc_error};
 ghost use Rattle.oneshot_replay.specs.declared.AsyncCall.{AsyncCall};
@@ -14,7 +14,7 @@ use crate::words::Words;
 use oneshot_replay::{AsyncCall, AsyncLast, AsyncScript};
 use std::alloc::Global;
 
-/// The script that the words ask for, which are all that are left of the receiver's line.
+/// Parses the future's script from all words left of the receiver's line.
 pub(crate) fn parse_future(alloc: Global, mut words: Words<'_>) -> Result<AsyncScript, ParseError>
     ensures written { IfOk result (λ future. words_left words.entry ≡ words_of_future future) }
     ensures each { (future : AsyncScript) → HasNumbers future.calls →
@@ -32,7 +32,7 @@ pub(crate) fn parse_future(alloc: Global, mut words: Words<'_>) -> Result<AsyncS
     })
 }
 
-/// Takes the words that ask for a call, as far as they come next.
+/// Takes the next calls, as many as there are.
 fn parse_calls(alloc: Global, words: &mut Words<'_>) -> Result<Vec<AsyncCall>, ParseError>
     ensures written { IfOk result (λ calls.
         words_left words.old ≡ words_of_future_calls calls.items ++ words_left words.new) }
@@ -55,7 +55,7 @@ fn parse_calls(alloc: Global, words: &mut Words<'_>) -> Result<Vec<AsyncCall>, P
     Ok(calls)
 }
 
-/// Takes the words of the next call, where a call comes next.
+/// Takes the next call; `None` if the next word begins no call.
 fn next_call(words: &mut Words<'_>) -> Result<Option<AsyncCall>, Malformed>
     ensures taken { IfOk result (λ next. IfSome next (λ call.
         words_left words.old ≡ words_of_future_call call ++ words_left words.new)) }
@@ -88,7 +88,7 @@ fn next_call(words: &mut Words<'_>) -> Result<Option<AsyncCall>, Malformed>
     Ok(Some(call))
 }
 
-/// The last call, to which all words that are left belong.
+/// Parses the last call from all words left.
 fn parse_last(mut words: Words<'_>) -> Result<AsyncLast, Malformed>
     ensures written { IfOk result (λ last. words_left words.entry ≡ words_of_future_last last) }
     ensures each { (last : AsyncLast) →

@@ -1,4 +1,4 @@
-//! The text of a run: the three lines that ask for it, read, and its trace, written.
+//! The text of a run: parses the three lines that ask for it, and writes its trace.
 #![tactic(auto)]
 
 mod fault;

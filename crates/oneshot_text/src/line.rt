@@ -5,7 +5,7 @@ ghost use Rattle.oneshot_text.specs.Line.{letter_of_line, number_of_line};
 
 use std::fmt;
 
-/// A line of a text, which shows as `line` and its number.
+/// A line of a text. It displays as `line` and its number.
 #[derive(Clone, Copy, Debug, Eq, PartialEq)]
 pub enum Line {
     /// The sender's script.
@@ -17,7 +17,7 @@ pub enum Line {
 }
 
 impl Line {
-    /// The letter that is the line's first word.
+    /// Returns the letter that is the line's first word.
     pub fn letter(self) -> &'static str
         ensures { result.now ≡ letter_of_line self }
     {

@@ -1,4 +1,4 @@
-//! The lines of a text.
+//! Cuts a text into its three lines.
 
 ghost use Rattle.std.specs.Prelude.{◌≡◌, ◌↔◌, ℕ, ◌<◌, List, [], ◌∷◌, Err, length, map, IfOk, IsOk};
 ghost use Rattle.oneshot_text.specs.Cut.{words_of, lines_of};
@@ -27,7 +27,7 @@ impl<'a> Lines<'a> {
         Lines { rest: text }
     }
 
-    /// Takes the next line, which has to be `line`: its words after the letter.
+    /// Takes the next line, which must be `line`, and returns its words after the letter.
     pub(crate) fn take(&mut self, line: Line) -> Result<Words<'a>, Malformed>
         ensures read { IfOk result (λ words.
             lines_left self.old ≡ (letter_of_line line ∷ words_left words) ∷ lines_left self.new) }
@@ -50,7 +50,7 @@ impl<'a> Lines<'a> {
         Ok(words)
     }
 
-    /// Ends the text, of which nothing may be left.
+    /// Ends the text: nothing may be left of it.
     pub(crate) fn end(self) -> Result<(), Malformed>
         ensures over { IsOk result ↔ (lines_left self.entry ≡ []) }
         ensures faulty { (fault : Malformed) → result ≡ Err fault →

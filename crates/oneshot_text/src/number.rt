@@ -1,8 +1,8 @@
-//! A number as a word writes it.
+//! Parses a number.
 
 ghost use Rattle.std.specs.Prelude.{◌≡◌, ℕ, ◌^◌, ◌<◌, IfSome, Some, decimal};
 
-/// The number that a word writes in decimal, without sign or leading zeros.
+/// The number below 2^64 that a word writes in decimal, without sign or leading zeros.
 #[tactic(auto, using(crate::proofs::Decimal::one_text))]
 pub(crate) fn parse_number(word: &str) -> Option<u64>
     ensures written { IfSome result (λ n. word.now ≡ decimal n) }

@@ -1,4 +1,4 @@
-//! The receiver's script: its calls in their order, and its last one.
+//! Parses the receiver's script: its calls in their order, and its last one.
 
 ghost use Rattle.std.specs.Prelude.{◌≡◌, ◌≢◌, ◌↔◌, ◌++◌, Some, Err, IfOk, OnOk, MatchResult, map, slice_get, alloc_error};
 ghost use Rattle.oneshot_replay.specs.declared.ReceiverCall.{ReceiverCall};
@@ -15,7 +15,7 @@ use crate::words::Words;
 use oneshot_replay::{ReceiverCall, ReceiverLast, ReceiverScript};
 use std::alloc::{AllocError, Global};
 
-/// The script that the receiver's line asks for.
+/// Parses the receiver's script from the words of its line.
 pub(crate) fn parse_receiver(
     alloc: Global,
     mut words: Words<'_>,
@@ -36,7 +36,7 @@ pub(crate) fn parse_receiver(
     })
 }
 
-/// Takes the words that ask for a call, as far as they come next.
+/// Takes the next calls, as many as there are.
 fn parse_calls(alloc: Global, words: &mut Words<'_>) -> Result<Vec<ReceiverCall>, AllocError>
     ensures run { IfOk result (λ calls.
         words_left words.old ≡ map word_of_call calls.items ++ words_left words.new) }
@@ -52,7 +52,7 @@ fn parse_calls(alloc: Global, words: &mut Words<'_>) -> Result<Vec<ReceiverCall>
     Ok(calls)
 }
 
-/// The last call, to which all words that are left belong.
+/// Parses the last call from all words left.
 fn parse_last(alloc: Global, mut words: Words<'_>) -> Result<ReceiverLast, ParseError>
     ensures written { IfOk result (λ last. words_left words.entry ≡ words_of_receiver_last last) }
     ensures each { (last : ReceiverLast) → IsPollable last →

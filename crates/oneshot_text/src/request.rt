@@ -1,4 +1,4 @@
-//! What a text asks for: two scripts and a schedule.
+//! Parses a request: two scripts and a schedule.
 
 ghost use Rattle.std.specs.Prelude.{◌≡◌, ℕ, List, Err, IfOk, MatchResult, unwrap_or, alloc_error};
 ghost use Rattle.oneshot_replay.specs.Rest.{message_of};
@@ -32,7 +32,7 @@ pub struct Request {
 }
 
 impl Request {
-    /// The message of the sender's script; 0 where it sends none, which then no reply shows.
+    /// Returns the message of the sender's script, or 0 if it sends none. No reply shows that 0.
     pub fn message(&self) -> u64
         ensures { result ≡ unwrap_or (message_of self.now.sender.last) 0 }
     {
@@ -43,11 +43,12 @@ impl Request {
     }
 }
 
-/// Reads the three lines of `text`, the sender's script, the receiver's and the schedule, each ended by a
-/// line feed, which the third may lack.
+/// Parses `text`, which has a line for the sender's script, one for the receiver's and one for the
+/// schedule. Each ends with a line feed, which the third may lack. The calls and moves are allocated in
+/// `alloc`.
 ///
-/// `Ok`: what they ask for. `Err(Malformed)`: the text is not of the grammar, and this is its first fault.
-/// `Err(OutOfMemory)`: there was no memory for the calls or the moves.
+/// Returns what the text asks for. Returns `Malformed` with the first fault if the text does not match
+/// the grammar, and `OutOfMemory` if an allocation fails.
 pub fn parse_request(alloc: Global, text: &str) -> Result<Request, ParseError>
     ensures written { IfOk result (λ read. Asks text.now read.sender read.receiver read.moves.items) }
     ensures each { (sender : SenderScript ℕ) (receiver : ReceiverScript) (moves : List Move) →

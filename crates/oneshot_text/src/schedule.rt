@@ -1,4 +1,4 @@
-//! The schedule: a letter for each move.
+//! Parses the schedule: a letter for each move.
 
 ghost use Rattle.std.specs.Prelude.{◌≡◌, ◌↔◌, ◌<◌, List, Some, Err, IfOk, MatchResult, length, map, vec_len, alloc_error};
 ghost use Rattle.oneshot_replay.specs.declared.Move.{Move};
@@ -12,7 +12,7 @@ use crate::words::{Word, Words};
 use oneshot_replay::Move;
 use std::alloc::Global;
 
-/// The moves that the schedule's line asks for.
+/// Parses the moves from the words of the schedule's line.
 pub(crate) fn parse_schedule(alloc: Global, mut words: Words<'_>) -> Result<Vec<Move>, ParseError>
     ensures written { IfOk result (λ moves.
         map (map Some) (words_left words.entry) ≡ words_of_schedule moves.items) }

@@ -1,4 +1,4 @@
-//! The sender's script: its looks, its last call, and what is done with the error of a refused `send`.
+//! Parses the sender's script: its looks, its last call, and what is done with the error of a refused `send`.
 
 ghost use Rattle.std.specs.Prelude.{◌≡◌, ◌≢◌, ℕ, Some, Ok, Err, IfOk, codes, slice_get};
 ghost use Rattle.oneshot_replay.specs.declared.ErrorLast.{ErrorLast};
@@ -14,7 +14,7 @@ use crate::fault::Malformed;
 use crate::words::Words;
 use oneshot_replay::{ErrorLast, ErrorScript, SenderLast, SenderScript};
 
-/// The script that the sender's line asks for.
+/// Parses the sender's script from the words of its line.
 pub(crate) fn parse_sender(mut words: Words<'_>) -> Result<SenderScript<u64>, Malformed>
     ensures written { IfOk result (λ sender. words_left words.entry ≡ words_of_sender sender) }
     ensures each { (sender : SenderScript ℕ) → IsSendable sender.last →
@@ -28,7 +28,7 @@ pub(crate) fn parse_sender(mut words: Words<'_>) -> Result<SenderScript<u64>, Ma
     Ok(SenderScript { looks, last })
 }
 
-/// The last call, to which all words that are left belong.
+/// Parses the last call from all words left.
 fn parse_last(mut words: Words<'_>) -> Result<SenderLast<u64>, Malformed>
     ensures written { IfOk result (λ last. words_left words.entry ≡ words_of_sender_last last) }
     ensures each { (last : SenderLast ℕ) → IsSendable last →
@@ -52,7 +52,7 @@ fn parse_last(mut words: Words<'_>) -> Result<SenderLast<u64>, Malformed>
     Ok(SenderLast::Stop)
 }
 
-/// What is done with the error, to which all words that are left belong.
+/// Parses what is done with the error from all words left.
 fn parse_error(mut words: Words<'_>) -> Result<ErrorScript, Malformed>
     ensures written { IfOk result (λ error. words_left words.entry ≡ words_of_error error) }
     ensures each { (error : ErrorScript) →

@@ -1,4 +1,4 @@
-//! The text of a trace.
+//! Writes the text of a trace.
 
 ghost use Rattle.std.specs.Prelude.{◌≡◌, ℕ, ◌+◌, ◌-◌, ◌^◌, ◌<◌, List, ◌++◌, Some, OnOk, length, unwrap_or};
 ghost use Rattle.std.specs.Io.KnownBytes.{Appends};
@@ -21,12 +21,13 @@ use rest::{RestText, block_word};
 use std::io;
 use std::io::Write;
 
-/// Makes the moves of `run` in their order and writes a line for each, then where the message is left, and
-/// then whether the block is freed.
+/// Makes `moves` in `run`, in their order, and writes to `output` a line for each, then where the
+/// message is left, and then whether the block is freed.
 ///
-/// `message` is the message of the sender's script, any number where it sends none.
+/// `message` is the message of the sender's script, or 0 if it sends none. The entries' numbers must
+/// stay below 2^64.
 ///
-/// It asks for no memory. `Err`: the writer failed, and nothing more was written.
+/// Allocates nothing. Returns the writer's error if it fails, and then writes nothing more.
 pub fn write_run<W: Write>(
     output: &mut W,
     mut run: Replayer<u64>,
@@ -46,7 +47,7 @@ pub fn write_run<W: Write>(
     write_end(output, page, run)
 }
 
-/// Makes a move of `run`, and tells its line.
+/// Makes the move `m` of `run`, and returns its line.
 fn next_line(run: &mut Replayer<u64>, m: Move, message: u64) -> EntryLine
     requires room { run.old.count < 2 ^ 64 - 1 }
     ensures turn { turn (run.old.count + 1) run.old.world m ≡ Some (result.entry, run.new.world) }
@@ -66,7 +67,7 @@ fn next_line(run: &mut Replayer<u64>, m: Move, message: u64) -> EntryLine
     }
 }
 
-/// Writes what waits, where the message is left, and whether the block is freed.
+/// Writes the lines that wait, where the message is left, and whether the block is freed.
 fn write_end<W: Write>(output: &mut W, mut page: Page, run: Replayer<u64>) -> io::Result<()>
     ensures { OnOk result (Appends (held (W.contents output.old) page) (W.contents output.new)
         (end_text run.message run.world)) }

@@ -1,4 +1,4 @@
-//! The words of a line.
+//! Cuts a line into its words.
 
 ghost use Rattle.std.specs.Prelude.{◌≡◌, ◌≢◌, ◌↔◌, ℕ, ◌+◌, ◌^◌, ◌<◌, [], ◌∷◌, ◌++◌, Some, Ok, Err, IfOk, OnOk, IsTrue, IsOk, length, slice_get, replicate, decimal};
 ghost use Rattle.std.specs.Option.{option_copied};
@@ -10,7 +10,7 @@ use crate::fault::Malformed;
 use crate::line::Line;
 use crate::number::parse_number;
 
-/// A word of a line, with its number; the line's first word has the number 0.
+/// A word of a line, with its number. The line's first word has the number 0.
 #[derive(Clone, Copy)]
 pub(crate) struct Word<'a> {
     line: Line,
@@ -19,7 +19,7 @@ pub(crate) struct Word<'a> {
 }
 
 impl Word<'_> {
-    /// Tells that the word is none that may stand here.
+    /// The fault that this word is unknown here.
     pub(crate) fn unknown(self) -> Malformed
         ensures { result ≡ Malformed.UnknownWord self.entry.line self.entry.number }
     {
@@ -39,7 +39,7 @@ impl Word<'_> {
     }
 }
 
-/// The words that are left of a line. One space parts them, so that a word may be empty.
+/// The words left of a line. Single spaces separate them, so a word may be empty.
 #[derive(Drop)]
 pub(crate) struct Words<'a> {
     line: Line,
@@ -63,7 +63,7 @@ impl<'a> Words<'a> {
         }
     }
 
-    /// The next word's text.
+    /// The next word's text; `None` if no word is left.
     pub(crate) fn peek(&self) -> Option<&'a str>
         ensures { option_copied result ≡ slice_get (words_left self.now) 0 }
     {
@@ -71,14 +71,14 @@ impl<'a> Words<'a> {
         Some(first)
     }
 
-    /// Whether a next word is there, and is `text`.
+    /// Whether there is a next word, and it is `text`.
     pub(crate) fn next_is(&self, text: &str) -> bool
         ensures { IsTrue result ↔ (slice_get (words_left self.now) 0 ≡ Some text.now) }
     {
         self.peek() == Some(text)
     }
 
-    /// Takes the words that are `text`, as far as they come next, and tells how many they were.
+    /// Takes the next words as long as they are `text`, and returns how many they were.
     pub(crate) fn take_run(&mut self, text: &str) -> usize
         ensures run { words_left self.old ≡ replicate result text.now ++ words_left self.new }
         ensures whole { slice_get (words_left self.new) 0 ≢ Some text.now }
@@ -92,7 +92,7 @@ impl<'a> Words<'a> {
         count
     }
 
-    /// Takes the number that has to stand here.
+    /// Takes the next word, which must be a number, and returns the number.
     pub(crate) fn number(&mut self) -> Result<u64, Malformed>
         ensures written { IfOk result (λ n. words_left self.old ≡ decimal n ∷ words_left self.new) }
         ensures each { (n : ℕ) → n < 2 ^ 64 →
@@ -108,7 +108,7 @@ impl<'a> Words<'a> {
             .ok_or(Malformed::BadNumber { line, word })
     }
 
-    /// Ends the line here. A word that is left is none that may stand here.
+    /// Ends the line here. A word that is left is unknown.
     pub(crate) fn stop(mut self) -> Result<(), Malformed>
         ensures over { IsOk result ↔ (words_left self.entry ≡ []) }
         ensures faulty { (fault : Malformed) → result ≡ Err fault →
@@ -120,7 +120,7 @@ impl<'a> Words<'a> {
         }
     }
 
-    /// Ends the line behind its last call. A word that is left follows it.
+    /// Ends the line after its last call. A word that is left follows that call.
     pub(crate) fn end(mut self) -> Result<(), Malformed>
         ensures over { IsOk result ↔ (words_left self.entry ≡ []) }
         ensures faulty { (fault : Malformed) → result ≡ Err fault →
@@ -153,7 +153,7 @@ impl<'a> Iterator for Words<'a> {
     }
 }
 
-/// The first word of a text, and what follows the space behind it.
+/// The first word of a text, and what follows the space after it.
 fn cut_word(text: &str) -> (&str, Option<&str>)
     ensures { words_of text.now ≡ result.0.now ∷ words_in result.1 }
 {

@@ -1,4 +1,4 @@
--- Tests that two values are alike, and what they tell.
+-- Tests that two booleans or words are equal, and proofs that they are then.
 use Rattle.std.proofs.Common.{◌≡◌, ℕ, Bool, true, false, Option, Some, None, refl}
 use Rattle.oneshot_word.proofs.Names.{ap, ◌==◌, eqb-true}
 

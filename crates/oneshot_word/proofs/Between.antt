@@ -1,4 +1,4 @@
--- What an order of both logs leaves: the word of both phases, and what each log says.
+-- What follows from an order of both logs: the word for both phases, and what each log shows.
 use Rattle.std.proofs.Common.{◌≡◌, ℕ, Bool, true, List, [], ◌∷◌, refl}
 use Rattle.oneshot_word.proofs.Names.{◌++◌, sym, subst, ◌==◌, list_all, eqb-true, Op, Noted, saw, has_row, Reaches, nothing_made, sender_makes, receiver_makes, Row, Slots, sending, dropping, SenderAt, fresh, owes, sender_at, sender_next, sender_moves, blocked, storing, swapped, found_closed, ReceiverAt, first, here, full, unclosed, disconnected, resolved, receiver_at, receiver_next, receiver_moves, Held, In, Finds, finds, word_after, each_passes, phase_from-snoc}
 use Rattle.oneshot_machine.specs.Phases.{looked, waits}
@@ -7,7 +7,7 @@ use Rattle.oneshot_word.proofs.RuleKept.{sender_leaves, receiver_leaves}
 use Rattle.oneshot_word.proofs.Says.{sender_says, receiver_says}
 use Rattle.oneshot_word.proofs.Meets.{word_between, Is, is, SenderSays, says_none, ReceiverSays}
 
--- A step on the table leaves what the operation says: computed for each row.
+-- A step on the table leaves the word that the operation leaves by definition: computed for each row.
 abbrev steps_so : {At : Type 0} → Row At → Bool
 steps_so row = stepped row.0 row.2 == word_after row.0 row.2
 
@@ -33,7 +33,7 @@ receiver_word : (q : ReceiverAt) {next : ReceiverAt} {op : Op} {before after : S
     → In (op, before, word, next, after) (receiver_moves q) → stepped op word ≡ word_after op word
 receiver_word q row = eqb-true _ _ (each_passes steps_so (receiver_moves q) (receiver_steps_so q) row)
 
--- the word of both phases
+-- the word is the one for both phases
 pub between : {xs ys : List Noted} {word : ℕ}
     → Reaches xs ys word → Is (word_between (sender_at xs) (receiver_at ys)) word
 between nothing_made = is
@@ -52,7 +52,7 @@ between (receiver_makes {xs} {ys} {word} op order (has_row row)) =
     (subst (λ n. Is (word_between p (receiver_next q op (saw op word))) n) (receiver_word q row)
     (receiver_leaves p q (between order) row))
 
--- what each log says
+-- what each log shows
 pub sender_told : {xs ys : List Noted} {word : ℕ} → Reaches xs ys word → SenderSays xs (sender_at xs)
 sender_told nothing_made = says_none
 sender_told (sender_makes {xs} {word} op order (has_row row)) =
@@ -69,7 +69,7 @@ receiver_told (receiver_makes {ys} {word} op order (has_row row)) =
     subst (λ q. ReceiverSays (ys ++ y ∷ []) q) (sym (phase_from-snoc receiver_next first ys y))
     (receiver_says (receiver_at ys) word row (receiver_told order))
 
--- an order that goes on by an operation that was found in its table
+-- an order, continued by an operation that was found in the phases' table
 module _ {T W : Type 0} {xs ys : List Noted} {op : Op} {word : ℕ} {m m' : Held T} {w w' : Held W} where
   pub sender_reaches : Reaches xs ys word → Finds sender_moves (sender_at xs) op word m w m' w'
       → Reaches (xs ++ (op, saw op word) ∷ []) ys (stepped op word)

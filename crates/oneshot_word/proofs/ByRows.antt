@@ -1,4 +1,4 @@
--- An order of two logs that are each an end's is an order by the rows of both phases' tables.
+-- An order of two logs of real ends is an order by the rows of both phases' tables.
 use Rattle.std.proofs.Common.{◌≡◌, ℕ, Bool, true, false, List, [], ◌∷◌, Option, Some, None, refl}
 use Rattle.std.specs.Prelude.{if◌then◌else◌}
 use Rattle.oneshot_word.proofs.Names.{◌++◌, sym, ap, ◌∙◌, subst, true≢false, ◌==◌, list_all, and_parts, eqb-true, End, Seen, Op, Load, Store, Swap, Exchange, Add, Xor, Noted, saw, is_same_op, is_same_seen, InOrder, none_made, by_sender, by_receiver, HasRow, has_row, Reaches, nothing_made, sender_makes, receiver_makes, Row, sending, dropping, SenderAt, fresh, owes, finished, no_sender, sender_at, sender_next, sender_moves, blocked, ReceiverAt, storing, swapped, first, here, full, unclosed, no_receiver, receiver_at, receiver_next, receiver_moves, is_row_for, next_by, In, head, tail, each_passes, ops_are_same, Passing, phase_from-snoc, ends_of}
@@ -8,7 +8,7 @@ use Rattle.oneshot_word.proofs.Between.{between}
 use Rattle.oneshot_word.proofs.Meets.{word_between, Is, is}
 use Rattle.oneshot_word.proofs.RuleKept.{senders, is_sender}
 
--- a phase of an end
+-- a phase that an end can be in
 abbrev pub is_senders : SenderAt → Bool
 is_senders no_sender = false
 is_senders _ = true
@@ -17,7 +17,7 @@ abbrev pub is_receivers : ReceiverAt → Bool
 is_receivers no_receiver = false
 is_receivers _ = true
 
--- both phases of an order are ends', since there is a word between them
+-- in an order both phases are real ones, since there is a word for them
 no_word : (p : SenderAt) → word_between p no_receiver ≡ None
 no_word fresh = refl
 no_word (owes by) = refl
@@ -41,7 +41,7 @@ sender_is {xs} {ys} order = sender_there (sender_at xs) (receiver_at ys) (betwee
 pub receiver_is : {xs ys : List Noted} {word : ℕ} → Reaches xs ys word → is_receivers (receiver_at ys) ≡ true
 receiver_is {xs} {ys} order = receiver_there (sender_at xs) (receiver_at ys) (between order)
 
--- an end's phase has only an end's before it
+-- the phase before a real one is real
 sender_was : (p : SenderAt) (op : Op) (seen : Seen) → is_senders (sender_next p op seen) ≡ true → is_senders p ≡ true
 sender_was no_sender op seen phase = phase
 sender_was _ op seen phase = refl
@@ -51,7 +51,7 @@ receiver_was : (q : ReceiverAt) (op : Op) (seen : Seen) → is_receivers (receiv
 receiver_was no_receiver op seen phase = phase
 receiver_was _ op seen phase = refl
 
--- an operation that leads to an end's phase has a row
+-- an operation that leads to a real phase has a row
 found_by : {At : Type 0} (is_phase : At → Bool) (nowhere : At) (rows : List (Row At)) (op : Op) (seen : Seen)
     → is_phase nowhere ≡ false → is_phase (next_by nowhere rows op seen) ≡ true → Passing (is_row_for op seen) rows
 found_by is_phase nowhere [] op seen none phase = absurd (true≢false (sym phase ∙ none))
@@ -67,7 +67,7 @@ found_by is_phase nowhere (row ∷ rows) op seen none phase =
         let found = rest phase in
         record { one = found.one; among = tail found.among; passes = found.passes }
 
--- What it saw is the word that it found, but for a store, which sees nothing: there the phases tell the word.
+-- An operation saw the word that it found, except a store, which sees nothing: there the phases fix the word.
 abbrev stores_so : Op → ℕ → Option ℕ → Bool
 stores_so (Store new) found (Some word) = found == word
 stores_so (Store new) found None = true
@@ -109,7 +109,7 @@ receiver_stores (full (swapped storing)) = refl
 receiver_stores (unclosed storing) = refl
 receiver_stores _ = refl
 
--- which end makes each operation of an order by rows
+-- which end performs each operation of an order by rows
 abbrev pub made_by : {xs ys : List Noted} {word : ℕ} → Reaches xs ys word → List End
 made_by nothing_made = []
 made_by (sender_makes op order row) = made_by order ++ Sender ∷ []

@@ -1,4 +1,4 @@
--- Which parts of the sender's side may cross threads: they may where the message and the waker may.
+-- The parts of the sender's side are `Send` and `Sync` where the message and the waker are `Send`.
 use mathlib.Core.List.{[]}
 use mir.Syntax.{dnil}
 use denote.RattleType.{RattleType}
@@ -18,7 +18,7 @@ use Rattle.oneshot_word.specs.contracts.rule.WordRule as WordRule
 use Rattle.oneshot_word.specs.contracts.rule.WordRuleTableRuleSlotView.TheImpl as rule
 use Rattle.oneshot_word.proofs.rule.Slot.TheSendSync as slot
 
--- A `&` to a seat holds shares of the seat, and these name no thread.
+-- A `&` to a seat holds shares of the seat, which name no thread.
 seat_sync : (S V : RattleType) → IsSend S → IsSync (Seat.the_row S V)
 seat_sync S V s = record { shared = λ d b o κ q. part_keyless (Seat.the_row S V) (seat.the_send S V s) q d b o }
 

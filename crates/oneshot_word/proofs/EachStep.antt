@@ -1,4 +1,4 @@
--- Each step of an end keeps the rule, and tells the end what it found.
+-- Each operation of an end keeps the rule, and gives the end what it found.
 use Rattle.std.proofs.Common.{◌≡◌, ℕ, Bool, Option, Some, None, List, [], ◌∷◌, refl}
 use mathlib.Core.Option as maybe
 use Rattle.oneshot_word.proofs.Names.{◌++◌, get_or, set, sym, ◌∙◌, subst, State, Me, Act, Valid, Allows, homes_after, carried_after, Op, Noted, saw, Reaches, fresh, sender_at, sender_owns, sender_next, sender_moves, first, receiver_at, receiver_owns, receiver_next, receiver_moves, Held, away, SenderMay, ReceiverMay, Finds, finds, phase_from-snoc, AnyWaker, Slot, Message, View, Home, message_home, waker_home, Lies, IsGiven, IsTaken, Tied, runs, view, any, with_waker, message_in, waker_in, Front, waker_first, message_first, SeatOf, GivesOnce, HoldsTaken, gave, took, SenderSeat, ReceiverSeat, SenderStepped, ReceiverStepped}
@@ -15,7 +15,7 @@ module _ {T H K P : Type 0} (keeps : P → T → Type 0) (q : P) where
   abbrev pub Holds : State (Slot T H K) (View T P) → Type 0
   Holds s = Tied keeps q s.words s.homes s.views
 
-  -- the rule after one operation more, where the slots are as the phase after it says
+  -- the rule after one more operation, if the slots are as the next phase has them
   module _ {xs ys : List Noted} {given taken : Option T} {op : Op} {word : ℕ} {h k : Home T H K} {m m' : Held T}
       {w w' : Held (AnyWaker H K)} where
     sender_runs : Reaches xs ys word → Finds sender_moves (sender_at xs) op word m w m' w'
@@ -44,7 +44,7 @@ module _ {T H K P : Type 0} (keeps : P → T → Type 0) (q : P) where
         (subst (λ at. Lies (IsGiven keeps q given) Message (message_home (sender_at xs) at) h) after lies)
         (subst (λ at. Lies any with_waker (waker_home (sender_at xs) at) k) after lies') same
 
-  -- a seat's end may make the operation
+  -- a seat's end may perform the operation
   abbrev SenderAsks : Me (Slot T H K) (View T P) → Op → Type 0
   SenderAsks me op = SenderMay (sender_at me.0.log) op (message_in me.1) (waker_in me.1)
 
@@ -52,14 +52,14 @@ module _ {T H K P : Type 0} (keeps : P → T → Type 0) (q : P) where
   ReceiverAsks me op = ReceiverMay (receiver_at me.0.log) op (message_in me.1) (waker_in me.1)
 
   module _ (me : Me (Slot T H K) (View T P)) (op : Op) where
-    -- what `Allows` asks of a state that was found
+    -- what `Allows` requires of a state that was found
     abbrev Goes : (ℕ → Me (Slot T H K) (View T P) → Type 0) → List ℕ → List (Home T H K) → List (View T P) → ℕ → Type 0
     Goes then ws hs vs id =
         (v : View T P) × (a : Act (Slot T H K)) × Valid hs me.1 a
         × Tied keeps q (set ws 0 (stepped op (get_or ws 0 0))) (homes_after hs me.1 a) (set vs id v)
         × then (get_or ws 0 0) (v, carried_after me.1 a)
 
-    -- what the seat carries, of which a message keeps its promise about this value
+    -- what the seat carries, with a message that keeps its promise about this value
     abbrev Has : Front → Option (Bool × Bool) → P → Type 0
     Has front owned about = SeatOf (keeps about) front owned me.1 (message_in me.1) (waker_in me.1)
 

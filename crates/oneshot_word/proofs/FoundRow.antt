@@ -1,4 +1,4 @@
--- The row of a phase's table for an operation that finds this word with the slots so.
+-- Finds the row of a phase's table for an operation, the slots before it and the word that it finds.
 use Rattle.std.proofs.Common.{◌≡◌, ℕ, Bool, true, false, List, [], ◌∷◌, Option, Some, None, refl}
 use Rattle.std.specs.Prelude.{if◌then◌else◌}
 use Rattle.oneshot_word.proofs.Names.{◌&&◌, subst, ◌==◌, and_parts, eqb-true, Op, is_same_op, Slots, Row, In, head, tail, ops_are_same, is_same_share, shares_are_same}

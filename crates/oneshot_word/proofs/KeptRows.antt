@@ -1,4 +1,4 @@
--- What is computed of the rows of one end: that each operation leaves the word and the slots as the rule has them.
+-- The test of one end's rows: each operation leaves the word and the slots as the rule has them.
 use Rattle.std.proofs.Common.{◌≡◌, ℕ, Bool, true, false, List, Option, Some, None}
 use Rattle.oneshot_word.proofs.Names.{◌&&◌, ◌+◌, ◌%◌, ◌^◌, bit_xor, sym, subst, leb, ◌==◌, list_all, and_parts, either, Seen, Op, Load, Store, Swap, Exchange, Add, Xor, saw, Share, Slots, Row, SenderAt, sender_moves, sender_owns, sender_next, ReceiverAt, receiver_moves, receiver_owns, receiver_next, In, each_passes, Front, message_first, waker_first, message_home, waker_home}
 use Rattle.oneshot_word.proofs.Alike.{is_bool, is_word, words_are}
@@ -15,13 +15,13 @@ stepped (Exchange expected new) n = either (n == expected) new n
 stepped Add n = (n + 1) % 2 ^ 64
 stepped Xor n = bit_xor n 1
 
--- whether these are the slots of an end after a row
+-- whether an end has these slots after a row
 abbrev pub is_slots : Option (Bool × Bool) → Slots → Bool
 is_slots None after = false
 is_slots (Some slots) after = is_bool slots.0 (is_owned after.0) && is_bool slots.1 (is_owned after.1)
 
--- One end while the other is at some phase: its table, its seat, and the rule at each phase of its own,
--- which is the word and what is at home of both slots.
+-- One end while the other is in some phase: its table, its seat, and in each phase of its own the rule's word
+-- and what is at home of both slots.
 pub record OneEnd (At : Type 0) : Type 0 where
   pub front : Front
   pub moves : At → List (Row At)
@@ -31,7 +31,7 @@ pub record OneEnd (At : Type 0) : Type 0 where
   pub message : At → Share
   pub waker : At → Share
 
--- the sender, whatever the receiver's phase, and the receiver, whatever the sender's
+-- the sender beside any phase of the receiver, and the receiver beside any of the sender
 abbrev pub sender_end : ReceiverAt → OneEnd SenderAt
 sender_end q =
     record {
@@ -57,8 +57,8 @@ receiver_end p =
     }
 
 module _ {At : Type 0} (e : OneEnd At) where
-  -- What is computed of an operation that finds this word, before which the end is so far and its
-  -- slots are so: that its table has a row, and the rule holds after that.
+  -- The test of an operation that finds this word, from this phase and these slots: the table has a row
+  -- for it, and the rule holds after it.
   module _ (at : At) (op : Op) (before : Slots) (word : ℕ) where
     abbrev pub after : At
     after = e.next at op (saw op word)
@@ -94,7 +94,7 @@ module _ {At : Type 0} (e : OneEnd At) (at : At) (op : Op) (word : ℕ) where
   Leaves = Is (e.word (e.next at op (saw op word))) (stepped op word)
 
   module _ (before : Slots) where
-    -- what is computed, part by part
+    -- the test, part by part
     pub record Rightly (slots : Slots) : Type 0 where
       pub leaves : leaves_word e at op before word ≡ true
       pub of_message : turns_message e at op before word slots ≡ true

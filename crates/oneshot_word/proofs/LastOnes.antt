@@ -1,4 +1,4 @@
--- A list with a last element is not empty, and determines that and what is before it.
+-- A list with a last element is not empty, and determines that element and what is before it.
 use Rattle.oneshot_word.proofs.Names.{◌++◌, sym}
 use Rattle.std.proofs.Common.{◌≡◌, List, [], ◌∷◌, refl}
 

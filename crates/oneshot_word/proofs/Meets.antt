@@ -1,16 +1,17 @@
--- What follows from the rule by phases: the word for each pair in which the ends can be, and what each log says.
+-- What the rule implies phase by phase: the word for each pair of phases, and what each log shows.
 use Rattle.std.specs.Prelude.{◌≡◌, ℕ, Bool, true, false, List, [], Option, Some, None}
 use Rattle.oneshot_word.proofs.Names.{Noted, By, sending, dropping, SenderAt, fresh, owes, finished, late, overtaken, swapped, found_closed, closed_itself, ReceiverAt, first, here, claimed, withdrew, overdue, full, unclosed, disconnected, resolved, gone, swapped_in, word_of, Message, FoundZero, MadeLast, MadeLate, stores_waker, is_overdue, is_gone, wrote_since, Home, message_home, waker_home, Lies, any, with_waker}
 use Rattle.oneshot_machine.specs.Phases.{waits, ended}
 
--- the word that the sender's final operation leaves, but for an add or a flip that found the receiver gone
+-- the word that the sender's final operation leaves, unless it is an add or a flip that found the receiver
+-- gone
 abbrev pub final_word : By → ℕ
 final_word sending = 4
 final_word dropping = 2
 
--- The word while both ends are so far. There is none where they never are.
+-- The word while the ends are in these phases, or none if they never are.
 abbrev pub word_between : SenderAt → ReceiverAt → Option ℕ
--- the sender has made no operation
+-- the sender has performed no operation
 word_between fresh first = Some 3
 word_between fresh (here open_at) = Some 3
 word_between fresh (waits waiting) = Some 0
@@ -24,14 +25,14 @@ word_between (owes by) gone = Some 2
 -- its last operation found 2
 word_between (late by) gone = Some 3
 word_between (overtaken by) gone = Some (final_word by)
--- its last operation is made, and the receiver has made none since
+-- it has performed its last operation, and the receiver has performed none since
 word_between (finished by) first = Some (final_word by)
 word_between (finished by) (here open_at) = Some (final_word by)
 word_between (finished by) (waits waiting) = Some (final_word by)
 word_between (finished by) claimed = Some (final_word by)
 word_between (finished by) withdrew = Some (final_word by)
 word_between (finished by) overdue = Some (final_word by)
--- the receiver has made one since
+-- the receiver has performed one since
 word_between (finished sending) (full got) = Some (word_of got)
 word_between (finished dropping) (unclosed swapping) = Some (swapped_in swapping)
 word_between (finished dropping) (disconnected found_closed) = Some 2
@@ -42,7 +43,7 @@ word_between (finished by) ended = Some 2
 -- never
 word_between _ _ = None
 
--- the number that is there
+-- the option has this number
 pub data Is : Option ℕ → ℕ → Type 0 where
   is : {word : ℕ} → Is (Some word) word
 
@@ -53,7 +54,7 @@ pub data Meet (T H K : Type 0) (kept : T → Type 0) (p : SenderAt) (q : Receive
       → Lies kept Message (message_home p q) h → Lies any with_waker (waker_home p q) k
       → Meet T H K kept p q word h k
 
--- what a receiver's log says in a phase
+-- what a receiver's log shows in a phase
 abbrev pub stores_of : ReceiverAt → Bool
 stores_of (waits a) = true
 stores_of claimed = true

@@ -1,4 +1,4 @@
--- The names of other crates and of this one's definitions that the proofs cite, passed on from one place.
+-- The names of other crates and of this one's definitions that the proofs cite, re-exported in one place.
 pub use Rattle.atomic_table.proofs.Names.{Val, vstruct, vcons, vnil, fsep, ftrue, ‵, ◌$◌, ◌∵◌, !, qed, move, fjoin, fpack, feq_i, Valss, nothing, a_type, dcons, bounded, inst_fn, SProp, emp, raw, ◌⊛◌, by, keep, split, use0, of_opd, no_more, and_then, returns, enter, alloc_all, pass_all, free_all, look_at, get, sets, agg, tables, no, types_at, plain, param, alive, Stays, stay_dropped, walk_of, Goes-dropped, fact, fact_i}
 pub use Rattle.atomic_table.proofs.Walks.{proved, leaves}
 pub use Rattle.atomic_table.specs.Seated.{TableId}

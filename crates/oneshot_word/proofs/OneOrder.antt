@@ -1,4 +1,4 @@
--- Two orders of the same logs are the same: the logs alone tell which end made the last operation.
+-- Two orders of the same logs are the same: the logs alone show which end performed the last operation.
 use Rattle.std.proofs.Common.{◌≡◌, ℕ, Bool, true, false, List, [], ◌∷◌, Option, Some, None, refl}
 use Rattle.oneshot_word.proofs.Names.{not, ◌&&◌, ◌||◌, ◌++◌, sym, ap, ◌∙◌, subst, true≢false, list_all, eq-eqb, Op, Noted, saw, is_same_seen, HasRow, has_row, Reaches, nothing_made, sender_makes, receiver_makes, Slots, Row, sending, dropping, SenderAt, fresh, owes, no_sender, sender_at, sender_next, sender_moves, blocked, storing, swapped, ReceiverAt, here, full, unclosed, receiver_at, receiver_moves, In, word_after, each_passes, same_sight, phase_from-snoc, OrderIsOne, WorkedOrders, WrongOrders}
 use Rattle.oneshot_machine.specs.declared.machine.End.TheVariants.{Sender, Receiver}
@@ -10,7 +10,7 @@ use Rattle.oneshot_word.proofs.LastOnes.{not_empty, same_start, same_last}
 use Rattle.oneshot_word.proofs.Meets.{word_between, Is, is}
 use Rattle.oneshot_word.proofs.RuleKept.{senders, is_sender}
 
--- whether a sender may be at the first phase and later at the second, which is another
+-- whether a sender may be in the first phase and later in the second, another one
 abbrev goes_on : SenderAt → SenderAt → Bool
 goes_on fresh fresh = false
 goes_on fresh no_sender = false
@@ -21,7 +21,8 @@ goes_on (owes by) no_sender = false
 goes_on (owes by) _ = true
 goes_on _ _ = false
 
--- A receiver's operation beside an earlier sender sees another word than beside a later one, computed for each row.
+-- A receiver's operation sees another word beside an earlier sender than beside a later one: computed for
+-- each row.
 abbrev is_seen : Option ℕ → Op → ℕ → Bool
 is_seen None op found = false
 is_seen (Some word) op found = is_same_seen (saw op word) (saw op found)
@@ -44,7 +45,7 @@ implied : (condition claim : Bool) → (not condition || claim) ≡ true → con
 implied true claim so e = so
 implied false claim so e = absurd (cc e)
 
--- so it is not the same operation
+-- so the two are not the same operation
 not_both : (a b : Bool) → not (a && b) ≡ true → a ≡ true → b ≡ true → ⊥
 not_both true true so a b = true≢false (sym so)
 not_both _ _ so a b = absurd (cc)
@@ -67,7 +68,7 @@ apart earlier later q {op} {v} {w} goes before after (has_row row) same =
     not_both (is_seen (word_between earlier q) op w) (is_word (word_between later q) (Some w))
     (each_passes (differs earlier later q) (receiver_moves q) all row) (sees_same op w before same) (found_so after)
 
--- whether the first is no later phase than the second
+-- whether the first phase is not later than the second
 abbrev not_after : SenderAt → SenderAt → Bool
 not_after fresh later = true
 not_after (owes by) fresh = false
@@ -87,7 +88,7 @@ before_is_not_after (owes by) fresh e = absurd (cc e)
 before_is_not_after (owes by) _ e = refl
 before_is_not_after _ _ e = absurd (cc e)
 
--- an operation of the sender takes it on from each phase that is not after its own, computed for each row
+-- an operation of the sender leads on from each phase that is not after its own: computed for each row
 abbrev takes_on : SenderAt → SenderAt → Bool
 takes_on p earlier =
     not (not_after earlier p)
@@ -106,7 +107,7 @@ taken_on p earlier behind row =
     each_passes (λ (row : Row SenderAt). goes_on earlier (sender_next p row.0 (saw row.0 row.2))) (sender_moves p)
     (implied (not_after earlier p) _ by_earlier behind) row
 
--- The receiver's last operation was made beside a sender that was not further than it is now.
+-- The receiver's last operation came while the sender was no further than it is now.
 record SawBeside (p : SenderAt) (q : ReceiverAt) (y : Noted) : Type 0 where
   beside : SenderAt
   behind : not_after beside p ≡ true
@@ -141,7 +142,8 @@ saw_beside (receiver_makes {xs} {ys} {word} op order row) before y e =
       saw_so = subst (λ (y : Noted). y.1 ≡ saw y.0 word) last refl;
     }
 
--- so one order does not end with the sender's operation, and another one of the same logs with the receiver's
+-- so of two orders of the same logs, one cannot end with the sender's operation and the other with the
+-- receiver's
 ends_differ : {xs zs ys before : List Noted} {v w : ℕ} (op made : Op) → Reaches xs ys v
     → HasRow (sender_moves (sender_at xs)) op v → Reaches zs before w
     → HasRow (receiver_moves (receiver_at before)) made w

@@ -1,4 +1,4 @@
--- The table is made under its rule, and its first seat becomes the two ends'.
+-- The table begins under its rule, and its first seat is split into those of both ends.
 use Rattle.std.proofs.Common.{◌≡◌, ℕ, List, [], ◌∷◌, None, refl}
 use Rattle.oneshot_word.proofs.Names.{◌++◌, get_or, set, sym, subst, Me, Act, takes, Valid, Allows, Splits, homes_after, carried_after, nothing_made, Maker, Dealer, Slot, Empty, View, Home, lies_out, lies_bare, took_none, Tied, dealt, runs, view, slot_vacant, carried, not_carried, seat_of, gave_none, holds_no_slot, SenderSeat, ReceiverSeat}
 use Rattle.oneshot_word.specs.declared.rule.Role.TheVariants.{Sender, Receiver}
@@ -24,7 +24,7 @@ module _ {T H K P : Type 0} (keeps : P → T → Type 0) (q : P) where
       (λ r n. n ≡ dealt_seat m.0.about))
       (sym it) (λ s tied _ at _. deals (sits tied id at))
 
-  -- its seat is cut into the sender's and the receiver's
+  -- its seat is split into the sender's and the receiver's
   splits : {ws : List ℕ} {hs : List (Home T H K)} {vs : List (View T P)} {id : ℕ}
       → Sits keeps q ws hs vs id Dealer [] None
       → Tied keeps q ws hs (set vs id (view q Sender [] None) ++ view q Receiver [] None ∷ [])

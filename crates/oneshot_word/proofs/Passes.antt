@@ -1,13 +1,13 @@
--- Which message passed after an operation: it is the one at home that the sender gave and that the receiver took.
+-- The message that has passed after an operation: the sender gave it, and it is at home or the receiver took it.
 use Rattle.std.proofs.Common.{◌≡◌, Bool, Option, Some, None, refl}
 use Rattle.oneshot_word.proofs.Names.{sym, ap, ◌∙◌, subst, Op, Share, SenderAt, fresh, owes, finished, late, overtaken, no_sender, sender_owns, ReceiverAt, Held, away, vacant, held, SenderMay, may, Turns, stays_away, stays_vacant, stays_held, gives_room, gives_thing, gets_room, gets_thing, AnyWaker, Slot, Message, Home, message_home, Lies, lies_out, lies_bare, lies_filled, IsGiven, IsTaken, took_none, took_it, Carried, Front, slot_vacant, slot_held, not_carried, carried, SeatOf, seat_of, GivesOnce, has_given, gave_none, HoldsTaken, holds_no_slot, holds_none, holds_it, gave, took}
 
--- a message that the sender has given once it has given up its slot
+-- a message that keeps the promise, and that the sender gives if it gives up its slot
 abbrev pub Offers : {T P : Type 0} → (P → T → Type 0) → P → Held T → T → Type 0
 Offers keeps q m x = keeps q x × (gave m away None ≡ Some x)
 
 module _ {T H K : Type 0} where
-  -- what keeps one thing keeps another
+  -- a value that satisfies one predicate satisfies the other
   pub lies_as : {X : Type 0} {kept kept' : X → Type 0} {put : X → Slot T H K} {share : Share} {h : Home T H K}
       → ((x : X) → kept x → kept' x) → Lies kept put share h → Lies kept' put share h
   lies_as so lies_out = lies_out
@@ -27,7 +27,7 @@ module _ {T H K : Type 0} where
   seat_keeps (seat_of (carried slot_vacant) waker) is = absurd (cc is)
   seat_keeps {kept} (seat_of (carried (slot_held y k)) waker) is = subst kept (cc is) k
 
-  -- a sender that may make an operation has given nothing
+  -- a sender that may perform an operation has given nothing
   pub gave_no : {kept : T → Type 0} {front : Front} (p : SenderAt) {op : Op} {c : Carried T H K} {m : Held T}
       {w : Held (AnyWaker H K)} {given : Option T} → SenderMay p op m w → SeatOf kept front (sender_owns p) c m w
       → GivesOnce given m → given ≡ None
@@ -40,7 +40,7 @@ module _ {T H K : Type 0} where
   gave_no (overtaken by) (may row _ _) seat once = elim row [ ]
   gave_no no_sender (may row _ _) seat once = elim row [ ]
 
-  -- at home is what it has given, since it has its slot or none lies there
+  -- a message at home is the one it gave: either the sender has the slot, or none is there
   pub gave_what_lies : {P : Type 0} (keeps : P → T → Type 0) (q : P) {kept : T → Type 0} {front : Front}
       (p : SenderAt) (r : ReceiverAt) {c : Carried T H K} (m : Held T) {m' : Held T} {w : Held (AnyWaker H K)}
       {h : Home T H K} → SeatOf kept front (sender_owns p) c m' w → Lies (Offers keeps q m) Message (message_home p r) h
@@ -53,7 +53,7 @@ module _ {T H K : Type 0} where
   gave_what_lies keeps q no_sender r m seat lies = elim seat [ ]
 
 module _ {T : Type 0} where
-  -- the sender's message after an operation
+  -- what the sender has given after an operation, and its slot
   pub gives_once : (m m' : Held T) → GivesOnce (gave m m' None) m'
   gives_once m away = has_given
   gives_once (held x) vacant = gave_none
@@ -63,20 +63,20 @@ module _ {T : Type 0} where
   gives_once vacant vacant = gave_none
   gives_once vacant (held y) = gave_none
 
-  -- and before it the receiver has taken none
+  -- while the sender has given none, the receiver has taken none
   pub none_taken : {given : Option T} {taken : Option T} (later : Option T) → IsTaken given taken → given ≡ None
       → IsTaken later taken
   none_taken later took_none none = took_none
   none_taken later (took_it m same) none = let is = sym none ∙ same in absurd (cc is)
 
-  -- what the receiver holds is what was given
+  -- the message that the receiver holds is the one given
   pub holds_given : {given taken : Option T} {m : Held T} {x : T} → HoldsTaken taken m → IsTaken given taken
       → m ≡ held x → given ≡ Some x
   holds_given holds_no_slot same is = absurd (cc is)
   holds_given holds_none same is = absurd (cc is)
   holds_given (holds_it m) (took_it _ same) is = same ∙ ap Some (cc is)
 
-  -- the receiver's message after an operation
+  -- what the receiver has taken after an operation, and its slot
   pub holds_taken : {s s' : Share} {m m' : Held T} {taken : Option T} → Turns s s' m m' → HoldsTaken taken m
       → HoldsTaken (took m m' taken) m'
   holds_taken stays_away holds = holds_no_slot
@@ -87,7 +87,7 @@ module _ {T : Type 0} where
   holds_taken gets_room holds = holds_none
   holds_taken (gets_thing x) holds = holds_it x
 
-  -- which is what was given, where a message that it gets is
+  -- it is the one given, if a message that the receiver gets is
   pub takes_given : {s s' : Share} {m m' : Held T} {given taken : Option T} → Turns s s' m m' → IsTaken given taken
       → ((x : T) → m' ≡ held x → given ≡ Some x) → IsTaken given (took m m' taken)
   takes_given stays_away same gets = same

@@ -1,4 +1,4 @@
--- The examples of what the table's readers find: each by its row or its order, and why the others have none.
+-- The examples of what readers of the rule find: each by its row or its order, and why the counterexamples have none.
 use Rattle.std.proofs.Common.{◌≡◌, ℕ, List, [], ◌∷◌, Option, None, refl}
 use Rattle.oneshot_word.proofs.Names.{◌⊎◌, inl, inr, sym, ap, subst, Load, Add, Noted, Reaches, nothing_made, sender_makes, receiver_makes, has_row, head, tail, orders_that_are_not, Role, Maker, Dealer, View, Ordered, maker_before, dealer_before, in_order, both_in, both_out, one_out, alone, views, found, ReadsThatAre, ReadsThatAreNot, Home, view}
 use Rattle.oneshot_machine.proofs.InOrders.{in_order as reached_in_order}
@@ -28,7 +28,7 @@ reads_that_are =
       is_ordered = λ orders. orders 7 _ _ _ ((messages_that_pass ℕ ℕ keeps).lies_there 7 7 refl);
     }
 
--- views of both ends that are the same have the same logs
+-- equal views of both ends have equal logs
 module _ {xs xs' ys ys' : List Noted} {given given' taken taken' : Option ℕ} where
   logs_alike : views xs given ys taken ≡ views xs' given' ys' taken' → (xs ≡ xs') × (ys ≡ ys')
   logs_alike are =

@@ -1,4 +1,4 @@
--- The examples of the rule: each state by its row, and why no row fits the others.
+-- The examples of the rule: each state by its row, and why no row fits the counterexamples.
 use Rattle.std.proofs.Common.{[], ◌∷◌, refl}
 use Rattle.oneshot_word.proofs.Names.{◌≢◌, Word, Add, sending, dropping, AnyWaker, stopped_over, polled, polled_over, exchanged_back, left_meanwhile, sent_over, dropped_over, StatesThatAre, StatesThatAreNot, Home, out, bare, has_waker, IsSenders, IsReceivers, IsWords, Owned, both_open, waker_stored, waker_claimed, claimed_overdue, claimed_gone, receiver_gone, sender_after, written, sender_has_it, left_for_sender, left_for_receiver, receiver_has_it, receiver_found_it, waits_for_receiver, waker_at_home}
 use Rattle.oneshot_word.specs.declared.any_waker.AnyWaker.TheVariants as R

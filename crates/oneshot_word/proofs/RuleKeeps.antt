@@ -1,4 +1,4 @@
--- A message that lies in the table keeps its channel's promise.
+-- A message in the table keeps its channel's promise.
 use Rattle.std.proofs.Common.{◌≡◌, ℕ, List, [], ◌∷◌, refl}
 use Rattle.oneshot_word.proofs.Names.{subst, Add, nothing_made, sender_makes, has_row, Share, head, Message, View, RuleKeeps, Home, has_message, Lies, lies_out, lies_bare, lies_filled, took_none, Tied, opened, dealt, runs}
 

@@ -9,7 +9,7 @@ use Rattle.oneshot_word.proofs.Meets.{word_between, Is, is, Meet, meet}
 use Rattle.oneshot_word.proofs.KeptRows.{stepped, is_slots, OneEnd, sender_end, receiver_end, after, leaves_word, has_act, is_right, is_kept, keeps_rule, rightly, leaves_so, keeps_word}
 
 module _ {T H K At : Type 0} (kept : T → Type 0) (e : OneEnd At) where
-  -- both parts of what its seat carries
+  -- what its seat carries of both slots, together
   seated : {o : Option (Bool × Bool)} (after : Slots) {cm cw : Carried T H K} {m : Held T} {w : Held (AnyWaker H K)}
       → is_slots o after ≡ true → Part kept 0 Message (is_owned after.0) cm m
       → Part any 1 with_waker (is_owned after.1) cw w → SeatOf kept e.front o (carried_as e.front cm cw) m w

@@ -1,4 +1,4 @@
--- The rule of the table reads as its public rows.
+-- The rule of the table implies its public rows.
 use Rattle.std.proofs.Common.{ℕ, List, Bool, Option, refl}
 use Rattle.oneshot_word.proofs.Names.{Noted, sending, dropping, SenderAt, at_once, waited, swapped, by_future, by_poll, found_closed, closed_itself, ReceiverAt, first, here, claimed, withdrew, overdue, full, unclosed, disconnected, resolved, gone, Held, IsOwned, not_its_own, own_vacant, own_held, Owns, AnyWaker, Slot, View, Ordered, maker_before, dealer_before, in_order, sender_has_it, left_for_sender, receiver_has_it, left_for_receiver, receiver_found_it, waits_for_receiver, waker_at_home, Owned, both_open, waker_stored, waker_claimed, claimed_overdue, claimed_gone, receiver_gone, sender_after, written, Ruled, maker_alone, dealer_alone, two_ends, Home, lies_out, lies_bare, lies_filled, Tied, opened, dealt, runs, Carried, slot_vacant, slot_held, Part, not_carried, carried, Front, SeatOf, seat_of}
 use Rattle.oneshot_machine.specs.Phases.{waits, ended}
@@ -85,7 +85,7 @@ module _ {T H K : Type 0} where
       written dropping made r.wrote receiver_has_it receiver_has_it
   pair_reads _ _ r (meet none _ _) = elim none [ ]
 
-  -- a table under a promise about this value
+  -- a channel about this value
   module _ {P : Type 0} {keeps : P → T → Type 0} (q : P) where
     pub rule_reads : (words : List ℕ) (homes : List (Home T H K)) (views : List (View T P))
         → Tied keeps q words homes views → Ruled q words homes views
@@ -94,7 +94,7 @@ module _ {T H K : Type 0} where
     rule_reads _ _ _ (runs xs ys order lies lies' same) =
         two_ends xs ys (pair_reads (sender_told order) _ (receiver_told order) (meet (between order) lies lies'))
 
-    -- and both logs have their order
+    -- and both logs have an order
     pub rule_orders : (words : List ℕ) (homes : List (Home T H K)) (views : List (View T P))
         → Tied keeps q words homes views → Ordered q words views
     rule_orders _ _ _ opened = maker_before

@@ -1,15 +1,15 @@
--- What the rule says of the message: a message that lies there or was taken is the one that was given.
+-- What the rule implies for the message: one in the table, or one that was taken, is the one that was given.
 use Rattle.std.proofs.Common.{◌≡◌, ℕ, List, [], ◌∷◌, Option, Some, refl}
 use Rattle.oneshot_word.proofs.Names.{sym, ap, ◌∙◌, Load, Add, Noted, nothing_made, sender_makes, receiver_makes, has_row, head, tail, View, both_views, ReceivedIsSent, MessagesThatPass, MessagesThatDoNot, Home, has_message, lies_out, lies_bare, lies_filled, IsTaken, took_none, took_it, Tied, opened, dealt, runs, view}
 use Rattle.oneshot_word.specs.declared.rule.Role.TheVariants.{Sender, Receiver}
 use Rattle.oneshot_word.proofs.RuleKeeps.{lies_so}
 
--- one given, one taken
+-- if a message was taken, it was given
 taken_so : {T : Type 0} {given taken : Option T} {m : T} → IsTaken given taken → taken ≡ Some m → given ≡ Some m
 taken_so took_none is = absurd (cc)
 taken_so (took_it x same) is = same ∙ is
 
--- views that are the same have the same messages
+-- equal views have equal messages
 pass_alike : {T P : Type 0} {q : P} {xs xs' ys ys' : List Noted} {given given' taken taken' : Option T}
     → both_views q xs given ys taken ≡ both_views q xs' given' ys' taken' → (given ≡ given') × (taken ≡ taken')
 pass_alike {T} {P} {q} {xs} {xs'} {ys} {ys'} {given} {given'} {taken} {taken'} are =

@@ -1,4 +1,4 @@
--- What a log says after one more operation.
+-- What a log shows after one more operation.
 use Rattle.std.proofs.Common.{◌≡◌, ℕ, Bool, true, List, [], ◌∷◌, Option, refl}
 use Rattle.oneshot_word.proofs.Names.{◌&&◌, ◌++◌, ap, ◌∙◌, list_all, and_parts, Seen, Op, Noted, saw, sending, dropping, SenderAt, sender_moves, sender_next, Slots, Row, blocked, storing, swapped, found_closed, ReceiverAt, here, full, unclosed, disconnected, resolved, receiver_moves, receiver_next, In, head, tail, each_passes, send_found, drop_found, sent_to_it, sent_to_overdue, dropped_before_it, dropped_before_overdue, sent_late, dropped_late, sent_overtaken, dropped_overtaken, along, stores_next, overdue_next, gone_next, wrote_next}
 use Rattle.oneshot_machine.specs.Phases.{looked, waits}
@@ -11,7 +11,7 @@ along-snoc : {A : Type 0} (next : A → Op → Seen → A) (a : A) (xs : List No
 along-snoc next a [] x = refl
 along-snoc next a (y ∷ xs) x = along-snoc next (next a y.0 y.1) xs x
 
--- all that is told by a receiver's log, so far and after one operation more
+-- all that a receiver's log shows, before and after one more operation
 abbrev Facts : Type 0
 Facts = Bool × Bool × Bool × Option ℕ
 
@@ -43,7 +43,7 @@ tells s t all =
       wrote = words_are s.3 t.3 wrote.1;
     }
 
--- which is computed for each row of the receiver's table
+-- computed for each row of the receiver's table
 abbrev agree_by : ReceiverAt → Row ReceiverAt → Bool
 agree_by q row =
     let seen = saw row.0 row.2 in agree (facts_next (facts_at q) row.0 seen) (facts_at (receiver_next q row.0 seen))

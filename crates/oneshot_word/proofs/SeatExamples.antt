@@ -1,4 +1,4 @@
--- The examples of seats: each by its parts, and what the others lack.
+-- The examples of seats: each by its parts, and what the counterexamples lack.
 use Rattle.std.proofs.Common.{◌≡◌, ℕ, Bool, true, false, [], ◌∷◌, Option, Some, refl, if◌then◌else◌}
 use Rattle.oneshot_word.proofs.Names.{ap, subst, TableId, Word, Load, Swap, Add, Reaches, nothing_made, sender_makes, receiver_makes, has_row, Held, vacant, held, head, tail, AnyWaker, Empty, Message, Kept, Carries, MessagePart, WakerPart, received, SlotsAsSeen, SeatsThatAre, SeatsThatAreNot, Front, slot_vacant, slot_held, MessageSlot, WakerSlot, message_of, not_carried, carried, message_first, waker_first, SeatOf, seat_of, has_given, gave_none, HoldsTaken, holds_no_slot, holds_none, holds_it}
 use Rattle.oneshot_word.specs.declared.any_waker.AnyWaker.TheVariants as R
@@ -23,7 +23,7 @@ slots_as_seen =
       takes_room = refl;
     }
 
--- orders that have the logs
+-- orders with these logs
 looks : Reaches [] ((Load, Word 3) ∷ []) 3
 looks = receiver_makes Load nothing_made (has_row head)
 
@@ -84,7 +84,7 @@ seats_that_are =
       };
     }
 
--- which slots are a message's, and a waker's
+-- which contents fit the message's slot, and the waker's
 abbrev for_message : Kept → Bool
 for_message Empty = true
 for_message (Message m) = true
@@ -112,7 +112,7 @@ is_for_waker (slot_held (R.Thread h) k) = refl
 is_for_waker (slot_held (R.Task h) k) = refl
 is_for_waker (slot_held R.Nobody k) = refl
 
--- the number of the slot in front, and of none
+-- the number of the slot in front, or 2 if there is none
 abbrev in_front : Carries → ℕ
 in_front [] = 2
 in_front ((place, s) ∷ c) = place

@@ -1,11 +1,11 @@
--- What the view of a seat says of the table: whose the seat is, and what the rule says then.
+-- What a seat's view shows of the table: whose seat it is, and what the rule then states.
 use Rattle.std.proofs.Common.{◌≡◌, ℕ, List, [], ◌∷◌, Option, None}
 use mathlib.Core.Option as maybe
 use Rattle.oneshot_word.proofs.Names.{zero, suc, sym, ap, subst, some-injective, some-ne-none, get_elem?, Noted, Reaches, sender_at, receiver_at, Role, Maker, Dealer, Message, View, Home, out, bare, message_home, waker_home, Lies, IsGiven, IsTaken, Tied, opened, dealt, runs, view, any, with_waker}
 use Rattle.oneshot_word.specs.declared.rule.Role.TheVariants.{Sender, Receiver}
 
 module _ {T H K P : Type 0} (keeps : P → T → Type 0) where
-  -- a seat of the table, with the role, the log and the message of its view
+  -- a seat of the table, with the role, the log and the passed message of its view
   pub data Sits (q : P) : List ℕ → List (Home T H K) → List (View T P) → ℕ → Role → List Noted → Option T
       → Type 0 where
     maker_sits : Sits q (3 ∷ []) (bare ∷ bare ∷ []) (view q Maker [] None ∷ []) 0 Maker [] None
@@ -41,7 +41,7 @@ module _ {T H K P : Type 0} {keeps : P → T → Type 0} where
       (some-injective _ _ at) (receiver_sits xs given order lies lies' same)
   sits _ _ at = absurd (some-ne-none _ (sym at))
 
-  -- each view has the value that the messages keep their promise about
+  -- each view has the value that the channel is about
   pub knows : {q : P} {ws : List ℕ} {hs : List (Home T H K)} {vs : List (View T P)} {v : View T P}
       → Tied keeps q ws hs vs → (id : ℕ) → get_elem? vs id ≡ maybe.some v → v.about ≡ q
   knows opened zero at = sym (ap (λ (v : View T P). v.about) (some-injective _ _ at))

@@ -1,17 +1,17 @@
--- What becomes of a slot while an end makes a step, and the act on the table that does it.
+-- What happens to a slot during an operation, and the act on the table that does it.
 use Rattle.std.proofs.Common.{◌≡◌, ℕ, Bool, true, false, [], ◌∷◌, refl}
 use mathlib.Core.Option as maybe
 use Rattle.atomic_table.specs.Table.{keeps}
 use Rattle.oneshot_word.proofs.Names.{Act, takes, gives, chain, Valid, homes_after, carried_after, Share, none, empty, filled, Held, away, vacant, held, IsSlot, is_away, is_vacant, is_held, Turns, stays_away, stays_vacant, stays_held, gives_room, gives_thing, gets_room, gets_thing, Slot, Empty, Carried, slot_vacant, slot_held, Part, not_carried, carried, Front, message_first, waker_first, carried_as, Home, out, Lies, lies_out, lies_bare, lies_filled, is_same_share}
 
--- whether an end has such a slot
+-- whether an end has a slot with this share
 abbrev pub is_owned : Share → Bool
 is_owned none = false
 is_owned empty = true
 is_owned filled = true
 
--- A slot while an end makes a step: where the end has it and where not, before and after. It stays at
--- home or with the seat, or it goes from one to the other.
+-- A slot during an operation of an end: whether the end has it before, and after. It stays at home or with
+-- the seat, or goes from one to the other.
 pub data Goes {T H K : Type 0} (place : ℕ) : Bool → Bool → Home T H K → Home T H K → Carried T H K → Carried T H K
     → Type 0 where
   stays_there : {h : Home T H K} → Goes place false false h h [] []
@@ -19,7 +19,7 @@ pub data Goes {T H K : Type 0} (place : ℕ) : Bool → Bool → Home T H K → 
   goes_home : {s : Slot T H K} → Goes place true false out (maybe.some s) ((place, s) ∷ []) []
   comes : {s : Slot T H K} → Goes place false true (maybe.some s) out [] ((place, s) ∷ [])
 
--- which share of it the seat has before and after, and the table after and before
+-- whether a slot can turn so: the seat's shares of it before and after, then the table's after and before
 abbrev pub is_turn : Share → Share → Share → Share → Bool
 is_turn none none there' there = is_same_share there there'
 is_turn empty empty none none = true
@@ -31,7 +31,7 @@ is_turn none filled none filled = true
 is_turn _ _ _ _ = false
 
 module _ {T H K X : Type 0} (kept : X → Type 0) (place : ℕ) (put : X → Slot T H K) where
-  -- what a seat carries of a slot of this share
+  -- what a seat carries of a slot in which it has this share
   pub data Carries : Share → Carried T H K → Held X → Type 0 where
     carries_none : Carries none [] away
     carries_empty : Carries empty ((place, Empty) ∷ []) vacant
@@ -62,7 +62,7 @@ module _ {T H K X : Type 0} (kept : X → Type 0) (place : ℕ) (put : X → Slo
   goes carries_none filled none (lies_filled x k) e = went (gets_thing x) comes (carried (slot_held x k)) lies_out
   goes _ _ _ _ e = absurd (cc)
 
--- the turns of the message's slot and of the waker's for which a seat has an act
+-- the changes of who has the message's slot and the waker's for which a seat has an act
 abbrev pub is_act : Front → Bool → Bool → Bool → Bool → Bool
 is_act waker_first true false false false = true
 is_act waker_first true true false true = true

@@ -1,4 +1,4 @@
--- How the slots that a seat carries read as its end has them, and what may lie in each.
+-- What a seat carries is what its end sees, and which content fits each slot.
 use Rattle.std.proofs.Common.{◌≡◌, Bool, List, Option, refl}
 use Rattle.oneshot_word.proofs.Names.{sym, subst, Me, Noted, Held, vacant, held, AnyWaker, Slot, Empty, Message, Thread, Task, Nobody, View, Role, Keeps, held_keeps, with_waker, Carried, message_of, waker_of, message_in, waker_in, MessageSlot, WakerSlot, slot_vacant, slot_held, not_carried, carried, Front, message_first, waker_first, SeatOf, seat_of, IsOrdered, SeatIs}
 use Rattle.oneshot_word.specs.declared.any_waker.AnyWaker.TheVariants as R
@@ -17,7 +17,7 @@ module _ {T H K : Type 0} where
   waker_reads slot_vacant = refl
   waker_reads (slot_held k _) = reads_back T k
 
-  -- what is no waker may lie in a message's slot, and what is no message in a waker's
+  -- a content that is no waker fits the message's slot, and one that is no message the waker's
   pub fits_message : {kept : T → Type 0} (s : Slot T H K) → waker_of s ≡ vacant → Keeps kept (message_of s)
       → MessageSlot kept s (message_of s)
   fits_message Empty e k = slot_vacant
@@ -31,7 +31,7 @@ module _ {T H K : Type 0} where
   fits_waker (Task copy) e = slot_held (R.Task copy) tt
   fits_waker Nobody e = slot_held R.Nobody tt
 
-  -- what a seat carries reads as what its end has
+  -- the slots in what a seat carries are those that its end sees
   abbrev pub Reads : Carried T H K → Held T → Held (AnyWaker H K) → Type 0
   Reads c m w = (message_in c ≡ m) × (waker_in c ≡ w)
 
@@ -50,7 +50,7 @@ module _ {T H K : Type 0} where
       → Reads c m w → P m w → P (message_in c) (waker_in c)
   as_read c {m} P reads p = subst (λ m. P m (waker_in c)) (sym reads.0) (subst (λ w. P m w) (sym reads.1) p)
 
-  -- the seat that an end has then
+  -- so it is the seat of the end
   pub as_seat : {P : Type 0} {keeps : P → T → Type 0} {whose : Role} {front : Front}
       {owns : List Noted → Option (Bool × Bool)} {Passed : Option T → Held T → Type 0}
       {me : Me (Slot T H K) (View T P)} {m : Held T} {w : Held (AnyWaker H K)}

@@ -1,4 +1,4 @@
--- What is put into a slot of an end's is what the end has there then, and what it carries else stays.
+-- A trade of a slot's content: the end has the new content there, and its other slot stays.
 use Rattle.std.proofs.Common.{◌≡◌, ℕ, Bool, List, [], ◌∷◌, Option, refl}
 use Rattle.oneshot_word.proofs.Names.{◌≢◌, sym, ap, ◌∙◌, subst, TableId, Me, rest, turned, Noted, Held, away, AnyWaker, Slot, View, Role, Carried, message_in, waker_in, MessageSlot, WakerSlot, slot_vacant, not_carried, carried, Front, message_first, waker_first, SeatOf, seat_of, GivesOnce, has_given, gave_none, HoldsTaken, SeatIs, SenderSeat, ReceiverSeat, Side, side_of}
 use Rattle.oneshot_word.proofs.SlotReads.{Reads, reads, as_seat}
@@ -9,11 +9,11 @@ gives_none has_given its = absurd (its refl)
 gives_none gave_none its = gave_none
 
 module _ {T H K : Type 0} where
-  -- with something else in front
+  -- what is carried, with `new` in front
   abbrev pub renewed : ℕ → Carried T H K → Slot T H K → Carried T H K
   renewed place c new = (place, new) ∷ rest c
 
-  -- `front` has the slot in front, with what fits there, and once the new is there the end carries `after`
+  -- `front` has the slot in front, with a content that fits, and with the new content the end carries `after`
   record Trade (place : ℕ) (Fits : Slot T H K → Type 0) (Has : Carried T H K → Type 0)
       (front after : Carried T H K) : Type 0 where
     was : Slot T H K
@@ -21,14 +21,14 @@ module _ {T H K : Type 0} where
     in_front : front ≡ renewed place front was
     has : Has after
 
-  -- a slot that is in front, and one that is turned to the front, and back
+  -- a slot in front, and one that is turned to the front and back
   abbrev TradeHere : ℕ → (Slot T H K → Type 0) → (Carried T H K → Type 0) → Carried T H K → Slot T H K → Type 0
   TradeHere place Fits Has c new = Trade place Fits Has c (renewed place c new)
 
   abbrev TradeBehind : ℕ → (Slot T H K → Type 0) → (Carried T H K → Type 0) → Carried T H K → Slot T H K → Type 0
   TradeBehind place Fits Has c new = Trade place Fits Has (turned c) (turned (renewed place (turned c) new))
 
-  -- in the sender's seat the waker's slot is in front, wherever it has both
+  -- if the sender's seat has both slots, the waker's is in front
   sender_trades_message : {kept : T → Type 0} {o : Option (Bool × Bool)} {c : Carried T H K} {new : Slot T H K}
       {m m' : Held T} {w : Held (AnyWaker H K)} → SeatOf kept waker_first o c m w → m ≢ away → MessageSlot kept new m'
       → TradeBehind 0 (λ s. MessageSlot kept s m) (λ c. SeatOf kept waker_first o c m' w) c new
@@ -45,7 +45,7 @@ module _ {T H K : Type 0} where
       record { was = t; fits = other; in_front = refl; has = seat_of slot (carried new) }
   sender_trades_waker _ its new = absurd (its refl)
 
-  -- in the receiver's the message's
+  -- if the receiver's seat has both, the message's is
   receiver_trades_message : {kept : T → Type 0} {o : Option (Bool × Bool)} {c : Carried T H K} {new : Slot T H K}
       {m m' : Held T} {w : Held (AnyWaker H K)} → SeatOf kept message_first o c m w → m ≢ away → MessageSlot kept new m'
       → TradeHere 0 (λ s. MessageSlot kept s m) (λ c. SeatOf kept message_first o c m' w) c new
@@ -62,7 +62,7 @@ module _ {T H K : Type 0} where
       record { was = t; fits = other; in_front = refl; has = seat_of (carried slot) (carried new) }
   receiver_trades_waker _ its new = absurd (its refl)
 
-  -- one slot alone can be in front
+  -- only one content can be in front
   slot_in_front : Slot T H K → Carried T H K → Slot T H K
   slot_in_front otherwise [] = otherwise
   slot_in_front otherwise (x ∷ xs) = x.1
@@ -72,7 +72,7 @@ module _ {T H K : Type 0} where
   unfolding slot_in_front
   same_front {s} here there = ap (slot_in_front s) (sym here ∙ there)
 
-  -- what a trade leaves that gave `old`, seen at the seats
+  -- what a trade that returned `old` leaves, as the seats show it
   pub record Traded {P : Type 0} (Fits : Slot T H K → Type 0) (Seat : Me (Slot T H K) (View T P) → Type 0)
       (before after : Me (Slot T H K) (View T P)) (old : Slot T H K) (m : Held T) (w : Held (AnyWaker H K)) : Type
       0 where
@@ -82,7 +82,7 @@ module _ {T H K : Type 0} where
     pub message : message_in after.1 ≡ m
     pub waker : waker_in after.1 ≡ w
 
-  -- the seat that an end has then
+  -- the end's seat then
   record Seated {P : Type 0} (Seat : Me (Slot T H K) (View T P) → Type 0) (v : View T P) (c : Carried T H K)
       (m : Held T) (w : Held (AnyWaker H K)) : Type 0 where
     seat : Seat (v, c)
@@ -113,7 +113,7 @@ module _ {T H K : Type 0} where
         waker = ap (λ (m : Me (Slot T H K) (View T P)). waker_in m.1) is ∙ s.reads.1;
       }
 
-  -- the seats of a trade behind: as it was, turned, traded, and turned back
+  -- the seats of a trade of the slot behind: as it was, turned, traded, and turned back
   pub record Turned {P : Type 0} (place : ℕ) (before there traded after : Me (Slot T H K) (View T P))
       (old new : Slot T H K) : Type 0 where
     pub turn : there ≡ (before.0, turned before.1)
@@ -205,7 +205,7 @@ module _ {T H K : Type 0} where
       let t = receiver_trades_waker seat.has its fits in
       trade_done before after t (seated before _ seat t.has seat.passed) (turned_front turns) (turned_back turns)
 
-  -- and what their ends' sides show then
+  -- and what the ends' sides then show
   pub message_side : {P : Type 0} {Fits : Slot T H K → Type 0} {Seat : Me (Slot T H K) (View T P) → Type 0}
       (table table' : TableId) (before after : Me (Slot T H K) (View T P)) {old : Slot T H K} {m : Held T}
       (now : Side T (AnyWaker H K) P) → side_of table before ≡ now → table' ≡ table

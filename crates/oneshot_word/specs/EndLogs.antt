@@ -1,4 +1,4 @@
--- What each end's log says, read off it alone.
+-- What each end's log shows by itself.
 use Rattle.std.specs.Prelude.{ℕ, Bool, false, ◌&&◌, ◌||◌, ◌==◌, if◌then◌else◌, List, [], ◌∷◌, Option, Some, None}
 use Rattle.oneshot_machine.specs.declared.machine.Seen.{Seen}
 use Rattle.oneshot_machine.specs.declared.machine.Seen.TheVariants.{Word}
@@ -12,7 +12,7 @@ pub data FoundZero : By → List Noted → Type 0 where
   send_found : FoundZero sending ((Add, Word 0) ∷ [])
   drop_found : FoundZero dropping ((Xor, Word 0) ∷ [])
 
--- The sender's last operation is made, and the receiver was here.
+-- The sender has performed its last operation, and the receiver was here.
 pub data MadeLast : By → List Noted → Type 0 where
   sent : MadeLast sending ((Add, Word 3) ∷ [])
   sent_to_it : MadeLast sending ((Add, Word 0) ∷ (Swap 4, Word 1) ∷ [])
@@ -21,14 +21,14 @@ pub data MadeLast : By → List Noted → Type 0 where
   dropped_before_it : MadeLast dropping ((Xor, Word 0) ∷ (Swap 2, Word 1) ∷ [])
   dropped_before_overdue : MadeLast dropping ((Xor, Word 0) ∷ (Swap 2, Word 3) ∷ [])
 
--- The sender's last operation is made, found the receiver gone, and left this word.
+-- The sender has performed its last operation, which found the receiver gone and left this word.
 pub data MadeLate : By → ℕ → List Noted → Type 0 where
   sent_late : MadeLate sending 3 ((Add, Word 2) ∷ [])
   dropped_late : MadeLate dropping 3 ((Xor, Word 2) ∷ [])
   sent_overtaken : MadeLate sending 4 ((Add, Word 0) ∷ (Swap 4, Word 2) ∷ [])
   dropped_overtaken : MadeLate dropping 2 ((Xor, Word 0) ∷ (Swap 2, Word 2) ∷ [])
 
--- a value carried along a log, from its first operation on
+-- a fold over a log, from its first operation on
 abbrev pub along : {A : Type 0} → (A → Op → Seen → A) → A → List Noted → A
 along next a [] = a
 along next a (x ∷ xs) = along next (next a x.0 x.1) xs
@@ -40,8 +40,8 @@ stores_next before (Exchange expected new) (Word word) =
     if word == expected then new == 0 else before && word == 1
 stores_next before _ seen = false
 
--- The receiver stores a waker: after a swap of 0 that found 3, or an exchange of 3 for 0 that did, it
--- has made nothing but loads that found 0 or 1 and exchanges that found 1.
+-- The receiver stores a waker: it put 0 in over 3, by a swap or an exchange, and has since only loaded 0 or
+-- 1, or found 1 by an exchange.
 abbrev pub stores_waker : List Noted → Bool
 stores_waker = along stores_next false
 
@@ -50,7 +50,7 @@ overdue_next before Load (Word word) = before && word == 3
 overdue_next before (Swap new) (Word word) = new == 3 && word == 1
 overdue_next before _ seen = false
 
--- The receiver is overdue: after a swap of 3 that found 1 it has made nothing but loads that found 3.
+-- The receiver is overdue: its swap of 3 found 1, and it has since only loaded 3.
 abbrev pub is_overdue : List Noted → Bool
 is_overdue = along overdue_next false
 
@@ -58,7 +58,7 @@ abbrev pub gone_next : Bool → Op → Seen → Bool
 gone_next before (Swap new) seen = before || new == 2
 gone_next before _ seen = before
 
--- The receiver is gone: it swapped in a 2.
+-- The receiver is gone: it swapped 2 in.
 abbrev pub is_gone : List Noted → Bool
 is_gone = along gone_next false
 
@@ -67,7 +67,6 @@ wrote_next before (Store new) seen = Some new
 wrote_next before (Swap new) (Word word) = if word == 4 || word == 2 then Some new else before
 wrote_next before _ seen = before
 
--- What the receiver has written since the sender's last operation: by a store, or by a swap that
--- found 4 or 2.
+-- What the receiver wrote last since the sender's last operation: by a store, or by a swap that found 4 or 2.
 abbrev pub wrote_since : List Noted → Option ℕ
 wrote_since = along wrote_next None

@@ -1,5 +1,4 @@
--- What the logs say, and which states of the word and the slots have a row of owners, by examples; and
--- states that have none.
+-- Examples of what logs show, and of states of the word and the slots that have a row of owners or have none.
 use Rattle.std.specs.Prelude.{◌≡◌, ℕ, true, false, List, [], ◌∷◌, ◌++◌, Some, None}
 use Rattle.oneshot_machine.specs.declared.machine.Seen.TheVariants.{Done, Word}
 use Rattle.oneshot_machine.specs.declared.states.Op.TheVariants.{Load, Store, Swap, Exchange, Add, Xor}
@@ -9,8 +8,8 @@ use Rattle.oneshot_word.specs.EndLogs.{stores_waker, is_overdue, is_gone, wrote_
 use Rattle.oneshot_word.specs.ReadRule.{Owned}
 use Rattle.oneshot_word.specs.Rule.{Home, out, bare, has_message, has_waker}
 
--- A receiver that waits; that stopped in time, too late, over the message, or over the sender's end; and
--- one that was dropped.
+-- Receivers: one waits; one stopped waiting over this word (0 in time, 1 too late, 4 the message, 2 the
+-- sender's end); one was dropped.
 abbrev pub waits : List Noted
 waits = (Load, Word 3) ∷ (Swap 0, Word 3) ∷ []
 
@@ -20,8 +19,8 @@ stopped_over word = waits ++ (Swap 3, Word word) ∷ []
 abbrev pub went : List Noted
 went = (Swap 2, Word 3) ∷ []
 
--- A poll that stored its copy, and one that found the message or no sender by its exchange; a later one
--- that took the copy back, and one that found a sender about to finish.
+-- Polls: one stored its copy; one found this word by its exchange (4 the message, 2 no sender). A later one's
+-- exchange took the copy back (0), or found a sender about to finish (1).
 abbrev pub polled : List Noted
 polled = (Load, Word 3) ∷ (Exchange 3 0, Word 3) ∷ []
 
@@ -31,11 +30,12 @@ polled_over word = (Load, Word 3) ∷ (Exchange 3 0, Word word) ∷ []
 abbrev pub exchanged_back : ℕ → List Noted
 exchanged_back word = polled ++ (Load, Word 0) ∷ (Exchange 0 3, Word word) ∷ []
 
--- one that looked while the sender was about to finish, and was dropped then
+-- a future that loaded the word while the sender was about to finish, and was dropped then
 abbrev pub left_meanwhile : List Noted
 left_meanwhile = polled ++ (Load, Word 1) ∷ (Swap 2, Word 1) ∷ []
 
--- A sender that found it waiting, in a `send` or in its drop; and that has finished.
+-- Senders: one found the receiver waiting by a `send`; one finished a `send`, and one its drop, over this
+-- word.
 abbrev pub claims : List Noted
 claims = (Add, Word 0) ∷ []
 
@@ -72,7 +72,7 @@ pub record LogsSay : Type 0 where
   pub left_and_wrote_before_the_end : wrote_since left_meanwhile ≡ None
   pub exchanged_and_closed : wrote_since (polled_over 4 ++ (Store 2, Done) ∷ []) ≡ Some 2
 
--- the sender's log, the receiver's log, the word, and what of both slots is at home
+-- the sender's log, the receiver's log, the word, and what each slot has at home
 pub record StatesThatAre (T H K : Type 0) : Type 0 where
   pub new : Owned {T = T} {H = H} {K = K} [] [] 3 out bare
   pub waiting : (k : AnyWaker H K) → Owned {T = T} [] waits 0 out (has_waker k)
@@ -89,7 +89,7 @@ pub record StatesThatAre (T H K : Type 0) : Type 0 where
   pub claimed_in_a_poll : Owned {T = T} {H = H} {K = K} claims (exchanged_back 1) 1 out out
   pub sent_to_a_future : (x : T) → Owned {H = H} {K = K} (sent_over 1) polled 4 (has_message x) bare
   pub polled_too_late : Owned {T = T} {H = H} {K = K} ((Add, Word 3) ∷ []) (polled_over 4) 4 out out
-  -- the drop of a future over a sender that is about to finish
+  -- the drop of a future while the sender is about to finish
   pub gone_meanwhile : Owned {T = T} {H = H} {K = K} claims left_meanwhile 2 out out
   pub sent_after_it : Owned {T = T} {H = H} {K = K} (sent_over 2) left_meanwhile 4 out out
   pub dropped_after_it : Owned {T = T} {H = H} {K = K} (dropped_over 2) left_meanwhile 2 out out
@@ -98,7 +98,7 @@ pub record StatesThatAreNot (T H K : Type 0) : Type 0 where
   -- an overdue receiver leaves 3, and its waker to the sender
   pub overdue_leaves_1 : {h k : Home T H K} → Owned claims (stopped_over 1) 1 h k → ⊥
   pub overdue_has_its_waker : {h : Home T H K} (k : AnyWaker H K) → Owned claims (stopped_over 1) 3 h (has_waker k) → ⊥
-  -- one that waits does not
+  -- one that waits does not leave 3
   pub waits_at_3 : {h k : Home T H K} → Owned claims waits 3 h k → ⊥
   -- a sender that finishes over 3 leaves its own word
   pub send_leaves_3 : {h k : Home T H K} → Owned (sent_over 3) (stopped_over 1) 3 h k → ⊥
@@ -106,15 +106,15 @@ pub record StatesThatAreNot (T H K : Type 0) : Type 0 where
   -- a swap of 3 leaves 3 over the message and over the sender's end
   pub stop_leaves_0_over_the_message : {h k : Home T H K} → Owned (sent_over 1) (stopped_over 4) 0 h k → ⊥
   pub stop_leaves_0_over_the_end : {h k : Home T H K} → Owned (dropped_over 1) (stopped_over 2) 0 h k → ⊥
-  -- what lies in a slot that is neither end's waits there for its end
+  -- a slot that neither end owns keeps the message, or the waker
   pub message_lies_with_nobody : {k : Home T H K} → Owned (sent_over 1) waits 4 bare k → ⊥
   pub waker_is_gone : {h : Home T H K} → Owned [] waits 0 h bare → ⊥
-  -- an exchange that found what it expects leaves its word, and the copy with the right owner
+  -- an exchange that found what it expects leaves its new word, and the copy with the right owner
   pub poll_leaves_3 : {h k : Home T H K} → Owned [] polled 3 h k → ⊥
   pub poll_has_its_copy : {h : Home T H K} → Owned [] polled 0 h out → ⊥
   pub takes_back_and_leaves_0 : {h k : Home T H K} → Owned [] (exchanged_back 0) 0 h k → ⊥
   pub takes_nothing_back : {h : Home T H K} (k : AnyWaker H K) → Owned [] (exchanged_back 0) 3 h (has_waker k) → ⊥
-  -- one that did not leaves the word that it found
+  -- an exchange that did not leaves the word that it found
   pub late_poll_leaves_0 : {h k : Home T H K} → Owned ((Add, Word 3) ∷ []) (polled_over 4) 0 h k → ⊥
   pub takes_back_over_1 : {h k : Home T H K} → Owned claims (exchanged_back 1) 3 h k → ⊥
   -- a future that is dropped over 1 leaves 2, and both slots to the sender

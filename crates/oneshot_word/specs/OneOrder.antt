@@ -1,4 +1,4 @@
--- The order of both ends' operations is one: two orders of the same logs are the same.
+-- The order of both ends' operations is unique: two orders of the same logs are the same.
 use Rattle.std.specs.Prelude.{◌≡◌, ℕ, List, [], ◌∷◌, ◌++◌}
 use Rattle.oneshot_machine.specs.declared.machine.End.{End}
 use Rattle.oneshot_machine.specs.declared.machine.End.TheVariants.{Sender, Receiver}
@@ -7,21 +7,21 @@ use Rattle.oneshot_machine.specs.declared.states.Op.TheVariants.{Load, Swap, Add
 use Rattle.oneshot_machine.specs.Noted.{Noted}
 use Rattle.oneshot_machine.specs.Orders.{InOrder, none_made, by_sender, by_receiver, Reaches}
 
--- which end makes each operation of an order, from the first on
+-- which end performs each operation of an order, from the first on
 abbrev pub ends_of : {xs ys : List Noted} {word : ℕ} → InOrder xs ys word → List End
 ends_of none_made = []
 ends_of (by_sender op order) = ends_of order ++ Sender ∷ []
 ends_of (by_receiver op order) = ends_of order ++ Receiver ∷ []
 
--- Two orders of the same logs: in both the same ends make the operations one after another, and the same word is
--- left. What each end's operations are, its log says.
+-- Two orders of the same logs are the same if the ends operate in the same sequence and leave the same word.
+-- The operations themselves are in the logs.
 pub record IsSameOrder {xs ys : List Noted} {v w : ℕ} (one : InOrder xs ys v) (other : InOrder xs ys w)
     : Type 0 where
   pub word : v ≡ w
   pub ends : ends_of one ≡ ends_of other
 
--- Logs that the rule of the word allows have no second order, not even one that breaks the rule: each operation
--- has only to find the word that the one before it left.
+-- Logs that the rule of the word allows have no second order, not even one that breaks the rule: an order
+-- requires only that each operation finds the word that the one before it left.
 abbrev pub OrderIsOne : Type 0
 OrderIsOne =
     (xs ys : List Noted) (word v w : ℕ) → Reaches xs ys word → (one : InOrder xs ys v) (other : InOrder xs ys w)
@@ -31,7 +31,7 @@ OrderIsOne =
 abbrev pub waits_and_looks : InOrder ((Add, Word 0) ∷ []) ((Load, Word 3) ∷ (Swap 0, Word 3) ∷ (Load, Word 1) ∷ []) 1
 waits_and_looks = by_receiver Load (by_sender Add (by_receiver (Swap 0) (by_receiver Load none_made)))
 
--- Two orders of the same logs, where no sender makes such a log: whichever looks first, both see the same.
+-- Two orders of the same logs, which no sender has: whichever end loads first, both see the same.
 abbrev pub sender_looks_first : InOrder ((Load, Word 3) ∷ []) ((Load, Word 3) ∷ []) 3
 sender_looks_first = by_receiver Load (by_sender Load none_made)
 
@@ -43,7 +43,7 @@ pub record WorkedOrders : Type 0 where
   pub same : IsSameOrder waits_and_looks waits_and_looks
 
 pub record WrongOrders : Type 0 where
-  -- the operations of one end are not before all of the other's
+  -- not all of the receiver's operations come before the sender's
   pub not_apart : ends_of waits_and_looks ≡ Receiver ∷ Receiver ∷ Receiver ∷ Sender ∷ [] → ⊥
-  -- logs that are no ends' may have two orders, which the definition tells apart
+  -- logs of no real ends may have two orders, which the definition distinguishes
   pub not_the_same : IsSameOrder sender_looks_first receiver_looks_first → ⊥

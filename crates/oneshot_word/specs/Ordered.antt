@@ -1,4 +1,4 @@
--- What the rule says of both logs: their operations have an order in which each finds what the one before it left.
+-- What the rule implies for both logs: an order of their operations in which each finds what the one before it left.
 use Rattle.std.specs.Prelude.{ℕ, List, [], ◌∷◌, Option, None}
 use Rattle.oneshot_machine.specs.Noted.{Noted}
 use Rattle.oneshot_machine.specs.Orders.{Reaches}
@@ -12,11 +12,11 @@ pub data Ordered {T P : Type 0} (q : P) : List ℕ → List (View T P) → Type 
   -- before there are ends
   maker_before : Ordered q (3 ∷ []) (view q Maker [] None ∷ [])
   dealer_before : Ordered q (3 ∷ []) (view q Dealer [] None ∷ [])
-  -- and then always
+  -- from then on
   in_order : {word : ℕ} (xs ys : List Noted) {given taken : Option T} → Reaches xs ys word
       → Ordered q (word ∷ []) (view q Sender xs given ∷ view q Receiver ys taken ∷ [])
 
--- Whatever the table is under its rule, the operations of both ends have an order.
+-- In every state that the rule allows, the operations of both ends have an order.
 abbrev pub RuleOrders : {T P : Type 0} (H K : Type 0) → (P → T → Type 0) → Type 0
 RuleOrders {T} {P} H K keeps =
     (q : P) (words : List ℕ) (homes : List (Home T H K)) (views : List (View T P))

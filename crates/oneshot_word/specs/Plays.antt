@@ -1,6 +1,6 @@
--- What each step on the word notes of its seat: the operation with the word that was found.
--- The table calls a note with the number that the word really held, and nothing else says that a log tells
--- what was found: the rule speaks of logs alone. So each is to be read.
+-- What each operation on the word notes in its seat: itself, with the word that it found.
+-- The table passes to a note the number that the word really held. Only these notes guarantee that a log has
+-- the words that were found, since the rule reads logs alone. So review each of them.
 use Rattle.std.specs.Prelude.{ℕ}
 use Rattle.atomic_table.specs.Table.{Me, Step}
 use Rattle.oneshot_machine.specs.declared.states.Op.TheVariants.{Load, Store, Swap, Exchange, Add, Xor}
@@ -8,7 +8,7 @@ use Rattle.oneshot_word.specs.declared.rule.Slot.{Slot}
 use Rattle.oneshot_word.specs.declared.rule.View.{View}
 use Rattle.oneshot_word.specs.Seats.{SenderStepped, ReceiverStepped}
 
--- what a step notes of its seat: the seat before, the word that was found, and the seat after
+-- a note: the step, the seat before it, the word that it found, and the seat after
 abbrev pub Note : Type 0 → Type 0 → Type 0 → Type 0 → Type 1
 Note T H K P = Step (Slot T H K) → Me (Slot T H K) (View T P) → ℕ → Me (Slot T H K) (View T P) → Type 0
 
@@ -32,6 +32,6 @@ module _ {T H K P : Type 0} (keeps : P → T → Type 0) where
   abbrev pub SwapFound : Note T H K P
   SwapFound step before word after = ReceiverStepped keeps before (Swap step.first) word after
 
-  -- an exchange puts in `second` where it finds `first`
+  -- an exchange puts in `second` if it finds `first`
   abbrev pub ExchangeFound : Note T H K P
   ExchangeFound step before word after = ReceiverStepped keeps before (Exchange step.first step.second) word after

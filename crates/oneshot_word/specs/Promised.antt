@@ -1,4 +1,4 @@
--- What the rule says of a message that lies in the table: it keeps its channel's promise.
+-- What the rule implies for a message in the table: it keeps its channel's promise.
 use Rattle.std.specs.Prelude.{ℕ, List, [], ◌∷◌, Some, None}
 use Rattle.oneshot_machine.specs.declared.machine.Seen.TheVariants.{Word}
 use Rattle.oneshot_machine.specs.declared.states.Op.TheVariants.{Add}
@@ -8,10 +8,10 @@ use Rattle.oneshot_word.specs.Rule.{Home, bare, has_message, Tied}
 use Rattle.oneshot_word.specs.Seats.{view}
 
 pub record RuleKeeps {T P : Type 0} (H K : Type 0) (keeps : P → T → Type 0) : Type 0 where
-  -- whatever the table is under its rule
+  -- in every state that the rule allows
   pub kept : (q : P) (words : List ℕ) (k : Home T H K) (views : List (View T P)) (m : T)
       → Tied keeps q words (has_message m ∷ k ∷ []) views → keeps q m
-  -- after a `send` that found the receiver there, and has made no operation
+  -- after a `send` to a receiver that is here and has performed no operation
   pub sent : (q : P) (m : T) → keeps q m
       → Tied {H = H} {K = K} keeps q (4 ∷ []) (has_message m ∷ bare ∷ [])
       (view q Sender ((Add, Word 3) ∷ []) (Some m) ∷ view q Receiver [] None ∷ [])

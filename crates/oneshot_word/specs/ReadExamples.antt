@@ -1,4 +1,4 @@
--- Which words, slots at home and views its readers find the table to have, and which they do not, by examples.
+-- Examples and counterexamples of the words, slots at home and views that readers of the rule find.
 use Rattle.std.specs.Prelude.{ℕ, List, [], ◌∷◌, Option, Some, None}
 use Rattle.oneshot_machine.specs.declared.machine.Seen.TheVariants.{Word}
 use Rattle.oneshot_machine.specs.declared.states.Op.TheVariants.{Load, Add}
@@ -36,7 +36,7 @@ alone role = view 7 role [] None ∷ []
 abbrev pub views : List Noted → Option ℕ → List Noted → Option ℕ → List (View ℕ ℕ)
 views = both_views 7
 
--- a `send` to a receiver that has looked, and a load that comes before it and sees its word
+-- a `send`, a load before it, and a load after it that finds the message
 abbrev pub sent : List Noted
 sent = (Add, Word 3) ∷ []
 
@@ -55,7 +55,7 @@ pub record ReadsThatAre : Type 0 where
   pub ordered_as_new : Ordered {P = ℕ} 7 (3 ∷ []) (alone Maker)
   pub ordered_as_dealt : Ordered {P = ℕ} 7 (3 ∷ []) (alone Dealer)
   pub ordered : Ordered {P = ℕ} 7 (4 ∷ []) (views sent (Some 7) found (Some 7))
-  -- what both laws say of a message that lies there
+  -- what both laws state of a message in the table
   pub is_read : RuleReads ℕ ℕ keeps → Ruled {P = ℕ} 7 (4 ∷ []) message_in (views sent (Some 7) [] None)
   pub is_ordered : RuleOrders ℕ ℕ keeps → Ordered {P = ℕ} 7 (4 ∷ []) (views sent (Some 7) [] None)
 
@@ -66,12 +66,12 @@ pub record ReadsThatAreNot : Type 0 where
   pub dealt_slots : Ruled {P = ℕ} 7 (3 ∷ []) both_out (alone Dealer) → ⊥
   pub no_ends : Ruled {P = ℕ} 7 (3 ∷ []) both_in [] → ⊥
   pub one_end : Ruled {P = ℕ} 7 (3 ∷ []) one_out (alone Sender) → ⊥
-  -- and then: a state that has no row of owners
+  -- once there are ends: a state that has no row of owners
   pub waits_at_3 : {h k : Home ℕ ℕ ℕ} {given taken : Option ℕ}
       → Ruled {P = ℕ} 7 (3 ∷ []) (h ∷ k ∷ []) (views claims given waits taken) → ⊥
   pub sent_and_is_bare : {given taken : Option ℕ}
       → Ruled {P = ℕ} 7 (4 ∷ []) both_in (views (sent_over 1) given waits taken) → ⊥
-  -- logs that have no order, and another word
+  -- another word, one seat alone, and logs that have no order
   pub new_order : Ordered {P = ℕ} 7 (2 ∷ []) (alone Maker) → ⊥
   pub order_of_one : Ordered {P = ℕ} 7 (3 ∷ []) (alone Sender) → ⊥
   pub finds_what_nobody_left : {word : ℕ} {given taken : Option ℕ}

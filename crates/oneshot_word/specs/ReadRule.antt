@@ -1,5 +1,4 @@
--- The rule of the table as its reader wants it: both logs, the word, and whether each slot is out, empty, or
--- holds what.
+-- The rule of the table for its readers: rows of both logs, the word, and what is at home of each slot.
 use Rattle.std.specs.Prelude.{◌≡◌, ℕ, true, false, List, [], ◌∷◌, Option, Some, None}
 use Rattle.oneshot_machine.specs.Noted.{Noted}
 use Rattle.oneshot_machine.specs.Phases.{By, sending, dropping}
@@ -10,33 +9,32 @@ use Rattle.oneshot_word.specs.EndLogs.{FoundZero, MadeLast, MadeLate, stores_wak
 use Rattle.oneshot_word.specs.Rule.{Home, out, bare, has_message, has_waker, Tied}
 use Rattle.oneshot_word.specs.Seats.{view}
 
--- A slot of the sender's: out with it, or empty at home, where the receiver left it for the
--- sender's next operation.
+-- A slot that the sender owns: it has the slot, or the receiver left it empty at home for the sender's next
+-- operation.
 pub data IsSenders {T H K : Type 0} : Home T H K → Type 0 where
   sender_has_it : IsSenders out
   left_for_sender : IsSenders bare
 
--- A slot of the receiver's: out with it, or empty at home, where it is left for the receiver's next
--- operation.
+-- A slot that the receiver owns: it has the slot, or the slot is left empty at home for its next operation.
 pub data IsReceivers {T H K : Type 0} : Home T H K → Type 0 where
   receiver_has_it : IsReceivers out
   left_for_receiver : IsReceivers bare
 
--- the same, and while at home it holds the message
+-- the same, but at home it holds the message
 pub data IsReceiversFull {T H K : Type 0} : Home T H K → Type 0 where
   receiver_found_it : IsReceiversFull out
   waits_for_receiver : (m : T) → IsReceiversFull (has_message m)
 
--- a slot that is neither end's, with the receiver's waker in it
+-- a slot that neither end owns, with the receiver's waker in it
 pub data IsWords {T H K : Type 0} : Home T H K → Type 0 where
   waker_at_home : (k : AnyWaker H K) → IsWords (has_waker k)
 
 -- the sender's log, the receiver's log, the word, the message's slot and the waker's
 pub data Owned {T H K : Type 0} (xs ys : List Noted) : ℕ → Home T H K → Home T H K → Type 0 where
-  -- the sender has made no operation, and the receiver is here and stores no waker
+  -- the sender has performed no operation, and the receiver is here and stores no waker
   both_open : {h k : Home T H K} → xs ≡ [] → stores_waker ys ≡ false → is_gone ys ≡ false
       → IsSenders h → IsReceivers k → Owned xs ys 3 h k
-  -- the sender has made no operation, and the receiver stores a waker
+  -- the sender has performed no operation, and the receiver stores a waker
   waker_stored : {h k : Home T H K} → xs ≡ [] → stores_waker ys ≡ true → is_gone ys ≡ false
       → IsSenders h → IsWords k → Owned xs ys 0 h k
   -- the sender found 0, and its final swap is to come; the receiver still waits
@@ -48,10 +46,10 @@ pub data Owned {T H K : Type 0} (xs ys : List Noted) : ℕ → Home T H K → Ho
   -- the sender found 0, and its final swap is to come; the receiver is gone
   claimed_gone : {h k : Home T H K} (by : By) → FoundZero by xs → is_gone ys ≡ true
       → IsSenders h → IsSenders k → Owned xs ys 2 h k
-  -- the sender has made no operation, and the receiver is gone
+  -- the sender has performed no operation, and the receiver is gone
   receiver_gone : {h k : Home T H K} → xs ≡ [] → is_gone ys ≡ true
       → IsSenders h → IsSenders k → Owned xs ys 2 h k
-  -- the sender made its last operation after that
+  -- the sender performed its last operation after that
   sender_after : {h k : Home T H K} (by : By) {w : ℕ} → MadeLate by w xs → is_gone ys ≡ true
       → IsSenders h → IsSenders k → Owned xs ys w h k
   -- it sent, and the receiver has written nothing since
@@ -60,7 +58,7 @@ pub data Owned {T H K : Type 0} (xs ys : List Noted) : ℕ → Home T H K → Ho
   -- it dropped, and the receiver has written nothing since
   dropped : {h k : Home T H K} → MadeLast dropping xs → wrote_since ys ≡ None
       → IsReceivers h → IsReceivers k → Owned xs ys 2 h k
-  -- the receiver was here till then, and has written since
+  -- the sender finished while the receiver was here, and the receiver has written since
   written : {h k : Home T H K} (by : By) {w : ℕ} → MadeLast by xs → wrote_since ys ≡ Some w
       → IsReceivers h → IsReceivers k → Owned xs ys w h k
 
@@ -69,11 +67,11 @@ pub data Ruled {T H K P : Type 0} (q : P) : List ℕ → List (Home T H K) → L
   -- before there are ends
   maker_alone : Ruled q (3 ∷ []) (bare ∷ bare ∷ []) (view q Maker [] None ∷ [])
   dealer_alone : Ruled q (3 ∷ []) (out ∷ bare ∷ []) (view q Dealer [] None ∷ [])
-  -- and then always
+  -- from then on
   two_ends : {w : ℕ} {h k : Home T H K} (xs ys : List Noted) {given taken : Option T} → Owned xs ys w h k
       → Ruled q (w ∷ []) (h ∷ k ∷ []) (view q Sender xs given ∷ view q Receiver ys taken ∷ [])
 
--- Whatever the table is under its rule, it is as the rows say.
+-- Every state that the rule allows is in one of the rows.
 abbrev pub RuleReads : {T P : Type 0} (H K : Type 0) → (P → T → Type 0) → Type 0
 RuleReads {T} {P} H K keeps =
     (q : P) (words : List ℕ) (homes : List (Home T H K)) (views : List (View T P)) → Tied keeps q words homes views

@@ -1,4 +1,4 @@
--- The message that the receiver took is the message that the sender gave, wherever the table keeps its rule.
+-- In every state that the rule allows, the message that the receiver took is the one that the sender gave.
 use Rattle.std.specs.Prelude.{◌≡◌, ◌≢◌, ℕ, List, [], ◌∷◌, Option, Some, None}
 use Rattle.oneshot_machine.specs.declared.machine.Seen.TheVariants.{Word}
 use Rattle.oneshot_machine.specs.declared.states.Op.TheVariants.{Load, Add}
@@ -8,7 +8,7 @@ use Rattle.oneshot_word.specs.declared.rule.View.{View}
 use Rattle.oneshot_word.specs.Rule.{Home, out, bare, has_message, Tied}
 use Rattle.oneshot_word.specs.Seats.{view}
 
--- the views of both ends: the sender gave this, and the receiver took this
+-- the views of both ends, with the message that the sender gave and the one that the receiver took
 abbrev pub both_views : {T P : Type 0} → P → List Noted → Option T → List Noted → Option T → List (View T P)
 both_views q xs given ys taken = view q Sender xs given ∷ view q Receiver ys taken ∷ []
 
@@ -17,11 +17,11 @@ module _ {T P : Type 0} (H K : Type 0) (keeps : P → T → Type 0) where
     -- a message that the receiver took is the one that the sender gave
     pub taken : (q : P) (words : List ℕ) (homes : List (Home T H K)) (xs ys : List Noted) (given : Option T) (m : T)
         → Tied keeps q words homes (both_views q xs given ys (Some m)) → given ≡ Some m
-    -- and so is one that lies in the table
+    -- and so is a message in the table
     pub lies : (q : P) (words : List ℕ) (k : Home T H K) (xs ys : List Noted) (given taken : Option T) (m : T)
         → Tied keeps q words (has_message m ∷ k ∷ []) (both_views q xs given ys taken) → given ≡ Some m
 
-  -- a message that was sent over a receiver that is there, and then received
+  -- a message that was sent to a receiver that is here, and then received
   pub record MessagesThatPass : Type 0 where
     pub lies_there : (q : P) (m : T) → keeps q m → Tied {H = H} {K = K} keeps q (4 ∷ []) (has_message m ∷ bare ∷ [])
         (both_views q ((Add, Word 3) ∷ []) (Some m) [] None)

@@ -1,5 +1,4 @@
--- The rule of the table as its steps keep it: the operations of both ends have an order, where each slot is, and
--- which message passes.
+-- The rule of the table: the order of both ends' operations, where each slot is, and which message passes.
 use Rattle.std.specs.Prelude.{◌≡◌, ℕ, Bool, false, ◌||◌, if◌then◌else◌, List, [], ◌∷◌, Option, Some, None}
 use mathlib.Core.Option as maybe
 use Rattle.oneshot_machine.specs.Noted.{Noted}
@@ -12,7 +11,7 @@ use Rattle.oneshot_word.specs.declared.rule.Slot.TheVariants.{Empty, Message}
 use Rattle.oneshot_word.specs.declared.rule.View.{View}
 use Rattle.oneshot_word.specs.Seats.{view, any, with_waker}
 
--- what of a slot is at home: nothing, where a seat carries it, or its value
+-- what is at home of a slot: nothing while a seat carries it, otherwise its content
 abbrev pub Home : Type 0 → Type 0 → Type 0 → Type 0
 Home T H K = maybe.Option (Slot T H K)
 
@@ -29,8 +28,8 @@ module _ {T H K : Type 0} where
   abbrev pub has_waker : AnyWaker H K → Home T H K
   has_waker k = maybe.some (with_waker k)
 
--- A slot that is neither end's is at home. The message's is filled once the sender has sent, and the
--- waker's while the receiver waits and the sender has made no operation.
+-- A slot that neither end owns is at home. The message's is full once the sender has sent, and the waker's
+-- while the receiver waits and the sender has performed no operation.
 abbrev pub message_left : SenderAt → Share
 message_left (finished sending) = filled
 message_left _ = empty
@@ -39,12 +38,12 @@ abbrev pub waker_left : SenderAt → ReceiverAt → Share
 waker_left fresh (waits waiting) = filled
 waker_left _ _ = empty
 
--- what of both slots is an end's
+-- which of both slots an end owns
 abbrev pub has_slots : Option (Bool × Bool) → Bool × Bool
 has_slots (Some slots) = slots
 has_slots None = (false, false)
 
--- what is at home of a slot: nothing while it is an end's
+-- the share of a slot that is at home: none while an end owns it
 abbrev pub message_home : SenderAt → ReceiverAt → Share
 message_home p q =
     if (has_slots (sender_owns p)).0 || (has_slots (receiver_owns q)).0 then none else message_left p
@@ -53,7 +52,7 @@ abbrev pub waker_home : SenderAt → ReceiverAt → Share
 waker_home p q =
     if (has_slots (sender_owns p)).1 || (has_slots (receiver_owns q)).1 then none else waker_left p q
 
--- a home of which the table has this share, where what is in it keeps this
+-- what is at home of a slot with this share, and a value there satisfies `kept`
 pub data Lies {T H K X : Type 0} (kept : X → Type 0) (put : X → Slot T H K) : Share → Home T H K → Type 0 where
   lies_out : Lies kept put none out
   lies_bare : Lies kept put empty bare
@@ -68,16 +67,15 @@ pub data IsTaken {T : Type 0} (given : Option T) : Option T → Type 0 where
   took_none : IsTaken given None
   took_it : (m : T) → given ≡ Some m → IsTaken given (Some m)
 
--- The words, the slots at home and the views of all seats. Each view has the value that the channel's
--- messages keep their promise about.
+-- The words, the slots at home and the views of all seats. Each view has the value that the channel is about.
 pub data Tied {T H K P : Type 0} (keeps : P → T → Type 0) (q : P)
     : List ℕ → List (Home T H K) → List (View T P) → Type 0 where
   -- the table is new
   opened : Tied keeps q (3 ∷ []) (bare ∷ bare ∷ []) (view q Maker [] None ∷ [])
   -- its maker has the message's slot
   dealt : Tied keeps q (3 ∷ []) (out ∷ bare ∷ []) (view q Dealer [] None ∷ [])
-  -- both ends are there: their operations have an order, each slot is where both phases say, and a message
-  -- that lies at home or that the receiver took is the one that the sender gave
+  -- both ends exist: their operations have an order, each slot is where both phases put it, and a
+  -- message that is at home or that the receiver took is the one that the sender gave
   runs : {w : ℕ} {h k : Home T H K} (xs ys : List Noted) {given taken : Option T}
       → Reaches xs ys w
       → Lies (IsGiven keeps q given) Message (message_home (sender_at xs) (receiver_at ys)) h

@@ -1,5 +1,5 @@
--- What a seat carries and knows, and what it does not, by examples: a channel about the value 7, whose promise the
--- message 7 keeps and no other.
+-- Examples and counterexamples of what a seat carries and knows.
+-- The channel is about the value 7, and only the message 7 keeps its promise.
 use Rattle.std.specs.Prelude.{◌≡◌, ℕ, true, false, map, List, [], ◌∷◌, ◌++◌, Bool, Option, Some, None}
 use Rattle.atomic_table.specs.Seated.{TableId}
 use Rattle.atomic_table.specs.Table.{Me}
@@ -19,7 +19,7 @@ use Rattle.oneshot_word.specs.Seats.{view, any, with_waker, Carried, message_of,
 abbrev pub keeps : ℕ → ℕ → Type 0
 keeps q m = m ≡ q
 
--- slots, and what a seat carries of them: the message's, or a waker's with a thread's half or a task's copy
+-- slots, and what a seat carries: the message's slot, or the waker's with a thread's half or a task's copy
 abbrev pub Kept : Type 0
 Kept = Slot ℕ ℕ ℕ
 
@@ -58,14 +58,15 @@ some_carried =
     ∷ (with_message 7 ++ with_copy)
     ∷ []
 
--- a part of each slot, and both
+-- what a seat carries of each slot
 abbrev pub MessagePart : Bool → Carries → Held ℕ → Type 0
 MessagePart = Part (keeps 7) 0 Message
 
 abbrev pub WakerPart : Bool → Carries → Held (AnyWaker ℕ ℕ) → Type 0
 WakerPart = Part any 1 with_waker
 
--- the logs of a sender that found the receiver here, or a waker, and of a receiver that found nothing, or the message
+-- the logs of a sender that found the receiver here, or a waker; and of a receiver that found nothing, or the
+-- message
 abbrev pub sent_at_once : List Noted
 sent_at_once = (Add, Word 3) ∷ []
 
@@ -103,7 +104,7 @@ pub record SlotsAsSeen : Type 0 where
       ≡ away ∷ away ∷ vacant ∷ away ∷ held (R.Thread 1) ∷ held (R.Thread 1) ∷ held (R.Task 2) ∷ []
   pub waker_in_front : carried_as waker_first (with_message 7) with_half ≡ (1, Thread 1) ∷ (0, Message 7) ∷ []
   pub message_in_front : carried_as message_first (with_message 7) with_half ≡ (0, Message 7) ∷ (1, Thread 1) ∷ []
-  -- what passed by an operation
+  -- what has passed after an operation
   pub gives : gave {T = ℕ} (held 7) away None ≡ Some 7
   pub keeps_its_own : gave {T = ℕ} (held 7) (held 7) None ≡ None
   pub gives_room : gave {T = ℕ} vacant away None ≡ None
@@ -124,28 +125,30 @@ pub record SeatsThatAre : Type 0 where
   pub has_received : ReceiverSeat keeps (seat Receiver received (Some 7) (with_message 7 ++ room 1))
 
 pub record SeatsThatAreNot : Type 0 where
-  -- a slot: a message that breaks its promise, a waker for a message and the other way, and what is not seen there
+  -- slots: a message that breaks its promise, a waker in the message's slot, the reverse, and a full
+  -- slot seen as empty
   pub breaks_its_promise : MessageSlot (keeps 7) (message 8) (held 8) → ⊥
   pub waker_for_message : {seen : Held ℕ} → MessageSlot (keeps 7) half seen → ⊥
   pub message_for_waker : {seen : Held (AnyWaker ℕ ℕ)} → WakerSlot (message 7) seen → ⊥
   pub seen_as_room : MessageSlot (keeps 7) (message 7) vacant → ⊥
-  -- a part: a slot of its own that it does not carry, one of another that it does, and one of another number
+  -- parts: an owned slot that is not carried, a carried slot that is not owned, and a slot of the wrong
+  -- number
   pub lost_its_slot : {seen : Held ℕ} → MessagePart true [] seen → ⊥
   pub has_anothers : {seen : Held ℕ} → MessagePart false (room 0) seen → ⊥
   pub has_the_wakers : {seen : Held ℕ} → MessagePart true (room 1) seen → ⊥
   pub has_the_messages : {seen : Held (AnyWaker ℕ ℕ)} → WakerPart true (room 0) seen → ⊥
-  -- both: the one that it took first in front, and no end's
+  -- both slots: the one that was taken first in front, and a seat of no end
   pub message_before_waker : SeatOf (keeps 7) waker_first (Some (true, true)) (with_message 7 ++ with_half)
       (held 7) (held (R.Thread 1)) → ⊥
   pub waker_before_message : SeatOf (keeps 7) message_first (Some (true, true)) (with_half ++ with_message 7)
       (held 7) (held (R.Thread 1)) → ⊥
   pub of_no_end : SeatOf {H = ℕ} {K = ℕ} (keeps 7) waker_first None [] away away → ⊥
-  -- what passed: a message of its own that it gave, and one that it has and did not take
+  -- what passed: a sender that gave and still has its slot, and a receiver that holds what it did not take
   pub gives_again : GivesOnce {T = ℕ} (Some 7) (held 7) → ⊥
   pub gives_more : GivesOnce {T = ℕ} (Some 7) vacant → ⊥
   pub holds_another : HoldsTaken {T = ℕ} (Some 8) (held 7) → ⊥
   pub holds_untaken : HoldsTaken {T = ℕ} None (held 7) → ⊥
-  -- a seat of the other end, without its slot, with another's, or with a message that it may not have
+  -- seats: of the other end, without its slot, with the other's slot, or with a message that it may not have
   pub is_the_receivers : SenderSeat keeps (seat Receiver [] None (room 0)) → ⊥
   pub is_the_senders : ReceiverSeat keeps (seat Sender [] None []) → ⊥
   pub has_no_slot : SenderSeat keeps (seat Sender [] None []) → ⊥
@@ -154,7 +157,7 @@ pub record SeatsThatAreNot : Type 0 where
   pub sends_another : SenderSeat keeps (seat Sender [] None (with_message 8)) → ⊥
   pub has_given : SenderSeat keeps (seat Sender [] (Some 7) (with_message 7)) → ⊥
   pub took_another : ReceiverSeat keeps (seat Receiver received (Some 8) (with_message 7 ++ room 1)) → ⊥
-  -- another table, or one of another form
+  -- another table, or one of another size
   pub at_another : IsAt (table 1 2 5) (table 1 2 6) → ⊥
   pub of_two_words : IsAt (table 2 2 5) (table 2 2 5) → ⊥
   pub of_one_slot : IsAt (table 1 1 5) (table 1 1 5) → ⊥

@@ -18,11 +18,11 @@ use Rattle.oneshot_word.specs.declared.rule.View.{View}
 abbrev pub view : {T P : Type 0} → P → Role → List Noted → Option T → View T P
 view q r xs m = record { role = r; log = xs; passed = m; about = q }
 
--- no promise of a value
+-- the empty promise
 abbrev pub any : {X : Type 0} → X → Type 0
 any x = ⊤
 
--- what is in a slot keeps this, if anything is
+-- the content of a slot satisfies `kept`, if there is any
 pub data Keeps {X : Type 0} (kept : X → Type 0) : Held X → Type 0 where
   away_keeps : Keeps kept away
   vacant_keeps : Keeps kept vacant
@@ -33,7 +33,7 @@ abbrev pub Carried : Type 0 → Type 0 → Type 0 → Type 0
 Carried T H K = List (ℕ × Slot T H K)
 
 module _ {T H K : Type 0} where
-  -- a waker's slot that is full
+  -- the slot that holds this waker
   abbrev pub with_waker : AnyWaker H K → Slot T H K
   with_waker (R.Thread half) = Thread half
   with_waker (R.Task copy) = Task copy
@@ -64,7 +64,7 @@ module _ {T H K : Type 0} where
   waker_in ((zero, s) ∷ c) = waker_in c
   waker_in ((suc n, s) ∷ c) = waker_of s
 
--- a slot as its end sees it: empty, or with a value that was put in so and keeps its promise
+-- a slot and how its end sees it: empty, or filled by `put` with a value that satisfies `kept`
 pub data SlotOf {T H K X : Type 0} (kept : X → Type 0) (put : X → Slot T H K) : Slot T H K → Held X → Type 0 where
   slot_vacant : SlotOf kept put Empty vacant
   slot_held : (x : X) → kept x → SlotOf kept put (put x) (held x)
@@ -74,17 +74,17 @@ module _ {T H K : Type 0} where
   abbrev pub MessageSlot : (T → Type 0) → Slot T H K → Held T → Type 0
   MessageSlot kept = SlotOf kept Message
 
-  -- nor a waker's slot a message
+  -- a waker's slot never holds a message
   abbrev pub WakerSlot : Slot T H K → Held (AnyWaker H K) → Type 0
   WakerSlot = SlotOf any with_waker
 
--- what a seat carries of the slot with this number, where it is its end's, and where it is not
+-- what a seat carries of the slot `place`: the slot if its end owns it, otherwise nothing
 pub data Part {T H K X : Type 0} (kept : X → Type 0) (place : ℕ) (put : X → Slot T H K)
     : Bool → Carried T H K → Held X → Type 0 where
   not_carried : Part kept place put false [] away
   carried : {s : Slot T H K} {x : Held X} → SlotOf kept put s x → Part kept place put true ((place, s) ∷ []) x
 
--- which slot a seat that carries both has in front: the one that it took last
+-- which slot is in front when a seat carries both: the one that it took last
 pub data Front : Type 0 where
   message_first : Front
   waker_first : Front
@@ -95,7 +95,7 @@ module _ {T H K : Type 0} where
   carried_as message_first message waker = message ++ waker
   carried_as waker_first message waker = waker ++ message
 
-  -- what a seat carries whose end has these slots
+  -- what a seat carries if its end owns these slots
   pub data SeatOf (kept : T → Type 0) (front : Front)
       : Option (Bool × Bool) → Carried T H K → Held T → Held (AnyWaker H K) → Type 0 where
     seat_of : {message waker : Bool} {cm cw : Carried T H K} {m : Held T} {w : Held (AnyWaker H K)}
@@ -108,25 +108,26 @@ pub record IsAt (shared seat : TableId) : Type 0 where
   pub words : seat.words ≡ 1
   pub slots : seat.slots ≡ 2
 
--- The message that passed and the sender's slot: while the sender has the slot it has given none, so it gives
--- one at most.
+-- The message that the sender gave, and its slot: a sender that has the slot has given none. So it gives at
+-- most one.
 pub data GivesOnce {T : Type 0} : Option T → Held T → Type 0 where
   has_given : {given : Option T} → GivesOnce given away
   gave_none : {slot : Held T} → GivesOnce None slot
 
--- the message that passed and the receiver's slot: a message that lies there is the one that the receiver took
+-- the message that the receiver took, and its slot: a message in the slot is the one that it took
 pub data HoldsTaken {T : Type 0} : Option T → Held T → Type 0 where
   holds_no_slot : {taken : Option T} → HoldsTaken taken away
   holds_none : {taken : Option T} → HoldsTaken taken vacant
   holds_it : (m : T) → HoldsTaken (Some m) (held m)
 
--- the end's log is that of an order of both ends' operations
+-- the end's log is part of an order of both ends' operations
 abbrev pub IsOrdered : Role → List Noted → Type 0
 IsOrdered Sender xs = (ys : List Noted) × (word : ℕ) × Reaches xs ys word
 IsOrdered Receiver ys = (xs : List Noted) × (word : ℕ) × Reaches xs ys word
 IsOrdered _ log = ⊤
 
--- an end's seat: whose it is, what it carries by how far its end is, and which message passed
+-- an end's seat: its owner, what it carries in its end's phase, which message passed, and that its log
+-- has an order
 pub record SeatIs {T H K P : Type 0} (keeps : P → T → Type 0) (whose : Role) (front : Front)
     (owns : List Noted → Option (Bool × Bool)) (Passed : Option T → Held T → Type 0)
     (me : Me (Slot T H K) (View T P)) : Type 0 where
@@ -142,13 +143,13 @@ module _ {T H K P : Type 0} (keeps : P → T → Type 0) where
   abbrev pub ReceiverSeat : Me (Slot T H K) (View T P) → Type 0
   ReceiverSeat = SeatIs keeps Receiver message_first (λ ys. receiver_owns (receiver_at ys)) HoldsTaken
 
--- The message that passed after an operation, by the end's slot before and after, and by what passed till then:
--- a sender gives a message where its slot is full before and gone after.
+-- The message that has passed after an operation, by the end's slot before and after it, and by what had
+-- passed: a sender gives a message if its slot was full and is away after.
 abbrev pub gave : {T : Type 0} → Held T → Held T → Option T → Option T
 gave (held m) away given = Some m
 gave _ _ given = given
 
--- a receiver takes one where it has no slot before and a full one after
+-- a receiver takes one if its slot was away and is full after
 abbrev pub took : {T : Type 0} → Held T → Held T → Option T → Option T
 took away (held m) taken = Some m
 took _ _ taken = taken
@@ -161,7 +162,7 @@ pub record Stepped {T H K P At : Type 0} (Seat : Me (Slot T H K) (View T P) → 
   pub list : after.0.log ≡ before.0.log ++ (op, saw op word) ∷ []
   pub passed : after.0.passed ≡ passes (message_in before.1) (message_in after.1) before.0.passed
   pub seat : Seat after
-  -- a store's log does not tell the word
+  -- the log of a store does not have the word
   pub code : word ≤ 4
   pub finds : Finds moves (at before.0.log) op word
       (message_in before.1) (waker_in before.1) (message_in after.1) (waker_in after.1)

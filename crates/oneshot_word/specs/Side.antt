@@ -1,4 +1,4 @@
--- What a contract sees of an end's side.
+-- What contracts see of an end's side, which operations it allows, and what each does.
 use Rattle.std.specs.Prelude.{◌≡◌, ℕ, List, [], ◌∷◌, ◌++◌, Option, None}
 use Rattle.atomic_table.specs.Seated.{TableId}
 use Rattle.atomic_table.specs.Table.{Me}
@@ -19,10 +19,10 @@ pub record Side (T W P : Type 0) : Type 0 where
   pub waker : Held W
   -- the message that the end gave to the table or took from it, once it has
   pub passed : Option T
-  -- what the channel was made with
+  -- the value that the channel is about
   pub about : P
 
--- what a seat of such a table shows
+-- what a seat at this table shows
 abbrev pub side_of : {T H K P : Type 0} → TableId → Me (Slot T H K) (View T P) → Side T (AnyWaker H K) P
 side_of table me =
     record {
@@ -34,7 +34,7 @@ side_of table me =
       about = me.0.about;
     }
 
--- Both ends of a new table: neither has made an operation, no message passed, and the sender has the
+-- Both ends of a new table: neither has performed an operation, no message has passed, and the sender has the
 -- message's slot, which is empty.
 pub record AreEnds {T W P : Type 0} (about : P) (sender receiver : Side T W P) : Type 0 where
   pub sender_about : sender.about ≡ about
@@ -48,15 +48,15 @@ pub record AreEnds {T W P : Type 0} (about : P) (sender receiver : Side T W P) :
   pub receiver_passed : receiver.passed ≡ None
 
 module _ {T W P : Type 0} where
-  -- the end's table allows the operation after its log
+  -- the phases' table allows the operation after the end's log
   abbrev pub SenderCan : Side T W P → Op → Type 0
   SenderCan s op = SenderMay (sender_at s.log) op s.message s.waker
 
   abbrev pub ReceiverCan : Side T W P → Op → Type 0
   ReceiverCan s op = ReceiverMay (receiver_at s.log) op s.message s.waker
 
--- The end made the operation, which found this word: its log is longer by it, and its slots are
--- as what it found says, and so is the message that passed.
+-- The end performed the operation, which found this word. The operation is appended to its log, and its slots
+-- and the message that passed are as the phases' table has them for this word.
 pub record Did {T W P At : Type 0} (at : List Noted → At) (moves : At → List (Row At))
     (passes : Held T → Held T → Option T → Option T)
     (before : Side T W P) (op : Op) (word : ℕ) (after : Side T W P) : Type 0 where

@@ -1,4 +1,4 @@
--- What an end's side shows, what it allows, and what an operation makes of it; and what it does not, by examples.
+-- Examples and counterexamples of what a side shows, which operations it allows, and what each does to it.
 use Rattle.std.specs.Prelude.{◌≡◌, ℕ, List, [], ◌++◌, Option, Some, None}
 use Rattle.oneshot_machine.specs.declared.states.Op.TheVariants.{Load, Swap, Add, Xor}
 use Rattle.oneshot_machine.specs.Noted.{Noted}
@@ -52,7 +52,7 @@ pub record SidesThatAre : Type 0 where
   pub receives : ReceiverDid new_receiver Load 4 has_received
 
 pub record SidesThatAreNot : Type 0 where
-  -- ends of a new table, each but for one thing
+  -- ends of a new table, each wrong in one thing
   pub sender_about_another : AreEnds {P = ℕ} 7 (record new_sender { about = 8 }) new_receiver → ⊥
   pub receiver_about_another : AreEnds {P = ℕ} 7 new_sender (record new_receiver { about = 8 }) → ⊥
   pub of_two_tables : AreEnds {P = ℕ} 7 new_sender (record new_receiver { table = table 1 2 6 }) → ⊥
@@ -64,11 +64,12 @@ pub record SidesThatAreNot : Type 0 where
   pub receiver_has_the_message : AreEnds {P = ℕ} 7 new_sender (record new_receiver { message = vacant }) → ⊥
   pub receiver_has_the_waker : AreEnds {P = ℕ} 7 new_sender (record new_receiver { waker = vacant }) → ⊥
   pub receiver_has_taken : AreEnds {P = ℕ} 7 new_sender (record new_receiver { passed = Some 7 }) → ⊥
-  -- operations that it does not allow
+  -- operations that the side does not allow
   pub sends_nothing : SenderCan new_sender Add → ⊥
   pub sends_twice : SenderCan (side sent_at_once (held 7) away None) Add → ⊥
   pub waits_without_a_waker : ReceiverCan (side looked away vacant None) (Swap 0) → ⊥
-  -- an operation that changes the channel or the table, is not logged, leaves its slots, or loses what passed
+  -- an operation that changes the channel or the table, is not logged, does not move its slots, or
+  -- loses what passed
   pub becomes_about_another : SenderDid about_to_send Add 3 (record has_sent { about = 8 }) → ⊥
   pub moves_to_another : SenderDid about_to_send Add 3 (record has_sent { table = table 1 2 6 }) → ⊥
   pub is_not_logged : SenderDid about_to_send Add 3 (record has_sent { log = [] }) → ⊥

@@ -1,12 +1,12 @@
-//! What wakes a receiver that waits.
+//! The waker that a waiting receiver leaves for the sender.
 
-/// By what a sender wakes the receiver, when it has taken this out of the waker's slot.
+/// What a sender takes out of the waker's slot, to wake the receiver with.
 #[derive(Drop)]
 pub enum AnyWaker<H, K> {
     /// The waking half of a thread's parker.
     Thread(H),
-    /// A copy of a task's waker.
+    /// A clone of a task's waker.
     Task(K),
-    /// Nobody waits.
+    /// A waker that wakes nobody.
     Nobody,
 }

@@ -1,4 +1,4 @@
-//! Laws of the definitions: each function's contract is the law, its body nothing.
+//! Laws of the definitions: each function's contract states the law, and its body does nothing.
 
 ghost use Rattle.std.specs.Prelude.{ℕ, List};
 ghost use Rattle.oneshot_machine.specs.Noted.{Noted};
@@ -16,8 +16,8 @@ use crate::promise::Promise;
 use crate::receiver::ReceiverSide;
 use crate::sender::SenderSide;
 
-/// Which logs say what, which states of the word have a row of owners, and which have none; what a seat carries, what
-/// a side shows and does, and what a reader finds of the table, by examples.
+/// Examples and counterexamples: what logs show, which states of the word have a row of owners, what a
+/// seat carries, what a side shows and does, and what a reader finds of the table.
 pub fn examples_are_so<T, H, K>()
     ensures logs { LogsSay }
     ensures states { StatesThatAre T H K }
@@ -31,43 +31,45 @@ pub fn examples_are_so<T, H, K>()
     ensures no_reads { ReadsThatAreNot }
 {}
 
-/// Whenever the table keeps its rule, the operations of both ends have an order in which each one finds what
-/// the one before it left.
+/// In every state that the table's rule allows, the operations of both ends have an order in which each
+/// finds the word that the one before it left.
 pub fn every_state_is_reached<T, H, K, P: Promise<T>>()
     ensures { RuleOrders H K P.keeps }
 {}
 
-/// The logs of both ends have one order: in any two orders of them, in which each operation finds the word that the
-/// one before it left, the same ends make the operations one after another. So the order of `every_state_is_reached`
-/// is the one in which the operations happened. With examples of orders, and of what they are not.
+/// The logs of both ends have only one order: in any two orders of them, in which each operation finds
+/// the word that the one before it left, the ends operate in the same sequence. So the order of
+/// `every_state_is_reached` is the one in which the operations happened. With examples of orders, and
+/// counterexamples.
 pub fn order_is_one()
     ensures law { OrderIsOne }
     ensures orders { WorkedOrders }
     ensures no_orders { WrongOrders }
 {}
 
-/// Whenever the table keeps its rule, a message that lies there keeps its channel's promise; and a message
-/// that keeps it may lie there.
+/// In every state that the table's rule allows, a message in the table keeps its channel's promise. Any
+/// message that keeps it may be there.
 pub fn messages_keep_their_promise<T, H, K, P: Promise<T>>()
     ensures { RuleKeeps H K P.keeps }
 {}
 
-/// Whenever the table keeps its rule, a message that the receiver took is the one that the sender gave, and so
-/// is a message that lies there; with examples of both, and of states that are none.
+/// In every state that the table's rule allows, a message that the receiver took is the one that the
+/// sender gave, and so is a message in the table. With examples of both, and counterexamples.
 pub fn what_is_received_was_sent<T, H, K, P: Promise<T>>()
     ensures law { ReceivedIsSent H K P.keeps }
     ensures messages { MessagesThatPass H K P.keeps }
     ensures no_messages { MessagesThatDoNot H K P.keeps }
 {}
 
-/// Whatever a program did with a receiver's side, its log is that of an order of both ends' operations.
+/// Whatever a program did with the receiver's side `side`, its log is part of an order of both ends'
+/// operations.
 pub fn a_receiver_is_in_an_order<T, H, K, P: Promise<T>>(side: &ReceiverSide<T, H, K, P>)
     ensures { (xs : List Noted) × (word : ℕ) × Reaches xs side.now.log word }
 {
     let _seat = &side.seat;
 }
 
-/// The same of a sender's.
+/// The same for the sender's side `side`.
 pub fn a_sender_is_in_an_order<T, H, K, P: Promise<T>>(side: &SenderSide<T, H, K, P>)
     ensures { (ys : List Noted) × (word : ℕ) × Reaches side.now.log ys word }
 {

@@ -1,4 +1,4 @@
-//! The word that both ends share, with the message's slot and the waker's: its rule and its steps.
+//! The word that both ends share, with the message's slot and the waker's: its rule and its operations.
 #![tactic(auto)]
 
 mod any_waker;

@@ -1,4 +1,4 @@
-//! The load beneath a look.
+//! The peek: the load beneath a look.
 
 ghost use Rattle.std.specs.Prelude.{◌<◌};
 ghost use Rattle.std.specs.Arc.{arc_value};
@@ -13,9 +13,9 @@ use crate::table::WordTable;
 use std::alloc::Global;
 use std::sync::Arc;
 
-/// The load of a look. A trait, so that only a file that brings it can look.
+/// The load beneath a look. It is a trait, so only a file that imports it can look.
 pub trait Peek {
-    /// Loads the word. The load is not logged, and no contract says what it found.
+    /// Loads the word and returns it. The load is not logged, and no contract states what it found.
     fn peek(&self) -> u8;
 }
 
@@ -37,7 +37,7 @@ impl<T, H, K, P: Promise<T>> Peek for ReceiverSide<T, H, K, P> {
     }
 }
 
-// No proof knows what a load without a seat finds. By the rule it is below 5, so the low byte is
+// No proof knows what a load without a seat finds. The rule keeps the word below 5, so its low byte is
 // all of it.
 fn load<T, H, K, P: Promise<T>>(table: &Arc<WordTable<T, H, K, P>, Global>) -> u8
     requires { 0 < (arc_value table.now).shared.table_id.words }

@@ -1,4 +1,4 @@
-//! How a channel's table is made.
+//! Makes a channel's table, with a side for each end.
 
 ghost use Rattle.std.specs.Prelude.{◌≡◌, [], ◌∷◌, IfOk};
 ghost use Rattle.std.specs.Arc.{arc_value};
@@ -16,7 +16,8 @@ use oneshot_machine::states::EMPTY;
 use std::alloc::{AllocError, Global};
 use std::sync::Arc;
 
-/// Both sides of a new table. Where memory is refused nothing is made.
+/// Makes a new table in `alloc`, for a channel about the value `about`, and returns both sides. Returns
+/// `AllocError` when out of memory, and keeps nothing.
 #[inline(always)]
 pub fn open<T: Send + Drop, H: Send + Drop, K: Send + Drop, P: Promise<T>>(
     alloc: Global,
@@ -38,7 +39,7 @@ pub fn open<T: Send + Drop, H: Send + Drop, K: Send + Drop, P: Promise<T>>(
             };
             Ok((sender, receiver))
         }
-        // Dropped by hand: else the borrow checker does not cover this function.
+        // Dropped by hand: otherwise the borrow checker does not cover this function.
         Err(error) => {
             drop(seat);
             drop(other);
@@ -47,7 +48,7 @@ pub fn open<T: Send + Drop, H: Send + Drop, K: Send + Drop, P: Promise<T>>(
     }
 }
 
-// The table, for each side.
+// Returns two references to the table, one for each side.
 #[inline(always)]
 fn shared<T: Send + Drop, H: Send + Drop, K: Send + Drop, P: Promise<T>>(
     alloc: Global,

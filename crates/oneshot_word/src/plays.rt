@@ -1,4 +1,4 @@
-//! What each step notes of the seat that makes it. These types are for the proofs alone.
+//! Types for the proofs alone: what each operation on the word notes in its seat.
 
 ghost use Rattle.std.specs.Prelude.{◌≡◌, ◌∷◌, [], None};
 ghost use Rattle.oneshot_word.specs.declared.rule.Role.TheVariants.{Dealer, Sender, Receiver};
@@ -59,7 +59,7 @@ impl<T, H, K, P> Play<Slot<T, H, K>, View<T, P>> for TakesMessageSlot {
     ghost then = { λ _ before found after. after ≡ (view before.0.about Dealer [] None, (0, Empty) ∷ []) };
 }
 
-// The sender's seat keeps the slot, and the receiver has a new seat.
+// The sender's seat keeps the slot, and the receiver gets a new seat.
 pub(crate) struct MakesReceiver;
 
 impl<T, P> Split<View<T, P>> for MakesReceiver {

@@ -1,15 +1,15 @@
-//! What the messages of a channel may be under: a promise of its maker.
+//! The promise that the maker of a channel may require of its messages.
 
 ghost use Rattle.std.specs.Prelude.{⊤};
 
-/// What every message of a channel keeps: a fact about the message and one value of this type, which the
-/// maker of the channel names. It is for the proofs alone: a channel has no byte of it.
+/// A fact that every message of a channel keeps, about the message and one value of this type. The
+/// maker of the channel supplies the value. For the proofs alone: a channel stores no byte of it.
 pub trait Promise<T> {
     // Of the value that the channel is about, and a message.
     ghost keeps: { Self → T → Type 0 };
 }
 
-/// No promise.
+/// The empty promise.
 impl<T> Promise<T> for () {
     ghost keeps = { λ _ _. ⊤ };
 }

@@ -1,4 +1,4 @@
-//! The receiver's side of the shared word.
+//! The receiver's side: its operations on the shared word, and its slots.
 
 ghost use Rattle.std.specs.Prelude.{◌≡◌, ◌≢◌, Some};
 ghost use Rattle.oneshot_machine.specs.declared.states.Op.TheVariants.{Load, Store, Swap, Exchange};
@@ -17,7 +17,9 @@ use std::alloc::Global;
 use std::marker::Model;
 use std::sync::Arc;
 
-/// The receiver's share of the table, with its seat.
+/// The receiver's seat, with its share of the table. Words are codes of `oneshot_machine`, 0 to 4. An
+/// operation on the word requires that the phases' table allows it after the log, and appends itself
+/// to the log.
 pub struct ReceiverSide<T, H, K, P: Promise<T> = ()> {
     pub(crate) table: Arc<WordTable<T, H, K, P>, Global>,
     pub(crate) seat: WordSeat<T, H, K, P>,
@@ -38,7 +40,7 @@ impl<T, H, K, P: Promise<T>> Model for ReceiverSide<T, H, K, P> {
 }
 
 impl<T, H, K, P: Promise<T>> ReceiverSide<T, H, K, P> {
-    /// Reads the word.
+    /// Loads the word and returns it.
     pub fn load(&mut self) -> u8
         requires { ReceiverCan self.old Load }
         ensures { ReceiverDid self.old Load result self.new }
@@ -46,7 +48,7 @@ impl<T, H, K, P: Promise<T>> ReceiverSide<T, H, K, P> {
         self.table.shared.load::<Loads>(&mut self.seat, 0) as u8
     }
 
-    /// Puts `new` into the word, and gives the word before, for which it swaps.
+    /// Stores `new` by a swap, and returns the word before, which the log does not have.
     pub fn store(&mut self, new: u8) -> u8
         requires { ReceiverCan self.old (Store new) }
         ensures { ReceiverDid self.old (Store new) result self.new }
@@ -56,7 +58,7 @@ impl<T, H, K, P: Promise<T>> ReceiverSide<T, H, K, P> {
             .swap::<Stores>(&mut self.seat, 0, new as u64) as u8
     }
 
-    /// Puts `new` into the word, and gives the word before.
+    /// Puts `new` into the word, and returns the word before.
     pub fn swap(&mut self, new: u8) -> u8
         requires { ReceiverCan self.old (Swap new) }
         ensures { ReceiverDid self.old (Swap new) result self.new }
@@ -66,7 +68,7 @@ impl<T, H, K, P: Promise<T>> ReceiverSide<T, H, K, P> {
             .swap::<Swaps>(&mut self.seat, 0, new as u64) as u8
     }
 
-    /// Puts `new` into the word where it is `expected`, and gives the word before.
+    /// Puts `new` into the word if it is `expected`, and returns the word before.
     pub fn exchange(&mut self, expected: u8, new: u8) -> u8
         requires { ReceiverCan self.old (Exchange expected new) }
         ensures { ReceiverDid self.old (Exchange expected new) result self.new }
@@ -76,7 +78,7 @@ impl<T, H, K, P: Promise<T>> ReceiverSide<T, H, K, P> {
             .compare_exchange::<Exchanges>(&mut self.seat, 0, expected as u64, new as u64) as u8
     }
 
-    /// Does nothing. Its contract tells which slots are the receiver's by what it did.
+    /// Does nothing. Its contract states which slots the receiver owns after its log.
     pub fn slots(&self)
         ensures { ReceiverOwns (receiver_at self.now.log) self.now.message self.now.waker }
     {
@@ -85,7 +87,7 @@ impl<T, H, K, P: Promise<T>> ReceiverSide<T, H, K, P> {
 }
 
 impl<T: Drop, H: Drop, K: Drop, P: Promise<T>> ReceiverSide<T, H, K, P> {
-    /// Takes the message out of its slot, which is the receiver's and full.
+    /// Takes the message out of its slot, which must be the receiver's and full, and returns it.
     pub fn take_message(&mut self) -> T
         requires { (message : T) × (self.old.message ≡ held message) }
         ensures message { self.old.message ≡ held result }
@@ -96,7 +98,7 @@ impl<T: Drop, H: Drop, K: Drop, P: Promise<T>> ReceiverSide<T, H, K, P> {
         self.trade_message(Slot::Empty).into_message()
     }
 
-    /// Puts the waker into its slot, which is the receiver's and empty.
+    /// Puts `waker` into its slot, which must be the receiver's and empty.
     pub fn write_waker(&mut self, waker: AnyWaker<H, K>)
         requires { self.old.waker ≡ vacant }
         ensures { self.new ≡ record self.old { waker = held waker } }
@@ -104,7 +106,7 @@ impl<T: Drop, H: Drop, K: Drop, P: Promise<T>> ReceiverSide<T, H, K, P> {
         self.trade_waker(Slot::of(waker));
     }
 
-    /// Takes the waker back out of its slot, which is the receiver's and full.
+    /// Takes the waker back out of its slot, which must be the receiver's and full, and returns it.
     pub fn take_waker(&mut self) -> AnyWaker<H, K>
         requires { (waker : AnyWaker H K) × (self.old.waker ≡ held waker) }
         ensures waker { self.old.waker ≡ held result }
@@ -115,7 +117,7 @@ impl<T: Drop, H: Drop, K: Drop, P: Promise<T>> ReceiverSide<T, H, K, P> {
 }
 
 impl<T, H, K, P: Promise<T>> ReceiverSide<T, H, K, P> {
-    // Where the message's slot is the receiver's, it is the one in front.
+    // If the message's slot is the receiver's, it is the one in front.
     fn trade_message(&mut self, new: Slot<T, H, K>) -> Slot<T, H, K>
         requires its_own { self.old.message ≢ away }
         requires no_waker { waker_of new ≡ vacant }
@@ -128,7 +130,7 @@ impl<T, H, K, P: Promise<T>> ReceiverSide<T, H, K, P> {
         self.table.shared.exchange(&mut self.seat, 0, new)
     }
 
-    // Only the slot in front can be read, so the waker's is turned there, and then back.
+    // A seat reads only its slot in front: this turns the waker's to the front, and back.
     fn trade_waker(&mut self, new: Slot<T, H, K>) -> Slot<T, H, K>
         requires its_own { self.old.waker ≢ away }
         requires no_message { message_of new ≡ vacant }
@@ -142,7 +144,7 @@ impl<T, H, K, P: Promise<T>> ReceiverSide<T, H, K, P> {
     }
 }
 
-// Written out: a derived `Drop` would need one of `P`, of which a side has no value.
+// Written by hand: a derived `Drop` would require one of `P`, and a side has no value of `P`.
 impl<T: Drop, H: Drop, K: Drop, P: Promise<T>> Drop for ReceiverSide<T, H, K, P> {
     fn drop(self) {
         let ReceiverSide { table: _, seat: _ } = self;

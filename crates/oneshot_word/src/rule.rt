@@ -1,4 +1,4 @@
-//! What the table holds, what a seat of it knows, and the rule that it keeps.
+//! What the table's slots hold, what a seat knows, and the rule of the table.
 
 ghost use Rattle.std.specs.Prelude.{◌≡◌};
 ghost use Rattle.oneshot_machine.specs.Slots.{held};
@@ -12,24 +12,24 @@ use oneshot_machine::machine::Seen;
 use oneshot_machine::states::Op;
 use std::collections::LinkedList;
 
-// One flat enum: an `Option` or a `AnyWaker` inside would have a tag of its own.
-/// What lies in a slot: nothing, the message that was sent, or by what a receiver that waits is woken.
+// One flat enum: a nested `Option` or `AnyWaker` would add a tag of its own.
+/// The content of a slot: nothing, a message, or the waker of a receiver that waits.
 #[derive(Drop)]
 pub enum Slot<T, H, K> {
     /// Nothing.
     Empty,
-    /// A message that was sent.
+    /// A message.
     Message(T),
     /// The waking half of a thread's parker.
     Thread(H),
-    /// A copy of a task's waker.
+    /// A clone of a task's waker.
     Task(K),
     /// A waker that wakes nobody.
     Nobody,
 }
 
 impl<T, H, K> Slot<T, H, K> {
-    /// A waker's slot that is full.
+    /// The slot that holds `waker`.
     pub(crate) fn of(waker: AnyWaker<H, K>) -> Slot<T, H, K>
         ensures { result ≡ with_waker waker }
     {
@@ -42,7 +42,7 @@ impl<T, H, K> Slot<T, H, K> {
 }
 
 impl<T: Drop, H: Drop, K: Drop> Slot<T, H, K> {
-    /// The message in a message's slot that is full.
+    /// The message of a slot that holds one.
     pub(crate) fn into_message(self) -> T
         requires { (message : T) × (message_of self ≡ held message) }
         ensures { message_of self ≡ held result }
@@ -53,7 +53,7 @@ impl<T: Drop, H: Drop, K: Drop> Slot<T, H, K> {
         }
     }
 
-    /// The waker in a waker's slot that is full.
+    /// The waker of a slot that holds one.
     pub(crate) fn into_waker(self) -> AnyWaker<H, K>
         requires { (waker : AnyWaker H K) × (waker_of self ≡ held waker) }
         ensures { waker_of self ≡ held result }
@@ -67,11 +67,11 @@ impl<T: Drop, H: Drop, K: Drop> Slot<T, H, K> {
     }
 }
 
-/// Who has a seat: an end, or before there are ends the maker of the table.
+/// Who has a seat: an end, or the maker of the table before there are ends.
 pub enum Role {
-    /// The one that made the table.
+    /// The maker of the table.
     Maker,
-    /// The same, once it has taken the message's slot.
+    /// The maker, once it has taken the message's slot.
     Dealer,
     /// The sender.
     Sender,
@@ -79,21 +79,20 @@ pub enum Role {
     Receiver,
 }
 
-/// What a seat knows: whose it is, the log of its operations on the word, looks apart, each with what
-/// it saw, the message that passed, and the value that the channel is about. It is for the proofs alone: no
-/// value of it is made.
+/// What a seat knows: its owner, its log (without looks), the message that passed, and the value that
+/// the channel is about. For the proofs alone: no value of this type is made.
 pub struct View<T, P> {
-    /// Whose seat it is.
+    /// The owner of the seat.
     pub role: Role,
-    /// Its operations on the word.
+    /// Its operations on the word, each with what it saw.
     pub log: LinkedList<(Op, Seen)>,
-    /// The message that its end gave to the table or took from it, once it has.
+    /// The message that its end gave to the table or took from it, if it has.
     pub passed: Option<T>,
-    /// What each message keeps its promise about.
+    /// The value that the channel's promise is about.
     pub about: P,
 }
 
-/// The rule of the shared word.
+/// The rule of the table, its invariant.
 pub struct WordRule;
 
 impl<T, H, K, P: Promise<T>> TableRule<Slot<T, H, K>, View<T, P>, P> for WordRule {

@@ -1,4 +1,4 @@
-//! The sender's side of the shared word.
+//! The sender's side: its operations on the shared word, and its slots.
 
 ghost use Rattle.std.specs.Prelude.{◌≡◌, ◌≢◌};
 ghost use Rattle.std.specs.Arc.{arc_value};
@@ -17,7 +17,9 @@ use std::alloc::Global;
 use std::marker::Model;
 use std::sync::Arc;
 
-/// The sender's share of the table, with its seat.
+/// The sender's seat, with its share of the table. Words are codes of `oneshot_machine`, 0 to 4. An
+/// operation on the word requires that the phases' table allows it after the log, and appends itself
+/// to the log.
 pub struct SenderSide<T, H, K, P: Promise<T> = ()> {
     pub(crate) table: Arc<WordTable<T, H, K, P>, Global>,
     pub(crate) seat: WordSeat<T, H, K, P>,
@@ -37,22 +39,22 @@ impl<T, H, K, P: Promise<T>> Model for SenderSide<T, H, K, P> {
     ghost invariant = { λ s.
         SenderSeat P.keeps s.seat.me × IsAt (arc_value s.table).shared.table_id s.seat.table_id };
 
-    // Both say nothing. Only of a struct with `also_owns` can `Sync` be proved by hand, and `peek`
-    // reads such a struct where it has `also_shares`.
+    // Both are empty. Only for a struct with `also_owns` can `Sync` be proved by hand, and `peek` reads
+    // such a struct only if it has `also_shares`.
     ghost also_owns = { λ _. ftrue };
 
     ghost also_shares = { λ _ _ _. ftrue };
 }
 
-// Both are proved, in proofs/sender/SenderSide/TheSendSync. The kit has no proof that a seat is
-// `Sync`, so the checker finds none for this struct by itself. No call reaches a waker by a `&`
-// to a side, so a waker need not be `Sync`.
+// Both are proved, in proofs/sender/SenderSide/TheSendSync. Rattle has no proof that a seat is `Sync`,
+// so the checker finds none for this struct. No function reaches a waker through a `&` to a side, so a
+// waker need not be `Sync`.
 unsafe impl<T: Send, H: Send, K: Send, P: Promise<T>> Send for SenderSide<T, H, K, P> {}
 
 unsafe impl<T: Send + Sync, H: Send, K: Send, P: Promise<T>> Sync for SenderSide<T, H, K, P> {}
 
 impl<T, H, K, P: Promise<T>> SenderSide<T, H, K, P> {
-    // A side is made here alone, since its `also_owns` needs a proof by hand of what makes one.
+    // Only this function makes a side, since `also_owns` requires a proof by hand of whatever makes one.
     pub(crate) fn new(
         table: Arc<WordTable<T, H, K, P>, Global>,
         seat: WordSeat<T, H, K, P>,
@@ -63,7 +65,7 @@ impl<T, H, K, P: Promise<T>> SenderSide<T, H, K, P> {
         SenderSide { table, seat }
     }
 
-    /// Adds one to the word, and gives the word before.
+    /// Adds 1 to the word, and returns the word before.
     pub fn add(&mut self) -> u8
         requires { SenderCan self.old Add }
         ensures { SenderDid self.old Add result self.new }
@@ -71,7 +73,7 @@ impl<T, H, K, P: Promise<T>> SenderSide<T, H, K, P> {
         self.table.shared.fetch_add::<Adds>(&mut self.seat, 0, 1) as u8
     }
 
-    /// Flips the word's lowest bit, and gives the word before.
+    /// Flips the word's lowest bit, and returns the word before.
     pub fn flip(&mut self) -> u8
         requires { SenderCan self.old Xor }
         ensures { SenderDid self.old Xor result self.new }
@@ -79,7 +81,7 @@ impl<T, H, K, P: Promise<T>> SenderSide<T, H, K, P> {
         self.table.shared.fetch_xor::<Flips>(&mut self.seat, 0, 1) as u8
     }
 
-    /// Puts `new` into the word, the last that it does with it, and gives the word before.
+    /// Puts `new` into the word, as the sender's last operation on it, and returns the word before.
     pub fn swap(&mut self, new: u8) -> u8
         requires { SenderCan self.old (Swap new) }
         ensures { SenderDid self.old (Swap new) result self.new }
@@ -91,7 +93,7 @@ impl<T, H, K, P: Promise<T>> SenderSide<T, H, K, P> {
 }
 
 impl<T: Drop, H: Drop, K: Drop, P: Promise<T>> SenderSide<T, H, K, P> {
-    /// Puts the message into its slot, which is the sender's and empty.
+    /// Puts `message`, which must keep the promise, into its slot, which must be the sender's and empty.
     pub fn write_message(&mut self, message: T)
         requires slot { self.old.message ≡ vacant }
         requires kept { P.keeps self.old.about message }
@@ -100,7 +102,7 @@ impl<T: Drop, H: Drop, K: Drop, P: Promise<T>> SenderSide<T, H, K, P> {
         self.trade_message(Slot::Message(message));
     }
 
-    /// Takes the message out of its slot, which is the sender's and full.
+    /// Takes the message back out of its slot, which must be the sender's and full, and returns it.
     pub fn take_message(&mut self) -> T
         requires { (message : T) × (self.old.message ≡ held message) }
         ensures message { self.old.message ≡ held result }
@@ -110,7 +112,7 @@ impl<T: Drop, H: Drop, K: Drop, P: Promise<T>> SenderSide<T, H, K, P> {
         self.trade_message(Slot::Empty).into_message()
     }
 
-    /// Takes the receiver's waker out of its slot, which is the sender's and full.
+    /// Takes the receiver's waker out of its slot, which must be the sender's and full, and returns it.
     pub fn take_waker(&mut self) -> AnyWaker<H, K>
         requires { (waker : AnyWaker H K) × (self.old.waker ≡ held waker) }
         ensures waker { self.old.waker ≡ held result }
@@ -121,7 +123,7 @@ impl<T: Drop, H: Drop, K: Drop, P: Promise<T>> SenderSide<T, H, K, P> {
 }
 
 impl<T, H, K, P: Promise<T>> SenderSide<T, H, K, P> {
-    // Only the slot in front can be read, so the message's is turned there, and then back.
+    // A seat reads only its slot in front: this turns the message's to the front, and back.
     fn trade_message(&mut self, new: Slot<T, H, K>) -> Slot<T, H, K>
         requires its_own { self.old.message ≢ away }
         requires no_waker { waker_of new ≡ vacant }
@@ -135,7 +137,7 @@ impl<T, H, K, P: Promise<T>> SenderSide<T, H, K, P> {
         old
     }
 
-    // Where the waker's slot is the sender's, it is the one in front.
+    // If the waker's slot is the sender's, it is the one in front.
     fn trade_waker(&mut self, new: Slot<T, H, K>) -> Slot<T, H, K>
         requires its_own { self.old.waker ≢ away }
         requires no_message { message_of new ≡ vacant }
@@ -146,7 +148,7 @@ impl<T, H, K, P: Promise<T>> SenderSide<T, H, K, P> {
     }
 }
 
-// Written out: a derived `Drop` would need one of `P`, of which a side has no value.
+// Written by hand: a derived `Drop` would require one of `P`, and a side has no value of `P`.
 impl<T: Drop, H: Drop, K: Drop, P: Promise<T>> Drop for SenderSide<T, H, K, P> {
     fn drop(self) {
         let SenderSide { table: _, seat: _ } = self;

@@ -1,4 +1,4 @@
--- What a conjunction of tests tells of its parts.
+-- What a conjunction of tests implies for its parts.
 use Rattle.oneshot_world.proofs.Names.{◌≡◌, Bool, true, false, List, [], ◌∷◌, ◌++◌, refl, ◌&&◌, list_all}
 
 pub and_left : (a b : Bool) → (a && b) ≡ true → a ≡ true

@@ -1,5 +1,4 @@
--- What a turn does is the same by classes: a step asks of a waker only whether it is the parker's half, and
--- of a poll nothing.
+-- A turn does the same by classes: a step reads of a waker only whether it is the parker's half, and of a poll nothing.
 use Rattle.oneshot_world.proofs.Names.{◌≡◌, Bool, true, false, Option, Some, None, refl, ap, if◌then◌else◌, option_map, option_and_then, receiver_step, receiver_row, Outcome, sender_step, sender_row, End, Sender, Receiver, Reply, Step, ReceiverPos, SenderPos, Call, Poll, as_sender_call, as_receiver_call, Classes, as_name, as_wakers, as_told, as_state, as_call, as_made, as_turned, Control, Begin, control_then, control_turn, sender_under_way, receiver_under_way, as_begin, as_control, as_control_turned, turns, sender_turns_at, receiver_turns_at, position_of_sender, position_of_receiver, sender_stepped, sender_moved, receiver_moved, receiver_stepped, made, made_entry, sender_fits, receiver_fits, hand_kept, seen_by, reply_of, is_future, sender_puts, receiver_puts, wakers_left, sets_token, own_of, ReceiverState, SenderState, State, Entry, Made, Place, Input, Wakers}
 use Rattle.oneshot_machine.specs.declared.machine.Step.TheVariants as T
 use Rattle.oneshot_machine.specs.declared.states.Op.TheVariants as O
@@ -34,7 +33,7 @@ receiver_fits_as k s T.Withdraw =
 receiver_fits_as k s T.Copy = none_as (as_name k) s.wakers.hand
 receiver_fits_as k s _ = refl
 
--- what is told, and the state after
+-- the entry, and the state after it
 made_as : (k : Classes) (side : End) (t : Input) (s : State) (step : Step) (reply : Option Reply) (to : Option Place)
     → made side (as_told k t) (as_state k s) step reply to ≡ as_made k (made side t s step reply to)
 made_as k side t s step reply to =
@@ -59,7 +58,7 @@ receiver_moved_as k t s step row =
 abbrev as_stepped : Classes → Made × State → Made × State
 as_stepped k stepped = (as_made k stepped.0, as_state k stepped.1)
 
--- by a row, if there is one and the step fits
+-- a step by a row, if there is one and the step fits
 by_row : {P : Type 0} (k : Classes) (fits gits : Bool) (f g : P → Made × State) (row rov : Option P) → gits ≡ fits
     → rov ≡ row → ((r : P) → g r ≡ as_stepped k (f r))
     → option_map made_entry (if gits then option_map g rov else None)
@@ -102,7 +101,7 @@ receiver_turns_as k t s (Some position) =
       receiver_moved_as k t s (receiver_step position) row,
     ) refl)
 
--- an end stands where it stood
+-- an end's position by classes is its position
 pub sender_call_as : (k : Classes) (call : Option Call)
     → option_and_then as_sender_call (option_map (as_call k) call) ≡ option_and_then as_sender_call call
 sender_call_as k None = refl
@@ -115,14 +114,14 @@ receiver_call_as k None = refl
 receiver_call_as k (Some (Poll number)) = refl
 receiver_call_as k (Some _) = refl
 
--- A turn by classes is the turn's classes.
+-- A turn by classes is the turn, by those classes.
 pub turns_as : (k : Classes) (side : End) (t : Input) (s : State) (call : Option Call)
     → turns side (as_told k t) (as_state k s) (option_map (as_call k) call)
     ≡ option_map (as_turned k) (turns side t s call)
 turns_as k Sender t s call = rw (sender_call_as k call) (sender_turns_as k t s (position_of_sender s call))
 turns_as k Receiver t s call = rw (receiver_call_as k call) (receiver_turns_as k t s (position_of_receiver s call))
 
--- and so where it leads
+-- and so is the control that it leads to
 sender_under_way_as : (k : Classes) (s : SenderState) (call : Option Call)
     → sender_under_way s (option_map (as_call k) call) ≡ option_map (as_call k) (sender_under_way s call)
 sender_under_way_as k SS.Ready call = refl

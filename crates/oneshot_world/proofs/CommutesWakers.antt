@@ -1,10 +1,10 @@
--- What a step does with the wakers is the same by classes.
+-- A step does the same with the wakers by classes.
 use Rattle.oneshot_world.proofs.Names.{◌≡◌, ℕ, Bool, true, false, Option, Some, None, refl, ◌∙◌, ap, ◌==◌, is_some, is_none, if◌then◌else◌, option_map, Step, Classes, as_name, as_wakers, as_told, as_move, is_parker, is_copy, withdrawn, back_to, wakers_left, waker_move, WakerName, Parker, Copy, WakerPlace, Input, Wakers}
 use Rattle.oneshot_machine.specs.declared.machine.Step.TheVariants as T
 use Rattle.oneshot_machine.specs.declared.states.Op.TheVariants as O
 use Rattle.oneshot_world.specs.declared.trace.WakerPlace.TheVariants as WakerPlaces
 
--- what a step asks of a place for a waker
+-- what a step reads of a waker's place
 pub some_as : {X Y : Type 0} (f : X → Y) (x : Option X) → is_some (option_map f x) ≡ is_some x
 some_as f None = refl
 some_as f (Some x) = refl
@@ -47,7 +47,7 @@ back_as k None = refl
 back_as k (Some Parker) = refl
 back_as k (Some (Copy number entry)) = refl
 
--- the wakers after a step, and what moves
+-- the wakers after a step, and the one that it moves
 pub wakers_as : (k : Classes) (t : Input) (word : ℕ) (w : Wakers) (step : Step)
     → wakers_left (as_told k t) word (as_wakers k w) step ≡ as_wakers k (wakers_left t word w step)
 wakers_as k t word w T.Withdraw = rw (withdrawn_as k w.cell w.hand) refl

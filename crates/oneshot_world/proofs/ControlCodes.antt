@@ -1,4 +1,4 @@
--- Values that are compared by their codes are the same where their codes are.
+-- Values that are compared by their codes are equal if their codes are.
 use Rattle.oneshot_world.proofs.Names.{◌≡◌, ℕ, Bool, true, false, List, [], ◌∷◌, Option, Some, None, refl, sym, ◌∙◌, ap, ◌==◌, ◌&&◌, get_or, map, if◌then◌else◌, eqb-true, sender_positions, receiver_positions, LookFull, TryLoad, StartLoad, StartWrite, StartSwap, SumClock, RecvLoad, AsyncLoad, DropSwap, ReceiverStart, SenderCall, Call, Of_sender, Of_receiver, Poll, Stray, all_sender_calls, all_receiver_calls, Control, sender_code, receiver_code, sender_call_code, receiver_call_code, is_same_call, is_same_under_way, place_code, bool_code, is_same_wakers, is_same_state, is_same_control, is_same_name, is_same_waker, ReceiverState, SenderState, State, Place, NotSent, InCell, InError, Delivered, FromError, Dropped, WakerName, Parker, Copy, Wakers}
 use Rattle.oneshot_machine.specs.declared.machine.future.FuturePos.TheVariants as F
 use Rattle.oneshot_machine.specs.declared.machine.receiver.ReceiverPos.TheVariants as R
@@ -9,7 +9,7 @@ use Rattle.oneshot_world.specs.declared.state.ReceiverState.TheVariants as RS
 use Rattle.oneshot_world.specs.declared.state.SenderState.TheVariants as SS
 use Rattle.oneshot_world.proofs.Bools.{and_left, and_right}
 
--- a code under which each value stands in a list
+-- a code under which each value is in a list
 pub same_by : {X : Type 0} (code : X → ℕ) (values : List X) (d : X) → ((x : X) → get_or values (code x) d ≡ x)
     → (x y : X) → (code x == code y) ≡ true → x ≡ y
 same_by code values d back x y h = sym (back x) ∙ ap (λ k. get_or values k d) (eqb-true (code x) (code y) h) ∙ back y
@@ -53,7 +53,7 @@ receiver_back (RS.At (R.AsyncDrop _)) = refl
 receiver_back (RS.At (R.Drop DropSwap)) = refl
 receiver_back (RS.At (R.Drop _)) = refl
 
--- the value of a list that has a code
+-- the value of a list that has this code
 abbrev pub with_code : {X : Type 0} → (X → ℕ) → ℕ → List X → Option X
 with_code code n [] = None
 with_code code n (x ∷ xs) = if code x == n then Some x else with_code code n xs
@@ -127,7 +127,7 @@ name_is (Some a) (Some b) h = let same : a ≡ b = waker_is a b h in rw same ref
 name_is None (Some b) h = cc
 name_is (Some a) None h = cc
 
--- records with the same fields are the same
+-- records with equal fields are equal
 wakers_of : Option WakerName → Option WakerName → Option WakerName → Bool → Wakers
 wakers_of cell hand taken token = record { cell = cell; hand = hand; taken = taken; token = token }
 

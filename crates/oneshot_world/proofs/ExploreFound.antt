@@ -1,4 +1,4 @@
--- A test that passes on all values of a search tree passes on each value that is found in it.
+-- A test that passes on all values of a search tree passes on each value found in it.
 use Rattle.oneshot_world.proofs.Names.{◌≡◌, ℕ, Bool, true, false, nat_lt, Tree, Leaf, Node, all_in, is_in}
 use Rattle.oneshot_world.proofs.Bools.{and_left, and_right}
 

@@ -1,4 +1,4 @@
--- What passes on all that a list makes passes on what one of its numbers makes.
+-- What passes on all values made from a list of numbers passes on those made from one of them.
 use Rattle.oneshot_world.proofs.Names.{◌≡◌, ℕ, Bool, true, false, List, [], ◌∷◌, map, refl, subst, ◌==◌, ◌||◌, eqb-true, list_all, flat_map}
 use Rattle.oneshot_world.proofs.Bools.{and_left, and_right, all_left, all_right}
 

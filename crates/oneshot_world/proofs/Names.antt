@@ -1,4 +1,4 @@
--- The names of other crates and of this one's definitions that the proofs cite, passed on from one place.
+-- The names of other crates and of this one's definitions that the proofs cite, re-exported in one place.
 pub use Rattle.oneshot_machine.specs.Receiver.{receiver_step, receiver_row, receiver_positions, all_receiver_calls}
 pub use Rattle.oneshot_machine.specs.Sender.{sender_step, sender_row, sender_positions, all_sender_calls}
 pub use Rattle.oneshot_machine.specs.TableRows.{Outcome, Goes, Answers, outcome}

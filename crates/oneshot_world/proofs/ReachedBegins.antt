@@ -1,4 +1,4 @@
--- What passes at each move that may begin in a world that a run reaches passes at the move that an end makes there.
+-- A test of each move that may begin in a reached world passes at the move that an end makes there.
 use Rattle.oneshot_world.proofs.Names.{◌≡◌, ◌==◌, ℕ, Bool, true, false, List, [], ◌∷◌, Option, Some, subst, if◌then◌else◌, map, filter, list_all, option_map, option_and_then, Sender, Receiver, ReceiverPos, SenderPos, Call, Of_sender, Of_receiver, Poll, number_of, first, as_sender_call, as_receiver_call, all_sender_calls, all_receiver_calls, Classes, as_call, Begin, begins_poll, poll_begin, plain_told, as_begin, sender_begins, receiver_begins_at, receiver_begins, sender_under_way, receiver_under_way, begins_with, stays_sender, ends_sender, stays_error, ends_error, begins_sender, begins_error, begins_receiver, begins_async, stays_async, ends_async, sender_has, receiver_has, sender_position, receiver_position, nothing_told, told_with, ReceiverState, SenderState, Place, Input, End, sender_call_code, receiver_call_code}
 use Rattle.oneshot_world.specs.declared.state.ReceiverState.TheVariants as RS
 use Rattle.oneshot_world.specs.declared.state.SenderState.TheVariants as SS
@@ -7,7 +7,7 @@ use Rattle.oneshot_world.proofs.Listed.{is_listed, all_mapped, all_flat}
 use Rattle.oneshot_world.proofs.ControlCodes.{with_code, sender_call_back, receiver_call_back}
 use Rattle.oneshot_world.proofs.ScriptsLeft.{script_begins, receiver_script_begins}
 
--- what passes at each call that may begin passes at one of them
+-- a test of each call that may begin passes at one of them
 module _ (test : Begin → Bool) (side : End) (t : Input) (may : Call → Bool) where
   abbrev AllBegin : List Call → Type 0
   AllBegin calls = list_all test (begins_with side t may calls) ≡ true
@@ -40,7 +40,7 @@ module _ (test : Begin → Bool) (side : End) (t : Input) (may : Call → Bool) 
         | false ↦ λ found. one_begins code of calls call n found ok (others_begin (of x) (map of calls) h)
       ] found
 
--- what passes at each move that may begin passes at the move that an end makes
+-- a test of each move that may begin passes at the move that an end makes
 pub at_sender : (k : Classes) (test : Begin → Bool) (message : Option Place) (s : SenderState) (calls : List Call)
     (position : SenderPos) → sender_has message s calls ≡ true
     → sender_position s (option_and_then as_sender_call (first calls)) ≡ Some position
@@ -61,12 +61,13 @@ at_sender k test message SS.Failed (Of_sender call ∷ calls) position has at h 
 at_sender k test message SS.Failed (_ ∷ calls) position has at h = cc
 at_sender k test message SS.Ended calls position has at h = cc
 
--- the moves of a receiver, by the call under way or next and the entry that is made
+-- the move of a receiver, by the call under way or next and the number of its entry
 abbrev pub receives_at : Bool → ℕ → Option Call → Begin
 receives_at answer entry call =
     record { side = Receiver; told = told_with answer entry (option_and_then number_of call); call = call }
 
--- Each poll's class is among `polls`, and the class of each copy made in this entry among those of its poll.
+-- The class of each poll is in `polls`, and the class of each copy made in this entry is among those of
+-- its poll.
 module _ (k : Classes) (polls : List ℕ) (copies : ℕ → List ℕ) (entry : ℕ)
     (polled : (number : ℕ) → is_listed (k.polls number) polls ≡ true)
     (copied : (number : ℕ) → is_listed (k.copies number entry) (copies (k.polls number)) ≡ true) where
@@ -107,7 +108,7 @@ module _ (k : Classes) (polls : List ℕ) (copies : ℕ → List ℕ) (entry : �
   at_receiver_when test answer (RS.At here) future (_ ∷ calls) position has at h = and_left _ _ h
   at_receiver_when test answer RS.Ended future calls position has at h = cc
 
-  -- whatever is answered then
+  -- whatever the move answers
   when : (test : Begin → Bool) (answer : Bool) (s : ReceiverState) (future : Bool) (call : Option Call)
       → list_all test (receiver_begins polls copies s future call) ≡ true
       → list_all test (receiver_begins_at polls copies answer s future call) ≡ true

@@ -1,4 +1,4 @@
--- A turn from a world that a run reaches leads to what a run reaches, as its finite part shows it.
+-- A turn from a reached world leads to a reached one, as far as its finite part shows.
 use Rattle.oneshot_world.proofs.Names.{◌≡◌, ◌≤◌, ◌==◌, ℕ, Bool, true, false, List, Option, Some, None, refl, ◌∙◌, ap, subst, ◌&&◌, ◌||◌, nat_le, if◌then◌else◌, leb-true, list_all, option_map, IsSome, Sender, Receiver, Reply, ReceiverPos, SenderPos, Call, first, Classes, all_alike, Control, control_of, Begin, begins, as_begin, as_control, as_control_turned, sender_begins, control_then, control_turn, one_poll, one_copy, reached, is_reached, IsReached, bool_code, control_code, is_same_control, stays_sender, ends_sender, stays_error, ends_error, all_in, sender_turns_at, receiver_turns_at, position_of_sender, position_of_receiver, sender_steps, receiver_steps, made_entry, is_future, World, by_end, reply_in, nothing_told, receiver_told, ReceiverState, SenderState, State, Entry, Made, NotSent}
 use Rattle.oneshot_machine.specs.declared.machine.Reply.TheVariants as Replies
 use Rattle.oneshot_world.specs.declared.state.ReceiverState.TheVariants as RS
@@ -11,11 +11,11 @@ use Rattle.oneshot_world.proofs.ScriptsLeft.{becomes_future, ends_either}
 use Rattle.oneshot_world.proofs.ExploreFound.{passes_where_found}
 use Rattle.oneshot_world.proofs.ReachedBegins.{at_sender, at_receiver, receives_at}
 
--- a test that passes on all that is reached
+-- a test that passes on all reached controls passes on each
 pub passes : (test : Control → Bool) → all_in test reached ≡ true → (c : Control) → is_reached c ≡ true → test c ≡ true
 passes test all c h = passes_where_found control_code is_same_control control_is test reached c all h
 
--- where a move leads is reached, and an end stays or ends only by a call that stays or ends
+-- a move leads to a reached control, and an end stays or ends only by a call that stays or ends
 unfoldable pub left_as : SenderState → Option Call → Bool
 left_as s None = false
 left_as SS.Ready (Some call) = stays_sender call
@@ -28,7 +28,7 @@ sender_left_by_its_call None s call = true
 sender_left_by_its_call (Some Replies.Refused) s call = true
 sender_left_by_its_call (Some _) s call = left_as s call
 
--- a receiver becomes a future by that call alone, and ends by one that ends it
+-- a receiver becomes a future only by `into_future`, and ends only by a call that ends it
 unfoldable pub ends_right : ReceiverState → Option Call → Bool
 ends_right RS.Ready call = true
 ends_right (RS.At position) call = false
@@ -61,7 +61,7 @@ pub word_is_code : (w : World) → IsReached w → w.state.word ≤ 4
 word_is_code w h =
     leb-true w.state.word 4 (and_left _ _ (passes _ is_closed (as_control all_alike (control_of w)) h.control))
 
--- where an end of a world is, and the move that it makes there
+-- the position of an end of a world, and the move that it makes there
 abbrev pub sender_at : World → Option SenderPos
 sender_at w = position_of_sender w.state (first w.sender.calls)
 
@@ -154,7 +154,7 @@ unfolding leads_on
 made_if b f None h = cc
 made_if b f (Some x) h = refl
 
--- a step that is made, is made by a row
+-- a step that is made is made by a row
 pub from_row : {P : Type 0} (fits : Bool) (f : P → Made × State) (row : Option P) (t : Made × State)
     → (if fits then option_map f row else None) ≡ Some t → (r : P) × (f r ≡ t)
 from_row true f (Some r) t h = (r, cc)

@@ -1,4 +1,4 @@
--- What is left after a step by a row is what a run can have left.
+-- After a step by a row, a run can have left what the world has left.
 use Rattle.oneshot_world.proofs.Names.{◌≡◌, ◌==◌, Bool, true, false, List, [], ◌∷◌, Option, Some, None, refl, sym, ap, subst, ◌||◌, if◌then◌else◌, Outcome, Goes, Answers, Sender, Receiver, Reply, Step, ReceiverPos, SenderPos, Call, Unanswered, first, rest, is_none_left, left_by, all_alike, Control, control_of, as_control, sender_under_way, receiver_under_way, control_then, is_reached, IsReached, bool_code, is_sender_script, is_error_script, has_script, sender_has, receiver_has, sender_moved, receiver_moved, place_left, reply_of, sender_goes, receiver_goes, is_plain, is_free, is_future, sender_puts, receiver_puts, World, nothing_told, ReceiverState, State, Place, Input}
 use Rattle.oneshot_machine.specs.declared.machine.Reply.TheVariants as Replies
 use Rattle.oneshot_world.specs.declared.state.ReceiverState.TheVariants as RS
@@ -8,7 +8,7 @@ use Rattle.oneshot_world.proofs.ControlCodes.{bool_is}
 use Rattle.oneshot_world.proofs.ScriptsLeft.{either_stays, script_stays, sender_still_has, sender_goes_on, error_goes_on, sender_ends, becomes_future, receiver_goes_on, receiver_ends}
 use Rattle.oneshot_world.proofs.ReachedLeads.{left_as, sender_left_by_its_call, ends_right, receiver_left_by_its_call}
 
--- the world after a step by a row is reached
+-- the world after a step by a row
 abbrev pub sender_world : World → Step → Outcome SenderPos → World
 sender_world w step row =
     record {
@@ -25,7 +25,7 @@ receiver_world t w step row =
       receiver = left_by Receiver (reply_of row) w.receiver;
     }
 
--- once a call is answered none is under way
+-- once a call has replied, none is under way
 sender_idles : (step : Step) (reply : Reply) (a b : Option Call)
     → sender_under_way (sender_goes step (Answers reply)) a ≡ sender_under_way (sender_goes step (Answers reply)) b
 sender_idles step Replies.Message a b =
@@ -47,7 +47,7 @@ receiver_idles step _ a b =
 control_by : State → Option Call → Option Call → Control
 control_by state sender receiver = record { state = state; sender = sender; receiver = receiver }
 
--- where a step by a row leads, as the finite part shows it
+-- the control of that world is the one that the step leads to
 pub sender_control_is : (w : World) (step : Step) (row : Outcome SenderPos)
     → control_then Sender (first w.sender.calls) (control_of w) (sender_moved nothing_told w.state step row)
     ≡ control_of (sender_world w step row)
@@ -66,7 +66,7 @@ receiver_control_is t w step (Answers reply) =
     ap (λ call. control_by (receiver_moved t w.state step (Answers reply)) (control_of w).sender call)
     (receiver_idles step reply (first w.receiver.calls) (first (left_by Receiver (Some reply) w.receiver).calls))
 
--- what is left after a reply of the sender's side
+-- the calls left after a reply to the sender or its error
 ready_left : (from to : Option Place) (calls : List Call)
     → (is_sender_script from calls || is_error_script calls) ≡ true → left_as SS.Ready (first calls) ≡ true
     → is_sender_script (place_left from to) (rest calls) ≡ true

@@ -1,4 +1,4 @@
--- Each move from a world that a run reaches has its row, and leads to a world that a run reaches.
+-- Each move from a reached world has its row, and leads to a reached world.
 use Rattle.oneshot_world.proofs.Names.{◌≡◌, ℕ, Bool, true, Option, Some, None, refl, sym, ◌∙◌, ap, subst, option_map, IsSome, receiver_step, receiver_row, Outcome, sender_step, sender_row, Sender, Receiver, Reply, ReceiverPos, SenderPos, Call, Poll, first, left_by, Classes, all_alike, as_call, control_of, as_begin, as_control, control_then, is_reached, IsReached, sender_steps, receiver_steps, sender_moved, sender_stepped, receiver_moved, receiver_stepped, sender_fits, receiver_fits, reply_of, sender_goes, receiver_goes, seen_by, World, nothing_told, receiver_told, ReceiverState, SenderState, State, Made, Input}
 use Rattle.oneshot_machine.specs.declared.machine.Reply.TheVariants as Replies
 use Rattle.oneshot_world.specs.declared.state.ReceiverState.TheVariants as RS
@@ -8,7 +8,7 @@ use Rattle.oneshot_world.proofs.ScriptsLeft.{sender_has_script, receiver_has_scr
 use Rattle.oneshot_world.proofs.ReachedLeads.{left_as, sender_left_by_its_call, ends_right, receiver_left_by_its_call, leads_on, sender_at, receiver_at, sender_begin, receiver_begin, after_sender, after_receiver, sender_leads, receiver_leads, made_if, from_row}
 use Rattle.oneshot_world.proofs.ReachedLeft.{sender_world, receiver_world, sender_stays_reached, receiver_stays_reached}
 
--- the calls' classes stay or end as the calls do
+-- the classes of calls stay or end as the calls do
 left_as_class : (k : Classes) (s : SenderState) (call : Option Call)
     → left_as s (option_map (as_call k) call) ≡ left_as s call
 unfolding left_as
@@ -37,7 +37,7 @@ receiver_left_class k (Some reply) (RS.At position) (Some (Poll number)) h = h
 receiver_left_class k (Some reply) RS.Ended (Some (Poll number)) h = h
 receiver_left_class k (Some reply) s (Some _) h = h
 
--- a position that an end of a reached world has, has a step, and the world after it is reached
+-- an end's position in a reached world has a step, and the world after it is reached
 pub sender_makes : (w : World) (position : SenderPos) → IsReached w → sender_at w ≡ Some position
     → IsSome (sender_steps nothing_told w.state position)
 sender_makes w position h at =
@@ -82,7 +82,7 @@ receiver_row_reaches answer entry w position row h at steps =
     (as_control all_alike (control_then Receiver (first w.receiver.calls) (control_of w)
     (receiver_moved (receiver_told answer entry w) w.state (receiver_step position) row)))) _ leads))
 
--- a step that is made, is made by a row
+-- a step that is made is made by a row
 pub sender_made_by : (t : Input) (s : State) (position : SenderPos) (x : Made × State)
     → sender_steps t s position ≡ Some x
     → (row : Outcome SenderPos) × (sender_stepped t s (sender_step position) row ≡ x)

@@ -23,7 +23,7 @@ pub or_right : (a b : Bool) → b ≡ true → (a || b) ≡ true
 or_right true b h = refl
 or_right false b h = h
 
--- the message neither comes nor goes
+-- the message neither appears nor disappears
 still_there : (from to : Option Place) → is_some (place_left from to) ≡ is_some from
 still_there None to = refl
 still_there (Some from) None = refl
@@ -54,7 +54,7 @@ sender_still_has from to (SS.At position) calls h = either_stays from to calls h
 sender_still_has from to SS.Failed calls h = h
 sender_still_has from to SS.Ended calls h = h
 
--- an end that has a position has a script left
+-- an end with a position has a script left
 pub sender_has_script : (message : Option Place) (s : SenderState) (call : Option SenderCall) (position : SenderPos)
     (calls : List Call) → sender_position s call ≡ Some position → sender_has message s calls ≡ true
     → (is_sender_script message calls || is_error_script calls) ≡ true
@@ -101,7 +101,7 @@ none_is_receiver : (calls : List Call) → is_none_left calls ≡ true → is_re
 none_is_receiver [] h = refl
 none_is_receiver (call ∷ calls) h = cc
 
--- what follows a call that stays or ends
+-- the rest of a script after a call that stays or ends
 follows : (stays ends script none : Bool) → (none ≡ true → script ≡ true) → ((stays && script) || (ends && none)) ≡ true
     → script ≡ true
 follows stays ends true none of_none h = refl

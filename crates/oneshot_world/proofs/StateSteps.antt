@@ -1,4 +1,4 @@
--- A step by a row, put together from its parts.
+-- A step by a row is assembled from its parts.
 use Rattle.oneshot_world.proofs.Names.{◌≡◌, Bool, true, false, Option, Some, None, refl, if◌then◌else◌, ◌||◌, option_map, IsSome, receiver_step, receiver_row, outcome, sender_step, sender_row, Sender, Receiver, Reply, ReceiverPos, SenderPos, made, moved, hand_kept, sender_fits, receiver_fits, sender_stepped, receiver_stepped, sender_steps, receiver_steps, is_future, seen_by, sender_puts, receiver_puts, sender_goes, receiver_goes, State, Made, Step, Input}
 
 made_where_it_fits : {P : Type 0} (fits : Bool) (f : P → Made × State) (row : Option P) (r : P)
@@ -7,7 +7,7 @@ made_where_it_fits : {P : Type 0} (fits : Bool) (f : P → Made × State) (row :
 made_where_it_fits true f row r there at = rw at refl
 made_where_it_fits false f row r there at = cc
 
--- the sender's step, by the row that `next` gives
+-- the sender's step, by the row that `next` returns
 pub sender_made_of : (t : Input) (s : State) (position : SenderPos) (n : SenderPos × Option Reply)
     → IsSome (sender_steps t s position)
     → sender_row position (seen_by t.answer s (sender_step position)) ≡ Some (outcome n)

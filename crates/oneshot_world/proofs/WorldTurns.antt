@@ -1,4 +1,4 @@
--- What a turn of a world is: an end without a position is idle, and one with a position makes a step by a row.
+-- A turn of a world: an end without a position is idle, and one with a position makes a step by a row.
 use Rattle.oneshot_world.proofs.Names.{◌≡◌, ℕ, Bool, Option, Some, None, refl, sym, ◌∙◌, ap, subst, option_map, receiver_step, Outcome, sender_step, End, Sender, Receiver, ReceiverPos, SenderPos, IsReached, sender_turns_at, receiver_turns_at, sender_steps, receiver_steps, sender_stepped, receiver_stepped, made_entry, World, turn, turn_of, side_of, answer_told, nothing_told, receiver_told, world_then, Move, State, Entry, Made, left_by, Input}
 use Rattle.oneshot_world.specs.declared.script.Move.TheVariants as M
 use Rattle.oneshot_world.specs.declared.trace.Entry.TheVariants.{Idle, Made as Made_entry}
@@ -80,7 +80,7 @@ turned_reaches k _ w _ _ h (receiver_idle at) = h
 turned_reaches k _ w _ _ h (receiver_made answer position row at steps) =
     receiver_row_reaches answer k w position row h at steps
 
--- a step that is made at the receiver's position, as a turn
+-- a step at the receiver's position, as a turn
 pub receiver_turn_made : (answer : Bool) (k : ℕ) (w : World) (position : ReceiverPos) (t : Input) (e : Made) (s : State)
     → receiver_at w ≡ Some position → t ≡ receiver_told answer k w → receiver_steps t w.state position ≡ Some (e, s)
     → turn_of Receiver (receiver_told answer k w) w

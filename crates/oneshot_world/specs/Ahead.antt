@@ -1,4 +1,4 @@
--- What lies ahead of a receiver: whether it is about to park, and whether a token is there that would end the park.
+-- What is next for a receiver: whether it is about to park, and whether a token is there that would end the park.
 use Rattle.std.specs.Prelude.{Bool, true, false, Option, Some, None}
 use Rattle.std.specs.Option.{option_map, option_and_then}
 use Rattle.oneshot_machine.specs.Receiver.{receiver_step}
@@ -12,7 +12,7 @@ abbrev pub is_park : Step → Bool
 is_park Park = true
 is_park _ = false
 
--- what is asked of a world: whether the receiver's next step is a park, and whether there is a token
+-- what the laws read of a world: whether the receiver's next step is a park, and whether there is a token
 pub record Ahead : Type 0 where
   pub parks : Bool
   pub token : Bool

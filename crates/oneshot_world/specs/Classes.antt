@@ -1,6 +1,6 @@
--- Wakers and polls by classes. Numbers and entries are without bound, and a step asks of a waker only whether
--- it is the parker's half: so a run looks the same where each copy is known by its class alone, and each
--- poll.
+-- Wakers and polls by classes.
+-- Numbers and entries have no bound. But a step reads of a waker only whether it is the parker's half.
+-- So a run looks the same if each copy and each poll is known by its class alone.
 use Rattle.std.specs.Prelude.{ℕ}
 use Rattle.std.specs.Option.{option_map}
 use Rattle.oneshot_world.specs.Calls.{Call, Poll}
@@ -19,7 +19,7 @@ pub record Classes : Type 0 where
   pub copies : ℕ → ℕ → ℕ
   pub polls : ℕ → ℕ
 
--- all alike
+-- one class for all copies, and one for all polls
 abbrev pub all_alike : Classes
 all_alike = record { copies = λ number entry. 0; polls = λ number. 0 }
 

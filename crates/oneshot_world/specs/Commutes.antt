@@ -1,4 +1,4 @@
--- A turn by classes of copies and polls is the turn's classes.
+-- A turn by classes of copies and polls is the turn, by those classes.
 use Rattle.std.specs.Prelude.{◌≡◌, Option}
 use Rattle.std.specs.Option.{option_map}
 use Rattle.oneshot_machine.specs.declared.machine.End.{End}

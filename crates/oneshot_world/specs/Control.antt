@@ -1,5 +1,4 @@
--- What of a world is finite up to the names of wakers, all but the calls that the scripts have left, and the
--- moves from there.
+-- The control of a world, which is finite up to the names of wakers: all but the calls left, and the moves from there.
 use Rattle.std.specs.Prelude.{ℕ, Bool, true, false, List, [], ◌∷◌, ◌++◌, map, filter, Option, Some, None}
 use Rattle.std.specs.Option.{option_map}
 use Rattle.std.specs.List.{filter_map, flat_map}
@@ -48,17 +47,17 @@ control_of w =
       receiver = receiver_under_way w.state.receiver (first w.receiver.calls);
     }
 
--- a move: the end that makes it, what it is told, and the call that the end has under way or begins
+-- a move: the end that makes it, what it tells the step, and the call that the end has under way or begins
 pub record Begin : Type 0 where
   pub side : End
   pub told : Input
   pub call : Option Call
 
--- one for each of these calls that the end may begin
+-- a move for each of these calls that the end may begin
 abbrev pub begins_with : End → Input → (Call → Bool) → List Call → List Begin
 begins_with side t may calls = map (λ call. record { side = side; told = t; call = Some call }) (filter may calls)
 
--- the moves of an end: it goes on with the call under way, or begins any call
+-- the moves of an end: it continues the call under way, or begins any call
 abbrev pub sender_begins : Option Place → SenderState → Option Call → List Begin
 sender_begins message SS.Ready call =
     begins_with Sender nothing_told (begins_sender message) (map Of_sender all_sender_calls)
@@ -69,7 +68,7 @@ sender_begins message SS.Ended call = []
 abbrev pub plain_told : Bool → Input
 plain_told answer = record { answer = answer; copy = None; own = None }
 
--- what a poll of a class is told, with the class of its copy
+-- what a move tells a poll of a class, with the class of its copy
 abbrev pub poll_told : Bool → ℕ → ℕ → Input
 poll_told answer number copy = record { answer = answer; copy = Some (Copy copy 0); own = Some number }
 
@@ -103,7 +102,7 @@ begins polls copies c =
     sender_begins c.state.message c.state.sender c.sender
     ++ receiver_begins polls copies c.state.receiver c.state.future c.receiver
 
--- where a move leads, with the state that it leaves
+-- the control after a move that leaves this state
 abbrev pub control_then : End → Option Call → Control → State → Control
 control_then Sender call c s =
     record { state = s; sender = sender_under_way s.sender call; receiver = c.receiver }
@@ -118,7 +117,7 @@ abbrev pub successors : List ℕ → (ℕ → List ℕ) → Control → List Con
 successors polls copies c =
     filter_map (λ b. option_map (λ turned. turned.1) (control_turn c b)) (begins polls copies c)
 
--- by classes
+-- moves and controls by classes
 abbrev pub as_begin : Classes → Begin → Begin
 as_begin k b = record { side = b.side; told = as_told k b.told; call = option_map (as_call k) b.call }
 

@@ -1,4 +1,4 @@
--- Codes of what is finite: by them the search of all that a run can reach tells values apart, and orders them.
+-- Codes of finite values, by which the search of all that a run can reach distinguishes and orders them.
 use Rattle.std.specs.Prelude.{ℕ, ◌+◌, ◌*◌, Bool, true, false, ◌&&◌, ◌==◌, Option, Some, None}
 use Rattle.oneshot_machine.specs.Receiver.{receiver_start}
 use Rattle.oneshot_machine.specs.Sender.{sender_start}
@@ -20,7 +20,7 @@ use Rattle.oneshot_world.specs.declared.trace.WakerName.TheVariants.{Copy, Parke
 use Rattle.oneshot_world.specs.declared.trace.WakerName.{WakerName}
 use Rattle.oneshot_world.specs.declared.wakers.Wakers.{Wakers}
 
--- codes, by which values are told apart
+-- codes, by which values are distinguished
 abbrev pub sender_code : SenderState → ℕ
 sender_code SS.Ready = 0
 sender_code SS.Failed = 1
@@ -32,7 +32,7 @@ receiver_code RS.Ready = 0
 receiver_code RS.Ended = 1
 receiver_code (RS.At position) = 2 + receiver_number position
 
--- the code of a call: by the position at which it begins, since no two calls of an end begin at one
+-- the code of a call is that of the position at which it begins: no two calls of an end begin at the same one
 abbrev pub sender_call_code : SenderCall → ℕ
 sender_call_code call = sender_number (sender_start call)
 
@@ -64,7 +64,7 @@ abbrev pub bool_code : Bool → ℕ
 bool_code true = 1
 bool_code false = 0
 
--- a number for a place with what lies there; the copies that are explored are told apart by their number
+-- a number for a place and its content; the explored copies are distinguished by their number
 abbrev pub name_code : Option WakerName → ℕ
 name_code None = 0
 name_code (Some Parker) = 1
@@ -94,8 +94,8 @@ is_same_control c d =
     is_same_state c.state d.state
     && (is_same_under_way c.sender d.sender && is_same_under_way c.receiver d.receiver)
 
--- the order in which the search keeps them; two values that a run can reach never have one code, or the
--- search would leave one of them out
+-- the order in which the search keeps them. No two values that a run can reach have the same code, or
+-- the search would leave one of them out.
 abbrev pub wakers_code : Wakers → ℕ
 wakers_code w = ((name_code w.cell * 4 + name_code w.hand) * 4 + name_code w.taken) * 2 + bool_code w.token
 

@@ -1,4 +1,4 @@
--- What a step sees, and what it leaves of the word, of the message's place and of where its end stands.
+-- What a step sees, and what it does to the word, the message's place and the state of its end.
 use Rattle.std.specs.Prelude.{ℕ, Bool, true, false, Option, Some, None, if◌then◌else◌}
 use Rattle.oneshot_machine.specs.States.{word_after}
 use Rattle.oneshot_machine.specs.TableRows.{Outcome, Goes, Answers}
@@ -20,8 +20,8 @@ use Rattle.oneshot_world.specs.declared.state.State.{State}
 use Rattle.oneshot_world.specs.declared.trace.Place.{Place}
 use Rattle.oneshot_world.specs.declared.trace.Place.TheVariants.{InCell, InError, Delivered, FromError, Dropped}
 
--- what a step sees: an operation on the word sees the word before it, but a store sees nothing; a park sees
--- its token, and a clock or a copy what the move is told
+-- what a step sees: an operation the word before it, unless it is a store; a park its token; a clock or
+-- a copy the answer of the move
 abbrev pub seen_by : Bool → State → Step → Seen
 seen_by answer s (Word (Store new)) = S.Done
 seen_by answer s (Word op) = S.Word s.word
@@ -43,7 +43,7 @@ abbrev pub shown : Bool → ℕ → Option ℕ
 shown true word = None
 shown false word = Some word
 
--- where a step puts the message, if it moves it; a send that is refused leaves the message with the error
+-- where a step puts the message, if it moves it; a refused send leaves the message with the error
 abbrev pub sender_puts : Step → Option Reply → Option Place
 sender_puts WriteMessage reply = Some InCell
 sender_puts TakeMessage reply = Some FromError
@@ -56,13 +56,13 @@ receiver_puts TakeMessage = Some Delivered
 receiver_puts DropMessage = Some Dropped
 receiver_puts _ = None
 
--- the message's place after that, where there is a message
+-- the message's place after that, if there is a message
 abbrev pub place_left : Option Place → Option Place → Option Place
 place_left None to = None
 place_left (Some from) None = Some from
 place_left (Some from) (Some to) = Some to
 
--- the message's move, where it moves
+-- the message's move, if it moves
 abbrev pub move_of : Option Place → Option Place → Option (Place × Place)
 move_of (Some from) (Some to) = Some (from, to)
 move_of (Some from) None = None
@@ -72,9 +72,9 @@ abbrev pub reply_of : {P : Type 0} → Outcome P → Option Reply
 reply_of (Goes next) = None
 reply_of (Answers reply) = Some reply
 
--- Where an end stands after a row. A look leaves it ready, a refused send leaves the error, a look at the
--- error leaves the error, and any other answer of the sender's side ends it.
--- A drop and a call that frees end the receiver, and any other answer leaves it ready.
+-- The state of an end after a row. A look leaves the sender ready. A refused send leaves its error, and
+-- so does a look at the error. Any other reply ends the sender's side. A drop, and a call that frees,
+-- end the receiver. Any other reply leaves it ready.
 abbrev pub is_plain : Step → Bool
 is_plain Plain = true
 is_plain _ = false

@@ -1,5 +1,4 @@
--- The definitions of scripts, of the world and its moves, and of what a run can reach, in the order in which
--- to read them.
+-- The definitions of scripts, of the world and its moves, and of what a run can reach, in the order to read them.
 pub mod Calls
 pub mod Scripts
 pub mod Looks

@@ -1,4 +1,4 @@
--- What is left of a script that looks so many times and then makes its last call.
+-- What is left of a script: so many looks, and then a last call.
 use Rattle.std.specs.Prelude.{List, ◌++◌, map, replicate}
 use Rattle.std.specs.Option.{option_to_list}
 use Rattle.oneshot_world.specs.Calls.{Call, Of_sender}

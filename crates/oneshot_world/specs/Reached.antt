@@ -1,4 +1,4 @@
--- What of a world a run can reach, computed by the checker, and what holds of the world before each move of each run.
+-- The finite part of what a run can reach, computed by the checker, and what holds of the world before each move.
 use Rattle.std.specs.Prelude.{◌≡◌, ℕ, Bool, true, List, [], ◌∷◌, Option, Some, None}
 use Rattle.oneshot_world.specs.Classes.{all_alike}
 use Rattle.oneshot_world.specs.Control.{Control, control_of, successors, as_control}
@@ -20,7 +20,7 @@ one_poll = 0 ∷ []
 abbrev pub one_copy : ℕ → List ℕ
 one_copy number = 0 ∷ []
 
--- all that a run can reach, with all copies and all polls alike
+-- all controls that a run can reach, with all copies and all polls alike
 unfoldable pub reached : Tree Control
 reached =
     reach control_code is_same_control (successors one_poll one_copy) 4000

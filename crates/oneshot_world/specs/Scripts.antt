@@ -1,5 +1,4 @@
--- The calls of a script, and a pair of scripts as lists of calls: the sender's, those of the error of a
--- refused send, the receiver's.
+-- The calls of a script, and two scripts as lists of calls: of the sender, a refused send's error, the receiver.
 use Rattle.std.specs.Prelude.{Bool, true, false, ◌||◌, List, [], ◌∷◌, ◌++◌, map, replicate, Option, is_some}
 use Rattle.oneshot_machine.specs.declared.machine.receiver.ReceiverStart.TheVariants as RC
 use Rattle.oneshot_machine.specs.declared.machine.sender.SenderCall.TheVariants as SC
@@ -80,13 +79,13 @@ calls_of s r =
       receiver = receiver_calls r.calls r.last;
     }
 
--- Which calls leave the end in place, and which end it.
+-- which calls leave the end in place, and which end it
 
 abbrev pub stays_sender : Call → Bool
 stays_sender (Of_sender SC.IsClosed) = true
 stays_sender _ = false
 
--- a send is there where there is a message
+-- only a script with a message has a send
 abbrev pub ends_sender : Option Place → Call → Bool
 ends_sender message (Of_sender SC.Send) = is_some message
 ends_sender message (Of_sender SC.Drop) = true
@@ -131,7 +130,7 @@ abbrev pub makes_future : Call → Bool
 makes_future (Of_receiver RC.IntoFuture) = true
 makes_future _ = false
 
--- the calls that each may begin
+-- the calls that each end, error or future may begin
 abbrev pub begins_sender : Option Place → Call → Bool
 begins_sender message call = stays_sender call || ends_sender message call
 

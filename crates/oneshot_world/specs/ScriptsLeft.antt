@@ -1,4 +1,4 @@
--- What is left of a script while it runs: calls that leave the end in place, and at the end perhaps one that ends it.
+-- What is left of a script during its run: calls that leave the end in place, and perhaps a last one that ends it.
 use Rattle.std.specs.Prelude.{Bool, true, false, ◌&&◌, ◌||◌, List, [], ◌∷◌, Option}
 use Rattle.oneshot_machine.specs.declared.machine.receiver.ReceiverStart.TheVariants as RC
 use Rattle.oneshot_world.specs.Scripts.{stays_sender, ends_sender, stays_error, ends_error, stays_receiver, ends_receiver, stays_async, ends_async}
@@ -9,7 +9,8 @@ use Rattle.oneshot_world.specs.declared.state.SenderState.TheVariants as SS
 use Rattle.oneshot_world.specs.declared.state.SenderState.{SenderState}
 use Rattle.oneshot_world.specs.declared.trace.Place.{Place}
 
--- What is left of a script is a script: calls that leave the end in place, and at the end perhaps one that ends it.
+-- What is left of a script is a script: calls that leave the end in place, and perhaps a last one that
+-- ends it.
 abbrev pub is_script : (Call → Bool) → (Call → Bool) → List Call → Bool
 is_script stays ends [] = true
 is_script stays ends (call ∷ calls) = (stays call && is_script stays ends calls) || (ends call && is_none_left calls)
@@ -23,7 +24,7 @@ is_error_script calls = is_script stays_error ends_error calls
 abbrev pub is_async_script : List Call → Bool
 is_async_script calls = is_script stays_async ends_async calls
 
--- a receiver becomes a future at the most once
+-- a receiver becomes a future at most once
 abbrev pub is_receiver_script : List Call → Bool
 is_receiver_script [] = true
 is_receiver_script (Of_receiver RC.IntoFuture ∷ calls) = is_async_script calls

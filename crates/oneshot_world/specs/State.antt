@@ -1,4 +1,4 @@
--- One step of one end: what it tells, and the state that it leaves.
+-- One step of one end: its entry, and the state that it leaves.
 use Rattle.std.specs.Prelude.{Bool, true, false, ◌&&◌, ◌||◌, is_some, is_none, Option, Some, None, if◌then◌else◌}
 use Rattle.std.specs.Option.{option_map, option_and_then}
 use Rattle.oneshot_machine.specs.TableRows.{Outcome}
@@ -30,7 +30,7 @@ use Rattle.oneshot_world.specs.declared.trace.Place.TheVariants.{NotSent, InCell
 use Rattle.oneshot_world.specs.declared.wakers.Input.{Input}
 use Rattle.oneshot_world.specs.declared.wakers.Wakers.{Wakers}
 
--- before the first move
+-- the state before the first move
 abbrev pub opening_state : Option Place → State
 opening_state message =
     record {
@@ -43,8 +43,8 @@ opening_state message =
       wakers = opening_wakers;
     }
 
--- A cell is written where it is empty and read where it is full, and so is a hand.
--- The message is read by the receiver in its cell, and by the sender's side in its error.
+-- Which steps fit a state. A cell or a hand must be empty to be written, and full to be read. The
+-- receiver reads the message in its cell, and the sender's side in its error.
 abbrev pub is_unsent : Option Place → Bool
 is_unsent (Some NotSent) = true
 is_unsent _ = false
@@ -82,7 +82,7 @@ receiver_fits s TakeWaker = false
 receiver_fits s Wake = false
 receiver_fits s _ = true
 
--- what an end's step tells, with its reply if it ends the call, and the place where it puts the message
+-- the entry of an end's step, with its reply if it ends the call, and the place where it puts the message
 abbrev pub made : End → Input → State → Step → Option Reply → Option Place → Made
 made side t s step reply to =
     record {
@@ -98,7 +98,7 @@ made side t s step reply to =
       reply = reply;
     }
 
--- the state after a step that puts the message there, but for where its end stands
+-- the state after a step that puts the message at `to`, except the state of the step's end
 abbrev pub moved : Input → State → Step → Option Place → State
 moved t s step to =
     record s {
@@ -136,8 +136,7 @@ receiver_stepped t s step row = (
   receiver_moved t s step row,
 )
 
--- the step that is made at a position; none where the table has no row for what is seen, or the cell is not
--- as the step needs it
+-- the step at a position; none if the table has no row for what is seen, or the step does not fit the state
 abbrev pub sender_steps : Input → State → SenderPos → Option (Made × State)
 sender_steps t s position =
     if sender_fits s (sender_step position)
@@ -154,7 +153,7 @@ receiver_steps t s position =
     (receiver_row position (seen_by t.answer s (receiver_step position)))
     else None
 
--- where an end makes its next step: in the call under way, or at the start of the next call
+-- the position of an end's next step: in the call under way, or at the start of the next call
 abbrev pub sender_position : SenderState → Option SenderCall → Option SenderPos
 sender_position SS.Ready call = option_map sender_start call
 sender_position (SS.At position) call = Some position
@@ -169,7 +168,7 @@ receiver_position RS.Ended call = None
 abbrev pub made_entry : Made × State → Entry × State
 made_entry stepped = (Made_entry stepped.0, stepped.1)
 
--- what an end does at its position: without one it has no step to make, and is idle
+-- what an end does at its position: without one it has no step, and is idle
 abbrev pub sender_turns_at : Input → State → Option SenderPos → Option (Entry × State)
 sender_turns_at t s None = Some (Idle Sender, s)
 sender_turns_at t s (Some position) = option_map made_entry (sender_steps t s position)
@@ -178,14 +177,14 @@ abbrev pub receiver_turns_at : Input → State → Option ReceiverPos → Option
 receiver_turns_at t s None = Some (Idle Receiver, s)
 receiver_turns_at t s (Some position) = option_map made_entry (receiver_steps t s position)
 
--- where an end stands whose call under way, or next, is this one
+-- the position of an end whose call under way, or next, is this one
 abbrev pub position_of_sender : State → Option Call → Option SenderPos
 position_of_sender s call = sender_position s.sender (option_and_then as_sender_call call)
 
 abbrev pub position_of_receiver : State → Option Call → Option ReceiverPos
 position_of_receiver s call = receiver_position s.receiver (option_and_then as_receiver_call call)
 
--- and what it does
+-- and what that end does
 abbrev pub turns : End → Input → State → Option Call → Option (Entry × State)
 turns Sender t s call = sender_turns_at t s (position_of_sender s call)
 turns Receiver t s call = receiver_turns_at t s (position_of_receiver s call)

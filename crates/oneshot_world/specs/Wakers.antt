@@ -1,4 +1,4 @@
--- The wakers of the world: where each lies, and what a step does to them.
+-- The wakers of the world: where each is, and what a step does to them.
 use Rattle.std.specs.Prelude.{ℕ, Bool, true, false, ◌&&◌, ◌||◌, ◌==◌, if◌then◌else◌, Option, Some, None}
 use Rattle.std.specs.Option.{option_map}
 use Rattle.oneshot_machine.specs.declared.machine.Step.{Step}
@@ -29,7 +29,7 @@ abbrev pub sets_token : Wakers → Step → Bool
 sets_token w Wake = is_parker w.taken
 sets_token w _ = false
 
--- a parker's half that is withdrawn comes back into the hand, a copy is dropped
+-- a withdrawn parker's half goes back into the hand, a withdrawn copy is dropped
 abbrev pub withdrawn : Option WakerName → Option WakerName → Option WakerName
 withdrawn (Some Parker) hand = Some Parker
 withdrawn _ hand = hand
@@ -38,8 +38,8 @@ abbrev pub back_to : WakerName → WakerPlace
 back_to Parker = Hand
 back_to (Copy number entry) = Dropped
 
--- after a step; a park uses the token, if there is one; a copy that is not refused goes into the hand; an
--- exchange that fails drops what is in the hand
+-- the wakers after a step: a park uses the token if there is one, a copy that is not refused goes into
+-- the hand, and an exchange that fails drops what is in the hand
 abbrev pub wakers_left : Input → ℕ → Wakers → Step → Wakers
 wakers_left t word w WriteWaker = record w { cell = w.hand; hand = None }
 wakers_left t word w TakeWaker = record w { cell = None; taken = w.cell }
@@ -64,7 +64,7 @@ waker_move t word w (T.Word (Exchange expected new)) =
     if word == expected then None else option_map (λ name. (name, Hand, Dropped)) w.hand
 waker_move t word w _ = None
 
--- the number of the poll's own waker, where the poll wakes it
+-- the number of the poll's own waker, if this step wakes it
 abbrev pub own_of : Input → Step → Option ℕ
 own_of t WakeOwn = t.own
 own_of t _ = None

@@ -25,13 +25,13 @@ use Rattle.oneshot_world.specs.declared.trace.WakerName.TheVariants.{Copy}
 use Rattle.oneshot_world.specs.declared.wakers.Input.{Input}
 use Rattle.oneshot_world.specs.declared.trace.Place.TheVariants.{NotSent}
 
--- the word, the block, both ends' positions, the message's place and the wakers; and what each script has left
+-- the state, and the calls left to each end
 pub record World : Type 0 where
   pub state : State
   pub sender : Unanswered
   pub receiver : Unanswered
 
--- the world of a pair of scripts before the first move
+-- the world of two scripts before the first move
 abbrev pub opening_place : {T : Type 0} → SenderLast T → Option Place
 opening_place (SL.Send message error) = Some NotSent
 opening_place SL.Drop = None
@@ -52,7 +52,7 @@ abbrev pub side_of : Move → End
 side_of M.Sender = Sender
 side_of (M.Receiver over refuse) = Receiver
 
--- what a move answers to a clock, or of a copy: only the receiver asks
+-- what a move answers to a clock or for a copy: only the receiver uses it
 abbrev pub is_copying : Step → Bool
 is_copying T.Copy = true
 is_copying _ = false
@@ -64,7 +64,8 @@ copies_at (Some position) = is_copying (receiver_step position)
 abbrev pub answer_told : Option ReceiverPos → Bool → Bool → Bool
 answer_told position over refuse = if copies_at position then refuse else over
 
--- what a move is told that makes this entry: a poll also the copy that it makes then, and its number
+-- what the move that makes this entry tells its step: in a poll also the copy that it may make, and the
+-- poll's number
 abbrev pub told_with : Bool → ℕ → Option ℕ → Input
 told_with answer entry number =
     record { answer = answer; copy = option_map (λ number. Copy number entry) number; own = number }
@@ -97,7 +98,7 @@ world_then side w turned = (
   },
 )
 
--- what the receiver is told
+-- what a move of the receiver tells its step
 abbrev pub receiver_told : Bool → ℕ → World → Input
 receiver_told answer entry w = told_with answer entry (option_and_then number_of (first w.receiver.calls))
 
@@ -110,13 +111,13 @@ told_of M.Sender entry w = nothing_told
 told_of (M.Receiver over refuse) entry w =
     receiver_told (answer_told (position_of_receiver w.state (first w.receiver.calls)) over refuse) entry w
 
--- A move, by which entry `entry` is made, counted from 1: what it tells, and the world that it leads to. None
--- where the moving end finds what its table has no row for, or a cell or a hand is not as the step needs it.
+-- The move that makes entry `entry`, counted from 1: that entry, and the next world. None if the table
+-- of the moving end has no row for what the step sees, or the step does not fit the state.
 abbrev pub turn : ℕ → World → Move → Option (Entry × World)
 turn entry w move = turn_of (side_of move) (told_of move entry w) w
 
--- A run: entry k tells the step from world k to world k + 1 by move k. The worlds are one more than the
--- moves, `w` and then these.
+-- A run: entry k is that of move k, from world k to world k + 1. There is one more world than moves:
+-- `w`, and then these.
 abbrev pub Tells_from : ℕ → World → List World → List Move → List Entry → Type 0
 Tells_from k w [] [] [] = Unit {0}
 Tells_from k w (next ∷ worlds) (move ∷ moves) (entry ∷ entries) =

@@ -1,4 +1,4 @@
-//! The calls of a script that are not answered yet.
+//! The calls left in a script.
 
 pub(crate) mod future;
 pub(crate) mod receiver;

@@ -1,4 +1,4 @@
-//! What a step sees, and what it leaves of the word, of the message's place and of where its end stands.
+//! What a step sees, and what it does to the word, the message's place and the state of its end.
 
 ghost use Rattle.std.specs.Prelude.{◌≡◌, ◌≤◌, ◌||◌};
 ghost use Rattle.oneshot_machine.specs.TableRows.{outcome};
@@ -11,7 +11,7 @@ use crate::wakers::Input;
 use oneshot_machine::machine::{ReceiverPos, Reply, Seen, SenderPos, Step};
 use oneshot_machine::states::Op;
 
-/// The number of the poll's own waker, where the poll wakes it.
+/// The number of the poll's own waker, if this step wakes it.
 #[inline(always)]
 pub(crate) fn own_of(told: Input, step: Step) -> Option<u64>
     ensures { result ≡ own_of told step }
@@ -22,8 +22,8 @@ pub(crate) fn own_of(told: Input, step: Step) -> Option<u64>
     }
 }
 
-/// What a step sees: an operation the word, unless it only stores, a park its token, and a clock or a
-/// copy what the move is told.
+/// What a step sees: an operation the word, unless it is a store; a park its token; a clock or a copy
+/// the `answer` of the move.
 #[inline(always)]
 pub(crate) fn seen_by(answer: bool, state: State, step: Step) -> Seen
     ensures { result ≡ seen_by answer state step }
@@ -50,7 +50,7 @@ pub(crate) fn word_left(word: u8, step: Step) -> u8
     }
 }
 
-/// The word as an entry shows it.
+/// The word as an entry shows it; `None` once the block is freed.
 #[inline(always)]
 pub(crate) fn shown(freed: bool, word: u8) -> Option<u8>
     ensures { result ≡ shown freed word }
@@ -58,7 +58,7 @@ pub(crate) fn shown(freed: bool, word: u8) -> Option<u8>
     if freed { None } else { Some(word) }
 }
 
-/// Where a step of the sender puts the message.
+/// Where a step of the sender puts the message, if it moves it.
 #[inline(always)]
 pub(crate) fn sender_puts(step: Step, reply: Option<Reply>) -> Option<Place>
     ensures { result ≡ sender_puts step reply }
@@ -72,7 +72,7 @@ pub(crate) fn sender_puts(step: Step, reply: Option<Reply>) -> Option<Place>
     }
 }
 
-/// Where a step of the receiver puts the message.
+/// Where a step of the receiver puts the message, if it moves it.
 #[inline(always)]
 pub(crate) fn receiver_puts(step: Step) -> Option<Place>
     ensures { result ≡ receiver_puts step }
@@ -84,7 +84,7 @@ pub(crate) fn receiver_puts(step: Step) -> Option<Place>
     }
 }
 
-/// The message's place after a step.
+/// The message's place after a step that puts it at `to`.
 #[inline(always)]
 pub(crate) fn place_left(from: Option<Place>, to: Option<Place>) -> Option<Place>
     ensures { result ≡ place_left from to }
@@ -95,7 +95,7 @@ pub(crate) fn place_left(from: Option<Place>, to: Option<Place>) -> Option<Place
     }
 }
 
-/// The message's move.
+/// The message's move, if there is a message and it moves.
 #[inline(always)]
 pub(crate) fn move_of(from: Option<Place>, to: Option<Place>) -> Option<(Place, Place)>
     ensures { result ≡ move_of from to }
@@ -106,7 +106,7 @@ pub(crate) fn move_of(from: Option<Place>, to: Option<Place>) -> Option<(Place, 
     }
 }
 
-/// Where the sender stands after a step that leads to `next`, or ends its call with `reply`.
+/// The sender's state after a step that leads to `next`, or ends its call with `reply`.
 #[inline(always)]
 pub(crate) fn sender_goes(step: Step, next: SenderPos, reply: Option<Reply>) -> SenderState
     ensures { result ≡ sender_goes step (outcome (next, reply)) }
@@ -126,7 +126,7 @@ pub(crate) fn sender_goes(step: Step, next: SenderPos, reply: Option<Reply>) -> 
     }
 }
 
-/// Whether a reply gives the future.
+/// Whether a reply makes the receiver a future.
 #[inline(always)]
 pub(crate) fn is_future(reply: Option<Reply>) -> bool
     ensures { result ≡ is_future reply }
@@ -137,7 +137,7 @@ pub(crate) fn is_future(reply: Option<Reply>) -> bool
     }
 }
 
-/// Whether the receiver is a future after that.
+/// Whether the receiver is a future after a step with this reply.
 #[inline(always)]
 pub(crate) fn future_left(future: bool, reply: Option<Reply>) -> bool
     ensures { result ≡ (future || is_future reply) }
@@ -145,7 +145,7 @@ pub(crate) fn future_left(future: bool, reply: Option<Reply>) -> bool
     future || is_future(reply)
 }
 
-/// Where the receiver stands after a step that leads to `next`, or ends its call with `reply`.
+/// The receiver's state after a step that leads to `next`, or ends its call with `reply`.
 #[inline(always)]
 pub(crate) fn receiver_goes(step: Step, next: ReceiverPos, reply: Option<Reply>) -> ReceiverState
     ensures { result ≡ receiver_goes step (outcome (next, reply)) }

@@ -1,4 +1,4 @@
-//! What each end does, call by call, and the moves of a schedule.
+//! Scripts, which are the calls of each end, and the moves of a schedule.
 
 ghost use Rattle.std.specs.Prelude.{◌≡◌, length};
 
@@ -20,7 +20,7 @@ pub enum SenderLast<T> {
     Send(T, ErrorScript),
     /// The sender is dropped.
     Drop,
-    /// No call: the sender stays where it is.
+    /// No last call: the sender stays.
     Stop,
 }
 
@@ -40,7 +40,7 @@ pub enum ErrorLast {
     IntoInner,
     /// The error is dropped.
     Drop,
-    /// No call: the error stays where it is.
+    /// No last call: the error stays.
     Stop,
 }
 
@@ -82,7 +82,7 @@ pub enum ReceiverLast {
     Drop,
     /// `Receiver::into_future`, and what the future does.
     IntoFuture(AsyncScript),
-    /// No call: the receiver stays where it is.
+    /// No last call: the receiver stays.
     Stop,
 }
 
@@ -113,11 +113,11 @@ pub enum AsyncCall {
 pub enum AsyncLast {
     /// The future is dropped.
     Drop,
-    /// No call: the future stays where it is.
+    /// No last call: the future stays.
     Stop,
 }
 
-/// Calls in their order, which a contract sees as a list.
+/// Calls in their order. Contracts see them as a list.
 #[derive(Debug, Drop)]
 pub struct CallList<C> {
     calls: Vec<C>,
@@ -140,7 +140,7 @@ impl<C> From<Vec<C>> for CallList<C> {
 }
 
 impl<C> CallList<C> {
-    /// The calls, in the memory that they were given in.
+    /// Returns the calls, in the vector that they were given in.
     pub fn into_vec(self) -> Vec<C>
         ensures { result.items ≡ self }
     {
@@ -148,7 +148,7 @@ impl<C> CallList<C> {
         calls
     }
 
-    /// The calls, in the order in which they are made.
+    /// Returns the calls, in the order in which they are made.
     pub fn as_slice(&self) -> &[C]
         ensures { result.now ≡ self.now }
     {
@@ -161,7 +161,7 @@ impl<C> CallList<C> {
 pub enum Move {
     /// The sender moves.
     Sender,
-    /// The receiver moves. A clock that it reads then is past the deadline where `over`, and a copy of
-    /// a waker that it asks for then is refused where `refuse`; no other step looks at them.
+    /// The receiver moves. If it then reads a clock, this is past the deadline if `over`. If it copies
+    /// a waker, the copy is refused if `refuse`. No other step reads them.
     Receiver { over: bool, refuse: bool },
 }

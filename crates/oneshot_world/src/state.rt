@@ -1,4 +1,4 @@
-//! The world without the calls that its scripts have left, and one step of one end.
+//! The state of the world without its scripts' calls, and one step of one end.
 
 ghost use Rattle.std.specs.Prelude.{◌≡◌, ◌≤◌, Some, IsSome};
 ghost use Rattle.oneshot_world.specs.State.{opening_state, made, moved, sender_steps, receiver_steps};
@@ -12,51 +12,51 @@ use crate::wakers::{Input, Wakers};
 use oneshot_machine::machine::{End, ReceiverPos, Reply, Seen, SenderPos, Step};
 use oneshot_machine::states::EMPTY;
 
-/// Where the sender stands.
+/// How far the sender is.
 #[derive(Clone, Copy)]
 pub enum SenderState {
     /// No call is under way.
     Ready,
-    /// A call is under way, and stands here.
+    /// A call is under way, at this position.
     At(SenderPos),
-    /// The `send` was refused, and left the error in the sender's place. No call of it is under way.
+    /// The `send` was refused, and its error is in the sender's place. No call of the error is under way.
     Failed,
     /// The sender has ended.
     Ended,
 }
 
-/// Where the receiver stands.
+/// How far the receiver is.
 #[derive(Clone, Copy)]
 pub enum ReceiverState {
     /// No call is under way.
     Ready,
-    /// A call is under way, and stands here.
+    /// A call is under way, at this position.
     At(ReceiverPos),
     /// The receiver has ended.
     Ended,
 }
 
-/// The world without the calls that its scripts have left: finite, but for the names of wakers.
+/// The world without the calls that its scripts have left. It is finite, except for the names of wakers.
 #[derive(Clone, Copy)]
 pub struct State {
     /// The shared word.
     pub word: u8,
     /// Whether the block is freed.
     pub freed: bool,
-    /// Where the sender stands.
+    /// How far the sender is.
     pub sender: SenderState,
-    /// Where the receiver stands.
+    /// How far the receiver is.
     pub receiver: ReceiverState,
     /// Whether the receiver is a future.
     pub future: bool,
-    /// The message's place; `None` where the script sends none.
+    /// The message's place; `None` if the script sends none.
     pub message: Option<Place>,
     /// The wakers, and the token on which the receiver parks.
     pub wakers: Wakers,
 }
 
 impl State {
-    /// The state before the first move, with the message in its script if there is one.
+    /// The state before the first move, with the message at this place if there is one.
     pub(crate) fn new(message: Option<Place>) -> State
         ensures { result ≡ opening_state message }
     {
@@ -71,7 +71,8 @@ impl State {
         }
     }
 
-    /// Makes the sender's step at `position`, and tells it.
+    /// Makes and returns the sender's step at `position`, which must have a row. `told` is what the
+    /// move tells it.
     #[inline(always)]
     pub(crate) fn step_sender(&mut self, position: SenderPos, told: Input) -> Made
         requires row { IsSome (sender_steps told self.old position) }
@@ -87,7 +88,8 @@ impl State {
         made
     }
 
-    /// Makes the receiver's step at `position`, and tells it.
+    /// Makes and returns the receiver's step at `position`, which must have a row. `told` is what the
+    /// move tells it.
     #[inline(always)]
     pub(crate) fn step_receiver(&mut self, position: ReceiverPos, told: Input) -> Made
         requires row { IsSome (receiver_steps told self.old position) }
@@ -105,7 +107,8 @@ impl State {
         made
     }
 
-    /// What both ends' steps do alike: the word, the block, the message's place and the wakers.
+    /// What both ends' steps have in common: the word, the block, the message's place, which becomes
+    /// `to`, and the wakers.
     #[inline(always)]
     fn make(
         &mut self,

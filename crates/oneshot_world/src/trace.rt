@@ -1,19 +1,19 @@
-//! What a run tells, an entry a move.
+//! The entries of a trace, one for each move of a run.
 
 use oneshot_machine::machine::{End, Reply, Seen, Step};
 
 /// Where the message is.
 #[derive(Clone, Copy, Debug, Eq, PartialEq)]
 pub enum Place {
-    /// Still the script's.
+    /// Still in its script.
     NotSent,
     /// In the channel's cell.
     InCell,
     /// In the error of a refused `send`.
     InError,
-    /// In the answer of a receive.
+    /// Returned by a receive.
     Delivered,
-    /// In the answer of the error's `into_inner`.
+    /// Returned by the error's `into_inner`.
     FromError,
     /// Dropped by an end.
     Dropped,
@@ -24,7 +24,7 @@ pub enum Place {
 pub enum WakerName {
     /// The waking half of the parker on which a blocking receive waits.
     Parker,
-    /// The copy of a task's waker.
+    /// A copy (clone) of a task's waker.
     Copy {
         /// The number of the task's waker.
         number: u64,
@@ -36,15 +36,15 @@ pub enum WakerName {
 /// Where a waker is.
 #[derive(Clone, Copy, Debug, Eq, PartialEq)]
 pub enum WakerPlace {
-    /// A task's, before its copy is made.
+    /// With its task, before the copy is made.
     New,
-    /// The receiver's.
+    /// In the receiver's hand.
     Hand,
     /// In the channel's cell.
     Cell,
-    /// The sender's, which took it from the cell.
+    /// With the sender, which took it from the cell.
     SenderHand,
-    /// Woken.
+    /// Used for a wake.
     Used,
     /// Dropped without a wake.
     Dropped,
@@ -72,14 +72,14 @@ pub struct Made {
     pub before: Option<u8>,
     /// The word after the step; `None` once the block is freed.
     pub after: Option<u8>,
-    /// The message's move: the place that it left, and the place that it went to.
+    /// The message's move, if it moved: the place that it left, and the place that it went to.
     pub message: Option<(Place, Place)>,
     /// Whether the step set the token on which the receiver parks.
     pub token_set: bool,
-    /// A waker's move: the waker, the place that it left, and the place that it went to.
+    /// A waker's move, if one moved: the waker, the place that it left, and the place that it went to.
     pub waker: Option<(WakerName, WakerPlace, WakerPlace)>,
-    /// The number of the poll's own waker, where the poll woke it.
+    /// The number of the poll's own waker, if the poll woke it.
     pub own: Option<u64>,
-    /// The reply, where the step ended its call.
+    /// The reply, if the step ended its call.
     pub reply: Option<Reply>,
 }

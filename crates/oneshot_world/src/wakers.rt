@@ -1,4 +1,4 @@
-//! The wakers of the world: where each lies, and what a step does to them.
+//! The wakers of the world: where each is, and what a step does to them.
 
 ghost use Rattle.std.specs.Prelude.{◌≡◌, ◌||◌, None};
 ghost use Rattle.std.specs.Option.{option_map};
@@ -13,18 +13,18 @@ use oneshot_machine::states::Op;
 /// A move of a waker: the waker, and the places that it leaves and goes to.
 type WakerMove = (WakerName, WakerPlace, WakerPlace);
 
-/// What a move is told.
+/// What a move tells the step that it makes.
 #[derive(Clone, Copy)]
 pub struct Input {
-    /// What its clock answers, or whether its copy of a waker is refused.
+    /// Whether a clock is past the deadline, or whether a copy of a waker is refused.
     pub answer: bool,
-    /// The copy of a waker that it makes, if it makes one.
+    /// In a poll, the copy of a waker that the step may make.
     pub copy: Option<WakerName>,
-    /// The number of the poll's own waker, in a poll.
+    /// In a poll, the number of its own waker.
     pub own: Option<u64>,
 }
 
-/// The waker in each place that holds one, and the token on which the receiver parks.
+/// The waker in each place, and the token on which the receiver parks.
 #[derive(Clone, Copy)]
 pub struct Wakers {
     /// The one in the channel's cell.
@@ -50,14 +50,14 @@ impl Wakers {
         }
     }
 
-    /// What a step does that finds this word and is told this, and the move that it makes with a waker:
-    /// the waker, and the places that it leaves and goes to.
+    /// Moves wakers as `step` does if it finds `word` and is told `told`. Returns the waker that it
+    /// moved, with the places that this left and went to.
     #[inline(always)]
     pub(crate) fn moved(&mut self, told: Input, word: u8, step: Step) -> Option<WakerMove>
         ensures leaves { self.new ≡ wakers_left told word self.old step }
         ensures tells { result ≡ waker_move told word self.old step }
     {
-        // Most steps move no waker, so the moves are out of line.
+        // Most steps move no waker, so the moves are not inlined.
         match step {
             Step::WriteWaker => self.write(),
             Step::TakeWaker => self.take(),
@@ -85,7 +85,7 @@ impl Wakers {
         }
     }
 
-    /// The waker in the hand goes into the cell.
+    /// Moves the waker in the hand into the cell.
     #[inline(never)]
     fn write(&mut self) -> Option<WakerMove>
         ensures leaves { self.new ≡ record self.old { cell = self.old.hand; hand = None } }
@@ -95,7 +95,7 @@ impl Wakers {
         Some((self.cell?, WakerPlace::Hand, WakerPlace::Cell))
     }
 
-    /// The sender takes the waker in the cell.
+    /// Moves the waker in the cell to the sender.
     #[inline(never)]
     fn take(&mut self) -> Option<WakerMove>
         ensures leaves { self.new ≡ record self.old { cell = None; taken = self.old.cell } }
@@ -105,7 +105,7 @@ impl Wakers {
         Some((self.taken?, WakerPlace::Cell, WakerPlace::SenderHand))
     }
 
-    /// The parker's half in the cell goes back into the hand; a copy in the cell is dropped.
+    /// Takes the parker's half in the cell back into the hand, or drops a copy in the cell.
     #[inline(never)]
     fn withdraw(&mut self) -> Option<WakerMove>
         ensures leaves { self.new ≡ record self.old { cell = None; hand = withdrawn self.old.cell self.old.hand } }
@@ -120,7 +120,7 @@ impl Wakers {
         }
     }
 
-    /// The sender uses the waker that it took.
+    /// Uses the waker that the sender took.
     #[inline(never)]
     fn wake(&mut self) -> Option<WakerMove>
         ensures leaves { self.new ≡ record self.old {
@@ -134,7 +134,7 @@ impl Wakers {
         Some((waker, WakerPlace::SenderHand, WakerPlace::Used))
     }
 
-    /// A new copy goes into the hand.
+    /// Puts a new copy into the hand.
     #[inline(never)]
     fn copy(&mut self, copy: Option<WakerName>) -> Option<WakerMove>
         ensures leaves { self.new ≡ record self.old { hand = copy } }
@@ -144,7 +144,7 @@ impl Wakers {
         Some((copy?, WakerPlace::New, WakerPlace::Hand))
     }
 
-    /// The waker in the hand is dropped.
+    /// Drops the waker in the hand.
     #[inline(never)]
     fn drop_hand(&mut self) -> Option<WakerMove>
         ensures leaves { self.new ≡ record self.old { hand = None } }
@@ -153,7 +153,7 @@ impl Wakers {
         Some((self.hand.take()?, WakerPlace::Hand, WakerPlace::Dropped))
     }
 
-    /// Keeps what is in the hand, but gives up the parker's half where a future begins.
+    /// Gives up the waker in the hand if `future`: the receiver becomes a future.
     pub(crate) fn keep_hand(&mut self, future: bool)
         ensures { self.new ≡ hand_kept future self.old }
     {

@@ -1,4 +1,4 @@
-//! The world between two moves, and one move of it.
+//! The world, which is the model's state between two moves, and its one move.
 
 ghost use Rattle.std.specs.Prelude.{◌≡◌, Some};
 ghost use Rattle.std.specs.Option.{option_and_then};
@@ -37,7 +37,7 @@ impl Model for World {
 }
 
 impl World {
-    /// The world before the first move of two scripts. The message stays with its script.
+    /// Returns the world of two scripts before the first move. The message stays in its script.
     pub fn new<T>(sender: &SenderScript<T>, receiver: ReceiverScript) -> World
         ensures { result ≡ opening sender.now receiver }
     {
@@ -48,8 +48,8 @@ impl World {
         }
     }
 
-    /// Makes one move, and tells it. The entry's number counts from 1; a copy of a waker that is made
-    /// then is named by it.
+    /// Makes the move `m`, and returns its entry. `entry` is the number of that entry, from 1; a copy
+    /// of a waker that the move makes is named by it.
     #[inline(always)]
     pub fn step(&mut self, m: Move, entry: usize) -> Entry
         ensures { turn entry self.old m ≡ Some (result, self.new) }
@@ -61,35 +61,35 @@ impl World {
         }
     }
 
-    /// The call that the sender has under way, or begins at its next move; `None` where none is left.
+    /// Returns the call that the sender has under way, or begins at its next move; `None` if none is left.
     pub fn sender_call(&self) -> Option<SenderCall>
         ensures { result ≡ option_and_then as_sender_call (first self.now.sender.calls) }
     {
         self.sender.first()
     }
 
-    /// The call that the receiver has under way, or begins at its next move; `None` where none is left.
+    /// Returns the call that the receiver has under way, or begins at its next move; `None` if none is left.
     pub fn receiver_call(&self) -> Option<ReceiverStart>
         ensures { result ≡ option_and_then as_receiver_call (first self.now.receiver.calls) }
     {
         self.receiver.first()
     }
 
-    /// Whether the block is freed.
+    /// Returns whether the block is freed.
     pub fn is_freed(&self) -> bool
         ensures { result ≡ self.now.state.freed }
     {
         self.state.freed
     }
 
-    /// The message's place; `None` where the script sends none.
+    /// Returns the message's place; `None` if the script sends none.
     pub fn place(&self) -> Option<Place>
         ensures { result ≡ self.now.state.message }
     {
         self.state.message
     }
 
-    /// Where the sender makes its next step: in the call under way, or at the start of the next one.
+    /// The position of the sender's next step: in the call under way, or at the start of the next one.
     fn sender_position(&self) -> Option<SenderPos>
         ensures { result ≡ position_of_sender self.now.state (first self.now.sender.calls) }
     {
@@ -102,7 +102,7 @@ impl World {
         }
     }
 
-    /// Where the receiver makes its next step: in the call under way, or at the start of the next one.
+    /// The position of the receiver's next step: in the call under way, or at the start of the next one.
     fn receiver_position(&self) -> Option<ReceiverPos>
         ensures { result ≡ position_of_receiver self.now.state (first self.now.receiver.calls) }
     {
@@ -145,8 +145,8 @@ impl World {
     }
 }
 
-/// What a move answers at a position: to a copy, which only a poll makes, whether it is refused, and to
-/// a clock.
+/// What a move answers at a position: whether a copy, which only a poll makes, is refused, or whether a
+/// clock is past the deadline.
 fn answer_at(position: ReceiverPos, over: bool, refuse: bool) -> bool
     ensures { result ≡ answer_told (Some position) over refuse }
 {
@@ -156,7 +156,7 @@ fn answer_at(position: ReceiverPos, over: bool, refuse: bool) -> bool
     }
 }
 
-/// What a move is told that answers so and makes this entry.
+/// What a move with this answer and entry tells its step. `own` is the number of the poll's own waker.
 fn told_with(answer: bool, entry: usize, own: Option<u64>) -> Input
     ensures { result ≡ told_with answer entry own }
 {
@@ -167,7 +167,7 @@ fn told_with(answer: bool, entry: usize, own: Option<u64>) -> Input
     Input { answer, copy, own }
 }
 
-/// Where the message of a script is before the first move.
+/// The message's place before the first move; `None` if the script sends none.
 fn opening_place<T>(sender: &SenderScript<T>) -> Option<Place>
     ensures { result ≡ opening_place sender.now.last }
 {

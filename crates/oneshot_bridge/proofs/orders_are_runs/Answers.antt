@@ -1,4 +1,4 @@
--- Each order is a run, in one.
+-- The goals that `orders_are_runs` leaves.
 use Rattle.oneshot_bridge.proofs.StatesRun.{orders_run}
 use Rattle.oneshot_bridge.proofs.orders_are_runs.Goals as goal
 

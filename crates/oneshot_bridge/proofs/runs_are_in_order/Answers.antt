@@ -1,4 +1,4 @@
--- Each run makes its operations in their order, in one.
+-- The goals that `runs_are_in_order` leaves.
 use Rattle.oneshot_bridge.proofs.RunOrder.{runs_are_in_order, worked_order, wrong_order}
 use Rattle.oneshot_bridge.proofs.runs_are_in_order.Goals as goal
 

@@ -1,4 +1,4 @@
-//! An entry's line.
+//! Writes an entry's line.
 
 ghost use Rattle.std.specs.Prelude.{◌≡◌, ◌++◌, IfSome, codes, decimal};
 ghost use Rattle.std.specs.Fmt.{WritesOnOk};
@@ -12,14 +12,14 @@ use oneshot_replay::{Entry, Made, Place, WakerName, WakerPlace};
 use std::fmt;
 use std::fmt::Display;
 
-/// An entry of a trace, which shows as its line.
+/// An entry of a trace. It displays as its line.
 #[derive(Clone, Copy)]
 pub struct EntryLine {
     /// The entry's number, counted from 1.
     pub number: usize,
     /// The entry.
     pub entry: Entry,
-    /// The call that the receiver has under way at the entry.
+    /// The call that the receiver has under way, or begins at its next move, before the entry.
     pub call: Option<ReceiverStart>,
     /// The message of the sender's script.
     pub message: u64,
@@ -40,7 +40,7 @@ impl fmt::Display for EntryLine {
     }
 }
 
-/// A move of an end whose script has nothing left.
+/// Writes a move of an end that has no call left.
 fn write_idle<W: fmt::Write>(f: &mut fmt::Formatter<W>, end: End) -> fmt::Result
     ensures { WritesOnOk W.write_str_gives f.old result (codes " " ++ letter_of_end end ++ codes " idle") f.new }
 {
@@ -48,7 +48,7 @@ fn write_idle<W: fmt::Write>(f: &mut fmt::Formatter<W>, end: End) -> fmt::Result
     f.write_str("idle")
 }
 
-/// A step of an end: what it did to the word, and then each field that it has.
+/// Writes a step: what it did to the word, and then each field that it has.
 fn write_made<W: fmt::Write>(
     f: &mut fmt::Formatter<W>,
     made: &Made,
@@ -62,7 +62,7 @@ fn write_made<W: fmt::Write>(
     write_reply(f, made, call, message)
 }
 
-/// The end, its step, and the word before and after it.
+/// Writes the end, its step, and the word before and after it.
 fn write_step<W: fmt::Write>(f: &mut fmt::Formatter<W>, made: &Made) -> fmt::Result
     ensures { WritesOnOk W.write_str_gives f.old result (codes " " ++ letter_of_end made.now.side
         ++ codes " " ++ name_of_step made.now.step
@@ -73,7 +73,7 @@ fn write_step<W: fmt::Write>(f: &mut fmt::Formatter<W>, made: &Made) -> fmt::Res
     write_words(f, made.before, made.after)
 }
 
-/// The word before a step and after it.
+/// Writes the word before and after a step.
 fn write_words<W: fmt::Write>(
     f: &mut fmt::Formatter<W>,
     before: Option<u8>,
@@ -89,7 +89,7 @@ fn write_words<W: fmt::Write>(
     write_word(f, after)
 }
 
-/// The word before and after a step that keeps it, as most steps do, in one piece.
+/// The text of the word before and after a step that keeps it, in one piece. Most steps do.
 fn kept_word(before: Option<u8>, after: Option<u8>) -> Option<&'static str>
     ensures { IfSome result (λ text. text.now ≡ word_text before ++ codes ">" ++ word_text after) }
 {
@@ -113,7 +113,7 @@ fn kept_code(code: u8) -> Option<&'static str>
     }
 }
 
-/// The word's code, or `-` once the block is freed.
+/// Writes the word's code, or `-` once the block is freed.
 fn write_word<W: fmt::Write>(f: &mut fmt::Formatter<W>, word: Option<u8>) -> fmt::Result
     ensures { WritesOnOk W.write_str_gives f.old result (word_text word) f.new }
 {
@@ -123,7 +123,7 @@ fn write_word<W: fmt::Write>(f: &mut fmt::Formatter<W>, word: Option<u8>) -> fmt
     }
 }
 
-/// What the step moved, and what it found or did beside the word.
+/// Writes what the step moved, and what it found or did besides the word.
 fn write_fields<W: fmt::Write>(f: &mut fmt::Formatter<W>, made: &Made) -> fmt::Result
     ensures { WritesOnOk W.write_str_gives f.old result (message_field made.now.message ++ waker_field made.now.waker
         ++ token_field made.now.token_set ++ found_field made.now.seen ++ own_field made.now.own) f.new }
@@ -135,7 +135,7 @@ fn write_fields<W: fmt::Write>(f: &mut fmt::Formatter<W>, made: &Made) -> fmt::R
     write_own(f, made.own)
 }
 
-/// The move of the message.
+/// Writes the move of the message.
 fn write_message<W: fmt::Write>(
     f: &mut fmt::Formatter<W>,
     moved: Option<(Place, Place)>,
@@ -148,7 +148,7 @@ fn write_message<W: fmt::Write>(
     }
 }
 
-/// The move of a waker.
+/// Writes the move of a waker.
 fn write_waker<W: fmt::Write>(
     f: &mut fmt::Formatter<W>,
     moved: Option<(WakerName, WakerPlace, WakerPlace)>,
@@ -167,15 +167,15 @@ fn write_waker<W: fmt::Write>(
     }
 }
 
-/// Whether a wake set the token.
+/// The text for a wake that set the token.
 fn token_text(is_set: bool) -> &'static str
     ensures { result.now ≡ token_field is_set }
 {
     if is_set { " token+" } else { "" }
 }
 
-/// What the step found beside the word: a clock past the deadline or before it, a copy that was refused,
-/// the token on which the receiver parks, or a park that ended without it.
+/// What the step found besides the word: a clock past the deadline or before it, a copy that was
+/// refused, the token on which the receiver parks, or a park that ended without it.
 fn found_text(seen: Seen) -> &'static str
     ensures { result.now ≡ found_field seen }
 {
@@ -189,7 +189,7 @@ fn found_text(seen: Seen) -> &'static str
     }
 }
 
-/// The poll's own waker that it woke.
+/// Writes the number of the poll's own waker, if the step woke it.
 fn write_own<W: fmt::Write>(f: &mut fmt::Formatter<W>, own: Option<u64>) -> fmt::Result
     ensures { WritesOnOk W.write_str_gives f.old result (own_field own) f.new }
 {
@@ -199,7 +199,7 @@ fn write_own<W: fmt::Write>(f: &mut fmt::Formatter<W>, own: Option<u64>) -> fmt:
     }
 }
 
-/// The reply, where the step ends a call.
+/// Writes the reply, if the step ends a call.
 fn write_reply<W: fmt::Write>(
     f: &mut fmt::Formatter<W>,
     made: &Made,

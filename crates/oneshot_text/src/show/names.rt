@@ -82,7 +82,8 @@ pub(crate) fn waker_place(place: WakerPlace) -> &'static str
     }
 }
 
-/// A waker: `p` for the parker's, and a copy with its number and the entry that made it.
+/// A waker. It displays as `p` for the parker's half; a copy as `w`, its number, `@` and the entry that
+/// made it.
 #[derive(Clone, Copy)]
 pub(crate) struct WakerText(pub(crate) WakerName);
 

@@ -1,6 +1,7 @@
-//! Lines that are written together, so that a writer without a buffer is asked seldom.
+//! Lines that are written together, so that a writer without a buffer is seldom called.
 //!
-//! `BufWriter` would ask for memory, and does not say that its writer is untouched where that is refused.
+//! `BufWriter` would allocate, and its contract does not state that a failed allocation leaves its
+//! writer untouched.
 
 ghost use Rattle.std.specs.Prelude.{[], ◌≡◌, IfSome, OnOk};
 ghost use Rattle.std.specs.Fmt.{with_newline};
@@ -12,13 +13,13 @@ use std::fmt::{Display, Write as _};
 use std::io;
 use std::io::Write;
 
-/// How many bytes of lines wait at the most.
+/// The most bytes of lines that wait.
 const PAGE: usize = 4096;
 
-/// How many bytes of a line wait at the most. A longer line has large numbers, and goes out in parts.
+/// The most bytes of a line that waits. A longer line has large numbers, and is written in parts.
 const LINE: usize = 64;
 
-/// The lines that wait to be written, and the line that is made now.
+/// The lines that wait to be written, and the line that is being made.
 #[derive(Drop)]
 pub(crate) struct Page {
     lines: ArrayString<PAGE>,
@@ -26,7 +27,7 @@ pub(crate) struct Page {
 }
 
 impl Page {
-    /// A page with no line.
+    /// An empty page.
     pub(crate) fn new() -> Page
         ensures { result.lines.bytes ≡ [] }
     {
@@ -36,7 +37,7 @@ impl Page {
         }
     }
 
-    /// Adds a line with this text. Where there is no room, the page is written to `output` first.
+    /// Adds a line with this text. If there is no room for it, writes the page and then the line to `output`.
     pub(crate) fn add<W: Write, D: Display + Drop>(
         &mut self,
         output: &mut W,

@@ -1,4 +1,4 @@
-//! What a call answered, in the words of that call.
+//! The text of a reply, in the words of the call that it ends.
 
 ghost use Rattle.std.specs.Prelude.{◌≡◌, None, IfSome};
 ghost use Rattle.std.specs.Fmt.{WritesOnOk};
@@ -9,12 +9,12 @@ use oneshot_machine::machine::{End, ReceiverStart, Reply};
 use std::fmt;
 use std::fmt::Display;
 
-/// A reply, which shows in the words of the call that it ends.
+/// A reply. It displays in the words of the call that it ends.
 #[derive(Clone, Copy)]
 pub struct ReplyText {
-    /// The end that has the reply.
+    /// The end whose call replied.
     pub end: End,
-    /// The receiver's call that the reply ends, where the receiver has it.
+    /// The call that the reply ends, if it is the receiver's.
     pub call: Option<ReceiverStart>,
     /// The message of the sender's script.
     pub message: u64,

@@ -1,4 +1,4 @@
-//! The rest's line: the message's last place.
+//! The words of the last two lines: the message's last place, and whether the block is freed.
 
 ghost use Rattle.std.specs.Prelude.{◌≡◌, Some};
 ghost use Rattle.oneshot_text.specs.Names.{name_of_place};
@@ -8,7 +8,7 @@ use crate::show::names::message_place;
 use oneshot_replay::{Place, Rest};
 use std::fmt;
 
-/// The message's last place, with the message.
+/// The message's last place, with the message; `None` without a message.
 #[derive(Drop)]
 pub(crate) struct RestText(pub(crate) Option<Rest<u64>>);
 
@@ -27,7 +27,7 @@ impl fmt::Display for RestText {
     }
 }
 
-/// The place and the message.
+/// The place, and the message there.
 fn place_of(rest: &Rest<u64>) -> (Place, u64)
     ensures { rest_text (Some rest.now) ≡ at_place (name_of_place result.0) result.1 }
 {
@@ -41,7 +41,7 @@ fn place_of(rest: &Rest<u64>) -> (Place, u64)
     }
 }
 
-/// Whether the block is freed, in a word.
+/// Whether the block is freed, in one word.
 pub(crate) fn block_word(freed: bool) -> &'static str
     ensures { result.now ≡ block_text freed }
 {

@@ -1,4 +1,4 @@
-//! The calls of a future that are not answered yet.
+//! The calls left to a future.
 
 ghost use Rattle.std.specs.Prelude.{◌≡◌};
 ghost use Rattle.std.specs.Option.{option_and_then};
@@ -9,7 +9,7 @@ use crate::script::{AsyncCall, AsyncLast, AsyncScript, CallList};
 use oneshot_machine::machine::ReceiverStart;
 use std::marker::Model;
 
-/// The calls of the future that are not answered yet.
+/// The calls left to the future, the one under way first.
 #[derive(Drop)]
 pub(crate) struct FutureCalls {
     calls: CallList<AsyncCall>,
@@ -30,7 +30,7 @@ impl Model for FutureCalls {
 }
 
 impl FutureCalls {
-    /// All calls of a script.
+    /// All calls of `script`.
     pub(crate) fn new(script: AsyncScript) -> FutureCalls
         ensures { result ≡ async_calls script.calls script.last }
     {
@@ -41,7 +41,7 @@ impl FutureCalls {
         }
     }
 
-    /// The call under way or the next one.
+    /// The call under way or the next one; `None` if none is left.
     pub(crate) fn first(&self) -> Option<ReceiverStart>
         ensures { result ≡ option_and_then as_receiver_call (first self.now) }
     {
@@ -61,7 +61,7 @@ impl FutureCalls {
         }
     }
 
-    /// The number of the poll under way or next, if that call is a poll.
+    /// The number of that call's waker, if it is a poll.
     pub(crate) fn number(&self) -> Option<u64>
         ensures { result ≡ option_and_then number_of (first self.now) }
     {
@@ -76,7 +76,7 @@ impl FutureCalls {
         }
     }
 
-    /// That call is answered.
+    /// Removes that call, which has replied.
     pub(crate) fn answer(&mut self)
         ensures { self.new ≡ rest self.old }
     {

@@ -1,4 +1,4 @@
-//! The receiver's calls that are not answered yet, and those of the future that it became.
+//! The calls left to the receiver, or to the future that it became.
 
 ghost use Rattle.std.specs.Prelude.{◌≡◌, []};
 ghost use Rattle.std.specs.Option.{option_and_then};
@@ -12,7 +12,7 @@ use oneshot_machine::machine::{ReceiverStart, Reply};
 use std::marker::Model;
 use std::mem;
 
-/// The calls of the receiver that are not answered yet, and those of the future that it became.
+/// The calls left to the receiver, or to the future that it became, the one under way first.
 #[derive(Drop)]
 pub(crate) struct ReceiverCalls {
     calls: CallList<ReceiverCall>,
@@ -38,7 +38,7 @@ impl Model for ReceiverCalls {
 }
 
 impl ReceiverCalls {
-    /// All calls of a script.
+    /// All calls of `script`.
     pub(crate) fn new(script: ReceiverScript) -> ReceiverCalls
         ensures { result ≡ record { calls = receiver_calls script.calls script.last; error = [] } }
     {
@@ -50,7 +50,7 @@ impl ReceiverCalls {
         }
     }
 
-    /// The call under way or the next one.
+    /// The call under way or the next one; `None` if none is left.
     pub(crate) fn first(&self) -> Option<ReceiverStart>
         ensures { result ≡ option_and_then as_receiver_call (first self.now.calls) }
     {
@@ -79,7 +79,7 @@ impl ReceiverCalls {
         }
     }
 
-    /// The number of the poll under way or next, if that call is a poll.
+    /// The number of that call's waker, if it is a poll.
     pub(crate) fn number(&self) -> Option<u64>
         ensures { result ≡ option_and_then number_of (first self.now.calls) }
     {
@@ -89,7 +89,7 @@ impl ReceiverCalls {
         }
     }
 
-    /// A step of that call replied, or not yet.
+    /// Removes that call if a step of it gave a `reply`. After `into_future` the future's calls are left.
     pub(crate) fn advance(&mut self, reply: Option<Reply>)
         ensures { self.new ≡ left_by Ends.Receiver reply self.old }
     {

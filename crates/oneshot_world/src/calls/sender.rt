@@ -1,4 +1,4 @@
-//! The sender's calls that are not answered yet, and those of the error of its refused `send`.
+//! The calls left to the sender, or to the error of its refused `send`.
 
 ghost use Rattle.std.specs.Prelude.{◌≡◌, []};
 ghost use Rattle.std.specs.Option.{option_and_then};
@@ -11,7 +11,7 @@ use crate::script::{ErrorLast, ErrorScript, SenderLast, SenderScript};
 use oneshot_machine::machine::{Reply, SenderCall};
 use std::marker::Model;
 
-/// What is left of a script that looks so many times and then makes its last call.
+/// What is left of a script: so many looks, and then a last call.
 #[derive(Clone, Copy)]
 struct Looks {
     look: SenderCall,
@@ -20,7 +20,7 @@ struct Looks {
 }
 
 impl Looks {
-    /// The call under way or the next one.
+    /// The call under way or the next one; `None` if none is left.
     fn first(&self) -> Option<SenderCall>
         ensures { result ≡ option_and_then as_sender_call (first (looks_left self.now)) }
     {
@@ -31,7 +31,7 @@ impl Looks {
         }
     }
 
-    /// What is left once that call is answered.
+    /// What is left once that call has replied.
     fn answered(self) -> Looks
         ensures { looks_left result ≡ rest (looks_left self) }
     {
@@ -51,7 +51,7 @@ impl Looks {
     }
 }
 
-/// The calls of the sender that are not answered yet, and those of the error of a refused `send`.
+/// The calls left to the sender, the one under way first, and those of the error of a refused `send`.
 #[derive(Drop)]
 pub(crate) struct SenderCalls {
     left: Looks,
@@ -68,7 +68,7 @@ impl Model for SenderCalls {
 }
 
 impl SenderCalls {
-    /// All calls of a script.
+    /// All calls of `script`.
     pub(crate) fn new<T>(script: &SenderScript<T>) -> SenderCalls
         ensures calls { result.calls ≡ sender_calls script.now }
         ensures error { result.error ≡ error_calls script.now.last }
@@ -86,14 +86,14 @@ impl SenderCalls {
         SenderCalls { left, error }
     }
 
-    /// The call under way or the next one.
+    /// The call under way or the next one; `None` if none is left.
     pub(crate) fn first(&self) -> Option<SenderCall>
         ensures { result ≡ option_and_then as_sender_call (first self.now.calls) }
     {
         self.left.first()
     }
 
-    /// A step of that call replied, or not yet.
+    /// Removes that call if a step of it gave a `reply`. After a refused `send` the error's calls are left.
     pub(crate) fn advance(&mut self, reply: Option<Reply>)
         ensures { self.new ≡ left_by Ends.Sender reply self.old }
     {
@@ -120,7 +120,7 @@ fn error_looks(script: &ErrorScript) -> Looks
     }
 }
 
-/// The calls of the error of a script that sends nothing: there are none.
+/// No calls: a script that sends nothing has no error.
 fn no_error() -> Looks
     ensures { looks_left result ≡ [] }
 {

@@ -1,4 +1,4 @@
--- Where the words left begin with no call, none of the four tests was passed. Behind `poll` a number has to stand.
+-- If the words left begin with no call, none of the four tests passed. After `poll` a number must come.
 use Rattle.std.proofs.Common.{[], codes}
 use Rattle.oneshot_replay.specs.declared.AsyncCall.TheVariants.{Poll, TryRecv, HasMessage, IsClosed}
 use Rattle.oneshot_text.specs.Grammar.{AsksForFuture, NumberAnd}

@@ -1,5 +1,4 @@
--- Each call that is taken is the next one of a script that all words ask for; no fault is found in such a
--- script, and where no call is left, none is left of it.
+-- If all words ask for a script, each call taken is its next one, no fault is found, and at the end none is left.
 use Rattle.std.proofs.Common.{◌≡◌, ◌++◌, Some, None, Ok, slice_get, ap, sym, ◌∙◌}
 use Rattle.oneshot_text.specs.Future.{words_of_future_call, words_of_future_calls, HasNumber}
 use Rattle.oneshot_text.specs.Grammar.{AsksForFuture}

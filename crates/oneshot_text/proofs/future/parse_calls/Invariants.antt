@@ -1,5 +1,4 @@
--- The words that were taken ask for the calls so far, and if all ask for a script, those that are left ask
--- for the rest of it.
+-- The words taken ask for the calls so far; if all words ask for a script, those left ask for the rest of it.
 use Rattle.std.proofs.Common.{◌≡◌, ◌++◌, length}
 use Rattle.oneshot_text.specs.Future.{words_of_future_calls, HasNumbers}
 use Rattle.oneshot_text.specs.Words.{words_left, IsSameLine}

@@ -1,4 +1,4 @@
--- A fault is one of a call, or one behind the calls.
+-- A fault is one of a call, or one after the calls.
 use Rattle.std.proofs.Common.{refl}
 use Rattle.oneshot_text.specs.Future.{words_of_future_calls}
 use Rattle.oneshot_text.specs.Grammar.{AsksForFuture}

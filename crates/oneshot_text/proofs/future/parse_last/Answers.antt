@@ -1,4 +1,4 @@
--- Behind `drop` no word follows, and what is no call of a future is unknown.
+-- No word follows `drop`, and a word that is no call of a future is unknown.
 use Rattle.std.proofs.Common.{codes, refl}
 use Rattle.oneshot_text.specs.Grammar.{AsksForFuture}
 use Rattle.oneshot_text.specs.Words.{words_left}

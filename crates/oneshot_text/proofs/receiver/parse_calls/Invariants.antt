@@ -1,4 +1,4 @@
--- The words that were taken ask for the calls so far.
+-- The words taken ask for the calls so far.
 use Rattle.std.proofs.Common.{◌≡◌, ◌++◌, length, map}
 use Rattle.oneshot_text.specs.Receiver.{word_of_call}
 use Rattle.oneshot_text.specs.Words.{words_left, IsSameLine}

@@ -1,4 +1,4 @@
--- Behind `recv` and `drop` no word follows, behind `future` a future's words, and what is no last call is unknown.
+-- No word follows `recv` or `drop`, a future's words follow `future`, and a word that is no last call is unknown.
 use Rattle.std.proofs.Common.{codes, refl}
 use Rattle.oneshot_text.specs.Grammar.{AsksForReceiver, AsksForFuture}
 use Rattle.oneshot_text.specs.Words.{words_left}

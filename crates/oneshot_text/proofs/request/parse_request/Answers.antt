@@ -1,4 +1,4 @@
--- A fault is the first one: it is in a line, and the lines before are right.
+-- The fault is the first one: it is in a line, and the lines before are right.
 use Rattle.std.proofs.Common.{[], ◌∷◌, refl, sym, ◌∙◌}
 use Rattle.oneshot_text.specs.declared.line.Line.TheVariants.{Sender, Receiver, Schedule}
 use Rattle.oneshot_text.proofs.FirstFaults.{line_wrong, line_later, sender_right, receiver_right, moves_right}

@@ -1,4 +1,4 @@
--- Each letter is a move's, and no other moves have these letters.
+-- Each letter is that of a move, and no other moves have these letters.
 use Rattle.std.proofs.Common.{◌≡◌, ◌≢◌, ◌≤◌, Some, None, length, map, sym, ap, ◌∙◌}
 use Rattle.std.proofs.lemmas.List.{take_all}
 use Rattle.oneshot_replay.specs.declared.Move.{Move}

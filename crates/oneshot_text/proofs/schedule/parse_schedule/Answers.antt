@@ -1,4 +1,4 @@
--- The line has one word, with the letters of these moves alone.
+-- The line has one word, with the letters of these moves and no others.
 use Rattle.std.proofs.Common.{◌≡◌, ◌<◌, [], ◌∷◌, length, refl, arith}
 use Rattle.oneshot_text.specs.Grammar.{AsksForMoves, IsOver}
 use Rattle.oneshot_text.specs.Words.{words_left}

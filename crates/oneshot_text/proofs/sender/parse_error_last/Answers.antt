@@ -1,4 +1,4 @@
--- Behind a last call no word follows, and what is no last call of an error is unknown.
+-- No word follows a last call, and a word that is no last call of an error is unknown.
 use Rattle.std.proofs.Common.{codes, refl}
 use Rattle.oneshot_text.specs.Grammar.{AsksForError}
 use Rattle.oneshot_text.specs.Words.{words_left}

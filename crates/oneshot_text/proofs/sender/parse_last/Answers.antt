@@ -1,4 +1,4 @@
--- Behind `drop` no word follows, behind `send` a number and an error's words, and what is no last call is unknown.
+-- No word follows `drop`, a number and an error's words follow `send`, and a word that is no last call is unknown.
 use Rattle.std.proofs.Common.{[], codes, refl}
 use Rattle.oneshot_text.specs.Grammar.{AsksForSender, AsksForError, NumberAnd}
 use Rattle.oneshot_text.specs.Words.{words_left}

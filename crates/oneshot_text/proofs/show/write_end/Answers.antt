@@ -1,4 +1,4 @@
--- Two lines, one behind the other, and then all is written.
+-- Two lines, one after the other, and then all is written.
 use Rattle.std.proofs.Common.{ap, ◌∙◌}
 use Rattle.oneshot_text.specs.RestText.{block_text}
 use Rattle.oneshot_text.proofs.Pages.{written_out, if_ok}

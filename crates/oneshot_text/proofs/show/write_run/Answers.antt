@@ -1,4 +1,4 @@
--- The text grows by a line a move, and ends with two more.
+-- The text grows by a line for each move, and ends with two more.
 use Rattle.std.proofs.Common.{arith, ◌≡◌, ◌+◌, length, take, refl, ◌∙◌}
 use Rattle.std.specs.Prelude.{unwrap_or}
 use Rattle.std.proofs.lemmas.List.{take_more, take_all, length-take-le}

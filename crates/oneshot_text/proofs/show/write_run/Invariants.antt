@@ -1,10 +1,10 @@
--- What holds on each round of the loop in `write_run`.
+-- The invariant of the loop in `write_run`.
 use Rattle.std.proofs.Common.{◌≡◌, ◌+◌, take}
 use Rattle.oneshot_text.specs.Page.{held}
 use Rattle.oneshot_text.proofs.TextGrows.{HasWritten}
 use Rattle.oneshot_text.proofs.show.write_run.Given as goal
 
--- the moves so far have made the run whose text is written, but for the lines that wait
+-- the moves so far made the run whose text is written, except the lines that wait
 abbrev pub invariant-loop-m : goal.invariant-loop-m
 invariant-loop-m g l = record {
   count : l.run.count ≡ l.initial.run.count + l.m-index;

@@ -1,4 +1,4 @@
--- Both logs have one order, in one.
+-- The goals that `order_is_one` leaves.
 use Rattle.oneshot_word.proofs.OneOrder.{order_is_one, worked_orders, wrong_orders}
 use Rattle.oneshot_word.proofs.laws.order_is_one.Goals as goal
 

@@ -1,4 +1,4 @@
--- A text with no lines is empty, and another one has input left.
+-- A text with no lines is empty, and any other has input left.
 use Rattle.std.proofs.Common.{arith}
 use Rattle.std.proofs.lemmas.Grind.{common_steps}
 use Rattle.oneshot_text.specs.declared.fault.Malformed.TheVariants.{InputAfterLines}

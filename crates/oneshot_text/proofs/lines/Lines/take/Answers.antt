@@ -1,4 +1,4 @@
--- Where no line is left, the line is missing; where its first word is another one, it begins otherwise.
+-- If no line is left, the line is missing; if its first word is another one, it begins wrongly.
 use Rattle.std.proofs.Common.{◌≡◌, ◌∷◌, map, length, Some, refl, sym, ap, ◌∙◌, arith}
 use Rattle.std.proofs.lemmas.Grind.{common_steps}
 use Rattle.oneshot_text.specs.declared.fault.Malformed.TheVariants.{MissingLine, MustBegin}

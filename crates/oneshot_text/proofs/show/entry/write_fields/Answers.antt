@@ -1,4 +1,4 @@
--- The fields, one behind the other.
+-- The fields, one after the other.
 use Rattle.std.proofs.Common.{refl}
 use Rattle.std.proofs.Output.{has_written_append}
 use Rattle.oneshot_text.proofs.show.entry.write_fields.Goals as goal

@@ -3,7 +3,7 @@ use Rattle.std.proofs.Common.{refl, ◌≡◌, ℕ, List, ◌++◌, codes, appen
 use Rattle.std.proofs.Output.{has_written_append, has_written_of_eq}
 use Rattle.oneshot_text.proofs.show.entry.write_idle.Goals as goal
 
--- the space behind the letter stands before the word
+-- the space after the letter comes before the word
 in_a_row : (end end_text : List ℕ) → end_text ≡ codes " " ++ end ++ codes " "
     → end_text ++ codes "idle" ≡ codes " " ++ end ++ codes " idle"
 in_a_row end end_text is = rw is (append_assoc (codes " " ++ end) (codes " ") (codes "idle"))

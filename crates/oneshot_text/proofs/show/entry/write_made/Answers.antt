@@ -1,9 +1,9 @@
--- The step, its fields and its reply, one behind the other.
+-- The step, its fields and its reply, one after the other.
 use Rattle.std.proofs.Common.{refl, ◌≡◌, ℕ, List, ◌++◌, codes, append_assoc}
 use Rattle.std.proofs.Output.{has_written_append, has_written_of_eq}
 use Rattle.oneshot_text.proofs.show.entry.write_made.Goals as goal
 
--- the texts of a step in a row, however they are grouped
+-- the texts of a step in sequence, however they are grouped
 in_a_row : (space end name before arrow after message waker token found own reply : List ℕ) →
     (space ++ end ++ space ++ name ++ space ++ before ++ arrow ++ after) ++ (message ++ waker ++ token ++ found ++ own)
     ++ reply

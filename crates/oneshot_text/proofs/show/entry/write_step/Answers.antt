@@ -1,9 +1,9 @@
--- The end, the step and the words, one behind the other.
+-- The end, the step and the words, one after the other.
 use Rattle.std.proofs.Common.{refl, ◌≡◌, ℕ, List, ◌++◌, codes, append_assoc}
 use Rattle.std.proofs.Output.{has_written_append, has_written_of_eq}
 use Rattle.oneshot_text.proofs.show.entry.write_step.Goals as goal
 
--- the texts of the end and of the step, with the spaces that they bring, in a row
+-- the texts of the end and of the step, with their spaces, in sequence
 in_a_row : (space end name before arrow after end_text name_text : List ℕ) → end_text ≡ space ++ end ++ space
     → name_text ≡ name ++ space → (end_text ++ name_text) ++ (before ++ arrow ++ after)
     ≡ space ++ end ++ space ++ name ++ space ++ before ++ arrow ++ after

@@ -1,4 +1,4 @@
--- The word before, the arrow and the word after, one behind the other.
+-- The word before, the arrow and the word after, one after the other.
 use Rattle.std.proofs.Common.{refl}
 use Rattle.std.proofs.Output.{has_written_append}
 use Rattle.oneshot_text.proofs.show.entry.write_words.Goals as goal

@@ -1,4 +1,4 @@
--- A word that is left stands where none may.
+-- A word that is left is where none may follow.
 use Rattle.std.proofs.Common.{◌∙◌, sym}
 use Rattle.oneshot_text.proofs.LineFaults.{fault_of_err, word_over}
 use Rattle.oneshot_text.proofs.words.Words.end.Goals as goal

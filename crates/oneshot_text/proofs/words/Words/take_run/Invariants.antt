@@ -1,4 +1,4 @@
--- The words that were taken are all the text.
+-- The words taken are all `text`.
 use Rattle.std.proofs.Common.{◌≡◌, ◌++◌, length, replicate}
 use Rattle.oneshot_text.specs.Words.{words_left, IsSameLine}
 use Rattle.oneshot_text.proofs.words.Words.take_run.Given as goal

@@ -10,7 +10,7 @@ trade_message-requires-clause-kept g c = vacant_keeps
 pub trade_message-requires-clause-passed : goal.trade_message-requires-clause-passed
 trade_message-requires-clause-passed g c = holds_none
 
--- what lies in its slot is what it took
+-- the message in its slot is the one that it took
 holds_so : {T : Type 0} {taken : Option T} {slot : Held T} {m : T} → HoldsTaken taken slot → slot ≡ held m
     → taken ≡ Some m
 holds_so holds_no_slot is = absurd (cc is)

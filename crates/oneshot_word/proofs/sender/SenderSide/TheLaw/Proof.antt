@@ -1,4 +1,4 @@
--- Beside those to its fields a `&` to a side holds nothing.
+-- A `&` to a side holds nothing but those to its fields.
 use denote.RattleType.{RattleType}
 use Rattle.oneshot_word.proofs.Names.{Laws, nothing_shr_laws, of_Lends, Lends-nothing, Ghosts}
 use Rattle.oneshot_word.specs.contracts.sender.SenderSide.TheInside as Inside

@@ -1,4 +1,4 @@
--- A side may be sent where its parts may: it owns nothing else.
+-- A side is `Send` if its parts are: it owns nothing else.
 use denote.RattleType.{RattleType}
 use Rattle.oneshot_word.proofs.Names.{IsSend, struct_send, shape, to, Ghosts, the_row, the_type}
 use Rattle.oneshot_word.proofs.Crosses.{parts_send}

@@ -1,4 +1,4 @@
--- A `&` to a side may be sent where those to its parts may: it holds nothing else.
+-- A side is `Sync` if its parts are: a `&` to it holds nothing else.
 use denote.RattleType.{RattleType}
 use Rattle.oneshot_word.proofs.Names.{IsSend, IsSync, struct_sync, shape, to, Ghosts, the_row, the_type}
 use Rattle.oneshot_word.proofs.Crosses.{parts_sync}

@@ -1,4 +1,4 @@
--- The step is the one of the row that `next` gives.
+-- The step is that of the row that `next` returns.
 use Rattle.oneshot_world.proofs.Names.{◌≡◌, Some, receiver_step, receiver_row, outcome, seen_by}
 use Rattle.oneshot_world.proofs.StateSteps.{receiver_made_of}
 use Rattle.oneshot_world.proofs.state.State.step_receiver.Goals as goal

@@ -1,4 +1,4 @@
--- The step is the one of the row that `next` gives.
+-- The step is that of the row that `next` returns.
 use Rattle.oneshot_world.proofs.Names.{◌≡◌, Some, outcome, sender_step, sender_row, seen_by}
 use Rattle.oneshot_world.proofs.StateSteps.{sender_made_of}
 use Rattle.oneshot_world.proofs.state.State.step_sender.Goals as goal

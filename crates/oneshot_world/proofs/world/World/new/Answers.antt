@@ -1,4 +1,4 @@
--- The world before the first move is one that a run reaches.
+-- The world before the first move is reached.
 use Rattle.oneshot_world.proofs.Names.{rules, ◌≡◌, sym, subst, IsReached, World, opening}
 use Rattle.oneshot_world.proofs.ReachedOpening.{opening_reached}
 use Rattle.oneshot_world.proofs.world.World.new.Goals as goal

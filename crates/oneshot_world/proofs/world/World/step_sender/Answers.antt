@@ -1,4 +1,4 @@
--- The position has its step, and the world after it is one that a run reaches.
+-- The position has its step, and the world after it is reached.
 use Rattle.oneshot_world.proofs.Names.{◌≡◌, Some, ◌∙◌, ap, sym, World}
 use Rattle.oneshot_world.proofs.ReachedLeads.{word_is_code, sender_at}
 use Rattle.oneshot_world.proofs.ReachedMoves.{sender_makes, sender_reaches}

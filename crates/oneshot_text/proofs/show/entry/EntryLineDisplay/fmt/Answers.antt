@@ -1,4 +1,4 @@
--- The number stands before an idle end and before a step.
+-- The number comes before an idle end and before a step.
 use Rattle.std.proofs.Common.{refl, ◌≡◌, ℕ, List, ◌++◌, sym, ap, ◌∙◌, codes, append_assoc}
 use Rattle.std.proofs.Output.{has_written_append, has_written_of_eq}
 use Rattle.std.specs.Fmt.{decimal}

@@ -1,4 +1,4 @@
--- Once a call is answered, those after it are left.
+-- Once a call has replied, those after it are left.
 use Rattle.oneshot_world.proofs.Names.{◌<◌, length, refl}
 use Rattle.oneshot_world.proofs.ScriptsAnswered.{future_from_here}
 use Rattle.oneshot_world.proofs.calls.future.FutureCalls.answer.Goals as goal

@@ -1,4 +1,4 @@
--- Once a call is answered, those after it are left.
+-- Once a call has replied, those after it are left.
 use Rattle.oneshot_world.proofs.Names.{◌≡◌, ◌<◌, None, length, refl}
 use Rattle.oneshot_world.proofs.ScriptsAnswered.{from_here, answers}
 use Rattle.oneshot_world.proofs.calls.receiver.ReceiverCalls.advance.Goals as goal

@@ -1,4 +1,4 @@
--- A receiver that is no future polls nothing.
+-- A receiver that is no future makes no poll.
 use Rattle.oneshot_world.proofs.Names.{◌≡◌, None, drop, sym}
 use Rattle.oneshot_world.proofs.ScriptsAnswered.{not_polled}
 use Rattle.oneshot_world.proofs.calls.receiver.ReceiverCalls.number.Goals as goal
