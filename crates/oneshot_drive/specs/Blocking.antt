@@ -35,12 +35,12 @@ pub record Path {T W : Type 0} (from : ReceiverPos) (to : Outcome ReceiverPos) (
   pub gets : messages_got steps ≡ []
   pub leads : Stretch from steps to
 
-
 -- the rows that a receive runs: those of the calls by reference, with a deadline or without, or those of
 -- `recv`, which has no deadline
 pub data ReceiveBy : Bool → Type 0 where
   by_ref : (timed : Bool) → ReceiveBy timed
   by_value : ReceiveBy false
+
 -- the positions at which it loads, stores its waker, and begins to wait
 abbrev pub load_of : {timed : Bool} → ReceiveBy timed → ReceiverPos
 load_of (by_ref timed) = Ref (StartLoad timed)
