@@ -31,7 +31,7 @@ pub record OrdersThatAreNot : Type 0 where
   pub finds_no_waker : {word : ℕ} → InOrder ((Add, Word 0) ∷ []) ((Load, Word 3) ∷ []) word → ⊥
   -- the last operation is skipped
   pub skips_the_last : InOrder ((Add, Word 3) ∷ []) ((Load, Word 3) ∷ []) 3 → ⊥
-  -- Each log is one of its end, and both phases can be together. But whichever of the add and the swap comes
+  -- Each log is possible for its end, and both phases together are. But whichever of the add and the swap comes
   -- last skips the other.
   pub skips_a_swap : {word : ℕ} → InOrder ((Add, Word 3) ∷ []) waits word → ⊥
   -- the final swap finds a receiver that stopped, and this receiver never did
