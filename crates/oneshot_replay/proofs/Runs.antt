@@ -29,7 +29,7 @@ pub last_more : (start : World) (worlds : List World) (next : World) → last_of
 last_more start [] next = refl
 last_more start (w ∷ worlds) next = last_more w worlds next
 
--- an entry a move
+-- one entry for each move
 pub tells_as_many : (n : ℕ) (start : World) (worlds : List World) (moves : List Move) (entries : List Entry)
     → Tells_from n start worlds moves entries → length entries ≡ length moves
 tells_as_many n start [] [] [] told = refl
