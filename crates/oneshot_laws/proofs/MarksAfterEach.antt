@@ -1,4 +1,4 @@
--- What every mark passes after each mark that passes a test, for any two tests: the law keeps one flag.
+-- Laws that every mark passes one test after each mark that passed another: the reader keeps one flag.
 use Rattle.oneshot_laws.proofs.Names.{◌≡◌, Bool, true, false, ◌&&◌, ◌||◌, List, [], ◌∷◌, map, refl, list_all, both, only_if, Mark, after_each}
 use Rattle.oneshot_laws.proofs.Coding.{flags}
 use Rattle.oneshot_laws.proofs.Glanced.{Law, Passes, Nameless, Passed, holds_by}
@@ -21,7 +21,7 @@ always : (after : Bool) → only_if after true ≡ true
 always true = refl
 always false = refl
 
--- the flag is whether `test` was passed already, after which all must be good
+-- the flag is whether a mark has passed `test`, after which all must be good
 module _ (test good : Glance → Bool) where
   abbrev pub ever_law : Law Bool
   ever_law =

@@ -108,7 +108,7 @@ message_followed each s r worlds moves entries tells =
     subst (λ has. IsPath has NotSent (message_moves entries))
     (has_it s.last ∙ sym (sends_after_looks s.looks (sender_last s.last))) from_start
 
--- whether a send was made, and where the message is
+-- whether a send has begun, and where the message is
 pub record Sending : Type 0 where
   pub begun : Bool
   pub place : Place

@@ -62,7 +62,7 @@ pub record IsFollowed (k : Classes) (name this : WakerName) : Type 0 where
   pub same_move : (from to : WakerPlace) → is_waker_move this from to ≡ is_waker_move name from to
   pub same_end : (place : WakerPlace) → is_waker_end this place ≡ is_waker_end name place
 
--- what is seen of it by its class, holds of it by its name
+-- what is seen of it by its class holds of it by its name
 module _ (k : Classes) (name this : WakerName) (names : Names WakerPlace) (followed : IsFollowed k name this) where
   if_this : (same : Bool) (from to place : WakerPlace) (later : List WakerMove)
       → (if same then is_same_waker_place from place && is_waker_move this from to else true) ≡ true
