@@ -356,7 +356,7 @@ both_dropped_while_pending =
 -- S send 7
 -- R future poll 1 try try try
 -- X rrrrrrssrsssrrr
--- a `try_recv` of a future that waits finds nothing, also while the sender finishes, and leaves the stored
+-- a `try_recv` of a waiting future finds nothing, also while the sender finishes, and leaves the stored
 -- waker; the last one has the message
 abbrev pub tried_while_pending : Example
 tried_while_pending =
@@ -454,7 +454,7 @@ sent_to_one_that_left =
 -- S drop
 -- R future poll 1 drop
 -- X rrrrrsrrssss
--- the future's drop leaves before the sender's drop has finished, which frees the block
+-- the future's drop ends before the sender's drop, which then frees the block
 abbrev pub dropped_to_one_that_left : Example
 dropped_to_one_that_left =
     record {

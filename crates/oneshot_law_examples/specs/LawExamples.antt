@@ -87,7 +87,7 @@ MisfreedBlocks =
     ∷ record sent_then_taken { entries = sent_then_taken.entries ++ E.Made (frees Sender 2) ∷ [] }
     -- a free while the other end still holds
     ∷ record sent_then_taken { entries = take 1 sent_then_taken.entries ++ E.Made (frees Receiver 3) ∷ [] }
-    -- the sender uses the block after it let go
+    -- the sender uses the block after it let go of it
     ∷ record sent_then_taken { entries = take 2 sent_then_taken.entries ++ E.Made (sender (T.Word O.Load) 4 4) ∷ [] }
     -- neither end frees
     ∷ answered_by 6 R.Done (without 7 sent_then_taken)
@@ -122,7 +122,7 @@ WrongReplies =
     -- "nothing yet" though the message was there, or the sender gone
     × IsTrue (list_all (fails_at is_nothing_only_if_open)
     (answered_by 5 R.Empty sent_then_taken ∷ answered_by 2 R.Empty dropped_then_tried ∷ []))
-    -- an unread message is dropped never, or twice
+    -- an unread message is never dropped, or twice
     × IsTrue (list_all (fails_at is_dropped_once)
     (unmoved_by 4 dropped_unread ∷ moved_by 5 P.InCell P.Dropped dropped_unread ∷ []))
     -- or by the send

@@ -65,7 +65,7 @@ receiver step before after = step_of Receiver step (Some before) (Some after)
 abbrev pub frees : End → ℕ → Made
 frees end before = step_of end T.Free (Some before) None
 
--- a step that needs no block, once the block is freed
+-- a step after the block was freed
 abbrev pub without_block : End → Step → Made
 without_block end step = step_of end step None None
 
@@ -77,7 +77,7 @@ parked by_token before = record (receiver T.Park before before) { seen = S.Token
 abbrev pub copied : Bool → ℕ → Made
 copied refused before = record (receiver T.Copy before before) { seen = S.Refused refused }
 
--- a read of the clock
+-- a reading of the clock
 abbrev pub clocked : Bool → ℕ → Made
 clocked over before = record (receiver T.Clock before before) { seen = S.Over over }
 

@@ -72,7 +72,7 @@ worlds_in s r x = worlds_from 1 (opening s r) x.entries
 abbrev pub shows : Example → Bool → Option (Rest ℕ) → Told ℕ
 shows x freed rest = record { entries = x.entries; block_freed = freed; rest = rest }
 
--- a receiver that parks, and gets the message; and a future whose drop takes its copy back
+-- a receiver that parks and receives the message; and a future whose drop takes its copy back
 pub record RightRecords : Type 0 where
   pub of_a_thread : IsRight sends (receiving [] RL.Recv) (moves_in waited_for_message)
       (shows waited_for_message true (Some (Delivered 7)))

@@ -12,7 +12,7 @@ use Rattle.oneshot_law_examples.specs.Traces.{waited_for_message, sent_before_wa
 use Rattle.oneshot_law_examples.specs.LawExamples.{are_wakers_right, marks_in, are_wakers_kept}
 
 -- THE PLACES
--- a task's waker comes into the receiver's hand and from there into the cell
+-- a task's waker moves into the receiver's hand, and from there into the cell
 abbrev pub with_a_copy : Example → Example
 with_a_copy x =
     record x {

@@ -34,11 +34,11 @@ over_later : (s x s' r y r' f z f' e w e' good : Bool)
     → only_if (is_over (s || (x || s')) (r || (y || r')) (f || (z || f')) (e || (w || e'))) good ≡ true
 over_later s x s' r y r' f z f' e w e' good h = rw (or_more s x s', or_more r y r', or_more f z f', or_more e w e') h
 
--- a law that asks nothing until the end
+-- a law that requires nothing before the end
 abbrev pub nothing_asked : {X : Type 0} → X → Glance → Bool
 nothing_asked own g = true
 
--- what is kept after these
+-- what is kept after these glances
 abbrev pub own_after : {X : Type 0} → (X → Glance → X) → X → List Glance → X
 own_after own_then own [] = own
 own_after own_then own (g ∷ gs) = own_after own_then (own_then own g) gs
@@ -57,7 +57,7 @@ pub record Ending (X : Type 0) : Type 0 where
 abbrev pub nothing_ended : {X : Type 0} → X → Kept X
 nothing_ended own = record { sender = false; receiver = false; refused = false; error = false; own = own }
 
--- names by what is kept
+-- names, by what is kept
 abbrev pub of_kept : {X : Type 0} → Names X → Names (Kept X)
 of_kept names = record { polls = names.polls; copies = λ x. names.copies x.own }
 
@@ -149,7 +149,7 @@ module _ {X T : Type 0} (ending : Ending X) (k : Classes) (s : SenderScript T) (
       asked ending (map (as_glance k) (map glance_of (marks (calls_of s r) entries)))
       (nothing_ended (ending.first (opening_place s.last))) p
 
-  -- and at the end the claim
+  -- and the claim at the end
   pub ended_run : PassesEnding ending k s r entries → only_if (all_ended (marks (calls_of s r) entries))
       (ending.good (own_after ending.own_then (ending.first (opening_place s.last))
       (map (as_glance k) (map glance_of (marks (calls_of s r) entries))))) ≡ true

@@ -101,7 +101,7 @@ module _ {N : Type 0} (law : Law N) where
         state = law.sees x.state (glance_at call e x.reader.object (watch_at side x.reader));
       }
 
-  -- the reader of histories beside the law
+  -- the reader of histories, together with the law
   abbrev pub with_history : Automaton (Pair N)
   with_history =
       record {
@@ -115,7 +115,7 @@ module _ {N : Type 0} (law : Law N) where
       }
 
   module _ (k : Classes) where
-    -- what is seen of an entry by classes
+    -- an entry, seen by classes
     seen_as : (side : End) (left : Unanswered) (e : Made) (m : Reader)
         → glance_at (class_under_way k left) (as_made k e) m.object (watch_at side m)
         ≡ as_glance k (glance_at (call_under_way left) e m.object (watch_at side m))
@@ -127,7 +127,7 @@ module _ {N : Type 0} (law : Law N) where
         → reads side (class_under_way k left) (as_made k e) m ≡ reads side (call_under_way left) e m
     read_as = reads_alike histories histories_nameless k
 
-    -- what the pair accepts, the law accepts
+    -- the law accepts what the pair accepts
     pub glanced : (entries : List Entry) (x : Pair N) (s r : Unanswered) → Accepts_by with_history k x s r entries
         → Passes law x.state (map (as_glance k) (glances x.reader s r entries))
     glanced [] x s r a = tt
@@ -225,7 +225,7 @@ module _ {N M : Type 0} (a : Law N) (b : Law M) where
   second_passed : {T : Type 0} → Passed together T → Passed b T
   second_passed both s r worlds moves entries told = second_passes _ _ (both s r worlds moves entries told)
 
--- the law that asks nothing
+-- the law that requires nothing
 abbrev no_law : Law (Unit {0})
 no_law = record { coding = alone; passes = λ _ _. true; sees = λ _ _. tt; names = no_names; first = λ _. tt }
 
@@ -243,7 +243,7 @@ abbrev pub all_of : (laws : Laws) → Law (States laws)
 all_of no_laws = no_law
 all_of (also law laws) = together law (all_of laws)
 
--- each run passes each of them
+-- each run passes all of them
 abbrev pub Each : Laws → Type 0 → Type 0
 Each no_laws T = Unit {0}
 Each (also law laws) T = Passed law T × Each laws T

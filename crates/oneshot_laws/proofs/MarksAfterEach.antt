@@ -6,7 +6,7 @@ use Rattle.oneshot_laws.proofs.Glances.{Glance, glance_of}
 use Rattle.oneshot_laws.proofs.Watched.{no_names}
 use Rattle.oneshot_laws.proofs.WatchedRuns.{EachRun}
 
--- what was asked of this and of all that follows
+-- what holds of this mark and of all that follow
 ever : (after test good later : Bool) → only_if after good ≡ true → only_if (after || test) later ≡ true
     → only_if after (good && later) ≡ true
 ever false test good later h k = refl

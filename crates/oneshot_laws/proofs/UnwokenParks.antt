@@ -58,7 +58,7 @@ waits_as w =
 abbrev is_awake : Watched Bool → Bool
 is_awake x = not (x.reader && waits_in_park (ahead_at x.control))
 
--- all that a run can reach, and nobody in it waits in a park
+-- all that a run can reach; nobody in it waits unwoken in a park
 pub explored : Explored ended_reader
 explored = record { found = all_watched ended_reader; all = refl }
 

@@ -9,7 +9,7 @@ use Rattle.oneshot_laws.proofs.Glanced.{of_call}
 use Rattle.oneshot_laws.proofs.UnwokenTasks.{no_task_waits}
 use Rattle.oneshot_laws.proofs.UnwokenParks.{ends_sender_at, ended_reader, explored, ended_classed, Found, awake}
 
--- a turn leads on to what was found; the reader looks at no number
+-- a turn leads to what was found; the reader reads no number
 next_found : (n : ℕ) (side : End) (w : World) (entry : Entry) (next : World) (ended : Bool) → Turned n w side entry next
     → IsReached w → Found w ended → true ≡ true
     → Found next (reads_entry ended_reader (class_under_way all_alike (by_end side w.sender w.receiver))
@@ -67,7 +67,7 @@ now so_far n w ended f h task =
     neither (has_answered is_end_of_sender (so_far [])) (waits_in_park (ahead_of w)) (waits_in_task (so_far []))
     (rw (h ∙ or_false ended) (awake w ended f)) (task [] [] [] tt)
 
--- an entry made advances the reading as it does the reader
+-- an entry advances the reading as it does the reader
 woken_turn : (entries : List Entry) → Claim entries
     → (so_far : List Entry → List Mark) (n : ℕ) (side : End) (w : World) (entry : Entry) (next : World) (s r : Reading)
     (ended : Bool) (worlds : List World) (moves : List Move) → Turned n w side entry next → s.left ≡ w.sender

@@ -123,7 +123,7 @@ classed number =
       goes = λ n x side call e apt a fresh. refl;
     }
 
--- what the reader accepts ends well
+-- a trace that the reader accepts ends well
 well_after : (gs : List Glance) (x : Story) → is_well x ≡ true → Passes task_law x gs
     → is_well (own_after story_then x gs) ≡ true
 well_after [] x well p = well

@@ -68,7 +68,7 @@ module _ {M : Type 0} (a : Automaton M) (k : Classes) (classed : Classed a k) (e
       (receiver_control_is (receiver_told answer n w) w (receiver_step position) row)
       (and_right _ _ passed)
 
-  -- every run from here on that tells these entries, of which the next is the n-th, is accepted
+  -- every run from here on with these entries, numbered from n on, is accepted
   abbrev Claim : List Entry → Type 0
   Claim entries =
       (n : ℕ) (w : World) (m : M) (worlds : List World) (moves : List Move) → IsReached w → IsFound w m

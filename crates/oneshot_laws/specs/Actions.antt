@@ -67,7 +67,7 @@ fixed_reply_of (Of_sender SC.DropError) = Some R.Done
 fixed_reply_of (Of_receiver RC.IntoFuture) = Some R.Future
 fixed_reply_of _ = None
 
--- the reply of a call that makes this step on this object, and the object after it
+-- the reply of a call that performs this step on this object, and the object after it
 abbrev pub reply_on : Call → Object → Option Action → Option Reply
 reply_on call o None = None
 reply_on call o (Some action) = reading_of call (answer_of action o)

@@ -46,7 +46,7 @@ abbrev pub is_nothing_yet : Option Reply → Bool
 is_nothing_yet None = false
 is_nothing_yet (Some reply) = says_nothing_yet reply
 
--- which operation on the word a step is
+-- the operation on the word that a step is
 abbrev pub is_word : Step → Bool
 is_word (T.Word op) = true
 is_word _ = false

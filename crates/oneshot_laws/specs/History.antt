@@ -39,7 +39,7 @@ is_right_outside ms =
     list_all (λ m. only_if (not (is_object_step m.call) && not (is_stray m.call))
     (agrees m.entry.reply (fixed_reply_of m.call))) ms
 
--- every step belongs to a call of the scripts
+-- every entry belongs to a call of the scripts
 abbrev pub is_covered : List Mark → Bool
 is_covered ms = list_all (λ m. not (is_stray m.call)) ms
 

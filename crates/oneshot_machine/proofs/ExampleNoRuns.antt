@@ -28,7 +28,7 @@ module _ {P : Type 0} {step : P → Step} {row : P → Seen → Option (Outcome 
   answers (last x is leads) = leads
   answers (more next x xs is leads rest) = absurd (no_run rest)
 
-  -- a longer one goes on, where its first row leads
+  -- a longer run goes on where its first row leads
   pub does_go_on : {p : P} {x y : Event ℕ ℕ} {ys : List (Event ℕ ℕ)} {r : Reply} → Run step row p (x ∷ y ∷ ys) r
       → (q : P) × (row p x.seen ≡ Some (Goes q)) × Run step row q (y ∷ ys) r
   does_go_on (more next x xs is leads rest) = (next, leads, rest)

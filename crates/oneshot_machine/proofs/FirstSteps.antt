@@ -1,4 +1,4 @@
--- What the first operation of a run saw, by the log that the run leaves.
+-- What the first operation of a run saw, from the log that the run leaves.
 use Rattle.std.proofs.Common.{◌≡◌, ℕ, List, [], ◌∷◌, Some, get_or, ap, ◌∙◌, subst}
 use Rattle.std.specs.List.{cons_option}
 use Rattle.std.specs.Option.{option_map}
@@ -20,7 +20,7 @@ use Rattle.oneshot_machine.specs.Runs.{Run, last, more}
 use Rattle.oneshot_machine.specs.Sender.{sender_step, sender_row}
 use Rattle.oneshot_machine.specs.TableRows.{Goes, Answers}
 
--- a `send` that has written its message adds
+-- a `send` that has written its message performs an add
 then_adds : (seen : Seen) (next : SenderPos) → sender_row SendWrite seen ≡ Some (Goes next) → next ≡ SendAdd
 then_adds Done next leads = cc
 then_adds _ next leads = absurd (cc leads)

@@ -78,7 +78,7 @@ module _ {T W : Type 0} where
         ap receiver_at (words_after (worded op word ∷ []) grows)
         ∙ phase_from-snoc receiver_next first (words before.list) (op, saw op word)
 
-    -- first some steps, and then some more
+    -- some steps, and then some more
     pub and_then : {last : Log T W} (xs ys : List (Event T W)) → Grows before after xs → Grows after last ys
         → Grows before last (xs ++ ys)
     and_then xs ys s t =

@@ -34,7 +34,7 @@ turned (gives_thing x) = is_away
 turned gets_room = is_vacant
 turned (gets_thing x) = is_held x
 
--- whether a row is of this operation and needs these slots
+-- whether a row has this operation and needs these slots
 abbrev pub is_row_of : {At : Type 0} → Op → Slots → Row At → Bool
 is_row_of op slots row = is_same_op op row.0 && (is_same_share slots.0 row.1.0 && is_same_share slots.1 row.1.1)
 
@@ -168,7 +168,7 @@ differs n word other = by (n == word) refl
     by true is = absurd (other (eqb-true n word is))
     by false is = refl
 
--- no two rows of a phase have one operation that sees the same
+-- no two rows of a phase have the same operation and see the same
 pub sender_apart : (at : SenderAt) → differ no_sender (sender_moves at) ≡ true
 sender_apart fresh = refl
 sender_apart (owes sending) = refl

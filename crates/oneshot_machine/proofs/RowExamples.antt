@@ -92,7 +92,7 @@ module _ {At : Type 0} where
       let no : false ≡ true =
       rw (same_op op, eq-eqb word word refl, turns_so message, turns_so waker) at this in cc no
 
--- an own slot is not away, and another's is
+-- the end's own slot is not away, and any other is
 not_lost : {X : Type 0} {h : Held X} → IsOwned true h → h ≡ away → ⊥
 not_lost own_vacant is = cc is
 not_lost (own_held x) is = cc is

@@ -15,11 +15,11 @@ module _ {At T W : Type 0} (at : List Noted → At)
     one_more : {xs : List Noted} {op : Op} {m m' : Held T} {w w' : Held W} (word : ℕ)
         → IsFound xs → Finds (at xs) op word m w m' w' → IsFound (xs ++ (op, saw op word) ∷ [])
 
--- with some slots the operation is allowed
+-- the operation is allowed with some slots
 abbrev pub IsAllowed : {At T W : Type 0} → (At → Op → Held T → Held W → Type 0) → At → Op → Type 0
 IsAllowed {At} {T} {W} May at op = (m : Held T) × (w : Held W) × May at op m w
 
--- a position that makes the operation has a row for this word
+-- a position that performs the operation has a row for this word
 abbrev pub Accepts : {P : Type 0} → Table P → Op → ℕ → P → Type 0
 Accepts t op word p = t.step p ≡ Word op → IsSome (t.row p (saw op word))
 

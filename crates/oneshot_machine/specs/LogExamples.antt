@@ -11,7 +11,7 @@ use Rattle.oneshot_machine.specs.Logs.{Event, worded, words, Log, Grows, sender_
 use Rattle.oneshot_machine.specs.Phases.{sending, fresh, owes, finished, first, disconnected, closed_itself}
 use Rattle.oneshot_machine.specs.Runs.{SenderRan, ReceiverRan}
 
--- the log of a ground of one channel, which is whole or not
+-- the log of a ground, whole or not, of one channel
 abbrev pub logged : Bool → List (Event ℕ ℕ) → Log ℕ ℕ
 logged whole list = record { whole = whole; channel = 5 ∷ []; list = list }
 

@@ -22,9 +22,9 @@ pub record OrdersThatAre : Type 0 where
   pub polled : Reaches ((Xor, Word 3) ∷ []) ((Load, Word 3) ∷ (Exchange 3 0, Word 2) ∷ []) 2
   pub sent_too_late : Reaches ((Add, Word 2) ∷ []) ((Swap 2, Word 3) ∷ []) 3
 
--- and logs that have no order, whatever the phases are
+-- logs that have no order, whatever the phases are
 pub record OrdersThatAreNot : Type 0 where
-  -- a new channel has one word
+  -- a new channel has the word 3
   pub begins_at_another_word : InOrder [] [] 0 → ⊥
   -- an operation finds a word that nobody left
   pub finds_what_nobody_left : {word : ℕ} → InOrder [] ((Load, Word 4) ∷ []) word → ⊥

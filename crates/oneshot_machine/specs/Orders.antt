@@ -8,7 +8,7 @@ use Rattle.oneshot_machine.specs.States.{word_after}
 
 -- The operations of the sender's log and of the receiver's have an order, which leaves this word.
 pub data InOrder : List Noted → List Noted → ℕ → Type 0 where
-  -- a new channel is empty
+  -- a new channel has the word 3
   none_made : InOrder [] [] 3
   -- one end performs one more operation, which finds this word
   by_sender : {xs ys : List Noted} {word : ℕ} (op : Op)
@@ -23,7 +23,7 @@ pub data HasRow {At : Type 0} (rows : List (Row At)) (op : Op) (word : ℕ) : Ty
 
 -- Such an order in which each operation, with the word that it finds, has a row in its end's phase.
 pub data Reaches : List Noted → List Noted → ℕ → Type 0 where
-  -- a new channel is empty
+  -- a new channel has the word 3
   nothing_made : Reaches [] [] 3
   -- one end performs one more operation, which has a row in its phase
   sender_makes : {xs ys : List Noted} {word : ℕ} (op : Op)

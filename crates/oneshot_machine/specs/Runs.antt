@@ -10,7 +10,7 @@ use Rattle.oneshot_machine.specs.Sender.{sender_start, sender_step, sender_row}
 use Rattle.oneshot_machine.specs.Receiver.{receiver_start, receiver_step, receiver_row}
 use Rattle.oneshot_machine.specs.Logs.{Event, Log, Grows, messages_given, messages_got}
 
--- from this position these steps lead to this reply
+-- from this position on, these steps lead to this reply
 pub data Run {P T W : Type 0} (step : P → Step) (row : P → Seen → Option (Outcome P))
     : P → List (Event T W) → Reply → Type 0 where
   last : {p : P} {r : Reply} (x : Event T W)

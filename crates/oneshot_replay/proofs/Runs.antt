@@ -9,7 +9,7 @@ use Rattle.oneshot_replay.specs.Run.{HasRun, GoesOn}
 use Rattle.oneshot_replay.specs.Scene.{Scene}
 use Rattle.oneshot_replay.specs.TraceView.{last_of}
 
--- a move that makes the entry after the last one
+-- a move that adds an entry after the last one
 pub tells_more : (n : ℕ) (start : World) (worlds : List World) (moves : List Move) (entries : List Entry) (move : Move)
     (entry : Entry) (next : World) → Tells_from n start worlds moves entries
     → turn (n + length entries) (last_of start worlds) move ≡ Some (entry, next)
