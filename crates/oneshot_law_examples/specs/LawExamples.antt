@@ -41,7 +41,7 @@ MisplacedMessages =
     ∷ unmoved_by 3 taken_from_the_error
     ∷ unmoved_by 5 taken_from_the_error
     ∷ unmoved_by 5 sent_then_taken
-    -- a late `send` leaves the message in the cell: its error does not have it, and after "sent" nobody gets it
+    -- a late `send` leaves the message in the cell: its error lacks it, and after "sent" nobody gets it
     ∷ unmoved_by 12 sent_to_one_that_left
     ∷ unmoved_by 16 (answered_by 16 R.Sent dropped_while_finishing)
     -- all are left out: a message that was sent has never left the script

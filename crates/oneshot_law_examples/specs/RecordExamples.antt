@@ -120,7 +120,7 @@ pub record WrongRecords : Type 0 where
 
 -- and so do the fields of a run's own records
 pub record WrongRuns : Type 0 where
-  -- no entry of such a run, more entries than moves, a block that is not freed, and a message that is elsewhere
+  -- no entry of such a run, too many entries, a block that is not freed, a message that is elsewhere
   pub tells_another_entry : (freed : Bool) (rest : Option (Rest ℕ))
       → IsReplayed sends (receiving [] RL.Stop) (M.Sender ∷ [])
       (record { entries = E.Idle Sender ∷ []; block_freed = freed; rest = rest }) → ⊥

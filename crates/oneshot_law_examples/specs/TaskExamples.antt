@@ -14,7 +14,7 @@ use Rattle.oneshot_law_examples.specs.UnwokenExamples.{up, is_woken_in, is_unwok
 use Rattle.oneshot_law_examples.specs.FutureTraces.{dropped_while_finishing, dropped_once_finished, polled_while_finishing, copy_refused, polled_by_another_task, sent_before_pending, sent_while_polling, sent_while_replacing, dropped_while_pending, woken_then_ready, both_dropped_while_pending, tried_while_pending, tried_beside_a_drop, sent_to_one_that_left, dropped_to_one_that_left, polled_over_the_sender}
 use Rattle.oneshot_law_examples.specs.FutureExamples.{kept_the_old_waker, refused_and_silent}
 
--- The second poll replies "pending" and leaves the first task's waker in the cell. The sender then wakes that task.
+-- The second poll replies "pending", and leaves the first task's waker, which the sender then uses.
 abbrev pub wakes_the_first_task : Example
 wakes_the_first_task =
     record kept_the_old_waker {

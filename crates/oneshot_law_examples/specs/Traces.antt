@@ -451,7 +451,7 @@ ran_out_then_taken =
 -- S drop
 -- R forever
 -- X orrrrrsssrr
--- no instant can hold the timeout: its one reading of the clock changes nothing, and it waits without a deadline
+-- no instant can hold the timeout: the clock's one reading changes nothing, and there is no deadline
 abbrev pub never_ran_out : Example
 never_ran_out =
     record {

@@ -43,8 +43,8 @@ abbrev pub own_after : {X : Type 0} → (X → Glance → X) → X → List Glan
 own_after own_then own [] = own
 own_after own_then own (g ∷ gs) = own_after own_then (own_then own g) gs
 
--- A claim on what is kept at the end: `own_then` updates it at each glance, `asks` is a claim on each glance, and
--- `good` is the claim at the end.
+-- A claim on what is kept at the end: `own_then` updates it at each glance, `asks` is a claim on each
+-- glance, and `good` is the claim at the end.
 pub record Ending (X : Type 0) : Type 0 where
   pub coding : Coding X
   pub own_then : X → Glance → X

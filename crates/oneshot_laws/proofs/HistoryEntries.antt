@@ -75,9 +75,9 @@ open_gives_at call Closed s r h = cc
 open_gives : (c : Call) (o : Object) → is_open_content o.content ≡ true → reply_on c o (Some Take) ≡ nothing_yet_of c
 open_gives call o h = open_gives_at call o.content o.sender_here o.receiver_here h
 
--- What the definition states of a call's entry: its reply is the object's, the object changes as the reader's,
--- the call has acted when it replies, and a call without a reply for "nothing yet" acts where the reader finds
--- that it does.
+-- What the definition states of a call's entry: its reply is the object's, the object changes as the
+-- reader's, the call has acted when it replies, and a call without a reply for "nothing yet" acts where the
+-- reader finds that it does.
 pub record EntryRight (by : Rule) (call : Call) (o next : Object) (acting : Bool) (answer reply : Option Reply)
     (earlier : List Made) (e : Made) (later : List Made) : Type 0 where
   pub legal : only_if (acts by earlier e later) (agrees answer (due call o)) ≡ true

@@ -93,7 +93,7 @@ pays_receive call worked owes None = true
 pays_receive call worked None (Some reply) = may_say (nothing_yet_of call) reply && worked
 pays_receive call worked (Some owes) (Some reply) = is_same_reply reply owes
 
--- a receive that owes nothing finds an open object whenever it works on the word, and never owes "nothing yet"
+-- a receive that owes nothing finds the object open at each operation, and never owes "nothing yet"
 abbrev pub may_owe : Bool → Content → Option Reply → Bool
 may_owe works content None = not works || is_open_content content
 may_owe works content (Some reply) = not (says_nothing_yet reply)

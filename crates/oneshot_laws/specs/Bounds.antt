@@ -1,4 +1,4 @@
--- Bounds: a call's operations on the word, and how soon a receiver's call ends once the sender is done with the word.
+-- Bounds: a call's operations on the word, and how soon a receiver's call ends once the sender is done.
 use Rattle.std.specs.Prelude.{ℕ, zero, suc, Bool, true, not, ◌&&◌, List, [], ◌∷◌, Option, Some, None, if◌then◌else◌}
 use Rattle.oneshot_machine.specs.declared.machine.End.TheVariants.{Sender, Receiver}
 use Rattle.oneshot_machine.specs.declared.machine.receiver.ReceiverStart.TheVariants as RC

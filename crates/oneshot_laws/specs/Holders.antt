@@ -58,8 +58,8 @@ is_held h (m ∷ later) =
     && only_if (frees m) (not (holds (other (side m)) h))
     && is_held (holders_then h m) later
 
--- Nothing uses the block after a free, and nothing frees it again. This follows from `is_held`, since who frees
--- is the last holder and lets go of it; it is here because readers look for it.
+-- Nothing uses the block after a free, and nothing frees it again. This follows from `is_held`, since who
+-- frees is the last holder and lets go of it; it is here because readers look for it.
 abbrev pub is_free_last : List Mark → Bool
 is_free_last [] = true
 is_free_last (m ∷ later) = only_if (frees m) (not (list_any uses_block later)) && is_free_last later

@@ -35,8 +35,8 @@ finds_full_or_closed e = is_word e.step && (found 4 e.before || found 2 e.before
 abbrev pub swaps_closed_in : Made → Bool
 swaps_closed_in e = is_swap_of 2 e.step
 
--- A receive that replies "nothing yet" acts at its last operation on the word. Any other receive, also one that
--- has not replied, acts where it first finds 4 or 2.
+-- A receive that replies "nothing yet" acts at its last operation on the word. Any other receive, also one
+-- that has not replied, acts where it first finds 4 or 2.
 abbrev pub receive_rule : Option Reply → Rule
 receive_rule answer = elim (is_nothing_yet answer) [ true ↦ Last works_on_word | false ↦ First finds_full_or_closed ]
 
@@ -102,8 +102,8 @@ read_by side at e =
 abbrev pub read : Reading → Made → Reading
 read at e = read_by e.side at e
 
--- `number` is the entry's, counted from 1; `object` is the state that the acting entries before it left; `acted`
--- is whether the call has acted, here or before.
+-- `number` is the entry's, counted from 1; `object` is the state that the acting entries before it left;
+-- `acted` is whether the call has acted, here or before.
 pub record Mark : Type 0 where
   pub number : ℕ
   pub entry : Made

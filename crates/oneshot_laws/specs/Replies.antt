@@ -39,8 +39,8 @@ next_receive_gets (m ∷ later) =
 abbrev pub is_got_after_full : List Mark → Bool
 is_got_after_full ms = after_each (answers is_full_look R.Yes) next_receive_gets ms
 
--- after the receiver's `is_closed` returned true, every later receive that replies returns `Disconnected`, and
--- every later `is_closed` true
+-- after the receiver's `is_closed` returned true, every later receive that replies returns `Disconnected`,
+-- and every later `is_closed` true
 abbrev pub is_gone_after_closed : List Mark → Bool
 is_gone_after_closed ms =
     after_each (answers is_closed_look R.Yes)

@@ -61,8 +61,8 @@ waits_in_task (m ∷ later) = m.begins && is_left_by (number_of m.call) m later 
 abbrev pub is_unwoken : List Mark → Ahead → Bool
 is_unwoken ms ahead = has_answered is_end_of_sender ms && (waits_in_park ahead || waits_in_task ms)
 
--- The receiver is unwoken at no moment of a run. `so_far` returns the marks of each front of the trace. For each
--- front there is what lies ahead of the world that it leads to.
+-- The receiver is unwoken at no moment of a run. `so_far` returns the marks of each front of the trace; the
+-- list has, for each front, what lies ahead of the world that it leads to.
 abbrev pub is_never_unwoken : (List Entry → List Mark) → List Ahead → List Entry → Bool
 is_never_unwoken so_far (ahead ∷ aheads) [] = not (is_unwoken (so_far []) ahead)
 is_never_unwoken so_far (ahead ∷ aheads) (entry ∷ entries) =

@@ -1,2 +1,2 @@
-//! No code: the laws of every trace, stated without tables and positions, and the proofs that `oneshot_replay` cites.
+//! No code: the laws of every trace, stated without tables and positions, and their proofs.
 #![tactic(auto)]

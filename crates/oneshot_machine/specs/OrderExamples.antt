@@ -31,8 +31,8 @@ pub record OrdersThatAreNot : Type 0 where
   pub finds_no_waker : {word : ℕ} → InOrder ((Add, Word 0) ∷ []) ((Load, Word 3) ∷ []) word → ⊥
   -- the last operation is skipped
   pub skips_the_last : InOrder ((Add, Word 3) ∷ []) ((Load, Word 3) ∷ []) 3 → ⊥
-  -- Each log is possible for its end, and both phases together are. But whichever of the add and the swap comes
-  -- last skips the other.
+  -- Each log is possible for its end, and so are both phases together. But whichever of the add and the swap
+  -- comes last skips the other.
   pub skips_a_swap : {word : ℕ} → InOrder ((Add, Word 3) ∷ []) waits word → ⊥
   -- the final swap finds a receiver that stopped, and this receiver never did
   pub skips_a_stop : {word : ℕ} → InOrder (sent_over 3) (waits ++ (Load, Word 4) ∷ []) word → ⊥

@@ -49,7 +49,7 @@ pub enum Step {
     TakeWaker,
     /// The receiver takes its waker back from the cell into its hand.
     Withdraw,
-    /// The receiver parks until it is woken, or without a wake.
+    /// The receiver parks. The park may end without a wake.
     Park,
     /// The receiver reads its clock.
     Clock,

@@ -47,9 +47,9 @@ impl<T: Drop> Replayer<T> {
         }
     }
 
-    /// Makes the next step of the end that `m` names, and returns its entry. `m` also has what the step sees of a
-    /// clock or of a copy of a waker. An end whose script is finished makes no step; the entry is `Idle`. A step
-    /// allocates nothing. `room`: there are fewer entries than the largest `usize`, so this one has a number.
+    /// Makes the next step of the end that `m` names, and returns its entry. `m` also has what the step sees
+    /// of a clock or of a copy of a waker. An end whose script is finished makes no step; the entry is `Idle`.
+    /// No step allocates. `room`: there are fewer entries than the largest `usize`, so this one has a number.
     pub fn step(&mut self, m: Move) -> Entry
         requires room { self.old.count < 2 ^ 64 - 1 }
         ensures turn { turn (self.old.count + 1) self.old.world m ≡ Some (result, self.new.world) }
@@ -76,8 +76,8 @@ impl<T: Drop> Replayer<T> {
         self.world.sender_call()
     }
 
-    /// Returns the call that the receiver has under way or begins at its next move, or `None` if its script is
-    /// finished.
+    /// Returns the call that the receiver has under way or begins at its next move, or `None` if its script
+    /// is finished.
     pub fn receiver_call(&self) -> Option<ReceiverStart>
         ensures { result ≡ receiver_call_of self.now }
     {

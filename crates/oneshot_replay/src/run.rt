@@ -9,7 +9,7 @@ use crate::trace::Trace;
 use oneshot_world::{Move, ReceiverScript, SenderScript};
 use std::alloc::Global;
 
-/// Runs the sender's script `s` and the receiver's `r` under the schedule `moves`, with an entry for each move.
+/// Runs the sender's script `s` and the receiver's `r` under the schedule `moves`, an entry for each move.
 /// `alloc` allocates the trace's memory; a step allocates nothing.
 ///
 /// - `Ok`: the trace, which satisfies every law; `specs/Right.antt` has them, one in each field.
