@@ -9,7 +9,7 @@ ghost use Rattle.oneshot_machine.specs.RowExamples.{RowsThatLead, SlotsThatAre, 
 ghost use Rattle.oneshot_machine.specs.Orders.{ReachedInOrder};
 ghost use Rattle.oneshot_machine.specs.OrderExamples.{OrdersThatAre, OrdersThatAreNot};
 
-/// After each log the definitions allow an end exactly its table's operations, and only words with rows there.
+/// After each log the definitions allow an end exactly its table's operations and only words with rows there.
 pub fn tables_are_exact<T, W>()
     ensures sender { SenderIsExact T W }
     ensures receiver { ReceiverIsExact T W }

@@ -48,7 +48,7 @@ impl<T: Drop> Replayer<T> {
     }
 
     /// Makes the next step of the end that `m` names, and returns its entry. `m` also has what the step sees
-    /// of a clock or of a copy of a waker. An end whose script is finished makes no step; the entry is `Idle`.
+    /// of a clock or a copy of a waker. An end whose script is finished makes no step; the entry is `Idle`.
     /// No step allocates. `room`: there are fewer entries than the largest `usize`, so this one has a number.
     pub fn step(&mut self, m: Move) -> Entry
         requires room { self.old.count < 2 ^ 64 - 1 }
