@@ -1,4 +1,4 @@
--- Why the records of the laws are of the worked traces and of no damaged one.
+-- Proofs that the worked traces satisfy the records of the laws, and that the damaged ones do not.
 pub mod WakersComputed
 pub mod RecordExamples
 pub mod StepExamples

@@ -1,4 +1,4 @@
--- The worked traces have each field of the record of all laws, computed; and the field that each damaged trace lacks.
+-- Proofs that the worked traces satisfy each field of the record of all laws, and that each damaged one fails one.
 use Rattle.std.proofs.Common.{◌≡◌, ℕ, Bool, true, false, not, ◌||◌, ◌+◌, List, [], ◌∷◌, Option, Some, refl, sym, ap, subst, ◌∙◌, map, option_map}
 use Rattle.oneshot_world.specs.Ahead.{Ahead, ahead_of}
 use Rattle.oneshot_world.specs.Scripts.{calls_of}
@@ -182,7 +182,7 @@ left_unwoken moves never =
     (map ahead_of (opening sends (polling AL.Stop) ∷ never.worlds)) wakes_nobody.entries
     (λ ahead. or_true (waits_in_park ahead)) never.woken
 
--- what this run has at its end, which has not begun
+-- what this run has at its end, without a move
 not_freed : IsReplayed sends (receiving [] RL.Stop) [] (shows nothing_moved true (Some (NotSent 7))) → ⊥
 not_freed run =
     let is : true ≡ false = run.block_freed ∙ ap (λ (w : World). w.state.freed) (stays 1 _ run.worlds run.tells) in
@@ -193,7 +193,7 @@ its_rest : (rest : Option (Rest ℕ)) → IsReplayed sends (receiving [] RL.Stop
 its_rest rest run =
     run.rest ∙ ap (λ (w : World). rest_at w.state.message (Some 7)) (stays 1 _ run.worlds run.tells)
 
--- a damaged trace's computed test is false
+-- a damaged trace, whose computed test is false, does not satisfy the law
 no_wakers : (x : Example) → are_wakers_right x.entries (marks_in x) ≡ false → AreWakersRight x.entries (marks_in x) → ⊥
 no_wakers x wrong right =
     let is : true ≡ false = sym (wakers_are_computed.of_each x.entries (marks_in x) right) ∙ wrong in cc is

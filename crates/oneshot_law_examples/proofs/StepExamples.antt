@@ -1,4 +1,4 @@
--- Each step of a run computed, and what the others lack.
+-- Proofs of the examples of steps: each step computed, and what each counterexample lacks.
 use Rattle.std.proofs.Common.{◌≡◌, ℕ, false, [], ◌∷◌, Option, Some, None, refl, ap, ◌∙◌, option_map}
 use Rattle.oneshot_world.specs.World.{World, turn}
 use Rattle.oneshot_world.specs.declared.script.Move.{Move}

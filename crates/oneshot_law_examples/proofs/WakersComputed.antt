@@ -1,4 +1,4 @@
--- What is computed of the wakers that a trace moves is so of all: any other waker stays where it began.
+-- A test of the wakers that a trace moves shows the law of all: any other waker stays at its first place.
 use Rattle.std.proofs.Common.{◌≡◌, ◌⊎◌, inl, inr, ℕ, Bool, true, false, List, [], ◌∷◌, refl, subst}
 use Rattle.std.specs.List.{list_all}
 use Rattle.oneshot_world.specs.Wakers.{WakerMove, is_same_waker}

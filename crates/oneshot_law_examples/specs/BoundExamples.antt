@@ -1,5 +1,4 @@
--- What the bounds say of worked traces that reach them, and of the same traces with one operation or one move
--- more. The checker computes all of it.
+-- The bounds, computed for worked traces that reach them, and for the same traces with one operation or move more.
 use Rattle.std.specs.Prelude.{Bool, not, ◌&&◌, [], ◌∷◌, IsTrue}
 use Rattle.std.specs.List.{list_all}
 use Rattle.oneshot_machine.specs.declared.machine.Reply.TheVariants as R
@@ -59,7 +58,7 @@ OneOperationMore =
 
 -- S drop
 -- R try ref
--- a damaged trace: the receive looks once more before it answers
+-- a damaged trace: the receive loads once more before it replies
 abbrev pub tried_then_received : Example
 tried_then_received =
     record {
@@ -76,7 +75,7 @@ tried_then_received =
           ∷ [];
     }
 
--- once the sender is done: two operations and six moves are reached, and one more of either is one too many
+-- once the sender is done: two operations and six moves are allowed, and one more of either is not
 abbrev pub OneMoveMore : Type 0
 OneMoveMore =
     IsTrue (is_soon_in (twice 11 waited_for_message) && not (is_soon_in (twice 11 (twice 11 waited_for_message))))

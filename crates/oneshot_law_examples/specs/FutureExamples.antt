@@ -1,5 +1,4 @@
--- What the definitions say of worked traces of a future, and of the same traces damaged. The checker computes
--- all of it.
+-- The laws, computed for worked traces of a future, and for the same traces damaged.
 use Rattle.std.specs.Prelude.{◌≡◌, not, ◌&&◌, [], ◌∷◌, ◌++◌, take, replicate, Some, None, IsTrue}
 use Rattle.std.specs.List.{list_all}
 use Rattle.oneshot_machine.specs.declared.machine.End.TheVariants.{Sender, Receiver}
@@ -22,7 +21,7 @@ use Rattle.oneshot_law_examples.specs.TimedExamples.{received_by}
 use Rattle.oneshot_law_examples.specs.UnwokenExamples.{up, aheads_by}
 use Rattle.oneshot_law_examples.specs.FutureTraces.{dropped_while_finishing, dropped_once_finished, polled_while_finishing, copy_refused, polled_by_another_task, sent_before_pending, sent_while_polling, sent_while_replacing, dropped_while_pending, woken_then_ready, both_dropped_while_pending, tried_while_pending, tried_beside_a_drop, sent_to_one_that_left, dropped_to_one_that_left, polled_over_the_sender}
 
--- THE RUNS: each trace is what its scripts tell under its moves
+-- THE RUNS: each trace is that of its scripts under its moves
 abbrev pub FuturesAreTold : Type 0
 FuturesAreTold =
     (told_by (Some P.NotSent) dropped_while_finishing ≡ dropped_while_finishing.entries)
@@ -40,7 +39,7 @@ FuturesAreTold =
     × (told_by (Some P.NotSent) sent_to_one_that_left ≡ sent_to_one_that_left.entries)
     × (told_by None dropped_to_one_that_left ≡ dropped_to_one_that_left.entries)
     × (told_by (Some P.NotSent) polled_over_the_sender ≡ polled_over_the_sender.entries)
-    -- a future parks nowhere
+    -- a future never parks
     × (aheads_by (Some P.NotSent) polled_while_finishing ≡ replicate 19 up)
 
 abbrev pub FuturesAreRight : Type 0
@@ -62,16 +61,16 @@ FuturesAreRight =
     ∷ sent_to_one_that_left
     ∷ dropped_to_one_that_left
     ∷ polled_over_the_sender
-    -- a poll that has not answered
+    -- a poll that has not replied
     ∷ up_to 10 polled_while_finishing
     ∷ up_to 8 polled_by_another_task
     ∷ up_to 7 sent_before_pending
     ∷ []
     ))
 
--- A poll that says "pending" at once where another waker is stored, or where its own copy is refused,
--- and wakes nobody. Until the sender ends, every definition of `oneshot_laws` lets it pass; `TaskExamples`
--- has it with a sender that ends. No run tells it.
+-- A poll that replies "pending" at once though another waker is stored, or its own copy is refused, and
+-- wakes nobody. Until the sender ends, every definition of `oneshot_laws` accepts it; `TaskExamples` has
+-- it with a sender that ends. No run has it.
 abbrev pub kept_the_old_waker : Example
 kept_the_old_waker = answered_by 6 R.Pending (up_to 6 polled_by_another_task)
 
@@ -83,26 +82,26 @@ NotTold =
     IsTrue (is_right kept_the_old_waker && is_right refused_and_silent)
     × (told_by (Some P.NotSent) kept_the_old_waker ≡ (up_to 6 polled_by_another_task).entries)
     × (told_by (Some P.NotSent) refused_and_silent ≡ (up_to 3 copy_refused).entries)
-    -- nor a drop that waits for its sender: under the same moves it leaves
+    -- no run has a drop that waits for its sender: under the same moves it leaves
     × (told_by (Some P.NotSent) dropped_once_finished ≡ dropped_while_finishing.entries)
 
 -- THE HISTORY: the numbers of the acting entries, in their order
 abbrev pub PollsAct : Type 0
 PollsAct =
-    -- a poll that says "pending" acts at its last operation on the word
+    -- a poll that replies "pending" acts at its last operation on the word
     (acting_in dropped_once_finished ≡ 5 ∷ 11 ∷ 13 ∷ [])
     × (acting_in polled_over_the_sender ≡ 5 ∷ 8 ∷ [])
     × (acting_in polled_while_finishing ≡ 5 ∷ 10 ∷ 13 ∷ 16 ∷ [])
     × (acting_in copy_refused ≡ 2 ∷ [])
     × (acting_in polled_by_another_task ≡ 5 ∷ 11 ∷ 15 ∷ [])
-    -- any other where it finds what the sender left, as a poll does that has not answered
+    -- any other poll, also one that has not replied, where it finds what the sender left
     × (acting_in sent_before_pending ≡ 6 ∷ 7 ∷ [])
     × (acting_in (up_to 7 sent_before_pending) ≡ 6 ∷ 7 ∷ [])
     × (acting_in (up_to 8 polled_by_another_task) ≡ 5 ∷ [])
     × (acting_in dropped_while_pending ≡ 5 ∷ 9 ∷ 11 ∷ [])
     × (acting_in woken_then_ready ≡ 5 ∷ 9 ∷ 11 ∷ 12 ∷ 15 ∷ 16 ∷ 18 ∷ [])
     × (acting_in both_dropped_while_pending ≡ 5 ∷ 9 ∷ 10 ∷ [])
-    -- a drop that leaves at its swap, and the sender's end after it at its last operation
+    -- a drop that leaves acts at its swap, and the sender's end after it at its last operation
     × (acting_in dropped_while_finishing ≡ 5 ∷ 9 ∷ 11 ∷ [])
     × (acting_in sent_to_one_that_left ≡ 5 ∷ 9 ∷ 11 ∷ [])
     × (acting_in dropped_to_one_that_left ≡ 5 ∷ 8 ∷ 10 ∷ [])
@@ -119,32 +118,32 @@ IllegalPolls =
     ∷ answered_by 14 R.Pending woken_then_ready
     -- over a channel that is closed
     ∷ answered_by 15 R.Pending woken_then_ready
-    -- nothing was there, and the poll says that the sender is gone, or has a message
+    -- nothing was there, and the poll replies "disconnected" or has a message
     ∷ answered_by 5 R.Disconnected dropped_once_finished
     ∷ answered_by 5 R.Message dropped_once_finished
     ∷ answered_by 4 R.Disconnected copy_refused
-    -- a poll answers with another receive's word for nothing
+    -- a poll has another receive's reply for "nothing yet"
     ∷ answered_by 5 R.Empty dropped_once_finished
     ∷ answered_by 11 R.Timeout polled_while_finishing
-    -- a `try_recv` does, or finds what is not there yet, or finds nothing over the end of the sender
+    -- so does a `try_recv`, or it finds what is not there yet, or nothing after the sender ended
     ∷ answered_by 6 R.Pending tried_while_pending
     ∷ answered_by 9 R.Disconnected tried_while_pending
     ∷ answered_by 9 R.Message tried_while_pending
     ∷ answered_by 11 R.Empty tried_beside_a_drop
-    -- a message that comes is denied
+    -- a message is there, and the poll replies "disconnected"
     ∷ answered_by 10 R.Disconnected sent_before_pending
-    -- the making of a future answers otherwise
+    -- `into_future` has another reply
     ∷ answered_by 1 R.Done dropped_once_finished
     ∷ answered_by 1 R.Pending copy_refused
-    -- the future left before the last operation of a `send`, which says that it sent
+    -- the future left before the last operation of a `send`, which replies "sent"
     ∷ answered_by 12 R.Sent sent_to_one_that_left
     ∷ answered_by 16 R.Sent dropped_while_finishing
-    -- the sender's last swap comes only after the poll found it
+    -- the sender's last swap, whose word the poll finds, is left out
     ∷ without 9 woken_then_ready
     ∷ []
     ))
 
--- THE WAKERS: each of these is refused by the path of one name, or by where that name is once all have ended
+-- THE WAKERS: each trace is refused by the path of one name, or by its place once all have ended
 abbrev pub MisplacedCopies : Type 0
 MisplacedCopies =
     IsTrue (list_all (λ x. not (are_wakers_right x.entries (marks_in x)))
@@ -156,7 +155,7 @@ MisplacedCopies =
     -- the receiver drops it, and the sender takes it
     ∷ carried_by 10 (Copy 1 3) W.Cell W.Dropped polled_while_finishing
     ∷ carried_by 8 (Copy 1 3) W.Cell W.Dropped dropped_once_finished
-    -- it is forgotten: by an exchange that failed, by a drop, in a withdrawal, by the sender
+    -- it is lost: by an exchange that failed, in a drop's withdrawal, by the sender
     ∷ uncarried_by 10 polled_while_finishing
     ∷ uncarried_by 8 dropped_while_pending
     ∷ uncarried_by 16 dropped_once_finished
@@ -173,11 +172,11 @@ MisplacedCopies =
     ∷ carried_by 14 (Copy 1 3) W.SenderHand W.Dropped polled_while_finishing
     -- the parker's half is written in its place
     ∷ carried_by 4 Parker W.Hand W.Cell dropped_once_finished
-    -- the sender wakes it before it has it
+    -- the sender uses it before it has it
     ∷ put_behind 16 10 dropped_once_finished
     ∷ []
     ))
-    -- the first task's waker stays where the second's is written: each follows its path, and only the cell tells
+    -- the first task's waker stays where the second's is written: only the law of the cell refuses it
     × IsTrue (list_all (λ x. are_wakers_right x.entries (marks_in x) && not (is_cell_kept x.entries))
     (uncarried_by 9 (up_to 10 polled_by_another_task) ∷ uncarried_by 9 polled_by_another_task ∷ []))
 
@@ -203,14 +202,14 @@ MisfreedFutures =
     -- up to the sender's next step, and up to the free
     ∷ up_to 11 freed_over_the_sender
     ∷ up_to 10 freed_over_the_sender
-    -- a sender that came late does not free, or frees before its wake and again
+    -- a sender that came late does not free, or frees twice
     ∷ without 12 (answered_by 11 R.Done dropped_to_one_that_left)
     ∷ without 14 (answered_by 13 R.Message sent_to_one_that_left)
     ∷ twice 12 dropped_to_one_that_left
     -- a drop frees before the sender's last operation, or not at all
     ∷ put_behind 15 11 dropped_once_finished
     ∷ without 15 (answered_by 14 R.Done dropped_once_finished)
-    -- the block is freed twice, or by the end that has gone
+    -- the block is freed twice, by the receiver or by the sender
     ∷ twice 15 dropped_once_finished
     ∷ twice 13 dropped_while_pending
     ∷ []
@@ -219,13 +218,13 @@ MisfreedFutures =
 -- THE REPLIES
 abbrev pub WrongPolls : Type 0
 WrongPolls =
-    -- "pending" where the object was never open in the call
+    -- "pending" though the object was never open in the call
     IsTrue (list_all (fails_at is_nothing_only_if_open)
     (answered_by 14 R.Pending woken_then_ready ∷ answered_by 15 R.Pending woken_then_ready ∷ []))
     -- a poll that has the message is followed by one that waits, or has it again
     × IsTrue (list_all (fails_at is_gone_after_got)
     (answered_by 15 R.Pending woken_then_ready ∷ answered_by 15 R.Message woken_then_ready ∷ []))
-    -- the message was seen, and the next poll does not give it
+    -- the message was seen, and the next poll does not return it
     × IsTrue (list_all (fails_at is_got_after_full)
     (answered_by 14 R.Pending woken_then_ready ∷ answered_by 14 R.Disconnected woken_then_ready ∷ []))
     -- the channel was closed, and a poll waits
@@ -235,7 +234,7 @@ WrongPolls =
     -- a message that nobody took is not dropped, or dropped twice
     × IsTrue (list_all (fails_at is_dropped_once)
     (unmoved_by 14 dropped_once_finished ∷ twice 14 dropped_once_finished ∷ []))
-    -- a call that was alone answers otherwise
+    -- a call that ran alone has another reply
     × IsTrue (list_all (λ x. not (are_lone_replies_right x))
     (answered_by 5 R.Disconnected (up_to 5 dropped_once_finished)
     ∷ answered_by 4 R.Disconnected copy_refused

@@ -16,7 +16,7 @@ use Rattle.oneshot_law_examples.specs.Notation.{Example, sender, receiver, frees
 -- S send 7
 -- R future poll 1 drop
 -- X rrrrrssrrssrrrrs
--- the drop meets a sender that is about to finish: it leaves, and the sender's message comes back to it
+-- the drop finds a sender that is about to finish, and leaves: the message comes back to the sender
 abbrev pub dropped_while_finishing : Example
 dropped_while_finishing =
     record {
@@ -47,8 +47,8 @@ dropped_while_finishing =
           ∷ [];
     }
 
--- a drop that waits until the sender has finished, which found the waker: only the bounds refuse it, and no
--- run tells it
+-- a drop that waits until a sender that found the waker has finished: only the bounds refuse it, and no
+-- run has it
 abbrev pub dropped_once_finished : Example
 dropped_once_finished =
     record {
@@ -288,7 +288,7 @@ dropped_while_pending =
 -- S send 7
 -- R future poll 1 full poll 1 poll 1 closed drop
 -- X rrrrrsssssrrrrrrrrr
--- a task is woken, gets its message, and is told afterwards that there is no more
+-- a task is woken, receives its message, and then finds the channel closed
 abbrev pub woken_then_ready : Example
 woken_then_ready =
     record {
@@ -326,7 +326,7 @@ woken_then_ready =
 -- S drop
 -- R future poll 1 drop
 -- X rrrrrsrssrrrs
--- the drop meets a sender that is dropped
+-- the sender's drop and the future's drop overlap
 abbrev pub both_dropped_while_pending : Example
 both_dropped_while_pending =
     record {
@@ -356,7 +356,7 @@ both_dropped_while_pending =
 -- S send 7
 -- R future poll 1 try try try
 -- X rrrrrrssrsssrrr
--- a `try_recv` of a future that waits finds nothing, also while the sender finishes, and leaves the stored
+-- a `try_recv` of a waiting future finds nothing, also while the sender finishes, and leaves the stored
 -- waker; the last one has the message
 abbrev pub tried_while_pending : Example
 tried_while_pending =
@@ -391,7 +391,7 @@ tried_while_pending =
 -- S drop
 -- R future try poll 1 try try
 -- X rrrrrrssrsrs
--- the sender is dropped while the future waits, and a `try_recv` tells it only afterwards
+-- the sender is dropped while the future waits, and a `try_recv` reports it only after the drop's last swap
 abbrev pub tried_beside_a_drop : Example
 tried_beside_a_drop =
     record {
@@ -422,7 +422,7 @@ tried_beside_a_drop =
 -- S send 7 into
 -- R future poll 1 drop
 -- X rrrrrssrrsssss
--- the same, and the message is taken out of the error, which frees the block
+-- the drop leaves before the `send` has finished; `into_inner` takes the message back, and frees the block
 abbrev pub sent_to_one_that_left : Example
 sent_to_one_that_left =
     record {
@@ -454,7 +454,7 @@ sent_to_one_that_left =
 -- S drop
 -- R future poll 1 drop
 -- X rrrrrsrrssss
--- the future's drop leaves before the sender's drop has finished, which frees the block
+-- the future's drop ends before the sender's drop, which then frees the block
 abbrev pub dropped_to_one_that_left : Example
 dropped_to_one_that_left =
     record {

@@ -1,5 +1,4 @@
--- What the object answers, and what acting entries, histories and idle ends are in worked traces, and in the
--- same traces damaged. The checker computes all of it.
+-- The object's answers, acting entries, histories and idle ends, computed for worked and for damaged traces.
 use Rattle.std.specs.Prelude.{◌≡◌, ℕ, Bool, not, List, [], ◌∷◌, ◌++◌, map, take, IsTrue}
 use Rattle.std.specs.List.{list_all}
 use Rattle.oneshot_machine.specs.declared.machine.End.TheVariants.{Sender, Receiver}
@@ -14,7 +13,7 @@ use Rattle.oneshot_laws.specs.Idle.{is_idle_right}
 use Rattle.oneshot_law_examples.specs.Notation.{Example, sender, without, exchanged, answered_by, operating_at}
 use Rattle.oneshot_law_examples.specs.Traces.{sent_then_taken, nothing_moved, nothing_to_do, sent_to_nobody, both_dropped, dropped_then_tried, taken_from_the_error, dropped_with_the_error}
 
--- THE OBJECT: what these steps answer, one after the other
+-- THE OBJECT: the answers of these steps, in order
 abbrev pub answers_from : Object → List Action → List Answer
 answers_from o [] = []
 answers_from o (action ∷ actions) = answer_of action o ∷ answers_from (object_after action o) actions
@@ -41,7 +40,7 @@ ActingEntries =
     × (acting_in sent_to_nobody ≡ 1 ∷ 3 ∷ [])
     × (acting_in both_dropped ≡ 1 ∷ 2 ∷ [])
     × (acting_in dropped_then_tried ≡ 1 ∷ 2 ∷ 3 ∷ [])
-    -- a `try_recv` that has not answered acts at its load
+    -- a `try_recv` that has not replied acts at its load
     × (acting_in (record sent_then_taken { entries = take 3 sent_then_taken.entries }) ≡ 2 ∷ 3 ∷ [])
 
 abbrev pub is_legal_trace : Example → Bool
@@ -81,7 +80,7 @@ IllegalTraces =
     ∷ answered_by 3 R.Refused both_dropped
     ∷ answered_by 2 R.Empty dropped_then_tried
     ∷ answered_by 2 R.Message dropped_then_tried
-    -- the error's calls answer otherwise than they always do
+    -- the error's calls have other replies than their fixed ones
     ∷ answered_by 4 R.Done taken_from_the_error
     ∷ answered_by 6 R.Done taken_from_the_error
     ∷ answered_by 5 R.Message dropped_with_the_error
@@ -96,7 +95,7 @@ IllegalTraces =
 abbrev pub is_idle_trace : Example → Bool
 is_idle_trace x = is_idle_right x.calls x.entries
 
--- these are idle where they have a call under way, or one left
+-- an end is idle though it has a call under way, or one left
 abbrev pub NotIdleTraces : Type 0
 NotIdleTraces =
     IsTrue (list_all (λ x. not (is_idle_trace x))

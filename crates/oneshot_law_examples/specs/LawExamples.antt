@@ -1,4 +1,4 @@
--- What the laws say of worked traces, and of the same traces damaged. The checker computes all of it.
+-- The laws, computed for worked traces, and for the same traces damaged.
 use Rattle.std.specs.Prelude.{Bool, not, ◌&&◌, List, [], ◌∷◌, ◌++◌, take, IsTrue}
 use Rattle.std.specs.List.{list_all}
 use Rattle.oneshot_machine.specs.declared.machine.End.TheVariants.{Sender, Receiver}
@@ -41,22 +41,22 @@ MisplacedMessages =
     ∷ unmoved_by 3 taken_from_the_error
     ∷ unmoved_by 5 taken_from_the_error
     ∷ unmoved_by 5 sent_then_taken
-    -- a `send` that came late leaves the message in the cell: its error has it not, and after "sent" nobody gets it
+    -- a late `send` leaves the message in the cell: its error lacks it, and after "sent" nobody gets it
     ∷ unmoved_by 12 sent_to_one_that_left
     ∷ unmoved_by 16 (answered_by 16 R.Sent dropped_while_finishing)
-    -- all are left out: what was sent is nowhere at the end
+    -- all are left out: a message that was sent has never left the script
     ∷ unmoved_by 1 (unmoved_by 5 sent_then_taken)
-    -- it moves twice, from elsewhere, or as no message moves
+    -- it moves twice, from elsewhere, or as no message may
     ∷ twice 5 sent_then_taken
     ∷ moved_by 5 P.InError P.Delivered sent_then_taken
     ∷ moved_by 5 P.InCell P.FromError sent_then_taken
     ∷ moved_by 4 P.InError P.Delivered dropped_with_the_error
-    -- no message was to be sent
+    -- there is no message to send
     ∷ moved_by 1 P.NotSent P.InCell dropped_then_tried
     ∷ []
     ))
 
--- each of these paths is one of a message; but the call is not the one that makes its last move
+-- each path is allowed for a message, but its last move is of the wrong call
 abbrev pub WronglyPut : Type 0
 WronglyPut =
     IsTrue (list_all (fails_at is_message_put)
@@ -67,7 +67,7 @@ WronglyPut =
     ∷ moved_by 5 P.InError P.Dropped taken_from_the_error
     -- the sender's drop fills the cell
     ∷ moved_by 1 P.NotSent P.InCell dropped_then_tried
-    -- an accepted send has it in an error
+    -- an accepted send moves it into an error
     ∷ up_to 3 (answered_by 3 R.Sent dropped_with_the_error)
     ∷ []
     ))
@@ -85,9 +85,9 @@ MisfreedBlocks =
     -- a second free
     ∷ twice 7 sent_then_taken
     ∷ record sent_then_taken { entries = sent_then_taken.entries ++ E.Made (frees Sender 2) ∷ [] }
-    -- a free where the other end still holds
+    -- a free while the other end still holds
     ∷ record sent_then_taken { entries = take 1 sent_then_taken.entries ++ E.Made (frees Receiver 3) ∷ [] }
-    -- the sender uses the block after it let go
+    -- the sender uses the block after it let go of it
     ∷ record sent_then_taken { entries = take 2 sent_then_taken.entries ++ E.Made (sender (T.Word O.Load) 4 4) ∷ [] }
     -- neither end frees
     ∷ answered_by 6 R.Done (without 7 sent_then_taken)
@@ -108,13 +108,13 @@ are_replies_right x =
 
 abbrev pub WrongReplies : Type 0
 WrongReplies =
-    -- a receive answers otherwise after the message was got
+    -- a receive has another reply after the message was received
     IsTrue (list_all (fails_at is_gone_after_got)
     (answered_by 6 R.Empty tried_again ∷ answered_by 6 R.Message tried_again ∷ []))
-    -- a receive does not give the message that was seen
+    -- a receive does not return the message that was seen
     × IsTrue (list_all (fails_at is_got_after_full)
     (answered_by 8 R.Disconnected looked_at_both_ends ∷ answered_by 6 R.Empty looked_at_both_ends ∷ []))
-    -- after it was closed, something came, or it was open again
+    -- after it was closed, nothing was there yet, or it was open again
     × IsTrue (list_all (fails_at is_gone_after_closed)
     (answered_by 3 R.Empty closed_then_tried ∷ answered_by 4 R.No closed_then_tried ∷ []))
     -- a send is accepted though the receiver was gone
@@ -122,7 +122,7 @@ WrongReplies =
     -- "nothing yet" though the message was there, or the sender gone
     × IsTrue (list_all (fails_at is_nothing_only_if_open)
     (answered_by 5 R.Empty sent_then_taken ∷ answered_by 2 R.Empty dropped_then_tried ∷ []))
-    -- an unread message is dropped never, or twice
+    -- an unread message is never dropped, or twice
     × IsTrue (list_all (fails_at is_dropped_once)
     (unmoved_by 4 dropped_unread ∷ moved_by 5 P.InCell P.Dropped dropped_unread ∷ []))
     -- or by the send
@@ -135,15 +135,15 @@ are_lone_replies_right x = are_lone_calls_right (marks_in x)
 abbrev pub WrongAlone : Type 0
 WrongAlone =
     IsTrue (list_all (λ x. not (are_lone_replies_right x))
-    -- a look answers wrongly
+    -- a look has a wrong reply
     (answered_by 1 R.Yes looked_at_both_ends
     ∷ answered_by 5 R.No looked_at_both_ends
     ∷ answered_by 9 R.No looked_at_both_ends
-    -- a send, a receive and an error's call answer wrongly
+    -- a send, a receive and an error's call have wrong replies
     ∷ answered_by 2 R.Refused sent_then_taken
     ∷ answered_by 5 R.Disconnected sent_then_taken
     ∷ answered_by 6 R.Done taken_from_the_error
-    -- a receive answers with the message and leaves it there
+    -- a receive returns the message and leaves it there
     ∷ finding_at 3 1 (finding_at 4 1 sent_then_taken)
     -- the receiver is still there after its drop, and the sender after its send
     ∷ operating_at 3 O.Load 2 2 dropped_then_tried

@@ -1,4 +1,4 @@
--- What each definition of `oneshot_laws` says of worked and damaged traces, in reading order.
+-- What each definition of `oneshot_laws` computes for worked and damaged traces, in reading order.
 pub mod Notation
 pub mod Traces
 pub mod HistoryExamples

@@ -1,4 +1,4 @@
--- How a trace is written down in the examples, and how it is damaged there.
+-- The notation of the examples: how a trace is written, and how it is damaged.
 use Rattle.std.specs.Prelude.{ℕ, ◌+◌, ◌-◌, Bool, true, false, take, drop, map, List, ◌++◌, Option, Some, None}
 use Rattle.oneshot_machine.specs.declared.machine.End.{End}
 use Rattle.oneshot_machine.specs.declared.machine.End.TheVariants.{Sender, Receiver}
@@ -65,11 +65,11 @@ receiver step before after = step_of Receiver step (Some before) (Some after)
 abbrev pub frees : End → ℕ → Made
 frees end before = step_of end T.Free (Some before) None
 
--- a step that needs no block, once the block is freed
+-- a step after the block was freed
 abbrev pub without_block : End → Step → Made
 without_block end step = step_of end step None None
 
--- a park, which its token ended or which ended without one
+-- a park, which ended by its token or without one
 abbrev pub parked : Bool → ℕ → Made
 parked by_token before = record (receiver T.Park before before) { seen = S.Token by_token }
 
@@ -77,7 +77,7 @@ parked by_token before = record (receiver T.Park before before) { seen = S.Token
 abbrev pub copied : Bool → ℕ → Made
 copied refused before = record (receiver T.Copy before before) { seen = S.Refused refused }
 
--- a read of the clock
+-- a reading of the clock
 abbrev pub clocked : Bool → ℕ → Made
 clocked over before = record (receiver T.Clock before before) { seen = S.Over over }
 
@@ -101,8 +101,8 @@ replying reply e = record e { reply = Some reply }
 abbrev pub up_to : ℕ → Example → Example
 up_to k x = record x { entries = take k x.entries }
 
--- entry k, counted from 1, is taken out, exchanged with the next one, put behind a later one,
--- changed in its reply, in the message's move or in a waker's, or put in once more
+-- damages to entry k, counted from 1: it is taken out, exchanged with the next one, put behind a later one,
+-- repeated, or changed in its reply, in the message's move or in a waker's
 abbrev pub without : ℕ → Example → Example
 without k x = record x { entries = take (k - 1) x.entries ++ drop k x.entries }
 
@@ -142,7 +142,7 @@ changed_at k change x =
           ++ drop k x.entries;
     }
 
--- the word of an entry: what it finds, and another operation in its place
+-- the word of an entry is changed: what it finds, or the operation
 abbrev pub finding_at : ℕ → ℕ → Example → Example
 finding_at k word x = changed_at k (λ e. record e { before = Some word }) x
 

@@ -1,5 +1,4 @@
--- Of which worked traces the record of all laws is, and the records that it has; and of which damaged traces they
--- are not, each by one field.
+-- Worked traces that satisfy the record of all laws, and damaged ones that it refuses, each by one field.
 use Rattle.std.specs.Prelude.{ℕ, ◌+◌, true, false, Bool, map, List, [], ◌∷◌, Option, Some, None, IsTrue}
 use Rattle.oneshot_world.specs.World.{World, opening, turn}
 use Rattle.oneshot_world.specs.declared.script.AsyncCall.TheVariants as AC
@@ -51,7 +50,7 @@ receiving calls last = record { calls = calls; last = last }
 abbrev pub polling : AsyncLast → ReceiverScript
 polling last = receiving [] (RL.IntoFuture (record { calls = AC.Poll 1 ∷ []; last = last }))
 
--- THE WAKERS: what is computed above of the wakers that a trace moves is what the record says of all
+-- THE WAKERS: the test of the wakers that a trace moves is equivalent to the record, which is of all wakers
 pub record WakersAreComputed : Type 0 where
   pub of_all : (entries : List Entry) (ms : List Mark)
       → IsTrue (are_wakers_right entries ms) → AreWakersRight entries ms
@@ -73,19 +72,19 @@ worlds_in s r x = worlds_from 1 (opening s r) x.entries
 abbrev pub shows : Example → Bool → Option (Rest ℕ) → TraceView ℕ
 shows x freed rest = record { entries = x.entries; block_freed = freed; rest = rest }
 
--- a receiver that parks, and gets the message; and a future whose drop takes its copy back
+-- a receiver that parks and receives the message; and a future whose drop takes its copy back
 pub record RightRecords : Type 0 where
   pub of_a_thread : IsRight sends (receiving [] RL.Recv) (moves_in waited_for_message)
       (shows waited_for_message true (Some (Delivered 7)))
   pub of_a_task : IsRight (sending 0 EL.Drop) (polling AL.Drop) (moves_in dropped_while_pending)
       (shows dropped_while_pending true (Some (Dropped 7)))
 
--- whatever the moves are, and whatever the trace shows of the block and of the message
+-- wrong for any moves, and whatever the trace shows of the block and of the message
 abbrev pub IsWrong : SenderScript ℕ → ReceiverScript → Example → Type 0
 IsWrong s r x =
     (moves : List Move) (freed : Bool) (rest : Option (Rest ℕ)) → IsRight s r moves (shows x freed rest) → ⊥
 
--- Each field refuses a damaged trace, and is named here as there.
+-- Each field of the record refuses a damaged trace under its own name.
 pub record WrongRecords : Type 0 where
   pub run : IsRight sends (receiving [] RL.Stop) [] (shows nothing_moved true (Some (NotSent 7))) → ⊥
   pub an_entry_a_move : (freed : Bool) (rest : Option (Rest ℕ))
@@ -121,7 +120,7 @@ pub record WrongRecords : Type 0 where
 
 -- and so do the fields of a run's own records
 pub record WrongRuns : Type 0 where
-  -- no entry of such a run, an entry more than moves, a block that is not freed, and a message that is elsewhere
+  -- no entry of such a run, too many entries, a block that is not freed, a message that is elsewhere
   pub tells_another_entry : (freed : Bool) (rest : Option (Rest ℕ))
       → IsReplayed sends (receiving [] RL.Stop) (M.Sender ∷ [])
       (record { entries = E.Idle Sender ∷ []; block_freed = freed; rest = rest }) → ⊥

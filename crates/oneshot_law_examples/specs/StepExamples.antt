@@ -1,4 +1,4 @@
--- What is left of a script, where a run has come to that is stepped by hand, and how it goes on.
+-- Examples of a run stepped by hand: what is left of a script, what the run has reached, and how it goes on.
 use Rattle.std.specs.Prelude.{◌≡◌, ℕ, true, false, [], ◌∷◌, Some, None}
 use Rattle.oneshot_machine.specs.declared.machine.End.TheVariants.{Sender}
 use Rattle.oneshot_machine.specs.declared.machine.receiver.ReceiverStart.TheVariants as RC
@@ -26,7 +26,7 @@ use Rattle.oneshot_law_examples.specs.Traces.{waited_for_message, nothing_moved}
 use Rattle.oneshot_law_examples.specs.FutureTraces.{dropped_while_pending}
 use Rattle.oneshot_law_examples.specs.RecordExamples.{sending, sends, receiving, polling, worlds_in, shows}
 
--- where the run of a trace has come to
+-- what the run of a trace has reached
 abbrev pub scene_of : SenderScript ℕ → ReceiverScript → Example → ℕ → Scene ℕ
 scene_of s r x count = record { world = last_of (opening s r) (worlds_in s r x); count = count; message = Some 7 }
 
@@ -51,7 +51,7 @@ pub record CallsThatAreLeft : Type 0 where
   pub sends_first : sender_call_of before ≡ Some SC.Send
   pub tries_first : receiver_call_of before ≡ Some RC.TryRecv
   pub looks_first : sender_call_of (scene_of (sending 1 EL.Stop) tries nothing_moved 0) ≡ Some SC.IsClosed
-  -- a refused `send` is followed by its error's drop, and a poll has lost its number
+  -- a refused `send` is followed by its error's drop, and a poll is shown without its number
   pub drops_its_error : sender_call_of (scene_of (sending 0 EL.Drop) (polling AL.Drop)
       (up_to 11 dropped_while_pending) 11) ≡ Some SC.DropError
   pub polls : receiver_call_of (scene_of sends (polling AL.Drop) (up_to 1 dropped_while_pending) 1) ≡ Some RC.Poll
@@ -62,7 +62,7 @@ pub record StepsThatAre : Type 0 where
   pub begins : HasRun sends tries [] [] before
   pub goes_on : GoesOn before M.Sender writes after
   pub has_come : HasRun sends tries (M.Sender ∷ []) (writes ∷ []) after
-  -- what a trace shows that ends here, and there
+  -- the traces that end at these points
   pub shows_nothing : told_at [] before ≡ shows nothing_moved false (Some (NotSent 7))
   pub shows_its_rest : told_at waited_for_message.entries (scene_of sends (receiving [] RL.Recv) waited_for_message 14)
       ≡ shows waited_for_message true (Some (Delivered 7))
@@ -74,7 +74,7 @@ pub record StepsThatAreNot : Type 0 where
   pub counts_none : HasRun sends tries (M.Sender ∷ []) (writes ∷ []) (record after { count = 0 }) → ⊥
   pub has_another : HasRun sends tries (M.Sender ∷ []) (writes ∷ []) (record after { message = Some 8 }) → ⊥
   pub has_none : HasRun sends tries (M.Sender ∷ []) (writes ∷ []) (record after { message = None }) → ⊥
-  -- and it does not go on so
+  -- and wrong ways to go on
   pub goes_on_idle : GoesOn before M.Sender (E.Idle Sender) after → ⊥
   pub goes_nowhere : GoesOn before M.Sender writes (record before { count = 1 }) → ⊥
   pub goes_uncounted : GoesOn before M.Sender writes (record after { count = 0 }) → ⊥

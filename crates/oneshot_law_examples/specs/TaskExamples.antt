@@ -1,5 +1,4 @@
--- What the definition of an unwoken receiver says of a future, and of polls that leave their task without a
--- wake. The checker computes all of it.
+-- The law of unwoken receivers, computed for futures, and for polls that leave their task without a wake.
 use Rattle.std.specs.Prelude.{not, ◌&&◌, [], ◌∷◌, ◌++◌, take, replicate, IsTrue}
 use Rattle.std.specs.List.{list_all}
 use Rattle.oneshot_machine.specs.declared.machine.Reply.TheVariants as R
@@ -15,7 +14,7 @@ use Rattle.oneshot_law_examples.specs.UnwokenExamples.{up, is_woken_in, is_unwok
 use Rattle.oneshot_law_examples.specs.FutureTraces.{dropped_while_finishing, dropped_once_finished, polled_while_finishing, copy_refused, polled_by_another_task, sent_before_pending, sent_while_polling, sent_while_replacing, dropped_while_pending, woken_then_ready, both_dropped_while_pending, tried_while_pending, tried_beside_a_drop, sent_to_one_that_left, dropped_to_one_that_left, polled_over_the_sender}
 use Rattle.oneshot_law_examples.specs.FutureExamples.{kept_the_old_waker, refused_and_silent}
 
--- The second poll says "pending" and leaves the first task's waker in the cell. The sender then wakes the first task.
+-- The second poll replies "pending", and leaves the first task's waker, which the sender then uses.
 abbrev pub wakes_the_first_task : Example
 wakes_the_first_task =
     record kept_the_old_waker {
@@ -29,7 +28,7 @@ wakes_the_first_task =
           ∷ [];
     }
 
--- The poll's copy is refused, and it says "pending" without a wake of its own. The sender then finds nobody to wake.
+-- The poll's copy is refused, and it replies "pending" without a wake. The sender then finds nobody to wake.
 abbrev pub wakes_nobody : Example
 wakes_nobody =
     record refused_and_silent {
@@ -94,5 +93,5 @@ UnwokenTasks =
     -- until the drop begins
     × IsTrue (is_woken_in (replicate 14 up) (up_to 13 wakes_another)
     && not (is_woken_in (replicate 15 up) (up_to 14 wakes_another)))
-    -- the other definitions let both wrong polls pass, and the wrong `try_recv`
+    -- the other definitions accept both wrong polls, and the wrong `try_recv`
     × IsTrue (is_right wakes_the_first_task && is_right wakes_nobody && is_right withdrawn_by_a_try)

@@ -1,5 +1,4 @@
--- What the history, the freeing, the wakers and the replies are in worked traces of calls with a deadline,
--- and in the same traces damaged. The checker computes all of it.
+-- The laws, computed for worked traces of calls with a deadline, and for the same traces damaged.
 use Rattle.std.specs.Prelude.{◌≡◌, true, not, map, List, [], ◌∷◌, ◌++◌, Some, None, IsTrue}
 use Rattle.std.specs.List.{list_all}
 use Rattle.oneshot_machine.specs.declared.machine.Reply.{Reply}
@@ -18,7 +17,7 @@ use Rattle.oneshot_law_examples.specs.Notation.{Example, receiver, replying, up_
 use Rattle.oneshot_law_examples.specs.Traces.{waited_past_its_deadline, sent_at_its_deadline, ran_out_then_taken, never_ran_out, ran_out_then_dropped, sent_before_its_deadline, dropped_at_its_deadline, tried_in_vain, looked_at_both_ends, closed_then_tried}
 use Rattle.oneshot_law_examples.specs.WaitExamples.{told_by}
 
--- THE RUNS: each trace is what its scripts tell under its moves
+-- THE RUNS: each trace is that of its scripts under its moves
 abbrev pub TimedAreTold : Type 0
 TimedAreTold =
     (told_by (Some P.NotSent) waited_past_its_deadline ≡ waited_past_its_deadline.entries)
@@ -50,9 +49,9 @@ abbrev pub TimedAct : Type 0
 TimedAct =
     -- past its deadline a receive acts where it finds what the sender left
     (acting_in waited_past_its_deadline ≡ 11 ∷ 14 ∷ [])
-    -- or by the swap that was to end its wait
+    -- or at the swap that was to end its wait
     × (acting_in sent_at_its_deadline ≡ 8 ∷ 10 ∷ [])
-    -- and by that swap too where it answers that nothing was there
+    -- and at that swap too if it replies that nothing was there
     × (acting_in ran_out_then_taken ≡ 9 ∷ 12 ∷ 13 ∷ [])
     × (acting_in dropped_at_its_deadline ≡ 7 ∷ 9 ∷ [])
     × (acting_in ran_out_then_dropped ≡ 5 ∷ 7 ∷ 8 ∷ [])
@@ -61,7 +60,7 @@ TimedAct =
 abbrev pub IllegalTimeouts : Type 0
 IllegalTimeouts =
     IsTrue (list_all (λ x. not (is_legal_trace x))
-    -- a timeout is answered over the message: found past the deadline, by the ending swap, at once
+    -- a reply "timeout" over the message: found past the deadline, by the ending swap, at once
     (answered_by 16 R.Timeout waited_past_its_deadline
     ∷ answered_by 12 R.Timeout sent_at_its_deadline
     ∷ answered_by 10 R.Timeout (up_to 10 sent_at_its_deadline)
@@ -69,15 +68,15 @@ IllegalTimeouts =
     -- over a sender that is gone
     ∷ answered_by 11 R.Timeout never_ran_out
     ∷ answered_by 10 R.Timeout dropped_at_its_deadline
-    -- a call answers with another's word for nothing
+    -- a call has another call's reply for "nothing yet"
     ∷ answered_by 10 R.Empty ran_out_then_taken
     ∷ answered_by 1 R.Timeout tried_in_vain
-    -- nothing was there, and the call says that the sender is gone, or has a message
+    -- nothing was there, and the call replies "disconnected" or has a message
     ∷ answered_by 10 R.Disconnected ran_out_then_taken
     ∷ answered_by 10 R.Message ran_out_then_taken
-    -- one whose timeout no instant can hold never says that it is over
+    -- a receive whose timeout no instant can hold never replies "timeout"
     ∷ answered_by 6 R.Timeout (up_to 6 never_ran_out)
-    -- the sender's last swap comes only after the receive found it
+    -- the sender's last swap, whose word the receive finds, is left out
     ∷ without 11 waited_past_its_deadline
     ∷ []
     ))
@@ -87,7 +86,7 @@ IllegalTimeouts =
 abbrev pub received_by : List Call → Example → Example
 received_by calls x = record x { calls = record x.calls { receiver = calls } }
 
--- a receive with a timeout gets the message, and the next one replies so
+-- a receive with a timeout gets the message, and the next one has this reply
 abbrev pub received_in_time_then : Reply → Example
 received_in_time_then reply =
     received_by (C.Of_receiver (RC.RecvTimeout true) ∷ C.Of_receiver (RC.RecvTimeout true) ∷ [])
@@ -97,7 +96,7 @@ received_in_time_then reply =
 
 abbrev pub WrongTimeouts : Type 0
 WrongTimeouts =
-    -- "nothing yet" where the object was never open in the call
+    -- "nothing yet" though the object was never open in the call
     IsTrue (fails_at is_nothing_only_if_open (answered_by 5 R.Timeout sent_before_its_deadline))
     -- a receive that has the message is followed by one that runs out
     × IsTrue (fails_at is_gone_after_got
@@ -109,7 +108,7 @@ WrongTimeouts =
     }))
     -- the same of a receive with a timeout
     × IsTrue (list_all (fails_at is_gone_after_got) (map received_in_time_then (R.Empty ∷ R.Timeout ∷ R.Message ∷ [])))
-    -- or that says that nothing was there after it was seen, or after the channel was closed
+    -- or replies that nothing was there after it was seen, or after the channel was closed
     × IsTrue (fails_at is_got_after_full
     (answered_by 6 R.Timeout (received_by
     (C.Of_receiver RC.IsClosed ∷ C.Of_receiver RC.HasMessage ∷ C.Of_receiver RC.RecvDeadline
@@ -117,9 +116,9 @@ WrongTimeouts =
     (answered_by 3 R.Timeout (received_by
     (C.Of_receiver RC.IsClosed ∷ C.Of_receiver RC.RecvDeadline ∷ C.Of_receiver RC.IsClosed ∷ [])
     closed_then_tried)))
-    -- a call that was alone answers otherwise
+    -- a call that ran alone has another reply
     × IsTrue (list_all (λ x. not (are_lone_replies_right x))
     (answered_by 5 R.Timeout sent_before_its_deadline ∷ answered_by 10 R.Disconnected ran_out_then_taken ∷ []))
-    -- the half is not taken back at the end of the wait
+    -- the parker's half is not taken back at the end of the wait
     × IsTrue (not (are_wakers_right (uncarried_by 6 ran_out_then_dropped).entries
     (marks_in (uncarried_by 6 ran_out_then_dropped))))

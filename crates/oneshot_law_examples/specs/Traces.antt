@@ -267,7 +267,7 @@ received_at_once =
 -- S send 7
 -- R recv
 -- X rrrsssrrsrrrrs
--- the receiver is up twice without a wake, and frees the block before the sender wakes it
+-- the receiver wakes spuriously twice, and frees the block before the sender wakes it
 abbrev pub waited_for_message : Example
 waited_for_message =
     record {
@@ -420,7 +420,7 @@ sent_at_its_deadline =
 -- S send 7
 -- R timeout try
 -- X rrrrrrrorrssrrr
--- the timeout is over, the message comes afterwards, and the next receive gets it
+-- the timeout is over, the message comes afterwards, and the next receive returns it
 abbrev pub ran_out_then_taken : Example
 ran_out_then_taken =
     record {
@@ -451,7 +451,7 @@ ran_out_then_taken =
 -- S drop
 -- R forever
 -- X orrrrrsssrr
--- no instant can hold the timeout: its clock is not looked at, and it waits without end
+-- no instant can hold the timeout: the clock's one reading changes nothing, and there is no deadline
 abbrev pub never_ran_out : Example
 never_ran_out =
     record {

@@ -1,5 +1,4 @@
--- What the definition of an unwoken receiver says of worked traces, and of a sender that wakes too soon or
--- never. The checker computes all of it.
+-- The law of unwoken receivers, computed for worked traces, and for a sender that wakes too soon or never.
 use Rattle.std.specs.Prelude.{◌≡◌, ℕ, ◌+◌, Bool, true, false, not, ◌&&◌, List, [], ◌∷◌, ◌++◌, take, drop, replicate, Option, Some, None, IsTrue}
 use Rattle.oneshot_machine.specs.declared.machine.Reply.TheVariants as R
 use Rattle.oneshot_machine.specs.declared.machine.Step.TheVariants as T
@@ -63,7 +62,7 @@ AheadsOfRuns =
 abbrev pub is_woken_in : List Ahead → Example → Bool
 is_woken_in aheads x = is_never_unwoken (marks x.calls) aheads x.entries
 
--- The sender wakes first and then swaps, and the receiver was up and about to park again in between.
+-- The sender wakes before it swaps. In between the receiver woke, and is about to park again.
 abbrev pub woken_too_soon : Example
 woken_too_soon =
     record waited_for_message {
@@ -79,11 +78,11 @@ woken_too_soon =
 abbrev pub around_a_hasty_wake : List Ahead
 around_a_hasty_wake = replicate 3 up ++ replicate 4 parks ++ parks_with_token ∷ up ∷ parks ∷ parks ∷ replicate 4 up
 
--- the sender answers at its swap, and wakes nobody
+-- the sender replies at its swap, and wakes nobody
 abbrev pub never_woken : Example
 never_woken = answered_by 6 R.Done (up_to 6 woken_by_drop)
 
--- right up to this entry, and unwoken behind it
+-- right up to entry k, and unwoken after the next one
 abbrev pub is_unwoken_behind : ℕ → List Ahead → Example → Bool
 is_unwoken_behind k aheads x =
     is_woken_in aheads (up_to k x) && not (is_woken_in aheads (up_to (k + 1) x)) && not (is_woken_in aheads x)
@@ -96,7 +95,7 @@ UnwokenWaits =
     × IsTrue (is_unwoken_behind 9 around_a_hasty_wake woken_too_soon)
     × IsTrue (is_unwoken_behind 5 around_a_drop never_woken)
     × IsTrue (is_unwoken_behind 10 around_a_late_message (answered_by 11 R.Sent (up_to 11 waited_past_its_deadline)))
-    -- the other definitions let both pass
+    -- the other definitions accept both
     × IsTrue (is_right woken_too_soon && is_right never_woken)
-    -- the list says too little
+    -- the list is too short
     × IsTrue (not (is_woken_in (take 3 around_no_sender) still_waiting))

@@ -1,5 +1,4 @@
--- What the history, the freeing and the replies are in worked traces of calls that wait, and in the same
--- traces damaged. The checker computes all of it.
+-- The laws, computed for worked traces of calls that wait, and for the same traces damaged.
 use Rattle.std.specs.Prelude.{◌≡◌, ℕ, ◌+◌, not, List, [], ◌∷◌, ◌++◌, take, Option, Some, None, IsTrue}
 use Rattle.std.specs.List.{list_all}
 use Rattle.oneshot_machine.specs.declared.machine.End.TheVariants.{Sender, Receiver}
@@ -23,7 +22,7 @@ use Rattle.oneshot_law_examples.specs.Traces.{received_at_once, waited_for_messa
 use Rattle.oneshot_law_examples.specs.HistoryExamples.{acting_in, is_legal_trace}
 use Rattle.oneshot_law_examples.specs.LawExamples.{is_block_right, are_lone_replies_right, fails_at, is_right}
 
--- THE RUNS: each trace is what its scripts tell under its moves
+-- THE RUNS: each trace is that of its scripts under its moves
 abbrev pub told_from : ℕ → World → List Entry → List Entry
 told_from n w [] = []
 told_from n w (entry ∷ entries) =
@@ -52,7 +51,7 @@ WaitsAct =
     × (acting_in still_waiting ≡ [])
     -- a send that found a waker has not acted before its final swap
     × (acting_in (up_to 8 waited_for_message) ≡ [])
-    -- a `recv` that has not answered acts where it found the message
+    -- a `recv` that has not replied acts where it found the message
     × (acting_in (up_to 11 waited_for_message) ≡ 9 ∷ 11 ∷ [])
 
 abbrev pub IllegalWaits : Type 0
@@ -81,7 +80,7 @@ IllegalWaits =
     ∷ answered_by 6 R.Message dropped_before_waiting
     ∷ answered_by 9 R.Empty woken_by_drop
     ∷ answered_by 9 R.Message woken_by_drop
-    -- "nothing yet" is no answer of these calls
+    -- "nothing yet" is no reply of these calls
     ∷ answered_by 1 R.Empty (up_to 1 still_waiting)
     ∷ record {
       calls = record { sender = []; error = []; receiver = C.Of_receiver RC.Recv ∷ [] };
@@ -120,7 +119,7 @@ MisfreedWaits =
           ++ E.Made (setting_token (carrying Parker W.SenderHand W.Used (sender T.Wake 2 2)))
           ∷ E.Made (replying R.Done (frees Sender 2)) ∷ [];
     }
-    -- the receiver frees where the sender still holds
+    -- the receiver frees while the sender still holds
     ∷ record waited_for_message {
       entries = take 8 waited_for_message.entries ++ E.Made (replying R.Disconnected (frees Receiver 1)) ∷ [];
     }
@@ -129,7 +128,7 @@ MisfreedWaits =
     ∷ answered_by 5 R.Disconnected (without 6 dropped_before_waiting)
     ∷ []
     ))
-    -- the wake is no use of the block: it may come before the free or after it
+    -- the wake does not use the block: it may come before the free or after it
     × IsTrue (list_all is_right (waited_for_message ∷ exchanged 13 waited_for_message ∷ []))
 
 -- THE REPLIES
@@ -163,11 +162,11 @@ closed_then_received reply =
 abbrev pub WrongReceives : Type 0
 WrongReceives =
     IsTrue (list_all is_right (received_twice R.Disconnected ∷ closed_then_received R.Disconnected ∷ []))
-    -- a receive answers otherwise after the message was got, or after it was closed
+    -- a receive has another reply after the message was received, or after the channel was closed
     × IsTrue (list_all (fails_at is_gone_after_got) (received_twice R.Message ∷ received_twice R.Empty ∷ []))
     × IsTrue (list_all (fails_at is_gone_after_closed)
     (closed_then_received R.Message ∷ closed_then_received R.Empty ∷ []))
-    -- a call that was alone answers otherwise
+    -- a call that ran alone has another reply
     × IsTrue (list_all (λ x. not (are_lone_replies_right x))
     (answered_by 5 R.Empty received_at_once
     ∷ answered_by 5 R.Disconnected received_at_once

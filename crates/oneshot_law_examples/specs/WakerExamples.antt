@@ -1,5 +1,4 @@
--- What the definitions say of the wakers' moves in worked traces, and in the same traces damaged. The checker
--- computes all of it.
+-- The laws of the wakers' moves, computed for worked traces, and for the same traces damaged.
 use Rattle.std.specs.Prelude.{not, ◌&&◌, [], ◌∷◌, ◌++◌, IsTrue}
 use Rattle.std.specs.List.{list_all}
 use Rattle.oneshot_machine.specs.declared.machine.Step.TheVariants as T
@@ -13,7 +12,7 @@ use Rattle.oneshot_law_examples.specs.Traces.{waited_for_message, sent_before_wa
 use Rattle.oneshot_law_examples.specs.LawExamples.{are_wakers_right, marks_in, are_wakers_kept}
 
 -- THE PLACES
--- a task's waker comes into the receiver's hand and from there into the cell
+-- a task's waker moves into the receiver's hand, and from there into the cell
 abbrev pub with_a_copy : Example → Example
 with_a_copy x =
     record x {
@@ -62,7 +61,7 @@ MisplacedWakers =
     ∷ carried_by 6 Parker W.Cell W.Dropped sent_before_waiting
     -- only the parker's half comes back from the cell
     ∷ copy_goes_to W.Hand
-    -- another waker than the one that lies there
+    -- another waker than the one that is there
     ∷ carried_by 6 (Copy 1 2) W.Cell W.SenderHand waited_for_message
     ∷ carried_by 5 (Copy 1 2) W.Hand W.Cell (with_a_copy still_waiting)
     ∷ uncarried_by 4 (with_a_copy still_waiting)
@@ -71,7 +70,7 @@ MisplacedWakers =
     ∷ []
     ))
 
--- a waker is written over another: each of them follows its path, and only the cell tells
+-- a waker is written over another: each follows its path, and only the law of the cell refuses it
 abbrev pub FullCells : Type 0
 FullCells =
     IsTrue (not (is_cell_kept (twice 2 still_waiting).entries))

@@ -1,4 +1,4 @@
-//! What the definitions of `oneshot_laws` say of worked traces, and of the same traces damaged.
+//! What the definitions of `oneshot_laws` compute for worked traces, and for the same traces damaged.
 #![tactic(auto)]
 
 ghost use Rattle.oneshot_law_examples.specs.HistoryExamples.{ObjectAnswers, ActingEntries, LegalTraces, IllegalTraces, IdleTraces, NotIdleTraces};
@@ -13,8 +13,8 @@ ghost use Rattle.oneshot_law_examples.specs.FutureExamples.{FuturesAreTold, Futu
 ghost use Rattle.oneshot_law_examples.specs.RecordExamples.{WakersAreComputed, RightRecords, WrongRecords, WrongRuns};
 ghost use Rattle.oneshot_law_examples.specs.StepExamples.{CallsThatAreLeft, StepsThatAre, StepsThatAreNot};
 
-/// Says nothing at run time. Its contract is what the definitions say of worked traces, and of the same
-/// traces damaged, so that a definition that is changed by mistake is refused here.
+/// Does nothing. The contract states what the definitions compute for worked traces, and for the same
+/// traces damaged, so a definition that is changed by mistake is refused here.
 pub fn examples()
     ensures object { ObjectAnswers }
     ensures acting { ActingEntries }
@@ -57,8 +57,8 @@ pub fn examples()
     ensures wrong_polls { WrongPolls }
 {}
 
-/// The same of the records that contracts name: which worked traces and runs they are of, and by which field they
-/// are not of damaged ones.
+/// The same for the records that contracts name: which worked traces and runs satisfy them, and which field
+/// refuses each damaged one.
 pub fn records()
     ensures wakers { WakersAreComputed }
     ensures right { RightRecords }

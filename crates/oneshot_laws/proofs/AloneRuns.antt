@@ -1,4 +1,4 @@
--- A call between whose first entry and whose answer the other end makes no step does just what the object does.
+-- In each run, a call during which the other end makes no step does just what the object does.
 use Rattle.oneshot_laws.proofs.Names.{◌≡◌, Bool, true, false, not, ◌&&◌, ◌||◌, List, [], ◌∷◌, Option, Some, None, is_some, map, refl, if◌then◌else◌, End, and_right, both, only_if, is_same_end, Object, is_same_object, action_of, stepped, Mark, side, ends, agrees, lone_reply, is_lone_call, are_lone_calls_right}
 use Rattle.oneshot_laws.proofs.Coding.{pairs, by_parts, or_none, both_ends}
 use Rattle.oneshot_laws.proofs.Glanced.{Law, Passes, Nameless, nameless_of, LawExplored, all_glanced, passed, holds_by}
@@ -7,7 +7,7 @@ use Rattle.oneshot_laws.proofs.HistoryReader.{objects}
 use Rattle.oneshot_laws.proofs.Watched.{no_names}
 use Rattle.oneshot_laws.proofs.WatchedRuns.{EachRun}
 
--- the call beside which the other end has made no step, and the object on which it began
+-- the call during which the other end has made no step so far, and the object on which it began
 pub data Lone : Type 0 where
   Nobody : Lone
   Of : (end : End) (object : Object) → Lone
@@ -28,7 +28,7 @@ answers_as g Nobody = true
 answers_as g (Of end o) =
     agrees g.entry.reply (lone_reply g.call o) && is_same_object g.next (stepped (action_of g.call) o)
 
--- a call does not begin again, and answers as the object where it ran alone
+-- a call does not begin again, and if it ran alone it replies as the object
 abbrev answers_alone : Lone → Glance → Bool
 answers_alone lone g =
     not (g.begins && is_of g.entry.side lone) && only_if (is_some g.entry.reply) (answers_as g (lone_at lone g))
@@ -62,7 +62,7 @@ abbrev claim : List Mark → Lone → Bool
 claim ms Nobody = true
 claim ms (Of end o) = is_lone_call o end ms
 
--- a mark beside a call that began before
+-- a mark during a call that began before
 going_on : (same begins ended : Bool) (own new : Lone) (right later : Lone → Bool)
     → (not (begins && same) && only_if ended (right (if begins then new else (if same then own else Nobody)))) ≡ true
     → later (if ended then Nobody else (if begins then new else (if same then own else Nobody))) ≡ true

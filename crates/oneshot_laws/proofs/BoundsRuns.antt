@@ -1,5 +1,4 @@
--- Each call makes no more operations on the word than its bound: the reader counts down, for each end, what
--- its call has left.
+-- Each call performs at most its bound of operations on the word: the reader counts what each end's call has left.
 use Rattle.oneshot_laws.proofs.Names.{◌≡◌, ℕ, zero, suc, Bool, true, false, not, ◌&&◌, ◌||◌, List, [], ◌∷◌, map, Option, Some, None, refl, ◌∙◌, ap, if◌then◌else◌, End, Sender, Receiver, Call, Classes, as_call, as_made, Made, and_left, and_right, both, is_same_end, is_same_flag, Mark, side, call_marks, until_reply, at_most, operates, bound_of, is_within, is_bounded, are_calls_bounded}
 use Rattle.oneshot_laws.proofs.Glanced.{Passes, Nameless, of_call, LawExplored, all_glanced, passed, holds_by}
 use Rattle.oneshot_laws.proofs.Glances.{glance_of}
@@ -117,7 +116,7 @@ each (m ∷ ms) x p =
     (first_mark (side m) m ms x p.0 (claims ms (budget_then x (glance_of m)) (side m) p.1))
     (each ms (budget_then x (glance_of m)) p.1)
 
--- no name and no number is looked at
+-- the law reads no name and no number
 module _ (k : Classes) where
   may_as : (left : Left) (e : Made) → may_make left (as_made k e) ≡ may_make left e
   may_as Resting e = refl

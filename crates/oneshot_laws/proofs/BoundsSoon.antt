@@ -1,5 +1,4 @@
--- Once the sender made its last operation on the word, each call of the receiver answers soon: the reader
--- counts down what the receiver's call has left.
+-- After the sender's last operation each call of the receiver replies soon: the reader counts what it has left.
 use Rattle.oneshot_laws.proofs.Names.{◌≡◌, ℕ, zero, suc, Bool, true, false, not, ◌&&◌, ◌||◌, List, [], ◌∷◌, map, Some, None, refl, ap, subst, if◌then◌else◌, End, Sender, Receiver, Classes, as_made, Made, and_left, and_right, both, is_same_end, is_word, Mark, finishes, call_marks, until_reply, at_most, operates, is_senders_last, each_move, answers_soon, is_soon_answered}
 use Rattle.oneshot_laws.proofs.Budgets.{can, spend}
 use Rattle.oneshot_laws.proofs.BoundsRuns.{pay, no_more}
@@ -57,7 +56,7 @@ rest_law =
       first = λ place. whole false;
     }
 
--- at most so many, and so at most more
+-- at most so many is also at most more
 more : (test : Mark → Bool) (n k : ℕ) (ms : List Mark) → less n k ≡ true → at_most n test ms ≡ true
     → at_most k test ms ≡ true
 more test n k [] l h = refl
@@ -76,7 +75,7 @@ more test (suc n) (suc k) (m ∷ ms) l h =
     ] h
 more test (suc n) zero (m ∷ ms) l h = cc
 
--- while the sender is done
+-- once the sender is done
 abbrev left : ℕ → ℕ → Rest
 left n k = record { over = true; operations = n; moves = k }
 
@@ -158,7 +157,7 @@ soon_after_last (m ∷ ms) x p =
     (λ l. last m.entry.side m.entry x ms l (and_right (less x.operations 2 && less x.moves 6) _ p.0) p.1))
     (soon_after_last ms (rest_then x (glance_of m)) p.1)
 
--- no name and no number is looked at
+-- the law reads no name and no number
 module _ (k : Classes) where
   rest_as : (end : End) (e : Made) (x : Rest) → rest_at end (as_made k e) x ≡ rest_at end e x
   rest_as Sender e x = refl

@@ -1,4 +1,4 @@
--- What each end's call has left of its operations on the word, as a reader of the trace counts it.
+-- The operations on the word that each end's call has left, as a reader of the trace counts them.
 use Rattle.oneshot_laws.proofs.Names.{◌≡◌, ℕ, zero, suc, Bool, true, false, not, ◌&&◌, Option, Some, None, refl, if◌then◌else◌, End, Sender, Receiver, Call, Made, bound_of, is_word, is_same_flag, until_reply}
 use Rattle.oneshot_laws.proofs.Coding.{Coding, pairs, by_parts, or_none, numbers_below}
 use Rattle.oneshot_laws.proofs.Glanced.{Law}
@@ -11,7 +11,7 @@ pub data Left : Type 0 where
   Unbounded : Left
   Counted : ℕ → Left
 
--- what a call has that begins, by its bound
+-- what a call that begins has left, by its bound
 abbrev pub counted : Option ℕ → Left
 counted None = Unbounded
 counted (Some limit) = Counted limit
@@ -59,7 +59,7 @@ abbrev pub left_at : End → Left → Budget → Budget
 left_at Sender left x = record { sender = left; receiver = x.receiver }
 left_at Receiver left x = record { sender = x.sender; receiver = left }
 
--- a call begins just where none is under way, and makes what it may
+-- a call begins exactly when none is under way, and keeps to what it has left
 abbrev pub fits : Left → Bool → Call → Made → Bool
 fits left begins call e = is_same_flag begins (is_resting left) && may_make (under_way call left) e
 

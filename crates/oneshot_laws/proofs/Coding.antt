@@ -1,17 +1,16 @@
--- How the values of a type are told apart while the checker explores: by a code that sorts them, and a test
--- which the same values alone pass.
+-- Codes that sort the values of a type while the checker explores, and tests that only equal values pass.
 use Rattle.oneshot_laws.proofs.Names.{◌≡◌, ℕ, ◌+◌, ◌*◌, ◌==◌, Bool, true, false, ◌&&◌, List, [], ◌∷◌, Option, Some, None, refl, sym, ◌∙◌, ap, get_or, eqb-true, End, Sender, Receiver, Reply, bool_code, Place, NotSent, InCell, InError, Delivered, FromError, and_left, and_right, same_by, reply_code, place_code, Content, Open, Full, Closed, content_code, is_same_flag}
 use Rattle.oneshot_machine.specs.declared.machine.Reply.TheVariants as R
 use Rattle.oneshot_world.specs.declared.trace.Place.TheVariants.{Dropped}
 
--- `width` is above each code
+-- each code is below `width`
 pub record Coding (X : Type 0) : Type 0 where
   pub width : ℕ
   pub code : X → ℕ
   pub is_same : X → X → Bool
   pub sound : (a b : X) → is_same a b ≡ true → a ≡ b
 
--- values that stand in a list at their codes
+-- values that a list has at their codes
 abbrev pub listed : {X : Type 0} (width : ℕ) (code : X → ℕ) (values : List X) (d : X)
     → ((x : X) → get_or values (code x) d ≡ x) → Coding X
 listed width code values d back =
@@ -45,7 +44,7 @@ pairs c d =
           ap (λ x. (x, p.1)) first ∙ ap (λ y. (q.0, y)) second;
     }
 
--- a value by its parts, of which it is made again
+-- a value by its parts, which determine it
 abbrev pub by_parts : {X Y : Type 0} (parts : X → Y) (whole : Y → X) → ((x : X) → whole (parts x) ≡ x) → Coding Y
     → Coding X
 by_parts parts whole back c =

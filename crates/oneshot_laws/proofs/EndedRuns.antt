@@ -1,5 +1,4 @@
--- Once both ends and the error have ended: a claim on what was told until then, for any way of keeping it and
--- for any classes of names.
+-- Claims on what a trace has shown once both ends and the error have ended, for any state kept and any classes.
 use Rattle.oneshot_laws.proofs.Names.{◌≡◌, Bool, true, false, ◌&&◌, ◌||◌, List, [], ◌∷◌, Option, is_some, map, refl, ◌∙◌, ap, subst, Call, calls_of, Classes, all_alike, World, Tells, opening, opening_place, Move, ReceiverScript, SenderScript, Entry, Place, and_left, and_right, only_if, is_reply, is_end_of_sender, is_end_of_receiver, is_end_of_error, Mark, marks, has_answered, is_refused, all_ended}
 use Rattle.oneshot_machine.specs.declared.machine.Reply.TheVariants as R
 use Rattle.oneshot_laws.proofs.Coding.{Coding, pairs, by_parts, flags}
@@ -7,7 +6,7 @@ use Rattle.oneshot_laws.proofs.Glanced.{Law, Passes, as_glance, of_call, Passed}
 use Rattle.oneshot_laws.proofs.Glances.{Glance, glance_of}
 use Rattle.oneshot_laws.proofs.Watched.{Names, no_names}
 
--- which calls have answered that end something, and what is kept besides
+-- which calls that end something have replied, and what is kept besides
 pub record Kept (X : Type 0) : Type 0 where
   pub sender : Bool
   pub receiver : Bool
@@ -35,17 +34,17 @@ over_later : (s x s' r y r' f z f' e w e' good : Bool)
     → only_if (is_over (s || (x || s')) (r || (y || r')) (f || (z || f')) (e || (w || e'))) good ≡ true
 over_later s x s' r y r' f z f' e w e' good h = rw (or_more s x s', or_more r y r', or_more f z f', or_more e w e') h
 
--- a law that asks nothing until the end
+-- a law that requires nothing before the end
 abbrev pub nothing_asked : {X : Type 0} → X → Glance → Bool
 nothing_asked own g = true
 
--- what is kept after these
+-- what is kept after these glances
 abbrev pub own_after : {X : Type 0} → (X → Glance → X) → X → List Glance → X
 own_after own_then own [] = own
 own_after own_then own (g ∷ gs) = own_after own_then (own_then own g) gs
 
--- A claim on what is kept at the end: `own_then` is how it is kept, `asks` a claim on what is told each time,
--- and `good` the claim at the end.
+-- A claim on what is kept at the end: `own_then` updates it at each glance, `asks` is a claim on each
+-- glance, and `good` is the claim at the end.
 pub record Ending (X : Type 0) : Type 0 where
   pub coding : Coding X
   pub own_then : X → Glance → X
@@ -58,7 +57,7 @@ pub record Ending (X : Type 0) : Type 0 where
 abbrev pub nothing_ended : {X : Type 0} → X → Kept X
 nothing_ended own = record { sender = false; receiver = false; refused = false; error = false; own = own }
 
--- names by what is kept
+-- names, by what is kept
 abbrev pub of_kept : {X : Type 0} → Names X → Names (Kept X)
 of_kept names = record { polls = names.polls; copies = λ x. names.copies x.own }
 
@@ -92,7 +91,7 @@ module _ {X : Type 0} (ending : Ending X) where
       }
 
   module _ (k : Classes) where
-    -- what has ended is the same by classes
+    -- what has ended does not depend on classes
     abbrev seen_then : Kept X → Glance → Call → Kept X
     seen_then x g call =
         record {
@@ -123,7 +122,7 @@ module _ {X : Type 0} (ending : Ending X) where
         (fine_at_end ms (kept_then x (as_glance k (glance_of m)))
         (and_right (ending.asks x.own (as_glance k (glance_of m))) _ p.0) p.1))
 
-  -- each time, what is asked
+  -- what is asked at each glance
   abbrev pub Asked : X → List Glance → Type 0
   Asked own [] = Unit {0}
   Asked own (g ∷ gs) = (ending.asks own g ≡ true) × Asked (ending.own_then own g) gs
@@ -135,7 +134,7 @@ module _ {X : Type 0} (ending : Ending X) where
 nothing_over : (good : Bool) → only_if (is_over false false false false) good ≡ true
 nothing_over good = refl
 
--- the ending's law passes a run, as it is seen by classes
+-- a run, seen by classes, passes the ending's law
 abbrev pub PassesEnding : {X T : Type 0} → Ending X → Classes → SenderScript T → ReceiverScript → List Entry → Type 0
 PassesEnding ending k s r entries =
     Passes (kept ending) (nothing_ended (ending.first (opening_place s.last)))
@@ -143,14 +142,14 @@ PassesEnding ending k s r entries =
 
 module _ {X T : Type 0} (ending : Ending X) (k : Classes) (s : SenderScript T) (r : ReceiverScript)
     (entries : List Entry) where
-  -- each time what is asked, as the run is seen by classes
+  -- what is asked at each glance of the run, seen by classes
   pub asked_run : PassesEnding ending k s r entries → Asked ending (ending.first (opening_place s.last))
       (map (as_glance k) (map glance_of (marks (calls_of s r) entries)))
   asked_run p =
       asked ending (map (as_glance k) (map glance_of (marks (calls_of s r) entries)))
       (nothing_ended (ending.first (opening_place s.last))) p
 
-  -- and at the end the claim
+  -- and the claim at the end
   pub ended_run : PassesEnding ending k s r entries → only_if (all_ended (marks (calls_of s r) entries))
       (ending.good (own_after ending.own_then (ending.first (opening_place s.last))
       (map (as_glance k) (map glance_of (marks (calls_of s r) entries))))) ≡ true
@@ -158,7 +157,7 @@ module _ {X T : Type 0} (ending : Ending X) (k : Classes) (s : SenderScript T) (
       fine_at_end ending k (marks (calls_of s r) entries) (nothing_ended (ending.first (opening_place s.last)))
       (nothing_over (ending.good (ending.first (opening_place s.last)))) p
 
--- of an ending that looks at no name
+-- an ending that reads no name
 pub record EndingNameless {X : Type 0} (ending : Ending X) : Type 0 where
   pub none : ending.names ≡ no_names
   pub own_same : (k : Classes) (own : X) (g : Glance) → ending.own_then own (as_glance k g) ≡ ending.own_then own g

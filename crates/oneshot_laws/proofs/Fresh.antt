@@ -1,10 +1,10 @@
--- A copy that is not made in an entry has no name of that entry.
+-- A copy that an entry does not make is not named by that entry.
 use Rattle.oneshot_laws.proofs.Names.{◌≡◌, ℕ, ◌==◌, if◌then◌else◌, Bool, true, false, Option, Some, None, refl, eq-eqb, option_map, Step, WakerMove, waker_move, back_to, told_with, WakerName, Parker, Copy, Wakers}
 use Rattle.oneshot_machine.specs.declared.machine.Step.TheVariants as T
 use Rattle.oneshot_machine.specs.declared.states.Op.TheVariants as O
 use Rattle.oneshot_world.specs.declared.trace.WakerPlace.TheVariants as W
 
--- a copy that comes into being in an entry is named by that entry
+-- a copy that an entry makes is named by that entry
 abbrev pub is_named_by : ℕ → WakerName → Bool
 is_named_by e Parker = true
 is_named_by e (Copy number entry) = entry == e

@@ -1,5 +1,4 @@
--- A law's own reader, which goes through the glances at the marks, by classes of names: explored beside the
--- machines and the reader of histories, for any such reader.
+-- Laws as readers of glances, which the checker explores with the world and the reader of histories, by classes.
 use Rattle.oneshot_laws.proofs.Names.{◌≡◌, ℕ, Bool, true, ◌&&◌, List, [], ◌∷◌, map, Option, refl, sym, ◌∙◌, ap, subst, End, Sender, Receiver, Call, Of_sender, Of_receiver, Poll, Unanswered, calls_of, Classes, all_alike, as_call, as_made, Tree, World, Tells, opening, opening_place, by_end, Move, ReceiverScript, SenderScript, Entry, Made, Place, and_left, and_right, Mark, marks, call_under_way, Object}
 use Rattle.oneshot_machine.specs.declared.machine.receiver.ReceiverStart.TheVariants as RC
 use Rattle.oneshot_machine.specs.declared.machine.sender.SenderCall.TheVariants as SC
@@ -16,8 +15,8 @@ pub record Pair (N : Type 0) : Type 0 where
   pub reader : Reader
   pub state : N
 
--- A law as a reader of glances: whether it accepts what it sees next, and where it goes with it, both by
--- classes; and where it begins, by the message's first place.
+-- A law as a reader of glances: whether it accepts the next glance, and its state after it, both by classes;
+-- and its first state, by the message's first place.
 pub record Law (N : Type 0) : Type 0 where
   pub coding : Coding N
   pub passes : N → Glance → Bool
@@ -25,7 +24,7 @@ pub record Law (N : Type 0) : Type 0 where
   pub names : Names N
   pub first : Option Place → N
 
--- the law accepts what it sees
+-- the law accepts these glances
 abbrev pub Passes : {N : Type 0} → Law N → N → List Glance → Type 0
 Passes law n [] = Unit {0}
 Passes law n (g ∷ gs) = (law.passes n g ≡ true) × Passes law (law.sees n g) gs
@@ -43,13 +42,13 @@ glance_as k (Of_sender SC.Send) e o x = refl
 glance_as k (Of_receiver RC.Recv) e o x = refl
 glance_as k _ e o x = refl
 
--- what is said of a call and not of a poll's number
+-- a fact of a call that does not depend on a poll's number
 pub of_call : {X : Type 0} (k : Classes) (f : Call → X) → ((a b : ℕ) → f (Poll a) ≡ f (Poll b)) → (call : Call)
     → f (as_call k call) ≡ f call
 of_call k f same (Poll number) = same (k.polls number) number
 of_call k f same _ = refl
 
--- a law that looks at no name and at no number
+-- a law that reads no name and no number
 pub record Nameless {N : Type 0} (law : Law N) : Type 0 where
   pub none : law.names ≡ no_names
   pub passes_same : (k : Classes) (n : N) (g : Glance) → law.passes n (as_glance k g) ≡ law.passes n g
@@ -61,7 +60,7 @@ entry_as k g = record g { entry = as_made k g.entry }
 abbrev pub with_poll : ℕ → Glance → Glance
 with_poll number g = record g { call = Poll number }
 
--- so it is where no name in an entry counts, and no number of a poll
+-- a law is so if it depends on no name in an entry and on no number of a poll
 pub nameless_of : {N : Type 0} (law : Law N) → law.names ≡ no_names → ((k : Classes) (n : N) (g : Glance)
     → (law.passes n (entry_as k g) ≡ law.passes n g) × (law.sees n (entry_as k g) ≡ law.sees n g))
     → ((n : N) (g : Glance) (a b : ℕ) → (law.passes n (with_poll a g) ≡ law.passes n (with_poll b g))
@@ -77,7 +76,7 @@ nameless_of law none entries polls =
           g.call ∙ (entries k n g).1;
     }
 
--- names by what the law knows
+-- names, by the law's state
 abbrev pub of_pairs : {N : Type 0} → Names N → Names (Pair N)
 of_pairs names = record { polls = names.polls; copies = λ x. names.copies x.state }
 
@@ -102,7 +101,7 @@ module _ {N : Type 0} (law : Law N) where
         state = law.sees x.state (glance_at call e x.reader.object (watch_at side x.reader));
       }
 
-  -- the reader of histories beside the law
+  -- the reader of histories, together with the law
   abbrev pub with_history : Automaton (Pair N)
   with_history =
       record {
@@ -116,7 +115,7 @@ module _ {N : Type 0} (law : Law N) where
       }
 
   module _ (k : Classes) where
-    -- what is seen of an entry by classes
+    -- an entry, seen by classes
     seen_as : (side : End) (left : Unanswered) (e : Made) (m : Reader)
         → glance_at (class_under_way k left) (as_made k e) m.object (watch_at side m)
         ≡ as_glance k (glance_at (call_under_way left) e m.object (watch_at side m))
@@ -128,7 +127,7 @@ module _ {N : Type 0} (law : Law N) where
         → reads side (class_under_way k left) (as_made k e) m ≡ reads side (call_under_way left) e m
     read_as = reads_alike histories histories_nameless k
 
-    -- what the pair accepts, the law accepts
+    -- the law accepts what the pair accepts
     pub glanced : (entries : List Entry) (x : Pair N) (s r : Unanswered) → Accepts_by with_history k x s r entries
         → Passes law x.state (map (as_glance k) (glances x.reader s r entries))
     glanced [] x s r a = tt
@@ -147,7 +146,7 @@ module _ {N : Type 0} (law : Law N) where
           (glanced entries _ _ _ a.1)),
     )
 
--- what the checker found of a law
+-- what the checker found for a law
 abbrev pub LawExplored : {N : Type 0} → Law N → Type 0
 LawExplored law = Explored (with_history law)
 
@@ -155,7 +154,7 @@ LawExplored law = Explored (with_history law)
 abbrev pub all_glanced : {N : Type 0} (law : Law N) → Tree (Watched (Pair N))
 all_glanced law = all_watched (with_history law)
 
--- the law accepts each run, as it is seen by classes
+-- the law accepts each run, seen by classes
 pub passes_by : {N : Type 0} (law : Law N) (k : Classes) (classed : Classed (with_history law) k) → LawExplored law
     → {T : Type 0} (s : SenderScript T) (r : ReceiverScript) (worlds : List World) (moves : List Move)
     (entries : List Entry) → classed.apt 1 ((with_history law).first (opening_place s.last)) ≡ true
@@ -170,19 +169,19 @@ passes_by law k classed explored s r worlds moves entries apt told =
 abbrev pub nameless_classed : {N : Type 0} (law : Law N) → law.names ≡ no_names → Classed (with_history law) all_alike
 nameless_classed law none = all_classed (with_history law) (ap of_pairs none)
 
--- each run passes the law, as it is seen with all names alike
+-- each run, seen with all names alike, passes the law
 abbrev pub Passed : {N : Type 0} → Law N → Type 0 → Type 0
 Passed law T =
     (s : SenderScript T) (r : ReceiverScript) (worlds : List World) (moves : List Move) (entries : List Entry)
     → Tells (opening s r) worlds moves entries → Passes law (law.first (opening_place s.last))
     (map (as_glance all_alike) (map glance_of (marks (calls_of s r) entries)))
 
--- a law that knows no name, where all that a run can reach was explored
+-- a law that reads no name, if all that a run can reach was explored
 pub passed : {N : Type 0} (law : Law N) → law.names ≡ no_names → LawExplored law → {T : Type 0} → Passed law T
 passed law none explored s r worlds moves entries told =
     passes_by law all_alike (nameless_classed law none) explored s r worlds moves entries refl told
 
--- a law that looks at no name accepts each run
+-- a law that reads no name accepts each run
 pub passes_run : {N T : Type 0} (law : Law N) → Nameless law → Passed law T
     → (s : SenderScript T) (r : ReceiverScript) (worlds : List World) (moves : List Move) (entries : List Entry)
     → Tells (opening s r) worlds moves entries
@@ -192,7 +191,7 @@ passes_run law nameless each s r worlds moves entries told =
     (law.first (opening_place s.last))
     (each s r worlds moves entries told)
 
--- so a claim on the marks holds of each run that follows from the law
+-- so each run satisfies a claim on its marks that follows from the law
 pub holds_by : {N T : Type 0} (law : Law N) → Nameless law → Passed law T → (claim : List Mark → Bool)
     → ((place : Option Place) (ms : List Mark) → Passes law (law.first place) (map glance_of ms) → claim ms ≡ true)
     → EachRun T claim
@@ -200,7 +199,7 @@ holds_by law nameless each claim meets s r worlds moves entries told =
     meets (opening_place s.last) (marks (calls_of s r) entries)
     (passes_run law nameless each s r worlds moves entries told)
 
--- two laws that know no name, as one: so both are explored at once
+-- two laws that read no name, as one: both are explored at once
 module _ {N M : Type 0} (a : Law N) (b : Law M) where
   abbrev together : Law (N × M)
   together =
@@ -226,11 +225,11 @@ module _ {N M : Type 0} (a : Law N) (b : Law M) where
   second_passed : {T : Type 0} → Passed together T → Passed b T
   second_passed both s r worlds moves entries told = second_passes _ _ (both s r worlds moves entries told)
 
--- the law that asks nothing
+-- the law that requires nothing
 abbrev no_law : Law (Unit {0})
 no_law = record { coding = alone; passes = λ _ _. true; sees = λ _ _. tt; names = no_names; first = λ _. tt }
 
--- laws that know no name, which one search explores
+-- laws that read no name, explored in one search
 pub data Laws : Type 1 where
   no_laws : Laws
   also : {N : Type 0} → Law N → Laws → Laws
@@ -244,7 +243,7 @@ abbrev pub all_of : (laws : Laws) → Law (States laws)
 all_of no_laws = no_law
 all_of (also law laws) = together law (all_of laws)
 
--- each run passes each of them
+-- each run passes all of them
 abbrev pub Each : Laws → Type 0 → Type 0
 Each no_laws T = Unit {0}
 Each (also law laws) T = Passed law T × Each laws T

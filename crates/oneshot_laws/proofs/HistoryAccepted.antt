@@ -1,4 +1,4 @@
--- What the reader accepts has a legal history, whatever machine made it. No table and no world is in this file.
+-- A trace that the reader accepts has a legal history, whatever made it: this file has no table and no world.
 use Rattle.oneshot_laws.proofs.Names.{◌≡◌, ℕ, ◌+◌, Bool, true, false, not, ◌&&◌, ◌||◌, List, [], ◌∷◌, ◌++◌, map, Option, Some, None, is_some, refl, sym, ◌∙◌, ap, subst, if◌then◌else◌, list_all, End, Sender, Receiver, Reply, Call, Of_sender, Of_receiver, Poll, Stray, Unanswered, is_none_left, left_by, by_end, Entry, Made, and_left, and_right, both, only_if, Object, nothing_yet_of, fixed_reply_of, is_stray, is_end_of_sender, is_end_of_receiver, rule, works_on_word, until_reply, to_reply, Reading, read_by, Mark, mark_at, marks_from, call_under_way, object_then, ends, agrees, object_reply, is_object_step, is_legal, is_complete, is_right_outside, is_covered, history, has_legal_history, acts_last}
 use Rattle.oneshot_machine.specs.declared.machine.receiver.ReceiverStart.TheVariants as RC
 use Rattle.oneshot_machine.specs.declared.machine.sender.SenderCall.TheVariants as SC
@@ -24,7 +24,7 @@ answers_as_ever (Of_receiver RC.IntoFuture) e o x h = and_right (not (is_some x.
 answers_as_ever Stray e o x h = cc
 answers_as_ever _ e o x h = refl
 
--- the reading and the reader go on together
+-- the reading and the reader advance together
 more_than_none : {X : Type 0} (xs : List X) (x : X) → is_none_left (xs ++ x ∷ []) ≡ false
 more_than_none [] x = refl
 more_than_none (y ∷ xs) x = refl
@@ -65,7 +65,7 @@ abbrev pub AllRight : List Mark → Type 0
 AllRight [] = Unit {0}
 AllRight (m ∷ ms) = MarkRight m × AllRight ms
 
--- a call that ends its end has no word for "nothing yet"
+-- a call that ends its end has no reply for "nothing yet"
 no_word : (call : Call) → (is_end_of_sender call || is_end_of_receiver call) ≡ true → nothing_yet_of call ≡ None
 no_word (Of_receiver RC.TryRecv) h = cc
 no_word (Of_receiver RC.RecvDeadline) h = cc

@@ -1,4 +1,4 @@
--- What the definition says of an entry that the reader accepts, by the kind of its call.
+-- What the definition states of an entry that the reader accepts, by the kind of its call.
 use Rattle.oneshot_laws.proofs.Names.{◌≡◌, Bool, true, false, not, ◌&&◌, ◌||◌, List, [], Option, Some, None, is_some, refl, list_any, Reply, Call, Of_sender, Of_receiver, Poll, Stray, Made, and_left, and_right, only_if, is_nothing_yet, Object, nothing_yet_of, First, Never, rule, receive_rule, works_on_word, finds_full_or_closed, until_reply, reply_among, loads, finishes, swaps_closed_in, agrees, is_object_step}
 use Rattle.oneshot_machine.specs.declared.machine.receiver.ReceiverStart.TheVariants as RC
 use Rattle.oneshot_machine.specs.declared.machine.sender.SenderCall.TheVariants as SC
@@ -6,7 +6,7 @@ use Rattle.oneshot_laws.proofs.HistoryReader.{Receives, kind, Watch, due, hits, 
 use Rattle.oneshot_laws.proofs.HistoryOwed.{answer_from}
 use Rattle.oneshot_laws.proofs.HistoryEntries.{FollowsAt, EntryRight, first_right, receive_right}
 
--- what `pays` tells of a reply
+-- what `pays` shows of a reply
 owes_reply : (owes reply : Option Reply) → pays owes reply ≡ true → is_some reply ≡ true → is_some owes ≡ true
 owes_reply (Some y) reply h k = refl
 owes_reply None None h k = k

@@ -1,4 +1,4 @@
--- What the definition says of one entry of a call that the reader accepts. No table and no world is in this file.
+-- What the definition states of one entry that the reader accepts, without table and world.
 use Rattle.oneshot_laws.proofs.Names.{◌≡◌, Bool, true, false, not, ◌&&◌, ◌||◌, List, [], ◌∷◌, ◌++◌, Option, Some, None, is_some, refl, sym, ◌∙◌, ap, subst, list_any, Reply, Call, Of_receiver, Poll, is_none_left, Made, and_left, and_right, only_if, says_nothing_yet, is_nothing_yet, Object, Content, Open, Full, Closed, Take, is_open_content, object_after, action_of, nothing_yet_of, reply_on, stepped, Rule, First, Last, acts, has_acted, receive_rule, works_on_word, finds_full_or_closed, agrees, is_object_step}
 use Rattle.oneshot_machine.specs.declared.machine.receiver.ReceiverStart.TheVariants as RC
 use Rattle.oneshot_laws.proofs.HistoryReader.{kind, Watch, due, hit, owed, object_if, may_say, pays_receive, may_owe, has_reply}
@@ -26,7 +26,7 @@ pub record FollowsAt (call : Call) (x : Watch) (earlier : List Made) : Type 0 wh
   pub acted : list_any (hit (kind call)) earlier ≡ is_some x.owes
   pub worked : list_any works_on_word earlier ≡ x.worked
 
--- a claim that is made where the call acts
+-- a claim for an entry at which the call acts
 if_acts : (now : Bool) (owes expected answer : Option Reply) → has_reply (now && not (is_some owes)) expected ≡ true
     → ((y : Reply) → owed now owes expected ≡ Some y → agrees answer (Some y) ≡ true)
     → only_if (now && not (is_some owes)) (agrees answer expected) ≡ true
@@ -47,7 +47,7 @@ stepped_if : (b : Bool) (call : Call) (o : Object)
 stepped_if true call o = refl
 stepped_if false call o = refl
 
--- a receive that has a word for "nothing yet" is a take, and a take of nothing changes nothing
+-- a receive with a reply for "nothing yet" is a take, and a take of nothing changes nothing
 takes : (call : Call) (n : Reply) → nothing_yet_of call ≡ Some n → action_of call ≡ Some Take
 takes (Of_receiver RC.TryRecv) n h = refl
 takes (Of_receiver RC.RecvDeadline) n h = refl
@@ -75,9 +75,9 @@ open_gives_at call Closed s r h = cc
 open_gives : (c : Call) (o : Object) → is_open_content o.content ≡ true → reply_on c o (Some Take) ≡ nothing_yet_of c
 open_gives call o h = open_gives_at call o.content o.sender_here o.receiver_here h
 
--- An entry of a call, with what the definition says of it: its reply is the object's, the object goes on as
--- the reader's, where it answers the call has acted, and a call that has no word for "nothing yet" acts where
--- the reader sees it.
+-- What the definition states of a call's entry: its reply is the object's, the object changes as the
+-- reader's, the call has acted when it replies, and a call without a reply for "nothing yet" acts where the
+-- reader finds that it does.
 pub record EntryRight (by : Rule) (call : Call) (o next : Object) (acting : Bool) (answer reply : Option Reply)
     (earlier : List Made) (e : Made) (later : List Made) : Type 0 where
   pub legal : only_if (acts by earlier e later) (agrees answer (due call o)) ≡ true
@@ -86,7 +86,7 @@ pub record EntryRight (by : Rule) (call : Call) (o next : Object) (acting : Bool
   pub complete : only_if (is_some reply && is_object_step call) (has_acted by (earlier ++ e ∷ []) later) ≡ true
   pub acts : nothing_yet_of call ≡ None → acts by earlier e later ≡ acting
 
--- where a call acts at its first entry that passes a test
+-- a call that acts at its first entry that passes a test
 pub first_right : (test : Made → Bool) (call : Call) (o : Object) (owes answer reply : Option Reply)
     (earlier : List Made) (e : Made) (later : List Made) → list_any test earlier ≡ is_some owes
     → has_reply (test e && not (is_some owes)) (due call o) ≡ true
@@ -148,7 +148,7 @@ free_reply call worked answer None ok something replies h = absurd (cc h)
 free_reply call worked answer (Some r) ok something replies h =
     let says : is_nothing_yet answer ≡ true = rw (replies r refl) (says_if_free call worked r ok) in absurd (cc)
 
--- the last word operation of a receive that says "nothing yet"
+-- the last operation of a receive that replies "nothing yet"
 nothing_right : (call : Call) (o : Object) (answer reply : Option Reply) (worked : Bool) (earlier : List Made)
     (e : Made) (later : List Made) → list_any works_on_word earlier ≡ worked → is_nothing_yet answer ≡ true
     → agrees answer (nothing_yet_of call) ≡ true → pays_receive call (worked || works_on_word e) None reply ≡ true

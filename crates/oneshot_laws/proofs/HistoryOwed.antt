@@ -1,5 +1,4 @@
--- What a call owes since it acted is what it answers, if it answers; and a receive that owes nothing says
--- "nothing yet" in its own word.
+-- What a call owes since it acted is its reply, if it replies; a receive's "nothing yet" is the reply of its kind.
 use Rattle.oneshot_laws.proofs.Names.{◌≡◌, Bool, true, false, not, ◌&&◌, ◌||◌, List, [], ◌∷◌, Option, Some, None, is_some, refl, ◌∙◌, ap, subst, End, Sender, Receiver, Reply, Call, Unanswered, by_end, Entry, Made, and_left, and_right, is_same_end, says_nothing_yet, is_nothing_yet, Object, Content, nothing_yet_of, until_reply, to_reply, reply_among, call_under_way, works_on_word, finds_full_or_closed, agrees}
 use Rattle.oneshot_world.specs.declared.trace.Entry.TheVariants.{Idle, Made as Made_entry}
 use Rattle.oneshot_laws.proofs.Coding.{replies}
@@ -16,7 +15,7 @@ Goes_on d e es m s r =
     × Accepted (reads d (call_under_way (by_end d s r)) e m) (left_after d Sender e.reply s)
     (left_after d Receiver e.reply r) es
 
--- the rest of a call from an entry on, with the end's later entries
+-- a call's reply from an entry on, by the end's later entries
 abbrev pub answer_from : Made → List Made → Option Reply
 answer_from e later = reply_among (e ∷ until_reply e.reply later [])
 
@@ -68,7 +67,7 @@ Pays_in d es y =
     (m : Reader) (s r : Unanswered) → (watch_at d m).owes ≡ Some y → Accepted m s r es
     → agrees (reply_among (to_reply d es)) (Some y) ≡ true
 
--- from an entry at which it is owed
+-- the reply from an entry on at which it is owed
 pub answer_pays : (d : End) (e : Made) (es : List Entry) (y : Reply) → Pays_in d es y → (m : Reader) (s r : Unanswered)
     → owes_then (call_under_way (by_end d s r)) e m.object (watch_at d m) ≡ Some y → Goes_on d e es m s r
     → agrees (answer_from e (to_reply d es)) (Some y) ≡ true
@@ -102,7 +101,7 @@ fine_as works c None h = refl
 fine_as works c (Some y) h =
     elim (says_nothing_yet y) as (λ b. not b ≡ true → b ≡ false) [ true ↦ λ h. cc | false ↦ λ h. refl ] h
 
--- a reply that says "nothing yet" is not one that was owed
+-- a reply that was owed is not "nothing yet"
 pub not_owed : (y : Reply) (a : Option Reply) → is_nothing_yet (Some y) ≡ false → agrees a (Some y) ≡ true
     → is_nothing_yet a ≡ false
 not_owed y None fine h = refl
@@ -119,7 +118,7 @@ says_own call worked None works c r h fine says =
 says_own call worked (Some y) works c r h fine says =
     let none = not_owed y (Some r) (fine_as works c (Some y) fine) h in cc
 
--- what a receive needs for that: it is the one under way, and owes no "nothing yet"
+-- the reader accepts "nothing yet" of a receive only as that call's own reply
 says_now : (k : Kind) (call : Call) (e : Made) (o : Object) (x : Watch) (r : Reply) → k ≡ Receives → e.reply ≡ Some r
     → accepts_as k call e o x ≡ true → says_nothing_yet r ≡ true → agrees (Some r) (nothing_yet_of call) ≡ true
 says_now k call e o x r is at h says =

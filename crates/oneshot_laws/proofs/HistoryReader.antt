@@ -6,8 +6,8 @@ use Rattle.oneshot_machine.specs.declared.machine.sender.SenderCall.TheVariants 
 use Rattle.oneshot_laws.proofs.Coding.{Coding, pairs, by_parts, or_none, flags, replies, contents}
 use Rattle.oneshot_laws.proofs.Watched.{Automaton, NamelessReader, no_names}
 
--- how a call acts: at its first entry that passes a test, as a receive does, or never, with a reply that is
--- always the same
+-- how a call acts: at its first entry that passes a test, as a receive does, or never, with a fixed
+-- reply
 pub data Kind : Type 0 where
   Acts_first : (test : Made → Bool) → Kind
   Receives : Kind
@@ -28,7 +28,7 @@ abbrev pub kind : Call → Kind
 kind Stray = Is_none
 kind call = elim (action_of call) [ None ↦ Answers_always | Some action ↦ kind_of action ]
 
--- the entry at which a call acts that does not answer "nothing yet"
+-- the entry at which a call acts if it does not reply "nothing yet"
 abbrev pub hit : Kind → Made → Bool
 hit (Acts_first test) e = test e
 hit Receives e = finds_full_or_closed e
@@ -46,7 +46,7 @@ pub record Reader : Type 0 where
   pub sender : Watch
   pub receiver : Watch
 
--- the reply that the object gives
+-- the object's reply
 abbrev pub due : Call → Object → Option Reply
 due call o = reply_on call o (action_of call)
 
@@ -83,7 +83,7 @@ pays owes None = true
 pays None (Some reply) = false
 pays (Some owes) (Some reply) = is_same_reply reply owes
 
--- a receive that owes nothing may say "nothing yet", once it has worked on the word
+-- a receive that owes nothing may reply "nothing yet", once it has worked on the word
 abbrev pub may_say : Option Reply → Reply → Bool
 may_say None reply = false
 may_say (Some nothing) reply = is_same_reply reply nothing && says_nothing_yet reply
@@ -93,12 +93,12 @@ pays_receive call worked owes None = true
 pays_receive call worked None (Some reply) = may_say (nothing_yet_of call) reply && worked
 pays_receive call worked (Some owes) (Some reply) = is_same_reply reply owes
 
--- a receive that owes nothing meets an open object wherever it works on the word, and never owes "nothing yet"
+-- a receive that owes nothing finds the object open at each operation, and never owes "nothing yet"
 abbrev pub may_owe : Bool → Content → Option Reply → Bool
 may_owe works content None = not works || is_open_content content
 may_owe works content (Some reply) = not (says_nothing_yet reply)
 
--- where a call acts the object has a reply for it
+-- the object has a reply for a call that acts
 abbrev pub has_reply : Bool → Option Reply → Bool
 has_reply true expected = is_some expected
 has_reply false expected = true
@@ -141,7 +141,7 @@ new_watch = record { begun = false; owes = None; worked = false }
 abbrev pub new_reader : Reader
 new_reader = record { object = new_object; sender = new_watch; receiver = new_watch }
 
--- two readers are told apart by their parts
+-- readers are compared by their parts
 abbrev pub watches : Coding Watch
 watches =
     by_parts (λ x. (x.owes, (x.worked, x.begun))) (λ p. record { begun = p.1.1; owes = p.0; worked = p.1.0 })
@@ -164,7 +164,7 @@ abbrev pub histories : Automaton Reader
 histories =
     record { coding = readers; accepts = accepts; reads = reads; names = no_names; first = λ place. new_reader }
 
--- the reader looks at no name and at no number
+-- the reader reads no name and no number
 accepts_alike : (k : Classes) (side : End) (call : Call) (e : Made) (m : Reader)
     → accepts side (as_call k call) (as_made k e) m ≡ accepts side call e m
 accepts_alike k side (Of_sender SC.Send) e m = refl

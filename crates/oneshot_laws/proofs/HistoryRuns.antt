@@ -1,5 +1,4 @@
--- Each run of two scripts has a legal history: the reader accepts it, as the checker computes over machines
--- and reader together.
+-- Each run has a legal history: the reader accepts it, as the checker computes over world and reader together.
 use Rattle.oneshot_laws.proofs.Names.{◌≡◌, true, List, [], refl, Unanswered, calls_of, all_alike, World, Tells, opening, Move, ReceiverScript, SenderScript, Entry, marks, sender_reading, receiver_reading, call_under_way, has_legal_history}
 use Rattle.oneshot_laws.proofs.HistoryReader.{new_reader, new_watch, histories, histories_nameless}
 use Rattle.oneshot_laws.proofs.HistoryEntries.{FollowsAt}
@@ -22,7 +21,7 @@ run_accepted s r worlds moves entries told =
     alike histories histories_nameless all_alike entries new_reader (opening s r).sender (opening s r).receiver
     (accepted_run histories all_alike (all_classed histories refl) explored s r worlds moves entries refl told)
 
--- the marks of a run are right, and the other laws see what the reader sees
+-- the marks of a run are right, and their glances are those that the reader sees
 pub marks_run : {T : Type 0} (s : SenderScript T) (r : ReceiverScript) (worlds : List World) (moves : List Move)
     (entries : List Entry) → Tells (opening s r) worlds moves entries
     → MarksRight (marks (calls_of s r) entries) (glances new_reader (opening s r).sender (opening s r).receiver entries)

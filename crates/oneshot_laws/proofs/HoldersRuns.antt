@@ -18,7 +18,7 @@ is_freeing g = is_free g.entry.step
 abbrev lets_go : Glance → Bool
 lets_go g = is_freeing g || (g.last && is_here (other g.entry.side) g.object)
 
--- only a holder uses the block, and the one that frees it is the only one left
+-- only a holder uses the block, and only the last one frees it
 abbrev is_used_by_holder : Holders → Glance → Bool
 is_used_by_holder h g =
     only_if (uses g) (holds g.entry.side h) && only_if (is_freeing g) (not (holds (other g.entry.side) h))

@@ -1,4 +1,4 @@
--- That every run keeps each definition: first what reads traces, then a noun of `specs/` after the other.
+-- Proofs that every run keeps each law: first the readers of traces, then one noun of `specs/` after the other.
 pub mod Coding
 pub mod Fresh
 pub mod Watched

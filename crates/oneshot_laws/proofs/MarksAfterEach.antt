@@ -1,4 +1,4 @@
--- What every mark passes after each mark that passes a test, for any two tests: the law keeps one flag.
+-- Laws that every mark passes one test after each mark that passed another: the reader keeps one flag.
 use Rattle.oneshot_laws.proofs.Names.{◌≡◌, Bool, true, false, ◌&&◌, ◌||◌, List, [], ◌∷◌, map, refl, list_all, both, only_if, Mark, after_each}
 use Rattle.oneshot_laws.proofs.Coding.{flags}
 use Rattle.oneshot_laws.proofs.Glanced.{Law, Passes, Nameless, Passed, holds_by}
@@ -6,7 +6,7 @@ use Rattle.oneshot_laws.proofs.Glances.{Glance, glance_of}
 use Rattle.oneshot_laws.proofs.Watched.{no_names}
 use Rattle.oneshot_laws.proofs.WatchedRuns.{EachRun}
 
--- what was asked of this and of all that follows
+-- what holds of this mark and of all that follow
 ever : (after test good later : Bool) → only_if after good ≡ true → only_if (after || test) later ≡ true
     → only_if after (good && later) ≡ true
 ever false test good later h k = refl
@@ -21,7 +21,7 @@ always : (after : Bool) → only_if after true ≡ true
 always true = refl
 always false = refl
 
--- the flag is whether `test` was passed already, after which all must be good
+-- the flag is whether a mark has passed `test`, after which all must be good
 module _ (test good : Glance → Bool) where
   abbrev pub ever_law : Law Bool
   ever_law =

@@ -1,4 +1,4 @@
--- Each move of the message belongs to the call that makes it.
+-- Each move of the message belongs to a call that may make it.
 use Rattle.oneshot_laws.proofs.Names.{◌≡◌, Bool, true, false, List, [], ◌∷◌, Some, None, map, refl, both, Mark, may_put, is_message_put}
 use Rattle.oneshot_laws.proofs.Coding.{flags}
 use Rattle.oneshot_laws.proofs.Glanced.{Law, Passes, Nameless, nameless_of, Passed, holds_by}
@@ -6,7 +6,7 @@ use Rattle.oneshot_laws.proofs.Glances.{Glance, glance_of}
 use Rattle.oneshot_laws.proofs.Watched.{no_names}
 use Rattle.oneshot_laws.proofs.WatchedRuns.{EachRun}
 
--- a law that looks at each mark alone: its state says nothing
+-- a law of each mark alone: its state means nothing
 abbrev puts : Bool → Glance → Bool
 puts state g = elim g.entry.message [ None ↦ true | Some move ↦ may_put g.call g.entry.reply move.1 ]
 

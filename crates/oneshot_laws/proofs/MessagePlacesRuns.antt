@@ -1,5 +1,5 @@
--- The message is always in one place: it begins as not sent, moves as it may, and ends with somebody once all
--- have ended.
+-- The message is always in one place: it begins as not sent, makes only allowed moves, and ends with somebody
+-- once all have ended.
 use Rattle.oneshot_laws.proofs.Names.{◌≡◌, ℕ, zero, suc, ◌+◌, Bool, true, false, ◌&&◌, ◌||◌, List, [], ◌∷◌, ◌++◌, Option, Some, None, is_some, map, replicate, refl, sym, ◌∙◌, ap, subst, list_any, filter_map, cons_option, Call, Of_sender, calls_of, sender_last, Classes, World, Tells, opening, opening_place, Move, ReceiverScript, SenderLast, SenderScript, Entry, Place, NotSent, both, only_if, Object, is_send, Reading, Mark, marks, marks_from, all_ended, is_path, last_place, is_same_place, is_message_move, message_moves, is_message_followed, last_message_place, is_message_end, is_message_ended}
 use Rattle.oneshot_machine.specs.declared.machine.sender.SenderCall.TheVariants as SC
 use Rattle.oneshot_world.specs.declared.script.SenderLast.TheVariants as SL
@@ -19,7 +19,7 @@ shown [] s r n o = refl
 shown (Idle side ∷ es) s r n o = shown es s r (n + 1) o
 shown (Made_entry e ∷ es) s r n o = ap (cons_option e.message) (shown es _ _ _ _)
 
--- a message moves from where it is, and without one nothing moves
+-- a message moves from its place, and without a message nothing moves
 abbrev may_move : Option Place → Option (Place × Place) → Bool
 may_move place None = true
 may_move None (Some move) = false
@@ -108,7 +108,7 @@ message_followed each s r worlds moves entries tells =
     subst (λ has. IsPath has NotSent (message_moves entries))
     (has_it s.last ∙ sym (sends_after_looks s.looks (sender_last s.last))) from_start
 
--- whether a send was made, and where the message is
+-- whether a send has begun, and where the message is
 pub record Sending : Type 0 where
   pub begun : Bool
   pub place : Place

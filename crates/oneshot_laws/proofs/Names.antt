@@ -1,4 +1,4 @@
--- The names of other crates and of this one's definitions that the proofs cite, passed on from one place.
+-- The names of other crates and of this one's definitions that the proofs cite, exported from one place.
 pub use Rattle.oneshot_laws.specs.Actions.{is_drop_of_receiver, is_end_of_sender, is_receive, is_send, is_full_look, action_of, nothing_yet_of, reply_on, stepped, fixed_reply_of, is_stray, is_end_of_receiver, is_sender_look, is_closed_look, is_end_of_error}
 pub use Rattle.oneshot_laws.specs.Alone.{lone_reply, is_lone_call, are_lone_calls_right}
 pub use Rattle.oneshot_laws.specs.Bounds.{at_most, operates, is_senders_last, each_move, answers_soon, is_soon_answered, bound_of, is_within, is_bounded, are_calls_bounded}

@@ -1,11 +1,11 @@
--- What the definition says of the last poll of a number, one reader of the trace has in the end.
+-- What the definition states of the last poll of a number is the last state of a reader of that number.
 use Rattle.oneshot_laws.proofs.Names.{◌≡◌, ℕ, ◌==◌, Bool, true, false, not, ◌&&◌, ◌||◌, List, [], ◌∷◌, map, Option, Some, None, is_some, refl, ◌∙◌, ap, if◌then◌else◌, eq-eqb, list_any, number_of, and_left, and_right, both, is_reply, is_drop_of_receiver, Mark, uses_copy_of, is_own, wakes, is_poll, begins_poll_or_drop, answers_pending, is_left_by, waits_in_task}
 use Rattle.oneshot_machine.specs.declared.machine.Reply.TheVariants as R
 use Rattle.oneshot_laws.proofs.EndedRuns.{own_after}
 use Rattle.oneshot_laws.proofs.Glances.{Glance, glance_of}
 
--- of the last poll: none of the number that waits, one under way, or one that left its task; nothing woke it
--- since it began
+-- the last poll: none of the number waits, one is under way, or one left its task; nothing woke the number
+-- since the poll began
 pub data Nap : Type 0 where
   Calm : Nap
   Polling : Nap
@@ -31,7 +31,7 @@ nap_then number nap g =
 abbrev pub nap_after : ℕ → Nap → List Mark → Nap
 nap_after number nap ms = own_after (nap_then number) nap (map glance_of ms)
 
--- what was left and not woken stays so
+-- a task that was left and not woken stays so
 left_stays : (begins this woken pending : Bool) → begins ≡ false → woken ≡ false
     → answered pending (roused woken (begun begins this Left)) ≡ Left
 left_stays false this false pending b w = refl
@@ -68,7 +68,7 @@ still_left number (m ∷ ms) b w =
     (none_first _ _ b) (none_first _ _ w))
     ∙ still_left number ms (none_later (begins_poll_or_drop m) _ b) (none_later (wakes number m) _ w)
 
--- a poll under way that answers "pending" later
+-- a poll under way that replies "pending" later
 left_then : (number : ℕ) (ms : List Mark) → list_any answers_pending ms ≡ true → list_any begins_poll_or_drop ms ≡ false
     → list_any (wakes number) ms ≡ false → nap_after number Polling ms ≡ Left
 left_then number [] p b w = cc
@@ -101,7 +101,7 @@ is_not : (b : Bool) → not b ≡ true → b ≡ false
 is_not false h = refl
 is_not true h = cc
 
--- where it begins
+-- the poll begins here
 left_here : (number : ℕ) (m : Mark) (ms : List Mark) (nap : Nap) → m.begins ≡ true
     → is_own number (number_of m.call) ≡ true → is_left_by (Some number) m ms ≡ true
     → nap_after number nap (m ∷ ms) ≡ Left
@@ -121,7 +121,7 @@ left_here number m ms nap begins this left =
       | false ↦ λ p. left_then number ms p calm (none_later (wakes number m) _ silent)
     ] pending
 
--- what the definition says of a number, the reader of this number has in the end
+-- if a poll of the number left its task by the definition, the reader ends in `Left`
 pub left_after : (number : ℕ) (ms : List Mark) (nap : Nap) → waits_by number ms ≡ true → nap_after number nap ms ≡ Left
 left_after number [] nap w = cc
 left_after number (m ∷ ms) nap w =

@@ -1,5 +1,4 @@
--- The laws that something told once holds ever after: gone once the message was got, gone once closed,
--- refused once the receiver was gone.
+-- One reply fixes later ones: gone after the message or after closed, refused once the receiver is gone.
 use Rattle.oneshot_laws.proofs.Names.{Bool, ◌&&◌, Some, refl, Reply, Call, only_if, is_reply, is_receive, is_send, is_sender_look, is_closed_look, agrees, is_gone_after_got, is_gone_after_closed, is_refused_after_closed}
 use Rattle.oneshot_machine.specs.declared.machine.Reply.TheVariants as R
 use Rattle.oneshot_laws.proofs.Glanced.{Law, Nameless, nameless_of, Passed}
@@ -7,14 +6,14 @@ use Rattle.oneshot_laws.proofs.Glances.{Glance}
 use Rattle.oneshot_laws.proofs.MarksAfterEach.{ever_law, ever_after}
 use Rattle.oneshot_laws.proofs.WatchedRuns.{EachRun}
 
--- a call that answers so, and a call that answers so if it answers
+-- a call with this reply, and a call that has this reply if it replies
 abbrev pub told : (Call → Bool) → Reply → Glance → Bool
 told test reply g = test g.call && is_reply reply g.entry.reply
 
 abbrev pub tells_only : (Call → Bool) → Reply → Glance → Bool
 tells_only test reply g = only_if (test g.call) (agrees g.entry.reply (Some reply))
 
--- gone once the message was got
+-- gone once the message was received
 abbrev got : Glance → Bool
 got = told is_receive R.Message
 

@@ -28,7 +28,7 @@ abbrev drops_then : Bool → Bool → Drops → Drops
 drops_then true by_receiver drops = one_more by_receiver drops
 drops_then false by_receiver drops = drops
 
--- what was told so far
+-- what the trace has shown so far
 pub record Story : Type 0 where
   pub sent : Bool
   pub got : Bool
@@ -97,7 +97,7 @@ one_by_receiver (m ∷ n ∷ ms) h =
     [ true ↦ refl | false ↦ refl ]
     in absurd (cc (h, wrong, stays_wrong ms))
 
--- the claim on what is told, with what was told before
+-- the claim on these marks, with what was shown before
 abbrev IsWell : Story → List Mark → Type 0
 IsWell story ms =
     only_if ((story.sent || list_any (answers is_send R.Sent) ms)

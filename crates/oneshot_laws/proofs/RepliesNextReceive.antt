@@ -1,4 +1,4 @@
--- After `has_message` was true the receiver's next receive that answers, gives the message.
+-- After `has_message` returned true, the receiver's next receive that replies returns the message.
 use Rattle.oneshot_laws.proofs.Names.{◌≡◌, Bool, true, false, ◌&&◌, ◌||◌, List, [], ◌∷◌, is_some, map, refl, both, only_if, is_reply, is_receive, is_full_look, Mark, next_receive_gets, is_got_after_full}
 use Rattle.oneshot_machine.specs.declared.machine.Reply.TheVariants as R
 use Rattle.oneshot_laws.proofs.RepliesAfterwards.{told}
@@ -14,7 +14,7 @@ full = told is_full_look R.Yes
 abbrev answers_receive : Glance → Bool
 answers_receive g = is_receive g.call && is_some g.entry.reply
 
--- The flag is whether the message was seen, and no receive has answered since.
+-- The flag is whether the message was seen, and no receive has replied since.
 abbrev gets : Bool → Glance → Bool
 gets seen g = only_if (seen && answers_receive g) (is_reply R.Message g.entry.reply)
 

@@ -1,4 +1,4 @@
--- "Nothing yet" is answered only where the object was open at one of that call's entries.
+-- A call replies "nothing yet" only if the object was open at one of its entries.
 use Rattle.oneshot_laws.proofs.Names.{◌≡◌, Bool, true, false, not, ◌&&◌, ◌||◌, List, [], ◌∷◌, Some, None, map, refl, list_any, End, Sender, Receiver, Reply, both, only_if, is_nothing_yet, is_same_end, is_open_content, Mark, side, call_marks, until_reply, is_nothing_only_if_open}
 use Rattle.oneshot_laws.proofs.Coding.{Coding, pairs, by_parts, flags}
 use Rattle.oneshot_laws.proofs.Glanced.{Law, Passes, Nameless, nameless_of, Passed, holds_by}
@@ -51,7 +51,7 @@ met_law =
           nothing_met;
     }
 
--- a call's marks from here on, where it has met so much
+-- a call's marks from here on, after what it has met
 abbrev Claim : Bool → List Mark → Type 0
 Claim met own =
     only_if (list_any (λ m. is_nothing_yet m.entry.reply) own)

@@ -1,5 +1,4 @@
--- The laws on places and on the block, explored together: each run passes each of them. A new law is a line of the
--- list.
+-- The laws on places and on the block, explored together: each run passes each; a new law is one more line.
 use Rattle.oneshot_laws.proofs.Names.{refl}
 use Rattle.oneshot_laws.proofs.EndedRuns.{kept}
 use Rattle.oneshot_laws.proofs.Glanced.{Laws, no_laws, also, all_of, Each, each_passed, LawExplored, all_glanced, Passed, passed}

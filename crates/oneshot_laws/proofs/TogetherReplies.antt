@@ -1,4 +1,4 @@
--- The laws on replies, explored together: each run passes each of them. A new law is a line of the list.
+-- The laws on replies, explored together: each run passes each; a new law is one more line.
 use Rattle.oneshot_laws.proofs.Names.{refl}
 use Rattle.oneshot_laws.proofs.Glanced.{Laws, no_laws, also, all_of, Each, each_passed, LawExplored, all_glanced, Passed, passed}
 use Rattle.oneshot_laws.proofs.RepliesAfterwards.{got_law, closed_law, refused_law}

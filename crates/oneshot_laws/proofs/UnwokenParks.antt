@@ -1,4 +1,4 @@
--- No receiver waits in a park unwoken, in all that the checker found beside the machines.
+-- No receiver waits unwoken in a park, in any pair of world and reader that the checker found.
 use Rattle.oneshot_laws.proofs.Names.{◌≡◌, Bool, true, false, not, ◌&&◌, ◌||◌, Option, Some, None, is_some, refl, ap, option_map, option_and_then, receiver_step, End, ReceiverStart, Call, first, as_receiver_call, all_alike, Control, control_of, as_control, all_in, receiver_position, World, ReceiverState, Made, passes_where_found, is_end_of_sender, Ahead, is_some_park, ahead_of, waits_in_park}
 use Rattle.oneshot_machine.specs.declared.machine.receiver.ReceiverStart.TheVariants as RC
 use Rattle.oneshot_world.specs.declared.state.ReceiverState.TheVariants as RS
@@ -6,7 +6,7 @@ use Rattle.oneshot_laws.proofs.Coding.{flags}
 use Rattle.oneshot_laws.proofs.Watched.{Watched, Automaton, Explored, no_names, all_watched, watched_coding}
 use Rattle.oneshot_laws.proofs.WatchedRuns.{Classed, all_classed, IsFound}
 
--- the reader keeps whether the sender's last call has answered
+-- the reader keeps whether the sender's last call has replied
 abbrev all_are_fine : End → Call → Made → Bool → Bool
 all_are_fine side call e ended = true
 
@@ -58,7 +58,7 @@ waits_as w =
 abbrev is_awake : Watched Bool → Bool
 is_awake x = not (x.reader && waits_in_park (ahead_at x.control))
 
--- all that a run can reach, and nobody in it waits in a park
+-- all that a run can reach; nobody in it waits unwoken in a park
 pub explored : Explored ended_reader
 explored = record { found = all_watched ended_reader; all = refl }
 

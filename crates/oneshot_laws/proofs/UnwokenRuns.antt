@@ -1,4 +1,4 @@
--- No receiver waits unwoken: in each run, once the sender's send or drop has answered, a receiver about to
+-- No receiver waits unwoken: in each run, once the sender's send or drop has replied, a receiver about to
 -- park has its token, and no task waits.
 use Rattle.oneshot_laws.proofs.Names.{◌≡◌, ℕ, ◌+◌, Bool, true, false, not, ◌&&◌, ◌||◌, List, [], ◌∷◌, map, refl, sym, ◌∙◌, ap, subst, receiver_step, End, Sender, Receiver, Unanswered, left_by, calls_of, all_alike, as_made, as_entry, IsReached, sender_step, sender_stepped, receiver_stepped, reply_of, World, Tells_from, Tells, opening, side_of, by_end, nothing_told, receiver_told, Move, ReceiverScript, SenderScript, Entry, Made, both, sender_world, receiver_world, opening_reached, Turned, sender_idle, sender_made, receiver_idle, receiver_made, turned, turned_reaches, Object, is_end_of_sender, Reading, read, Mark, marks, marks_from, sender_reading, receiver_reading, call_under_way, has_answered, ahead_of, waits_in_park, waits_in_task, is_unwoken, is_never_unwoken, NeverUnwoken}
 use Rattle.oneshot_world.specs.declared.trace.Entry.TheVariants.{Idle, Made as Made_entry}
@@ -9,7 +9,7 @@ use Rattle.oneshot_laws.proofs.Glanced.{of_call}
 use Rattle.oneshot_laws.proofs.UnwokenTasks.{no_task_waits}
 use Rattle.oneshot_laws.proofs.UnwokenParks.{ends_sender_at, ended_reader, explored, ended_classed, Found, awake}
 
--- a turn leads on to what was found; the reader looks at no number
+-- a turn leads to what was found; the reader reads no number
 next_found : (n : ℕ) (side : End) (w : World) (entry : Entry) (next : World) (ended : Bool) → Turned n w side entry next
     → IsReached w → Found w ended → true ≡ true
     → Found next (reads_entry ended_reader (class_under_way all_alike (by_end side w.sender w.receiver))
@@ -22,7 +22,7 @@ same_answered left e =
     ap (λ call. ends_sender_at call e) (class_is all_alike left)
     ∙ of_call all_alike (λ call. ends_sender_at call e) (λ a b. refl) (call_under_way left)
 
--- whether the sender's last call answers in a front of the trace
+-- whether the sender's last call replies in a front of the trace
 abbrev ended_in : Reading → Reading → List Entry → Bool
 ended_in s r [] = false
 ended_in s r (Idle side ∷ es) = ended_in s r es
@@ -67,7 +67,7 @@ now so_far n w ended f h task =
     neither (has_answered is_end_of_sender (so_far [])) (waits_in_park (ahead_of w)) (waits_in_task (so_far []))
     (rw (h ∙ or_false ended) (awake w ended f)) (task [] [] [] tt)
 
--- an entry made takes the reading on as it takes the reader
+-- an entry advances the reading as it does the reader
 woken_turn : (entries : List Entry) → Claim entries
     → (so_far : List Entry → List Mark) (n : ℕ) (side : End) (w : World) (entry : Entry) (next : World) (s r : Reading)
     (ended : Bool) (worlds : List World) (moves : List Move) → Turned n w side entry next → s.left ≡ w.sender

@@ -1,4 +1,4 @@
--- No task waits unwoken: in each run, once the sender's send or drop has answered, the last poll that left
+-- No task waits unwoken: in each run, once the sender's send or drop has replied, the last poll that left
 -- its task was woken.
 use Rattle.oneshot_laws.proofs.Names.{◌≡◌, ℕ, ◌==◌, Bool, true, false, not, ◌&&◌, ◌||◌, List, [], ◌∷◌, map, Option, Some, None, is_some, get_or, refl, sym, ◌∙◌, ap, option_map, Call, Poll, number_of, calls_of, Classes, as_call, as_move, bool_code, WakerMove, World, Tells, opening, Move, ReceiverScript, SenderScript, Entry, Parker, Copy, is_listed, is_end_of_sender, is_drop_of_receiver, Mark, marks, has_answered, uses_copy_of, is_own, is_poll, waits_in_task}
 use Rattle.oneshot_world.specs.declared.trace.WakerPlace.TheVariants as W
@@ -52,7 +52,7 @@ nap_as number nap g =
     of_call k is_drop_of_receiver (λ a b. refl) g.call in
     rw (poll, drops, used_as number g.entry.waker, own_as number g.entry.own, polled_as number g.call) refl
 
--- THE READER: the last poll of the number, and whether the sender's last call has answered
+-- THE READER: the last poll of the number, and whether the sender's last call has replied
 pub record Story : Type 0 where
   pub nap : Nap
   pub ended : Bool
@@ -123,7 +123,7 @@ classed number =
       goes = λ n x side call e apt a fresh. refl;
     }
 
--- what the reader accepts ends well
+-- a trace that the reader accepts ends well
 well_after : (gs : List Glance) (x : Story) → is_well x ≡ true → Passes task_law x gs
     → is_well (own_after story_then x gs) ≡ true
 well_after [] x well p = well

@@ -7,7 +7,7 @@ use Rattle.oneshot_laws.proofs.Watched.{no_names}
 use Rattle.oneshot_laws.proofs.WakerPaths.{shown_by, shown}
 use Rattle.oneshot_laws.proofs.WakerPlacesRuns.{later}
 
--- a waker is written where none is
+-- a waker is written only into an empty cell
 abbrev cell_by : Bool → Option WakerMove → Bool
 cell_by full None = full
 cell_by full (Some move) = cell_then full move

@@ -17,7 +17,7 @@ shown [] s r n o = refl
 shown (Idle side ∷ es) s r n o = shown es s r (n + 1) o
 shown (Made_entry e ∷ es) s r n o = ap (cons_option e.waker) (shown es _ _ _ _)
 
--- the waker that is followed moves from where it is; the others are not looked at
+-- the waker that is followed moves from its place; the others do not matter
 abbrev pub may_move : WakerName → WakerPlace → Option WakerMove → Bool
 may_move this place None = true
 may_move this place (Some move) =
@@ -41,7 +41,7 @@ place_back SenderHand = refl
 place_back Used = refl
 place_back Dropped = refl
 
--- a waker that begins there moves as it may, and is at an end once all have ended
+-- a waker that begins there makes only allowed moves, and is at an end once all have ended
 abbrev pub moves_of_one : WakerName → Names WakerPlace → Ending WakerPlace
 moves_of_one this names =
     record {
@@ -56,13 +56,13 @@ moves_of_one this names =
 abbrev IsPath : WakerName → WakerPlace → List WakerMove → Type 0
 IsPath name place moves = is_path is_same_waker_place (is_waker_move name) place (moves_of_waker name moves) ≡ true
 
--- A name whose class, `this`, is that of no other name, and moves as it does.
+-- A name whose class, `this`, no other name has, and which moves as its class does.
 pub record IsFollowed (k : Classes) (name this : WakerName) : Type 0 where
   pub same_name : (x : WakerName) → is_same_waker (as_name k x) this ≡ is_same_waker x name
   pub same_move : (from to : WakerPlace) → is_waker_move this from to ≡ is_waker_move name from to
   pub same_end : (place : WakerPlace) → is_waker_end this place ≡ is_waker_end name place
 
--- what is seen of it by its class, holds of it by its name
+-- what is seen of it by its class holds of it by its name
 module _ (k : Classes) (name this : WakerName) (names : Names WakerPlace) (followed : IsFollowed k name this) where
   if_this : (same : Bool) (from to place : WakerPlace) (later : List WakerMove)
       → (if same then is_same_waker_place from place && is_waker_move this from to else true) ≡ true
@@ -88,7 +88,7 @@ module _ (k : Classes) (name this : WakerName) (names : Names WakerPlace) (follo
   path (m ∷ ms) place p =
       one_move m.entry.waker place (shown_by ms) p.0 (path ms (place_then this place (as_glance k (glance_of m))) p.1)
 
-  -- where it is at the end
+  -- its place at the end
   last_if : (same : Bool) (from to place : WakerPlace) (later : List WakerMove)
       → last_place (if same then to else place) (moves_of_waker name later)
       ≡ last_place place (cons_option (if same then Some (from, to) else None) (moves_of_waker name later))

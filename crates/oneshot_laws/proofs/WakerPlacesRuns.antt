@@ -57,7 +57,7 @@ abbrev is_new : WakerPlace → Bool
 is_new New = true
 is_new _ = false
 
--- the copy of a number's waker that is made in an entry
+-- the copy of a number's waker that an entry makes
 module _ (number entry : ℕ) where
   abbrev following : Classes
   following = record { copies = λ a i. bool_code (a == number && i == entry); polls = λ a. 0 }

@@ -1,10 +1,9 @@
--- A reader of traces beside the machines, by classes of copies and polls: the checker explores both together,
--- and what each found pair passes, each run passes.
+-- Readers of traces: the checker explores each together with the world, by classes of copies and polls.
 use Rattle.oneshot_laws.proofs.Names.{◌≡◌, ℕ, Bool, true, false, ◌&&◌, List, [], ◌∷◌, Option, Some, None, refl, sym, ◌∙◌, ap, subst, list_all, filter_map, option_map, End, Sender, Receiver, Reply, Call, Unanswered, first, left_by, Classes, as_call, as_made, Control, Begin, begins, control_turn, control_code, is_same_control, opening_control, one_poll, one_copy, Tree, reach, is_in, all_in, by_end, Entry, Made, Place, NotSent, control_is, or_stray, call_under_way}
 use Rattle.oneshot_world.specs.declared.trace.Entry.TheVariants.{Idle, Made as Made_entry}
 use Rattle.oneshot_laws.proofs.Coding.{Coding, pairs, by_parts}
 
--- the machines' finite part and the reader
+-- the world's finite part, and the reader's state
 pub record Watched (M : Type 0) : Type 0 where
   pub control : Control
   pub reader : M
@@ -23,17 +22,17 @@ left_after Receiver Receiver reply left = left_by Receiver reply left
 left_after Sender Receiver reply left = left
 left_after Receiver Sender reply left = left
 
--- the classes of polls, and those that a copy may have which a poll of a class makes where the reader stands so
+-- the classes of polls, and those of the copies that a poll of a class may make at this state of the reader
 pub record Names (M : Type 0) : Type 0 where
   pub polls : List ℕ
   pub copies : M → ℕ → List ℕ
 
--- of a reader that looks at no name and at no number
+-- for a reader that reads no name and no number
 abbrev pub no_names : {M : Type 0} → Names M
 no_names = record { polls = one_poll; copies = λ m. one_copy }
 
--- A reader of traces: whether it accepts an entry, and where it goes with it, both by classes; and where it
--- begins, by the message's first place.
+-- A reader of traces: whether it accepts an entry, and its state after it, both by classes; and its first
+-- state, by the message's first place.
 pub record Automaton (M : Type 0) : Type 0 where
   pub coding : Coding M
   pub accepts : End → Call → Made → M → Bool
@@ -94,7 +93,7 @@ module _ {M : Type 0} (a : Automaton M) where
       is_watched_in found (opening_watched None)
       && (is_watched_in found (opening_watched (Some NotSent)) && all_move_on found)
 
--- what the checker found, beside the machines
+-- what the checker found for a reader
 pub record Explored {M : Type 0} (a : Automaton M) : Type 0 where
   pub found : Tree (Watched M)
   pub all : all_pass a found ≡ true
@@ -117,7 +116,7 @@ module _ {M : Type 0} (a : Automaton M) where
       × Accepts (a.reads e.side (call_under_way (by_end e.side s r)) e m) (left_after e.side Sender e.reply s)
       (left_after e.side Receiver e.reply r) entries
 
-  -- it accepts the trace as it is seen by classes
+  -- it accepts the trace, seen by classes
   abbrev pub Accepts_by : Classes → M → Unanswered → Unanswered → List Entry → Type 0
   Accepts_by k m s r [] = Unit {0}
   Accepts_by k m s r (Idle side ∷ entries) = Accepts_by k m s r entries
@@ -126,14 +125,14 @@ module _ {M : Type 0} (a : Automaton M) where
       × Accepts_by k (a.reads e.side (class_under_way k (by_end e.side s r)) (as_made k e) m)
       (left_after e.side Sender e.reply s) (left_after e.side Receiver e.reply r) entries
 
--- a reader that looks at no name and no number
+-- a reader that reads no name and no number
 pub record NamelessReader {M : Type 0} (a : Automaton M) : Type 0 where
   pub accepts_same : (k : Classes) (side : End) (call : Call) (e : Made) (m : M)
       → a.accepts side (as_call k call) (as_made k e) m ≡ a.accepts side call e m
   pub reads_same : (k : Classes) (side : End) (call : Call) (e : Made) (m : M)
       → a.reads side (as_call k call) (as_made k e) m ≡ a.reads side call e m
 
--- it accepts a trace where it accepts it by classes
+-- it accepts a trace if it accepts it by classes
 module _ {M : Type 0} (a : Automaton M) (nameless : NamelessReader a) (k : Classes) where
   accepts_alike : (side : End) (left : Unanswered) (e : Made) (m : M)
       → a.accepts side (class_under_way k left) (as_made k e) m ≡ a.accepts side (call_under_way left) e m

@@ -1,11 +1,11 @@
--- What the checker found of a reader beside the machines, each run of two scripts passes.
+-- A reader that the checker explored with the world accepts each run of two scripts.
 use Rattle.oneshot_laws.proofs.Names.{◌≡◌, ℕ, ◌+◌, Bool, true, false, List, [], ◌∷◌, None, refl, sym, subst, list_all, option_and_then, receiver_step, sender_step, End, Sender, Receiver, Call, first, number_of, calls_of, Classes, all_alike, as_made, as_entry, Control, control_of, begins, control_turn, as_control, IsReached, sender_stepped, receiver_stepped, World, Tells_from, Tells, opening, opening_place, side_of, by_end, nothing_told, receiver_told, Move, ReceiverScript, SenderLast, SenderScript, Entry, Made, and_left, and_right, passes_where_found, is_listed, sender_passes, receiver_passes, sender_world, receiver_world, sender_control_is, receiver_control_is, opening_reached, Turned, sender_idle, sender_made, receiver_idle, receiver_made, turned, turned_reaches, Mark, marks}
 use Rattle.oneshot_world.specs.declared.script.SenderLast.TheVariants as SL
 use Rattle.oneshot_laws.proofs.Fresh.{is_fresh, move_fresh}
 use Rattle.oneshot_laws.proofs.Watched.{Watched, no_names, Automaton, watched_coding, reads_entry, begins_beside, opening_watched, is_watched_in, passes_on, Explored, class_under_way, Accepts_by}
 
--- Each poll and each copy has a class that was explored. `apt` ties a reader to the number of the entry that
--- is made next, so far as the classes of copies hang on it.
+-- Each poll and each copy has a class that was explored. `apt` relates a reader to the number of the entry
+-- that is made next, as far as the classes of copies depend on it.
 pub record Classed {M : Type 0} (a : Automaton M) (k : Classes) : Type 0 where
   pub apt : ℕ → M → Bool
   pub polled : (number : ℕ) → is_listed (k.polls number) a.names.polls ≡ true
@@ -68,7 +68,7 @@ module _ {M : Type 0} (a : Automaton M) (k : Classes) (classed : Classed a k) (e
       (receiver_control_is (receiver_told answer n w) w (receiver_step position) row)
       (and_right _ _ passed)
 
-  -- every run from here on that tells these entries, of which the next is the n-th, is accepted
+  -- every run from here on with these entries, numbered from n on, is accepted
   abbrev Claim : List Entry → Type 0
   Claim entries =
       (n : ℕ) (w : World) (m : M) (worlds : List World) (moves : List Move) → IsReached w → IsFound w m

@@ -1,4 +1,4 @@
--- Each call as an action of the object, how its reply reads the answer, and the kinds of calls.
+-- Each call as a step of the object, its reply for each answer of the object, and the kinds of calls.
 use Rattle.std.specs.Prelude.{Bool, true, false, Option, Some, None}
 use Rattle.oneshot_machine.specs.declared.machine.Reply.{Reply}
 use Rattle.oneshot_machine.specs.declared.machine.Reply.TheVariants as R
@@ -9,7 +9,7 @@ use Rattle.oneshot_machine.specs.declared.machine.sender.SenderCall.TheVariants 
 use Rattle.oneshot_world.specs.Calls.{Call, Of_sender, Of_receiver, Poll, Stray}
 use Rattle.oneshot_laws.specs.Object.{Action, Send as Send_step, Sender_gone, Take, Take_and_go, Look_full, Look_closed, Look_receiver_gone, Receiver_gone, Answer, Accepted, Returned, Message, Gone, Nothing_yet, Yes, No, Finished, Object, answer_of, object_after}
 
--- each call as a step of the object; the error's calls are none, nor is the making of a future
+-- each call as a step of the object; the error's calls and `into_future` are none
 abbrev pub sender_action : SenderCall → Option Action
 sender_action SC.IsClosed = Some Look_receiver_gone
 sender_action SC.Send = Some Send_step
@@ -38,8 +38,8 @@ action_of (Of_receiver call) = receiver_action call
 action_of (Poll number) = receiver_action RC.Poll
 action_of Stray = None
 
--- How a receive says "nothing yet". One that waits without end has no reply for it, so a history in which one
--- says so is not legal.
+-- The reply of a receive for "nothing yet". A receive that waits without a deadline has none, so a history in
+-- which it needs one is not legal.
 abbrev pub nothing_yet_of : Call → Option Reply
 nothing_yet_of (Of_receiver RC.TryRecv) = Some R.Empty
 nothing_yet_of (Of_receiver RC.RecvDeadline) = Some R.Timeout
@@ -48,7 +48,7 @@ nothing_yet_of (Poll number) = Some R.Pending
 nothing_yet_of (Of_receiver RC.AsyncTryRecv) = Some R.Empty
 nothing_yet_of _ = None
 
--- the reply that reads an answer
+-- the reply for an answer
 abbrev pub reading_of : Call → Answer → Option Reply
 reading_of call Accepted = Some R.Sent
 reading_of call Returned = Some R.Refused
@@ -59,7 +59,7 @@ reading_of call Yes = Some R.Yes
 reading_of call No = Some R.No
 reading_of call Finished = Some R.Done
 
--- what a call answers that is no step of the object: the refused message, that it is dropped, or the future
+-- the reply of a call that is no step of the object: the refused message, done for its drop, or the future
 abbrev pub fixed_reply_of : Call → Option Reply
 fixed_reply_of (Of_sender SC.AsInner) = Some R.Message
 fixed_reply_of (Of_sender SC.IntoInner) = Some R.Message
@@ -67,7 +67,7 @@ fixed_reply_of (Of_sender SC.DropError) = Some R.Done
 fixed_reply_of (Of_receiver RC.IntoFuture) = Some R.Future
 fixed_reply_of _ = None
 
--- the reply of a call that makes this step on this object, and the object after it
+-- the reply of a call that performs this step on this object, and the object after it
 abbrev pub reply_on : Call → Object → Option Action → Option Reply
 reply_on call o None = None
 reply_on call o (Some action) = reading_of call (answer_of action o)

@@ -1,5 +1,4 @@
--- How many operations on the word a call makes, and how soon a receiver's call ends once the sender is done
--- with the word.
+-- Bounds: a call's operations on the word, and how soon a receiver's call ends once the sender is done.
 use Rattle.std.specs.Prelude.{ℕ, zero, suc, Bool, true, not, ◌&&◌, List, [], ◌∷◌, Option, Some, None, if◌then◌else◌}
 use Rattle.oneshot_machine.specs.declared.machine.End.TheVariants.{Sender, Receiver}
 use Rattle.oneshot_machine.specs.declared.machine.receiver.ReceiverStart.TheVariants as RC
@@ -18,7 +17,7 @@ at_most (suc limit) test (m ∷ ms) = if test m then at_most limit test ms else 
 abbrev pub operates : Mark → Bool
 operates m = is_word m.entry.step
 
--- the most operations that a call makes, where it has a bound
+-- the most operations that a call performs, if it has a bound
 abbrev pub bound_of : Call → Option ℕ
 bound_of (Of_sender call) = sender_bound call
 bound_of (Of_receiver call) = receiver_bound call
@@ -43,8 +42,8 @@ is_senders_last m = is_same_end (side m) Sender && finishes m.entry
 abbrev pub each_move : Mark → Bool
 each_move m = true
 
--- from each mark on, the receiver's call that is under way or begins next makes at most two operations and
--- six moves until its answer
+-- from each mark on, the receiver's call that is under way or begins next has at most two operations and six
+-- moves until its reply
 abbrev pub answers_soon : List Mark → Bool
 answers_soon [] = true
 answers_soon (m ∷ later) =

@@ -1,4 +1,4 @@
--- When an end has ended: the call that ends it has answered.
+-- When an end has ended: the call that ends it has replied.
 use Rattle.std.specs.Prelude.{Bool, ◌&&◌, List}
 use Rattle.std.specs.List.{list_any}
 use Rattle.oneshot_machine.specs.declared.machine.Reply.TheVariants as R
@@ -13,7 +13,7 @@ has_answered test ms = list_any (λ m. ends m && test m.call) ms
 abbrev pub is_refused : List Mark → Bool
 is_refused ms = list_any (λ m. is_reply R.Refused m.entry.reply) ms
 
--- both ends have ended, and the error too where there is one
+-- both ends have ended, and the error too if there is one
 abbrev pub all_ended : List Mark → Bool
 all_ended ms =
     has_answered is_end_of_sender ms

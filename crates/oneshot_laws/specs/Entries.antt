@@ -1,5 +1,4 @@
--- What is asked of an entry: which end made it, which reply it gives, which operation or step it is, and
--- which word it met.
+-- Tests of an entry: its end, its reply, its operation or other step, and the word that it found.
 use Rattle.std.specs.Prelude.{ℕ, Bool, true, false, not, ◌||◌, ◌==◌, Option, Some, None}
 use Rattle.oneshot_machine.specs.declared.machine.End.{End}
 use Rattle.oneshot_machine.specs.declared.machine.End.TheVariants.{Sender, Receiver}
@@ -9,7 +8,7 @@ use Rattle.oneshot_machine.specs.declared.machine.Step.{Step}
 use Rattle.oneshot_machine.specs.declared.machine.Step.TheVariants as T
 use Rattle.oneshot_machine.specs.declared.states.Op.TheVariants.{Load, Swap, Add, Xor}
 
--- a claim that is made only where the condition holds
+-- a claim under a condition
 abbrev pub only_if : Bool → Bool → Bool
 only_if condition claim = not condition || claim
 
@@ -39,7 +38,7 @@ abbrev pub is_reply : Reply → Option Reply → Bool
 is_reply reply None = false
 is_reply reply (Some other) = is_same_reply reply other
 
--- "nothing yet", as the receives say it
+-- the replies for "nothing yet"
 abbrev pub says_nothing_yet : Reply → Bool
 says_nothing_yet reply = is_same_reply reply R.Empty || is_same_reply reply R.Timeout || is_same_reply reply R.Pending
 
@@ -47,7 +46,7 @@ abbrev pub is_nothing_yet : Option Reply → Bool
 is_nothing_yet None = false
 is_nothing_yet (Some reply) = says_nothing_yet reply
 
--- which operation on the word a step is
+-- the operation on the word that a step is
 abbrev pub is_word : Step → Bool
 is_word (T.Word op) = true
 is_word _ = false

@@ -1,4 +1,4 @@
--- An end is idle only where it has no call under way and none left.
+-- An end is idle only if it has no call under way and none left.
 use Rattle.std.specs.Prelude.{Bool, true, ◌&&◌, List, [], ◌∷◌}
 use Rattle.oneshot_world.specs.Calls.{Calls, is_none_left}
 use Rattle.oneshot_world.specs.World.{by_end}

@@ -1,4 +1,4 @@
--- What every trace of two scripts keeps, in reading order.
+-- The laws of every trace of two scripts, in reading order.
 pub mod Object
 pub mod Entries
 pub mod Actions

@@ -1,5 +1,4 @@
--- The trace as it is read: each step with the call that it belongs to, that call's answer, whether it begins
--- the call, whether the call acts there, and the object that it meets.
+-- Marks: each entry of a trace with its call, the call's reply, whether it begins or acts here, and the object.
 use Rattle.std.specs.Prelude.{ℕ, ◌+◌, Bool, true, false, not, ◌&&◌, ◌||◌, List, [], ◌∷◌, ◌++◌, Option, Some, None, is_some}
 use Rattle.std.specs.List.{list_any}
 use Rattle.oneshot_machine.specs.declared.machine.End.{End}
@@ -23,7 +22,7 @@ pub data Rule : Type 0 where
 abbrev pub loads : Made → Bool
 loads e = is_load e.step
 
--- an add or a flip that found 3 or 2, or else the final swap: the call's only one
+-- an add or a flip that found 3 or 2, or else the final swap: a call has only one
 abbrev pub finishes : Made → Bool
 finishes e = is_add_or_xor e.step && (found 3 e.before || found 2 e.before) || is_swap e.step
 
@@ -36,12 +35,12 @@ finds_full_or_closed e = is_word e.step && (found 4 e.before || found 2 e.before
 abbrev pub swaps_closed_in : Made → Bool
 swaps_closed_in e = is_swap_of 2 e.step
 
--- A receive that answers "nothing yet" acts at its last word operation. Any other, also one that has not
--- answered, acts where it first finds 4 or 2.
+-- A receive that replies "nothing yet" acts at its last operation on the word. Any other receive, also one
+-- that has not replied, acts where it first finds 4 or 2.
 abbrev pub receive_rule : Option Reply → Rule
 receive_rule answer = elim (is_nothing_yet answer) [ true ↦ Last works_on_word | false ↦ First finds_full_or_closed ]
 
--- by the object's step that the call is, and its answer if the trace has it
+-- by the call's step of the object, and its reply if the trace has one
 abbrev pub rule_of : Action → Option Reply → Rule
 rule_of Send answer = First finishes
 rule_of Sender_gone answer = First finishes
@@ -55,7 +54,7 @@ rule_of Receiver_gone answer = First swaps_closed_in
 abbrev pub rule : Call → Option Reply → Rule
 rule call answer = elim (action_of call) [ None ↦ Never | Some action ↦ rule_of action answer ]
 
--- whether an entry is the acting one of a call with these entries before it and these after it
+-- whether an entry is the acting one of a call with these entries before and after it
 abbrev pub acts : Rule → List Made → Made → List Made → Bool
 acts (First test) earlier e later = test e && not (list_any test earlier)
 acts (Last test) earlier e later = test e && not (list_any test later)
@@ -67,7 +66,7 @@ has_acted (First test) so_far later = list_any test so_far
 has_acted (Last test) so_far later = list_any test so_far && not (list_any test later)
 has_acted Never so_far later = false
 
--- one thing while there is no reply, another once there is one
+-- `before` while there is no reply, else `after`
 abbrev pub until_reply : {X : Type 0} → Option Reply → X → X → X
 until_reply None before after = before
 until_reply (Some reply) before after = after
@@ -82,13 +81,13 @@ to_reply end (Made_entry e ∷ entries) =
       | false ↦ to_reply end entries
     ]
 
--- what they reply
+-- the reply of these entries
 abbrev pub reply_among : List Made → Option Reply
 reply_among [] = None
 reply_among (e ∷ entries) = until_reply e.reply (reply_among entries) e.reply
 
--- where a reading of the trace stands at one end: what its script has left, and the entries so far of the
--- call under way
+-- a reading of the trace at one end: what its script has left, and the entries so far of the call under
+-- way
 pub record Reading : Type 0 where
   pub left : Unanswered
   pub earlier : List Made
@@ -103,7 +102,7 @@ read_by side at e =
 abbrev pub read : Reading → Made → Reading
 read at e = read_by e.side at e
 
--- `number` is the entry's own, counted from 1; `object` is what the acting entries before it have left;
+-- `number` is the entry's, counted from 1; `object` is the state that the acting entries before it left;
 -- `acted` is whether the call has acted, here or before.
 pub record Mark : Type 0 where
   pub number : ℕ
@@ -123,7 +122,7 @@ or_stray (Some call) = call
 abbrev pub call_under_way : Unanswered → Call
 call_under_way left = or_stray (first left.calls)
 
--- the mark of an entry, with the later ones of its call
+-- the mark of an entry, by the later entries of its call
 abbrev pub mark_at : ℕ → Object → Reading → Made → List Made → Mark
 mark_at number o at e later =
     record {
@@ -150,7 +149,7 @@ marks_from s r number o (Made_entry e ∷ entries) =
     in mark
     ∷ marks_from (by_end e.side (read s e) s) (by_end e.side r (read r e)) (number + 1) (object_then mark) entries
 
--- before the first entry
+-- the readings before the first entry
 abbrev pub sender_reading : Calls → Reading
 sender_reading c = record { left = record { calls = c.sender; error = c.error }; earlier = [] }
 
@@ -160,14 +159,14 @@ receiver_reading c = record { left = record { calls = c.receiver; error = [] }; 
 abbrev pub marks : Calls → List Entry → List Mark
 marks c entries = marks_from (sender_reading c) (receiver_reading c) 1 new_object entries
 
--- whether an entry answers its call
+-- whether an entry has its call's reply
 abbrev pub ends : Mark → Bool
 ends m = is_some m.entry.reply
 
 abbrev pub side : Mark → End
 side m = m.entry.side
 
--- the marks of the call that an end has under way or begins next, up to its answer
+-- the marks of the call that an end has under way or begins next, up to its reply
 abbrev pub call_marks : End → List Mark → List Mark
 call_marks end [] = []
 call_marks end (m ∷ later) =

@@ -1,4 +1,4 @@
--- The message is always in one place. This follows the moves that the trace shows.
+-- The message is always in one place: the moves that the trace shows are a path.
 use Rattle.std.specs.Prelude.{ℕ, Bool, true, false, ◌&&◌, ◌||◌, ◌==◌, List, [], ◌∷◌, Option, Some, None}
 use Rattle.std.specs.List.{list_any, list_all, filter_map}
 use Rattle.oneshot_machine.specs.declared.machine.Reply.{Reply}
@@ -20,7 +20,7 @@ made_entries [] = []
 made_entries (Idle side ∷ entries) = made_entries entries
 made_entries (Made_entry e ∷ entries) = e ∷ made_entries entries
 
--- A path: each move leaves the place where the thing is, and is allowed.
+-- A path: each move is allowed, and leaves the place that the move before it reached.
 abbrev pub is_path : {P : Type 0} → (P → P → Bool) → (P → P → Bool) → P → List (P × P) → Bool
 is_path is_same is_allowed place [] = true
 is_path is_same is_allowed place (move ∷ moves) =
@@ -65,7 +65,7 @@ is_message_followed c entries =
 abbrev pub last_message_place : List Entry → Place
 last_message_place entries = last_place NotSent (message_moves entries)
 
--- where a message whose send was made is once all have ended
+-- where the message of a `send` may be once all have ended
 abbrev pub is_message_end : Place → Bool
 is_message_end Delivered = true
 is_message_end FromError = true
@@ -76,7 +76,7 @@ abbrev pub is_message_ended : List Entry → List Mark → Bool
 is_message_ended entries ms =
     only_if (all_ended ms && list_any (λ m. is_send m.call) ms) (is_message_end (last_message_place entries))
 
--- each move of the message belongs to the call that makes it, and into the error it goes only if its send is refused
+-- which call may move the message to a place; into the error it is moved only by a send that is refused
 abbrev pub may_put : Call → Option Reply → Place → Bool
 may_put call reply NotSent = false
 may_put call reply InCell = is_send call

@@ -1,9 +1,8 @@
--- A channel as an object with one message: what it is, what its steps do, and what they answer. It knows no
--- code, no position and no word.
+-- The sequential channel as an object: its state, what its steps do, and their answers, without words or positions.
 use Rattle.std.specs.Prelude.{ℕ, Bool, true, false, not, ◌&&◌, ◌==◌, if◌then◌else◌}
 
--- Nothing sent yet, the message, or closed for good. There is one message, that of the sender's script, so
--- `Full` need not name it.
+-- Nothing sent yet, the message, or closed for good. The only message is that of the sender's script, so
+-- `Full` does not name it.
 pub data Content : Type 0 where
   Open : Content
   Full : Content
@@ -34,7 +33,7 @@ pub data Action : Type 0 where
   Send : Action
   Sender_gone : Action
   Take : Action
-  -- the receiver's last: it takes, and is gone
+  -- the receiver's last step: it takes, and is gone
   Take_and_go : Action
   Look_full : Action
   Look_closed : Action
@@ -92,7 +91,7 @@ answer_of Look_closed o = yes_if (is_closed_content o.content)
 answer_of Look_receiver_gone o = yes_if (not o.receiver_here)
 answer_of Receiver_gone o = Finished
 
--- two objects are told apart by their content and both flags
+-- two objects are the same if their contents and both flags are
 abbrev pub content_code : Content → ℕ
 content_code Open = 0
 content_code Full = 1

@@ -13,20 +13,20 @@ use Rattle.oneshot_laws.specs.Marks.{Mark, after_each, each_call}
 use Rattle.oneshot_laws.specs.History.{agrees}
 use Rattle.oneshot_laws.specs.Ended.{has_answered}
 
--- such a call answers so at this mark
+-- a call that passes the test has this reply at this mark
 abbrev pub answers : (Call → Bool) → Reply → Mark → Bool
 answers test reply m = test m.call && is_reply reply m.entry.reply
 
--- if such a call answers at this mark, it answers so
+-- if a call that passes the test replies at this mark, it has this reply
 abbrev pub answers_only : (Call → Bool) → Reply → Mark → Bool
 answers_only test reply m = only_if (test m.call) (agrees m.entry.reply (Some reply))
 
--- after an Ok of a receive every later receive that answers, answers `Disconnected`
+-- after an Ok of a receive, every later receive that replies returns `Disconnected`
 abbrev pub is_gone_after_got : List Mark → Bool
 is_gone_after_got ms =
     after_each (answers is_receive R.Message) (list_all (answers_only is_receive R.Disconnected)) ms
 
--- the first receive that answers, gives the message
+-- the first receive that replies returns the message
 abbrev pub next_receive_gets : List Mark → Bool
 next_receive_gets [] = true
 next_receive_gets (m ∷ later) =
@@ -35,22 +35,22 @@ next_receive_gets (m ∷ later) =
       | false ↦ next_receive_gets later
     ]
 
--- after `has_message` was true the receiver's next receive that answers, gives the message
+-- after `has_message` returned true, the receiver's next receive that replies returns the message
 abbrev pub is_got_after_full : List Mark → Bool
 is_got_after_full ms = after_each (answers is_full_look R.Yes) next_receive_gets ms
 
--- after the receiver's `is_closed` was true every later receive that answers, answers `Disconnected`, and
--- `is_closed` stays true
+-- after the receiver's `is_closed` returned true, every later receive that replies returns `Disconnected`,
+-- and every later `is_closed` true
 abbrev pub is_gone_after_closed : List Mark → Bool
 is_gone_after_closed ms =
     after_each (answers is_closed_look R.Yes)
     (list_all (λ m. answers_only is_receive R.Disconnected m && answers_only is_closed_look R.Yes m)) ms
 
--- after the sender's `is_closed` was true its send, if it answers, answers Err
+-- after the sender's `is_closed` returned true, its send returns Err if it replies
 abbrev pub is_refused_after_closed : List Mark → Bool
 is_refused_after_closed ms = after_each (answers is_sender_look R.Yes) (list_all (answers_only is_send R.Refused)) ms
 
--- "nothing yet" is answered only where the object was open at one of that call's entries
+-- a call replies "nothing yet" only if the object was open at one of its entries
 abbrev pub is_nothing_only_if_open : List Mark → Bool
 is_nothing_only_if_open ms =
     each_call (λ own. only_if (list_any (λ m. is_nothing_yet m.entry.reply) own)
@@ -69,7 +69,7 @@ is_one_by_receiver [] = false
 is_one_by_receiver (m ∷ []) = is_drop_of_receiver m.call
 is_one_by_receiver (m ∷ _ ∷ _) = false
 
--- a message that was sent with Ok and never taken is dropped once, by the receiver's drop, if that drop has answered
+-- a message sent with Ok and never taken is dropped once, by the receiver's drop, if that drop has replied
 abbrev pub is_dropped_once : List Mark → Bool
 is_dropped_once ms =
     only_if

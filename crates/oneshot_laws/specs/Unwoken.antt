@@ -1,5 +1,4 @@
--- A receiver that waits unwoken, in a park or in a task: what must never be, once the sender's send or drop
--- has answered.
+-- No lost wakeup: no receiver waits unwoken, in a park or a task, once the sender's send or drop has replied.
 use Rattle.std.specs.Prelude.{ℕ, ◌==◌, Bool, false, not, ◌&&◌, ◌||◌, List, [], ◌∷◌, map, Option, Some, None, is_some, IsTrue}
 use Rattle.std.specs.List.{list_any}
 use Rattle.oneshot_machine.specs.declared.machine.Reply.TheVariants as R
@@ -19,11 +18,11 @@ use Rattle.oneshot_laws.specs.Actions.{is_end_of_sender, is_drop_of_receiver}
 use Rattle.oneshot_laws.specs.Marks.{Mark, marks}
 use Rattle.oneshot_laws.specs.Ended.{has_answered}
 
--- the receiver is about to sleep, and nothing is there that would keep it from it
+-- the receiver is about to park, and has no token
 abbrev pub waits_in_park : Ahead → Bool
 waits_in_park a = a.parks && not a.token
 
--- an entry wakes the tasks that poll with this number: a poll's own wake, or a copy of the number's waker that is used
+-- an entry wakes the tasks that poll with this number: by a poll's own wake, or by using a copy of its waker
 abbrev pub uses_copy_of : ℕ → Option WakerMove → Bool
 uses_copy_of number (Some (Copy other entry, from, Used)) = other == number
 uses_copy_of number _ = false
@@ -44,8 +43,8 @@ begins_poll_or_drop m = m.begins && (is_poll m.call || is_drop_of_receiver m.cal
 abbrev pub answers_pending : Mark → Bool
 answers_pending m = is_poll m.call && is_reply R.Pending m.entry.reply
 
--- A call begins here. It is a poll with this number, and it answered "pending"; since then no poll and
--- no drop began; and no entry in it or after it wakes the number.
+-- A poll with this number begins here, and it replied "pending". Since then no poll and no drop began, and no
+-- entry of the poll or after it wakes the number.
 abbrev pub is_left_by : Option ℕ → Mark → List Mark → Bool
 is_left_by None m later = false
 is_left_by (Some number) m later =
@@ -58,12 +57,12 @@ abbrev pub waits_in_task : List Mark → Bool
 waits_in_task [] = false
 waits_in_task (m ∷ later) = m.begins && is_left_by (number_of m.call) m later || waits_in_task later
 
--- the sender's end has answered its last call, and the receiver waits, in a park or in a task
+-- the sender's last call has replied, and the receiver waits, in a park or in a task
 abbrev pub is_unwoken : List Mark → Ahead → Bool
 is_unwoken ms ahead = has_answered is_end_of_sender ms && (waits_in_park ahead || waits_in_task ms)
 
--- At no moment of a run is the receiver unwoken. `so_far` gives the marks of each front of the trace,
--- and beside each front stands what lies ahead of the world that it leads to.
+-- The receiver is unwoken at no moment of a run. `so_far` returns the marks of each front of the trace; the
+-- list has, for each front, what lies ahead of the world that it leads to.
 abbrev pub is_never_unwoken : (List Entry → List Mark) → List Ahead → List Entry → Bool
 is_never_unwoken so_far (ahead ∷ aheads) [] = not (is_unwoken (so_far []) ahead)
 is_never_unwoken so_far (ahead ∷ aheads) (entry ∷ entries) =

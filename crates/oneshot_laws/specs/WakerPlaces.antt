@@ -1,4 +1,4 @@
--- Each waker, by its name, is always in one place. This follows the moves that the trace shows.
+-- Each waker, by its name, is always in one place: the moves that the trace shows are a path.
 use Rattle.std.specs.Prelude.{◌≡◌, ℕ, Bool, true, false, not, ◌&&◌, ◌==◌, List, [], ◌∷◌, Option, Some, None, if◌then◌else◌}
 use Rattle.std.specs.List.{filter_map}
 use Rattle.oneshot_world.specs.Wakers.{WakerMove, is_same_waker}
@@ -49,13 +49,13 @@ move_of_waker name move = if is_same_waker move.0 name then Some (move.1, move.2
 abbrev pub moves_of_waker : WakerName → List WakerMove → List (WakerPlace × WakerPlace)
 moves_of_waker name moves = filter_map (move_of_waker name) moves
 
--- it begins there, and follows a path
+-- a waker begins at its first place, and follows a path
 abbrev pub is_waker_followed : List Entry → WakerName → Bool
 is_waker_followed entries name =
     is_path is_same_waker_place (is_waker_move name) (first_waker_place name)
     (moves_of_waker name (waker_moves entries))
 
--- where a waker is once all have ended; a copy that was never made is still new
+-- where a waker may be once all have ended; a copy that was never made is still new
 abbrev pub is_waker_end : WakerName → WakerPlace → Bool
 is_waker_end Parker Used = true
 is_waker_end Parker Hand = true
@@ -82,7 +82,7 @@ is_cell _ = false
 abbrev pub cell_then : Bool → WakerMove → Bool
 cell_then full move = if is_cell move.2 then true else (if is_cell move.1 then false else full)
 
--- a waker is written only where none is, so that at most one is in the cell
+-- a waker is written only into an empty cell, so the cell has at most one
 abbrev pub is_cell_right : Bool → List WakerMove → Bool
 is_cell_right full [] = true
 is_cell_right full (move ∷ moves) = only_if (is_cell move.2) (not full) && is_cell_right (cell_then full move) moves

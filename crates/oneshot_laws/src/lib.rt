@@ -1,3 +1,2 @@
-//! What every trace of two scripts keeps, as definitions that know no table and no position. No code: the
-//! contracts of `oneshot_replay` carry the definitions, and `proofs/` has what those contracts cite.
+//! No code: the laws of every trace, stated without tables and positions, and their proofs.
 #![tactic(auto)]

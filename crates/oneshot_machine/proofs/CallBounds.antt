@@ -1,5 +1,4 @@
--- The most operations that are left at each position of the calls that have a bound, and what a run of such a
--- call makes.
+-- The most operations left at each position of the calls that have a bound, and so in a run of such a call.
 use Rattle.std.proofs.Common.{◌≡◌, ℕ, ◌≤◌, true, List, Option, Some, None, refl}
 use Rattle.std.specs.Prelude.{length}
 use Rattle.oneshot_machine.specs.declared.machine.Reply.{Reply}
@@ -103,7 +102,7 @@ receiver_pays (Drop DropFree) = refl
 receiver_pays _ = refl
 
 module _ {T W : Type 0} {reply : Reply} where
-  -- what a run makes
+  -- the operations of a run
   sender_makes : (p : SenderPos) (limit : ℕ) → sender_most p ≡ Some limit
       → (xs : List (Event T W)) → Run sender_step sender_row p xs reply → length (words xs) ≤ limit
   sender_makes p limit is xs run =
@@ -114,7 +113,7 @@ module _ {T W : Type 0} {reply : Reply} where
   receiver_makes p limit is xs run =
       at_most receiver_step receiver_rows receiver_most receiver_pays p xs reply limit is run
 
-  -- of each call
+  -- the operations of each call
   pub try_recv_makes : (xs : List (Event T W)) → Run receiver_step receiver_row (receiver_start C.TryRecv) xs reply
       → length (words xs) ≤ 2
   try_recv_makes = receiver_makes (Try TryLoad) 2 refl
@@ -128,7 +127,7 @@ module _ {T W : Type 0} {reply : Reply} where
   async_try_recv_makes = receiver_makes (Future AsyncTryLoad) 2 refl
 
   module _ {given got : List T} {before after : Log T W} where
-    -- and so the ground that ran it
+    -- and of the ground that ran it
     ran_few : {P : Type 0} {step : P → Step} {row : P → Seen → Option (Outcome P)} {from : P}
         {limit : ℕ} → ((xs : List (Event T W)) → Run step row from xs reply → length (words xs) ≤ limit)
         → Ran step row from before after reply given got → MakesWithin (Some limit) before after

@@ -1,4 +1,4 @@
--- The examples of counts, computed.
+-- Proofs of the examples of counts, computed.
 use Rattle.std.proofs.Common.{ℕ, ◌≤◌, List, [], ◌∷◌, length, refl, sym, arith, subst}
 use Rattle.oneshot_machine.specs.Noted.{Noted}
 use Rattle.oneshot_machine.specs.Counts.{GrewAtMost}
@@ -13,7 +13,7 @@ counts_that_are =
       polls_too_late = record { added = _; list = refl; few = omega arith };
     }
 
--- all that a log has that was empty was added
+-- all of a log that was empty was added
 pub all_added : {limit : ℕ} {xs : List Noted} → GrewAtMost limit [] xs → length xs ≤ limit
 all_added {limit} grew = subst (λ xs. length xs ≤ limit) (sym grew.list) grew.few
 

@@ -1,4 +1,4 @@
--- A run makes no more operations than its position allows, where each row of the table pays for its step.
+-- A run performs at most as many operations as its position allows, if each row pays for its step.
 use Rattle.std.proofs.Common.{◌≡◌, ℕ, ◌+◌, ◌≤◌, Bool, true, false, List, [], ◌∷◌, Option, Some, None, refl, ap, ◌∙◌, subst, arith}
 use Rattle.std.proofs.Math.Dec.{leb}
 use Rattle.std.proofs.lemmas.Bool.{leb-true, and_parts, eqb-true}
@@ -27,7 +27,7 @@ seens_are_same (Token false) (Token false) e = refl
 seens_are_same _ _ e = absurd (cc)
 
 module _ {P : Type 0} where
-  -- what each row passes, the row for what was seen passes
+  -- a test that all rows pass, the row for what was seen passes
   row_passes : (test : Seen × Outcome P → Bool) (rows : Rows P) (seen : Seen) (o : Outcome P)
       → list_all test rows ≡ true → row_for seen rows ≡ Some o → test (seen, o) ≡ true
   row_passes test [] seen o all is = absurd (cc)
@@ -58,7 +58,7 @@ counted : {T W : Type 0} (x : Event T W) (xs : List (Event T W))
 counted x xs = counted_by (op_of x.step) x.seen (words xs)
 
 module _ {P : Type 0} (step : P → Step) (rows : P → Rows P) (most : P → Option ℕ) where
-  -- the rest of a run is paid for by what the row leaves of this limit
+  -- what the row leaves of this limit pays for the rest of a run
   abbrev leaves_enough : ℕ → ℕ → Option ℕ → Bool
   leaves_enough limit spent None = false
   leaves_enough limit spent (Some rest) = leb (spent + rest) limit

@@ -1,5 +1,4 @@
--- What the definitions allow is what the tables make: where an end may stand at each phase, and the law,
--- computed for each.
+-- The definitions allow what the tables make: computed for each phase, from an end's positions there.
 use Rattle.std.proofs.Common.{List, [], ◌∷◌, ◌++◌, refl}
 use Rattle.oneshot_machine.specs.declared.machine.receiver.ReceiverPos.TheVariants.{Try, Ref, Timed, Value, Future, AsyncDrop, Drop}
 use Rattle.oneshot_machine.specs.declared.machine.try_recv.TryPos.TheVariants.{TryLoad, Close, CloseOnly}
@@ -17,7 +16,7 @@ use Rattle.oneshot_machine.specs.Standing.{Standpoint, plainly, as_future, sende
 use Rattle.oneshot_machine.specs.Exact.{SenderIsExact, ReceiverIsExact}
 use Rattle.oneshot_machine.proofs.Exactness.{IsExactAt, is_exact}
 
--- where a sender may stand at its next operation on the word
+-- the positions of a sender at its next operation on the word
 abbrev sender_stands : SenderAt → List (List SenderPos)
 sender_stands fresh = (SendAdd ∷ DropXor ∷ []) ∷ []
 sender_stands (owes sending) = (SendFinal ∷ []) ∷ []
@@ -27,7 +26,7 @@ sender_stands (late by) = [] ∷ []
 sender_stands (overtaken by) = [] ∷ []
 sender_stands no_sender = []
 
--- where a receiver may between its calls, and a future
+-- those of a receiver between its calls, and of a future
 abbrev calls : List Standpoint
 calls = plainly (Try TryLoad) ∷ plainly (Ref (StartLoad false)) ∷ plainly (Ref (StartLoad true))
     ∷ plainly (Value RecvLoad) ∷ plainly (Drop DropSwap) ∷ []
@@ -35,7 +34,7 @@ calls = plainly (Try TryLoad) ∷ plainly (Ref (StartLoad false)) ∷ plainly (R
 abbrev polls : List Standpoint
 polls = as_future (Future F.PollLoad) ∷ as_future (Future F.AsyncTryLoad) ∷ as_future (AsyncDrop AsyncLoad) ∷ []
 
--- after the load of a call that blocks, of a poll or of a future's drop, too
+-- and those after the load of a call that blocks, of a poll or of a future's drop
 abbrev stores : List Standpoint
 stores =
     plainly (Ref (StartSwap false))
@@ -45,7 +44,7 @@ stores =
     ∷ as_future (AsyncDrop AsyncSwap)
     ∷ []
 
--- Where it may at each phase: some are reached in several ways, after which it stands elsewhere.
+-- Those of a receiver at each phase: one list for each way there that leads to other positions.
 abbrev receiver_stands : ReceiverAt → List (List Standpoint)
 receiver_stands first = (calls ++ polls) ∷ []
 receiver_stands (here looked) = (calls ++ polls ++ stores) ∷ []

@@ -1,4 +1,4 @@
--- The law that ties the phases' table of an end to its positions, from what is computed for each phase.
+-- An end's phases allow what its positions make, by a test of each phase.
 use Rattle.std.proofs.Common.{◌≡◌, ℕ, Bool, true, false, not, ◌&&◌, List, [], ◌∷◌, None, refl, sym, ap, ◌∙◌, subst, All, Contains, true≢false, cond, arith}
 use Rattle.std.specs.Prelude.{◌==◌, if◌then◌else◌, is_some, filter}
 use Rattle.std.specs.List.{list_all, list_any, flat_map}
@@ -26,7 +26,7 @@ module _ {At : Type 0} (nowhere : At) where
   not_so {b = true} e = absurd (true≢false (sym e))
   not_so {b = false} e = refl
 
-  -- so each leads where it says
+  -- so each row leads to its own next phase
   pub leads : (rows : List (Row At)) {op : Op} {before after : Slots} {word : ℕ} {next : At} → differ rows ≡ true
       → In (op, before, word, next, after) rows → next_by nowhere rows op (saw op word) ≡ next
   leads [] apart there = elim there [ ]
@@ -51,7 +51,7 @@ module _ {P At : Type 0} (t : Table P) (nowhere : At) (rows : At → List (Row A
   reached ps op word =
       flat_map (λ p. onward t 6 p (if is_op op (op_of (t.step p)) then t.row p (saw op word) else None)) ps
 
-  -- a position that makes the operation has a row for what it saw
+  -- a position that performs the operation has a row for what it saw
   abbrev is_ready : Op → ℕ → P → Bool
   is_ready op word p = if is_op op (op_of (t.step p)) then is_some (t.row p (saw op word)) else true
 
@@ -66,7 +66,7 @@ module _ {P At : Type 0} (t : Table P) (nowhere : At) (rows : At → List (Row A
       let parts = and_parts (is_ready op word p) _ ready in
       All-cons (Accepts t op word) p ps (accepts_there op word p parts.0) (accept op word ps parts.1)
 
-  -- two lists of the same positions
+  -- two lists have the same positions
   abbrev is_in : List P → P → Bool
   is_in ps p = list_any (λ q. t.number q == t.number p) ps
 
@@ -77,7 +77,7 @@ module _ {P At : Type 0} (t : Table P) (nowhere : At) (rows : At → List (Row A
   abbrev agree : List P → List P → Bool
   agree ps qs = list_all (λ p. is_same (is_in ps p) (is_in qs p)) t.positions
 
-  -- some row, of the same operation and slots, finds a word with which nothing new comes
+  -- a row has this operation and these slots, and puts nothing new into them
   abbrev is_such : At → Op → Slots → Row At → Bool
   is_such at op before row =
       is_same_op op row.0 && is_same_share before.0 row.1.0 && is_same_share before.1 row.1.1
@@ -97,13 +97,13 @@ module _ {P At : Type 0} (t : Table P) (nowhere : At) (rows : At → List (Row A
       list_all (is_row_made at ps) (rows at)
       && list_all (λ op. list_any (λ (row : Row At). is_same_op op row.0) (rows at)) (made_at t ps)
 
-  -- what is computed for each phase
+  -- the test of each phase
   abbrev pub is_exact_at : At → Bool
   is_exact_at at =
       differ nowhere (rows at) && list_all (is_findable at) (rows at)
       && list_all (λ ps. is_fit at (in_order t ps)) (stands at)
 
-  -- the lists of positions at which an end may stand there
+  -- the lists of positions at which an end may be at a phase
   data StandsAt (at : At) : List P → Type 0 where
     stands_at : (ps : List P) → In ps (stands at) → StandsAt at (in_order t ps)
 
@@ -147,7 +147,7 @@ module _ {P At : Type 0} (t : Table P) (nowhere : At) (rows : At → List (Row A
         each_passes (λ ps. is_fit at (in_order t ps)) (stands at)
         (thrice (differ nowhere (rows at)) (list_all (is_findable at) (rows at)) _ (exact at)).2 among
 
-    -- what a row tells of the positions: one makes it, each has a row for what it finds, and it leads on
+    -- what a row shows of the positions: one performs it, each has a row for what it finds, and it leads on
     made : (at : At) {ps : List P} {op : Op} {before after : Slots} {word : ℕ} {next : At} → StandsAt at ps
         → In (op, before, word, next, after) (rows at)
         → (list_any (is_same_op op) (made_at t ps) ≡ true) × (list_all (is_ready op word) ps ≡ true)
@@ -165,7 +165,7 @@ module _ {P At : Type 0} (t : Table P) (nowhere : At) (rows : At → List (Row A
           subst (λ at. StandsAt at (moved t ps (op, saw op word))) (sym (leads nowhere (rows at) (distinct at) row))
           (lands next (reached ps op word) (made at there row).2)
 
-      -- the operations made there are allowed
+      -- the operations at these positions are allowed
       allowed : (x : T) (k : W) (at : At) (op : Op) → list_any (λ (row : Row At). is_same_op op row.0) (rows at) ≡ true
           → IsAllowed (May {T = T} {W = W} rows) at op
       allowed x k at op any =
@@ -182,12 +182,12 @@ module _ {P At : Type 0} (t : Table P) (nowhere : At) (rows : At → List (Row A
           let parts = and_parts (list_any (λ (row : Row At). is_same_op op row.0) (rows at)) _ all in
           All-cons (IsAllowed (May rows) at) op ops (allowed x k at op parts.0) (each_allowed x k at ops parts.1)
 
-      -- what is allowed is made there
+      -- what is allowed is performed there
       is_made : (at : At) {op : Op} {m : Held T} {w : Held W} {ps : List P} → StandsAt at ps → May rows at op m w
           → Contains (made_at t ps) op
       is_made at {op} {ps} there (may row _ _) = Contains-from_any ops_are_same op (made_at t ps) (made at there row).0
 
-      -- what is allowed may find some word
+      -- an operation that is allowed may find some word
       finds_such : (at : At) {row : Row At} {op : Op} {before : Slots} {m : Held T} {w : Held W} → In row (rows at)
           → is_such at op before row ≡ true → IsSlot before.0 m → IsSlot before.1 w
           → (word : ℕ) × (m' : Held T) × (w' : Held W) × Finds rows at op word m w m' w'
@@ -213,7 +213,7 @@ module _ {P At : Type 0} (t : Table P) (nowhere : At) (rows : At → List (Row A
           let found = some_passes (is_such at op before) (rows at) (findable at row) in
           finds_such at found.among found.passes message waker
 
-      -- and only words that are accepted
+      -- and only words that the positions accept
       accepted_there : (at : At) {op : Op} {m m' : Held T} {w w' : Held W} {ps : List P} (word : ℕ) → StandsAt at ps
           → Finds rows at op word m w m' w' → All (Accepts t op word) ps
       accepted_there at {op} {ps} word there (finds row _ _) = accept op word ps (made at there row).1

@@ -15,7 +15,7 @@ use Rattle.oneshot_machine.specs.Runs.{Run, last, more}
 use Rattle.oneshot_machine.specs.Examples.{ReceiverRun, waited_once, running_out, RunsThatAreNot}
 
 module _ {P : Type 0} {step : P → Step} {row : P → Seen → Option (Outcome P)} where
-  -- a run's first step is its position's
+  -- a run's first step is that of its position
   pub begins : {p : P} {x : Event ℕ ℕ} {xs : List (Event ℕ ℕ)} {r : Reply} → Run step row p (x ∷ xs) r → x.step ≡ step p
   begins (last x is leads) = is
   begins (more next x xs is leads rest) = is
@@ -23,12 +23,12 @@ module _ {P : Type 0} {step : P → Step} {row : P → Seen → Option (Outcome 
   no_run : {p : P} {r : Reply} → Run {T = ℕ} {W = ℕ} step row p [] r → ⊥
   no_run run = elim run [ ]
 
-  -- one of one step answers
+  -- a run of one step ends in its reply
   pub answers : {p : P} {x : Event ℕ ℕ} {r : Reply} → Run step row p (x ∷ []) r → row p x.seen ≡ Some (Answers r)
   answers (last x is leads) = leads
   answers (more next x xs is leads rest) = absurd (no_run rest)
 
-  -- a longer one goes on, where its first row leads
+  -- a longer run goes on where its first row leads
   pub does_go_on : {p : P} {x y : Event ℕ ℕ} {ys : List (Event ℕ ℕ)} {r : Reply} → Run step row p (x ∷ y ∷ ys) r
       → (q : P) × (row p x.seen ≡ Some (Goes q)) × Run step row q (y ∷ ys) r
   does_go_on (more next x xs is leads rest) = (next, leads, rest)
@@ -40,7 +40,7 @@ module _ {P : Type 0} {step : P → Step} {row : P → Seen → Option (Outcome 
       let same : on.0 ≡ q = cc in
       subst (λ p. Run step row p (y ∷ ys) r) same on.2
 
--- a receive with a deadline that waited once asks its clock again
+-- a receive with a deadline that waited once reads its clock again
 asks_again : {ys : List (Event ℕ ℕ)} {r : Reply}
     → ReceiverRun (Ref (StartLoad true)) (waited_once ++ clocked true ∷ ys) r
     → ReceiverRun (Timed Clock) (clocked true ∷ ys) r
@@ -49,7 +49,7 @@ asks_again run =
     (goes_on (Timed TimedPark) refl
     (goes_on (Timed Clock) refl (goes_on (Ref (StartSwap true)) refl (goes_on (Ref (StartWrite true)) refl run)))))
 
--- and swaps where it is over
+-- and swaps if the deadline is over
 ends_its_wait : {y : Event ℕ ℕ} {ys : List (Event ℕ ℕ)} {r : Reply}
     → ReceiverRun (Ref (StartLoad true)) (running_out ++ y ∷ ys) r → ReceiverRun (Timed EndSwap) (y ∷ ys) r
 ends_its_wait run = goes_on (Timed EndSwap) refl (asks_again run)

@@ -1,4 +1,4 @@
--- The examples, computed.
+-- Proofs of the examples of logs and runs, computed.
 use Rattle.std.proofs.Common.{true, false, refl}
 use Rattle.oneshot_machine.specs.declared.machine.receiver.ReceiverPos.TheVariants.{Try, Ref, Timed, Value, Drop}
 use Rattle.oneshot_machine.specs.declared.machine.try_recv.TryPos.TheVariants.{Close, Take, CloseOnly}

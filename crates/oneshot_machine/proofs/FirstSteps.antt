@@ -1,4 +1,4 @@
--- What the first operation of a run saw, by the log that the run leaves.
+-- What the first operation of a run saw, from the log that the run leaves.
 use Rattle.std.proofs.Common.{◌≡◌, ℕ, List, [], ◌∷◌, Some, get_or, ap, ◌∙◌, subst}
 use Rattle.std.specs.List.{cons_option}
 use Rattle.std.specs.Option.{option_map}
@@ -20,7 +20,7 @@ use Rattle.oneshot_machine.specs.Runs.{Run, last, more}
 use Rattle.oneshot_machine.specs.Sender.{sender_step, sender_row}
 use Rattle.oneshot_machine.specs.TableRows.{Goes, Answers}
 
--- a `send` that has written its message adds
+-- a `send` that has written its message performs an add
 then_adds : (seen : Seen) (next : SenderPos) → sender_row SendWrite seen ≡ Some (Goes next) → next ≡ SendAdd
 then_adds Done next leads = cc
 then_adds _ next leads = absurd (cc leads)
@@ -36,13 +36,13 @@ module _ {T W : Type 0} where
   first_seen x xs {op} {seen} is same =
       ap (λ (log : List Noted). (get_or {A = Noted} log 0 (op, seen)).1) (same ∙ begins_with x xs is)
 
-  -- a `try_recv` operates
+  -- a `try_recv` performs an operation
   pub tries_once : {run : List (Event T W)} {r : Reply} → Run receiver_step receiver_row (Try TryLoad) run r
       → words run ≡ [] → ⊥
   tries_once (last x is leads) none = let begins = begins_with x [] is in cc
   tries_once (more next x xs is leads rest) none = let begins = begins_with x xs is in cc
 
-  -- one that found 3 answers that nothing is there
+  -- a `try_recv` that only loaded 3 receives no message
   pub tries_in_vain : {run : List (Event T W)} → Run receiver_step receiver_row (Try TryLoad) run R.Message
       → (Load, Word 3) ∷ [] ≡ words run → ⊥
   tries_in_vain (last x is leads) same =
@@ -52,7 +52,7 @@ module _ {T W : Type 0} where
       let row : Some (Answers R.Empty) ≡ Some (Goes next) =
       ap (receiver_row (Try TryLoad)) (first_seen x xs is same) ∙ leads in cc row
 
-  -- it answers as the word that its add found says, where that is an answer
+  -- `send` replies as the row for its add does, if that row has a reply
   adds : {xs : List (Event T W)} {word : ℕ} {r s : Reply} → sender_row SendAdd (Word word) ≡ Some (Answers s)
       → Run sender_step sender_row SendAdd xs r → (Add, Word word) ∷ [] ≡ words xs → r ≡ s
   adds {word = word} {r = r} answers (last x is leads) same =

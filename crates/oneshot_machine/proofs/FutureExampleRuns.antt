@@ -1,4 +1,4 @@
--- The examples of a future, computed.
+-- Proofs of the examples of a future, computed.
 use Rattle.std.proofs.Common.{refl}
 use Rattle.oneshot_machine.specs.declared.machine.receiver.ReceiverPos.TheVariants.{Try, Future, AsyncDrop, Drop}
 use Rattle.oneshot_machine.specs.declared.machine.try_recv.TryPos.TheVariants.{Close, Take}

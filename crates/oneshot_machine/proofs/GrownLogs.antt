@@ -1,4 +1,4 @@
--- Logs that grow: how far an end is after one more operation, and what a log has after more steps.
+-- Logs that grow: an end's phase after one more operation, and what a log has after more steps.
 use Rattle.std.proofs.Common.{◌≡◌, ℕ, Bool, true, false, cond, List, [], ◌∷◌, ◌++◌, Option, Some, None, refl, sym, ap, ◌∙◌}
 use Rattle.std.proofs.lemmas.List.{append_assoc, append-nil}
 use Rattle.std.proofs.lemmas.List.Elements.{filter-append, filter_map-append}
@@ -17,7 +17,7 @@ pub phase_from-snoc : {At : Type 0} (next : At → Op → Seen → At) (at : At)
 phase_from-snoc next at [] x = refl
 phase_from-snoc next at (y ∷ xs) x = phase_from-snoc next (next at y.0 y.1) xs x
 
--- where an end stands after one operation more
+-- where an end may be after one more operation
 standing_from-snoc : {P : Type 0} (t : Table P) (ps : List P) (xs : List Noted) (x : Noted)
     → standing_from t ps (xs ++ x ∷ []) ≡ moved t (standing_from t ps xs) x
 standing_from-snoc t ps [] x = refl
@@ -32,7 +32,7 @@ module _ {T W : Type 0} where
   kept-append true xs ys = refl
   kept-append false xs ys = filter-append _ xs ys
 
-  -- what is left out is no operation on the word
+  -- what a log leaves out is no operation on the word
   abbrev noted_by : Event T W → Option Op → Option Noted
   noted_by x op = option_map (λ op. (op, x.seen)) op
 
@@ -59,13 +59,13 @@ module _ {T W : Type 0} where
         ap words grows.list ∙ filter_map-append noted before.list (kept before.whole steps)
         ∙ ap (λ ns. words before.list ++ ns) (words-kept before.whole steps)
 
-    -- steps that are no operation leave an end as far as it was
+    -- steps without an operation keep the end's phase
     pub words_stay : (steps : List (Event T W)) → words steps ≡ [] → Grows before after steps
         → words after.list ≡ words before.list
     words_stay steps none grows =
         words_after steps grows ∙ ap (λ ns. words before.list ++ ns) none ∙ append-nil (words before.list)
 
-    -- and an operation takes it on
+    -- and an operation leads to the next phase
     pub sender_moved : (op : Op) (word : ℕ) → Grows before after (worded op word ∷ [])
         → sender_of after ≡ sender_next (sender_of before) op (saw op word)
     sender_moved op word grows =
@@ -78,7 +78,7 @@ module _ {T W : Type 0} where
         ap receiver_at (words_after (worded op word ∷ []) grows)
         ∙ phase_from-snoc receiver_next first (words before.list) (op, saw op word)
 
-    -- first some steps, and then some more
+    -- some steps, and then some more
     pub and_then : {last : Log T W} (xs ys : List (Event T W)) → Grows before after xs → Grows after last ys
         → Grows before last (xs ++ ys)
     and_then xs ys s t =

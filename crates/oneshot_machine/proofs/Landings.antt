@@ -34,7 +34,7 @@ turned (gives_thing x) = is_away
 turned gets_room = is_vacant
 turned (gets_thing x) = is_held x
 
--- whether a row is of this operation and needs these slots
+-- whether a row has this operation and needs these slots
 abbrev pub is_row_of : {At : Type 0} → Op → Slots → Row At → Bool
 is_row_of op slots row = is_same_op op row.0 && (is_same_share slots.0 row.1.0 && is_same_share slots.1 row.1.1)
 
@@ -98,7 +98,7 @@ landed {At} such {after} {word} {next} (row ∷ rows) is (tail there) = later (s
     later true found = tail found
     later false found = found
 
--- a fact of each landing
+-- a fact holds of each landing
 abbrev pub Each : {At : Type 0} → (ℕ → At → Slots → Type 0) → List (Landing At) → Type 0
 Each fact [] = ⊤
 Each fact (l ∷ ls) = fact l.0 l.1 l.2 × Each fact ls
@@ -109,7 +109,7 @@ each fact [] all there = elim there [ ]
 each fact (l ∷ ls) all head = all.0
 each fact (l ∷ ls) all (tail there) = each fact ls all.1 there
 
--- and so of the one that was found, with the slots then
+-- and so of the landing that was found, with its slots
 pub record FoundSo {At T W : Type 0} (fact : ℕ → At → Slots → Type 0) (n : ℕ) (m : Held T) (w : Held W) : Type 0 where
   pub next : At
   pub after : Slots
@@ -130,7 +130,7 @@ found_so {moves} {at} such fact is all (finds {after} {next} row message waker) 
       waker = turned waker;
     }
 
--- what is in a slot before and after an operation is the same
+-- an operation keeps what is in a slot
 kept : {X : Type 0} {s t : Share} {h h' : Held X} {x : X} → Turns s t h h' → h ≡ held x → IsSlot filled h' → h' ≡ held x
 kept (stays_held y) is there = is
 kept (gives_thing y) is there = elim there [ ]
@@ -144,7 +144,7 @@ module _ {At T W : Type 0} {moves : At → List (Row At)} {at : At} {op : Op} {n
   pub waker_kept : {k : W} → Finds moves at op n m w m' w' → w ≡ held k → IsSlot filled w' → w' ≡ held k
   waker_kept (finds row message waker) is there = kept waker is there
 
--- the landings with such a word
+-- the landings whose word passes
 abbrev pub among : {At : Type 0} → (ℕ → Bool) → List (Landing At) → List (Landing At)
 among such [] = []
 among such (l ∷ ls) = if such l.0 then l ∷ among such ls else among such ls
@@ -168,7 +168,7 @@ differs n word other = by (n == word) refl
     by true is = absurd (other (eqb-true n word is))
     by false is = refl
 
--- no two rows of a phase have one operation that sees the same
+-- no two rows of a phase have the same operation and see the same
 pub sender_apart : (at : SenderAt) → differ no_sender (sender_moves at) ≡ true
 sender_apart fresh = refl
 sender_apart (owes sending) = refl

@@ -1,4 +1,4 @@
--- The examples of a ground's logs: each run row by row, and what the others lack.
+-- Proofs of the examples of a ground's logs: each run row by row, and what each counterexample lacks.
 use Rattle.std.proofs.Common.{◌≡◌, ℕ, true, false, List, [], ◌∷◌, Option, refl, sym, ap, subst, ◌∙◌, arith}
 use Rattle.oneshot_machine.specs.declared.machine.Reply.{Reply}
 use Rattle.oneshot_machine.specs.declared.machine.Seen.{Seen}
@@ -61,7 +61,7 @@ logs_that_grow =
       forgets_without_a_bound = tt;
     }
 
--- the run of a whole ground that had made no step is its list
+-- the run of a whole ground whose log was empty is its list
 module _ {P : Type 0} {step : P → Step} {row : P → Seen → Option (Outcome P)} {from : P} {list : List (Event ℕ ℕ)}
     {reply : Reply} {given got : List ℕ} (ran : Ran step row from (logged true []) (logged true list) reply given got)
   where

@@ -1,4 +1,4 @@
--- The examples of orders: each order operation by operation, and why the other logs have none.
+-- Proofs of the examples of orders: each order operation by operation, and why the other logs have none.
 use Rattle.std.proofs.Common.{ℕ, [], ◌∷◌, ◌++◌}
 use Rattle.oneshot_machine.specs.declared.machine.Seen.TheVariants.{Word}
 use Rattle.oneshot_machine.specs.declared.states.Op.TheVariants.{Load, Store, Swap, Exchange, Add, Xor}

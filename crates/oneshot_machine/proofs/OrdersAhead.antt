@@ -1,4 +1,4 @@
--- An order from its first operation on, as its examples are read.
+-- Orders read from the first operation on, as the examples need them.
 use Rattle.std.proofs.Common.{◌≡◌, ℕ, List, [], ◌∷◌, ◌++◌, refl}
 use Rattle.oneshot_machine.specs.declared.machine.Seen.{Seen}
 use Rattle.oneshot_machine.specs.declared.states.Op.{Op}
@@ -6,7 +6,7 @@ use Rattle.oneshot_machine.specs.Noted.{Noted, saw}
 use Rattle.oneshot_machine.specs.Orders.{InOrder, none_made, by_sender, by_receiver}
 use Rattle.oneshot_machine.specs.States.{word_after}
 
--- from this word on: the operations of both ends that are to come, and the last word
+-- from this word on: the operations of both ends to come, and the last word
 pub data Goes : ℕ → List Noted → List Noted → ℕ → Type 0 where
   ends : {word : ℕ} → Goes word [] [] word
   sender_first : {word last : ℕ} {seen : Seen} {xs ys : List Noted} (op : Op) → seen ≡ saw op word
@@ -14,7 +14,7 @@ pub data Goes : ℕ → List Noted → List Noted → ℕ → Type 0 where
   receiver_first : {word last : ℕ} {seen : Seen} {xs ys : List Noted} (op : Op) → seen ≡ saw op word
       → Goes (word_after op word) xs ys last → Goes word xs ((op, seen) ∷ ys) last
 
--- one operation more
+-- one more operation
 sender_more : {word last : ℕ} {xs ys : List Noted} (op : Op) → Goes word xs ys last
     → Goes word (xs ++ (op, saw op last) ∷ []) ys (word_after op last)
 sender_more op ends = sender_first op refl ends

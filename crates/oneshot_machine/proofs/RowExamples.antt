@@ -1,4 +1,4 @@
--- The examples of rows: each is a row of the table, and the others are told apart by a test of all rows.
+-- Proofs of the examples of rows: each is in the table, and a test of all rows refuses the counterexamples.
 use Rattle.std.proofs.Common.{◌≡◌, ℕ, Bool, true, false, not, ◌&&◌, List, Some, None, refl, eq-eqb}
 use Rattle.std.specs.Prelude.{◌==◌}
 use Rattle.std.specs.List.{list_all}
@@ -38,7 +38,7 @@ slots_that_are =
       has_received = owns (own_held 7) own_vacant;
     }
 
--- whether a slot is so, and whether it turns so
+-- whether a slot has this share, and how it may turn
 abbrev fits : {X : Type 0} → Share → Held X → Bool
 fits none away = true
 fits empty vacant = true
@@ -92,7 +92,7 @@ module _ {At : Type 0} where
       let no : false ≡ true =
       rw (same_op op, eq-eqb word word refl, turns_so message, turns_so waker) at this in cc no
 
--- an own slot is not away, and another's is
+-- the end's own slot is not away, and any other is
 not_lost : {X : Type 0} {h : Held X} → IsOwned true h → h ≡ away → ⊥
 not_lost own_vacant is = cc is
 not_lost (own_held x) is = cc is

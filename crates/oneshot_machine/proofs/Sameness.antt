@@ -1,4 +1,4 @@
--- Operations, what they saw and shares of slots, told apart by tests, and what a test of a list's elements tells.
+-- Tests that tell operations, what they saw and shares apart, and what a test of a list's elements shows.
 use Rattle.std.proofs.Common.{◌≡◌, ℕ, Bool, true, false, ◌&&◌, ◌||◌, List, [], ◌∷◌, refl, sym, ap, ◌∙◌, true≢false}
 use Rattle.std.specs.Prelude.{◌==◌}
 use Rattle.std.specs.List.{list_all, list_any}
@@ -10,13 +10,13 @@ use Rattle.oneshot_machine.specs.Noted.{saw, is_same_op}
 use Rattle.oneshot_machine.specs.Phases.{Share, none, empty, filled}
 use Rattle.oneshot_machine.specs.Slots.{Held, away, vacant, held, IsSlot, is_away, is_vacant, is_held, Turns, stays_away, stays_vacant, stays_held, gives_room, gives_thing, gets_room, In, head, tail}
 
--- what a test of each element tells of one, and which one a test of some element found
+-- what a test of all elements shows of one, and the element that a test of some found
 pub each_passes : {X : Type 0} (p : X → Bool) (xs : List X) {x : X} → list_all p xs ≡ true → In x xs → p x ≡ true
 each_passes p [] all there = elim there [ ]
 each_passes p (x ∷ xs) all head = (and_parts (p x) _ all).0
 each_passes p (x ∷ xs) all (tail there) = each_passes p xs (and_parts (p x) _ all).1 there
 
--- what a test of three parts tells of each
+-- what a test of three parts shows of each
 pub thrice : (a b c : Bool) → (a && b && c) ≡ true → (a ≡ true) × (b ≡ true) × (c ≡ true)
 thrice true true c e = (refl, refl, e)
 thrice true false c e = absurd (cc)
@@ -45,7 +45,7 @@ some_passes p (x ∷ xs) any = by (p x) refl any (some_passes p xs)
         let found = rest any in
         record { one = found.one; among = tail found.among; passes = found.passes }
 
--- an operation, what was seen, and the shares of slots, told apart by their tests
+-- the tests find an operation and what it saw equal to themselves, and only equals equal
 pub same_op : (op : Op) → is_same_op op op ≡ true
 same_op Load = refl
 same_op (Store new) = eq-eqb new new refl
@@ -86,7 +86,7 @@ shares_are_same empty empty e = refl
 shares_are_same filled filled e = refl
 shares_are_same _ _ e = absurd (cc)
 
--- a slot of each share, where there is something to fill it
+-- a slot with this share, which this fills
 pub fill : {X : Type 0} → X → Share → Held X
 fill x none = away
 fill x empty = vacant
@@ -98,7 +98,7 @@ fills x none = is_away
 fills x empty = is_vacant
 fills x filled = is_held x
 
--- a slot turns so with nothing new in it
+-- a slot turns from one share to the other without new content
 abbrev pub is_plain : Share → Share → Bool
 is_plain none none = true
 is_plain empty empty = true

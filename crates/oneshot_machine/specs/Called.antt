@@ -1,4 +1,4 @@
--- The calls that were made of an end, one after another, each with its reply, and the log that they leave.
+-- The calls of an end in order, each with its reply, and the log that they leave.
 use Rattle.std.specs.Prelude.{◌≡◌, Bool, true, false, List, [], ◌∷◌, ◌++◌}
 use Rattle.oneshot_machine.specs.declared.machine.Reply.{Reply}
 use Rattle.oneshot_machine.specs.declared.machine.Reply.TheVariants as R
@@ -17,7 +17,7 @@ pub data Form : Type 0 where
   as_receiver : Form
   as_future : Form
 
--- the calls that operate on the word and leave the receiver in place
+-- the calls that operate on the word and do not end the receiver
 abbrev pub stays : Form → ReceiverStart → Bool
 stays as_receiver RC.TryRecv = true
 stays as_receiver RC.RecvRef = true
@@ -27,15 +27,15 @@ stays as_future RC.Poll = true
 stays as_future RC.AsyncTryRecv = true
 stays _ _ = false
 
--- a sender's calls that operate on the word, each of which ends it
+-- the sender's calls that operate on the word: each ends the sender
 abbrev pub ends : SenderCall → Bool
 ends SC.Send = true
 ends SC.Drop = true
 ends _ = false
 
 module _ (T W : Type 0) where
-  -- A receiver that has answered these calls has this log: for each call the operations of one run of its table
-  -- that ends in that reply. `into_future` makes none.
+  -- A receiver that has replied to these calls has this log: for each call, the operations of one run of its
+  -- table that ends in the reply. `into_future` has no operation.
   pub data ReceiverCalled : Form → List (ReceiverStart × Reply) → List Noted → Type 0 where
     not_called : ReceiverCalled as_receiver [] []
     called : {form : Form} {calls : List (ReceiverStart × Reply)} {log : List Noted}
@@ -46,7 +46,7 @@ module _ (T W : Type 0) where
     became_future : {calls : List (ReceiverStart × Reply)} {log : List Noted} → ReceiverCalled as_receiver calls log
         → ReceiverCalled as_future (calls ++ (RC.IntoFuture, R.Future) ∷ []) log
 
-  -- the same of a sender: its one call ends it
+  -- the same of a sender, whose one call ends it
   pub data SenderCalled : List (SenderCall × Reply) → List Noted → Type 0 where
     not_called_yet : SenderCalled [] []
     called_once : (call : SenderCall) (reply : Reply) (run : List (Event T W)) → ends call ≡ true

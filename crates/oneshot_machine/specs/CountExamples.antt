@@ -1,4 +1,4 @@
--- Logs that grow by so many operations at most, and some that grow by more.
+-- Logs that grow by at most so many operations, and some that do not.
 use Rattle.std.specs.Prelude.{[], ◌∷◌}
 use Rattle.oneshot_machine.specs.declared.machine.Seen.TheVariants.{Done, Word}
 use Rattle.oneshot_machine.specs.declared.states.Op.TheVariants.{Load, Store, Swap, Exchange, Add}

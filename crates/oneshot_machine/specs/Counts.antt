@@ -1,4 +1,4 @@
--- The most operations on the word that a call makes.
+-- The most operations on the word that a call performs.
 use Rattle.std.specs.Prelude.{◌≡◌, ℕ, ⊤, ◌≤◌, List, ◌++◌, length, Option, Some, None}
 use Rattle.oneshot_machine.specs.declared.machine.receiver.ReceiverStart.{ReceiverStart}
 use Rattle.oneshot_machine.specs.declared.machine.receiver.ReceiverStart.TheVariants as RS
@@ -20,17 +20,17 @@ receiver_bound RS.Poll = Some 4
 receiver_bound RS.DropAsync = Some 3
 receiver_bound _ = None
 
--- A log of operations grew by so many at most.
+-- A log grew by at most this many operations.
 pub record GrewAtMost (limit : ℕ) (before after : List Noted) : Type 0 where
   pub added : List Noted
   pub list : after ≡ before ++ added
   pub few : length added ≤ limit
 
--- It grew within this bound, if it is one.
+-- It grew within this bound, if there is one.
 abbrev pub GrewWithin : Option ℕ → List Noted → List Noted → Type 0
 GrewWithin None before after = ⊤
 GrewWithin (Some limit) before after = GrewAtMost limit before after
 
--- Between the two logs a ground's operations on the word grew within this bound.
+-- Between the two logs a ground performed operations within this bound.
 abbrev pub MakesWithin : {T W : Type 0} → Option ℕ → Log T W → Log T W → Type 0
 MakesWithin bound before after = GrewWithin bound (words before.list) (words after.list)

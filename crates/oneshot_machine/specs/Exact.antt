@@ -1,4 +1,4 @@
--- The law that ties what the definitions allow after a log to what the tables make there.
+-- The law that after each log the definitions allow exactly what the table does.
 use Rattle.std.specs.Prelude.{◌≡◌, ℕ, List, [], ◌∷◌, ◌++◌, All, Contains, IsSome}
 use Rattle.oneshot_machine.specs.declared.machine.Step.TheVariants.{Word}
 use Rattle.oneshot_machine.specs.declared.states.Op.{Op}
@@ -15,29 +15,29 @@ module _ {At T W : Type 0} (at : List Noted → At)
     one_more : {xs : List Noted} {op : Op} {m m' : Held T} {w w' : Held W} (word : ℕ)
         → IsFound xs → Finds (at xs) op word m w m' w' → IsFound (xs ++ (op, saw op word) ∷ [])
 
--- with some slots the operation is allowed
+-- the operation is allowed with some slots
 abbrev pub IsAllowed : {At T W : Type 0} → (At → Op → Held T → Held W → Type 0) → At → Op → Type 0
 IsAllowed {At} {T} {W} May at op = (m : Held T) × (w : Held W) × May at op m w
 
--- a position that makes the operation has a row for this word
+-- a position that performs the operation has a row for this word
 abbrev pub Accepts : {P : Type 0} → Table P → Op → ℕ → P → Type 0
 Accepts t op word p = t.step p ≡ Word op → IsSome (t.row p (saw op word))
 
--- What the definitions allow an end is what its table does, no more and no less.
+-- The definitions allow an end exactly what its table does.
 pub record IsExact {P At T W : Type 0} (t : Table P) (at : List Noted → At)
     (May : At → Op → Held T → Held W → Type 0)
     (Finds : At → Op → ℕ → Held T → Held W → Held T → Held W → Type 0) : Type 0 where
-  -- each operation that the table makes after such a log is allowed, where there is some message
+  -- after such a log each operation of the table is allowed, given some message
   -- and some waker
   pub no_less : T → W → {xs : List Noted} → IsFound at Finds xs
       → All (IsAllowed May (at xs)) (operations t xs)
-  -- each that is allowed is one that the table makes
+  -- each operation that is allowed is one of the table
   pub no_more : {xs : List Noted} {op : Op} {m : Held T} {w : Held W}
       → IsFound at Finds xs → May (at xs) op m w → Contains (operations t xs) op
-  -- one that is allowed may find some word
+  -- an operation that is allowed may find some word
   pub finds : {xs : List Noted} {op : Op} {m : Held T} {w : Held W}
       → May (at xs) op m w → (word : ℕ) × (m' : Held T) × (w' : Held W) × Finds (at xs) op word m w m' w'
-  -- and finds only words for which each position has a row that makes it there
+  -- and finds only words for which each position that performs it has a row
   pub accepted : {xs : List Noted} {op : Op} {m m' : Held T} {w w' : Held W} (word : ℕ)
       → IsFound at Finds xs → Finds (at xs) op word m w m' w' → All (Accepts t op word) (standing t xs)
 

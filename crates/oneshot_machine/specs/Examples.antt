@@ -1,4 +1,4 @@
--- Logs and runs that an end makes, and some that none makes.
+-- Logs and runs of an end, and some that no end has.
 use Rattle.std.specs.Prelude.{◌≡◌, ℕ, true, false, List, [], ◌∷◌, ◌++◌}
 use Rattle.oneshot_machine.specs.declared.machine.Reply.{Reply}
 use Rattle.oneshot_machine.specs.declared.machine.Reply.TheVariants.{Sent, Refused, Message, Empty, Timeout, Disconnected}
@@ -21,7 +21,7 @@ use Rattle.oneshot_machine.specs.Phases.{sending, dropping, fresh, owes, finishe
 use Rattle.oneshot_machine.specs.Logs.{Event, did, wrote, took, handed, parked, clocked, worded, words, kept, messages_given, messages_got}
 use Rattle.oneshot_machine.specs.Runs.{Run}
 
--- how far a sender's log takes it
+-- the phases of a sender, by its logs
 pub record LogsOfSender : Type 0 where
   pub nothing_yet : sender_at [] ≡ fresh
   pub sent : sender_at ((Add, Word 3) ∷ []) ≡ finished sending
@@ -34,7 +34,7 @@ pub record LogsOfSender : Type 0 where
   pub dropped_before_it : sender_at ((Xor, Word 0) ∷ (Swap 2, Word 1) ∷ []) ≡ finished dropping
   pub dropped_too_late : sender_at ((Xor, Word 2) ∷ []) ≡ late dropping
   pub dropped_after_one_that_left_meanwhile : sender_at ((Xor, Word 0) ∷ (Swap 2, Word 2) ∷ []) ≡ overtaken dropping
-  -- and logs that no sender makes
+  -- and logs that no sender has
   pub sends_over_a_message : sender_at ((Add, Word 4) ∷ []) ≡ no_sender
   pub sends_twice : sender_at ((Add, Word 3) ∷ (Add, Word 3) ∷ []) ≡ no_sender
   pub drops_after_it_sent : sender_at ((Add, Word 3) ∷ (Xor, Word 3) ∷ []) ≡ no_sender
@@ -44,7 +44,7 @@ pub record LogsOfSender : Type 0 where
   pub swaps : sender_at ((Swap 4, Word 3) ∷ []) ≡ no_sender
   pub does_not_look : sender_at ((Add, Done) ∷ []) ≡ no_sender
 
--- how far a receiver's log takes it
+-- the phases of a receiver, by its logs
 pub record LogsOfReceiver : Type 0 where
   pub nothing_yet : receiver_at [] ≡ first
   pub looked_in_vain : receiver_at ((Load, Word 3) ∷ (Load, Word 3) ∷ []) ≡ here looked
@@ -75,7 +75,7 @@ pub record LogsOfReceiver : Type 0 where
   pub dropped_early : receiver_at ((Load, Word 3) ∷ (Swap 2, Word 3) ∷ []) ≡ gone
   pub dropped_over_a_message : receiver_at ((Swap 2, Word 4) ∷ []) ≡ ended
   pub dropped_after_all : receiver_at ((Load, Word 2) ∷ (Swap 2, Word 2) ∷ []) ≡ ended
-  -- and logs that no receiver makes
+  -- and logs that no receiver has
   pub leaves_the_message : receiver_at ((Load, Word 4) ∷ (Load, Word 4) ∷ []) ≡ no_receiver
   pub drops_in_its_call : receiver_at ((Load, Word 3) ∷ (Swap 0, Word 4) ∷ (Swap 2, Word 0) ∷ []) ≡ no_receiver
   pub stores_another_word : receiver_at ((Load, Word 4) ∷ (Store 3, Done) ∷ []) ≡ no_receiver
@@ -122,16 +122,16 @@ waiting =
     ∷ worded Load 4
     ∷ []
 
--- one that finds by its swap that it need not
+-- a receive whose swap finds that it need not wait
 abbrev pub withdrawing : ℕ → List (Event ℕ ℕ)
 withdrawing word = worded Load 3 ∷ handed WriteWaker 1 ∷ worded (Swap 0) word ∷ handed Withdraw 1 ∷ []
 
--- one with a deadline that waits once
+-- a receive with a deadline that waits once
 abbrev pub waited_once : List (Event ℕ ℕ)
 waited_once =
     worded Load 3 ∷ handed WriteWaker 1 ∷ worded (Swap 0) 3 ∷ clocked false ∷ parked false ∷ worded Load 0 ∷ []
 
--- and then finds it over
+-- and then finds its deadline over
 abbrev pub running_out : List (Event ℕ ℕ)
 running_out = waited_once ++ clocked true ∷ []
 
@@ -176,7 +176,7 @@ pub record RunsThatAre : Type 0 where
   pub waits_and_frees : ReceiverRun (Value RecvLoad) (waiting ++ took 7 ∷ did Free ∷ []) Message
   pub waits_for_nobody_and_frees : ReceiverRun (Value RecvLoad) (withdrawing 2 ++ did Free ∷ []) Disconnected
   pub drops_the_message : ReceiverRun (Drop DropSwap) (worded (Swap 2) 4 ∷ did DropMessage ∷ did Free ∷ []) R.Done
-  -- what they hand in and out, and what of them a real ground keeps
+  -- the messages that they hand in and out, and the steps that a real ground keeps
   pub handed_in : messages_given sending_7 ≡ 7 ∷ []
   pub handed_out : messages_got receiving_7 ≡ 7 ∷ []
   pub hands_nothing_out : messages_got sending_7 ≡ []
@@ -185,7 +185,7 @@ pub record RunsThatAre : Type 0 where
   pub keeps_the_word : kept false sending_7 ≡ worded Add 3 ∷ []
   pub as_words : words receiving_7 ≡ (Load, Word 4) ∷ (Store 2, Done) ∷ []
 
--- and steps that are none
+-- and steps that are no run
 pub record RunsThatAreNot : Type 0 where
   pub writes_nothing : SenderRun SendWrite (worded Add 3 ∷ []) Sent → ⊥
   pub says_that_it_sent : SenderRun SendWrite (wrote 7 ∷ worded Add 2 ∷ []) Sent → ⊥

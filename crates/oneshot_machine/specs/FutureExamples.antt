@@ -1,4 +1,4 @@
--- Logs and runs that a future makes, and some that none makes.
+-- Logs and runs of a future, and some that no future has.
 use Rattle.std.specs.Prelude.{◌≡◌, ℕ, List, [], ◌∷◌, ◌++◌, Some, None}
 use Rattle.oneshot_machine.specs.declared.machine.Reply.TheVariants.{Message, Disconnected, Pending}
 use Rattle.oneshot_machine.specs.declared.machine.Reply.TheVariants as R
@@ -17,7 +17,7 @@ use Rattle.oneshot_machine.specs.Examples.{ReceiverRun}
 abbrev pub once_polled : List Noted
 once_polled = (Load, Word 3) ∷ (Exchange 3 0, Word 3) ∷ []
 
--- how far a future's log takes it
+-- the phases of a future, by its logs
 pub record LogsOfFuture : Type 0 where
   pub polls : receiver_at once_polled ≡ waits polled
   pub polls_again : receiver_at (once_polled ++ (Load, Word 0) ∷ []) ≡ waits again
@@ -45,7 +45,7 @@ pub record LogsOfFuture : Type 0 where
       receiver_at (once_polled ++ (Load, Word 1) ∷ (Swap 2, Word 1) ∷ []) ≡ gone
   pub is_dropped_when_it_has_finished :
       receiver_at (once_polled ++ (Load, Word 1) ∷ (Swap 2, Word 4) ∷ []) ≡ ended
-  -- and logs that no future makes
+  -- and logs that no future has
   pub stores_without_a_look : receiver_at ((Exchange 3 0, Word 3) ∷ []) ≡ no_receiver
   pub takes_back_without_a_look : receiver_at (once_polled ++ (Exchange 0 3, Word 0) ∷ []) ≡ no_receiver
   pub blocks : receiver_at (once_polled ++ (Swap 0, Word 0) ∷ []) ≡ no_receiver
@@ -59,12 +59,12 @@ pub record LogsOfFuture : Type 0 where
   pub is_dropped_without_a_look :
       receiver_at ((Load, Word 3) ∷ (Exchange 3 0, Word 2) ∷ (Swap 2, Word 2) ∷ []) ≡ no_receiver
 
--- a poll whose copy was made, up to its exchange, which finds this word
+-- a poll that copied its waker, up to its exchange, which finds this word
 abbrev pub polling : ℕ → List (Event ℕ ℕ)
 polling word =
     worded Load 3 ∷ copied (Some 1) ∷ handed WriteWaker 1 ∷ worded (Exchange 3 0) word ∷ []
 
--- a later poll, up to the exchange by which it takes the stored copy back, which finds this word
+-- a later poll, up to the exchange before it takes the stored copy back, which finds this word
 abbrev pub polling_again : ℕ → List (Event ℕ ℕ)
 polling_again word = worded Load 0 ∷ copied (Some 2) ∷ worded (Exchange 0 3) word ∷ []
 
@@ -102,7 +102,7 @@ pub record FutureRuns : Type 0 where
   pub frees_where_the_sender_has_finished :
       ReceiverRun (AsyncDrop AsyncLoad) (worded Load 1 ∷ worded (Swap 2) 2 ∷ did Free ∷ []) R.Done
 
--- and steps that are none
+-- and steps that are no run
 pub record FutureRunsThatAreNot : Type 0 where
   pub keeps_the_old_copy :
       ReceiverRun (Future PollLoad) (worded Load 0 ∷ copied (Some 2) ∷ []) Pending → ⊥

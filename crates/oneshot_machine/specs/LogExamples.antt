@@ -1,4 +1,4 @@
--- What a ground has done between two of its logs, and what it has not.
+-- Examples of what a ground did between two of its logs, and of what it did not.
 use Rattle.std.specs.Prelude.{◌≡◌, ℕ, Bool, true, false, List, [], ◌∷◌, ◌++◌, None}
 use Rattle.oneshot_machine.specs.declared.machine.Reply.TheVariants.{Sent, Refused, Message}
 use Rattle.oneshot_machine.specs.declared.machine.Reply.TheVariants as R
@@ -11,7 +11,7 @@ use Rattle.oneshot_machine.specs.Logs.{Event, worded, words, Log, Grows, sender_
 use Rattle.oneshot_machine.specs.Phases.{sending, fresh, owes, finished, first, disconnected, closed_itself}
 use Rattle.oneshot_machine.specs.Runs.{SenderRan, ReceiverRan}
 
--- the log of a ground of one channel, which is whole or not
+-- the log of a ground, whole or not, of one channel
 abbrev pub logged : Bool → List (Event ℕ ℕ) → Log ℕ ℕ
 logged whole list = record { whole = whole; channel = 5 ∷ []; list = list }
 
@@ -34,7 +34,7 @@ pub record LogsThatGrow : Type 0 where
   pub keeps_its_operations : Grows (logged false []) (logged false waking_words) waking
   pub goes_on : Grows (logged true receiving_7) (logged true (receiving_7 ++ worded Load 2 ∷ [])) (worded Load 2 ∷ [])
   pub stands_still : Grows (logged true sending_7) (logged true sending_7) []
-  -- how far it takes its end
+  -- the phase of its end
   pub new_sender : sender_of (logged true []) ≡ fresh
   pub has_sent : sender_of (logged true sending_7) ≡ finished sending
   pub owes_its_swap : sender_of (logged false (worded Add 0 ∷ [])) ≡ owes sending
@@ -46,7 +46,7 @@ pub record LogsThatGrow : Type 0 where
   pub receives : ReceiverRan RC.TryRecv (logged true []) (logged true receiving_7) Message [] (7 ∷ [])
   pub receives_nothing : ReceiverRan RC.TryRecv (logged true looking) (logged true (looking ++ worded Load 3 ∷ []))
       R.Empty [] []
-  -- operations within a bound, and steps that are none
+  -- operations within a bound, or without one
   pub sends_by_two : MakesWithin (sender_bound SC.Send) (logged true []) (logged true waking)
   pub receives_by_two : MakesWithin (receiver_bound RC.TryRecv) (logged true looking)
       (logged true (looking ++ receiving_7))
@@ -54,7 +54,7 @@ pub record LogsThatGrow : Type 0 where
   pub forgets_without_a_bound : GrewWithin None (words looking) []
 
 pub record LogsThatDoNot : Type 0 where
-  -- it stays whole or not, of its channel, and keeps what it had and its steps
+  -- a log keeps its kind, its channel, what it had and its new steps
   pub becomes_whole : Grows (logged false []) (logged true []) [] → ⊥
   pub changes_its_channel : Grows (logged true []) (elsewhere []) [] → ⊥
   pub keeps_nothing : Grows (logged true []) (logged true []) sending_7 → ⊥
@@ -74,6 +74,6 @@ pub record LogsThatDoNot : Type 0 where
   pub gives_none : SenderRan SC.Send (logged true []) (logged true sending_7) Sent [] [] → ⊥
   pub gets_another : ReceiverRan RC.TryRecv (logged true []) (logged true receiving_7) Message [] (8 ∷ []) → ⊥
   pub gets_none : ReceiverRan RC.TryRecv (logged true []) (logged true receiving_7) Message [] [] → ⊥
-  -- an operation more than the bound, and a log that forgets
+  -- one operation more than the bound, and a log that forgets
   pub looks_thrice : MakesWithin (receiver_bound RC.TryRecv) (logged true []) (logged true looking) → ⊥
   pub forgets_its_operations : MakesWithin (sender_bound SC.Send) (logged false waking_words) (logged false []) → ⊥

@@ -1,4 +1,4 @@
--- What a ground has done: its steps, and what of them it keeps.
+-- A ground's log: the steps that it made, and which of them it keeps.
 use Rattle.std.specs.Prelude.{◌≡◌, ℕ, Bool, true, false, List, ◌++◌, filter, Option, Some, None, is_some, is_none}
 use Rattle.std.specs.List.{filter_map}
 use Rattle.std.specs.Option.{option_map}
@@ -10,7 +10,7 @@ use Rattle.oneshot_machine.specs.declared.states.Op.{Op}
 use Rattle.oneshot_machine.specs.Noted.{Noted, saw, op_of}
 use Rattle.oneshot_machine.specs.Phases.{SenderAt, sender_at, ReceiverAt, receiver_at}
 
--- a step, what it saw, and the message or the waker that it handed in or out
+-- a step, what it saw, and the message or waker that it handed in or out
 pub record Event (T W : Type 0) : Type 0 where
   pub step : Step
   pub seen : Seen
@@ -44,7 +44,7 @@ module _ {T W : Type 0} where
   abbrev pub parked : Bool → Event T W
   parked woken = record { step = Park; seen = Token woken; message = None; waker = None }
 
-  -- a clock's answer
+  -- a reading of the clock
   abbrev pub clocked : Bool → Event T W
   clocked over = record { step = Clock; seen = Over over; message = None; waker = None }
 
@@ -56,7 +56,7 @@ module _ {T W : Type 0} where
   abbrev pub worded : Op → ℕ → Event T W
   worded op word = record { step = Word op; seen = saw op word; message = None; waker = None }
 
-  -- the operation on the word, if it is one, with what it saw
+  -- the operation of a step on the word, with what it saw
   abbrev pub noted : Event T W → Option Noted
   noted x = option_map (λ op. (op, x.seen)) (op_of x.step)
 
@@ -64,8 +64,7 @@ module _ {T W : Type 0} where
   abbrev pub words : List (Event T W) → List Noted
   words = filter_map noted
 
-  -- What of these steps the log of a ground has: of a whole ground all, of any other those on the
-  -- word.
+  -- The steps that a ground's log keeps: all if it is whole, else the operations on the word.
   abbrev pub kept : Bool → List (Event T W) → List (Event T W)
   kept true xs = xs
   kept false xs = filter (λ x. is_some (op_of x.step)) xs
@@ -78,20 +77,20 @@ module _ {T W : Type 0} where
   abbrev pub messages_got : List (Event T W) → List T
   messages_got = filter_map (λ x. when_taken x.step x.message)
 
--- whether a ground is whole, the channel whose end it is, and its list
+-- a log: whether its ground is whole, the channel, and the steps
 pub record Log (T W : Type 0) : Type 0 where
   pub whole : Bool
   pub channel : List ℕ
   pub list : List (Event T W)
 
--- between the two a ground made these steps
+-- between the two logs a ground made these steps
 pub record Grows {T W : Type 0} (before after : Log T W) (steps : List (Event T W)) : Type 0 where
   pub whole : after.whole ≡ before.whole
   pub channel : after.channel ≡ before.channel
   pub list : after.list ≡ before.list ++ kept before.whole steps
 
 module _ {T W : Type 0} where
-  -- how far a ground's log takes its end
+  -- the phase of a ground's end
   abbrev pub sender_of : Log T W → SenderAt
   sender_of l = sender_at (words l.list)
 

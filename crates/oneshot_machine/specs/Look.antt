@@ -1,4 +1,4 @@
--- The table of the looks.
+-- The table of the receiver's looks.
 use Rattle.std.specs.Prelude.{ℕ, List, [], ◌∷◌}
 use Rattle.oneshot_machine.specs.declared.machine.receiver.ReceiverPos.{ReceiverPos}
 use Rattle.oneshot_machine.specs.declared.machine.look.LookPos.{LookPos}

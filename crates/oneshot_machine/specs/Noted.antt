@@ -11,12 +11,12 @@ use Rattle.oneshot_machine.specs.declared.states.Op.TheVariants.{Load, Store, Sw
 abbrev pub Noted : Type 0
 Noted = Op × Seen
 
--- what an operation sees of the word that it finds: a store nothing, any other the word
+-- what an operation sees: a store nothing, any other the word that it finds
 abbrev pub saw : Op → ℕ → Seen
 saw (Store new) word = S.Done
 saw _ word = S.Word word
 
--- the operation on the word that a step makes
+-- the operation of a step on the word
 abbrev pub op_of : Step → Option Op
 op_of (Word op) = Some op
 op_of _ = None

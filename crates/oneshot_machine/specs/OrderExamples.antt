@@ -22,17 +22,17 @@ pub record OrdersThatAre : Type 0 where
   pub polled : Reaches ((Xor, Word 3) ∷ []) ((Load, Word 3) ∷ (Exchange 3 0, Word 2) ∷ []) 2
   pub sent_too_late : Reaches ((Add, Word 2) ∷ []) ((Swap 2, Word 3) ∷ []) 3
 
--- and logs that have no order, whatever the phases are
+-- logs that have no order, whatever the phases are
 pub record OrdersThatAreNot : Type 0 where
-  -- a new channel has one word
+  -- a new channel has the word 3
   pub begins_at_another_word : InOrder [] [] 0 → ⊥
   -- an operation finds a word that nobody left
   pub finds_what_nobody_left : {word : ℕ} → InOrder [] ((Load, Word 4) ∷ []) word → ⊥
   pub finds_no_waker : {word : ℕ} → InOrder ((Add, Word 0) ∷ []) ((Load, Word 3) ∷ []) word → ⊥
   -- the last operation is skipped
   pub skips_the_last : InOrder ((Add, Word 3) ∷ []) ((Load, Word 3) ∷ []) 3 → ⊥
-  -- Each log is one of its end, and both phases can be together. But whichever of the add and the swap comes
-  -- last skips the other.
+  -- Each log is possible for its end, and so are both phases together. But whichever of the add and the swap
+  -- comes last skips the other.
   pub skips_a_swap : {word : ℕ} → InOrder ((Add, Word 3) ∷ []) waits word → ⊥
   -- the final swap finds a receiver that stopped, and this receiver never did
   pub skips_a_stop : {word : ℕ} → InOrder (sent_over 3) (waits ++ (Load, Word 4) ∷ []) word → ⊥

@@ -6,26 +6,26 @@ use Rattle.oneshot_machine.specs.Phases.{sender_at, sender_moves, receiver_at, r
 use Rattle.oneshot_machine.specs.Slots.{In}
 use Rattle.oneshot_machine.specs.States.{word_after}
 
--- The sender's log, the receiver's, and the word that they leave: the operations of both have an order.
+-- The operations of the sender's log and of the receiver's have an order, which leaves this word.
 pub data InOrder : List Noted → List Noted → ℕ → Type 0 where
-  -- a new channel is empty
+  -- a new channel has the word 3
   none_made : InOrder [] [] 3
-  -- one end makes one operation more, which finds this word, and notes what it saw
+  -- one end performs one more operation, which finds this word
   by_sender : {xs ys : List Noted} {word : ℕ} (op : Op)
       → InOrder xs ys word → InOrder (xs ++ (op, saw op word) ∷ []) ys (word_after op word)
   by_receiver : {xs ys : List Noted} {word : ℕ} (op : Op)
       → InOrder xs ys word → InOrder xs (ys ++ (op, saw op word) ∷ []) (word_after op word)
 
--- these rows have the operation, where it finds this word
+-- one of these rows has the operation, and finds this word
 pub data HasRow {At : Type 0} (rows : List (Row At)) (op : Op) (word : ℕ) : Type 0 where
   has_row : {before after : Slots} {next : At}
       → In (op, before, word, next, after) rows → HasRow rows op word
 
--- Such an order, in which each end makes only operations of its phase, where they find a word of a row of it.
+-- Such an order in which each operation, with the word that it finds, has a row in its end's phase.
 pub data Reaches : List Noted → List Noted → ℕ → Type 0 where
-  -- a new channel is empty
+  -- a new channel has the word 3
   nothing_made : Reaches [] [] 3
-  -- an end whose phase has a row for the word makes one operation more
+  -- one end performs one more operation, which has a row in its phase
   sender_makes : {xs ys : List Noted} {word : ℕ} (op : Op)
       → Reaches xs ys word → HasRow (sender_moves (sender_at xs)) op word
       → Reaches (xs ++ (op, saw op word) ∷ []) ys (word_after op word)
@@ -33,6 +33,6 @@ pub data Reaches : List Noted → List Noted → ℕ → Type 0 where
       → Reaches xs ys word → HasRow (receiver_moves (receiver_at ys)) op word
       → Reaches xs (ys ++ (op, saw op word) ∷ []) (word_after op word)
 
--- it is an order
+-- each order by the phases' tables is an order
 abbrev pub ReachedInOrder : Type 0
 ReachedInOrder = (xs ys : List Noted) (word : ℕ) → Reaches xs ys word → InOrder xs ys word

@@ -1,5 +1,4 @@
--- How far an end is by its log, and the transition table of the phases: which operations an end may make at
--- each, what they find, where that leads, and what becomes of its slots.
+-- The phases of both ends, and their table: the operations at each, the words found, the next phase and the slots.
 use Rattle.std.specs.Prelude.{ℕ, Bool, true, false, List, [], ◌∷◌, ◌&&◌, if◌then◌else◌, Option, Some, None}
 use Rattle.oneshot_machine.specs.declared.machine.Seen.{Seen}
 use Rattle.oneshot_machine.specs.declared.states.Op.{Op}
@@ -7,23 +6,23 @@ use Rattle.oneshot_machine.specs.declared.states.Op.TheVariants.{Load, Store, Sw
 use Rattle.oneshot_machine.specs.TableRows.{is_same_seen}
 use Rattle.oneshot_machine.specs.Noted.{Noted, saw, is_same_op}
 
--- a sender's end, by its `send` or by its drop
+-- how a sender ends: by its `send` or by its drop
 pub data By : Type 0 where
   sending : By
   dropping : By
 
 pub data SenderAt : Type 0 where
-  -- it has made no operation
+  -- it has performed no operation
   fresh : SenderAt
-  -- it found 0: the receiver waits, and the final swap is to come
+  -- it found 0: the receiver waits, and the final swap is due
   owes : By → SenderAt
-  -- its last operation is made, and the receiver was here
+  -- its last operation found the receiver there
   finished : By → SenderAt
-  -- its last operation is made, an add or a flip that found 2: the receiver was gone, and the word is now 3
+  -- its last operation, an add or a flip, found 2: the receiver was gone, and the word is now 3
   late : By → SenderAt
-  -- its last operation is made, a final swap that found 2: the receiver went while that was to come
+  -- its last operation, the final swap, found 2: the receiver was dropped before it
   overtaken : By → SenderAt
-  -- no sender makes such a log
+  -- no sender has such a log
   no_sender : SenderAt
 
 -- a receiver that is open
@@ -35,63 +34,63 @@ pub data Open : Type 0 where
 
 -- a receiver whose waker is stored
 pub data Waiting : Type 0 where
-  -- in a call that blocks
+  -- by a call that blocks
   blocked : Waiting
   -- by a poll, and no load has found it there since
   polled : Waiting
   -- by a poll, and its last operation is a load that found 0
   again : Waiting
 
--- a swap of a receiver that blocks, which leaves another word than it finds
+-- the swaps of a call that blocks
 pub data Swapping : Type 0 where
-  -- the one that begins its wait, and leaves 0
+  -- the swap that begins the wait, and leaves 0
   storing : Swapping
-  -- the one that ends it, and leaves 3
+  -- the swap that ends it, and leaves 3
   stopping : Swapping
 
--- how a receiver came to the message: by its own swap, or by an operation that left 4
+-- how a receiver found the message: by its own swap, or by an operation that left 4
 pub data Got : Type 0 where
-  -- by its first load or by one after a load that found 3: a receive takes it, or a future is dropped
+  -- by a load of a receiver that is new or open: a receive takes it, or a future is dropped
   at_once : Got
-  -- by a load in a call that blocks, which takes it
+  -- by a load in a call that waited, which takes it
   waited : Got
   -- by a swap of a call that blocks, which takes it
   swapped : Swapping → Got
-  -- by an operation that a poll makes, which takes it, and the drop of a future too
+  -- by an operation that the calls of a future share with its drop
   by_future : Got
-  -- by one that only a poll makes
+  -- by an operation that only a poll has
   by_poll : Got
 
--- how the 2 came into the word of a closed receiver
+-- how the word of a closed receiver became 2
 pub data Closing : Type 0 where
   found_closed : Closing
   closed_itself : Closing
 
 pub data ReceiverAt : Type 0 where
-  -- it has made no operation
+  -- it has performed no operation
   first : ReceiverAt
   here : Open → ReceiverAt
   -- its waker is stored, unless the sender took it since
   waits : Waiting → ReceiverAt
-  -- as a future it found that the sender is about to finish
+  -- a future that found that the sender is about to finish
   claimed : ReceiverAt
-  -- it polled or is dropped, and is about to take the stored waker back or has done so
+  -- a future whose exchange left 3 again: the stored waker is its own
   withdrew : ReceiverAt
   -- its deadline was over, but its waker is the sender's: it waits for the sender's final swap
   overdue : ReceiverAt
   -- it has the message
   full : Got → ReceiverAt
-  -- it found 2 by a swap that left another word
+  -- its swap found 2, and left another word
   unclosed : Swapping → ReceiverAt
   -- it is closed, and the word is 2
   disconnected : Closing → ReceiverAt
-  -- it is a future that is closed: its poll has answered, and it has not looked at the 2 since
+  -- a future that is closed, and has not loaded the 2 since
   resolved : Closing → ReceiverAt
   -- it was dropped before the sender's last operation
   gone : ReceiverAt
   -- it was dropped after the sender's last operation
   ended : ReceiverAt
-  -- no receiver makes such a log
+  -- no receiver has such a log
   no_receiver : ReceiverAt
 
 -- the word that a swap of a receiver leaves
@@ -99,23 +98,23 @@ abbrev pub swapped_in : Swapping → ℕ
 swapped_in storing = 0
 swapped_in stopping = 3
 
--- the word of a receiver that has the message
+-- the word once a receiver found the message
 abbrev pub word_of : Got → ℕ
 word_of (swapped by) = swapped_in by
 word_of _ = 4
 
--- what an end has of a slot: it is not the end's, or it is and is empty, or it is and is filled
+-- an end's share of a slot: none, or the slot is the end's, and is empty or filled
 pub data Share : Type 0 where
   none : Share
   empty : Share
   filled : Share
 
--- the message's slot and the waker's
+-- the shares of the message's slot and of the waker's
 abbrev pub Slots : Type 0
 Slots = Share × Share
 
--- A row: the operation, the slots that it needs, a word that it may find, the phase after that, and the
--- slots then. A slot that is filled before and after holds the same.
+-- A row: the operation, the slots that it needs, a word that it may find, the next phase, and the slots then.
+-- A slot that is filled before and after keeps its content.
 abbrev pub Row : Type 0 → Type 0
 Row At = Op × Slots × ℕ × At × Slots
 
@@ -247,7 +246,7 @@ receiver_moves gone = []
 receiver_moves ended = []
 receiver_moves no_receiver = []
 
--- which slots are the end's: the message's, and the waker's
+-- whether the message's slot and the waker's are the end's
 abbrev pub sender_owns : SenderAt → Option (Bool × Bool)
 sender_owns fresh = Some (true, false)
 sender_owns (owes by) = Some (true, true)
@@ -271,7 +270,7 @@ receiver_owns gone = Some (false, false)
 receiver_owns ended = Some (true, true)
 receiver_owns no_receiver = None
 
--- whether a row is of this operation, which saw this
+-- whether a row is for this operation and what it saw
 abbrev pub is_row_for : {At : Type 0} → Op → Seen → Row At → Bool
 is_row_for op seen (made, before, word, next, after) = is_same_op made op && is_same_seen (saw made word) seen
 
@@ -287,7 +286,7 @@ sender_next at = next_by no_sender (sender_moves at)
 abbrev pub receiver_next : ReceiverAt → Op → Seen → ReceiverAt
 receiver_next at = next_by no_receiver (receiver_moves at)
 
--- how far a log takes an end, from this phase on
+-- the phase after a log that begins at this phase
 abbrev pub phase_from : {At : Type 0} → (At → Op → Seen → At) → At → List Noted → At
 phase_from next at [] = at
 phase_from next at (x ∷ xs) = phase_from next (next at x.0 x.1) xs

@@ -1,4 +1,4 @@
--- The receiver's table: where each call begins, and the table of each family of positions.
+-- The receiver's transition table: where each call begins, and the table of each family of positions.
 use Rattle.std.specs.Prelude.{ℕ, ◌+◌, true, false, List, [], ◌∷◌, ◌++◌, map, Option}
 use Rattle.oneshot_machine.specs.declared.machine.receiver.ReceiverStart.{ReceiverStart}
 use Rattle.oneshot_machine.specs.declared.machine.receiver.ReceiverStart.TheVariants as RS
@@ -56,7 +56,7 @@ all_receiver_calls =
     ∷ RS.DropAsync
     ∷ []
 
--- where the calls of a receiver begin that are no looks, and those of a future
+-- the first positions of a receiver's calls, and of a future's, without looks
 abbrev pub receiver_opens : List ReceiverPos
 receiver_opens =
     map receiver_start

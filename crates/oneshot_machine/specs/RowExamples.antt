@@ -1,4 +1,4 @@
--- Where a row leads, and what the rows of the phases' table say of an end's slots, by examples; and what they do not.
+-- Examples of where a row leads, and of what the rows of the phases' table state of an end's slots, and do not.
 use Rattle.std.specs.Prelude.{◌≡◌, ℕ, Some, None}
 use Rattle.oneshot_machine.specs.declared.machine.Reply.TheVariants.{Sent}
 use Rattle.oneshot_machine.specs.declared.machine.RowEnd.TheVariants as Code
@@ -15,27 +15,27 @@ pub record RowsThatLead : Type 0 where
   pub goes_on : outcome (SendAdd, None) ≡ Goes SendAdd
   pub ends : outcome (SendWake, Some Sent) ≡ Answers Sent
 
--- a slot of another, and one of its own that is empty
+-- a slot that is not the end's, and an empty one that is
 abbrev pub no_slot : Held ℕ
 no_slot = away
 
 abbrev pub room : Held ℕ
 room = vacant
 
--- one with this in it
+-- a slot with this content
 abbrev pub has : ℕ → Held ℕ
 has x = held x
 
--- The message 7 and the waker 1. The message's slot stands first.
+-- The message 7 and the waker 1. The message's slot comes first.
 pub record SlotsThatAre : Type 0 where
-  -- how an end's slots are for an operation
+  -- the slots that an operation needs
   pub sends : SenderMay fresh Add (has 7) no_slot
   pub drops : SenderMay fresh Xor room no_slot
   pub sends_at_last : SenderMay (owes sending) (Swap 4) (has 7) room
   pub looks : ReceiverMay first Load no_slot no_slot
   pub stores : ReceiverMay (here looked) (Swap 0) no_slot (has 1)
   pub leaves : ReceiverMay claimed (Swap 2) no_slot no_slot
-  -- and how they are before and after it
+  -- and the slots before and after it
   pub gives_its_message : SenderFinds fresh Add 3 (has 7) no_slot away away
   pub gets_a_waker : SenderFinds fresh Add 0 (has 7) away (has 7) (has 1)
   pub keeps_its_message : SenderFinds fresh Add 2 (has 7) no_slot (has 7) vacant
@@ -45,7 +45,7 @@ pub record SlotsThatAre : Type 0 where
   pub gets_its_room : ReceiverFinds first Load 2 no_slot no_slot vacant vacant
   pub stores_its_waker : ReceiverFinds (here looked) (Swap 0) 3 no_slot (has 1) away away
   pub takes_it_back : ReceiverFinds (waits blocked) (Swap 3) 0 no_slot away away (has 1)
-  -- and which are its own at a phase, whatever it put there or took out
+  -- and the slots that are the end's at a phase, empty or filled
   pub has_a_message : SenderOwns fresh (has 7) no_slot
   pub has_room : SenderOwns fresh room no_slot
   pub has_both : SenderOwns (late sending) (has 7) (has 1)
@@ -54,7 +54,7 @@ pub record SlotsThatAre : Type 0 where
   pub has_received : ReceiverOwns (full at_once) (has 7) room
 
 pub record SlotsThatAreNot : Type 0 where
-  -- an operation that wants the slots otherwise, or that is none of the phase
+  -- an operation that needs other slots, or is not in the phase
   pub sends_nothing : SenderMay fresh Add room no_slot → ⊥
   pub sends_from_elsewhere : SenderMay fresh Add no_slot no_slot → ⊥
   pub sends_with_a_waker : SenderMay fresh Add (has 7) (has 1) → ⊥
@@ -67,7 +67,7 @@ pub record SlotsThatAreNot : Type 0 where
   -- a word that it does not find there
   pub finds_a_message : SenderFinds fresh Add 4 (has 7) no_slot away away → ⊥
   pub finds_3_as_it_waits : ReceiverFinds (waits again) Load 3 no_slot no_slot away away → ⊥
-  -- slots that are otherwise before or after
+  -- other slots before or after
   pub sends_and_keeps : SenderFinds fresh Add 3 (has 7) no_slot (has 7) away → ⊥
   pub gets_another_back : SenderFinds fresh Add 2 (has 7) no_slot (has 8) vacant → ⊥
   pub loses_it : SenderFinds fresh Add 2 (has 7) no_slot away vacant → ⊥
@@ -79,7 +79,7 @@ pub record SlotsThatAreNot : Type 0 where
   pub closes_and_loses : ReceiverFinds (full at_once) (Store 2) 4 (has 7) room vacant vacant → ⊥
   pub finds_room_filled : ReceiverFinds (disconnected found_closed) Load 2 room room (has 7)
       vacant → ⊥
-  -- a slot that is its own and away, or another's and here; and a log of no end
+  -- the end's slot, away; another's, here; and a log of no end
   pub lost_its_slot : SenderOwns fresh no_slot no_slot → ⊥
   pub lost_its_waker : SenderOwns (owes sending) (has 7) no_slot → ⊥
   pub kept_its_message : SenderOwns (finished sending) (has 7) no_slot → ⊥

@@ -10,7 +10,7 @@ use Rattle.oneshot_machine.specs.Sender.{sender_start, sender_step, sender_row}
 use Rattle.oneshot_machine.specs.Receiver.{receiver_start, receiver_step, receiver_row}
 use Rattle.oneshot_machine.specs.Logs.{Event, Log, Grows, messages_given, messages_got}
 
--- from this position these steps lead to this reply
+-- from this position on, these steps lead to this reply
 pub data Run {P T W : Type 0} (step : P → Step) (row : P → Seen → Option (Outcome P))
     : P → List (Event T W) → Reply → Type 0 where
   last : {p : P} {r : Reply} (x : Event T W)
@@ -18,8 +18,8 @@ pub data Run {P T W : Type 0} (step : P → Step) (row : P → Seen → Option (
   more : {p : P} {r : Reply} (next : P) (x : Event T W) (xs : List (Event T W))
       → x.step ≡ step p → row p x.seen ≡ Some (Goes next) → Run step row next xs r → Run step row p (x ∷ xs) r
 
--- Between the two logs a ground made one run, which answers the reply.
--- The messages `given` were handed to it, and it took the messages `got` out of their slot.
+-- Between the two logs a ground made one run, which ends in the reply.
+-- It was handed the messages `given`, and took the messages `got` out of their slot.
 pub record Ran {P T W : Type 0} (step : P → Step) (row : P → Seen → Option (Outcome P))
     (from : P) (before after : Log T W) (reply : Reply) (given got : List T) : Type 0 where
   pub run : List (Event T W)

@@ -1,4 +1,4 @@
--- The sender's table.
+-- The sender's transition table.
 use Rattle.std.specs.Prelude.{ℕ, List, Option, [], ◌∷◌}
 use Rattle.oneshot_machine.specs.declared.machine.sender.SenderCall.{SenderCall}
 use Rattle.oneshot_machine.specs.declared.machine.sender.SenderCall.TheVariants.{IsClosed, Send, Drop, AsInner, IntoInner, DropError}

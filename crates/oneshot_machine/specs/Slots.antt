@@ -1,23 +1,23 @@
--- What a row of the phases' table says of an end's slots: how they are for an operation, and what it makes of them.
+-- What a row of the phases' table states of an end's slots, before its operation and after it.
 use Rattle.std.specs.Prelude.{ℕ, Bool, true, false, List, ◌∷◌, Option, Some}
 use Rattle.oneshot_machine.specs.declared.states.Op.{Op}
 use Rattle.oneshot_machine.specs.Phases.{SenderAt, sender_moves, sender_owns, ReceiverAt, receiver_moves, receiver_owns, Share, none, empty, filled, Slots, Row}
 
--- a slot, to an end: not the end's, empty, or with this in it
+-- a slot as an end has it: not the end's, empty, or with this content
 pub data Held (X : Type 0) : Type 0 where
   away : Held X
   vacant : Held X
   held : X → Held X
 
--- The relations below have the message's slot and then the waker's.
+-- The message's slot comes first in the relations below, then the waker's.
 
--- a slot of which the end has this share
+-- the end has this share of the slot
 pub data IsSlot {X : Type 0} : Share → Held X → Type 0 where
   is_away : IsSlot none away
   is_vacant : IsSlot empty vacant
   is_held : (x : X) → IsSlot filled (held x)
 
--- a slot before and after an operation: it stays, is given up, or comes to the end
+-- a slot before and after an operation: it stays as it is, or the end gives it up, or gets it
 pub data Turns {X : Type 0} : Share → Share → Held X → Held X → Type 0 where
   stays_away : Turns none none away away
   stays_vacant : Turns empty empty vacant vacant
@@ -27,19 +27,19 @@ pub data Turns {X : Type 0} : Share → Share → Held X → Held X → Type 0 w
   gets_room : Turns none empty away vacant
   gets_thing : (x : X) → Turns none filled away (held x)
 
--- a row of a table
+-- a row is in a table
 pub data In {X : Type 0} : X → List X → Type 0 where
   head : {x : X} {xs : List X} → In x (x ∷ xs)
   tail : {x y : X} {xs : List X} → In x xs → In x (y ∷ xs)
 
 module _ {At T W : Type 0} (rows : At → List (Row At)) where
-  -- at this phase the table has the operation, for slots that are so
+  -- at this phase the table has the operation, for these slots
   pub data May : At → Op → Held T → Held W → Type 0 where
     may : {at : At} {op : Op} {before after : Slots} {word : ℕ} {next : At} {m : Held T} {w : Held W}
         → In (op, before, word, next, after) (rows at)
         → IsSlot before.0 m → IsSlot before.1 w → May at op m w
 
-  -- it may find this word, with the slots so before, and so after
+  -- it may find this word, and turns the first two slots into the last two
   pub data Finds : At → Op → ℕ → Held T → Held W → Held T → Held W → Type 0 where
     finds : {at : At} {op : Op} {before after : Slots} {word : ℕ} {next : At} {m m' : Held T} {w w' : Held W}
         → In (op, before, word, next, after) (rows at)
@@ -70,7 +70,7 @@ pub data Owns {T W : Type 0} : Option (Bool × Bool) → Held T → Held W → T
       → IsOwned message m → IsOwned waker w → Owns (Some (message, waker)) m w
 
 module _ {T W : Type 0} where
-  -- the slots that are the end's at a phase: no other is
+  -- at this phase these slots are the end's, and no others
   abbrev pub SenderOwns : SenderAt → Held T → Held W → Type 0
   SenderOwns at = Owns (sender_owns at)
 

@@ -1,4 +1,4 @@
--- Where an end may stand after its operations on the word, computed from its table.
+-- The positions at which an end may be after a log, computed from its table.
 use Rattle.std.specs.Option.{option_map}
 use Rattle.std.specs.Prelude.{ℕ, ◌+◌, ◌++◌, Bool, true, false, ◌==◌, if◌then◌else◌, List, [], ◌∷◌, filter, map, Option, Some, None, is_some}
 use Rattle.std.specs.List.{list_any, filter_map, flat_map}
@@ -22,9 +22,9 @@ use Rattle.oneshot_machine.specs.Sender.{sender_start, sender_step, sender_row, 
 use Rattle.oneshot_machine.specs.Receiver.{receiver_step, receiver_row, receiver_opens, future_opens, receiver_positions, receiver_number, receiver_count}
 use Rattle.oneshot_machine.specs.Noted.{Noted, op_of, is_same_op}
 
--- An end's table, with all its positions and a number for each. `opens` are those at which a new
--- end's calls begin, and `follows` those at which a call may begin where another has answered; looks
--- stand in neither, since no log has them.
+-- An end's table, with all its positions and a number for each. `opens` are the first positions of a new
+-- end's calls, and `follows` those of the calls that may follow a reply. Neither has looks, since no log
+-- has them.
 pub record Table (P : Type 0) : Type 0 where
   pub step : P → Step
   pub row : P → Seen → Option (Outcome P)
@@ -42,8 +42,8 @@ abbrev pub sights : List Seen
 sights = Done ∷ Over true ∷ Over false ∷ Refused true ∷ Refused false ∷ Token true ∷ Token false ∷ []
 
 module _ {P : Type 0} (t : Table P) where
-  -- The positions that come next at which an operation on the word is made. Where more steps than
-  -- `fuel` lie between, it gives every position, so that too little of it can only refuse the law.
+  -- The next positions that operate on the word. If more than `fuel` steps lie between, it returns every
+  -- position, so too little fuel can only refuse the law.
   abbrev pub onward : (fuel : ℕ) (from : P) → Option (Outcome P) → List P
   onward fuel from None = []
   onward zero from (Some outcome) = t.positions
@@ -59,7 +59,7 @@ module _ {P : Type 0} (t : Table P) where
   abbrev pub in_order : List P → List P
   in_order ps = filter (λ p. list_any (λ q. t.number q == t.number p) ps) t.positions
 
-  -- from these positions, after an operation that saw this
+  -- the positions after this operation at one of these
   abbrev pub moved : List P → Noted → List P
   moved ps x =
       in_order (flat_map (λ p. onward 6 p (if is_op x.0 (op_of (t.step p)) then t.row p x.1 else None)) ps)
@@ -68,19 +68,19 @@ module _ {P : Type 0} (t : Table P) where
   standing_from ps [] = ps
   standing_from ps (x ∷ xs) = standing_from (moved ps x) xs
 
-  -- where an end may stand that has made these operations
+  -- where an end may be after these operations
   abbrev pub standing : List Noted → List P
   standing = standing_from (in_order (onward_all t.opens))
 
-  -- the operations on the word that are made at these positions
+  -- the operations on the word at these positions
   abbrev pub made_at : List P → List Op
   made_at ps = filter_map (λ p. op_of (t.step p)) ps
 
-  -- those that it may make there
+  -- the operations that an end may perform after this log
   abbrev pub operations : List Noted → List Op
   operations xs = made_at (standing xs)
 
--- a refused `send` leaves an error, and its calls
+-- after a refused `send`: the calls of its error
 abbrev pub sender_follows : SenderPos → Reply → List SenderPos
 sender_follows p R.Refused = sender_start SC.IntoInner ∷ sender_start SC.DropError ∷ []
 sender_follows p _ = []
@@ -96,7 +96,7 @@ sender_table =
       follows = sender_follows;
     }
 
--- where a receiver stands, which is a future from its `into_future` on: some positions have both
+-- a receiver's position, before its `into_future` and from it on: some positions have both
 pub data Standpoint : Type 0 where
   plainly : ReceiverPos → Standpoint
   as_future : ReceiverPos → Standpoint
@@ -117,7 +117,7 @@ abbrev pub standpoint_number : Standpoint → ℕ
 standpoint_number (plainly p) = receiver_number p
 standpoint_number (as_future p) = receiver_count + receiver_number p
 
--- after `recv` and a drop no call, after `into_future` those of a future, after any other each
+-- after `recv` or a drop no call follows, after `into_future` a future's, after any other all
 abbrev pub receiver_follows : ReceiverPos → Reply → List Standpoint
 receiver_follows (RP.Try TryLoad) reply = map plainly receiver_opens
 receiver_follows (RP.Try Take) reply = map plainly receiver_opens
@@ -130,7 +130,7 @@ receiver_follows (RP.Timed LateLoad) reply = map plainly receiver_opens
 receiver_follows (RP.Future IntoFuture) reply = map as_future future_opens
 receiver_follows _ reply = []
 
--- after a poll each call of a future, after its drop none
+-- after its drop no call of a future follows, after any other all
 abbrev pub future_follows : Reply → List Standpoint
 future_follows R.Done = []
 future_follows _ = map as_future future_opens

@@ -1,4 +1,4 @@
--- How a table is written: for each position the list of its rows, what was seen with where that leads.
+-- The form of a table: each position has a list of rows, each with what is seen and where that leads.
 use Rattle.std.specs.Prelude.{Bool, true, false, Option, Some, None, List, [], ◌∷◌, ◌==◌, if◌then◌else◌}
 use Rattle.oneshot_machine.specs.declared.machine.Reply.{Reply}
 use Rattle.oneshot_machine.specs.declared.machine.RowEnd.{RowEnd}
@@ -31,12 +31,12 @@ abbrev pub row_for : {P : Type 0} → Seen → Rows P → Option (Outcome P)
 row_for seen [] = None
 row_for seen (row ∷ rows) = if is_same_seen row.0 seen then Some row.1 else row_for seen rows
 
--- a position and perhaps a reply, as the end of a row
+-- where a row leads, by a position and perhaps a reply
 abbrev pub outcome : {P : Type 0} → P × Option Reply → Outcome P
 outcome (position, None) = Goes position
 outcome (position, Some reply) = Answers reply
 
--- the same of a row's end as the code has it
+-- the same, from the code's `RowEnd`
 abbrev pub leads : {P : Type 0} → RowEnd P → Outcome P
 leads (Code.Goes position) = Goes position
 leads (Code.Answers reply) = Answers reply

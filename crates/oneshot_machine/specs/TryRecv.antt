@@ -1,4 +1,4 @@
--- The table of `try_recv`, whose last steps every receive shares.
+-- The table of `try_recv`, and of the last steps that every other receive but `recv` shares with it.
 use Rattle.std.specs.Prelude.{ℕ, List, [], ◌∷◌}
 use Rattle.oneshot_machine.specs.declared.machine.receiver.ReceiverPos.{ReceiverPos}
 use Rattle.oneshot_machine.specs.declared.machine.receiver.ReceiverPos.TheVariants.{Try}

@@ -1,4 +1,4 @@
-//! Laws of the definitions that contracts cite: each function's contract is the law, its body nothing.
+//! Laws of the definitions that contracts cite: each function's contract is a law, and its body is empty.
 
 ghost use Rattle.oneshot_machine.specs.Exact.{SenderIsExact, ReceiverIsExact};
 ghost use Rattle.oneshot_machine.specs.Examples.{LogsOfSender, LogsOfReceiver, RunsThatAre, RunsThatAreNot};
@@ -9,20 +9,20 @@ ghost use Rattle.oneshot_machine.specs.RowExamples.{RowsThatLead, SlotsThatAre, 
 ghost use Rattle.oneshot_machine.specs.Orders.{ReachedInOrder};
 ghost use Rattle.oneshot_machine.specs.OrderExamples.{OrdersThatAre, OrdersThatAreNot};
 
-/// What the definitions allow an end after its operations on the word is what its table makes.
+/// After each log the definitions allow an end exactly its table's operations and only words with rows there.
 pub fn tables_are_exact<T, W>()
     ensures sender { SenderIsExact T W }
     ensures receiver { ReceiverIsExact T W }
 {}
 
-/// Where both ends make only what the phases' table has, their operations have an order in which each finds the
+/// If both ends perform only operations of the phases' table, these have an order in which each finds the
 /// word that the one before it left.
 pub fn phases_keep_order()
     ensures { ReachedInOrder }
 {}
 
-/// Which logs and runs the definitions take for an end's, how many operations they count, which logs of both
-/// ends have an order, what a ground did between two logs, and what becomes of an end's slots, by examples.
+/// Examples of the definitions: the logs and runs of an end, counts of operations, orders of both ends' logs,
+/// what a ground did between two logs, and what becomes of an end's slots.
 pub fn examples_are_so()
     ensures senders { LogsOfSender }
     ensures receivers { LogsOfReceiver }

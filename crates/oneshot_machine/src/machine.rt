@@ -1,5 +1,4 @@
-//! What both machines speak of: ends, steps, what a step saw, and replies. The calls are in `sender` and
-//! `receiver`.
+//! The types that both transition tables use: ends, steps, what a step sees, and replies.
 
 mod async_drop;
 mod by_ref;
@@ -27,82 +26,82 @@ pub use value::ValuePos;
 /// An end of the channel.
 #[derive(Clone, Copy, Debug, Eq, PartialEq)]
 pub enum End {
-    /// The end that sends, and the error of its refused `send`.
+    /// The sender, or the error of its refused `send`.
     Sender,
-    /// The end that receives.
+    /// The receiver, also as a future.
     Receiver,
 }
 
-/// What one step of an end does. A call is a sequence of steps, which its table gives.
+/// What one step of an end does. A call is a sequence of steps, by its transition table.
 #[derive(Clone, Copy, Debug, Eq, PartialEq)]
 pub enum Step {
     /// One operation on the shared word.
     Word(Op),
-    /// The message goes into its cell.
+    /// The sender stores its message.
     WriteMessage,
     /// The message is taken from its cell.
     TakeMessage,
     /// The message is dropped in its cell.
     DropMessage,
-    /// The receiver's waker goes from its hand into the waker's cell.
+    /// The receiver moves its waker from its hand into the cell.
     WriteWaker,
     /// The sender takes the waker from its cell.
     TakeWaker,
     /// The receiver takes its waker back from the cell into its hand.
     Withdraw,
-    /// The receiver waits until it is woken. It may also go on unwoken.
+    /// The receiver parks. The park may end without a wake.
     Park,
-    /// The receiver asks its clock whether its deadline is over.
+    /// The receiver reads its clock.
     Clock,
     /// The receiver copies its task's waker into its hand.
     Copy,
-    /// The sender uses the waker that it took: it wakes the receiver.
+    /// The sender wakes the receiver by the waker that it took.
     Wake,
     /// A poll wakes its own task.
     WakeOwn,
     /// The block is freed.
     Free,
-    /// A call that does none of these.
+    /// None of these: `into_future` or `as_inner`.
     Plain,
 }
 
-/// What a step saw, by which its table chooses where the call goes on.
+/// What a step sees, by which the table selects its row.
 #[derive(Clone, Copy, Debug, Eq, PartialEq)]
 pub enum Seen {
-    /// Nothing that the table asks about.
+    /// Nothing that the table depends on.
     Done,
-    /// The word before the operation. A `Store` tells none, and sees `Done`.
+    /// The word before the operation. A `Store` sees `Done` instead.
     Word(u8),
-    /// What a clock answered: whether the deadline is over.
+    /// By the clock, whether the deadline is over.
     Over(bool),
     /// Whether the copy of a waker was refused.
     Refused(bool),
-    /// Whether a park ended by its token, which it used, or without one.
+    /// Whether a park ended by its token, which it consumed.
     Token(bool),
 }
 
-/// What a call answers: the outcome alone, without the message.
+/// What a call returns, without the message.
 #[derive(Clone, Copy, Debug, Eq, PartialEq)]
 pub enum Reply {
-    /// `send` gave Ok.
+    /// `send` returned `Ok`.
     Sent,
-    /// `send` gave Err, with the message.
+    /// `send` returned `Err`, with the message.
     Refused,
-    /// A look found it so.
+    /// `is_closed` or `has_message` returned `true`.
     Yes,
-    /// A look found it not so.
+    /// `is_closed` or `has_message` returned `false`.
     No,
-    /// The call carries or shows the message.
+    /// The call returned the message, or `as_inner` a reference to it.
     Message,
-    /// `try_recv` found nothing yet.
+    /// `try_recv` found no message yet.
     Empty,
-    /// The deadline of a receive is over, and nothing was there at its last look.
+    /// The deadline of a receive is over, and its swap found no message.
     Timeout,
     /// The call's disconnected error.
     Disconnected,
-    /// A poll found nothing yet.
+    /// A poll returned `Pending`.
     Pending,
-    /// `into_future` gave the future.
+    /// `into_future` returned the future.
     Future,
     /// The drop is done.
     Done,

@@ -12,22 +12,22 @@ pub const UNPARKING: u8 = 1;
 /// An end is gone, or the message was received.
 pub const DISCONNECTED: u8 = 2;
 
-/// Both ends are alive, nothing was sent and nobody waits. A channel opens with this word.
+/// Both ends are alive, nothing was sent, no waker is stored. A new channel has this word.
 pub const EMPTY: u8 = 3;
 
 /// The message is in its cell, ready to be taken.
 pub const MESSAGE: u8 = 4;
 
-/// One atomic operation on the word: these are the six kinds of atomic step.
+/// One atomic operation on the word, of six kinds.
 #[derive(Clone, Copy, Debug, Eq, PartialEq)]
 pub enum Op {
     /// Reads the word.
     Load,
-    /// Puts this word in its place.
+    /// Writes this word.
     Store(u8),
-    /// Puts this word in its place, and sees the word before.
+    /// Writes this word, and sees the word before.
     Swap(u8),
-    /// Puts the second word in place of the first, and leaves every other word.
+    /// Replaces the first word by the second, and leaves any other word.
     Exchange(u8, u8),
     /// Adds one.
     Add,
@@ -36,8 +36,8 @@ pub enum Op {
 }
 
 impl Op {
-    /// The word after this operation on `word`, which is one of the codes, 0 to 4.
-    /// An `Add` or a `Xor` of 4 gives 5, which is no code and which no end ever makes.
+    /// Returns the word after this operation on `word`, which is one of the codes, 0 to 4.
+    /// For an `Add` or a `Xor` of 4 that is 5, which is no code. No end performs these.
     pub fn after(&self, word: u8) -> u8
         requires { word ≤ 4 }
         ensures { result ≡ word_after self.now word }

@@ -1,4 +1,4 @@
--- Of two scripts under a schedule there is one trace at most, since a turn is a function.
+-- Two scripts have at most one trace under a schedule, since a turn is a function.
 use Rattle.std.proofs.Common.{◌≡◌, Bool, List, Option, Some, refl, sym, ap, ◌∙◌}
 use Rattle.oneshot_world.specs.World.{World, opening}
 use Rattle.oneshot_world.specs.declared.script.Move.{Move}

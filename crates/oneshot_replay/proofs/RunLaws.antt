@@ -1,4 +1,4 @@
--- What each law of `oneshot_laws` says of a run, wherever it has come to.
+-- Each law of `oneshot_laws`, stated of a run at every point.
 use Rattle.std.proofs.Common.{◌∙◌, ap, sym}
 use Rattle.oneshot_world.specs.World.{World, opening}
 use Rattle.oneshot_laws.proofs.IdleRuns.{idle_run}

@@ -9,7 +9,7 @@ use Rattle.oneshot_replay.specs.Run.{HasRun, GoesOn}
 use Rattle.oneshot_replay.specs.Scene.{Scene}
 use Rattle.oneshot_replay.specs.TraceView.{last_of}
 
--- a move that makes the entry after the last one
+-- a move that adds an entry after the last one
 pub tells_more : (n : ℕ) (start : World) (worlds : List World) (moves : List Move) (entries : List Entry) (move : Move)
     (entry : Entry) (next : World) → Tells_from n start worlds moves entries
     → turn (n + length entries) (last_of start worlds) move ≡ Some (entry, next)
@@ -29,7 +29,7 @@ pub last_more : (start : World) (worlds : List World) (next : World) → last_of
 last_more start [] next = refl
 last_more start (w ∷ worlds) next = last_more w worlds next
 
--- an entry a move
+-- one entry for each move
 pub tells_as_many : (n : ℕ) (start : World) (worlds : List World) (moves : List Move) (entries : List Entry)
     → Tells_from n start worlds moves entries → length entries ≡ length moves
 tells_as_many n start [] [] [] told = refl

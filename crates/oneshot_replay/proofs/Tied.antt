@@ -1,5 +1,4 @@
--- What a trace answers besides its entries is what the entries show: whether the block is freed, and the
--- message's last place.
+-- What a trace has besides its entries is what they show: whether the block is freed, and the message's last place.
 use Rattle.std.proofs.Common.{◌≡◌, ℕ, ◌+◌, Bool, true, false, ◌||◌, List, [], ◌∷◌, Option, Some, None, refl, ◌∙◌, ap}
 use Rattle.std.specs.List.{list_any, cons_option}
 use Rattle.std.specs.Option.{option_map}
@@ -47,7 +46,7 @@ freed_at freed (T.Word op) = or_false freed
 freed_at freed T.Free = or_true freed
 freed_at freed _ = or_false freed
 
--- the block is freed where an entry freed it
+-- the block is freed if an entry freed it
 abbrev FreedClaim : List Entry → Type 0
 FreedClaim entries =
     (n : ℕ) (w : World) (worlds : List World) (moves : List Move) → Tells_from n w worlds moves entries

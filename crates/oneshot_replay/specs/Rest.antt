@@ -1,4 +1,4 @@
--- The message of a script, beside the world that knows only its place.
+-- The message of a script, and the message with its place; a world knows only the place.
 use Rattle.std.specs.Prelude.{Option, Some, None}
 use Rattle.oneshot_world.specs.declared.script.SenderLast.{SenderLast}
 use Rattle.oneshot_world.specs.declared.script.SenderLast.TheVariants.{Send, Drop, Stop}
@@ -20,7 +20,7 @@ rest_of P.Delivered message = Delivered message
 rest_of P.FromError message = FromError message
 rest_of P.Dropped message = Dropped message
 
--- the message with its place, where there is one
+-- the message with its place, if there are both
 abbrev pub rest_at : {T : Type 0} → Option Place → Option T → Option (Rest T)
 rest_at (Some place) (Some message) = Some (rest_of place message)
 rest_at (Some place) None = None

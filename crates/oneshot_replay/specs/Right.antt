@@ -1,4 +1,4 @@
--- What every trace of two scripts under a schedule is: a law a field.
+-- The laws of every trace of two scripts under a schedule, one in each field.
 use Rattle.std.specs.Prelude.{◌≡◌, List, IsTrue, length}
 use Rattle.std.specs.Option.{option_map}
 use Rattle.oneshot_world.specs.Scripts.{calls_of}

@@ -1,4 +1,4 @@
--- A run that is stepped by hand: where it has come to, and how it goes on.
+-- A run that is stepped by hand: what it has reached, and how it goes on.
 use Rattle.std.specs.Prelude.{◌≡◌, List, [], ◌∷◌, ◌++◌, length}
 use Rattle.oneshot_world.specs.World.{World, opening, Tells}
 use Rattle.oneshot_world.specs.declared.script.Move.{Move}
@@ -9,7 +9,7 @@ use Rattle.oneshot_replay.specs.Rest.{message_of, rest_at}
 use Rattle.oneshot_replay.specs.Scene.{Scene}
 use Rattle.oneshot_replay.specs.TraceView.{TraceView, last_of}
 
--- A run of these scripts under these moves, which made these entries and has come to `now`: entry k tells the
+-- A run of these scripts under these moves, which made these entries and reached `now`: entry k reports the
 -- step from world k to world k + 1.
 pub record HasRun {T : Type 0} (s : SenderScript T) (r : ReceiverScript) (moves : List Move) (entries : List Entry)
     (now : Scene T) : Type 0 where
@@ -19,7 +19,7 @@ pub record HasRun {T : Type 0} (s : SenderScript T) (r : ReceiverScript) (moves 
   pub count : now.count ≡ length moves
   pub message : now.message ≡ message_of s.last
 
--- what a trace tells that ends here
+-- the trace that ends here
 abbrev pub told_at : {T : Type 0} → List Entry → Scene T → TraceView T
 told_at entries now =
     record {
@@ -28,13 +28,13 @@ told_at entries now =
       rest = rest_at now.world.state.message now.message;
     }
 
--- every run that has come to the one scene goes on to the other, by this move and with this entry
+-- every run that has reached the one scene goes on to the other, by this move and with this entry
 abbrev pub GoesOn : {T : Type 0} → Scene T → Move → Entry → Scene T → Type 0
 GoesOn {T = T} from move entry to =
     (s : SenderScript T) (r : ReceiverScript) (moves : List Move) (entries : List Entry)
     → HasRun s r moves entries from → HasRun s r (moves ++ move ∷ []) (entries ++ entry ∷ []) to
 
--- this holds of every run of two scripts, wherever it has come to
+-- this holds of every run of two scripts, at every point
 abbrev pub OfEachRun : (T : Type 0) → (SenderScript T → ReceiverScript → List Move → List Entry → Scene T → Type 0)
     → Type 0
 OfEachRun T holds =

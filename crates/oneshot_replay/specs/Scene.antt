@@ -1,4 +1,4 @@
--- What a contract sees of a replayer: the world, the count of the entries so far, and the message.
+-- What a contract sees of a replayer: the world, the number of the entries so far, and the message.
 use Rattle.std.specs.Prelude.{ℕ, Option}
 use Rattle.std.specs.Option.{option_and_then}
 use Rattle.oneshot_machine.specs.declared.machine.receiver.ReceiverStart.{ReceiverStart}

@@ -13,14 +13,14 @@ pub record TraceView (T : Type 0) : Type 0 where
   pub block_freed : Bool
   pub rest : Option (Rest T)
 
--- the last of some worlds, or the one before them
+-- the last of these worlds, or the one before them if there are none
 abbrev pub last_of : World → List World → World
 last_of w [] = w
 last_of w (next ∷ worlds) = last_of next worlds
 
--- There is a run of the two scripts, a list of worlds one longer than the moves: entry k tells the step from
--- world k to world k + 1. The block and the message's rest are those of its last world, with the script's own
--- message.
+-- The two scripts have a run, a list of worlds one longer than the moves: entry k reports the step from world
+-- k to world k + 1. The block and the message's place are those of the last world, and the message is that of
+-- the script.
 pub record IsReplayed {T : Type 0} (s : SenderScript T) (r : ReceiverScript) (moves : List Move) (t : TraceView T)
     : Type 0 where
   pub worlds : List World
@@ -28,7 +28,7 @@ pub record IsReplayed {T : Type 0} (s : SenderScript T) (r : ReceiverScript) (mo
   pub block_freed : t.block_freed ≡ (last_of (opening s r) worlds).state.freed
   pub rest : t.rest ≡ rest_at (last_of (opening s r) worlds).state.message (message_of s.last)
 
--- There is one trace at most of two scripts under these moves.
+-- Two scripts have at most one trace under these moves.
 abbrev pub IsDetermined : (T : Type 0) → Type 0
 IsDetermined T =
     (s : SenderScript T) (r : ReceiverScript) (moves : List Move) (t u : TraceView T)

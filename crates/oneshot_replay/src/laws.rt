@@ -1,4 +1,4 @@
-//! What the definitions of a trace say together: the function's contract is the law, its body nothing.
+//! Laws of all traces: each function's contract is a law, and its body is empty.
 
 ghost use Rattle.oneshot_replay.specs.Right.{IsRight};
 ghost use Rattle.oneshot_replay.specs.Run.{OfEachRun, told_at};
@@ -10,8 +10,8 @@ pub fn trace_is_determined<T>()
     ensures { IsDetermined T }
 {}
 
-/// A run that is stepped by hand keeps every law of a trace, wherever it has come to: those that `replay`
-/// has of its trace.
+/// A run that is stepped by hand satisfies at every point the laws that `replay` guarantees of its
+/// trace.
 pub fn a_run_is_right<T>()
     ensures { OfEachRun T (λ s r moves entries now. IsRight s r moves (told_at entries now)) }
 {}

@@ -1,4 +1,4 @@
-//! Two machines that run a script each under a schedule, move by move, and the trace of what they did.
+//! Runs of the model: both ends' scripts under a schedule, move by move, and the trace of what they did.
 #![tactic(auto)]
 
 pub mod laws;

@@ -1,8 +1,8 @@
-//! A replay that found no memory.
+//! The error of a replay that ran out of memory.
 
 use oneshot_world::{ReceiverScript, SenderScript};
 
-/// No memory for the trace: both scripts, as they were handed in.
+/// Out of memory for the trace: both scripts, as they were passed in.
 #[derive(Debug, Drop)]
 pub struct Refused<T> {
     /// The sender's script, with its message.

@@ -1,4 +1,4 @@
-//! Two machines, one move at a time.
+//! A run of the model, one move at a time.
 
 ghost use Rattle.std.specs.Prelude.{◌≡◌, ◌+◌, ◌-◌, ◌^◌, ◌<◌, [], Some};
 ghost use Rattle.oneshot_world.specs.World.{opening, turn};
@@ -11,7 +11,7 @@ use oneshot_machine::machine::{ReceiverStart, SenderCall};
 use oneshot_world::{Entry, Move, ReceiverScript, SenderLast, SenderScript, World};
 use std::marker::Model;
 
-/// Two machines between two moves, the count of the entries so far, and the sender's message.
+/// A run between two moves: its world, the number of its entries, and the sender's message.
 #[derive(Drop)]
 pub struct Replayer<T> {
     world: World,
@@ -28,7 +28,7 @@ impl<T> Model for Replayer<T> {
 }
 
 impl<T: Drop> Replayer<T> {
-    /// Both machines before the first move: the sender's carries out the script `s`, the receiver's `r`.
+    /// Returns a run before its first move, of the sender's script `s` and the receiver's `r`.
     pub fn new(s: SenderScript<T>, r: ReceiverScript) -> Replayer<T>
         ensures world { result.world ≡ opening s r }
         ensures count { result.count ≡ 0 }
@@ -47,9 +47,9 @@ impl<T: Drop> Replayer<T> {
         }
     }
 
-    /// Makes one step of the end that `m` names, and gives its entry. `m` also says what a clock or a copy of a
-    /// waker answers, if the step asks one. An end whose script has nothing left makes no step, and the entry says
-    /// so. No step allocates. `room`: the entries are fewer than the largest `usize`, so that this one has a number.
+    /// Makes the next step of the end that `m` names, and returns its entry. `m` also has what the step sees
+    /// of a clock or a copy of a waker. An end whose script is finished makes no step; the entry is `Idle`.
+    /// No step allocates. `room`: there are fewer entries than the largest `usize`, so this one has a number.
     pub fn step(&mut self, m: Move) -> Entry
         requires room { self.old.count < 2 ^ 64 - 1 }
         ensures turn { turn (self.old.count + 1) self.old.world m ≡ Some (result, self.new.world) }
@@ -61,37 +61,37 @@ impl<T: Drop> Replayer<T> {
         self.world.step(m, self.count)
     }
 
-    /// How many entries there are so far: one for each move.
+    /// Returns the number of entries so far, one for each move.
     pub fn count(&self) -> usize
         ensures { result ≡ self.now.count }
     {
         self.count
     }
 
-    /// The call that the sender has under way, or begins at its next move; `None` where its script has
-    /// nothing left. The calls of a refused message's error are the sender's too.
+    /// Returns the call that the sender has under way or begins at its next move, or `None` if its script is
+    /// finished. The calls of a refused `send`'s error are the sender's too.
     pub fn sender_call(&self) -> Option<SenderCall>
         ensures { result ≡ sender_call_of self.now }
     {
         self.world.sender_call()
     }
 
-    /// The call that the receiver has under way, or begins at its next move; `None` where its script has
-    /// nothing left.
+    /// Returns the call that the receiver has under way or begins at its next move, or `None` if its script
+    /// is finished.
     pub fn receiver_call(&self) -> Option<ReceiverStart>
         ensures { result ≡ receiver_call_of self.now }
     {
         self.world.receiver_call()
     }
 
-    /// Whether the block is freed.
+    /// Returns whether the block is freed.
     pub fn block_freed(&self) -> bool
         ensures { result ≡ self.now.world.state.freed }
     {
         self.world.is_freed()
     }
 
-    /// The message's place now, with the message; `None` where the script sends nothing.
+    /// Returns the message with its place now, or `None` if the script sends nothing.
     pub fn into_rest(self) -> Option<Rest<T>>
         ensures { result ≡ rest_at self.world.state.message self.message }
     {

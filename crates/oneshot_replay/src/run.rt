@@ -1,4 +1,4 @@
-//! A whole schedule at once.
+//! `replay`, which runs a whole schedule.
 
 ghost use Rattle.std.specs.Prelude.{◌≡◌, IfOk, IfErr};
 ghost use Rattle.oneshot_replay.specs.Right.{IsRight};
@@ -9,11 +9,11 @@ use crate::trace::Trace;
 use oneshot_world::{Move, ReceiverScript, SenderScript};
 use std::alloc::Global;
 
-/// Runs both scripts, `s` the sender's and `r` the receiver's, under the schedule `moves`, an entry a move.
-/// `alloc` is the allocator of the trace's memory; a step allocates nothing.
+/// Runs the sender's script `s` and the receiver's `r` under the schedule `moves`, an entry for each move.
+/// `alloc` allocates the trace's memory; a step allocates nothing.
 ///
-/// - `Ok`: the trace, of which every law holds; `specs/Right.antt` has them, a field each.
-/// - `Err`: an allocation failed. No step was made, and both scripts come back.
+/// - `Ok`: the trace, which satisfies every law; `specs/Right.antt` has them, one in each field.
+/// - `Err`: out of memory. No step was made, and both scripts come back.
 pub fn replay<T: Drop>(
     alloc: Global,
     s: SenderScript<T>,

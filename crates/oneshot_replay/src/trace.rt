@@ -1,4 +1,4 @@
-//! What a replay tells.
+//! The trace of a replay.
 
 ghost use Rattle.std.specs.Prelude.{◌≡◌};
 
@@ -7,7 +7,7 @@ use crate::rest::Rest;
 use oneshot_world::Entry;
 use std::marker::Model;
 
-/// What both machines did under a schedule.
+/// What both ends did under a schedule.
 #[derive(Drop)]
 pub struct Trace<T> {
     pub(crate) entries: Vec<Entry>,
@@ -28,21 +28,21 @@ impl<T> Model for Trace<T> {
 }
 
 impl<T: Drop> Trace<T> {
-    /// What each move did, in the order of the moves.
+    /// Returns the entries: what each move did, in the order of the moves.
     pub fn entries(&self) -> &[Entry]
         ensures { result.now ≡ self.now.entries }
     {
         self.entries.as_slice()
     }
 
-    /// Whether the block is freed after the last move.
+    /// Returns whether the block is freed after the last move.
     pub fn block_freed(&self) -> bool
         ensures { result ≡ self.now.block_freed }
     {
         self.end.block_freed()
     }
 
-    /// The message's last place, with the message itself; `None` where the script sends nothing.
+    /// Returns the message with its last place, or `None` if the script sends nothing.
     pub fn into_rest(self) -> Option<Rest<T>>
         ensures { result ≡ self.rest }
     {

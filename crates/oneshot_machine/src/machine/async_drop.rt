@@ -1,4 +1,4 @@
-//! The drop of a future, which never waits: a sender that is about to finish frees the block after it.
+//! The drop of a future: it never blocks, and leaves the block to a sender that is about to finish.
 
 ghost use Rattle.std.specs.Prelude.{◌≡◌};
 ghost use Rattle.std.specs.Option.{option_map};
@@ -13,14 +13,14 @@ use crate::machine::receiver::ReceiverPos::{AsyncDrop, Drop};
 use crate::machine::{Reply, RowEnd, Seen, Step};
 use crate::states::{DISCONNECTED, EMPTY, MESSAGE, Op, RECEIVING, UNPARKING};
 
-/// Where the drop of a future stands.
+/// A position of a future's drop.
 #[derive(Clone, Copy)]
 pub enum AsyncDropPos {
     /// The future's drop is about to read the word.
     AsyncLoad,
-    /// The future's drop is about to put the word of a receiver that does not wait.
+    /// The future's drop is about to exchange `RECEIVING` for `EMPTY`.
     AsyncExchange,
-    /// The future's drop is about to take the stored copy back.
+    /// The future's drop is about to take its copy back.
     AsyncBack,
     /// The future's drop is about to close the channel.
     AsyncSwap,
@@ -38,7 +38,7 @@ impl AsyncDropPos {
         }
     }
 
-    // The table: an arm a row, in the order in which it is written.
+    // One arm for each row of the table, in the written order.
     pub(crate) fn row(&self, seen: Seen) -> Option<RowEnd<ReceiverPos>>
         ensures { option_map leads result ≡ row_for seen (async_drop_rows self.now) }
     {

@@ -13,7 +13,7 @@ use crate::machine::try_recv::TryPos;
 use crate::machine::{Reply, RowEnd, Seen, Step};
 use crate::states::{DISCONNECTED, EMPTY, MESSAGE, Op, RECEIVING, UNPARKING};
 
-/// Where a receive by reference stands.
+/// A position of a receive by reference.
 #[derive(Clone, Copy)]
 pub enum RefPos {
     /// `recv_ref`, or a receive with a deadline, is about to read the word.
@@ -21,23 +21,23 @@ pub enum RefPos {
         /// Whether it has a deadline.
         timed: bool,
     },
-    /// It is about to put its waker into the cell.
+    /// It is about to store its waker.
     StartWrite {
         /// Whether it has a deadline.
         timed: bool,
     },
-    /// It is about to put the word of a receiver that waits.
+    /// It is about to swap `RECEIVING` in.
     StartSwap {
         /// Whether it has a deadline.
         timed: bool,
     },
-    /// It found the message by its swap, and is about to take its waker back.
+    /// Its swap found the message, and it is about to take its waker back.
     BackFull,
-    /// It found no sender by its swap, and is about to take its waker back.
+    /// Its swap found no sender, and it is about to take its waker back.
     BackClosed,
-    /// `recv_ref` is about to wait.
+    /// `recv_ref` is about to park.
     Park,
-    /// `recv_ref` waited, and is about to read the word.
+    /// `recv_ref` parked, and is about to read the word.
     ParkLoad,
 }
 
@@ -56,7 +56,7 @@ impl RefPos {
         }
     }
 
-    // The table: an arm a row, in the order in which it is written.
+    // One arm for each row of the table, in the written order.
     pub(crate) fn row(&self, seen: Seen) -> Option<RowEnd<ReceiverPos>>
         ensures { option_map leads result ≡ row_for seen (ref_rows self.now) }
     {

@@ -11,7 +11,7 @@ use crate::machine::receiver::ReceiverPos::Drop;
 use crate::machine::{Reply, RowEnd, Seen, Step};
 use crate::states::{DISCONNECTED, EMPTY, MESSAGE, Op};
 
-/// Where the drop of a receiver stands.
+/// A position of a receiver's drop.
 #[derive(Clone, Copy)]
 pub enum DropPos {
     /// The drop is about to close the channel.
@@ -33,7 +33,7 @@ impl DropPos {
         }
     }
 
-    // The table: an arm a row, in the order in which it is written.
+    // One arm for each row of the table, in the written order.
     pub(crate) fn row(&self, seen: Seen) -> Option<RowEnd<ReceiverPos>>
         ensures { option_map leads result ≡ row_for seen (drop_rows self.now) }
     {

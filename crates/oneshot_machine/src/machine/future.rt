@@ -12,28 +12,28 @@ use crate::machine::try_recv::TryPos;
 use crate::machine::{Reply, RowEnd, Seen, Step};
 use crate::states::{DISCONNECTED, EMPTY, MESSAGE, Op, RECEIVING, UNPARKING};
 
-/// Where a call of the receiver as a future stands.
+/// A position of `into_future`, or of a future's `poll` or `try_recv`.
 #[derive(Clone, Copy)]
 pub enum FuturePos {
-    /// `into_future` is about to give the future.
+    /// `into_future` is about to return the future.
     IntoFuture,
     /// `poll` is about to read the word.
     PollLoad,
     /// `poll` is about to copy its task's waker, since none is stored.
     PollCopy,
-    /// `poll` is about to put the copy into the cell.
+    /// `poll` is about to store the copy.
     PollWrite,
-    /// `poll` is about to put the word of a receiver that waits.
+    /// `poll` is about to exchange `EMPTY` for `RECEIVING`.
     PollExchange,
-    /// `poll` found the message by its exchange, and is about to take the copy back.
+    /// The exchange of `poll` found the message, and `poll` is about to take its copy back.
     PollBackFull,
-    /// `poll` found no sender by its exchange, and is about to take the copy back.
+    /// The exchange of `poll` found no sender, and `poll` is about to take its copy back.
     PollBackClosed,
-    /// `poll` is about to copy its task's waker, in place of the one that is stored.
+    /// `poll` is about to copy its task's waker, to replace the stored one.
     AgainCopy,
-    /// `poll` is about to put the word of a receiver that does not wait.
+    /// `poll` is about to exchange `RECEIVING` for `EMPTY`.
     AgainExchange,
-    /// `poll` is about to take the copy of an earlier poll back.
+    /// `poll` is about to take back the copy of an earlier poll.
     AgainBack,
     /// `poll` is about to wake its own task.
     PollOwn,
@@ -61,7 +61,7 @@ impl FuturePos {
         }
     }
 
-    // The table: an arm a row, in the order in which it is written.
+    // One arm for each row of the table, in the written order.
     pub(crate) fn row(&self, seen: Seen) -> Option<RowEnd<ReceiverPos>>
         ensures { option_map leads result ≡ row_for seen (future_rows self.now) }
     {

@@ -1,4 +1,4 @@
-//! The looks: what each reads, and what it answers.
+//! The receiver's looks: what each reads, and its reply.
 
 ghost use Rattle.std.specs.Prelude.{◌≡◌};
 ghost use Rattle.std.specs.Option.{option_map};
@@ -10,7 +10,7 @@ use crate::machine::receiver::ReceiverPos;
 use crate::machine::{Reply, RowEnd, Seen, Step};
 use crate::states::{DISCONNECTED, EMPTY, MESSAGE, Op, RECEIVING, UNPARKING};
 
-/// Where a look stands: at its one read of the word.
+/// The position of a look: its one read of the word.
 #[derive(Clone, Copy)]
 pub enum LookPos {
     /// `has_message` is about to read the word.
@@ -29,7 +29,7 @@ impl LookPos {
         }
     }
 
-    // The table: an arm a row, in the order in which it is written.
+    // One arm for each row of the table, in the written order.
     pub(crate) fn row(&self, seen: Seen) -> Option<RowEnd<ReceiverPos>>
         ensures { option_map leads result ≡ row_for seen (look_rows self.now) }
     {

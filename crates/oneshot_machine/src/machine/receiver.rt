@@ -1,4 +1,4 @@
-//! The receiver's machine: where a call stands, the step that it makes there, and where what it sees leads.
+//! The receiver's transition table: the positions of its calls, the step at each, and where each row leads.
 
 ghost use Rattle.std.specs.Prelude.{◌≡◌, Some, IsTrue, IfSome, is_some};
 ghost use Rattle.std.specs.Option.{option_map};
@@ -16,7 +16,7 @@ use crate::machine::try_recv::TryPos;
 use crate::machine::value::ValuePos;
 use crate::machine::{Reply, RowEnd, Seen, Step};
 
-/// A call of the receiver.
+/// A call of the receiver, or of the future that it became.
 #[derive(Clone, Copy, Debug, Eq, PartialEq)]
 pub enum ReceiverStart {
     /// `Receiver::try_recv`.
@@ -29,8 +29,7 @@ pub enum ReceiverStart {
     RecvDeadline,
     /// `Receiver::recv_timeout`.
     RecvTimeout {
-        /// Whether an instant can hold the sum of now and the timeout. Where none can, the call waits
-        /// without a deadline.
+        /// Whether an `Instant` can represent now plus the timeout. If not, the call has no deadline.
         representable: bool,
     },
     /// `Receiver::has_message`.
@@ -49,12 +48,12 @@ pub enum ReceiverStart {
     DropAsync,
 }
 
-/// Where a call of the receiver stands: a position of its table.
+/// A position of the receiver's table, by the family of its call.
 #[derive(Clone, Copy)]
 pub enum ReceiverPos {
     /// A look.
     Look(LookPos),
-    /// A `try_recv`, or the end of another receive, which is as that of `try_recv`.
+    /// A `try_recv`, or the last steps that other receives share with it.
     Try(TryPos),
     /// A receive by reference.
     Ref(RefPos),
@@ -71,7 +70,7 @@ pub enum ReceiverPos {
 }
 
 impl ReceiverPos {
-    /// The position at which `call` begins.
+    /// Returns the first position of `call`.
     pub fn start(call: ReceiverStart) -> ReceiverPos
         ensures { result ≡ receiver_start call }
     {
@@ -93,7 +92,7 @@ impl ReceiverPos {
         }
     }
 
-    /// What the end does at this position: an operation on the word, or a step of its own.
+    /// Returns the step at this position: an operation on the word, or another step.
     pub fn step(&self) -> Step
         ensures { result ≡ receiver_step self.now }
     {
@@ -109,15 +108,15 @@ impl ReceiverPos {
         }
     }
 
-    /// Whether the table has a row here for `seen`.
+    /// Returns whether the table has a row here for `seen`.
     pub fn accepts(&self, seen: Seen) -> bool
         ensures { result ≡ is_some (receiver_row self.now seen) }
     {
         self.row(seen).is_some()
     }
 
-    /// The row for `seen`, which the position accepts: the next position, or the reply that ends the
-    /// call. Beside a reply the position stays the one that answered.
+    /// Follows the row for `seen`, which the position has to accept. Returns the next position; or this
+    /// position, with the reply that ends the call.
     pub fn next(&self, seen: Seen) -> (ReceiverPos, Option<Reply>)
         requires { IsTrue (is_some (receiver_row self.now seen)) }
         ensures row { receiver_row self.now seen ≡ Some (outcome result) }
@@ -130,7 +129,7 @@ impl ReceiverPos {
         }
     }
 
-    // The row for `seen`, where the table has one.
+    // The row for `seen`, if the table has one.
     fn row(&self, seen: Seen) -> Option<RowEnd<ReceiverPos>>
         ensures { option_map leads result ≡ receiver_row self.now seen }
     {

@@ -1,4 +1,4 @@
-//! The sender's machine: where a call stands, the step that it makes there, and where what it sees leads.
+//! The sender's transition table: the positions of its calls, the step at each, and where each row leads.
 
 ghost use Rattle.std.specs.Prelude.{◌≡◌, Some, IsTrue, IfSome, is_some};
 ghost use Rattle.std.specs.Option.{option_map};
@@ -26,7 +26,7 @@ pub enum SenderCall {
     DropError,
 }
 
-/// Where a call of the sender or of its error stands: a position of the sender's table.
+/// A position of the sender's table, in a call of the sender or of its error.
 #[derive(Clone, Copy)]
 pub enum SenderPos {
     /// `is_closed` is about to read the word.
@@ -35,27 +35,27 @@ pub enum SenderPos {
     SendWrite,
     /// `send` is about to add one to the word.
     SendAdd,
-    /// `send` is about to take the waker of the receiver that waits.
+    /// `send` is about to take the waker of the waiting receiver.
     SendTakeWaker,
-    /// `send` is about to put the word of a message.
+    /// `send` is about to swap `MESSAGE` in.
     SendFinal,
     /// `send` is about to wake the receiver.
     SendWake,
-    /// `send` found by its last operation that the receiver is gone, and is about to use its waker.
+    /// The swap of `send` found the receiver gone, and `send` is about to use the waker.
     SendLateWake,
     /// The drop is about to flip the word's lowest bit.
     DropXor,
-    /// The drop is about to take the waker of the receiver that waits.
+    /// The drop is about to take the waker of the waiting receiver.
     DropTakeWaker,
-    /// The drop is about to close the channel.
+    /// The drop is about to swap `DISCONNECTED` in.
     DropFinal,
     /// The drop is about to wake the receiver.
     DropWake,
-    /// The drop found by its last operation that the receiver is gone, and is about to use its waker.
+    /// The drop's swap found the receiver gone, and the drop is about to use the waker.
     DropLateWake,
     /// The drop is about to free the block.
     DropFree,
-    /// `as_inner` is about to show the refused message.
+    /// `as_inner` is about to lend the refused message.
     ErrorLook,
     /// `into_inner` is about to take the refused message.
     IntoTake,
@@ -68,7 +68,7 @@ pub enum SenderPos {
 }
 
 impl SenderPos {
-    /// The position at which `call` begins.
+    /// Returns the first position of `call`.
     pub fn start(call: SenderCall) -> SenderPos
         ensures { result ≡ sender_start call }
     {
@@ -82,7 +82,7 @@ impl SenderPos {
         }
     }
 
-    /// What the end does at this position: an operation on the word, or a step of its own.
+    /// Returns the step at this position: an operation on the word, or another step.
     pub fn step(&self) -> Step
         ensures { result ≡ sender_step self.now }
     {
@@ -108,15 +108,15 @@ impl SenderPos {
         }
     }
 
-    /// Whether the table has a row here for `seen`.
+    /// Returns whether the table has a row here for `seen`.
     pub fn accepts(&self, seen: Seen) -> bool
         ensures { result ≡ is_some (sender_row self.now seen) }
     {
         self.row(seen).is_some()
     }
 
-    /// The row for `seen`, which the position accepts: the next position, or the reply that ends the
-    /// call. Beside a reply the position stays the one that answered.
+    /// Follows the row for `seen`, which the position has to accept. Returns the next position; or this
+    /// position, with the reply that ends the call.
     pub fn next(&self, seen: Seen) -> (SenderPos, Option<Reply>)
         requires { IsTrue (is_some (sender_row self.now seen)) }
         ensures row { sender_row self.now seen ≡ Some (outcome result) }
@@ -129,7 +129,7 @@ impl SenderPos {
         }
     }
 
-    // The table: an arm a row, in the order in which it is written.
+    // One arm for each row of the table, in the written order.
     fn row(&self, seen: Seen) -> Option<RowEnd<SenderPos>>
         ensures { option_map leads result ≡ sender_row self.now seen }
     {

@@ -1,4 +1,4 @@
-//! The receives with a deadline, from where they differ from `recv_ref`.
+//! The receives with a deadline, where they differ from `recv_ref`.
 
 ghost use Rattle.std.specs.Prelude.{◌≡◌};
 ghost use Rattle.std.specs.Option.{option_map};
@@ -13,27 +13,27 @@ use crate::machine::try_recv::TryPos;
 use crate::machine::{Reply, RowEnd, Seen, Step};
 use crate::states::{DISCONNECTED, EMPTY, MESSAGE, Op, RECEIVING, UNPARKING};
 
-/// Where a receive with a deadline stands.
+/// A position of a receive with a deadline.
 #[derive(Clone, Copy)]
 pub enum TimedPos {
-    /// `recv_timeout` is about to read the clock for its sum.
+    /// `recv_timeout` is about to read the clock, to compute its deadline.
     SumClock {
-        /// Whether an instant can hold that sum.
+        /// Whether an `Instant` can represent the deadline.
         representable: bool,
     },
-    /// A receive that waits until its deadline is about to ask whether it is over.
+    /// The receive is about to read the clock, to see whether its deadline is over.
     Clock,
-    /// It is about to wait until its deadline.
+    /// It is about to park until its deadline.
     TimedPark,
-    /// It waited until its deadline or less, and is about to read the word.
+    /// Its park ended, and it is about to read the word.
     TimedLoad,
-    /// Its deadline is over, and it is about to put the word of a channel on which nobody waits.
+    /// Its deadline is over, and it is about to swap `EMPTY` in.
     EndSwap,
     /// It found its waker in the cell, and is about to take it back.
     EndBack,
-    /// It found a sender that is about to finish, and is about to wait for it.
+    /// It found a sender that is about to finish, and is about to park for it.
     LatePark,
-    /// It waited for that sender, and is about to read the word.
+    /// It parked for that sender, and is about to read the word.
     LateLoad,
 }
 
@@ -53,7 +53,7 @@ impl TimedPos {
         }
     }
 
-    // The table: an arm a row, in the order in which it is written.
+    // One arm for each row of the table, in the written order.
     pub(crate) fn row(&self, seen: Seen) -> Option<RowEnd<ReceiverPos>>
         ensures { option_map leads result ≡ row_for seen (timed_rows self.now) }
     {

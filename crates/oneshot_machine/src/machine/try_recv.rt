@@ -1,4 +1,4 @@
-//! `try_recv`, whose last steps every receive shares.
+//! `try_recv`, and the last steps that every other receive but `recv` shares with it.
 
 ghost use Rattle.std.specs.Prelude.{◌≡◌};
 ghost use Rattle.std.specs.Option.{option_map};
@@ -11,7 +11,7 @@ use crate::machine::receiver::ReceiverPos::Try;
 use crate::machine::{Reply, RowEnd, Seen, Step};
 use crate::states::{DISCONNECTED, EMPTY, MESSAGE, Op};
 
-/// Where `try_recv` stands, or another receive that found how it ends.
+/// A position of `try_recv`, or of the last steps that other receives share with it.
 #[derive(Clone, Copy)]
 pub enum TryPos {
     /// `try_recv` is about to read the word.
@@ -20,7 +20,7 @@ pub enum TryPos {
     Close,
     /// A receive is about to take its message.
     Take,
-    /// A receive that found no sender is about to put the word of a closed channel back.
+    /// A receive that found no sender is about to store `DISCONNECTED` again.
     CloseOnly,
 }
 
@@ -36,7 +36,7 @@ impl TryPos {
         }
     }
 
-    // The table: an arm a row, in the order in which it is written.
+    // One arm for each row of the table, in the written order.
     pub(crate) fn row(&self, seen: Seen) -> Option<RowEnd<ReceiverPos>>
         ensures { option_map leads result ≡ row_for seen (try_rows self.now) }
     {

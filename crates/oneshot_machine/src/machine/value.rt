@@ -11,22 +11,22 @@ use crate::machine::receiver::ReceiverPos::Value;
 use crate::machine::{Reply, RowEnd, Seen, Step};
 use crate::states::{DISCONNECTED, EMPTY, MESSAGE, Op, RECEIVING, UNPARKING};
 
-/// Where `recv` stands.
+/// A position of `recv`.
 #[derive(Clone, Copy)]
 pub enum ValuePos {
     /// `recv` is about to read the word.
     RecvLoad,
-    /// `recv` is about to put its waker into the cell.
+    /// `recv` is about to store its waker.
     RecvWrite,
-    /// `recv` is about to put the word of a receiver that waits.
+    /// `recv` is about to swap `RECEIVING` in.
     RecvSwap,
-    /// `recv` found the message by its swap, and is about to take its waker back.
+    /// The swap of `recv` found the message, and `recv` is about to take its waker back.
     RecvBackFull,
-    /// `recv` found no sender by its swap, and is about to take its waker back.
+    /// The swap of `recv` found no sender, and `recv` is about to take its waker back.
     RecvBackClosed,
-    /// `recv` is about to wait.
+    /// `recv` is about to park.
     RecvPark,
-    /// `recv` waited, and is about to read the word.
+    /// `recv` parked, and is about to read the word.
     RecvParkLoad,
     /// `recv` is about to take its message.
     RecvTake,
@@ -54,7 +54,7 @@ impl ValuePos {
         }
     }
 
-    // The table: an arm a row, in the order in which it is written.
+    // One arm for each row of the table, in the written order.
     pub(crate) fn row(&self, seen: Seen) -> Option<RowEnd<ReceiverPos>>
         ensures { option_map leads result ≡ row_for seen (value_rows self.now) }
     {

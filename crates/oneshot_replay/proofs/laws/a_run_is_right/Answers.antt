@@ -1,4 +1,4 @@
--- Each law of a run, in one.
+-- The goal that `a_run_is_right` leaves.
 use Rattle.oneshot_replay.proofs.RunLaws.{is_right}
 use Rattle.oneshot_replay.proofs.laws.a_run_is_right.Goals as goal
 
