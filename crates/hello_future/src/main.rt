@@ -1,4 +1,4 @@
-//! Sends a number from one thread to a future that another thread waits for.
+//! Sends a number from one thread to a future that another thread blocks on.
 #![tactic(auto)]
 
 use futures::executor::block_on;

@@ -1,4 +1,4 @@
-//! Sends a request to a server, and waits a minute for its reply, which is proved to be the square that was asked for.
+//! Sends a request to a server, and waits up to a minute for the reply, which is proved to be the requested square.
 #![tactic(auto)]
 
 ghost use Rattle.std.specs.Prelude.{◌≡◌, ◌*◌, IfOk};
@@ -11,7 +11,7 @@ use std::sync::Wait;
 use std::thread::join;
 use std::time::{Clock, Duration};
 
-/// The square of a number, which it names.
+/// The square of a number, and that number.
 #[derive(Drop)]
 struct Square {
     root: u32,
@@ -33,14 +33,14 @@ impl Answer<u32> for Square {
     }
 }
 
-/// Answers a request.
+/// Answers a request with the square of its number.
 fn serve(request: Request<u32, Square>) {
     let root = *request.question();
     let value = u64::from(root) * u64::from(root);
     let _ = request.answer(Square { root, value });
 }
 
-/// Waits a minute for the square that the ticket is for.
+/// Waits up to a minute for the square of the ticket's number.
 fn square_of<Rt: Wait + Clock + Drop>(
     mut ticket: Ticket<u32, Square, Rt>,
 ) -> Result<u64, RecvTimeoutError>
