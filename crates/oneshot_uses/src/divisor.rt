@@ -1,4 +1,4 @@
-//! A search for a divisor on a thread of its own, whose result is awaited as a future.
+//! A search for a divisor on its own thread, whose result is awaited as a future.
 
 ghost use Rattle.std.specs.Prelude.{◌≡◌, ◌≢◌, ◌%◌, ◌<◌, ℕ, IfNone, IfOk, IfSome};
 
@@ -22,9 +22,9 @@ pub struct Divisor {
     ghost below_number: { value < number },
 }
 
-/// The least divisor of `number` that is above 1 and below the number.
+/// Returns the least divisor of `number` that is above 1 and below the number.
 ///
-/// `None`: there is none, as where `number` is a prime, 0 or 1.
+/// `None`: there is none: `number` is a prime, 0 or 1.
 pub fn least_divisor(number: u32) -> Option<Divisor>
     ensures number { IfSome result (λ divisor. divisor.number ≡ number) }
     ensures least { IfSome result (λ divisor. (k : ℕ) → 1 < k → k < divisor.value → number % k ≢ 0) }
@@ -40,17 +40,17 @@ pub fn least_divisor(number: u32) -> Option<Divisor>
 
 /// Sends the least divisor of `number`. If there is none, drops the sender without a message.
 ///
-/// `number` is the number to divide, and `waiter` the sender to whoever awaits the divisor.
+/// `number` is the number to divide, and `waiter` sends the divisor to whoever awaits it.
 pub fn send_divisor(number: u32, waiter: Sender<Divisor>) {
     if let Some(divisor) = least_divisor(number) {
-        // A waiter that is gone needs no divisor.
+        // If the receiver is gone, nobody needs the divisor.
         let _ = waiter.send(divisor);
     }
 }
 
-/// Starts the search on a thread of its own.
+/// Starts the search on its own thread.
 ///
-/// `rt` is the runtime of the thread, `number` the number to divide, and `waiter` the sender of its divisor.
+/// `rt` starts the thread, `number` is the number to divide, and `waiter` sends its divisor.
 /// `Ok`: the thread, to be joined. `Err`: no thread could be started, and the sender was dropped.
 pub fn start<R: Threads>(
     rt: &R,
@@ -62,9 +62,9 @@ pub fn start<R: Threads>(
 
 /// Awaits a divisor of `number`.
 ///
-/// `rt` is the runtime of the executor, and `receiver` the future of the divisor. `Ok`: the divisor, above 1
+/// `rt` is the executor's runtime, and `receiver` the future of the divisor. Inner `Ok`: the divisor, above 1
 /// and below the number. `Err(RecvError)`: the sender was dropped without a divisor, or sent one of another
-/// number. The outer `Err` comes only from the executor.
+/// number. Outer `Err`: the executor failed.
 pub fn await_divisor<R, Rt>(
     rt: &R,
     number: u32,
@@ -84,10 +84,9 @@ where
 
 /// Searches for a divisor of `number` on another thread, awaits it, and joins the thread.
 ///
-/// `rt` is the runtime of the thread and of the executor, `alloc` the allocator of the channel, and `number`
-/// the number to divide. `Ok`: the divisor, above 1 and below the number. `Err(RecvError)`: the search ended
-/// without a divisor. The outer `Err`: an allocation was refused, no thread could be started, or the executor
-/// failed.
+/// `rt` is the runtime of the thread and of the executor, `alloc` allocates the channel, and `number` is the
+/// number to divide. Inner `Ok`: the divisor, above 1 and below the number. `Err(RecvError)`: the search ended
+/// without one. Outer `Err`: out of memory, no thread could be started, or the executor failed.
 pub fn divisor_of<R: Threads + Wait + RandomSource + AllocGlobal>(
     rt: &R,
     alloc: Global,

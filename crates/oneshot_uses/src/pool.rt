@@ -1,4 +1,4 @@
-//! Workers that serve one queue of requests; each reply is waited for within a limit, and the pool shuts down.
+//! A pool of workers that serve one queue of requests: waits for each reply within a limit, then shuts the pool down.
 
 ghost use Rattle.std.specs.Prelude.{◌≡◌, IfOk, length, vec_len};
 
@@ -11,20 +11,20 @@ use std::thread;
 use std::thread::Threads;
 use std::time::{Clock, Duration};
 
-/// What a pool did.
+/// The outcome of a pool.
 #[derive(Drop)]
 pub struct Outcome {
     /// The answers, in the order of the requests.
     pub answers: Vec<Answer>,
-    /// How many replies the workers sent to somebody who waited for them. `None` if a worker could not
-    /// be started, or did not end within the limit.
+    /// How many replies the workers sent. `None`: a worker could not be started, or did not report within
+    /// the limit.
     pub served: Option<u64>,
 }
 
-/// Serves requests until the queue is closed and empty, and then reports how many were waited for.
+/// Serves requests until the queue is closed and empty, then reports how many replies it sent.
 ///
-/// `rt` is the runtime of the thread, which blocks while the queue is empty, `requests` the queue's receiver, and
-/// `report` the sender of the number.
+/// `rt` blocks the thread while the queue is empty, `requests` is the queue's receiver, and `report` sends the
+/// number, which stops at `u64::MAX`.
 pub fn work(rt: &impl Wait, requests: &queue::Receiver<Request>, report: Sender<u64>) {
     let mut served = 0u64;
     for _ in rt.forever() {
@@ -35,15 +35,15 @@ pub fn work(rt: &impl Wait, requests: &queue::Receiver<Request>, report: Sender<
             served = served.saturating_add(1);
         }
     }
-    // An owner that is gone needs no report.
+    // If the owner is gone, nobody needs the report.
     let _ = report.send(served);
 }
 
-/// Puts a request for each square into the queue.
+/// Puts a request for each number's square into the queue.
 ///
-/// `rt` is the runtime on which each reply is waited for, `alloc` the allocator of the channels and of the answer,
-/// `requests` the queue's sender, and `roots` has the numbers. `Ok`: what waits for each reply, in the order of the
-/// numbers. `Err`: an allocation was refused.
+/// `rt` is the runtime that waits for each reply, `alloc` allocates the channels and the result, `requests` is the
+/// queue's sender, and `roots` has the numbers. `Ok`: the receivers of the replies, in the order of the numbers.
+/// `Err`: out of memory.
 pub fn ask_all<'r, R: Wait + Clock>(
     rt: &'r R,
     alloc: Global,
@@ -55,17 +55,17 @@ pub fn ask_all<'r, R: Wait + Clock>(
     let mut all = Vec::new(alloc);
     for root in roots {
         let (request, asked) = ask(rt, alloc, *root)?;
-        // A request that the queue refuses is dropped here, and so its answer is `Lost`.
+        // A request that the queue refuses is dropped here, so its answer is `Lost`.
         let _ = requests.send(rt, request);
         all.push(asked)?;
     }
     Ok(all)
 }
 
-/// Waits for each reply in turn, for `limit` at most.
+/// Waits for each reply in turn, each for at most `limit`.
 ///
-/// `alloc` is the allocator of the answers, and `all` has what waits for each reply. `Ok`: an answer for each, in
-/// their order. `Err`: an allocation was refused.
+/// `alloc` allocates the answers, and `all` has the receivers of the replies. `Ok`: their answers, in their order.
+/// `Err`: out of memory.
 pub fn answers_to<Rt: Wait + Clock + Drop>(
     alloc: Global,
     all: Vec<Asked<Rt>>,
@@ -80,10 +80,10 @@ pub fn answers_to<Rt: Wait + Clock + Drop>(
     Ok(answers)
 }
 
-/// Adds up the workers' reports.
+/// Adds up the workers' reports. The sum stops at `u64::MAX`.
 ///
-/// `reports` has the receiver of each report, and `limit` is how long each is waited for. `None`: a report did not
-/// come in time, or its worker dropped it.
+/// `reports` has the receivers of the reports, and `limit` is the longest wait for each. `None`: a report did not
+/// come in time, or its sender was dropped.
 pub fn total<Rt: Wait + Clock + Drop>(
     reports: Vec<Receiver<u64, Rt>>,
     limit: Duration,
@@ -96,11 +96,11 @@ pub fn total<Rt: Wait + Clock + Drop>(
     Some(served)
 }
 
-/// Starts so many workers, has them answer a request for the square of each number, and shuts them down.
+/// Starts workers, has them reply to a request for the square of each number, and shuts them down.
 ///
-/// `rt` is the runtime of the threads, `alloc` the allocator of the queue and of the channels, `workers` how many
-/// workers there are, `roots` has the numbers, and `limit` is how long each reply and each report is waited for.
-/// `Ok`: an answer for each number, and how many were served. `Err`: an allocation was refused.
+/// `rt` is the runtime of the threads, `alloc` allocates the queue and the channels, `workers` is the number of
+/// workers, `roots` has the numbers, and `limit` is the longest wait for each reply and each report. `Ok`: an
+/// answer for each number, and how many were served. `Err`: out of memory.
 pub fn pooled<R: Threads + Wait + Clock + Sync>(
     rt: &R,
     alloc: Global,
@@ -122,7 +122,7 @@ pub fn pooled<R: Threads + Wait + Clock + Sync>(
             for _ in 0..workers {
                 let (report, reported) = channel(rt, alloc)?;
                 reports.push(reported)?;
-                // A worker that cannot be started drops its report, and `served` is `None`.
+                // If the worker cannot be started, its sender is dropped, and `served` is `None`.
                 let _ = scope.spawn(move || work(rt, taken, report));
             }
             let all = ask_all(rt, alloc, &requests, roots)?;

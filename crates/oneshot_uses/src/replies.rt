@@ -1,4 +1,4 @@
-//! Two requests at once: one task awaits both replies, or the first that comes.
+//! Two requests at once, for which one task awaits both replies or the first to come.
 
 ghost use Rattle.std.specs.Prelude.{◌≡◌, ◌*◌, IfOk, IfSome};
 
@@ -12,14 +12,13 @@ use std::sync::Wait;
 use std::thread::Threads;
 use std::{io, thread};
 
-/// The answers to two requests, each `None` if no reply came.
+/// The squares that two requests ask for, each `None` if its reply did not come.
 pub type Answers = (Option<u64>, Option<u64>);
 
 /// Awaits the replies to two requests, in whichever order they come.
 ///
-/// `rt` is the runtime of the executor, and `first` and `second` have the receivers. An answer is `None`
-/// if its request was dropped without a reply, or its reply is of another number. `Err` comes only from
-/// the executor.
+/// `rt` is the executor's runtime, and `first` and `second` have the receivers. A square is `None` if its
+/// request was dropped without a reply, or the reply is of another number. `Err`: the executor failed.
 pub fn both_replies<R, Rt>(rt: &R, first: Asked<Rt>, second: Asked<Rt>) -> io::Result<Answers>
 where
     R: Wait + RandomSource + AllocGlobal,
@@ -35,9 +34,9 @@ where
 
 /// Awaits the first reply to two requests for the square of one number.
 ///
-/// `rt` is the runtime of the executor, `root` the number, and `first` and `second` the futures of its
-/// square. If one request was dropped, or was for another number, awaits the other reply. `None`: neither
-/// reply is the square. `Err` comes only from the executor.
+/// `rt` is the executor's runtime, `root` the number, and `first` and `second` are the futures of its
+/// square. If the first to be ready has no square of `root`, awaits the other. `None`: neither has one.
+/// `Err`: the executor failed.
 pub fn first_reply<R, Rt>(
     rt: &R,
     root: u32,
@@ -59,7 +58,7 @@ where
     }
 }
 
-/// Has two requests served, each on a thread of its own, while `await_replies` runs on this one.
+/// Runs `await_replies` while other threads serve two requests, and returns what it returns.
 fn beside_servers<R: Threads + Sync, A, F: FnOnce() -> A>(
     rt: &R,
     first: Request,
@@ -77,11 +76,11 @@ fn beside_servers<R: Threads + Sync, A, F: FnOnce() -> A>(
     replies
 }
 
-/// Asks a thread of its own for the square of each of two numbers, and awaits both replies.
+/// Requests the squares of two numbers, each from its own thread, and awaits both replies.
 ///
-/// `rt` is the runtime of the threads and of the executor, `alloc` the allocator of both channels, and `first`
-/// and `second` are the numbers. An answer is `None` if its square did not come. `Err`: an allocation was
-/// refused, or the executor failed.
+/// `rt` is the runtime of the threads and of the executor, `alloc` allocates both channels, and `first` and
+/// `second` are the numbers. A square is `None` if it did not come. `Err`: out of memory, or the executor
+/// failed.
 pub fn both_squares<R: Threads + Wait + RandomSource + AllocGlobal + Sync>(
     rt: &R,
     alloc: Global,
@@ -98,10 +97,10 @@ pub fn both_squares<R: Threads + Wait + RandomSource + AllocGlobal + Sync>(
     })
 }
 
-/// Asks two threads for the square of one number, and awaits the reply that comes first.
+/// Requests the square of one number from two threads, and awaits the first reply.
 ///
-/// `rt` is the runtime of the threads and of the executor, `alloc` the allocator of both channels, and
-/// `root` the number. `None`: no reply came. `Err`: an allocation was refused, or the executor failed.
+/// `rt` is the runtime of the threads and of the executor, `alloc` allocates both channels, and `root` is the
+/// number. `None`: no square of it came. `Err`: out of memory, or the executor failed.
 pub fn first_square<R: Threads + Wait + RandomSource + AllocGlobal + Sync>(
     rt: &R,
     alloc: Global,

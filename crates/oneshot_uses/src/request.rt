@@ -1,4 +1,4 @@
-//! Requests, each with a channel of its own for the reply.
+//! Requests, each with its own channel for the reply.
 
 ghost use Rattle.std.specs.Prelude.{◌≡◌, ◌*◌, ◌≤◌, ℕ, Ok, IfOk, IfSome, vec_len, length};
 
@@ -19,7 +19,7 @@ pub struct Square {
 }
 
 impl Square {
-    /// Squares a number.
+    /// Squares `root`.
     pub(crate) fn of(root: u32) -> Square
         ensures { result.root ≡ root }
     {
@@ -28,47 +28,47 @@ impl Square {
     }
 }
 
-/// Asks for the square of a number, and has the sender of the reply.
+/// A number whose square is requested, and the sender of the reply.
 #[derive(Drop)]
 pub struct Request {
     /// The number.
     pub root: u32,
-    /// Where its square is sent.
+    /// The sender of its square.
     pub reply: Sender<Square>,
 }
 
-/// The asker's part of a request: where the reply comes.
+/// The requester's side of a request: the receiver of the reply.
 #[derive(Drop)]
 pub struct Asked<Rt> {
     /// The number.
     pub root: u32,
-    /// Where its square comes.
+    /// The receiver of its square.
     pub reply: Receiver<Square, Rt>,
 }
 
 /// Why a request has no reply.
 #[derive(Clone, Copy, Debug, PartialEq, Eq)]
 pub enum Unanswered {
-    /// None came in time. A later one is refused.
+    /// No reply came in time.
     Late,
-    /// None will come: the request was dropped.
+    /// No reply to this request will come.
     Lost,
 }
 
-/// What came of a request.
+/// The outcome of a request.
 #[derive(Drop)]
 pub struct Answer {
     /// The number.
     pub root: u32,
-    /// Its square, if a reply came.
+    /// Its square, or why there is no reply.
     pub square: Result<u64, Unanswered>,
     ghost right: { (value : ℕ) → square ≡ Ok value → value ≡ root * root },
 }
 
-/// Makes a request for the square of `root`, and what waits for its reply.
+/// Makes a request for the square of `root`, and the receiver of its reply.
 ///
-/// `rt` is the runtime on which the reply is waited for (`()` if it is awaited as a future), and `alloc` the
-/// allocator of the channel. `Err`: the allocation was refused.
+/// `rt` is the runtime that waits for the reply (`()` if it is awaited as a future), and `alloc` allocates the
+/// channel. `Err`: out of memory.
 pub fn ask<Rt: Drop>(rt: Rt, alloc: Global, root: u32) -> Result<(Request, Asked<Rt>), AllocError>
     ensures request { IfOk result (λ both. both.0.root ≡ root) }
     ensures asked { IfOk result (λ both. both.1.root ≡ root) }
@@ -86,16 +86,16 @@ pub fn ask<Rt: Drop>(rt: Rt, alloc: Global, root: u32) -> Result<(Request, Asked
 }
 
 impl Request {
-    /// Sends the square to whoever waits for it. `false`: nobody waits for the reply.
+    /// Sends the square. `true`: it was sent. `false`: the receiver is gone.
     pub fn serve(self) -> bool {
         let Request { root, reply } = self;
         reply.send(Square::of(root)).is_ok()
     }
 }
 
-/// The value of the square that came. `None` if none came, or one of another number.
+/// Returns the value of the received square. `None`: there is none, or it is of another number.
 ///
-/// `root` is the number that was asked for, and `reply` is what the receiver of its square gave.
+/// `root` is the requested number, and `reply` is what the receiver of its square returned.
 pub(crate) fn answer_to(root: u32, reply: Result<Square, RecvError>) -> Option<u64>
     ensures { IfSome result (λ value. value ≡ root * root) }
 {
@@ -106,7 +106,7 @@ pub(crate) fn answer_to(root: u32, reply: Result<Square, RecvError>) -> Option<u
 }
 
 impl<Rt: Wait + Clock + Drop> Asked<Rt> {
-    /// Waits for the reply, and gives the square. `None`: none comes, or one to another request.
+    /// Waits for the reply, and returns the square. `None`: no reply comes, or that of another number.
     pub fn wait(self) -> Option<u64>
         ensures { IfSome result (λ value. value ≡ self.root * self.root) }
     {
@@ -116,8 +116,8 @@ impl<Rt: Wait + Clock + Drop> Asked<Rt> {
 }
 
 impl<Rt: Wait + Clock + Drop> Asked<Rt> {
-    /// Waits for the reply, for `limit` at most, and gives the answer with its number: the square; `Late`: no
-    /// reply came in time; `Lost`: none will come, or one to another request came.
+    /// Waits for the reply, for at most `limit`, and returns the number with its square. `Late`: no reply came in
+    /// time; a later one is refused. `Lost`: none will come, or that of another number came.
     pub fn wait_within(self, limit: Duration) -> Answer
         ensures { result.root ≡ self.root }
     {
@@ -131,7 +131,7 @@ impl<Rt: Wait + Clock + Drop> Asked<Rt> {
     }
 }
 
-/// Serves each of `requests` in turn, and counts those whose reply was waited for.
+/// Serves `requests` in order, and returns how many replies were sent.
 pub fn serve_all(requests: Vec<Request>) -> usize
     ensures { result ≤ vec_len requests }
 {
@@ -144,7 +144,7 @@ pub fn serve_all(requests: Vec<Request>) -> usize
     served
 }
 
-/// Waits for each reply in turn. `Err`: an allocation was refused.
+/// Waits for each reply in turn, and returns the squares. `Err`: out of memory.
 fn wait_all<Rt: Wait + Clock + Drop>(
     alloc: Global,
     all: Vec<Asked<Rt>>,
@@ -158,11 +158,11 @@ fn wait_all<Rt: Wait + Clock + Drop>(
     Ok(replies)
 }
 
-/// Asks a worker on another thread for the square of each number, and waits for its replies.
+/// Requests the square of each number from a worker on another thread, and waits for the replies.
 ///
-/// `rt` is the runtime of the thread, `alloc` the allocator of the channels and of the answer, and `roots` has the
-/// numbers. `Ok`: a square for each number, in their order, and `None` for a reply that did not come. `Err`: an
-/// allocation was refused.
+/// `rt` runs the thread and waits, `alloc` allocates the channels and the result, and `roots` has the numbers.
+/// `Ok`: the squares in the order of the numbers, with `None` for a reply that did not come. `Err`: out of
+/// memory.
 pub fn squares_of<R: Threads + Wait + Clock + Sync>(
     rt: &R,
     alloc: Global,

@@ -1,4 +1,4 @@
-//! A worker that makes turns until it is told to stop, or until nobody is left to tell it.
+//! A worker that repeats its work until it receives a stop signal, or the sender of the signal is dropped.
 
 ghost use Rattle.std.specs.Prelude.{◌≡◌, ◌≢◌, ◌≤◌};
 ghost use Rattle.oneshot_channel.specs.Ends.{IsClosed};
@@ -8,30 +8,30 @@ use oneshot_channel::{Receiver, Sender, TryRecvError, channel};
 use std::alloc::{AllocError, Global};
 use std::thread::{Threads, join, yield_now};
 
-/// Why a worker made no more turns.
+/// Why a worker stopped.
 #[derive(Clone, Copy, Debug, PartialEq, Eq)]
 pub enum Ending {
-    /// It was told to stop.
+    /// It received the stop signal.
     Told,
-    /// The end of the channel that could tell it was dropped.
+    /// The sender of the signal was dropped.
     Left,
-    /// It made all its turns.
+    /// It completed all its turns.
     Done,
 }
 
 /// What a worker did.
 #[derive(Clone, Copy, Debug, PartialEq, Eq)]
 pub struct Report {
-    /// How many turns it made.
+    /// How many turns it completed.
     pub turns: u64,
-    /// Why it made no more.
+    /// Why it stopped.
     pub ending: Ending,
 }
 
-/// Makes turns until the signal comes or its sender is gone, and no more than `limit`.
+/// Calls `turn` until the stop signal comes or its sender is dropped, but at most `limit` times.
 ///
-/// `stop` is the receiver of the signal, `limit` the greatest number of turns, and `turn` makes one. Answers how
-/// many turns it made, and why it made no more.
+/// `stop` is the receiver of the signal, `limit` the largest number of turns, and a call of `turn` is one turn.
+/// Returns how many turns were completed, and why the worker stopped.
 pub fn work_until<Rt: Drop, F: FnMut()>(
     stop: &mut Receiver<(), Rt>,
     limit: u64,
@@ -65,30 +65,30 @@ pub fn work_until<Rt: Drop, F: FnMut()>(
     }
 }
 
-/// How an owner ends its worker.
+/// How an owner stops its worker.
 #[derive(Clone, Copy)]
 pub enum Order {
-    /// It tells it to stop.
+    /// It sends the stop signal.
     Stop,
-    /// It drops what it could tell it by.
+    /// It drops the sender of the signal.
     Leave,
 }
 
-/// Ends a worker that has this signal's receiver.
+/// Stops the worker that has the receiver of `stop`, in the way that `order` states.
 fn end(stop: Sender<()>, order: Order) {
     match order {
         Order::Stop => {
-            // A worker that is gone needs not be told.
+            // If the worker is gone, there is nothing to stop.
             let _ = stop.send(());
         }
         Order::Leave => drop(stop),
     }
 }
 
-/// Makes turns until an owner on another thread ends them.
+/// Runs a worker, which yields in each turn, until an owner on another thread stops it.
 ///
-/// `rt` is the runtime of the threads, `alloc` the allocator of the channel, and `order` how the owner ends them.
-/// `Ok`: what was done. `Err`: the allocation was refused.
+/// `rt` is the runtime of the threads, `alloc` allocates the channel, and `order` is how the owner stops it.
+/// `Ok`: the worker's report. `Err`: out of memory.
 pub fn watched<R: Threads>(rt: &R, alloc: Global, order: Order) -> Result<Report, AllocError> {
     let (stop, mut stopped) = channel::<(), ()>((), alloc)?;
     let ((), report) = join(

@@ -1,4 +1,4 @@
-//! A task on a thread of its own, whose result is sent to whoever waits for it.
+//! A task on its own thread, which sends its result to the receiver that waits for it.
 
 ghost use Rattle.std.specs.Prelude.{IfOk, IfSome};
 
@@ -8,10 +8,10 @@ use std::sync::Wait;
 use std::thread::{JoinHandle, Threads, join, spawn};
 use std::time::Clock;
 
-/// Does the work, and sends its result.
+/// Calls `work`, and sends its result.
 ///
-/// `work` gives the result, and `waiter` is the sender to whoever waits for it. `Some`: the result, which nobody
-/// waits for. `None`: it was sent.
+/// `work` returns the result, and `waiter` sends it to whoever waits for it. `Some`: the result, since the
+/// receiver is gone. `None`: it was sent.
 pub fn perform<T: Drop, F: FnOnce() -> T>(work: F, waiter: Sender<T>) -> Option<T>
     requires { F.pre work }
     ensures { IfSome result (F.post work) }
@@ -22,11 +22,11 @@ pub fn perform<T: Drop, F: FnOnce() -> T>(work: F, waiter: Sender<T>) -> Option<
     }
 }
 
-/// Starts `work` on a thread of its own.
+/// Starts `work` on its own thread.
 ///
-/// `rt` is the runtime of the thread, `work` gives the result, and `waiter` is the sender to whoever waits for it.
-/// `Ok`: the thread; who joins it gets the result if nobody waited for it. `Err`: no thread could be started, and
-/// the sender was dropped.
+/// `rt` starts the thread, `work` returns the result, and `waiter` sends it to whoever waits for it. `Ok`: the
+/// thread; joining it returns the result if the receiver was gone. `Err`: no thread could be started, and the
+/// sender was dropped.
 pub fn start<R: Threads, T: Send + Drop + 'static, F: FnOnce() -> T + Send + Drop + 'static>(
     rt: &R,
     work: F,
@@ -37,19 +37,19 @@ pub fn start<R: Threads, T: Send + Drop + 'static, F: FnOnce() -> T + Send + Dro
     Ok(spawn(rt, move || perform(work, waiter))?)
 }
 
-/// What came of a task, once its thread was joined.
+/// The outcome of a task whose thread was joined.
 #[derive(Drop)]
 pub struct Joined<T> {
-    /// What its waiter received. `Err` if the work never ran to its end.
+    /// What the receiver got. `Err` if the sender was dropped without a result.
     pub received: Result<T, RecvError>,
-    /// What its thread gave back: the result, if nobody waited for it.
+    /// What the thread returned: the result, if the receiver was gone.
     pub unclaimed: Option<T>,
 }
 
 /// Starts `work`, waits for its result, and joins its thread.
 ///
-/// `rt` is the runtime of the thread, `alloc` the allocator of the channel, and `work` gives the result. `Ok`: what
-/// came of the task. `Err`: the allocation was refused, or no thread could be started.
+/// `rt` starts the thread and waits, `alloc` allocates the channel, and `work` returns the result. `Ok`: the
+/// task's outcome. `Err`: out of memory, or no thread could be started.
 pub fn awaited<
     R: Threads + Wait + Clock,
     T: Send + Drop + 'static,
@@ -67,10 +67,10 @@ pub fn awaited<
     })
 }
 
-/// Has `work` done on another thread, though nobody waits for its result.
+/// Runs `work` by `perform` after the receiver of its result was dropped.
 ///
-/// `rt` is the runtime of the thread, `alloc` the allocator of the channel, and `work` gives the result. `Ok`: the
-/// result that came back, or `None` if none did. `Err`: the allocation was refused.
+/// `rt` runs the threads, `alloc` allocates the channel, and `work` returns the result. `Ok`: what `perform`
+/// returned: the result, or `None` if it was sent. `Err`: out of memory.
 pub fn unclaimed<R: Threads, T: Send + Drop, F: FnOnce() -> T + Send>(
     rt: &R,
     alloc: Global,

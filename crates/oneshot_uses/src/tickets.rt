@@ -1,5 +1,5 @@
-//! Workers that serve one queue of requests with a ticket each. No reply is compared with its request: a ticket gives
-//! the reply to its own question alone.
+//! Workers that serve one queue of requests with tickets. Nothing compares a reply with its request: a ticket returns
+//! only a reply to its own question.
 
 ghost use Rattle.std.specs.Prelude.{◌≡◌, ◌*◌, IfOk, IfSome, length, vec_len};
 
@@ -29,17 +29,17 @@ impl reply::Answer<u32> for Square {
     }
 }
 
-/// A number whose square was asked for, with the ticket for its square.
+/// A number whose square was requested, with the ticket for the square.
 #[derive(Drop)]
 struct Pending<Rt> {
     /// The number.
     root: u32,
-    /// Where its square comes.
+    /// The ticket for its square.
     ticket: Ticket<u32, Square, Rt>,
     ghost own: { ticket.about.question ≡ root },
 }
 
-/// Answers `request` with the square of its number. `false`: nobody waits for the reply.
+/// Answers `request` with its number's square. `true`: it was sent. `false`: the ticket is gone.
 pub fn serve(request: Request<u32, Square>) -> bool {
     let square = Square::of(*request.question());
     request.answer(square).is_ok()
@@ -55,10 +55,9 @@ fn serve_queue(rt: &impl Wait, requests: &queue::Receiver<Request<u32, Square>>)
     }
 }
 
-/// The square that `ticket` gives, waited for within `limit`.
+/// Waits for the square of the ticket's number, for at most `limit`.
 ///
-/// `Ok`: the square of the number that the ticket's request asks about. `Err(Late)`: no reply came in time.
-/// `Err(Lost)`: none will come.
+/// `Ok`: the square. `Err(Late)`: no reply came in time. `Err(Lost)`: none will come.
 pub fn square_within<Rt: Wait + Clock + Drop>(
     ticket: &mut Ticket<u32, Square, Rt>,
     limit: Duration,
@@ -72,10 +71,9 @@ pub fn square_within<Rt: Wait + Clock + Drop>(
     }
 }
 
-/// Awaits the square that `ticket` gives, as a task of an executor that `rt` runs.
+/// Awaits the square of the ticket's number, under an executor on the runtime `rt`.
 ///
-/// `Ok(Some)`: the square of the number that the ticket's request asks about. `Ok(None)`: none will come. `Err` comes
-/// only from the executor.
+/// `Ok(Some)`: the square. `Ok(None)`: no reply will come. `Err`: the executor failed.
 pub fn square_awaited<R, Rt>(rt: &R, ticket: Ticket<u32, Square, Rt>) -> io::Result<Option<u64>>
 where
     R: Wait + RandomSource + AllocGlobal,
@@ -89,7 +87,7 @@ where
     }
 }
 
-/// Puts a request for each square into the queue. `Err`: an allocation failed.
+/// Puts a request for each number's square into the queue. `Err`: out of memory.
 fn ask_each<'r, R: Wait + Clock>(
     rt: &'r R,
     alloc: Global,
@@ -101,7 +99,7 @@ fn ask_each<'r, R: Wait + Clock>(
     let mut all = Vec::new(alloc);
     for root in roots {
         let (request, ticket) = reply::request(rt, alloc, *root).map_err(|_| AllocError)?;
-        // A request that the queue refuses is dropped here, and so its answer is `Lost`.
+        // A request that the queue refuses is dropped here, so its answer is `Lost`.
         let _ = requests.send(rt, request);
         all.push(Pending {
             root: *root,
@@ -111,7 +109,7 @@ fn ask_each<'r, R: Wait + Clock>(
     Ok(all)
 }
 
-/// Waits for each square in turn, for `limit` at most.
+/// Waits for each square in turn, each for at most `limit`. `Err`: out of memory.
 fn squares_within<Rt: Wait + Clock + Drop>(
     alloc: Global,
     all: Vec<Pending<Rt>>,
@@ -127,7 +125,7 @@ fn squares_within<Rt: Wait + Clock + Drop>(
 }
 
 impl<Rt: Wait + Clock + Drop> Pending<Rt> {
-    /// Waits for the square, for `limit` at most.
+    /// Waits for the square, for at most `limit`.
     fn wait_within(self, limit: Duration) -> Answer
         ensures { result.root ≡ self.root }
     {
@@ -137,11 +135,11 @@ impl<Rt: Wait + Clock + Drop> Pending<Rt> {
     }
 }
 
-/// Starts so many workers, has them answer a request for the square of each number, and shuts them down.
+/// Starts workers, has them answer a request for the square of each number, and shuts them down.
 ///
-/// `rt` is the runtime of the threads, `alloc` the allocator of the queue and of the channels, `workers` how many
-/// workers there are, `roots` has the numbers, and `limit` is how long each square is waited for. `Ok`: an answer
-/// for each number, in their order. `Err`: an allocation was refused.
+/// `rt` is the runtime of the threads, `alloc` allocates the queue and the channels, `workers` is the number of
+/// workers, `roots` has the numbers, and `limit` is the longest wait for each square. `Ok`: an answer for each
+/// number, in their order. `Err`: out of memory.
 pub fn asked<R: Threads + Wait + Clock + Sync>(
     rt: &R,
     alloc: Global,
@@ -160,7 +158,7 @@ pub fn asked<R: Threads + Wait + Clock + Sync>(
             ensures { IfOk result (λ answers. vec_len answers ≡ length roots.entry.now) }
         {
             for _ in 0..workers {
-                // Where no worker can be started, each answer is `Late`.
+                // If no worker can be started, each answer is `Late`.
                 let _ = scope.spawn(move || serve_queue(rt, taken));
             }
             let all = ask_each(rt, alloc, &requests, roots)?;

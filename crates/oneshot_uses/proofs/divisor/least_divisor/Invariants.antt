@@ -1,4 +1,4 @@
--- No number so far divides.
+-- No value tried so far divides the number.
 use Rattle.std.proofs.Common.{◌≢◌, ◌%◌, ◌<◌, ℕ}
 use Rattle.oneshot_uses.proofs.divisor.least_divisor.Given as goal
 

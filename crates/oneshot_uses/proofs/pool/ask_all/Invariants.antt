@@ -1,4 +1,4 @@
--- Each number so far was asked for.
+-- Each number so far has its receiver.
 use Rattle.std.proofs.Common.{◌≡◌, vec_len}
 use Rattle.oneshot_uses.proofs.pool.ask_all.Given as goal
 

@@ -1,4 +1,4 @@
--- At most the requests that were served so far are counted.
+-- The count is at most the number of requests served so far.
 use Rattle.std.proofs.Common.{◌+◌, ◌≤◌}
 use Rattle.std.specs.Vec.Iter.{into_iter_len}
 use Rattle.oneshot_uses.proofs.request.serve_all.Given as goal

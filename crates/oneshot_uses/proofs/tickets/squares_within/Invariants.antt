@@ -1,4 +1,4 @@
--- There is a reply for each that was waited for so far.
+-- Each ticket waited on so far has its answer.
 use Rattle.std.proofs.Common.{◌≡◌, ◌+◌, vec_len}
 use Rattle.std.specs.Vec.Iter.{into_iter_len}
 use Rattle.oneshot_uses.proofs.tickets.squares_within.Given as goal
