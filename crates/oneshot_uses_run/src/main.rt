@@ -1,4 +1,4 @@
-//! Makes each use of a channel that `oneshot_uses` has, and prints what came of it.
+//! Runs each use of a channel in `oneshot_uses`, and prints its result.
 #![tactic(auto)]
 
 #[cfg(test)]

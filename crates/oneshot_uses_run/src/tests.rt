@@ -1,4 +1,4 @@
-//! What no clause says: that each use comes to its answer.
+//! Tests of what no contract states: each use reaches its result.
 
 mod divisor;
 mod pool;

@@ -1,4 +1,4 @@
-//! Searches that find a divisor, and those that drop their sender.
+//! Tests of searches that find a divisor, and of those that drop their sender.
 
 use oneshot_channel::{RecvError, async_channel};
 use oneshot_uses::divisor::{await_divisor, divisor_of, least_divisor, send_divisor, start};

@@ -1,4 +1,4 @@
-//! Answers that come, come too late or never come, and how a pool shuts down.
+//! Tests of replies that come, come too late or never come, and of the shutdown of a pool.
 
 use crossbeam_channel as queue;
 use oneshot_channel::channel;

@@ -1,4 +1,4 @@
-//! Two replies that are awaited at once, and those that do not come.
+//! Tests of two replies awaited at once, and of those that do not come.
 
 use oneshot_uses::replies::{both_replies, both_squares, first_reply, first_square};
 use oneshot_uses::request::ask;

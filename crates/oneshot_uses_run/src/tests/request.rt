@@ -1,4 +1,4 @@
-//! Replies that come, and those that do not.
+//! Tests of replies that come, and of those that do not.
 
 use oneshot_uses::request::{Asked, ask, serve_all, squares_of};
 use std::test::Fail;

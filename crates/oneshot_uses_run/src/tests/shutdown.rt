@@ -1,4 +1,4 @@
-//! How a worker stops.
+//! Tests of how a worker stops.
 
 use oneshot_channel::channel;
 use oneshot_uses::shutdown::{Ending, Order, Report, watched, work_until};

@@ -1,4 +1,4 @@
-//! Results that are waited for, and those that come back.
+//! Tests of results that are received, and of those that come back.
 
 use oneshot_channel::channel;
 use oneshot_uses::task::{awaited, perform, start, unclaimed};

@@ -1,4 +1,4 @@
-//! Tickets whose reply comes, comes too late or never comes.
+//! Tests of tickets whose reply comes, comes too late or never comes.
 
 use oneshot_channel::reply::{Request, Ticket, request};
 use oneshot_uses::request::{Square, Unanswered};
