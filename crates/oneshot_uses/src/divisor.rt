@@ -24,7 +24,7 @@ pub struct Divisor {
 
 /// Returns the least divisor of `number` that is above 1 and below the number.
 ///
-/// `None`: there is none: `number` is a prime, 0 or 1.
+/// `None`: there is none, since `number` is a prime, 0 or 1.
 pub fn least_divisor(number: u32) -> Option<Divisor>
     ensures number { IfSome result (λ divisor. divisor.number ≡ number) }
     ensures least { IfSome result (λ divisor. (k : ℕ) → 1 < k → k < divisor.value → number % k ≢ 0) }

@@ -1,4 +1,4 @@
-//! A pool of workers that serve one queue of requests: waits for each reply within a limit, then shuts the pool down.
+//! A pool of workers on one queue of requests, with a limit on the wait for each reply, and the pool's shutdown.
 
 ghost use Rattle.std.specs.Prelude.{◌≡◌, IfOk, length, vec_len};
 
