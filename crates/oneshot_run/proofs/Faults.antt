@@ -1,4 +1,4 @@
--- The faults of an input, where its bytes are known.
+-- Which faults an input may have, if its bytes are known.
 use Rattle.std.proofs.Common.{arith, ◌≡◌, ℕ, ◌+◌, ◌<◌, ◌≤◌, List, length, Option, Some, None, IfSome, IfErr, IsOkUnless, Result, Ok, Err, refl, ap, ◌∙◌, subst}
 use Rattle.std.proofs.lemmas.List.{length-append}
 use Rattle.std.specs.Io.KnownBytes.{Consumes}
@@ -17,7 +17,7 @@ use Rattle.oneshot_run.specs.declared.fault.Fault.{Fault}
 use Rattle.oneshot_run.specs.declared.fault.Fault.TheVariants as F
 use Rattle.oneshot_run.specs.Run.{AsksFor, IsFault, is_unread, is_out_of_memory, is_too_long, is_no_text, is_malformed, is_unwritten, most_bytes}
 
--- the fault of a result that passes this one on
+-- a result that passes on this fault
 pub passed_on : {T : Type 0} (known : Option (List ℕ)) (fault : Fault) (r : Result T Fault)
     → IsErrAnd r (λ told. told ≡ fault) → IfSome known (λ input. IsFault input fault)
     → IfErr r (λ told. IfSome known (λ input. IsFault input told))
@@ -41,7 +41,7 @@ too_long (Some input) (Some left) bytes reads many =
     let whole : length input ≡ length bytes + length left = ap (λ all. length all) reads ∙ length-append bytes left in
     is_too_long (omega (arith, whole, many))
 
--- bytes that were read are the input
+-- the bytes that were read are the input
 pub no_text : (known : Option (List ℕ)) (bytes : List ℕ) → IfSome known (λ input. bytes ≡ input)
     → length bytes ≤ most_bytes → ¬ (IsAscii bytes) → IfSome known (λ input. IsFault input F.NotAscii)
 no_text None bytes is short other = tt
@@ -56,7 +56,7 @@ no_request (Some input) bytes (P.Malformed fault) is short ascii faulty =
     subst (λ b. IsFault b (F.Malformed fault)) is (is_malformed (short, ascii) (faulty fault refl))
 no_request (Some input) bytes (P.OutOfMemory refusal) is short ascii faulty = is_out_of_memory
 
--- a run that is asked for, and was not written
+-- a run that was asked for, and could not be written
 pub no_write : (known : Option (List ℕ)) (r : Result (Unit {0}) Fault) (sender : SenderScript ℕ)
     (receiver : ReceiverScript) (moves : List Move) → IsOkUnless r F.WriteFailed
     → IfSome known (λ input. AsksFor input sender receiver moves)

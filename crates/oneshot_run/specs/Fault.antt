@@ -1,4 +1,4 @@
--- The program's faults: what becomes of a text that gives no request, and the exit status of each.
+-- The program's faults: the fault for each error of the parser, and the exit status of each fault.
 use Rattle.std.specs.Prelude.{ℕ}
 use Rattle.oneshot_run.specs.declared.fault.Fault.{Fault}
 use Rattle.oneshot_run.specs.declared.fault.Fault.TheVariants.{ReadFailed, WriteFailed, InputTooLong, NotAscii, Malformed, OutOfMemory}
@@ -9,7 +9,7 @@ abbrev pub fault_of : ParseError → Fault
 fault_of (P.Malformed fault) = Malformed fault
 fault_of (P.OutOfMemory refusal) = OutOfMemory refusal
 
--- 1 where a stream failed, 2 where the input is at fault, 3 where memory was refused
+-- 1: a stream failed; 2: the input is at fault; 3: out of memory
 abbrev pub status_of : Fault → ℕ
 status_of ReadFailed = 1
 status_of WriteFailed = 1

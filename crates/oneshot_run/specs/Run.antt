@@ -1,4 +1,4 @@
--- What the program writes for an input, or which fault it tells.
+-- What the program writes for an input, or which fault it reports.
 use Rattle.std.specs.Prelude.{◌≢◌, IfSome, Option, ℕ, ◌<◌, ◌≤◌, List, length}
 use Rattle.std.specs.Io.KnownBytes.{Appends, Keeps}
 use Rattle.std.specs.Str.{IsAscii}
@@ -20,7 +20,7 @@ use Rattle.oneshot_run.specs.declared.fault.Fault.TheVariants as F
 abbrev pub most_bytes : ℕ
 most_bytes = 1048576
 
--- an input that is not too long, and is text
+-- an input that is not too long, and is ASCII
 abbrev pub IsReadable : List ℕ → Type 0
 IsReadable input = (length input ≤ most_bytes) × IsAscii input
 
@@ -30,14 +30,14 @@ pub record AsksFor (input : List ℕ) (sender : SenderScript ℕ) (receiver : Re
   pub readable : IsReadable input
   pub asks : Asks input sender receiver moves
 
--- the writer, where what it holds is known, got the text of this run
+-- the writer, if its content is known, received the text of this run
 pub record IsWritten (sender : SenderScript ℕ) (receiver : ReceiverScript) (moves : List Move)
     (before after : Option (List ℕ)) : Type 0 where
   pub text : List ℕ
   pub is_text : IsTextOf (message_of sender.last) 1 (opening sender receiver) moves text
   pub appends : Appends before after text
 
--- and so the text of the run that the input asks for
+-- the writer received the text of the run that the input asks for
 pub record IsAnswered (input : List ℕ) (before after : Option (List ℕ)) : Type 0 where
   pub sender : SenderScript ℕ
   pub receiver : ReceiverScript
@@ -45,8 +45,8 @@ pub record IsAnswered (input : List ℕ) (before after : Option (List ℕ)) : Ty
   pub asked : AsksFor input sender receiver moves
   pub written : IsWritten sender receiver moves before after
 
--- When each fault is told, which is the first in this order. Of a stream that fails and of memory that is
--- refused the input knows nothing.
+-- When the program may report each fault. Among the faults of the input an earlier one excludes the later
+-- ones. Whether a stream fails or memory runs out does not depend on the input.
 pub data IsFault (input : List ℕ) : Fault → Type 0 where
   is_unread : IsFault input F.ReadFailed
   is_too_long : most_bytes < length input → IsFault input F.InputTooLong
@@ -56,8 +56,8 @@ pub data IsFault (input : List ℕ) : Fault → Type 0 where
   is_unwritten : (sender : SenderScript ℕ) (receiver : ReceiverScript) (moves : List Move)
       → AsksFor input sender receiver moves → IsFault input F.WriteFailed
 
--- The exit status: 0 where the answer was written, or that of the fault. Only a failed write leaves the
--- output other than it was.
+-- The exit status: 0 if the trace was written, else that of the fault. Of the faults, only a failed write may
+-- change the output.
 pub data EndsWith (known : Option (List ℕ)) (before after : Option (List ℕ)) : ℕ → Type 0 where
   is_answered : IfSome known (λ input. IsAnswered input before after) → EndsWith known before after 0
   is_faulty : (fault : Fault) → IfSome known (λ input. IsFault input fault)

@@ -1,4 +1,4 @@
-//! Why the program gives no trace.
+//! The program's faults and their exit statuses.
 
 ghost use Rattle.std.specs.Prelude.{◌≡◌, alloc_error};
 ghost use Rattle.oneshot_run.specs.declared.fault.Fault.TheVariants.{OutOfMemory};
@@ -8,7 +8,7 @@ use oneshot_text::{Malformed, ParseError};
 use std::alloc::{AllocError, AllocFailed};
 use thiserror::Error;
 
-/// Why there is no trace.
+/// Why the program wrote no whole trace.
 #[derive(Debug, Drop, Error)]
 pub enum Fault {
     /// The input could not be read.
@@ -17,16 +17,16 @@ pub enum Fault {
     /// The output could not be written.
     #[error("write failed")]
     WriteFailed,
-    /// More bytes came than an input may have.
+    /// The input has more than 1,048,576 bytes.
     #[error("input too long")]
     InputTooLong,
-    /// A byte is above 127.
+    /// A byte of the input is above 127.
     #[error("input is not ASCII")]
     NotAscii,
     /// The input is not three lines of the grammar.
     #[error(transparent)]
     Malformed(Malformed),
-    /// A request for memory was refused.
+    /// Out of memory.
     #[error("out of memory")]
     OutOfMemory(AllocError),
 }
@@ -59,7 +59,7 @@ impl<T: Drop> From<AllocFailed<T>> for Fault {
 }
 
 impl Fault {
-    /// The program's exit status.
+    /// Returns the exit status: 1 for a stream, 2 for the input, 3 for memory.
     pub fn status(&self) -> u8
         ensures { result ≡ status_of self.now }
     {

@@ -1,4 +1,4 @@
-//! All of the input, as text.
+//! Reads all of the input, as text.
 
 ghost use Rattle.std.specs.Prelude.{◌≡◌, ◌<◌, ◌≤◌, ◌↔◌, IfErr, IfOk, IfSome, IsOk, IsOkUnless, length, take};
 ghost use Rattle.std.specs.Io.{ReadsAtMost};
@@ -14,10 +14,10 @@ use std::str;
 /// The most bytes that an input may have.
 const MOST: usize = 1_048_576;
 
-/// How many bytes a read asks for.
+/// The most bytes that one read returns.
 const BLOCK: usize = 4096;
 
-/// All bytes that `input` gives. Once they are too many, it is read no further.
+/// Reads all bytes of `input`. Once they are too many, stops reading.
 #[tactic(auto, using(crate::proofs::Faults::unread, crate::proofs::Faults::no_memory, crate::proofs::Faults::too_long))]
 pub(crate) fn read_input<R: Read>(alloc: Global, input: &mut R) -> Result<Vec<u8>, Fault>
     ensures whole { IfOk result (λ bytes.
@@ -38,7 +38,7 @@ pub(crate) fn read_input<R: Read>(alloc: Global, input: &mut R) -> Result<Vec<u8
     Err(Fault::InputTooLong)
 }
 
-/// One read, made again where a signal interrupts it.
+/// Reads once, and again if a signal interrupts the read.
 fn read_block<R: Read>(input: &mut R, block: &mut [u8]) -> Result<usize, Fault>
     ensures bound { ReadsAtMost result block.new }
     ensures bytes { IfOk result (λ n.
@@ -57,7 +57,7 @@ fn read_block<R: Read>(input: &mut R, block: &mut [u8]) -> Result<usize, Fault>
     Err(Fault::ReadFailed)
 }
 
-/// The bytes as text.
+/// Returns `bytes` as text, if they are ASCII.
 pub(crate) fn text_of(bytes: &[u8]) -> Result<&str, Fault>
     ensures text { IfOk result (λ text. text.now ≡ bytes.now) }
     ensures ascii { IsOk result ↔ IsAscii bytes.now }

@@ -26,8 +26,8 @@ fn main(rt: HostRuntime) -> ExitCode {
     ))
 }
 
-/// Does what `run` does, writes a fault as a line to `errors`, and gives the program's exit status, which
-/// is 0 where the trace was written.
+/// Calls `run` with `alloc`, `input` and `output`, and returns the exit status: 0 if the trace was written,
+/// else that of the fault, which it writes as a line to `errors`.
 pub fn answer<R: Read, W: Write, E: Write>(
     alloc: Global,
     input: &mut R,
@@ -40,7 +40,7 @@ pub fn answer<R: Read, W: Write, E: Write>(
     match run(alloc, input, output) {
         Ok(()) => 0,
         Err(fault) => {
-            // Where it cannot be written, the status alone tells.
+            // If this line cannot be written, only the status reports the fault.
             let _ = writeln!(errors, "{fault}");
             fault.status()
         }

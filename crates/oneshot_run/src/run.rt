@@ -1,4 +1,4 @@
-//! From the bytes of an input to those of the output.
+//! Reads an input, and writes the trace of the run that it asks for.
 
 ghost use Rattle.std.specs.Prelude.{◌≢◌, IfErr, IfOk, IfSome, IsOkUnless, OnOk};
 ghost use Rattle.std.specs.Io.KnownBytes.{Keeps};
@@ -13,7 +13,8 @@ use std::io::{Read, Write};
 
 /// Reads all of `input`, runs what it asks for, and writes the trace to `output`.
 ///
-/// After the first byte of output no memory is asked for, and after a failed write nothing is written.
+/// `alloc` allocates the run. After the first byte of output nothing is allocated, and after a failed write
+/// nothing is written. `Err`: a fault of the streams or the input, or out of memory.
 pub fn run<R: Read, W: Write>(alloc: Global, input: &mut R, output: &mut W) -> Result<(), Fault>
     ensures answered { OnOk result (IfSome (R.remaining input.old) (λ all.
         IsAnswered all (W.contents output.old) (W.contents output.new))) }
@@ -26,7 +27,7 @@ pub fn run<R: Read, W: Write>(alloc: Global, input: &mut R, output: &mut W) -> R
     write_answer(request, output)
 }
 
-/// What all of `input` asks for.
+/// Reads all of `input`, and returns the request in it.
 fn read_request<R: Read>(alloc: Global, input: &mut R) -> Result<Request, Fault>
     ensures asked { IfOk result (λ request. IfSome (R.remaining input.old) (λ all.
         AsksFor all request.sender request.receiver request.moves.items)) }
@@ -37,7 +38,7 @@ fn read_request<R: Read>(alloc: Global, input: &mut R) -> Result<Request, Fault>
     Ok(parse_request(alloc, text_of(&bytes)?)?)
 }
 
-/// Runs what is asked for, and writes the trace to `output`.
+/// Runs `request`, and writes the trace to `output`.
 fn write_answer<W: Write>(request: Request, output: &mut W) -> Result<(), Fault>
     ensures written { OnOk result (IsWritten request.sender request.receiver request.moves.items
         (W.contents output.old) (W.contents output.new)) }

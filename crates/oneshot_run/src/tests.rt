@@ -1,4 +1,4 @@
-//! What the program writes for an input, or the fault that it tells.
+//! Tests of what the program writes for an input, or of the fault that it reports.
 
 mod damaged;
 mod faults;
@@ -12,8 +12,8 @@ use crate::answer;
 use std::alloc::{AllocError, Global};
 use std::process::Abort;
 
-/// The output for `input`, beside which nothing is told; or the status and the one line of the fault,
-/// beside which nothing is written.
+/// Returns the output for `input`, or the status and the one line of the fault. Fails if the program writes
+/// both.
 fn told(rt: &(impl Abort + AllocGlobal), input: &[u8]) -> String {
     let mut input = input;
     let mut written = Vec::new(rt.alloc());
@@ -41,10 +41,10 @@ fn assert_traces(rt: &(impl Abort + AllocGlobal), cases: &[(&str, &str)]) {
     }
 }
 
-/// A message that is sent, received and let go.
+/// Sends and receives a message, then drops the receiver.
 const SENT: &str = "S send 7\nR try drop\nX ssrrrrr\n";
 
-/// What the program writes for `SENT`, an entry a line and then the end.
+/// The output for `SENT`: a line for each entry, then the end.
 const SENT_TRACE: &str = "1 S write-message 3>3 m:NotSent>InCell
 2 S add 3>4 = Ok
 3 R load 4>4
@@ -56,7 +56,7 @@ rest Delivered(7)
 block freed
 ";
 
-/// An input of this many moves of a sender that has no call, and what the program writes for it.
+/// Returns an input of `moves` moves of a sender without a call, and its output.
 fn idle(alloc: Global, moves: usize) -> Result<(String, String), AllocError> {
     let mut input = String::from_str(alloc, "S\nR\nX ")?;
     let mut output = String::new(alloc);
@@ -68,7 +68,7 @@ fn idle(alloc: Global, moves: usize) -> Result<(String, String), AllocError> {
     Ok((input, output))
 }
 
-/// An input of so many receives that find nothing and then of moves without a call, and its output.
+/// Returns an input of `calls` receives that find nothing and of `moves` moves, and its output.
 fn receives(alloc: Global, calls: usize, moves: usize) -> Result<(String, String), AllocError> {
     let mut input = String::from_str(alloc, "S send 7\nR")?;
     let mut output = String::new(alloc);

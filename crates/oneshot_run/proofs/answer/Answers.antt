@@ -1,4 +1,4 @@
--- How the program ends.
+-- The program's exit status.
 use Rattle.std.proofs.Common.{subst, sym}
 use Rattle.oneshot_run.specs.Run.{EndsWith, is_answered, is_faulty}
 use Rattle.oneshot_run.proofs.answer.Goals as goal

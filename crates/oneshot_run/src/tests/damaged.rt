@@ -1,4 +1,4 @@
-//! Damaged texts: the program tells of each what a second reading says, which knows the grammar alone.
+//! Tests of damaged texts: the program agrees with a second reading, which knows only the grammar.
 
 mod damage;
 mod drawn;
@@ -13,8 +13,8 @@ use reading::{Asked, Kind, read};
 use std::process::Abort;
 use std::test::Fail;
 
-/// Asserts that the program tells of an input what the reading says: the trace of what it asks for, or its
-/// first fault.
+/// Asserts that the program's output for `input` agrees with the second reading: the trace of the run that it
+/// asks for, or its first fault.
 fn assert_as_read(rt: &(impl Abort + AllocGlobal), input: &[u8]) -> Result<Kind, Fail> {
     let output = told(rt, input);
     match read(rt.alloc(), input)? {
@@ -30,7 +30,7 @@ fn assert_as_read(rt: &(impl Abort + AllocGlobal), input: &[u8]) -> Result<Kind,
     }
 }
 
-/// Asserts an entry a move, then where the message is left, then whether the block is freed, and no more.
+/// Asserts an entry for each move, then the message's place, then whether the block is freed, and no more.
 fn assert_trace(
     rt: &(impl Abort + AllocGlobal),
     asked: Asked<'_>,
@@ -48,7 +48,7 @@ fn assert_trace(
     Ok(())
 }
 
-/// Asserts the number of an entry, and that it is one of the end that the letter moves.
+/// Asserts an entry's number, and that the entry is of the end that `letter` moves.
 fn assert_entry(
     rt: &(impl Abort + AllocGlobal),
     entry: &str,
@@ -61,7 +61,7 @@ fn assert_entry(
     Ok(())
 }
 
-/// Asserts that the rest is of this message, if any.
+/// Asserts that the line `rest` shows this message, if there is one.
 fn assert_rest(
     rt: &(impl Abort + AllocGlobal),
     rest: &str,

@@ -1,4 +1,4 @@
-//! Faults of the input, with their status. What is wrong with the input as a whole is told before any of
+//! Tests of the faults of an input, with their status: those of the whole input are reported before those of
 //! its lines.
 
 use crate::tests::told;

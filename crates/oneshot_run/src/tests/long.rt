@@ -1,4 +1,4 @@
-//! Long inputs: all is told of them, and the time grows with their length.
+//! Tests of long inputs: the output is whole, and the time grows with the length.
 
 use crate::tests::{receives, told};
 use std::process::Abort;
@@ -13,7 +13,7 @@ fn as_many_bytes_as_an_input_may_have(rt: HostRuntime) -> Result<(), Fail> {
     Ok(())
 }
 
-/// How long the program works so many times on so many calls, each of which has its reply.
+/// Returns the time of `times` runs of `calls` calls, and asserts each output.
 fn time_of(
     rt: &(impl Abort + AllocGlobal + Clock),
     times: usize,
@@ -30,8 +30,8 @@ fn time_of(
 #[test]
 fn the_time_grows_with_the_calls(rt: HostRuntime) -> Result<(), Fail> {
     for _ in 0..3 {
-        // As many calls in all, so that a busy machine delays both. Where each copies the rest, the second takes up to
-        // twenty times as long.
+        // Both make the same number of calls, so that a busy machine delays both. If each call copied the rest,
+        // the second would take up to twenty times as long.
         let few = time_of(&rt, 20, 5_000)?;
         let many = time_of(&rt, 1, 100_000)?;
         if many / 3 < few {

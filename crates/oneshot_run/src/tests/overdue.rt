@@ -1,11 +1,11 @@
-//! A deadline that runs out after each step of a `send`.
+//! Tests of a deadline that is over after each step of a `send`.
 
 use crate::tests::assert_traces;
 
 #[test]
 fn a_deadline_runs_out_after_each_step_of_a_send(rt: HostRuntime) {
     let traces = [
-        // before the send begins
+        // before the `send` begins
         (
             "S send 7\nR deadline\nX rrrorr\n",
             "1 R load 3>3

@@ -1,4 +1,4 @@
-//! Inputs of a future that are run.
+//! Tests of inputs with a future, each with its trace.
 
 use crate::tests::assert_trace;
 

@@ -1,4 +1,4 @@
-//! Readers and writers that fail, are interrupted, or move few bytes at a time.
+//! Tests of readers and writers that fail, are interrupted, or move few bytes at a time.
 
 mod pages;
 mod reads;
@@ -10,10 +10,10 @@ use std::io;
 use std::io::{ErrorKind, Read, Write};
 use std::process::Abort;
 
-/// The most interrupts in a row that a stream of these tests has.
+/// The most interrupts in a row in these tests.
 const INTERRUPTS: usize = 20;
 
-/// How a call of a stream fails, so that it is not to be made again.
+/// The failures after which a call of a stream is not repeated.
 const FAILURES: &[ErrorKind] = &[
     ErrorKind::BrokenPipe,
     ErrorKind::ConnectionReset,
@@ -22,13 +22,13 @@ const FAILURES: &[ErrorKind] = &[
     ErrorKind::WouldBlock,
 ];
 
-/// Calls of a stream that fail: how many come before them, how many they are, and how they fail.
+/// The calls of a stream that fail: how many precede them, how many fail, and how.
 #[derive(Clone, Copy)]
 struct Failures {
     before: usize,
     count: usize,
     kind: ErrorKind,
-    /// How many calls came after them.
+    /// How many calls followed them.
     after: usize,
 }
 
@@ -46,7 +46,7 @@ impl Failures {
         Failures::of(0, 0, ErrorKind::Other)
     }
 
-    /// Counts a call, and fails it if its turn has come.
+    /// Counts a call. `Err`: it is one that fails.
     fn count_call(&mut self) -> io::Result<()> {
         if self.before > 0 {
             self.before -= 1;
@@ -61,7 +61,7 @@ impl Failures {
     }
 }
 
-/// Gives a text, a byte a read.
+/// Returns a text, a byte for each read.
 #[derive(Drop)]
 struct Reader {
     rest: &'static [u8],
@@ -85,7 +85,7 @@ impl Read for Reader {
     }
 }
 
-/// Takes at most `most` bytes a write.
+/// Takes at most `most` bytes for each write.
 #[derive(Drop)]
 struct Writer {
     written: Vec<u8>,
@@ -116,7 +116,7 @@ impl Write for Writer {
     }
 }
 
-/// The exit status and all that is written to the errors.
+/// Returns the exit status, and all that was written to the errors.
 fn ending<R: Read, W: Write>(
     rt: &(impl Abort + AllocGlobal),
     input: &mut R,

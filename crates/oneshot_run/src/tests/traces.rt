@@ -1,4 +1,4 @@
-//! Inputs that are run.
+//! Tests of inputs that are run, each with its trace.
 
 use crate::tests::{SENT, SENT_TRACE, assert_traces, told};
 use std::test::Fail;
@@ -166,7 +166,7 @@ rest InError(7)
 block here
 ",
         ),
-        // A send that was not refused leaves no error to call.
+        // A `send` that returned `Ok` leaves no error to call.
         (
             "S send 7 inner into\nR\nX sss\n",
             "1 S write-message 3>3 m:NotSent>InCell
@@ -204,7 +204,7 @@ rest Delivered(7)
 block freed
 ",
         ),
-        // a park that uses its token
+        // a park that takes its token
         (
             "S send 7\nR ref\nX rrrsssssrrrr\n",
             "1 R load 3>3
@@ -223,7 +223,7 @@ rest Delivered(7)
 block here
 ",
         ),
-        // a message that comes before the wait
+        // a message sent before the wait
         (
             "S send 7\nR ref\nX rrssrrrr\n",
             "1 R load 3>3
@@ -238,7 +238,7 @@ rest Delivered(7)
 block here
 ",
         ),
-        // a receiver is woken by the senders drop
+        // a receiver that the sender's drop wakes
         (
             "S drop\nR recv\nX rrrssssrrr\n",
             "1 R load 3>3
@@ -255,7 +255,7 @@ rest none
 block freed
 ",
         ),
-        // a sender that goes during the wait
+        // a sender dropped during the wait
         (
             "S closed drop\nR recv\nX rrrsssssrrr\n",
             "1 R load 3>3
@@ -273,7 +273,7 @@ rest none
 block freed
 ",
         ),
-        // each call has its own error
+        // the error of each call
         (
             "S drop\nR try ref closed try recv\nX srrrrrrr\n",
             "1 S xor 3>2 = dropped
@@ -288,7 +288,7 @@ rest none
 block freed
 ",
         ),
-        // a sender that goes before the wait
+        // a sender dropped before the wait
         (
             "S drop\nR recv\nX rrsrrr\n",
             "1 R load 3>3
@@ -313,7 +313,7 @@ rest none
 block here
 ",
         ),
-        // a receive that takes back its waker, and the message
+        // a receive that takes its waker back, then the message
         (
             "S send 7\nR recv\nX rrssrrrr\n",
             "1 R load 3>3
@@ -352,7 +352,7 @@ block freed
 #[test]
 fn traces_of_receives_with_a_deadline(rt: HostRuntime) {
     let traces = [
-        // a message that comes past the deadline
+        // a message sent after the deadline
         (
             "S send 7\nR deadline\nX rrrossrrrsssrrrr\n",
             "1 R load 3>3
@@ -394,7 +394,7 @@ rest Delivered(7)
 block here
 ",
         ),
-        // a timeout that no instant can hold
+        // a timeout whose deadline no instant can hold
         (
             "S\nR forever\nX orrrr\n",
             "1 R clock 3>3 over
@@ -406,7 +406,7 @@ rest none
 block here
 ",
         ),
-        // a timeout that runs out after a park
+        // a timeout that is over after a park
         (
             "S\nR timeout\nX orrrrrrorr\n",
             "1 R clock 3>3 over
@@ -423,7 +423,7 @@ rest none
 block here
 ",
         ),
-        // each timed call finds no sender
+        // timed calls after the sender was dropped
         (
             "S drop\nR deadline timeout forever\nX srrrorr\n",
             "1 S xor 3>2 = dropped
@@ -437,7 +437,7 @@ rest none
 block here
 ",
         ),
-        // a sender that goes at the deadline
+        // a sender dropped at the deadline
         (
             "S drop\nR deadline\nX rrrossssrr\n",
             "1 R load 3>3
@@ -454,7 +454,7 @@ rest none
 block here
 ",
         ),
-        // a sender that goes before the wait
+        // a sender dropped before the wait
         (
             "S drop\nR deadline\nX rrsrrr\n",
             "1 R load 3>3
@@ -467,7 +467,7 @@ rest none
 block here
 ",
         ),
-        // a clock that is read while the sender has the waker
+        // a clock read while the sender has the waker
         (
             "S send 7\nR deadline\nX rrrssr\n",
             "1 R load 3>3
@@ -480,7 +480,7 @@ rest InCell(7)
 block here
 ",
         ),
-        // a message that is there at the deadline, and a wake after it was received
+        // a message that is there at the deadline, received before the wake
         (
             "S send 7\nR deadline\nX rrrssssorrrs\n",
             "1 R load 3>3
@@ -499,7 +499,7 @@ rest Delivered(7)
 block here
 ",
         ),
-        // the wake comes before it is received
+        // the same, received after the wake
         (
             "S send 7\nR deadline\nX rrrssssorsrr\n",
             "1 R load 3>3
@@ -518,7 +518,7 @@ rest Delivered(7)
 block here
 ",
         ),
-        // a sender that is past its first step at the deadline, and then goes
+        // a sender whose drop has begun at the deadline
         (
             "S drop\nR deadline\nX rrrosrrssrs\n",
             "1 R load 3>3
@@ -536,7 +536,7 @@ rest none
 block here
 ",
         ),
-        // a message that comes once the wait has ended
+        // a message sent after the wait
         (
             "S send 7\nR deadline\nX rrrorssr\n",
             "1 R load 3>3
@@ -551,7 +551,7 @@ rest InCell(7)
 block here
 ",
         ),
-        // a sender that goes once the wait has ended
+        // a sender dropped after the wait
         (
             "S drop\nR deadline\nX rrrorsr\n",
             "1 R load 3>3
@@ -565,7 +565,7 @@ rest none
 block here
 ",
         ),
-        // the first clock of a timeout
+        // a timeout's first reading of the clock
         (
             "S\nR timeout\nX r\n",
             "1 R clock 3>3 left
@@ -573,7 +573,7 @@ rest none
 block here
 ",
         ),
-        // each call has its own word for nothing, also where the message is 0
+        // each call's reply for no message, in a channel whose message is 0
         (
             "S send 0\nR try deadline\nX rrrrorr\n",
             "1 R load 3>3 = Err(Empty)
@@ -591,7 +591,7 @@ block here
     assert_traces(&rt, &traces);
 }
 
-/// The largest message that 64 bits hold, in each reply that has it and at each place.
+/// The largest message, in each reply that has it and at each place.
 #[test]
 fn traces_of_a_large_message(rt: HostRuntime) {
     let traces = [
@@ -650,8 +650,7 @@ block freed
     assert_traces(&rt, &traces);
 }
 
-/// `o` and `n` at steps that read no clock and copy no waker are as `r`, and `n` at a clock is one that
-/// has time left.
+/// `o` acts as `r` at each step but a reading of the clock, and `n` at each but a copy of a waker.
 #[test]
 fn a_letter_says_only_what_its_step_asks(rt: HostRuntime) {
     let trace = "1 R load 3>3

@@ -1,4 +1,4 @@
--- An interrupted read gave nothing.
+-- An interrupted read takes nothing from the input.
 use Rattle.std.specs.Io.KnownBytes.{Keeps}
 use Rattle.oneshot_run.proofs.input.read_block.Given as goal
 

@@ -1,4 +1,4 @@
--- The faults that come through a `?`.
+-- The faults that `?` passes on.
 use Rattle.std.proofs.Common.{rules}
 use Rattle.oneshot_run.proofs.Faults.{unread, no_memory, passed_on}
 use Rattle.oneshot_run.proofs.input.read_input.Goals as goal

@@ -1,4 +1,4 @@
--- What came so far is what the reader had, and each block leaves room for fewer.
+-- The bytes read so far are the first of the input, and each block leaves less room.
 use Rattle.std.proofs.Common.{◌+◌, ◌-◌, vec_len}
 use Rattle.std.specs.Io.KnownBytes.{Consumes}
 use Rattle.oneshot_run.specs.declared.input.TheConstants.{MOST}

@@ -1,4 +1,4 @@
--- An ASCII text is UTF-8, so `from_utf8` refuses none.
+-- ASCII text is UTF-8, so `from_utf8` succeeds.
 use Rattle.std.proofs.Common.{arith}
 use Rattle.std.proofs.lemmas.Grind.{common_steps}
 use Rattle.std.proofs.lemmas.Str.{IsUtf8-from_ascii}

@@ -1,4 +1,4 @@
--- The faults of an input that was read.
+-- The faults of an input whose bytes were all read.
 use Rattle.std.proofs.Common.{Err, refl, sym, ap, ◌∙◌, subst, true≢false}
 use Rattle.std.specs.Str.{IsAscii}
 use Rattle.oneshot_text.specs.FirstFault.{HasFault}

@@ -1,4 +1,4 @@
--- What is asked for was not written.
+-- The fault of a run that could not be written.
 use Rattle.oneshot_run.proofs.Faults.{no_write}
 use Rattle.oneshot_run.proofs.run.run.Goals as goal
 

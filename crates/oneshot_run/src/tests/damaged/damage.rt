@@ -1,4 +1,4 @@
-//! Damages of a text.
+//! The kinds of damage to a text.
 
 ghost use Rattle.std.specs.Prelude.{◌<◌, length};
 
@@ -6,7 +6,7 @@ use crate::tests::damaged::draws::Draws;
 use crate::tests::damaged::pieces::{Piece, change_end, cut, exchange, join, put};
 use std::alloc::{AllocError, Global};
 
-/// A kind of damage. Where it is made is drawn.
+/// A kind of damage. Its place is drawn.
 #[derive(Clone, Copy)]
 pub(super) enum Damage {
     Byte(ByteDamage),
@@ -14,48 +14,48 @@ pub(super) enum Damage {
     Word(WordDamage),
 }
 
-/// A damage at a byte.
+/// A damage to a byte.
 #[derive(Clone, Copy)]
 pub(super) enum ByteDamage {
-    /// It becomes a byte that is at most 127.
+    /// It becomes a byte of at most 127.
     Changed,
     /// It becomes a byte above 127.
     Above127,
     Cut,
     Doubled,
-    /// All before it is cut off.
+    /// All bytes before it are cut off.
     FrontCut,
-    /// All before it is left.
+    /// Only the bytes before it are left.
     FrontLeft,
 }
 
-/// A damage of a line.
+/// A damage to a line.
 #[derive(Clone, Copy)]
 pub(super) enum LineDamage {
     /// Two lines change places.
     Exchanged,
-    /// A line is put behind a line.
+    /// A line is inserted again.
     Put,
-    /// It ends in other bytes than a line feed.
+    /// It ends in `\r\n` or `\r`.
     Ended,
 }
 
-/// A damage of a word.
+/// A damage to a word.
 #[derive(Clone, Copy)]
 pub(super) enum WordDamage {
     /// Two words change places.
     Exchanged,
-    /// A word of the grammar is put behind a word.
+    /// A word of the grammar is inserted.
     Put,
-    /// Each number becomes another number, or none.
+    /// Each number becomes one of `NUMBERS`.
     Number,
-    /// A tab ends it.
+    /// A tab follows it, in place of a space.
     Tabbed,
-    /// Two spaces end it.
+    /// Two spaces follow it.
     Spaced,
 }
 
-/// Each damage that may be drawn.
+/// The damages that may be drawn.
 const DAMAGES: [Damage; 14] = [
     Damage::Byte(ByteDamage::Changed),
     Damage::Byte(ByteDamage::Above127),
@@ -79,7 +79,7 @@ const WORDS: [&str; 21] = [
     "forever", "full", "recv", "future", "poll", "7", "srr", "o", "n",
 ];
 
-/// Numbers at the edges of what a text may have, and words that are none.
+/// The smallest and the largest number, and words that are not numbers.
 const NUMBERS: [&str; 12] = [
     "0",
     "18446744073709551615",
@@ -95,10 +95,10 @@ const NUMBERS: [&str; 12] = [
     "-7",
 ];
 
-/// What may end a line in place of a line feed.
+/// What a damaged line may end in.
 const LINE_ENDS: [&str; 2] = ["\r\n", "\r"];
 
-/// The text with a drawn damage.
+/// Returns the text with a drawn damage.
 pub(super) fn damaged(
     alloc: Global,
     text: &[u8],
@@ -181,14 +181,14 @@ fn damage_words<'a>(
     Ok(())
 }
 
-/// One of these words.
+/// Draws one of `words`.
 fn word_of(words: &[&'static str], draws: &mut Draws) -> &'static [u8]
     requires { 0 < length words.now }
 {
     draws.one_of(words).as_bytes()
 }
 
-/// Puts `number` in the place of each word of digits.
+/// Replaces each word of digits, and each empty word, with `number`.
 fn change_numbers<'a>(words: &mut [Piece<'a>], number: &'a [u8]) {
     for word in words.iter_mut() {
         if word.body.iter().all(|byte| byte.is_ascii_digit()) {

@@ -1,4 +1,4 @@
-//! Texts that are drawn, damaged and told as they are read.
+//! Tests of texts that are drawn and damaged.
 
 use crate::tests::damaged::assert_as_read;
 use crate::tests::damaged::damage::damaged;
@@ -23,10 +23,10 @@ const TEXTS: [&str; 8] = [
 /// How many texts a test draws.
 const DRAWN: usize = 10_000;
 
-/// How often each kind of reading has to come among them.
+/// How often each kind of result must be among them.
 const OFTEN: usize = 100;
 
-/// A text that asks for a run, with one to three damages.
+/// Draws a text that asks for a run, with one to three damages.
 fn drawn(alloc: Global, draws: &mut Draws) -> Result<Vec<u8>, AllocError> {
     let mut text = Vec::from_slice(alloc, draws.one_of(&TEXTS).as_bytes())?;
     for _ in 0..=draws.below(3) {
@@ -35,7 +35,7 @@ fn drawn(alloc: Global, draws: &mut Draws) -> Result<Vec<u8>, AllocError> {
     Ok(text)
 }
 
-/// Draws texts from a seed, and asserts that each is told as it is read.
+/// Draws texts from `seed`, and asserts that the program agrees with the second reading on each.
 fn assert_drawn(rt: &(impl Abort + AllocGlobal), seed: u64) -> Result<(), Fail> {
     let mut draws = Draws::new(seed);
     let mut kinds = Vec::new(rt.alloc());

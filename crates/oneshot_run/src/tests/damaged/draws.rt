@@ -2,19 +2,19 @@
 
 ghost use Rattle.std.specs.Prelude.{◌<◌, length};
 
-/// Numbers without end, drawn from a state of 64 bits that is not 0.
+/// An endless sequence of numbers, drawn from a 64-bit state other than 0.
 #[derive(Drop)]
 pub(super) struct Draws {
     state: u64,
 }
 
 impl Draws {
-    /// The numbers that a seed draws.
+    /// The numbers drawn from `seed`.
     pub(super) fn new(seed: u64) -> Draws {
         Draws { state: seed }
     }
 
-    /// A number below `bound`, or 0 where there is none.
+    /// Draws a number below `bound`, or 0 if `bound` is 0.
     pub(super) fn below(&mut self, bound: usize) -> usize
         ensures { 0 < bound → result < bound }
     {
@@ -25,7 +25,7 @@ impl Draws {
         self.state as usize % bound
     }
 
-    /// One of the items.
+    /// Draws one of `items`.
     pub(super) fn one_of<T: Copy>(&mut self, items: &[T]) -> T
         requires { 0 < length items.now }
     {

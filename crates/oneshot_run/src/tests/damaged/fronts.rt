@@ -1,4 +1,4 @@
-//! The fronts of an input, and an input that goes on behind its third line.
+//! Tests of the prefixes of an input, and of input after the third line.
 
 use crate::tests::damaged::assert_as_read;
 use crate::tests::damaged::reading::Kind;
@@ -7,7 +7,7 @@ use std::alloc::AllocGlobal;
 use std::process::Abort;
 use std::test::Fail;
 
-/// Texts that make an input in their order, each with what is told of the fronts that end in it.
+/// The pieces of an input, in their order, each with the output for the prefixes that end in it.
 const FRONTS: &[(&str, &str)] = &[
     ("S", "2 line 2 is missing"),
     (" sen", "2 line 1: unknown word 1"),
@@ -25,7 +25,7 @@ const FRONTS: &[(&str, &str)] = &[
     (" ", "2 line 3: unknown word 1"),
 ];
 
-/// The schedule behind them.
+/// The schedule after them.
 const SCHEDULE: &str = "rrrrrssrrssrrrrs";
 
 #[test]
@@ -49,7 +49,7 @@ fn each_front_of_an_input(rt: HostRuntime) -> Result<(), Fail> {
     assert_told(&rt, &front, &trace)
 }
 
-/// The program tells this of the input, and so does the reading.
+/// Asserts the program's output for `input`, and that the second reading agrees.
 fn assert_told(rt: &(impl Abort + AllocGlobal), input: &[u8], output: &str) -> Result<(), Fail> {
     assert_eq!(rt;
         told(rt, input).as_str(),
@@ -61,7 +61,7 @@ fn assert_told(rt: &(impl Abort + AllocGlobal), input: &[u8], output: &str) -> R
     Ok(())
 }
 
-/// Faults of the three lines, beside input behind them.
+/// Inputs that go on after the third line, with the fault that the program reports.
 const BEFORE_MORE_INPUT: &[(&str, &str)] = &[
     ("S\nR\nX\ns", "2 input after line 3"),
     ("s\nR\nX\ns", "2 line 1: must begin with S"),

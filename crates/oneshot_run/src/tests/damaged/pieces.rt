@@ -1,19 +1,19 @@
-//! A text in pieces: its words with what parts them, or its lines with what ends them.
+//! A text in pieces: its words or lines, each with the bytes that end it.
 
 use crate::tests::damaged::draws::Draws;
 use std::alloc::{AllocError, Global};
 use std::slice;
 
-/// Bytes of a text, and what stands behind them.
+/// A piece of a text.
 #[derive(Clone, Copy)]
 pub(super) struct Piece<'a> {
     /// A word, or a line.
     pub(super) body: &'a [u8],
-    /// What ends it, which is nothing where the text ends.
+    /// What ends it: nothing, at the end of the text.
     pub(super) end: &'a [u8],
 }
 
-/// The pieces of `text`, each of which one of the bytes `ends` ends.
+/// Cuts `text` after each byte that is in `ends`.
 pub(super) fn cut<'a>(
     alloc: Global,
     text: &'a [u8],
@@ -39,7 +39,7 @@ fn split_end<'a>(piece: &'a [u8], ends: &[u8]) -> Piece<'a> {
     }
 }
 
-/// The text of all pieces.
+/// Returns the text of all pieces.
 pub(super) fn join(alloc: Global, pieces: &[Piece<'_>]) -> Result<Vec<u8>, AllocError> {
     let mut text = Vec::new(alloc);
     for piece in pieces {
@@ -49,7 +49,7 @@ pub(super) fn join(alloc: Global, pieces: &[Piece<'_>]) -> Result<Vec<u8>, Alloc
     Ok(text)
 }
 
-/// Exchanges the bodies of two pieces.
+/// Exchanges the bodies of two drawn pieces.
 pub(super) fn exchange(pieces: &mut [Piece<'_>], draws: &mut Draws) {
     if pieces.is_empty() {
         return;
@@ -67,7 +67,7 @@ pub(super) fn exchange(pieces: &mut [Piece<'_>], draws: &mut Draws) {
     };
 }
 
-/// Puts a body behind that of a piece, which `end` ends then.
+/// Inserts `body` after the body of a drawn piece, which `end` then ends.
 pub(super) fn put<'a>(
     pieces: &mut Vec<Piece<'a>>,
     draws: &mut Draws,
@@ -84,7 +84,7 @@ pub(super) fn put<'a>(
     Ok(())
 }
 
-/// Puts `new` in the place of an end that is `old`.
+/// Replaces a drawn end that is `old` with `new`.
 pub(super) fn change_end<'a>(
     pieces: &mut [Piece<'a>],
     draws: &mut Draws,
@@ -98,7 +98,7 @@ pub(super) fn change_end<'a>(
     }
 }
 
-/// The index of a piece that ends in `end`, before which so many pieces do.
+/// Returns the index of the piece that ends in `end` after `before` others that do.
 fn index_of_end(pieces: &[Piece<'_>], end: &[u8], before: usize) -> Option<usize> {
     let mut ended = pieces
         .iter()

@@ -1,4 +1,4 @@
-//! The grammar of a line: what may stand at each place, and what place comes after it.
+//! The grammar of a line: the words that each place allows, and the place after each.
 
 /// A place on a line.
 #[derive(Clone, Copy)]
@@ -9,38 +9,38 @@ pub(super) enum Place {
     Receiver,
     /// The beginning of line 3.
     Schedule,
-    /// Where the sender's next call stands.
+    /// The sender's next call.
     SenderCall,
-    /// Where the message stands.
+    /// The message.
     Message,
-    /// Where the next call on the error stands.
+    /// The next call on the error.
     ErrorCall,
-    /// Where the receiver's next call stands.
+    /// The receiver's next call.
     ReceiverCall,
-    /// Where the future's next call stands.
+    /// The future's next call.
     FutureCall,
-    /// Where the number of a polling task stands.
+    /// The number of a polling task.
     Task,
-    /// Where the letters of the schedule stand.
+    /// The letters of the schedule.
     Letters,
-    /// Behind the last call, or behind the letters.
+    /// After the last call or the letters.
     End,
 }
 
 /// What is wrong with a word.
 #[derive(Clone, Copy)]
 pub(super) enum Wrong {
-    /// It is the line's first one and not this letter.
+    /// It is the line's first word, but not this letter.
     MustBegin(&'static str),
-    /// It is none that may stand there.
+    /// The place does not allow it.
     UnknownWord,
-    /// It is missing, or is no number.
+    /// It is missing, or is not a number.
     BadNumber,
-    /// It stands behind the last call or the letters.
+    /// It follows the last call or the letters.
     FollowsLastCall,
 }
 
-/// Words that may stand at a place, each with the place that comes after it.
+/// The words that a place allows, each with the place after it.
 type Words = &'static [(&'static str, Place)];
 
 const SENDER_CALLS: Words = &[
@@ -77,7 +77,7 @@ const FUTURE_CALLS: Words = &[
 ];
 
 impl Place {
-    /// The place that comes after a word that stands here.
+    /// Returns the place after `word`, if this place allows it.
     pub(super) fn after(self, word: &str) -> Result<Place, Wrong> {
         match self {
             Place::Sender => first(word, "S", Place::SenderCall),
@@ -94,7 +94,7 @@ impl Place {
         }
     }
 
-    /// Ends the line here.
+    /// Ends the line here, unless a number is missing.
     pub(super) fn end(self) -> Result<(), Wrong> {
         match self {
             Place::Message | Place::Task => Err(Wrong::BadNumber),
@@ -143,7 +143,7 @@ fn number(word: &str, after: Place) -> Result<Place, Wrong> {
 /// The largest number that a text may have.
 const LARGEST: &str = "18446744073709551615";
 
-/// Whether it has digits alone, no zero before another digit, and is not larger than the largest number.
+/// Whether `word` has only digits, no leading zero, and is at most the largest number.
 fn is_number(word: &str) -> bool {
     let digits = !word.is_empty() && word.chars().all(|digit| digit.is_ascii_digit());
     let leading_zero = word.len() > 1 && word.starts_with('0');

@@ -1,13 +1,13 @@
-//! A reading of a text that knows the grammar alone: what the text asks for, or its first fault.
+//! A second reading of a text, by the grammar alone: what the text asks for, or its first fault.
 
 use crate::tests::damaged::place::{Place, Wrong};
 use std::alloc::{AllocError, Global};
 use std::{fmt, str};
 
-/// What the output shows of that for which a text asks.
+/// What a text asks for, as far as the output shows it.
 #[derive(Clone, Copy)]
 pub(super) struct Asked<'a> {
-    /// The message that the sender's line writes behind `send`.
+    /// The word after `send` in the sender's line.
     pub(super) message: Option<&'a str>,
     /// The letters of the schedule.
     pub(super) letters: &'a str,
@@ -22,17 +22,17 @@ pub(super) enum Flaw {
     Missing {
         line: usize,
     },
-    /// A word is wrong, or is missing there. A line's first word has the number 0.
+    /// A word is wrong or missing. A line's first word has the number 0.
     Word {
         line: usize,
         word: usize,
         wrong: Wrong,
     },
-    /// A byte stands behind the third line.
+    /// A byte follows the third line.
     InputAfter,
 }
 
-/// What a text has, without its places.
+/// The result of a reading, without lines and words.
 #[derive(Clone, Copy, Debug, Eq, PartialEq)]
 pub(super) enum Kind {
     Trace,
@@ -93,7 +93,7 @@ impl fmt::Display for Flaw {
     }
 }
 
-/// What the bytes of an input ask for.
+/// Reads what `input` asks for.
 pub(super) fn read(alloc: Global, input: &[u8]) -> Result<Result<Asked<'_>, Flaw>, AllocError> {
     match str::from_utf8(input) {
         Ok(text) if text.is_ascii() => {
@@ -124,7 +124,7 @@ fn read_lines<'a>(lines: &[&'a str]) -> Result<Asked<'a>, Flaw> {
     }
 }
 
-/// Reads the words of a line, which begins at this place.
+/// Reads the words of a line that begins at the place `begin`.
 fn read_words(line: usize, begin: Place, words: &str) -> Result<(), Flaw> {
     let mut place = begin;
     for (word, text) in words.split(' ').enumerate() {

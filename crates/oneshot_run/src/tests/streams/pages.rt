@@ -1,11 +1,11 @@
-//! Outputs of which a line ends where a page of 4,096 bytes is full, or a byte before or after.
+//! Tests of outputs with a line that ends after 4,095, 4,096 or 4,097 bytes, about a full page.
 
 use crate::tests::{assert_trace, receives};
 use std::test::Fail;
 
 #[test]
 fn a_line_ends_where_a_page_is_full(rt: HostRuntime) -> Result<(), Fail> {
-    // How many receives and moves there are, and where a line ends. The last three outputs end there as a whole.
+    // The number of receives and of moves, and where a line ends. The last three outputs end there.
     let pages = [
         (2, 400, 4095),
         (4, 400, 4096),

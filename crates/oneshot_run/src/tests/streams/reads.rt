@@ -1,4 +1,4 @@
-//! Readers that fail, are interrupted, or give a byte at a time, and inputs whose length is about a number of blocks.
+//! Tests of readers that fail, are interrupted or never end, and of inputs of about one or two blocks.
 
 use super::{FAILURES, Failures, INTERRUPTS, Reader, ending};
 use crate::tests::{SENT, SENT_TRACE, assert_trace, idle};
@@ -9,7 +9,7 @@ use std::test::Fail;
 
 #[test]
 fn a_failed_read_is_told_alone(rt: HostRuntime) {
-    // The read after all bytes were given is the one that would find the end.
+    // The read after the last byte would find the end.
     for before in 0..=SENT.len() {
         for &kind in FAILURES {
             let mut reader = Reader::new(SENT, Failures::of(before, 1, kind));
@@ -45,7 +45,7 @@ fn an_interrupted_read_is_made_again(rt: HostRuntime) {
 
 #[test]
 fn inputs_of_about_one_and_two_blocks(rt: HostRuntime) -> Result<(), Fail> {
-    // Six bytes come before the moves.
+    // Six bytes precede the moves.
     for moves in [4_089, 4_090, 4_091, 8_185, 8_186, 8_187] {
         let (input, output) = idle(rt.alloc(), moves)?;
         assert_trace(&rt, &input, &output);
@@ -53,7 +53,7 @@ fn inputs_of_about_one_and_two_blocks(rt: HostRuntime) -> Result<(), Fail> {
     Ok(())
 }
 
-/// Never ends, and counts the bytes that it gave.
+/// Never ends, and counts the bytes that it returned.
 #[derive(Drop)]
 struct Endless {
     given: usize,

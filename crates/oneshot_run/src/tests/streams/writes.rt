@@ -1,4 +1,4 @@
-//! Writers that fail, are interrupted, or take few bytes at a time.
+//! Tests of writers that fail, are interrupted, or take few bytes at a time.
 
 use super::{FAILURES, Failures, INTERRUPTS, Reader, Writer, ending};
 use crate::answer;
@@ -6,11 +6,10 @@ use crate::tests::{SENT, SENT_TRACE, idle};
 use std::io::ErrorKind;
 use std::test::Fail;
 
-/// The largest message that is sent, received and let go. An entry that shows it is too long a line to wait with
-/// others.
+/// As `SENT`, with the largest message. The line of an entry that shows it is too long to wait with others.
 const LONG: &str = "S send 18446744073709551615\nR try drop\nX ssrrrrr\n";
 
-/// What the program writes for `LONG`.
+/// The output for `LONG`.
 const LONG_TRACE: &str = "1 S write-message 3>3 m:NotSent>InCell
 2 S add 3>4 = Ok
 3 R load 4>4
@@ -38,7 +37,7 @@ fn short_reads_and_writes_move_all(rt: HostRuntime) {
 #[test]
 fn a_failed_write_ends_the_output(rt: HostRuntime) {
     for &(input, trace) in TRACES {
-        // The call after all bytes were taken is the flush.
+        // The call after the last byte is the flush.
         for before in 0..=trace.len() {
             for &kind in FAILURES {
                 let failures = Failures::of(before, 1, kind);
