@@ -1,5 +1,5 @@
--- What is computed for each phase of an end: a ground in memory finds what the table says, and its slots
--- stand as they may after each operation and after each other change.
+-- What is computed for each phase of an end: a ground in memory finds what the phases' table has, and still
+-- matches its phase after each operation and each other change.
 use Rattle.std.proofs.Common.{◌≡◌, ℕ, ◌≤◌, Bool, true, false, ◌&&◌, List, Option, Some, None, refl, subst}
 use Rattle.std.specs.Prelude.{◌==◌, is_some, leb}
 use Rattle.std.specs.List.{list_all, list_any}
@@ -22,7 +22,7 @@ implied : (a b : Bool) → implies a b ≡ true → a ≡ true → b ≡ true
 implied true b e is = e
 implied false b e is = absurd (cc)
 
--- both truths, and all memories whose word is a code
+-- a test of both truths, and of all memories whose word is a code
 abbrev both : (Bool → Bool) → Bool
 both p = p true && p false
 
@@ -59,7 +59,7 @@ memory_passes p all c is =
     (both_pass (λ a. both (λ b. both (λ m. both (λ w. at a b m w)))) here c.owns_message) c.owns_waker)
     c.has_message) c.has_waker
 
--- the share of a slot, by whose it is and whether there is something in it
+-- the share of a slot, by whether the end owns it and whether it has content
 abbrev pub share_of : Bool → Bool → Share
 share_of false has = none
 share_of true false = empty
@@ -83,7 +83,7 @@ module _ {X : Type 0} where
   share_is true None is_vacant = refl
   share_is true (Some x) (is_held _) = refl
 
-  -- a slot turns with whose it is, and its content stays
+  -- a slot turns with its owner, and keeps its content
   turns : (own owns : Bool) (content : Option X)
       → Turns (share_of own (is_some content)) (share_of owns (is_some content))
       (slot_if_own own content) (slot_if_own owns content)
@@ -95,7 +95,7 @@ module _ {X : Type 0} where
   turns true true None = stays_vacant
   turns true true (Some x) = stays_held x
 
-  -- a slot that is not away is the end's
+  -- the end owns a slot that is not away
   pub slot_vacant : (own : Bool) (content : Option X) → slot_if_own own content ≡ vacant → own ≡ true
   slot_vacant true content e = refl
   slot_vacant false content e = absurd (cc)
@@ -104,8 +104,8 @@ module _ {X : Type 0} where
   slot_held true content x e = refl
   slot_held false content x e = absurd (cc)
 
--- An end: its table and where that leads, which memory it has at a phase, and of an operation which slots it
--- leaves the end, and whether a waker stays in its slot.
+-- An end: where its table leads, the table's rows, which memory it has at a phase, and for an operation
+-- which slots it leaves the end, and whether a waker stays in its slot.
 module _ {At : Type 0} (next : At → Op → Seen → At) (rows : At → List (Row At)) (has : At → Memory → Bool)
     (keeps : Op → Memory → Bool × Bool × Bool) where
   abbrev stands : At → Memory → Bool
@@ -122,7 +122,7 @@ module _ {At : Type 0} (next : At → Op → Seen → At) (rows : At → List (R
         has_waker = c.has_waker;
       }
 
-  -- and once the other end has used up a waker that does not stay
+  -- and after the other end has used up a waker that does not stay
   abbrev pub left : Op → Memory → Memory
   left op c =
       record {
@@ -133,22 +133,22 @@ module _ {At : Type 0} (next : At → Op → Seen → At) (rows : At → List (R
         has_waker = (keeps op c).2 && c.has_waker;
       }
 
-  -- A row is of this operation, and finds this word with the slots as they are. It leaves the end those
-  -- that it keeps.
+  -- A row of this operation finds this word with the slots as they are. It leaves the end the slots that the
+  -- operation keeps.
   abbrev is_such : Op → Memory → Row At → Bool
   is_such op c row = (is_same_op row.0 op && row.2 == c.word) && is_same_slots (shares_of c) row.1
 
   abbrev is_found : Op → Memory → Row At → Bool
   is_found op c row = is_such op c row && is_same_slots (shares_of (after op c)) row.4
 
-  -- where the row's operation may be made
+  -- if the row's operation may be performed here, a row finds this word, and the memory after it fits
   abbrev is_met : At → Memory → Row At → Bool
   is_met at c row =
       implies (is_same_slots row.1 (shares_of c))
       (list_any (is_found row.0 c) (rows at) && stands (next at row.0 (saw row.0 c.word)) (left row.0 c))
 
-  -- A change is a table's row: where it may come about, by a truth that its maker chooses, and the memory
-  -- then.
+  -- A change is a function of a truth, which is chosen freely, and of a memory: whether it may happen, and
+  -- the memory after it.
   module _ (changes : List (Bool → Memory → Bool × Memory)) where
     abbrev comes : At → Memory → (Bool → Memory → Bool × Memory) → Bool
     comes at c change = both (λ b. implies (change b c).0 (stands at (change b c).1))
@@ -181,7 +181,7 @@ module _ {At : Type 0} (next : At → Op → Seen → At) (rows : At → List (R
           (both_pass (λ b. implies (change b c).0 (stands at (change b c).1)) each b) come
 
       module _ {T W : Type 0} where
-        -- an operation: its word is a code, it finds what it may, and the ground stands on
+        -- an operation: its word is a code, it finds what it may, and the memory after it fits
         pub record Operated (at : At) (op : Op) (word : ℕ) (own own_waker : Bool) (content : Option T)
             (waker : Option W) : Type 0 where
           pub code : word ≤ 4

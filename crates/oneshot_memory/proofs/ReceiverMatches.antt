@@ -1,4 +1,4 @@
--- How a receiver's ground in memory stands after each of its steps, and after its sender's.
+-- A receiver's ground in memory matches its log after each of its steps, and after its sender's.
 use Rattle.std.proofs.Common.{◌≡◌, ℕ, Bool, true, false, not, ◌&&◌, ◌||◌, ◌==◌, List, [], ◌∷◌, ◌++◌, Option, Some, None, refl, sym, ap, subst}
 use Rattle.std.specs.Prelude.{is_some, if◌then◌else◌}
 use Rattle.oneshot_machine.specs.declared.states.Op.{Op}
@@ -19,7 +19,7 @@ use Rattle.oneshot_memory.specs.Receiver.{Plan, Receiving, receiving_of, receive
 use Rattle.oneshot_memory.proofs.Memory.{IsSteady, comes_about, Operated, operates, slot_held}
 use Rattle.oneshot_memory.proofs.Events.{words_same}
 
--- which slots a receiver has, and what an operation leaves it
+-- which memory a receiver has, and what an operation leaves it
 abbrev pub has : ReceiverAt → Memory → Bool
 has q = receiver_has (receiver_owns q) (receiver_moves q)
 
@@ -30,9 +30,9 @@ abbrev word_by_act : Bool → ℕ
 word_by_act true = 4
 word_by_act false = 2
 
--- What comes about between its operations, in this order: the message is taken or dropped; a waker is put
--- into its slot or taken out; both slots are freed; the sender sends or is dropped, where nobody waits,
--- and where a waker lies in its slot, which it uses up; and it is about to do so.
+-- The changes between its operations, in this order: the message is taken or dropped; a waker is put into
+-- its slot or taken out; both slots are freed; the sender sends or is dropped while no waker waits in the
+-- slot, or while one does, which it uses up; the sender lingers.
 abbrev pub changes : List (Bool → Memory → Bool × Memory)
 changes =
     (λ b c. (c.owns_message, record c { has_message = false }))
@@ -74,7 +74,7 @@ steady gone = refl
 steady ended = refl
 steady no_receiver = refl
 
--- so each of the changes, by its row, leaves the ground as it may stand
+-- so after each change the ground still matches
 changes_to : (q : ReceiverAt) (c : Memory) {change : Bool → Memory → Bool × Memory} (b : Bool) → In change changes
     → receiver_matches q c ≡ true → (change b c).0 ≡ true → receiver_matches q (change b c).1 ≡ true
 changes_to = comes_about receiver_next receiver_moves has keeps changes steady
@@ -85,7 +85,7 @@ stays_there : {W : Type 0} (used : Bool) (waker : Option W)
 stays_there true waker = refl
 stays_there false waker = refl
 
--- and one that is used up is in a slot that the operation leaves to the sender
+-- and one that is used up was in a slot that the operation leaves to the sender
 used_away : {W : Type 0} (closes finishing idle : Bool) (waker : Option W)
     → slot_if_own (not (idle || finishing)) (if closes && finishing then None else waker)
     ≡ slot_if_own (not (idle || finishing)) waker
@@ -125,7 +125,7 @@ module _ {T W : Type 0} where
   receiver_operates {q} word own own_waker content waker stands =
       operates receiver_next receiver_moves has keeps changes steady q word own own_waker content waker stands.is_so
 
-  -- one that its contract asks for, of the ground as a caller sees it
+  -- an operation that meets its `requires`, on the ground as a caller sees it
   pub receiver_asked : (events : List (Event T W)) {op : Op} {word : ℕ} {own own_waker : Bool} {content : Option T}
       {waker : Option W} {plan : Plan T} {seen : Receiving T W}
       → receiving_of events word content waker own own_waker plan ≡ seen → ReceiverAsks op seen.state
@@ -169,7 +169,7 @@ module _ {T W : Type 0} where
 
   module _ {q : ReceiverAt} {word : ℕ} {own own_waker : Bool} {content : Option T} {waker : Option W}
       (stands : ReceiverMatches q word own own_waker content waker) where
-    -- what is taken out of the message's slot, or dropped there, leaves it empty
+    -- the message is taken out of its slot, or dropped there
     pub receiver_emptied : (x : T) → slot_if_own own content ≡ held x
         → ReceiverMatches {T = T} q word own own_waker None waker
     receiver_emptied x e =
@@ -178,7 +178,7 @@ module _ {T W : Type 0} where
               (slot_held own content x e);
         }
 
-    -- what is put into the waker's slot, or taken out of it
+    -- a waker is put into its slot, or taken out of it
     pub receiver_wakers : (after : Option W) → own_waker ≡ true → ReceiverMatches q word own own_waker content after
     receiver_wakers after e =
         record {
@@ -186,7 +186,7 @@ module _ {T W : Type 0} where
               e;
         }
 
-    -- a free gives up both slots
+    -- a free gives both slots up
     pub receiver_freed : slot_if_own own content ≡ vacant → slot_if_own own_waker waker ≡ vacant
         → ReceiverMatches q word false false content waker
     receiver_freed e f =
@@ -201,7 +201,7 @@ module _ {T W : Type 0} where
         both_empty true true None None e f = refl
         both_empty _ _ _ _ e f = absurd (cc)
 
-    -- the sender acts there, unless a waker lies in the slot
+    -- the sender acts while no waker waits in the slot
     pub left_open : (act : Act T) → is_quiet word ≡ true → own ≡ false → lies own_waker waker ≡ false
         → ReceiverMatches q (word_after_act act) own own_waker (message_after_act act) waker
     left_open (A.Send x) e f none =
@@ -215,7 +215,7 @@ module _ {T W : Type 0} where
               stands.is_so (rw (e, f, none) refl);
         }
 
-    -- and where one lies there
+    -- or while one does
     pub left_waiting : (act : Act T) → lies own_waker waker ≡ true
         → ReceiverMatches {T = T} {W = W} q (word_after_act act) own own_waker (message_after_act act) None
     left_waiting (A.Send x) lying =
@@ -229,7 +229,7 @@ module _ {T W : Type 0} where
               stands.is_so lying;
         }
 
-    -- or it lingers there
+    -- or it lingers
     pub lingering : word ≡ 0 → lies own_waker waker ≡ true → ReceiverMatches q 1 own own_waker content waker
     lingering e lying =
         record {
@@ -237,7 +237,7 @@ module _ {T W : Type 0} where
               (tail (tail (tail (tail (tail head))))) stands.is_so (rw (e, lying) refl);
         }
 
--- both ends are here, by the ground's own fields
+-- both ends are here, by the ground's fields
 pub record BothHere (word : ℕ) (own : Bool) : Type 0 where
   pub quiet : is_quiet word ≡ true
   pub away : own ≡ false

@@ -1,4 +1,4 @@
--- How a sender's ground in memory stands after each of its steps.
+-- A sender's ground in memory matches its log after each of its steps.
 use Rattle.std.proofs.Common.{◌≡◌, ℕ, Bool, true, false, List, [], ◌∷◌, ◌++◌, Option, None, refl, sym, ap, subst}
 use Rattle.std.specs.Prelude.{is_some}
 use Rattle.oneshot_machine.specs.declared.states.Op.{Op}
@@ -17,15 +17,15 @@ use Rattle.oneshot_memory.specs.Sender.{Sending, sending_of, last_word, sender_h
 use Rattle.oneshot_memory.proofs.Memory.{IsSteady, comes_about, Operated, operates, slot_vacant, slot_held}
 use Rattle.oneshot_memory.proofs.Events.{words_same}
 
--- which slots a sender has, and what an operation leaves it
+-- which memory a sender has, and what an operation leaves it
 abbrev pub has : SenderAt → Memory → Bool
 has p = sender_has (last_word p) (sender_owns p) (sender_moves p)
 
 abbrev pub keeps : Op → Memory → Bool × Bool × Bool
 keeps op c = (keeps_both c.word, keeps_both c.word, true)
 
--- What comes about between its operations, in this order: a message is put into its slot or taken out; the
--- waker is taken out of its own; both slots are freed; and the receiver waits on, stops or leaves.
+-- The changes between its operations, in this order: a message is put into its slot or taken out; the waker
+-- is taken out of its slot; both slots are freed; the receiver keeps waiting, stops, or leaves.
 abbrev pub changes : List (Bool → Memory → Bool × Memory)
 changes =
     (λ there c. (true, record c { has_message = there }))
@@ -47,7 +47,7 @@ steady (overtaken sending) = refl
 steady (overtaken dropping) = refl
 steady no_sender = refl
 
--- so each of the changes, by its row, leaves the ground as it may stand
+-- so after each change the ground still matches
 changes_to : (p : SenderAt) (c : Memory) {change : Bool → Memory → Bool × Memory} (b : Bool) → In change changes
     → sender_matches p c ≡ true → (change b c).0 ≡ true → sender_matches p (change b c).1 ≡ true
 changes_to = comes_about sender_next sender_moves has keeps changes steady
@@ -73,7 +73,7 @@ module _ {T W : Type 0} where
   sender_operates {p} word own own_waker content waker stands =
       operates sender_next sender_moves has keeps changes steady p word own own_waker content waker stands.is_so
 
-  -- one that its contract asks for, of the ground as a caller sees it
+  -- an operation that meets its `requires`, on the ground as a caller sees it
   pub sender_asked : (events : List (Event T W)) {op : Op} {word : ℕ} {own own_waker : Bool} {content : Option T}
       {waker : Option W} {meanwhile : Meanwhile} {seen : Sending T W}
       → sending_of events word content waker own own_waker meanwhile ≡ seen → SenderAsks op seen.state
@@ -92,14 +92,14 @@ module _ {T W : Type 0} where
 
   module _ {p : SenderAt} {word : ℕ} {own own_waker : Bool} {content : Option T} {waker : Option W}
       (stands : SenderMatches p word own own_waker content waker) where
-    -- what is put into the message's slot, or taken out of it
+    -- a message is put into its slot, or taken out of it
     pub sender_messages : (after : Option T) → SenderMatches p word own own_waker after waker
     sender_messages after =
         record {
           is_so = changes_to p (memory_of word own own_waker content waker) (is_some after) head stands.is_so refl;
         }
 
-    -- the waker that is taken leaves its slot empty
+    -- the waker is taken out of its slot
     pub sender_emptied : (k : W) → slot_if_own own_waker waker ≡ held k
         → SenderMatches {W = W} p word own own_waker content None
     sender_emptied k e =
@@ -108,7 +108,7 @@ module _ {T W : Type 0} where
               (slot_held own_waker waker k e);
         }
 
-    -- a free gives up both slots
+    -- a free gives both slots up
     pub sender_freed : slot_if_own own_waker waker ≡ vacant → SenderMatches p word false false content waker
     sender_freed e =
         record {
@@ -116,7 +116,7 @@ module _ {T W : Type 0} where
               (slot_vacant own_waker waker e);
         }
 
-    -- what a receiver may do whose waker the sender took
+    -- a receiver whose waker the sender took does this
     pub sender_outlasts : (meanwhile : Meanwhile)
         → SenderMatches p (word_then meanwhile word) own own_waker content waker
     sender_outlasts Waits =

@@ -1,9 +1,9 @@
--- What a ground in memory has, whose word is found by the rows of a phase's table.
+-- The memory of a ground in memory, and whether the rows of a phase may find its word.
 use Rattle.std.specs.Prelude.{ℕ, Bool, true, false, not, ◌&&◌, ◌==◌, List, [], ◌∷◌, Option, is_some}
 use Rattle.std.specs.List.{list_any}
 use Rattle.oneshot_machine.specs.Phases.{Row}
 
--- the word, which slots are the end's, and whether there is a message and a waker in them
+-- the word, which slots the end owns, and whether they have a message and a waker
 pub record Memory : Type 0 where
   pub word : ℕ
   pub owns_message : Bool
@@ -21,7 +21,7 @@ memory_of word owns_message owns_waker message waker =
       has_waker = is_some waker;
     }
 
--- a waker lies in its slot, and the slot is not the end's
+-- the waker's slot has a waker, and is not the end's
 abbrev pub lies_in : Memory → Bool
 lies_in c = not c.owns_waker && c.has_waker
 
@@ -35,12 +35,12 @@ abbrev pub is_same : Bool → Bool → Bool
 is_same true b = b
 is_same false b = not b
 
--- which slots are the end's
+-- whether the end owns just these slots
 abbrev pub owns_just : Bool → Bool → Memory → Bool
 owns_just message waker c = is_same message c.owns_message && is_same waker c.owns_waker
 
--- The word of an end at a phase with these rows is one that they find. One that makes no operation any
--- more has left this last word.
+-- The word at a phase with these rows is one that they find. An end without further operations has left this
+-- last word.
 abbrev pub is_word : {At : Type 0} → ℕ → List (Row At) → ℕ → Bool
 is_word last [] word = last == word
 is_word {At} last (row ∷ rows) word = list_any (λ (row : Row At). row.2 == word) (row ∷ rows)

@@ -1,4 +1,4 @@
-//! The ground in memory of a receiver that is a future, with the task that polls it.
+//! The ground in memory of a future, with the task that polls it.
 
 ghost use Rattle.std.specs.Prelude.{◌≡◌, ⊤, false};
 ghost use Rattle.oneshot_drive.specs.Polls.{IsPolled};
@@ -9,20 +9,20 @@ use oneshot_drive::{ReceiverGround, TaskGround};
 use std::alloc::Global;
 use std::sync::Wait;
 
-/// A receiver's ground that is polled.
+/// The ground of a receiver that is polled.
 #[derive(Drop)]
 pub struct MemoryFuture<'a, 't, T, R: Wait> {
     /// The receiver's ground.
     pub receiver: MemoryReceiver<'a, T, TaskWaker<'t>, R>,
     /// The task of the next poll.
     pub task: &'t MemoryTask,
-    /// Whether a copy of its waker is refused.
+    /// Whether each copy of the task's waker is refused.
     pub refuses: bool,
 }
 
 impl<'a, 't, T, R: Wait> MemoryFuture<'a, 't, T, R> {
-    /// The ground of a new future, whose sender is here, with the task of its first poll; no copy is
-    /// refused.
+    /// Makes the ground of a new future, whose sender is here. `rt` and `alloc` are as in
+    /// `MemoryReceiver::new`, and `task` polls it first. No copy is refused.
     pub fn new(rt: &'a R, alloc: Global, task: &'t MemoryTask) -> MemoryFuture<'a, 't, T, R>
         ensures rests { IsPolled result.receiver.state }
         ensures copies { result.refuses ≡ false }
@@ -38,14 +38,14 @@ impl<'a, 't, T, R: Wait> MemoryFuture<'a, 't, T, R> {
 impl<'a, 't, T: Drop, R: Wait> ReceiverGround<T, TaskWaker<'t>> for MemoryFuture<'a, 't, T, R> {
     ghost state = { λ s. s.receiver.state };
 
-    // It has nothing beside the channel of which a contract speaks.
+    // It has nothing besides the channel for a contract to state.
     ghost keeps = { λ a b. ⊤ };
 
     ghost keeps_same = { λ a. tt };
 
     ghost keeps_on = { λ a b c f g. tt };
 
-    // It says nothing of a message that it hands out.
+    // It states nothing of a message that it returns.
     ghost gives = { λ s m. ⊤ };
 
     ghost gives_on = { λ a b m k g. tt };
@@ -88,7 +88,7 @@ impl<'a, 't, T: Drop, R: Wait> ReceiverGround<T, TaskWaker<'t>> for MemoryFuture
 }
 
 impl<'a, 't, T: Drop, R: Wait> TaskGround<T, TaskWaker<'t>> for MemoryFuture<'a, 't, T, R> {
-    // No contract tells whether a task in memory was woken; it counts that.
+    // No contract states whether a task in memory was woken; the task counts its wakes.
     ghost heard = { λ s. ⊤ };
 
     ghost heard_on = { λ a b h k. tt };

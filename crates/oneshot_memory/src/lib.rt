@@ -1,4 +1,4 @@
-//! Grounds in memory, for tests of what runs over a ground: whole, so that they keep each step that they make.
+//! Grounds in memory, for tests of drivers, whose logs are whole: they have every step.
 #![tactic(auto)]
 
 mod future;
@@ -22,21 +22,21 @@ use std::sync::Wait;
 pub use task::{MemoryTask, TaskWaker};
 pub use wakes::Wakes;
 
-/// A step that a ground made, with what it saw and what it handed in or out.
+/// A step of a ground, with what it saw, and the message or waker that it moved.
 #[derive(Drop)]
 pub struct Event<T, W> {
-    /// What it did.
+    /// The step.
     pub step: Step,
     /// What it saw.
     pub seen: Seen,
-    /// The message that it handed in or out. It takes no room, and is for contracts alone.
+    /// The message that it moved: a snapshot, for contracts only, which takes no memory.
     pub message: Option<Snapshot<T>>,
-    /// The waker that it handed in or out. It takes no room either, and is for contracts alone.
+    /// The waker that it moved or copied: a snapshot, as above.
     pub waker: Option<Snapshot<W>>,
 }
 
 impl<T, W> Event<T, W> {
-    // A step that hands nothing in or out.
+    // The event of a step that moves neither.
     fn of(step: Step, seen: Seen) -> Event<T, W>
         ensures { result ≡ record { step = step; seen = seen; message = None; waker = None } }
     {
@@ -48,7 +48,7 @@ impl<T, W> Event<T, W> {
         }
     }
 
-    // A step that hands this waker in or out.
+    // The event of a step that moves this waker.
     fn handing(step: Step, waker: &W) -> Event<T, W>
         ensures { logged_event result ≡ handed step waker.now }
     {
@@ -60,7 +60,7 @@ impl<T, W> Event<T, W> {
         }
     }
 
-    // A copy of a waker, or its refusal.
+    // The event of a copy of a waker, or of its refusal.
     fn copied(copy: &Option<W>) -> Event<T, W>
         ensures { logged_event result ≡ copied copy.now }
     {
@@ -76,7 +76,7 @@ impl<T, W> Event<T, W> {
     }
 }
 
-// What an operation sees of the word that it finds.
+// What `op` sees if it finds this word.
 fn sight(op: Op, word: u8) -> Seen
     ensures { result ≡ saw op word }
 {
@@ -86,7 +86,7 @@ fn sight(op: Op, word: u8) -> Seen
     }
 }
 
-// Waits for ever where there is no memory for one more event, for which a ground has no answer.
+// Appends an event. Blocks forever if out of memory, since a ground cannot report that.
 fn record<T, W, R: Wait>(rt: &R, events: &mut Vec<Event<T, W>>, event: Event<T, W>)
     ensures { events.new.items ≡ events.old.items ++ event ∷ [] }
 {

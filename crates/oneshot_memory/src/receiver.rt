@@ -19,7 +19,7 @@ use std::marker::Model;
 use std::snapshot::Snapshot;
 use std::sync::Wait;
 
-/// What the sender of a receiver's ground is to do: its one call.
+/// The one call of the sender of a receiver's ground.
 #[derive(Drop)]
 pub enum Act<T> {
     /// It sends this message.
@@ -29,7 +29,7 @@ pub enum Act<T> {
 }
 
 impl<T> Act<T> {
-    // The word that it leaves, and the message.
+    // The word and the message that it leaves.
     fn left(self) -> (u8, Option<T>)
         ensures word { result.0 ≡ word_after_act self }
         ensures message { result.1 ≡ message_after_act self }
@@ -41,13 +41,13 @@ impl<T> Act<T> {
     }
 }
 
-/// A receiver's ground, whose sender acts where it is told to: at once, or in a pause of the receiver.
+/// A receiver's ground, whose sender acts when a test plans it: at once, or in a pause of the receiver.
 ///
-/// The receiver makes a pause when it has copied or written its waker, in each park, at each look at its
-/// clock, and after each load outside a wait that finds its waker stored or the sender about to finish. A
-/// park ends by its token if the sender woke the receiver by then, and without one if not; where the sender
-/// never acts, a call that blocks waits for ever, or until its deadline. That is over at once, unless a test
-/// puts it off.
+/// The receiver pauses after it copied or wrote its waker, in each park, at each reading of its clock, and
+/// after a load that finds its waker stored or the sender about to finish, unless a park came just before.
+/// A park ends by its token if the sender woke the receiver by then, and otherwise spuriously. If the sender
+/// never acts, a call that blocks does so forever, or until its deadline, which is over at once unless a
+/// test puts it off.
 ///
 /// A future may be dropped while its sender lingers. The sender then uses the waker, and keeps its message.
 #[derive(Drop)]
@@ -84,8 +84,8 @@ impl<'a, T, W, R: Wait> Model for MemoryReceiver<'a, T, W, R> {
 }
 
 impl<'a, T, W, R: Wait> MemoryReceiver<'a, T, W, R> {
-    /// The ground of a new receiver, whose sender is here and has nothing to do yet. `alloc` is the allocator of
-    /// the events' memory; where it gives none for one more event, the step waits for ever on `rt`.
+    /// Makes the ground of a new receiver, whose sender is here and has no plan yet. `alloc` allocates the
+    /// events; a step that is out of memory for its event blocks forever on `rt`.
     pub fn new(rt: &'a R, alloc: Global) -> MemoryReceiver<'a, T, W, R>
         ensures rests { AtRest result.state }
         ensures word { result.word ≡ 3 }
@@ -108,7 +108,7 @@ impl<'a, T, W, R: Wait> MemoryReceiver<'a, T, W, R> {
         }
     }
 
-    /// The steps so far, in their order.
+    /// Returns the steps so far, in their order.
     pub fn events(&self) -> &[Event<T, W>]
         ensures { map logged_event result.now ≡ self.now.state.log.list }
     {
@@ -117,7 +117,7 @@ impl<'a, T, W, R: Wait> MemoryReceiver<'a, T, W, R> {
 }
 
 impl<'a, T: Drop, W: Drop + Wakes, R: Wait> MemoryReceiver<'a, T, W, R> {
-    /// The sender sends, if both ends are still here, and wakes a receiver that waits.
+    /// If both ends are still here, the sender sends `message`, and wakes a waiting receiver.
     pub fn sender_sends(&mut self, message: T)
         ensures { self.new ≡ record self.old { word = word_by 4 self.old.word self.old.state.message } }
     {
@@ -126,7 +126,7 @@ impl<'a, T: Drop, W: Drop + Wakes, R: Wait> MemoryReceiver<'a, T, W, R> {
         }
     }
 
-    /// The sender is dropped, if both ends are still here, and wakes a receiver that waits.
+    /// If both ends are still here, the sender is dropped, and wakes a waiting receiver.
     pub fn sender_drops(&mut self)
         ensures { self.new ≡ record self.old { word = word_by 2 self.old.word self.old.state.message } }
     {
@@ -135,9 +135,9 @@ impl<'a, T: Drop, W: Drop + Wakes, R: Wait> MemoryReceiver<'a, T, W, R> {
         }
     }
 
-    /// The sender is to send this message in a pause of the receiver, once so many pauses are over: with
-    /// 0 in the first. That is where the waker is written, and the next is the first park or look at the
-    /// clock after; `recv_timeout` makes one pause before, at the look at the clock for its sum.
+    /// Plans that the sender sends `message` in a pause of the receiver, after `pauses` others. In a receive
+    /// that blocks, the first pause is after its waker is written, and the second in the park or reading of
+    /// the clock that follows; `recv_timeout` has one before them, as it computes its deadline.
     pub fn sender_will_send(&mut self, pauses: u64, message: T)
         ensures { self.new ≡ record self.old {
           plan = record self.old.plan { act = Some (Send message); pauses = pauses };
@@ -147,7 +147,7 @@ impl<'a, T: Drop, W: Drop + Wakes, R: Wait> MemoryReceiver<'a, T, W, R> {
         self.pauses = pauses;
     }
 
-    /// The sender is to be dropped in a pause of the receiver, once so many pauses are over.
+    /// Plans that the sender is dropped in a pause of the receiver, after `pauses` others.
     pub fn sender_will_drop(&mut self, pauses: u64)
         ensures { self.new ≡ record self.old {
           plan = record self.old.plan { act = Some Drop; pauses = pauses };
@@ -157,22 +157,22 @@ impl<'a, T: Drop, W: Drop + Wakes, R: Wait> MemoryReceiver<'a, T, W, R> {
         self.pauses = pauses;
     }
 
-    /// The sender is to linger for so many pauses, where it finds that the receiver waits: with 0 it
-    /// finishes in the pause in which it began, with 1 in the next.
+    /// Plans that the sender, if it finds the receiver waiting, lingers for `pauses` pauses: 0 means that it
+    /// finishes in the pause in which it began, and 1 in the next.
     pub fn sender_will_linger(&mut self, pauses: u64)
         ensures { self.new ≡ record self.old { plan = record self.old.plan { lingers = pauses } } }
     {
         self.lingers = pauses;
     }
 
-    /// The deadline is to be over once the clock was read so many times: with 0 at its first read.
+    /// Plans that the deadline is over after `reads` readings of the clock: 0 means at the first.
     pub fn deadline_will_be_over(&mut self, reads: u64)
         ensures { self.new ≡ record self.old { plan = record self.old.plan { reads = reads } } }
     {
         self.reads = reads;
     }
 
-    // Makes an operation on the word, and gives the word before.
+    // Performs `op` on the word, and returns the word before.
     fn operate(&mut self, op: Op) -> u8
         requires { ReceiverAsks op self.old.state }
         ensures log { Grows self.old.state.log self.new.state.log (worded op result ∷ []) }
@@ -189,7 +189,7 @@ impl<'a, T: Drop, W: Drop + Wakes, R: Wait> MemoryReceiver<'a, T, W, R> {
         before
     }
 
-    // Notes a copy of a waker, or its refusal.
+    // Records a copy of a waker, or its refusal.
     pub(crate) fn note_copy(&mut self, copy: &Option<W>)
         ensures log { Grows self.old.state.log self.new.state.log (copied copy.now ∷ []) }
         ensures message { self.new.state.message ≡ self.old.state.message }
@@ -200,7 +200,7 @@ impl<'a, T: Drop, W: Drop + Wakes, R: Wait> MemoryReceiver<'a, T, W, R> {
         self.pause();
     }
 
-    // Notes that the poll woke its own task.
+    // Records that the poll woke its own task.
     pub(crate) fn note_own_wake(&mut self)
         ensures log { Grows self.old.state.log self.new.state.log (did WakeOwn ∷ []) }
         ensures message { self.new.state.message ≡ self.old.state.message }
@@ -210,7 +210,7 @@ impl<'a, T: Drop, W: Drop + Wakes, R: Wait> MemoryReceiver<'a, T, W, R> {
         record(self.rt, &mut self.events, event);
     }
 
-    // A pause, in which the sender may act, and wake the receiver.
+    // Pauses: the sender may act, and wake the receiver.
     fn pause(&mut self)
         ensures { self.new ≡ record self.old { word = self.new.word; plan = self.new.plan } }
     {
@@ -223,7 +223,7 @@ impl<'a, T: Drop, W: Drop + Wakes, R: Wait> MemoryReceiver<'a, T, W, R> {
         }
     }
 
-    // The sender acts, or begins to and lingers: whether it woke the receiver.
+    // The sender acts, or begins to and lingers. Returns whether it woke the receiver.
     fn begin(&mut self, act: Act<T>) -> bool
         ensures { self.new ≡ record self.old { word = self.new.word; plan = self.new.plan } }
     {
@@ -238,7 +238,7 @@ impl<'a, T: Drop, W: Drop + Wakes, R: Wait> MemoryReceiver<'a, T, W, R> {
         false
     }
 
-    // The sender acts, if both ends are here or the receiver waits: whether it woke the receiver.
+    // The sender acts, if both ends are here or the receiver waits. Returns whether it woke the receiver.
     fn act(&mut self, act: Act<T>) -> bool
         ensures keeps { self.new ≡ record self.old { word = self.new.word } }
         ensures leaves { both_here self.old.word self.old.state.message ≡ true → self.new.word ≡ word_after_act act }
@@ -270,14 +270,14 @@ impl<'a, T: Drop, W: Drop + Wakes, R: Wait> MemoryReceiver<'a, T, W, R> {
 impl<'a, T: Drop, W: Drop + Wakes, R: Wait> ReceiverGround<T, W> for MemoryReceiver<'a, T, W, R> {
     ghost state = { λ s. s.state };
 
-    // It has nothing beside the channel.
+    // It has nothing besides the channel.
     ghost keeps = { λ a b. ⊤ };
 
     ghost keeps_same = { λ a. tt };
 
     ghost keeps_on = { λ a b c f g. tt };
 
-    // It says nothing of a message that it hands out.
+    // It states nothing of a message that it returns.
     ghost gives = { λ s m. ⊤ };
 
     ghost gives_on = { λ a b m k g. tt };
@@ -285,7 +285,7 @@ impl<'a, T: Drop, W: Drop + Wakes, R: Wait> ReceiverGround<T, W> for MemoryRecei
     fn load(&mut self) -> u8 {
         let parked = self.parked;
         let found = self.operate(Op::Load);
-        // One that waits makes its pause in its next park.
+        // A load just after a park makes no pause.
         if (found == RECEIVING || found == UNPARKING) && !parked {
             self.pause();
         }
@@ -349,7 +349,7 @@ impl<'a, T: Drop, W: Drop + Wakes, R: Wait> ReceiverGround<T, W> for MemoryRecei
 }
 
 impl<'a, T: Drop, W: Drop + Wakes, R: Wait> BlockGround<T, W> for MemoryReceiver<'a, T, W, R> {
-    // What a park did is in its log.
+    // Its log has what a park did.
     ghost parks = { λ timed a b. ⊤ };
 
     fn park(&mut self, _timed: bool) {
@@ -371,7 +371,7 @@ impl<'a, T: Drop, W: Drop + Wakes, R: Wait> BlockGround<T, W> for MemoryReceiver
     }
 }
 
-// Where the receiver leaves while the sender is about to finish, the sender uses the waker in this slot up.
+// If the receiver leaves while the sender is about to finish, the sender uses up the waker in this slot.
 fn finish_late<W: Wakes>(op: Op, found: u8, waker: &mut Option<W>)
     ensures { waker.new ≡ waker_after op found waker.old }
 {
@@ -382,14 +382,14 @@ fn finish_late<W: Wakes>(op: Op, found: u8, waker: &mut Option<W>)
     }
 }
 
-// Whether the waker of a receiver that waits lies in this slot.
+// Whether this slot has the waker of a waiting receiver.
 fn is_waiting<W>(owns_waker: bool, waker: &Option<W>) -> bool
     ensures { result ≡ lies owns_waker waker.now }
 {
     !owns_waker && waker.is_some()
 }
 
-// Whether the message's slot is the receiver's after an operation that found this word.
+// Whether the receiver owns the message's slot after an operation that found this word.
 fn has_message(op: Op, found: u8) -> bool
     ensures { result ≡ keeps_message op found }
 {
@@ -399,8 +399,7 @@ fn has_message(op: Op, found: u8) -> bool
     }
 }
 
-// Whether the waker's slot is the receiver's after an operation that found this word, where the receiver
-// waits or not.
+// Whether the receiver owns the waker's slot after an operation that found this word. `waits`: it waited.
 fn has_waker(op: Op, found: u8, waits: bool) -> bool
     ensures { result ≡ keeps_waker op found waits }
 {

@@ -17,19 +17,19 @@ use std::marker::Model;
 use std::snapshot::Snapshot;
 use std::sync::Wait;
 
-/// What a receiver that waits does once the sender took its waker, before the sender's last operation.
+/// What a waiting receiver does after the sender took its waker, and before the sender's last operation.
 #[derive(Clone, Copy)]
 pub enum Meanwhile {
-    /// It waits on.
+    /// It keeps waiting.
     Waits,
-    /// Its deadline is over.
+    /// It stops waiting: its deadline is over.
     Stops,
     /// It is a future, and is dropped.
     Leaves,
 }
 
-/// A sender's ground whose receiver is here, waits or is gone. It does nothing, but that one that waits may
-/// stop or leave while the sender finishes.
+/// A sender's ground, whose receiver is here, waits or is gone. The receiver does nothing, except that a
+/// waiting one may stop or leave while the sender finishes.
 #[derive(Drop)]
 pub struct MemorySender<'a, T, W, R: Wait> {
     events: Vec<Event<T, W>>,
@@ -57,8 +57,8 @@ impl<'a, T, W, R: Wait> Model for MemorySender<'a, T, W, R> {
 }
 
 impl<'a, T, W, R: Wait> MemorySender<'a, T, W, R> {
-    /// The ground of a new sender, whose receiver is here or was dropped. `alloc` is the
-    /// allocator of the events' memory; where it gives none for one more event, the step waits for ever on `rt`.
+    /// Makes the ground of a new sender. The receiver was dropped unless `receiver_is_here`. `alloc`
+    /// allocates the events; a step that is out of memory for its event blocks forever on `rt`.
     pub fn new(rt: &'a R, alloc: Global, receiver_is_here: bool) -> MemorySender<'a, T, W, R>
         ensures fresh { IsFresh result.state }
         ensures word { result.word ≡ (if receiver_is_here then 3 else 2) }
@@ -80,7 +80,7 @@ impl<'a, T, W, R: Wait> MemorySender<'a, T, W, R> {
         }
     }
 
-    /// The ground of a new sender, whose receiver waits with this waker. `rt` and `alloc` are as in `new`.
+    /// Makes the ground of a new sender, whose receiver waits with `waker`. `rt`, `alloc`: as in `new`.
     pub fn with_waiting_receiver(rt: &'a R, alloc: Global, waker: W) -> MemorySender<'a, T, W, R>
         ensures fresh { IsFresh result.state }
         ensures word { result.word ≡ 0 }
@@ -98,28 +98,28 @@ impl<'a, T, W, R: Wait> MemorySender<'a, T, W, R> {
         }
     }
 
-    /// The deadline of a receiver that waits is to be over once the sender took its waker.
+    /// Plans that a waiting receiver stops, by its deadline, after the sender took its waker.
     pub fn receiver_will_stop(&mut self)
         ensures { self.new ≡ record self.old { meanwhile = Stops } }
     {
         self.meanwhile = Meanwhile::Stops;
     }
 
-    /// A receiver that waits is to be gone once the sender took its waker, as a future that is dropped.
+    /// Plans that a waiting receiver, a future, is dropped after the sender took its waker.
     pub fn receiver_will_leave(&mut self)
         ensures { self.new ≡ record self.old { meanwhile = Leaves } }
     {
         self.meanwhile = Meanwhile::Leaves;
     }
 
-    /// The steps so far.
+    /// Returns the steps so far, in their order.
     pub fn events(&self) -> &[Event<T, W>]
         ensures { map logged_event result.now ≡ self.now.state.log.list }
     {
         &self.events
     }
 
-    // Makes an operation on the word, and gives the word before.
+    // Performs `op` on the word, and returns the word before.
     fn operate(&mut self, op: Op) -> u8
         requires { SenderAsks op self.old.state }
         ensures log { Grows self.old.state.log self.new.state.log (worded op result ∷ []) }
@@ -139,10 +139,10 @@ impl<'a, T, W, R: Wait> MemorySender<'a, T, W, R> {
 impl<'a, T: Drop, W: Drop, R: Wait> SenderGround<T, W> for MemorySender<'a, T, W, R> {
     ghost state = { λ s. s.state };
 
-    // It takes in any message.
+    // It admits any message.
     ghost admits = { λ s m. ⊤ };
 
-    // Whom it woke is in its log.
+    // Its log has the waker that it used.
     ghost woken = { λ s k. ⊤ };
 
     fn add(&mut self) -> u8 {
@@ -211,7 +211,7 @@ impl<'a, T: Drop, W: Drop, R: Wait> SenderGround<T, W> for MemorySender<'a, T, W
     }
 }
 
-// The word once the waker is taken, and a receiver that waits has done this.
+// The word after the waker was taken, and a waiting receiver did this.
 fn outlasted(word: u8, meanwhile: Meanwhile) -> u8
     ensures { result ≡ word_then meanwhile word }
 {
@@ -222,7 +222,7 @@ fn outlasted(word: u8, meanwhile: Meanwhile) -> u8
     }
 }
 
-// Whether both slots are the sender's after an operation that found this word.
+// Whether the sender owns both slots after an operation that found this word.
 fn keeps_slots(found: u8) -> bool
     ensures { result ≡ keeps_both found }
 {

@@ -1,10 +1,10 @@
-//! A task in memory, which counts what becomes of its waker.
+//! A task in memory, which counts its wakes, and the copies of its waker.
 
 use crate::wakes::Wakes;
 use std::cell::Cell;
 
 /// A task that polls a receiver over a ground in memory. It counts the copies of its waker, those that
-/// ended, and how often it was woken. No contract can say what a cell holds, so none speaks of a count.
+/// ended, and its wakes. A contract cannot state what a `Cell` has, so none states a count.
 #[derive(Drop)]
 pub struct MemoryTask {
     copies: Cell<u64>,
@@ -13,7 +13,7 @@ pub struct MemoryTask {
 }
 
 impl MemoryTask {
-    /// A task that was never woken, and of whose waker there is no copy.
+    /// Makes a task whose counts are 0.
     pub fn new() -> MemoryTask {
         MemoryTask {
             copies: Cell::new(0),
@@ -22,34 +22,34 @@ impl MemoryTask {
         }
     }
 
-    /// How many copies of its waker were made.
+    /// Returns how many copies of its waker were made.
     pub fn copies(&self) -> u64 {
         self.copies.get()
     }
 
-    /// How many of them were used or dropped.
+    /// Returns how many of them were used or dropped.
     pub fn ended(&self) -> u64 {
         self.ended.get()
     }
 
-    /// How often it was woken.
+    /// Returns how often it was woken.
     pub fn wakes(&self) -> u64 {
         self.wakes.get()
     }
 
-    // Makes a copy of its waker.
+    // Copies its waker.
     pub(crate) fn copy(&self) -> TaskWaker<'_> {
         count(&self.copies);
         TaskWaker { task: self }
     }
 
-    // Wakes it.
+    // Wakes the task.
     pub(crate) fn wake(&self) {
         count(&self.wakes);
     }
 }
 
-/// A copy of the waker of a task in memory. The task counts its end, by a wake or by a drop.
+/// A copy of the waker of a task in memory. The task counts its end: its use or its drop.
 pub struct TaskWaker<'t> {
     task: &'t MemoryTask,
 }
@@ -67,7 +67,7 @@ impl Drop for TaskWaker<'_> {
     }
 }
 
-// Adds one. A count past the largest begins anew.
+// Adds one. The largest count wraps to 0.
 fn count(counter: &Cell<u64>) {
     counter.set(counter.get().wrapping_add(1));
 }

@@ -1,12 +1,12 @@
-//! What the sender of a ground in memory does with the waker of a receiver that waits.
+//! The trait of wakers in grounds in memory: how the sender uses one.
 
-/// A waker that lies in the slot of a ground in memory.
+/// A waker that a ground in memory may have in its slot.
 pub trait Wakes {
-    /// Uses the waker up, and wakes its task, if it has one.
+    /// Uses the waker up, and wakes its task if it has one.
     fn wake(self);
 }
 
-// Numbers that name a waker, for tests that ask only which one it is.
+// A number names a waker, in tests that only ask which one it is.
 impl Wakes for u8 {
     fn wake(self) {}
 }

@@ -1,4 +1,4 @@
--- A new receiver is at rest, and so a future that was not polled.
+-- A new receiver is at rest, so it is a future that was not polled.
 use Rattle.oneshot_drive.specs.Polls.{unpolled}
 use Rattle.oneshot_memory.proofs.future.MemoryFuture.new.Goals as goal
 
