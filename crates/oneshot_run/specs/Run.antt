@@ -56,8 +56,8 @@ pub data IsFault (input : List ℕ) : Fault → Type 0 where
   is_unwritten : (sender : SenderScript ℕ) (receiver : ReceiverScript) (moves : List Move)
       → AsksFor input sender receiver moves → IsFault input F.WriteFailed
 
--- The exit status: 0 if the trace was written, else that of the fault. Of the faults, only a failed write may
--- change the output.
+-- The exit status: 0 if the trace was written, else that of the fault. Of the faults, only a failed write
+-- may change the output.
 pub data EndsWith (known : Option (List ℕ)) (before after : Option (List ℕ)) : ℕ → Type 0 where
   is_answered : IfSome known (λ input. IsAnswered input before after) → EndsWith known before after 0
   is_faulty : (fault : Fault) → IfSome known (λ input. IsFault input fault)

@@ -62,9 +62,9 @@ pub fn start<R: Threads>(
 
 /// Awaits a divisor of `number`.
 ///
-/// `rt` is the executor's runtime, and `receiver` the future of the divisor. Inner `Ok`: the divisor, above 1
-/// and below the number. `Err(RecvError)`: the sender was dropped without a divisor, or sent one of another
-/// number. Outer `Err`: the executor failed.
+/// `rt` is the executor's runtime, and `receiver` the future of the divisor. Inner `Ok`: the divisor,
+/// above 1 and below the number. `Err(RecvError)`: the sender was dropped without a divisor, or sent one
+/// of another number. Outer `Err`: the executor failed.
 pub fn await_divisor<R, Rt>(
     rt: &R,
     number: u32,
@@ -84,8 +84,8 @@ where
 
 /// Searches for a divisor of `number` on another thread, awaits it, and joins the thread.
 ///
-/// `rt` is the runtime of the thread and of the executor, `alloc` allocates the channel, and `number` is the
-/// number to divide. Inner `Ok`: the divisor, above 1 and below the number. `Err(RecvError)`: the search ended
+/// `rt` runs the thread and the executor, `alloc` allocates the channel, and `number` is the number to
+/// divide. Inner `Ok`: the divisor, above 1 and below the number. `Err(RecvError)`: the search ended
 /// without one. Outer `Err`: out of memory, no thread could be started, or the executor failed.
 pub fn divisor_of<R: Threads + Wait + RandomSource + AllocGlobal>(
     rt: &R,

@@ -23,8 +23,8 @@ pub struct Outcome {
 
 /// Serves requests until the queue is closed and empty, then reports how many replies it sent.
 ///
-/// `rt` blocks the thread while the queue is empty, `requests` is the queue's receiver, and `report` sends the
-/// number, which stops at `u64::MAX`.
+/// `rt` blocks the thread while the queue is empty, `requests` is the queue's receiver, and `report` sends
+/// the number, which stops at `u64::MAX`.
 pub fn work(rt: &impl Wait, requests: &queue::Receiver<Request>, report: Sender<u64>) {
     let mut served = 0u64;
     for _ in rt.forever() {
@@ -41,9 +41,9 @@ pub fn work(rt: &impl Wait, requests: &queue::Receiver<Request>, report: Sender<
 
 /// Puts a request for each number's square into the queue.
 ///
-/// `rt` is the runtime that waits for each reply, `alloc` allocates the channels and the result, `requests` is the
-/// queue's sender, and `roots` has the numbers. `Ok`: the receivers of the replies, in the order of the numbers.
-/// `Err`: out of memory.
+/// `rt` is the runtime that waits for each reply, `alloc` allocates the channels and the result,
+/// `requests` is the queue's sender, and `roots` has the numbers. `Ok`: the receivers of the replies, in
+/// the order of the numbers. `Err`: out of memory.
 pub fn ask_all<'r, R: Wait + Clock>(
     rt: &'r R,
     alloc: Global,
@@ -64,8 +64,8 @@ pub fn ask_all<'r, R: Wait + Clock>(
 
 /// Waits for each reply in turn, each for at most `limit`.
 ///
-/// `alloc` allocates the answers, and `all` has the receivers of the replies. `Ok`: their answers, in their order.
-/// `Err`: out of memory.
+/// `alloc` allocates the answers, and `all` has the receivers of the replies. `Ok`: their answers, in
+/// their order. `Err`: out of memory.
 pub fn answers_to<Rt: Wait + Clock + Drop>(
     alloc: Global,
     all: Vec<Asked<Rt>>,
@@ -82,8 +82,8 @@ pub fn answers_to<Rt: Wait + Clock + Drop>(
 
 /// Adds up the workers' reports. The sum stops at `u64::MAX`.
 ///
-/// `reports` has the receivers of the reports, and `limit` is the longest wait for each. `None`: a report did not
-/// come in time, or its sender was dropped.
+/// `reports` has the receivers of the reports, and `limit` is the longest wait for each. `None`: a report
+/// did not come in time, or its sender was dropped.
 pub fn total<Rt: Wait + Clock + Drop>(
     reports: Vec<Receiver<u64, Rt>>,
     limit: Duration,
@@ -98,9 +98,9 @@ pub fn total<Rt: Wait + Clock + Drop>(
 
 /// Starts workers, has them reply to a request for the square of each number, and shuts them down.
 ///
-/// `rt` is the runtime of the threads, `alloc` allocates the queue and the channels, `workers` is the number of
-/// workers, `roots` has the numbers, and `limit` is the longest wait for each reply and each report. `Ok`: an
-/// answer for each number, and how many were served. `Err`: out of memory.
+/// `rt` is the runtime of the threads, `alloc` allocates the queue and the channels, `workers` is the
+/// number of workers, `roots` has the numbers, and `limit` is the longest wait for each reply and each
+/// report. `Ok`: an answer for each number, and how many were served. `Err`: out of memory.
 pub fn pooled<R: Threads + Wait + Clock + Sync>(
     rt: &R,
     alloc: Global,

@@ -99,8 +99,8 @@ pub fn both_squares<R: Threads + Wait + RandomSource + AllocGlobal + Sync>(
 
 /// Requests the square of one number from two threads, and awaits the first reply.
 ///
-/// `rt` is the runtime of the threads and of the executor, `alloc` allocates both channels, and `root` is the
-/// number. `None`: no square of it came. `Err`: out of memory, or the executor failed.
+/// `rt` is the runtime of the threads and of the executor, `alloc` allocates both channels, and `root` is
+/// the number. `None`: no square of it came. `Err`: out of memory, or the executor failed.
 pub fn first_square<R: Threads + Wait + RandomSource + AllocGlobal + Sync>(
     rt: &R,
     alloc: Global,

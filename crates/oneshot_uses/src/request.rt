@@ -67,8 +67,8 @@ pub struct Answer {
 
 /// Makes a request for the square of `root`, and the receiver of its reply.
 ///
-/// `rt` is the runtime that waits for the reply (`()` if it is awaited as a future), and `alloc` allocates the
-/// channel. `Err`: out of memory.
+/// `rt` is the runtime that waits for the reply (`()` if it is awaited as a future), and `alloc` allocates
+/// the channel. `Err`: out of memory.
 pub fn ask<Rt: Drop>(rt: Rt, alloc: Global, root: u32) -> Result<(Request, Asked<Rt>), AllocError>
     ensures request { IfOk result (λ both. both.0.root ≡ root) }
     ensures asked { IfOk result (λ both. both.1.root ≡ root) }
@@ -116,8 +116,8 @@ impl<Rt: Wait + Clock + Drop> Asked<Rt> {
 }
 
 impl<Rt: Wait + Clock + Drop> Asked<Rt> {
-    /// Waits for the reply, for at most `limit`, and returns the number with its square. `Late`: no reply came in
-    /// time; a later one is refused. `Lost`: none will come, or that of another number came.
+    /// Waits for the reply, for at most `limit`, and returns the number with its square. `Late`: no reply
+    /// came in time; a later one is refused. `Lost`: none will come, or that of another number came.
     pub fn wait_within(self, limit: Duration) -> Answer
         ensures { result.root ≡ self.root }
     {
@@ -160,9 +160,9 @@ fn wait_all<Rt: Wait + Clock + Drop>(
 
 /// Requests the square of each number from a worker on another thread, and waits for the replies.
 ///
-/// `rt` runs the thread and waits, `alloc` allocates the channels and the result, and `roots` has the numbers.
-/// `Ok`: the squares in the order of the numbers, with `None` for a reply that did not come. `Err`: out of
-/// memory.
+/// `rt` runs the thread and waits, `alloc` allocates the channels and the result, and `roots` has the
+/// numbers. `Ok`: the squares in the order of the numbers, with `None` for a reply that did not come.
+/// `Err`: out of memory.
 pub fn squares_of<R: Threads + Wait + Clock + Sync>(
     rt: &R,
     alloc: Global,

@@ -30,8 +30,8 @@ pub struct Report {
 
 /// Calls `turn` until the stop signal comes or its sender is dropped, but at most `limit` times.
 ///
-/// `stop` is the receiver of the signal, `limit` the largest number of turns, and a call of `turn` is one turn.
-/// Returns how many turns were completed, and why the worker stopped.
+/// `stop` is the receiver of the signal, `limit` the largest number of turns, and a call of `turn` is one
+/// turn. Returns how many turns were completed, and why the worker stopped.
 pub fn work_until<Rt: Drop, F: FnMut()>(
     stop: &mut Receiver<(), Rt>,
     limit: u64,

@@ -24,9 +24,9 @@ pub fn perform<T: Drop, F: FnOnce() -> T>(work: F, waiter: Sender<T>) -> Option<
 
 /// Starts `work` on its own thread.
 ///
-/// `rt` starts the thread, `work` returns the result, and `waiter` sends it to whoever waits for it. `Ok`: the
-/// thread; joining it returns the result if the receiver was gone. `Err`: no thread could be started, and the
-/// sender was dropped.
+/// `rt` starts the thread, `work` returns the result, and `waiter` sends it to whoever waits for it. `Ok`:
+/// the thread; joining it returns the result if the receiver was gone. `Err`: no thread could be started,
+/// and the sender was dropped.
 pub fn start<R: Threads, T: Send + Drop + 'static, F: FnOnce() -> T + Send + Drop + 'static>(
     rt: &R,
     work: F,

@@ -1,5 +1,4 @@
-//! Workers that serve one queue of requests with tickets. Nothing compares a reply with its request: a ticket returns
-//! only a reply to its own question.
+//! Workers that serve one queue of requests with tickets, each of which returns only a reply to its own question.
 
 ghost use Rattle.std.specs.Prelude.{◌≡◌, ◌*◌, IfOk, IfSome, length, vec_len};
 
@@ -137,9 +136,9 @@ impl<Rt: Wait + Clock + Drop> Pending<Rt> {
 
 /// Starts workers, has them answer a request for the square of each number, and shuts them down.
 ///
-/// `rt` is the runtime of the threads, `alloc` allocates the queue and the channels, `workers` is the number of
-/// workers, `roots` has the numbers, and `limit` is the longest wait for each square. `Ok`: an answer for each
-/// number, in their order. `Err`: out of memory.
+/// `rt` is the runtime of the threads, `alloc` allocates the queue and the channels, `workers` is the
+/// number of workers, `roots` has the numbers, and `limit` is the longest wait for each square. `Ok`: an
+/// answer for each number, in their order. `Err`: out of memory.
 pub fn asked<R: Threads + Wait + Clock + Sync>(
     rt: &R,
     alloc: Global,

@@ -13,8 +13,8 @@ use reading::{Asked, Kind, read};
 use std::process::Abort;
 use std::test::Fail;
 
-/// Asserts that the program's output for `input` agrees with the second reading: the trace of the run that it
-/// asks for, or its first fault.
+/// Asserts that the program's output for `input` agrees with the second reading: the trace of the run that
+/// it asks for, or its first fault.
 fn assert_as_read(rt: &(impl Abort + AllocGlobal), input: &[u8]) -> Result<Kind, Fail> {
     let output = told(rt, input);
     match read(rt.alloc(), input)? {

@@ -30,8 +30,8 @@ fn time_of(
 #[test]
 fn the_time_grows_with_the_calls(rt: HostRuntime) -> Result<(), Fail> {
     for _ in 0..3 {
-        // Both make the same number of calls, so that a busy machine delays both. If each call copied the rest,
-        // the second would take up to twenty times as long.
+        // Both make the same number of calls, so that a busy machine delays both. If each call copied the
+        // rest, the second would take up to twenty times as long.
         let few = time_of(&rt, 20, 5_000)?;
         let many = time_of(&rt, 1, 100_000)?;
         if many / 3 < few {
