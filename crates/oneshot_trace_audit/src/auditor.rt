@@ -1,6 +1,6 @@
-//! An auditor of traces. It reads a trace beside its scripts, from the definitions alone: the object with
-//! one message, the acting entry of each call, the places of the message and of the wakers, who holds the
-//! block, and how the receiver waits. It knows no transition table, and calls nothing that made the trace.
+//! An auditor of a trace and its scripts, written from the definitions alone: the sequential object with one
+//! message, the acting entry of each call, the places of the message and of the wakers, who holds the block,
+//! and how the receiver waits. It has no transition table, and calls nothing that made the trace.
 
 mod acting;
 mod calls;
@@ -29,18 +29,18 @@ pub(crate) struct Scripts {
     pub(crate) receiver: ReceiverScript,
 }
 
-/// What a trace tells.
+/// What a trace reports.
 #[derive(Drop)]
 pub(crate) struct DrawnTrace {
-    /// An entry a move.
+    /// An entry for each move.
     pub(crate) entries: Vec<Entry>,
     /// Whether the block is freed.
     pub(crate) block_freed: bool,
-    /// The message's last place, with the message; `None` where the script sends nothing.
+    /// The message's last place, with the message. `None`: the script sends nothing.
     pub(crate) rest: Option<(Place, u64)>,
 }
 
-/// Accepts the trace of these scripts, or says what is wrong, at the first entry where it shows.
+/// Accepts the trace of these scripts. `Err`: what is wrong, and the first entry that shows it.
 pub(crate) fn audit(scripts: &Scripts, told: &DrawnTrace) -> Result<(), Finding> {
     let mut auditor = Auditor::new(scripts);
     let entries = told.entries.as_slice();
@@ -65,7 +65,7 @@ pub(crate) fn audit(scripts: &Scripts, told: &DrawnTrace) -> Result<(), Finding>
     }
 }
 
-/// What the definitions remember of the entries that were read.
+/// What the definitions need of the entries read so far.
 #[derive(Drop)]
 struct Auditor {
     history: History,
@@ -84,7 +84,7 @@ impl Auditor {
         }
     }
 
-    /// An end is idle only where no call of it is under way or left.
+    /// Checks that an idle end has no call under way or left.
     fn read_idle(&self, scripts: &Scripts, end: End) -> Result<(), Fault> {
         match self.history.call_of(scripts, end) {
             Some(_) => Err(Fault::IdleTooEarly(end)),
@@ -92,7 +92,7 @@ impl Auditor {
         }
     }
 
-    /// A step: it belongs to a call, and keeps each definition.
+    /// Checks that a step belongs to a call, and meets each definition.
     fn read_made(
         &mut self,
         scripts: &Scripts,
@@ -117,7 +117,7 @@ impl Auditor {
         Ok(())
     }
 
-    /// What has to hold after the last entry.
+    /// Checks what must hold after the last entry.
     fn read_end(&self, told: &DrawnTrace) -> Result<(), Fault> {
         if self.history.have_all_ended() {
             self.message.read_end()?;

@@ -1,4 +1,4 @@
-//! Changes of a trace.
+//! The changes by which tests damage a trace.
 
 ghost use Rattle.std.specs.Prelude.{◌<◌, vec_len};
 
@@ -8,20 +8,20 @@ use oneshot_replay::{Entry, Made, Place, WakerName, WakerPlace};
 use std::alloc::AllocError;
 use std::process::Abort;
 
-/// A change of a trace. Entries are counted from 1.
+/// A change to a trace. Entries are counted from 1.
 #[derive(Clone, Copy)]
 pub(crate) enum Edit {
-    /// Takes an entry out.
+    /// Removes an entry.
     Remove(usize),
-    /// Makes an entry twice.
+    /// Repeats an entry.
     Double(usize),
-    /// Moves the first of two entries to before the second.
+    /// Moves the first of these entries before the second, an earlier one.
     MoveBefore(usize, usize),
-    /// Puts that an end is idle in the place of an entry.
+    /// Replaces an entry with an idle one of this end.
     Idle(usize, End),
     /// Changes an entry's end.
     Side(usize, End),
-    /// Changes what an entry does.
+    /// Changes an entry's step.
     Step(usize, Step),
     /// Changes what an entry sees.
     Seen(usize, Seen),
@@ -35,15 +35,15 @@ pub(crate) enum Edit {
     Token(usize, bool),
     /// Changes the number of the waker by which a poll wakes its own task.
     Own(usize, Option<u64>),
-    /// Changes what an entry's call answers.
+    /// Changes the reply in an entry.
     Reply(usize, Option<Reply>),
-    /// Tells whether the block is freed.
+    /// Changes whether the block is freed.
     BlockFreed(bool),
-    /// Tells the message's last place.
+    /// Changes the message and its last place.
     Rest(Option<(Place, u64)>),
 }
 
-/// Makes a change of a trace, which has the entries that it names.
+/// Applies a change to a trace. Panics if the trace has no entry that it names.
 pub(crate) fn apply(
     rt: &impl Abort,
     told: &mut DrawnTrace,
@@ -80,7 +80,7 @@ pub(crate) fn apply(
     Ok(())
 }
 
-/// A step with one field changed.
+/// Returns the step with one field changed.
 fn changed(made: Made, change: Edit) -> Made {
     match change {
         Edit::Side(_, side) => Made { side, ..made },
@@ -132,7 +132,7 @@ fn replace(rt: &impl Abort, told: &mut DrawnTrace, number: usize, entry: Entry) 
     told.entries[at] = entry;
 }
 
-/// The index of an entry that there is.
+/// Returns the index of an entry. Panics if there is none.
 fn index_of(rt: &impl Abort, told: &DrawnTrace, number: usize) -> usize
     ensures { result < vec_len told.now.entries }
 {

@@ -1,4 +1,4 @@
-//! Damaged traces: the auditor refuses each, at the entry where the definitions break.
+//! Tests of damaged traces: the auditor refuses each, at the entry that breaks the definitions.
 
 mod futures;
 mod received;
@@ -15,14 +15,13 @@ use std::alloc::AllocGlobal;
 use std::process::Abort;
 use std::test::Fail;
 
-/// What is wrong, the schedule of the right trace, the changes that make it wrong, and what the auditor
-/// says of it.
+/// What is wrong, the schedule of the right trace, the changes that damage it, and the auditor's finding.
 type Damage = (&'static str, &'static str, &'static [Edit], &'static str);
 
-/// Both scripts, and damages of their traces.
+/// Both scripts, and damages to their traces.
 type Damaged = (Sending, Receiving, &'static [Damage]);
 
-/// Runs both scripts under each schedule, whose trace the auditor accepts, and damages that trace.
+/// Asserts for each damage that the auditor accepts the right trace, and finds this in the damaged one.
 fn assert_refused(rt: &(impl Abort + AllocGlobal), damaged: Damaged) -> Result<(), Fail> {
     let (sender, receiver, damages) = damaged;
     let scripts = scripts_of(rt.alloc(), sender, receiver)?;

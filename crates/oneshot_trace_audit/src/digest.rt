@@ -1,4 +1,4 @@
-//! A number for all that traces tell, in its order, or for a text: a guard against change.
+//! The digest of traces or of a text, as a guard against changes.
 
 use crate::auditor::DrawnTrace;
 use oneshot_machine::machine::{Seen, Step};
@@ -8,7 +8,7 @@ use std::io;
 use std::io::Write;
 use std::test::Fail;
 
-/// The digest of the numbers that were added, or of the bytes that were written, by FNV-1a of 64 bits.
+/// The 64-bit FNV-1a digest of the numbers that were added, or of the bytes that were written.
 #[derive(Drop)]
 pub(crate) struct Digest {
     state: u64,
@@ -22,12 +22,12 @@ impl Digest {
         }
     }
 
-    /// The digest so far.
+    /// Returns the digest so far.
     pub(crate) fn value(&self) -> u64 {
         self.state
     }
 
-    /// Adds a trace: each field of each entry, and what is told of the end.
+    /// Adds a trace: each field of each entry, the block and the message's place.
     pub(crate) fn add_trace(&mut self, told: &DrawnTrace) {
         for entry in told.entries.as_slice() {
             match entry {

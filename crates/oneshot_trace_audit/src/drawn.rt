@@ -1,5 +1,5 @@
-//! Drawn schedules of each pair of scripts: the auditor accepts each trace, and the program prints the text
-//! that another program computed.
+//! Tests of drawn schedules of pairs of scripts: the auditor accepts each trace, and the digests of traces
+//! and texts are those that another program computed.
 
 use crate::auditor::audit;
 use crate::digest::Digest;
@@ -11,16 +11,16 @@ use std::alloc::AllocGlobal;
 use std::process::Abort;
 use std::test::Fail;
 
-/// How many moves a seed draws.
+/// How many moves are drawn from a seed.
 const MOVES: usize = 64;
 
 /// A pair of scripts, and the digests of its traces and of their printed text.
 ///
-/// Another program computed both digests, from the tables of both ends and the form of an entry and of the text.
+/// Another program computed both digests, from both transition tables and the format of entries and text.
 type Pair = (Sending, Receiving, u64, u64);
 
-/// Draws a schedule from each seed of 1 to 10,000, and runs both scripts under it. Asserts that the auditor
-/// accepts each trace, and that the digests of all of them are these.
+/// Draws a schedule from each seed from 1 to 10,000, and runs both scripts under it. Asserts that the
+/// auditor accepts each trace, and that the digests of all traces and of all texts are these.
 fn assert_drawn(rt: &(impl Abort + AllocGlobal), pair: Pair) -> Result<(), Fail> {
     let (sender, receiver, traces, texts) = pair;
     let scripts = scripts_of(rt.alloc(), sender, receiver)?;

@@ -1,5 +1,5 @@
-//! Drawn schedules of `replay`: an auditor that knows the definitions alone accepts each of their traces,
-//! and refuses traces that are damaged.
+//! Tests of `replay` under drawn schedules: an auditor that knows only the definitions accepts their traces,
+//! and refuses damaged ones.
 #![tactic(auto)]
 
 #[cfg(test)]

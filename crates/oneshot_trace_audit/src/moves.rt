@@ -1,4 +1,4 @@
-//! Moves: of letters, and drawn from a seed.
+//! Moves, given by letters or drawn from a seed.
 
 use oneshot_replay::Move;
 use std::process::Abort;
@@ -19,20 +19,20 @@ fn receiver(over: bool, refuse: bool) -> Move {
     Move::Receiver { over, refuse }
 }
 
-/// Moves without end, drawn from a state of 64 bits that is not 0.
+/// An endless sequence of moves, drawn from a 64-bit state other than 0.
 #[derive(Drop)]
 pub(crate) struct Draws {
     state: u64,
 }
 
 impl Draws {
-    /// The moves that a seed draws.
+    /// The moves drawn from `seed`.
     pub(crate) fn new(seed: u64) -> Draws {
         Draws { state: seed }
     }
 
-    /// The next move: of eight states four move the sender, two the receiver, one the receiver with its
-    /// deadline over, and one the receiver with a copy refused.
+    /// Draws the next move: in four of eight cases the sender's, in two the receiver's, in one the
+    /// receiver's with its deadline over, and in one the receiver's with a copy refused.
     pub(crate) fn draw(&mut self) -> Move {
         self.shift();
         match self.state % 8 {

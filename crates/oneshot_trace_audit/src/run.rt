@@ -1,4 +1,4 @@
-//! Two scripts that are run, what their trace tells, and its printed text.
+//! Runs two scripts, for their trace or for its text.
 
 use crate::auditor::{DrawnTrace, Scripts};
 use crate::scripts::{Receiving, Sending};
@@ -9,7 +9,7 @@ use std::io;
 use std::io::Write;
 use std::test::Fail;
 
-/// Both scripts.
+/// Makes both scripts.
 pub(crate) fn scripts_of(
     alloc: Global,
     sender: Sending,
@@ -21,7 +21,7 @@ pub(crate) fn scripts_of(
     })
 }
 
-/// Runs both scripts under a schedule.
+/// Runs both scripts under a schedule, and returns their trace.
 pub(crate) fn run(alloc: Global, scripts: Scripts, moves: &[Move]) -> Result<DrawnTrace, Fail> {
     let Scripts { sender, receiver } = scripts;
     let trace = replay(alloc, sender, receiver, moves)?;
@@ -33,7 +33,7 @@ pub(crate) fn run(alloc: Global, scripts: Scripts, moves: &[Move]) -> Result<Dra
     })
 }
 
-/// Writes what the program prints of both scripts under a schedule.
+/// Writes what the program prints for both scripts under a schedule.
 pub(crate) fn print_run<W: Write>(
     output: &mut W,
     scripts: Scripts,

@@ -1,4 +1,4 @@
-//! The scripts that are run.
+//! The scripts of the tests.
 
 use oneshot_replay::{
     AsyncCall, AsyncLast, AsyncScript, CallList, ErrorLast, ErrorScript, ReceiverCall,
@@ -23,7 +23,7 @@ pub(crate) enum Sending {
 }
 
 impl Sending {
-    /// The script itself.
+    /// Returns the script.
     pub(crate) fn script(self) -> SenderScript<u64> {
         match self {
             Sending::Send => SenderScript {
@@ -50,7 +50,7 @@ fn sends(looks: usize, last: ErrorLast) -> SenderLast<u64> {
     SenderLast::Send(MESSAGE, ErrorScript { looks, last })
 }
 
-/// A script of the receiver. The word after the last capital is its last call, and `Forever` has none.
+/// A script of the receiver. The last word of a name is the last call; `Forever` has none.
 #[derive(Clone, Copy, Debug)]
 pub(crate) enum Receiving {
     /// The receiver is dropped.
@@ -67,7 +67,7 @@ pub(crate) enum Receiving {
     RefDrop,
     /// `recv_deadline`, `try_recv`, and then the drop.
     DeadlineTryDrop,
-    /// `recv_timeout` whose end no instant can hold.
+    /// `recv_timeout` with a deadline that no instant can hold.
     Forever,
     /// A future, which is polled once and dropped.
     PollDrop,
@@ -80,7 +80,7 @@ pub(crate) enum Receiving {
 }
 
 impl Receiving {
-    /// The script itself.
+    /// Returns the script.
     pub(crate) fn script(self, alloc: Global) -> Result<ReceiverScript, AllocError> {
         match self {
             Receiving::Drop => calls(alloc, &[], ReceiverLast::Drop),
@@ -124,7 +124,7 @@ impl Receiving {
     }
 }
 
-/// These calls, and then the last one.
+/// A script of these calls, and then the last one.
 fn calls(
     alloc: Global,
     calls: &[ReceiverCall],
@@ -134,7 +134,7 @@ fn calls(
     Ok(ReceiverScript { calls, last })
 }
 
-/// A future with these calls, and its drop.
+/// A script of a future with these calls, and its drop.
 fn polls(alloc: Global, polls: &[AsyncCall]) -> Result<ReceiverScript, AllocError> {
     let future = AsyncScript {
         calls: CallList::from(Vec::from_slice(alloc, polls)?),

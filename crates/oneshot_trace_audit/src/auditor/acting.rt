@@ -1,4 +1,4 @@
-//! The acting entry of a call, at which it takes effect.
+//! The acting entry of a call: its linearization point.
 
 use crate::auditor::calls::Call;
 use crate::auditor::mark::is_word;
@@ -6,7 +6,7 @@ use oneshot_machine::machine::{End, Reply, Step};
 use oneshot_machine::states::{DISCONNECTED, EMPTY, MESSAGE, Op};
 use oneshot_replay::{Entry, Made, ReceiverCall};
 
-/// Whether a call that has not acted yet acts at this step of it. `later` are the entries after it.
+/// Whether a call that has not acted yet acts at its step `made`. `later` has the entries after it.
 pub(crate) fn acts(call: Call, made: &Made, later: &[Entry]) -> bool {
     match call {
         Call::SenderIsClosed
@@ -19,8 +19,8 @@ pub(crate) fn acts(call: Call, made: &Made, later: &[Entry]) -> bool {
     }
 }
 
-/// A `send` or a sender's drop acts at its add or flip where that found no receiver that waits, and
-/// otherwise at its swap.
+/// A `send` or a sender's drop acts at its add or flip if that finds no waiting receiver, and otherwise at
+/// its swap.
 fn finishes(made: &Made) -> bool {
     match made.step {
         Step::Word(Op::Add | Op::Xor) => has_found(made, EMPTY) || has_found(made, DISCONNECTED),
@@ -29,8 +29,8 @@ fn finishes(made: &Made) -> bool {
     }
 }
 
-/// A receive that answers "nothing yet" acts at its last operation on the word. Any other, also one that
-/// has not answered, acts where it first finds the message or the end.
+/// A receive that replies "nothing yet" acts at its last operation on the word. Any other, also one without
+/// a reply yet, acts at its first that finds `MESSAGE` or `DISCONNECTED`.
 fn receives(made: &Made, later: &[Entry]) -> bool {
     if !is_word(made.step) {
         return false;
@@ -45,7 +45,7 @@ fn has_found(made: &Made, word: u8) -> bool {
     made.before == Some(word)
 }
 
-/// What the call of this step answers, here or later.
+/// The reply of this step's call, here or later.
 fn answer_of(made: &Made, later: &[Entry]) -> Option<Reply> {
     if made.reply.is_some() {
         return made.reply;
@@ -60,7 +60,7 @@ fn answer_of(made: &Made, later: &[Entry]) -> Option<Reply> {
     None
 }
 
-/// Whether the call of this step makes no later operation on the word.
+/// Whether this step's call performs no later operation on the word.
 fn is_last_word(made: &Made, later: &[Entry]) -> bool {
     let mut last = *made;
     for entry in later {

@@ -50,7 +50,7 @@ impl Call {
         }
     }
 
-    /// Whether it ends its end. What ends an error ends no end.
+    /// Whether it ends its end. A call that ends an error does not.
     pub(crate) fn is_last_of_end(self) -> bool {
         matches!(
             self,
@@ -58,7 +58,7 @@ impl Call {
         )
     }
 
-    /// How a receive says that there is nothing yet; `None` of one that waits without end.
+    /// The reply "nothing yet" of a receive. `None`: it has none, as a receive without a deadline.
     pub(crate) fn nothing_yet(self) -> Option<Reply> {
         match self {
             Call::Receiver(ReceiverCall::TryRecv) => Some(Reply::Empty),
@@ -73,7 +73,7 @@ impl Call {
         }
     }
 
-    /// What a call answers that is no step of the object.
+    /// The reply of a call that is no step of the object.
     pub(crate) fn fixed_reply(self) -> Option<Reply> {
         match self {
             Call::AsInner | Call::IntoInner => Some(Reply::Message),
@@ -88,7 +88,7 @@ fn is_look(call: ReceiverCall) -> bool {
     matches!(call, ReceiverCall::HasMessage | ReceiverCall::IsClosed)
 }
 
-/// The sender's call after so many others. The calls of the error come only after a refused `send`.
+/// The sender's call after `others` calls. The calls of the error come only after a refused `send`.
 pub(crate) fn sender_call(
     script: &SenderScript<u64>,
     others: usize,
@@ -115,7 +115,7 @@ fn last_sender_call(script: &SenderScript<u64>) -> Option<Call> {
     }
 }
 
-/// The error's call after so many others.
+/// The error's call after `others` calls.
 fn error_call(script: &ErrorScript, others: usize) -> Option<Call> {
     if others < script.looks {
         return Some(Call::AsInner);
@@ -130,7 +130,7 @@ fn error_call(script: &ErrorScript, others: usize) -> Option<Call> {
     }
 }
 
-/// The receiver's call after so many others.
+/// The receiver's call after `others` calls.
 pub(crate) fn receiver_call(script: &ReceiverScript, others: usize) -> Option<Call> {
     let calls = script.calls.as_slice();
     if others < calls.len() {
@@ -155,7 +155,7 @@ fn last_receiver_call(script: &ReceiverScript) -> Option<Call> {
     }
 }
 
-/// The future's call after so many others.
+/// The future's call after `others` calls.
 fn future_call(script: &AsyncScript, others: usize) -> Option<Call> {
     let calls = script.calls.as_slice();
     if others < calls.len() {

@@ -1,4 +1,4 @@
-//! The history: the calls in the order of their acting entries, and the reply of each.
+//! The history: the calls in the order of their acting entries, with their replies.
 
 use crate::auditor::Scripts;
 use crate::auditor::acting::acts;
@@ -9,20 +9,20 @@ use crate::auditor::object::Object;
 use oneshot_machine::machine::{End, Reply};
 use oneshot_replay::{Entry, Made};
 
-/// How far the calls of an end have come.
+/// The progress of an end's calls.
 #[derive(Clone, Copy)]
 struct Progress {
-    /// How many have answered.
+    /// How many have replied.
     answered: usize,
     /// The last of them.
     last: Option<Call>,
-    /// Whether one was a `send` that was refused.
+    /// Whether one was a refused `send`.
     is_refused: bool,
     /// Whether another is under way.
     is_under_way: bool,
     /// Whether the call under way has acted.
     has_acted: bool,
-    /// What the object gave it there, in its words.
+    /// The object's reply to it.
     given: Option<Reply>,
 }
 
@@ -38,7 +38,7 @@ impl Progress {
         }
     }
 
-    /// Whether the end has ended, and with it the error of a refused `send`.
+    /// Whether the end, and the error of a refused `send`, have ended.
     fn has_ended(&self) -> bool {
         match self.last {
             Some(Call::Send) => !self.is_refused,
@@ -53,7 +53,7 @@ impl Progress {
         }
     }
 
-    /// What the call under way has to answer: what it always does, or what the object gave.
+    /// The reply that the call under way must have: its fixed one, or the object's.
     fn wanted_reply(&self, call: Call) -> Result<Option<Reply>, Fault> {
         let fixed = call.fixed_reply();
         if fixed.is_some() {
@@ -65,7 +65,7 @@ impl Progress {
         }
     }
 
-    /// The call under way has answered.
+    /// Reads the reply of the call under way, which ends it.
     fn read_reply(&mut self, call: Call, reply: Reply) -> Result<(), Fault> {
         let wanted = self.wanted_reply(call)?;
         if wanted != Some(reply) {
@@ -83,7 +83,7 @@ impl Progress {
     }
 }
 
-/// The object, and how far both ends have come.
+/// The object, and the progress of both ends.
 #[derive(Drop)]
 pub(crate) struct History {
     object: Object,
@@ -101,7 +101,7 @@ impl History {
         }
     }
 
-    /// The call that an end has under way, or begins next; `None` where it has none left.
+    /// The call that an end has under way, or begins next. `None`: it has none left.
     pub(crate) fn call_of(&self, scripts: &Scripts, end: End) -> Option<Call> {
         match end {
             End::Sender => {
@@ -116,7 +116,7 @@ impl History {
         }
     }
 
-    /// A step with what is read beside it; `later` are the entries after it.
+    /// The mark of a step. `later` has the entries after it.
     pub(crate) fn mark(&self, number: usize, made: Made, call: Call, later: &[Entry]) -> Mark {
         let progress = self.progress(made.side);
         Mark {
@@ -129,7 +129,7 @@ impl History {
         }
     }
 
-    /// Reads a step: whether its call acts here, and what it answers.
+    /// Reads a step: its call may act here, and may reply.
     pub(crate) fn read(&mut self, mark: Mark) -> Result<(), Fault> {
         let mut progress = *self.progress(mark.made.side);
         progress.is_under_way = true;
@@ -147,12 +147,12 @@ impl History {
         Ok(())
     }
 
-    /// Whether the sender's `send` or drop has answered.
+    /// Whether the sender's `send` or drop has replied.
     pub(crate) fn has_sender_answered(&self) -> bool {
         !matches!(self.sender.last, None | Some(Call::SenderIsClosed))
     }
 
-    /// Whether both ends have ended, and any error.
+    /// Whether both ends, and any error, have ended.
     pub(crate) fn have_all_ended(&self) -> bool {
         self.sender.has_ended() && self.receiver.has_ended()
     }

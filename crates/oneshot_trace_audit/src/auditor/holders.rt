@@ -13,7 +13,7 @@ pub(crate) struct Holders {
 }
 
 impl Holders {
-    /// Both ends hold the block that is new.
+    /// Both ends hold the new block.
     pub(crate) fn new() -> Holders {
         Holders {
             sender: true,
@@ -22,8 +22,8 @@ impl Holders {
         }
     }
 
-    /// Reads a step: its end holds what it uses, and frees it only as the last one. An end lets go at its
-    /// free, or where its last call acts while the other end is here.
+    /// Reads a step: its end holds the block if it uses it, and is the last holder if it frees it. An end
+    /// lets go of the block at its free, or when its last call acts while the other end is here.
     pub(crate) fn read(&mut self, mark: Mark) -> Result<(), Fault> {
         let end = mark.made.side;
         if uses_block(mark.made.step) && !self.holds(end) {
@@ -42,7 +42,7 @@ impl Holders {
         Ok(())
     }
 
-    /// Once all have ended, the block is freed.
+    /// Checks, after all have ended, that the block is freed.
     pub(crate) fn read_end(&self) -> Result<(), Fault> {
         if self.is_freed {
             Ok(())
@@ -51,7 +51,7 @@ impl Holders {
         }
     }
 
-    /// The trace tells whether the block is freed.
+    /// Checks what the trace reports of the block.
     pub(crate) fn read_told(&self, block_freed: bool) -> Result<(), Fault> {
         if block_freed == self.is_freed {
             Ok(())

@@ -5,14 +5,14 @@ use crate::auditor::object::Object;
 use oneshot_machine::machine::Step;
 use oneshot_replay::Made;
 
-/// A step of an end, in its call and at its object.
+/// A step, with its call and the object.
 #[derive(Clone, Copy)]
 pub(crate) struct Mark {
     /// The entry's number, counted from 1.
     pub(crate) number: usize,
     /// The step.
     pub(crate) made: Made,
-    /// The call that makes it.
+    /// The call that the step belongs to.
     pub(crate) call: Call,
     /// Whether the call begins here.
     pub(crate) begins: bool,
@@ -27,7 +27,7 @@ pub(crate) fn is_word(step: Step) -> bool {
     matches!(step, Step::Word(_))
 }
 
-/// Whether a step moves the message, whatever it sees.
+/// Whether a step always moves the message.
 pub(crate) fn moves_message(step: Step) -> bool {
     matches!(
         step,
@@ -35,7 +35,7 @@ pub(crate) fn moves_message(step: Step) -> bool {
     )
 }
 
-/// Whether a step moves a waker, whatever it sees.
+/// Whether a step always moves a waker.
 pub(crate) fn moves_waker(step: Step) -> bool {
     matches!(
         step,

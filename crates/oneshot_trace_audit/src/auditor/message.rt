@@ -1,4 +1,4 @@
-//! The message's place: it is always in one, and leaves that one.
+//! The message's place: the message is always in one place, and moves only from there.
 
 use crate::auditor::calls::Call;
 use crate::auditor::fault::{Fault, no_move};
@@ -13,7 +13,7 @@ pub(crate) struct Message {
 }
 
 impl Message {
-    /// The message of a script is not sent yet.
+    /// The script's message, which is not sent yet.
     pub(crate) fn new(script: &SenderScript<u64>) -> Message {
         let at = match &script.last {
             SenderLast::Send(message, _) => Some((Place::NotSent, *message)),
@@ -22,7 +22,7 @@ impl Message {
         Message { at }
     }
 
-    /// Reads a step: it moves the message from where that is, by a move that there is, in a call that may.
+    /// Reads a step: a message that moves leaves its place, by an allowed move, in a call that may make it.
     pub(crate) fn read(&mut self, mark: Mark) -> Result<(), Fault> {
         let Some((from, to)) = mark.made.message else {
             return no_move(moves_message(mark.made.step));
@@ -43,7 +43,7 @@ impl Message {
         Ok(())
     }
 
-    /// Reads a step's reply: where the call answers with the message, the message is there.
+    /// Reads a step's reply: if it has the message, the message is where the reply implies.
     pub(crate) fn read_reply(&self, mark: Mark) -> Result<(), Fault> {
         let Some(wanted) = mark.made.reply.and_then(|reply| place_of(mark.call, reply)) else {
             return Ok(());
@@ -54,7 +54,7 @@ impl Message {
         }
     }
 
-    /// Once all have ended, a message whose `send` was made is taken or dropped.
+    /// Checks, after all have ended, that the message was taken or dropped.
     pub(crate) fn read_end(&self) -> Result<(), Fault> {
         match self.at {
             Some((place, _)) if !may_end(place) => Err(Fault::MessageLeft(place)),
@@ -62,7 +62,7 @@ impl Message {
         }
     }
 
-    /// The trace tells the message and its last place.
+    /// Checks what the trace reports of the message and its last place.
     pub(crate) fn read_told(&self, rest: Option<(Place, u64)>) -> Result<(), Fault> {
         if rest == self.at {
             Ok(())
@@ -84,8 +84,7 @@ fn may_go(from: Place, to: Place) -> bool {
     )
 }
 
-/// Whether a call may put the message there: a refused `send` into the error, and otherwise the call that
-/// the place tells.
+/// Whether the mark's call may put the message there. Only a refused `send` puts it into the error.
 fn may_put(mark: Mark, to: Place) -> bool {
     let Mark { call, made, .. } = mark;
     match to {
@@ -102,7 +101,7 @@ fn may_end(place: Place) -> bool {
     matches!(place, Place::Delivered | Place::FromError | Place::Dropped)
 }
 
-/// Where the message is of which a call answers so.
+/// Where the message is, if a call's reply has it.
 fn place_of(call: Call, reply: Reply) -> Option<Place> {
     match (call, reply) {
         (_, Reply::Refused) | (Call::AsInner, _) => Some(Place::InError),

@@ -1,4 +1,4 @@
-//! The object with one message: what each call does to it, and what that call then answers.
+//! The sequential object with one message: what each call does to it, and the call's reply.
 
 use crate::auditor::calls::Call;
 use oneshot_machine::machine::{End, Reply};
@@ -11,7 +11,7 @@ enum Content {
     Open,
     /// The message.
     Full,
-    /// Nothing any more.
+    /// Nothing, and no message will come.
     Closed,
 }
 
@@ -41,8 +41,8 @@ impl Object {
         }
     }
 
-    /// Makes the step that a call is, and gives the reply in that call's words. `None`: the call has no
-    /// words for it, or is no step.
+    /// Performs a call, and returns its reply. `None`: the call has no reply for this content, or is no step
+    /// of the object.
     pub(crate) fn act(&mut self, call: Call) -> Option<Reply> {
         match call {
             Call::SenderIsClosed => Some(yes_if(!self.receiver_here)),

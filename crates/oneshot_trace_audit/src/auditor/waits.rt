@@ -1,4 +1,4 @@
-//! How the receiver waits, in a park or in a task: once the sender's `send` or drop has answered, it was woken.
+//! How the receiver waits, in a park or as a task: once the sender's `send` or drop has replied, it was woken.
 
 use crate::auditor::calls::Call;
 use crate::auditor::fault::Fault;
@@ -6,16 +6,16 @@ use crate::auditor::mark::Mark;
 use oneshot_machine::machine::{End, Reply, Seen, Step};
 use oneshot_replay::{Entry, Made, WakerName, WakerPlace};
 
-/// What the entries so far tell of a receiver that waits.
+/// What the entries so far show of a waiting receiver.
 #[derive(Drop)]
 pub(crate) struct Waits {
-    /// Whether there is a token, with which a park ends at once.
+    /// Whether there is a token, which ends a park at once.
     has_token: bool,
-    /// The last poll, while no drop has begun after it.
+    /// The last poll, unless a drop has begun after it.
     poll: Option<Poll>,
 }
 
-/// A poll, and what has come of it.
+/// A poll, and its outcome so far.
 #[derive(Clone, Copy)]
 struct Poll {
     task: u64,
@@ -25,7 +25,7 @@ struct Poll {
 }
 
 impl Waits {
-    /// Before any entry.
+    /// The state before any entry.
     pub(crate) fn new() -> Waits {
         Waits {
             has_token: false,
@@ -33,7 +33,7 @@ impl Waits {
         }
     }
 
-    /// Reads a step: what it tells of the token is so, and what it does for a task that waits.
+    /// Reads a step: its entry is right about the token, and it may wake a waiting task.
     pub(crate) fn read(&mut self, mark: Mark) -> Result<(), Fault> {
         let Mark { made, .. } = mark;
         let sets = uses_parker(&made);
@@ -49,9 +49,9 @@ impl Waits {
         Ok(())
     }
 
-    /// Once the sender has answered: a receiver that parks next has its token, and a task that was left
-    /// pending was woken. `later` are the entries to come. Where none of them is the receiver's, nothing
-    /// tells whether it parks next.
+    /// Checks, after the sender has replied, that a receiver that parks next has its token, and that a
+    /// pending task was woken. `later` has the entries to come. If none of them is the receiver's, the
+    /// trace does not show whether it parks next.
     pub(crate) fn read_wait(&self, later: &[Entry]) -> Result<(), Fault> {
         if !self.has_token && parks_next(later) {
             return Err(Fault::UnwokenPark);
@@ -74,7 +74,7 @@ impl Poll {
     }
 }
 
-/// The last poll at this step, which may begin the next one, or the drop.
+/// The last poll at this step, which may begin a new poll, or be one of the drop.
 fn poll_at(last: Option<Poll>, mark: Mark) -> Option<Poll> {
     match mark.call {
         Call::Poll(task) if mark.begins => Some(Poll {

@@ -1,4 +1,4 @@
-//! The wakers' places: each waker is always in one, and leaves that one.
+//! The wakers' places: each waker is always in one place, and moves only from there.
 
 use crate::auditor::calls::Call;
 use crate::auditor::fault::{Fault, no_move};
@@ -9,8 +9,8 @@ use oneshot_replay::{Entry, WakerName, WakerPlace};
 /// A waker's move.
 type WakerMove = (WakerName, WakerPlace, WakerPlace);
 
-/// Reads a step after these entries: it moves a waker from where that is, by a move that there is, by the
-/// end that has it, and into the cell only where none is.
+/// Reads a step after the entries `earlier`: a waker that moves leaves its place, by an allowed move of the
+/// end that may make it, into the cell only if that is empty. A new copy is named for its task and entry.
 pub(crate) fn read(mark: Mark, earlier: &[Entry]) -> Result<(), Fault> {
     let Some((name, from, to)) = mark.made.waker else {
         return no_move(moves_waker(mark.made.step));
@@ -34,7 +34,7 @@ pub(crate) fn read(mark: Mark, earlier: &[Entry]) -> Result<(), Fault> {
     Ok(())
 }
 
-/// Once all have ended, each copy was used or dropped, and the parker's half was used or is in the hand.
+/// After all have ended, each copy was used or dropped, and the parker's half was used or is in the hand.
 pub(crate) fn read_end(entries: &[Entry]) -> Result<(), Fault> {
     for entry in entries {
         if let Some((name, _, _)) = move_of(entry) {
@@ -54,7 +54,7 @@ fn move_of(entry: &Entry) -> Option<WakerMove> {
     }
 }
 
-/// Where a waker is after these entries. A copy begins as new, the parker's half in the receiver's hand.
+/// Where a waker is after these entries. A copy begins as new, and the parker's half in the receiver's hand.
 fn place_of(name: WakerName, entries: &[Entry]) -> WakerPlace {
     let mut place = match name {
         WakerName::Parker => WakerPlace::Hand,
@@ -94,7 +94,7 @@ fn may_go(name: WakerName, from: WakerPlace, to: WakerPlace) -> bool {
     }
 }
 
-/// The end that moves a waker there: the sender into its own hand, and out of that by a wake.
+/// The end that moves a waker there: the sender moves it into its hand, and uses it by a wake.
 fn mover_to(to: WakerPlace) -> End {
     match to {
         WakerPlace::SenderHand | WakerPlace::Used => End::Sender,
@@ -104,7 +104,7 @@ fn mover_to(to: WakerPlace) -> End {
     }
 }
 
-/// Whether a copy that this entry makes has the number of the poll's waker, and the entry's own.
+/// Whether a copy that this entry makes is named for the poll's task and for the entry.
 fn is_named_so(name: WakerName, mark: Mark) -> bool {
     match (name, mark.call) {
         (WakerName::Copy { number, entry }, Call::Poll(task)) => {

@@ -170,7 +170,7 @@ pub(crate) const POLLED_ONCE: Damaged = (
 
 // 1 to 5 store the copy of the first poll; 6 R load 0, 7 R copy New>Hand, 8 R exchange 0>3,
 // 9 R withdraw Cell>Dropped, 10 R write-waker Hand>Cell, 11 R exchange 3>0 = Pending, 12 to 16 S send.
-// Where S begins to send at 8 and 9: 10 R exchange 1>1 Hand>Dropped, 11 R wake = Pending, 12 to 14 S = Ok,
+// If S begins to send at 8 and 9: 10 R exchange 1>1 Hand>Dropped, 11 R wake = Pending, 12 to 14 S = Ok,
 // 15 to 17 the third poll takes the message, 18 to 20 R drop.
 pub(crate) const POLLED_ANEW: Damaged = (
     Sending::Send,

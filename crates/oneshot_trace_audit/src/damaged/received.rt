@@ -1,4 +1,4 @@
-//! Damaged traces of a message that is sent: its places, its replies, and the block behind it.
+//! Damaged traces of a message that is sent: its places, the replies, and the block.
 
 use crate::damage::Edit;
 use crate::damaged::Damaged;

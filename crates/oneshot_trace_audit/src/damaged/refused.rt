@@ -1,4 +1,4 @@
-//! Damaged traces of a message that is refused, and of its error.
+//! Damaged traces of a refused message and its error.
 
 use crate::damage::Edit;
 use crate::damaged::Damaged;

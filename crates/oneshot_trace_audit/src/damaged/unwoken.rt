@@ -1,4 +1,4 @@
-//! Damaged traces whose sender has answered and whose receiver waits unwoken.
+//! Damaged traces in which the sender has replied and the receiver waits unwoken.
 
 use crate::damage::Edit;
 use crate::damaged::Damaged;
