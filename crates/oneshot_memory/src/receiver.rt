@@ -43,11 +43,11 @@ impl<T> Act<T> {
 
 /// A receiver's ground, whose sender acts when a test plans it: at once, or in a pause of the receiver.
 ///
-/// The receiver pauses after it copied or wrote its waker, in each park, at each reading of its clock, and
-/// after a load that finds its waker stored or the sender about to finish, unless a park came just before.
-/// A park ends by its token if the sender woke the receiver by then, and otherwise spuriously. If the sender
-/// never acts, a call that blocks does so forever, or until its deadline, which is over at once unless a
-/// test puts it off.
+/// The receiver pauses after a copy of its waker, made or refused, after a write of its waker, in each park,
+/// at each reading of its clock, and after a load that finds its waker stored or the sender about to finish,
+/// unless a park came just before. A park ends by its token if the sender woke the receiver by then, and
+/// otherwise spuriously. If the sender never acts, a call that blocks does so forever, or until its deadline,
+/// which is over at once unless a test puts it off.
 ///
 /// A future may be dropped while its sender lingers. The sender then uses the waker, and keeps its message.
 #[derive(Drop)]

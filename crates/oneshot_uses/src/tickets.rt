@@ -38,7 +38,7 @@ struct Pending<Rt> {
     ghost own: { ticket.about.question ≡ root },
 }
 
-/// Answers `request` with its number's square. `true`: it was sent. `false`: the ticket is gone.
+/// Answers `request` with its number's square. `true`: it was sent. `false`: its receiver is gone.
 pub fn serve(request: Request<u32, Square>) -> bool {
     let square = Square::of(*request.question());
     request.answer(square).is_ok()

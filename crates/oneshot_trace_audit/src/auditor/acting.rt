@@ -30,7 +30,7 @@ fn finishes(made: &Made) -> bool {
 }
 
 /// A receive that replies "nothing yet" acts at its last operation on the word. Any other, also one without
-/// a reply yet, acts at its first that finds `MESSAGE` or `DISCONNECTED`.
+/// a reply yet, acts at its first operation that finds `MESSAGE` or `DISCONNECTED`.
 fn receives(made: &Made, later: &[Entry]) -> bool {
     if !is_word(made.step) {
         return false;

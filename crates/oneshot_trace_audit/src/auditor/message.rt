@@ -54,7 +54,7 @@ impl Message {
         }
     }
 
-    /// Checks, after all have ended, that the message was taken or dropped.
+    /// Checks, after all have ended, that a message was taken or dropped.
     pub(crate) fn read_end(&self) -> Result<(), Fault> {
         match self.at {
             Some((place, _)) if !may_end(place) => Err(Fault::MessageLeft(place)),
