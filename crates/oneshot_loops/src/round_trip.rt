@@ -11,7 +11,7 @@ use std::sync::Wait;
 use std::thread::{Threads, join};
 use std::time::Clock;
 
-/// The most round trips of one started thread.
+/// The most round trips that one started thread makes.
 pub const BATCH: u64 = 1024;
 
 /// A request, which carries the sender of its reply.

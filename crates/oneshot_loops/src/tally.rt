@@ -5,7 +5,7 @@
 pub struct Tally {
     /// How many channels were made.
     pub channels: u64,
-    /// How many bytes their messages have room for, in all.
+    /// The room for their messages, in bytes, in all.
     pub room: u64,
     /// How many messages were received by `try_recv`.
     pub tried: u64,

@@ -12,7 +12,7 @@ pub(super) const ROUNDS: u64 = 500;
 // More loads than a thread makes while another starts.
 const SPINS: u64 = 100_000_000;
 
-// Returns once both threads are here.
+// Returns once both threads are here, or after `SPINS` loads.
 fn meet(here: &AtomicU64) {
     here.fetch_add(1, Ordering::SeqCst);
     for _ in 0..SPINS {

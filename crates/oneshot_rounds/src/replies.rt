@@ -18,7 +18,7 @@ const SPINS: u64 = 100_000_000;
 
 type Asking = Request<String, Length>;
 
-/// What a reply has: its question's text as a number, and the length of the text in bytes.
+/// What a reply contains: its question's text as a number, and the length of the text in bytes.
 type Told = (u64, usize);
 
 /// Makes a request and a ticket for each round, in the same order. The text is the round's number.
@@ -36,13 +36,13 @@ fn ask_all<'r, R: AllocGlobal>(
     Ok((requests, tickets))
 }
 
-/// Reads a reply.
+/// What a reply contains.
 fn told(rt: &impl Abort, length: &Length) -> Told {
     let number = length.question().as_str().parse::<u64>();
     (number.ok().expect(rt, "a number"), length.bytes())
 }
 
-/// Answers with the length of the text. `Err`: the reply came back, and has this.
+/// Answers with the length of the text. `Err`: what the reply contains, which came back.
 fn answer(rt: &impl Abort, request: Asking) -> Result<(), Told> {
     let length = Length::of(request.question().clone().ok().expect(rt, "memory"));
     if !request.fits(&length) {

@@ -17,11 +17,11 @@ pub(crate) enum Deed {
     Sends,
     /// The sender is dropped.
     Goes,
-    /// The sender will send 7 after so many pauses of the receiver, and linger for so many more.
+    /// The sender will send 7 after this many pauses of the receiver, and linger for this many.
     WillSend(u64, u64),
-    /// The sender will be dropped after so many pauses, and linger for so many more.
+    /// The sender will be dropped then.
     WillGo(u64, u64),
-    /// The deadline will be over after so many readings of the clock. Without this deed it is over at once.
+    /// The deadline will be over after this many readings of the clock. Without this deed it is over at once.
     OverAfter(u64),
     TryRecv,
     RecvRef,

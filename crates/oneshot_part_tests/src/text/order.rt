@@ -1,4 +1,4 @@
-//! Texts with two faults, of which the first is reported.
+//! Texts with two faults: the first is reported.
 
 use crate::text::{Case, assert_faults};
 use std::test::Fail;

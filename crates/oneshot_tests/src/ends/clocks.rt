@@ -74,8 +74,8 @@ fn an_instant_is_not_over_at_itself(rt: HostRuntime) -> Result<(), Fail> {
 
 #[test]
 fn each_turn_of_a_wait_parks(rt: HostRuntime) -> Result<(), Fail> {
-    // A turn reads the clock to see whether the deadline has passed, and its park reads until it has. This
-    // clock goes back after each park. Without a park, the next turn would find the deadline passed.
+    // A turn reads the clock to see whether the deadline is past, and its park reads until it has come. This
+    // clock goes back after each park. Without a park, the next turn would find the deadline past.
     let clock = Written::new(&rt, &[1, 7, 2, 7, 3, 7, 6, 8]);
     let (_sender, mut receiver) = by_clock(&clock, rt.alloc())?;
     let received = receiver.recv_deadline(five(&rt)?);

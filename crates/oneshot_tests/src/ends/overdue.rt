@@ -25,7 +25,7 @@ const SPINS: u64 = 100_000_000;
 // How many loads a running thread makes while the other starts.
 const QUICK: u64 = 20_000;
 
-/// Returns once both threads are here. After `QUICK` loads it yields to other threads.
+/// Returns once both threads are here, or after `SPINS` loads. After `QUICK` loads it also yields.
 fn meet(here: &AtomicU64) {
     here.fetch_add(1, Ordering::SeqCst);
     for spin in 0..SPINS {
