@@ -1,4 +1,4 @@
--- A channel's name, a loop's name and a count ask for just one command.
+-- The names of a channel and of a loop, with a count, are the arguments of exactly one command.
 use Rattle.std.proofs.Common.{◌≡◌, ◌↔◌, ◌⊎◌, inl, inr, ℕ, List, [], ◌∷◌, Some, length, get_or, map, ap, refl, sym, subst, arith}
 use Rattle.oneshot_loops.specs.declared.channels.Channel.{Channel}
 use Rattle.oneshot_loops.specs.declared.channels.Channel.TheVariants.{Oneshot}
@@ -16,7 +16,7 @@ IsLoop kind name = (other : Loop) → (Some kind ≡ Some other) ↔ (name_of ot
 abbrev IsChannel : Channel → List ℕ → Type 0
 IsChannel channel name = (other : Channel) → (Some channel ≡ Some other) ↔ (channel_name other ≡ name)
 
--- a word writes one number
+-- a word is the numeral of one number
 writes-one : (word : List ℕ) (m n : ℕ) → Writes word m → Writes word n → m ≡ n
 writes-one word m n one other = cc (one.value, other.value)
 
@@ -41,7 +41,7 @@ measure-asked over name word kind count command named writes =
       (λ asked. ap Some (asked-measure over name word kind count command named writes asked)),
     )
 
--- the words name this channel, or none and mean `Oneshot`
+-- the words begin with this channel's name, or name none, which means `Oneshot`
 abbrev Over : List (List ℕ) → Channel → List (List ℕ) → Type 0
 Over words channel rest = (words ≡ channel_name channel ∷ rest) ⊎ ((channel ≡ Oneshot) × (words ≡ rest))
 

@@ -1,4 +1,4 @@
--- The arguments that ask for each command.
+-- The arguments of each command.
 use Rattle.std.specs.Prelude.{◌≡◌, ℕ, ◌^◌, ◌<◌, ◌⊎◌, List, [], ◌∷◌}
 use Rattle.std.specs.Str.Parse.{IsNumeral, digits_value, without_leading_plus}
 use Rattle.oneshot_loops.specs.declared.channels.Channel.{Channel}
@@ -8,7 +8,7 @@ use Rattle.oneshot_bench.specs.declared.command.Command.TheVariants.{Usage, Meas
 use Rattle.oneshot_loops.specs.Channel.{channel_name}
 use Rattle.oneshot_loops.specs.Loop.{name_of}
 
--- the word writes the number in decimal digits, before which a plus may stand
+-- the word is the number in decimal digits, with or without a plus before them
 pub record Writes (word : List ℕ) (count : ℕ) : Type 0 where
   pub numeral : IsNumeral 10 (without_leading_plus word)
   pub fits : digits_value 10 (without_leading_plus word) < 2 ^ 64
@@ -20,7 +20,7 @@ AsksOver over words Usage = ⊥
 AsksOver over words (Measure channel kind count) =
     (word : List ℕ) × (over ≡ channel) × (words ≡ name_of kind ∷ word ∷ []) × Writes word count
 
--- no word at all, or a loop's name and a count, before which a channel's name may stand
+-- no word at all, or a loop's name and a count, with or without a channel's name before them
 abbrev pub Asks : List (List ℕ) → Command → Type 0
 Asks words Usage = words ≡ []
 Asks words (Measure channel kind count) =

@@ -1,5 +1,4 @@
--- The exit status of each fault: 1 where the system or the channel failed, 2 where the arguments are at
--- fault, 3 where memory was refused.
+-- The exit status of each fault: 1 for the system or the channel, 2 for wrong arguments, 3 for no memory.
 use Rattle.std.specs.Prelude.{ℕ}
 use Rattle.oneshot_loops.specs.declared.fault.Fault.{Fault as RoundsFault}
 use Rattle.oneshot_loops.specs.declared.fault.Fault.TheVariants as R

@@ -1,4 +1,4 @@
-//! What the program's arguments ask for.
+//! Reads the program's arguments as a command.
 
 ghost use Rattle.std.specs.Prelude.{◌≡◌, ◌<◌, ◌^◌, ◌↔◌, SomeIff, Some, [], ◌∷◌, string_bytes, map};
 ghost use Rattle.std.specs.Str.Parse.{IsNumeral, digits_value, without_leading_plus};
@@ -7,28 +7,28 @@ ghost use Rattle.oneshot_bench.specs.Command.{Asks, AsksOver};
 use oneshot_loops::channels::Channel;
 use oneshot_loops::loops::Loop;
 
-/// How the program is called.
+/// The program's usage.
 pub const USAGE: &str =
     "usage: oneshot_bench [CHANNEL] LOOP COUNT, where CHANNEL is one of oneshot, futures, crossbeam, and LOOP is one of make_send_receive_drop, make_drop, make_send_recv, make_poll_send_poll, make_send_receive_drop_4096, make_drop_4096, make_send_recv_4096, make_poll_send_poll_4096, make_answer_wait, round_trip, make_send_block_on, make_send_await, poll_pending, join_two, round_trip_await";
 
 /// What the program is to do.
 #[derive(Clone, Copy, Debug, PartialEq, Eq)]
 pub enum Command {
-    /// To tell how it is called.
+    /// Print the usage.
     Usage,
-    /// To measure so many rounds of a loop.
+    /// Measure rounds of a loop.
     Measure {
-        /// The channel that it runs over.
+        /// The channel that the loop runs over.
         channel: Channel,
         /// The loop.
         kind: Loop,
-        /// How many rounds of it.
+        /// How many rounds.
         count: u64,
     },
 }
 
-/// What `words` ask for; `None` where they are not a loop's name and a count,
-/// with or without a channel's name before them.
+/// Returns what `words` ask for: no word, or a loop's name and a count, with or without a channel's name
+/// before them. `None`: other words.
 pub fn parse_command(words: &[String]) -> Option<Command>
     ensures { (command : Command) → (result ≡ Some command) ↔ Asks (map string_bytes words.now) command }
 {
@@ -58,7 +58,7 @@ fn parse_measure(channel: Channel, name: &str, count: &str) -> Option<Command>
     })
 }
 
-/// The number that a word writes in decimal; `None` where it is no number, or one of more than 64 bits.
+/// Returns the decimal number `word`, which may begin with a plus. `None`: no number, or 2^64 or more.
 pub fn parse_count(word: &str) -> Option<u64>
     ensures { SomeIff result
         (IsNumeral 10 (without_leading_plus word.now) × (digits_value 10 (without_leading_plus word.now) < 2 ^ 64))

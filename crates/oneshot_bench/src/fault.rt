@@ -20,13 +20,13 @@ pub enum Fault {
     /// The rounds ended early, or none was made.
     #[error(transparent)]
     Rounds(#[from] rounds::Fault),
-    /// A request for memory was refused.
+    /// Out of memory, before the rounds.
     #[error("out of memory")]
     OutOfMemory(#[from(alloc)] AllocError),
 }
 
 impl Fault {
-    /// The program's exit status.
+    /// Returns the program's exit status, from 1 to 3.
     pub fn status(&self) -> u8
         ensures { result ≡ status_of self.now }
     {

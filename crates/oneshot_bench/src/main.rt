@@ -1,4 +1,4 @@
-//! Measures a channel: one of its loops by name, how many rounds of it, and over which channel.
+//! Measures a loop over a channel: the arguments name both, and the number of rounds.
 #![tactic(auto)]
 
 mod command;
@@ -22,14 +22,14 @@ fn main(rt: HostRuntime) -> ExitCode {
     match answer(&rt) {
         Ok(()) => ExitCode::SUCCESS,
         Err(fault) => {
-            // Where standard error fails too, the status alone tells.
+            // If standard error fails too, the status alone reports the fault.
             let _ = eprintln!(rt; "{fault}");
             ExitCode::from(fault.status())
         }
     }
 }
 
-/// Does what the program's arguments ask for, and prints what it found.
+/// Performs the command of the program's arguments, and prints its result.
 fn answer<R: Env + Print + AllocGlobal + Clock + RandomSource + Threads + Wait + Sync>(
     rt: &R,
 ) -> Result<(), Fault> {

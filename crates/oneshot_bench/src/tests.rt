@@ -1,4 +1,4 @@
-//! What no clause says: that each loop runs, and what the program reads and tells.
+//! Tests of what no contract states: how each loop runs, and what the program reads and prints.
 
 mod arguments;
 mod loops;

@@ -1,4 +1,4 @@
--- The tables give each loop and each channel for its name alone.
+-- A table finds each loop and each channel by its own name, and by no other.
 use Rattle.std.proofs.Common.{◌≡◌, ℕ, List, [], ◌∷◌, Option, Some, Bool, true, false, cond, refl, sym, ap, ◌∙◌}
 use Rattle.std.specs.Cmp.Lexicographic.{same_text}
 use Rattle.std.specs.List.{find}
@@ -41,13 +41,13 @@ channel_named-name Oneshot = refl
 channel_named-name Futures = refl
 channel_named-name Crossbeam = refl
 
--- what is found first, where the test of the first element is known
+-- the step of `find-passes`, by the test of the first element
 first_found : {X : Type 0} (test : X → Bool) (first : X) (rest : Option X) (b : Bool) (x : X)
     → test first ≡ b → cond b (Some first) rest ≡ Some x → (rest ≡ Some x → test x ≡ true) → test x ≡ true
 first_found test first rest true x passes is later = let same : first ≡ x = cc in ap test (sym same) ∙ passes
 first_found test first rest false x fails is later = later is
 
--- what is found passes the test
+-- what `find` returns passes the test
 find-passes : {X : Type 0} (test : X → Bool) (xs : List X) (x : X) → find test xs ≡ Some x → test x ≡ true
 find-passes test [] x is = absurd cc
 find-passes test (first ∷ rest) x is =

@@ -1,4 +1,4 @@
--- Rounds that follow one another.
+-- States that rounds, one after another, lead from a state to another.
 use Rattle.std.specs.Prelude.{◌≡◌, ℕ, zero, suc}
 
 -- `count` steps lead from the first state to the last

@@ -1,4 +1,4 @@
-//! Rounds whose receiver is a future that an executor awaits, alone or beside another.
+//! Rounds whose receivers are futures: awaited by an executor, polled while pending, or joined.
 
 ghost use Rattle.futures.specs.Task.{Keeps};
 
@@ -18,7 +18,7 @@ use std::sync::Wait;
 
 /// Makes a channel whose receiver is a future, sends `message`, and awaits it by `block_on`.
 ///
-/// `Err` where there is no memory for the channel, the executor cannot be made, or the message was lost.
+/// `Err`: out of memory, the executor could not be made, or the message was lost.
 pub fn make_send_block_on<T: Message + Send + Drop, R: Wait + RandomSource + AllocGlobal>(
     rt: &R,
     message: T,
@@ -33,7 +33,7 @@ pub fn make_send_block_on<T: Message + Send + Drop, R: Wait + RandomSource + All
     Ok(())
 }
 
-/// As `make_send_block_on`, where the message is awaited in `queue`.
+/// As `make_send_block_on`, but awaits the message in `queue`.
 pub fn make_send_await<T: Message + Send + Drop, R: Wait>(
     rt: &R,
     queue: &Queue,
@@ -51,7 +51,7 @@ pub fn make_send_await<T: Message + Send + Drop, R: Wait>(
     Ok(())
 }
 
-/// Makes a channel, polls its receiver `count` times before `message` is sent, and once more.
+/// A round that makes a channel, polls its receiver `count` times, sends `message`, and polls again.
 #[derive(Drop)]
 pub struct PollPending {
     alloc: Global,
@@ -60,7 +60,7 @@ pub struct PollPending {
 }
 
 impl PollPending {
-    /// A round of `count` polls before `message` is there.
+    /// A round with `count` polls before `message` is sent.
     pub fn new(alloc: Global, count: u64, message: u64) -> PollPending {
         PollPending {
             alloc,
@@ -83,7 +83,7 @@ impl PolledRound for PollPending {
     }
 }
 
-/// Makes two channels, polls a join of their receivers, sends `message` over both, and polls again.
+/// A round that makes two channels, polls a join of their receivers, sends over both, and polls again.
 #[derive(Drop)]
 pub struct JoinTwo {
     alloc: Global,

@@ -7,14 +7,14 @@ ghost use Rattle.oneshot_loops.specs.Channel.{channel_name};
 
 use std::fmt;
 
-/// What carries a round's message.
+/// The channel that a loop runs over.
 #[derive(Clone, Copy, Debug, PartialEq, Eq)]
 pub enum Channel {
     /// This repository's channel.
     Oneshot,
-    /// The kit's `futures::channel::oneshot`.
+    /// Rattle's `futures::channel::oneshot`.
     Futures,
-    /// The kit's `crossbeam_channel`, by `bounded` with room for one message.
+    /// Rattle's `crossbeam_channel`: a `bounded` channel with room for one message.
     Crossbeam,
 }
 
@@ -33,7 +33,7 @@ impl Channel {
         }
     }
 
-    /// The channel of this name; `None` if none has it.
+    /// Returns the channel named `name`, or `None` if there is none.
     pub fn named(name: &str) -> Option<Channel>
         ensures { (channel : Channel) → (result ≡ Some channel) ↔ (channel_name channel ≡ name.now) }
     {
@@ -41,7 +41,7 @@ impl Channel {
     }
 }
 
-/// The first channel of this name.
+/// Returns the first channel named `name`.
 fn first_named(name: &str) -> Option<Channel>
     ensures { result ≡ find (λ channel. bytes_eq (channel_name channel) name.now) CHANNELS }
 {

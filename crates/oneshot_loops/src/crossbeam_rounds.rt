@@ -1,4 +1,4 @@
-//! One round of each loop over the kit's `crossbeam_channel`, by `bounded` with room for one message.
+//! The rounds that one thread makes over Rattle's `crossbeam_channel`, with room for one message.
 
 use crate::fault::Fault;
 use crate::message::Message;
@@ -7,7 +7,7 @@ use crossbeam_channel::bounded;
 use std::alloc::Global;
 use std::sync::Wait;
 
-/// As `rounds::make_send_receive_drop`; it drops the sender once it has sent.
+/// As `rounds::make_send_receive_drop`, but drops the sender after the send.
 pub fn make_send_receive_drop<T: Message + Drop, R: Wait>(
     rt: &R,
     alloc: Global,
@@ -34,7 +34,7 @@ pub fn make_drop<T: Message + Drop>(alloc: Global, tally: &mut Tally) -> Result<
     Ok(())
 }
 
-/// As `rounds::make_send_recv`; it drops the sender once it has sent.
+/// As `rounds::make_send_recv`, but drops the sender after the send.
 pub fn make_send_recv<T: Message + Drop, R: Wait>(
     rt: &R,
     alloc: Global,

@@ -1,4 +1,4 @@
-//! The round trips of `round_trip`, over the kit's `crossbeam_channel`.
+//! The round trips of `round_trip`, over Rattle's `crossbeam_channel`.
 
 ghost use Rattle.std.specs.Prelude.{◌≡◌, IfOk, vec_len};
 
@@ -11,15 +11,15 @@ use std::mem::size_of;
 use std::sync::Wait;
 use std::thread::{Threads, join};
 
-/// A request, which has the sender of its reply.
+/// A request, which carries the sender of its reply.
 #[derive(Drop)]
 pub struct Request {
     reply: Sender<(), Global>,
 }
 
-/// Sends a request by `requests`, and waits for its reply over a channel made for it.
+/// Sends a request over `requests`, and blocks until its reply comes over a channel made for it.
 ///
-/// `Err` where there is no memory for the channel, or nobody replies.
+/// `Err`: out of memory, or nobody replied.
 pub fn ask<R: Wait>(
     rt: &R,
     alloc: Global,
@@ -37,7 +37,7 @@ pub fn ask<R: Wait>(
     Ok(())
 }
 
-/// Waits for a request, and replies to it. `Err` where none comes, or nobody waits for the reply.
+/// Blocks until a request comes, and replies. `Err`: no request came, or nobody waits for the reply.
 pub fn serve<R: Wait>(
     rt: &R,
     requests: Receiver<Request, Global>,
@@ -53,7 +53,7 @@ pub fn serve<R: Wait>(
     Ok(())
 }
 
-/// Sends a request over each channel in turn, and counts the replies.
+/// Sends a request over each channel in turn, and returns how many replies came.
 fn ask_all<R: Wait>(
     rt: &R,
     alloc: Global,
@@ -79,7 +79,7 @@ fn serve_all<R: Wait>(rt: &R, all: Vec<Receiver<Request, Global>>) -> Result<Tal
     Ok(tally)
 }
 
-/// A channel for each request of a batch.
+/// Makes a channel for each request of a batch.
 fn channels(
     alloc: Global,
     count: u64,
@@ -98,7 +98,7 @@ fn channels(
     Ok((senders, receivers))
 }
 
-/// Makes this many round trips with a thread that is started for them, and counts them.
+/// Makes `count` round trips with a thread started for them, and returns how many.
 fn batch<R: Threads + Wait + Sync>(
     rt: &R,
     alloc: Global,

@@ -1,4 +1,4 @@
-//! Why rounds ended early.
+//! Why the rounds of a loop ended early.
 
 use std::alloc::AllocError;
 use thiserror::Error;
@@ -9,16 +9,16 @@ pub enum Fault {
     /// The clock could not be read.
     #[error("clock failed")]
     ClockFailed,
-    /// A message that was sent was not received.
+    /// A message was refused, did not come, or came too early.
     #[error("message lost")]
     MessageLost,
-    /// The channel has no call that the loop needs.
+    /// The channel lacks a call that the loop needs.
     #[error("channel cannot run this loop")]
     CannotRun,
-    /// A task could not be made.
+    /// A queue or a task could not be made.
     #[error("task failed")]
     TaskFailed,
-    /// A request for memory was refused.
+    /// Out of memory.
     #[error("out of memory")]
     OutOfMemory(#[from(alloc)] AllocError),
 }

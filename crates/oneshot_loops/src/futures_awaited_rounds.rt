@@ -1,4 +1,4 @@
-//! The rounds of `awaited_rounds`, over the kit's `futures::channel::oneshot`.
+//! The rounds of `awaited_rounds`, over Rattle's `futures::channel::oneshot`.
 
 ghost use Rattle.futures.specs.Task.{Keeps};
 
@@ -58,7 +58,7 @@ pub struct PollPending {
 }
 
 impl PollPending {
-    /// A round of `count` polls before `message` is there.
+    /// A round with `count` polls before `message` is sent.
     pub fn new(alloc: Global, count: u64, message: u64) -> PollPending {
         PollPending {
             alloc,

@@ -1,4 +1,4 @@
-//! One round of each loop over the kit's `futures::channel::oneshot`.
+//! The rounds that one thread makes over Rattle's `futures::channel::oneshot`, without awaiting.
 
 ghost use Rattle.futures.specs.Task.{Keeps};
 

@@ -1,4 +1,4 @@
-//! The round trips of `round_trip`, where each thread awaits the kit's `futures::channel::oneshot` in a queue that it keeps.
+//! The round trips of `awaited_trips`, over Rattle's `futures::channel::oneshot`.
 
 ghost use Rattle.std.specs.Prelude.{◌≡◌, IfOk, vec_len};
 
@@ -14,15 +14,15 @@ use std::random::RandomSource;
 use std::sync::Wait;
 use std::thread::{Threads, join};
 
-/// A request, which has the sender of its reply.
+/// A request, which carries the sender of its reply.
 #[derive(Drop)]
 pub struct Request {
     reply: Sender<()>,
 }
 
-/// Sends a request by `requests`, and awaits its reply over a channel made for it.
+/// Sends a request over `requests`, and awaits its reply in `queue`, over a channel made for it.
 ///
-/// `Err` where there is no memory for the channel, or nobody replies.
+/// `Err`: out of memory, no task could be made, or nobody replied.
 pub fn ask<R: Wait>(
     rt: &R,
     queue: &Queue,
@@ -40,7 +40,7 @@ pub fn ask<R: Wait>(
     Ok(())
 }
 
-/// Awaits a request, and replies to it. `Err` where none comes, or nobody awaits the reply.
+/// Awaits a request in `queue`, and replies. `Err`: no task, no request, or nobody awaits the reply.
 pub fn serve<R: Wait>(
     rt: &R,
     queue: &Queue,
@@ -55,7 +55,7 @@ pub fn serve<R: Wait>(
     Ok(())
 }
 
-/// Sends a request over each channel in turn, and counts the replies.
+/// Sends a request over each channel in turn, and returns how many replies came.
 fn ask_all<R: Wait + RandomSource + AllocGlobal>(
     rt: &R,
     alloc: Global,
@@ -86,7 +86,7 @@ fn serve_all<R: Wait + RandomSource + AllocGlobal>(
     Ok(tally)
 }
 
-/// A channel for each request of a batch.
+/// Makes a channel for each request of a batch.
 fn channels(
     alloc: Global,
     count: u64,
@@ -105,7 +105,7 @@ fn channels(
     Ok((senders, receivers))
 }
 
-/// Makes this many round trips with a thread that is started for them, and counts them.
+/// Makes `count` round trips with a thread started for them, and returns how many.
 fn batch<R: Threads + Wait + Sync + RandomSource + AllocGlobal>(
     rt: &R,
     alloc: Global,
@@ -126,7 +126,7 @@ fn batch<R: Threads + Wait + Sync + RandomSource + AllocGlobal>(
     Ok(replies)
 }
 
-/// As `round_trip::round_trips`; `Err` also where no queue can be made.
+/// As `round_trip::round_trips`. `Err` also: no queue or task could be made.
 pub fn round_trips<R: Threads + Wait + Sync + RandomSource + AllocGlobal>(
     rt: &R,
     alloc: Global,

@@ -1,4 +1,4 @@
-//! Loops over a channel whose rounds a program can time: over this repository's channel, and over two others of the toolchain.
+//! Loops whose rounds a program can time, over this repository's channel and over two of Rattle's.
 #![tactic(auto)]
 
 pub mod awaited_rounds;

@@ -7,16 +7,16 @@ ghost use Rattle.oneshot_loops.specs.Loop.{name_of, awaited_name};
 
 use std::fmt;
 
-/// What each round of a loop does, each with a channel of its own.
+/// A loop, by what each round does with a new channel.
 #[derive(Clone, Copy, Debug, PartialEq, Eq)]
 pub enum Loop {
-    /// It sends 8 bytes, receives them by `try_recv`, and drops the receiver.
+    /// Sends 8 bytes, receives them by `try_recv`, and drops the receiver.
     MakeSendReceiveDrop,
-    /// It drops both ends.
+    /// Drops both ends.
     MakeDrop,
-    /// It sends 8 bytes, and receives them by `recv`.
+    /// Sends 8 bytes, and receives them by `recv`.
     MakeSendRecv,
-    /// It polls, sends 8 bytes, and receives them by another poll.
+    /// Polls, sends 8 bytes, and receives them by another poll.
     MakePollSendPoll,
     /// `MakeSendReceiveDrop` with 4,096 bytes.
     MakeSendReceiveDropLarge,
@@ -26,26 +26,26 @@ pub enum Loop {
     MakeSendRecvLarge,
     /// `MakePollSendPoll` with 4,096 bytes.
     MakePollSendPollLarge,
-    /// It makes a request, answers it with 8 bytes, and waits for them by its ticket.
+    /// Makes a request, answers it with 8 bytes, and receives them by its ticket's `wait`.
     MakeAnswerWait,
-    /// It asks another thread, and waits for the reply.
+    /// Sends a request to another thread, and blocks until the reply comes: two channels.
     RoundTrip,
-    /// It awaits futures.
+    /// A loop whose receivers are futures.
     Awaited(Awaited),
 }
 
-/// What each round of a loop does whose receivers are futures that an executor awaits.
+/// A loop whose receivers are futures, by what each round does.
 #[derive(Clone, Copy, Debug, PartialEq, Eq)]
 pub enum Awaited {
-    /// It sends 8 bytes, and `block_on` awaits them.
+    /// Sends 8 bytes, and awaits them by `block_on`.
     MakeSendBlockOn,
-    /// It sends 8 bytes, and awaits them in a queue that all rounds share.
+    /// Sends 8 bytes, and awaits them in a queue that all rounds share.
     MakeSendAwait,
-    /// It polls one receiver, which is pending: all rounds share a channel.
+    /// Polls a pending receiver, which all rounds share.
     PollPending,
-    /// It polls a join of two receivers, sends 8 bytes over both channels, and polls again.
+    /// Polls a join of two receivers, sends 8 bytes over both channels, and polls again.
     JoinTwo,
-    /// As `Loop::RoundTrip`, where each thread awaits in a queue that it keeps.
+    /// As `Loop::RoundTrip`, but each thread awaits in a queue that it keeps.
     RoundTripAwait,
 }
 
@@ -88,7 +88,7 @@ impl Loop {
         }
     }
 
-    /// The loop of this name; `None` if none has it.
+    /// Returns the loop named `name`, or `None` if there is none.
     pub fn named(name: &str) -> Option<Loop>
         ensures { (kind : Loop) → (result ≡ Some kind) ↔ (name_of kind ≡ name.now) }
     {
@@ -96,7 +96,7 @@ impl Loop {
     }
 }
 
-/// The first loop of this name.
+/// Returns the first loop named `name`.
 fn first_named(name: &str) -> Option<Loop>
     ensures { result ≡ find (λ kind. bytes_eq (name_of kind) name.now) LOOPS }
 {

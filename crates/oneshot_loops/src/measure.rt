@@ -1,4 +1,4 @@
-//! How long a loop takes.
+//! Measures how long a loop takes.
 
 use crate::channels::Channel;
 use crate::fault::Fault;
@@ -11,19 +11,18 @@ use std::sync::Wait;
 use std::thread::Threads;
 use std::time::{Clock, Duration, Instant};
 
-/// What was done, and how long it took.
+/// What a loop did, and how long it took.
 #[derive(Clone, Copy, Debug, PartialEq, Eq)]
 pub struct Measured {
     /// What the rounds did.
     pub tally: Tally,
-    /// From the reading of the clock before them to that after them.
+    /// The time between the clock's readings before and after them.
     pub time: Duration,
 }
 
-/// Runs `count` rounds of a loop over a channel, between two readings of the clock.
+/// Runs `count` rounds of the loop `kind` over `channel`, between two readings of the clock.
 ///
-/// `Err` where the clock cannot be read, where the channel cannot run the loop, and as the rounds: no
-/// memory, or a message lost.
+/// `Err`: the clock failed, the channel cannot run the loop, or a round's fault.
 pub fn measure<R: AllocGlobal + RandomSource + Threads + Wait + Clock + Sync>(
     rt: &R,
     channel: Channel,
@@ -35,7 +34,7 @@ pub fn measure<R: AllocGlobal + RandomSource + Threads + Wait + Clock + Sync>(
     Ok(Measured { tally, time })
 }
 
-/// How long `work` takes.
+/// Returns how long `work` takes by `clock`. `Err`: the clock failed, or the fault of `work`.
 pub fn timed<C: Clock, F: FnOnce() -> Result<(), Fault>>(
     clock: &C,
     work: F,

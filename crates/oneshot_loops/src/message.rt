@@ -1,10 +1,10 @@
-//! What a round may send.
+//! The messages that a round may send.
 
 use std::mem::size_of;
 
-/// A message whose bytes are counted.
+/// A message whose bytes a tally counts.
 pub trait Message {
-    /// How many bytes it has.
+    /// Its size in bytes.
     const BYTES: usize;
 }
 

@@ -15,14 +15,14 @@ use std::sync::Wait;
 
 /// A round over a receiver that is a future.
 pub trait PolledRound: Drop {
-    /// Makes the round as the task of `cx`.
+    /// Makes the round within a poll of the task of `cx`.
     ///
-    /// `Err` where there is no memory for the channel, or the message was lost.
+    /// `Err`: out of memory, or the message was lost.
     fn make(&self, cx: &mut Context<'_>, tally: &mut Tally) -> Result<(), Fault>
         ensures { Keeps cx.old cx.new };
 }
 
-/// `count` rounds, which the first poll makes.
+/// A future whose first poll makes `count` rounds.
 #[derive(Drop)]
 struct InTask<P> {
     count: u64,
@@ -48,9 +48,9 @@ fn make_all<P: PolledRound>(count: u64, round: &P, cx: &mut Context<'_>) -> Resu
     Ok(tally)
 }
 
-/// Makes `count` rounds within one poll of a task, and adds what they did.
+/// Makes `count` rounds within one poll of a task, and adds what they did to `tally`.
 ///
-/// `Err`: the fault of a round, after which none was made, or that the task could not be made.
+/// `Err`: the task could not be made, or a round's fault, which ends the rounds. `tally` stays as it was.
 pub fn repeat_in_task<R: Wait + RandomSource + AllocGlobal, P: PolledRound>(
     rt: &R,
     count: u64,
@@ -62,7 +62,7 @@ pub fn repeat_in_task<R: Wait + RandomSource + AllocGlobal, P: PolledRound>(
     Ok(())
 }
 
-/// Polls a future this many times while it is pending. `Err` where it is ready.
+/// Polls `future` `count` times. `Err`: a poll found it ready; none follows.
 pub fn pend<F: Future<Output: Drop>>(
     future: &mut F,
     count: u64,

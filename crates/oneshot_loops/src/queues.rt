@@ -1,4 +1,4 @@
-//! A thread that awaits one future after another, in one queue.
+//! Awaits one future after another in one queue of tasks.
 
 use crate::fault::Fault;
 use futures::Future;
@@ -10,12 +10,12 @@ use std::io::ErrorKind;
 use std::random::RandomSource;
 use std::sync::Wait;
 
-/// A queue whose thread sleeps while nothing is ready. `Err` where it cannot be made.
+/// Makes a queue whose thread sleeps while no task is ready. `Err`: it could not be made.
 pub fn queue<R: RandomSource + AllocGlobal>(rt: &R) -> Result<Queue, Fault> {
     Queue::new(rt, Doorbell::parking()).map_err(task_fault)
 }
 
-/// Awaits the message of `receiver` as a task of `queue`. `Err` where the task cannot be made, or no message comes.
+/// Awaits the message of `receiver` in `queue`. `Err`: the task could not be made, or no message came.
 pub fn awaited<T, E: Drop, R: Wait, F: Future<Output = Result<T, E>>>(
     rt: &R,
     queue: &Queue,
@@ -27,7 +27,7 @@ pub fn awaited<T, E: Drop, R: Wait, F: Future<Output = Result<T, E>>>(
     received.map_err(|_| Fault::MessageLost)
 }
 
-/// Why a task could not be made.
+/// Returns `error`, why a queue or a task could not be made, as a fault.
 pub fn task_fault(error: io::Error) -> Fault {
     match error.kind() {
         ErrorKind::OutOfMemory => Fault::OutOfMemory(AllocError),

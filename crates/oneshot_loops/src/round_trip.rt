@@ -1,4 +1,4 @@
-//! Round trips between two threads: each request, and each reply, over a channel made for it.
+//! Round trips between two threads, with a new channel for each request and for each reply.
 
 ghost use Rattle.std.specs.Prelude.{◌≡◌, IfOk, vec_len};
 
@@ -11,18 +11,18 @@ use std::sync::Wait;
 use std::thread::{Threads, join};
 use std::time::Clock;
 
-/// How many rounds one start of a thread serves.
+/// The most round trips that one started thread makes.
 pub const BATCH: u64 = 1024;
 
-/// A request, which has the sender of its reply.
+/// A request, which carries the sender of its reply.
 #[derive(Drop)]
 pub struct Request {
     reply: Sender<()>,
 }
 
-/// Sends a request by `requests`, and waits for its reply over a channel made for it.
+/// Sends a request over `requests`, and blocks until its reply comes over a channel made for it.
 ///
-/// `Err` where there is no memory for the channel, or nobody replies.
+/// `Err`: out of memory, or nobody replied.
 pub fn ask<Rt: Wait + Clock + Drop>(
     rt: Rt,
     alloc: Global,
@@ -38,7 +38,7 @@ pub fn ask<Rt: Wait + Clock + Drop>(
     Ok(())
 }
 
-/// Waits for a request, and replies to it. `Err` where none comes, or nobody waits for the reply.
+/// Blocks until a request comes, and replies. `Err`: no request came, or nobody waits for the reply.
 pub fn serve<Rt: Wait + Clock + Drop>(
     requests: Receiver<Request, Rt>,
     tally: &mut Tally,
@@ -53,7 +53,7 @@ pub fn serve<Rt: Wait + Clock + Drop>(
     Ok(())
 }
 
-/// Sends a request over each channel in turn, and counts the replies.
+/// Sends a request over each channel in turn, and returns how many replies came.
 fn ask_all<R: Wait + Clock>(
     rt: &R,
     alloc: Global,
@@ -79,7 +79,7 @@ fn serve_all<Rt: Wait + Clock + Drop>(all: Vec<Receiver<Request, Rt>>) -> Result
     Ok(tally)
 }
 
-/// A channel for each request of a batch.
+/// Makes a channel for each request of a batch.
 fn channels<'r, R>(
     rt: &'r R,
     alloc: Global,
@@ -99,7 +99,7 @@ fn channels<'r, R>(
     Ok((senders, receivers))
 }
 
-/// Makes this many round trips with a thread that is started for them, and counts them.
+/// Makes `count` round trips with a thread started for them, and returns how many.
 fn batch<R: Threads + Wait + Clock + Sync>(
     rt: &R,
     alloc: Global,
@@ -109,7 +109,7 @@ fn batch<R: Threads + Wait + Clock + Sync>(
     ensures { IfOk result (λ made. made ≡ count) }
 {
     let (senders, receivers) = channels(rt, alloc, count, tally)?;
-    // The asker crosses to the new thread, so that only senders do.
+    // The asker runs on the new thread, so that only senders move there.
     let (asked, served) = join(
         rt,
         move || ask_all(rt, alloc, senders),
@@ -121,10 +121,9 @@ fn batch<R: Threads + Wait + Clock + Sync>(
     Ok(replies)
 }
 
-/// Makes `count` round trips, a batch at a time, and answers how many it made.
+/// Makes `count` round trips, a batch at a time, and returns how many it made.
 ///
-/// `Err` where there is no memory for a channel, or a request or a reply was lost. Where no thread
-/// can be made it waits for ever.
+/// `Err`: out of memory, or a request or a reply was lost. Blocks forever if no thread can be started.
 pub fn round_trips<R: Threads + Wait + Clock + Sync>(
     rt: &R,
     alloc: Global,

@@ -1,4 +1,4 @@
-//! One round of each loop on one thread, and rounds that follow one another.
+//! The rounds that one thread makes without awaiting, and `repeat`, which makes a round again and again.
 
 ghost use Rattle.std.specs.Prelude.{Ok, OnOk};
 ghost use Rattle.futures.specs.Task.{Keeps};
@@ -15,9 +15,9 @@ use std::alloc::Global;
 use std::sync::Wait;
 use std::time::Clock;
 
-/// Makes `count` rounds, one after another.
+/// Calls `round` `count` times.
 ///
-/// `Err`: the fault of a round, after which none was made.
+/// `Err`: the fault of a round, after which none is made.
 pub fn repeat<F: FnMut() -> Result<(), Fault>>(count: u64, mut round: F) -> Result<(), Fault>
     requires { F.IsAlwaysCallable round }
     ensures { OnOk result ((last : F) × Leads (λ before after. F.step before (Ok tt) after) count round last) }
@@ -30,7 +30,7 @@ pub fn repeat<F: FnMut() -> Result<(), Fault>>(count: u64, mut round: F) -> Resu
 
 /// Makes a channel, sends `message`, receives it by `try_recv`, and drops the receiver.
 ///
-/// `Err` where there is no memory for the channel, or the message was lost.
+/// `Err`: out of memory, or the message was lost.
 pub fn make_send_receive_drop<T: Message + Send + Drop>(
     alloc: Global,
     message: T,
@@ -45,7 +45,7 @@ pub fn make_send_receive_drop<T: Message + Send + Drop>(
     Ok(())
 }
 
-/// Makes a channel for a message, and drops both ends. `Err` where there is no memory for it.
+/// Makes a channel for a `T`, and drops both ends. `Err`: out of memory.
 pub fn make_drop<T: Message + Send + Drop>(alloc: Global, tally: &mut Tally) -> Result<(), Fault> {
     let (sender, receiver) = channel::<T, ()>((), alloc)?;
     tally.made(T::BYTES);
@@ -54,9 +54,9 @@ pub fn make_drop<T: Message + Send + Drop>(alloc: Global, tally: &mut Tally) -> 
     Ok(())
 }
 
-/// Makes a channel, sends `message`, and receives it by `recv`, whose receiver keeps `rt`.
+/// Makes a channel whose receiver keeps `rt`, sends `message`, and receives it by `recv`.
 ///
-/// `Err` where there is no memory for the channel, or the message was lost.
+/// `Err`: out of memory, or the message was lost.
 pub fn make_send_recv<T: Message + Send + Drop, Rt: Wait + Clock + Drop>(
     rt: Rt,
     alloc: Global,
@@ -72,10 +72,9 @@ pub fn make_send_recv<T: Message + Send + Drop, Rt: Wait + Clock + Drop>(
     Ok(())
 }
 
-/// Makes a channel whose receiver is a future, polls it, sends `message`, polls again, and drops the
-/// receiver.
+/// Makes a channel whose receiver is a future, polls it with `cx`, sends `message`, and polls again.
 ///
-/// `Err` where there is no memory for the channel, or the message was lost.
+/// `Err`: out of memory, or the message was lost.
 pub fn make_poll_send_poll<T: Message + Send + Drop>(
     alloc: Global,
     message: T,

@@ -1,4 +1,4 @@
-//! The rounds of each loop over each channel.
+//! Runs each loop over each channel.
 
 use crate::channels::Channel;
 use crate::fault::Fault;
@@ -26,9 +26,9 @@ fn large() -> [u8; 4096] {
     [7; 4096]
 }
 
-/// Makes `count` rounds of a loop over a channel, and counts what they did.
+/// Makes `count` rounds of the loop `kind` over `channel`, and counts what they did in `tally`.
 ///
-/// `Err` where the channel cannot run the loop, and as the rounds.
+/// `Err`: the channel cannot run the loop, or a round's fault.
 pub fn run_loop<R: AllocGlobal + RandomSource + Threads + Wait + Clock + Sync>(
     rt: &R,
     channel: Channel,
@@ -43,7 +43,7 @@ pub fn run_loop<R: AllocGlobal + RandomSource + Threads + Wait + Clock + Sync>(
     }
 }
 
-/// Over this repository's channel.
+/// Runs a loop over this repository's channel.
 fn run_oneshot<R: AllocGlobal + RandomSource + Threads + Wait + Clock + Sync>(
     rt: &R,
     kind: Loop,
@@ -82,7 +82,7 @@ fn run_oneshot<R: AllocGlobal + RandomSource + Threads + Wait + Clock + Sync>(
     }
 }
 
-/// Over `futures::channel::oneshot`, whose receiver is a future and blocks no thread by itself.
+/// Runs a loop over `futures::channel::oneshot`, whose receiver is a future and has no call that blocks.
 fn run_futures<R: AllocGlobal + RandomSource + Threads + Wait + Sync>(
     rt: &R,
     kind: Loop,
@@ -117,7 +117,7 @@ fn run_futures<R: AllocGlobal + RandomSource + Threads + Wait + Sync>(
     }
 }
 
-/// Over `crossbeam_channel`, which has no poll.
+/// Runs a loop over `crossbeam_channel`, which cannot be polled.
 fn run_crossbeam<R: AllocGlobal + Threads + Wait + Sync>(
     rt: &R,
     kind: Loop,
@@ -152,7 +152,7 @@ fn run_crossbeam<R: AllocGlobal + Threads + Wait + Sync>(
     }
 }
 
-/// Over this repository's channel, whose receiver is a future.
+/// Runs a loop of futures over this repository's channel.
 fn run_oneshot_awaited<R: AllocGlobal + RandomSource + Threads + Wait + Sync>(
     rt: &R,
     kind: Awaited,
@@ -182,7 +182,7 @@ fn run_oneshot_awaited<R: AllocGlobal + RandomSource + Threads + Wait + Sync>(
     }
 }
 
-/// Over `futures::channel::oneshot`, whose receiver an executor awaits.
+/// Runs a loop of futures over `futures::channel::oneshot`.
 fn run_futures_awaited<R: AllocGlobal + RandomSource + Threads + Wait + Sync>(
     rt: &R,
     kind: Awaited,

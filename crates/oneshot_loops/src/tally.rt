@@ -1,15 +1,15 @@
-//! What rounds did, counted where it is done.
+//! Counts what rounds do.
 
-/// Channels that were made, and messages that were received.
+/// Counts of channels, polls and messages, to which each function adds what it did. They wrap at 2^64.
 #[derive(Clone, Copy, Debug, PartialEq, Eq)]
 pub struct Tally {
-    /// How many channels.
+    /// How many channels were made.
     pub channels: u64,
-    /// How many bytes their messages may have, in all of them.
+    /// The room for their messages, in bytes, in all.
     pub room: u64,
     /// How many messages were received by `try_recv`.
     pub tried: u64,
-    /// How many were received by `recv`.
+    /// How many were received by `recv` or a ticket's `wait`.
     pub waited: u64,
     /// How many polls found no message yet.
     pub pended: u64,
@@ -18,7 +18,7 @@ pub struct Tally {
 }
 
 impl Tally {
-    /// Nothing yet.
+    /// Returns a tally of zeros.
     pub fn new() -> Tally {
         Tally {
             channels: 0,
@@ -30,33 +30,33 @@ impl Tally {
         }
     }
 
-    /// A channel was made for a message of so many bytes.
+    /// Counts a channel made for a message of `bytes` bytes.
     pub fn made(&mut self, bytes: usize) {
         self.channels = self.channels.wrapping_add(1);
         self.room = self.room.wrapping_add(bytes as u64);
     }
 
-    /// A message was received by `try_recv`.
+    /// Counts a message received by `try_recv`.
     pub fn tried(&mut self) {
         self.tried = self.tried.wrapping_add(1);
     }
 
-    /// A message was received by `recv`.
+    /// Counts a message received by `recv`, or by another call that blocks.
     pub fn waited(&mut self) {
         self.waited = self.waited.wrapping_add(1);
     }
 
-    /// A poll found no message yet.
+    /// Counts a poll that found no message yet.
     pub fn pended(&mut self) {
         self.pended = self.pended.wrapping_add(1);
     }
 
-    /// A message was received by a poll.
+    /// Counts a message received by a poll.
     pub fn polled(&mut self) {
         self.polled = self.polled.wrapping_add(1);
     }
 
-    /// All that another thread or a task did besides.
+    /// Adds `other`, what another thread or a task counted.
     pub fn add(&mut self, other: Tally) {
         self.channels = self.channels.wrapping_add(other.channels);
         self.room = self.room.wrapping_add(other.room);

@@ -1,4 +1,4 @@
-//! One round whose receiver is the ticket of a request.
+//! The round whose receiver is the ticket of a request.
 
 use crate::fault::Fault;
 use crate::tally::Tally;
@@ -28,9 +28,9 @@ impl Answer<u64> for Echo {
     }
 }
 
-/// Makes a request, answers it, and waits for the answer by the ticket, which keeps `rt`.
+/// Makes a request with `question`, answers it, and receives the answer by the ticket, which keeps `rt`.
 ///
-/// `Err` where there is no memory for the channel, or the answer was lost.
+/// `Err`: out of memory, or the answer was lost.
 pub fn make_answer_wait<Rt: Wait + Clock + Drop>(
     rt: Rt,
     alloc: Global,

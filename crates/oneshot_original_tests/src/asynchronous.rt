@@ -1,8 +1,8 @@
-//! The tests of `tests/async.rs`, whose name is a keyword: the receiver as a future.
+//! The tests of `tests/async.rs`: the receiver as a future. (`async` is a keyword.)
 //!
-//! The original runs each of four tests under `tokio` and under `async-std`. Both names stand here, over
-//! one function that runs under `futures::executor::block_on`, with a second thread in place of a task
-//! that sleeps.
+//! The original runs each of four tests under `tokio` and under `async-std`. Here both tests call one
+//! function, which runs under `futures::executor::block_on`, with a second thread in place of a task that
+//! sleeps.
 
 use super::counted::Drops;
 use super::threads::on_two_threads;
@@ -116,7 +116,7 @@ fn await_before_send_then_drop_sender_async_std(rt: HostRuntime) -> Result<(), F
     await_before_send_then_drop_sender(&rt)
 }
 
-// Polled by hand as `tokio`'s timeout polls: at once, and once more when the time is over.
+// Polls by hand as `tokio`'s timeout does: at once, and again when the time is over.
 #[test]
 fn poll_receiver_then_drop_it(rt: HostRuntime) -> Result<(), Fail> {
     let task = MockTask::new(&rt)?;

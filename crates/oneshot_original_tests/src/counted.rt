@@ -2,7 +2,7 @@
 
 use std::sync::atomic::{AtomicU64, Ordering};
 
-/// How often the messages that it made were dropped.
+/// How many of the messages that it made were dropped.
 #[derive(Drop)]
 pub(super) struct Drops(AtomicU64);
 
@@ -17,7 +17,7 @@ impl Drops {
         Drops(AtomicU64::new(0))
     }
 
-    /// A message that counts its drop here.
+    /// Returns a message whose drop is counted here.
     pub(super) fn message<T>(&self, value: T) -> Counted<'_, T> {
         Counted { value, drops: self }
     }

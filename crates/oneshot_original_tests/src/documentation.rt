@@ -1,5 +1,5 @@
-//! The example in the crate's documentation: a thread that answers texts by their lengths, to one who
-//! blocks and to one who awaits; and the same by typed requests.
+//! The example in the crate's documentation: a thread replies to texts with their lengths, which the asker
+//! receives by blocking and by awaiting; and the same by typed requests.
 
 use super::times::{answers, in_time, patience, second};
 use crossbeam_channel as queue;
@@ -13,23 +13,23 @@ use std::sync::Wait;
 use std::test::Fail;
 use std::thread::spawn;
 
-/// A text, and where its length is sent.
+/// A text, and the sender for its length.
 #[derive(Drop)]
 struct Request {
     text: String,
     reply: Sender<usize>,
 }
 
-/// Answers each text by its length, until nobody can ask any more.
+/// Replies to each text with its length, until nobody can send one any more.
 fn process(rt: &impl Wait, requests: queue::Receiver<Request>) {
     for request in requests.iter(rt) {
         let Request { text, reply } = request;
-        // A client that is gone needs no answer.
+        // A client that is gone needs no reply.
         let _ = reply.send(text.len());
     }
 }
 
-/// Asks for the length of a text. `false` if the thread is gone.
+/// Asks for the length of `text`. `false`: the thread is gone.
 fn ask(
     rt: &impl Wait,
     requests: &queue::Sender<Request>,
@@ -60,7 +60,7 @@ fn a_processing_thread_answers_lengths(rt: HostRuntime) -> Result<(), Fail> {
     Ok(())
 }
 
-/// Answers each text by its length, as a reply to a typed request, until nobody can ask any more.
+/// Answers each typed request with its text's length, until nobody can send one any more.
 fn process_typed(
     rt: &(impl Wait + Abort),
     requests: queue::Receiver<reply::Request<String, Length>>,
@@ -68,7 +68,7 @@ fn process_typed(
     for request in requests.iter(rt) {
         let length = Length::of(request.question().clone().ok().expect(rt, "memory"));
         if request.fits(&length) {
-            // A ticket that is gone needs no answer.
+            // A ticket that is gone needs no reply.
             let _ = request.answer(length);
         }
     }

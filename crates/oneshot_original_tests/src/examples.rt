@@ -8,13 +8,13 @@ use std::test::Fail;
 use std::thread::sleep;
 use std::time::{Clock, Duration};
 
-// Sends a while after the receiver began to wait.
+// Sends after a while, in which the receiver begins to wait.
 fn send_later(rt: &impl Clock, sender: Sender<u128>) -> bool {
     sleep(rt, Duration::from_millis(2));
     sender.send(9).is_ok()
 }
 
-// Drops the sender a while after the receiver began to wait.
+// Drops the sender after a while, in which the receiver begins to wait.
 fn drop_later(rt: &impl Clock, sender: Sender<u128>) {
     sleep(rt, Duration::from_millis(2));
     drop(sender);

@@ -1,4 +1,4 @@
-//! The test of `tests/future.rs`, over a ground in memory, whose tasks count the copies of their wakers.
+//! The test of `tests/future.rs`, over a ground in memory whose tasks count the copies of their wakers.
 
 use futures::task::Poll;
 use oneshot::drive::poll;

@@ -1,7 +1,7 @@
 //! The tests of the Rust crate `oneshot` 0.2.1 under their own names, in a module for each of its files.
 //!
-//! Not carried: `receiver_waker_size` of `src/waker.rs`, `channel_endpoints_single_pointer` and `error_sizes`
-//! of `tests/assert_mem.rs`. They measure types in bytes. A receiver here also keeps a parker and a runtime,
+//! Left out: `receiver_waker_size` of `src/waker.rs`, `channel_endpoints_single_pointer` and `error_sizes` of
+//! `tests/assert_mem.rs`, which measure types in bytes. A receiver here also keeps a parker and a runtime,
 //! and an error its message.
 #![tactic(auto)]
 

@@ -1,6 +1,6 @@
 //! The tests of `tests/loom.rs`, with many rounds of two threads in place of loom.
 //!
-//! Those that count what becomes of a waker do so over a ground in memory, after the same calls on a
+//! Tests that count what becomes of a waker count it over a ground in memory, after the same calls on a
 //! channel.
 
 use super::threads::{ROUNDS, on_two_threads, poll};
@@ -29,7 +29,7 @@ fn try_recv(rt: HostRuntime) -> Result<(), Fail> {
     Ok(())
 }
 
-// The receive waits ten seconds at most, a millisecond in the original.
+// The receive waits at most ten seconds; in the original, a millisecond.
 #[test]
 fn send_recv_different_threads(rt: HostRuntime) -> Result<(), Fail> {
     for _ in 0..ROUNDS {
@@ -74,7 +74,7 @@ fn async_recv(rt: HostRuntime) -> Result<(), Fail> {
     Ok(())
 }
 
-// The copies that were made of a task's waker, those that were used or dropped, and its wakes.
+// How many copies of a task's waker were made, how many were used or dropped, and the task's wakes.
 fn counts(task: &MemoryTask) -> (u64, u64, u64) {
     (task.copies(), task.ended(), task.wakes())
 }
@@ -95,7 +95,7 @@ fn send_then_poll(rt: HostRuntime) -> Result<(), Fail> {
     Ok(())
 }
 
-// As in the original, all that is asserted of the threads is that both end.
+// As in the original, the test only asserts of the threads that both end.
 #[test]
 fn poll_then_drop_receiver_during_send(rt: HostRuntime) -> Result<(), Fail> {
     let task = MockTask::new(&rt)?;

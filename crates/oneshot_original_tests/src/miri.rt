@@ -1,4 +1,4 @@
-//! The tests of `tests/miri.rs`: each use of a sender beside each use of a receiver, in many rounds.
+//! The tests of `tests/miri.rs`: each use of a sender races with each use of a receiver, in many rounds.
 
 use super::threads::{ROUNDS, on_two_threads, poll};
 use super::times::{answers, in_time, second};
@@ -17,7 +17,7 @@ use std::sync::Wait;
 use std::test::Fail;
 use std::thread::Threads;
 
-// What a receiver answers while 999 is sent on another thread, and the message if it came back.
+// What a receiver returns while another thread sends 999, and the message if it was refused.
 fn beside_a_send<E: Send + Drop, B: Send, D: FnOnce(E) -> B + Send>(
     rt: &impl Threads,
     ends: (Sender<i32>, E),
@@ -30,7 +30,7 @@ fn beside_a_send<E: Send + Drop, B: Send, D: FnOnce(E) -> B + Send>(
     (received, back)
 }
 
-// What a receiver answers while the sender is dropped on another thread.
+// What a receiver returns while another thread drops the sender.
 fn beside_a_drop<E: Send + Drop, B: Send, D: FnOnce(E) -> B + Send>(
     rt: &impl Threads,
     ends: (Sender<i32>, E),
@@ -42,7 +42,7 @@ fn beside_a_drop<E: Send + Drop, B: Send, D: FnOnce(E) -> B + Send>(
     received
 }
 
-// What a future answers that one task polls until it is ready.
+// Polls a future by one task until it is ready, and returns what it returns.
 fn poll_to_completion<T: Drop, Rt: Drop>(
     rt: &(impl Wait + RandomSource + AllocGlobal),
     mut receiver: AsyncReceiver<T, Rt>,
@@ -155,7 +155,7 @@ fn tx_send_rx_poll_then_drop(rt: HostRuntime) -> Result<(), Fail> {
     Ok(())
 }
 
-// As in the original, all that is asserted is that both threads end.
+// As in the original, the test only asserts that both threads end.
 #[test]
 fn tx_drop_rx_drop(rt: HostRuntime) -> Result<(), Fail> {
     for _ in 0..ROUNDS {

@@ -1,4 +1,4 @@
-//! The tests of `tests/raw.rs`: ends made opaque values, and made ends again.
+//! The tests of `tests/raw.rs`: ends made into raw values, and into ends again.
 
 use oneshot::{Receiver, Sender, channel};
 use oneshot_asserts::assert_same;

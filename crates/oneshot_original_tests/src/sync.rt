@@ -1,6 +1,6 @@
 //! The tests of `tests/sync.rs`: both ends on one thread, and on two.
 //!
-//! Not carried: `non_send_type_can_be_used_on_same_thread`, since a message's type is `Send` here.
+//! Left out: `non_send_type_can_be_used_on_same_thread`, since a message's type is `Send` here.
 
 use super::counted::Drops;
 use super::threads::{ROUNDS, on_two_threads};
@@ -34,7 +34,7 @@ fn send_before_try_recv(rt: HostRuntime) -> Result<(), Fail> {
     Ok(())
 }
 
-// What is received of a message that was sent before. `None` if it was refused or did not come.
+// Sends `message` and then receives it. `None`: it was refused or did not come.
 fn carried<R: Wait + Clock, T: Send + Drop>(
     rt: &R,
     alloc: Global,
@@ -99,7 +99,7 @@ fn send_then_drop_receiver(rt: HostRuntime) -> Result<(), Fail> {
     Ok(())
 }
 
-// The error of a send whose receiver is gone.
+// Returns the error of a send whose receiver is gone.
 fn refused<T: Send + Drop>(
     rt: &impl Abort,
     alloc: Global,
@@ -237,7 +237,7 @@ fn try_recv_then_drop_receiver(rt: HostRuntime) -> Result<(), Fail> {
     Ok(())
 }
 
-// How long a receive takes that has to run out of time. It is told when it began.
+// How long `receive` takes, which gets the instant of its start. Fails unless it times out.
 fn timed_out<T: Drop, F: FnOnce(Instant) -> Result<T, RecvTimeoutError>>(
     rt: &(impl Clock + Abort),
     receive: F,

@@ -6,13 +6,13 @@ use std::sync::Wait;
 use std::sync::atomic::{AtomicU64, Ordering};
 use std::thread::{Threads, join};
 
-/// How many pairs of threads a test runs, one after the other, where the original tries each interleaving.
+/// How many pairs of threads a test runs, one after the other. The original tries each interleaving.
 pub(super) const ROUNDS: u64 = 500;
 
-// More than it takes to start a thread.
+// More loads than a thread makes while another starts.
 const SPINS: u64 = 100_000_000;
 
-// Goes on once both threads are here.
+// Returns once both threads are here, or after `SPINS` loads.
 fn meet(here: &AtomicU64) {
     here.fetch_add(1, Ordering::SeqCst);
     for _ in 0..SPINS {
@@ -23,7 +23,7 @@ fn meet(here: &AtomicU64) {
     }
 }
 
-/// What both ends of a channel answer, each on a thread of its own. They begin at one moment.
+/// What both ends of a channel return, each on a thread of its own. Both begin at about the same time.
 pub(super) fn on_two_threads<
     T: Send + Drop,
     E: Send + Drop,
@@ -51,7 +51,7 @@ pub(super) fn on_two_threads<
     (sent, received)
 }
 
-/// Asks until the message comes, or until the sender is gone without one.
+/// Tries until the message comes, or until the sender is gone without one.
 pub(super) fn poll<T: Drop, Rt: Drop>(
     rt: &impl Wait,
     receiver: &mut Receiver<T, Rt>,

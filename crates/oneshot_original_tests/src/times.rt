@@ -1,4 +1,4 @@
-//! How long the tests wait, how late a receive may answer, and what they do on a busy machine.
+//! How long the tests wait, how late a receive may return, and what the tests do on a busy machine.
 
 use oneshot::RecvTimeoutError;
 use oneshot_asserts::assert_same;
@@ -8,27 +8,27 @@ use std::test::Fail;
 use std::thread::sleep;
 use std::time::{Clock, Duration};
 
-/// How long a receive of the examples waits for what another thread is about to do, and how long one may
-/// take whose message is there.
+/// How long a receive of the examples waits for another thread's act, and how long a receive may take if its
+/// message has been sent.
 pub(super) fn tenth() -> Duration {
     Duration::from_millis(100)
 }
 
-/// How long any other receive waits for that.
+/// How long any other receive waits for another thread's act.
 pub(super) fn second() -> Duration {
     Duration::from_secs(1)
 }
 
-/// How long the receive of `send_recv_different_threads` waits, where the original waits a millisecond, and how long
-/// a ticket waits in the documentation's example by typed requests, which the original does not have.
+/// How long the receive of `send_recv_different_threads` waits (a millisecond in the original), and a ticket
+/// in the documentation's example by typed requests, which the original does not have.
 pub(super) fn patience() -> Duration {
     Duration::from_secs(10)
 }
 
-/// How often a test is tried that is late, as it can be on a busy machine.
+/// How often a test is tried that may be late on a busy machine.
 const TRIES: u64 = 3;
 
-/// Tries until one try is in time. Fails if none of three is.
+/// Repeats `attempt` until one is in time. Fails if none of `TRIES` is.
 pub(super) fn in_time<F: FnMut() -> Result<bool, Fail>>(
     rt: &impl Abort,
     mut attempt: F,
@@ -43,7 +43,7 @@ pub(super) fn in_time<F: FnMut() -> Result<bool, Fail>>(
     panic!(rt; "late in each of {TRIES} tries")
 }
 
-/// Whether a receive answered before its time was over. Fails if it answered something else.
+/// Whether a receive returned before its time was over. Fails if it then returned anything but `wanted`.
 pub(super) fn answers<T: Debug + Drop + PartialEq>(
     rt: &impl Abort,
     received: Result<T, RecvTimeoutError>,
@@ -56,7 +56,7 @@ pub(super) fn answers<T: Debug + Drop + PartialEq>(
     true
 }
 
-/// Lets the other thread go first in each fiftieth round, as far as a sleep of so many milliseconds can.
+/// Sleeps for `milliseconds` in each fiftieth round, so that the other thread can go first.
 pub(super) fn linger(rt: &impl Clock, round: u64, milliseconds: u64) {
     if round % 50 == 0 {
         sleep(rt, Duration::from_millis(milliseconds));

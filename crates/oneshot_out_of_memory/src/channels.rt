@@ -1,4 +1,4 @@
-//! Channels, and requests with a channel each.
+//! Attempts to make a channel, and a request with its channel.
 
 use crate::outcome::{Outcome, Wrong, ensure};
 use futures::executor::block_on;
@@ -30,7 +30,7 @@ impl<'a, R> Counted<'a, R> {
 /// The question of a request.
 const TEXT: &str = "data from sync thread";
 
-/// `channel`. A refusal drops the runtime.
+/// Calls `channel`. A refusal has to drop the runtime.
 pub(crate) fn make_channel(rt: &impl AllocGlobal) -> Result<Outcome, Wrong> {
     let drops = AtomicU64::new(0);
     if channel::<u8, _>(Counted::new(rt, &drops), rt.alloc()).is_ok() {
@@ -43,7 +43,7 @@ pub(crate) fn make_channel(rt: &impl AllocGlobal) -> Result<Outcome, Wrong> {
     Ok(Outcome::Refused)
 }
 
-/// `async_channel`. A refusal drops the runtime.
+/// Calls `async_channel`. A refusal has to drop the runtime.
 pub(crate) fn make_async_channel(
     rt: &(impl Wait + RandomSource + AllocGlobal),
 ) -> Result<Outcome, Wrong> {
@@ -59,7 +59,7 @@ pub(crate) fn make_async_channel(
     Ok(Outcome::Refused)
 }
 
-/// `request`. A refusal gives the question back, and drops the runtime. The question makes the first allocation.
+/// Calls `request`, after an allocation for the question. A refusal has to return it, and drop the runtime.
 pub(crate) fn make_request(rt: &impl AllocGlobal) -> Result<Outcome, Wrong> {
     let drops = AtomicU64::new(0);
     let question = String::from_str(rt.alloc(), TEXT)?;

@@ -1,9 +1,9 @@
-//! Makes channels, requests and traces where an allocation may be refused, and prints whether one was.
+//! Makes channels, requests and traces while an allocation may fail, and prints whether one did.
 //!
-//! Standard input names what is made, a line each, and may give a number after the name: so many allocations
-//! come before it.
-//! After a refusal it looks at what is kept, and makes the same again: with memory for it the second attempt
-//! has to succeed.
+//! Each line of standard input names what to make, and may then give a number: how many allocations come
+//! before it.
+//! After a refusal the program tests what came back, and makes the same again: given memory, the second
+//! attempt has to succeed.
 #![tactic(auto)]
 
 mod channels;
@@ -18,7 +18,7 @@ use std::random::RandomSource;
 use std::str;
 use std::sync::Wait;
 
-/// As much of the input as is read. It is read without memory, so that each allocation is one of what is made.
+/// How many bytes of the input are read: without an allocation, so that all are of what is made.
 const MOST: usize = 64;
 
 fn main(rt: HostRuntime) -> ExitCode {
@@ -26,7 +26,7 @@ fn main(rt: HostRuntime) -> ExitCode {
     let count = rt.stdin().read(&mut bytes).unwrap_or(0);
     for line in str::from_utf8(&bytes[..count]).unwrap_or("").lines() {
         if let Err(wrong) = answer(&rt, line) {
-            // Where standard error fails too, the status alone tells.
+            // If standard error fails too, the status alone reports the fault.
             let _ = eprintln!(rt; "{line}: {wrong}");
             return ExitCode::FAILURE;
         }
@@ -48,7 +48,7 @@ fn answer(rt: &(impl Print + Wait + RandomSource + AllocGlobal), line: &str) -> 
     println!(rt; "{name}: {outcome}").map_err(|_| Wrong::WriteFailed)
 }
 
-/// Makes so many allocations, and lets each go.
+/// Makes `count` allocations, and frees each at once.
 fn spend(alloc: Global, count: u8) -> Result<(), AllocError> {
     for _ in 0..count {
         let _spent: Box<u8> = Box::new(alloc, 0)?;

@@ -1,10 +1,10 @@
-//! What came of an attempt, and what may be wrong.
+//! The outcomes of an attempt, and what may be wrong.
 
 use std::alloc::AllocError;
 use std::fmt;
 use thiserror::Error;
 
-/// What came of an attempt.
+/// The outcome of an attempt.
 #[derive(Clone, Copy, Debug)]
 pub(crate) enum Outcome {
     /// No allocation was refused.
@@ -25,25 +25,25 @@ impl fmt::Display for Outcome {
 /// What is wrong.
 #[derive(Clone, Copy, Debug, Drop, Error)]
 pub(crate) enum Wrong {
-    /// Nothing has the name that was read.
+    /// A line names nothing that can be made, or its number is not one of 0 to 255.
     #[error("unknown name")]
     UnknownName,
     /// The output could not be written.
     #[error("write failed")]
     WriteFailed,
-    /// The runtime that was handed in was not dropped once.
+    /// The runtime of the first attempt was not dropped exactly once.
     #[error("the runtime was kept")]
     RuntimeKept,
-    /// The scripts that came back are not those that were handed in.
+    /// The scripts that came back are not those of the first attempt.
     #[error("the scripts have changed")]
     ScriptsChanged,
-    /// The question that came back is not the one that was handed in.
+    /// The question that came back is not that of the first attempt.
     #[error("the question has changed")]
     QuestionChanged,
-    /// The second attempt was refused too.
+    /// An allocation outside the first attempt was refused.
     #[error("refused again")]
     RefusedAgain,
-    /// What the second attempt made does not do its work.
+    /// What the second attempt made does not work.
     #[error("made, and does not work")]
     Broken,
 }
@@ -54,7 +54,7 @@ impl From<AllocError> for Wrong {
     }
 }
 
-/// Gives `Err(wrong)` where a condition does not hold.
+/// Returns `Err(wrong)` unless `holds`.
 pub(crate) fn ensure(holds: bool, wrong: Wrong) -> Result<(), Wrong> {
     if holds { Ok(()) } else { Err(wrong) }
 }

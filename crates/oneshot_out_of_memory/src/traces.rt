@@ -1,4 +1,4 @@
-//! Traces.
+//! Attempts to replay a trace.
 
 use crate::outcome::{Outcome, Wrong, ensure};
 use oneshot::replay::{
@@ -7,10 +7,10 @@ use oneshot::replay::{
 };
 use std::alloc::{AllocError, Global};
 
-/// A message that is sent and received.
+/// The sender's two looks.
 const MOVES: [Move; 2] = [Move::Sender, Move::Sender];
 
-/// `replay`. A refusal gives both scripts back as they were handed in.
+/// Calls `replay`. A refusal has to return both scripts unchanged.
 pub(crate) fn make_trace(rt: &impl AllocGlobal) -> Result<Outcome, Wrong> {
     let receiver = receiver_script(rt.alloc())?;
     let Err(Refused { sender, receiver }) = replay(rt.alloc(), sender_script(), receiver, &MOVES)
@@ -36,7 +36,7 @@ fn sender_script() -> SenderScript<u64> {
     }
 }
 
-/// A script with two calls. Where its memory is refused it is asked for again, since nothing is shown by that.
+/// A script with two calls. A refused allocation is repeated, since the script is not what is tested.
 fn receiver_script(alloc: Global) -> Result<ReceiverScript, AllocError> {
     let calls = [ReceiverCall::TryRecv, ReceiverCall::HasMessage];
     let calls = Vec::from_slice(alloc, &calls).or_else(|_| Vec::from_slice(alloc, &calls))?;

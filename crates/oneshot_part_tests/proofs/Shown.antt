@@ -1,4 +1,4 @@
--- What an operation tells of an end whose phase and slots are known.
+-- What an operation shows of an end whose phase and slots are known.
 use Rattle.std.proofs.Common.{◌≡◌, ℕ, Bool, true, false, not, true≢false, refl, sym, ap, ◌∙◌, subst}
 use Rattle.std.specs.List.{list_all}
 use Rattle.oneshot_machine.specs.declared.states.Op.{Op}
@@ -14,7 +14,7 @@ use Rattle.oneshot_word.specs.Side.{Side, SenderCan, SenderDid, ReceiverCan, Rec
 abbrev pub Plain : Type 0 → Type 0 → Type 0
 Plain T W = Side T W (Unit {0})
 
--- what each row of a receiver that has the message leaves in the message's slot
+-- each row of a receiver that has the message leaves the message's slot filled
 abbrev pub is_filled : Share → Bool
 is_filled filled = true
 is_filled _ = false
@@ -27,7 +27,7 @@ kept : {T : Type 0} {s t : Share} {x : T} {m : Held T} → is_filled t ≡ true 
 kept e (stays_held x) = refl
 kept e _ = absurd (cc)
 
--- only a receiver that waits in a call that blocks has a swap of 3
+-- only a receiver that waits in a call that blocks may swap in 3
 abbrev has_no_stop : ReceiverAt → Bool
 has_no_stop q = list_all (λ row. not (is_same_op (Swap 3) row.0)) (receiver_moves q)
 
@@ -52,7 +52,7 @@ stops_only {q} asks = by (where_it_stops q) asks
         absurd (true≢false (sym (each_passes (λ row. not (is_same_op (Swap 3) row.0)) (receiver_moves q) none row)))
 
 module _ {T W : Type 0} where
-  -- how far the end is, and its slots
+  -- the end's phase and slots
   pub record SenderIs (s : Plain T W) (p : SenderAt) (m : Held T) (w : Held W) : Type 0 where
     pub at : sender_at s.log ≡ p
     pub message : s.message ≡ m
@@ -75,7 +75,7 @@ module _ {T W : Type 0} where
       subst (λ (z : ReceiverAt × Held T × Held W). ReceiverMay z.0 op z.1 z.2)
       (λ i. (sym is.at i, sym is.message i, sym is.waker i)) asks
 
-  -- what it found
+  -- what the end found
   pub sender_told : {s t : Plain T W} {p : SenderAt} {m : Held T} {w : Held W} (op : Op) (word : ℕ) {found : ℕ}
       → SenderIs s p m w → SenderDid s op found t → found ≡ word → SenderFinds p op word m w t.message t.waker
   sender_told {t} op word is did same =
@@ -88,7 +88,7 @@ module _ {T W : Type 0} where
       subst (λ (z : ReceiverAt × Held T × Held W × ℕ). ReceiverFinds z.0 op z.3 z.1 z.2 t.message t.waker)
       (λ i. (is.at i, is.message i, is.waker i, same i)) did.finds
 
-  -- and how far it is then
+  -- and its phase then
   pub sender_went : {s t : Plain T W} {p : SenderAt} {m : Held T} {w : Held W} (op : Op) (word : ℕ) {found : ℕ}
       → SenderIs s p m w → SenderDid s op found t → found ≡ word → sender_at t.log ≡ sender_next p op (saw op word)
   sender_went {s} op word {found} is did same =
@@ -102,11 +102,11 @@ module _ {T W : Type 0} where
       ap receiver_at did.list ∙ phase_from-snoc receiver_next first s.log (op, saw op found)
       ∙ (λ i. receiver_next (is.at i) op (saw op (same i)))
 
-  -- where it is, as it stands
+  -- its phase, with whatever slots it has
   pub receiver_is : {q : ReceiverAt} (s : Plain T W) → receiver_at s.log ≡ q → ReceiverIs s q s.message s.waker
   receiver_is s at = record { at = at; message = refl; waker = refl }
 
-  -- and with something else in the waker's slot
+  -- the same end with something else in the waker's slot
   pub sender_changed : {p : SenderAt} {m : Held T} {w : Held W} (s t : Plain T W) (w' : Held W) → SenderIs s p m w
       → t ≡ record s { waker = w' } → SenderIs t p m w'
   sender_changed s t w' is e =
@@ -125,7 +125,7 @@ module _ {T W : Type 0} where
         waker = ap (λ (s : Plain T W). s.waker) e;
       }
 
-  -- a sender that has made no operation has no waker
+  -- a sender that has performed no operation has no waker
   no_waker_yet : {m : Held T} {w : Held W} → SenderOwns fresh m w → w ≡ away
   no_waker_yet (owns own not_its_own) = refl
 
@@ -134,7 +134,7 @@ module _ {T W : Type 0} where
   begins_fresh s at message its =
       record { at = at; message = message; waker = no_waker_yet (subst (λ p. SenderOwns p s.message s.waker) at its) }
 
-  -- where it finds 0 it has the receiver's
+  -- a sender that finds 0 has the receiver's waker
   found_waker : {op : Op} {m m' : Held T} {w : Held W} → SenderFinds fresh op 0 m away m' w
       → (m' ≡ m) × (k : W) × (w ≡ held k)
   found_waker (finds (tail head) (stays_held x) (gets_thing k)) = (refl, k, refl)

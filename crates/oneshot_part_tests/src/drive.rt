@@ -1,4 +1,4 @@
-//! The drivers over grounds in memory: what each answers, and the steps that it makes.
+//! Tests of the drivers over grounds in memory: what each returns, and its steps.
 
 mod deeds;
 mod drops;

@@ -1,6 +1,6 @@
-//! Tests of what stands beneath the real channel and beside it, each by public names of its crate: the
-//! operations on the word, the drivers over grounds in memory, both sides of the shared word, lists of
-//! calls, runs that are stepped by hand, and texts.
+//! Tests of what is beneath the real channel and beside it, by public names: the operations on the word,
+//! the drivers over grounds in memory, both sides of the shared word, lists of calls, runs that are stepped
+//! by hand, and texts.
 #![tactic(auto)]
 
 #[cfg(test)]

@@ -1,4 +1,4 @@
-//! Runs that are stepped by hand.
+//! Tests of runs that are stepped by hand.
 
 use oneshot_asserts::assert_same;
 use oneshot_machine::machine::{End, ReceiverStart, Seen, SenderCall, Step};
@@ -9,7 +9,7 @@ use oneshot_replay::{
 };
 use std::test::Fail;
 
-/// The receiver's move, at which no deadline is over and no copy is refused.
+/// The receiver's move, with no deadline over and no copy refused.
 const RECEIVER: Move = Move::Receiver {
     over: false,
     refuse: false,
@@ -25,7 +25,7 @@ fn send(message: u64, last: ErrorLast) -> SenderScript<u64> {
     }
 }
 
-/// A move, and after it the calls of both ends and whether the block is freed.
+/// A move; then the call of each end after it, and whether the block is freed.
 type Case = (Move, Option<SenderCall>, Option<ReceiverStart>, bool);
 
 #[test]
@@ -55,7 +55,7 @@ fn a_refused_message_is_followed_move_by_move(rt: HostRuntime) {
     assert!(rt; matches!(replayer.into_rest(), Some(Rest::FromError(7))));
 }
 
-/// The entry of this number, counted from 1, of a `recv_ref` that nobody wakes.
+/// The entry of this number, from 1, in a run of a `recv_ref` that nobody wakes.
 fn waiting(number: usize) -> Entry {
     let parks = (WakerName::Parker, WakerPlace::Hand, WakerPlace::Cell);
     let (step, seen, before, after, waker) = match number {

@@ -1,4 +1,4 @@
-//! The lists of calls of the scripts.
+//! A test of the lists of calls in scripts.
 
 use oneshot_asserts::assert_same;
 use oneshot_replay::{CallList, ReceiverCall};

@@ -1,4 +1,4 @@
-//! The operations on the word.
+//! Tests of the operations on the word.
 
 use oneshot_machine::states::Op;
 

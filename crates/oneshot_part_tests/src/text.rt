@@ -1,4 +1,4 @@
-//! Texts that ask for a run, and the lines of entries.
+//! Tests of texts that ask for a run, and of the lines of entries.
 
 mod entries;
 mod faults;

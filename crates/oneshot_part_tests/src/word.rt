@@ -1,4 +1,4 @@
-//! Both sides of one word in one thread.
+//! Tests of both sides of one word on one thread.
 
 ghost use Rattle.std.specs.Prelude.{◌≡◌};
 ghost use Rattle.oneshot_machine.specs.declared.states.Op.TheVariants.{Load, Swap};
@@ -123,7 +123,7 @@ fn store_waker(rt: &impl Abort, receiver: &mut ReceiverSide<u8, u8, u8>, waker: 
     assert!(rt; found == 3);
 }
 
-// It gives its waker.
+// Returns the receiver's waker.
 fn stop(rt: &impl Abort, receiver: &mut ReceiverSide<u8, u8, u8>) -> AnyWaker<u8, u8>
     requires { ReceiverCan receiver.old (Swap 3) }
     ensures at { receiver_at receiver.new.log ≡ here looked }
@@ -166,7 +166,7 @@ fn stop_over_the_end(rt: &impl Abort, receiver: &mut ReceiverSide<u8, u8, u8>)
     assert!(rt; found == 3);
 }
 
-// It gives the waker that it found.
+// Returns the waker that the sender found.
 fn begin_send(rt: &impl Abort, sender: &mut SenderSide<u8, u8, u8>, message: u8) -> AnyWaker<u8, u8>
     requires { (sender_at sender.old.log ≡ fresh) × (sender.old.message ≡ vacant) }
     ensures { SenderCan sender.new (Swap 4) }
@@ -178,7 +178,7 @@ fn begin_send(rt: &impl Abort, sender: &mut SenderSide<u8, u8, u8>, message: u8)
     sender.take_waker()
 }
 
-// It gives the waker that it found.
+// Returns the waker that the sender found.
 fn begin_drop(rt: &impl Abort, sender: &mut SenderSide<u8, u8, u8>) -> AnyWaker<u8, u8>
     requires { (sender_at sender.old.log ≡ fresh) × (sender.old.message ≡ vacant) }
     ensures { SenderCan sender.new (Swap 2) }

@@ -1,9 +1,9 @@
-//! What the ends of a channel answer, and how often.
+//! What the ends of a channel return, and how often.
 
 use std::fmt::Debug;
 use std::process::Abort;
 
-/// Why the use of a receiver gave no message.
+/// Why the use of a receiver returned no message.
 #[derive(Clone, Copy, Debug, Eq, PartialEq)]
 pub(super) enum Silence {
     /// `Empty` or `Pending`.
@@ -16,7 +16,7 @@ pub(super) enum Silence {
     Dropped,
 }
 
-/// What one side of a round answered.
+/// What one side of a round returned.
 #[derive(Clone, Copy)]
 pub(super) struct Outcome<A> {
     pub(super) answer: A,
@@ -24,10 +24,10 @@ pub(super) struct Outcome<A> {
     pub(super) late: bool,
 }
 
-/// How often a test has to see what may happen. Delays are drawn so that each is seen some thousand times.
+/// How often each answer that may come has to come. By the drawn delays each comes some thousand times.
 pub(super) const OFTEN: usize = 100;
 
-/// Fails unless each of these answers came often, and no other.
+/// Fails unless each of `answers` came often, and no other came.
 pub(super) fn assert_answers<A: Debug + PartialEq>(
     rt: &impl Abort,
     outcomes: &[Outcome<A>],
@@ -43,7 +43,7 @@ pub(super) fn assert_answers<A: Debug + PartialEq>(
     }
 }
 
-/// Fails unless a side began often after the other's call was over, and often before.
+/// Fails unless a side often began after the other's call was over, and often before.
 pub(super) fn assert_both_orders<A>(rt: &impl Abort, outcomes: &[Outcome<A>]) {
     let late = outcomes.iter().filter(|outcome| outcome.late).count();
     let early = outcomes.iter().filter(|outcome| !outcome.late).count();

@@ -3,7 +3,7 @@
 use oneshot_channel::{Receiver, Sender, channel};
 use std::alloc::{AllocError, AllocGlobal};
 
-/// So many channels, with the senders and the receivers in the same order.
+/// Makes `count` channels, and returns their senders and receivers in the same order.
 pub(super) fn channels<'r, T: Send + Drop, R: AllocGlobal>(
     rt: &'r R,
     count: u64,

@@ -22,7 +22,7 @@ impl Drop for Counted {
     }
 }
 
-/// A message of this value for each of so many rounds, and the counts of their drops.
+/// Makes `count` messages of this value, and the counts of their drops.
 pub(super) fn make_messages(
     alloc: Global,
     count: u64,

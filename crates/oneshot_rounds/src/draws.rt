@@ -1,14 +1,14 @@
-//! Drawn delays, so that either side of a round may be the first.
+//! Pseudorandom delays, so that either side of a round may be first.
 
 use std::hint::spin_loop;
 use std::thread::yield_now;
 
-/// Draws by xorshift, the same ones in each run.
+/// Draws by xorshift, which are the same in each run.
 #[derive(Drop)]
 pub(super) struct Draws(u64);
 
 impl Draws {
-    /// The draws of this seed, which is not 0.
+    /// Returns the draws of `seed`, which is not 0.
     pub(super) fn new(seed: u64) -> Draws {
         Draws(seed)
     }
@@ -21,9 +21,9 @@ impl Draws {
         self.0
     }
 
-    /// Spins up to 4,095 times. Each power of two below is as likely as the others, so that short delays
-    /// are as frequent as long ones. Every second pause or so lets another thread run, which helps two
-    /// threads that share a processor.
+    /// Spins up to 4,095 times. Each power of two from 2 to 4,096 is an equally likely bound, so short delays
+    /// are as frequent as long ones. About every second pause yields first, which helps two threads that
+    /// share a processor.
     pub(super) fn pause(&mut self) {
         if self.next() % 2 == 0 {
             yield_now();

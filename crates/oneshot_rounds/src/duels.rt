@@ -1,4 +1,4 @@
-//! A use of a receiver beside the sender's one call, in many rounds.
+//! A use of a receiver that races with the sender's one call, in many rounds.
 
 use super::answers::{Outcome, Silence, assert_answers, assert_both_orders};
 use super::channels::channels;
@@ -13,7 +13,7 @@ use std::time::Clock;
 
 const ROUNDS: u64 = 10_000;
 
-/// Sends 999 in each round. Fails unless both ends give these answers, each of them often, and no other.
+/// Sends 999 in each round. Fails unless both ends return each of these answers often, and no other.
 pub(super) fn beside_a_send<R: Threads + Wait + Abort + Clock + AllocGlobal + Sync>(
     rt: &R,
     receives: &impl Receives,
@@ -40,8 +40,8 @@ pub(super) fn beside_a_send<R: Threads + Wait + Abort + Clock + AllocGlobal + Sy
     Ok(())
 }
 
-/// Drops the sender in each round. Fails unless the receiver gives these answers, each of them often, and
-/// no other. Tells what the sender's side saw.
+/// Drops the sender in each round, and returns the outcomes of the drops. Fails unless the receiver returns
+/// each of these answers often, and no other.
 pub(super) fn beside_a_drop<R: Threads + Wait + Abort + Clock + AllocGlobal + Sync>(
     rt: &R,
     receives: &impl Receives,

@@ -10,7 +10,7 @@ use std::time::{Clock, Duration};
 /// How far a thread is.
 #[derive(Drop)]
 struct Progress {
-    // The last round at whose line it arrived, and the last one that it ended.
+    // The last round whose line it reached, and the last one that it ended.
     arrived: AtomicU64,
     ended: AtomicU64,
 }
@@ -39,7 +39,7 @@ impl Line {
         }
     }
 
-    /// Both sides of the line, for a thread each.
+    /// Returns both sides of the line, one for each thread.
     pub(super) fn sides(&self) -> (Side<'_>, Side<'_>) {
         let one = Side {
             here: &self.one,
@@ -64,10 +64,10 @@ pub(super) struct Side<'a> {
 }
 
 impl Side<'_> {
-    /// Begins a round once both threads are at its line, after a drawn pause. Tells whether the other
-    /// thread's call is over already.
+    /// Waits until both threads are at the line of `round`, and then for a drawn pause. Returns whether the
+    /// other thread's call is over already.
     pub(super) fn start(&mut self, rt: &(impl Abort + Clock), round: u64) -> bool {
-        // A thread that shares a processor with the other may wake on one of its own.
+        // A thread that shares a processor with the other may wake on another processor.
         if self.draws.next() % 64 == 0 {
             sleep(rt, Duration::from_micros(100));
         }
@@ -76,7 +76,7 @@ impl Side<'_> {
         self.there.ended.load(Ordering::SeqCst) >= round
     }
 
-    /// Goes on once both threads are at the line of this round. Fails if the other does not come.
+    /// Waits until both threads are at the line of `round`. Fails if the other does not come.
     pub(super) fn meet(&self, rt: &(impl Abort + Clock), round: u64) {
         self.here.arrived.store(round, Ordering::SeqCst);
         for looks in 0..LINE_LOOKS {
@@ -88,7 +88,7 @@ impl Side<'_> {
         panic!(rt; "the other thread does not come to the line of round {round}")
     }
 
-    /// This thread's call of the round is over.
+    /// Notes that this thread's call of the round is over.
     pub(super) fn end(&self, round: u64) {
         self.here.ended.store(round, Ordering::SeqCst);
     }

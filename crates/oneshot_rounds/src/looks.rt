@@ -1,5 +1,5 @@
-//! A look of one end, beside the other end's call: where it sees that this was made, the next call of its
-//! own end answers so. A future was polled before, so that its look may come between the sender's operations.
+//! A look of one end beside the other end's call: if it sees that call's effect, so does its own end's next
+//! call. A future was polled before, so that its look may come between the sender's operations.
 
 use super::answers::Silence::{self, Disconnected};
 use super::answers::assert_answers;
@@ -16,15 +16,15 @@ use std::time::Clock;
 
 const ROUNDS: u64 = 10_000;
 
-/// What a look saw of the other end's call, by the next call of its own end. `None`: it saw nothing.
+/// What the next call of an end returns after a look that saw the other end's call. `None`: it saw nothing.
 type Sight = Option<Result<u64, Silence>>;
 
 fn sight(seen: bool, received: Result<u64, TryRecvError>) -> Sight {
     seen.then_some(received.map_err(|error| Silence::from(error)))
 }
 
-/// Looks in each round beside this call of the sender. Fails unless the look saw nothing often, saw this often,
-/// and saw nothing else.
+/// Looks in each round beside the sender's `call`. Fails unless the look often saw nothing, often saw
+/// `sees`, and saw nothing else.
 fn look_beside<
     R: Threads + Abort + Clock + AllocGlobal + Sync,
     E: Drop,

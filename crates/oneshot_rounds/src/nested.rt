@@ -1,10 +1,10 @@
-//! The message is the sender of another channel.
+//! A channel whose message is the sender of another channel.
 
 use oneshot_channel::{Receiver, Sender, TryRecvError, channel};
 use std::alloc::{AllocError, AllocGlobal};
 use std::test::Fail;
 
-/// A channel of senders, and a channel whose sender is to be the message.
+/// A channel of senders, and a channel whose sender becomes the message.
 struct Nest<'r, R> {
     outer_sender: Sender<Sender<u8>>,
     outer_receiver: Receiver<Sender<u8>, &'r R>,

@@ -1,4 +1,4 @@
-//! What a sender's thread wrote elsewhere before its `send`, the receiver's thread finds after its receive.
+//! A receiver's thread sees after its receive what the sender's thread wrote elsewhere before its `send`.
 
 use super::answers::{assert_answers, assert_both_orders};
 use super::channels::channels;
@@ -15,7 +15,7 @@ use std::time::Clock;
 
 const ROUNDS: u64 = 1_000;
 
-/// A round, which both sides know.
+/// A round, which both sides share.
 #[derive(Drop)]
 struct Round {
     /// Counted from 1.
@@ -33,7 +33,7 @@ fn make_rounds(alloc: Global) -> Result<Vec<Round>, AllocError> {
     Ok(rounds)
 }
 
-// Fails unless each receive finds its round's number in the round's note, where the sender wrote it.
+// Fails unless after each receive its round's note has the number that the sender wrote there.
 fn assert_finds_notes<R: Threads + Wait + Abort + Clock + AllocGlobal + Sync>(
     rt: &R,
     receives: &impl Receives,

@@ -1,8 +1,8 @@
-//! The drop of a future that comes while its sender, on another thread, is about to wake the task: beside a
-//! `send` of 999, and beside the sender's drop. Neither waits for the other.
+//! The drop of a future while its sender, on another thread, is about to wake the task: during a `send` of
+//! 999, and during the sender's drop. Neither waits for the other.
 //!
-//! A waker wakes its task when it is dropped too. So where a task is not woken yet right after the drop of
-//! its future, the future did not have its waker back: the sender had taken it.
+//! Dropping a waker also wakes its task. So if a task is not woken right after the drop of its future, the
+//! future did not get its waker back: the sender had taken it.
 
 use super::answers::OFTEN;
 use super::counted::{Counted, make_messages};
@@ -21,27 +21,27 @@ use std::time::{Clock, Duration, Instant};
 /// The rounds of a batch.
 const ROUNDS: u64 = 1_000;
 
-/// How many batches are run at least, and how many at most until the calls have met often.
+/// How many batches run at least, and at most until the calls have met often.
 const LEAST: u64 = 10;
 
 const BATCHES: u64 = 400;
 
-/// For so many seconds a test begins batches. On an idle machine it needs less than one.
+/// For how many seconds a test begins batches. On an idle machine less than one is enough.
 const SECONDS: u64 = 12;
 
 /// A message that fills some pages.
 type Wide = [u64; 1024];
 
-// A function: a constant array would be read as its elements.
+// A function: each use of a constant array would be read as its elements.
 fn wide() -> Wide {
     [999; 1024]
 }
 
-/// How many more pages a process may have at the end of a test. As many blocks of wide messages as the calls
-/// have to meet are more.
+/// How many pages a process may grow by during a test. If each meeting of the calls leaked a block with a
+/// wide message, it would grow by more.
 const MOST_PAGES: u64 = 128;
 
-/// The channels of a batch, whose futures are without a runtime. A task of its own has polled each once.
+/// The channels of a batch. Each future has no runtime, and was polled once by a task of its own.
 #[derive(Drop)]
 struct Polled<T> {
     senders: Vec<Sender<T>>,
@@ -71,8 +71,8 @@ impl<T: Send + Drop> Polled<T> {
     }
 }
 
-/// Drops each future beside this call, and counts the rounds in which the call gave this answer and the
-/// sender had the waker, but had not woken the task when the drop was over. Fails unless it has in the end.
+/// Drops each future beside the call `one`. Counts the rounds in which the calls met: `one` returned
+/// `answer`, and the task was not yet woken after the drop. Fails unless each task is woken in the end.
 fn count_met<
     R: Threads + Abort + Clock + AllocGlobal + Sync,
     S: Send + Drop,
@@ -124,7 +124,7 @@ fn until_met<F: FnMut() -> Result<usize, Fail>>(
     Ok(())
 }
 
-/// A batch beside a `send` of 999, which gives back the messages of the rounds that count.
+/// A batch beside a `send` of 999, which returns the messages of the rounds that count.
 fn batch_of_sends<R: Threads + Abort + Clock + AllocGlobal + RandomSource + Sync>(
     rt: &R,
 ) -> Result<usize, Fail> {
@@ -176,7 +176,7 @@ fn batch_of_wide_sends<R: Threads + Abort + Clock + AllocGlobal + RandomSource +
     )
 }
 
-/// Fails if each round that counts keeps its block.
+/// Fails if each round that counts leaks its block.
 fn assert_frees_blocks<F: FnMut() -> Result<usize, Fail>>(
     rt: &(impl Files + Print + AllocGlobal + RandomSource + Abort + Clock),
     mut batch: F,

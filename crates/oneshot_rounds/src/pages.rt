@@ -3,7 +3,7 @@
 use std::rt::Files;
 use std::{fs, io};
 
-/// Where the kernel tells a process of its own memory: its second number counts the pages in use.
+/// The kernel's file about a process's own memory. Its second number is the pages in use.
 const OWN_MEMORY: &str = concat!("/", "proc/self/statm");
 
 /// How many pages of memory the process has in use.
@@ -14,7 +14,7 @@ pub(super) fn resident_pages(rt: &(impl Files + AllocGlobal)) -> io::Result<u64>
     pages.ok_or(io::ErrorKind::InvalidData.into())
 }
 
-/// How many pages more than before the process has in use.
+/// How many more pages than `before` the process has in use.
 pub(super) fn grown_pages(rt: &(impl Files + AllocGlobal), before: u64) -> io::Result<u64> {
     Ok(resident_pages(rt)?.saturating_sub(before))
 }

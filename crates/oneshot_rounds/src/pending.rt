@@ -1,5 +1,5 @@
-//! The drop of a future that has left a copy of its task's waker, beside a `send` of 999 and beside the
-//! sender's drop.
+//! The drop of a future that has left a copy of its task's waker, beside a `send` of 999 or the sender's
+//! drop.
 
 use super::answers::{assert_answers, assert_both_orders};
 use super::counted::make_messages;
@@ -14,7 +14,7 @@ use std::test::Fail;
 
 const ROUNDS: u64 = 10_000;
 
-/// So many channels, whose futures this task has polled once.
+/// Makes `ROUNDS` channels, whose futures `task` has polled once.
 pub(super) fn polled_channels<'r, T: Send + Drop, R: AllocGlobal + RandomSource + Abort>(
     rt: &'r R,
     task: &MockTask,

@@ -1,7 +1,7 @@
-//! Two threads that make a call each in every round, at about the same time.
+//! Two threads that each make a call in every round, at about the same time.
 //!
-//! Where all processors are busy both threads may share one. Their calls then follow each other in either
-//! order, and are rarely under way at one time. Only the tests of `overtaken` ask for that, for some seconds.
+//! If all processors are busy, both threads may share one. Their calls then follow each other in either
+//! order, and rarely overlap. Only the tests of `overtaken` need overlaps, and try for some seconds.
 
 use super::answers::Outcome;
 use super::line::{Line, Side};
@@ -10,7 +10,7 @@ use std::process::Abort;
 use std::thread::{Threads, join};
 use std::time::Clock;
 
-// Makes this call in each round, with what its side has there, and tells what it answered.
+// Makes this call in each round, with its side's value for the round, and returns the answers.
 fn run<E: Drop, A: Copy, F: FnMut(E) -> A>(
     rt: &(impl Abort + Clock),
     alloc: Global,
@@ -27,13 +27,13 @@ fn run<E: Drop, A: Copy, F: FnMut(E) -> A>(
         side.end(round);
         outcomes.push(Outcome { answer, late }).expect(rt, "memory");
     }
-    // Here a thread is found that never ends its last round.
+    // Fails if the other thread never ends its last round.
     side.meet(rt, u64::MAX);
     outcomes
 }
 
-/// What both sides answer in each round. Each makes its call on a thread of its own, with what it has in
-/// that round. Fails where a call lasts for seconds.
+/// What both sides return in each round. Each makes its call on a thread of its own, with its value for
+/// that round. Fails if a call lasts for seconds.
 pub(super) fn race<
     R: Threads + Abort + Clock + Sync,
     S: Send + Drop,

@@ -1,4 +1,4 @@
-//! The uses of a receiver, each of which ends it.
+//! The uses of a receiver, each of which consumes it.
 
 use super::answers::Silence;
 use super::waits::{pass_time, patience};
@@ -10,7 +10,7 @@ use std::time::{Clock, Instant};
 
 /// A use of a receiver.
 pub(super) trait Receives {
-    /// The message, or why there is none. The receiver is gone then.
+    /// Uses up `receiver`, and returns the message, or why there is none.
     fn receive<T: Drop, Rt: Wait + Clock + Drop>(
         &self,
         receiver: Receiver<T, Rt>,
@@ -26,7 +26,7 @@ pub(super) struct Recv;
 /// `recv_ref`.
 pub(super) struct RecvRef;
 
-/// `recv_timeout` with ten seconds.
+/// `recv_timeout` of ten seconds.
 pub(super) struct RecvTimeout;
 
 /// `recv_deadline`.
@@ -47,7 +47,7 @@ pub(super) struct PollUntil(pub(super) MockTask);
 #[derive(Drop)]
 pub(super) struct PollOnce(pub(super) MockTask);
 
-// More looks than a sender needs that is about to act: some ten seconds of them.
+// More looks than are made before the sender acts: some ten seconds of them.
 const LOOKS: u64 = 20_000_000;
 
 impl From<RecvError> for Silence {

@@ -1,4 +1,4 @@
-//! Requests that are answered, or not, beside their tickets: replies that come, and those that do not.
+//! Requests that are answered or dropped beside their tickets, and which replies come.
 
 use super::answers::Outcome;
 use super::races::race;
@@ -13,15 +13,15 @@ use std::time::Duration;
 /// The rounds of a test.
 const ROUNDS: u64 = 1_000;
 
-/// More than it takes the other thread to drop a ticket.
+/// More looks than are made while the other thread drops a ticket.
 const SPINS: u64 = 100_000_000;
 
 type Asking = Request<String, Length>;
 
-/// What a reply says: the number that is its text, and how many bytes that has.
+/// What a reply contains: its question's text as a number, and the length of the text in bytes.
 type Told = (u64, usize);
 
-/// A request and a ticket for each round, in one order. The text is the number of the round.
+/// Makes a request and a ticket for each round, in the same order. The text is the round's number.
 fn ask_all<'r, R: AllocGlobal>(
     rt: &'r R,
 ) -> Result<(Vec<Asking>, Vec<Ticket<String, Length, &'r R>>), AllocError> {
@@ -36,13 +36,13 @@ fn ask_all<'r, R: AllocGlobal>(
     Ok((requests, tickets))
 }
 
-/// What a reply says.
+/// What a reply contains.
 fn told(rt: &impl Abort, length: &Length) -> Told {
     let number = length.question().as_str().parse::<u64>();
     (number.ok().expect(rt, "a number"), length.bytes())
 }
 
-/// Answers with the length of the text. `Err`: what the reply says, which came back.
+/// Answers with the length of the text. `Err`: what the reply contains, which came back.
 fn answer(rt: &impl Abort, request: Asking) -> Result<(), Told> {
     let length = Length::of(request.question().clone().ok().expect(rt, "memory"));
     if !request.fits(&length) {
@@ -65,7 +65,7 @@ fn answer_late(rt: &impl Abort, request: Asking) -> Result<(), Told> {
     answer(rt, request)
 }
 
-/// Fails unless each round told of its own number, in as many bytes as that has digits.
+/// Fails unless each round's reply has the round's number, and as many bytes as that has digits.
 fn assert_own<A: Copy, F: Fn(A) -> Option<Told>>(rt: &impl Abort, outcomes: &[Outcome<A>], said: F)
     requires { F.IsAlwaysCallable said }
 {

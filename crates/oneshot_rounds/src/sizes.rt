@@ -16,7 +16,7 @@ use std::time::{Clock, Instant};
 
 const ROUNDS: u64 = 100;
 
-// Fails unless the message comes in each round.
+// Fails unless `message` comes in each round.
 fn assert_comes<
     R: Threads + Wait + Abort + Clock + AllocGlobal + Sync,
     T: Copy + Debug + PartialEq + Send + Sync,

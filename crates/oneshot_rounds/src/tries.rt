@@ -1,5 +1,5 @@
-//! One `try_recv` of a future that has left a copy of its task's waker, beside a `send` of 999 and beside
-//! the sender's drop. Where it finds nothing, the copy stays, and the sender wakes the task.
+//! One `try_recv` of a future that has left a copy of its task's waker, beside a `send` of 999 or the
+//! sender's drop. If it finds nothing, the copy stays, and the sender wakes the task.
 
 use super::answers::Silence::{Disconnected, NothingYet};
 use super::answers::{Outcome, Silence, assert_answers, assert_both_orders};
@@ -35,7 +35,7 @@ impl<Rt: Drop> Waiting<Rt> {
     }
 }
 
-/// So many channels, whose futures a task each has polled once.
+/// Makes `ROUNDS` channels of futures, each polled once by a task of its own.
 fn waiting_channels<R: AllocGlobal + RandomSource + Abort>(
     rt: &R,
 ) -> Result<(Vec<Sender<Counted>>, Vec<Waiting<&R>>), Fail> {
@@ -53,8 +53,8 @@ fn waiting_channels<R: AllocGlobal + RandomSource + Abort>(
     Ok((senders, receivers))
 }
 
-/// Fails unless each task was woken, and gets this where its `try_recv` found nothing yet. Any other
-/// `try_recv` leaves nothing.
+/// Fails unless each task was woken, and its next poll returns `left` after a `try_recv` that found nothing
+/// yet, and `Disconnected` after any other.
 fn assert_woken<Rt: Drop>(
     rt: &impl Abort,
     receivers: Vec<Waiting<Rt>>,

@@ -12,8 +12,8 @@ use std::time::{Clock, Duration, Instant};
 
 const ROUNDS: u64 = 1_000;
 
-// Receives, and fails if that takes half of the time that it may take. A receiver that is not woken finds
-// its message when the time is over.
+// Receives, and fails if that takes half of the timeout. A receiver that is not woken finds its message
+// when the time is over.
 fn receive_soon<R: Wait + Clock + Abort>(
     rt: &R,
     mut receiver: Receiver<u64, &R>,

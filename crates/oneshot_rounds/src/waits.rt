@@ -4,12 +4,12 @@ use std::hint::spin_loop;
 use std::thread::{sleep, yield_now};
 use std::time::{Clock, Duration};
 
-/// The longest wait of a receive that waits by itself.
+/// The longest wait of a receive that blocks until a deadline.
 pub(super) fn patience() -> Duration {
     Duration::from_secs(10)
 }
 
-/// Looks that are made one after the other, before those that let another thread run first.
+/// How many looks are made without a yield, before those that yield first.
 const QUICK_LOOKS: u64 = 100;
 
 /// Passes the time between two looks for a message.
@@ -21,7 +21,7 @@ pub(super) fn pass_time(looks: u64) {
     }
 }
 
-/// How often a thread looks for the other at a line: at once, then with a yield, and then with a sleep.
+/// How often a thread looks for the other at a line: at first it spins, then yields, then sleeps in between.
 /// The sleeps take some five seconds, less than the wait of a receive that nobody wakes.
 pub(super) const LINE_LOOKS: u64 = 105_000;
 

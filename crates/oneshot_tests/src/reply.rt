@@ -1,4 +1,4 @@
-//! Requests, their tickets and the replies, of which each answers the ticket's own question.
+//! Requests, tickets and replies, each of which answers its ticket's own question.
 
 mod leaks;
 mod sizes;
@@ -23,7 +23,7 @@ fn ask<Rt: Drop>(rt: Rt, alloc: Global) -> Result<Ends<Rt>, AllocError> {
     request(rt, alloc, String::from_str(alloc, TEXT)?).map_err(|_| AllocError)
 }
 
-/// Counts the bytes of the text and answers so. `Err`: the ticket was gone, and the reply came back.
+/// Answers with the length of the text. Inner `Err`: the ticket was gone, and the reply came back.
 fn answer(request: Request<String, Length>) -> Result<Result<(), Length>, AllocError> {
     let length = Length::of(request.question().clone()?);
     if !request.fits(&length) {

@@ -1,4 +1,4 @@
-//! What is read, and what is refused.
+//! Tests of the arguments that are read and refused, and of the text of each fault.
 
 use crate::command::{Command, parse_command, parse_count};
 use crate::fault::Fault;

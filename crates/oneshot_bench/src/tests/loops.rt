@@ -1,4 +1,4 @@
-//! That each loop does what its name says, and tells a message that is lost.
+//! Tests that each loop does what its name says, and reports a lost message.
 
 use crossbeam_channel::bounded;
 use futures::channel::oneshot::channel as futures_channel;
@@ -20,7 +20,7 @@ use std::io;
 use std::test::Fail;
 use std::time::{Clock, Duration};
 
-/// What so many rounds do that each do what `round` has.
+/// The tally of `count` rounds, each of which does what `round` counts.
 fn tally_of(count: u64, round: Tally) -> Tally {
     Tally {
         channels: count.wrapping_mul(round.channels),
@@ -32,7 +32,7 @@ fn tally_of(count: u64, round: Tally) -> Tally {
     }
 }
 
-/// What a round does that makes a channel for this many bytes and drops it.
+/// The tally of a round that makes a channel for this many bytes and drops it.
 fn made(bytes: u64) -> Tally {
     Tally {
         channels: 1,
@@ -41,7 +41,7 @@ fn made(bytes: u64) -> Tally {
     }
 }
 
-/// What a round does besides that receives its message by `try_recv`.
+/// The tally of a round that also receives its message by `try_recv`.
 fn tried(bytes: u64) -> Tally {
     Tally {
         tried: 1,
@@ -49,7 +49,7 @@ fn tried(bytes: u64) -> Tally {
     }
 }
 
-/// What a round does besides that receives its message by `recv`.
+/// The tally of a round that also receives its message by `recv`.
 fn waited(bytes: u64) -> Tally {
     Tally {
         waited: 1,
@@ -57,7 +57,7 @@ fn waited(bytes: u64) -> Tally {
     }
 }
 
-/// What a round does besides that polls, and receives its message by another poll.
+/// The tally of a round that also polls, and receives its message by another poll.
 fn polled(bytes: u64) -> Tally {
     Tally {
         pended: 1,
@@ -66,7 +66,7 @@ fn polled(bytes: u64) -> Tally {
     }
 }
 
-/// What a round does besides that awaits its message, which is there.
+/// The tally of a round that also awaits its message, which has been sent.
 fn awaited(bytes: u64) -> Tally {
     Tally {
         polled: 1,
@@ -74,7 +74,7 @@ fn awaited(bytes: u64) -> Tally {
     }
 }
 
-/// The loops of this repository's channel and of the kit's whose receivers are futures.
+/// The channels whose receivers are futures.
 const OF_FUTURES: [Channel; 2] = [Channel::Oneshot, Channel::Futures];
 
 #[test]
@@ -144,7 +144,7 @@ fn a_future_that_is_ready_is_not_pending(rt: HostRuntime) -> Result<(), Fail> {
     Ok(())
 }
 
-/// A round that polls until a future is no longer pending.
+/// A round that polls a future that is ready.
 #[derive(Drop)]
 struct PolledOnceTooOften;
 
@@ -251,7 +251,7 @@ fn a_channel_refuses_a_loop_that_it_has_no_call_for(rt: HostRuntime) {
     }
 }
 
-// Two channels a round trip, and over each of them a message that was waited for.
+// A round trip makes two channels, and blocks for the message of each.
 #[test]
 fn each_round_trip_is_made(rt: HostRuntime) -> Result<(), Fail> {
     for channel in [Channel::Oneshot, Channel::Crossbeam] {
@@ -266,7 +266,7 @@ fn each_round_trip_is_made(rt: HostRuntime) -> Result<(), Fail> {
     Ok(())
 }
 
-/// A clock that work moves.
+/// A clock that the test sets.
 #[derive(Drop)]
 struct Moved {
     nanoseconds: Cell<u64>,
@@ -367,7 +367,7 @@ fn a_crossbeam_request_that_never_comes_is_lost(rt: HostRuntime) -> Result<(), F
     Ok(())
 }
 
-/// A round that is lost once two were made.
+/// A round whose message is lost once two rounds were made.
 #[derive(Drop)]
 struct LostAtTheThird;
 

@@ -1,4 +1,4 @@
-//! A receiver over a ground in memory, as a list of what it and its sender do.
+//! A receiver over a ground in memory, driven by a list of what it and its sender do.
 
 ghost use Rattle.oneshot_machine.specs.Logs.{receiver_of};
 ghost use Rattle.oneshot_drive.specs.BetweenCalls.{AtRest, IsReady};
@@ -10,18 +10,18 @@ use oneshot_memory::MemoryReceiver;
 use std::alloc::{AllocError, Global};
 use std::sync::Wait;
 
-/// What happens beside a receiver, or what it does.
+/// What a receiver does, or what happens beside it.
 #[derive(Clone, Copy)]
 pub(crate) enum Deed {
     /// The sender sends 7.
     Sends,
     /// The sender is dropped.
     Goes,
-    /// The sender is to send 7 once the receiver made so many pauses, and then to linger for so many.
+    /// The sender will send 7 after this many pauses of the receiver, and linger for this many.
     WillSend(u64, u64),
-    /// The sender is to be dropped then.
+    /// The sender will be dropped then.
     WillGo(u64, u64),
-    /// The deadline is to be over once the clock was read so often; it is over at once if this is left out.
+    /// The deadline will be over after this many readings of the clock. Without this deed it is over at once.
     OverAfter(u64),
     TryRecv,
     RecvRef,
@@ -40,7 +40,7 @@ pub(crate) enum Last {
 /// What came of a list of deeds.
 #[derive(Drop)]
 pub(crate) struct Outcome {
-    /// The answers in their order.
+    /// The answers in order.
     pub(crate) answers: String,
     /// What is in the receiver's hand, which begins with 9.
     pub(crate) hand: Option<u8>,
@@ -48,7 +48,7 @@ pub(crate) struct Outcome {
     pub(crate) steps: String,
 }
 
-/// Does the deeds with a new receiver, and then the last.
+/// Does `deeds` with a new receiver, and then `last`.
 pub(crate) fn outcome_of<R: Wait>(
     rt: &R,
     alloc: Global,
@@ -75,7 +75,7 @@ pub(crate) fn outcome_of<R: Wait>(
     })
 }
 
-/// What a deed answers.
+/// What a deed returns.
 #[derive(Drop)]
 enum Answer {
     Nothing,

@@ -1,4 +1,4 @@
-//! The calls of a future over a ground in memory: what becomes of the copies of a waker, and how often its
+//! The calls of a future over a ground in memory: what becomes of the copies of a waker, and how often the
 //! task is woken.
 
 use crate::drive::steps::steps_of;
@@ -9,7 +9,7 @@ use oneshot_errors::{RecvError, TryRecvError};
 use oneshot_memory::{MemoryFuture, MemoryTask};
 use std::test::Fail;
 
-/// The copies that were made of its waker, those that ended, and its wakes.
+/// How many copies of the task's waker were made, how many ended, and the task's wakes.
 fn counts(task: &MemoryTask) -> (u64, u64, u64) {
     (task.copies(), task.ended(), task.wakes())
 }
@@ -153,7 +153,7 @@ fn a_future_that_was_not_polled_finds_3_4_and_2(rt: HostRuntime) -> Result<(), F
     Ok(())
 }
 
-// The copy stays in its slot over 0, or the sender would wake nobody.
+// The copy stays in its slot while the word is 0, or the sender would wake nobody.
 #[test]
 fn a_look_leaves_the_copy_in_its_slot(rt: HostRuntime) -> Result<(), Fail> {
     let task = MemoryTask::new();
@@ -174,7 +174,7 @@ fn a_look_leaves_the_copy_in_its_slot(rt: HostRuntime) -> Result<(), Fail> {
     Ok(())
 }
 
-// The sender lingers for three pauses: the exchange of the second poll finds it, and so do both first looks.
+// The sender lingers for three pauses: the second poll's exchange and the first two `try_recv` find it.
 #[test]
 fn a_look_does_not_wait_for_a_sender_about_to_finish(rt: HostRuntime) -> Result<(), Fail> {
     let task = MemoryTask::new();
@@ -197,7 +197,7 @@ fn a_look_does_not_wait_for_a_sender_about_to_finish(rt: HostRuntime) -> Result<
     Ok(())
 }
 
-// The sender stops between its two operations. Each poll makes one load, and wakes its task.
+// The sender stops between its two operations. Each poll performs one load, and wakes its task.
 #[test]
 fn no_poll_takes_longer_because_the_sender_is_between_its_two_swaps(
     rt: HostRuntime,
@@ -237,7 +237,7 @@ fn a_poll_meets_the_sender_once_it_has_finished(rt: HostRuntime) {
     assert!(rt; matches!(&poll(&mut g), Poll::Ready(Ok(7))));
 }
 
-// A sender about to finish has the copy, and uses it once. It frees the block, and the future does not.
+// A sender about to finish has the copy, and uses it once. The sender frees the block, not the future.
 #[test]
 fn a_future_that_finds_1_leaves_its_copy_to_the_sender(rt: HostRuntime) -> Result<(), Fail> {
     let task = MemoryTask::new();
@@ -257,7 +257,7 @@ fn a_future_that_finds_1_leaves_its_copy_to_the_sender(rt: HostRuntime) -> Resul
     Ok(())
 }
 
-// The sender begins between the load of the drop and its exchange.
+// The sender begins between the drop's load and its exchange.
 #[test]
 fn a_future_whose_exchange_finds_1_leaves_its_copy_to_the_sender(
     rt: HostRuntime,
@@ -278,7 +278,7 @@ fn a_future_whose_exchange_finds_1_leaves_its_copy_to_the_sender(
     Ok(())
 }
 
-// The sender finishes between the load of the drop and its exchange, and wakes the task.
+// The sender finishes between the drop's load and its exchange, and wakes the task.
 #[test]
 fn a_future_whose_exchange_finds_the_message_drops_it(rt: HostRuntime) -> Result<(), Fail> {
     let task = MemoryTask::new();

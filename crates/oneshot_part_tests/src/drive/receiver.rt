@@ -1,4 +1,4 @@
-//! The receiver's drivers, by what its sender does meanwhile.
+//! The receiver's drivers, with what the sender does meanwhile.
 
 use crate::drive::deeds::Deed::{
     Goes, OverAfter, RecvDeadline, RecvRef, RecvTimeout, Sends, TryRecv, WillGo, WillSend,
@@ -9,7 +9,7 @@ use std::process::Abort;
 use std::sync::Wait;
 use std::test::Fail;
 
-/// Deeds and the last one; and then the answers, the hand and the steps.
+/// The deeds and the last one; then the answers, the hand and the steps.
 type Case = (
     &'static [Deed],
     Last,
@@ -105,7 +105,7 @@ const WAITS_BY_REFERENCE: &[Case] = &[
         None,
         "load:3, write-waker, swap 0:3, park:woken, load:2",
     ),
-    // The swap finds that the sender acted before, and the waker is withdrawn.
+    // The swap finds that the sender has acted, and the receiver withdraws its waker.
     (
         &[WillSend(0, 0), RecvRef],
         Last::Stays,
@@ -268,7 +268,7 @@ const DEADLINES_THAT_COME_TOO_LATE: &[Case] = &[
         None,
         "load:3, write-waker, swap 0:3, clock:over, swap 3:2, store 2, load:2",
     ),
-    // The sender is about to finish, and is waited for.
+    // The sender is about to finish, and the receiver waits for it.
     (
         &[WillSend(1, 2), RecvDeadline],
         Last::Stays,
@@ -345,7 +345,7 @@ const TIMEOUTS: &[Case] = &[
         Some(9),
         "clock:left, load:3, write-waker, swap 0:3, clock:over, swap 3:0, withdraw",
     ),
-    // No instant holds the sum, so that it waits without end.
+    // No instant can hold the sum, so the receiver waits without a deadline.
     (
         &[WillSend(3, 0), RecvTimeout(false)],
         Last::Stays,

@@ -1,4 +1,4 @@
-//! The sender's drivers, by whether its receiver is here, waits or is gone.
+//! The sender's drivers, with a receiver that is here, waits or is gone.
 
 ghost use Rattle.oneshot_drive.specs.BetweenCalls.{IsFresh};
 
@@ -16,7 +16,7 @@ enum Receiver {
     Here,
     Gone,
     Waits,
-    /// It waits, and its deadline is over before the sender finishes.
+    /// It waits, and its deadline passes before the sender finishes.
     Stops,
     /// It is a future that waits, and is dropped before the sender finishes.
     Leaves,

@@ -1,11 +1,11 @@
-//! The steps of a ground in memory as a line of text.
+//! Writes the steps of a ground in memory as a line of text.
 
 use oneshot_machine::machine::{Seen, Step};
 use oneshot_machine::states::Op;
 use oneshot_memory::Event;
 use std::alloc::{AllocError, Global};
 
-/// The steps, parted by commas, each with what it saw.
+/// The steps, separated by commas, each with what it saw.
 pub(crate) fn steps_of<T, W>(alloc: Global, events: &[Event<T, W>]) -> Result<String, AllocError> {
     let mut text = String::new(alloc);
     for event in events {

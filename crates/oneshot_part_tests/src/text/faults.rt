@@ -1,4 +1,4 @@
-//! Each fault of a text, alone.
+//! Texts with one fault, for each fault.
 
 use crate::text::{Case, assert_faults};
 use std::test::Fail;

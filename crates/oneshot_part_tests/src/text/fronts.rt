@@ -1,4 +1,4 @@
-//! Fronts of texts that ask for a run.
+//! Prefixes of texts that ask for a run.
 
 use crate::text::{Case, assert_faults};
 use std::test::Fail;

@@ -1,4 +1,4 @@
-//! Texts with two faults: the first one is told.
+//! Texts with two faults: the first is reported.
 
 use crate::text::{Case, assert_faults};
 use std::test::Fail;

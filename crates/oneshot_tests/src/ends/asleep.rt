@@ -1,4 +1,4 @@
-//! A receive that waits sleeps: it uses little of its thread's processor time, however long it waits.
+//! A receive that waits sleeps: it uses little processor time, however long it waits.
 
 use futures::executor::block_on;
 use oneshot_channel::{Receiver, channel};
@@ -14,19 +14,19 @@ use std::time::{Clock, CpuClock, Duration, Instant};
 /// How many milliseconds the sender lets the receiver wait.
 const LONG: u64 = 200;
 
-/// How many milliseconds of processor time are few: a tenth of the wait. A receive that waits busily uses more, also
-/// where it shares a processor with some others.
+/// How many milliseconds of processor time are little: a tenth of the wait. A busy wait uses more, even on
+/// a processor that it shares with a few others.
 const FEW: u64 = 20;
 
 /// How many milliseconds a short wait lasts.
 const SHORT: u64 = 10;
 
-/// How often a receive waits so short.
+/// How many short waits are measured.
 const WAITS: u32 = 40;
 
-/// How many yields are measured. A receive that waits so short uses less of its processor than they do where its
-/// deadline is near, since it does not spin; and less than three times that where it spins before it sleeps. For it
-/// spins seventeen times, and of these spins only the first is a yield.
+/// How many yields are measured. A short wait with a near deadline does not spin, and uses less processor
+/// time than they do. Any other uses less than three times as much: it spins seventeen times before it
+/// sleeps, and only its first spin yields.
 const YIELDS: u32 = 500;
 
 /// A receive that waits.
@@ -53,7 +53,7 @@ fn received<T: Drop, Rt: Wait + Clock + Drop>(
     })
 }
 
-/// What this receive gets from a sender that lingers for so many milliseconds, and the processor time of its thread.
+/// What a receive gets from a sender that sleeps for `lingers` milliseconds, and its processor time.
 fn time_of<R: Threads + Wait + Clock + CpuClock + RandomSource + AllocGlobal + Abort + Sync>(
     rt: &R,
     by: Receive,
@@ -69,7 +69,7 @@ fn time_of<R: Threads + Wait + Clock + CpuClock + RandomSource + AllocGlobal + A
         },
         || {
             sleep(rt, Duration::from_millis(lingers));
-            // It is refused where the receive ran out.
+            // Refused if the receive timed out.
             sender.send(19).is_ok()
         },
     );
@@ -89,7 +89,7 @@ fn a_receive_that_waits_uses_little_processor_time(rt: HostRuntime) -> Result<()
         Receive::RecvRef,
         Receive::RecvDeadline(in_an_hour(&rt)?),
         Receive::RecvTimeout(Duration::from_secs(3_600)),
-        // No instant can hold its end.
+        // No instant is that late.
         Receive::RecvTimeout(Duration::MAX),
         Receive::BlockOn,
     ];
@@ -101,7 +101,7 @@ fn a_receive_that_waits_uses_little_processor_time(rt: HostRuntime) -> Result<()
     Ok(())
 }
 
-/// The processor time of so many yields.
+/// The processor time of `YIELDS` yields.
 fn time_of_yields(rt: &impl CpuClock) -> io::Result<Duration> {
     let before = rt.thread_cpu_time()?;
     for _ in 0..YIELDS {
@@ -117,7 +117,7 @@ fn a_receive_spins_little_before_it_sleeps(rt: HostRuntime) -> Result<(), Fail> 
         (Receive::RecvRef, 3),
         (Receive::RecvDeadline(in_an_hour(&rt)?), 3),
         (Receive::RecvTimeout(Duration::from_secs(3_600)), 3),
-        // It mostly runs out before the sender sends.
+        // It mostly times out before the sender sends.
         (Receive::RecvTimeout(Duration::from_micros(100)), 1),
     ];
     for (by, times) in receives {
@@ -129,7 +129,7 @@ fn a_receive_spins_little_before_it_sleeps(rt: HostRuntime) -> Result<(), Fail> 
                 spinning = spinning.saturating_add(1);
             }
         }
-        // In a few of the waits other programs may have had the processor.
+        // Other programs may have disturbed a few of the waits.
         assert!(rt; spinning < WAITS / 2, "{by:?} spun in {spinning} waits");
     }
     Ok(())

@@ -1,4 +1,4 @@
-//! Receives by a clock that answers what the test wrote down, and fails afterwards.
+//! Receives by clocks that return written readings, count them, or have the sender act at one.
 
 use oneshot_asserts::assert_same;
 use oneshot_channel::{Receiver, RecvTimeoutError, Sender, channel};
@@ -9,7 +9,7 @@ use std::sync::Wait;
 use std::test::Fail;
 use std::time::{Clock, Duration, Instant};
 
-/// A runtime whose clock reads so many nanoseconds, one after the other, and then fails.
+/// A runtime whose clock reads the given nanoseconds, one after the other, and then fails.
 #[derive(Drop)]
 pub(crate) struct Written<'a, R> {
     rt: &'a R,
@@ -56,14 +56,14 @@ fn by_clock<'w, 'a, R>(
     channel(clock, alloc)
 }
 
-// Five nanoseconds after the clock's start.
+// The instant five nanoseconds after a clock's start.
 pub(super) fn five(rt: &impl Wait) -> io::Result<Instant> {
     Instant::now(&Written::new(rt, &[5]))
 }
 
 #[test]
 fn an_instant_is_not_over_at_itself(rt: HostRuntime) -> Result<(), Fail> {
-    // Read at the deadline, by the park at the deadline, and a nanosecond past it.
+    // The turn and its park read the deadline itself, and the next turn a nanosecond past it.
     let clock = Written::new(&rt, &[5, 5, 6, 7]);
     let (_sender, mut receiver) = by_clock(&clock, rt.alloc())?;
     let received = receiver.recv_deadline(five(&rt)?);
@@ -74,8 +74,8 @@ fn an_instant_is_not_over_at_itself(rt: HostRuntime) -> Result<(), Fail> {
 
 #[test]
 fn each_turn_of_a_wait_parks(rt: HostRuntime) -> Result<(), Fail> {
-    // A turn reads the clock to ask whether the deadline is over, and a park until it reads that it is. So
-    // this clock goes back: a park that is left out leaves a reading past the deadline to the next turn.
+    // A turn reads the clock to see whether the deadline is past, and its park reads until it has come. This
+    // clock goes back after each park. Without a park, the next turn would find the deadline past.
     let clock = Written::new(&rt, &[1, 7, 2, 7, 3, 7, 6, 8]);
     let (_sender, mut receiver) = by_clock(&clock, rt.alloc())?;
     let received = receiver.recv_deadline(five(&rt)?);
@@ -96,7 +96,7 @@ fn a_later_instant_is_over_at_once(rt: HostRuntime) -> Result<(), Fail> {
 
 #[test]
 fn a_clock_that_fails_counts_as_past_the_deadline(rt: HostRuntime) -> Result<(), Fail> {
-    // It fails at once, in the park, or after it.
+    // The clock fails at once, in the park, or after it.
     let readings: [&[u64]; 3] = [&[], &[1], &[5, 5]];
     for written in readings {
         let clock = Written::new(&rt, written);
@@ -108,9 +108,9 @@ fn a_clock_that_fails_counts_as_past_the_deadline(rt: HostRuntime) -> Result<(),
     Ok(())
 }
 
-/// What a clock reads of which a receive waits for five nanoseconds, and how many readings that leaves. The sum
-/// is six, which is not past it, also not once the park has read it; seven is, and eight is not read. A reading
-/// that fails counts as past it.
+/// A clock's readings for a receive with a timeout of five nanoseconds, and how many the receive leaves. Its
+/// deadline is six. A reading of six is not past it, even after the park; seven is, and eight is not read. A
+/// failed reading counts as past it.
 pub(crate) const FIVE_NANOSECONDS: [(&[u64], usize); 4] = [
     (&[1, 7, 8], 1),
     (&[1, 6, 6, 7, 8], 1),
@@ -164,7 +164,7 @@ impl<'a, R: Clock> Clock for Counting<'a, R> {
     }
 }
 
-// A receive that waits busily reads the clock some ten thousand times in this while.
+// A busy wait would read the clock some ten thousand times in this time.
 #[test]
 fn a_receive_that_waits_reads_the_clock_few_times(rt: HostRuntime) -> Result<(), Fail> {
     let counting = Counting {
@@ -182,14 +182,14 @@ fn a_receive_that_waits_reads_the_clock_few_times(rt: HostRuntime) -> Result<(),
     Ok(())
 }
 
-/// How many times a receive reads its clock that waits until a deadline far away: before each of its seventeen
-/// spins, before it sleeps and in its sleep, and as that ends; and once for the sum.
+/// More readings than a receive with a far deadline makes: one for the sum, one before each of its
+/// seventeen spins, and a few before its sleep, in it and after it.
 const READINGS: u64 = 40;
 
-/// How many times one that does not spin reads it.
+/// More readings than a receive makes that does not spin.
 const SPINLESS: u64 = 10;
 
-// Before each spin it asks whether its deadline is over. So more spins show by more readings.
+// A receive reads its clock before each spin, so more spins show as more readings.
 #[test]
 fn a_receive_spins_few_times_before_it_sleeps(rt: HostRuntime) -> Result<(), Fail> {
     let counting = Counting {
@@ -201,8 +201,8 @@ fn a_receive_spins_few_times_before_it_sleeps(rt: HostRuntime) -> Result<(), Fai
     assert_same(&rt, received, Err(RecvTimeoutError::Timeout));
     assert!(rt; counting.readings.get() < READINGS);
     counting.readings.set(0);
-    // Where less than a tenth of a second is left it does not spin: it reads the clock for the sum, before it
-    // sleeps, twice in its sleep, and after.
+    // With less than a tenth of a second left it does not spin: it reads the clock for the sum, before its
+    // sleep, twice in it, and after it.
     let received = receiver.recv_timeout(Duration::from_millis(5));
     assert_same(&rt, received, Err(RecvTimeoutError::Timeout));
     assert!(rt; counting.readings.get() < SPINLESS);
@@ -216,7 +216,7 @@ pub(super) enum Act {
     Go(Sender<u8>),
 }
 
-/// A runtime whose clock reads an hour, and at whose first reading the sender acts.
+/// A runtime whose clock always reads an hour. At its next reading the sender acts.
 #[derive(Drop)]
 pub(super) struct Meanwhile<'a, R> {
     rt: &'a R,
@@ -231,7 +231,7 @@ impl<'a, R> Meanwhile<'a, R> {
         }
     }
 
-    // What the sender does at the next reading.
+    // Sets what the sender does at the next reading.
     pub(super) fn will(&self, act: Act) {
         self.act.set(Some(act));
     }
@@ -256,7 +256,7 @@ impl<'a, R> Clock for Meanwhile<'a, R> {
     }
 }
 
-// The receiver finds what the sender left by the swap that was to end its wait.
+// The receiver finds what the sender left when it swaps the word to end its wait.
 #[test]
 fn what_comes_at_the_deadline_is_found(rt: HostRuntime) -> Result<(), Fail> {
     let clock = Meanwhile::new(&rt);

@@ -1,4 +1,4 @@
-//! Receives with a deadline or a timeout, alone and against a sender on another thread.
+//! Receives with a deadline or a timeout, alone and with a sender on another thread.
 
 use oneshot_asserts::assert_same;
 use oneshot_channel::{Receiver, RecvError, RecvTimeoutError, TryRecvError, channel};
@@ -9,20 +9,20 @@ use std::test::Fail;
 use std::thread::{join, sleep};
 use std::time::{Clock, Duration, Instant};
 
-// For each of the two timed receives.
+// The rounds of each of the two timed receives.
 const ROUNDS: u64 = 1_000;
 
 fn hour() -> Duration {
     Duration::from_secs(3_600)
 }
 
-// An instant so long from now.
+// The instant `duration` from now.
 fn later(rt: &(impl Clock + Abort), duration: Duration) -> io::Result<Instant> {
     let sum = Instant::now(rt)?.checked_add(duration);
     Ok(sum.expect(rt, "an instant can hold it"))
 }
 
-// Now, an hour before it, as far as the clock goes back, and an hour after it.
+// An hour ago (now, if the clock does not go back so far), now, and in an hour.
 fn around_now(rt: &(impl Clock + Abort)) -> io::Result<[Instant; 3]> {
     let now = Instant::now(rt)?;
     let past = now.checked_sub(hour()).unwrap_or(now);
@@ -106,7 +106,7 @@ fn a_deadline_that_runs_out_leaves_the_receiver_open(rt: HostRuntime) -> Result<
     assert!(rt; Instant::now(&rt)?.duration_since(start) > short);
     assert!(rt; !receiver.is_closed() && !sender.is_closed());
     assert_same(&rt, receiver.try_recv(), Err(TryRecvError::Empty));
-    // Its waker came back each time, so that it can wait again and be woken.
+    // It took its waker back each time, so it can wait again and be woken.
     let ((), received) = join(
         &rt,
         move || {
@@ -176,7 +176,7 @@ fn a_deadline_in_an_hour_waits_for_the_senders_drop(rt: HostRuntime) -> Result<(
     Ok(())
 }
 
-// What a receive of ten seconds answers, and whether it took less than five.
+// What a receive of at most ten seconds returns, and whether it took less than five.
 fn promptly<T: Drop, Rt: Wait + Clock + Drop>(
     rt: &impl Clock,
     receiver: &mut Receiver<T, Rt>,
@@ -211,8 +211,8 @@ fn two_threads_answer_each_other_promptly(rt: HostRuntime) -> Result<(), Fail> {
     Ok(())
 }
 
-// What a receiver gets that waits for one round's time, by a deadline in the even rounds and by a
-// timeout in the odd ones, and, where that ran out, what its next receive gets.
+// What a receiver gets within a round's time, by a deadline in even rounds and by a timeout in odd ones;
+// if that runs out, what its next receive gets.
 fn within<T: Drop, Rt: Wait + Clock + Drop>(
     rt: &(impl Clock + Abort),
     mut receiver: Receiver<T, Rt>,
@@ -231,7 +231,7 @@ fn within<T: Drop, Rt: Wait + Clock + Drop>(
     })
 }
 
-// Times about as long as the other thread lingers; which of them run out is left to chance.
+// A time about as long as the other thread sleeps: whether it runs out is left to chance.
 fn timeout_of(turn: u64) -> Duration {
     Duration::from_micros(turn % 120)
 }

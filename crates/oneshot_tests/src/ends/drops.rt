@@ -1,4 +1,4 @@
-//! A message that was received, and one that was never sent, is its holder's to drop; an `Arc` counts who holds it.
+//! A message that was received, or never sent, is dropped by its holder alone: an `Arc` counts.
 
 use oneshot_asserts::assert_same;
 use oneshot_channel::channel;

@@ -1,4 +1,4 @@
-//! Whatever way a channel ends, all that it owned is given back: the block, the parker and the runtime.
+//! However a channel ends, all that it owned is freed: the block, the parker and the runtime.
 
 use super::clocks::{Act, Meanwhile, five};
 use super::lives::{DROPPED, LIVES, Life, RAW, READY, TRIED, live};
@@ -14,13 +14,13 @@ use std::test::Fail;
 use std::time::{Clock, Duration};
 use std::{fs, io};
 
-/// The least that one leak a round takes in so many rounds is more than `MOST_PAGES`.
+/// How many rounds: even the smallest leak in each takes more than `MOST_PAGES`.
 const ROUNDS: u64 = 1_000_000;
 
-/// How many more pages a test may have at its end.
+/// How many pages a test may grow by.
 const MOST_PAGES: u64 = 128;
 
-/// Where the kernel tells a process of its own memory: its second number counts the pages in use.
+/// The kernel's file about a process's own memory. Its second number is the pages in use.
 const OWN_MEMORY: &str = concat!("/", "proc/self/statm");
 
 /// How many pages of memory the process has in use.
@@ -31,7 +31,7 @@ fn resident_pages(rt: &(impl Files + AllocGlobal)) -> io::Result<u64> {
     pages.ok_or(io::ErrorKind::InvalidData.into())
 }
 
-/// How many pages more the process has once it has run so many rounds.
+/// How many pages the process grows by in `rounds` rounds, after a tenth as many.
 fn growth<F: FnMut() -> io::Result<()>>(
     rt: &(impl Files + AllocGlobal),
     rounds: u64,
@@ -49,7 +49,7 @@ fn growth<F: FnMut() -> io::Result<()>>(
     Ok(resident_pages(rt)?.saturating_sub(before))
 }
 
-/// Whether this process has more memory only where more is in use. A sanitizer keeps what was freed.
+/// Whether this process reuses freed memory. Under a sanitizer it does not.
 fn frees_memory(rt: &(impl Files + AllocGlobal)) -> Result<bool, Fail> {
     let alloc = rt.alloc();
     let grown = growth(rt, ROUNDS, || {
@@ -59,7 +59,7 @@ fn frees_memory(rt: &(impl Files + AllocGlobal)) -> Result<bool, Fail> {
     Ok(grown <= MOST_PAGES)
 }
 
-/// Whether leaks can be seen here. Where they cannot, it prints that.
+/// Whether a leak would be seen in this process. Prints a line if not.
 fn compares_memory(rt: &(impl Files + Print + AllocGlobal)) -> Result<bool, Fail> {
     let compares = frees_memory(rt)?;
     if !compares {
@@ -68,7 +68,7 @@ fn compares_memory(rt: &(impl Files + Print + AllocGlobal)) -> Result<bool, Fail
     Ok(compares)
 }
 
-/// Fails if each of so many rounds keeps some memory.
+/// Fails if each round leaks some memory.
 pub(crate) fn assert_no_leak<F: FnMut() -> io::Result<()>>(
     rt: &(impl Files + Print + AllocGlobal + Abort),
     round: F,
@@ -82,7 +82,7 @@ pub(crate) fn assert_no_leak<F: FnMut() -> io::Result<()>>(
     Ok(())
 }
 
-/// Fails if a channel that lives one of these lives leaves some memory, each time.
+/// Fails if a channel leaks some memory each time that it lives one of these lives.
 fn assert_none_leaks(
     rt: &(impl Files + Print + Wait + Clock + AllocGlobal + RandomSource + Abort),
     lives: &[Life<'_>],
@@ -159,7 +159,7 @@ fn a_deadline_that_is_over_leaves_nothing(rt: HostRuntime) -> Result<(), Fail> {
     })
 }
 
-// The sender acts while the receiver waits, so that it takes the waker and wakes it.
+// The sender acts while the receiver waits, so it takes the waker and uses it.
 #[test]
 fn a_receiver_that_was_woken_leaves_nothing(rt: HostRuntime) -> Result<(), Fail> {
     let clock = Meanwhile::new(&rt);
@@ -195,7 +195,7 @@ fn raw_ends_leave_nothing(rt: HostRuntime) -> Result<(), Fail> {
     assert_none_leaks(&rt, RAW)
 }
 
-/// A runtime that is alive as long as its `Arc` is.
+/// A runtime with an `Arc`, whose count shows whether the runtime is alive.
 #[derive(Drop)]
 struct Counted<'a, R> {
     rt: &'a R,
@@ -240,7 +240,7 @@ fn the_runtime_is_dropped_with_the_receiver(rt: HostRuntime) -> Result<(), Fail>
     Ok(())
 }
 
-// The runtime is there as long as the receiver, whatever becomes of it.
+// The runtime lives as long as the receiver, whatever becomes of the receiver.
 #[test]
 fn the_runtime_is_dropped_with_a_receiver_of_each_life(rt: HostRuntime) -> Result<(), Fail> {
     let alive = Arc::new(rt.alloc(), 0u8)?;

@@ -1,4 +1,4 @@
-//! Lives of a channel as tables: what each step answers, and what the looks of both ends tell after it.
+//! Lives of a channel as tables: what each step returns, and what the looks of both ends return after it.
 
 use super::steps::Answer::{Disconnected, Done, NothingYet, Received, Refused, Sent};
 use super::steps::Look::{Closed, Full, Gone, Open};
@@ -16,10 +16,10 @@ use std::sync::Wait;
 use std::test::Fail;
 use std::time::Clock;
 
-/// The steps, each with its answer, and then the look of the sender and those of the receiver.
+/// The steps, each with its answer, and with the looks of the sender and of the receiver after it.
 pub(super) type Life<'a> = &'a [(Step, Answer, Look, Look)];
 
-/// A future that comes to its end.
+/// Futures that become ready.
 pub(super) const READY: &[Life<'static>] = &[
     &[
         (MakeAsync, Done, Open, Open),
@@ -49,7 +49,7 @@ pub(super) const READY: &[Life<'static>] = &[
     ],
 ];
 
-/// A future that is asked by `try_recv` before its polls, between them and after them.
+/// Futures with `try_recv` before their polls, between them and after them.
 pub(super) const TRIED: &[Life<'static>] = &[
     &[
         (MakeAsync, Done, Open, Open),
@@ -97,7 +97,7 @@ pub(super) const TRIED: &[Life<'static>] = &[
     ],
 ];
 
-/// A future that is dropped before.
+/// Futures that are dropped before they are ready.
 pub(super) const DROPPED: &[Life<'static>] = &[
     &[
         (MakeAsync, Done, Open, Open),
@@ -138,7 +138,7 @@ pub(super) const DROPPED: &[Life<'static>] = &[
     ],
 ];
 
-/// Ends that were opaque values.
+/// Ends that were raw for a while.
 pub(super) const RAW: &[Life<'static>] = &[
     &[
         (Make, Done, Open, Open),
@@ -167,7 +167,7 @@ pub(super) const RAW: &[Life<'static>] = &[
     ],
 ];
 
-/// A receiver that is no future. The word is that of one that waits only while `recv_timeout` is under way.
+/// Receivers that are no futures at first. Their word shows that they wait only during `recv_timeout`.
 const BLOCKING: &[Life<'static>] = &[
     &[
         (Make, Done, Open, Open),
@@ -204,8 +204,8 @@ const BLOCKING: &[Life<'static>] = &[
 /// Every life.
 pub(super) const LIVES: &[&[Life<'static>]] = &[READY, TRIED, DROPPED, RAW, BLOCKING];
 
-/// Makes the steps of a life, polls as a task of their own. The ends that are left are dropped. Fails unless
-/// each step answers what the life says.
+/// Makes the steps of a life, with a task of its own for polls, and drops the ends that are left. Fails
+/// unless each step returns what the life states.
 pub(super) fn live(
     rt: &(impl Wait + Clock + AllocGlobal + RandomSource + Abort),
     life: Life<'_>,

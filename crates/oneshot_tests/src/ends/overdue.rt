@@ -1,5 +1,5 @@
-//! Deadlines that end while the sender is in its send or its drop. Where the receiver is not woken then, or
-//! waits once more than it is woken, these tests do not end.
+//! Deadlines that pass during the sender's send or drop. After a lost wakeup, or with one wait more than
+//! wakes, these tests would not end.
 
 use oneshot_asserts::assert_same;
 use oneshot_channel::{Receiver, RecvError, RecvTimeoutError, channel};
@@ -13,19 +13,19 @@ use std::time::{Clock, Duration, Instant};
 
 const ROUNDS: u64 = 20_000;
 
-/// The rounds that a test makes however busy the machine is; one that cannot runs into its time limit.
+/// How many rounds a test makes even on a busy machine. If it cannot, it exceeds its time limit.
 const FEWEST_ROUNDS: u64 = 1_000;
 
-/// For so many seconds a test makes more rounds than the fewest.
+/// For how many seconds a test makes more than the fewest rounds.
 const SECONDS: u64 = 10;
 
-// More than it takes to start a thread.
+// More loads than a thread makes while another starts.
 const SPINS: u64 = 100_000_000;
 
-// As many loads as a thread makes that has a processor while the other one starts.
+// How many loads a running thread makes while the other starts.
 const QUICK: u64 = 20_000;
 
-/// Goes on once both threads are here. After a while it lets other threads run.
+/// Returns once both threads are here, or after `SPINS` loads. After `QUICK` loads it also yields.
 fn meet(here: &AtomicU64) {
     here.fetch_add(1, Ordering::SeqCst);
     for spin in 0..SPINS {
@@ -38,20 +38,20 @@ fn meet(here: &AtomicU64) {
     }
 }
 
-/// Whether the time is over in which a test makes its rounds, and it has made the fewest.
+/// Whether a test's time is over, and it has made the fewest rounds.
 fn is_enough(rt: &impl Clock, first: Instant, round: u64) -> io::Result<bool> {
     let is_late = first.elapsed(rt)? > Duration::from_secs(SECONDS);
     Ok(is_late && round >= FEWEST_ROUNDS)
 }
 
-/// Passes a little time without a wait: up to 400 loads.
+/// Spins for a little time: up to 399 loads.
 fn linger(here: &AtomicU64, round: u64) {
     for _ in 0..round % 400 {
         here.load(Ordering::SeqCst);
     }
 }
 
-/// What a receive gets whose deadline is up to six microseconds away, or the next one after it.
+/// What a receive gets with a deadline up to six microseconds away, or the next receive after that.
 fn just_in_time<T: Drop, Rt: Wait + Clock + Drop>(
     rt: &(impl Clock + Abort),
     mut receiver: Receiver<T, Rt>,

@@ -33,7 +33,7 @@ impl<'a, T: Drop, Rt: Drop> Future for Counted<'a, T, Rt> {
     }
 }
 
-/// A receiver that is polled so often by one executor, and is then given back.
+/// A future that polls a receiver once, and then returns it.
 #[derive(Drop)]
 struct Lent<T, Rt> {
     receiver: Option<AsyncReceiver<T, Rt>>,
@@ -72,8 +72,8 @@ fn a_send_of_another_thread_wakes_the_task(rt: HostRuntime) -> Result<(), Fail> 
     Ok(())
 }
 
-// A copy of a waker that the channel gives back is kept: a dropped one would wake its task, which would
-// poll both receivers without end.
+// A receiver keeps the copy of a waker that its channel gives back. Dropping it would wake the task, which
+// would poll both receivers without end.
 #[test]
 fn two_joined_receivers_are_polled_as_often_as_they_are_woken(rt: HostRuntime) -> Result<(), Fail> {
     let polls = AtomicU64::new(0);
@@ -118,7 +118,7 @@ fn a_sender_that_is_dropped_ends_the_wait(rt: HostRuntime) -> Result<(), Fail> {
     Ok(())
 }
 
-/// Polls a receiver once on another thread, and has it back.
+/// Polls a receiver once on another thread, and returns it.
 fn polled_there<T: Send + Drop, Rt: Send + Drop>(
     rt: &(impl thread::Threads + Wait + RandomSource + AllocGlobal + Sync),
     receiver: AsyncReceiver<T, Rt>,

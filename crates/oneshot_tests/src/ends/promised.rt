@@ -1,4 +1,4 @@
-//! Channels under a promise, made with ample memory, and what they leave.
+//! Channels under a promise: what they carry and refuse, and that they leak nothing.
 
 ghost use Rattle.std.specs.Prelude.{◌≡◌};
 
@@ -13,7 +13,7 @@ use std::sync::Wait;
 use std::test::Fail;
 use std::time::Clock;
 
-// The one number that the messages of a channel may be.
+// The promise that each message is this number.
 #[derive(Drop)]
 struct Only(u32);
 

@@ -1,4 +1,4 @@
-//! The ends as opaque values: made of an end, made an end again, moved between threads, and dropped.
+//! Raw ends: made from an end, made into an end again, moved between threads, and dropped.
 
 use oneshot_asserts::assert_same;
 use oneshot_channel::{RawReceiver, RawSender, Receiver, RecvError, Sender, TryRecvError, channel};
@@ -66,13 +66,13 @@ fn a_dropped_raw_sender_wakes_its_receiver(rt: HostRuntime) -> Result<(), Fail> 
     Ok(())
 }
 
-// Gives a value to another thread, which gives it back.
+// Moves a value to another thread, which returns it.
 fn there_and_back<A: Send + Drop>(rt: &impl Threads, value: A) -> A {
     let (value, ()) = join(rt, move || value, || ());
     value
 }
 
-// Both ends are sent whatever they carry.
+// Moves both raw ends to another thread and back, whatever they carry.
 fn both_there_and_back<T: Send + Drop, Rt: Send + Drop>(
     rt: &impl Threads,
     sender: RawSender<T>,

@@ -1,4 +1,4 @@
-//! The texts of an error that has a refused message.
+//! The texts of the error that carries a refused message.
 
 use oneshot_asserts::assert_same;
 use oneshot_channel::channel;

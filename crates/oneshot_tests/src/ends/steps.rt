@@ -1,4 +1,4 @@
-//! The steps that a test makes with both ends of one channel, and what each answers.
+//! The steps that a test makes with both ends of one channel, and what each returns.
 
 use futures::task::Poll;
 use futures::test::MockTask;
@@ -41,26 +41,26 @@ pub(super) enum Step {
     DropRawReceiver,
 }
 
-/// What a step answers.
+/// What a step returns.
 #[derive(Clone, Copy, Debug, Eq, PartialEq)]
 pub(super) enum Answer {
-    /// It has no answer.
+    /// Nothing.
     Done,
     /// The message was sent.
     Sent,
     /// The message came back.
     Refused,
-    /// 19.
+    /// The message, 19.
     Received,
     /// `Empty`, `Timeout` or `Pending`.
     NothingYet,
-    /// That none will come.
+    /// `Disconnected` or `RecvError`.
     Disconnected,
-    /// The end is gone or was made before, or the number was another.
+    /// The end is gone or was made before, or the message is not 19.
     Wrong,
 }
 
-/// What an end's looks tell.
+/// What an end's looks return.
 #[derive(Clone, Copy, Debug, Eq, PartialEq)]
 pub(super) enum Look {
     /// The end is gone.
@@ -75,11 +75,11 @@ pub(super) enum Look {
     Both,
 }
 
-/// Both ends of one channel, with a message that owns memory. The receiver is one that blocks, or a future.
+/// Both ends of a channel whose message owns memory. The receiver is a `Receiver` or a future.
 #[derive(Drop)]
 pub(super) struct Ends<Rt> {
     alloc: Global,
-    // The receiver's runtime, until it is made.
+    // The receiver's runtime, until the receiver is made.
     rt: Option<Rt>,
     sender: Option<Sender<Box<u64>>>,
     receiver: Option<Receiver<Box<u64>, Rt>>,
@@ -128,7 +128,7 @@ fn look_of(is_closed: bool, has_message: bool) -> Look {
 }
 
 impl<Rt: Wait + Clock + Drop> Ends<Rt> {
-    /// Before either end is made.
+    /// Neither end is made yet.
     pub(super) fn new(alloc: Global, rt: Rt) -> Ends<Rt> {
         Ends {
             alloc,
@@ -139,7 +139,7 @@ impl<Rt: Wait + Clock + Drop> Ends<Rt> {
         }
     }
 
-    /// Makes the step, a poll as this task.
+    /// Makes the step. `task` makes a poll.
     pub(super) fn make(&mut self, task: &MockTask, step: Step) -> Result<Answer, AllocError> {
         match step {
             Step::Make => return self.open(),
@@ -225,7 +225,7 @@ impl<Rt: Wait + Clock + Drop> Ends<Rt> {
         }
     }
 
-    /// What the sender's look tells.
+    /// What the sender's look returns.
     pub(super) fn sender_look(&self) -> Look {
         match &self.sender {
             Some(sender) => look_of(sender.is_closed(), false),
@@ -233,7 +233,7 @@ impl<Rt: Wait + Clock + Drop> Ends<Rt> {
         }
     }
 
-    /// What the looks of the receiver tell, or those of the future.
+    /// What the looks of the receiver or the future return.
     pub(super) fn receiver_look(&self) -> Look {
         match (&self.receiver, &self.future) {
             (Some(receiver), _) => look_of(receiver.is_closed(), receiver.has_message()),

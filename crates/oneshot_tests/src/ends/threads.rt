@@ -10,7 +10,7 @@ const ROUNDS: u64 = 1_000;
 
 const TRIES: u64 = 1_000_000_000;
 
-// Asks until the message is there, or until the sender is gone without one.
+// Tries until the message has come, or until the sender is gone without one.
 fn poll<T: Drop, Rt: Drop>(receiver: &mut Receiver<T, Rt>) -> Result<T, TryRecvError> {
     for _ in 0..TRIES {
         match receiver.try_recv() {
@@ -21,7 +21,7 @@ fn poll<T: Drop, Rt: Drop>(receiver: &mut Receiver<T, Rt>) -> Result<T, TryRecvE
     Err(TryRecvError::Empty)
 }
 
-// What two threads find that look at one sender.
+// What two threads see when they look at one sender.
 fn two_looks<T: Send + Sync>(rt: &impl Threads, sender: &Sender<T>) -> (bool, bool) {
     join(rt, || sender.is_closed(), || sender.is_closed())
 }
@@ -35,7 +35,7 @@ fn two_threads_look_at_one_sender(rt: HostRuntime) -> Result<(), Fail> {
     Ok(())
 }
 
-// What two threads read of one error.
+// What two threads read from one error.
 fn two_readings<T: Copy + Send + Sync + Drop>(rt: &impl Threads, error: &SendError<T>) -> (T, T) {
     join(rt, || *error.as_inner(), || *error.as_inner())
 }
@@ -58,7 +58,7 @@ fn an_error_is_read_and_emptied_by_other_threads(rt: HostRuntime) -> Result<(), 
     Ok(())
 }
 
-// How many bytes two threads see that share a raw sender. It has no call.
+// The size in bytes that two threads see of a raw sender, which has no call.
 fn two_sights<T: Send + Sync>(rt: &impl Threads, raw: &RawSender<T>) -> (usize, usize) {
     join(rt, || size_of_val(raw), || size_of_val(raw))
 }
@@ -74,7 +74,7 @@ fn two_threads_share_a_raw_sender(rt: HostRuntime) -> Result<(), Fail> {
     Ok(())
 }
 
-// What a receiver gets on another thread, while this one sends `message`, and whether that was sent.
+// What a receiver gets on another thread while this one sends `message`, and whether the send succeeds.
 fn received_there<T: Send + Drop, Rt: Send + Drop>(
     rt: &impl Threads,
     (sender, mut receiver): (Sender<T>, Receiver<T, Rt>),

@@ -1,4 +1,4 @@
-//! Receives that wait, against a sender on another thread. Where a wake does nothing they do not end.
+//! Receives that block, with a sender on another thread: if a wake did nothing, they would not end.
 
 use oneshot_asserts::assert_same;
 use oneshot_channel::{Receiver, RecvError, TryRecvError, channel};
@@ -9,7 +9,7 @@ use std::time::{Clock, Duration};
 
 const ROUNDS: u64 = 1_000;
 
-// In every other round the sender lets the receiver park first, as far as a short sleep can.
+// In every other round the sender first sleeps for a moment, so that the receiver can park.
 fn linger(rt: &impl Clock, round: u64) {
     if round % 2 == 1 {
         sleep(rt, Duration::from_micros(100));
@@ -39,7 +39,7 @@ fn nobody_is_waited_for_once_the_sender_is_gone(rt: HostRuntime) -> Result<(), F
     Ok(())
 }
 
-// What a receiver gets by `recv_ref`, and whether every later receive says that nothing more comes.
+// What a receiver gets by `recv_ref`, and whether both later receives fail.
 fn by_ref<T: Drop, Rt: Wait + Clock + Drop>(
     mut receiver: Receiver<T, Rt>,
 ) -> (Result<T, RecvError>, bool) {

@@ -1,4 +1,4 @@
-//! Two tasks of one executor that wait for one future beside something else, and count how often they are woken.
+//! Two tasks of one executor that wait for one future and for something else, and how often each is woken.
 
 use self::Deed::{First, Look, Second};
 use futures::Future;
@@ -15,19 +15,19 @@ use std::test::Fail;
 /// What happens to a future before its sender acts.
 #[derive(Clone, Copy, Debug)]
 pub(crate) enum Deed {
-    /// A poll of the first task.
+    /// The first task polls it.
     First,
-    /// A poll of the second.
+    /// The second task polls it.
     Second,
     /// `try_recv`.
     Look,
 }
 
-/// The deeds, and the wakes of both tasks that the sender's act is to make.
+/// The deeds, and how often the sender's act after them wakes each task.
 pub(crate) type Waits = (&'static [Deed], [u64; 2]);
 
-/// Where one task polls twice and then the other polls, the copy that was left over is dropped, which wakes the
-/// first: no row has that.
+/// In no row does one task poll twice and then the other: that drops the spare copy of the first, which
+/// wakes it.
 pub(crate) const WAITS: &[Waits] = &[
     (&[First, First, First, First, First], [1, 0]),
     (&[First, Second, First, Second, First, Second], [0, 1]),
@@ -38,13 +38,13 @@ pub(crate) const WAITS: &[Waits] = &[
     (&[Look, Look], [0, 0]),
 ];
 
-/// More polls than any deed makes. A task that wakes itself without end makes as many.
+/// More polls than any deed makes. A task that keeps waking itself makes this many.
 const MOST_POLLS: usize = 100;
 
-/// Where the future lies while neither task polls it.
+/// Where the future is while neither task polls it.
 type Place<T, P> = Cell<Option<AsyncReceiver<T, (), P>>>;
 
-/// How a test has a task poll the future, and how often the task was woken.
+/// Has a task poll the future, and counts how often the task is woken.
 #[derive(Drop)]
 struct Bell {
     waker: Cell<Option<Waker>>,
@@ -52,7 +52,7 @@ struct Bell {
     wakes: Cell<u64>,
 }
 
-/// A task that waits for its bell, and polls the future where that was rung.
+/// A task that waits for its bell, and polls the future if the bell was rung.
 #[derive(Drop)]
 struct Listener<'a, T, P: Promise<T>> {
     bell: &'a Bell,
@@ -69,13 +69,13 @@ impl Bell {
         }
     }
 
-    /// Wakes the task, which polls the future then.
+    /// Wakes the task, which then polls the future.
     fn ring(&self) {
         self.is_rung.set(true);
         drop(self.waker.take());
     }
 
-    /// How often the task was woken since this was asked last.
+    /// How often the task was woken since the last call.
     fn count(&self) -> u64 {
         self.wakes.replace(0)
     }
@@ -125,7 +125,7 @@ fn listening<'a, T: Drop, P: Promise<T>>(
     Ok(pool)
 }
 
-/// Fails if a `try_recv` of the future finds anything.
+/// Fails unless `try_recv` of the future returns `Empty`.
 fn look<T: Drop, P: Promise<T>>(rt: &impl Abort, place: &Place<T, P>) {
     if let Some(mut future) = place.take() {
         assert!(rt; matches!(future.try_recv(), Err(TryRecvError::Empty)));
@@ -133,7 +133,7 @@ fn look<T: Drop, P: Promise<T>>(rt: &impl Abort, place: &Place<T, P>) {
     }
 }
 
-/// Does the deeds with the future, and then its sender's act. Fails unless each task is woken as often as is said.
+/// Does the deeds, then the sender's `act`, and returns `future`. Fails at another count of wakes.
 pub(crate) fn waited_for<T: Drop, P: Promise<T>, F: FnOnce()>(
     rt: &(impl RandomSource + AllocGlobal + Abort),
     waits: &Waits,

@@ -1,4 +1,4 @@
-//! The texts that `{}` prints, asked of each error through the trait `Error`.
+//! The texts that `{}` prints of each error, through the trait `Error`.
 
 use oneshot_asserts::assert_same;
 use oneshot_channel::{RecvError, RecvTimeoutError, TryRecvError};

@@ -1,4 +1,4 @@
-//! Copies of the errors, their equality and their hashes, when they run.
+//! Copies of the errors, their equality and their hashes, at run time.
 
 use oneshot_channel::{RecvError, RecvTimeoutError, TryRecvError};
 use std::alloc::AllocError;

@@ -1,4 +1,4 @@
-//! Whatever way a request and its ticket end, they leave nothing.
+//! A request and its ticket leak nothing, however they end.
 
 use super::{TEXT, answer, ask};
 use crate::ends::leaks::assert_no_leak;
@@ -28,7 +28,7 @@ fn a_reply_that_is_taken_leaves_nothing(rt: HostRuntime) -> Result<(), Fail> {
     })
 }
 
-/// The reply comes back in an error, which is dropped.
+/// Drops the error in which the reply comes back.
 fn answer_nobody(alloc: Global) -> Result<(), AllocError> {
     let (request, ticket) = ask((), alloc)?;
     drop(ticket.into_future());

@@ -38,7 +38,7 @@ fn question_of<Q: Drop>(echo: Echo<Q>) -> Q {
     echo.question
 }
 
-/// A ticket to which the reply has come.
+/// A ticket whose reply has come.
 fn answered<'r, R: AllocGlobal + Abort, Q: Copy + Eq + Send + Drop>(
     rt: &'r R,
     question: Q,
@@ -53,7 +53,7 @@ fn answered<'r, R: AllocGlobal + Abort, Q: Copy + Eq + Send + Drop>(
     Ok(ticket)
 }
 
-/// Fails unless this comes by `try_recv` of a future, and by each call of a ticket.
+/// Fails unless `question` comes by `try_recv` of a future, and by each call of a ticket.
 fn assert_comes<
     R: AllocGlobal + Wait + Clock + RandomSource + Abort,
     Q: Copy + Debug + Eq + Send + Drop,

@@ -1,4 +1,4 @@
-//! Requests, tickets and replies on other threads than their makers'.
+//! Requests, tickets and replies on threads other than their makers'.
 
 use super::{TEXT, ask, bytes_of};
 use oneshot_asserts::assert_same;
@@ -16,7 +16,7 @@ fn taken_there<Q: Eq + Send + Drop, A: Answer<Q> + Send + Drop, Rt: Send + Drop>
     taken
 }
 
-// Whether another thread could answer: the reply fits, and the ticket was there.
+// Whether another thread answered: the reply fits, and the ticket was there.
 fn answered_there<Q: Eq + Send + Drop, A: Answer<Q> + Send + Drop>(
     rt: &impl Threads,
     request: Request<Q, A>,
@@ -39,7 +39,7 @@ fn a_request_and_its_ticket_go_to_other_threads(rt: HostRuntime) -> Result<(), F
     Ok(())
 }
 
-// What two threads find that look at one request.
+// What two threads see when they look at one request.
 fn two_looks<Q: Eq + Send + Sync, A: Answer<Q> + Send + Sync>(
     rt: &impl Threads,
     request: &Request<Q, A>,
@@ -56,7 +56,7 @@ fn two_threads_look_at_one_request(rt: HostRuntime) -> Result<(), Fail> {
     Ok(())
 }
 
-// What two threads read of one reply.
+// What two threads read from one reply.
 fn two_readings(rt: &impl Threads, length: &Length) -> (usize, usize) {
     join(rt, || length.bytes(), || length.bytes())
 }

@@ -1,4 +1,4 @@
-//! Waits for a reply: of a task beside something else, and until a deadline of a written clock.
+//! Waits for a reply: by a task that waits for something else too, and with a timeout by a written clock.
 
 use super::{answer, ask, bytes_of};
 use crate::ends::clocks::{FIVE_NANOSECONDS, Written};
@@ -42,7 +42,7 @@ fn a_ticket_waits_to_the_nanosecond(rt: HostRuntime) -> Result<(), Fail> {
         );
         assert_same(&rt, clock.left(), left);
     }
-    // A reply that is there comes though the clock fails.
+    // A reply that has come is taken even if the clock fails.
     let clock = Written::new(&rt, &[]);
     let (request, mut ticket) = ask(&clock, rt.alloc())?;
     assert!(rt; answer(request)?.is_ok());

@@ -1,4 +1,4 @@
--- The rounds so far keep what the poll has registered.
+-- The rounds so far keep what the context has registered.
 use Rattle.futures.specs.Task.{Keeps}
 use Rattle.oneshot_loops.proofs.polled.make_all.Given as goal
 

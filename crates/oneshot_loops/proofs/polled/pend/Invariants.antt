@@ -1,4 +1,4 @@
--- The future is pending still, and the polls so far keep what the poll has registered.
+-- The future may be polled again, and the polls so far keep what the context has registered.
 use Rattle.futures.specs.Task.{Keeps}
 use Rattle.oneshot_loops.proofs.polled.pend.Given as goal
 

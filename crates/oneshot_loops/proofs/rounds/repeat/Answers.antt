@@ -1,4 +1,4 @@
--- Where the loop ends, all rounds are made.
+-- After the loop, all rounds are made.
 use Rattle.std.proofs.Common.{◌≡◌, arith}
 use Rattle.oneshot_loops.proofs.rounds.repeat.Goals as goal
 

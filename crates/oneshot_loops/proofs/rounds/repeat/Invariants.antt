@@ -1,4 +1,4 @@
--- The rounds so far lead here, and one more may be made.
+-- The rounds so far lead to the present state, and the next may be called.
 use Rattle.std.proofs.Common.{Ok}
 use denote.Param.Always.{always_mut}
 use Rattle.oneshot_loops.specs.Rounds.{Leads}

@@ -1,4 +1,4 @@
--- What holds on each round of the test's loop.
+-- The invariant of the test's loop.
 use Rattle.std.proofs.Common.{◌≡◌}
 use Rattle.oneshot_part_tests.proofs.replayer.a_receiver_that_nobody_wakes_parks_and_loads_in_turn.Given as goal
 

@@ -1,4 +1,4 @@
--- What holds on each round of the test's loop.
+-- The invariant of the test's loop.
 use Rattle.std.proofs.Common.{◌≡◌}
 use Rattle.oneshot_part_tests.proofs.replayer.a_refused_message_is_followed_move_by_move.Given as goal
 

@@ -1,4 +1,4 @@
--- The first channel of a name is the one of that name.
+-- The first channel found by a name is the only one of that name.
 use Rattle.std.proofs.Common.{sym, ◌∙◌}
 use Rattle.oneshot_loops.proofs.Names.{channel_named-finds, channel_named-found}
 use Rattle.oneshot_loops.proofs.channels.Channel.named.Goals as goal

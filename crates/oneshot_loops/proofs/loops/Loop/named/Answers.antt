@@ -1,4 +1,4 @@
--- The first loop of a name is the one of that name.
+-- The first loop found by a name is the only one of that name.
 use Rattle.std.proofs.Common.{sym, ◌∙◌}
 use Rattle.oneshot_loops.proofs.Names.{loop_named-finds, loop_named-found}
 use Rattle.oneshot_loops.proofs.loops.Loop.named.Goals as goal

@@ -1,3 +1,4 @@
+-- Between deeds the receiver is at rest, and its hand is ready for the next call.
 use Rattle.oneshot_machine.specs.Logs.{receiver_of}
 use Rattle.oneshot_drive.specs.BetweenCalls.{AtRest, IsReady}
 use Rattle.oneshot_part_tests.proofs.drive.deeds.outcome_of.Given as goal
