@@ -75,11 +75,6 @@ const OF_A_TEXT: &[Case] = &[
     ("S\nR\nX\n\n", "input after line 3"),
 ];
 
-#[test]
-fn faults_of_a_text(rt: HostRuntime) -> Result<(), Fail> {
-    assert_faults(&rt, OF_A_TEXT)
-}
-
 const OF_LOOKS: &[Case] = &[
     ("S closed\n", "line 2 is missing"),
     ("S closed closed", "line 2 is missing"),
@@ -106,11 +101,6 @@ const OF_LOOKS: &[Case] = &[
     ),
 ];
 
-#[test]
-fn faults_of_looks(rt: HostRuntime) -> Result<(), Fail> {
-    assert_faults(&rt, OF_LOOKS)
-}
-
 const OF_RECEIVES: &[Case] = &[
     ("S ref\n", "line 1: unknown word 1"),
     ("S recv\n", "line 1: unknown word 1"),
@@ -136,11 +126,6 @@ const OF_RECEIVES: &[Case] = &[
     ),
     ("S\nR\nX recv\n", "line 3: unknown word 1"),
 ];
-
-#[test]
-fn faults_of_receives(rt: HostRuntime) -> Result<(), Fail> {
-    assert_faults(&rt, OF_RECEIVES)
-}
 
 const AFTER_A_SEND: &[Case] = &[
     ("S send 7 inner inner\n", "line 2 is missing"),
@@ -170,6 +155,9 @@ const AFTER_A_SEND: &[Case] = &[
 ];
 
 #[test]
-fn faults_after_a_send(rt: HostRuntime) -> Result<(), Fail> {
-    assert_faults(&rt, AFTER_A_SEND)
+fn each_fault_is_reported(rt: HostRuntime) -> Result<(), Fail> {
+    for cases in [OF_A_TEXT, OF_LOOKS, OF_RECEIVES, AFTER_A_SEND] {
+        assert_faults(&rt, cases)?;
+    }
+    Ok(())
 }

@@ -27,11 +27,6 @@ const WITHOUT_A_SCHEDULE: &[Case] = &[
     ("S send 7\nR try drop\n", "line 3 is missing"),
 ];
 
-#[test]
-fn fronts_without_a_schedule(rt: HostRuntime) -> Result<(), Fail> {
-    assert_faults(&rt, WITHOUT_A_SCHEDULE)
-}
-
 const OF_LOOKS_AND_OF_AN_ERRORS_SCRIPT: &[Case] = &[
     ("S c", "line 1: unknown word 1"),
     ("S close", "line 1: unknown word 1"),
@@ -73,11 +68,6 @@ const OF_LOOKS_AND_OF_AN_ERRORS_SCRIPT: &[Case] = &[
     ),
 ];
 
-#[test]
-fn fronts_of_looks_and_of_an_errors_script(rt: HostRuntime) -> Result<(), Fail> {
-    assert_faults(&rt, OF_LOOKS_AND_OF_AN_ERRORS_SCRIPT)
-}
-
 const OF_RECEIVES: &[Case] = &[
     ("S\nR r", "line 2: unknown word 1"),
     ("S\nR re", "line 2: unknown word 1"),
@@ -88,11 +78,6 @@ const OF_RECEIVES: &[Case] = &[
     ("S\nR ref recv", "line 3 is missing"),
     ("S\nR ref recv\n", "line 3 is missing"),
 ];
-
-#[test]
-fn fronts_of_receives(rt: HostRuntime) -> Result<(), Fail> {
-    assert_faults(&rt, OF_RECEIVES)
-}
 
 const OF_A_FUTURE: &[Case] = &[
     ("S send 7\nR ", "line 2: unknown word 1"),
@@ -117,6 +102,14 @@ const OF_A_FUTURE: &[Case] = &[
 ];
 
 #[test]
-fn fronts_of_a_future(rt: HostRuntime) -> Result<(), Fail> {
-    assert_faults(&rt, OF_A_FUTURE)
+fn each_front_has_its_fault(rt: HostRuntime) -> Result<(), Fail> {
+    for cases in [
+        WITHOUT_A_SCHEDULE,
+        OF_LOOKS_AND_OF_AN_ERRORS_SCRIPT,
+        OF_RECEIVES,
+        OF_A_FUTURE,
+    ] {
+        assert_faults(&rt, cases)?;
+    }
+    Ok(())
 }

@@ -4,49 +4,38 @@
 use crate::tests::told;
 use std::test::Fail;
 
+/// Inputs with a fault of a line, each with what the program reports. Other faults of a line are among the
+/// damaged inputs.
+const OF_A_LINE: &[(&str, &str)] = &[
+    ("Q\n", "2 line 1: must begin with S"),
+    ("S\nR\nS\n", "2 line 3: must begin with X"),
+    (
+        "S closed closed closed closed closed closed closed closed closed try\n",
+        "2 line 1: unknown word 10",
+    ),
+    (
+        "S\nR try try try try try try try try try try recv try\n",
+        "2 line 2: word 12 follows the last call",
+    ),
+    ("S\nR future try ref\n", "2 line 2: unknown word 3"),
+    ("S\nR future poll try\n", "2 line 2: bad number at word 3"),
+    (
+        "S\nR future poll 1 try drop try\n",
+        "2 line 2: word 6 follows the last call",
+    ),
+    ("S\tsend 7\nR\nX\n", "2 line 1: must begin with S"),
+    ("S send\t7\nR\nX\n", "2 line 1: unknown word 1"),
+    ("S send 7\nR try\t\nX\n", "2 line 2: unknown word 1"),
+    ("S\nR\nX s\tr\n", "2 line 3: unknown word 1"),
+    ("S\nR\nX S\n", "2 line 3: unknown word 1"),
+    ("S\nR\nX srx\n", "2 line 3: unknown word 1"),
+    ("S\nR\nX sr0\n", "2 line 3: unknown word 1"),
+];
+
 #[test]
-fn each_fault_of_the_three_lines(rt: HostRuntime) {
-    let faults = [
-        ("", "2 line 1 is missing"),
-        ("S send 7\n", "2 line 2 is missing"),
-        ("S send 7\nR try drop\n", "2 line 3 is missing"),
-        ("Q\n", "2 line 1: must begin with S"),
-        ("S\nX\n", "2 line 2: must begin with R"),
-        ("S\nR\nS\n", "2 line 3: must begin with X"),
-        ("S\nR poll 1\n", "2 line 2: unknown word 1"),
-        ("S\nR\nX sq\n", "2 line 3: unknown word 1"),
-        ("S send\n", "2 line 1: bad number at word 2"),
-        ("S send 07\n", "2 line 1: bad number at word 2"),
-        (
-            "S send 18446744073709551616\nR\nX\n",
-            "2 line 1: bad number at word 2",
-        ),
-        ("S drop drop\n", "2 line 1: word 2 follows the last call"),
-        (
-            "S closed closed closed closed closed closed closed closed closed try\n",
-            "2 line 1: unknown word 10",
-        ),
-        (
-            "S\nR try try try try try try try try try try recv try\n",
-            "2 line 2: word 12 follows the last call",
-        ),
-        ("S\nR future try ref\n", "2 line 2: unknown word 3"),
-        ("S\nR future poll try\n", "2 line 2: bad number at word 3"),
-        (
-            "S\nR future poll 1 try drop try\n",
-            "2 line 2: word 6 follows the last call",
-        ),
-        ("S\tsend 7\nR\nX\n", "2 line 1: must begin with S"),
-        ("S send\t7\nR\nX\n", "2 line 1: unknown word 1"),
-        ("S send 7\nR try\t\nX\n", "2 line 2: unknown word 1"),
-        ("S\nR\nX s\tr\n", "2 line 3: unknown word 1"),
-        ("S\nR\nX S\n", "2 line 3: unknown word 1"),
-        ("S\nR\nX srx\n", "2 line 3: unknown word 1"),
-        ("S\nR\nX sr0\n", "2 line 3: unknown word 1"),
-        ("S\nR\nX\n\n", "2 input after line 3"),
-    ];
-    for (input, fault) in faults {
-        assert_eq!(rt; told(&rt, input.as_bytes()).as_str(), fault, "{input:?}");
+fn faults_of_a_line(rt: HostRuntime) {
+    for (input, fault) in OF_A_LINE {
+        assert_eq!(rt; told(&rt, input.as_bytes()).as_str(), *fault, "{input:?}");
     }
 }
 

@@ -2,13 +2,12 @@
 
 use crate::tests::assert_traces;
 
-#[test]
-fn a_deadline_runs_out_after_each_step_of_a_send(rt: HostRuntime) {
-    let traces = [
-        // before the `send` begins
-        (
-            "S send 7\nR deadline\nX rrrorr\n",
-            "1 R load 3>3
+/// Inputs whose deadline is over after each step of a `send`, each with its trace.
+const TRACES: &[(&str, &str)] = &[
+    // before the `send` begins
+    (
+        "S send 7\nR deadline\nX rrrorr\n",
+        "1 R load 3>3
 2 R write-waker 3>3 p:Hand>Cell
 3 R swap 3>0
 4 R clock 0>0 over
@@ -17,11 +16,11 @@ fn a_deadline_runs_out_after_each_step_of_a_send(rt: HostRuntime) {
 rest NotSent(7)
 block here
 ",
-        ),
-        // after the message was written
-        (
-            "S send 7\nR deadline\nX rrrsorr\n",
-            "1 R load 3>3
+    ),
+    // after the message was written
+    (
+        "S send 7\nR deadline\nX rrrsorr\n",
+        "1 R load 3>3
 2 R write-waker 3>3 p:Hand>Cell
 3 R swap 3>0
 4 S write-message 0>0 m:NotSent>InCell
@@ -31,11 +30,11 @@ block here
 rest InCell(7)
 block here
 ",
-        ),
-        // after the word was changed
-        (
-            "S send 7\nR deadline\nX rrrssorsssrrrr\n",
-            "1 R load 3>3
+    ),
+    // after the word was changed
+    (
+        "S send 7\nR deadline\nX rrrssorsssrrrr\n",
+        "1 R load 3>3
 2 R write-waker 3>3 p:Hand>Cell
 3 R swap 3>0
 4 S write-message 0>0 m:NotSent>InCell
@@ -52,11 +51,11 @@ block here
 rest Delivered(7)
 block here
 ",
-        ),
-        // after the waker was taken
-        (
-            "S send 7\nR deadline\nX rrrsssorssrrrr\n",
-            "1 R load 3>3
+    ),
+    // after the waker was taken
+    (
+        "S send 7\nR deadline\nX rrrsssorssrrrr\n",
+        "1 R load 3>3
 2 R write-waker 3>3 p:Hand>Cell
 3 R swap 3>0
 4 S write-message 0>0 m:NotSent>InCell
@@ -73,11 +72,11 @@ block here
 rest Delivered(7)
 block here
 ",
-        ),
-        // after the last word was stored
-        (
-            "S send 7\nR deadline\nX rrrssssorrr\n",
-            "1 R load 3>3
+    ),
+    // after the last word was stored
+    (
+        "S send 7\nR deadline\nX rrrssssorrr\n",
+        "1 R load 3>3
 2 R write-waker 3>3 p:Hand>Cell
 3 R swap 3>0
 4 S write-message 0>0 m:NotSent>InCell
@@ -91,11 +90,11 @@ block here
 rest Delivered(7)
 block here
 ",
-        ),
-        // after the wake
-        (
-            "S send 7\nR deadline\nX rrrsssssorrr\n",
-            "1 R load 3>3
+    ),
+    // after the wake
+    (
+        "S send 7\nR deadline\nX rrrsssssorrr\n",
+        "1 R load 3>3
 2 R write-waker 3>3 p:Hand>Cell
 3 R swap 3>0
 4 S write-message 0>0 m:NotSent>InCell
@@ -110,7 +109,10 @@ block here
 rest Delivered(7)
 block here
 ",
-        ),
-    ];
-    assert_traces(&rt, &traces);
+    ),
+];
+
+#[test]
+fn a_deadline_runs_out_after_each_step_of_a_send(rt: HostRuntime) {
+    assert_traces(&rt, TRACES);
 }

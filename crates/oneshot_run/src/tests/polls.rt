@@ -1,11 +1,11 @@
 //! Tests of inputs with a future, each with its trace.
 
-use crate::tests::assert_trace;
+use crate::tests::assert_traces;
 
-#[test]
-fn the_drop_leaves_a_sender_that_is_about_to_finish(rt: HostRuntime) {
-    assert_trace(
-        &rt,
+/// Inputs with a future, each with its trace.
+const POLLS: &[(&str, &str)] = &[
+    // the drop leaves a sender that is about to finish
+    (
         "S send 7\nR future poll 1 drop\nX rrrrrssrrssrrrrs\n",
         "1 R plain 3>3 = future
 2 R load 3>3
@@ -26,13 +26,9 @@ fn the_drop_leaves_a_sender_that_is_about_to_finish(rt: HostRuntime) {
 rest InError(7)
 block here
 ",
-    );
-}
-
-#[test]
-fn a_send_that_came_late_gives_its_message_back(rt: HostRuntime) {
-    assert_trace(
-        &rt,
+    ),
+    // a send that came late gives its message back
+    (
         "S send 7 into\nR future poll 1 drop\nX rrrrrssrrsssss\n",
         "1 R plain 3>3 = future
 2 R load 3>3
@@ -51,13 +47,9 @@ fn a_send_that_came_late_gives_its_message_back(rt: HostRuntime) {
 rest FromError(7)
 block freed
 ",
-    );
-}
-
-#[test]
-fn a_sender_that_came_late_frees_the_block(rt: HostRuntime) {
-    assert_trace(
-        &rt,
+    ),
+    // a sender that came late frees the block
+    (
         "S drop\nR future poll 1 drop\nX rrrrrsrrssss\n",
         "1 R plain 3>3 = future
 2 R load 3>3
@@ -74,13 +66,9 @@ fn a_sender_that_came_late_frees_the_block(rt: HostRuntime) {
 rest none
 block freed
 ",
-    );
-}
-
-#[test]
-fn a_poll_that_finds_the_sender_finishing_wakes_its_own_task(rt: HostRuntime) {
-    assert_trace(
-        &rt,
+    ),
+    // a poll that finds the sender finishing wakes its own task
+    (
         "S send 7\nR future poll 1 poll 2\nX rrrrrssrr\n",
         "1 R plain 3>3 = future
 2 R load 3>3
@@ -94,13 +82,9 @@ fn a_poll_that_finds_the_sender_finishing_wakes_its_own_task(rt: HostRuntime) {
 rest InCell(7)
 block here
 ",
-    );
-}
-
-#[test]
-fn the_drop_frees_after_a_sender_that_has_gone(rt: HostRuntime) {
-    assert_trace(
-        &rt,
+    ),
+    // the drop frees after a sender that has gone
+    (
         "S drop\nR future poll 1 drop\nX rrrrrsrssrrrs\n",
         "1 R plain 3>3 = future
 2 R load 3>3
@@ -118,13 +102,9 @@ fn the_drop_frees_after_a_sender_that_has_gone(rt: HostRuntime) {
 rest none
 block freed
 ",
-    );
-}
-
-#[test]
-fn a_drop_whose_exchange_found_the_sender_finishing_closes_then(rt: HostRuntime) {
-    assert_trace(
-        &rt,
+    ),
+    // a drop whose exchange found the sender finishing closes then
+    (
         "S send 7\nR future poll 1 drop\nX rrrrrrssrsssrrrr\n",
         "1 R plain 3>3 = future
 2 R load 3>3
@@ -145,13 +125,9 @@ fn a_drop_whose_exchange_found_the_sender_finishing_closes_then(rt: HostRuntime)
 rest Dropped(7)
 block freed
 ",
-    );
-}
-
-#[test]
-fn a_poll_beside_a_sender_that_finishes_wakes_its_own_task(rt: HostRuntime) {
-    assert_trace(
-        &rt,
+    ),
+    // a poll beside a sender that finishes wakes its own task
+    (
         "S send 7\nR future poll 1 poll 2\nX rrrrrrrssrrsss\n",
         "1 R plain 3>3 = future
 2 R load 3>3
@@ -170,13 +146,9 @@ fn a_poll_beside_a_sender_that_finishes_wakes_its_own_task(rt: HostRuntime) {
 rest InCell(7)
 block here
 ",
-    );
-}
-
-#[test]
-fn a_poll_whose_copy_is_refused_wakes_its_own_task(rt: HostRuntime) {
-    assert_trace(
-        &rt,
+    ),
+    // a poll whose copy is refused wakes its own task
+    (
         "S send 7\nR future poll 1\nX rrnr\n",
         "1 R plain 3>3 = future
 2 R load 3>3
@@ -185,13 +157,9 @@ fn a_poll_whose_copy_is_refused_wakes_its_own_task(rt: HostRuntime) {
 rest NotSent(7)
 block here
 ",
-    );
-}
-
-#[test]
-fn the_second_tasks_waker_takes_the_place_of_the_first(rt: HostRuntime) {
-    assert_trace(
-        &rt,
+    ),
+    // the second tasks waker takes the place of the first
+    (
         "S send 7\nR future poll 1 poll 2\nX rrrrrrrrrrrsssss\n",
         "1 R plain 3>3 = future
 2 R load 3>3
@@ -212,13 +180,9 @@ fn the_second_tasks_waker_takes_the_place_of_the_first(rt: HostRuntime) {
 rest InCell(7)
 block here
 ",
-    );
-}
-
-#[test]
-fn the_message_comes_while_the_poll_is_about_to_wait(rt: HostRuntime) {
-    assert_trace(
-        &rt,
+    ),
+    // the message comes while the poll is about to wait
+    (
         "S send 7\nR future poll 1\nX rrrrssrrrr\n",
         "1 R plain 3>3 = future
 2 R load 3>3
@@ -233,13 +197,9 @@ fn the_message_comes_while_the_poll_is_about_to_wait(rt: HostRuntime) {
 rest Delivered(7)
 block here
 ",
-    );
-}
-
-#[test]
-fn a_future_of_a_sender_that_is_gone(rt: HostRuntime) {
-    assert_trace(
-        &rt,
+    ),
+    // a future of a sender that is gone
+    (
         "S drop\nR future poll 18446744073709551615 full closed drop\nX srrrrrrrr\n",
         "1 S xor 3>2 = dropped
 2 R plain 2>2 = future
@@ -253,13 +213,9 @@ fn a_future_of_a_sender_that_is_gone(rt: HostRuntime) {
 rest none
 block freed
 ",
-    );
-}
-
-#[test]
-fn a_receiver_that_tries_and_becomes_a_future(rt: HostRuntime) {
-    assert_trace(
-        &rt,
+    ),
+    // a receiver that tries and becomes a future
+    (
         "S send 7\nR try future poll 0\nX rrssrrrr\n",
         "1 R load 3>3 = Err(Empty)
 2 R plain 3>3 = future
@@ -272,13 +228,9 @@ fn a_receiver_that_tries_and_becomes_a_future(rt: HostRuntime) {
 rest Delivered(7)
 block here
 ",
-    );
-}
-
-#[test]
-fn a_try_of_a_future_leaves_its_waker(rt: HostRuntime) {
-    assert_trace(
-        &rt,
+    ),
+    // a try of a future leaves its waker
+    (
         "S send 7\nR future poll 1 try try try\nX rrrrrrssrsssrrr\n",
         "1 R plain 3>3 = future
 2 R load 3>3
@@ -298,13 +250,9 @@ fn a_try_of_a_future_leaves_its_waker(rt: HostRuntime) {
 rest Delivered(7)
 block here
 ",
-    );
-}
-
-#[test]
-fn a_try_of_a_future_tells_that_the_sender_has_gone(rt: HostRuntime) {
-    assert_trace(
-        &rt,
+    ),
+    // a try of a future tells that the sender has gone
+    (
         "S drop\nR future try poll 1 try try poll 1 try drop\nX rrrrrrssrsrsrrrrr\n",
         "1 R plain 3>3 = future
 2 R load 3>3 = Err(Empty)
@@ -326,5 +274,10 @@ fn a_try_of_a_future_tells_that_the_sender_has_gone(rt: HostRuntime) {
 rest none
 block freed
 ",
-    );
+    ),
+];
+
+#[test]
+fn each_input_with_a_future_has_its_trace(rt: HostRuntime) {
+    assert_traces(&rt, POLLS);
 }

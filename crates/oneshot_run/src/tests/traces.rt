@@ -3,27 +3,25 @@
 use crate::tests::{SENT, SENT_TRACE, assert_traces, told};
 use std::test::Fail;
 
-#[test]
-fn traces(rt: HostRuntime) {
-    let traces = [
-        (SENT, SENT_TRACE),
-        ("S send 7\nR\nX\n", "rest NotSent(7)\nblock here\n"),
-        (
-            "S\nR\nX sss\n",
-            "1 S idle\n2 S idle\n3 S idle\nrest none\nblock here\n",
-        ),
-        (
-            "S send 18446744073709551615\nR\nX\n",
-            "rest NotSent(18446744073709551615)\nblock here\n",
-        ),
-        ("S send 0\nR\nX\n", "rest NotSent(0)\nblock here\n"),
-        (
-            "S\nR try\nX r\n",
-            "1 R load 3>3 = Err(Empty)\nrest none\nblock here\n",
-        ),
-        (
-            "S send 7\nR drop\nX ssrrr\n",
-            "1 S write-message 3>3 m:NotSent>InCell
+const OF_EACH_CALL: &[(&str, &str)] = &[
+    (SENT, SENT_TRACE),
+    ("S send 7\nR\nX\n", "rest NotSent(7)\nblock here\n"),
+    (
+        "S\nR\nX sss\n",
+        "1 S idle\n2 S idle\n3 S idle\nrest none\nblock here\n",
+    ),
+    (
+        "S send 18446744073709551615\nR\nX\n",
+        "rest NotSent(18446744073709551615)\nblock here\n",
+    ),
+    ("S send 0\nR\nX\n", "rest NotSent(0)\nblock here\n"),
+    (
+        "S\nR try\nX r\n",
+        "1 R load 3>3 = Err(Empty)\nrest none\nblock here\n",
+    ),
+    (
+        "S send 7\nR drop\nX ssrrr\n",
+        "1 S write-message 3>3 m:NotSent>InCell
 2 S add 3>4 = Ok
 3 R swap 4>2
 4 R drop-message 2>2 m:InCell>Dropped
@@ -31,56 +29,52 @@ fn traces(rt: HostRuntime) {
 rest Dropped(7)
 block freed
 ",
-        ),
-        (
-            "S send 7\nR drop\nX rss\n",
-            "1 R swap 3>2 = dropped
+    ),
+    (
+        "S send 7\nR drop\nX rss\n",
+        "1 R swap 3>2 = dropped
 2 S write-message 2>2 m:NotSent>InCell
 3 S add 2>3 m:InCell>InError = Err
 rest InError(7)
 block here
 ",
-        ),
-        (
-            "S drop\nR drop\nX rss\n",
-            "1 R swap 3>2 = dropped
+    ),
+    (
+        "S drop\nR drop\nX rss\n",
+        "1 R swap 3>2 = dropped
 2 S xor 2>3
 3 S free 3>- = dropped
 rest none
 block freed
 ",
-        ),
-        (
-            "S drop\nR try drop\nX srrr\n",
-            "1 S xor 3>2 = dropped
+    ),
+    (
+        "S drop\nR try drop\nX srrr\n",
+        "1 S xor 3>2 = dropped
 2 R load 2>2 = Err(Disconnected)
 3 R swap 2>2
 4 R free 2>- = dropped
 rest none
 block freed
 ",
-        ),
-        // No call of these scripts reads a clock or copies a waker.
-        (
-            "S drop\nR try drop\nX sonr\n",
-            "1 S xor 3>2 = dropped
+    ),
+    // No call of these scripts reads a clock or copies a waker.
+    (
+        "S drop\nR try drop\nX sonr\n",
+        "1 S xor 3>2 = dropped
 2 R load 2>2 = Err(Disconnected)
 3 R swap 2>2
 4 R free 2>- = dropped
 rest none
 block freed
 ",
-        ),
-    ];
-    assert_traces(&rt, &traces);
-}
+    ),
+];
 
-#[test]
-fn traces_of_looks(rt: HostRuntime) {
-    let traces = [
-        (
-            "S closed send 7\nR closed full try closed\nX srssrrrrr\n",
-            "1 S load 3>3 = false
+const OF_LOOKS: &[(&str, &str)] = &[
+    (
+        "S closed send 7\nR closed full try closed\nX srssrrrrr\n",
+        "1 S load 3>3 = false
 2 R load 3>3 = false
 3 S write-message 3>3 m:NotSent>InCell
 4 S add 3>4 = Ok
@@ -92,46 +86,42 @@ fn traces_of_looks(rt: HostRuntime) {
 rest Delivered(7)
 block here
 ",
-        ),
-        (
-            "S drop\nR full closed try\nX srrr\n",
-            "1 S xor 3>2 = dropped
+    ),
+    (
+        "S drop\nR full closed try\nX srrr\n",
+        "1 S xor 3>2 = dropped
 2 R load 2>2 = false
 3 R load 2>2 = true
 4 R load 2>2 = Err(Disconnected)
 rest none
 block here
 ",
-        ),
-        (
-            "S closed closed\nR drop\nX srs\n",
-            "1 S load 3>3 = false
+    ),
+    (
+        "S closed closed\nR drop\nX srs\n",
+        "1 S load 3>3 = false
 2 R swap 3>2 = dropped
 3 S load 2>2 = true
 rest none
 block here
 ",
-        ),
-        (
-            "S send 7\nR full closed\nX srsr\n",
-            "1 S write-message 3>3 m:NotSent>InCell
+    ),
+    (
+        "S send 7\nR full closed\nX srsr\n",
+        "1 S write-message 3>3 m:NotSent>InCell
 2 R load 3>3 = false
 3 S add 3>4 = Ok
 4 R load 4>4 = false
 rest InCell(7)
 block here
 ",
-        ),
-    ];
-    assert_traces(&rt, &traces);
-}
+    ),
+];
 
-#[test]
-fn traces_of_a_refused_send(rt: HostRuntime) {
-    let traces = [
-        (
-            "S send 5 inner into\nR drop\nX rssssss\n",
-            "1 R swap 3>2 = dropped
+const OF_A_REFUSED_SEND: &[(&str, &str)] = &[
+    (
+        "S send 5 inner into\nR drop\nX rssssss\n",
+        "1 R swap 3>2 = dropped
 2 S write-message 2>2 m:NotSent>InCell
 3 S add 2>3 m:InCell>InError = Err
 4 S plain 3>3 = 5
@@ -141,10 +131,10 @@ fn traces_of_a_refused_send(rt: HostRuntime) {
 rest FromError(5)
 block freed
 ",
-        ),
-        (
-            "S send 5 drop\nR drop\nX rssss\n",
-            "1 R swap 3>2 = dropped
+    ),
+    (
+        "S send 5 drop\nR drop\nX rssss\n",
+        "1 R swap 3>2 = dropped
 2 S write-message 2>2 m:NotSent>InCell
 3 S add 2>3 m:InCell>InError = Err
 4 S drop-message 3>3 m:InError>Dropped
@@ -152,10 +142,10 @@ block freed
 rest Dropped(5)
 block freed
 ",
-        ),
-        (
-            "S closed send 7 inner inner\nR drop\nX rssssss\n",
-            "1 R swap 3>2 = dropped
+    ),
+    (
+        "S closed send 7 inner inner\nR drop\nX rssssss\n",
+        "1 R swap 3>2 = dropped
 2 S load 2>2 = true
 3 S write-message 2>2 m:NotSent>InCell
 4 S add 2>3 m:InCell>InError = Err
@@ -165,28 +155,24 @@ block freed
 rest InError(7)
 block here
 ",
-        ),
-        // A `send` that returned `Ok` leaves no error to call.
-        (
-            "S send 7 inner into\nR\nX sss\n",
-            "1 S write-message 3>3 m:NotSent>InCell
+    ),
+    // A `send` that returned `Ok` leaves no error to call.
+    (
+        "S send 7 inner into\nR\nX sss\n",
+        "1 S write-message 3>3 m:NotSent>InCell
 2 S add 3>4 = Ok
 3 S idle
 rest InCell(7)
 block here
 ",
-        ),
-    ];
-    assert_traces(&rt, &traces);
-}
+    ),
+];
 
-#[test]
-fn traces_of_receives_that_wait(rt: HostRuntime) {
-    let traces = [
-        // a receive that is woken late
-        (
-            "S send 7\nR recv\nX rrrsssrrsrrrrs\n",
-            "1 R load 3>3
+const OF_RECEIVES_THAT_WAIT: &[(&str, &str)] = &[
+    // a receive that is woken late
+    (
+        "S send 7\nR recv\nX rrrsssrrsrrrrs\n",
+        "1 R load 3>3
 2 R write-waker 3>3 p:Hand>Cell
 3 R swap 3>0
 4 S write-message 0>0 m:NotSent>InCell
@@ -203,11 +189,11 @@ fn traces_of_receives_that_wait(rt: HostRuntime) {
 rest Delivered(7)
 block freed
 ",
-        ),
-        // a park that takes its token
-        (
-            "S send 7\nR ref\nX rrrsssssrrrr\n",
-            "1 R load 3>3
+    ),
+    // a park that takes its token
+    (
+        "S send 7\nR ref\nX rrrsssssrrrr\n",
+        "1 R load 3>3
 2 R write-waker 3>3 p:Hand>Cell
 3 R swap 3>0
 4 S write-message 0>0 m:NotSent>InCell
@@ -222,11 +208,11 @@ block freed
 rest Delivered(7)
 block here
 ",
-        ),
-        // a message sent before the wait
-        (
-            "S send 7\nR ref\nX rrssrrrr\n",
-            "1 R load 3>3
+    ),
+    // a message sent before the wait
+    (
+        "S send 7\nR ref\nX rrssrrrr\n",
+        "1 R load 3>3
 2 R write-waker 3>3 p:Hand>Cell
 3 S write-message 3>3 m:NotSent>InCell
 4 S add 3>4 = Ok
@@ -237,11 +223,11 @@ block here
 rest Delivered(7)
 block here
 ",
-        ),
-        // a receiver that the sender's drop wakes
-        (
-            "S drop\nR recv\nX rrrssssrrr\n",
-            "1 R load 3>3
+    ),
+    // a receiver that the sender's drop wakes
+    (
+        "S drop\nR recv\nX rrrssssrrr\n",
+        "1 R load 3>3
 2 R write-waker 3>3 p:Hand>Cell
 3 R swap 3>0
 4 S xor 0>1
@@ -254,11 +240,11 @@ block here
 rest none
 block freed
 ",
-        ),
-        // a sender dropped during the wait
-        (
-            "S closed drop\nR recv\nX rrrsssssrrr\n",
-            "1 R load 3>3
+    ),
+    // a sender dropped during the wait
+    (
+        "S closed drop\nR recv\nX rrrsssssrrr\n",
+        "1 R load 3>3
 2 R write-waker 3>3 p:Hand>Cell
 3 R swap 3>0
 4 S load 0>0 = false
@@ -272,11 +258,11 @@ block freed
 rest none
 block freed
 ",
-        ),
-        // the error of each call
-        (
-            "S drop\nR try ref closed try recv\nX srrrrrrr\n",
-            "1 S xor 3>2 = dropped
+    ),
+    // the error of each call
+    (
+        "S drop\nR try ref closed try recv\nX srrrrrrr\n",
+        "1 S xor 3>2 = dropped
 2 R load 2>2 = Err(Disconnected)
 3 R load 2>2 = Err(RecvError)
 4 R load 2>2 = true
@@ -287,11 +273,11 @@ block freed
 rest none
 block freed
 ",
-        ),
-        // a sender dropped before the wait
-        (
-            "S drop\nR recv\nX rrsrrr\n",
-            "1 R load 3>3
+    ),
+    // a sender dropped before the wait
+    (
+        "S drop\nR recv\nX rrsrrr\n",
+        "1 R load 3>3
 2 R write-waker 3>3 p:Hand>Cell
 3 S xor 3>2 = dropped
 4 R swap 2>0
@@ -300,10 +286,10 @@ block freed
 rest none
 block freed
 ",
-        ),
-        (
-            "S drop\nR ref\nX rrsrrr\n",
-            "1 R load 3>3
+    ),
+    (
+        "S drop\nR ref\nX rrsrrr\n",
+        "1 R load 3>3
 2 R write-waker 3>3 p:Hand>Cell
 3 S xor 3>2 = dropped
 4 R swap 2>0
@@ -312,11 +298,11 @@ block freed
 rest none
 block here
 ",
-        ),
-        // a receive that takes its waker back, then the message
-        (
-            "S send 7\nR recv\nX rrssrrrr\n",
-            "1 R load 3>3
+    ),
+    // a receive that takes its waker back, then the message
+    (
+        "S send 7\nR recv\nX rrssrrrr\n",
+        "1 R load 3>3
 2 R write-waker 3>3 p:Hand>Cell
 3 S write-message 3>3 m:NotSent>InCell
 4 S add 3>4 = Ok
@@ -327,11 +313,11 @@ block here
 rest Delivered(7)
 block freed
 ",
-        ),
-        // a wake of a receiver that has freed the block
-        (
-            "S drop\nR recv\nX rrrsssrrrs\n",
-            "1 R load 3>3
+    ),
+    // a wake of a receiver that has freed the block
+    (
+        "S drop\nR recv\nX rrrsssrrrs\n",
+        "1 R load 3>3
 2 R write-waker 3>3 p:Hand>Cell
 3 R swap 3>0
 4 S xor 0>1
@@ -344,18 +330,14 @@ block freed
 rest none
 block freed
 ",
-        ),
-    ];
-    assert_traces(&rt, &traces);
-}
+    ),
+];
 
-#[test]
-fn traces_of_receives_with_a_deadline(rt: HostRuntime) {
-    let traces = [
-        // a message sent after the deadline
-        (
-            "S send 7\nR deadline\nX rrrossrrrsssrrrr\n",
-            "1 R load 3>3
+const OF_DEADLINES: &[(&str, &str)] = &[
+    // a message sent after the deadline
+    (
+        "S send 7\nR deadline\nX rrrossrrrsssrrrr\n",
+        "1 R load 3>3
 2 R write-waker 3>3 p:Hand>Cell
 3 R swap 3>0
 4 R clock 0>0 over
@@ -374,11 +356,11 @@ fn traces_of_receives_with_a_deadline(rt: HostRuntime) {
 rest Delivered(7)
 block here
 ",
-        ),
-        // a message that is there at the deadline
-        (
-            "S send 7\nR deadline\nX rrrosssssrrr\n",
-            "1 R load 3>3
+    ),
+    // a message that is there at the deadline
+    (
+        "S send 7\nR deadline\nX rrrosssssrrr\n",
+        "1 R load 3>3
 2 R write-waker 3>3 p:Hand>Cell
 3 R swap 3>0
 4 R clock 0>0 over
@@ -393,11 +375,11 @@ block here
 rest Delivered(7)
 block here
 ",
-        ),
-        // a timeout whose deadline no instant can hold
-        (
-            "S\nR forever\nX orrrr\n",
-            "1 R clock 3>3 over
+    ),
+    // a timeout whose deadline no instant can hold
+    (
+        "S\nR forever\nX orrrr\n",
+        "1 R clock 3>3 over
 2 R load 3>3
 3 R write-waker 3>3 p:Hand>Cell
 4 R swap 3>0
@@ -405,11 +387,11 @@ block here
 rest none
 block here
 ",
-        ),
-        // a timeout that is over after a park
-        (
-            "S\nR timeout\nX orrrrrrorr\n",
-            "1 R clock 3>3 over
+    ),
+    // a timeout that is over after a park
+    (
+        "S\nR timeout\nX orrrrrrorr\n",
+        "1 R clock 3>3 over
 2 R load 3>3
 3 R write-waker 3>3 p:Hand>Cell
 4 R swap 3>0
@@ -422,11 +404,11 @@ block here
 rest none
 block here
 ",
-        ),
-        // timed calls after the sender was dropped
-        (
-            "S drop\nR deadline timeout forever\nX srrrorr\n",
-            "1 S xor 3>2 = dropped
+    ),
+    // timed calls after the sender was dropped
+    (
+        "S drop\nR deadline timeout forever\nX srrrorr\n",
+        "1 S xor 3>2 = dropped
 2 R load 2>2 = Err(Disconnected)
 3 R clock 2>2 left
 4 R load 2>2 = Err(Disconnected)
@@ -436,11 +418,11 @@ block here
 rest none
 block here
 ",
-        ),
-        // a sender dropped at the deadline
-        (
-            "S drop\nR deadline\nX rrrossssrr\n",
-            "1 R load 3>3
+    ),
+    // a sender dropped at the deadline
+    (
+        "S drop\nR deadline\nX rrrossssrr\n",
+        "1 R load 3>3
 2 R write-waker 3>3 p:Hand>Cell
 3 R swap 3>0
 4 R clock 0>0 over
@@ -453,11 +435,11 @@ block here
 rest none
 block here
 ",
-        ),
-        // a sender dropped before the wait
-        (
-            "S drop\nR deadline\nX rrsrrr\n",
-            "1 R load 3>3
+    ),
+    // a sender dropped before the wait
+    (
+        "S drop\nR deadline\nX rrsrrr\n",
+        "1 R load 3>3
 2 R write-waker 3>3 p:Hand>Cell
 3 S xor 3>2 = dropped
 4 R swap 2>0
@@ -466,11 +448,11 @@ block here
 rest none
 block here
 ",
-        ),
-        // a clock read while the sender has the waker
-        (
-            "S send 7\nR deadline\nX rrrssr\n",
-            "1 R load 3>3
+    ),
+    // a clock read while the sender has the waker
+    (
+        "S send 7\nR deadline\nX rrrssr\n",
+        "1 R load 3>3
 2 R write-waker 3>3 p:Hand>Cell
 3 R swap 3>0
 4 S write-message 0>0 m:NotSent>InCell
@@ -479,11 +461,11 @@ block here
 rest InCell(7)
 block here
 ",
-        ),
-        // a message that is there at the deadline, received before the wake
-        (
-            "S send 7\nR deadline\nX rrrssssorrrs\n",
-            "1 R load 3>3
+    ),
+    // a message that is there at the deadline, received before the wake
+    (
+        "S send 7\nR deadline\nX rrrssssorrrs\n",
+        "1 R load 3>3
 2 R write-waker 3>3 p:Hand>Cell
 3 R swap 3>0
 4 S write-message 0>0 m:NotSent>InCell
@@ -498,11 +480,11 @@ block here
 rest Delivered(7)
 block here
 ",
-        ),
-        // the same, received after the wake
-        (
-            "S send 7\nR deadline\nX rrrssssorsrr\n",
-            "1 R load 3>3
+    ),
+    // the same, received after the wake
+    (
+        "S send 7\nR deadline\nX rrrssssorsrr\n",
+        "1 R load 3>3
 2 R write-waker 3>3 p:Hand>Cell
 3 R swap 3>0
 4 S write-message 0>0 m:NotSent>InCell
@@ -517,11 +499,11 @@ block here
 rest Delivered(7)
 block here
 ",
-        ),
-        // a sender whose drop has begun at the deadline
-        (
-            "S drop\nR deadline\nX rrrosrrssrs\n",
-            "1 R load 3>3
+    ),
+    // a sender whose drop has begun at the deadline
+    (
+        "S drop\nR deadline\nX rrrosrrssrs\n",
+        "1 R load 3>3
 2 R write-waker 3>3 p:Hand>Cell
 3 R swap 3>0
 4 R clock 0>0 over
@@ -535,11 +517,11 @@ block here
 rest none
 block here
 ",
-        ),
-        // a message sent after the wait
-        (
-            "S send 7\nR deadline\nX rrrorssr\n",
-            "1 R load 3>3
+    ),
+    // a message sent after the wait
+    (
+        "S send 7\nR deadline\nX rrrorssr\n",
+        "1 R load 3>3
 2 R write-waker 3>3 p:Hand>Cell
 3 R swap 3>0
 4 R clock 0>0 over
@@ -550,11 +532,11 @@ block here
 rest InCell(7)
 block here
 ",
-        ),
-        // a sender dropped after the wait
-        (
-            "S drop\nR deadline\nX rrrorsr\n",
-            "1 R load 3>3
+    ),
+    // a sender dropped after the wait
+    (
+        "S drop\nR deadline\nX rrrorsr\n",
+        "1 R load 3>3
 2 R write-waker 3>3 p:Hand>Cell
 3 R swap 3>0
 4 R clock 0>0 over
@@ -564,19 +546,19 @@ block here
 rest none
 block here
 ",
-        ),
-        // a timeout's first reading of the clock
-        (
-            "S\nR timeout\nX r\n",
-            "1 R clock 3>3 left
+    ),
+    // a timeout's first reading of the clock
+    (
+        "S\nR timeout\nX r\n",
+        "1 R clock 3>3 left
 rest none
 block here
 ",
-        ),
-        // each call's reply for no message, in a channel whose message is 0
-        (
-            "S send 0\nR try deadline\nX rrrrorr\n",
-            "1 R load 3>3 = Err(Empty)
+    ),
+    // each call's reply for no message, in a channel whose message is 0
+    (
+        "S send 0\nR try deadline\nX rrrrorr\n",
+        "1 R load 3>3 = Err(Empty)
 2 R load 3>3
 3 R write-waker 3>3 p:Hand>Cell
 4 R swap 3>0
@@ -586,26 +568,22 @@ block here
 rest NotSent(0)
 block here
 ",
-        ),
-    ];
-    assert_traces(&rt, &traces);
-}
+    ),
+];
 
 /// The largest message, in each reply that has it and at each place.
-#[test]
-fn traces_of_a_large_message(rt: HostRuntime) {
-    let traces = [
-        (
-            "S send 18446744073709551615\nR\nX ss\n",
-            "1 S write-message 3>3 m:NotSent>InCell
+const OF_A_LARGE_MESSAGE: &[(&str, &str)] = &[
+    (
+        "S send 18446744073709551615\nR\nX ss\n",
+        "1 S write-message 3>3 m:NotSent>InCell
 2 S add 3>4 = Ok
 rest InCell(18446744073709551615)
 block here
 ",
-        ),
-        (
-            "S send 18446744073709551615\nR recv\nX ssrrr\n",
-            "1 S write-message 3>3 m:NotSent>InCell
+    ),
+    (
+        "S send 18446744073709551615\nR recv\nX ssrrr\n",
+        "1 S write-message 3>3 m:NotSent>InCell
 2 S add 3>4 = Ok
 3 R load 4>4
 4 R take-message 4>4 m:InCell>Delivered
@@ -613,20 +591,20 @@ block here
 rest Delivered(18446744073709551615)
 block freed
 ",
-        ),
-        (
-            "S send 18446744073709551615 inner\nR drop\nX rsss\n",
-            "1 R swap 3>2 = dropped
+    ),
+    (
+        "S send 18446744073709551615 inner\nR drop\nX rsss\n",
+        "1 R swap 3>2 = dropped
 2 S write-message 2>2 m:NotSent>InCell
 3 S add 2>3 m:InCell>InError = Err
 4 S plain 3>3 = 18446744073709551615
 rest InError(18446744073709551615)
 block here
 ",
-        ),
-        (
-            "S send 18446744073709551615 into\nR drop\nX rssss\n",
-            "1 R swap 3>2 = dropped
+    ),
+    (
+        "S send 18446744073709551615 into\nR drop\nX rssss\n",
+        "1 R swap 3>2 = dropped
 2 S write-message 2>2 m:NotSent>InCell
 3 S add 2>3 m:InCell>InError = Err
 4 S take-message 3>3 m:InError>FromError
@@ -634,10 +612,10 @@ block here
 rest FromError(18446744073709551615)
 block freed
 ",
-        ),
-        (
-            "S send 18446744073709551615\nR drop\nX ssrrr\n",
-            "1 S write-message 3>3 m:NotSent>InCell
+    ),
+    (
+        "S send 18446744073709551615\nR drop\nX ssrrr\n",
+        "1 S write-message 3>3 m:NotSent>InCell
 2 S add 3>4 = Ok
 3 R swap 4>2
 4 R drop-message 2>2 m:InCell>Dropped
@@ -645,9 +623,22 @@ block freed
 rest Dropped(18446744073709551615)
 block freed
 ",
-        ),
+    ),
+];
+
+#[test]
+fn each_input_has_its_trace(rt: HostRuntime) {
+    let tables = [
+        OF_EACH_CALL,
+        OF_LOOKS,
+        OF_A_REFUSED_SEND,
+        OF_RECEIVES_THAT_WAIT,
+        OF_DEADLINES,
+        OF_A_LARGE_MESSAGE,
     ];
-    assert_traces(&rt, &traces);
+    for traces in tables {
+        assert_traces(&rt, traces);
+    }
 }
 
 /// `o` acts as `r` at each step but a reading of the clock, and `n` at each but a copy of a waker.

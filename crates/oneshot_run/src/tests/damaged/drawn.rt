@@ -5,6 +5,7 @@ use crate::tests::damaged::damage::damaged;
 use crate::tests::damaged::draws::Draws;
 use crate::tests::damaged::reading::Kind;
 use std::alloc::{AllocError, AllocGlobal, Global};
+use std::ops::RangeInclusive;
 use std::process::Abort;
 use std::test::Fail;
 
@@ -50,52 +51,33 @@ fn assert_drawn(rt: &(impl Abort + AllocGlobal), seed: u64) -> Result<(), Fail> 
     Ok(())
 }
 
+fn assert_each_drawn(
+    rt: &(impl Abort + AllocGlobal),
+    seeds: RangeInclusive<u64>,
+) -> Result<(), Fail> {
+    for seed in seeds {
+        assert_drawn(rt, seed)?;
+    }
+    Ok(())
+}
+
+// A test has 60 seconds, also where `rt try` runs it.
 #[test]
-fn texts_drawn_from_seed_one(rt: HostRuntime) -> Result<(), Fail> {
-    assert_drawn(&rt, 1)
+fn texts_drawn_from_seeds_one_to_three(rt: HostRuntime) -> Result<(), Fail> {
+    assert_each_drawn(&rt, 1..=3)
 }
 
 #[test]
-fn texts_drawn_from_seed_two(rt: HostRuntime) -> Result<(), Fail> {
-    assert_drawn(&rt, 2)
+fn texts_drawn_from_seeds_four_to_six(rt: HostRuntime) -> Result<(), Fail> {
+    assert_each_drawn(&rt, 4..=6)
 }
 
 #[test]
-fn texts_drawn_from_seed_three(rt: HostRuntime) -> Result<(), Fail> {
-    assert_drawn(&rt, 3)
+fn texts_drawn_from_seeds_seven_and_eight(rt: HostRuntime) -> Result<(), Fail> {
+    assert_each_drawn(&rt, 7..=8)
 }
 
 #[test]
-fn texts_drawn_from_seed_four(rt: HostRuntime) -> Result<(), Fail> {
-    assert_drawn(&rt, 4)
-}
-
-#[test]
-fn texts_drawn_from_seed_five(rt: HostRuntime) -> Result<(), Fail> {
-    assert_drawn(&rt, 5)
-}
-
-#[test]
-fn texts_drawn_from_seed_six(rt: HostRuntime) -> Result<(), Fail> {
-    assert_drawn(&rt, 6)
-}
-
-#[test]
-fn texts_drawn_from_seed_seven(rt: HostRuntime) -> Result<(), Fail> {
-    assert_drawn(&rt, 7)
-}
-
-#[test]
-fn texts_drawn_from_seed_eight(rt: HostRuntime) -> Result<(), Fail> {
-    assert_drawn(&rt, 8)
-}
-
-#[test]
-fn texts_drawn_from_seed_nine(rt: HostRuntime) -> Result<(), Fail> {
-    assert_drawn(&rt, 9)
-}
-
-#[test]
-fn texts_drawn_from_seed_ten(rt: HostRuntime) -> Result<(), Fail> {
-    assert_drawn(&rt, 10)
+fn texts_drawn_from_seeds_nine_and_ten(rt: HostRuntime) -> Result<(), Fail> {
+    assert_each_drawn(&rt, 9..=10)
 }
