@@ -15,8 +15,8 @@ pub fn tables_are_exact<T, W>()
     ensures receiver { ReceiverIsExact T W }
 {}
 
-/// If both ends perform only operations of the phases' table, these have an order in which each finds the
-/// word that the one before it left.
+/// In each order of both ends' operations by the rows of their phases, each operation finds the word that the
+/// one before it left.
 pub fn phases_keep_order()
     ensures { ReachedInOrder }
 {}

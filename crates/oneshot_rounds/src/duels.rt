@@ -4,7 +4,7 @@ use super::answers::{Outcome, Silence, assert_answers, assert_both_orders};
 use super::channels::channels;
 use super::counted::make_messages;
 use super::races::race;
-use super::receives::Receives;
+use super::uses::Use;
 use std::process::Abort;
 use std::sync::Wait;
 use std::test::Fail;
@@ -16,7 +16,7 @@ const ROUNDS: u64 = 10_000;
 /// Sends 999 in each round. Fails unless both ends return each of these answers often, and no other.
 pub(super) fn beside_a_send<R: Threads + Wait + Abort + Clock + AllocGlobal + Sync>(
     rt: &R,
-    receives: &impl Receives,
+    using: &Use,
     sent: &[Result<(), u64>],
     received: &[Result<u64, Silence>],
 ) -> Result<(), Fail> {
@@ -31,7 +31,7 @@ pub(super) fn beside_a_send<R: Threads + Wait + Abort + Clock + AllocGlobal + Sy
             let sent = sender.send(message);
             sent.map_err(|refused| refused.into_inner().value)
         },
-        |receiver| receives.receive(receiver).map(|message| message.value),
+        |receiver| using.receive(receiver).map(|message| message.value),
     );
     assert_answers(rt, &sends, sent);
     assert_answers(rt, &receives, received);
@@ -44,7 +44,7 @@ pub(super) fn beside_a_send<R: Threads + Wait + Abort + Clock + AllocGlobal + Sy
 /// each of these answers often, and no other.
 pub(super) fn beside_a_drop<R: Threads + Wait + Abort + Clock + AllocGlobal + Sync>(
     rt: &R,
-    receives: &impl Receives,
+    using: &Use,
     received: &[Result<u64, Silence>],
 ) -> Result<Vec<Outcome<()>>, Fail> {
     let (senders, receivers) = channels::<u64, _>(rt, ROUNDS)?;
@@ -54,7 +54,7 @@ pub(super) fn beside_a_drop<R: Threads + Wait + Abort + Clock + AllocGlobal + Sy
         senders,
         receivers,
         |sender| drop(sender),
-        |receiver| receives.receive(receiver),
+        |receiver| using.receive(receiver),
     );
     assert_answers(rt, &receives, received);
     assert_both_orders(rt, &receives);

@@ -32,8 +32,6 @@ mod pending;
 #[cfg(test)]
 mod races;
 #[cfg(test)]
-mod receives;
-#[cfg(test)]
 mod replies;
 #[cfg(test)]
 mod sizes;
@@ -41,5 +39,7 @@ mod sizes;
 mod tries;
 #[cfg(test)]
 mod two_channels;
+#[cfg(test)]
+mod uses;
 #[cfg(test)]
 mod waits;

@@ -3,8 +3,7 @@
 use super::answers::{assert_answers, assert_both_orders};
 use super::channels::channels;
 use super::races::race;
-use super::receives::{PollUntil, Receives, Recv, RecvRef, RecvTimeout, TryUntil};
-use futures::test::MockTask;
+use super::uses::{Use, lasting_uses};
 use std::alloc::{AllocError, Global};
 use std::process::Abort;
 use std::sync::Wait;
@@ -36,7 +35,7 @@ fn make_rounds(alloc: Global) -> Result<Vec<Round>, AllocError> {
 // Fails unless after each receive its round's note has the number that the sender wrote there.
 fn assert_finds_notes<R: Threads + Wait + Abort + Clock + AllocGlobal + Sync>(
     rt: &R,
-    receives: &impl Receives,
+    using: &Use,
 ) -> Result<(), Fail> {
     let rounds = make_rounds(rt.alloc())?;
     let (senders, receivers) = channels::<(), _>(rt, ROUNDS)?;
@@ -50,7 +49,7 @@ fn assert_finds_notes<R: Threads + Wait + Abort + Clock + AllocGlobal + Sync>(
             sender.send(()).is_ok()
         },
         |(round, receiver)| {
-            let received = receives.receive(receiver);
+            let received = using.receive(receiver);
             assert_eq!(rt; round.note.load(Ordering::SeqCst), round.number);
             received
         },
@@ -62,27 +61,9 @@ fn assert_finds_notes<R: Threads + Wait + Abort + Clock + AllocGlobal + Sync>(
 }
 
 #[test]
-fn recv_comes_after_the_note(rt: HostRuntime) -> Result<(), Fail> {
-    assert_finds_notes(&rt, &Recv)
-}
-
-#[test]
-fn recv_ref_comes_after_the_note(rt: HostRuntime) -> Result<(), Fail> {
-    assert_finds_notes(&rt, &RecvRef)
-}
-
-#[test]
-fn recv_timeout_comes_after_the_note(rt: HostRuntime) -> Result<(), Fail> {
-    assert_finds_notes(&rt, &RecvTimeout)
-}
-
-#[test]
-fn try_recv_comes_after_the_note(rt: HostRuntime) -> Result<(), Fail> {
-    assert_finds_notes(&rt, &TryUntil)
-}
-
-#[test]
-fn poll_comes_after_the_note(rt: HostRuntime) -> Result<(), Fail> {
-    let task = MockTask::new(&rt)?;
-    assert_finds_notes(&rt, &PollUntil(task))
+fn each_receive_comes_after_the_note(rt: HostRuntime) -> Result<(), Fail> {
+    for using in &lasting_uses(&rt)? {
+        assert_finds_notes(&rt, using)?;
+    }
+    Ok(())
 }

@@ -3,9 +3,8 @@
 use super::answers::assert_answers;
 use super::channels::channels;
 use super::races::race;
-use super::receives::{PollUntil, Receives, Recv, RecvDeadline, RecvRef, RecvTimeout, TryUntil};
+use super::uses::{Use, lasting_uses};
 use super::waits::patience;
-use futures::test::MockTask;
 use std::fmt::Debug;
 use std::process::Abort;
 use std::random::RandomSource;
@@ -20,7 +19,7 @@ const ROUNDS: u64 = 100;
 fn assert_comes<
     R: Threads + Wait + Abort + Clock + AllocGlobal + Sync,
     T: Copy + Debug + PartialEq + Send + Sync,
->(rt: &R, receives: &impl Receives, message: T) -> Result<(), Fail> {
+>(rt: &R, using: &Use, message: T) -> Result<(), Fail> {
     let (senders, receivers) = channels(rt, ROUNDS)?;
     let (sends, receives) = race(
         rt,
@@ -28,7 +27,7 @@ fn assert_comes<
         senders,
         receivers,
         |sender| sender.send(message).is_ok(),
-        |receiver| receives.receive(receiver) == Ok(message),
+        |receiver| using.receive(receiver) == Ok(message),
     );
     assert_answers(rt, &sends, &[true]);
     assert_answers(rt, &receives, &[true]);
@@ -41,13 +40,10 @@ fn assert_comes_by_every_receive<
 >(rt: &R, message: T) -> Result<(), Fail> {
     let deadline = Instant::now(rt)?.checked_add(patience());
     let deadline = deadline.expect(rt, "an instant can hold it");
-    let task = MockTask::new(rt)?;
-    assert_comes(rt, &Recv, message)?;
-    assert_comes(rt, &RecvRef, message)?;
-    assert_comes(rt, &RecvTimeout, message)?;
-    assert_comes(rt, &RecvDeadline(deadline), message)?;
-    assert_comes(rt, &TryUntil, message)?;
-    assert_comes(rt, &PollUntil(task), message)
+    for using in &lasting_uses(rt)? {
+        assert_comes(rt, using, message)?;
+    }
+    assert_comes(rt, &Use::RecvDeadline(deadline), message)
 }
 
 #[test]
