@@ -20,8 +20,6 @@ mod line;
 #[cfg(test)]
 mod looks;
 #[cfg(test)]
-mod nested;
-#[cfg(test)]
 mod notes;
 #[cfg(test)]
 mod overtaken;

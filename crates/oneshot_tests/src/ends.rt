@@ -6,6 +6,7 @@ mod deadlines;
 mod drops;
 pub(super) mod leaks;
 mod lives;
+mod nested;
 mod overdue;
 mod polls;
 mod promised;

@@ -104,22 +104,14 @@ fn a_request_that_is_there_has_no_reply_yet(rt: HostRuntime) -> Result<(), Fail>
 }
 
 #[test]
-fn a_reply_is_waited_for(rt: HostRuntime) -> Result<(), Fail> {
+fn a_reply_is_waited_for_or_awaited(rt: HostRuntime) -> Result<(), Fail> {
     let (request, ticket) = ask(&rt, rt.alloc())?;
     assert!(rt; answer(request)?.is_ok());
     assert_same(&rt, ticket.wait().map(bytes_of), Ok(21));
-    Ok(())
-}
-
-#[test]
-fn a_reply_is_awaited(rt: HostRuntime) -> Result<(), Fail> {
     let (request, ticket) = ask((), rt.alloc())?;
     assert!(rt; answer(request)?.is_ok());
-    assert_same(
-        &rt,
-        block_on(&rt, ticket.into_future())?.map(bytes_of),
-        Ok(21),
-    );
+    let awaited = block_on(&rt, ticket.into_future())?;
+    assert_same(&rt, awaited.map(bytes_of), Ok(21));
     Ok(())
 }
 

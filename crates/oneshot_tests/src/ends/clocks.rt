@@ -61,49 +61,29 @@ pub(super) fn five(rt: &impl Wait) -> io::Result<Instant> {
     Instant::now(&Written::new(rt, &[5]))
 }
 
-#[test]
-fn an_instant_is_not_over_at_itself(rt: HostRuntime) -> Result<(), Fail> {
+/// A clock's readings for a receive until the instant five, and how many the receive leaves.
+const UNTIL_FIVE: [(&[u64], usize); 6] = [
     // The turn and its park read the deadline itself, and the next turn a nanosecond past it.
-    let clock = Written::new(&rt, &[5, 5, 6, 7]);
-    let (_sender, mut receiver) = by_clock(&clock, rt.alloc())?;
-    let received = receiver.recv_deadline(five(&rt)?);
-    assert_same(&rt, received, Err(RecvTimeoutError::Timeout));
-    assert_same(&rt, clock.left(), 1);
-    Ok(())
-}
-
-#[test]
-fn each_turn_of_a_wait_parks(rt: HostRuntime) -> Result<(), Fail> {
+    (&[5, 5, 6, 7], 1),
     // A turn reads the clock to see whether the deadline is past, and its park reads until it has come. This
-    // clock goes back after each park. Without a park, the next turn would find the deadline past.
-    let clock = Written::new(&rt, &[1, 7, 2, 7, 3, 7, 6, 8]);
-    let (_sender, mut receiver) = by_clock(&clock, rt.alloc())?;
-    let received = receiver.recv_deadline(five(&rt)?);
-    assert_same(&rt, received, Err(RecvTimeoutError::Timeout));
-    assert_same(&rt, clock.left(), 1);
-    Ok(())
-}
-
-#[test]
-fn a_later_instant_is_over_at_once(rt: HostRuntime) -> Result<(), Fail> {
-    let clock = Written::new(&rt, &[6, 7]);
-    let (_sender, mut receiver) = by_clock(&clock, rt.alloc())?;
-    let received = receiver.recv_deadline(five(&rt)?);
-    assert_same(&rt, received, Err(RecvTimeoutError::Timeout));
-    assert_same(&rt, clock.left(), 1);
-    Ok(())
-}
-
-#[test]
-fn a_clock_that_fails_counts_as_past_the_deadline(rt: HostRuntime) -> Result<(), Fail> {
+    // clock goes back after each park: without a park, the next turn would find the deadline past.
+    (&[1, 7, 2, 7, 3, 7, 6, 8], 1),
+    // The deadline is past at once.
+    (&[6, 7], 1),
     // The clock fails at once, in the park, or after it.
-    let readings: [&[u64]; 3] = [&[], &[1], &[5, 5]];
-    for written in readings {
+    (&[], 0),
+    (&[1], 0),
+    (&[5, 5], 0),
+];
+
+#[test]
+fn a_deadline_ends_a_receive_once_the_clock_is_past_it(rt: HostRuntime) -> Result<(), Fail> {
+    for (written, left) in UNTIL_FIVE {
         let clock = Written::new(&rt, written);
         let (_sender, mut receiver) = by_clock(&clock, rt.alloc())?;
         let received = receiver.recv_deadline(five(&rt)?);
         assert_same(&rt, received, Err(RecvTimeoutError::Timeout));
-        assert_same(&rt, clock.left(), 0);
+        assert_same(&rt, clock.left(), left);
     }
     Ok(())
 }

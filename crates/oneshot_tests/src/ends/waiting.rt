@@ -7,6 +7,7 @@ use std::test::Fail;
 use std::thread::{join, sleep};
 use std::time::{Clock, Duration};
 
+// For `recv`, and again for `recv_ref`.
 const ROUNDS: u64 = 1_000;
 
 // In every other round the sender first sleeps for a moment, so that the receiver can park.
@@ -39,44 +40,23 @@ fn nobody_is_waited_for_once_the_sender_is_gone(rt: HostRuntime) -> Result<(), F
     Ok(())
 }
 
-// What a receiver gets by `recv_ref`, and whether both later receives fail.
-fn by_ref<T: Drop, Rt: Wait + Clock + Drop>(
+// What a receiver gets by `recv_ref` or by `recv`, and whether later receives by reference fail.
+fn receive<T: Drop, Rt: Wait + Clock + Drop>(
     mut receiver: Receiver<T, Rt>,
+    by_ref: bool,
 ) -> (Result<T, RecvError>, bool) {
+    if !by_ref {
+        return (receiver.recv(), true);
+    }
     let first = receiver.recv_ref();
     let over = receiver.try_recv().is_err() && receiver.recv_ref().is_err();
     (first, over)
 }
 
 #[test]
-fn recv_gets_each_message_once(rt: HostRuntime) -> Result<(), Fail> {
-    for round in 0..ROUNDS {
-        let (sender, receiver) = channel(&rt, rt.alloc())?;
-        let shared = Arc::new(rt.alloc(), round)?;
-        let message = Arc::try_clone(&shared)?;
-        let (sent, received) = join(
-            &rt,
-            || {
-                linger(&rt, round);
-                !sender.is_closed() && sender.send(message).is_ok()
-            },
-            || receiver.recv(),
-        );
-        assert!(rt; sent);
-        let Ok(message) = received else {
-            panic!(rt; "the message comes")
-        };
-        assert_same(&rt, *message, round);
-        assert_same(&rt, Arc::strong_count(&shared), 2);
-        drop(message);
-        assert_same(&rt, Arc::strong_count(&shared), 1);
-    }
-    Ok(())
-}
-
-#[test]
-fn recv_ref_gets_each_message_once(rt: HostRuntime) -> Result<(), Fail> {
-    for round in 0..ROUNDS {
+fn each_message_is_received_once(rt: HostRuntime) -> Result<(), Fail> {
+    for round in 0..2 * ROUNDS {
+        let by_ref = round >= ROUNDS;
         let (sender, receiver) = channel(&rt, rt.alloc())?;
         let shared = Arc::new(rt.alloc(), round)?;
         let message = Arc::try_clone(&shared)?;
@@ -84,9 +64,9 @@ fn recv_ref_gets_each_message_once(rt: HostRuntime) -> Result<(), Fail> {
             &rt,
             || {
                 linger(&rt, round);
-                sender.send(message).is_ok()
+                !sender.is_closed() && sender.send(message).is_ok()
             },
-            || by_ref(receiver),
+            || receive(receiver, by_ref),
         );
         assert!(rt; sent && over);
         let Ok(message) = received else {
@@ -101,25 +81,9 @@ fn recv_ref_gets_each_message_once(rt: HostRuntime) -> Result<(), Fail> {
 }
 
 #[test]
-fn recv_sees_each_drop_of_the_sender(rt: HostRuntime) -> Result<(), Fail> {
-    for round in 0..ROUNDS {
-        let (sender, receiver) = channel::<u8, _>(&rt, rt.alloc())?;
-        let ((), received) = join(
-            &rt,
-            || {
-                linger(&rt, round);
-                drop(sender);
-            },
-            || receiver.recv(),
-        );
-        assert_same(&rt, received, Err(RecvError));
-    }
-    Ok(())
-}
-
-#[test]
-fn recv_ref_sees_each_drop_of_the_sender(rt: HostRuntime) -> Result<(), Fail> {
-    for round in 0..ROUNDS {
+fn each_drop_of_the_sender_ends_a_receive(rt: HostRuntime) -> Result<(), Fail> {
+    for round in 0..2 * ROUNDS {
+        let by_ref = round >= ROUNDS;
         let (sender, receiver) = channel::<u8, _>(&rt, rt.alloc())?;
         let ((), (received, over)) = join(
             &rt,
@@ -127,7 +91,7 @@ fn recv_ref_sees_each_drop_of_the_sender(rt: HostRuntime) -> Result<(), Fail> {
                 linger(&rt, round);
                 drop(sender);
             },
-            || by_ref(receiver),
+            || receive(receiver, by_ref),
         );
         assert_same(&rt, received, Err(RecvError));
         assert!(rt; over);

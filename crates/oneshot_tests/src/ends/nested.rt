@@ -1,5 +1,6 @@
 //! A channel whose message is the sender of another channel.
 
+use oneshot_asserts::assert_same;
 use oneshot_channel::{Receiver, Sender, TryRecvError, channel};
 use std::alloc::{AllocError, AllocGlobal};
 use std::test::Fail;
@@ -35,7 +36,11 @@ fn a_sender_that_nobody_receives_is_dropped(rt: HostRuntime) -> Result<(), Fail>
     assert!(rt; !inner_receiver.is_closed());
     drop(outer_receiver);
     assert!(rt; inner_receiver.is_closed());
-    assert_eq!(rt; inner_receiver.try_recv(), Err(TryRecvError::Disconnected));
+    assert_same(
+        &rt,
+        inner_receiver.try_recv(),
+        Err(TryRecvError::Disconnected),
+    );
     Ok(())
 }
 
@@ -50,9 +55,13 @@ fn a_sender_that_is_refused_lives_as_long_as_the_error(rt: HostRuntime) -> Resul
     drop(outer_receiver);
     let refused = outer_sender.send(inner_sender);
     assert!(rt; refused.is_err());
-    assert_eq!(rt; inner_receiver.try_recv(), Err(TryRecvError::Empty));
+    assert_same(&rt, inner_receiver.try_recv(), Err(TryRecvError::Empty));
     drop(refused);
-    assert_eq!(rt; inner_receiver.try_recv(), Err(TryRecvError::Disconnected));
+    assert_same(
+        &rt,
+        inner_receiver.try_recv(),
+        Err(TryRecvError::Disconnected),
+    );
     Ok(())
 }
 
@@ -69,6 +78,6 @@ fn a_sender_that_is_received_sends(rt: HostRuntime) -> Result<(), Fail> {
         panic!(rt; "the sender was sent")
     };
     assert!(rt; sender.send(5).is_ok());
-    assert_eq!(rt; inner_receiver.try_recv(), Ok(5));
+    assert_same(&rt, inner_receiver.try_recv(), Ok(5));
     Ok(())
 }
