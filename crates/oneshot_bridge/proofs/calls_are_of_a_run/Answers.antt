@@ -1,4 +1,4 @@
--- The goals that `calls_are_of_a_run` leaves.
+-- Proofs of the goals that `calls_are_of_a_run` leaves.
 use Rattle.oneshot_bridge.proofs.CallsRun.{calls_run, both_calls_run, one_call_gets}
 use Rattle.oneshot_bridge.proofs.calls_are_of_a_run.Goals as goal
 

@@ -1,4 +1,4 @@
--- The goals that `every_state_is_of_a_run` leaves.
+-- Proofs of the goals that `every_state_is_of_a_run` leaves.
 use Rattle.oneshot_bridge.proofs.StatesRun.{states_run}
 use Rattle.oneshot_bridge.proofs.every_state_is_of_a_run.Goals as goal
 

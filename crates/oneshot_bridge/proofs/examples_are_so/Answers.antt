@@ -1,4 +1,4 @@
--- The goals that `examples_are_so` leaves.
+-- Proofs of the goals that `examples_are_so` leaves.
 use Rattle.oneshot_bridge.proofs.CallExamples.{worked_calls, wrong_calls}
 use Rattle.oneshot_bridge.proofs.CellExamples.{worked_cells, wrong_cells, wrong_uses}
 use Rattle.oneshot_bridge.proofs.Examples.{worked_run, wrong_runs}

@@ -1,4 +1,4 @@
--- The goals that `orders_are_runs` leaves.
+-- Proofs of the goals that `orders_are_runs` leaves.
 use Rattle.oneshot_bridge.proofs.StatesRun.{orders_run}
 use Rattle.oneshot_bridge.proofs.orders_are_runs.Goals as goal
 

@@ -1,4 +1,4 @@
--- The goals that `runs_are_in_order` leaves.
+-- Proofs of the goals that `runs_are_in_order` leaves.
 use Rattle.oneshot_bridge.proofs.RunOrder.{runs_are_in_order, worked_order, wrong_order}
 use Rattle.oneshot_bridge.proofs.runs_are_in_order.Goals as goal
 

@@ -1,4 +1,4 @@
--- The goals that `wakes_of_each_run` leaves.
+-- Proofs of the goals that `wakes_of_each_run` leaves.
 use Rattle.oneshot_bridge.proofs.Woken.{nobody_waits_in_a_run, wake_is_next_in_a_run, was_dropped, nobody_is_left}
 use Rattle.oneshot_bridge.proofs.wakes_of_each_run.Goals as goal
 

@@ -1,4 +1,4 @@
--- The goals that `records` leaves.
+-- Proofs of the goals that `records` leaves.
 use Rattle.oneshot_law_examples.proofs.RecordExamples.{right_records, wrong_records, wrong_runs}
 use Rattle.oneshot_law_examples.proofs.StepExamples.{calls_that_are_left, steps_that_are, steps_that_are_not}
 use Rattle.oneshot_law_examples.proofs.WakersComputed.{wakers_are_computed}

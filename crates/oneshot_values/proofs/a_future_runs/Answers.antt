@@ -1,4 +1,4 @@
--- The goal that `a_future_runs` leaves.
+-- Proof of the goal that `a_future_runs` leaves.
 use Rattle.oneshot_values.proofs.ValuesRun.{receiver_runs}
 use Rattle.oneshot_values.proofs.a_future_runs.Goals as goal
 

@@ -1,4 +1,4 @@
--- The goal that `a_receiver_runs` leaves.
+-- Proof of the goal that `a_receiver_runs` leaves.
 use Rattle.oneshot_values.proofs.ValuesRun.{receiver_runs}
 use Rattle.oneshot_values.proofs.a_receiver_runs.Goals as goal
 

@@ -1,4 +1,4 @@
--- The goal that `an_error_runs` leaves.
+-- Proof of the goal that `an_error_runs` leaves.
 use Rattle.oneshot_values.proofs.ValuesRun.{error_runs}
 use Rattle.oneshot_values.proofs.an_error_runs.Goals as goal
 

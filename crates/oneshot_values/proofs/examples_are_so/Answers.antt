@@ -1,4 +1,4 @@
--- The goals that `examples_are_so` leaves.
+-- Proofs of the goals that `examples_are_so` leaves.
 use Rattle.oneshot_values.proofs.ValueExamples.{worked_values, wrong_values}
 use Rattle.oneshot_values.proofs.examples_are_so.Goals as goal
 

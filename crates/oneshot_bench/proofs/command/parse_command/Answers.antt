@@ -1,4 +1,4 @@
--- The goals that `parse_command` leaves.
+-- Proofs of the goals that `parse_command` leaves.
 use Rattle.std.proofs.Common.{◌≡◌, [], ◌∷◌, map, string_bytes, sym, arith}
 use Rattle.oneshot_bench.proofs.Asked.{map-pair, map-triple, asks-two, asks-three}
 use Rattle.oneshot_bench.proofs.command.parse_command.Goals as goal

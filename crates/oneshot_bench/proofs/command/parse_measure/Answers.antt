@@ -1,4 +1,4 @@
--- The goals that `parse_measure` leaves.
+-- Proofs of the goals that `parse_measure` leaves.
 use Rattle.std.proofs.Common.{sym}
 use Rattle.oneshot_bench.specs.Command.{Writes}
 use Rattle.oneshot_bench.proofs.Asked.{measure-asked}

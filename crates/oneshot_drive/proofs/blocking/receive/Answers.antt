@@ -1,4 +1,4 @@
--- The goals that `receive` leaves.
+-- Proofs of the goals that `receive` leaves.
 use Rattle.oneshot_drive.proofs.Names.{rules, refl, sym, ◌∙◌, Store, closed_itself, by_ref, is_in}
 use Rattle.oneshot_drive.proofs.AfterOperations.{asks, took_message}
 use Rattle.oneshot_drive.proofs.RestLoads.{rests_over}

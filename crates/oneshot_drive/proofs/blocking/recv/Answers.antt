@@ -1,4 +1,4 @@
--- The goals that `recv` leaves.
+-- Proofs of the goals that `recv` leaves.
 use Rattle.oneshot_drive.proofs.Names.{refl, ◌∙◌, by_value, is_in, is_room}
 use Rattle.oneshot_drive.proofs.Receives.{has_message, full_freed, gone, gone_freed, hand_back}
 use Rattle.oneshot_drive.proofs.blocking.recv.Goals as goal

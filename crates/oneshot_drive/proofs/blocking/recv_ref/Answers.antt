@@ -1,4 +1,4 @@
--- The goals that `recv_ref` leaves.
+-- Proofs of the goals that `recv_ref` leaves.
 use Rattle.oneshot_drive.proofs.Names.{refl}
 use Rattle.oneshot_drive.proofs.Receives.{untimed_full, untimed_gone}
 use Rattle.oneshot_drive.proofs.blocking.recv_ref.Goals as goal

@@ -1,4 +1,4 @@
--- The goals that `recv_timeout` leaves.
+-- Proofs of the goals that `recv_timeout` leaves.
 use Rattle.oneshot_drive.proofs.Names.{IfOk-weaker}
 use Rattle.oneshot_drive.proofs.Receives.{clock_rests, clock_ready, clock_closed, sum_ran}
 use Rattle.oneshot_drive.proofs.blocking.recv_timeout.Goals as goal

@@ -1,4 +1,4 @@
--- The goals that `examples_are_so` leaves.
+-- Proofs of the goals that `examples_are_so` leaves.
 use Rattle.oneshot_drive.proofs.EndExamples.{ends_that_are, ends_that_are_not, calls_that_leave, calls_that_do_not, replies_that_are, hands_that_are, hands_that_are_not}
 use Rattle.oneshot_drive.proofs.GroundExamples.{grounds_that_are, grounds_that_are_not, wakers_that_are, wakers_that_are_not}
 use Rattle.oneshot_drive.proofs.laws.examples_are_so.Goals as goal

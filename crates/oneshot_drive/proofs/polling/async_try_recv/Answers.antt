@@ -1,4 +1,4 @@
--- The goals that `async_try_recv` leaves.
+-- Proofs of the goals that `async_try_recv` leaves.
 use Rattle.oneshot_drive.proofs.Names.{rules, refl, is_in, async_try_recv_few}
 use Rattle.oneshot_drive.proofs.AfterOperations.{took_message}
 use Rattle.oneshot_drive.proofs.RestLoads.{never, closed_finds}

@@ -1,4 +1,4 @@
--- The goals that `close` leaves.
+-- Proofs of the goals that `close` leaves.
 use Rattle.oneshot_drive.proofs.Names.{rules, refl, ◌∙◌, AsyncDrop, AsyncSwap, is_in, is_room}
 use Rattle.oneshot_drive.proofs.LastSwap.{swapped_full, swapped_over, swapped_open, row_at, dropped_message, dropped_open, dropped_last}
 use Rattle.oneshot_drive.proofs.polling.close.Goals as goal

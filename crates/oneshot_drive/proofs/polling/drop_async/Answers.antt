@@ -1,4 +1,4 @@
--- The goals that `drop_async` leaves.
+-- Proofs of the goals that `drop_async` leaves.
 use Rattle.oneshot_drive.proofs.Names.{rules, drop_async_few}
 use Rattle.oneshot_drive.proofs.PollLoads.{meet_asks, met, met_copied, met_end}
 use Rattle.oneshot_drive.proofs.DroppedFutures.{drop_after, drop_at_once}

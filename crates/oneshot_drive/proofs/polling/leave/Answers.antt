@@ -1,4 +1,4 @@
--- The goals that `leave` leaves.
+-- Proofs of the goals that `leave` leaves.
 use Rattle.oneshot_drive.proofs.Names.{is_in}
 use Rattle.oneshot_drive.proofs.LeftCopies.{leave_asks, left, left_waits, left_there, none_left, withdrew_full, withdrew_over, leave_waits, leave_full, leave_over}
 use Rattle.oneshot_drive.proofs.OwnCopies.{wrote_none, on_word, on_withdraw, on_write}

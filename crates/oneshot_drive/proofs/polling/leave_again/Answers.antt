@@ -1,4 +1,4 @@
--- The goals that `leave_again` leaves.
+-- Proofs of the goals that `leave_again` leaves.
 use Rattle.oneshot_drive.proofs.Names.{rules, refl, Exchange, leaves_its_copy, leaves_claimed, is_in}
 use Rattle.oneshot_drive.proofs.AfterOperations.{asks, withdrew_waker}
 use Rattle.oneshot_drive.proofs.LeftCopies.{refused, copied_on, owned_ends, may_leave, again_backed, backed_copy, backed_full, backed_none, backed_late, again_to, again_left, again_late}

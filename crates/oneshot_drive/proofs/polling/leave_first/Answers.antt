@@ -1,4 +1,4 @@
--- The goals that `leave_first` leaves.
+-- Proofs of the goals that `leave_first` leaves.
 use Rattle.oneshot_drive.proofs.Names.{rules, refl, leaves_uncopied}
 use Rattle.oneshot_drive.proofs.LeftCopies.{refused, copied_on, owned_ends, may_leave, first_left}
 use Rattle.oneshot_drive.proofs.OwnCopies.{wrote_none, on_own, on_copy, on_refusal}

@@ -1,4 +1,4 @@
--- The goals that `meet` leaves.
+-- Proofs of the goals that `meet` leaves.
 use Rattle.oneshot_drive.proofs.Names.{rules, refl, leaves_claimed}
 use Rattle.oneshot_drive.proofs.RestLoads.{never}
 use Rattle.oneshot_drive.proofs.PollLoads.{meet_asks, met, met_open, met_copied, met_claimed, met_full, met_none, met_path, met_own, loaded_to}

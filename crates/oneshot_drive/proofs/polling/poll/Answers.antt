@@ -1,4 +1,4 @@
--- The goals that `poll` leaves.
+-- Proofs of the goals that `poll` leaves.
 use Rattle.oneshot_drive.proofs.Names.{rules, sym, ◌∙◌, is_disconnected, is_in, poll_few}
 use Rattle.oneshot_drive.proofs.AfterOperations.{took_message}
 use Rattle.oneshot_drive.proofs.Stretches.{whole}

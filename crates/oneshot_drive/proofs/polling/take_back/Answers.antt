@@ -1,4 +1,4 @@
--- The goals that `take_back` leaves.
+-- Proofs of the goals that `take_back` leaves.
 use Rattle.oneshot_drive.proofs.Names.{rules, refl, Swap, Exchange, is_in}
 use Rattle.oneshot_drive.proofs.AfterOperations.{asks}
 use Rattle.oneshot_drive.proofs.LeftCopies.{backed, backed_copy}

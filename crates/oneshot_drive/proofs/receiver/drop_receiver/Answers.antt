@@ -1,4 +1,4 @@
--- The goals that `drop_receiver` leaves.
+-- Proofs of the goals that `drop_receiver` leaves.
 use Rattle.oneshot_drive.proofs.Names.{rules, refl, ◌∙◌, DropSwap, is_in, is_room}
 use Rattle.oneshot_machine.specs.declared.machine.receiver.ReceiverPos.TheVariants.{Drop}
 use Rattle.oneshot_drive.proofs.RestLoads.{swap_asks}

@@ -1,4 +1,4 @@
--- The goals that `try_recv` leaves.
+-- Proofs of the goals that `try_recv` leaves.
 use Rattle.oneshot_drive.proofs.Names.{rules, refl, Store, is_in, try_recv_few}
 use Rattle.oneshot_drive.proofs.AfterOperations.{asks, took_message}
 use Rattle.oneshot_drive.proofs.RestLoads.{load_asks, loaded, loaded_full, loaded_open, loaded_none, closed, rests_over, rests_here, took_leaves, open_leaves, closed_leaves, took_ran, empty_ran, gone_ran, never}

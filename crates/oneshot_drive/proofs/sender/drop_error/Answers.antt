@@ -1,4 +1,4 @@
--- The goals that `drop_error` leaves.
+-- Proofs of the goals that `drop_error` leaves.
 use Rattle.oneshot_drive.proofs.SenderRuns.{error_ran}
 use Rattle.oneshot_drive.proofs.sender.drop_error.Goals as goal
 

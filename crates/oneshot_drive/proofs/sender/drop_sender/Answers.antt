@@ -1,4 +1,4 @@
--- The goals that `drop_sender` leaves.
+-- Proofs of the goals that `drop_sender` leaves.
 use Rattle.oneshot_drive.proofs.Names.{rules, refl, ◌∙◌, Xor, is_room, drop_few}
 use Rattle.oneshot_drive.proofs.AfterOperations.{sender_asks}
 use Rattle.oneshot_drive.proofs.SenderCalls.{drop_owes, flipped, flipped_room}

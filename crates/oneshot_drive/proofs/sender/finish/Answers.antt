@@ -1,4 +1,4 @@
--- The goals that `finish` leaves.
+-- Proofs of the goals that `finish` leaves.
 use Rattle.oneshot_drive.proofs.SenderCalls.{finish_asks, finished_as, overtaken_as}
 use Rattle.oneshot_drive.proofs.sender.finish.Goals as goal
 

@@ -1,4 +1,4 @@
--- The goals that `into_inner` leaves.
+-- Proofs of the goals that `into_inner` leaves.
 use Rattle.oneshot_drive.proofs.SenderRuns.{into_ran}
 use Rattle.oneshot_drive.proofs.sender.into_inner.Goals as goal
 

@@ -1,4 +1,4 @@
--- The goals that `send` leaves.
+-- Proofs of the goals that `send` leaves.
 use Rattle.oneshot_drive.proofs.Names.{rules, refl, ◌∙◌, Add, message_kept, send_few}
 use Rattle.oneshot_drive.proofs.AfterOperations.{sender_asks}
 use Rattle.oneshot_drive.proofs.SenderCalls.{written, send_owes, added_kept, added, refused, is_too_late}

@@ -1,4 +1,4 @@
--- The goals that `find` leaves.
+-- Proofs of the goals that `find` leaves.
 use Rattle.oneshot_drive.proofs.Names.{rules, refl, at_once, returned}
 use Rattle.oneshot_drive.proofs.RestLoads.{load_asks, loaded, loaded_full, loaded_open, loaded_none, never}
 use Rattle.oneshot_drive.proofs.StoredWaker.{full_at_once, found_none, over_at_once, ready_waker}

@@ -1,4 +1,4 @@
--- The goals that `is_over` leaves.
+-- Proofs of the goals that `is_over` leaves.
 use Rattle.oneshot_drive.proofs.Names.{[], ◌∷◌, refl, clocked}
 use Rattle.oneshot_drive.proofs.AfterOperations.{stands_on}
 use Rattle.oneshot_drive.proofs.Waits.{asked, not_asked}

@@ -1,4 +1,4 @@
--- The goals that `stop` leaves.
+-- Proofs of the goals that `stop` leaves.
 use Rattle.oneshot_drive.proofs.Names.{rules, refl, Swap, is_in}
 use Rattle.oneshot_drive.proofs.AfterOperations.{asks}
 use Rattle.oneshot_drive.proofs.Waits.{stopped, stopped_open, stopped_full, stopped_over, stopped_late, withdrew_nothing, stops_to, nothing_path, late_path}

@@ -1,4 +1,4 @@
--- The goals that `wait` leaves.
+-- Proofs of the goals that `wait` leaves.
 use Rattle.oneshot_drive.proofs.Names.{◌≡◌, ℕ, refl, rules, Found, Path, ReceiveBy, wait_of, end_of, EndsAt}
 use Rattle.oneshot_drive.proofs.Stretches.{begun}
 use Rattle.oneshot_drive.proofs.Waits.{may_park, parked_asks, woke, Decides, by_message, by_end, woke_at, woke_again, parks_again, parks_decided, stops_path}

@@ -1,4 +1,4 @@
--- The goals that `wait_late` leaves.
+-- Proofs of the goals that `wait_late` leaves.
 use Rattle.oneshot_drive.proofs.Names.{◌≡◌, ℕ, true, refl, rules, Found, Timed, LatePark, Path, ref_end, EndsAt}
 use Rattle.oneshot_drive.proofs.Stretches.{begun}
 use Rattle.oneshot_drive.proofs.Waits.{may_park_late, parked_asks, woke, Decides, by_message, by_end, ended_at, ended_again, late_decided, late_to}

@@ -1,4 +1,4 @@
--- The goals that `a_token_is_given_once_and_then_taken` leaves.
+-- Proofs of the goals that `a_token_is_given_once_and_then_taken` leaves.
 use Rattle.oneshot_ends.proofs.TokenLives.{lives_lead_to_states, tokens_are_given_once}
 use Rattle.oneshot_ends.proofs.laws.a_token_is_given_once_and_then_taken.Goals as goal
 

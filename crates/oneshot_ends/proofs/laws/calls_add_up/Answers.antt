@@ -1,4 +1,4 @@
--- The goal that `calls_add_up` leaves.
+-- Proof of the goal that `calls_add_up` leaves.
 use Rattle.oneshot_ends.proofs.CallsAnswered.{one_more}
 use Rattle.oneshot_ends.proofs.laws.calls_add_up.Goals as goal
 

@@ -1,4 +1,4 @@
--- The goals that `channel` leaves.
+-- Proofs of the goals that `channel` leaves.
 use Rattle.oneshot_ends.proofs.NewEnds.{new_sender, new_receiver}
 use Rattle.oneshot_ends.proofs.pair.channel.Goals as goal
 

@@ -1,4 +1,4 @@
--- The goals that `channel_for` leaves.
+-- Proofs of the goals that `channel_for` leaves.
 use Rattle.oneshot_ends.proofs.NewEnds.{new_sender, new_receiver}
 use Rattle.oneshot_ends.proofs.pair.channel_for.Goals as goal
 

@@ -1,4 +1,4 @@
--- The goals that `parker` leaves.
+-- Proofs of the goals that `parker` leaves.
 use Rattle.oneshot_ends.specs.Tokens.{undivided}
 use Rattle.oneshot_ends.proofs.Tokens.{halved}
 use Rattle.oneshot_ends.proofs.token.parker.Goals as goal

@@ -1,4 +1,4 @@
--- The goals that `equality_agrees_with_hashing` leaves.
+-- Proofs of the goals that `equality_agrees_with_hashing` leaves.
 use Rattle.std.proofs.Common.{refl, sym}
 use Rattle.oneshot_errors.specs.declared.recv_timeout.RecvTimeoutError.TheVariants.{Timeout, Disconnected as Gone}
 use Rattle.oneshot_errors.specs.declared.try_recv.TryRecvError.TheVariants.{Empty, Disconnected}

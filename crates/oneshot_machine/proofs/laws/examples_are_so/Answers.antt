@@ -1,4 +1,4 @@
--- The goals that `examples_are_so` leaves.
+-- Proofs of the goals that `examples_are_so` leaves.
 use Rattle.oneshot_machine.proofs.ExampleRuns.{logs_of_sender, logs_of_receiver, runs_that_are}
 use Rattle.oneshot_machine.proofs.ExampleNoRuns.{runs_that_are_not}
 use Rattle.oneshot_machine.proofs.FutureExampleRuns.{logs_of_future, future_runs, future_runs_that_are_not}

@@ -1,4 +1,4 @@
--- The goal that `phases_keep_order` leaves.
+-- Proof of the goal that `phases_keep_order` leaves.
 use Rattle.oneshot_machine.proofs.InOrders.{in_order}
 use Rattle.oneshot_machine.proofs.laws.phases_keep_order.Goals as goal
 

@@ -1,4 +1,4 @@
--- The goals that `tables_are_exact` leaves.
+-- Proofs of the goals that `tables_are_exact` leaves.
 use Rattle.oneshot_machine.proofs.ExactTables.{sender_exact, receiver_exact}
 use Rattle.oneshot_machine.proofs.laws.tables_are_exact.Goals as goal
 

@@ -1,4 +1,4 @@
--- The goals that `begin_drop` leaves.
+-- Proofs of the goals that `begin_drop` leaves.
 use Rattle.std.proofs.Common.{rules}
 use Rattle.oneshot_machine.specs.declared.states.Op.TheVariants.{Swap, Xor}
 use Rattle.oneshot_machine.specs.Slots.{vacant, is_away, is_vacant, head, tail, may}

@@ -1,4 +1,4 @@
--- The goals that `begin_send` leaves.
+-- Proofs of the goals that `begin_send` leaves.
 use Rattle.std.proofs.Common.{rules, ◌≡◌, ap, ◌∙◌}
 use Rattle.oneshot_machine.specs.declared.states.Op.TheVariants.{Swap, Add}
 use Rattle.oneshot_machine.specs.Phases.{fresh, sender_at}

@@ -1,4 +1,4 @@
--- The goals that `look` leaves.
+-- Proofs of the goals that `look` leaves.
 use Rattle.std.proofs.Common.{rules, ◌≡◌, refl, subst}
 use Rattle.oneshot_machine.specs.declared.states.Op.TheVariants.{Load}
 use Rattle.oneshot_machine.specs.Phases.{first, receiver_at}

@@ -1,4 +1,4 @@
--- The goals that `receive` leaves.
+-- Proofs of the goals that `receive` leaves.
 use Rattle.std.proofs.Common.{rules}
 use Rattle.oneshot_machine.specs.declared.states.Op.TheVariants.{Store}
 use Rattle.oneshot_part_tests.proofs.Shown.{receiver_can, receiver_told, closes, keeps_message}

@@ -1,4 +1,4 @@
--- The goals that `stop` leaves.
+-- Proofs of the goals that `stop` leaves.
 use Rattle.std.proofs.Common.{rules, ◌≡◌, ℕ, refl}
 use Rattle.oneshot_machine.specs.declared.states.Op.TheVariants.{Load, Swap}
 use Rattle.oneshot_machine.specs.Phases.{blocked, waits, here, between, receiver_at}

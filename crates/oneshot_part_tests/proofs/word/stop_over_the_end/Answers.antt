@@ -1,4 +1,4 @@
--- The goals that `stop_over_the_end` leaves.
+-- Proofs of the goals that `stop_over_the_end` leaves.
 use Rattle.std.proofs.Common.{rules, ◌≡◌, ℕ, refl}
 use Rattle.oneshot_machine.specs.declared.states.Op.TheVariants.{Store, Swap}
 use Rattle.oneshot_machine.specs.Phases.{blocked, waits, stopping, unclosed, receiver_at}

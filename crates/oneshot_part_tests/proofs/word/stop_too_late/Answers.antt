@@ -1,4 +1,4 @@
--- The goals that `stop_too_late` leaves.
+-- Proofs of the goals that `stop_too_late` leaves.
 use Rattle.std.proofs.Common.{rules, ◌≡◌, ℕ, refl}
 use Rattle.oneshot_machine.specs.declared.states.Op.TheVariants.{Load, Swap}
 use Rattle.oneshot_machine.specs.Phases.{blocked, waits, overdue, receiver_at}

@@ -1,4 +1,4 @@
--- The goals that `store_waker` leaves.
+-- Proofs of the goals that `store_waker` leaves.
 use Rattle.std.proofs.Common.{rules, ◌≡◌, ℕ, refl, subst}
 use Rattle.oneshot_machine.specs.declared.states.Op.TheVariants.{Load, Swap}
 use Rattle.oneshot_machine.specs.Phases.{here, looked, blocked, waits, receiver_at}

@@ -1,4 +1,4 @@
--- The goals that `replay` leaves: one more move, and the end of the run.
+-- Proofs of the goals that `replay` leaves: one more move, and the end of the run.
 use Rattle.std.proofs.Common.{rules, ◌≡◌, take}
 use Rattle.std.proofs.lemmas.List.{take_more, take_all}
 use Rattle.oneshot_world.specs.declared.script.Move.TheVariants.{Sender}

@@ -1,4 +1,4 @@
--- The goal that `tried` leaves.
+-- Proof of the goal that `tried` leaves.
 use Rattle.oneshot_values.proofs.ValuesRun.{only_the_last_got}
 use Rattle.oneshot_values.proofs.worker.tried.Goals as goal
 

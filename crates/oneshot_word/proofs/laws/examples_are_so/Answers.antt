@@ -1,4 +1,4 @@
--- The goals that `examples_are_so` leaves.
+-- Proofs of the goals that `examples_are_so` leaves.
 use Rattle.oneshot_word.proofs.RuleExamples.{states_that_are, states_that_are_not}
 use Rattle.oneshot_word.proofs.ReadExamples.{reads_that_are, reads_that_are_not}
 use Rattle.oneshot_word.proofs.SeatExamples.{slots_as_seen, seats_that_are, seats_that_are_not}

@@ -1,4 +1,4 @@
--- The goals that `what_is_received_was_sent` leaves.
+-- Proofs of the goals that `what_is_received_was_sent` leaves.
 use Rattle.oneshot_word.proofs.RuleReceives.{received_is_sent, messages_that_pass, messages_that_do_not}
 use Rattle.oneshot_word.proofs.laws.what_is_received_was_sent.Goals as goal
 

@@ -1,4 +1,4 @@
--- The goals that `open` leaves.
+-- Proofs of the goals that `open` leaves.
 use Rattle.oneshot_word.proofs.Names.{rules, sym, subst, opened, SenderSeat, ReceiverSeat}
 use Rattle.oneshot_word.proofs.Opens.{deal_allowed, split_allowed, sender_seated, receiver_seated}
 use Rattle.oneshot_word.proofs.opening.open.Goals as goal

@@ -1,4 +1,4 @@
--- The goals that `new` of `AsyncReceiver` leaves.
+-- Proofs of the goals that `new` of `AsyncReceiver` leaves.
 use Rattle.oneshot_drive.specs.Polls.{unpolled}
 use Rattle.oneshot_ends.proofs.CallsAnswered.{then_future}
 use Rattle.oneshot_ends.proofs.future.AsyncReceiver.new.Goals as goal

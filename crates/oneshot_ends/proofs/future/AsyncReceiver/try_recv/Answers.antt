@@ -1,4 +1,4 @@
--- The goals that `try_recv` of `AsyncReceiver` leaves.
+-- Proofs of the goals that `try_recv` of `AsyncReceiver` leaves.
 use Rattle.std.proofs.Common.{refl, sym, ◌∙◌, subst}
 use Rattle.oneshot_machine.specs.declared.machine.receiver.ReceiverStart.TheVariants.{AsyncTryRecv}
 use Rattle.oneshot_machine.specs.Phases.{receiver_at}

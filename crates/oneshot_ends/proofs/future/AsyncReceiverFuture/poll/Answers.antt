@@ -1,4 +1,4 @@
--- The goals that `poll` of `AsyncReceiver` as a `Future` leaves.
+-- Proofs of the goals that `poll` of `AsyncReceiver` as a `Future` leaves.
 use Rattle.std.proofs.Common.{[], ◌∷◌, refl, sym, ◌∙◌, subst}
 use Rattle.oneshot_machine.specs.declared.machine.receiver.ReceiverStart.TheVariants as C
 use Rattle.oneshot_machine.specs.Phases.{receiver_at}

@@ -1,4 +1,4 @@
--- The goals that `new` of `Receiver` leaves.
+-- Proofs of the goals that `new` of `Receiver` leaves.
 use Rattle.oneshot_ends.proofs.CallsAnswered.{none_answered}
 use Rattle.oneshot_ends.proofs.NewEnds.{rests_at_new}
 use Rattle.oneshot_ends.proofs.receiver.Receiver.new.Goals as goal

@@ -1,4 +1,4 @@
--- The goals that `recv` of `Receiver` leaves.
+-- Proofs of the goals that `recv` of `Receiver` leaves.
 use Rattle.std.proofs.Common.{[], ◌∷◌, sym, ap, subst}
 use Rattle.oneshot_machine.specs.Phases.{receiver_at}
 use Rattle.oneshot_drive.specs.BetweenCalls.{IsClosedAt}

@@ -1,4 +1,4 @@
--- The goals that `recv_deadline` of `Receiver` leaves.
+-- Proofs of the goals that `recv_deadline` of `Receiver` leaves.
 use Rattle.std.proofs.Common.{[], ◌∷◌, refl, sym, ap, ◌∙◌, subst}
 use Rattle.oneshot_machine.specs.Phases.{receiver_at}
 use Rattle.oneshot_machine.specs.declared.machine.receiver.ReceiverStart.TheVariants.{RecvDeadline}

@@ -1,4 +1,4 @@
--- The goals that `recv_timeout` of `Receiver` leaves.
+-- Proofs of the goals that `recv_timeout` of `Receiver` leaves.
 use Rattle.oneshot_drive.proofs.ReadyHands.{closed_in_time, open_too_late}
 use Rattle.oneshot_ends.proofs.receiver.Receiver.recv_timeout.Goals as goal
 

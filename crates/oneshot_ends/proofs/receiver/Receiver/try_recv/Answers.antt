@@ -1,4 +1,4 @@
--- The goals that `try_recv` of `Receiver` leaves.
+-- Proofs of the goals that `try_recv` of `Receiver` leaves.
 use Rattle.std.proofs.Common.{refl, sym, ◌∙◌, subst}
 use Rattle.oneshot_machine.specs.Phases.{receiver_at}
 use Rattle.oneshot_machine.specs.declared.machine.receiver.ReceiverStart.TheVariants.{TryRecv}

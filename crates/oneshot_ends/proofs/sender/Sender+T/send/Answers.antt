@@ -1,4 +1,4 @@
--- The goals that `send` of `Sender` leaves.
+-- Proofs of the goals that `send` of `Sender` leaves.
 use Rattle.std.proofs.Common.{refl, sym, subst}
 use Rattle.oneshot_machine.specs.Phases.{sender_at}
 use Rattle.oneshot_drive.specs.BetweenCalls.{IsLate}

@@ -1,4 +1,4 @@
--- The goals that `send_kept` of `Sender` leaves.
+-- Proofs of the goals that `send_kept` of `Sender` leaves.
 use Rattle.std.proofs.Common.{refl, sym, subst}
 use Rattle.oneshot_machine.specs.Phases.{sender_at}
 use Rattle.oneshot_drive.specs.BetweenCalls.{IsLate}

@@ -1,4 +1,4 @@
--- The goals that `park` of `ParkingHalf` leaves.
+-- Proofs of the goals that `park` of `ParkingHalf` leaves.
 use Rattle.std.proofs.Common.{true}
 use Rattle.oneshot_ends.proofs.Tokens.{can_take}
 use Rattle.oneshot_ends.proofs.token.ParkingHalf.park.Goals as goal

@@ -1,4 +1,4 @@
--- The goals that `park_until` of `ParkingHalf` leaves.
+-- Proofs of the goals that `park_until` of `ParkingHalf` leaves.
 use Rattle.oneshot_ends.proofs.Tokens.{can_take}
 use Rattle.oneshot_ends.proofs.token.ParkingHalf.park_until.Goals as goal
 

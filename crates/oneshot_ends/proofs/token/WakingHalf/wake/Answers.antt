@@ -1,4 +1,4 @@
--- The goals that `wake` of `WakingHalf` leaves.
+-- Proofs of the goals that `wake` of `WakingHalf` leaves.
 use Rattle.oneshot_ends.proofs.Tokens.{can_give}
 use Rattle.oneshot_ends.proofs.token.WakingHalf.wake.Goals as goal
 

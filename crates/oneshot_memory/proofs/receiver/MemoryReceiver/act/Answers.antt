@@ -1,4 +1,4 @@
--- The goals that `act` of `MemoryReceiver` leaves.
+-- Proofs of the goals that `act` of `MemoryReceiver` leaves.
 use Rattle.std.proofs.Common.{◌≡◌, None, rules, sym, ap, ◌∙◌}
 use Rattle.oneshot_memory.specs.Receiver.{both_here}
 use Rattle.oneshot_memory.proofs.ReceiverMatches.{BothHere, both_here_by, left_open, left_waiting}

@@ -1,4 +1,4 @@
--- The goals that `begin` of `MemoryReceiver` leaves.
+-- Proofs of the goals that `begin` of `MemoryReceiver` leaves.
 use Rattle.std.proofs.Common.{rules}
 use Rattle.oneshot_memory.proofs.ReceiverMatches.{lingering}
 use Rattle.oneshot_memory.proofs.receiver.MemoryReceiver.begin.Goals as goal

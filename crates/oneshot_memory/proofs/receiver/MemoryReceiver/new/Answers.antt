@@ -1,4 +1,4 @@
--- The goals that `new` of `MemoryReceiver` leaves.
+-- Proofs of the goals that `new` of `MemoryReceiver` leaves.
 use Rattle.std.proofs.Common.{◌≡◌, [], rules, refl}
 use Rattle.oneshot_machine.specs.Slots.{is_away}
 use Rattle.oneshot_drive.specs.BetweenCalls.{rests_new}

@@ -1,4 +1,4 @@
--- The goals that `note_copy` of `MemoryReceiver` leaves.
+-- Proofs of the goals that `note_copy` of `MemoryReceiver` leaves.
 use Rattle.std.proofs.Common.{[], ◌∷◌, ap}
 use Rattle.oneshot_machine.specs.Logs.{words, copied}
 use Rattle.oneshot_memory.proofs.Events.{step_grows}

@@ -1,4 +1,4 @@
--- The goals that `note_own_wake` of `MemoryReceiver` leaves.
+-- Proofs of the goals that `note_own_wake` of `MemoryReceiver` leaves.
 use Rattle.std.proofs.Common.{[], ◌∷◌, ◌++◌, refl, ap, ◌∙◌}
 use Rattle.oneshot_memory.proofs.ReceiverMatches.{receiver_stays}
 use Rattle.oneshot_memory.proofs.receiver.MemoryReceiver.note_own_wake.Goals as goal

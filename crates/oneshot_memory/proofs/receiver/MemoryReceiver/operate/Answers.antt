@@ -1,4 +1,4 @@
--- The goals that `operate` of `MemoryReceiver` leaves.
+-- Proofs of the goals that `operate` of `MemoryReceiver` leaves.
 use Rattle.std.proofs.Common.{sym, ap, ◌∙◌, subst}
 use Rattle.oneshot_machine.specs.Logs.{receiver_of}
 use Rattle.oneshot_machine.specs.Slots.{ReceiverFinds}

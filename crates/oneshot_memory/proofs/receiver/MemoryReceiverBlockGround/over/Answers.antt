@@ -1,4 +1,4 @@
--- The goals that `over` of `MemoryReceiver` as a `BlockGround` leaves.
+-- Proofs of the goals that `over` of `MemoryReceiver` as a `BlockGround` leaves.
 use Rattle.std.proofs.Common.{[], ◌∷◌, ◌++◌, refl, ap, ◌∙◌}
 use Rattle.oneshot_memory.proofs.ReceiverMatches.{receiver_stays}
 use Rattle.oneshot_memory.proofs.receiver.MemoryReceiverBlockGround.over.Goals as goal

@@ -1,4 +1,4 @@
--- The goals that `park` of `MemoryReceiver` as a `BlockGround` leaves.
+-- Proofs of the goals that `park` of `MemoryReceiver` as a `BlockGround` leaves.
 use Rattle.std.proofs.Common.{[], ◌∷◌, ◌++◌, refl, ap, ◌∙◌}
 use Rattle.oneshot_machine.specs.Logs.{parked}
 use Rattle.oneshot_memory.specs.Events.{logged_event}

@@ -1,4 +1,4 @@
--- The goals that `drop_message` of `MemoryReceiver` as a `ReceiverGround` leaves.
+-- Proofs of the goals that `drop_message` of `MemoryReceiver` as a `ReceiverGround` leaves.
 use Rattle.std.proofs.Common.{[], ◌∷◌, ◌++◌, refl, ap, ◌∙◌}
 use Rattle.oneshot_memory.proofs.ReceiverMatches.{receiver_stays, receiver_emptied}
 use Rattle.oneshot_memory.proofs.receiver.MemoryReceiverReceiverGround.drop_message.Goals as goal

@@ -1,4 +1,4 @@
--- The goals that `free` of `MemoryReceiver` as a `ReceiverGround` leaves.
+-- Proofs of the goals that `free` of `MemoryReceiver` as a `ReceiverGround` leaves.
 use Rattle.std.proofs.Common.{[], ◌∷◌, ◌++◌, refl, ap, ◌∙◌}
 use Rattle.oneshot_memory.proofs.ReceiverMatches.{receiver_stays, receiver_freed}
 use Rattle.oneshot_memory.proofs.receiver.MemoryReceiverReceiverGround.free.Goals as goal

@@ -1,4 +1,4 @@
--- The goals that `withdraw` of `MemoryReceiver` as a `ReceiverGround` leaves.
+-- Proofs of the goals that `withdraw` of `MemoryReceiver` as a `ReceiverGround` leaves.
 use Rattle.std.proofs.Common.{◌≡◌, None, rules, refl, ap, ◌∙◌}
 use Rattle.oneshot_memory.proofs.Events.{no_word}
 use Rattle.oneshot_memory.proofs.Memory.{slot_held}

@@ -1,4 +1,4 @@
--- The goals that `new` of `MemorySender` leaves.
+-- Proofs of the goals that `new` of `MemorySender` leaves.
 use Rattle.std.proofs.Common.{◌≡◌, [], rules, refl}
 use Rattle.oneshot_machine.specs.Slots.{is_away, is_vacant}
 use Rattle.oneshot_memory.proofs.sender.MemorySender.new.Goals as goal

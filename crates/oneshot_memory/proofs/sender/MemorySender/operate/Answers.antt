@@ -1,4 +1,4 @@
--- The goals that `operate` of `MemorySender` leaves.
+-- Proofs of the goals that `operate` of `MemorySender` leaves.
 use Rattle.std.proofs.Common.{sym, ap, subst}
 use Rattle.oneshot_machine.specs.Logs.{sender_of}
 use Rattle.oneshot_machine.specs.Slots.{SenderFinds}

@@ -1,4 +1,4 @@
--- The goals that `with_waiting_receiver` of `MemorySender` leaves.
+-- Proofs of the goals that `with_waiting_receiver` of `MemorySender` leaves.
 use Rattle.std.proofs.Common.{◌≡◌, [], rules, refl}
 use Rattle.oneshot_machine.specs.Slots.{is_away, is_vacant}
 use Rattle.oneshot_memory.proofs.sender.MemorySender.with_waiting_receiver.Goals as goal

@@ -1,4 +1,4 @@
--- The goals that `drop_message` of `MemorySender` as a `SenderGround` leaves.
+-- Proofs of the goals that `drop_message` of `MemorySender` as a `SenderGround` leaves.
 use Rattle.std.proofs.Common.{[], ◌∷◌, ◌++◌, None, refl, ap, ◌∙◌}
 use Rattle.oneshot_memory.proofs.SenderMatches.{sender_stays, sender_messages}
 use Rattle.oneshot_memory.proofs.sender.MemorySenderSenderGround.drop_message.Goals as goal

@@ -1,4 +1,4 @@
--- The goals that `free` of `MemorySender` as a `SenderGround` leaves.
+-- Proofs of the goals that `free` of `MemorySender` as a `SenderGround` leaves.
 use Rattle.std.proofs.Common.{[], ◌∷◌, ◌++◌, refl, ap, ◌∙◌}
 use Rattle.oneshot_memory.proofs.SenderMatches.{sender_stays, sender_freed}
 use Rattle.oneshot_memory.proofs.sender.MemorySenderSenderGround.free.Goals as goal

@@ -1,4 +1,4 @@
--- The goals that `take_message` of `MemorySender` as a `SenderGround` leaves.
+-- Proofs of the goals that `take_message` of `MemorySender` as a `SenderGround` leaves.
 use Rattle.std.proofs.Common.{◌≡◌, None, rules, refl}
 use Rattle.oneshot_memory.proofs.SenderMatches.{sender_stays, sender_messages}
 use Rattle.oneshot_memory.proofs.sender.MemorySenderSenderGround.take_message.Goals as goal

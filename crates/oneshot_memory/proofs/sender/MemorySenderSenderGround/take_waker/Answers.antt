@@ -1,4 +1,4 @@
--- The goals that `take_waker` of `MemorySender` as a `SenderGround` leaves.
+-- Proofs of the goals that `take_waker` of `MemorySender` as a `SenderGround` leaves.
 use Rattle.std.proofs.Common.{◌≡◌, None, rules, refl, ap, ◌∙◌}
 use Rattle.oneshot_memory.proofs.Events.{no_word}
 use Rattle.oneshot_memory.proofs.SenderMatches.{sender_stays, sender_emptied, sender_outlasts}

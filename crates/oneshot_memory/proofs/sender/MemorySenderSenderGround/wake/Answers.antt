@@ -1,4 +1,4 @@
--- The goals that `wake` of `MemorySender` as a `SenderGround` leaves.
+-- Proofs of the goals that `wake` of `MemorySender` as a `SenderGround` leaves.
 use Rattle.std.proofs.Common.{refl}
 use Rattle.oneshot_memory.proofs.Events.{no_word}
 use Rattle.oneshot_memory.proofs.SenderMatches.{sender_stays}

@@ -1,4 +1,4 @@
--- The goals that `write_message` of `MemorySender` as a `SenderGround` leaves.
+-- Proofs of the goals that `write_message` of `MemorySender` as a `SenderGround` leaves.
 use Rattle.std.proofs.Common.{Some, refl}
 use Rattle.oneshot_memory.proofs.SenderMatches.{sender_stays, sender_messages}
 use Rattle.oneshot_memory.proofs.sender.MemorySenderSenderGround.write_message.Goals as goal

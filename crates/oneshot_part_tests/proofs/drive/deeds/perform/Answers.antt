@@ -1,4 +1,4 @@
--- The goals that `perform` leaves.
+-- Proofs of the goals that `perform` leaves.
 use Rattle.oneshot_drive.proofs.ReadyHands.{ready_still, ready_closed, ready_timed}
 use Rattle.oneshot_part_tests.proofs.drive.deeds.perform.Goals as goal
 

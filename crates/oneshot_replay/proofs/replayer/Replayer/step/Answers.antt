@@ -1,4 +1,4 @@
--- The goals that `step` leaves.
+-- Proofs of the goals that `step` leaves.
 use Rattle.std.proofs.Common.{refl}
 use Rattle.oneshot_replay.specs.Scene.{Scene}
 use Rattle.oneshot_replay.proofs.Runs.{goes_on}

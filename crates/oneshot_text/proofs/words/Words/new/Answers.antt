@@ -1,4 +1,4 @@
--- The goals that `new` of `Words` leaves.
+-- Proofs of the goals that `new` of `Words` leaves.
 use Rattle.std.proofs.Common.{arith}
 use Rattle.oneshot_text.proofs.Cut.{length-parts}
 use Rattle.oneshot_text.proofs.words.Words.new.Goals as goal

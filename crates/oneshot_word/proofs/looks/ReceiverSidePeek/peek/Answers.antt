@@ -1,4 +1,4 @@
--- The goals that `peek` of `ReceiverSide` leaves.
+-- Proofs of the goals that `peek` of `ReceiverSide` leaves.
 use Rattle.oneshot_word.proofs.Names.{subst, receiver_at, ReceiverOwns}
 use Rattle.oneshot_word.proofs.RuleRead.{rule_reads, seat_owns}
 use Rattle.oneshot_word.proofs.looks.ReceiverSidePeek.peek.Goals as goal

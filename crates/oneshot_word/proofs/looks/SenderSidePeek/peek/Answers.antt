@@ -1,4 +1,4 @@
--- The goals that `peek` of `SenderSide` leaves.
+-- Proofs of the goals that `peek` of `SenderSide` leaves.
 use Rattle.oneshot_word.proofs.Names.{subst, sender_at, SenderOwns}
 use Rattle.oneshot_word.proofs.RuleRead.{rule_reads, seat_owns}
 use Rattle.oneshot_word.proofs.looks.SenderSidePeek.peek.Goals as goal

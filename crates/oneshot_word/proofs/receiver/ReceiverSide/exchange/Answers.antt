@@ -1,4 +1,4 @@
--- The goals that `exchange` of `ReceiverSide` leaves.
+-- Proofs of the goals that `exchange` of `ReceiverSide` leaves.
 use Rattle.oneshot_word.proofs.Names.{rules, sym, subst, Exchange, ReceiverCan}
 use Rattle.oneshot_word.proofs.EachStep.{receiver_allowed}
 use Rattle.oneshot_word.proofs.receiver.ReceiverSide.exchange.Goals as goal

@@ -1,4 +1,4 @@
--- The goals that `load` of `ReceiverSide` leaves.
+-- Proofs of the goals that `load` of `ReceiverSide` leaves.
 use Rattle.oneshot_word.proofs.Names.{rules, sym, subst, Load, ReceiverCan}
 use Rattle.oneshot_word.proofs.EachStep.{receiver_allowed}
 use Rattle.oneshot_word.proofs.receiver.ReceiverSide.load.Goals as goal

@@ -1,4 +1,4 @@
--- The goals that `slots` of `ReceiverSide` leaves.
+-- Proofs of the goals that `slots` of `ReceiverSide` leaves.
 use Rattle.oneshot_word.proofs.Names.{subst, receiver_at, ReceiverOwns}
 use Rattle.oneshot_word.proofs.RuleRead.{seat_owns}
 use Rattle.oneshot_word.proofs.receiver.ReceiverSide.slots.Goals as goal

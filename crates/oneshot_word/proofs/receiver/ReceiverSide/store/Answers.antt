@@ -1,4 +1,4 @@
--- The goals that `store` of `ReceiverSide` leaves.
+-- Proofs of the goals that `store` of `ReceiverSide` leaves.
 use Rattle.oneshot_word.proofs.Names.{rules, sym, subst, Store, ReceiverCan}
 use Rattle.oneshot_word.proofs.EachStep.{receiver_allowed}
 use Rattle.oneshot_word.proofs.receiver.ReceiverSide.store.Goals as goal

@@ -1,4 +1,4 @@
--- The goals that `swap` of `ReceiverSide` leaves.
+-- Proofs of the goals that `swap` of `ReceiverSide` leaves.
 use Rattle.oneshot_word.proofs.Names.{rules, sym, subst, Swap, ReceiverCan}
 use Rattle.oneshot_word.proofs.EachStep.{receiver_allowed}
 use Rattle.oneshot_word.proofs.receiver.ReceiverSide.swap.Goals as goal

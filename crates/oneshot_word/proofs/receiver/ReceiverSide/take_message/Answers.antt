@@ -1,4 +1,4 @@
--- The goals that `take_message` of `ReceiverSide` leaves.
+-- Proofs of the goals that `take_message` of `ReceiverSide` leaves.
 use Rattle.std.proofs.Common.{◌≡◌, Option, Some}
 use Rattle.oneshot_word.proofs.Names.{sym, ap, ◌∙◌, Held, held, vacant_keeps, HoldsTaken, holds_no_slot, holds_none, holds_it}
 use Rattle.oneshot_word.proofs.SlotReads.{message_reads}

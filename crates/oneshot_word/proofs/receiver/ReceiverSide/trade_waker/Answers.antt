@@ -1,4 +1,4 @@
--- The goals that `trade_waker` of `ReceiverSide` leaves.
+-- Proofs of the goals that `trade_waker` of `ReceiverSide` leaves.
 use Rattle.oneshot_word.proofs.Names.{◌≢◌, rules, sym, ap, subst, away, waker_of, message_in, waker_in, WakerSlot, ReceiverSeat}
 use Rattle.oneshot_word.proofs.SlotReads.{fits_waker}
 use Rattle.oneshot_word.proofs.Trades.{receiver_waker_front, Traded, receiver_waker_traded, waker_side}

@@ -1,4 +1,4 @@
--- The goals that `add` of `SenderSide` leaves.
+-- Proofs of the goals that `add` of `SenderSide` leaves.
 use Rattle.oneshot_word.proofs.Names.{rules, sym, subst, Add, SenderCan}
 use Rattle.oneshot_word.proofs.EachStep.{sender_allowed}
 use Rattle.oneshot_word.proofs.sender.SenderSide.add.Goals as goal

@@ -1,4 +1,4 @@
--- The goals that `flip` of `SenderSide` leaves.
+-- Proofs of the goals that `flip` of `SenderSide` leaves.
 use Rattle.oneshot_word.proofs.Names.{rules, sym, subst, Xor, SenderCan}
 use Rattle.oneshot_word.proofs.EachStep.{sender_allowed}
 use Rattle.oneshot_word.proofs.sender.SenderSide.flip.Goals as goal

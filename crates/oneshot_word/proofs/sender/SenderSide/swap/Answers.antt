@@ -1,4 +1,4 @@
--- The goals that `swap` of `SenderSide` leaves.
+-- Proofs of the goals that `swap` of `SenderSide` leaves.
 use Rattle.oneshot_word.proofs.Names.{rules, sym, subst, Swap, SenderCan}
 use Rattle.oneshot_word.proofs.EachStep.{sender_allowed}
 use Rattle.oneshot_word.proofs.sender.SenderSide.swap.Goals as goal

@@ -1,4 +1,4 @@
--- The goals that `take_message` of `SenderSide` leaves.
+-- Proofs of the goals that `take_message` of `SenderSide` leaves.
 use Rattle.oneshot_word.proofs.Names.{vacant_keeps}
 use Rattle.oneshot_word.proofs.sender.SenderSide.take_message.Goals as goal
 

@@ -1,4 +1,4 @@
--- The goals that `trade_message` of `SenderSide` leaves.
+-- Proofs of the goals that `trade_message` of `SenderSide` leaves.
 use Rattle.std.proofs.Common.{refl}
 use Rattle.oneshot_word.proofs.Names.{◌≢◌, rules, sym, subst, away, Keeps, message_of, message_in, waker_in, MessageSlot, SenderSeat}
 use Rattle.oneshot_word.proofs.SlotReads.{fits_message}

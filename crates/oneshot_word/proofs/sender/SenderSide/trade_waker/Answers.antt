@@ -1,4 +1,4 @@
--- The goals that `trade_waker` of `SenderSide` leaves.
+-- Proofs of the goals that `trade_waker` of `SenderSide` leaves.
 use Rattle.std.proofs.Common.{refl}
 use Rattle.oneshot_word.proofs.Names.{◌≢◌, rules, sym, ap, subst, away, waker_of, message_in, waker_in, WakerSlot, SenderSeat}
 use Rattle.oneshot_word.proofs.SlotReads.{fits_waker}

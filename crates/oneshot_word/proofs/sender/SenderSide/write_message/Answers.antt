@@ -1,4 +1,4 @@
--- The goals that `write_message` of `SenderSide` leaves.
+-- Proofs of the goals that `write_message` of `SenderSide` leaves.
 use Rattle.oneshot_word.proofs.Names.{held_keeps}
 use Rattle.oneshot_word.proofs.sender.SenderSide.write_message.Goals as goal
 

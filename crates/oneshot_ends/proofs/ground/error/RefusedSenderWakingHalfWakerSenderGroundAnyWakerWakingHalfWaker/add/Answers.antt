@@ -1,4 +1,4 @@
--- The goals that `add` of `RefusedSender` as a `SenderGround` leaves.
+-- Proofs of the goals that `add` of `RefusedSender` as a `SenderGround` leaves.
 use Rattle.oneshot_machine.specs.declared.states.Op.TheVariants.{Add}
 use Rattle.oneshot_ends.proofs.GroundSlots.{late_never}
 use Rattle.oneshot_ends.proofs.ground.error.RefusedSenderWakingHalfWakerSenderGroundAnyWakerWakingHalfWaker.add.Goals as goal

@@ -1,4 +1,4 @@
--- The goals that `flip` of `RefusedSender` as a `SenderGround` leaves.
+-- Proofs of the goals that `flip` of `RefusedSender` as a `SenderGround` leaves.
 use Rattle.oneshot_machine.specs.declared.states.Op.TheVariants.{Xor}
 use Rattle.oneshot_ends.proofs.GroundSlots.{late_never}
 use Rattle.oneshot_ends.proofs.ground.error.RefusedSenderWakingHalfWakerSenderGroundAnyWakerWakingHalfWaker.flip.Goals as goal

@@ -1,4 +1,4 @@
--- The goals that `swap` of `RefusedSender` as a `SenderGround` leaves.
+-- Proofs of the goals that `swap` of `RefusedSender` as a `SenderGround` leaves.
 use Rattle.oneshot_machine.specs.declared.states.Op.TheVariants.{Swap}
 use Rattle.oneshot_ends.proofs.GroundSlots.{late_never}
 use Rattle.oneshot_ends.proofs.ground.error.RefusedSenderWakingHalfWakerSenderGroundAnyWakerWakingHalfWaker.swap.Goals as goal

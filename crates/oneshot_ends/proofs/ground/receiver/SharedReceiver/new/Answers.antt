@@ -1,4 +1,4 @@
--- The goals that `new` of `SharedReceiver` leaves.
+-- Proofs of the goals that `new` of `SharedReceiver` leaves.
 use Rattle.oneshot_ends.proofs.GroundSlots.{stays_unfreed}
 use Rattle.oneshot_ends.proofs.ground.receiver.SharedReceiver.new.Goals as goal
 

@@ -1,4 +1,4 @@
--- The goals that `free` of `SharedReceiver` as a `ReceiverGround` leaves.
+-- Proofs of the goals that `free` of `SharedReceiver` as a `ReceiverGround` leaves.
 use Rattle.std.proofs.Common.{sym, ap, subst, ◌∙◌}
 use Rattle.oneshot_machine.specs.Phases.{receiver_at}
 use Rattle.oneshot_ends.specs.Grounds.{MayBeFreed}

@@ -1,4 +1,4 @@
--- The goals that `store` of `SharedReceiver` as a `ReceiverGround` leaves.
+-- Proofs of the goals that `store` of `SharedReceiver` as a `ReceiverGround` leaves.
 use Rattle.oneshot_ends.proofs.GroundSlots.{receiver_can, receiver_stays, receiver_found}
 use Rattle.oneshot_ends.proofs.ground.receiver.SharedReceiverReceiverGroundAnyWaker.store.Goals as goal
 

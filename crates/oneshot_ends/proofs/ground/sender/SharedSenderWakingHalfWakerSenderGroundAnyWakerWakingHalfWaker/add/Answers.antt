@@ -1,4 +1,4 @@
--- The goals that `add` of `SharedSender` as a `SenderGround` leaves.
+-- Proofs of the goals that `add` of `SharedSender` as a `SenderGround` leaves.
 use Rattle.std.proofs.Common.{ap}
 use Rattle.oneshot_ends.proofs.GroundSlots.{sender_can, sender_found}
 use Rattle.oneshot_ends.proofs.ground.sender.SharedSenderWakingHalfWakerSenderGroundAnyWakerWakingHalfWaker.add.Goals as goal

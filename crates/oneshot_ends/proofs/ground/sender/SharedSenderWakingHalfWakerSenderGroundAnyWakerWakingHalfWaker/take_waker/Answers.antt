@@ -1,4 +1,4 @@
--- The goals that `take_waker` of `SharedSender` as a `SenderGround` leaves.
+-- Proofs of the goals that `take_waker` of `SharedSender` as a `SenderGround` leaves.
 use Rattle.std.proofs.Common.{ap, ◌∙◌}
 use Rattle.oneshot_ends.proofs.GroundSlots.{own_slot}
 use Rattle.oneshot_ends.proofs.ground.sender.SharedSenderWakingHalfWakerSenderGroundAnyWakerWakingHalfWaker.take_waker.Goals as goal

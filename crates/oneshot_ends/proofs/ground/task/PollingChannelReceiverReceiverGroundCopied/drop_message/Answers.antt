@@ -1,4 +1,4 @@
--- The goals that `drop_message` of `Polling` as a `ReceiverGround` leaves.
+-- Proofs of the goals that `drop_message` of `Polling` as a `ReceiverGround` leaves.
 use Rattle.std.proofs.Common.{refl, [], ◌∷◌}
 use Rattle.oneshot_ends.proofs.PollingTokens.{told}
 use Rattle.oneshot_ends.proofs.ground.task.PollingChannelReceiverReceiverGroundCopied.drop_message.Goals as goal

@@ -1,4 +1,4 @@
--- The goals that `free` of `Polling` as a `ReceiverGround` leaves.
+-- Proofs of the goals that `free` of `Polling` as a `ReceiverGround` leaves.
 use Rattle.std.proofs.Common.{refl, [], ◌∷◌}
 use Rattle.oneshot_ends.proofs.PollingTokens.{told}
 use Rattle.oneshot_ends.proofs.ground.task.PollingChannelReceiverReceiverGroundCopied.free.Goals as goal

@@ -1,4 +1,4 @@
--- The goals that `store` of `Polling` as a `ReceiverGround` leaves.
+-- Proofs of the goals that `store` of `Polling` as a `ReceiverGround` leaves.
 use Rattle.std.proofs.Common.{refl, [], ◌∷◌}
 use Rattle.oneshot_machine.specs.declared.states.Op.TheVariants.{Store}
 use Rattle.oneshot_ends.proofs.PollingTokens.{told, token_can, token_found}

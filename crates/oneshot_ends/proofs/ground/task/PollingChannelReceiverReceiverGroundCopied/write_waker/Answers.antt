@@ -1,4 +1,4 @@
--- The goals that `write_waker` of `Polling` as a `ReceiverGround` leaves.
+-- Proofs of the goals that `write_waker` of `Polling` as a `ReceiverGround` leaves.
 use Rattle.std.proofs.Common.{refl, [], ◌∷◌}
 use Rattle.oneshot_ends.proofs.PollingTokens.{told}
 use Rattle.oneshot_ends.proofs.ground.task.PollingChannelReceiverReceiverGroundCopied.write_waker.Goals as goal
