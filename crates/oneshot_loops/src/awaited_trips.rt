@@ -4,6 +4,7 @@ ghost use Rattle.std.specs.Prelude.{◌≡◌, IfOk, vec_len};
 
 use crate::fault::Fault;
 use crate::queues::{awaited, queue};
+use crate::request;
 use crate::round_trip::BATCH;
 use crate::tally::Tally;
 use futures::task::Queue;
@@ -14,11 +15,8 @@ use std::random::RandomSource;
 use std::sync::Wait;
 use std::thread::{Threads, join};
 
-/// A request, which carries the sender of its reply.
-#[derive(Drop)]
-pub struct Request {
-    reply: Sender<()>,
-}
+/// A request of this round trip.
+pub type Request = request::Request<Sender<()>>;
 
 /// Sends a request over `requests`, and awaits its reply in `queue`, over a channel made for it.
 ///

@@ -3,6 +3,7 @@
 ghost use Rattle.std.specs.Prelude.{◌≡◌, IfOk, vec_len};
 
 use crate::fault::Fault;
+use crate::request;
 use crate::round_trip::BATCH;
 use crate::tally::Tally;
 use crossbeam_channel::{Receiver, Sender, bounded};
@@ -11,11 +12,8 @@ use std::mem::size_of;
 use std::sync::Wait;
 use std::thread::{Threads, join};
 
-/// A request, which carries the sender of its reply.
-#[derive(Drop)]
-pub struct Request {
-    reply: Sender<(), Global>,
-}
+/// A request of this round trip.
+pub type Request = request::Request<Sender<(), Global>>;
 
 /// Sends a request over `requests`, and blocks until its reply comes over a channel made for it.
 ///

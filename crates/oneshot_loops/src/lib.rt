@@ -15,6 +15,7 @@ pub mod measure;
 pub mod message;
 pub mod polled;
 pub mod queues;
+pub mod request;
 pub mod round_trip;
 pub mod rounds;
 pub mod run;

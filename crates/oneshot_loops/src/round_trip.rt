@@ -3,6 +3,7 @@
 ghost use Rattle.std.specs.Prelude.{◌≡◌, IfOk, vec_len};
 
 use crate::fault::Fault;
+use crate::request;
 use crate::tally::Tally;
 use oneshot_channel::{Receiver, Sender, channel};
 use std::alloc::Global;
@@ -14,11 +15,8 @@ use std::time::Clock;
 /// The most round trips that one started thread makes.
 pub const BATCH: u64 = 1024;
 
-/// A request, which carries the sender of its reply.
-#[derive(Drop)]
-pub struct Request {
-    reply: Sender<()>,
-}
+/// A request of this round trip.
+pub type Request = request::Request<Sender<()>>;
 
 /// Sends a request over `requests`, and blocks until its reply comes over a channel made for it.
 ///
