@@ -1,5 +1,5 @@
 -- Proofs of the goals that `parse_command` leaves.
-use Rattle.std.proofs.Common.{◌≡◌, [], ◌∷◌, map, string_bytes, sym, arith}
+use Rattle.std.proofs.Common.{◌≡◌, [], ◌∷◌, map, string_bytes, arith}
 use Rattle.oneshot_bench.proofs.Asked.{map-pair, map-triple, asks-two, asks-three}
 use Rattle.oneshot_bench.proofs.command.parse_command.Goals as goal
 
