@@ -31,19 +31,12 @@ pub record EndOf (P : Type 0) : Type 0 where
   pub log : List Noted
   pub about : P
 
--- an end of a channel without a promise
-abbrev pub End : Type 0
-End = EndOf (Unit {0})
-
 -- a future: the same, with the source at which its polls register
 pub record FutureEndOf (P : Type 0) : Type 0 where
   pub channel : TableId
   pub log : List Noted
   pub source : ℕ
   pub about : P
-
-abbrev pub FutureEnd : Type 0
-FutureEnd = FutureEndOf (Unit {0})
 
 -- an error: the message that was refused, and the sender's channel and log
 pub record Failed (T : Type 0) : Type 0 where
