@@ -6,11 +6,11 @@
 
 use super::counted::Drops;
 use super::threads::on_two_threads;
+use crate::asserts::assert_same;
 use futures::executor::block_on;
 use futures::task::Poll;
 use futures::test::MockTask;
 use oneshot::{RecvError, async_channel, channel};
-use oneshot_asserts::assert_same;
 use std::alloc::AllocGlobal;
 use std::process::Abort;
 use std::random::RandomSource;

@@ -2,8 +2,8 @@
 
 use super::threads::on_two_threads;
 use super::times::{answers, in_time, tenth};
+use crate::asserts::assert_same;
 use oneshot::{RecvError, RecvTimeoutError, Sender, channel};
-use oneshot_asserts::assert_same;
 use std::test::Fail;
 use std::thread::sleep;
 use std::time::{Clock, Duration};

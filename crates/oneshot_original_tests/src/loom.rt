@@ -5,11 +5,11 @@
 
 use super::threads::{ROUNDS, on_two_threads, poll};
 use super::times::patience;
+use crate::asserts::assert_same;
 use futures::executor::block_on;
 use futures::task::Poll;
 use futures::test::MockTask;
 use oneshot::{async_channel, channel, drive};
-use oneshot_asserts::assert_same;
 use oneshot_memory::{MemoryFuture, MemoryTask};
 use std::test::Fail;
 use std::time::Duration;

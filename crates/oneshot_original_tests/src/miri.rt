@@ -2,13 +2,13 @@
 
 use super::threads::{ROUNDS, on_two_threads, poll};
 use super::times::{answers, in_time, second};
+use crate::asserts::assert_same;
 use futures::FutureExt;
 use futures::task::Poll;
 use futures::test::MockTask;
 use oneshot::{
     AsyncReceiver, RecvError, RecvTimeoutError, Sender, TryRecvError, async_channel, channel,
 };
-use oneshot_asserts::assert_same;
 use std::alloc::AllocGlobal;
 use std::hint::spin_loop;
 use std::io;

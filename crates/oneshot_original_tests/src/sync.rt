@@ -5,8 +5,8 @@
 use super::counted::Drops;
 use super::threads::{ROUNDS, on_two_threads};
 use super::times::{answers, in_time, linger, second, tenth};
+use crate::asserts::assert_same;
 use oneshot::{RecvError, RecvTimeoutError, SendError, Sender, TryRecvError, channel};
-use oneshot_asserts::assert_same;
 use std::alloc::{AllocError, Global};
 use std::process::Abort;
 use std::sync::Wait;

@@ -1,7 +1,7 @@
 //! How long the tests wait, how late a receive may return, and what the tests do on a busy machine.
 
+use crate::asserts::assert_same;
 use oneshot::RecvTimeoutError;
-use oneshot_asserts::assert_same;
 use std::fmt::Debug;
 use std::process::Abort;
 use std::test::Fail;

@@ -1,9 +1,9 @@
 //! The calls of a future over a ground in memory: what becomes of the copies of a waker, and how often the
 //! task is woken.
 
+use crate::asserts::assert_same;
 use crate::drive::steps::steps_of;
 use futures::task::Poll;
-use oneshot_asserts::assert_same;
 use oneshot_drive::{async_try_recv, drop_async, poll};
 use oneshot_errors::{RecvError, TryRecvError};
 use oneshot_memory::{MemoryFuture, MemoryTask};

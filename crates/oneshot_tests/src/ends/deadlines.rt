@@ -1,6 +1,6 @@
 //! Receives with a deadline or a timeout, alone and with a sender on another thread.
 
-use oneshot_asserts::assert_same;
+use crate::asserts::assert_same;
 use oneshot_channel::{Receiver, RecvError, RecvTimeoutError, TryRecvError, channel};
 use std::io;
 use std::process::Abort;

@@ -1,6 +1,6 @@
 //! A message that was received, or never sent, is dropped by its holder alone: an `Arc` counts.
 
-use oneshot_asserts::assert_same;
+use crate::asserts::assert_same;
 use oneshot_channel::channel;
 use std::sync::Arc;
 use std::test::Fail;

@@ -3,8 +3,8 @@
 use super::clocks::{Act, Meanwhile, five};
 use super::lives::{DROPPED, LIVES, Life, RAW, READY, TRIED, live};
 use super::steps::{Ends, Look};
+use crate::asserts::assert_same;
 use futures::test::MockTask;
-use oneshot_asserts::assert_same;
 use oneshot_channel::{RecvError, channel};
 use std::process::Abort;
 use std::random::RandomSource;

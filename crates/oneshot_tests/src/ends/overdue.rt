@@ -1,7 +1,7 @@
 //! Deadlines that pass during the sender's send or drop. After a lost wakeup, or with one wait more than
 //! wakes, these tests would not end.
 
-use oneshot_asserts::assert_same;
+use crate::asserts::assert_same;
 use oneshot_channel::{Receiver, RecvError, RecvTimeoutError, channel};
 use std::io;
 use std::process::Abort;

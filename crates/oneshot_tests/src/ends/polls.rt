@@ -2,11 +2,11 @@
 
 ghost use Rattle.std.specs.Prelude.{◌≡◌};
 
+use crate::asserts::assert_same;
 use futures::Future;
 use futures::executor::block_on;
 use futures::future::join;
 use futures::task::{Context, Poll};
-use oneshot_asserts::assert_same;
 use oneshot_channel::{AsyncReceiver, RecvError, async_channel};
 use std::random::RandomSource;
 use std::sync::Wait;

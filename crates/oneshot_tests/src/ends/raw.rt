@@ -1,6 +1,6 @@
 //! Raw ends: made from an end, made into an end again, moved between threads, and dropped.
 
-use oneshot_asserts::assert_same;
+use crate::asserts::assert_same;
 use oneshot_channel::{RawReceiver, RawSender, Receiver, RecvError, Sender, TryRecvError, channel};
 use std::sync::Arc;
 use std::test::Fail;

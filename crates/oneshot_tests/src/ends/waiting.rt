@@ -1,6 +1,6 @@
 //! Receives that block, with a sender on another thread: if a wake did nothing, they would not end.
 
-use oneshot_asserts::assert_same;
+use crate::asserts::assert_same;
 use oneshot_channel::{Receiver, RecvError, TryRecvError, channel};
 use std::sync::{Arc, Wait};
 use std::test::Fail;
