@@ -4,7 +4,7 @@ pub mod PhasesRead
 pub mod CellsRun
 pub mod Interleaves
 pub mod Seen
-pub mod Told
+pub mod Replied
 pub mod Turns
 pub mod Worlds
 pub mod SenderScripted

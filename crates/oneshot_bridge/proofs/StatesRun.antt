@@ -6,7 +6,7 @@ use Rattle.oneshot_bridge.proofs.CellsRun.{cells_run}
 use Rattle.oneshot_bridge.proofs.Interleaves.{interleaves}
 use Rattle.oneshot_bridge.proofs.ReceiverLogs.{receiver_scripted}
 use Rattle.oneshot_bridge.proofs.SenderScripted.{sender_scripted}
-use Rattle.oneshot_bridge.proofs.Told.{told_in}
+use Rattle.oneshot_bridge.proofs.Replied.{replied_in}
 use Rattle.oneshot_bridge.proofs.Worlds.{Got, the_model}
 
 pub runs_have_cells : (T : Type 0) → RunsHaveCells T
@@ -20,9 +20,9 @@ orders_run T a b xs ys n s r order sender receiver =
       entries = got.entries;
       now = got.now;
       run = got.run;
-      sender = let told = told_in a b got.entries Sender s.1 s.2 got.sender_told in
+      sender = let told = replied_in a b got.entries Sender s.1 s.2 got.sender_told in
           λ i. (got.sender i, got.sender_left i, told i);
-      receiver = let told = told_in a b got.entries Receiver r.1 r.2 got.receiver_told in
+      receiver = let told = replied_in a b got.entries Receiver r.1 r.2 got.receiver_told in
           λ i. (got.receiver i, got.receiver_left i, told i);
       right = is_right a b got.moves got.entries got.now got.run.run;
     }

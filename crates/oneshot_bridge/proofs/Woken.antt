@@ -16,7 +16,7 @@ use Rattle.oneshot_bridge.proofs.Given.{has_ended, woken_at}
 use Rattle.oneshot_bridge.proofs.PhaseCodes.{Phases}
 use Rattle.oneshot_bridge.proofs.PhasesBeside.{is_wake, answers, wakes_at, wakes_if_finished, wakes_well, all_wake, is_gone, has_ended as receiver_ended, ends_well, all_end}
 use Rattle.oneshot_bridge.proofs.StatesRun.{orders_run}
-use Rattle.oneshot_bridge.proofs.Told.{left_all, told_by, told_more, shown}
+use Rattle.oneshot_bridge.proofs.Replied.{left_all, replied_by, replied_more, shown}
 use Rattle.oneshot_bridge.proofs.Turns.{by_row, sender_turn}
 
 -- the sender's call has replied, so nobody waits
@@ -77,12 +77,12 @@ module _ {T : Type 0} (a : SenderScript T) (b : ReceiverScript) {moves : List Mo
       let left = left_all Sender (opening_sender a).1 entries in
       let same : left ≡ now.world.sender = left_last 1 (opening a b) ran.worlds moves entries ran.tells
       ∙ ap (λ (w : World). w.sender) ran.ends in
-      let own : list_any ends (told_by Sender left (Made_entry e ∷ [])) ≡ true =
+      let own : list_any ends (replied_by Sender left (Made_entry e ∷ [])) ≡ true =
       rw (side, replies, same, last) refl in
       subst (λ told. list_any ends told ≡ true)
       (sym (shown a b (entries ++ Made_entry e ∷ []) Sender
-      ∙ told_more Sender (opening_sender a).1 entries (Made_entry e ∷ [])))
-      (any_last ends (told_by Sender (opening_sender a).1 entries) (told_by Sender left (Made_entry e ∷ [])) own)
+      ∙ replied_more Sender (opening_sender a).1 entries (Made_entry e ∷ [])))
+      (any_last ends (replied_by Sender (opening_sender a).1 entries) (replied_by Sender left (Made_entry e ∷ [])) own)
 
 -- the wake, which the checker found of a sender that is done with the word
 wake_is : (step : Step) → is_wake step ≡ true → step ≡ Wake

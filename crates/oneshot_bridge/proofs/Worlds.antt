@@ -7,7 +7,7 @@ use Rattle.oneshot_world.proofs.ReachedLeads.{sender_at, receiver_at}
 use Rattle.oneshot_world.proofs.ReachedMoves.{sender_makes, receiver_makes}
 use Rattle.oneshot_bridge.proofs.Interleaves.{CanStep}
 use Rattle.oneshot_bridge.proofs.Seen.{op_sees, answer_in, sender_answers, sender_sees, receiver_sees}
-use Rattle.oneshot_bridge.proofs.Told.{told_by, tells_more, tells_same}
+use Rattle.oneshot_bridge.proofs.Replied.{replied_by, replies_more, replies_same}
 use Rattle.oneshot_bridge.proofs.Turns.{by_row, quiet_word, quiet_op, log_stays, log_grows, sender_turn, receiver_turn}
 
 module _ {X : Type 0} (a : SenderScript X) (b : ReceiverScript) where
@@ -22,9 +22,9 @@ module _ {X : Type 0} (a : SenderScript X) (b : ReceiverScript) where
     pub receiver : now.world.state.receiver ≡ r.0
     pub receiver_left : now.world.receiver ≡ r.1
     pub sender_told : (more : List Entry)
-        → told_by Sender (opening_sender a).1 (entries ++ more) ≡ s.2 ++ told_by Sender s.1 more
+        → replied_by Sender (opening_sender a).1 (entries ++ more) ≡ s.2 ++ replied_by Sender s.1 more
     pub receiver_told : (more : List Entry)
-        → told_by Receiver (opening_receiver b).1 (entries ++ more) ≡ r.2 ++ told_by Receiver r.1 more
+        → replied_by Receiver (opening_receiver b).1 (entries ++ more) ≡ r.2 ++ replied_by Receiver r.1 more
     pub reached : IsReached now.world
 
   -- the entry of a step by a row
@@ -91,9 +91,9 @@ module _ {X : Type 0} (a : SenderScript X) (b : ReceiverScript) where
           receiver = g.receiver;
           receiver_left = g.receiver_left;
           sender_told =
-              tells_more Sender entry g.entries _ s.1 (left_by Sender (reply_of row) s.1) s.2
+              replies_more Sender entry g.entries _ s.1 (left_by Sender (reply_of row) s.1) s.2
               (answers_with s.1 (reply_of row)) g.sender_told (λ more. refl);
-          receiver_told = tells_same Receiver entry g.entries _ r.1 r.2 g.receiver_told (λ more. refl);
+          receiver_told = replies_same Receiver entry g.entries _ r.1 r.2 g.receiver_told (λ more. refl);
           reached = sender_row_reaches w p row g.reached made.0 made.1;
         }
 
@@ -163,9 +163,9 @@ module _ {X : Type 0} (a : SenderScript X) (b : ReceiverScript) where
           receiver = refl;
           sender_left = g.sender_left;
           receiver_left = ap (left_by Receiver (reply_of row)) g.receiver_left;
-          sender_told = tells_same Sender entry g.entries _ s.1 s.2 g.sender_told (λ more. refl);
+          sender_told = replies_same Sender entry g.entries _ s.1 s.2 g.sender_told (λ more. refl);
           receiver_told =
-              tells_more Receiver entry g.entries _ r.1 (left_by Receiver (reply_of row) r.1) r.2
+              replies_more Receiver entry g.entries _ r.1 (left_by Receiver (reply_of row) r.1) r.2
               (answers_with r.1 (reply_of row)) g.receiver_told (λ more. refl);
           reached = receiver_row_reaches answer k w p row g.reached made.0 made.1;
         }

@@ -2,23 +2,6 @@
 //! exports these names too, beside the model.
 #![tactic(auto)]
 
-#[cfg(test)]
-mod awaited;
-#[cfg(test)]
-mod bare;
-#[cfg(test)]
-mod callers;
-#[cfg(test)]
-mod glanced;
-#[cfg(test)]
-mod inbox;
-#[cfg(test)]
-mod promised;
-#[cfg(test)]
-mod tallied;
-#[cfg(test)]
-mod tickets;
-
 pub use oneshot_ends::{
     AsyncReceiver, Promise, RawReceiver, RawSender, Receiver, SendError, Sender, async_channel,
     async_channel_for, channel, channel_for, laws,

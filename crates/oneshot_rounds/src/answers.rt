@@ -17,7 +17,7 @@ pub(super) enum Silence {
 }
 
 /// What one side of a round returned.
-#[derive(Clone, Copy)]
+#[derive(Drop)]
 pub(super) struct Outcome<A> {
     pub(super) answer: A,
     /// Whether the other side's call was over before this one's began.

@@ -1,9 +1,11 @@
 //! A message that counts its drops.
 
-use std::alloc::{AllocError, Global};
+use super::channels::pairs;
+use std::alloc::Global;
 use std::process::Abort;
 use std::sync::Arc;
 use std::sync::atomic::{AtomicU64, Ordering};
+use std::test::Fail;
 
 /// A message whose drop is counted.
 pub(super) struct Counted {
@@ -27,14 +29,12 @@ pub(super) fn make_messages(
     alloc: Global,
     count: u64,
     value: u64,
-) -> Result<(Vec<Counted>, Drops), AllocError> {
-    let mut messages = Vec::new(alloc);
-    let mut counts = Vec::new(alloc);
-    for _ in 0..count {
+) -> Result<(Vec<Counted>, Drops), Fail> {
+    let (messages, counts) = pairs(alloc, count, |_| {
         let drops = Arc::new(alloc, AtomicU64::new(0))?;
-        counts.push(Arc::try_clone(&drops)?)?;
-        messages.push(Counted { value, drops })?;
-    }
+        let counts = Arc::try_clone(&drops)?;
+        Ok((Counted { value, drops }, counts))
+    })?;
     Ok((messages, Drops(counts)))
 }
 

@@ -2,6 +2,7 @@
 //! drop.
 
 use super::answers::{assert_answers, assert_both_orders};
+use super::channels::pairs;
 use super::counted::make_messages;
 use super::races::race;
 use futures::task::Poll;
@@ -19,15 +20,11 @@ pub(super) fn polled_channels<'r, T: Send + Drop, R: AllocGlobal + RandomSource 
     rt: &'r R,
     task: &MockTask,
 ) -> Result<(Vec<Sender<T>>, Vec<AsyncReceiver<T, &'r R>>), Fail> {
-    let mut senders = Vec::new(rt.alloc());
-    let mut receivers = Vec::new(rt.alloc());
-    for _ in 0..ROUNDS {
+    pairs(rt.alloc(), ROUNDS, |_| {
         let (sender, mut receiver) = async_channel(rt, rt.alloc())?;
         assert!(rt; matches!(task.poll(&mut receiver), Poll::Pending));
-        senders.push(sender)?;
-        receivers.push(receiver)?;
-    }
-    Ok((senders, receivers))
+        Ok((sender, receiver))
+    })
 }
 
 #[test]

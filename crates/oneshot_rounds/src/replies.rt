@@ -1,6 +1,7 @@
 //! Requests that are answered or dropped beside their tickets, and which replies come.
 
 use super::answers::Outcome;
+use super::channels::pairs;
 use super::races::race;
 use oneshot_channel::reply::{Answer, Length, Request, Ticket, request};
 use oneshot_channel::{RecvError, RecvTimeoutError};
@@ -24,16 +25,11 @@ type Told = (u64, usize);
 /// Makes a request and a ticket for each round, in the same order. The text is the round's number.
 fn ask_all<'r, R: AllocGlobal>(
     rt: &'r R,
-) -> Result<(Vec<Asking>, Vec<Ticket<String, Length, &'r R>>), AllocError> {
-    let mut requests = Vec::new(rt.alloc());
-    let mut tickets = Vec::new(rt.alloc());
-    for round in 0..ROUNDS {
+) -> Result<(Vec<Asking>, Vec<Ticket<String, Length, &'r R>>), Fail> {
+    pairs(rt.alloc(), ROUNDS, |round| {
         let text = round.to_string(rt.alloc())?;
-        let (one, other) = request(rt, rt.alloc(), text).map_err(|_| AllocError)?;
-        requests.push(one)?;
-        tickets.push(other)?;
-    }
-    Ok((requests, tickets))
+        Ok(request(rt, rt.alloc(), text).map_err(|_| AllocError)?)
+    })
 }
 
 /// What a reply contains.

@@ -3,6 +3,7 @@
 
 use super::answers::Silence::{Disconnected, NothingYet};
 use super::answers::{Outcome, Silence, assert_answers, assert_both_orders};
+use super::channels::pairs;
 use super::counted::{Counted, make_messages};
 use super::races::race;
 use futures::task::Poll;
@@ -39,18 +40,14 @@ impl<Rt: Drop> Waiting<Rt> {
 fn waiting_channels<R: AllocGlobal + RandomSource + Abort>(
     rt: &R,
 ) -> Result<(Vec<Sender<Counted>>, Vec<Waiting<&R>>), Fail> {
-    let mut senders = Vec::new(rt.alloc());
-    let mut receivers = Vec::new(rt.alloc());
-    for _ in 0..ROUNDS {
+    pairs(rt.alloc(), ROUNDS, |_| {
         let task = MockTask::new(rt)?;
         let (sender, future) = async_channel(rt, rt.alloc())?;
         let mut waiting = Waiting { task, future };
-        assert_eq!(rt; waiting.poll(), Err(NothingYet));
+        assert!(rt; matches!(waiting.poll(), Err(NothingYet)));
         assert!(rt; !waiting.task.is_woken());
-        senders.push(sender)?;
-        receivers.push(waiting)?;
-    }
-    Ok((senders, receivers))
+        Ok((sender, waiting))
+    })
 }
 
 /// Fails unless each task was woken, and its next poll returns `left` after a `try_recv` that found nothing

@@ -1,9 +1,9 @@
 //! The ends of a channel, on one thread and on two.
 
 mod asleep;
+mod beside;
 pub(super) mod clocks;
 mod deadlines;
-mod drops;
 pub(super) mod leaks;
 mod lives;
 mod nested;

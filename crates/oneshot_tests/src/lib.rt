@@ -4,6 +4,8 @@
 #[cfg(test)]
 mod asserts;
 #[cfg(test)]
+mod callers;
+#[cfg(test)]
 mod ends;
 #[cfg(test)]
 mod errors;

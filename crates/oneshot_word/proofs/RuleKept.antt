@@ -4,7 +4,7 @@ use Rattle.oneshot_word.proofs.Names.{◌≤◌, sym, subst, leb, list_all, and_
 use Rattle.oneshot_machine.specs.Phases.{looked, waits}
 use Rattle.oneshot_word.proofs.Alike.{is_bool, bools_are}
 use Rattle.oneshot_word.proofs.FoundRow.{row_of, Found, found_none, found_row, found}
-use Rattle.oneshot_word.proofs.SlotMoves.{is_owned, Carries, carries, Went, went, goes, acts, both}
+use Rattle.oneshot_word.proofs.SlotMoves.{is_owned, Carries, carries, Moved, moved, goes, acts, both}
 use Rattle.oneshot_word.proofs.Meets.{word_between, Is, is, Meet, meet}
 use Rattle.oneshot_word.proofs.KeptRows.{stepped, is_slots, OneEnd, sender_end, receiver_end, after, leaves_word, has_act, is_right, is_kept, keeps_rule, rightly, leaves_so, keeps_word}
 
@@ -40,11 +40,11 @@ module _ {T H K At : Type 0} (kept : T → Type 0) (e : OneEnd At) where
         → word ≤ 4 → In (op, before, word, at', slots) (e.moves at)
         → leaves_word e at op before word ≡ true → is_slots (e.owns (after e at op before word)) slots ≡ true
         → has_act e at op before word slots ≡ true
-        → Went kept 0 Message before.0 slots.0 (e.message (after e at op before word)) h cm m
-        → Went any 1 with_waker before.1 slots.1 (e.waker (after e at op before word)) k cw w
+        → Moved kept 0 Message before.0 slots.0 (e.message (after e at op before word)) h cm m
+        → Moved any 1 with_waker before.1 slots.1 (e.waker (after e at op before word)) k cw w
         → Turn at op word h k (carried_as e.front cm cw) m w
-    turned {before} slots code there leaves owned acted (went {x' = m'} turns moves part lies)
-        (went {x' = w'} turns' moves' part' lies') =
+    turned {before} slots code there leaves owned acted (moved {x' = m'} turns moves part lies)
+        (moved {x' = w'} turns' moves' part' lies') =
         let at' = e.next at op (saw op word) in
         elim (both e.front acted moves moves') [
           | acts act valid homes left ↦

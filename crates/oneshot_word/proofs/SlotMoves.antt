@@ -44,22 +44,22 @@ module _ {T H K X : Type 0} (kept : X → Type 0) (place : ℕ) (put : X → Slo
   carries is_vacant (carried slot_vacant) = carries_empty
   carries (is_held x) (carried (slot_held _ k)) = carries_filled x k
 
-  pub data Went (s s' there' : Share) (h : Home T H K) (c : Carried T H K) (x : Held X) : Type 0 where
-    went : {h' : Home T H K} {c' : Carried T H K} {x' : Held X} → Turns s s' x x'
+  pub data Moved (s s' there' : Share) (h : Home T H K) (c : Carried T H K) (x : Held X) : Type 0 where
+    moved : {h' : Home T H K} {c' : Carried T H K} {x' : Held X} → Turns s s' x x'
         → Goes place (is_owned s) (is_owned s') h h' c c' → Part kept place put (is_owned s') c' x'
-        → Lies kept put there' h' → Went s s' there' h c x
+        → Lies kept put there' h' → Moved s s' there' h c x
 
   pub goes : {s there : Share} {h : Home T H K} {c : Carried T H K} {x : Held X} → Carries s c x → (s' there' : Share)
-      → Lies kept put there h → is_turn s s' there' there ≡ true → Went s s' there' h c x
-  goes carries_none none none lies_out e = went stays_away stays_there not_carried lies_out
-  goes carries_none none empty lies_bare e = went stays_away stays_there not_carried lies_bare
-  goes carries_none none filled (lies_filled x k) e = went stays_away stays_there not_carried (lies_filled x k)
-  goes carries_empty empty none lies_out e = went stays_vacant stays_here (carried slot_vacant) lies_out
-  goes (carries_filled x k) filled none lies_out e = went (stays_held x) stays_here (carried (slot_held x k)) lies_out
-  goes carries_empty none empty lies_out e = went gives_room goes_home not_carried lies_bare
-  goes (carries_filled x k) none filled lies_out e = went (gives_thing x) goes_home not_carried (lies_filled x k)
-  goes carries_none empty none lies_bare e = went gets_room comes (carried slot_vacant) lies_out
-  goes carries_none filled none (lies_filled x k) e = went (gets_thing x) comes (carried (slot_held x k)) lies_out
+      → Lies kept put there h → is_turn s s' there' there ≡ true → Moved s s' there' h c x
+  goes carries_none none none lies_out e = moved stays_away stays_there not_carried lies_out
+  goes carries_none none empty lies_bare e = moved stays_away stays_there not_carried lies_bare
+  goes carries_none none filled (lies_filled x k) e = moved stays_away stays_there not_carried (lies_filled x k)
+  goes carries_empty empty none lies_out e = moved stays_vacant stays_here (carried slot_vacant) lies_out
+  goes (carries_filled x k) filled none lies_out e = moved (stays_held x) stays_here (carried (slot_held x k)) lies_out
+  goes carries_empty none empty lies_out e = moved gives_room goes_home not_carried lies_bare
+  goes (carries_filled x k) none filled lies_out e = moved (gives_thing x) goes_home not_carried (lies_filled x k)
+  goes carries_none empty none lies_bare e = moved gets_room comes (carried slot_vacant) lies_out
+  goes carries_none filled none (lies_filled x k) e = moved (gets_thing x) comes (carried (slot_held x k)) lies_out
   goes _ _ _ _ e = absurd (cc)
 
 -- the changes of who has the message's slot and the waker's for which a seat has an act

@@ -1,15 +1,13 @@
 //! A receive that waits sleeps: it uses little processor time, however long it waits.
 
-use futures::executor::block_on;
-use oneshot_channel::{Receiver, channel};
+use super::beside::{Act, Pace, Receive, beside, hour};
 use std::alloc::AllocGlobal;
 use std::io;
-use std::process::Abort;
 use std::random::RandomSource;
-use std::sync::Wait;
+use std::sync::{Arc, Wait};
 use std::test::Fail;
-use std::thread::{Threads, join, sleep, yield_now};
-use std::time::{Clock, CpuClock, Duration, Instant};
+use std::thread::{Threads, yield_now};
+use std::time::{Clock, CpuClock, Duration};
 
 /// How many milliseconds the sender lets the receiver wait.
 const LONG: u64 = 200;
@@ -29,57 +27,17 @@ const WAITS: u32 = 40;
 /// sleeps, and only its first spin yields.
 const YIELDS: u32 = 500;
 
-/// A receive that waits.
-#[derive(Clone, Copy, Debug)]
-enum Receive {
-    Recv,
-    RecvRef,
-    RecvDeadline(Instant),
-    RecvTimeout(Duration),
-    BlockOn,
-}
-
-fn received<T: Drop, Rt: Wait + Clock + Drop>(
-    rt: &(impl Wait + RandomSource + AllocGlobal),
-    mut receiver: Receiver<T, Rt>,
-    by: Receive,
-) -> io::Result<Option<T>> {
-    Ok(match by {
-        Receive::Recv => receiver.recv().ok(),
-        Receive::RecvRef => receiver.recv_ref().ok(),
-        Receive::RecvDeadline(deadline) => receiver.recv_deadline(deadline).ok(),
-        Receive::RecvTimeout(timeout) => receiver.recv_timeout(timeout).ok(),
-        Receive::BlockOn => block_on(rt, receiver.into_future())?.ok(),
-    })
-}
-
-/// What a receive gets from a sender that sleeps for `lingers` milliseconds, and its processor time.
-fn time_of<R: Threads + Wait + Clock + CpuClock + RandomSource + AllocGlobal + Abort + Sync>(
+/// The message that a receive gets from a sender that sleeps for `lingers` milliseconds, and the receive's
+/// processor time.
+fn time_of<R: Threads + Wait + Clock + CpuClock + RandomSource + AllocGlobal + Sync>(
     rt: &R,
     by: Receive,
     lingers: u64,
-) -> Result<(Option<u8>, Duration), Fail> {
-    let (sender, receiver) = channel(rt, rt.alloc())?;
-    let (waited, _sent) = join(
-        rt,
-        || {
-            let before = rt.thread_cpu_time()?;
-            let message = received(rt, receiver, by)?;
-            io::Result::Ok((message, rt.thread_cpu_time()?.saturating_sub(before)))
-        },
-        || {
-            sleep(rt, Duration::from_millis(lingers));
-            // Refused if the receive timed out.
-            sender.send(19).is_ok()
-        },
-    );
-    Ok(waited?)
-}
-
-/// An hour from now.
-fn in_an_hour(rt: &(impl Clock + Abort)) -> Result<Instant, Fail> {
-    let end = Instant::now(rt)?.checked_add(Duration::from_secs(3_600));
-    Ok(end.expect(rt, "an instant can hold it"))
+) -> Result<(Option<u64>, Duration), Fail> {
+    let message = Arc::new(rt.alloc(), 19)?;
+    let pace = Pace::Sleep(Duration::from_millis(lingers));
+    let outcome = beside(rt, message, Act::Send, &pace, by)?;
+    Ok((outcome.received.ok().map(|message| *message), outcome.used))
 }
 
 #[test]
@@ -87,8 +45,8 @@ fn a_receive_that_waits_uses_little_processor_time(rt: HostRuntime) -> Result<()
     let receives = [
         Receive::Recv,
         Receive::RecvRef,
-        Receive::RecvDeadline(in_an_hour(&rt)?),
-        Receive::RecvTimeout(Duration::from_secs(3_600)),
+        Receive::RecvDeadline(hour()),
+        Receive::RecvTimeout(hour()),
         // No instant is that late.
         Receive::RecvTimeout(Duration::MAX),
         Receive::BlockOn,
@@ -115,8 +73,8 @@ fn a_receive_spins_little_before_it_sleeps(rt: HostRuntime) -> Result<(), Fail> 
     let receives = [
         (Receive::Recv, 3),
         (Receive::RecvRef, 3),
-        (Receive::RecvDeadline(in_an_hour(&rt)?), 3),
-        (Receive::RecvTimeout(Duration::from_secs(3_600)), 3),
+        (Receive::RecvDeadline(hour()), 3),
+        (Receive::RecvTimeout(hour()), 3),
         // It mostly times out before the sender sends.
         (Receive::RecvTimeout(Duration::from_micros(100)), 1),
     ];

@@ -1,17 +1,14 @@
-//! However a channel ends, all that it owned is freed: the block, the parker and the runtime.
+//! However a channel ends, all the memory that it took is freed.
 
 use super::clocks::{Act, Meanwhile, five};
-use super::lives::{DROPPED, LIVES, Life, RAW, READY, TRIED, live};
-use super::steps::{Ends, Look};
-use crate::asserts::assert_same;
-use futures::test::MockTask;
-use oneshot_channel::{RecvError, channel};
+use super::lives::{DROPPED, Life, OVER, RAW, READY, RECEIVED, TRIED, UNRECEIVED, live};
+use oneshot_channel::channel;
 use std::process::Abort;
 use std::random::RandomSource;
 use std::rt::Files;
 use std::sync::{Arc, Wait};
 use std::test::Fail;
-use std::time::{Clock, Duration};
+use std::time::Clock;
 use std::{fs, io};
 
 /// How many rounds: even the smallest leak in each takes more than `MOST_PAGES`.
@@ -98,65 +95,17 @@ fn assert_none_leaks(
 
 #[test]
 fn a_received_message_leaves_nothing(rt: HostRuntime) -> Result<(), Fail> {
-    assert_no_leak(&rt, || {
-        let (sender, receiver) = channel(&rt, rt.alloc())?;
-        let _ = sender.send(19u64);
-        let _ = receiver.recv();
-        let (sender, mut receiver) = channel(&rt, rt.alloc())?;
-        let _ = sender.send(19u64);
-        let _ = receiver.recv_ref();
-        let (sender, mut receiver) = channel(&rt, rt.alloc())?;
-        let _ = sender.send(19u64);
-        let _ = receiver.try_recv();
-        Ok(())
-    })
+    assert_none_leaks(&rt, RECEIVED)
 }
 
 #[test]
-fn a_message_that_nobody_receives_leaves_nothing(rt: HostRuntime) -> Result<(), Fail> {
-    assert_no_leak(&rt, || {
-        let (sender, receiver) = channel(&rt, rt.alloc())?;
-        let _ = sender.send(19u64);
-        drop(receiver);
-        let (sender, receiver) = channel(&rt, rt.alloc())?;
-        drop(receiver);
-        drop(sender.send(19u64));
-        let (sender, receiver) = channel(&rt, rt.alloc())?;
-        drop(receiver);
-        let _ = sender.send(19u64).map_err(|refused| refused.into_inner());
-        Ok(())
-    })
+fn a_receiver_without_its_message_leaves_nothing(rt: HostRuntime) -> Result<(), Fail> {
+    assert_none_leaks(&rt, UNRECEIVED)
 }
 
 #[test]
-fn a_channel_without_a_message_leaves_nothing(rt: HostRuntime) -> Result<(), Fail> {
-    assert_no_leak(&rt, || {
-        let (sender, receiver) = channel::<u64, _>(&rt, rt.alloc())?;
-        drop(sender);
-        drop(receiver);
-        let (sender, receiver) = channel::<u64, _>(&rt, rt.alloc())?;
-        drop(receiver);
-        drop(sender);
-        let (sender, receiver) = channel::<u64, _>(&rt, rt.alloc())?;
-        drop(sender);
-        let _ = receiver.recv();
-        Ok(())
-    })
-}
-
-#[test]
-fn a_deadline_that_is_over_leaves_nothing(rt: HostRuntime) -> Result<(), Fail> {
-    assert_no_leak(&rt, || {
-        let (sender, mut receiver) = channel(&rt, rt.alloc())?;
-        let _ = receiver.recv_timeout(Duration::ZERO);
-        let _ = sender.send(19u64);
-        let _ = receiver.recv();
-        let (sender, mut receiver) = channel::<u64, _>(&rt, rt.alloc())?;
-        let _ = receiver.recv_timeout(Duration::ZERO);
-        drop(receiver);
-        drop(sender);
-        Ok(())
-    })
+fn a_receiver_whose_time_was_over_leaves_nothing(rt: HostRuntime) -> Result<(), Fail> {
+    assert_none_leaks(&rt, OVER)
 }
 
 // The sender acts while the receiver waits, so it takes the waker and uses it.
@@ -193,75 +142,4 @@ fn a_future_that_is_dropped_leaves_nothing(rt: HostRuntime) -> Result<(), Fail> 
 #[test]
 fn raw_ends_leave_nothing(rt: HostRuntime) -> Result<(), Fail> {
     assert_none_leaks(&rt, RAW)
-}
-
-/// A runtime with an `Arc`, whose count shows whether the runtime is alive.
-#[derive(Drop)]
-struct Counted<'a, R> {
-    rt: &'a R,
-    _alive: Arc<u8>,
-}
-
-impl<'a, R: Wait> Wait for Counted<'a, R> {}
-
-impl<'a, R: Clock> Clock for Counted<'a, R> {
-    fn monotonic(&self) -> io::Result<Duration> {
-        self.rt.monotonic()
-    }
-
-    fn since_1970(&self) -> io::Result<Duration> {
-        self.rt.since_1970()
-    }
-}
-
-#[test]
-fn the_runtime_is_dropped_with_the_receiver(rt: HostRuntime) -> Result<(), Fail> {
-    let alive = Arc::new(rt.alloc(), 0u8)?;
-    let ends = || {
-        let counted = Counted {
-            rt: &rt,
-            _alive: Arc::try_clone(&alive)?,
-        };
-        channel::<u8, _>(counted, rt.alloc())
-    };
-    let (sender, receiver) = ends()?;
-    assert_same(&rt, Arc::strong_count(&alive), 2);
-    drop(receiver);
-    assert_same(&rt, Arc::strong_count(&alive), 1);
-    drop(sender);
-    let (sender, receiver) = ends()?;
-    assert!(rt; sender.send(19).is_ok());
-    assert_same(&rt, receiver.recv(), Ok(19));
-    assert_same(&rt, Arc::strong_count(&alive), 1);
-    let (sender, receiver) = ends()?;
-    drop(sender);
-    assert_same(&rt, receiver.recv(), Err(RecvError));
-    assert_same(&rt, Arc::strong_count(&alive), 1);
-    Ok(())
-}
-
-// The runtime lives as long as the receiver, whatever becomes of the receiver.
-#[test]
-fn the_runtime_is_dropped_with_a_receiver_of_each_life(rt: HostRuntime) -> Result<(), Fail> {
-    let alive = Arc::new(rt.alloc(), 0u8)?;
-    let task = MockTask::new(&rt)?;
-    for life in LIVES.iter().copied().flatten() {
-        let counted = Counted {
-            rt: &rt,
-            _alive: Arc::try_clone(&alive)?,
-        };
-        let mut ends = Ends::new(rt.alloc(), counted);
-        for (number, (step, _, _, receiver)) in life.iter().enumerate() {
-            ends.make(&task, *step)?;
-            let owners = if *receiver == Look::Gone { 1 } else { 2 };
-            assert_eq!(rt;
-                Arc::strong_count(&alive),
-                owners,
-                "after step {number}, {step:?}"
-            );
-        }
-        drop(ends);
-        assert_eq!(rt; Arc::strong_count(&alive), 1, "after {life:?}");
-    }
-    Ok(())
 }

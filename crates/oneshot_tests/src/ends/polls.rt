@@ -103,21 +103,6 @@ fn two_joined_receivers_are_polled_as_often_as_they_are_woken(rt: HostRuntime) -
     Ok(())
 }
 
-#[test]
-fn a_sender_that_is_dropped_ends_the_wait(rt: HostRuntime) -> Result<(), Fail> {
-    let (sender, receiver) = async_channel::<u8, _>(&rt, rt.alloc())?;
-    let (received, ()) = thread::join(
-        &rt,
-        || block_on(&rt, receiver),
-        || {
-            thread::sleep(&rt, Duration::from_millis(50));
-            drop(sender);
-        },
-    );
-    assert_same(&rt, received?, Err(RecvError));
-    Ok(())
-}
-
 /// Polls a receiver once on another thread, and returns it.
 fn polled_there<T: Send + Drop, Rt: Send + Drop>(
     rt: &(impl thread::Threads + Wait + RandomSource + AllocGlobal + Sync),

@@ -3,12 +3,13 @@
 use futures::task::Poll;
 use futures::test::MockTask;
 use oneshot_channel::{
-    AsyncReceiver, Receiver, RecvError, RecvTimeoutError, Sender, TryRecvError, async_channel,
-    channel,
+    AsyncReceiver, Receiver, RecvError, RecvTimeoutError, SendError, Sender, TryRecvError,
+    async_channel, channel,
 };
 use std::alloc::{AllocError, Global};
-use std::sync::Wait;
-use std::time::{Clock, Duration};
+use std::io;
+use std::sync::{Arc, Wait};
+use std::time::{Clock, Duration, Instant};
 
 /// A step in the life of a channel.
 #[derive(Clone, Copy, Debug)]
@@ -17,8 +18,10 @@ pub(super) enum Step {
     Make,
     /// `async_channel`.
     MakeAsync,
-    /// `send` of 19.
+    /// `send`. An error is dropped with its message.
     SendMessage,
+    /// `send`. An error gives its message back by `into_inner`.
+    SendOrTakeBack,
     /// The sender's `into_raw` and `from_raw`.
     SenderThroughRaw,
     /// The drop of the sender.
@@ -27,8 +30,14 @@ pub(super) enum Step {
     DropRawSender,
     /// `try_recv` of the receiver, or of the future.
     TryRecv,
-    /// `recv_timeout` with no time.
-    RecvTimeout,
+    /// `recv`.
+    Recv,
+    /// `recv_ref`.
+    RecvRef,
+    /// `recv_timeout`.
+    RecvTimeout(Limit),
+    /// `recv_deadline`.
+    RecvDeadline(Limit),
     /// The receiver's `into_raw` and `from_raw`.
     ReceiverThroughRaw,
     /// `into_future`.
@@ -39,6 +48,19 @@ pub(super) enum Step {
     DropReceiver,
     /// The drop of the receiver's `into_raw`.
     DropRawReceiver,
+}
+
+/// When the time of a receive is over.
+#[derive(Clone, Copy, Debug)]
+pub(super) enum Limit {
+    /// An hour ago, if the clock goes back so far. For a timeout: now.
+    Past,
+    /// Now.
+    Now,
+    /// In an hour.
+    Hour,
+    /// Never, for a timeout: no instant is that late. For a deadline: in an hour.
+    Never,
 }
 
 /// What a step returns.
@@ -75,15 +97,39 @@ pub(super) enum Look {
     Both,
 }
 
-/// Both ends of a channel whose message owns memory. The receiver is a `Receiver` or a future.
+/// Both ends of a channel, and the message that it is for. The receiver is a `Receiver` or a future.
 #[derive(Drop)]
 pub(super) struct Ends<Rt> {
     alloc: Global,
     // The receiver's runtime, until the receiver is made.
     rt: Option<Rt>,
-    sender: Option<Sender<Box<u64>>>,
-    receiver: Option<Receiver<Box<u64>, Rt>>,
-    future: Option<AsyncReceiver<Box<u64>, Rt>>,
+    // Of value 19. Its count shows whether the channel has an owner of it too.
+    message: Arc<u64>,
+    sender: Option<Sender<Arc<u64>>>,
+    receiver: Option<Receiver<Arc<u64>, Rt>>,
+    future: Option<AsyncReceiver<Arc<u64>, Rt>>,
+}
+
+impl Limit {
+    fn timeout(self) -> Duration {
+        match self {
+            Limit::Past => Duration::ZERO,
+            Limit::Now => Duration::ZERO,
+            Limit::Hour => Duration::from_secs(3_600),
+            Limit::Never => Duration::MAX,
+        }
+    }
+
+    fn deadline(self, rt: &impl Clock) -> io::Result<Instant> {
+        let now = Instant::now(rt)?;
+        let hour = Duration::from_secs(3_600);
+        Ok(match self {
+            Limit::Past => now.checked_sub(hour).unwrap_or(now),
+            Limit::Now => now,
+            Limit::Hour => now.checked_add(hour).unwrap_or(now),
+            Limit::Never => now.checked_add(hour).unwrap_or(now),
+        })
+    }
 }
 
 impl From<TryRecvError> for Answer {
@@ -110,11 +156,24 @@ impl From<RecvError> for Answer {
     }
 }
 
-fn answer_of(received: Result<Box<u64>, Answer>) -> Answer {
+fn answer_of(received: Result<Arc<u64>, Answer>) -> Answer {
     match received {
         Ok(message) if *message == 19 => Answer::Received,
         Ok(_) => Answer::Wrong,
         Err(answer) => answer,
+    }
+}
+
+fn answer_of_error(refused: SendError<Arc<u64>>, takes_back: bool) -> Answer {
+    let value = if takes_back {
+        *refused.into_inner()
+    } else {
+        **refused.as_inner()
+    };
+    if value == 19 {
+        Answer::Refused
+    } else {
+        Answer::Wrong
     }
 }
 
@@ -129,43 +188,43 @@ fn look_of(is_closed: bool, has_message: bool) -> Look {
 
 impl<Rt: Wait + Clock + Drop> Ends<Rt> {
     /// Neither end is made yet.
-    pub(super) fn new(alloc: Global, rt: Rt) -> Ends<Rt> {
-        Ends {
+    pub(super) fn new(alloc: Global, rt: Rt) -> Result<Ends<Rt>, AllocError> {
+        Ok(Ends {
             alloc,
             rt: Some(rt),
+            message: Arc::new(alloc, 19)?,
             sender: None,
             receiver: None,
             future: None,
-        }
+        })
     }
 
-    /// Makes the step. `task` makes a poll.
-    pub(super) fn make(&mut self, task: &MockTask, step: Step) -> Result<Answer, AllocError> {
-        match step {
-            Step::Make => return self.open(),
-            Step::MakeAsync => return self.open_async(),
-            Step::SendMessage => return self.send(),
-            Step::SenderThroughRaw => {
-                let raw = self.sender.take().map(Sender::into_raw);
-                self.sender = raw.map(Sender::from_raw);
-            }
-            Step::DropSender => drop(self.sender.take()),
-            Step::DropRawSender => drop(self.sender.take().map(Sender::into_raw)),
-            Step::TryRecv => return Ok(answer_of(self.try_recv())),
-            Step::RecvTimeout => return Ok(answer_of(self.recv_timeout())),
-            Step::ReceiverThroughRaw => {
-                let raw = self.receiver.take().map(Receiver::into_raw);
-                self.receiver = raw.map(Receiver::from_raw);
-            }
-            Step::IntoFuture => self.future = self.receiver.take().map(Receiver::into_future),
-            Step::PollFuture => return Ok(answer_of(self.poll(task))),
-            Step::DropReceiver => {
-                drop(self.receiver.take());
-                drop(self.future.take());
-            }
-            Step::DropRawReceiver => drop(self.receiver.take().map(Receiver::into_raw)),
-        }
-        Ok(Answer::Done)
+    /// Makes the step. `task` makes a poll, and a deadline is by the clock of `rt`.
+    pub(super) fn make(
+        &mut self,
+        rt: &impl Clock,
+        task: &MockTask,
+        step: Step,
+    ) -> io::Result<Answer> {
+        Ok(match step {
+            Step::Make => self.open()?,
+            Step::MakeAsync => self.open_async()?,
+            Step::SendMessage => self.send(false)?,
+            Step::SendOrTakeBack => self.send(true)?,
+            Step::SenderThroughRaw => self.sender_through_raw(),
+            Step::DropSender => self.drop_sender(),
+            Step::DropRawSender => self.drop_raw_sender(),
+            Step::TryRecv => answer_of(self.try_recv()),
+            Step::Recv => answer_of(self.recv()),
+            Step::RecvRef => answer_of(self.recv_ref()),
+            Step::RecvTimeout(limit) => answer_of(self.recv_timeout(limit.timeout())),
+            Step::RecvDeadline(limit) => answer_of(self.recv_deadline(limit.deadline(rt)?)),
+            Step::ReceiverThroughRaw => self.receiver_through_raw(),
+            Step::IntoFuture => self.become_future(),
+            Step::PollFuture => answer_of(self.poll(task)),
+            Step::DropReceiver => self.drop_receiver(),
+            Step::DropRawReceiver => self.drop_raw_receiver(),
+        })
     }
 
     fn open(&mut self) -> Result<Answer, AllocError> {
@@ -188,19 +247,33 @@ impl<Rt: Wait + Clock + Drop> Ends<Rt> {
         Ok(Answer::Done)
     }
 
-    fn send(&mut self) -> Result<Answer, AllocError> {
-        let message = Box::new(self.alloc, 19)?;
+    fn send(&mut self, takes_back: bool) -> Result<Answer, AllocError> {
         let Some(sender) = self.sender.take() else {
             return Ok(Answer::Wrong);
         };
-        Ok(match sender.send(message) {
+        Ok(match sender.send(Arc::try_clone(&self.message)?) {
             Ok(()) => Answer::Sent,
-            Err(refused) if **refused.as_inner() == 19 => Answer::Refused,
-            Err(_) => Answer::Wrong,
+            Err(refused) => answer_of_error(refused, takes_back),
         })
     }
 
-    fn try_recv(&mut self) -> Result<Box<u64>, Answer> {
+    fn sender_through_raw(&mut self) -> Answer {
+        let raw = self.sender.take().map(Sender::into_raw);
+        self.sender = raw.map(Sender::from_raw);
+        Answer::Done
+    }
+
+    fn drop_sender(&mut self) -> Answer {
+        drop(self.sender.take());
+        Answer::Done
+    }
+
+    fn drop_raw_sender(&mut self) -> Answer {
+        drop(self.sender.take().map(Sender::into_raw));
+        Answer::Done
+    }
+
+    fn try_recv(&mut self) -> Result<Arc<u64>, Answer> {
         match (&mut self.receiver, &mut self.future) {
             (Some(receiver), _) => Ok(receiver.try_recv()?),
             (None, Some(future)) => Ok(future.try_recv()?),
@@ -208,14 +281,46 @@ impl<Rt: Wait + Clock + Drop> Ends<Rt> {
         }
     }
 
-    fn recv_timeout(&mut self) -> Result<Box<u64>, Answer> {
-        match &mut self.receiver {
-            Some(receiver) => Ok(receiver.recv_timeout(Duration::ZERO)?),
+    fn recv(&mut self) -> Result<Arc<u64>, Answer> {
+        match self.receiver.take() {
+            Some(receiver) => Ok(receiver.recv()?),
             None => Err(Answer::Wrong),
         }
     }
 
-    fn poll(&mut self, task: &MockTask) -> Result<Box<u64>, Answer> {
+    fn recv_ref(&mut self) -> Result<Arc<u64>, Answer> {
+        match &mut self.receiver {
+            Some(receiver) => Ok(receiver.recv_ref()?),
+            None => Err(Answer::Wrong),
+        }
+    }
+
+    fn recv_timeout(&mut self, timeout: Duration) -> Result<Arc<u64>, Answer> {
+        match &mut self.receiver {
+            Some(receiver) => Ok(receiver.recv_timeout(timeout)?),
+            None => Err(Answer::Wrong),
+        }
+    }
+
+    fn recv_deadline(&mut self, deadline: Instant) -> Result<Arc<u64>, Answer> {
+        match &mut self.receiver {
+            Some(receiver) => Ok(receiver.recv_deadline(deadline)?),
+            None => Err(Answer::Wrong),
+        }
+    }
+
+    fn receiver_through_raw(&mut self) -> Answer {
+        let raw = self.receiver.take().map(Receiver::into_raw);
+        self.receiver = raw.map(Receiver::from_raw);
+        Answer::Done
+    }
+
+    fn become_future(&mut self) -> Answer {
+        self.future = self.receiver.take().map(Receiver::into_future);
+        Answer::Done
+    }
+
+    fn poll(&mut self, task: &MockTask) -> Result<Arc<u64>, Answer> {
         let Some(future) = &mut self.future else {
             return Err(Answer::Wrong);
         };
@@ -223,6 +328,29 @@ impl<Rt: Wait + Clock + Drop> Ends<Rt> {
             Poll::Ready(received) => Ok(received?),
             Poll::Pending => Err(Answer::NothingYet),
         }
+    }
+
+    fn drop_receiver(&mut self) -> Answer {
+        drop(self.receiver.take());
+        drop(self.future.take());
+        Answer::Done
+    }
+
+    fn drop_raw_receiver(&mut self) -> Answer {
+        drop(self.receiver.take().map(Receiver::into_raw));
+        Answer::Done
+    }
+
+    /// How many owners the message has in the channel: none, or one.
+    pub(super) fn owners_inside(&self) -> usize {
+        Arc::strong_count(&self.message).saturating_sub(1)
+    }
+
+    /// Drops both ends, and returns how many owners of the message are left.
+    pub(super) fn finish(mut self) -> usize {
+        self.drop_sender();
+        self.drop_receiver();
+        Arc::strong_count(&self.message)
     }
 
     /// What the sender's look returns.

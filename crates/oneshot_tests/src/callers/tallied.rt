@@ -6,8 +6,8 @@ ghost use Rattle.oneshot_channel.specs.Called.{as_receiver, ReceiverCalled};
 ghost use Rattle.oneshot_channel.specs.Ends.{Waking};
 ghost use Rattle.oneshot_channel.specs.ReceiverStart.TheVariants.{TryRecv};
 
-use crate::laws::calls_add_up;
-use crate::{Receiver, TryRecvError, channel};
+use oneshot_channel::laws::calls_add_up;
+use oneshot_channel::{Receiver, TryRecvError, channel};
 use std::test::Fail;
 
 /// Tries twice to receive, with a receiver whose log is empty.

@@ -2,7 +2,7 @@
 
 ghost use Rattle.std.specs.Prelude.{◌<◌, IfSome};
 
-use crate::{Promise, Receiver, TryRecvError, channel_for};
+use oneshot_channel::{Promise, Receiver, TryRecvError, channel_for};
 use std::test::Fail;
 
 /// Promises an index below this length.

@@ -1,7 +1,7 @@
 //! A caller that awaits a message under an executor, and its tests.
 
-use crate::{AsyncReceiver, RecvError, async_channel};
 use futures::executor::block_on;
+use oneshot_channel::{AsyncReceiver, RecvError, async_channel};
 use std::io;
 use std::random::RandomSource;
 use std::sync::Wait;

@@ -2,9 +2,9 @@
 
 ghost use Rattle.std.specs.Prelude.{◌≡◌, ◌≤◌, IfOk, IfSome};
 
-use crate::reply::{Answer, Request, Ticket, request};
 use futures::executor::block_on;
 use futures::future::{Either, join, select};
+use oneshot_channel::reply::{Answer, Request, Ticket, request};
 use std::alloc::{AllocError, AllocGlobal};
 use std::io;
 use std::random::RandomSource;

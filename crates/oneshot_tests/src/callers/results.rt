@@ -4,7 +4,9 @@ ghost use Rattle.std.specs.Prelude.{◌≡◌, ◌≢◌, None, Ok, Err, IsErr, 
 ghost use Rattle.oneshot_channel.specs.Ends.{IsClosed, IsOpen};
 ghost use Rattle.oneshot_channel.specs.TryRecvError.TheVariants as Tried;
 
-use crate::{RawReceiver, Receiver, RecvError, RecvTimeoutError, Sender, TryRecvError, channel};
+use oneshot_channel::{
+    RawReceiver, Receiver, RecvError, RecvTimeoutError, Sender, TryRecvError, channel,
+};
 use std::sync::Wait;
 use std::test::Fail;
 use std::time::{Clock, Duration, Instant};

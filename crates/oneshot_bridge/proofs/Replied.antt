@@ -5,30 +5,30 @@ use Rattle.oneshot_machine.specs.declared.machine.End.TheVariants.{Sender}
 use Rattle.oneshot_world.specs.declared.trace.Entry.TheVariants.{Idle, Made as Made_entry}
 
 -- the calls that reply from here on, of an end that has these left
-abbrev pub told_by : End → Unanswered → List Entry → List Answered
-told_by end left [] = []
-told_by end left (Idle side ∷ entries) = told_by end left entries
-told_by end left (Made_entry e ∷ entries) =
-    if is_same_end e.side end then answers_with left e.reply ++ told_by end (left_by end e.reply left) entries
-    else told_by end left entries
+abbrev pub replied_by : End → Unanswered → List Entry → List Answered
+replied_by end left [] = []
+replied_by end left (Idle side ∷ entries) = replied_by end left entries
+replied_by end left (Made_entry e ∷ entries) =
+    if is_same_end e.side end then answers_with left e.reply ++ replied_by end (left_by end e.reply left) entries
+    else replied_by end left entries
 
 -- one more entry: of this end, with the call that replies, or of the other
 module _ (end : End) (entry : Entry) (entries : List Entry) where
-  pub tells_more : (from left next : Unanswered) (told answers : List Answered)
-      → ((more : List Entry) → told_by end from (entries ++ more) ≡ told ++ told_by end left more)
-      → ((more : List Entry) → told_by end left (entry ∷ more) ≡ answers ++ told_by end next more)
+  pub replies_more : (from left next : Unanswered) (told answers : List Answered)
+      → ((more : List Entry) → replied_by end from (entries ++ more) ≡ told ++ replied_by end left more)
+      → ((more : List Entry) → replied_by end left (entry ∷ more) ≡ answers ++ replied_by end next more)
       → (more : List Entry)
-      → told_by end from ((entries ++ entry ∷ []) ++ more) ≡ (told ++ answers) ++ told_by end next more
-  tells_more from left next told answers before last more =
-      ap (told_by end from) (append_assoc entries (entry ∷ []) more) ∙ before (entry ∷ more)
-      ∙ ap (λ l. told ++ l) (last more) ∙ sym (append_assoc told answers (told_by end next more))
+      → replied_by end from ((entries ++ entry ∷ []) ++ more) ≡ (told ++ answers) ++ replied_by end next more
+  replies_more from left next told answers before last more =
+      ap (replied_by end from) (append_assoc entries (entry ∷ []) more) ∙ before (entry ∷ more)
+      ∙ ap (λ l. told ++ l) (last more) ∙ sym (append_assoc told answers (replied_by end next more))
 
-  pub tells_same : (from left : Unanswered) (told : List Answered)
-      → ((more : List Entry) → told_by end from (entries ++ more) ≡ told ++ told_by end left more)
-      → ((more : List Entry) → told_by end left (entry ∷ more) ≡ told_by end left more) → (more : List Entry)
-      → told_by end from ((entries ++ entry ∷ []) ++ more) ≡ told ++ told_by end left more
-  tells_same from left told before last more =
-      ap (told_by end from) (append_assoc entries (entry ∷ []) more) ∙ before (entry ∷ more)
+  pub replies_same : (from left : Unanswered) (told : List Answered)
+      → ((more : List Entry) → replied_by end from (entries ++ more) ≡ told ++ replied_by end left more)
+      → ((more : List Entry) → replied_by end left (entry ∷ more) ≡ replied_by end left more) → (more : List Entry)
+      → replied_by end from ((entries ++ entry ∷ []) ++ more) ≡ told ++ replied_by end left more
+  replies_same from left told before last more =
+      ap (replied_by end from) (append_assoc entries (entry ∷ []) more) ∙ before (entry ∷ more)
       ∙ ap (λ l. told ++ l) (last more)
 
 -- what an end has left after these entries, and the calls that reply from there on
@@ -44,20 +44,20 @@ either_more : {X : Type 0} (f : X → List Answered) (b : Bool) (own xs ys us vs
 either_more f true own xs ys us vs m n later skipped = ap (λ l. own ++ l) later ∙ sym (append_assoc own ys (f m))
 either_more f false own xs ys us vs m n later skipped = skipped
 
-pub told_more : (end : End) (left : Unanswered) (entries more : List Entry)
-    → told_by end left (entries ++ more) ≡ told_by end left entries ++ told_by end (left_all end left entries) more
-told_more end left [] more = refl
-told_more end left (Idle side ∷ entries) more = told_more end left entries more
-told_more end left (Made_entry e ∷ entries) more =
-    either_more (λ left. told_by end left more) (is_same_end e.side end) (answers_with left e.reply) _ _ _ _
+pub replied_more : (end : End) (left : Unanswered) (entries more : List Entry)
+    → replied_by end left (entries ++ more) ≡ replied_by end left entries ++ replied_by end (left_all end left entries) more
+replied_more end left [] more = refl
+replied_more end left (Idle side ∷ entries) more = replied_more end left entries more
+replied_more end left (Made_entry e ∷ entries) more =
+    either_more (λ left. replied_by end left more) (is_same_end e.side end) (answers_with left e.reply) _ _ _ _
     (left_all end (left_by end e.reply left) entries) (left_all end left entries)
-    (told_more end (left_by end e.reply left) entries more) (told_more end left entries more)
+    (replied_more end (left_by end e.reply left) entries more) (replied_more end left entries more)
 
 -- the marks of these entries show the same
 abbrev Shown : End → List Entry → Type 0
 Shown end entries =
     (s r : Reading) (n : ℕ) (o : Object)
-    → answered_by end (marks_from s r n o entries) ≡ told_by end (by_end end s r).left entries
+    → answered_by end (marks_from s r n o entries) ≡ replied_by end (by_end end s r).left entries
 
 answers_shown : (left : Unanswered) (reply : Option Reply) (xs ys : List Answered) → xs ≡ ys
     → cons_option (option_map (λ reply. (call_under_way left, reply)) reply) xs ≡ answers_with left reply ++ ys
@@ -71,8 +71,8 @@ made_shown : (side end : End) (e : Made) (entries : List Entry) → Shown end en
     else None)
     (answered_by end (marks_from (by_end side (read_by side s e) s) (by_end side r (read_by side r e)) n o entries))
     ≡ (if is_same_end side end
-    then answers_with (by_end end s r).left e.reply ++ told_by end (left_by end e.reply (by_end end s r).left) entries
-    else told_by end (by_end end s r).left entries)
+    then answers_with (by_end end s r).left e.reply ++ replied_by end (left_by end e.reply (by_end end s r).left) entries
+    else replied_by end (by_end end s r).left entries)
 made_shown Sender Sender e entries shown s r n o =
     answers_shown s.left e.reply _ _ (shown (read_by Sender s e) r n o)
 made_shown Receiver Receiver e entries shown s r n o =
@@ -90,16 +90,16 @@ shows end (Made_entry e ∷ entries) s r n o =
 -- the same for a whole trace
 module _ {T : Type 0} (a : SenderScript T) (b : ReceiverScript) (entries : List Entry) where
   pub shown : (end : End) → answered_by end (marks (calls_of a b) entries)
-      ≡ told_by end (by_end end (opening_sender a).1 (opening_receiver b).1) entries
+      ≡ replied_by end (by_end end (opening_sender a).1 (opening_receiver b).1) entries
   shown Sender = shows Sender entries (sender_reading (calls_of a b)) (receiver_reading (calls_of a b)) 1 new_object
   shown Receiver = shows Receiver entries (sender_reading (calls_of a b)) (receiver_reading (calls_of a b)) 1 new_object
 
-  pub told_in : (end : End) (left : Unanswered) (told : List Answered)
+  pub replied_in : (end : End) (left : Unanswered) (told : List Answered)
       → ((more : List Entry)
-      → told_by end (by_end end (opening_sender a).1 (opening_receiver b).1) (entries ++ more)
-      ≡ told ++ told_by end left more)
+      → replied_by end (by_end end (opening_sender a).1 (opening_receiver b).1) (entries ++ more)
+      ≡ told ++ replied_by end left more)
       → answered_by end (marks (calls_of a b) entries) ≡ told
-  told_in end left told tells =
+  replied_in end left told tells =
       shown end
-      ∙ ap (told_by end (by_end end (opening_sender a).1 (opening_receiver b).1)) (sym (append-nil entries))
+      ∙ ap (replied_by end (by_end end (opening_sender a).1 (opening_receiver b).1)) (sym (append-nil entries))
       ∙ tells [] ∙ append-nil told

@@ -1,9 +1,9 @@
 //! A future without a runtime, because none of its calls blocks.
 
-use crate::{AsyncReceiver, RecvError, TryRecvError, async_channel};
 use futures::executor::block_on;
 use futures::task::Poll;
 use futures::test::MockTask;
+use oneshot_channel::{AsyncReceiver, RecvError, TryRecvError, async_channel};
 use std::alloc::Global;
 use std::io;
 use std::test::Fail;

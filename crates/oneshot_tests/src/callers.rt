@@ -1,0 +1,10 @@
+//! Callers that docs/CALLING.md shows or names: each is proved by the contracts of the channel, and tested.
+
+mod awaited;
+mod bare;
+mod glanced;
+mod inbox;
+mod promised;
+mod results;
+mod tallied;
+mod tickets;
