@@ -10,4 +10,8 @@ mod ends;
 #[cfg(test)]
 mod errors;
 #[cfg(test)]
+mod pages;
+#[cfg(test)]
 mod reply;
+#[cfg(test)]
+mod rounds;

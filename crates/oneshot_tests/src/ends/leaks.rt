@@ -2,31 +2,21 @@
 
 use super::clocks::{Act, Meanwhile, five};
 use super::lives::{DROPPED, Life, OVER, RAW, READY, RECEIVED, TRIED, UNRECEIVED, live};
+use crate::pages::{grown_pages, resident_pages};
 use oneshot_channel::channel;
+use std::io;
 use std::process::Abort;
 use std::random::RandomSource;
 use std::rt::Files;
 use std::sync::{Arc, Wait};
 use std::test::Fail;
 use std::time::Clock;
-use std::{fs, io};
 
 /// How many rounds: even the smallest leak in each takes more than `MOST_PAGES`.
-const ROUNDS: u64 = 1_000_000;
+const ROUNDS: u64 = 200_000;
 
 /// How many pages a test may grow by.
 const MOST_PAGES: u64 = 128;
-
-/// The kernel's file about a process's own memory. Its second number is the pages in use.
-const OWN_MEMORY: &str = concat!("/", "proc/self/statm");
-
-/// How many pages of memory the process has in use.
-fn resident_pages(rt: &(impl Files + AllocGlobal)) -> io::Result<u64> {
-    let statm = fs::read_to_string(rt, OWN_MEMORY)?;
-    let resident = statm.split_whitespace().nth(1);
-    let pages = resident.and_then(|pages| pages.parse::<u64>().ok());
-    pages.ok_or(io::ErrorKind::InvalidData.into())
-}
 
 /// How many pages the process grows by in `rounds` rounds, after a tenth as many.
 fn growth<F: FnMut() -> io::Result<()>>(
@@ -43,7 +33,7 @@ fn growth<F: FnMut() -> io::Result<()>>(
     for _ in 0..rounds {
         round()?;
     }
-    Ok(resident_pages(rt)?.saturating_sub(before))
+    Ok(grown_pages(rt, before)?)
 }
 
 /// Whether this process reuses freed memory. Under a sanitizer it does not.

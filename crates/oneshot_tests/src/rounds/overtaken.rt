@@ -6,8 +6,8 @@
 
 use super::answers::OFTEN;
 use super::counted::{Counted, make_messages};
-use super::pages::{grown_pages, resident_pages};
 use super::races::race;
+use crate::pages::{grown_pages, resident_pages};
 use futures::task::Poll;
 use futures::test::MockTask;
 use oneshot_channel::{AsyncReceiver, Sender, async_channel};
