@@ -45,7 +45,8 @@ either_more f true own xs ys us vs m n later skipped = ap (λ l. own ++ l) later
 either_more f false own xs ys us vs m n later skipped = skipped
 
 pub replied_more : (end : End) (left : Unanswered) (entries more : List Entry)
-    → replied_by end left (entries ++ more) ≡ replied_by end left entries ++ replied_by end (left_all end left entries) more
+    → replied_by end left (entries ++ more)
+    ≡ replied_by end left entries ++ replied_by end (left_all end left entries) more
 replied_more end left [] more = refl
 replied_more end left (Idle side ∷ entries) more = replied_more end left entries more
 replied_more end left (Made_entry e ∷ entries) more =
@@ -71,7 +72,8 @@ made_shown : (side end : End) (e : Made) (entries : List Entry) → Shown end en
     else None)
     (answered_by end (marks_from (by_end side (read_by side s e) s) (by_end side r (read_by side r e)) n o entries))
     ≡ (if is_same_end side end
-    then answers_with (by_end end s r).left e.reply ++ replied_by end (left_by end e.reply (by_end end s r).left) entries
+    then answers_with (by_end end s r).left e.reply
+    ++ replied_by end (left_by end e.reply (by_end end s r).left) entries
     else replied_by end (by_end end s r).left entries)
 made_shown Sender Sender e entries shown s r n o =
     answers_shown s.left e.reply _ _ (shown (read_by Sender s e) r n o)
