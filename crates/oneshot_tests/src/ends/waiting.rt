@@ -9,7 +9,11 @@ const ROUNDS: u64 = 1_000;
 
 // In every other round the sender first sleeps for a moment, so that the receiver can park.
 fn pace(round: u64) -> Pace<'static> {
-    Pace::Sleep(Duration::from_micros(round % 2 * 100))
+    if round % 2 == 0 {
+        Pace::AtOnce
+    } else {
+        Pace::Sleep(Duration::from_micros(100))
+    }
 }
 
 #[test]
