@@ -15,7 +15,7 @@ from parts.sources import code_of, functions, place, sources
 SECTION = "The contracts"
 Page = collections.namedtuple("Page", "name exporting beneath")
 CALLING = Page(
-    "docs/CALLING.md", ["oneshot_channel", "oneshot_reply"], ["oneshot_ends", "oneshot_errors", "oneshot_word"])
+    "docs/CALLING.md", ["oneshot_channel"], ["oneshot_ends", "oneshot_drive", "oneshot_word"])
 MODEL = Page("docs/MODEL.md", ["oneshot_replay", "oneshot_text"], ["oneshot_world"])
 
 
@@ -27,10 +27,16 @@ def roots(names):
     return [file for file in sources(*names) if file.name == "lib.rt"]
 
 
+def modules(names):
+    """The modules that users import from these crates."""
+    return [file.with_name(f"{module}.rt") for file in roots(names)
+            for module in re.findall(r"(?m)^pub mod (\w+);", code_of(file))]
+
+
 def exported(names):
-    """The names that users import from these crates."""
+    """The names that users import from these crates and from their modules."""
     found = set()
-    for file in roots(names):
+    for file in roots(names) + modules(names):
         for listed in re.findall(r"(?m)^pub use [a-z_]+::([^;]*);", code_of(file)):
             found.update(re.findall(r"\w+", listed))
     return found
@@ -38,8 +44,7 @@ def exported(names):
 
 def laws(names):
     """The functions of the modules that users import from these crates."""
-    return {law.name for file in roots(names) for module in re.findall(r"(?m)^pub mod (\w+);", code_of(file))
-            for law in functions(code_of(file.with_name(f"{module}.rt")))}
+    return {law.name for file in modules(names) for law in functions(code_of(file))}
 
 
 def written(page):

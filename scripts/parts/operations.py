@@ -32,7 +32,8 @@ OPERATIONS = {
     "a_receiver_is_in_an_order": "seat",
     "a_sender_is_in_an_order": "seat",
     # what makes a channel
-    "open": "made seat made.shared.load seat made.shared.split_seat seat made table table seat table seat seat",
+    "open": "made seat made table table seat table seat seat",
+    "seated": "made seat made.shared.load seat made.shared.split_seat seat made seat",
     "shared": "table made table table",
 }
 

@@ -10,11 +10,10 @@ mod stepped;
 
 pub use oneshot_channel::{
     AsyncReceiver, Promise, RawReceiver, RawSender, Receiver, RecvError, RecvTimeoutError,
-    SendError, Sender, TryRecvError, async_channel, async_channel_for, channel, channel_for,
+    SendError, Sender, TryRecvError, async_channel, async_channel_for, channel, channel_for, reply,
 };
 pub use oneshot_drive as drive;
 pub use oneshot_ends::laws;
 pub use oneshot_machine::{machine, states};
 pub use oneshot_replay as replay;
-pub use oneshot_reply as reply;
 pub use oneshot_text as text;

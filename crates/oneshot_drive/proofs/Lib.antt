@@ -16,3 +16,4 @@ pub mod OwnCopies
 pub mod EndExamples
 pub mod GroundExamples
 pub mod Names
+mod ErrorEquality

@@ -2,6 +2,7 @@
 #![tactic(auto)]
 
 mod blocking;
+pub mod errors;
 mod ground;
 pub mod laws;
 mod polling;

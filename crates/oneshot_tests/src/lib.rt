@@ -1,4 +1,4 @@
-//! Tests of the real channel by its public names.
+//! Tests of the real channel by its public names, and how much memory a process has, for tests that look for leaks.
 #![tactic(auto)]
 
 #[cfg(test)]
@@ -9,9 +9,6 @@ mod callers;
 mod ends;
 #[cfg(test)]
 mod errors;
-#[cfg(test)]
-mod pages;
+pub mod pages;
 #[cfg(test)]
 mod reply;
-#[cfg(test)]
-mod rounds;

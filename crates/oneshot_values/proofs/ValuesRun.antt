@@ -9,7 +9,7 @@ use Rattle.oneshot_machine.specs.declared.machine.Reply.TheVariants as R
 use Rattle.oneshot_machine.specs.declared.machine.receiver.ReceiverStart.TheVariants.{TryRecv}
 use Rattle.oneshot_machine.specs.Called.{Form, as_receiver}
 use Rattle.oneshot_machine.specs.Noted.{Noted}
-use Rattle.oneshot_errors.specs.declared.try_recv.TryRecvError.{TryRecvError}
+use Rattle.oneshot_drive.specs.declared.errors.try_recv.TryRecvError.{TryRecvError}
 use Rattle.oneshot_drive.specs.BetweenCalls.{try_recv_reply}
 use Rattle.oneshot_ends.specs.Ends.{Waking, ReceiverGrew, HasCalls, CallsAddUp, SenderIsOrdered, ReceiverIsOrdered}
 use Rattle.oneshot_bridge.specs.CallsRun.{in_script, receiver_answered}

@@ -8,13 +8,13 @@ ghost use Rattle.oneshot_values.specs.Values.{ReceiverRuns, ErrorRuns};
 #[cfg(test)]
 mod worker;
 
+use oneshot_channel::reply::laws::{a_ticket_has_its_calls, a_ticket_is_in_an_order};
+use oneshot_channel::reply::{Answer, Ticket};
 use oneshot_ends::laws::{
     a_future_has_its_calls, a_future_is_in_an_order, a_receiver_has_its_calls,
     a_receiver_is_in_an_order, an_error_is_in_an_order,
 };
 use oneshot_ends::{AsyncReceiver, Promise, Receiver, SendError};
-use oneshot_reply::laws::{a_ticket_has_its_calls, a_ticket_is_in_an_order};
-use oneshot_reply::{Answer, Ticket};
 
 /// For a receiver between two of its calls, whatever a program did with it and wherever the sender is, some
 /// run of the model has this receiver's log, and exactly its calls with the replies that the program got.

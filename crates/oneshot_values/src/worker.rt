@@ -4,9 +4,9 @@ ghost use Rattle.std.specs.Prelude.{IfOk};
 ghost use Rattle.oneshot_values.specs.Values.{OnlyTheLastGot};
 
 use crate::a_receiver_runs;
+use oneshot_drive::errors::TryRecvError;
 use oneshot_ends::laws::{a_receiver_has_its_calls, calls_add_up};
 use oneshot_ends::{Receiver, channel};
-use oneshot_errors::TryRecvError;
 use std::test::Fail;
 
 /// Tries to receive, whatever was done with the receiver before. `Ok`: no earlier receive got the message.

@@ -108,6 +108,15 @@ pub record IsAt (shared seat : TableId) : Type 0 where
   pub words : seat.words ≡ 1
   pub slots : seat.slots ≡ 2
 
+module _ {T H K P : Type 0} (about : P) where
+  -- the sender's seat at a new table: it has taken the message's slot
+  abbrev pub new_sender : Me (Slot T H K) (View T P)
+  new_sender = (view about Sender [] None, (0, Empty) ∷ [])
+
+  -- the receiver's seat at a new table
+  abbrev pub new_receiver : Me (Slot T H K) (View T P)
+  new_receiver = (view about Receiver [] None, [])
+
 -- The message that the sender gave, and its slot: a sender that has the slot has given none. So it gives at
 -- most one.
 pub data GivesOnce {T : Type 0} : Option T → Held T → Type 0 where

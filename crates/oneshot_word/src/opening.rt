@@ -2,6 +2,7 @@
 
 ghost use Rattle.std.specs.Prelude.{◌≡◌, [], ◌∷◌, IfOk};
 ghost use Rattle.std.specs.Arc.{arc_value};
+ghost use Rattle.oneshot_word.specs.Seats.{IsAt, new_sender, new_receiver};
 ghost use Rattle.oneshot_word.specs.Side.{AreEnds};
 ghost use Rattle.oneshot_word.specs.declared.rule.Slot.TheVariants.{Empty};
 
@@ -10,7 +11,7 @@ use crate::promise::Promise;
 use crate::receiver::ReceiverSide;
 use crate::rule::Slot;
 use crate::sender::SenderSide;
-use crate::table::WordTable;
+use crate::table::{WordSeat, WordTable};
 use atomic_table::Table;
 use oneshot_machine::states::EMPTY;
 use std::alloc::{AllocError, Global};
@@ -25,11 +26,7 @@ pub fn open<T: Send + Drop, H: Send + Drop, K: Send + Drop, P: Promise<T>>(
 ) -> Result<(SenderSide<T, H, K, P>, ReceiverSide<T, H, K, P>), AllocError>
     ensures { IfOk result (λ sides. AreEnds about.now sides.0 sides.1) }
 {
-    let Ok((made, mut seat)) = Table::new(alloc, &[EMPTY as u64], empty_slots(alloc)?, about) else {
-        return Err(AllocError);
-    };
-    made.shared.load::<TakesMessageSlot>(&mut seat, 0);
-    let other = made.shared.split_seat::<MakesReceiver>(&mut seat);
+    let (made, seat, other) = seated(alloc, about)?;
     match shared(alloc, made) {
         Ok((table, shared)) => {
             let sender = SenderSide::new(table, seat);
@@ -46,6 +43,32 @@ pub fn open<T: Send + Drop, H: Send + Drop, K: Send + Drop, P: Promise<T>>(
             Err(error)
         }
     }
+}
+
+// A table, with the sender's seat and the receiver's.
+type Seated<T, H, K, P> = (
+    WordTable<T, H, K, P>,
+    WordSeat<T, H, K, P>,
+    WordSeat<T, H, K, P>,
+);
+
+// Makes a table with a seat for each end. The sender's has the message's slot.
+#[inline(always)]
+fn seated<T: Send + Drop, H: Send + Drop, K: Send + Drop, P: Promise<T>>(
+    alloc: Global,
+    about: &P,
+) -> Result<Seated<T, H, K, P>, AllocError>
+    ensures sender_at { IfOk result (λ made. IsAt made.0.shared.table_id made.1.table_id) }
+    ensures sender { IfOk result (λ made. made.1.me ≡ new_sender about.now) }
+    ensures receiver_at { IfOk result (λ made. IsAt made.0.shared.table_id made.2.table_id) }
+    ensures receiver { IfOk result (λ made. made.2.me ≡ new_receiver about.now) }
+{
+    let Ok((made, mut seat)) = Table::new(alloc, &[EMPTY as u64], empty_slots(alloc)?, about) else {
+        return Err(AllocError);
+    };
+    made.shared.load::<TakesMessageSlot>(&mut seat, 0);
+    let other = made.shared.split_seat::<MakesReceiver>(&mut seat);
+    Ok((made, seat, other))
 }
 
 // Returns two references to the table, one for each side.

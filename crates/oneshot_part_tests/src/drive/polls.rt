@@ -4,8 +4,8 @@
 use crate::asserts::assert_same;
 use crate::drive::steps::steps_of;
 use futures::task::Poll;
+use oneshot_drive::errors::{RecvError, TryRecvError};
 use oneshot_drive::{async_try_recv, drop_async, poll};
-use oneshot_errors::{RecvError, TryRecvError};
 use oneshot_memory::{MemoryFuture, MemoryTask};
 use std::test::Fail;
 

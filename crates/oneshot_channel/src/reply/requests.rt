@@ -1,0 +1,80 @@
+//! A request: a question, with the sender of its reply.
+
+ghost use Rattle.std.specs.Prelude.{◌≡◌, true, IfErr};
+
+use crate::reply::answer::Answer;
+use crate::reply::asked::Asked;
+use oneshot_ends::{SendError, Sender};
+use std::marker::Model;
+
+/// A question, with the sender of its reply.
+///
+/// Dropping it unanswered drops that sender: a waiting ticket is woken, and returns an error. The drop never
+/// blocks.
+///
+/// It may be sent to another thread if `Q` and `A` are `Send`.
+///
+/// In contracts a request is its sender's value (`EndOf`), whose `about` has the question.
+#[derive(Drop)]
+pub struct Request<Q: Eq, A: Answer<Q>> {
+    asked: Asked<Q>,
+    pub(crate) reply: Sender<A, Asked<Q>>,
+}
+
+impl<Q: Eq, A: Answer<Q>> Model for Request<Q, A> {
+    ghost use Rattle.std.specs.Prelude.{◌≡◌};
+    ghost use Rattle.oneshot_ends.specs.Ends.{EndOf};
+    ghost use Rattle.oneshot_channel.specs.declared.reply.asked.Asked.{Asked};
+
+    ghost Value = { EndOf (Asked Q) };
+
+    ghost view = { λ r. r.reply };
+
+    ghost invariant = { λ r. r.reply.about ≡ r.asked };
+}
+
+impl<Q: Eq, A: Answer<Q>> Request<Q, A> {
+    pub(crate) fn new(asked: Asked<Q>, reply: Sender<A, Asked<Q>>) -> Request<Q, A>
+        requires { reply.about ≡ asked }
+        ensures { result ≡ reply }
+    {
+        Request { asked, reply }
+    }
+
+    /// Returns the question.
+    pub fn question(&self) -> &Q
+        ensures { result.now ≡ self.now.about.question }
+    {
+        &self.asked.question
+    }
+
+    /// Returns whether `reply` names a question equal to the request's.
+    pub fn fits(&self, reply: &A) -> bool
+        ensures { result ≡ Q.eq (A.asked reply.now) self.now.about.question }
+    {
+        *reply.question() == self.asked.question
+    }
+
+    /// Returns whether the ticket was dropped. Then an answer is refused. It is one load and never blocks.
+    pub fn is_cancelled(&self) -> bool {
+        self.reply.is_closed()
+    }
+}
+
+impl<Q: Eq + Drop, A: Answer<Q> + Drop> Request<Q, A> {
+    /// Answers with a reply that fits, and wakes a waiting ticket. It never blocks and does not allocate.
+    ///
+    /// - `Ok`: the ticket was there. It may still be dropped before it takes the reply.
+    /// - `Err`: the ticket was dropped. The error has the reply.
+    pub fn answer(self, reply: A) -> Result<(), SendError<A, Asked<Q>>>
+        requires fits { Q.eq (A.asked reply) self.about.question ≡ true }
+        ensures reply { IfErr result (λ error. error.message ≡ reply) }
+        ensures channel { IfErr result (λ error. error.channel ≡ self.channel) }
+    {
+        let Request {
+            asked: _,
+            reply: sender,
+        } = self;
+        sender.send_kept(reply)
+    }
+}

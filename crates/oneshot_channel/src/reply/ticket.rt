@@ -1,0 +1,132 @@
+//! A ticket: the receiver of the reply to a question.
+
+ghost use Rattle.std.specs.Prelude.{◌≡◌, ◌≢◌, true, Err, IsErr, IfOk};
+ghost use Rattle.oneshot_drive.specs.declared.errors.recv_timeout.RecvTimeoutError.TheVariants as Timed;
+ghost use Rattle.oneshot_drive.specs.declared.errors.try_recv.TryRecvError.TheVariants as Tried;
+ghost use Rattle.oneshot_machine.specs.declared.machine.receiver.ReceiverStart.TheVariants.{TryRecv};
+ghost use Rattle.oneshot_machine.specs.Counts.{receiver_bound, GrewWithin};
+ghost use Rattle.oneshot_machine.specs.Phases.{receiver_at};
+ghost use Rattle.oneshot_drive.specs.BetweenCalls.{Leaves, LeavesTimed, try_recv_reply, timed_reply};
+ghost use Rattle.oneshot_ends.specs.Ends.{IsClosed, IsOpen, ReceiverGrew, TimeoutGrew};
+
+use crate::reply::answer::Answer;
+use crate::reply::asked::Asked;
+use oneshot_drive::errors::{RecvError, RecvTimeoutError, TryRecvError};
+use oneshot_ends::{AsyncReceiver, Receiver};
+use std::marker::Model;
+use std::sync::Wait;
+use std::time::{Clock, Duration};
+
+/// The receiver of the reply to a question.
+///
+/// Every reply that it returns names a question equal to its own, and is right for the one that it names.
+///
+/// Dropping it drops a reply that came and was not taken. A later answer is refused: its error has the reply.
+/// The drop never blocks. It drops `rt` too.
+///
+/// It may be sent to another thread if `Q`, `A` and `Rt` are `Send`. Two threads cannot share it.
+///
+/// In contracts a ticket is its receiver's value (`EndOf`), whose `about` has the question.
+#[derive(Drop)]
+pub struct Ticket<Q: Eq, A: Answer<Q>, Rt> {
+    pub(crate) replies: Receiver<A, Rt, Asked<Q>>,
+}
+
+impl<Q: Eq, A: Answer<Q>, Rt> Model for Ticket<Q, A, Rt> {
+    ghost use Rattle.oneshot_ends.specs.Ends.{EndOf};
+    ghost use Rattle.oneshot_channel.specs.declared.reply.asked.Asked.{Asked};
+
+    ghost Value = { EndOf (Asked Q) };
+
+    ghost view = { λ t. t.replies };
+}
+
+impl<Q: Eq, A: Answer<Q>, Rt> Ticket<Q, A, Rt> {
+    pub(crate) fn new(replies: Receiver<A, Rt, Asked<Q>>) -> Ticket<Q, A, Rt>
+        ensures { result ≡ replies }
+    {
+        Ticket { replies }
+    }
+
+    /// Returns whether the request was dropped unanswered, or the reply was taken. Every later receive then
+    /// fails as disconnected. It is one load and never blocks.
+    pub fn is_closed(&self) -> bool {
+        self.replies.is_closed()
+    }
+}
+
+impl<Q: Eq, A: Answer<Q> + Drop, Rt: Drop> Ticket<Q, A, Rt> {
+    /// Takes the reply if it is there. It never blocks and does not allocate.
+    ///
+    /// - `Ok`: the reply. The ticket is closed from then on.
+    /// - `Err(Empty)`: no reply came yet, and the request was not dropped. The ticket stays open.
+    /// - `Err(Disconnected)`: the request was dropped unanswered, or the reply was taken before. Every later
+    ///   call returns the same.
+    pub fn try_take(&mut self) -> Result<A, TryRecvError>
+        ensures own { IfOk result (λ reply. Q.eq (A.asked reply) self.old.about.question ≡ true) }
+        ensures right { IfOk result (λ reply. A.answers (A.asked reply) reply) }
+        ensures about { self.new.about ≡ self.old.about }
+        ensures channel { self.new.channel ≡ self.old.channel }
+        ensures run { ReceiverGrew A TryRecv self.old.log self.new.log (try_recv_reply result) }
+        ensures leaves { Leaves result (receiver_at self.new.log) }
+        ensures closes { result ≢ Err Tried.Empty → IsClosed self.new }
+        ensures stays_open { result ≡ Err Tried.Empty → IsOpen self.new }
+        ensures stays_closed { IsClosed self.old → result ≡ Err Tried.Disconnected }
+        ensures bounded { GrewWithin (receiver_bound TryRecv) self.old.log self.new.log }
+    {
+        self.replies.try_recv()
+    }
+
+    /// Turns the ticket into a future that a task can poll. Its replies have the guarantees of the ticket's.
+    /// It never blocks and does not allocate.
+    pub fn into_future(self) -> AsyncReceiver<A, Rt, Asked<Q>>
+        ensures about { result.about ≡ self.about }
+        ensures channel { result.channel ≡ self.channel }
+        ensures log { result.log ≡ self.log }
+    {
+        let Ticket { replies } = self;
+        replies.into_future()
+    }
+}
+
+impl<Q: Eq, A: Answer<Q> + Drop, Rt: Wait + Clock + Drop> Ticket<Q, A, Rt> {
+    /// Blocks until the request is answered or dropped, and consumes the ticket. It does not allocate.
+    ///
+    /// - `Ok`: the reply.
+    /// - `Err`: the request was dropped unanswered, or the reply was taken before.
+    ///
+    /// It blocks forever if the request is neither answered nor dropped, for example because this thread
+    /// still holds it.
+    pub fn wait(self) -> Result<A, RecvError>
+        ensures own { IfOk result (λ reply. Q.eq (A.asked reply) self.about.question ≡ true) }
+        ensures right { IfOk result (λ reply. A.answers (A.asked reply) reply) }
+        ensures stays_closed { IsClosed self → IsErr result }
+    {
+        let Ticket { replies } = self;
+        replies.recv()
+    }
+
+    /// Blocks until the request is answered or dropped, or until the runtime's clock has advanced by more
+    /// than `timeout`. It does not allocate.
+    ///
+    /// - `Ok`: the reply. The ticket is closed from then on.
+    /// - `Err(Timeout)`: no reply came in time, and the request was not dropped. The ticket stays open.
+    /// - `Err(Disconnected)`: the request was dropped unanswered, or the reply was taken before. Every later
+    ///   call returns the same.
+    ///
+    /// If no instant can hold the sum of now and `timeout`, the call never returns `Timeout`. If the clock
+    /// fails, the deadline is over at once.
+    pub fn wait_for(&mut self, timeout: Duration) -> Result<A, RecvTimeoutError>
+        ensures own { IfOk result (λ reply. Q.eq (A.asked reply) self.old.about.question ≡ true) }
+        ensures right { IfOk result (λ reply. A.answers (A.asked reply) reply) }
+        ensures about { self.new.about ≡ self.old.about }
+        ensures channel { self.new.channel ≡ self.old.channel }
+        ensures run { TimeoutGrew A timeout self.old.log self.new.log (timed_reply result) }
+        ensures leaves { LeavesTimed result (receiver_at self.new.log) }
+        ensures closes { result ≢ Err Timed.Timeout → IsClosed self.new }
+        ensures stays_open { result ≡ Err Timed.Timeout → IsOpen self.new }
+        ensures stays_closed { IsClosed self.old → result ≡ Err Timed.Disconnected }
+    {
+        self.replies.recv_timeout(timeout)
+    }
+}

@@ -1,0 +1,10 @@
+//! The errors of the receives.
+
+pub mod laws;
+mod recv;
+mod recv_timeout;
+mod try_recv;
+
+pub use recv::RecvError;
+pub use recv_timeout::RecvTimeoutError;
+pub use try_recv::TryRecvError;

@@ -1,0 +1,33 @@
+//! Why `try_recv` has no message.
+
+use std::error::Error;
+use std::fmt;
+use std::fmt::{Display, Formatter};
+
+/// Why `try_recv` has no message.
+///
+/// The two reasons are those of the Rust crate.
+#[derive(Clone, Copy, Debug, Eq, Hash, PartialEq)]
+pub enum TryRecvError {
+    /// Nothing was sent yet, and the sender was not dropped; or, for a future, the sender is about to finish.
+    /// The receiver stays open, and a later receive may return the message.
+    Empty,
+    /// The sender was dropped without sending, or the message was received before. None will ever come.
+    Disconnected,
+}
+
+impl Display for TryRecvError {
+    ghost use Rattle.std.specs.Prelude.{Some};
+    ghost use Rattle.oneshot_drive.specs.ErrorTexts.{try_recv_text};
+
+    ghost output = { λ error. Some (try_recv_text error) };
+
+    fn fmt<W: fmt::Write>(&self, f: &mut Formatter<W>) -> fmt::Result {
+        match self {
+            TryRecvError::Empty => f.pad("receiving on an empty channel"),
+            TryRecvError::Disconnected => f.pad("receiving on a closed channel"),
+        }
+    }
+}
+
+impl Error for TryRecvError {}

@@ -1,0 +1,41 @@
+//! Rounds by the ten thousand, in each of which both ends of a channel race on real threads.
+#![tactic(auto)]
+
+#[cfg(test)]
+mod answers;
+#[cfg(test)]
+mod beside_a_drop;
+#[cfg(test)]
+mod beside_a_send;
+#[cfg(test)]
+mod channels;
+#[cfg(test)]
+mod counted;
+#[cfg(test)]
+mod draws;
+#[cfg(test)]
+mod duels;
+#[cfg(test)]
+mod line;
+#[cfg(test)]
+mod looks;
+#[cfg(test)]
+mod notes;
+#[cfg(test)]
+mod overtaken;
+#[cfg(test)]
+mod pending;
+#[cfg(test)]
+mod races;
+#[cfg(test)]
+mod replies;
+#[cfg(test)]
+mod sizes;
+#[cfg(test)]
+mod tries;
+#[cfg(test)]
+mod two_channels;
+#[cfg(test)]
+mod uses;
+#[cfg(test)]
+mod waits;
