@@ -1,5 +1,6 @@
 //! Tests of what the program writes for an input, or of the fault that it reports.
 
+mod asserts;
 mod damaged;
 mod faults;
 mod long;

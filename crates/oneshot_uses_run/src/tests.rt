@@ -1,5 +1,6 @@
 //! Tests of what no contract states: each use reaches its result.
 
+mod asserts;
 mod divisor;
 mod pool;
 mod replies;

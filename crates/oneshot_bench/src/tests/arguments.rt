@@ -1,5 +1,6 @@
 //! Tests of the arguments that are read and refused, and of the text of each fault.
 
+use super::asserts::assert_same;
 use crate::command::{Command, parse_command, parse_count};
 use crate::fault::Fault;
 use oneshot_loops::channels::Channel;
@@ -106,15 +107,20 @@ fn counts_of_64_bits_are_read(rt: HostRuntime) {
 
 #[test]
 fn two_words_or_three_or_none(rt: HostRuntime) -> Result<(), Fail> {
-    assert_eq!(rt; parsed(rt.alloc(), &[])?, Some(Command::Usage));
-    assert_eq!(rt; parsed(rt.alloc(), &["make_drop"])?, None);
-    assert_eq!(rt; parsed(rt.alloc(), &["1", "make_drop"])?, None);
-    assert_eq!(rt; parsed(rt.alloc(), &["make_drop", "1", "1"])?, None);
-    assert_eq!(rt; parsed(rt.alloc(), &["make_drop", "futures", "1"])?, None);
-    assert_eq!(rt; parsed(rt.alloc(), &["futures", "make_drop"])?, None);
-    assert_eq!(rt;
+    assert_same(&rt, parsed(rt.alloc(), &[])?, Some(Command::Usage));
+    assert_same(&rt, parsed(rt.alloc(), &["make_drop"])?, None);
+    assert_same(&rt, parsed(rt.alloc(), &["1", "make_drop"])?, None);
+    assert_same(&rt, parsed(rt.alloc(), &["make_drop", "1", "1"])?, None);
+    assert_same(
+        &rt,
+        parsed(rt.alloc(), &["make_drop", "futures", "1"])?,
+        None,
+    );
+    assert_same(&rt, parsed(rt.alloc(), &["futures", "make_drop"])?, None);
+    assert_same(
+        &rt,
         parsed(rt.alloc(), &["futures", "make_drop", "1", "1"])?,
-        None
+        None,
     );
     Ok(())
 }
@@ -138,13 +144,13 @@ fn a_fault_is_one_line_and_a_status(rt: HostRuntime) -> Result<(), Fail> {
     ];
     for (fault, text) in faults {
         let told = format!(in rt.alloc(); "{} {fault}", fault.status())?;
-        assert_eq!(rt; told.as_str(), text);
+        assert_same(&rt, told.as_str(), text);
     }
     let told = format!(in rt.alloc(); "{}", Fault::BadArguments)?;
     assert!(rt;
         told.as_str()
             .starts_with("usage: oneshot_bench [CHANNEL] LOOP COUNT")
     );
-    assert_eq!(rt; Fault::BadArguments.status(), 2);
+    assert_same(&rt, Fault::BadArguments.status(), 2);
     Ok(())
 }

@@ -1,5 +1,6 @@
 //! Tests that each loop does what its name says, and reports a lost message.
 
+use super::asserts::assert_same;
 use crossbeam_channel::bounded;
 use futures::channel::oneshot::channel as futures_channel;
 use futures::future::ready;
@@ -127,10 +128,10 @@ fn each_round_trip_of_futures_is_made(rt: HostRuntime) -> Result<(), Fail> {
     for channel in OF_FUTURES {
         for count in [0, 1, 1024, 1025] {
             let tally = measure(&rt, channel, Loop::Awaited(Awaited::RoundTripAwait), count)?.tally;
-            assert_eq!(rt; tally.channels, 2 * count);
-            assert_eq!(rt; tally.polled, 2 * count);
-            assert_eq!(rt; tally.waited, 0);
-            assert_eq!(rt; tally.tried, 0);
+            assert_same(&rt, tally.channels, 2 * count);
+            assert_same(&rt, tally.polled, 2 * count);
+            assert_same(&rt, tally.waited, 0);
+            assert_same(&rt, tally.tried, 0);
         }
     }
     Ok(())
@@ -257,10 +258,10 @@ fn each_round_trip_is_made(rt: HostRuntime) -> Result<(), Fail> {
     for channel in [Channel::Oneshot, Channel::Crossbeam] {
         for count in [0, 1, 1024, 1025] {
             let tally = measure(&rt, channel, Loop::RoundTrip, count)?.tally;
-            assert_eq!(rt; tally.channels, 2 * count);
-            assert_eq!(rt; tally.waited, 2 * count);
-            assert_eq!(rt; tally.tried, 0);
-            assert_eq!(rt; tally.polled, 0);
+            assert_same(&rt, tally.channels, 2 * count);
+            assert_same(&rt, tally.waited, 2 * count);
+            assert_same(&rt, tally.tried, 0);
+            assert_same(&rt, tally.polled, 0);
         }
     }
     Ok(())
@@ -292,7 +293,7 @@ fn the_time_is_that_of_the_work(rt: HostRuntime) -> Result<(), Fail> {
         Ok(())
     });
     clock.nanoseconds.set(40);
-    assert_eq!(rt; time?, Duration::from_nanos(7));
+    assert_same(&rt, time?, Duration::from_nanos(7));
     Ok(())
 }
 
@@ -317,7 +318,7 @@ fn rounds_end_at_the_first_fault(rt: HostRuntime) {
         }
     });
     assert!(rt; matches!(ended, Err(Fault::MessageLost)));
-    assert_eq!(rt; made, 3);
+    assert_same(&rt, made, 3);
 }
 
 #[test]
@@ -387,6 +388,6 @@ fn rounds_in_a_task_end_at_the_first_fault(rt: HostRuntime) -> Result<(), Fail> 
     let lost = repeat_in_task(&rt, 5, LostAtTheThird, &mut tally);
     assert!(rt; matches!(lost, Err(Fault::MessageLost)));
     repeat_in_task(&rt, 2, LostAtTheThird, &mut tally)?;
-    assert_eq!(rt; tally, tally_of(2, made(8)));
+    assert_same(&rt, tally, tally_of(2, made(8)));
     Ok(())
 }

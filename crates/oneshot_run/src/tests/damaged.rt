@@ -8,6 +8,7 @@ mod pieces;
 mod place;
 mod reading;
 
+use crate::tests::asserts::assert_same;
 use crate::tests::told;
 use reading::{Asked, Kind, read};
 use std::process::Abort;
@@ -44,7 +45,7 @@ fn assert_trace(
     assert_rest(rt, lines.next().expect(rt, "a rest"), asked.message)?;
     let block = lines.next().expect(rt, "a block");
     assert!(rt; block == "block here" || block == "block freed", "{block}");
-    assert_eq!(rt; lines.next(), None);
+    assert_same(rt, lines.next(), None);
     Ok(())
 }
 
@@ -68,7 +69,7 @@ fn assert_rest(
     message: Option<&str>,
 ) -> Result<(), Fail> {
     let Some(message) = message else {
-        assert_eq!(rt; rest, "rest none");
+        assert_same(rt, rest, "rest none");
         return Ok(());
     };
     let end = format!(in rt.alloc(); "({message})")?;

@@ -1,6 +1,7 @@
 //! Tests of the faults of an input, with their status: those of the whole input are reported before those of
 //! its lines.
 
+use crate::tests::asserts::assert_same;
 use crate::tests::told;
 use std::test::Fail;
 
@@ -41,26 +42,30 @@ fn faults_of_a_line(rt: HostRuntime) {
 
 #[test]
 fn bytes_above_127_are_not_ascii(rt: HostRuntime) {
-    assert_eq!(rt;
+    assert_same(
+        &rt,
         told(&rt, b"S\nR\nX\n\x80").as_str(),
-        "2 input is not ASCII"
+        "2 input is not ASCII",
     );
-    assert_eq!(rt;
+    assert_same(
+        &rt,
         told(&rt, "S é\nR\nX\n".as_bytes()).as_str(),
-        "2 input is not ASCII"
+        "2 input is not ASCII",
     );
-    assert_eq!(rt;
+    assert_same(
+        &rt,
         told(&rt, b"S \x7f\nR\nX\n").as_str(),
-        "2 line 1: unknown word 1"
+        "2 line 1: unknown word 1",
     );
 }
 
 #[test]
 fn a_byte_above_127_is_told_before_any_line(rt: HostRuntime) {
-    assert_eq!(rt; told(&rt, b"\xff").as_str(), "2 input is not ASCII");
-    assert_eq!(rt;
+    assert_same(&rt, told(&rt, b"\xff").as_str(), "2 input is not ASCII");
+    assert_same(
+        &rt,
         told(&rt, b"Q\nR\nX\n\xff").as_str(),
-        "2 input is not ASCII"
+        "2 input is not ASCII",
     );
 }
 

@@ -258,8 +258,9 @@ impl<Rt: Wait + Clock + Drop> Ends<Rt> {
     }
 
     fn sender_through_raw(&mut self) -> Answer {
-        let raw = self.sender.take().map(Sender::into_raw);
-        self.sender = raw.map(Sender::from_raw);
+        if let Some(sender) = self.sender.take() {
+            self.sender = Some(Sender::from_raw(sender.into_raw()));
+        }
         Answer::Done
     }
 
@@ -269,7 +270,9 @@ impl<Rt: Wait + Clock + Drop> Ends<Rt> {
     }
 
     fn drop_raw_sender(&mut self) -> Answer {
-        drop(self.sender.take().map(Sender::into_raw));
+        if let Some(sender) = self.sender.take() {
+            drop(sender.into_raw());
+        }
         Answer::Done
     }
 
@@ -310,13 +313,16 @@ impl<Rt: Wait + Clock + Drop> Ends<Rt> {
     }
 
     fn receiver_through_raw(&mut self) -> Answer {
-        let raw = self.receiver.take().map(Receiver::into_raw);
-        self.receiver = raw.map(Receiver::from_raw);
+        if let Some(receiver) = self.receiver.take() {
+            self.receiver = Some(Receiver::from_raw(receiver.into_raw()));
+        }
         Answer::Done
     }
 
     fn become_future(&mut self) -> Answer {
-        self.future = self.receiver.take().map(Receiver::into_future);
+        if let Some(receiver) = self.receiver.take() {
+            self.future = Some(receiver.into_future());
+        }
         Answer::Done
     }
 
@@ -337,7 +343,9 @@ impl<Rt: Wait + Clock + Drop> Ends<Rt> {
     }
 
     fn drop_raw_receiver(&mut self) -> Answer {
-        drop(self.receiver.take().map(Receiver::into_raw));
+        if let Some(receiver) = self.receiver.take() {
+            drop(receiver.into_raw());
+        }
         Answer::Done
     }
 

@@ -1,13 +1,14 @@
 //! Tests of searches that find a divisor, and of those that drop their sender.
 
+use super::asserts::assert_same;
 use oneshot_channel::{RecvError, async_channel};
 use oneshot_uses::divisor::{await_divisor, divisor_of, least_divisor, send_divisor, start};
 use std::test::Fail;
 
 #[test]
 fn a_divisor_is_awaited(rt: HostRuntime) -> Result<(), Fail> {
-    assert_eq!(rt; divisor_of(&rt, rt.alloc(), 91)?, Ok(7));
-    assert_eq!(rt; divisor_of(&rt, rt.alloc(), 1_000)?, Ok(2));
+    assert_same(&rt, divisor_of(&rt, rt.alloc(), 91)?, Ok(7));
+    assert_same(&rt, divisor_of(&rt, rt.alloc(), 1_000)?, Ok(2));
     Ok(())
 }
 
@@ -15,7 +16,7 @@ fn a_divisor_is_awaited(rt: HostRuntime) -> Result<(), Fail> {
 fn a_search_that_finds_none_drops_its_sender(rt: HostRuntime) -> Result<(), Fail> {
     for number in [0, 1, 2, 97] {
         assert!(rt; least_divisor(number).is_none());
-        assert_eq!(rt; divisor_of(&rt, rt.alloc(), number)?, Err(RecvError));
+        assert_same(&rt, divisor_of(&rt, rt.alloc(), number)?, Err(RecvError));
     }
     Ok(())
 }
@@ -24,7 +25,7 @@ fn a_search_that_finds_none_drops_its_sender(rt: HostRuntime) -> Result<(), Fail
 fn a_divisor_of_another_number_is_not_taken(rt: HostRuntime) -> Result<(), Fail> {
     let (waiter, receiver) = async_channel((), rt.alloc())?;
     send_divisor(91, waiter);
-    assert_eq!(rt; await_divisor(&rt, 92, receiver)?, Err(RecvError));
+    assert_same(&rt, await_divisor(&rt, 92, receiver)?, Err(RecvError));
     Ok(())
 }
 
@@ -41,6 +42,6 @@ fn a_search_ends_where_nobody_waits(rt: HostRuntime) -> Result<(), Fail> {
 fn a_search_is_awaited_after_its_thread_ended(rt: HostRuntime) -> Result<(), Fail> {
     let (waiter, receiver) = async_channel((), rt.alloc())?;
     start(&rt, 91, waiter)?.join(&rt);
-    assert_eq!(rt; await_divisor(&rt, 91, receiver)?, Ok(7));
+    assert_same(&rt, await_divisor(&rt, 91, receiver)?, Ok(7));
     Ok(())
 }

@@ -1,5 +1,6 @@
 //! Tests of replies that come, come too late or never come, and of the shutdown of a pool.
 
+use super::asserts::assert_same;
 use crossbeam_channel as queue;
 use oneshot_channel::channel;
 use oneshot_uses::pool::{answers_to, ask_all, pooled, total, work};
@@ -19,11 +20,11 @@ fn moment() -> Duration {
 fn each_request_is_answered_and_counted(rt: HostRuntime) -> Result<(), Fail> {
     let roots = [2, 4, 6, 8, 10, 12, 14, 16];
     let done = pooled(&rt, rt.alloc(), 3, &roots, minute())?;
-    assert_eq!(rt; done.served, Some(8));
-    assert_eq!(rt; done.answers.len(), 8);
+    assert_same(&rt, done.served, Some(8));
+    assert_same(&rt, done.answers.len(), 8);
     for (answer, root) in done.answers.iter().zip(roots.iter()) {
-        assert_eq!(rt; answer.root, *root);
-        assert_eq!(rt; answer.square, Ok(u64::from(*root) * u64::from(*root)));
+        assert_same(&rt, answer.root, *root);
+        assert_same(&rt, answer.square, Ok(u64::from(*root) * u64::from(*root)));
     }
     Ok(())
 }
@@ -31,9 +32,9 @@ fn each_request_is_answered_and_counted(rt: HostRuntime) -> Result<(), Fail> {
 #[test]
 fn without_a_worker_each_answer_is_late(rt: HostRuntime) -> Result<(), Fail> {
     let done = pooled(&rt, rt.alloc(), 0, &[3, 5], moment())?;
-    assert_eq!(rt; done.served, Some(0));
+    assert_same(&rt, done.served, Some(0));
     for answer in done.answers {
-        assert_eq!(rt; answer.square, Err(Unanswered::Late));
+        assert_same(&rt, answer.square, Err(Unanswered::Late));
     }
     Ok(())
 }
@@ -41,7 +42,11 @@ fn without_a_worker_each_answer_is_late(rt: HostRuntime) -> Result<(), Fail> {
 #[test]
 fn a_late_reply_is_refused(rt: HostRuntime) -> Result<(), Fail> {
     let (request, asked) = ask(&rt, rt.alloc(), 3)?;
-    assert_eq!(rt; asked.wait_within(moment()).square, Err(Unanswered::Late));
+    assert_same(
+        &rt,
+        asked.wait_within(moment()).square,
+        Err(Unanswered::Late),
+    );
     assert!(rt; !request.serve());
     Ok(())
 }
@@ -52,7 +57,7 @@ fn a_closed_queue_loses_its_requests(rt: HostRuntime) -> Result<(), Fail> {
     drop(taken);
     let all = ask_all(&rt, rt.alloc(), &requests, &[3, 5])?;
     for answer in answers_to(rt.alloc(), all, minute())? {
-        assert_eq!(rt; answer.square, Err(Unanswered::Lost));
+        assert_same(&rt, answer.square, Err(Unanswered::Lost));
     }
     Ok(())
 }
@@ -67,7 +72,7 @@ fn a_worker_counts_the_replies_that_were_waited_for(rt: HostRuntime) -> Result<(
     drop(requests);
     let (report, mut reported) = channel(&rt, rt.alloc())?;
     work(&rt, &taken, report);
-    assert_eq!(rt; reported.recv_timeout(minute()), Ok(2));
+    assert_same(&rt, reported.recv_timeout(minute()), Ok(2));
     for answer in answers_to(rt.alloc(), all, minute())? {
         assert!(rt; answer.square.is_ok());
     }
@@ -83,6 +88,6 @@ fn a_report_that_never_comes_is_no_total(rt: HostRuntime) -> Result<(), Fail> {
     let mut reports = Vec::new(rt.alloc());
     reports.push(reported)?;
     reports.push(never)?;
-    assert_eq!(rt; total(reports, minute()), None);
+    assert_same(&rt, total(reports, minute()), None);
     Ok(())
 }

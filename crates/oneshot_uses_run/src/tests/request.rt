@@ -1,14 +1,16 @@
 //! Tests of replies that come, and of those that do not.
 
+use super::asserts::assert_same;
 use oneshot_uses::request::{Asked, ask, serve_all, squares_of};
 use std::test::Fail;
 
 #[test]
 fn each_number_has_its_square(rt: HostRuntime) -> Result<(), Fail> {
     let squares = squares_of(&rt, rt.alloc(), &[3, 5, 12])?;
-    assert_eq!(rt;
+    assert_same(
+        &rt,
         squares.as_slice(),
-        [Some(9), Some(25), Some(144)].as_slice()
+        [Some(9), Some(25), Some(144)].as_slice(),
     );
     Ok(())
 }
@@ -17,7 +19,7 @@ fn each_number_has_its_square(rt: HostRuntime) -> Result<(), Fail> {
 fn a_request_that_nobody_serves_has_no_reply(rt: HostRuntime) -> Result<(), Fail> {
     let (request, asked) = ask(&rt, rt.alloc(), 3)?;
     drop(request);
-    assert_eq!(rt; asked.wait(), None);
+    assert_same(&rt, asked.wait(), None);
     Ok(())
 }
 
@@ -29,7 +31,7 @@ fn a_reply_to_another_request_is_not_taken(rt: HostRuntime) -> Result<(), Fail> 
         reply: of_other.reply,
     };
     assert!(rt; other.serve());
-    assert_eq!(rt; asked.wait(), None);
+    assert_same(&rt, asked.wait(), None);
     Ok(())
 }
 
@@ -49,7 +51,7 @@ fn a_worker_counts_the_replies_that_are_waited_for(rt: HostRuntime) -> Result<()
     let mut requests = Vec::new(rt.alloc());
     requests.push(waited_for)?;
     requests.push(given_up)?;
-    assert_eq!(rt; serve_all(requests), 1);
-    assert_eq!(rt; asked.wait(), Some(9));
+    assert_same(&rt, serve_all(requests), 1);
+    assert_same(&rt, asked.wait(), Some(9));
     Ok(())
 }

@@ -1,5 +1,6 @@
 //! Tests of tickets whose reply comes, comes too late or never comes.
 
+use super::asserts::assert_same;
 use oneshot_channel::reply::{Request, Ticket, request};
 use oneshot_uses::request::{Square, Unanswered};
 use oneshot_uses::tickets::{asked, serve, square_awaited, square_within};
@@ -26,9 +27,9 @@ fn ask<Rt: Drop>(rt: Rt, alloc: Global, root: u32) -> Result<Ends<Rt>, AllocErro
 fn each_ticket_has_its_square(rt: HostRuntime) -> Result<(), Fail> {
     let squares = [(2, 4), (4, 16), (6, 36), (8, 64), (10, 100)];
     let answers = asked(&rt, rt.alloc(), 3, &[2, 4, 6, 8, 10], minute())?;
-    assert_eq!(rt; answers.len(), 5);
+    assert_same(&rt, answers.len(), 5);
     for (answer, (root, square)) in answers.iter().zip(squares) {
-        assert_eq!(rt; (answer.root, answer.square), (root, Ok(square)));
+        assert_same(&rt, (answer.root, answer.square), (root, Ok(square)));
     }
     Ok(())
 }
@@ -36,7 +37,7 @@ fn each_ticket_has_its_square(rt: HostRuntime) -> Result<(), Fail> {
 #[test]
 fn without_a_worker_each_square_is_late(rt: HostRuntime) -> Result<(), Fail> {
     for answer in asked(&rt, rt.alloc(), 0, &[3, 5], moment())? {
-        assert_eq!(rt; answer.square, Err(Unanswered::Late));
+        assert_same(&rt, answer.square, Err(Unanswered::Late));
     }
     Ok(())
 }
@@ -44,7 +45,11 @@ fn without_a_worker_each_square_is_late(rt: HostRuntime) -> Result<(), Fail> {
 #[test]
 fn a_late_answer_is_refused(rt: HostRuntime) -> Result<(), Fail> {
     let (request, mut ticket) = ask(&rt, rt.alloc(), 3)?;
-    assert_eq!(rt; square_within(&mut ticket, moment()), Err(Unanswered::Late));
+    assert_same(
+        &rt,
+        square_within(&mut ticket, moment()),
+        Err(Unanswered::Late),
+    );
     drop(ticket);
     assert!(rt; !serve(request));
     Ok(())
@@ -54,7 +59,11 @@ fn a_late_answer_is_refused(rt: HostRuntime) -> Result<(), Fail> {
 fn a_dropped_request_loses_its_square(rt: HostRuntime) -> Result<(), Fail> {
     let (request, mut ticket) = ask(&rt, rt.alloc(), 3)?;
     drop(request);
-    assert_eq!(rt; square_within(&mut ticket, minute()), Err(Unanswered::Lost));
+    assert_same(
+        &rt,
+        square_within(&mut ticket, minute()),
+        Err(Unanswered::Lost),
+    );
     Ok(())
 }
 
@@ -63,9 +72,9 @@ fn a_task_awaits_its_square(rt: HostRuntime) -> Result<(), Fail> {
     let (request, ticket) = ask((), rt.alloc(), 12)?;
     let (awaited, served) = join(&rt, || square_awaited(&rt, ticket), || serve(request));
     assert!(rt; served);
-    assert_eq!(rt; awaited?, Some(144));
+    assert_same(&rt, awaited?, Some(144));
     let (request, ticket) = ask((), rt.alloc(), 12)?;
     drop(request);
-    assert_eq!(rt; square_awaited(&rt, ticket)?, None);
+    assert_same(&rt, square_awaited(&rt, ticket)?, None);
     Ok(())
 }

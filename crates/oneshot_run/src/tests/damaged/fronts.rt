@@ -1,5 +1,6 @@
 //! Tests of the prefixes of an input, and of input after the third line.
 
+use crate::tests::asserts::assert_same;
 use crate::tests::damaged::assert_as_read;
 use crate::tests::damaged::reading::Kind;
 use crate::tests::told;
@@ -40,9 +41,9 @@ fn each_front_of_an_input(rt: HostRuntime) -> Result<(), Fail> {
     }
     for (index, letter) in SCHEDULE.as_bytes().iter().enumerate() {
         front.push(*letter)?;
-        assert_eq!(rt; assert_as_read(&rt, &front)?, Kind::Trace);
+        assert_same(&rt, assert_as_read(&rt, &front)?, Kind::Trace);
         let lines = told(&rt, &front).lines().count();
-        assert_eq!(rt; lines, index.saturating_add(3));
+        assert_same(&rt, lines, index.saturating_add(3));
     }
     let trace = told(&rt, &front);
     front.push(b'\n')?;
