@@ -6,7 +6,7 @@ mod refused;
 mod unwoken;
 mod waits;
 
-use crate::auditor::audit;
+use crate::auditor::{DrawnTrace, Scripts, audit};
 use crate::damage::{Edit, apply};
 use crate::moves::move_of;
 use crate::run::{run, scripts_of};
@@ -21,25 +21,47 @@ type Damage = (&'static str, &'static str, &'static [Edit], &'static str);
 /// Both scripts, and damages to their traces.
 type Damaged = (Sending, Receiving, &'static [Damage]);
 
+/// The right trace of both scripts by this schedule.
+fn right_trace(
+    rt: &(impl Abort + AllocGlobal),
+    sender: Sending,
+    receiver: Receiving,
+    letters: &str,
+) -> Result<DrawnTrace, Fail> {
+    let mut moves = Vec::new(rt.alloc());
+    for letter in letters.chars() {
+        moves.push(move_of(rt, letter))?;
+    }
+    let scripts = scripts_of(rt.alloc(), sender, receiver)?;
+    run(rt.alloc(), scripts, moves.as_slice())
+}
+
+/// Asserts that the auditor accepts the trace, and finds this in it once it is damaged.
+fn assert_finds(
+    rt: &(impl Abort + AllocGlobal),
+    scripts: &Scripts,
+    mut told: DrawnTrace,
+    damage: &Damage,
+) -> Result<(), Fail> {
+    let (name, _, edits, finding) = damage;
+    assert!(rt; audit(scripts, &told).is_ok(), "{name}, undamaged");
+    for change in *edits {
+        apply(rt, &mut told, *change)?;
+    }
+    let Err(found) = audit(scripts, &told) else {
+        panic!(rt; "{name} is accepted")
+    };
+    assert_eq!(rt; found.to_string(rt.alloc())?.as_str(), *finding, "{name}");
+    Ok(())
+}
+
 /// Asserts for each damage that the auditor accepts the right trace, and finds this in the damaged one.
 fn assert_refused(rt: &(impl Abort + AllocGlobal), damaged: Damaged) -> Result<(), Fail> {
     let (sender, receiver, damages) = damaged;
     let scripts = scripts_of(rt.alloc(), sender, receiver)?;
-    for (name, letters, edits, finding) in damages {
-        let mut moves = Vec::new(rt.alloc());
-        for letter in letters.chars() {
-            moves.push(move_of(rt, letter))?;
-        }
-        let played = scripts_of(rt.alloc(), sender, receiver)?;
-        let mut told = run(rt.alloc(), played, moves.as_slice())?;
-        assert!(rt; audit(&scripts, &told).is_ok(), "{name}, undamaged");
-        for change in *edits {
-            apply(rt, &mut told, *change)?;
-        }
-        let Err(found) = audit(&scripts, &told) else {
-            panic!(rt; "{name} is accepted")
-        };
-        assert_eq!(rt; found.to_string(rt.alloc())?.as_str(), *finding, "{name}");
+    for damage in damages {
+        let told = right_trace(rt, sender, receiver, damage.1)?;
+        assert_finds(rt, &scripts, told, damage)?;
     }
     Ok(())
 }
