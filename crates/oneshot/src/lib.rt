@@ -1,13 +1,6 @@
 //! The channel with its model: both ends' machines and drivers, and runs that a program steps and prints.
 #![tactic(auto)]
 
-#[cfg(test)]
-mod printed;
-#[cfg(test)]
-mod rehearsal;
-#[cfg(test)]
-mod stepped;
-
 pub use oneshot_channel::{
     AsyncReceiver, Promise, RawReceiver, RawSender, Receiver, RecvError, RecvTimeoutError,
     SendError, Sender, TryRecvError, async_channel, async_channel_for, channel, channel_for, reply,

@@ -1,13 +1,8 @@
 //! Measures a loop over a channel: the arguments name both, and the number of rounds.
 #![tactic(auto)]
 
-mod command;
-mod fault;
-#[cfg(test)]
-mod tests;
-
-use command::{Command, USAGE, parse_command};
-use fault::Fault;
+use oneshot_loops::command::fault::Fault;
+use oneshot_loops::command::{Command, USAGE, parse_command};
 use oneshot_loops::measure::measure;
 use std::alloc::AllocError;
 use std::env;

@@ -1,9 +1,11 @@
-//! Loops whose rounds a program can time, over this repository's channel and over two of Rattle's.
+//! Loops whose rounds a program can time, over this repository's channel and over two of Rattle's, and the
+//! commands that ask for them.
 #![tactic(auto)]
 
 pub mod awaited_rounds;
 pub mod awaited_trips;
 pub mod channels;
+pub mod command;
 pub mod crossbeam_rounds;
 pub mod crossbeam_trips;
 pub mod fault;

@@ -1,8 +1,10 @@
 //! Tests of what is beneath the real channel and beside it, by public names: the operations on the word,
 //! the drivers over grounds in memory, both sides of the shared word, lists of calls, runs that are stepped
-//! by hand, and texts.
+//! by hand, texts, and answers to inputs.
 #![tactic(auto)]
 
+#[cfg(test)]
+mod answers;
 #[cfg(test)]
 mod asserts;
 #[cfg(test)]

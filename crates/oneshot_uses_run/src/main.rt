@@ -1,9 +1,6 @@
 //! Runs each use of a channel in `oneshot_uses`, and prints its result.
 #![tactic(auto)]
 
-#[cfg(test)]
-mod tests;
-
 use oneshot_uses::divisor::divisor_of;
 use oneshot_uses::pool::pooled;
 use oneshot_uses::replies::{both_squares, first_square};

@@ -5,9 +5,6 @@ ghost use Rattle.oneshot_machine.specs.Called.{as_receiver, as_future};
 ghost use Rattle.oneshot_values.specs.Examples.{WorkedValues, WrongValues};
 ghost use Rattle.oneshot_values.specs.Values.{ReceiverRuns, ErrorRuns};
 
-#[cfg(test)]
-mod worker;
-
 use oneshot_channel::reply::laws::{a_ticket_has_its_calls, a_ticket_is_in_an_order};
 use oneshot_channel::reply::{Answer, Ticket};
 use oneshot_ends::laws::{

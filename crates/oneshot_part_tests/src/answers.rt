@@ -1,0 +1,90 @@
+//! Tests of what the program writes for an input, or of the fault that it reports.
+
+mod damaged;
+mod faults;
+mod long;
+mod overdue;
+mod polls;
+mod streams;
+mod traces;
+
+use oneshot_streams::answer::answer;
+use std::alloc::{AllocError, Global};
+use std::process::Abort;
+
+/// Returns the output for `input`, or the status and the one line of the fault. Fails if the program writes
+/// both.
+fn told(rt: &(impl Abort + AllocGlobal), input: &[u8]) -> String {
+    let mut input = input;
+    let mut written = Vec::new(rt.alloc());
+    let mut errors = Vec::new(rt.alloc());
+    let status = answer(rt.alloc(), &mut input, &mut written, &mut errors);
+    let errors = String::from_utf8(errors).ok().expect(rt, "text");
+    if status == 0 {
+        assert!(rt; errors.is_empty(), "{errors} beside the output");
+        return String::from_utf8(written).ok().expect(rt, "text");
+    }
+    assert!(rt; written.is_empty(), "output beside {errors}");
+    let fault = errors.strip_suffix('\n').expect(rt, "a whole line");
+    format!(in rt.alloc(); "{status} {fault}").expect(rt, "memory")
+}
+
+/// Fails unless this input has this output.
+fn assert_trace(rt: &(impl Abort + AllocGlobal), input: &str, output: &str) {
+    assert_eq!(rt; told(rt, input.as_bytes()).as_str(), output, "{input}");
+}
+
+/// Fails unless each input has its output.
+fn assert_traces(rt: &(impl Abort + AllocGlobal), cases: &[(&str, &str)]) {
+    for (input, output) in cases {
+        assert_trace(rt, input, output);
+    }
+}
+
+/// Sends and receives a message, then drops the receiver.
+const SENT: &str = "S send 7\nR try drop\nX ssrrrrr\n";
+
+/// The output for `SENT`: a line for each entry, then the end.
+const SENT_TRACE: &str = "1 S write-message 3>3 m:NotSent>InCell
+2 S add 3>4 = Ok
+3 R load 4>4
+4 R store 4>2
+5 R take-message 2>2 m:InCell>Delivered = Ok(7)
+6 R swap 2>2
+7 R free 2>- = dropped
+rest Delivered(7)
+block freed
+";
+
+/// Returns an input of `moves` moves of a sender without a call, and its output.
+fn idle(alloc: Global, moves: usize) -> Result<(String, String), AllocError> {
+    let mut input = String::from_str(alloc, "S\nR\nX ")?;
+    let mut output = String::new(alloc);
+    for number in 1..=moves {
+        input.push('s')?;
+        writeln!(output, "{number} S idle")?;
+    }
+    output.push_str("rest none\nblock here\n")?;
+    Ok((input, output))
+}
+
+/// Returns an input of `calls` receives that find nothing and of `moves` moves, and its output.
+fn receives(alloc: Global, calls: usize, moves: usize) -> Result<(String, String), AllocError> {
+    let mut input = String::from_str(alloc, "S send 7\nR")?;
+    let mut output = String::new(alloc);
+    for _ in 0..calls {
+        input.push_str(" try")?;
+    }
+    input.push_str("\nX ")?;
+    for number in 1..=moves {
+        input.push('r')?;
+        let entry = if number <= calls {
+            "load 3>3 = Err(Empty)"
+        } else {
+            "idle"
+        };
+        writeln!(output, "{number} R {entry}")?;
+    }
+    output.push_str("rest NotSent(7)\nblock here\n")?;
+    Ok((input, output))
+}

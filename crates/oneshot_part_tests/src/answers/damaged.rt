@@ -1,0 +1,79 @@
+//! Tests of damaged texts: the program agrees with a second reading, which knows only the grammar.
+
+mod damage;
+mod drawn;
+mod draws;
+mod fronts;
+mod pieces;
+mod place;
+mod reading;
+
+use crate::answers::told;
+use crate::asserts::assert_same;
+use reading::{Asked, Kind, read};
+use std::process::Abort;
+use std::test::Fail;
+
+/// Asserts that the program's output for `input` agrees with the second reading: the trace of the run that
+/// it asks for, or its first fault.
+fn assert_as_read(rt: &(impl Abort + AllocGlobal), input: &[u8]) -> Result<Kind, Fail> {
+    let output = told(rt, input);
+    match read(rt.alloc(), input)? {
+        Ok(asked) => {
+            assert_trace(rt, asked, &output)?;
+            Ok(Kind::Trace)
+        }
+        Err(flaw) => {
+            let fault = format!(in rt.alloc(); "2 {flaw}")?;
+            assert_eq!(rt; output, fault, "{}", input.escape_ascii());
+            Ok(flaw.kind())
+        }
+    }
+}
+
+/// Asserts an entry for each move, then the message's place, then whether the block is freed, and no more.
+fn assert_trace(
+    rt: &(impl Abort + AllocGlobal),
+    asked: Asked<'_>,
+    output: &str,
+) -> Result<(), Fail> {
+    let mut lines = output.split_terminator('\n');
+    for (index, letter) in asked.letters.chars().enumerate() {
+        let entry = lines.next().expect(rt, "an entry a move");
+        assert_entry(rt, entry, index.saturating_add(1), letter)?;
+    }
+    assert_rest(rt, lines.next().expect(rt, "a rest"), asked.message)?;
+    let block = lines.next().expect(rt, "a block");
+    assert!(rt; block == "block here" || block == "block freed", "{block}");
+    assert_same(rt, lines.next(), None);
+    Ok(())
+}
+
+/// Asserts an entry's number, and that the entry is of the end that `letter` moves.
+fn assert_entry(
+    rt: &(impl Abort + AllocGlobal),
+    entry: &str,
+    number: usize,
+    letter: char,
+) -> Result<(), Fail> {
+    let end = if letter == 's' { "S" } else { "R" };
+    let begin = format!(in rt.alloc(); "{number} {end} ")?;
+    assert!(rt; entry.starts_with(begin.as_str()), "{entry}, not {begin}");
+    Ok(())
+}
+
+/// Asserts that the line `rest` shows this message, if there is one.
+fn assert_rest(
+    rt: &(impl Abort + AllocGlobal),
+    rest: &str,
+    message: Option<&str>,
+) -> Result<(), Fail> {
+    let Some(message) = message else {
+        assert_same(rt, rest, "rest none");
+        return Ok(());
+    };
+    let end = format!(in rt.alloc(); "({message})")?;
+    let whole = rest.starts_with("rest ") && rest.ends_with(end.as_str());
+    assert!(rt; whole, "{rest}, not of {message}");
+    Ok(())
+}

@@ -1,0 +1,87 @@
+//! Tests of the faults of an input, with their status: those of the whole input are reported before those of
+//! its lines.
+
+use crate::answers::told;
+use crate::asserts::assert_same;
+use std::test::Fail;
+
+/// Inputs with a fault of a line, each with what the program reports. Other faults of a line are among the
+/// damaged inputs.
+const OF_A_LINE: &[(&str, &str)] = &[
+    ("Q\n", "2 line 1: must begin with S"),
+    ("S\nR\nS\n", "2 line 3: must begin with X"),
+    (
+        "S closed closed closed closed closed closed closed closed closed try\n",
+        "2 line 1: unknown word 10",
+    ),
+    (
+        "S\nR try try try try try try try try try try recv try\n",
+        "2 line 2: word 12 follows the last call",
+    ),
+    ("S\nR future try ref\n", "2 line 2: unknown word 3"),
+    ("S\nR future poll try\n", "2 line 2: bad number at word 3"),
+    (
+        "S\nR future poll 1 try drop try\n",
+        "2 line 2: word 6 follows the last call",
+    ),
+    ("S\tsend 7\nR\nX\n", "2 line 1: must begin with S"),
+    ("S send\t7\nR\nX\n", "2 line 1: unknown word 1"),
+    ("S send 7\nR try\t\nX\n", "2 line 2: unknown word 1"),
+    ("S\nR\nX s\tr\n", "2 line 3: unknown word 1"),
+    ("S\nR\nX S\n", "2 line 3: unknown word 1"),
+    ("S\nR\nX srx\n", "2 line 3: unknown word 1"),
+    ("S\nR\nX sr0\n", "2 line 3: unknown word 1"),
+];
+
+#[test]
+fn faults_of_a_line(rt: HostRuntime) {
+    for (input, fault) in OF_A_LINE {
+        assert_eq!(rt; told(&rt, input.as_bytes()).as_str(), *fault, "{input:?}");
+    }
+}
+
+#[test]
+fn bytes_above_127_are_not_ascii(rt: HostRuntime) {
+    assert_same(
+        &rt,
+        told(&rt, b"S\nR\nX\n\x80").as_str(),
+        "2 input is not ASCII",
+    );
+    assert_same(
+        &rt,
+        told(&rt, "S é\nR\nX\n".as_bytes()).as_str(),
+        "2 input is not ASCII",
+    );
+    assert_same(
+        &rt,
+        told(&rt, b"S \x7f\nR\nX\n").as_str(),
+        "2 line 1: unknown word 1",
+    );
+}
+
+#[test]
+fn a_byte_above_127_is_told_before_any_line(rt: HostRuntime) {
+    assert_same(&rt, told(&rt, b"\xff").as_str(), "2 input is not ASCII");
+    assert_same(
+        &rt,
+        told(&rt, b"Q\nR\nX\n\xff").as_str(),
+        "2 input is not ASCII",
+    );
+}
+
+/// The bytes of which a long input is made, and the fault of as many of them as fit.
+const FITTING: &[(u8, &str)] = &[
+    (b' ', "2 line 1: must begin with S"),
+    (0xff, "2 input is not ASCII"),
+];
+
+#[test]
+fn a_long_input_is_told_before_all_else(rt: HostRuntime) -> Result<(), Fail> {
+    for (byte, fault) in FITTING {
+        let mut input = vec![in rt.alloc(); *byte; 1_048_577]?;
+        assert_same(&rt, told(&rt, &input).as_str(), "2 input too long");
+        input.pop();
+        assert_same(&rt, told(&rt, &input).as_str(), *fault);
+    }
+    Ok(())
+}

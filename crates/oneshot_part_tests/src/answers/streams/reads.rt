@@ -1,0 +1,83 @@
+//! Tests of readers that fail, are interrupted or never end, and of inputs of about one or two blocks.
+
+use super::{FAILURES, Failures, INTERRUPTS, Reader, ending};
+use crate::answers::{SENT, SENT_TRACE, assert_trace, idle};
+use crate::asserts::assert_that;
+use oneshot_streams::fault::Fault;
+use oneshot_streams::run::run;
+use std::io;
+use std::io::{ErrorKind, Read};
+use std::test::Fail;
+
+#[test]
+fn a_failed_read_is_told_alone(rt: HostRuntime) {
+    // The read after the last byte would find the end.
+    for before in 0..=SENT.len() {
+        for &kind in FAILURES {
+            let mut reader = Reader::new(SENT, Failures::of(before, 1, kind));
+            let mut written = Vec::new(rt.alloc());
+            let ended = ending(&rt, &mut reader, &mut written);
+            assert_eq!(rt;
+                ended.as_str(),
+                "1 read failed\n",
+                "{kind:?} after {before} reads"
+            );
+            assert!(rt; written.is_empty(), "{kind:?} after {before} reads");
+            assert_eq!(rt; reader.failures.after, 0, "reads after {kind:?}");
+        }
+    }
+}
+
+#[test]
+fn an_interrupted_read_is_made_again(rt: HostRuntime) {
+    for before in 0..=SENT.len() {
+        for count in 1..=INTERRUPTS {
+            let interrupts = Failures::of(before, count, ErrorKind::Interrupted);
+            let mut written = Vec::new(rt.alloc());
+            let ended = ending(&rt, &mut Reader::new(SENT, interrupts), &mut written);
+            assert_eq!(rt; ended.as_str(), "0 ", "{count} after {before} reads");
+            assert_eq!(rt;
+                written.as_slice(),
+                SENT_TRACE.as_bytes(),
+                "{count} after {before} reads"
+            );
+        }
+    }
+}
+
+#[test]
+fn inputs_of_about_one_and_two_blocks(rt: HostRuntime) -> Result<(), Fail> {
+    // Six bytes precede the moves.
+    for moves in [4_089, 4_090, 4_091, 8_185, 8_186, 8_187] {
+        let (input, output) = idle(rt.alloc(), moves)?;
+        assert_trace(&rt, &input, &output);
+    }
+    Ok(())
+}
+
+/// Never ends, and counts the bytes that it returned.
+#[derive(Drop)]
+struct Endless {
+    given: usize,
+}
+
+impl Read for Endless {
+    fn read(&mut self, buf: &mut [u8]) -> io::Result<usize> {
+        buf.fill(b's');
+        self.given = self.given.saturating_add(buf.len());
+        Ok(buf.len())
+    }
+}
+
+#[test]
+fn an_endless_input_is_too_long(rt: HostRuntime) {
+    let mut reader = Endless { given: 0 };
+    let mut written = Vec::new(rt.alloc());
+    let ended = run(rt.alloc(), &mut reader, &mut written);
+    assert_that(&rt, matches!(ended, Err(Fault::InputTooLong)));
+    assert_that(&rt, written.is_empty());
+    assert_that(
+        &rt,
+        reader.given > 1_048_576 && reader.given <= 1_048_576 + 4096,
+    );
+}

@@ -1,0 +1,123 @@
+//! Tests of writers that fail, are interrupted, or take few bytes at a time.
+
+use super::{FAILURES, Failures, INTERRUPTS, Reader, Writer, ending};
+use crate::answers::{SENT, SENT_TRACE, idle};
+use crate::asserts::{assert_same, assert_that};
+use oneshot_streams::answer::answer;
+use std::io::ErrorKind;
+use std::test::Fail;
+
+/// As `SENT`, with the largest message. The line of an entry that shows it is too long to wait with others.
+const LONG: &str = "S send 18446744073709551615\nR try drop\nX ssrrrrr\n";
+
+/// The output for `LONG`.
+const LONG_TRACE: &str = "1 S write-message 3>3 m:NotSent>InCell
+2 S add 3>4 = Ok
+3 R load 4>4
+4 R store 4>2
+5 R take-message 2>2 m:InCell>Delivered = Ok(18446744073709551615)
+6 R swap 2>2
+7 R free 2>- = dropped
+rest Delivered(18446744073709551615)
+block freed
+";
+
+/// Inputs and their traces.
+const TRACES: &[(&str, &str)] = &[(SENT, SENT_TRACE), (LONG, LONG_TRACE)];
+
+#[test]
+fn short_reads_and_writes_move_all(rt: HostRuntime) {
+    for &(input, trace) in TRACES {
+        let mut writer = Writer::new(rt.alloc(), 1, Failures::none());
+        let mut reader = Reader::new(input, Failures::none());
+        assert_same(&rt, ending(&rt, &mut reader, &mut writer).as_str(), "0 ");
+        assert_same(&rt, writer.written.as_slice(), trace.as_bytes());
+    }
+}
+
+#[test]
+fn a_failed_write_ends_the_output(rt: HostRuntime) {
+    for &(input, trace) in TRACES {
+        // The call after the last byte is the flush.
+        for before in 0..=trace.len() {
+            for &kind in FAILURES {
+                let failures = Failures::of(before, 1, kind);
+                let mut writer = Writer::new(rt.alloc(), 1, failures);
+                let ended = ending(&rt, &mut input.as_bytes(), &mut writer);
+                assert_eq!(rt;
+                    ended.as_str(),
+                    "1 write failed\n",
+                    "{kind:?} after {before} writes"
+                );
+                assert_eq!(rt; writer.written.len(), before, "{kind:?}");
+                assert_that(&rt, trace.as_bytes().starts_with(&writer.written));
+                assert_eq!(rt;
+                    writer.failures.after,
+                    0,
+                    "calls after {kind:?}, after {before} writes"
+                );
+            }
+        }
+    }
+}
+
+#[test]
+fn an_interrupted_write_is_made_again(rt: HostRuntime) {
+    for &(input, trace) in TRACES {
+        for before in 0..trace.len() {
+            for count in [1, 2, 3, 4, INTERRUPTS] {
+                let interrupts = Failures::of(before, count, ErrorKind::Interrupted);
+                let mut writer = Writer::new(rt.alloc(), 1, interrupts);
+                let ended = ending(&rt, &mut input.as_bytes(), &mut writer);
+                assert_eq!(rt; ended.as_str(), "0 ", "{count} after {before} writes");
+                assert_eq!(rt;
+                    writer.written.as_slice(),
+                    trace.as_bytes(),
+                    "{count} after {before} writes"
+                );
+            }
+        }
+    }
+}
+
+#[test]
+fn a_long_output_ends_where_a_write_fails(rt: HostRuntime) -> Result<(), Fail> {
+    let (input, output) = idle(rt.alloc(), 3000)?;
+    for before in 0..100usize {
+        let failures = Failures::of(before, 1, ErrorKind::StorageFull);
+        let mut writer = Writer::new(rt.alloc(), 1000, failures);
+        let ended = ending(&rt, &mut input.as_bytes(), &mut writer);
+        if ended.as_str() == "0 " {
+            assert_same(&rt, writer.written.as_slice(), output.as_bytes());
+            return Ok(());
+        }
+        assert_eq!(rt; ended.as_str(), "1 write failed\n", "after {before} writes");
+        assert!(rt;
+            output.as_bytes().starts_with(&writer.written),
+            "after {before} writes"
+        );
+        assert_eq!(rt;
+            writer.failures.after,
+            0,
+            "calls after the failure, after {before} writes"
+        );
+    }
+    Err(Fail::from("100 calls were too few"))
+}
+
+#[test]
+fn a_writer_that_takes_nothing_has_failed(rt: HostRuntime) {
+    let mut writer = Writer::new(rt.alloc(), 0, Failures::none());
+    let ended = ending(&rt, &mut SENT.as_bytes(), &mut writer);
+    assert_same(&rt, ended.as_str(), "1 write failed\n");
+}
+
+#[test]
+fn where_a_fault_cannot_be_told_the_status_tells(rt: HostRuntime) {
+    let broken = Failures::of(0, 1, ErrorKind::BrokenPipe);
+    let mut errors = Writer::new(rt.alloc(), 100, broken);
+    let mut written = Vec::new(rt.alloc());
+    let status = answer(rt.alloc(), &mut &b"Q"[..], &mut written, &mut errors);
+    assert_same(&rt, status, 2);
+    assert_that(&rt, written.is_empty() && errors.written.is_empty());
+}

@@ -1,0 +1,14 @@
+//! Tests of what stands on the channel and on its model: the uses, the loops of the benchmark and its
+//! arguments, and the callers of the model's contracts.
+#![tactic(auto)]
+
+#[cfg(test)]
+mod arguments;
+#[cfg(test)]
+mod asserts;
+#[cfg(test)]
+mod callers;
+#[cfg(test)]
+mod loops;
+#[cfg(test)]
+mod uses;

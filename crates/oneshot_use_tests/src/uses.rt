@@ -1,0 +1,9 @@
+//! Tests of what no contract states: each use reaches its result.
+
+mod divisor;
+mod pool;
+mod replies;
+mod request;
+mod shutdown;
+mod task;
+mod tickets;
