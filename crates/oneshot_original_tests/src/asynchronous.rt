@@ -5,12 +5,15 @@
 //! sleeps.
 
 use super::counted::Drops;
-use super::threads::on_two_threads;
-use crate::asserts::assert_same;
+use super::threads::{Act, By, Pace, assert_outcomes, outcome_of};
+use crate::asserts::{assert_same, assert_that};
 use futures::executor::block_on;
 use futures::task::Poll;
 use futures::test::MockTask;
 use oneshot::{RecvError, async_channel, channel};
+use oneshot_tests::uses::FutureUse::Await;
+use oneshot_tests::uses::Silence;
+use oneshot_tests::uses::Use::AsFuture;
 use std::alloc::AllocGlobal;
 use std::process::Abort;
 use std::random::RandomSource;
@@ -19,9 +22,19 @@ use std::test::Fail;
 use std::thread::{Threads, sleep};
 use std::time::{Clock, Duration};
 
+/// The sender acts once, after a while in which the receiver begins to wait.
+const ONCE: Pace = Pace {
+    rounds: 1,
+    pause: 10,
+};
+
+fn awaited() -> By {
+    By::Receiver(AsFuture(Await))
+}
+
 fn send_before_await<R: Wait + RandomSource + AllocGlobal + Abort>(rt: &R) -> Result<(), Fail> {
     let (sender, receiver) = channel(rt, rt.alloc())?;
-    assert!(rt; sender.send(19i128).is_ok());
+    assert_that(rt, sender.send(19i128).is_ok());
     assert_same(rt, block_on(rt, receiver.into_future())?, Ok(19));
     Ok(())
 }
@@ -59,24 +72,16 @@ fn await_before_send<R: Threads + Wait + Clock + RandomSource + AllocGlobal + Ab
     rt: &R,
 ) -> Result<(), Fail> {
     let drops = Drops::new();
-    let message = drops.message(79u128);
-    let (sent, received) = on_two_threads(
-        rt,
-        channel(rt, rt.alloc())?,
-        |sender| {
-            sleep(rt, Duration::from_millis(10));
-            sender.send(message).is_ok()
-        },
-        |receiver| block_on(rt, receiver.into_future()),
-    );
-    let Ok(returned) = received? else {
+    let act = Act::Send(drops.message(79u128));
+    let (sent, received) = outcome_of(rt, Duration::from_millis(10), act, &awaited())?;
+    let Ok(returned) = received else {
         panic!(rt; "it was sent");
     };
     assert_same(rt, drops.count(), 0);
     assert_same(rt, returned.value, 79);
     drop(returned);
     assert_same(rt, drops.count(), 1);
-    assert!(rt; sent);
+    assert_that(rt, sent.is_ok());
     Ok(())
 }
 
@@ -93,17 +98,8 @@ fn await_before_send_async_std(rt: HostRuntime) -> Result<(), Fail> {
 fn await_before_send_then_drop_sender<
     R: Threads + Wait + Clock + RandomSource + AllocGlobal + Abort + Sync,
 >(rt: &R) -> Result<(), Fail> {
-    let ((), received) = on_two_threads(
-        rt,
-        channel::<u128, _>(rt, rt.alloc())?,
-        |sender| {
-            sleep(rt, Duration::from_millis(10));
-            drop(sender);
-        },
-        |receiver| block_on(rt, receiver.into_future()),
-    );
-    assert_same(rt, received?, Err(RecvError));
-    Ok(())
+    let outcomes = [(Ok(()), Err(Silence::Disconnected))];
+    assert_outcomes(rt, ONCE, Act::<u128>::Drop, &awaited(), &outcomes)
 }
 
 #[test]
@@ -125,24 +121,24 @@ fn poll_receiver_then_drop_it(rt: HostRuntime) -> Result<(), Fail> {
     sleep(&rt, Duration::from_millis(100));
     assert_same(&rt, task.poll(&mut receiver), Poll::Pending);
     drop(receiver);
-    assert!(rt; sender.send(()).is_err());
+    assert_that(&rt, sender.send(()).is_err());
     Ok(())
 }
 
 #[test]
 fn dropping_sender_disconnects_async_receiver(rt: HostRuntime) -> Result<(), Fail> {
     let (sender, receiver) = async_channel::<(), _>(&rt, rt.alloc())?;
-    assert!(rt; !(sender.is_closed() || receiver.is_closed()));
+    assert_that(&rt, !(sender.is_closed() || receiver.is_closed()));
     drop(sender);
-    assert!(rt; receiver.is_closed());
+    assert_that(&rt, receiver.is_closed());
     Ok(())
 }
 
 #[test]
 fn async_receiver_has_message(rt: HostRuntime) -> Result<(), Fail> {
     let (sender, receiver) = async_channel(&rt, rt.alloc())?;
-    assert!(rt; !receiver.has_message());
-    assert!(rt; sender.send(19i128).is_ok());
-    assert!(rt; receiver.has_message());
+    assert_that(&rt, !receiver.has_message());
+    assert_that(&rt, sender.send(19i128).is_ok());
+    assert_that(&rt, receiver.has_message());
     Ok(())
 }

@@ -2,7 +2,7 @@
 //! receives by blocking and by awaiting; and the same by typed requests.
 
 use super::times::{answers, in_time, patience, second};
-use crate::asserts::assert_same;
+use crate::asserts::{assert_same, assert_that};
 use crossbeam_channel as queue;
 use futures::executor::block_on;
 use oneshot::reply::{self, Length};
@@ -47,12 +47,12 @@ fn a_processing_thread_answers_lengths(rt: HostRuntime) -> Result<(), Fail> {
         in_time(&rt, || {
             let (reply, mut answer) = channel(&rt, rt.alloc())?;
             let request = String::from_str(rt.alloc(), text)?;
-            assert!(rt; ask(&rt, &requests, request, reply));
+            assert_that(&rt, ask(&rt, &requests, request, reply));
             Ok(answers(&rt, answer.recv_timeout(second()), Ok(length)))
         })?;
         let (reply, answer) = channel(&rt, rt.alloc())?;
         let request = String::from_str(rt.alloc(), text)?;
-        assert!(rt; ask(&rt, &requests, request, reply));
+        assert_that(&rt, ask(&rt, &requests, request, reply));
         assert_same(&rt, block_on(&rt, answer.into_future())?, Ok(length));
     }
     drop(requests);
@@ -82,7 +82,7 @@ fn a_processing_thread_answers_typed_requests(rt: HostRuntime) -> Result<(), Fai
         let question = String::from_str(rt.alloc(), text)?;
         let made = reply::request(&rt, rt.alloc(), question);
         let (request, mut ticket) = made.map_err(|_| AllocError)?;
-        assert!(rt; requests.send(&rt, request).is_ok());
+        assert_that(&rt, requests.send(&rt, request).is_ok());
         let reply = ticket.wait_for(patience());
         assert_same(&rt, reply.map(|length| length.bytes()), Ok(bytes));
     }

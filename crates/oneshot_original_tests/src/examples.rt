@@ -1,24 +1,22 @@
 //! The programs of `examples/`, each as a test that runs it once.
 
-use super::threads::on_two_threads;
-use super::times::{answers, in_time, tenth};
+use super::threads::{Act, By, Pace, assert_outcomes};
+use super::times::tenth;
 use crate::asserts::assert_same;
-use oneshot::{RecvError, RecvTimeoutError, Sender, channel};
+use oneshot::channel;
+use oneshot_tests::uses::Silence::Disconnected;
+use oneshot_tests::uses::Use::{Recv, RecvRef, RecvTimeout};
 use std::test::Fail;
-use std::thread::sleep;
-use std::time::{Clock, Duration};
 
-// Sends after a while, in which the receiver begins to wait.
-fn send_later(rt: &impl Clock, sender: Sender<u128>) -> bool {
-    sleep(rt, Duration::from_millis(2));
-    sender.send(9).is_ok()
-}
+/// The sender acts once, after a while in which the receiver begins to wait.
+const ONCE: Pace = Pace {
+    rounds: 1,
+    pause: 2,
+};
 
-// Drops the sender after a while, in which the receiver begins to wait.
-fn drop_later(rt: &impl Clock, sender: Sender<u128>) {
-    sleep(rt, Duration::from_millis(2));
-    drop(sender);
-}
+const SEND: Act<u128> = Act::Send(9);
+
+const DROP: Act<u128> = Act::Drop;
 
 #[test]
 fn send_with_dropped_receiver(rt: HostRuntime) -> Result<(), Fail> {
@@ -39,76 +37,36 @@ fn send_before_recv(rt: HostRuntime) -> Result<(), Fail> {
 
 #[test]
 fn recv_before_send(rt: HostRuntime) -> Result<(), Fail> {
-    let answers = on_two_threads(
-        &rt,
-        channel(&rt, rt.alloc())?,
-        |sender| send_later(&rt, sender),
-        |receiver| receiver.recv(),
-    );
-    assert_same(&rt, answers, (true, Ok(9)));
-    Ok(())
+    let outcomes = [(Ok(()), Ok(9))];
+    assert_outcomes(&rt, ONCE, SEND, &By::Receiver(Recv), &outcomes)
 }
 
 #[test]
 fn recv_before_send_then_drop_sender(rt: HostRuntime) -> Result<(), Fail> {
-    let ((), received) = on_two_threads(
-        &rt,
-        channel(&rt, rt.alloc())?,
-        |sender| drop_later(&rt, sender),
-        |receiver| receiver.recv(),
-    );
-    assert_same(&rt, received, Err(RecvError));
-    Ok(())
+    let outcomes = [(Ok(()), Err(Disconnected))];
+    assert_outcomes(&rt, ONCE, DROP, &By::Receiver(Recv), &outcomes)
 }
 
 #[test]
 fn recv_ref_before_send(rt: HostRuntime) -> Result<(), Fail> {
-    let answers = on_two_threads(
-        &rt,
-        channel(&rt, rt.alloc())?,
-        |sender| send_later(&rt, sender),
-        |mut receiver| receiver.recv_ref(),
-    );
-    assert_same(&rt, answers, (true, Ok(9)));
-    Ok(())
+    let outcomes = [(Ok(()), Ok(9))];
+    assert_outcomes(&rt, ONCE, SEND, &By::Receiver(RecvRef), &outcomes)
 }
 
 #[test]
 fn recv_ref_before_send_then_drop_sender(rt: HostRuntime) -> Result<(), Fail> {
-    let ((), received) = on_two_threads(
-        &rt,
-        channel(&rt, rt.alloc())?,
-        |sender| drop_later(&rt, sender),
-        |mut receiver| receiver.recv_ref(),
-    );
-    assert_same(&rt, received, Err(RecvError));
-    Ok(())
+    let outcomes = [(Ok(()), Err(Disconnected))];
+    assert_outcomes(&rt, ONCE, DROP, &By::Receiver(RecvRef), &outcomes)
 }
 
 #[test]
 fn recv_timeout_before_send(rt: HostRuntime) -> Result<(), Fail> {
-    in_time(&rt, || {
-        let (sent, received) = on_two_threads(
-            &rt,
-            channel(&rt, rt.alloc())?,
-            |sender| send_later(&rt, sender),
-            |mut receiver| receiver.recv_timeout(tenth()),
-        );
-        let in_time = answers(&rt, received, Ok(9));
-        assert!(rt; sent || !in_time);
-        Ok(in_time)
-    })
+    let by = By::Receiver(RecvTimeout(tenth()));
+    assert_outcomes(&rt, ONCE, SEND, &by, &[(Ok(()), Ok(9))])
 }
 
 #[test]
 fn recv_timeout_before_send_then_drop_sender(rt: HostRuntime) -> Result<(), Fail> {
-    in_time(&rt, || {
-        let ((), received) = on_two_threads(
-            &rt,
-            channel(&rt, rt.alloc())?,
-            |sender| drop_later(&rt, sender),
-            |mut receiver| receiver.recv_timeout(tenth()),
-        );
-        Ok(answers(&rt, received, Err(RecvTimeoutError::Disconnected)))
-    })
+    let by = By::Receiver(RecvTimeout(tenth()));
+    assert_outcomes(&rt, ONCE, DROP, &by, &[(Ok(()), Err(Disconnected))])
 }

@@ -3,75 +3,43 @@
 //! Tests that count what becomes of a waker count it over a ground in memory, after the same calls on a
 //! channel.
 
-use super::threads::{ROUNDS, on_two_threads, poll};
+use super::threads::{AT_ONCE, Act, By, ROUNDS, assert_outcomes, on_two_threads};
 use super::times::patience;
-use crate::asserts::assert_same;
-use futures::executor::block_on;
+use crate::asserts::{assert_same, assert_that};
 use futures::task::Poll;
 use futures::test::MockTask;
-use oneshot::{async_channel, channel, drive};
+use oneshot::{async_channel, drive};
 use oneshot_memory::{MemoryFuture, MemoryTask};
+use oneshot_tests::uses::FutureUse;
+use oneshot_tests::uses::Silence::{Disconnected, Timeout};
+use oneshot_tests::uses::Use::{AsFuture, RecvTimeout, TryUntil};
 use std::test::Fail;
 use std::time::Duration;
 
 #[test]
 fn try_recv(rt: HostRuntime) -> Result<(), Fail> {
-    for _ in 0..ROUNDS {
-        let (sent, received) = on_two_threads(
-            &rt,
-            channel(&rt, rt.alloc())?,
-            |sender| sender.send(19u128).is_ok(),
-            |mut receiver| poll(&rt, &mut receiver),
-        );
-        assert!(rt; sent);
-        assert_same(&rt, received, Ok(19));
-    }
-    Ok(())
+    let by = By::Receiver(TryUntil);
+    assert_outcomes(&rt, AT_ONCE, Act::Send(19u128), &by, &[(Ok(()), Ok(19))])
 }
 
 // The receive waits at most ten seconds; in the original, a millisecond.
 #[test]
 fn send_recv_different_threads(rt: HostRuntime) -> Result<(), Fail> {
-    for _ in 0..ROUNDS {
-        let (sent, received) = on_two_threads(
-            &rt,
-            channel(&rt, rt.alloc())?,
-            |sender| sender.send(9u128).is_ok(),
-            |mut receiver| receiver.recv_timeout(patience()),
-        );
-        assert!(rt; sent);
-        assert_same(&rt, received, Ok(9));
-    }
-    Ok(())
+    let by = By::Receiver(RecvTimeout(patience()));
+    assert_outcomes(&rt, AT_ONCE, Act::Send(9u128), &by, &[(Ok(()), Ok(9))])
 }
 
 #[test]
 fn recv_drop_sender_different_threads(rt: HostRuntime) -> Result<(), Fail> {
-    for _ in 0..ROUNDS {
-        let ((), received) = on_two_threads(
-            &rt,
-            channel::<u128, _>(&rt, rt.alloc())?,
-            |sender| drop(sender),
-            |mut receiver| receiver.recv_timeout(Duration::ZERO),
-        );
-        assert!(rt; received.is_err());
-    }
-    Ok(())
+    let by = By::Receiver(RecvTimeout(Duration::ZERO));
+    let outcomes = [(Ok(()), Err(Disconnected)), (Ok(()), Err(Timeout))];
+    assert_outcomes(&rt, AT_ONCE, Act::<u128>::Drop, &by, &outcomes)
 }
 
 #[test]
 fn async_recv(rt: HostRuntime) -> Result<(), Fail> {
-    for _ in 0..ROUNDS {
-        let (sent, received) = on_two_threads(
-            &rt,
-            channel(&rt, rt.alloc())?,
-            |sender| sender.send(987u128).is_ok(),
-            |receiver| block_on(&rt, receiver.into_future()),
-        );
-        assert!(rt; sent);
-        assert_same(&rt, received?, Ok(987));
-    }
-    Ok(())
+    let by = By::Receiver(AsFuture(FutureUse::Await));
+    assert_outcomes(&rt, AT_ONCE, Act::Send(987u128), &by, &[(Ok(()), Ok(987))])
 }
 
 // How many copies of a task's waker were made, how many were used or dropped, and the task's wakes.
@@ -83,9 +51,9 @@ fn counts(task: &MemoryTask) -> (u64, u64, u64) {
 fn send_then_poll(rt: HostRuntime) -> Result<(), Fail> {
     let task = MockTask::new(&rt)?;
     let (sender, mut receiver) = async_channel(&rt, rt.alloc())?;
-    assert!(rt; sender.send(1234u128).is_ok());
+    assert_that(&rt, sender.send(1234u128).is_ok());
     assert_same(&rt, task.poll(&mut receiver), Poll::Ready(Ok(1234)));
-    assert!(rt; !task.is_woken());
+    assert_that(&rt, !task.is_woken());
 
     let task = MemoryTask::new();
     let mut receiver = MemoryFuture::<'_, '_, u128, _>::new(&rt, rt.alloc(), &task);
@@ -102,12 +70,8 @@ fn poll_then_drop_receiver_during_send(rt: HostRuntime) -> Result<(), Fail> {
     for _ in 0..ROUNDS {
         let (sender, mut receiver) = async_channel(&rt, rt.alloc())?;
         assert_same(&rt, task.poll(&mut receiver), Poll::Pending);
-        on_two_threads(
-            &rt,
-            (sender, receiver),
-            |sender| sender.send(1234u128).is_ok(),
-            |receiver| drop(receiver),
-        );
+        let (act, ends) = (Act::Send(1234u128), (sender, receiver));
+        let _ = on_two_threads(&rt, Duration::ZERO, act, ends, |receiver| drop(receiver));
     }
     Ok(())
 }
@@ -117,11 +81,11 @@ fn poll_then_send(rt: HostRuntime) -> Result<(), Fail> {
     let task = MockTask::new(&rt)?;
     let (sender, mut receiver) = async_channel(&rt, rt.alloc())?;
     assert_same(&rt, task.poll(&mut receiver), Poll::Pending);
-    assert!(rt; !task.is_woken());
-    assert!(rt; sender.send(1234u128).is_ok());
-    assert!(rt; task.is_woken());
+    assert_that(&rt, !task.is_woken());
+    assert_that(&rt, sender.send(1234u128).is_ok());
+    assert_that(&rt, task.is_woken());
     assert_same(&rt, task.poll(&mut receiver), Poll::Ready(Ok(1234)));
-    assert!(rt; !task.is_woken());
+    assert_that(&rt, !task.is_woken());
 
     let task = MemoryTask::new();
     let mut receiver = MemoryFuture::<'_, '_, u128, _>::new(&rt, rt.alloc(), &task);
@@ -142,7 +106,7 @@ fn poll_with_different_wakers(rt: HostRuntime) -> Result<(), Fail> {
     assert_same(&rt, first.poll(&mut receiver), Poll::Pending);
     assert_same(&rt, second.poll(&mut receiver), Poll::Pending);
     assert_same(&rt, (first.is_woken(), second.is_woken()), (false, false));
-    assert!(rt; sender.send(1234u128).is_ok());
+    assert_that(&rt, sender.send(1234u128).is_ok());
     assert_same(&rt, (first.is_woken(), second.is_woken()), (false, true));
 
     let first = MemoryTask::new();

@@ -3,10 +3,12 @@
 //! Left out: `non_send_type_can_be_used_on_same_thread`, since a message's type is `Send` here.
 
 use super::counted::Drops;
-use super::threads::{ROUNDS, on_two_threads};
-use super::times::{answers, in_time, linger, second, tenth};
-use crate::asserts::assert_same;
-use oneshot::{RecvError, RecvTimeoutError, SendError, Sender, TryRecvError, channel};
+use super::threads::{AT_ONCE, Act, By, Pace, ROUNDS, assert_outcomes};
+use super::times::{in_time, second, tenth};
+use crate::asserts::{assert_same, assert_that};
+use oneshot::{RecvError, RecvTimeoutError, SendError, TryRecvError, channel};
+use oneshot_tests::uses::Silence::{Disconnected, NothingYet};
+use oneshot_tests::uses::Use::{Recv, RecvTimeout, TryOnce};
 use std::alloc::{AllocError, Global};
 use std::process::Abort;
 use std::sync::Wait;
@@ -17,7 +19,7 @@ use std::time::{Clock, Duration, Instant};
 fn send_before_try_recv(rt: HostRuntime) -> Result<(), Fail> {
     let (sender, mut receiver) = channel(&rt, rt.alloc())?;
     let before = receiver.has_message();
-    assert!(rt; !before && sender.send(19i128).is_ok());
+    assert_that(&rt, !before && sender.send(19i128).is_ok());
     let sent = receiver.has_message();
     let received = receiver.try_recv();
     assert_same(&rt, (sent, received), (true, Ok(19)));
@@ -54,7 +56,10 @@ fn send_before_recv(rt: HostRuntime) -> Result<(), Fail> {
     assert_same(&rt, carried(&rt, rt.alloc(), 21u64)?, Some(21));
     let page = [0b1010_1010u8; 4096];
     let received = carried(&rt, rt.alloc(), page)?;
-    assert!(rt; received.is_some_and(|bytes| bytes.as_slice() == page.as_slice()));
+    assert_that(
+        &rt,
+        received.is_some_and(|bytes| bytes.as_slice() == page.as_slice()),
+    );
     Ok(())
 }
 
@@ -95,7 +100,7 @@ fn send_then_drop_receiver(rt: HostRuntime) -> Result<(), Fail> {
     let (sender, receiver) = channel::<_, ()>((), rt.alloc())?;
     let sent = sender.send(19i128);
     drop(receiver);
-    assert!(rt; sent.is_ok());
+    assert_that(&rt, sent.is_ok());
     Ok(())
 }
 
@@ -140,78 +145,52 @@ fn recv_with_dropped_sender(rt: HostRuntime) -> Result<(), Fail> {
     Ok(())
 }
 
+/// A send after a while, in which the receiver begins to wait.
+const IN_A_WHILE: Pace = Pace {
+    rounds: ROUNDS,
+    pause: 2,
+};
+
 #[test]
 fn recv_before_send(rt: HostRuntime) -> Result<(), Fail> {
-    for round in 0..ROUNDS {
-        let answers = on_two_threads(
-            &rt,
-            channel(&rt, rt.alloc())?,
-            |sender| {
-                linger(&rt, round, 2);
-                sender.send(9u128).is_ok()
-            },
-            |receiver| receiver.recv(),
-        );
-        assert_same(&rt, answers, (true, Ok(9)));
-    }
-    Ok(())
+    let by = By::Receiver(Recv);
+    assert_outcomes(&rt, IN_A_WHILE, Act::Send(9u128), &by, &[(Ok(()), Ok(9))])
 }
 
 #[test]
 fn recv_timeout_before_send(rt: HostRuntime) -> Result<(), Fail> {
-    for round in 0..ROUNDS {
-        in_time(&rt, || {
-            let (sent, received) = on_two_threads(
-                &rt,
-                channel(&rt, rt.alloc())?,
-                |sender| {
-                    linger(&rt, round, 2);
-                    sender.send(9u128).is_ok()
-                },
-                |mut receiver| receiver.recv_timeout(second()),
-            );
-            let in_time = answers(&rt, received, Ok(9));
-            assert!(rt; sent || !in_time);
-            Ok(in_time)
-        })?;
-    }
-    Ok(())
+    let by = By::Receiver(RecvTimeout(second()));
+    assert_outcomes(&rt, IN_A_WHILE, Act::Send(9u128), &by, &[(Ok(()), Ok(9))])
 }
+
+/// A drop after a longer while.
+const LATER: Pace = Pace {
+    rounds: ROUNDS,
+    pause: 10,
+};
 
 #[test]
 fn recv_before_send_then_drop_sender(rt: HostRuntime) -> Result<(), Fail> {
-    for round in 0..ROUNDS {
-        let ((), received) = on_two_threads(
-            &rt,
-            channel::<u128, _>(&rt, rt.alloc())?,
-            |sender| {
-                linger(&rt, round, 10);
-                drop(sender);
-            },
-            |receiver| receiver.recv(),
-        );
-        assert_same(&rt, received, Err(RecvError));
-    }
-    Ok(())
+    let by = By::Receiver(Recv);
+    assert_outcomes(
+        &rt,
+        LATER,
+        Act::<u128>::Drop,
+        &by,
+        &[(Ok(()), Err(Disconnected))],
+    )
 }
 
 #[test]
 fn recv_timeout_before_send_then_drop_sender(rt: HostRuntime) -> Result<(), Fail> {
-    for round in 0..ROUNDS {
-        in_time(&rt, || {
-            let ((), received) = on_two_threads(
-                &rt,
-                channel::<u128, _>(&rt, rt.alloc())?,
-                |sender| {
-                    linger(&rt, round, 10);
-                    drop(sender);
-                },
-                |mut receiver| receiver.recv_timeout(second()),
-            );
-            Ok(answers(&rt, received, Err(RecvTimeoutError::Disconnected)))
-        })?;
-    }
-    Ok(())
+    let by = By::Receiver(RecvTimeout(second()));
+    assert_outcomes(
+        &rt,
+        LATER,
+        Act::<u128>::Drop,
+        &by,
+        &[(Ok(()), Err(Disconnected))],
+    )
 }
 
 #[test]
@@ -225,16 +204,10 @@ fn try_recv(rt: HostRuntime) -> Result<(), Fail> {
 
 #[test]
 fn try_recv_then_drop_receiver(rt: HostRuntime) -> Result<(), Fail> {
-    for _ in 0..ROUNDS {
-        let (_, received) = on_two_threads(
-            &rt,
-            channel(&rt, rt.alloc())?,
-            |sender| sender.send(42u128).is_ok(),
-            |mut receiver| receiver.try_recv(),
-        );
-        assert!(rt; received == Ok(42) || received == Err(TryRecvError::Empty));
-    }
-    Ok(())
+    let by = By::Receiver(TryOnce);
+    let empty = Err(NothingYet);
+    let outcomes = [(Ok(()), Ok(42)), (Ok(()), empty), (Err(42), empty)];
+    assert_outcomes(&rt, AT_ONCE, Act::Send(42u128), &by, &outcomes)
 }
 
 // How long `receive` takes, which gets the instant of its start. Fails unless it times out.
@@ -247,7 +220,7 @@ fn timed_out<T: Drop, F: FnOnce(Instant) -> Result<T, RecvTimeoutError>>(
     let start = Instant::now(rt)?;
     let received = receive(start);
     let took = start.elapsed(rt)?;
-    assert!(rt; matches!(received, Err(RecvTimeoutError::Timeout)));
+    assert_that(rt, matches!(received, Err(RecvTimeoutError::Timeout)));
     Ok(took)
 }
 
@@ -270,7 +243,7 @@ fn recv_deadline_time_should_elapse(rt: HostRuntime) -> Result<(), Fail> {
             let end = start.checked_add(tenth());
             receiver.recv_deadline(end.expect(&rt, "an instant can hold it"))
         })?;
-        assert!(rt; took > tenth());
+        assert_that(&rt, took > tenth());
         Ok(took < Duration::from_millis(300))
     })
 }
@@ -280,7 +253,7 @@ fn recv_timeout_time_should_elapse(rt: HostRuntime) -> Result<(), Fail> {
     in_time(&rt, || {
         let (_sender, mut receiver) = channel::<u128, _>(&rt, rt.alloc())?;
         let took = timed_out(&rt, |_| receiver.recv_timeout(tenth()))?;
-        assert!(rt; took > tenth());
+        assert_that(&rt, took > tenth());
         Ok(took < Duration::from_millis(300))
     })
 }
@@ -291,7 +264,7 @@ fn message_in_channel_dropped_on_receiver_drop(rt: HostRuntime) -> Result<(), Fa
     let (sender, receiver) = channel::<_, ()>((), rt.alloc())?;
     let message = drops.message(());
     assert_same(&rt, drops.count(), 0);
-    assert!(rt; sender.send(message).is_ok());
+    assert_that(&rt, sender.send(message).is_ok());
     assert_same(&rt, drops.count(), 0);
     drop(receiver);
     assert_same(&rt, drops.count(), 1);
@@ -323,17 +296,17 @@ fn send_error_drops_message_correctly_on_into_inner(rt: HostRuntime) -> Result<(
 #[test]
 fn dropping_receiver_disconnects_sender(rt: HostRuntime) -> Result<(), Fail> {
     let (sender, receiver) = channel::<(), ()>((), rt.alloc())?;
-    assert!(rt; !(sender.is_closed() || receiver.is_closed()));
+    assert_that(&rt, !(sender.is_closed() || receiver.is_closed()));
     drop(receiver);
-    assert!(rt; sender.is_closed());
+    assert_that(&rt, sender.is_closed());
     Ok(())
 }
 
 #[test]
 fn dropping_sender_disconnects_receiver(rt: HostRuntime) -> Result<(), Fail> {
     let (sender, receiver) = channel::<(), ()>((), rt.alloc())?;
-    assert!(rt; !(sender.is_closed() || receiver.is_closed()));
+    assert_that(&rt, !(sender.is_closed() || receiver.is_closed()));
     drop(sender);
-    assert!(rt; receiver.is_closed());
+    assert_that(&rt, receiver.is_closed());
     Ok(())
 }

@@ -1,13 +1,79 @@
 //! Both ends of a channel, each on a thread of its own.
 
-use oneshot::{Receiver, Sender, TryRecvError};
+use super::times::TRIES;
+use crate::asserts::assert_same;
+use oneshot::{Sender, async_channel, channel};
+use oneshot_tests::uses::{FutureUse, Silence, Use};
+use std::fmt::Debug;
 use std::hint::spin_loop;
+use std::process::Abort;
+use std::random::RandomSource;
 use std::sync::Wait;
 use std::sync::atomic::{AtomicU64, Ordering};
-use std::thread::{Threads, join};
+use std::test::Fail;
+use std::thread::{Threads, join, sleep};
+use std::time::{Clock, Duration};
 
-/// How many pairs of threads a test runs, one after the other. The original tries each interleaving.
+/// What the sender's thread does.
+#[derive(Clone, Copy, Debug, Drop)]
+pub(super) enum Act<T> {
+    /// `send`.
+    Send(T),
+    /// The drop of the sender.
+    Drop,
+}
+
+/// The receiver, and what its thread does with it.
+#[derive(Drop)]
+pub(super) enum By {
+    /// The receiver of `channel`.
+    Receiver(Use),
+    /// The future of `async_channel`.
+    Future(FutureUse),
+}
+
+/// How many pairs of threads a test runs, one after the other, and when the sender acts.
+#[derive(Clone, Copy)]
+pub(super) struct Pace {
+    pub(super) rounds: u64,
+    /// For how many milliseconds the sender sleeps in each fiftieth round, so that the receiver can go first.
+    pub(super) pause: u64,
+}
+
+/// How many rounds most tests have. The original tries each interleaving.
 pub(super) const ROUNDS: u64 = 500;
+
+/// As many rounds, in which the sender never sleeps.
+pub(super) const AT_ONCE: Pace = Pace {
+    rounds: ROUNDS,
+    pause: 0,
+};
+
+/// The result of the sender's act, with the message if it came back, and that of the receiver's use.
+pub(super) type Outcome<T> = (Result<(), T>, Result<T, Silence>);
+
+impl<T: Send + Drop> Act<T> {
+    fn make(self, sender: Sender<T>) -> Result<(), T> {
+        match self {
+            Act::Send(message) => sender.send(message).map_err(|refused| refused.into_inner()),
+            Act::Drop => {
+                drop(sender);
+                Ok(())
+            }
+        }
+    }
+}
+
+impl Pace {
+    /// How long the sender sleeps in this round, counted from 0.
+    fn pause_of(self, round: u64) -> Duration {
+        if round % 50 == 0 {
+            Duration::from_millis(self.pause)
+        } else {
+            Duration::ZERO
+        }
+    }
+}
 
 // More loads than a thread makes while another starts.
 const SPINS: u64 = 100_000_000;
@@ -23,45 +89,75 @@ fn meet(here: &AtomicU64) {
     }
 }
 
-/// What both ends of a channel return, each on a thread of its own. Both begin at about the same time.
+/// What both ends return. Both threads begin at about the same time, and the sender's then sleeps for
+/// `pause`.
 pub(super) fn on_two_threads<
+    R: Threads + Clock + Sync,
     T: Send + Drop,
-    E: Send + Drop,
-    A,
-    B: Send,
-    S: FnOnce(Sender<T>) -> A,
-    D: FnOnce(E) -> B + Send,
->(rt: &impl Threads, ends: (Sender<T>, E), send: S, receive: D) -> (A, B)
-    requires sends { S.IsAlwaysCallable send }
-    requires receives { D.IsAlwaysCallable receive }
+    E: Drop,
+    B,
+    F: FnOnce(E) -> B,
+>(rt: &R, pause: Duration, act: Act<T>, ends: (Sender<T>, E), receive: F) -> (Result<(), T>, B)
+    requires { F.IsAlwaysCallable receive }
 {
     let (sender, receiver) = ends;
     let here = AtomicU64::new(0);
-    let (received, sent) = join(
+    join(
         rt,
+        || {
+            meet(&here);
+            sleep(rt, pause);
+            act.make(sender)
+        },
         || {
             meet(&here);
             receive(receiver)
         },
-        || {
-            meet(&here);
-            send(sender)
-        },
-    );
-    (sent, received)
+    )
 }
 
-/// Tries until the message comes, or until the sender is gone without one.
-pub(super) fn poll<T: Drop, Rt: Drop>(
-    rt: &impl Wait,
-    receiver: &mut Receiver<T, Rt>,
-) -> Result<T, TryRecvError> {
-    for _ in rt.forever() {
-        let answer = receiver.try_recv();
-        if !matches!(answer, Err(TryRecvError::Empty)) {
-            return answer;
+/// What both ends of a new channel return.
+pub(super) fn outcome_of<
+    R: Threads + Wait + Clock + RandomSource + AllocGlobal + Sync,
+    T: Send + Drop,
+>(rt: &R, pause: Duration, act: Act<T>, by: &By) -> Result<Outcome<T>, Fail> {
+    match by {
+        By::Receiver(using) => {
+            let ends = channel(rt, rt.alloc())?;
+            let receive = |receiver| using.receive(rt, receiver);
+            Ok(on_two_threads(rt, pause, act, ends, receive))
         }
-        spin_loop();
+        By::Future(using) => {
+            let ends = async_channel(rt, rt.alloc())?;
+            let receive = |future| using.receive(rt, future);
+            Ok(on_two_threads(rt, pause, act, ends, receive))
+        }
     }
-    unreachable!()
+}
+
+/// Fails unless both ends return one of the wanted outcomes. A receive that times out, though it may not, is
+/// late, and both ends of another channel are used then.
+fn assert_outcome<
+    R: Threads + Wait + Clock + RandomSource + AllocGlobal + Abort + Sync,
+    T: Copy + Debug + PartialEq + Send,
+>(rt: &R, pause: Duration, act: Act<T>, by: &By, wanted: &[Outcome<T>]) -> Result<(), Fail> {
+    for _ in 0..TRIES {
+        let outcome = outcome_of(rt, pause, act, by)?;
+        if wanted.contains(&outcome) {
+            return Ok(());
+        }
+        assert_same(rt, outcome.1, Err(Silence::Timeout));
+    }
+    panic!(rt; "late in each of {TRIES} tries")
+}
+
+/// Fails unless each round has one of the wanted outcomes.
+pub(super) fn assert_outcomes<
+    R: Threads + Wait + Clock + RandomSource + AllocGlobal + Abort + Sync,
+    T: Copy + Debug + PartialEq + Send,
+>(rt: &R, pace: Pace, act: Act<T>, by: &By, wanted: &[Outcome<T>]) -> Result<(), Fail> {
+    for round in 0..pace.rounds {
+        assert_outcome(rt, pace.pause_of(round), act, by, wanted)?;
+    }
+    Ok(())
 }

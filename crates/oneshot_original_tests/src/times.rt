@@ -5,8 +5,7 @@ use oneshot::RecvTimeoutError;
 use std::fmt::Debug;
 use std::process::Abort;
 use std::test::Fail;
-use std::thread::sleep;
-use std::time::{Clock, Duration};
+use std::time::Duration;
 
 /// How long a receive of the examples waits for another thread's act, and how long a receive may take if its
 /// message has been sent.
@@ -26,7 +25,7 @@ pub(super) fn patience() -> Duration {
 }
 
 /// How often a test is tried that may be late on a busy machine.
-const TRIES: u64 = 3;
+pub(super) const TRIES: u64 = 3;
 
 /// Repeats `attempt` until one is in time. Fails if none of `TRIES` is.
 pub(super) fn in_time<F: FnMut() -> Result<bool, Fail>>(
@@ -54,11 +53,4 @@ pub(super) fn answers<T: Debug + Drop + PartialEq>(
     }
     assert_same(rt, received, wanted);
     true
-}
-
-/// Sleeps for `milliseconds` in each fiftieth round, so that the other thread can go first.
-pub(super) fn linger(rt: &impl Clock, round: u64, milliseconds: u64) {
-    if round % 50 == 0 {
-        sleep(rt, Duration::from_millis(milliseconds));
-    }
 }

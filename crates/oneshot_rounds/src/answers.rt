@@ -3,19 +3,6 @@
 use std::fmt::Debug;
 use std::process::Abort;
 
-/// Why the use of a receiver returned no message.
-#[derive(Clone, Copy, Debug, Eq, PartialEq)]
-pub(super) enum Silence {
-    /// `Empty` or `Pending`.
-    NothingYet,
-    /// `Disconnected` or `RecvError`.
-    Disconnected,
-    /// `Timeout`.
-    Timeout,
-    /// It was dropped.
-    Dropped,
-}
-
 /// What one side of a round returned.
 #[derive(Drop)]
 pub(super) struct Outcome<A> {

@@ -1,10 +1,11 @@
 //! Each use of a receiver beside the sender's drop.
 
-use super::answers::Silence::{Disconnected, Dropped, NothingYet};
 use super::answers::assert_both_orders;
 use super::duels::beside_a_drop;
-use super::uses::{Use, lasting_uses};
+use super::uses::lasting_uses;
 use futures::test::MockTask;
+use oneshot_tests::uses::Silence::{Disconnected, Dropped, NothingYet};
+use oneshot_tests::uses::{FutureUse, Use};
 use std::test::Fail;
 
 #[test]
@@ -24,7 +25,8 @@ fn each_receive_returns_that_no_message_will_come(rt: HostRuntime) -> Result<(),
 
 #[test]
 fn one_look_returns_that_or_nothing(rt: HostRuntime) -> Result<(), Fail> {
-    for using in &[Use::TryOnce, Use::PollOnce(MockTask::new(&rt)?)] {
+    let poll = FutureUse::PollOnce(MockTask::new(&rt)?);
+    for using in &[Use::TryOnce, Use::AsFuture(poll)] {
         let received = [Err(Disconnected), Err(NothingYet)];
         beside_a_drop(&rt, using, &received)?;
     }

@@ -1,9 +1,10 @@
 //! Each use of a receiver beside a `send` of 999.
 
-use super::answers::Silence::{Dropped, NothingYet};
 use super::duels::beside_a_send;
-use super::uses::{Use, lasting_uses};
+use super::uses::lasting_uses;
 use futures::test::MockTask;
+use oneshot_tests::uses::Silence::{Dropped, NothingYet};
+use oneshot_tests::uses::{FutureUse, Use};
 use std::test::Fail;
 
 #[test]
@@ -22,7 +23,8 @@ fn each_receive_gives_the_message(rt: HostRuntime) -> Result<(), Fail> {
 
 #[test]
 fn one_look_gives_the_message_or_nothing(rt: HostRuntime) -> Result<(), Fail> {
-    for using in &[Use::TryOnce, Use::PollOnce(MockTask::new(&rt)?)] {
+    let poll = FutureUse::PollOnce(MockTask::new(&rt)?);
+    for using in &[Use::TryOnce, Use::AsFuture(poll)] {
         let received = [Ok(999), Err(NothingYet)];
         beside_a_send(&rt, using, &[Ok(()), Err(999)], &received)?;
     }

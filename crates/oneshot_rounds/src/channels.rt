@@ -28,5 +28,12 @@ pub(super) fn channels<'r, T: Send + Drop, R: AllocGlobal>(
     rt: &'r R,
     count: u64,
 ) -> Result<(Vec<Sender<T>>, Vec<Receiver<T, &'r R>>), Fail> {
-    pairs(rt.alloc(), count, |_| Ok(channel(rt, rt.alloc())?))
+    let mut senders = Vec::new(rt.alloc());
+    let mut receivers = Vec::new(rt.alloc());
+    for _ in 0..count {
+        let (sender, receiver) = channel(rt, rt.alloc())?;
+        senders.push(sender)?;
+        receivers.push(receiver)?;
+    }
+    Ok((senders, receivers))
 }

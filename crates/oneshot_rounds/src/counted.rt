@@ -1,6 +1,6 @@
 //! A message that counts its drops.
 
-use super::channels::pairs;
+use oneshot_channel::Sender;
 use std::alloc::Global;
 use std::process::Abort;
 use std::sync::Arc;
@@ -24,18 +24,28 @@ impl Drop for Counted {
     }
 }
 
-/// Makes `count` messages of this value, and the counts of their drops.
-pub(super) fn make_messages(
+/// A sender, and the message for it.
+pub(super) type Loaded = (Sender<Counted>, Counted);
+
+/// Makes a message of 999 for each sender, and the counts of their drops.
+pub(super) fn load(
     alloc: Global,
-    count: u64,
-    value: u64,
-) -> Result<(Vec<Counted>, Drops), Fail> {
-    let (messages, counts) = pairs(alloc, count, |_| {
+    senders: Vec<Sender<Counted>>,
+) -> Result<(Vec<Loaded>, Drops), Fail> {
+    let mut loaded = Vec::new(alloc);
+    let mut counts = Vec::new(alloc);
+    for sender in senders {
         let drops = Arc::new(alloc, AtomicU64::new(0))?;
-        let counts = Arc::try_clone(&drops)?;
-        Ok((Counted { value, drops }, counts))
-    })?;
-    Ok((messages, Drops(counts)))
+        counts.push(Arc::try_clone(&drops)?)?;
+        loaded.push((sender, Counted { value: 999, drops }))?;
+    }
+    Ok((loaded, Drops(counts)))
+}
+
+/// Sends. `Err`: the number in the message, which came back.
+pub(super) fn send((sender, message): Loaded) -> Result<(), u64> {
+    let sent = sender.send(message);
+    sent.map_err(|refused| refused.into_inner().value)
 }
 
 impl Drops {

@@ -1,11 +1,12 @@
 //! A use of a receiver that races with the sender's one call, in many rounds.
 
-use super::answers::{Outcome, Silence, assert_answers, assert_both_orders};
+use super::answers::{Outcome, assert_answers, assert_both_orders};
 use super::channels::channels;
-use super::counted::make_messages;
+use super::counted::{load, send};
 use super::races::race;
-use super::uses::Use;
+use oneshot_tests::uses::{Silence, Use};
 use std::process::Abort;
+use std::random::RandomSource;
 use std::sync::Wait;
 use std::test::Fail;
 use std::thread::Threads;
@@ -14,24 +15,21 @@ use std::time::Clock;
 const ROUNDS: u64 = 10_000;
 
 /// Sends 999 in each round. Fails unless both ends return each of these answers often, and no other.
-pub(super) fn beside_a_send<R: Threads + Wait + Abort + Clock + AllocGlobal + Sync>(
+pub(super) fn beside_a_send<R: Threads + Wait + Abort + Clock + AllocGlobal + RandomSource + Sync>(
     rt: &R,
     using: &Use,
     sent: &[Result<(), u64>],
     received: &[Result<u64, Silence>],
 ) -> Result<(), Fail> {
-    let (messages, drops) = make_messages(rt.alloc(), ROUNDS, 999)?;
     let (senders, receivers) = channels(rt, ROUNDS)?;
+    let (loaded, drops) = load(rt.alloc(), senders)?;
     let (sends, receives) = race(
         rt,
         rt.alloc(),
-        senders.into_iter().zip(messages).collect(rt.alloc())?,
+        loaded,
         receivers,
-        |(sender, message)| {
-            let sent = sender.send(message);
-            sent.map_err(|refused| refused.into_inner().value)
-        },
-        |receiver| using.receive(receiver).map(|message| message.value),
+        |loaded| send(loaded),
+        |receiver| using.receive(rt, receiver).map(|message| message.value),
     );
     assert_answers(rt, &sends, sent);
     assert_answers(rt, &receives, received);
@@ -42,7 +40,7 @@ pub(super) fn beside_a_send<R: Threads + Wait + Abort + Clock + AllocGlobal + Sy
 
 /// Drops the sender in each round, and returns the outcomes of the drops. Fails unless the receiver returns
 /// each of these answers often, and no other.
-pub(super) fn beside_a_drop<R: Threads + Wait + Abort + Clock + AllocGlobal + Sync>(
+pub(super) fn beside_a_drop<R: Threads + Wait + Abort + Clock + AllocGlobal + RandomSource + Sync>(
     rt: &R,
     using: &Use,
     received: &[Result<u64, Silence>],
@@ -54,7 +52,7 @@ pub(super) fn beside_a_drop<R: Threads + Wait + Abort + Clock + AllocGlobal + Sy
         senders,
         receivers,
         |sender| drop(sender),
-        |receiver| using.receive(receiver),
+        |receiver| using.receive(rt, receiver),
     );
     assert_answers(rt, &receives, received);
     assert_both_orders(rt, &receives);

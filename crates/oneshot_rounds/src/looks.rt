@@ -1,13 +1,13 @@
 //! A look of one end beside the other end's call: if it sees that call's effect, so does its own end's next
 //! call. A future was polled before, so that its look may come between the sender's operations.
 
-use super::answers::Silence::{self, Disconnected};
 use super::answers::assert_answers;
 use super::channels::channels;
 use super::pending::polled_channels;
 use super::races::race;
 use futures::test::MockTask;
 use oneshot_channel::{Sender, TryRecvError};
+use oneshot_tests::uses::Silence::{self, Disconnected};
 use std::alloc::AllocGlobal;
 use std::process::Abort;
 use std::test::Fail;

@@ -3,9 +3,11 @@
 use super::answers::{assert_answers, assert_both_orders};
 use super::channels::channels;
 use super::races::race;
-use super::uses::{Use, lasting_uses};
+use super::uses::lasting_uses;
+use oneshot_tests::uses::Use;
 use std::alloc::{AllocError, Global};
 use std::process::Abort;
+use std::random::RandomSource;
 use std::sync::Wait;
 use std::sync::atomic::{AtomicU64, Ordering};
 use std::test::Fail;
@@ -32,24 +34,34 @@ fn make_rounds(alloc: Global) -> Result<Vec<Round>, AllocError> {
     Ok(rounds)
 }
 
+fn beside_rounds<E: Drop>(
+    alloc: Global,
+    rounds: &[Round],
+    ends: Vec<E>,
+) -> Result<Vec<(&Round, E)>, AllocError> {
+    rounds.iter().zip(ends).collect(alloc)
+}
+
 // Fails unless after each receive its round's note has the number that the sender wrote there.
-fn assert_finds_notes<R: Threads + Wait + Abort + Clock + AllocGlobal + Sync>(
+fn assert_finds_notes<R: Threads + Wait + Abort + Clock + AllocGlobal + RandomSource + Sync>(
     rt: &R,
     using: &Use,
 ) -> Result<(), Fail> {
     let rounds = make_rounds(rt.alloc())?;
     let (senders, receivers) = channels::<(), _>(rt, ROUNDS)?;
+    let senders = beside_rounds(rt.alloc(), &rounds, senders)?;
+    let receivers = beside_rounds(rt.alloc(), &rounds, receivers)?;
     let (sends, receives) = race(
         rt,
         rt.alloc(),
-        rounds.iter().zip(senders).collect(rt.alloc())?,
-        rounds.iter().zip(receivers).collect(rt.alloc())?,
+        senders,
+        receivers,
         |(round, sender)| {
             round.note.store(round.number, Ordering::SeqCst);
             sender.send(()).is_ok()
         },
         |(round, receiver)| {
-            let received = using.receive(receiver);
+            let received = using.receive(rt, receiver);
             assert_eq!(rt; round.note.load(Ordering::SeqCst), round.number);
             received
         },

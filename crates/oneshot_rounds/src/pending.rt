@@ -3,7 +3,7 @@
 
 use super::answers::{assert_answers, assert_both_orders};
 use super::channels::pairs;
-use super::counted::make_messages;
+use super::counted::{load, send};
 use super::races::race;
 use futures::task::Poll;
 use futures::test::MockTask;
@@ -30,17 +30,14 @@ pub(super) fn polled_channels<'r, T: Send + Drop, R: AllocGlobal + RandomSource 
 #[test]
 fn a_pending_future_refuses_the_message_or_drops_it(rt: HostRuntime) -> Result<(), Fail> {
     let task = MockTask::new(&rt)?;
-    let (messages, drops) = make_messages(rt.alloc(), ROUNDS, 999)?;
     let (senders, receivers) = polled_channels(&rt, &task)?;
+    let (loaded, drops) = load(rt.alloc(), senders)?;
     let (sends, dropped) = race(
         &rt,
         rt.alloc(),
-        senders.into_iter().zip(messages).collect(rt.alloc())?,
+        loaded,
         receivers,
-        |(sender, message)| {
-            let sent = sender.send(message);
-            sent.map_err(|refused| refused.into_inner().value)
-        },
+        |loaded| send(loaded),
         |receiver| drop(receiver),
     );
     assert_answers(&rt, &sends, &[Ok(()), Err(999)]);

@@ -3,8 +3,9 @@
 use super::answers::assert_answers;
 use super::channels::channels;
 use super::races::race;
-use super::uses::{Use, lasting_uses};
+use super::uses::lasting_uses;
 use super::waits::patience;
+use oneshot_tests::uses::Use;
 use std::fmt::Debug;
 use std::process::Abort;
 use std::random::RandomSource;
@@ -17,7 +18,7 @@ const ROUNDS: u64 = 100;
 
 // Fails unless `message` comes in each round.
 fn assert_comes<
-    R: Threads + Wait + Abort + Clock + AllocGlobal + Sync,
+    R: Threads + Wait + Abort + Clock + AllocGlobal + RandomSource + Sync,
     T: Copy + Debug + PartialEq + Send + Sync,
 >(rt: &R, using: &Use, message: T) -> Result<(), Fail> {
     let (senders, receivers) = channels(rt, ROUNDS)?;
@@ -27,7 +28,7 @@ fn assert_comes<
         senders,
         receivers,
         |sender| sender.send(message).is_ok(),
-        |receiver| using.receive(receiver) == Ok(message),
+        |receiver| using.receive(rt, receiver) == Ok(message),
     );
     assert_answers(rt, &sends, &[true]);
     assert_answers(rt, &receives, &[true]);

@@ -1,14 +1,14 @@
 //! One `try_recv` of a future that has left a copy of its task's waker, beside a `send` of 999 or the
 //! sender's drop. If it finds nothing, the copy stays, and the sender wakes the task.
 
-use super::answers::Silence::{Disconnected, NothingYet};
-use super::answers::{Outcome, Silence, assert_answers, assert_both_orders};
+use super::answers::{Outcome, assert_answers, assert_both_orders};
 use super::channels::pairs;
-use super::counted::{Counted, make_messages};
+use super::counted::{Counted, load, send};
 use super::races::race;
 use futures::task::Poll;
 use futures::test::MockTask;
 use oneshot_channel::{AsyncReceiver, Sender, async_channel};
+use oneshot_tests::uses::Silence::{self, Disconnected, NothingYet};
 use std::alloc::AllocGlobal;
 use std::process::Abort;
 use std::random::RandomSource;
@@ -71,17 +71,17 @@ fn assert_woken<Rt: Drop>(
 
 #[test]
 fn a_try_beside_a_send_leaves_the_task_to_be_woken(rt: HostRuntime) -> Result<(), Fail> {
-    let (messages, drops) = make_messages(rt.alloc(), ROUNDS, 999)?;
     let (senders, mut receivers) = waiting_channels(&rt)?;
+    let (loaded, drops) = load(rt.alloc(), senders)?;
     let (sends, tries) = race(
         &rt,
         rt.alloc(),
-        senders.into_iter().zip(messages).collect(rt.alloc())?,
+        loaded,
         receivers.iter_mut().collect(rt.alloc())?,
-        |(sender, message)| sender.send(message).is_ok(),
+        |loaded| send(loaded),
         |waiting| waiting.try_once(),
     );
-    assert_answers(&rt, &sends, &[true]);
+    assert_answers(&rt, &sends, &[Ok(())]);
     assert_answers(&rt, &tries, &[Ok(999), Err(NothingYet)]);
     assert_both_orders(&rt, &tries);
     assert_woken(&rt, receivers, &tries, Ok(999));
@@ -109,17 +109,14 @@ fn a_try_beside_a_drop_leaves_the_task_to_be_woken(rt: HostRuntime) -> Result<()
 
 #[test]
 fn a_try_and_a_drop_beside_a_send_take_the_message_once(rt: HostRuntime) -> Result<(), Fail> {
-    let (messages, drops) = make_messages(rt.alloc(), ROUNDS, 999)?;
     let (senders, receivers) = waiting_channels(&rt)?;
+    let (loaded, drops) = load(rt.alloc(), senders)?;
     let (sends, tries) = race(
         &rt,
         rt.alloc(),
-        senders.into_iter().zip(messages).collect(rt.alloc())?,
+        loaded,
         receivers,
-        |(sender, message)| {
-            let sent = sender.send(message);
-            sent.map_err(|refused| refused.into_inner().value)
-        },
+        |loaded| send(loaded),
         |mut waiting| waiting.try_once(),
     );
     assert_answers(&rt, &sends, &[Ok(()), Err(999)]);

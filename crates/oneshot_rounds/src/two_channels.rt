@@ -4,7 +4,8 @@ use super::answers::assert_answers;
 use super::channels::channels;
 use super::races::race;
 use super::waits::patience;
-use oneshot_channel::{Receiver, RecvTimeoutError};
+use oneshot_channel::{Receiver, RecvTimeoutError, Sender};
+use std::alloc::{AllocError, Global};
 use std::process::Abort;
 use std::sync::Wait;
 use std::test::Fail;
@@ -25,6 +26,17 @@ fn receive_soon<R: Wait + Clock + Abort>(
     received
 }
 
+/// The sender to a thread's other, and the receiver from it.
+type BothEnds<'r, R> = (Sender<u64>, Receiver<u64, &'r R>);
+
+fn both_ends<'r, R>(
+    alloc: Global,
+    senders: Vec<Sender<u64>>,
+    receivers: Vec<Receiver<u64, &'r R>>,
+) -> Result<Vec<BothEnds<'r, R>>, AllocError> {
+    senders.into_iter().zip(receivers).collect(alloc)
+}
+
 #[test]
 fn each_thread_gets_the_message_of_the_other(rt: HostRuntime) -> Result<(), Fail> {
     let (to_other, from_one) = channels::<u64, _>(&rt, ROUNDS)?;
@@ -32,18 +44,18 @@ fn each_thread_gets_the_message_of_the_other(rt: HostRuntime) -> Result<(), Fail
     let (ones, others) = race(
         &rt,
         rt.alloc(),
-        to_other.into_iter().zip(from_other).collect(rt.alloc())?,
-        from_one.into_iter().zip(to_one).collect(rt.alloc())?,
+        both_ends(rt.alloc(), to_other, from_other)?,
+        both_ends(rt.alloc(), to_one, from_one)?,
         |(sender, receiver)| {
             let sent = sender.send(1).is_ok();
             (sent, receive_soon(&rt, receiver))
         },
-        |(receiver, sender)| {
+        |(sender, receiver)| {
             let received = receive_soon(&rt, receiver);
-            (received, sender.send(2).is_ok())
+            (sender.send(2).is_ok(), received)
         },
     );
     assert_answers(&rt, &ones, &[(true, Ok(2))]);
-    assert_answers(&rt, &others, &[(Ok(1), true)]);
+    assert_answers(&rt, &others, &[(true, Ok(1))]);
     Ok(())
 }

@@ -9,18 +9,6 @@ pub(super) fn patience() -> Duration {
     Duration::from_secs(10)
 }
 
-/// How many looks are made without a yield, before those that yield first.
-const QUICK_LOOKS: u64 = 100;
-
-/// Passes the time between two looks for a message.
-pub(super) fn pass_time(looks: u64) {
-    if looks < QUICK_LOOKS {
-        spin_loop();
-    } else {
-        yield_now();
-    }
-}
-
 /// How often a thread looks for the other at a line: at first it spins, then yields, then sleeps in between.
 /// The sleeps take some five seconds, less than the wait of a receive that nobody wakes.
 pub(super) const LINE_LOOKS: u64 = 105_000;

@@ -1,4 +1,4 @@
-//! Tests of the real channel by its public names, and how much memory a process has, for tests that look for leaks.
+//! Tests of the real channel by its public names, the uses of a receiver, and how much memory a process has.
 #![tactic(auto)]
 
 #[cfg(test)]
@@ -12,3 +12,4 @@ mod errors;
 pub mod pages;
 #[cfg(test)]
 mod reply;
+pub mod uses;

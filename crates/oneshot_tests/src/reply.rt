@@ -5,7 +5,7 @@ mod sizes;
 mod threads;
 mod waits;
 
-use crate::asserts::assert_same;
+use crate::asserts::{assert_same, assert_that};
 use futures::executor::block_on;
 use oneshot_channel::reply::{Answer, Length, Request, Ticket, request};
 use oneshot_channel::{RecvError, RecvTimeoutError, TryRecvError};
@@ -43,16 +43,16 @@ fn bytes_of(length: Length) -> usize {
 fn a_reply_is_taken_once(rt: HostRuntime) -> Result<(), Fail> {
     let (request, mut ticket) = ask((), rt.alloc())?;
     assert_same(&rt, request.question().as_str(), TEXT);
-    assert!(rt; !request.is_cancelled() && !ticket.is_closed());
-    assert!(rt; answer(request)?.is_ok());
-    assert!(rt; !ticket.is_closed());
+    assert_that(&rt, !request.is_cancelled() && !ticket.is_closed());
+    assert_that(&rt, answer(request)?.is_ok());
+    assert_that(&rt, !ticket.is_closed());
     assert_same(&rt, ticket.try_take().map(bytes_of), Ok(21));
     assert_same(
         &rt,
         ticket.try_take().map(bytes_of),
         Err(TryRecvError::Disconnected),
     );
-    assert!(rt; ticket.is_closed());
+    assert_that(&rt, ticket.is_closed());
     Ok(())
 }
 
@@ -60,7 +60,7 @@ fn a_reply_is_taken_once(rt: HostRuntime) -> Result<(), Fail> {
 fn an_answer_without_a_ticket_gives_the_reply_back(rt: HostRuntime) -> Result<(), Fail> {
     let (request, ticket) = ask((), rt.alloc())?;
     drop(ticket);
-    assert!(rt; request.is_cancelled());
+    assert_that(&rt, request.is_cancelled());
     let Err(length) = answer(request)? else {
         return Err(Fail::new("an answer without a ticket"));
     };
@@ -73,7 +73,7 @@ fn an_answer_without_a_ticket_gives_the_reply_back(rt: HostRuntime) -> Result<()
 fn a_dropped_request_has_no_reply(rt: HostRuntime) -> Result<(), Fail> {
     let (request, ticket) = ask(&rt, rt.alloc())?;
     drop(request);
-    assert!(rt; ticket.is_closed());
+    assert_that(&rt, ticket.is_closed());
     assert_same(&rt, ticket.wait().map(bytes_of), Err(RecvError));
     Ok(())
 }
@@ -92,8 +92,8 @@ fn a_request_that_is_there_has_no_reply_yet(rt: HostRuntime) -> Result<(), Fail>
         ticket.wait_for(moment).map(bytes_of),
         Err(RecvTimeoutError::Timeout),
     );
-    assert!(rt; !request.is_cancelled());
-    assert!(rt; answer(request)?.is_ok());
+    assert_that(&rt, !request.is_cancelled());
+    assert_that(&rt, answer(request)?.is_ok());
     assert_same(&rt, ticket.wait_for(moment).map(bytes_of), Ok(21));
     assert_same(
         &rt,
@@ -104,12 +104,17 @@ fn a_request_that_is_there_has_no_reply_yet(rt: HostRuntime) -> Result<(), Fail>
 }
 
 #[test]
-fn a_reply_is_waited_for_or_awaited(rt: HostRuntime) -> Result<(), Fail> {
+fn a_reply_is_waited_for(rt: HostRuntime) -> Result<(), Fail> {
     let (request, ticket) = ask(&rt, rt.alloc())?;
-    assert!(rt; answer(request)?.is_ok());
+    assert_that(&rt, answer(request)?.is_ok());
     assert_same(&rt, ticket.wait().map(bytes_of), Ok(21));
+    Ok(())
+}
+
+#[test]
+fn a_reply_is_awaited(rt: HostRuntime) -> Result<(), Fail> {
     let (request, ticket) = ask((), rt.alloc())?;
-    assert!(rt; answer(request)?.is_ok());
+    assert_that(&rt, answer(request)?.is_ok());
     let awaited = block_on(&rt, ticket.into_future())?;
     assert_same(&rt, awaited.map(bytes_of), Ok(21));
     Ok(())
@@ -118,8 +123,14 @@ fn a_reply_is_waited_for_or_awaited(rt: HostRuntime) -> Result<(), Fail> {
 #[test]
 fn a_reply_to_another_text_does_not_fit(rt: HostRuntime) -> Result<(), Fail> {
     let (request, _) = ask((), rt.alloc())?;
-    assert!(rt; request.fits(&Length::of(String::from_str(rt.alloc(), TEXT)?)));
+    assert_that(
+        &rt,
+        request.fits(&Length::of(String::from_str(rt.alloc(), TEXT)?)),
+    );
     let other = "data from sync threads";
-    assert!(rt; !request.fits(&Length::of(String::from_str(rt.alloc(), other)?)));
+    assert_that(
+        &rt,
+        !request.fits(&Length::of(String::from_str(rt.alloc(), other)?)),
+    );
     Ok(())
 }

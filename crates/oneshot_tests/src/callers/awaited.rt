@@ -1,5 +1,6 @@
 //! A caller that awaits a message under an executor, and its tests.
 
+use crate::asserts::{assert_same, assert_that};
 use futures::executor::block_on;
 use oneshot_channel::{AsyncReceiver, RecvError, async_channel};
 use std::io;
@@ -24,8 +25,8 @@ fn a_message_is_awaited(rt: HostRuntime) -> Result<(), Fail> {
         || awaited(&rt, receiver),
         || sender.send(19u64).is_ok(),
     );
-    assert_eq!(rt; received?, Ok(19));
-    assert!(rt; sent);
+    assert_same(&rt, received?, Ok(19));
+    assert_that(&rt, sent);
     Ok(())
 }
 
@@ -33,6 +34,6 @@ fn a_message_is_awaited(rt: HostRuntime) -> Result<(), Fail> {
 fn a_sender_that_goes_ends_the_wait(rt: HostRuntime) -> Result<(), Fail> {
     let (sender, receiver) = async_channel::<u64, _>(&rt, rt.alloc())?;
     let (received, ()) = join(&rt, || awaited(&rt, receiver), || drop(sender));
-    assert_eq!(rt; received?, Err(RecvError));
+    assert_same(&rt, received?, Err(RecvError));
     Ok(())
 }

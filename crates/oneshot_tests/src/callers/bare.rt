@@ -1,5 +1,6 @@
 //! A future without a runtime, because none of its calls blocks.
 
+use crate::asserts::{assert_same, assert_that};
 use futures::executor::block_on;
 use futures::task::Poll;
 use futures::test::MockTask;
@@ -19,7 +20,7 @@ fn start<R: Threads>(rt: &R, alloc: Global, number: u64) -> io::Result<AsyncRece
 #[test]
 fn a_thread_is_awaited(rt: HostRuntime) -> Result<(), Fail> {
     let receiver = start(&rt, rt.alloc(), 21)?;
-    assert_eq!(rt; block_on(&rt, receiver)?, Ok(21));
+    assert_same(&rt, block_on(&rt, receiver)?, Ok(21));
     Ok(())
 }
 
@@ -31,8 +32,8 @@ fn a_message_is_awaited(rt: HostRuntime) -> Result<(), Fail> {
         || block_on(&rt, receiver),
         || sender.send(19u64).is_ok(),
     );
-    assert_eq!(rt; received?, Ok(19));
-    assert!(rt; sent);
+    assert_same(&rt, received?, Ok(19));
+    assert_that(&rt, sent);
     Ok(())
 }
 
@@ -40,12 +41,12 @@ fn a_message_is_awaited(rt: HostRuntime) -> Result<(), Fail> {
 fn a_message_is_polled_by_hand(rt: HostRuntime) -> Result<(), Fail> {
     let task = MockTask::new(&rt)?;
     let (sender, mut receiver) = async_channel((), rt.alloc())?;
-    assert_eq!(rt; task.poll(&mut receiver), Poll::Pending);
-    assert_eq!(rt; receiver.try_recv(), Err(TryRecvError::Empty));
-    assert!(rt; !task.is_woken());
-    assert!(rt; sender.send(19u64).is_ok());
-    assert!(rt; task.is_woken());
-    assert_eq!(rt; task.poll(&mut receiver), Poll::Ready(Ok(19)));
-    assert_eq!(rt; task.poll(&mut receiver), Poll::Ready(Err(RecvError)));
+    assert_same(&rt, task.poll(&mut receiver), Poll::Pending);
+    assert_same(&rt, receiver.try_recv(), Err(TryRecvError::Empty));
+    assert_that(&rt, !task.is_woken());
+    assert_that(&rt, sender.send(19u64).is_ok());
+    assert_that(&rt, task.is_woken());
+    assert_same(&rt, task.poll(&mut receiver), Poll::Ready(Ok(19)));
+    assert_same(&rt, task.poll(&mut receiver), Poll::Ready(Err(RecvError)));
     Ok(())
 }

@@ -5,6 +5,7 @@ ghost use Rattle.oneshot_channel.specs.Ends.{IsDone, IsUnfinished};
 ghost use Rattle.oneshot_channel.specs.Phases.{receiver_at};
 ghost use Rattle.oneshot_channel.specs.Polls.{is_registered};
 
+use crate::asserts::{assert_same, assert_that};
 use futures::executor::block_on;
 use futures::task::Poll;
 use futures::test::MockTask;
@@ -41,18 +42,23 @@ fn at_once_or_awaited<R: Wait + RandomSource + AllocGlobal, T: Drop, Rt: Drop>(
 }
 
 #[test]
-fn a_message_is_received_at_once_or_awaited(rt: HostRuntime) -> Result<(), Fail> {
+fn a_message_that_is_there_is_received_at_once(rt: HostRuntime) -> Result<(), Fail> {
     let (sender, receiver) = async_channel(&rt, rt.alloc())?;
-    assert!(rt; sender.send(19u64).is_ok());
-    assert_eq!(rt; at_once_or_awaited(&rt, receiver)?, Ok(19));
+    assert_that(&rt, sender.send(19u64).is_ok());
+    assert_same(&rt, at_once_or_awaited(&rt, receiver)?, Ok(19));
+    Ok(())
+}
+
+#[test]
+fn a_message_that_is_not_there_is_awaited(rt: HostRuntime) -> Result<(), Fail> {
     let (sender, receiver) = async_channel(&rt, rt.alloc())?;
     let (received, sent) = join(
         &rt,
         || at_once_or_awaited(&rt, receiver),
         || sender.send(20u64).is_ok(),
     );
-    assert_eq!(rt; received?, Ok(20));
-    assert!(rt; sent);
+    assert_same(&rt, received?, Ok(20));
+    assert_that(&rt, sent);
     Ok(())
 }
 
@@ -60,12 +66,12 @@ fn a_message_is_received_at_once_or_awaited(rt: HostRuntime) -> Result<(), Fail>
 fn a_glance_leaves_the_task_to_be_woken(rt: HostRuntime) -> Result<(), Fail> {
     let task = MockTask::new(&rt)?;
     let (sender, mut receiver) = async_channel(&rt, rt.alloc())?;
-    assert_eq!(rt; task.poll(&mut receiver), Poll::Pending);
-    assert_eq!(rt; glance(&mut receiver), None);
-    assert!(rt; !task.is_woken());
-    assert!(rt; sender.send(19u64).is_ok());
-    assert!(rt; task.is_woken());
-    assert_eq!(rt; glance(&mut receiver), Some(Ok(19)));
-    assert_eq!(rt; glance(&mut receiver), Some(Err(RecvError)));
+    assert_same(&rt, task.poll(&mut receiver), Poll::Pending);
+    assert_same(&rt, glance(&mut receiver), None);
+    assert_that(&rt, !task.is_woken());
+    assert_that(&rt, sender.send(19u64).is_ok());
+    assert_that(&rt, task.is_woken());
+    assert_same(&rt, glance(&mut receiver), Some(Ok(19)));
+    assert_same(&rt, glance(&mut receiver), Some(Err(RecvError)));
     Ok(())
 }

@@ -6,6 +6,7 @@ ghost use Rattle.oneshot_channel.specs.Called.{as_receiver, ReceiverCalled};
 ghost use Rattle.oneshot_channel.specs.Ends.{Waking};
 ghost use Rattle.oneshot_channel.specs.ReceiverStart.TheVariants.{TryRecv};
 
+use crate::asserts::assert_same;
 use oneshot_channel::laws::calls_add_up;
 use oneshot_channel::{Receiver, TryRecvError, channel};
 use std::test::Fail;
@@ -28,16 +29,21 @@ fn tried_twice<T: Send + Drop>(
 fn nothing_is_there_and_then_nobody(rt: HostRuntime) -> Result<(), Fail> {
     let (sender, mut receiver) = channel::<u8, ()>((), rt.alloc())?;
     let kept = tried_twice(&mut receiver);
-    assert_eq!(rt; kept, (Err(TryRecvError::Empty), Err(TryRecvError::Empty)));
+    assert_same(
+        &rt,
+        kept,
+        (Err(TryRecvError::Empty), Err(TryRecvError::Empty)),
+    );
     drop(sender);
     let (_, mut receiver) = channel::<u8, ()>((), rt.alloc())?;
     let gone = tried_twice(&mut receiver);
-    assert_eq!(rt;
+    assert_same(
+        &rt,
         gone,
         (
             Err(TryRecvError::Disconnected),
-            Err(TryRecvError::Disconnected)
-        )
+            Err(TryRecvError::Disconnected),
+        ),
     );
     Ok(())
 }

@@ -2,6 +2,7 @@
 
 ghost use Rattle.std.specs.Prelude.{◌≡◌, ◌≤◌, IfOk, IfSome};
 
+use crate::asserts::{assert_same, assert_that};
 use futures::executor::block_on;
 use futures::future::{Either, join, select};
 use oneshot_channel::reply::{Answer, Request, Ticket, request};
@@ -97,9 +98,9 @@ where
 fn both_replies_come(rt: HostRuntime) -> Result<(), Fail> {
     let (few, first) = request((), rt.alloc(), 7u32).map_err(|_| AllocError)?;
     let (many, second) = request((), rt.alloc(), 11u32).map_err(|_| AllocError)?;
-    assert!(rt; serve(many));
-    assert!(rt; serve(few));
-    assert_eq!(rt; both_replies(&rt, first, second)?, Some((7, 10)));
+    assert_that(&rt, serve(many));
+    assert_that(&rt, serve(few));
+    assert_same(&rt, both_replies(&rt, first, second)?, Some((7, 10)));
     Ok(())
 }
 
@@ -107,8 +108,8 @@ fn both_replies_come(rt: HostRuntime) -> Result<(), Fail> {
 fn one_reply_comes_first(rt: HostRuntime) -> Result<(), Fail> {
     let (unserved, first) = request((), rt.alloc(), 7u32).map_err(|_| AllocError)?;
     let (served, second) = request((), rt.alloc(), 7u32).map_err(|_| AllocError)?;
-    assert!(rt; serve(served));
-    assert_eq!(rt; first_reply(&rt, first, second)?, Some(7));
-    assert!(rt; !serve(unserved));
+    assert_that(&rt, serve(served));
+    assert_same(&rt, first_reply(&rt, first, second)?, Some(7));
+    assert_that(&rt, !serve(unserved));
     Ok(())
 }

@@ -1,6 +1,6 @@
 //! Receives by clocks that return written readings, count them, or have the sender act at one.
 
-use crate::asserts::assert_same;
+use crate::asserts::{assert_same, assert_that};
 use oneshot_channel::{Receiver, RecvTimeoutError, Sender, channel};
 use std::alloc::{AllocError, Global};
 use std::cell::Cell;
@@ -114,7 +114,7 @@ fn a_timeout_counts_from_one_reading(rt: HostRuntime) -> Result<(), Fail> {
 fn a_clock_that_fails_hides_no_message(rt: HostRuntime) -> Result<(), Fail> {
     let clock = Written::new(&rt, &[]);
     let (sender, mut receiver) = by_clock(&clock, rt.alloc())?;
-    assert!(rt; sender.send(19).is_ok());
+    assert_that(&rt, sender.send(19).is_ok());
     assert_same(&rt, receiver.recv_timeout(Duration::from_nanos(5)), Ok(19));
     assert_same(
         &rt,
@@ -154,11 +154,11 @@ fn a_receive_that_waits_reads_the_clock_few_times(rt: HostRuntime) -> Result<(),
     let (_sender, mut receiver) = channel::<u8, _>(&counting, rt.alloc())?;
     let received = receiver.recv_timeout(Duration::from_millis(20));
     assert_same(&rt, received, Err(RecvTimeoutError::Timeout));
-    assert!(rt; counting.readings.get() < 100);
+    assert_that(&rt, counting.readings.get() < 100);
     let end = Instant::now(&rt)?.checked_add(Duration::from_millis(20));
     let received = receiver.recv_deadline(end.ok_or("an instant can hold it")?);
     assert_same(&rt, received, Err(RecvTimeoutError::Timeout));
-    assert!(rt; counting.readings.get() < 200);
+    assert_that(&rt, counting.readings.get() < 200);
     Ok(())
 }
 
@@ -179,13 +179,13 @@ fn a_receive_spins_few_times_before_it_sleeps(rt: HostRuntime) -> Result<(), Fai
     let (_sender, mut receiver) = channel::<u8, _>(&counting, rt.alloc())?;
     let received = receiver.recv_timeout(Duration::from_millis(150));
     assert_same(&rt, received, Err(RecvTimeoutError::Timeout));
-    assert!(rt; counting.readings.get() < READINGS);
+    assert_that(&rt, counting.readings.get() < READINGS);
     counting.readings.set(0);
     // With less than a tenth of a second left it does not spin: it reads the clock for the sum, before its
     // sleep, twice in it, and after it.
     let received = receiver.recv_timeout(Duration::from_millis(5));
     assert_same(&rt, received, Err(RecvTimeoutError::Timeout));
-    assert!(rt; counting.readings.get() < SPINLESS);
+    assert_that(&rt, counting.readings.get() < SPINLESS);
     Ok(())
 }
 
@@ -238,16 +238,22 @@ impl<'a, R> Clock for Meanwhile<'a, R> {
 
 // The receiver finds what the sender left when it swaps the word to end its wait.
 #[test]
-fn what_comes_at_the_deadline_is_found(rt: HostRuntime) -> Result<(), Fail> {
+fn a_message_that_comes_at_the_deadline_is_found(rt: HostRuntime) -> Result<(), Fail> {
     let clock = Meanwhile::new(&rt);
     let (sender, mut receiver) = channel::<u8, _>(&clock, rt.alloc())?;
     clock.will(Act::Send(sender, 19));
     assert_same(&rt, receiver.recv_deadline(five(&rt)?), Ok(19));
-    assert!(rt; receiver.is_closed());
+    assert_that(&rt, receiver.is_closed());
+    Ok(())
+}
+
+#[test]
+fn a_drop_at_the_deadline_is_found(rt: HostRuntime) -> Result<(), Fail> {
+    let clock = Meanwhile::new(&rt);
     let (sender, mut receiver) = channel::<u8, _>(&clock, rt.alloc())?;
     clock.will(Act::Go(sender));
     let received = receiver.recv_deadline(five(&rt)?);
     assert_same(&rt, received, Err(RecvTimeoutError::Disconnected));
-    assert!(rt; receiver.is_closed());
+    assert_that(&rt, receiver.is_closed());
     Ok(())
 }

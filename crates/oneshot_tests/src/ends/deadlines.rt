@@ -1,7 +1,7 @@
 //! Receives with a deadline or a timeout: how long they take, and what a sender on another thread changes.
 
 use super::beside::{Act, Pace, Receive, assert_receives};
-use crate::asserts::assert_same;
+use crate::asserts::{assert_same, assert_that};
 use oneshot_channel::{Receiver, RecvTimeoutError, channel};
 use std::sync::Wait;
 use std::test::Fail;
@@ -17,7 +17,7 @@ fn a_timeout_that_runs_out_takes_its_time(rt: HostRuntime) -> Result<(), Fail> {
     let short = Duration::from_millis(2);
     let start = Instant::now(&rt)?;
     let received = receiver.recv_timeout(short);
-    assert!(rt; start.elapsed(&rt)? > short);
+    assert_that(&rt, start.elapsed(&rt)? > short);
     assert_same(&rt, received, Err(RecvTimeoutError::Timeout));
     Ok(())
 }

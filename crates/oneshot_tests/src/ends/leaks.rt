@@ -98,15 +98,24 @@ fn a_receiver_whose_time_was_over_leaves_nothing(rt: HostRuntime) -> Result<(), 
     assert_none_leaks(&rt, OVER)
 }
 
-// The sender acts while the receiver waits, so it takes the waker and uses it.
+// The sender sends while the receiver waits, so it takes the waker and uses it.
 #[test]
-fn a_receiver_that_was_woken_leaves_nothing(rt: HostRuntime) -> Result<(), Fail> {
+fn a_receiver_that_a_send_woke_leaves_nothing(rt: HostRuntime) -> Result<(), Fail> {
     let clock = Meanwhile::new(&rt);
     let deadline = five(&rt)?;
     assert_no_leak(&rt, || {
         let (sender, mut receiver) = channel(&clock, rt.alloc())?;
         clock.will(Act::Send(sender, 19));
         let _ = receiver.recv_deadline(deadline);
+        Ok(())
+    })
+}
+
+#[test]
+fn a_receiver_that_a_drop_woke_leaves_nothing(rt: HostRuntime) -> Result<(), Fail> {
+    let clock = Meanwhile::new(&rt);
+    let deadline = five(&rt)?;
+    assert_no_leak(&rt, || {
         let (sender, mut receiver) = channel(&clock, rt.alloc())?;
         clock.will(Act::Go(sender));
         let _ = receiver.recv_deadline(deadline);

@@ -2,7 +2,7 @@
 
 ghost use Rattle.std.specs.Prelude.{◌≡◌};
 
-use crate::asserts::assert_same;
+use crate::asserts::{assert_same, assert_that};
 use futures::Future;
 use futures::executor::block_on;
 use futures::future::join;
@@ -66,9 +66,9 @@ fn a_send_of_another_thread_wakes_the_task(rt: HostRuntime) -> Result<(), Fail> 
             sender.send(19u8).is_ok()
         },
     );
-    assert!(rt; sent);
+    assert_that(&rt, sent);
     assert_same(&rt, received?, Ok(19));
-    assert!(rt; polls.load(Ordering::SeqCst) <= 10);
+    assert_that(&rt, polls.load(Ordering::SeqCst) <= 10);
     Ok(())
 }
 
@@ -97,9 +97,9 @@ fn two_joined_receivers_are_polled_as_often_as_they_are_woken(rt: HostRuntime) -
             first && sender.send(19u8).is_ok()
         },
     );
-    assert!(rt; sent);
+    assert_that(&rt, sent);
     assert_same(&rt, received?, (Ok(19), Ok(1)));
-    assert!(rt; polls.load(Ordering::SeqCst) <= 10);
+    assert_that(&rt, polls.load(Ordering::SeqCst) <= 10);
     Ok(())
 }
 
@@ -128,7 +128,7 @@ fn two_threads_and_two_executors_poll_one_receiver(rt: HostRuntime) -> Result<()
             sender.send(19u8).is_ok()
         },
     );
-    assert!(rt; sent);
+    assert_that(&rt, sent);
     assert_same(&rt, received?, Ok(19));
     Ok(())
 }
@@ -137,7 +137,7 @@ fn two_threads_and_two_executors_poll_one_receiver(rt: HostRuntime) -> Result<()
 fn a_message_that_was_sent_before_is_ready_at_once(rt: HostRuntime) -> Result<(), Fail> {
     let polls = AtomicU64::new(0);
     let (sender, receiver) = async_channel(&rt, rt.alloc())?;
-    assert!(rt; sender.send(19u8).is_ok());
+    assert_that(&rt, sender.send(19u8).is_ok());
     let counted = Counted {
         receiver,
         polls: &polls,

@@ -1,6 +1,6 @@
 //! Each end on a thread of its own.
 
-use crate::asserts::assert_same;
+use crate::asserts::{assert_same, assert_that};
 use oneshot_channel::{RawSender, Receiver, SendError, Sender, TryRecvError, channel};
 use std::mem::size_of_val;
 use std::test::Fail;
@@ -69,8 +69,8 @@ fn two_threads_share_a_raw_sender(rt: HostRuntime) -> Result<(), Fail> {
     let raw = sender.into_raw();
     let size = size_of_val(&raw);
     assert_same(&rt, two_sights(&rt, &raw), (size, size));
-    assert!(rt; Sender::from_raw(raw).send(5).is_ok());
-    assert!(rt; receiver.has_message());
+    assert_that(&rt, Sender::from_raw(raw).send(5).is_ok());
+    assert_that(&rt, receiver.has_message());
     Ok(())
 }
 

@@ -1,7 +1,7 @@
 //! Two tasks of one executor that wait for one future and for something else, and how often each is woken.
 
 use self::Deed::{First, Look, Second};
-use crate::asserts::assert_same;
+use crate::asserts::{assert_same, assert_that};
 use futures::Future;
 use futures::executor::LocalPool;
 use futures::task::{Context, Poll, Source, Waker};
@@ -128,9 +128,39 @@ fn listening<'a, T: Drop, P: Promise<T>>(
 /// Fails unless `try_recv` of the future returns `Empty`.
 fn look<T: Drop, P: Promise<T>>(rt: &impl Abort, place: &Place<T, P>) {
     if let Some(mut future) = place.take() {
-        assert!(rt; matches!(future.try_recv(), Err(TryRecvError::Empty)));
+        assert_that(rt, matches!(future.try_recv(), Err(TryRecvError::Empty)));
         place.set(Some(future));
     }
+}
+
+impl Deed {
+    /// Does the deed, and returns how often it wakes each task.
+    fn make<T: Drop, P: Promise<T>>(
+        self,
+        rt: &impl Abort,
+        [first, second]: &[Bell; 2],
+        place: &Place<T, P>,
+    ) -> [u64; 2] {
+        match self {
+            First => {
+                first.ring();
+                [1, 0]
+            }
+            Second => {
+                second.ring();
+                [0, 1]
+            }
+            Look => {
+                look(rt, place);
+                [0, 0]
+            }
+        }
+    }
+}
+
+/// Fails unless each task was woken so often since the last call, during these deeds.
+fn assert_wakes(rt: &impl Abort, [first, second]: &[Bell; 2], wakes: [u64; 2], deeds: &[Deed]) {
+    assert_eq!(rt; [first.count(), second.count()], wakes, "in {deeds:?}");
 }
 
 /// Does the deeds, then the sender's `act`, and returns `future`. Fails at another count of wakes.
@@ -146,33 +176,15 @@ pub(crate) fn waited_for<T: Drop, P: Promise<T>, F: FnOnce()>(
     let place = Cell::new(Some(future));
     let bells = [Bell::new(), Bell::new()];
     let mut pool = listening(rt, &bells, &place)?;
-    let [first, second] = &bells;
-    assert_eq!(rt;
-        [first.count(), second.count()],
-        [1, 1],
-        "the first poll of each task"
-    );
+    assert_wakes(rt, &bells, [1, 1], &[]);
     for (number, deed) in deeds.iter().enumerate() {
-        let wakes = match deed {
-            First => [1, 0],
-            Second => [0, 1],
-            Look => [0, 0],
-        };
-        match deed {
-            First => first.ring(),
-            Second => second.ring(),
-            Look => look(rt, &place),
-        }
+        let wakes = deed.make(rt, &bells, &place);
         pool.run_until_stalled(MOST_POLLS);
-        assert_eq!(rt;
-            [first.count(), second.count()],
-            wakes,
-            "deed {number} of {deeds:?}"
-        );
+        assert_wakes(rt, &bells, wakes, &deeds[..=number]);
     }
     act();
     pool.run_until_stalled(MOST_POLLS);
-    assert_eq!(rt; [first.count(), second.count()], *woken, "after {deeds:?}");
+    assert_wakes(rt, &bells, *woken, deeds);
     drop(pool);
     Ok(place.take().ok_or("the future is in its place")?)
 }
@@ -183,7 +195,7 @@ fn a_task_that_waits_beside_others_is_woken_by_the_sender_alone(
 ) -> Result<(), Fail> {
     for waits in WAITS {
         let (sender, receiver) = async_channel((), rt.alloc())?;
-        let act = || assert!(&rt; sender.send(19u8).is_ok());
+        let act = || assert_that(&rt, sender.send(19u8).is_ok());
         let mut receiver = waited_for(&rt, waits, receiver, act)?;
         assert_same(&rt, receiver.try_recv(), Ok(19));
         let (sender, receiver) = async_channel::<u8, _>((), rt.alloc())?;

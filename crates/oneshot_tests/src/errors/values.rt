@@ -1,5 +1,6 @@
 //! Copies of the errors, their equality and their hashes, at run time.
 
+use crate::asserts::assert_that;
 use oneshot_channel::{RecvError, RecvTimeoutError, TryRecvError};
 use std::alloc::AllocError;
 use std::hash::{DefaultHasher, Hash, Hasher};
@@ -27,16 +28,22 @@ fn copies_are_alike<E: Copy + Hash>(error: E) -> Result<bool, AllocError> {
 
 #[test]
 fn copies_are_equal_and_hash_alike(rt: HostRuntime) -> Result<(), Fail> {
-    assert!(rt; copies_are_alike(RecvError)?);
-    assert!(rt; copies_are_alike(RecvTimeoutError::Timeout)?);
-    assert!(rt; copies_are_alike(RecvTimeoutError::Disconnected)?);
-    assert!(rt; copies_are_alike(TryRecvError::Empty)?);
-    assert!(rt; copies_are_alike(TryRecvError::Disconnected)?);
+    assert_that(&rt, copies_are_alike(RecvError)?);
+    assert_that(&rt, copies_are_alike(RecvTimeoutError::Timeout)?);
+    assert_that(&rt, copies_are_alike(RecvTimeoutError::Disconnected)?);
+    assert_that(&rt, copies_are_alike(TryRecvError::Empty)?);
+    assert_that(&rt, copies_are_alike(TryRecvError::Disconnected)?);
     Ok(())
 }
 
 #[test]
 fn other_variants_differ_and_hash_apart(rt: HostRuntime) {
-    assert!(rt; are_apart(&RecvTimeoutError::Timeout, &RecvTimeoutError::Disconnected));
-    assert!(rt; are_apart(&TryRecvError::Empty, &TryRecvError::Disconnected));
+    assert_that(
+        &rt,
+        are_apart(&RecvTimeoutError::Timeout, &RecvTimeoutError::Disconnected),
+    );
+    assert_that(
+        &rt,
+        are_apart(&TryRecvError::Empty, &TryRecvError::Disconnected),
+    );
 }

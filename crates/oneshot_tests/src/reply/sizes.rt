@@ -2,7 +2,7 @@
 
 ghost use Rattle.std.specs.Prelude.{◌≡◌};
 
-use crate::asserts::assert_same;
+use crate::asserts::{assert_same, assert_that};
 use futures::executor::block_on;
 use oneshot_channel::async_channel;
 use oneshot_channel::reply::{Answer, Ticket, request};
@@ -49,7 +49,7 @@ fn answered<'r, R: AllocGlobal + Abort, Q: Copy + Eq + Send + Drop>(
     let echo = Echo {
         question: *request.question(),
     };
-    assert!(rt; request.fits(&echo) && request.answer(echo).is_ok());
+    assert_that(rt, request.fits(&echo) && request.answer(echo).is_ok());
     Ok(ticket)
 }
 
@@ -59,7 +59,7 @@ fn assert_comes<
     Q: Copy + Debug + Eq + Send + Drop,
 >(rt: &R, question: Q) -> Result<(), Fail> {
     let (sender, mut receiver) = async_channel((), rt.alloc())?;
-    assert!(rt; sender.send(question).is_ok());
+    assert_that(rt, sender.send(question).is_ok());
     assert_same(rt, receiver.try_recv(), Ok(question));
     let taken = answered(rt, question)?.try_take();
     assert_same(rt, taken.map(question_of), Ok(question));

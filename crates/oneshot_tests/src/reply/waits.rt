@@ -1,7 +1,7 @@
 //! Waits for a reply: by a task that waits for something else too, and with a timeout by a written clock.
 
 use super::{answer, ask, bytes_of};
-use crate::asserts::assert_same;
+use crate::asserts::{assert_same, assert_that};
 use crate::ends::clocks::{FIVE_NANOSECONDS, Written};
 use crate::ends::wakes::{WAITS, waited_for};
 use oneshot_channel::{RecvTimeoutError, TryRecvError};
@@ -15,7 +15,7 @@ fn a_task_that_waits_for_a_reply_is_woken_by_the_request_alone(
     for waits in WAITS {
         let (request, ticket) = ask((), rt.alloc())?;
         let mut reply = waited_for(&rt, waits, ticket.into_future(), || {
-            assert!(rt; matches!(answer(request), Ok(Ok(()))));
+            assert_that(&rt, matches!(answer(request), Ok(Ok(()))));
         })?;
         assert_same(&rt, reply.try_recv().map(bytes_of), Ok(21));
         let (request, ticket) = ask((), rt.alloc())?;
@@ -45,7 +45,7 @@ fn a_ticket_waits_to_the_nanosecond(rt: HostRuntime) -> Result<(), Fail> {
     // A reply that has come is taken even if the clock fails.
     let clock = Written::new(&rt, &[]);
     let (request, mut ticket) = ask(&clock, rt.alloc())?;
-    assert!(rt; answer(request)?.is_ok());
+    assert_that(&rt, answer(request)?.is_ok());
     assert_same(&rt, ticket.wait_for(timeout).map(bytes_of), Ok(21));
     Ok(())
 }
