@@ -6,3 +6,4 @@ mod polls;
 mod receiver;
 mod sender;
 mod steps;
+mod turns;

@@ -1,6 +1,6 @@
 //! Tests of runs that are stepped by hand.
 
-use crate::asserts::assert_same;
+use crate::asserts::{assert_same, assert_that};
 use oneshot_machine::machine::{End, ReceiverStart, Seen, SenderCall, Step};
 use oneshot_machine::states::Op;
 use oneshot_replay::{
@@ -28,15 +28,16 @@ fn send(message: u64, last: ErrorLast) -> SenderScript<u64> {
 /// A move; then the call of each end after it, and whether the block is freed.
 type Case = (Move, Option<SenderCall>, Option<ReceiverStart>, bool);
 
+const MOVES_OF_A_REFUSED_SEND: &[Case] = &[
+    (RECEIVER, Some(SenderCall::Send), None, false),
+    (Move::Sender, Some(SenderCall::Send), None, false),
+    (Move::Sender, Some(SenderCall::IntoInner), None, false),
+    (Move::Sender, Some(SenderCall::IntoInner), None, false),
+    (Move::Sender, None, None, true),
+];
+
 #[test]
 fn a_refused_message_is_followed_move_by_move(rt: HostRuntime) {
-    let cases: [Case; 5] = [
-        (RECEIVER, Some(SenderCall::Send), None, false),
-        (Move::Sender, Some(SenderCall::Send), None, false),
-        (Move::Sender, Some(SenderCall::IntoInner), None, false),
-        (Move::Sender, Some(SenderCall::IntoInner), None, false),
-        (Move::Sender, None, None, true),
-    ];
     let receiver = ReceiverScript {
         calls: CallList::from(Vec::new(rt.alloc())),
         last: ReceiverLast::Drop,
@@ -44,15 +45,21 @@ fn a_refused_message_is_followed_move_by_move(rt: HostRuntime) {
     let mut replayer = Replayer::new(send(7, ErrorLast::IntoInner), receiver);
     assert_same(&rt, replayer.sender_call(), Some(SenderCall::Send));
     assert_same(&rt, replayer.receiver_call(), Some(ReceiverStart::Drop));
-    for (i, (made, sender, receiver, freed)) in cases.iter().enumerate() {
+    for (i, (made, sender, receiver, freed)) in MOVES_OF_A_REFUSED_SEND.iter().enumerate() {
         let number = i + 1;
         let _ = replayer.step(*made);
-        assert_same(&rt, replayer.count(), number);
-        assert_eq!(rt; replayer.sender_call(), *sender, "after move {number}");
-        assert_eq!(rt; replayer.receiver_call(), *receiver, "after move {number}");
-        assert_eq!(rt; replayer.block_freed(), *freed, "after move {number}");
+        let calls = (replayer.sender_call(), replayer.receiver_call());
+        assert_same(&rt, calls, (*sender, *receiver));
+        assert_same(
+            &rt,
+            (replayer.count(), replayer.block_freed()),
+            (number, *freed),
+        );
     }
-    assert!(rt; matches!(replayer.into_rest(), Some(Rest::FromError(7))));
+    assert_that(
+        &rt,
+        matches!(replayer.into_rest(), Some(Rest::FromError(7))),
+    );
 }
 
 /// The entry of this number, from 1, in a run of a `recv_ref` that nobody wakes.

@@ -13,8 +13,7 @@ mod object;
 mod waits;
 mod wakers;
 
-use crate::auditor::fault::Fault;
-pub(crate) use crate::auditor::fault::Finding;
+pub(crate) use crate::auditor::fault::{Fault, Finding};
 use crate::auditor::history::History;
 use crate::auditor::holders::Holders;
 use crate::auditor::message::Message;
@@ -53,15 +52,12 @@ pub(crate) fn audit(scripts: &Scripts, told: &DrawnTrace) -> Result<(), Finding>
             Entry::Made(made) => auditor.read_made(scripts, number, made, earlier, later),
         };
         if let Err(fault) = found {
-            return Err(Finding { number, fault });
+            return Err((number, fault));
         }
     }
     match auditor.read_end(told) {
         Ok(()) => Ok(()),
-        Err(fault) => Err(Finding {
-            number: entries.len(),
-            fault,
-        }),
+        Err(fault) => Err((entries.len(), fault)),
     }
 }
 

@@ -6,7 +6,7 @@ mod refused;
 mod unwoken;
 mod waits;
 
-use crate::auditor::{DrawnTrace, Scripts, audit};
+use crate::auditor::{DrawnTrace, Finding, Scripts, audit};
 use crate::damage::{Edit, apply};
 use crate::moves::move_of;
 use crate::run::{run, scripts_of};
@@ -16,7 +16,7 @@ use std::process::Abort;
 use std::test::Fail;
 
 /// What is wrong, the schedule of the right trace, the changes that damage it, and the auditor's finding.
-type Damage = (&'static str, &'static str, &'static [Edit], &'static str);
+type Damage = (&'static str, &'static str, &'static [Edit], Finding);
 
 /// Both scripts, and damages to their traces.
 type Damaged = (Sending, Receiving, &'static [Damage]);
@@ -36,22 +36,25 @@ fn right_trace(
     run(rt.alloc(), scripts, moves.as_slice())
 }
 
+/// Damages the trace by these changes.
+fn damaged_by(rt: &impl Abort, mut told: DrawnTrace, edits: &[Edit]) -> Result<DrawnTrace, Fail> {
+    for change in edits {
+        apply(rt, &mut told, *change)?;
+    }
+    Ok(told)
+}
+
 /// Asserts that the auditor accepts the trace, and finds this in it once it is damaged.
 fn assert_finds(
-    rt: &(impl Abort + AllocGlobal),
+    rt: &impl Abort,
     scripts: &Scripts,
-    mut told: DrawnTrace,
+    told: DrawnTrace,
     damage: &Damage,
 ) -> Result<(), Fail> {
     let (name, _, edits, finding) = damage;
     assert!(rt; audit(scripts, &told).is_ok(), "{name}, undamaged");
-    for change in *edits {
-        apply(rt, &mut told, *change)?;
-    }
-    let Err(found) = audit(scripts, &told) else {
-        panic!(rt; "{name} is accepted")
-    };
-    assert_eq!(rt; found.to_string(rt.alloc())?.as_str(), *finding, "{name}");
+    let told = damaged_by(rt, told, edits)?;
+    assert_eq!(rt; audit(scripts, &told), Err(*finding), "{name}");
     Ok(())
 }
 

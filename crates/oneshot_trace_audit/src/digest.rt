@@ -157,18 +157,19 @@ impl Write for Digest {
     }
 }
 
-// The digests are those that the authors of FNV-1a publish.
+/// Texts and their digests, which the authors of FNV-1a publish.
+const PUBLISHED: &[(&str, u64)] = &[
+    ("", 0xcbf2_9ce4_8422_2325),
+    ("a", 0xaf63_dc4c_8601_ec8c),
+    ("foobar", 0x8594_4171_f739_67e8),
+];
+
 #[test]
 fn texts_have_their_digests(rt: HostRuntime) -> Result<(), Fail> {
-    let rows = [
-        ("", 0xcbf2_9ce4_8422_2325),
-        ("a", 0xaf63_dc4c_8601_ec8c),
-        ("foobar", 0x8594_4171_f739_67e8),
-    ];
-    for (text, digest) in rows {
+    for (text, digest) in PUBLISHED {
         let mut met = Digest::new();
         met.write_all(text.as_bytes())?;
-        assert_eq!(rt; met.value(), digest, "{text}");
+        assert_eq!(rt; met.value(), *digest, "{text}");
     }
     Ok(())
 }

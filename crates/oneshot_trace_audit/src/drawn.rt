@@ -1,7 +1,7 @@
 //! Tests of drawn schedules of pairs of scripts: the auditor accepts each trace, and the digests of traces
 //! and texts are those that another program computed.
 
-use crate::auditor::audit;
+use crate::auditor::{Scripts, audit};
 use crate::digest::Digest;
 use crate::moves::Draws;
 use crate::run::{print_run, run, scripts_of};
@@ -19,34 +19,49 @@ const MOVES: usize = 64;
 /// Another program computed both digests, from both transition tables and the format of entries and text.
 type Pair = (Sending, Receiving, u64, u64);
 
+/// The digests of all traces of a pair of scripts, and of their printed text.
+#[derive(Drop)]
+struct Digests {
+    traces: Digest,
+    texts: Digest,
+}
+
+impl Digests {
+    /// Runs both scripts under the schedule of `seed`, and adds the trace and its text. Fails unless the
+    /// auditor accepts the trace.
+    fn add(
+        &mut self,
+        rt: &(impl Abort + AllocGlobal),
+        scripts: &Scripts,
+        (sender, receiver): (Sending, Receiving),
+        seed: u64,
+    ) -> Result<(), Fail> {
+        let moves = schedule(seed);
+        let played = scripts_of(rt.alloc(), sender, receiver)?;
+        let told = run(rt.alloc(), played, &moves)?;
+        if let Err(finding) = audit(scripts, &told) {
+            panic!(rt; "{sender:?} beside {receiver:?}, seed {seed}: {finding:?}");
+        }
+        self.traces.add_trace(&told);
+        let played = scripts_of(rt.alloc(), sender, receiver)?;
+        Ok(print_run(&mut self.texts, played, &moves)?)
+    }
+}
+
 /// Draws a schedule from each seed from 1 to 10,000, and runs both scripts under it. Asserts that the
 /// auditor accepts each trace, and that the digests of all traces and of all texts are these.
 fn assert_drawn(rt: &(impl Abort + AllocGlobal), pair: Pair) -> Result<(), Fail> {
     let (sender, receiver, traces, texts) = pair;
     let scripts = scripts_of(rt.alloc(), sender, receiver)?;
-    let mut told_all = Digest::new();
-    let mut printed = Digest::new();
+    let mut digests = Digests {
+        traces: Digest::new(),
+        texts: Digest::new(),
+    };
     for seed in 1..=10_000 {
-        let moves = schedule(seed);
-        let played = scripts_of(rt.alloc(), sender, receiver)?;
-        let told = run(rt.alloc(), played, &moves)?;
-        if let Err(finding) = audit(&scripts, &told) {
-            panic!(rt; "{sender:?} beside {receiver:?}, seed {seed}: {finding}");
-        }
-        told_all.add_trace(&told);
-        let played = scripts_of(rt.alloc(), sender, receiver)?;
-        print_run(&mut printed, played, &moves)?;
+        digests.add(rt, &scripts, (sender, receiver), seed)?;
     }
-    assert_eq!(rt;
-        told_all.value(),
-        traces,
-        "traces of {sender:?} beside {receiver:?}"
-    );
-    assert_eq!(rt;
-        printed.value(),
-        texts,
-        "texts of {sender:?} beside {receiver:?}"
-    );
+    let found = (digests.traces.value(), digests.texts.value());
+    assert_eq!(rt; found, (traces, texts), "{sender:?} beside {receiver:?}");
     Ok(())
 }
 

@@ -1,6 +1,6 @@
 //! Messages and wakers over grounds in memory that count their drops.
 
-use crate::asserts::assert_same;
+use crate::asserts::{assert_same, assert_that};
 use oneshot_drive::{drop_error, drop_receiver, recv, send};
 use oneshot_memory::{MemoryReceiver, MemorySender};
 use std::cell::Cell;
@@ -50,7 +50,7 @@ fn send_uses_the_waker_up(rt: HostRuntime) {
     let drops = Cell::new(0);
     let waker = Counted(&drops);
     let mut g = MemorySender::<u64, Counted, _>::with_waiting_receiver(&rt, rt.alloc(), waker);
-    assert!(rt; send(&mut g, 7));
+    assert_that(&rt, send(&mut g, 7));
     assert_same(&rt, drops.get(), 1);
 }
 
@@ -71,7 +71,7 @@ fn recv_gives_the_message_out(rt: HostRuntime) {
     let mut g = MemoryReceiver::<Counted, u8, _>::new(&rt, rt.alloc());
     g.sender_sends(Counted(&drops));
     let received = recv(&mut g, &rt, &mut Some(9));
-    assert!(rt; received.is_ok());
+    assert_that(&rt, received.is_ok());
     assert_same(&rt, drops.get(), 0);
     drop(received);
     drop(g);

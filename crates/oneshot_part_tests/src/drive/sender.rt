@@ -44,44 +44,42 @@ fn ground<R: Wait>(rt: &R, alloc: Global, receiver: Receiver) -> Ground<'_, R>
     }
 }
 
+/// Where the receiver is, whether the message is sent, and the steps.
+const SENDS: &[(Receiver, bool, &str)] = &[
+    (Receiver::Here, true, "write-message, add:3"),
+    (
+        Receiver::Waits,
+        true,
+        "write-message, add:0, take-waker, swap 4:1, wake",
+    ),
+    (
+        Receiver::Stops,
+        true,
+        "write-message, add:0, take-waker, swap 4:3, wake",
+    ),
+    (
+        Receiver::Gone,
+        false,
+        "write-message, add:2, take-message, free",
+    ),
+    (
+        Receiver::Leaves,
+        false,
+        "write-message, add:0, take-waker, swap 4:2, wake, take-message, free",
+    ),
+];
+
 #[test]
 fn send_makes_its_steps(rt: HostRuntime) -> Result<(), Fail> {
-    let cases = [
-        (Receiver::Here, true, "write-message, add:3"),
-        (
-            Receiver::Waits,
-            true,
-            "write-message, add:0, take-waker, swap 4:1, wake",
-        ),
-        (
-            Receiver::Stops,
-            true,
-            "write-message, add:0, take-waker, swap 4:3, wake",
-        ),
-        (
-            Receiver::Gone,
-            false,
-            "write-message, add:2, take-message, free",
-        ),
-        (
-            Receiver::Leaves,
-            false,
-            "write-message, add:0, take-waker, swap 4:2, wake, take-message, free",
-        ),
-    ];
-    for (number, (receiver, sent, steps)) in cases.into_iter().enumerate() {
-        let mut g = ground(&rt, rt.alloc(), receiver);
+    for (receiver, sent, steps) in SENDS {
+        let mut g = ground(&rt, rt.alloc(), *receiver);
         if send(&mut g, 7) {
-            assert!(rt; sent, "case {number}");
+            assert!(rt; *sent, "not {steps}");
         } else {
-            assert!(rt; !sent, "case {number}");
+            assert!(rt; !*sent, "not {steps}");
             assert_same(&rt, into_inner(&mut g), 7);
         }
-        assert_eq!(rt;
-            steps_of(rt.alloc(), g.events())?.as_str(),
-            steps,
-            "case {number}"
-        );
+        assert_same(&rt, steps_of(rt.alloc(), g.events())?.as_str(), *steps);
     }
     Ok(())
 }
@@ -106,23 +104,20 @@ fn the_error_of_a_receiver_that_left_meanwhile_frees_once(rt: HostRuntime) -> Re
     Ok(())
 }
 
+const DROPS: &[(Receiver, &str)] = &[
+    (Receiver::Here, "flip:3"),
+    (Receiver::Waits, "flip:0, take-waker, swap 2:1, wake"),
+    (Receiver::Stops, "flip:0, take-waker, swap 2:3, wake"),
+    (Receiver::Gone, "flip:2, free"),
+    (Receiver::Leaves, "flip:0, take-waker, swap 2:2, wake, free"),
+];
+
 #[test]
 fn the_senders_drop_makes_its_steps(rt: HostRuntime) -> Result<(), Fail> {
-    let cases = [
-        (Receiver::Here, "flip:3"),
-        (Receiver::Waits, "flip:0, take-waker, swap 2:1, wake"),
-        (Receiver::Stops, "flip:0, take-waker, swap 2:3, wake"),
-        (Receiver::Gone, "flip:2, free"),
-        (Receiver::Leaves, "flip:0, take-waker, swap 2:2, wake, free"),
-    ];
-    for (number, (receiver, steps)) in cases.into_iter().enumerate() {
-        let mut g = ground(&rt, rt.alloc(), receiver);
+    for (receiver, steps) in DROPS {
+        let mut g = ground(&rt, rt.alloc(), *receiver);
         drop_sender(&mut g);
-        assert_eq!(rt;
-            steps_of(rt.alloc(), g.events())?.as_str(),
-            steps,
-            "case {number}"
-        );
+        assert_same(&rt, steps_of(rt.alloc(), g.events())?.as_str(), *steps);
     }
     Ok(())
 }

@@ -1,5 +1,6 @@
 //! Damaged traces of a future: the copies of its tasks' wakers, and the block that it shares with its sender.
 
+use crate::auditor::Fault;
 use crate::damage::Edit;
 use crate::damaged::Damaged;
 use crate::scripts::{Receiving, Sending};
@@ -35,7 +36,7 @@ pub(crate) const POLLED_ONCE: Damaged = (
             "the block is freed before the sender's final swap",
             "rrrrrssssrrrrs",
             &[Edit::MoveBefore(13, 9)],
-            "entry 9: Receiver frees the block and is not its last holder",
+            (9, Fault::FreedTooEarly(End::Receiver)),
         ),
         // 8 R load 1, 9 R load 1, 10 S take-waker, 11 S swap 1>4, 12 R load 4, .. 15 R free = dropped, 16 S wake.
         (
@@ -48,19 +49,19 @@ pub(crate) const POLLED_ONCE: Damaged = (
                 Edit::Double(8),
                 Edit::MoveBefore(15, 11),
             ],
-            "entry 11: Receiver frees the block and is not its last holder",
+            (11, Fault::FreedTooEarly(End::Receiver)),
         ),
         (
             "the sender takes the waker after its final swap",
             "rrrrrssssrrrrs",
             &[Edit::MoveBefore(9, 8)],
-            "entry 9: Sender uses the block and does not hold it",
+            (9, Fault::NotHolder(End::Sender)),
         ),
         (
             "the sender frees the block that it left to the receiver",
             "rrrrrssssrrrrs",
             &[Edit::Step(14, Step::Free)],
-            "entry 14: Sender uses the block and does not hold it",
+            (14, Fault::NotHolder(End::Sender)),
         ),
         (
             "the waker is withdrawn behind the swap",
@@ -70,43 +71,55 @@ pub(crate) const POLLED_ONCE: Damaged = (
                 Edit::Reply(8, None),
                 Edit::Reply(9, Some(Reply::Done)),
             ],
-            "entry 9: Receiver uses the block and does not hold it",
+            (9, Fault::NotHolder(End::Receiver)),
         ),
         (
             "the send answers before its final swap",
             "rrrrrssssrrrrs",
             &[Edit::Reply(7, Some(Reply::Sent))],
-            "entry 7: the call answers and did not act",
+            (7, Fault::DidNotAct),
         ),
         (
             "the waker is used twice",
             "rrrrrssssrrrrs",
             &[Edit::Double(14), Edit::Reply(14, None)],
-            "entry 15: a waker leaves SenderHand and is Used",
+            (
+                15,
+                Fault::WakerElsewhere {
+                    from: WakerPlace::SenderHand,
+                    place: WakerPlace::Used,
+                },
+            ),
         ),
         (
             "the wake wakes nobody",
             "rrrrrssssrrrrs",
             &[Edit::Waker(14, None)],
-            "entry 14: the step moves nothing",
+            (14, Fault::MovesNothing),
         ),
         (
             "the wake is lost",
             "rrrrrssssrrrrs",
             &[Edit::Step(14, Step::Plain), Edit::Waker(14, None)],
-            "entry 14: all have ended and a waker is SenderHand",
+            (14, Fault::WakerLeft(WakerPlace::SenderHand)),
         ),
         (
             "the waker is not written",
             "rrrrrssssrrrrs",
             &[Edit::Remove(4)],
-            "entry 7: a waker leaves Cell and is Hand",
+            (
+                7,
+                Fault::WakerElsewhere {
+                    from: WakerPlace::Cell,
+                    place: WakerPlace::Hand,
+                },
+            ),
         ),
         (
             "the receiver puts the waker into the sender's hand",
             "rrrrrssssrrrrs",
             &[Edit::Side(8, End::Receiver)],
-            "entry 8: Receiver moves a waker of the other end",
+            (8, Fault::WakerOfOther(End::Receiver)),
         ),
         (
             "the parker's half is dropped out of the hand",
@@ -115,13 +128,25 @@ pub(crate) const POLLED_ONCE: Damaged = (
                 1,
                 Some((WakerName::Parker, WakerPlace::Hand, WakerPlace::Dropped)),
             )],
-            "entry 1: this waker may not go from Hand to Dropped",
+            (
+                1,
+                Fault::WakerMove {
+                    from: WakerPlace::Hand,
+                    to: WakerPlace::Dropped,
+                },
+            ),
         ),
         (
             "the copy is dropped before it is in the hand",
             "rrr",
             &[Edit::Waker(3, Some((FIRST, WakerPlace::New, WakerPlace::Dropped)))],
-            "entry 3: this waker may not go from New to Dropped",
+            (
+                3,
+                Fault::WakerMove {
+                    from: WakerPlace::New,
+                    to: WakerPlace::Dropped,
+                },
+            ),
         ),
         (
             "the copy is of another task's waker",
@@ -130,7 +155,7 @@ pub(crate) const POLLED_ONCE: Damaged = (
                 3,
                 Some((OF_ANOTHER_TASK, WakerPlace::New, WakerPlace::Hand)),
             )],
-            "entry 3: a copy has another name than its task and entry",
+            (3, Fault::MisnamedWaker),
         ),
         (
             "the copy is of another entry",
@@ -139,31 +164,47 @@ pub(crate) const POLLED_ONCE: Damaged = (
                 3,
                 Some((OF_ANOTHER_ENTRY, WakerPlace::New, WakerPlace::Hand)),
             )],
-            "entry 3: a copy has another name than its task and entry",
+            (3, Fault::MisnamedWaker),
         ),
         (
             "the message is left in the cell",
             "rrrrrssssrrrrs",
             &[Edit::Remove(12)],
-            "entry 13: all have ended and the message is InCell",
+            (13, Fault::MessageLeft(Place::InCell)),
         ),
         (
             "the drop delivers the message",
             "rrrrrssssrrrrs",
             &[Edit::Message(12, Some((Place::InCell, Place::Delivered)))],
-            "entry 12: this call may not put the message Delivered",
+            (
+                12,
+                Fault::MessagePut {
+                    to: Place::Delivered,
+                },
+            ),
         ),
         (
             "the future that is made answers as a poll",
             "rrrrrssssrrrrs",
             &[Edit::Reply(1, Some(Reply::Pending))],
-            "entry 1: the reply is Pending and not Some(Future)",
+            (
+                1,
+                Fault::WrongReply {
+                    reply: Reply::Pending,
+                    wanted: Some(Reply::Future),
+                },
+            ),
         ),
         (
             "another message is told",
             "rrrrrssssrrrrs",
             &[Edit::Rest(Some((Place::Dropped, 8)))],
-            "entry 14: the trace tells that the rest is Some((Dropped, 8))",
+            (
+                14,
+                Fault::ToldRest {
+                    rest: Some((Place::Dropped, 8)),
+                },
+            ),
         ),
     ],
 );
@@ -180,7 +221,7 @@ pub(crate) const POLLED_ANEW: Damaged = (
             "the first waker stays in the cell",
             "rrrrrrrrrrrsssss",
             &[Edit::Remove(9)],
-            "entry 9: a waker is written over another",
+            (9, Fault::WakerCellFull),
         ),
         (
             "the parker's half is written over the first waker",
@@ -192,25 +233,31 @@ pub(crate) const POLLED_ANEW: Damaged = (
                     Some((WakerName::Parker, WakerPlace::Hand, WakerPlace::Cell)),
                 ),
             ],
-            "entry 9: a waker is written over another",
+            (9, Fault::WakerCellFull),
         ),
         (
             "the first waker goes back into the hand",
             "rrrrrrrrrrrsssss",
             &[Edit::Waker(9, Some((FIRST, WakerPlace::Cell, WakerPlace::Hand)))],
-            "entry 9: this waker may not go from Cell to Hand",
+            (
+                9,
+                Fault::WakerMove {
+                    from: WakerPlace::Cell,
+                    to: WakerPlace::Hand,
+                },
+            ),
         ),
         (
             "the sender drops the first waker",
             "rrrrrrrrrrrsssss",
             &[Edit::Side(9, End::Sender)],
-            "entry 9: Sender moves a waker of the other end",
+            (9, Fault::WakerOfOther(End::Sender)),
         ),
         (
             "the copy that is not stored is forgotten",
             "rrrrrrrssrrsssrrrrrr",
             &[Edit::Waker(10, None)],
-            "entry 20: all have ended and a waker is Hand",
+            (20, Fault::WakerLeft(WakerPlace::Hand)),
         ),
     ],
 );
@@ -226,19 +273,30 @@ pub(crate) const LEFT_BY_A_FUTURE: Damaged = (
             "a send that came late says that it sent",
             "rrrrrssrrsss",
             &[Edit::Message(12, None), Edit::Reply(12, Some(Reply::Sent))],
-            "entry 12: the reply is Sent and not Some(Refused)",
+            (
+                12,
+                Fault::WrongReply {
+                    reply: Reply::Sent,
+                    wanted: Some(Reply::Refused),
+                },
+            ),
         ),
         (
             "a send that came late leaves the message in the cell",
             "rrrrrssrrsss",
             &[Edit::Message(12, None)],
-            "entry 12: the message is not InError as the reply says",
+            (
+                12,
+                Fault::ReplyWithoutMessage {
+                    wanted: Place::InError,
+                },
+            ),
         ),
         (
             "a send that came late keeps the waker",
             "rrrrrssrrsssss",
             &[Edit::Step(12, Step::Plain), Edit::Waker(12, None)],
-            "entry 14: all have ended and a waker is SenderHand",
+            (14, Fault::WakerLeft(WakerPlace::SenderHand)),
         ),
         (
             "the future's drop frees the block under the sender",
@@ -249,13 +307,13 @@ pub(crate) const LEFT_BY_A_FUTURE: Damaged = (
                 Edit::Side(10, End::Receiver),
                 Edit::Reply(9, None),
             ],
-            "entry 10: Receiver uses the block and does not hold it",
+            (10, Fault::NotHolder(End::Receiver)),
         ),
         (
             "the error does not free the block",
             "rrrrrssrrsssss",
             &[Edit::Remove(14), Edit::Reply(13, Some(Reply::Done))],
-            "entry 13: all have ended and the block is not freed",
+            (13, Fault::NeverFreed),
         ),
     ],
 );
@@ -273,13 +331,13 @@ pub(crate) const POLLED_BESIDE_A_DROP: Damaged = (
             "the stored waker is left in the cell",
             "rrrrrrrrrss",
             &[Edit::Remove(8)],
-            "entry 10: all have ended and a waker is Cell",
+            (10, Fault::WakerLeft(WakerPlace::Cell)),
         ),
         (
             "a sender's drop that came late frees nothing",
             "rrrrrsrrssss",
             &[Edit::Remove(12), Edit::Reply(11, Some(Reply::Done))],
-            "entry 11: all have ended and the block is not freed",
+            (11, Fault::NeverFreed),
         ),
     ],
 );

@@ -1,5 +1,6 @@
 //! Damaged traces of a message that is sent: its places, the replies, and the block.
 
+use crate::auditor::Fault;
 use crate::damage::Edit;
 use crate::damaged::Damaged;
 use crate::scripts::{Receiving, Sending};
@@ -16,31 +17,55 @@ pub(crate) const TAKEN: Damaged = (
             "the take is missing",
             "ssrrrrr",
             &[Edit::Remove(5)],
-            "entry 6: the reply is Done and not Some(Message)",
+            (
+                6,
+                Fault::WrongReply {
+                    reply: Reply::Done,
+                    wanted: Some(Reply::Message),
+                },
+            ),
         ),
         (
             "the message is delivered twice",
             "ssrrrrr",
             &[Edit::Double(5)],
-            "entry 6: the message leaves InCell and is Delivered",
+            (
+                6,
+                Fault::MessageElsewhere {
+                    from: Place::InCell,
+                    place: Place::Delivered,
+                },
+            ),
         ),
         (
             "a place is skipped",
             "ssrrrrr",
             &[Edit::Message(1, Some((Place::NotSent, Place::Delivered)))],
-            "entry 1: the message may not go from NotSent to Delivered",
+            (
+                1,
+                Fault::MessageMove {
+                    from: Place::NotSent,
+                    to: Place::Delivered,
+                },
+            ),
         ),
         (
             "the write is missing",
             "ssrrrrr",
             &[Edit::Remove(1)],
-            "entry 4: the message leaves InCell and is NotSent",
+            (
+                4,
+                Fault::MessageElsewhere {
+                    from: Place::InCell,
+                    place: Place::NotSent,
+                },
+            ),
         ),
         (
             "the receive takes nothing",
             "ssrrrrr",
             &[Edit::Message(5, None)],
-            "entry 5: the step moves nothing",
+            (5, Fault::MovesNothing),
         ),
         (
             "the send writes nothing",
@@ -49,19 +74,24 @@ pub(crate) const TAKEN: Damaged = (
                 Edit::Message(1, None),
                 Edit::Rest(Some((Place::NotSent, 7))),
             ],
-            "entry 1: the step moves nothing",
+            (1, Fault::MovesNothing),
         ),
         (
             "the receive answers before it takes",
             "ssrrrrr",
             &[Edit::Remove(5), Edit::Reply(4, Some(Reply::Message))],
-            "entry 4: the message is not Delivered as the reply says",
+            (
+                4,
+                Fault::ReplyWithoutMessage {
+                    wanted: Place::Delivered,
+                },
+            ),
         ),
         (
             "the receiver writes the message",
             "ss",
             &[Edit::Side(1, End::Receiver)],
-            "entry 1: this call may not put the message InCell",
+            (1, Fault::MessagePut { to: Place::InCell }),
         ),
         (
             "the send drops the message",
@@ -70,7 +100,7 @@ pub(crate) const TAKEN: Damaged = (
                 Edit::Message(2, Some((Place::InCell, Place::Dropped))),
                 Edit::Rest(Some((Place::Dropped, 7))),
             ],
-            "entry 2: this call may not put the message Dropped",
+            (2, Fault::MessagePut { to: Place::Dropped }),
         ),
         (
             "the accepted send puts the message into its error",
@@ -79,61 +109,84 @@ pub(crate) const TAKEN: Damaged = (
                 Edit::Message(2, Some((Place::InCell, Place::InError))),
                 Edit::Rest(Some((Place::InError, 7))),
             ],
-            "entry 2: this call may not put the message InError",
+            (2, Fault::MessagePut { to: Place::InError }),
         ),
         (
             "the rest is told as none",
             "ssrrrrr",
             &[Edit::Rest(None)],
-            "entry 7: the trace tells that the rest is None",
+            (7, Fault::ToldRest { rest: None }),
         ),
         (
             "the rest is told at another place",
             "ssrrrrr",
             &[Edit::Rest(Some((Place::Dropped, 7)))],
-            "entry 7: the trace tells that the rest is Some((Dropped, 7))",
+            (
+                7,
+                Fault::ToldRest {
+                    rest: Some((Place::Dropped, 7)),
+                },
+            ),
         ),
         (
             "nothing yet, with the message in the cell",
             "ssrrrrr",
             &[Edit::Reply(3, Some(Reply::Empty))],
-            "entry 3: the reply is Empty and not Some(Message)",
+            (
+                3,
+                Fault::WrongReply {
+                    reply: Reply::Empty,
+                    wanted: Some(Reply::Message),
+                },
+            ),
         ),
         (
             "the disconnected error in place of the message",
             "ssrrrrr",
             &[Edit::Reply(5, Some(Reply::Disconnected))],
-            "entry 5: the reply is Disconnected and not Some(Message)",
+            (
+                5,
+                Fault::WrongReply {
+                    reply: Reply::Disconnected,
+                    wanted: Some(Reply::Message),
+                },
+            ),
         ),
         (
             "a refusal while the receiver is there",
             "ssrrrrr",
             &[Edit::Reply(2, Some(Reply::Refused))],
-            "entry 2: the reply is Refused and not Some(Sent)",
+            (
+                2,
+                Fault::WrongReply {
+                    reply: Reply::Refused,
+                    wanted: Some(Reply::Sent),
+                },
+            ),
         ),
         (
             "the drop does not swap",
             "ssrrrrr",
             &[Edit::Remove(6)],
-            "entry 6: the call answers and did not act",
+            (6, Fault::DidNotAct),
         ),
         (
             "the free is missing",
             "ssrrrrr",
             &[Edit::Remove(7), Edit::Reply(6, Some(Reply::Done))],
-            "entry 6: all have ended and the block is not freed",
+            (6, Fault::NeverFreed),
         ),
         (
             "the block is freed twice",
             "ssrrrrr",
             &[Edit::Double(7), Edit::Reply(7, None)],
-            "entry 8: Receiver uses the block and does not hold it",
+            (8, Fault::NotHolder(End::Receiver)),
         ),
         (
             "the last entry is doubled",
             "ssrrrrr",
             &[Edit::Double(7)],
-            "entry 8: Receiver makes a step and has no call left",
+            (8, Fault::NoCallLeft(End::Receiver)),
         ),
         (
             "the message is written behind the add",
@@ -143,7 +196,7 @@ pub(crate) const TAKEN: Damaged = (
                 Edit::Reply(1, None),
                 Edit::Reply(2, Some(Reply::Sent)),
             ],
-            "entry 2: Sender uses the block and does not hold it",
+            (2, Fault::NotHolder(End::Sender)),
         ),
         (
             "the sender frees the block before its add",
@@ -153,13 +206,13 @@ pub(crate) const TAKEN: Damaged = (
                 Edit::Reply(2, None),
                 Edit::BlockFreed(true),
             ],
-            "entry 2: Sender frees the block and is not its last holder",
+            (2, Fault::FreedTooEarly(End::Sender)),
         ),
         (
             "the receiver is idle before its calls",
             "ssrrrrr",
             &[Edit::Idle(3, End::Receiver)],
-            "entry 3: Receiver is idle and has a call to make",
+            (3, Fault::IdleTooEarly(End::Receiver)),
         ),
         (
             "the sender is idle before its call",
@@ -168,19 +221,19 @@ pub(crate) const TAKEN: Damaged = (
                 Edit::Idle(1, End::Sender),
                 Edit::Rest(Some((Place::NotSent, 7))),
             ],
-            "entry 1: Sender is idle and has a call to make",
+            (1, Fault::IdleTooEarly(End::Sender)),
         ),
         (
             "the end of the block is not told",
             "ssrrrrr",
             &[Edit::BlockFreed(false)],
-            "entry 7: the trace tells that the block is freed: false",
+            (7, Fault::ToldFreed { block_freed: false }),
         ),
         (
             "the end of the block is told too early",
             "ssrrrr",
             &[Edit::BlockFreed(true)],
-            "entry 6: the trace tells that the block is freed: true",
+            (6, Fault::ToldFreed { block_freed: true }),
         ),
     ],
 );
@@ -195,7 +248,7 @@ pub(crate) const DROPPED: Damaged = (
             "the drop drops nothing",
             "ssrr",
             &[Edit::Message(4, None), Edit::Rest(Some((Place::InCell, 7)))],
-            "entry 4: the step moves nothing",
+            (4, Fault::MovesNothing),
         ),
         (
             "the message is never sent",
@@ -205,7 +258,7 @@ pub(crate) const DROPPED: Damaged = (
                 Edit::Remove(1),
                 Edit::Rest(Some((Place::NotSent, 7))),
             ],
-            "entry 3: all have ended and the message is NotSent",
+            (3, Fault::MessageLeft(Place::NotSent)),
         ),
         (
             "the receiver swaps behind the free",
@@ -216,7 +269,7 @@ pub(crate) const DROPPED: Damaged = (
                 Edit::Reply(4, None),
                 Edit::Reply(5, Some(Reply::Done)),
             ],
-            "entry 5: Receiver uses the block and does not hold it",
+            (5, Fault::NotHolder(End::Receiver)),
         ),
         (
             "the message is dropped behind the free",
@@ -226,7 +279,7 @@ pub(crate) const DROPPED: Damaged = (
                 Edit::Reply(4, None),
                 Edit::Reply(5, Some(Reply::Done)),
             ],
-            "entry 5: Receiver uses the block and does not hold it",
+            (5, Fault::NotHolder(End::Receiver)),
         ),
         (
             "the receiver writes its waker behind its swap",
@@ -240,7 +293,7 @@ pub(crate) const DROPPED: Damaged = (
                     Some((WakerName::Parker, WakerPlace::Hand, WakerPlace::Cell)),
                 ),
             ],
-            "entry 2: Receiver uses the block and does not hold it",
+            (2, Fault::NotHolder(End::Receiver)),
         ),
     ],
 );
@@ -254,13 +307,25 @@ pub(crate) const LOOKED_AT: Damaged = (
             "the look misses the message",
             "ssrr",
             &[Edit::Reply(3, Some(Reply::No))],
-            "entry 3: the reply is No and not Some(Yes)",
+            (
+                3,
+                Fault::WrongReply {
+                    reply: Reply::No,
+                    wanted: Some(Reply::Yes),
+                },
+            ),
         ),
         (
             "the look finds the receiver closed beside the message",
             "ssrr",
             &[Edit::Reply(4, Some(Reply::Yes))],
-            "entry 4: the reply is Yes and not Some(No)",
+            (
+                4,
+                Fault::WrongReply {
+                    reply: Reply::Yes,
+                    wanted: Some(Reply::No),
+                },
+            ),
         ),
     ],
 );

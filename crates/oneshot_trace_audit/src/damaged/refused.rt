@@ -1,5 +1,6 @@
 //! Damaged traces of a refused message and its error.
 
+use crate::auditor::Fault;
 use crate::damage::Edit;
 use crate::damaged::Damaged;
 use crate::scripts::{Receiving, Sending};
@@ -17,31 +18,60 @@ pub(crate) const TAKEN_BACK: Damaged = (
             "the look misses that the receiver is gone",
             "rssssss",
             &[Edit::Reply(2, Some(Reply::No))],
-            "entry 2: the reply is No and not Some(Yes)",
+            (
+                2,
+                Fault::WrongReply {
+                    reply: Reply::No,
+                    wanted: Some(Reply::Yes),
+                },
+            ),
         ),
         (
             "the send is refused without its message",
             "rssssss",
             &[Edit::Message(4, None)],
-            "entry 4: the message is not InError as the reply says",
+            (
+                4,
+                Fault::ReplyWithoutMessage {
+                    wanted: Place::InError,
+                },
+            ),
         ),
         (
             "the message skips its error",
             "rssssss",
             &[Edit::Message(4, Some((Place::InCell, Place::FromError)))],
-            "entry 4: the message may not go from InCell to FromError",
+            (
+                4,
+                Fault::MessageMove {
+                    from: Place::InCell,
+                    to: Place::FromError,
+                },
+            ),
         ),
         (
             "the send is accepted with the receiver gone",
             "rssssss",
             &[Edit::Message(4, None), Edit::Reply(4, Some(Reply::Sent))],
-            "entry 4: the reply is Sent and not Some(Refused)",
+            (
+                4,
+                Fault::WrongReply {
+                    reply: Reply::Sent,
+                    wanted: Some(Reply::Refused),
+                },
+            ),
         ),
         (
             "the look at the message answers in other words",
             "rssss",
             &[Edit::Reply(5, Some(Reply::Done))],
-            "entry 5: the reply is Done and not Some(Message)",
+            (
+                5,
+                Fault::WrongReply {
+                    reply: Reply::Done,
+                    wanted: Some(Reply::Message),
+                },
+            ),
         ),
         (
             "the error shows the message that the receiver dropped",
@@ -54,19 +84,35 @@ pub(crate) const TAKEN_BACK: Damaged = (
                 Edit::Reply(5, Some(Reply::Done)),
                 Edit::Rest(Some((Place::Dropped, 7))),
             ],
-            "entry 6: the message is not InError as the reply says",
+            (
+                6,
+                Fault::ReplyWithoutMessage {
+                    wanted: Place::InError,
+                },
+            ),
         ),
         (
             "the error answers with the message that it did not take",
             "rssssss",
             &[Edit::Remove(6)],
-            "entry 6: the message is not FromError as the reply says",
+            (
+                6,
+                Fault::ReplyWithoutMessage {
+                    wanted: Place::FromError,
+                },
+            ),
         ),
         (
             "the taking of the message answers in other words",
             "rssssss",
             &[Edit::Reply(7, Some(Reply::Done))],
-            "entry 7: the reply is Done and not Some(Message)",
+            (
+                7,
+                Fault::WrongReply {
+                    reply: Reply::Done,
+                    wanted: Some(Reply::Message),
+                },
+            ),
         ),
         (
             "the message is taken out of a block that is freed",
@@ -76,7 +122,7 @@ pub(crate) const TAKEN_BACK: Damaged = (
                 Edit::Reply(6, None),
                 Edit::Reply(7, Some(Reply::Message)),
             ],
-            "entry 7: Sender uses the block and does not hold it",
+            (7, Fault::NotHolder(End::Sender)),
         ),
         (
             "the taking of the message leaves the block",
@@ -86,7 +132,7 @@ pub(crate) const TAKEN_BACK: Damaged = (
                 Edit::Reply(6, Some(Reply::Message)),
                 Edit::BlockFreed(false),
             ],
-            "entry 6: all have ended and the block is not freed",
+            (6, Fault::NeverFreed),
         ),
     ],
 );
@@ -104,13 +150,13 @@ pub(crate) const DROPPED: Damaged = (
                 Edit::Message(2, Some((Place::InCell, Place::InError))),
                 Edit::Message(3, None),
             ],
-            "entry 2: this call may not put the message InError",
+            (2, Fault::MessagePut { to: Place::InError }),
         ),
         (
             "the message is left in the error",
             "rssss",
             &[Edit::Remove(4), Edit::Rest(Some((Place::InError, 7)))],
-            "entry 4: all have ended and the message is InError",
+            (4, Fault::MessageLeft(Place::InError)),
         ),
         (
             "the drop of the error gives the message back",
@@ -119,13 +165,24 @@ pub(crate) const DROPPED: Damaged = (
                 Edit::Message(4, Some((Place::InError, Place::FromError))),
                 Edit::Rest(Some((Place::FromError, 7))),
             ],
-            "entry 4: this call may not put the message FromError",
+            (
+                4,
+                Fault::MessagePut {
+                    to: Place::FromError,
+                },
+            ),
         ),
         (
             "the drop of the error answers in other words",
             "rssss",
             &[Edit::Reply(5, Some(Reply::Yes))],
-            "entry 5: the reply is Yes and not Some(Done)",
+            (
+                5,
+                Fault::WrongReply {
+                    reply: Reply::Yes,
+                    wanted: Some(Reply::Done),
+                },
+            ),
         ),
         (
             "the drop of the error leaves the block",
@@ -135,7 +192,7 @@ pub(crate) const DROPPED: Damaged = (
                 Edit::Reply(4, Some(Reply::Done)),
                 Edit::BlockFreed(false),
             ],
-            "entry 4: all have ended and the block is not freed",
+            (4, Fault::NeverFreed),
         ),
     ],
 );
@@ -156,6 +213,12 @@ pub(crate) const BESIDE_A_RECEIVE: Damaged = (
             Edit::Message(4, Some((Place::InError, Place::Delivered))),
             Edit::Rest(Some((Place::Delivered, 7))),
         ],
-        "entry 4: the message may not go from InError to Delivered",
+        (
+            4,
+            Fault::MessageMove {
+                from: Place::InError,
+                to: Place::Delivered,
+            },
+        ),
     )],
 );

@@ -1,5 +1,6 @@
 //! Damaged traces in which the sender has replied and the receiver waits unwoken.
 
+use crate::auditor::Fault;
 use crate::damage::Edit;
 use crate::damaged::Damaged;
 use crate::scripts::{Receiving, Sending};
@@ -18,7 +19,7 @@ pub(crate) const PARKED_AT_A_DROP: Damaged = (
             Edit::Reply(6, Some(Reply::Done)),
             Edit::Seen(7, Seen::Token(false)),
         ],
-        "entry 6: the sender has answered and the receiver parks unwoken",
+        (6, Fault::UnwokenPark),
     )],
 );
 
@@ -38,7 +39,7 @@ pub(crate) const PARKED_AT_A_SEND: Damaged = (
             Edit::Reply(10, Some(Reply::Sent)),
             Edit::Seen(11, Seen::Token(false)),
         ],
-        "entry 10: the sender has answered and the receiver parks unwoken",
+        (10, Fault::UnwokenPark),
     )],
 );
 
@@ -54,25 +55,25 @@ pub(crate) const POLLED: Damaged = (
             "the wake is cut out",
             "rrrrrsssss",
             &[Edit::Remove(10), Edit::Reply(9, Some(Reply::Sent))],
-            "entry 9: the sender has answered and task 1 waits unwoken",
+            (9, Fault::UnwokenTask(1)),
         ),
         (
             "the poll's own wake is cut out",
             "rrnrss",
             &[Edit::Remove(4), Edit::Reply(3, Some(Reply::Pending))],
-            "entry 5: the sender has answered and task 1 waits unwoken",
+            (5, Fault::UnwokenTask(1)),
         ),
         (
             "the poll wakes nobody",
             "rrnrss",
             &[Edit::Own(4, None)],
-            "entry 6: the sender has answered and task 1 waits unwoken",
+            (6, Fault::UnwokenTask(1)),
         ),
         (
             "the poll wakes another task",
             "rrnrss",
             &[Edit::Own(4, Some(2))],
-            "entry 6: the sender has answered and task 1 waits unwoken",
+            (6, Fault::UnwokenTask(1)),
         ),
     ],
 );
@@ -86,7 +87,7 @@ pub(crate) const POLLED_BY_ANOTHER_TASK: Damaged = (
         "the second poll is left pending with the first task's waker stored",
         "rrrrrrsssss",
         &[Edit::Reply(6, Some(Reply::Pending))],
-        "entry 11: the sender has answered and task 2 waits unwoken",
+        (11, Fault::UnwokenTask(2)),
     )],
 );
 
@@ -104,6 +105,6 @@ pub(crate) const POLLED_AGAIN: Damaged = (
             Edit::Reply(10, Some(Reply::Pending)),
             Edit::Reply(11, Some(Reply::Sent)),
         ],
-        "entry 11: the sender has answered and task 1 waits unwoken",
+        (11, Fault::UnwokenTask(1)),
     )],
 );

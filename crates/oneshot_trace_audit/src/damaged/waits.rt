@@ -1,5 +1,6 @@
 //! Damaged traces of a receiver that parks: its half of the parker, the token, and its replies.
 
+use crate::auditor::Fault;
 use crate::damage::Edit;
 use crate::damaged::Damaged;
 use crate::scripts::{Receiving, Sending};
@@ -16,19 +17,25 @@ pub(crate) const OVERDUE: Damaged = (
             "the waker is not written",
             "rrrorr",
             &[Edit::Remove(2)],
-            "entry 5: a waker leaves Cell and is Hand",
+            (
+                5,
+                Fault::WakerElsewhere {
+                    from: WakerPlace::Cell,
+                    place: WakerPlace::Hand,
+                },
+            ),
         ),
         (
             "the write moves no waker",
             "rr",
             &[Edit::Waker(2, None)],
-            "entry 2: the step moves nothing",
+            (2, Fault::MovesNothing),
         ),
         (
             "the withdrawal moves no waker",
             "rrrorr",
             &[Edit::Waker(6, None)],
-            "entry 6: the step moves nothing",
+            (6, Fault::MovesNothing),
         ),
         (
             "the parker's half is dropped",
@@ -37,31 +44,43 @@ pub(crate) const OVERDUE: Damaged = (
                 6,
                 Some((WakerName::Parker, WakerPlace::Cell, WakerPlace::Dropped)),
             )],
-            "entry 6: this waker may not go from Cell to Dropped",
+            (
+                6,
+                Fault::WakerMove {
+                    from: WakerPlace::Cell,
+                    to: WakerPlace::Dropped,
+                },
+            ),
         ),
         (
             "the sender writes the waker",
             "rr",
             &[Edit::Side(2, End::Sender)],
-            "entry 2: Sender moves a waker of the other end",
+            (2, Fault::WakerOfOther(End::Sender)),
         ),
         (
             "the sender withdraws the waker",
             "rrrorr",
             &[Edit::Side(6, End::Sender), Edit::Reply(6, None)],
-            "entry 6: Sender moves a waker of the other end",
+            (6, Fault::WakerOfOther(End::Sender)),
         ),
         (
             "the disconnected error of a sender that is there",
             "rrrorr",
             &[Edit::Reply(6, Some(Reply::Disconnected))],
-            "entry 6: the call answers and did not act",
+            (6, Fault::DidNotAct),
         ),
         (
             "nothing yet in the words of another receive",
             "rrrorr",
             &[Edit::Reply(6, Some(Reply::Empty))],
-            "entry 6: the reply is Empty and not Some(Timeout)",
+            (
+                6,
+                Fault::WrongReply {
+                    reply: Reply::Empty,
+                    wanted: Some(Reply::Timeout),
+                },
+            ),
         ),
     ],
 );
@@ -77,55 +96,66 @@ pub(crate) const WOKEN: Damaged = (
             "a message comes from nowhere",
             "rrrssssrrr",
             &[Edit::Message(10, Some((Place::InCell, Place::Delivered)))],
-            "entry 10: a message moves and the script has none",
+            (10, Fault::NoMessage),
         ),
         (
             "a message is answered where none was sent",
             "rrrssssrrr",
             &[Edit::Reply(10, Some(Reply::Message))],
-            "entry 10: the reply is Message and not Some(Disconnected)",
+            (
+                10,
+                Fault::WrongReply {
+                    reply: Reply::Message,
+                    wanted: Some(Reply::Disconnected),
+                },
+            ),
         ),
         (
             "a rest is told where none was sent",
             "rrrssssrrr",
             &[Edit::Rest(Some((Place::Dropped, 7)))],
-            "entry 10: the trace tells that the rest is Some((Dropped, 7))",
+            (
+                10,
+                Fault::ToldRest {
+                    rest: Some((Place::Dropped, 7)),
+                },
+            ),
         ),
         (
             "the taking moves no waker",
             "rrrss",
             &[Edit::Waker(5, None)],
-            "entry 5: the step moves nothing",
+            (5, Fault::MovesNothing),
         ),
         (
             "the sender takes the waker after its final swap",
             "rrrsss",
             &[Edit::MoveBefore(6, 5)],
-            "entry 6: Sender uses the block and does not hold it",
+            (6, Fault::NotHolder(End::Sender)),
         ),
         (
             "the receiver uses the waker",
             "rrrssss",
             &[Edit::Side(7, End::Receiver), Edit::Reply(7, None)],
-            "entry 7: Receiver moves a waker of the other end",
+            (7, Fault::WakerOfOther(End::Receiver)),
         ),
         (
             "the wake sets no token",
             "rrrssss",
             &[Edit::Token(7, false)],
-            "entry 7: the step tells the token otherwise than it is",
+            (7, Fault::ToldToken),
         ),
         (
             "a step that is no wake sets the token",
             "rrrsss",
             &[Edit::Token(6, true)],
-            "entry 6: the step tells the token otherwise than it is",
+            (6, Fault::ToldToken),
         ),
         (
             "the park misses its token",
             "rrrssssr",
             &[Edit::Seen(8, Seen::Token(false))],
-            "entry 8: the step tells the token otherwise than it is",
+            (8, Fault::ToldToken),
         ),
         (
             "the receive leaves the block",
@@ -135,7 +165,7 @@ pub(crate) const WOKEN: Damaged = (
                 Edit::Reply(9, Some(Reply::Disconnected)),
                 Edit::BlockFreed(false),
             ],
-            "entry 9: all have ended and the block is not freed",
+            (9, Fault::NeverFreed),
         ),
     ],
 );
@@ -152,6 +182,6 @@ pub(crate) const LEFT_EARLY: Damaged = (
             Edit::Reply(1, None),
             Edit::BlockFreed(true),
         ],
-        "entry 1: Sender frees the block and is not its last holder",
+        (1, Fault::FreedTooEarly(End::Sender)),
     )],
 );
