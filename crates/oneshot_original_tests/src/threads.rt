@@ -1,7 +1,6 @@
 //! Both ends of a channel, each on a thread of its own.
 
 use super::times::TRIES;
-use crate::asserts::assert_same;
 use oneshot::{Sender, async_channel, channel};
 use oneshot_tests::uses::{FutureUse, Silence, Use};
 use std::fmt::Debug;
@@ -148,7 +147,8 @@ fn assert_outcome<
         if wanted.contains(&outcome) {
             return Ok(());
         }
-        assert_same(rt, outcome.1, Err(Silence::Timeout));
+        let is_late = outcome.1 == Err(Silence::Timeout);
+        assert!(rt; is_late, "{outcome:?}, not of {wanted:?}");
     }
     panic!(rt; "late in each of {TRIES} tries")
 }
