@@ -14,7 +14,7 @@ use std::thread::{Threads, join, sleep};
 use std::time::{Clock, Duration};
 
 /// What the sender's thread does.
-#[derive(Clone, Copy, Debug, Drop)]
+#[derive(Clone, Copy, Drop)]
 pub(super) enum Act<T> {
     /// `send`.
     Send(T),
