@@ -13,3 +13,5 @@ mod Examples
 pub mod Tokens
 mod TokenLives
 mod ComputedTokens
+mod Overs
+mod Lefts

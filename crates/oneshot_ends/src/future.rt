@@ -168,5 +168,6 @@ impl<T: Drop, Rt: Drop, P: Promise<T>> Drop for AsyncReceiver<T, Rt, P> {
             rt: _,
         } = self;
         drop_async(&mut ground);
+        ground.is_in_an_order();
     }
 }

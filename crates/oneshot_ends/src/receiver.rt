@@ -1,6 +1,8 @@
 //! The end that receives, and may block until a message comes.
 
-ghost use Rattle.std.specs.Prelude.{◌≡◌, ◌≢◌, Err, IsErr, IfOk, IfSome};
+ghost use Rattle.std.specs.Prelude.{◌≡◌, ◌≢◌, Err, IsErr, IfOk, IfSome, IsTrue};
+ghost use Rattle.oneshot_machine.specs.Logs.{receiver_of};
+ghost use Rattle.oneshot_drive.specs.BetweenCalls.{AtRest, IsReady, IsClosedAt};
 ghost use Rattle.std.specs.Time.{instant_nanos, FitsClock};
 ghost use Rattle.oneshot_drive.specs.declared.errors.recv_timeout.RecvTimeoutError.TheVariants as Timed;
 ghost use Rattle.oneshot_drive.specs.declared.errors.try_recv.TryRecvError.TheVariants as Tried;
@@ -9,11 +11,11 @@ ghost use Rattle.oneshot_machine.specs.Counts.{receiver_bound, GrewWithin};
 ghost use Rattle.oneshot_machine.specs.Phases.{receiver_at};
 ghost use Rattle.oneshot_drive.specs.BetweenCalls.{Leaves, LeavesClosed, LeavesTimed, try_recv_reply, recv_reply, timed_reply};
 ghost use Rattle.oneshot_ends.specs.Ends.{ReceiverGrew, TimeoutGrew, TimeoutRan, IsClosed, IsOpen};
-ghost use Rattle.oneshot_ends.specs.Grounds.{IsNewReceiver};
+ghost use Rattle.oneshot_ends.specs.Grounds.{IsNewReceiver, state_of, goes};
 
 use crate::deadline::{Deadline, Reading, read};
 use crate::future::AsyncReceiver;
-use crate::ground::{Blocking, SharedReceiver};
+use crate::ground::{Blocking, ChannelReceiver, SharedReceiver};
 use crate::token::{ParkingHalf, WakingHalf};
 use crate::waker::ChannelWaker;
 use futures::task::{Source, Waker};
@@ -200,9 +202,28 @@ impl<T: Drop, Rt: Wait + Clock + Drop, P: Promise<T>> Receiver<T, Rt, P> {
             source: _,
             rt,
         } = self;
-        let mut lent = Blocking::lend(&mut ground, &mut parker, &rt, Deadline::Never, None);
-        recv(&mut lent, &rt, &mut hand)
+        let result = receive_last(&mut ground, &mut parker, &rt, &mut hand);
+        // States that the log has an order, so that the receiver may be let go.
+        ground.is_in_an_order();
+        result
     }
+}
+
+// The last receive of a receiver, which may then be let go.
+fn receive_last<T: Drop, Rt: Wait + Clock + Drop, P: Promise<T>>(
+    ground: &mut ChannelReceiver<T, P>,
+    parker: &mut ParkingHalf,
+    rt: &Rt,
+    hand: &mut Option<ChannelWaker>,
+) -> Result<T, RecvError>
+    requires rests { AtRest (state_of ground.old) }
+    requires ready { IsReady hand.old (receiver_of (state_of ground.old).log) }
+    ensures left { IsTrue (goes (receiver_at ground.new.log)) }
+    ensures stays { IsClosedAt (receiver_of (state_of ground.old).log) → IsErr result }
+    ensures kept { IfOk result (λ message. P.keeps ground.old.about message) }
+{
+    let mut lent = Blocking::lend(ground, parker, rt, Deadline::Never, None);
+    recv(&mut lent, rt, hand)
 }
 
 impl<T: Drop, Rt: Wait + Clock + Drop, P: Promise<T>> Receiver<T, Rt, P> {
@@ -253,5 +274,6 @@ impl<T: Drop, Rt: Drop, P: Promise<T>> Drop for Receiver<T, Rt, P> {
             rt: _,
         } = self;
         drop_receiver(&mut ground);
+        ground.is_in_an_order();
     }
 }

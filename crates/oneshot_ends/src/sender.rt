@@ -97,6 +97,7 @@ impl<T: Drop, P: Promise<T>> Sender<T, P> {
 impl<T: Drop, P: Promise<T>> Drop for Sender<T, P> {
     fn drop(self) {
         let Sender { side } = self;
-        drop_sender(&mut side.into_ground());
+        let mut ground = side.into_ground();
+        drop_sender(&mut ground);
     }
 }

@@ -1,6 +1,8 @@
 //! The ground of a receiver, which each of its calls lends to a driver.
 
-ghost use Rattle.std.specs.Prelude.{◌≡◌, false, true};
+ghost use Rattle.std.specs.Prelude.{◌≡◌, false, true, IsTrue};
+ghost use Rattle.oneshot_machine.specs.Phases.{receiver_at};
+ghost use Rattle.oneshot_ends.specs.Grounds.{is_left};
 ghost use Rattle.oneshot_ends.specs.Ends.{ReceiverIsOrdered};
 
 use crate::freed::Freed;
@@ -105,8 +107,11 @@ impl<T: Drop, H: Drop, K: Drop, P: Promise<T>> ReceiverGround<T, AnyWaker<H, K>>
     }
 }
 
+// A receiver is let go only once it has left, or knows how its channel ended.
 impl<T: Drop, H: Drop, K: Drop, P: Promise<T>> Drop for SharedReceiver<T, H, K, P> {
-    fn drop(self) {
+    fn drop(self)
+        requires { IsTrue (is_left (receiver_at self.log)) }
+    {
         let SharedReceiver { side: _, freed: _ } = self;
     }
 }

@@ -1,6 +1,8 @@
 //! A sender's side before its one call, and its ground in that call.
 
-ghost use Rattle.std.specs.Prelude.{◌≡◌, false, true};
+ghost use Rattle.std.specs.Prelude.{◌≡◌, false, true, IsTrue};
+ghost use Rattle.oneshot_machine.specs.Phases.{sender_at};
+ghost use Rattle.oneshot_ends.specs.Grounds.{is_over};
 ghost use Rattle.oneshot_machine.specs.Slots.{held};
 ghost use Rattle.oneshot_ends.specs.Ends.{SenderIsOrdered};
 
@@ -46,13 +48,6 @@ impl<T, H, K, P: Promise<T>> Unsent<T, H, K, P> {
     {
         let Unsent { side } = self;
         SharedSender::new(side)
-    }
-}
-
-// Written out, as below: a derived `Drop` would require `P: Drop`, and a channel holds no value of `P`.
-impl<T: Drop, H: Drop, K: Drop, P: Promise<T>> Drop for Unsent<T, H, K, P> {
-    fn drop(self) {
-        let Unsent { side: _ } = self;
     }
 }
 
@@ -156,8 +151,11 @@ impl<T: Drop, P: Promise<T>> SenderGround<T, AnyWaker<WakingHalf, Waker>>
     }
 }
 
+// A sender is let go only once it has made its last operation.
 impl<T: Drop, H: Drop, K: Drop, P: Promise<T>> Drop for SharedSender<T, H, K, P> {
-    fn drop(self) {
+    fn drop(self)
+        requires { IsTrue (is_over (sender_at self.side.log)) }
+    {
         let SharedSender {
             side: _,
             freed: _,

@@ -1,22 +1,17 @@
 -- Proofs of the goals that `recv` of `Receiver` leaves.
-use Rattle.std.proofs.Common.{[], ◌∷◌, sym, ap, subst}
+use Rattle.std.proofs.Common.{refl, sym, subst}
 use Rattle.oneshot_machine.specs.Phases.{receiver_at}
 use Rattle.oneshot_drive.specs.BetweenCalls.{IsClosedAt}
-use Rattle.oneshot_ends.proofs.EndViews.{same_steps, same_about, lent_about, kept_about}
+use Rattle.oneshot_ends.proofs.EndViews.{same_steps}
 use Rattle.oneshot_ends.proofs.GrewByRuns.{began_at}
-use Rattle.oneshot_ends.proofs.LentGrounds.{as_lent}
+use Rattle.oneshot_ends.proofs.Lefts.{left_once_ordered}
 use Rattle.oneshot_ends.proofs.receiver.Receiver.recv.Goals as goal
 
-pub recv-requires-clause-rests : goal.recv-requires-clause-rests
-recv-requires-clause-rests g c = as_lent (_ ∷ _ ∷ []) (ap (λ r. r.now) c.lend-lent.ensures.ground) c.self.invariant.0
+pub drop-ground-requires : goal.drop-ground-requires
+drop-ground-requires g c = left_once_ordered c.receive_last-result.ensures.left c.is_in_an_order.ensures
 
-pub returns : goal.returns
-returns g c =
-    record {
-      stays_closed = λ closed.
-          c.recv.ensures.stays
-          (subst (λ xs. IsClosedAt (receiver_at xs))
-          (sym (began_at (ap (λ r. r.now) c.lend-lent.ensures.ground) (same_steps c.self.view_is))) closed);
-      kept = kept_about g.P.Promise.keeps c.recv.result
-          (lent_about (ap (λ r. r.now) c.lend-lent.ensures.ground) (same_about c.self.view_is)) c.recv.ensures.given;
-    }
+pub returns-clause-stays_closed : goal.returns-clause-stays_closed
+returns-clause-stays_closed g c = λ closed.
+    c.receive_last-result.ensures.stays
+    (subst (λ xs. IsClosedAt (receiver_at xs))
+    (sym (began_at {own = c.self.inside.ground} refl (same_steps c.self.view_is))) closed)

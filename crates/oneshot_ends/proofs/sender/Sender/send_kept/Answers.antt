@@ -4,7 +4,9 @@ use Rattle.oneshot_machine.specs.Phases.{sender_at}
 use Rattle.oneshot_drive.specs.BetweenCalls.{IsLate}
 use Rattle.oneshot_ends.proofs.CallsAnswered.{was_refused}
 use Rattle.oneshot_ends.proofs.EndViews.{same_steps}
+use Rattle.oneshot_machine.specs.declared.machine.sender.SenderCall.TheVariants.{Send}
 use Rattle.oneshot_ends.proofs.GrewByRuns.{words_of, send_refused}
+use Rattle.oneshot_ends.proofs.Overs.{over_after}
 use Rattle.oneshot_ends.proofs.sender.Sender.send_kept.Goals as goal
 
 pub returns-clause-run : goal.returns-clause-run
@@ -21,3 +23,7 @@ refused-requires-clause-refused g c =
     was_refused
     (send_refused c.send.new.g.side c.into_ground-ground.ensures c.self.invariant.log refl c.if-send.false
     c.send.ensures.run)
+
+pub drop-ground-requires : goal.drop-ground-requires
+drop-ground-requires g c =
+    over_after Send c.send.new.g.side refl c.into_ground-ground.ensures c.self.invariant.log c.send.ensures.run
