@@ -1,5 +1,5 @@
 -- Each state that the rule of the table allows is that of a run: its order, its slots at home, and its message.
-use Rattle.oneshot_bridge.proofs.Names.{◌≡◌, ℕ, ◌+◌, List, [], ◌∷◌, Option, Some, None, refl, sym, ap, ◌∙◌, subst, End, Noted, Reaches, Share, empty, filled, receiver_step, sender_step, sender_puts, receiver_puts, place_left, reply_of, World, opening, opening_place, side_of, Tells_from, Move, ReceiverScript, SenderLast, SenderScript, Entry, Turned, sender_idle, sender_made, receiver_idle, receiver_made, turned, message_of, rest_at, HasRun, Scene, last_of, AnyWaker, Slot, Empty, Message, Home, bare, has_message, Lies, lies_out, lies_bare, lies_filled, IsGiven, IsTaken, took_none, took_it, opened, dealt, runs, any, with_waker, message_of_logs, waker_of_logs, CellsAreSo, SlotsAreSo, Passed, none_passed, it_passed, maker_before, dealer_before, is_run, TablesAreOfRuns, RunsSo, SendsOnly, IsOfARun, RunsCalls}
+use Rattle.oneshot_bridge.proofs.Names.{◌≡◌, ℕ, ◌+◌, List, [], ◌∷◌, Option, Some, None, refl, sym, ap, ◌∙◌, subst, End, Noted, Reaches, Share, empty, filled, receiver_step, sender_step, sender_puts, receiver_puts, place_left, reply_of, World, opening, opening_place, side_of, Tells_from, Move, ReceiverScript, SenderLast, SenderScript, Entry, Turned, sender_idle, sender_made, receiver_idle, receiver_made, turned, message_of, rest_at, HasRun, Scene, last_of, AnyWaker, Slot, Empty, Message, Home, bare, has_message, Lies, lies_out, lies_bare, lies_filled, IsGiven, IsTaken, took_none, took_it, opened, dealt, runs, with_waker, message_of_logs, waker_of_logs, CellsAreSo, SlotsAreSo, Passed, none_passed, it_passed, maker_before, dealer_before, is_run, TablesAreOfRuns, RunsSo, SendsOnly, IsOfARun, RunsCalls}
 use mathlib.Core.Option as maybe
 use Rattle.oneshot_world.specs.declared.script.SenderLast.TheVariants as SL
 use Rattle.oneshot_world.specs.declared.trace.Place.TheVariants as P
@@ -110,11 +110,11 @@ passes keeps q (Some x) m lies same =
     }
 
 -- the slots of a run, by its cells
-slots_so : {T H K : Type 0} {kept : T → Type 0} {h k : Home T H K} {xs ys : List Noted} {word : ℕ} (m : T)
+slots_so : {T H K : Type 0} {kept : T → Type 0} {fits : AnyWaker H K → Type 0} {h k : Home T H K} {xs ys : List Noted} {word : ℕ} (m : T)
     (a : SenderScript T) (b : ReceiverScript) {moves : List Move} {entries : List Entry} {now : Scene T}
     → SendsOnly m a → RunsSo a b moves entries now xs ys word → Reaches xs ys word
     → ((other : T) → h ≡ has_message other → other ≡ m)
-    → Lies kept Message (message_of_logs xs ys) h → Lies any with_waker (waker_of_logs xs ys) k → SlotsAreSo h k now
+    → Lies kept Message (message_of_logs xs ys) h → Lies fits with_waker (waker_of_logs xs ys) k → SlotsAreSo h k now
 slots_so {xs} {ys} m a b {now = now} sends run order only message waker =
     let cells : CellsAreSo xs ys now.world.state = cells_run a b run order in
     record {
@@ -134,7 +134,7 @@ passed_one it_passed is = cc is
 pub tables_are_of_runs : {T P : Type 0} (H K W : Type 0) (keeps : P → T → Type 0) → TablesAreOfRuns H K W keeps
 tables_are_of_runs H K W keeps m q _ _ _ opened = maker_before
 tables_are_of_runs H K W keeps m q _ _ _ dealt = dealer_before
-tables_are_of_runs {T} H K W keeps m q _ _ _ (runs {w} {h} xs ys {given} {taken} order message waker same) =
+tables_are_of_runs {T} H K W keeps m q _ _ _ (runs {w} {h} xs ys {given} {taken} order message waker same claim) =
     let sent : Passes h given taken = passes keeps q given m message same in
     let run : IsOfARun sent.it xs ys w = states_run T sent.it xs ys w order in
     is_run sent.it xs ys run (slots_so sent.it run.sender run.receiver run.sends run.run order sent.only message waker)

@@ -135,12 +135,12 @@ no_step T begins = (refl, refl)
 no_step T (quietly a q) = absurd (rests_not (no_step T a).0 q)
 no_step T (by_one x a made) = absurd (makes_not (no_step T a).0 made)
 
-role_is : {T P : Type 0} {v w : View T P} → v ∷ [] ≡ w ∷ [] → v.role ≡ w.role
-role_is {T} {P} {v} {w} are =
-    let same : ◌≡◌ {A = View T P} v w = cc are in ap (λ (v : View T P). v.role) same
+role_is : {T H K P : Type 0} {v w : View T H K P} → v ∷ [] ≡ w ∷ [] → v.role ≡ w.role
+role_is {T} {H} {K} {P} {v} {w} are =
+    let same : ◌≡◌ {A = View T H K P} v w = cc are in ap (λ (v : View T H K P). v.role) same
 
 one_end_is_no_table : {T H K P W : Type 0} {q : P} {words : List ℕ} {homes : List (Home T H K)}
-    {views : List (View T P)} → OfARun W q words homes views → views ≡ view q Role.Sender [] None ∷ [] → ⊥
+    {views : List (View T H K P)} → OfARun W q words homes views → views ≡ view q Role.Sender [] None None ∷ [] → ⊥
 one_end_is_no_table maker_before is = let roles : Role.Maker ≡ Role.Sender = role_is is in cc roles
 one_end_is_no_table dealer_before is = let roles : Role.Dealer ≡ Role.Sender = role_is is in cc roles
 one_end_is_no_table (is_run _ _ _ _ _ _ _ _) is = cc is

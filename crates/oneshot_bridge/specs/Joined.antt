@@ -32,23 +32,24 @@ pub data Passed {T : Type 0} (m : T) : Option T → Type 0 where
   it_passed : Passed m (Some m)
 
 -- the words, the slots at home and the views of all seats
-pub data OfARun {T H K P : Type 0} (W : Type 0) (q : P) : List ℕ → List (Home T H K) → List (View T P) → Type 0 where
+pub data OfARun {T H K P : Type 0} (W : Type 0) (q : P) : List ℕ → List (Home T H K) → List (View T H K P) → Type 0 where
   -- before there are ends
-  maker_before : {homes : List (Home T H K)} → OfARun W q (3 ∷ []) homes (view q Maker [] None ∷ [])
-  dealer_before : {homes : List (Home T H K)} → OfARun W q (3 ∷ []) homes (view q Dealer [] None ∷ [])
+  maker_before : {homes : List (Home T H K)} → OfARun W q (3 ∷ []) homes (view q Maker [] None None ∷ [])
+  dealer_before : {homes : List (Home T H K)} → OfARun W q (3 ∷ []) homes (view q Dealer [] None None ∷ [])
   -- From then on: both views have the operations of a run, which has this word and these slots. Between
   -- two calls of the receiver there is also such a run that has made its own calls, with the same
   -- replies. The message of the run is the one that the sender gave, if it gave one, and that the
   -- receiver took, if it took one.
   is_run : {word : ℕ} {message waker : Home T H K} (m : T) (xs ys : List Noted) {given taken : Option T}
+      {put woke : Option (AnyWaker H K)}
       (run : IsOfARun m xs ys word) → SlotsAreSo message waker run.now
       → ((form : Form) (received : List (ReceiverStart × Reply)) → ReceiverCalled T W form received ys
       → (calls : RunsCalls m received xs ys word) × SlotsAreSo message waker calls.run.now)
       → Passed m given → Passed m taken
-      → OfARun W q (word ∷ []) (message ∷ waker ∷ []) (view q Sender xs given ∷ view q Receiver ys taken ∷ [])
+      → OfARun W q (word ∷ []) (message ∷ waker ∷ []) (view q Sender xs given woke ∷ view q Receiver ys taken put ∷ [])
 
 -- Each state that the rule allows is that of a run of the model. A sender needs a message to send.
 abbrev pub TablesAreOfRuns : {T P : Type 0} (H K W : Type 0) → (P → T → Type 0) → Type 0
 TablesAreOfRuns {T} {P} H K W keeps =
-    (m : T) (q : P) (words : List ℕ) (homes : List (Home T H K)) (views : List (View T P))
+    (m : T) (q : P) (words : List ℕ) (homes : List (Home T H K)) (views : List (View T H K P))
     → Tied keeps q words homes views → OfARun W q words homes views

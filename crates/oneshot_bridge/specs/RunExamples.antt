@@ -101,7 +101,7 @@ module _ {T : Type 0} (m : T) where
     pub both : RunsBoth m sent_call tried_call sent_log tried_log 2
     pub have_an_order : WhereverTheyCome T InOrder (λ a b xs ys word s r. InOrder xs ys word)
     -- of a table without ends
-    pub no_ends : OfARun {T = T} {H = ⊤} {K = ⊤} {P = ⊤} ⊤ tt (3 ∷ []) [] (view tt Role.Maker [] None ∷ [])
+    pub no_ends : OfARun {T = T} {H = ⊤} {K = ⊤} {P = ⊤} ⊤ tt (3 ∷ []) [] (view tt Role.Maker [] None None ∷ [])
 
   pub record RunsThatAreNot : Type 0 where
     -- logs that have no order, or are of no walk of their script
@@ -123,7 +123,7 @@ module _ {T : Type 0} (m : T) where
     pub send_nothing : WhereverTheyCome T InOrder (λ a b xs ys word s r. xs ≡ []) → ⊥
     -- a table with one end
     pub one_end : (word : ℕ)
-        → OfARun {T = T} {H = ⊤} {K = ⊤} {P = ⊤} ⊤ tt (word ∷ []) [] (view tt Role.Sender [] None ∷ []) → ⊥
+        → OfARun {T = T} {H = ⊤} {K = ⊤} {P = ⊤} ⊤ tt (word ∷ []) [] (view tt Role.Sender [] None None ∷ []) → ⊥
     -- a script with another message
     pub sends_another : (other : T) → (m ≡ other → ⊥) → SendsOnly other (sends m) → ⊥
 

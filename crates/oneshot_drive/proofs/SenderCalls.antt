@@ -12,23 +12,24 @@ record EndsAt (n : ℕ) (next : SenderAt) (after : Slots) : Type 0 where
   here : Bool
   finds : LastFinds n here
   late : here ≡ false → IsLate next × (after.1 ≡ empty) × ¬ (after.0 ≡ none)
+  given : here ≡ true → after.0 ≡ none
 
-still_here : {n : ℕ} {next : SenderAt} {after : Slots} → LastFinds n true → EndsAt n next after
-still_here it = record { here = true; finds = it; late = λ e. cc }
+still_here : {n : ℕ} {next : SenderAt} → LastFinds n true → EndsAt n next (none, none)
+still_here it = record { here = true; finds = it; late = λ e. cc; given = λ e. refl }
 
 last_ends : (at : SenderAt) → Each EndsAt (landings_of is_swap (sender_moves at))
 last_ends (owes sending) = (
   still_here finds_waiting,
   (
     still_here finds_overdue,
-    (record { here = false; finds = finds_gone; late = λ e. (is_overtaken sending, refl, λ e. cc) }, tt),
+    (record { here = false; finds = finds_gone; late = λ e. (is_overtaken sending, refl, λ e. cc); given = λ e. cc }, tt),
   ),
 )
 last_ends (owes dropping) = (
   still_here finds_waiting,
   (
     still_here finds_overdue,
-    (record { here = false; finds = finds_gone; late = λ e. (is_overtaken dropping, refl, λ e. cc) }, tt),
+    (record { here = false; finds = finds_gone; late = λ e. (is_overtaken dropping, refl, λ e. cc); given = λ e. cc }, tt),
   ),
 )
 last_ends _ = tt
@@ -47,6 +48,10 @@ unmoved gives_room own has = absurd (own refl)
 unmoved (gives_thing x) own has = absurd (own refl)
 unmoved gets_room own has = absurd (has refl)
 unmoved (gets_thing x) own has = absurd (has refl)
+
+-- a slot that is not the end's
+pub left : {X : Type 0} {h : Held X} → IsSlot none h → h ≡ away
+left is_away = refl
 
 -- whether the receiver is here, by the word that the swap found
 here_by : {n : ℕ} {here : Bool} → LastFinds n here → here ≡ not (n == 2)
@@ -71,6 +76,10 @@ module _ {T W : Type 0} where
     pub added : ¬ (n ≡ 3) → ¬ (n ≡ 0) → SenderMakes Add n b a → Grows b.log a.log (worded Add n ∷ [])
         → Lone sender_of n a (2, late sending, (filled, empty))
     added not_3 not_0 made grows = lone (not_at 0 not_0 (not_at 3 not_3 (sender_lands b Add n is.phase made grows)))
+
+    -- it found the receiver, and gave its message
+    pub added_given : n ≡ 3 → SenderMakes Add n b a → Grows b.log a.log (worded Add n ∷ []) → a.message ≡ away
+    added_given e made grows = left (lone (at_word 3 e (sender_lands b Add n is.phase made grows))).stands.message
 
     pub flipped : ¬ (n ≡ 3) → ¬ (n ≡ 0) → SenderMakes Xor n b a → Grows b.log a.log (worded Xor n ∷ [])
         → Lone sender_of n a (2, late dropping, (empty, empty))
@@ -151,6 +160,15 @@ module _ {T W : Type 0} where
         is_room
             (subst (λ s. IsSlot s w') late.1 (turned waker)),
       )
+
+  -- where it found the receiver, it gave its message
+  pub given_over : {at : SenderAt} {new n : ℕ} {m m' : Held T} {w w' : Held W} → SenderFinds at (Swap new) n m w m' w'
+      → not (n == 2) ≡ true → m' ≡ away
+  given_over {at} {m'} (finds row message waker) e =
+      let ends =
+      each EndsAt (landings_of is_swap (sender_moves at)) (last_ends at)
+      (landed is_swap (sender_moves at) refl row) in
+      left (subst (λ s. IsSlot s m') (ends.given (here_by ends.finds ∙ e)) (turned message))
 
   module _ {b k j z : GroundState T W} {word : ℕ} (y : W) (is : Owes word b) (message : k.message ≡ b.message) where
     pub overtaken_as : (n : ℕ) → SenderMakes (Swap word) n k j → Grows k.log j.log (worded (Swap word) n ∷ [])

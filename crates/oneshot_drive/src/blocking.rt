@@ -32,13 +32,16 @@ pub fn recv_ref<T, W: Drop, G: BlockGround<T, W>>(
 ) -> Result<T, RecvError>
     requires rests { AtRest (G.state g.old) }
     requires ready { IsReady hand.old (receiver_of (G.state g.old).log) }
+    requires has { G.has g.old hand.old }
     ensures run { ReceiverRan RecvRef (G.state g.old).log (G.state g.new).log
         (recv_reply result) [] (received result) }
     ensures rests { AtRest (G.state g.new) }
     ensures leaves { LeavesClosed result (receiver_of (G.state g.new).log) }
     ensures stays { IsClosedAt (receiver_of (G.state g.old).log) → IsErr result }
     ensures hand { Hands hand.old hand.new (receiver_of (G.state g.new).log) }
+    ensures has { G.has g.new hand.new }
     ensures given { IfOk result (λ message. G.gives g.old message) }
+    ensures had { IfOk result (λ message. G.had g.new message) }
     ensures keeps { G.keeps g.old g.new }
 {
     match receive(g, rt, hand, false) {
@@ -63,13 +66,16 @@ pub fn recv_deadline<T, W: Drop, G: BlockGround<T, W>>(
 ) -> Result<T, RecvTimeoutError>
     requires rests { AtRest (G.state g.old) }
     requires ready { IsReady hand.old (receiver_of (G.state g.old).log) }
+    requires has { G.has g.old hand.old }
     ensures run { ReceiverRan RecvDeadline (G.state g.old).log (G.state g.new).log
         (timed_reply result) [] (received result) }
     ensures rests { AtRest (G.state g.new) }
     ensures leaves { LeavesTimed result (receiver_of (G.state g.new).log) }
     ensures stays { IsClosedAt (receiver_of (G.state g.old).log) → result ≡ Err Disconnected }
     ensures hand { Hands hand.old hand.new (receiver_of (G.state g.new).log) }
+    ensures has { G.has g.new hand.new }
     ensures given { IfOk result (λ message. G.gives g.old message) }
+    ensures had { IfOk result (λ message. G.had g.new message) }
     ensures keeps { G.keeps g.old g.new }
 {
     receive(g, rt, hand, true)
@@ -89,14 +95,17 @@ pub fn recv_timeout<T, W: Drop, G: BlockGround<T, W>>(
 ) -> Result<T, RecvTimeoutError>
     requires rests { AtRest (G.state g.old) }
     requires ready { IsReady hand.old (receiver_of (G.state g.old).log) }
+    requires has { G.has g.old hand.old }
     ensures run { ReceiverRan (RecvTimeout representable) (G.state g.old).log (G.state g.new).log
         (timed_reply result) [] (received result) }
     ensures rests { AtRest (G.state g.new) }
     ensures leaves { LeavesTimed result (receiver_of (G.state g.new).log) }
     ensures stays { IsClosedAt (receiver_of (G.state g.old).log) → result ≡ Err Disconnected }
     ensures hand { Hands hand.old hand.new (receiver_of (G.state g.new).log) }
+    ensures has { G.has g.new hand.new }
     ensures endless { representable ≡ false → ¬ (result ≡ Err Timeout) }
     ensures given { IfOk result (λ message. G.gives g.old message) }
+    ensures had { IfOk result (λ message. G.had g.new message) }
     ensures keeps { G.keeps g.old g.new }
 {
     g.over();
@@ -112,14 +121,17 @@ fn receive<T, W: Drop, G: BlockGround<T, W>>(
 ) -> Result<T, RecvTimeoutError>
     requires rests { AtRest (G.state g.old) }
     requires ready { IsReady hand.old (receiver_of (G.state g.old).log) }
+    requires has { G.has g.old hand.old }
     ensures run { Ran receiver_step receiver_row (Ref (StartLoad timed)) (G.state g.old).log (G.state g.new).log
         (timed_reply result) [] (received result) }
     ensures rests { AtRest (G.state g.new) }
     ensures leaves { LeavesTimed result (receiver_of (G.state g.new).log) }
     ensures stays { IsClosedAt (receiver_of (G.state g.old).log) → result ≡ Err Disconnected }
     ensures hand { Hands hand.old hand.new (receiver_of (G.state g.new).log) }
+    ensures has { G.has g.new hand.new }
     ensures endless { timed ≡ false → ¬ (result ≡ Err Timeout) }
     ensures given { IfOk result (λ message. G.gives g.old message) }
+    ensures had { IfOk result (λ message. G.had g.new message) }
     ensures keeps { G.keeps g.old g.new }
 {
     match find(g, rt, hand, timed) {
@@ -149,11 +161,13 @@ pub fn recv<T, W: Drop, G: BlockGround<T, W>>(
 ) -> Result<T, RecvError>
     requires rests { AtRest (G.state g.old) }
     requires ready { IsReady hand.old (receiver_of (G.state g.old).log) }
+    requires has { G.has g.old hand.old }
     ensures run { ReceiverRan Recv (G.state g.old).log (G.state g.new).log
         (recv_reply result) [] (received result) }
     ensures stays { IsClosedAt (receiver_of (G.state g.old).log) → IsErr result }
     ensures hand { Returns hand.old hand.new }
     ensures given { IfOk result (λ message. G.gives g.old message) }
+    ensures had { IfOk result (λ message. G.had g.new message) }
     ensures keeps { G.keeps g.old g.new }
 {
     let Found::Message = find(g, rt, hand, false) else {

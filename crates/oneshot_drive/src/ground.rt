@@ -1,6 +1,6 @@
 //! The traits of grounds: what an end does to the world.
 
-ghost use Rattle.std.specs.Prelude.{◌≡◌, Bool, ◌∷◌, [], IfSome};
+ghost use Rattle.std.specs.Prelude.{◌≡◌, Bool, ◌∷◌, [], Option, Some, None, IfSome};
 ghost use Rattle.oneshot_machine.specs.declared.machine.Step.TheVariants.{DropMessage, WriteWaker, TakeWaker, Withdraw, Wake, WakeOwn, Free};
 ghost use Rattle.oneshot_machine.specs.declared.states.Op.TheVariants.{Load, Store, Swap, Exchange, Add, Xor};
 ghost use Rattle.oneshot_machine.specs.Logs.{Grows, receiver_of, did, wrote, took, handed, parked, clocked, copied, worded};
@@ -16,14 +16,22 @@ pub trait SenderGround<T, W> {
     // What the ground requires of a message that is written.
     ghost admits: { Self → T → Type 0 };
 
+    // The waker that the ground took out of its slot.
+    ghost owed: { Self → W → Type 0 };
+
     // What the ground guarantees once this waker was used: it has woken its receiver.
     ghost woken: { Self → W → Type 0 };
+
+    // The end has given this message to the channel.
+    ghost gave: { Self → T → Type 0 };
 
     /// Adds one to the word, and returns the word before.
     fn add(&mut self) -> u8
         requires { SenderAsks Add (state self.old) }
         ensures log { Grows (state self.old).log (state self.new).log (worded Add result ∷ []) }
-        ensures finds { SenderMakes Add result (state self.old) (state self.new) };
+        ensures finds { SenderMakes Add result (state self.old) (state self.new) }
+        ensures gave { (x : T) → (state self.old).message ≡ held x → (state self.new).message ≡ away
+            → gave self.new x };
 
     /// Flips the word's lowest bit, and returns the word before.
     fn flip(&mut self) -> u8
@@ -35,7 +43,10 @@ pub trait SenderGround<T, W> {
     fn swap(&mut self, last: u8) -> u8
         requires { SenderAsks (Swap last) (state self.old) }
         ensures log { Grows (state self.old).log (state self.new).log (worded (Swap last) result ∷ []) }
-        ensures finds { SenderMakes (Swap last) result (state self.old) (state self.new) };
+        ensures finds { SenderMakes (Swap last) result (state self.old) (state self.new) }
+        ensures owed { (waker : W) → owed self.old waker → owed self.new waker }
+        ensures gave { (x : T) → (state self.old).message ≡ held x → (state self.new).message ≡ away
+            → gave self.new x };
 
     /// Writes `message` into its slot, which is the end's and empty.
     fn write_message(&mut self, message: T)
@@ -65,15 +76,18 @@ pub trait SenderGround<T, W> {
         requires { (k : W) × ((state self.old).waker ≡ held k) }
         ensures log { Grows (state self.old).log (state self.new).log (handed TakeWaker result ∷ []) }
         ensures was { (state self.old).waker ≡ held result }
+        ensures owed { owed self.new result }
         ensures message { (state self.new).message ≡ (state self.old).message }
         ensures waker { (state self.new).waker ≡ vacant };
 
-    /// Wakes the receiver with `waker`, and consumes it.
+    /// Wakes the receiver with `waker`, which is the one that the ground took, and consumes it.
     fn wake(&mut self, waker: W)
+        requires { owed self.old waker }
         ensures log { Grows (state self.old).log (state self.new).log (handed Wake waker ∷ []) }
         ensures message { (state self.new).message ≡ (state self.old).message }
         ensures waker { (state self.new).waker ≡ (state self.old).waker }
-        ensures woken { woken self.new waker };
+        ensures woken { woken self.new waker }
+        ensures gave { (x : T) → gave self.old x → gave self.new x };
 
     /// Frees the block. Before, both slots are the end's and empty; after, neither is the end's.
     fn free(&mut self)
@@ -97,11 +111,22 @@ pub trait ReceiverGround<T, W> {
 
     ghost keeps_on: { (a b c : Self) → keeps a b → keeps b c → keeps a c };
 
+    // What the ground is ready for, beside this waker, which is not in its slot: to give a waker, and to park.
+    ghost has: { Self → Option W → Type 0 };
+
+    ghost has_on: { (a b : Self) (hand : Option W) → keeps a b → has a hand → has b hand };
+
     // What holds of a message that the ground hands out.
     ghost gives: { Self → T → Type 0 };
 
     // What holds of a message in a later state holds in an earlier one too.
     ghost gives_on: { (a b : Self) (x : T) → keeps a b → gives b x → gives a x };
+
+    // This message has come out of the channel.
+    ghost had: { Self → T → Type 0 };
+
+    // A message that has come out in one state has in a later one too.
+    ghost had_on: { (a b : Self) (x : T) → keeps a b → had a x → had b x };
 
     /// Loads the word, and returns it.
     fn load(&mut self) -> u8
@@ -137,6 +162,7 @@ pub trait ReceiverGround<T, W> {
         ensures log { Grows (state self.old).log (state self.new).log (took result ∷ []) }
         ensures was { (state self.old).message ≡ held result }
         ensures given { gives self.old result }
+        ensures had { had self.new result }
         ensures message { (state self.new).message ≡ vacant }
         ensures waker { (state self.new).waker ≡ (state self.old).waker }
         ensures keeps { keeps self.old self.new };
@@ -151,10 +177,12 @@ pub trait ReceiverGround<T, W> {
 
     /// Writes `waker` into its slot, which is the end's and empty.
     fn write_waker(&mut self, waker: W)
-        requires { (state self.old).waker ≡ vacant }
+        requires slot { (state self.old).waker ≡ vacant }
+        requires has { has self.old (Some waker) }
         ensures log { Grows (state self.old).log (state self.new).log (handed WriteWaker waker ∷ []) }
         ensures message { (state self.new).message ≡ (state self.old).message }
         ensures waker { (state self.new).waker ≡ held waker }
+        ensures has { has self.new None }
         ensures keeps { keeps self.old self.new };
 
     /// Takes the waker back out of its slot, and returns it.
@@ -162,6 +190,7 @@ pub trait ReceiverGround<T, W> {
         requires { (k : W) × ((state self.old).waker ≡ held k) }
         ensures log { Grows (state self.old).log (state self.new).log (handed Withdraw result ∷ []) }
         ensures was { (state self.old).waker ≡ held result }
+        ensures has { has self.old None → has self.new (Some result) }
         ensures message { (state self.new).message ≡ (state self.old).message }
         ensures waker { (state self.new).waker ≡ vacant }
         ensures keeps { keeps self.old self.new };
@@ -181,15 +210,20 @@ pub trait BlockGround<T, W>: ReceiverGround<T, W> {
     // What a park, with a deadline or without, does beside the channel.
     ghost parks: { Bool → Self → Self → Type 0 };
 
+    // What holds while it parks: it has given a waker that ends the park.
+    ghost left: { Self → Type 0 };
+
     /// Blocks until the receiver is woken; if `timed`, at most until its deadline. It may return earlier (a
     /// spurious wakeup). Only the log records whether the receiver was woken. A receiver whose deadline is
     /// over parks without one, because a timed park would not block.
     fn park(&mut self, timed: bool)
-        requires { Parks timed (receiver_of (Self.state self.old).log) }
+        requires waits { Parks timed (receiver_of (Self.state self.old).log) }
+        requires has { Self.has self.old None }
         ensures log { (woken : Bool) × Grows (Self.state self.old).log (Self.state self.new).log (parked woken ∷ []) }
         ensures message { (Self.state self.new).message ≡ (Self.state self.old).message }
         ensures waker { (Self.state self.new).waker ≡ (Self.state self.old).waker }
         ensures keeps { Self.keeps self.old self.new }
+        ensures left { left self.old }
         ensures parks { parks timed self.old self.new };
 
     /// Reads the clock, and returns whether the deadline is over. A reading that fails counts as past every
@@ -212,6 +246,7 @@ pub trait TaskGround<T, W>: ReceiverGround<T, W> {
         ensures message { (Self.state self.new).message ≡ (Self.state self.old).message }
         ensures waker { (Self.state self.new).waker ≡ (Self.state self.old).waker }
         ensures heard { IfSome result (λ _. heard self.new) }
+        ensures has { Self.has self.old None → Self.has self.new result }
         ensures keeps { Self.keeps self.old self.new };
 
     /// Wakes the poll's task with its own waker.

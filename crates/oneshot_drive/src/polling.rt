@@ -1,6 +1,6 @@
 //! The drivers of a future's calls: a poll, a receive that never blocks, and the drop.
 
-ghost use Rattle.std.specs.Prelude.{◌≡◌, [], Some, Err, IfOk};
+ghost use Rattle.std.specs.Prelude.{◌≡◌, [], Some, None, Err, IfOk};
 ghost use Rattle.futures.specs.Poll.{IfReady, OnPending};
 ghost use Rattle.oneshot_drive.specs.declared.errors.try_recv.TryRecvError.TheVariants as Tried;
 ghost use Rattle.oneshot_machine.specs.declared.machine.Reply.TheVariants as R;
@@ -34,7 +34,8 @@ use oneshot_machine::states::{DISCONNECTED, EMPTY, MESSAGE, RECEIVING, UNPARKING
 /// - `Pending`: no message yet. The channel has a new copy of the task's waker, in place of an earlier
 ///   poll's; or the poll woke its own task, because the copy was refused or the sender is about to finish.
 pub fn poll<T, W: Drop, G: TaskGround<T, W>>(g: &mut G) -> Poll<Result<T, RecvError>>
-    requires { IsPolled (G.state g.old) }
+    requires rests { IsPolled (G.state g.old) }
+    requires has { G.has g.old None }
     ensures run { ReceiverRan C.Poll (G.state g.old).log (G.state g.new).log
         (poll_reply result) [] (poll_received result) }
     ensures rests { IsPolled (G.state g.new) }
@@ -44,6 +45,7 @@ pub fn poll<T, W: Drop, G: TaskGround<T, W>>(g: &mut G) -> Poll<Result<T, RecvEr
     ensures own_copy { WritesItsCopy (G.state g.old).log (G.state g.new).log }
     ensures heard { OnPending result (G.heard g.new) }
     ensures given { IfReady result (λ answer. IfOk answer (λ message. G.gives g.old message)) }
+    ensures had { IfReady result (λ answer. IfOk answer (λ message. G.had g.new message)) }
     ensures keeps { G.keeps g.old g.new }
 {
     match meet(g) {
@@ -58,7 +60,8 @@ pub fn poll<T, W: Drop, G: TaskGround<T, W>>(g: &mut G) -> Poll<Result<T, RecvEr
 
 // Loads the word, and leaves a copy if the sender has not acted.
 fn meet<T, W: Drop, G: TaskGround<T, W>>(g: &mut G) -> Found
-    requires { IsPolled (G.state g.old) }
+    requires rests { IsPolled (G.state g.old) }
+    requires has { G.has g.old None }
     ensures path { Path (Future PollLoad) (poll_end result) (G.state g.old).log (G.state g.new).log }
     ensures ends { EndsPoll result (G.state g.new) }
     ensures stays { IsClosedAt (receiver_of (G.state g.old).log) → result ≡ F.Closed }
@@ -80,7 +83,8 @@ fn meet<T, W: Drop, G: TaskGround<T, W>>(g: &mut G) -> Found
 
 // Leaves a copy where there was none.
 fn leave_first<T, W: Drop, G: TaskGround<T, W>>(g: &mut G) -> Found
-    requires { Stands (here looked) (G.state g.old) }
+    requires open { Stands (here looked) (G.state g.old) }
+    requires has { G.has g.old None }
     ensures path { Path (Future PollCopy) (poll_end result) (G.state g.old).log (G.state g.new).log }
     ensures ends { EndsPoll result (G.state g.new) }
     ensures heard { result ≡ F.Nothing → G.heard g.new }
@@ -98,6 +102,7 @@ fn leave_first<T, W: Drop, G: TaskGround<T, W>>(g: &mut G) -> Found
 fn leave<T, W: Drop, G: TaskGround<T, W>>(g: &mut G, copy: W) -> Found
     requires open { MayLeave (G.state g.old) }
     requires heard { G.heard g.old }
+    requires has { G.has g.old (Some copy) }
     ensures path { Path (Future PollWrite) (poll_end result) (G.state g.old).log (G.state g.new).log }
     ensures ends { EndsPoll result (G.state g.new) }
     ensures heard { result ≡ F.Nothing → G.heard g.new }
@@ -119,7 +124,8 @@ fn leave<T, W: Drop, G: TaskGround<T, W>>(g: &mut G, copy: W) -> Found
 
 // Leaves a copy in place of an earlier poll's.
 fn leave_again<T, W: Drop, G: TaskGround<T, W>>(g: &mut G) -> Found
-    requires { Stands (waits again) (G.state g.old) }
+    requires open { Stands (waits again) (G.state g.old) }
+    requires has { G.has g.old None }
     ensures path { Path (Future AgainCopy) (poll_end result) (G.state g.old).log (G.state g.new).log }
     ensures ends { EndsPoll result (G.state g.new) }
     ensures heard { result ≡ F.Nothing → G.heard g.new }
@@ -163,6 +169,7 @@ pub fn async_try_recv<T, W, G: ReceiverGround<T, W>>(g: &mut G) -> Result<T, Try
         (receiver_of (G.state g.new).log) }
     ensures wakers { HandsNoWaker (G.state g.old).log (G.state g.new).log }
     ensures given { IfOk result (λ message. G.gives g.old message) }
+    ensures had { IfOk result (λ message. G.had g.new message) }
     ensures keeps { G.keeps g.old g.new }
 {
     match g.load() {

@@ -27,6 +27,7 @@ pub fn try_recv<T, W, G: ReceiverGround<T, W>>(g: &mut G) -> Result<T, TryRecvEr
     ensures stays { IsClosedAt (receiver_of (G.state g.old).log) → result ≡ Err Disconnected }
     ensures bounded { MakesWithin (receiver_bound TryRecv) (G.state g.old).log (G.state g.new).log }
     ensures given { IfOk result (λ message. G.gives g.old message) }
+    ensures had { IfOk result (λ message. G.had g.new message) }
     ensures keeps { G.keeps g.old g.new }
 {
     match g.load() {

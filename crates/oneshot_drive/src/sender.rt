@@ -1,6 +1,6 @@
 //! The drivers of the sender's calls, and of the error of its refused `send`.
 
-ghost use Rattle.std.specs.Prelude.{◌≡◌, false, [], ◌∷◌};
+ghost use Rattle.std.specs.Prelude.{◌≡◌, false, true, [], ◌∷◌};
 ghost use Rattle.oneshot_machine.specs.declared.machine.Reply.TheVariants.{Message, Done};
 ghost use Rattle.oneshot_machine.specs.declared.machine.sender.SenderCall.TheVariants.{Send, Drop, IntoInner, DropError};
 ghost use Rattle.oneshot_machine.specs.Counts.{sender_bound, MakesWithin};
@@ -28,6 +28,7 @@ pub fn send<T, W, G: SenderGround<T, W>>(g: &mut G, message: T) -> bool
         IsError (held message) (G.state g.new) }
     ensures late { result ≡ false → IsLate (sender_of (G.state g.new).log) }
     ensures bounded { MakesWithin (sender_bound Send) (G.state g.old).log (G.state g.new).log }
+    ensures gave { result ≡ true → G.gave g.new message }
 {
     g.write_message(message);
     match g.add() {
@@ -64,6 +65,7 @@ fn finish<T, W, G: SenderGround<T, W>>(g: &mut G, last: u8) -> bool
     requires { Owes last (G.state g.old) }
     ensures finishes { Finishes last result (G.woken g.new) (G.state g.old).log (G.state g.new).log }
     ensures gone { result ≡ false → IsOvertaken (G.state g.old) (G.state g.new) }
+    ensures gave { result ≡ true → (x : T) → (G.state g.old).message ≡ held x → G.gave g.new x }
 {
     let waker = g.take_waker();
     let found = g.swap(last);

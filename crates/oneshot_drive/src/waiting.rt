@@ -1,6 +1,6 @@
 //! How a receive that blocks waits for the word that decides it.
 
-ghost use Rattle.std.specs.Prelude.{◌≡◌, true, Some};
+ghost use Rattle.std.specs.Prelude.{◌≡◌, true, Some, None};
 ghost use Rattle.oneshot_machine.specs.declared.machine.receiver.ReceiverPos.TheVariants.{Timed};
 ghost use Rattle.oneshot_machine.specs.declared.machine.timed.TimedPos.TheVariants.{EndSwap, LatePark};
 ghost use Rattle.oneshot_machine.specs.Logs.{receiver_of};
@@ -37,10 +37,12 @@ pub(crate) fn find<T, W: Drop, G: BlockGround<T, W>>(
 ) -> Found
     requires rests { AtRest (G.state g.old) }
     requires ready { IsReady hand.old (receiver_of (G.state g.old).log) }
+    requires has { G.has g.old hand.old }
     ensures path { (way : ReceiveBy timed) → Path (load_of way) (end_of way result) (G.state g.old).log (G.state g.new).log }
     ensures ends { EndsAt timed result (G.state g.new) }
     ensures stays { IsClosedAt (receiver_of (G.state g.old).log) → result ≡ F.Closed }
     ensures hand { HandAt result hand.old hand.new }
+    ensures has { G.has g.new hand.new }
     ensures keeps { G.keeps g.old g.new }
 {
     match g.load() {
@@ -59,9 +61,11 @@ fn store_and_wait<T, W: Drop, G: BlockGround<T, W>>(
 ) -> Found
     requires open { Stands (here looked) (G.state g.old) }
     requires ready { (k : W) × (hand.old ≡ Some k) }
+    requires has { G.has g.old hand.old }
     ensures path { (way : ReceiveBy timed) → Path (write_of way) (end_of way result) (G.state g.old).log (G.state g.new).log }
     ensures ends { EndsAt timed result (G.state g.new) }
     ensures hand { HandAt result hand.old hand.new }
+    ensures has { G.has g.new hand.new }
     ensures keeps { G.keeps g.old g.new }
 {
     let Some(waker) = hand.take() else {
@@ -87,10 +91,13 @@ fn wait<T, W: Drop, G: BlockGround<T, W>>(
     hand: &mut Option<W>,
     timed: bool,
 ) -> Found
-    requires { Stands (waits blocked) (G.state g.old) }
+    requires waits { Stands (waits blocked) (G.state g.old) }
+    requires empty { hand.old ≡ None }
+    requires has { G.has g.old None }
     ensures path { (way : ReceiveBy timed) → Path (wait_of way) (end_of way result) (G.state g.old).log (G.state g.new).log }
     ensures ends { EndsAt timed result (G.state g.new) }
     ensures hand { WaitedHand result hand.old hand.new }
+    ensures has { G.has g.new hand.new }
     ensures keeps { G.keeps g.old g.new }
 {
     for _ in rt.forever() {
@@ -121,10 +128,13 @@ fn is_over<T, W, G: BlockGround<T, W>>(g: &mut G, timed: bool) -> bool
 
 // Ends the wait of a receiver whose deadline is over, unless the sender has acted.
 fn stop<T, W: Drop, G: BlockGround<T, W>>(g: &mut G, rt: &impl Wait, hand: &mut Option<W>) -> Found
-    requires { Stands (waits blocked) (G.state g.old) }
+    requires waits { Stands (waits blocked) (G.state g.old) }
+    requires empty { hand.old ≡ None }
+    requires has { G.has g.old None }
     ensures path { Path (Timed EndSwap) (ref_end result) (G.state g.old).log (G.state g.new).log }
     ensures ends { EndsAt true result (G.state g.new) }
     ensures hand { WaitedHand result hand.old hand.new }
+    ensures has { G.has g.new hand.new }
     ensures keeps { G.keeps g.old g.new }
 {
     match g.swap(EMPTY) {
@@ -140,7 +150,8 @@ fn stop<T, W: Drop, G: BlockGround<T, W>>(g: &mut G, rt: &impl Wait, hand: &mut 
 
 // Parks, past the deadline, until the sender has finished.
 fn wait_late<T, W, G: BlockGround<T, W>>(g: &mut G, rt: &impl Wait) -> Found
-    requires { Stands overdue (G.state g.old) }
+    requires late { Stands overdue (G.state g.old) }
+    requires has { G.has g.old None }
     ensures path { Path (Timed LatePark) (ref_end result) (G.state g.old).log (G.state g.new).log }
     ensures ends { EndsAt true result (G.state g.new) }
     ensures sent { ¬ (result ≡ F.Nothing) }

@@ -1,24 +1,38 @@
 -- What two views of one end have in common, and the promise of a message as the caller sees it.
-use Rattle.std.proofs.Common.{◌≡◌, Result, ap, ◌∙◌, subst}
+use Rattle.std.proofs.Common.{◌≡◌, Option, Result, ap, ◌∙◌, subst}
 use Rattle.std.specs.Prelude.{IfOk}
 use Rattle.futures.specs.declared.task.Poll.{Poll}
 use Rattle.futures.specs.declared.task.Poll.TheVariants.{Ready, Pending}
 use Rattle.futures.specs.Poll.{IfReady, OnPending}
 use Rattle.oneshot_word.specs.Side.{Side}
-use Rattle.oneshot_ends.specs.Ends.{EndOf, FutureEndOf}
+use Rattle.oneshot_ends.specs.Ends.{SenderEndOf, EndOf, FutureEndOf}
+
+module _ {T P : Type 0} where
+  pub same_steps : {a b : EndOf T P} → a ≡ b → a.log ≡ b.log
+  same_steps is = ap (λ (e : EndOf T P). e.log) is
+
+  pub same_about : {a b : EndOf T P} → a ≡ b → a.about ≡ b.about
+  same_about is = ap (λ (e : EndOf T P). e.about) is
+
+  pub same_took : {a b : EndOf T P} → a ≡ b → a.took ≡ b.took
+  same_took is = ap (λ (e : EndOf T P). e.took) is
+
+  pub future_steps : {a b : FutureEndOf T P} → a ≡ b → a.log ≡ b.log
+  future_steps is = ap (λ (e : FutureEndOf T P). e.log) is
+
+  pub future_about : {a b : FutureEndOf T P} → a ≡ b → a.about ≡ b.about
+  future_about is = ap (λ (e : FutureEndOf T P). e.about) is
+
+  pub future_took : {a b : FutureEndOf T P} → a ≡ b → a.took ≡ b.took
+  future_took is = ap (λ (e : FutureEndOf T P). e.took) is
+
+  -- a side that was lent has taken what its end has
+  pub lent_took : {W : Type 0} {own s : Side T W P} {took : Option T} → s ≡ own → own.passed ≡ took → s.passed ≡ took
+  lent_took is shown = ap (λ s. s.passed) is ∙ shown
 
 module _ {P : Type 0} where
-  pub same_steps : {a b : EndOf P} → a ≡ b → a.log ≡ b.log
-  same_steps is = ap (λ (e : EndOf P). e.log) is
-
-  pub same_about : {a b : EndOf P} → a ≡ b → a.about ≡ b.about
-  same_about is = ap (λ (e : EndOf P). e.about) is
-
-  pub future_steps : {a b : FutureEndOf P} → a ≡ b → a.log ≡ b.log
-  future_steps is = ap (λ (e : FutureEndOf P). e.log) is
-
-  pub future_about : {a b : FutureEndOf P} → a ≡ b → a.about ≡ b.about
-  future_about is = ap (λ (e : FutureEndOf P). e.about) is
+  pub sent_steps : {a b : SenderEndOf P} → a ≡ b → a.log ≡ b.log
+  sent_steps is = ap (λ (e : SenderEndOf P). e.log) is
 
   -- a side that was lent is about the same value as its end
   pub lent_about : {T W : Type 0} {own s : Side T W P} {about : P} → s ≡ own → own.about ≡ about → s.about ≡ about

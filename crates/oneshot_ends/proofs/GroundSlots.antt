@@ -77,7 +77,7 @@ module _ {T W P : Type 0} (freed : Bool) (s : Side T W P) {now : Side T W P} {op
 module _ {T W P : Type 0} (freed : Bool) (s : Side T W P) {now : Side T W P} {op : Op}
     (stands : MayBeFreed freed (receiver_at s.log)) (is : left_of freed s ≡ now) (asks : ReceiverAsks op
     (state_of now)) where
-  receiver_unfreed : (freed ≡ false) × ReceiverCan s op
+  pub receiver_unfreed : (freed ≡ false) × ReceiverCan s op
   receiver_unfreed =
       can receiver_moves receiver_at freed s
       (λ is. receiver_needs (receiver_at s.log) (subst (λ f. MayBeFreed f (receiver_at s.log)) is stands)) is

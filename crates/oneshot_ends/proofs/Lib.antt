@@ -1,9 +1,16 @@
 mod EndViews
+mod OwnWakers
+mod OwnTokens
+mod FoundWaiting
+mod Owes
 mod GrewByRuns
 mod EndRows
 mod GroundSlots
 mod NewEnds
 mod LentGrounds
+pub mod Taken
+mod TakenExamples
+mod OpenTaken
 mod TimeoutEnds
 mod PollingTokens
 mod PolledEnds

@@ -17,6 +17,7 @@ module _ {T W P : Type 0} {about : P} {sender receiver : Side T W P} (are : AreE
         log = are.sender_log;
         message = subst (IsSlot empty) (sym are.sender_slots.0) is_vacant;
         waker = subst (IsSlot none) (sym are.sender_slots.1) is_away;
+        passed = are.sender_passed;
       }
 
   pub new_receiver : IsNewReceiver receiver
@@ -25,6 +26,7 @@ module _ {T W P : Type 0} {about : P} {sender receiver : Side T W P} (are : AreE
         log = are.receiver_log;
         message = subst (IsSlot none) (sym are.receiver_slots.0) is_away;
         waker = subst (IsSlot none) (sym are.receiver_slots.1) is_away;
+        passed = are.receiver_passed;
       }
 
 module _ {T W P : Type 0} where

@@ -21,7 +21,7 @@ use Rattle.oneshot_word.specs.Side.{Side}
 use Rattle.oneshot_ends.specs.Grounds.{state_of, is_over}
 use Rattle.oneshot_ends.proofs.GrewByRuns.{words_of, began_at, sender_grew}
 
-seens_are_same : (a b : Seen) → is_same_seen a b ≡ true → a ≡ b
+pub seens_are_same : (a b : Seen) → is_same_seen a b ≡ true → a ≡ b
 seens_are_same Done Done e = refl
 seens_are_same (Word a) (Word b) e = ap Word (eqb-true a b e)
 seens_are_same (Over true) (Over true) e = refl

@@ -25,18 +25,26 @@ use Rattle.oneshot_ends.specs.Deadlines.{HasEnd}
 abbrev pub Waking : Type 0
 Waking = Unit {0}
 
--- a sender or a receiver, with the value that the promise of its channel is about
-pub record EndOf (P : Type 0) : Type 0 where
+-- a sender, with the value that the promise of its channel is about
+pub record SenderEndOf (P : Type 0) : Type 0 where
   pub channel : TableId
   pub log : List Noted
   pub about : P
 
+-- a receiver: the same, with the message that it took out of the channel, if it has
+pub record EndOf (T P : Type 0) : Type 0 where
+  pub channel : TableId
+  pub log : List Noted
+  pub about : P
+  pub took : Option T
+
 -- a future: the same, with the source at which its polls register
-pub record FutureEndOf (P : Type 0) : Type 0 where
+pub record FutureEndOf (T P : Type 0) : Type 0 where
   pub channel : TableId
   pub log : List Noted
   pub source : ℕ
   pub about : P
+  pub took : Option T
 
 -- an error: the message that was refused, and the sender's channel and log
 pub record Failed (T : Type 0) : Type 0 where
@@ -92,16 +100,16 @@ abbrev pub WasRefused : (T : Type 0) → List Noted → Type 0
 WasRefused T log = SenderCalled T Waking ((Send, Refused) ∷ []) log
 
 -- a receiver that is closed, or open
-abbrev pub IsClosed : {P : Type 0} → EndOf P → Type 0
+abbrev pub IsClosed : {T P : Type 0} → EndOf T P → Type 0
 IsClosed receiver = IsClosedAt (receiver_at receiver.log)
 
-abbrev pub IsOpen : {P : Type 0} → EndOf P → Type 0
+abbrev pub IsOpen : {T P : Type 0} → EndOf T P → Type 0
 IsOpen receiver = IsOpenAt (receiver_at receiver.log)
 
 -- the same of a future
-abbrev pub IsDone : {P : Type 0} → FutureEndOf P → Type 0
+abbrev pub IsDone : {T P : Type 0} → FutureEndOf T P → Type 0
 IsDone future = IsClosedAt (receiver_at future.log)
 
 -- one that is not done: a later poll may return the message
-abbrev pub IsUnfinished : {P : Type 0} → FutureEndOf P → Type 0
+abbrev pub IsUnfinished : {T P : Type 0} → FutureEndOf T P → Type 0
 IsUnfinished future = IsOpenAt (receiver_at future.log)

@@ -41,14 +41,14 @@ polled = (Load, Word 3) ∷ (Exchange 3 0, Word 3) ∷ []
 
 -- OPEN AND CLOSED
 module _ (channel : TableId) where
-  abbrev pub end_with : List Noted → EndOf ℕ
-  end_with log = record { channel = channel; log = log; about = 5 }
+  abbrev pub end_with : List Noted → EndOf ℕ ℕ
+  end_with log = record { channel = channel; log = log; about = 5; took = None }
 
   abbrev pub error_with : List Noted → Failed ℕ
   error_with log = record { message = 7; channel = channel; log = log }
 
-  abbrev pub future_with : List Noted → FutureEndOf ℕ
-  future_with log = record { channel = channel; log = log; source = 1; about = 5 }
+  abbrev pub future_with : List Noted → FutureEndOf ℕ ℕ
+  future_with log = record { channel = channel; log = log; source = 1; about = 5; took = None }
 
   pub record EndsThatAre : Type 0 where
     pub new_is_open : IsOpen (end_with [])
@@ -160,7 +160,8 @@ module _ (before after : Context) where
 -- WHAT A GROUND SHOWS: a side with both slots, which loses them when it frees the block
 module _ (table : TableId) where
   abbrev pub side_with : List Noted → Side ℕ ℕ ℕ
-  side_with log = record { table = table; log = log; message = held 7; waker = held 1; passed = None; about = 5 }
+  side_with log =
+      record { table = table; log = log; message = held 7; waker = held 1; passed = None; handed = None; about = 5 }
 
   pub record GroundsThatAre : Type 0 where
     pub keeps_its_slots : left_of false (side_with []) ≡ side_with []

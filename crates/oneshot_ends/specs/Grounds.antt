@@ -94,6 +94,7 @@ module _ {T W P : Type 0} where
     pub log : s.log ≡ []
     pub message : IsSlot slots.0 s.message
     pub waker : IsSlot slots.1 s.waker
+    pub passed : s.passed ≡ None
 
   -- a new side of each end, with the shares of its first phase
   abbrev pub IsNewSender : Side T W P → Type 0

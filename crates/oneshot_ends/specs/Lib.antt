@@ -4,7 +4,12 @@ pub mod Copies
 pub mod Ends
 pub mod Deadlines
 pub mod Examples
+pub mod Taken
+pub mod TakenExamples
 pub mod Tokens
 pub mod TokenExamples
 pub mod Woken
+pub mod OwnWakers
+pub mod OwnTokens
+pub mod OwnExamples
 pub mod Spins

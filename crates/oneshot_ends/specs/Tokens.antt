@@ -2,6 +2,7 @@
 use Rattle.std.specs.Prelude.{◌≡◌, ℕ, suc, ◌+◌, ◌≤◌, Bool, true, false, List, [], ◌∷◌, ◌++◌, if◌then◌else◌, slice_set}
 use mathlib.Core.Option.{some}
 use lib.ListN.{get_elem?}
+use Rattle.atomic_table.specs.Seated.{TableId}
 use Rattle.oneshot_ends.specs.declared.token.Half.{Half}
 use Rattle.oneshot_ends.specs.declared.token.Half.TheVariants.{Both, Parking, Waking}
 
@@ -9,6 +10,11 @@ use Rattle.oneshot_ends.specs.declared.token.Half.TheVariants.{Both, Parking, Wa
 abbrev pub took : Half → Bool
 took (Parking taken) = taken
 took _ = false
+
+-- what a contract sees of a parking half: whether it took the token, and its parker
+pub record Parks : Type 0 where
+  pub taken : Bool
+  pub parker : TableId
 
 -- The four states: whether the token is there, and what each half knows.
 pub data TokenIs : Bool → List Half → Type 0 where

@@ -1,8 +1,9 @@
 -- What the use of a waker leaves behind, and how the ground of a sender shows it.
-use Rattle.std.specs.Prelude.{⊤, Option, Some, None}
+use Rattle.std.specs.Prelude.{◌≡◌, ⊤, true, Option, Some, None}
 use Rattle.crossbeam_utils.specs.Token.{IsSamePass}
 use Rattle.oneshot_word.specs.declared.any_waker.AnyWaker.{AnyWaker}
 use Rattle.oneshot_word.specs.declared.any_waker.AnyWaker.TheVariants.{Thread}
+use Rattle.oneshot_drive.specs.Wakes.{finds_waiting}
 use Rattle.oneshot_word.specs.Side.{Side}
 use Rattle.oneshot_ends.specs.declared.token.Given.{Given}
 use Rattle.oneshot_ends.specs.declared.token.WakingHalf.{WakingHalf}
@@ -21,3 +22,9 @@ IsWoken _ given = ⊤
 pub record Sending (T W P : Type 0) : Type 0 where
   pub side : Side T W P
   pub given : Option Given
+
+-- A sender that found the receiver waiting has used the waker that it took: a thread's half has given its token.
+abbrev pub HasWoken : {T K P : Type 0} → Sending T (AnyWaker WakingHalf K) P → Type 0
+HasWoken {K} s =
+    finds_waiting s.side.log ≡ true
+    → (k : AnyWaker WakingHalf K) × (s.side.handed ≡ Some k) × IsWoken k s.given

@@ -68,7 +68,7 @@ impl<T, P: Promise<T>> SendError<T, P> {
 
 impl<T: Drop, P: Promise<T>> SendError<T, P> {
     /// The error of a `send` that was refused on this ground.
-    pub(crate) fn refused(ground: SharedSender<T, WakingHalf, Waker, P>) -> SendError<T, P>
+    pub(crate) fn refused(ground: SharedSender<T, P>) -> SendError<T, P>
         requires full { (message : T) × (ground.side.message ≡ held message) }
         requires late { IsLate (sender_at ground.side.log) }
         requires refused { WasRefused T ground.side.log }

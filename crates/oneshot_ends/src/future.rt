@@ -14,6 +14,7 @@ ghost use Rattle.oneshot_drive.specs.Polls.{LeavesPolled, LeavesTried, StaysRegi
 ghost use Rattle.oneshot_machine.specs.Called.{as_receiver};
 ghost use Rattle.oneshot_ends.specs.Ends.{ReceiverGrew, HasCalls, IsDone, IsUnfinished};
 ghost use Rattle.oneshot_ends.specs.Grounds.{state_of};
+ghost use Rattle.oneshot_ends.specs.Taken.{StaysTaken, TookAsFound, Takes, TakesReady};
 
 use crate::copies::Copies;
 use crate::ground::{Polling, SharedReceiver};
@@ -33,7 +34,8 @@ use std::marker::Model;
 /// returns at once, the sender's side frees the memory, and a `send` is refused too.
 ///
 /// A contract sees the future's channel, the value that the channel is about, the log of the future's
-/// operations on the word, which determines whether it is done, and the source at which its polls register.
+/// operations on the word, which determines whether it is done, the source at which its polls register, and
+/// the message that it took out of the channel, if it has. It takes at most one.
 ///
 /// `P` is the promise of its channel: the message that it returns keeps it.
 ///
@@ -53,17 +55,22 @@ impl<T, Rt, P: Promise<T>> Model for AsyncReceiver<T, Rt, P> {
     ghost use Rattle.oneshot_machine.specs.Called.{as_future};
     ghost use Rattle.oneshot_ends.specs.Ends.{FutureEndOf, HasCalls};
     ghost use Rattle.oneshot_ends.specs.Grounds.{state_of};
+    ghost use Rattle.oneshot_ends.specs.OwnWakers.{NoThread};
+    ghost use Rattle.oneshot_ends.specs.Taken.{TookAsFound};
 
-    ghost Value = { FutureEndOf P };
+    ghost Value = { FutureEndOf T P };
 
     ghost view = { λ r. record {
       channel = r.ground.table;
       log = r.ground.log;
       source = r.source.id;
       about = r.ground.about;
+      took = r.ground.passed;
     } };
 
-    ghost invariant = { λ r. IsPolled (state_of r.ground) × HasCalls T as_future r.ground.log };
+    ghost invariant = { λ r.
+        IsPolled (state_of r.ground) × HasCalls T as_future r.ground.log × NoThread r.ground
+        × TookAsFound r.ground.passed r.ground.log };
 }
 
 impl<T, Rt, P: Promise<T>> AsyncReceiver<T, Rt, P> {
@@ -74,9 +81,11 @@ impl<T, Rt, P: Promise<T>> AsyncReceiver<T, Rt, P> {
     ) -> AsyncReceiver<T, Rt, P>
         requires rests { AtRest (state_of ground) }
         requires calls { HasCalls T as_receiver ground.log }
+        requires found { TookAsFound ground.passed ground.log }
         ensures channel { result.channel ≡ ground.table }
         ensures log { result.log ≡ ground.log }
         ensures about { result.about ≡ ground.about }
+        ensures took { result.took ≡ ground.passed }
     {
         AsyncReceiver {
             ground,
@@ -111,6 +120,8 @@ impl<T: Drop, Rt: Drop, P: Promise<T>> AsyncReceiver<T, Rt, P> {
         ensures bounded { GrewWithin (receiver_bound C.AsyncTryRecv) self.old.log self.new.log }
         ensures about { self.new.about ≡ self.old.about }
         ensures kept { IfOk result (λ message. P.keeps self.old.about message) }
+        ensures took { Takes result self.old.took self.new.took }
+        ensures stays_taken { StaysTaken self.old.took self.new.took }
     {
         async_try_recv(&mut self.ground)
     }
@@ -148,6 +159,8 @@ impl<T: Drop, Rt: Drop, P: Promise<T>> Future for AsyncReceiver<T, Rt, P> {
         ensures stays_closed { IsDone self.old → IsDisconnected result }
         ensures bounded { GrewWithin (receiver_bound C.Poll) self.old.log self.new.log }
         ensures about { self.new.about ≡ self.old.about }
+        ensures took { TakesReady result self.old.took self.new.took }
+        ensures stays_taken { StaysTaken self.old.took self.new.took }
     {
         let mut lent = Polling {
             ground: &mut self.ground,

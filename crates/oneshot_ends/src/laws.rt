@@ -2,10 +2,14 @@
 
 ghost use Rattle.atomic_table.specs.Seated.{TableId};
 ghost use Rattle.futures.specs.declared.task.context.Context.{Context};
-ghost use Rattle.std.specs.Prelude.{◌≡◌, []};
+ghost use Rattle.std.specs.Prelude.{◌≡◌, [], None};
 ghost use Rattle.oneshot_machine.specs.Called.{as_receiver, as_future};
-ghost use Rattle.oneshot_ends.specs.Ends.{HasCalls, CallsAddUp, SenderIsOrdered, ReceiverIsOrdered, WasRefused};
+ghost use Rattle.oneshot_ends.specs.Ends.{IsOpen, IsUnfinished, HasCalls, CallsAddUp, SenderIsOrdered, ReceiverIsOrdered, WasRefused};
 ghost use Rattle.oneshot_ends.specs.Examples.{EndsThatAre, EndsThatAreNot, CallsThatGrow, CallsThatDoNot, DeadlinesThatAre, DeadlinesThatAreNot, CopiesThatAre, CopiesThatAreNot, GroundsThatAre, GroundsThatAreNot, OrdersThatAre, OrdersThatAreNot};
+ghost use Rattle.oneshot_ends.specs.OwnExamples.{UsesThatAre, UsesThatAreNot};
+ghost use Rattle.oneshot_ends.specs.OwnTokens.{GivesItsToken, WaitsForItsToken, TakesNoThread};
+ghost use Rattle.oneshot_ends.specs.Taken.{TookAsFound, WasSent};
+ghost use Rattle.oneshot_ends.specs.TakenExamples.{TakesThatAre, TakesThatAreNot};
 ghost use Rattle.oneshot_ends.specs.Tokens.{LivesLeadToStates, TokensAreGivenOnce};
 ghost use Rattle.oneshot_ends.specs.TokenExamples.{StatesThatAreNot, LivesThatAre, LivesThatAreNot, StepsThatWake, StepsThatDoNot, WakersThatWoke, WakersThatDidNot, WaitsThatAre, WaitsThatAreNot};
 
@@ -40,6 +44,50 @@ pub fn a_receiver_has_its_calls<T, Rt, P: Promise<T>>(receiver: &Receiver<T, Rt,
 /// A future's log is that of calls that it has replied to, first as a receiver and then as a future.
 pub fn a_future_has_its_calls<T, Rt, P: Promise<T>>(future: &AsyncReceiver<T, Rt, P>)
     ensures { HasCalls T as_future future.now.log }
+{
+    let _ground = &future.ground;
+}
+
+/// A receiver has taken a message exactly if an operation of its log found one. It has taken at most one.
+pub fn a_receiver_took_what_it_found<T, Rt, P: Promise<T>>(receiver: &Receiver<T, Rt, P>)
+    ensures { TookAsFound receiver.now.took receiver.now.log }
+{
+    let _ground = &receiver.ground;
+}
+
+/// The same of a future.
+pub fn a_future_took_what_it_found<T, Rt, P: Promise<T>>(future: &AsyncReceiver<T, Rt, P>)
+    ensures { TookAsFound future.now.took future.now.log }
+{
+    let _ground = &future.ground;
+}
+
+/// An open receiver has taken no message: so a receiver takes at most one, and is closed from then on.
+pub fn an_open_receiver_took_none<T, Rt, P: Promise<T>>(receiver: &Receiver<T, Rt, P>)
+    ensures { IsOpen receiver.now → receiver.now.took ≡ None }
+{
+    a_receiver_took_what_it_found(receiver);
+}
+
+/// The same of a future.
+pub fn an_unfinished_future_took_none<T, Rt, P: Promise<T>>(future: &AsyncReceiver<T, Rt, P>)
+    ensures { IsUnfinished future.now → future.now.took ≡ None }
+{
+    a_future_took_what_it_found(future);
+}
+
+/// The message that a receiver took is the one that its channel's sender gave: so it is in every state that
+/// the rule of the shared table allows with this receiver's log and message. `H` and `K` are the wakers of
+/// the channel.
+pub fn what_a_receiver_took_was_sent<T, Rt, H, K, P: Promise<T>>(receiver: &Receiver<T, Rt, P>)
+    ensures { WasSent H K P.keeps receiver.now.log receiver.now.took }
+{
+    let _ground = &receiver.ground;
+}
+
+/// The same of a future.
+pub fn what_a_future_took_was_sent<T, Rt, H, K, P: Promise<T>>(future: &AsyncReceiver<T, Rt, P>)
+    ensures { WasSent H K P.keeps future.now.log future.now.took }
 {
     let _ground = &future.ground;
 }
@@ -85,9 +133,20 @@ pub fn a_token_is_given_once_and_then_taken()
     ensures once { TokensAreGivenOnce }
 {}
 
+/// The token that a sender gives is that of the parker on which its channel's receiver sleeps. In every state of
+/// the channel's table: if the sender found the receiver waiting and may be let go, and the receiver gave the
+/// waking half of some parker last, as it has whenever it parks on it, then the sender has given that parker's
+/// token. It is there, or the receiver took it. So it is once the sender may be let go, in each state in which the
+/// receiver is blocked or overdue. From a future that waits the sender takes no thread's waker.
+pub fn a_token_is_its_receivers<T, P: Promise<T>>()
+    ensures given { GivesItsToken P.keeps }
+    ensures waits { WaitsForItsToken P.keeps }
+    ensures tasks { TakesNoThread P.keeps }
+{}
+
 /// Examples that the definitions accept or refuse: open and closed ends, logs of calls, deadlines, copies of
-/// wakers, grounds, logs that have an order, states and lives of a token, steps of a sender and wakers that
-/// wake, and receives that wait.
+/// wakers, grounds, logs that have an order, states and lives of a token, uses of a parker's own
+/// waker, steps of a sender and wakers that wake, receives that wait, and messages that a receiver took.
 pub fn examples_are_so<T>()
     ensures ends { (channel : TableId) → EndsThatAre channel }
     ensures no_ends { (channel : TableId) → EndsThatAreNot channel }
@@ -110,4 +169,8 @@ pub fn examples_are_so<T>()
     ensures no_waits { WaitsThatAreNot }
     ensures orders { OrdersThatAre }
     ensures no_orders { OrdersThatAreNot }
+    ensures uses { UsesThatAre }
+    ensures no_uses { UsesThatAreNot }
+    ensures takes { TakesThatAre }
+    ensures no_takes { TakesThatAreNot }
 {}

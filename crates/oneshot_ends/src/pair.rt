@@ -1,6 +1,6 @@
 //! The functions that make a channel.
 
-ghost use Rattle.std.specs.Prelude.{◌≡◌, [], IfOk};
+ghost use Rattle.std.specs.Prelude.{◌≡◌, [], IfOk, None};
 ghost use Rattle.oneshot_ends.specs.Ends.{IsOpen, IsUnfinished};
 
 use crate::future::AsyncReceiver;
@@ -25,6 +25,7 @@ pub fn channel<T: Send + Drop, Rt: Drop>(
     ensures one_channel { IfOk result (λ ends. ends.0.channel ≡ ends.1.channel) }
     ensures new_sender { IfOk result (λ ends. ends.0.log ≡ []) }
     ensures new_receiver { IfOk result (λ ends. ends.1.log ≡ []) }
+    ensures none_taken { IfOk result (λ ends. ends.1.took ≡ None) }
     ensures open { IfOk result (λ ends. IsOpen ends.1) }
 {
     // Does not call `channel_for`, which would copy both ends once more.
@@ -49,6 +50,7 @@ pub fn channel_for<T: Send + Drop, Rt: Drop, P: Promise<T>>(
     ensures one_channel { IfOk result (λ ends. ends.0.channel ≡ ends.1.channel) }
     ensures new_sender { IfOk result (λ ends. ends.0.log ≡ []) }
     ensures new_receiver { IfOk result (λ ends. ends.1.log ≡ []) }
+    ensures none_taken { IfOk result (λ ends. ends.1.took ≡ None) }
     ensures open { IfOk result (λ ends. IsOpen ends.1) }
     ensures sender_about { IfOk result (λ ends. ends.0.about ≡ about.now) }
     ensures receiver_about { IfOk result (λ ends. ends.1.about ≡ about.now) }
@@ -71,6 +73,7 @@ pub fn async_channel<T: Send + Drop, Rt: Drop>(
     ensures one_channel { IfOk result (λ ends. ends.0.channel ≡ ends.1.channel) }
     ensures new_sender { IfOk result (λ ends. ends.0.log ≡ []) }
     ensures new_receiver { IfOk result (λ ends. ends.1.log ≡ []) }
+    ensures none_taken { IfOk result (λ ends. ends.1.took ≡ None) }
     ensures open { IfOk result (λ ends. IsUnfinished ends.1) }
 {
     let (sender, receiver) = channel(rt, alloc)?;
@@ -87,6 +90,7 @@ pub fn async_channel_for<T: Send + Drop, Rt: Drop, P: Promise<T>>(
     ensures one_channel { IfOk result (λ ends. ends.0.channel ≡ ends.1.channel) }
     ensures new_sender { IfOk result (λ ends. ends.0.log ≡ []) }
     ensures new_receiver { IfOk result (λ ends. ends.1.log ≡ []) }
+    ensures none_taken { IfOk result (λ ends. ends.1.took ≡ None) }
     ensures open { IfOk result (λ ends. IsUnfinished ends.1) }
     ensures sender_about { IfOk result (λ ends. ends.0.about ≡ about.now) }
     ensures receiver_about { IfOk result (λ ends. ends.1.about ≡ about.now) }

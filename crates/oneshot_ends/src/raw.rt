@@ -17,9 +17,9 @@ pub struct RawSender<T, P: Promise<T> = ()> {
 }
 
 impl<T, P: Promise<T>> Model for RawSender<T, P> {
-    ghost use Rattle.oneshot_ends.specs.Ends.{EndOf};
+    ghost use Rattle.oneshot_ends.specs.Ends.{SenderEndOf};
 
-    ghost Value = { EndOf P };
+    ghost Value = { SenderEndOf P };
 
     ghost view = { λ r. r.sender };
 }
@@ -76,7 +76,7 @@ pub struct RawReceiver<T, Rt, P: Promise<T> = ()> {
 impl<T, Rt, P: Promise<T>> Model for RawReceiver<T, Rt, P> {
     ghost use Rattle.oneshot_ends.specs.Ends.{EndOf};
 
-    ghost Value = { EndOf P };
+    ghost Value = { EndOf T P };
 
     ghost view = { λ r. r.receiver };
 }

@@ -12,6 +12,8 @@ ghost use Rattle.oneshot_machine.specs.Phases.{receiver_at};
 ghost use Rattle.oneshot_drive.specs.BetweenCalls.{Leaves, LeavesClosed, LeavesTimed, try_recv_reply, recv_reply, timed_reply};
 ghost use Rattle.oneshot_ends.specs.Ends.{ReceiverGrew, TimeoutGrew, TimeoutRan, IsClosed, IsOpen};
 ghost use Rattle.oneshot_ends.specs.Grounds.{IsNewReceiver, state_of, goes};
+ghost use Rattle.oneshot_ends.specs.OwnWakers.{IsOwn, Owned};
+ghost use Rattle.oneshot_ends.specs.Taken.{StaysTaken, Takes};
 
 use crate::deadline::{Deadline, Reading, read};
 use crate::future::AsyncReceiver;
@@ -34,8 +36,9 @@ use std::time::{Clock, Duration, Instant};
 /// The receives that block (`recv`, `recv_ref`, `recv_deadline`, `recv_timeout`) need `Rt: Wait + Clock`.
 /// The other calls accept any `Rt: Drop`, such as `()`.
 ///
-/// A contract sees the receiver's channel, the value that the channel is about, and the log of the
-/// receiver's operations on the word. The log determines whether the receiver is closed.
+/// A contract sees the receiver's channel, the value that the channel is about, the log of the receiver's
+/// operations on the word, which determines whether the receiver is closed, and the message that it took out
+/// of the channel, if it has. It takes at most one.
 ///
 /// `P` is the promise of a channel of `channel_for`: each message that a receive returns keeps it.
 /// `Receiver<T, Rt>` is the receiver of a channel without one.
@@ -58,14 +61,24 @@ impl<T, Rt, P: Promise<T>> Model for Receiver<T, Rt, P> {
     ghost use Rattle.oneshot_machine.specs.Called.{as_receiver};
     ghost use Rattle.oneshot_ends.specs.Ends.{EndOf, HasCalls};
     ghost use Rattle.oneshot_ends.specs.Grounds.{state_of};
+    ghost use Rattle.oneshot_ends.specs.OwnWakers.{IsOwn, Owned};
+    ghost use Rattle.std.specs.Prelude.{IfSome};
+    ghost use Rattle.oneshot_ends.specs.Taken.{TookAsFound};
 
-    ghost Value = { EndOf P };
+    ghost Value = { EndOf T P };
 
-    ghost view = { λ r. record { channel = r.ground.table; log = r.ground.log; about = r.ground.about } };
+    ghost view = { λ r. record {
+      channel = r.ground.table;
+      log = r.ground.log;
+      about = r.ground.about;
+      took = r.ground.passed;
+    } };
 
     ghost invariant = { λ r.
         AtRest (state_of r.ground) × IsReady r.hand (receiver_of (state_of r.ground).log)
-        × HasCalls T as_receiver r.ground.log };
+        × HasCalls T as_receiver r.ground.log
+        × Owned r.parker.parker r.ground × IfSome r.hand (IsOwn r.parker.parker)
+        × TookAsFound r.ground.passed r.ground.log };
 }
 
 impl<T, Rt, P: Promise<T>> Receiver<T, Rt, P> {
@@ -75,10 +88,12 @@ impl<T, Rt, P: Promise<T>> Receiver<T, Rt, P> {
         half: ChannelWaker,
         rt: Rt,
     ) -> Receiver<T, Rt, P>
-        requires { IsNewReceiver side }
+        requires new { IsNewReceiver side }
+        requires own { IsOwn parker.parker half }
         ensures channel { result.channel ≡ side.table }
         ensures log { result.log ≡ side.log }
         ensures about { result.about ≡ side.about }
+        ensures took { result.took ≡ side.passed }
     {
         Receiver {
             ground: SharedReceiver::new(side),
@@ -108,6 +123,8 @@ impl<T: Drop, Rt: Drop, P: Promise<T>> Receiver<T, Rt, P> {
         ensures bounded { GrewWithin (receiver_bound TryRecv) self.old.log self.new.log }
         ensures about { self.new.about ≡ self.old.about }
         ensures kept { IfOk result (λ message. P.keeps self.old.about message) }
+        ensures took { Takes result self.old.took self.new.took }
+        ensures stays_taken { StaysTaken self.old.took self.new.took }
     {
         try_recv(&mut self.ground)
     }
@@ -131,6 +148,8 @@ impl<T: Drop, Rt: Wait + Clock + Drop, P: Promise<T>> Receiver<T, Rt, P> {
         ensures stays_closed { IsClosed self.old → IsErr result }
         ensures about { self.new.about ≡ self.old.about }
         ensures kept { IfOk result (λ message. P.keeps self.old.about message) }
+        ensures took { Takes result self.old.took self.new.took }
+        ensures stays_taken { StaysTaken self.old.took self.new.took }
     {
         let deadline = Deadline::Never;
         let mut lent = Blocking::lend(&mut self.ground, &mut self.parker, &self.rt, deadline, None);
@@ -158,6 +177,8 @@ impl<T: Drop, Rt: Wait + Clock + Drop, P: Promise<T>> Receiver<T, Rt, P> {
         ensures stays_closed { IsClosed self.old → result ≡ Err Timed.Disconnected }
         ensures about { self.new.about ≡ self.old.about }
         ensures kept { IfOk result (λ message. P.keeps self.old.about message) }
+        ensures took { Takes result self.old.took self.new.took }
+        ensures stays_taken { StaysTaken self.old.took self.new.took }
     {
         let deadline = Deadline::At(deadline);
         let mut lent = Blocking::lend(&mut self.ground, &mut self.parker, &self.rt, deadline, None);
@@ -179,6 +200,8 @@ impl<T: Drop, Rt: Wait + Clock + Drop, P: Promise<T>> Receiver<T, Rt, P> {
         ensures stays_closed { IsClosed self.old → result ≡ Err Timed.Disconnected }
         ensures about { self.new.about ≡ self.old.about }
         ensures kept { IfOk result (λ message. P.keeps self.old.about message) }
+        ensures took { Takes result self.old.took self.new.took }
+        ensures stays_taken { StaysTaken self.old.took self.new.took }
     {
         let reading = read(&self.rt);
         self.recv_after(reading, timeout)
@@ -218,6 +241,8 @@ fn receive_last<T: Drop, Rt: Wait + Clock + Drop, P: Promise<T>>(
 ) -> Result<T, RecvError>
     requires rests { AtRest (state_of ground.old) }
     requires ready { IsReady hand.old (receiver_of (state_of ground.old).log) }
+    requires owned { Owned parker.old.parker ground.old }
+    requires own { IfSome hand.old (IsOwn parker.old.parker) }
     ensures left { IsTrue (goes (receiver_at ground.new.log)) }
     ensures stays { IsClosedAt (receiver_of (state_of ground.old).log) → IsErr result }
     ensures kept { IfOk result (λ message. P.keeps ground.old.about message) }
@@ -237,6 +262,8 @@ impl<T: Drop, Rt: Wait + Clock + Drop, P: Promise<T>> Receiver<T, Rt, P> {
         ensures stays_closed { IsClosed self.old → result ≡ Err Timed.Disconnected }
         ensures about { self.new.about ≡ self.old.about }
         ensures kept { IfOk result (λ message. P.keeps self.old.about message) }
+        ensures took { Takes result self.old.took self.new.took }
+        ensures stays_taken { StaysTaken self.old.took self.new.took }
     {
         let deadline = Deadline::after(reading, timeout);
         let made = Some(reading);
@@ -252,6 +279,7 @@ impl<T: Drop, Rt: Drop, P: Promise<T>> Receiver<T, Rt, P> {
         ensures channel { result.channel ≡ self.channel }
         ensures log { result.log ≡ self.log }
         ensures about { result.about ≡ self.about }
+        ensures took { result.took ≡ self.took }
     {
         let Receiver {
             ground,

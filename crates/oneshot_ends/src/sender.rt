@@ -32,10 +32,10 @@ pub struct Sender<T, P: Promise<T> = ()> {
 }
 
 impl<T, P: Promise<T>> Model for Sender<T, P> {
-    ghost use Rattle.oneshot_ends.specs.Ends.{EndOf};
+    ghost use Rattle.oneshot_ends.specs.Ends.{SenderEndOf};
     ghost use Rattle.oneshot_ends.specs.Grounds.{IsNewSender};
 
-    ghost Value = { EndOf P };
+    ghost Value = { SenderEndOf P };
 
     ghost view = { λ s. record { channel = s.side.table; log = s.side.log; about = s.side.about } };
 

@@ -56,7 +56,7 @@ impl Outcome<bool, Half> for Gives {
     ghost then = { λ _ _ _ after. after ≡ Waking true };
 }
 
-/// The half by which a thread parks. A contract sees whether it took the token.
+/// The half by which a thread parks. A contract sees its parker, and whether it took the token.
 #[derive(Drop)]
 pub(crate) struct ParkingHalf {
     parker: RuledParker<Half, TokenRule>,
@@ -64,15 +64,15 @@ pub(crate) struct ParkingHalf {
 }
 
 impl Model for ParkingHalf {
-    ghost use Rattle.std.specs.Prelude.{◌≡◌, Bool};
+    ghost use Rattle.std.specs.Prelude.{◌≡◌};
     ghost use Rattle.std.specs.Arc.{arc_value};
     ghost use Rattle.crossbeam_utils.specs.Token.{parker_view};
     ghost use Rattle.oneshot_ends.specs.declared.token.Half.TheVariants.{Parking};
-    ghost use Rattle.oneshot_ends.specs.Tokens.{took};
+    ghost use Rattle.oneshot_ends.specs.Tokens.{Parks, took};
 
-    ghost Value = { Bool };
+    ghost Value = { Parks };
 
-    ghost view = { λ p. took (parker_view p.pass) };
+    ghost view = { λ p. record { taken = took (parker_view p.pass); parker = p.pass.table_id } };
 
     ghost invariant = { λ p. (p.pass.table_id ≡ (arc_value p.parker.unparker.state).shared.table_id)
         × (parker_view p.pass ≡ Parking (took (parker_view p.pass))) };
@@ -96,7 +96,8 @@ pub(crate) struct Given {
 
 /// Makes a parker in its halves, without a token. `Err`: an allocation failed.
 pub(crate) fn parker(alloc: Global) -> Result<(ParkingHalf, WakingHalf), AllocError>
-    ensures { IfOk result (λ halves. halves.0 ≡ false) }
+    ensures no_token { IfOk result (λ halves. halves.0.taken ≡ false) }
+    ensures one_parker { IfOk result (λ halves. halves.1.pass.table_id ≡ halves.0.parker) }
 {
     let (parker, mut pass): (RuledParker<Half, TokenRule>, Pass<Half>) = RuledParker::ruled(alloc)?;
     let unparker = parker.unparker().clone()?;
@@ -113,16 +114,16 @@ pub(crate) fn parker(alloc: Global) -> Result<(ParkingHalf, WakingHalf), AllocEr
 impl ParkingHalf {
     /// Blocks until the token is there, and takes it. It never returns if the token was taken before.
     pub(crate) fn park<R: Wait>(&mut self, rt: &R)
-        ensures first { self.old ≡ false }
-        ensures takes { self.new ≡ true }
+        ensures first { self.old.taken ≡ false }
+        ensures takes { self.new ≡ record self.old { taken = true } }
     {
         self.parker.park_as::<Takes, R>(rt, &mut self.pass);
     }
 
     /// Blocks until the token is there, and takes it, or until `deadline`. Returns whether it took the token.
     pub(crate) fn park_until<R: Wait + Clock>(&mut self, rt: &R, deadline: Instant) -> bool
-        ensures first { result ≡ true → self.old ≡ false }
-        ensures takes { self.new ≡ (result || self.old) }
+        ensures first { result ≡ true → self.old.taken ≡ false }
+        ensures takes { self.new ≡ record self.old { taken = result || self.old.taken } }
     {
         self.parker
             .park_deadline_as::<Takes, R>(rt, &mut self.pass, deadline)

@@ -45,10 +45,19 @@ impl<'a, 't, T: Drop, R: Wait> ReceiverGround<T, TaskWaker<'t>> for MemoryFuture
 
     ghost keeps_on = { λ a b c f g. tt };
 
+    // It gives and takes any waker.
+    ghost has = { λ s hand. ⊤ };
+
+    ghost has_on = { λ a b hand k h. tt };
+
     // It states nothing of a message that it returns.
     ghost gives = { λ s m. ⊤ };
 
     ghost gives_on = { λ a b m k g. tt };
+
+    ghost had = { λ s m. ⊤ };
+
+    ghost had_on = { λ a b m k h. tt };
 
     fn load(&mut self) -> u8 {
         self.receiver.load()

@@ -277,10 +277,19 @@ impl<'a, T: Drop, W: Drop + Wakes, R: Wait> ReceiverGround<T, W> for MemoryRecei
 
     ghost keeps_on = { λ a b c f g. tt };
 
+    // It gives and takes any waker.
+    ghost has = { λ s hand. ⊤ };
+
+    ghost has_on = { λ a b hand k h. tt };
+
     // It states nothing of a message that it returns.
     ghost gives = { λ s m. ⊤ };
 
     ghost gives_on = { λ a b m k g. tt };
+
+    ghost had = { λ s m. ⊤ };
+
+    ghost had_on = { λ a b m k h. tt };
 
     fn load(&mut self) -> u8 {
         let parked = self.parked;
@@ -351,6 +360,8 @@ impl<'a, T: Drop, W: Drop + Wakes, R: Wait> ReceiverGround<T, W> for MemoryRecei
 impl<'a, T: Drop, W: Drop + Wakes, R: Wait> BlockGround<T, W> for MemoryReceiver<'a, T, W, R> {
     // Its log has what a park did.
     ghost parks = { λ timed a b. ⊤ };
+
+    ghost left = { λ s. ⊤ };
 
     fn park(&mut self, _timed: bool) {
         self.pause();

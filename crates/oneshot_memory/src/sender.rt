@@ -142,8 +142,13 @@ impl<'a, T: Drop, W: Drop, R: Wait> SenderGround<T, W> for MemorySender<'a, T, W
     // It admits any message.
     ghost admits = { λ s m. ⊤ };
 
-    // Its log has the waker that it used.
+    // Its log has the wakers that it took and used.
+    ghost owed = { λ s k. ⊤ };
+
     ghost woken = { λ s k. ⊤ };
+
+    // It states nothing of a message that it gave.
+    ghost gave = { λ s m. ⊤ };
 
     fn add(&mut self) -> u8 {
         self.operate(Op::Add)

@@ -1,5 +1,5 @@
 -- Proofs of the examples: the calls and the order of each worked log, and why the wrong logs have none.
-use Rattle.std.proofs.Common.{◌≡◌, false, true, List, [], ◌∷◌, ◌++◌, refl, sym, ◌∙◌, ap, subst}
+use Rattle.std.proofs.Common.{◌≡◌, false, true, List, [], ◌∷◌, ◌++◌, Some, refl, sym, ◌∙◌, ap, subst}
 use Rattle.std.specs.List.{cons_option}
 use Rattle.std.specs.Option.{option_map}
 use Rattle.oneshot_machine.specs.declared.machine.Reply.{Reply}
@@ -43,8 +43,8 @@ pub worked_values : {T : Type 0} (m : T) → WorkedValues m
 worked_values {T} m =
     let calls = (worked_calls {T = T} {W = Waking}).tries in
     record {
-      tried = receiver_runs T as_receiver tried_twice
-          ((TryRecv, R.Empty) ∷ (TryRecv, R.Message) ∷ [], calls) ((Add, Word 3) ∷ [], 2, tried);
+      tried = receiver_runs T as_receiver (Some m) tried_twice
+          ((TryRecv, R.Empty) ∷ (TryRecv, R.Message) ∷ [], calls) ((Add, Word 3) ∷ [], 2, tried) refl;
       got_it = refl;
       last_got = ((TryRecv, R.Empty) ∷ [], calls, refl);
       refused = error_runs m ((Add, Word 2) ∷ []) ((Swap 2, Word 3) ∷ [], 3, refused);
@@ -88,6 +88,10 @@ pub wrong_values : {T : Type 0} (m : T) → WrongValues m
 wrong_values {T} m =
     record {
       finds_a_waker = λ so. let is : false ≡ true = receiver_is so.order in cc is;
+      took_none = λ so.
+          let is : 1 ≡ 0 = so.gets ((TryRecv, R.Empty) ∷ (TryRecv, R.Message) ∷ [])
+          ((worked_calls {T = T} {W = Waking}).tries) in cc is;
+      took_unfound = λ so. let is : 0 ≡ 1 = so.gets [] not_called in cc is;
       got_two = λ e. cc e;
       found_nothing = λ so. let end : IsLast T (TryRecv, R.Message) ((Load, Word 3) ∷ []) =
           last_call so.0 (TryRecv, R.Message) so.1 refl in takes_nothing end.made end.before end.leaves;

@@ -1,13 +1,17 @@
 -- An end's log belongs to an order of operations, and each order to a run.
-use Rattle.std.proofs.Common.{◌≡◌, ◌≤◌, ◌+◌, List, [], ◌∷◌, ◌++◌, arith, length, length-append, refl, ap, ◌∙◌}
-use Rattle.std.specs.Prelude.{filter, Result, Ok, Err, IfOk}
+use Rattle.std.proofs.Common.{◌≡◌, ◌≤◌, ◌+◌, ℕ, zero, suc, Bool, true, false, Option, Some, None, sym, List, [], ◌∷◌, ◌++◌, arith, length, length-append, refl, ap, ◌∙◌}
+use Rattle.std.specs.Prelude.{filter, Result, Ok, Err, IfOk, ◌&&◌, ◌||◌, is_some}
 use Rattle.std.proofs.lemmas.List.{map-append}
 use Rattle.std.proofs.lemmas.List.Elements.{filter-append}
 use Rattle.oneshot_machine.specs.declared.machine.Reply.{Reply}
 use Rattle.oneshot_machine.specs.declared.machine.receiver.ReceiverStart.{ReceiverStart}
 use Rattle.oneshot_machine.specs.declared.machine.Reply.TheVariants as R
 use Rattle.oneshot_machine.specs.declared.machine.receiver.ReceiverStart.TheVariants.{TryRecv}
-use Rattle.oneshot_machine.specs.Called.{Form, as_receiver}
+use Rattle.oneshot_machine.specs.declared.machine.receiver.ReceiverStart.TheVariants as RC
+use Rattle.oneshot_machine.specs.Called.{Form, as_receiver, as_future, stays, ReceiverCalled, not_called, called, became_future}
+use Rattle.oneshot_machine.specs.Logs.{words}
+use Rattle.oneshot_laws.specs.Actions.{is_receive}
+use Rattle.oneshot_laws.specs.Entries.{is_same_reply}
 use Rattle.oneshot_machine.specs.Noted.{Noted}
 use Rattle.oneshot_drive.specs.declared.errors.try_recv.TryRecvError.{TryRecvError}
 use Rattle.oneshot_drive.specs.BetweenCalls.{try_recv_reply}
@@ -17,23 +21,9 @@ use Rattle.oneshot_bridge.specs.Gives.{gave_message}
 use Rattle.oneshot_bridge.specs.Walks.{Answered}
 use Rattle.oneshot_bridge.proofs.CallsRun.{calls_run, one_call_gets}
 use Rattle.oneshot_bridge.proofs.StatesRun.{states_run}
-use Rattle.oneshot_values.specs.Values.{message_replies, ReceiverRuns, OnlyTheLastGot, ErrorRuns}
-
-pub receiver_runs : (T : Type 0) (form : Form) (ys : List Noted) → HasCalls T form ys → ReceiverIsOrdered ys
-    → ReceiverRuns T form ys
-receiver_runs T form ys calls (xs, word, order) =
-    record {
-      xs = xs;
-      word = word;
-      order = order;
-      calls = calls;
-      runs = λ message calls was. calls_run T Waking message form calls xs ys word order was;
-      one_gets = λ message calls was. one_call_gets T Waking message form calls xs ys word order was;
-    }
-
-pub error_runs : {T : Type 0} (message : T) (xs : List Noted) → SenderIsOrdered xs → ErrorRuns message xs
-error_runs {T} message xs (ys, word, order) =
-    record { ys = ys; word = word; order = order; run = states_run T message xs ys word order }
+use Rattle.oneshot_ends.specs.Taken.{has_found, TookAsFound, is_message}
+use Rattle.oneshot_ends.proofs.Taken.{found_both, found_in_call, stays_begins}
+use Rattle.oneshot_values.specs.Values.{message_replies, one_if, ReceiverRuns, OnlyTheLastGot, ErrorRuns}
 
 -- the messages of some calls and of one more
 messages_more : (calls : List (ReceiverStart × Reply)) (call : ReceiverStart × Reply)
@@ -47,10 +37,95 @@ messages_more calls call =
     in_script_with : ReceiverStart × Reply → Answered
     in_script_with x = (in_script x.0, x.1)
 
+same_message : (reply : Reply) → is_same_reply R.Message reply ≡ is_message reply
+same_message R.Message = refl
+same_message _ = refl
+
+count_one : (b : Bool) (x : Answered) → gave_message x ≡ b → length (filter gave_message (x ∷ [])) ≡ one_if b
+count_one true x e = rw e refl
+count_one false x e = rw e refl
+
+-- a call that leaves the receiver in place is a receive
+is_receives : (form : Form) (call : ReceiverStart) → stays form call ≡ true → is_receive (in_script call) ≡ true
+is_receives as_receiver RC.TryRecv e = refl
+is_receives as_receiver RC.RecvRef e = refl
+is_receives as_receiver RC.RecvDeadline e = refl
+is_receives as_receiver (RC.RecvTimeout representable) e = refl
+is_receives as_future RC.Poll e = refl
+is_receives as_future RC.AsyncTryRecv e = refl
+is_receives _ _ e = absurd (cc)
+
+one_reply : (form : Form) (call : ReceiverStart) (reply : Reply) → stays form call ≡ true
+    → message_replies ((call, reply) ∷ []) ≡ one_if (is_message reply)
+one_reply form call reply its =
+    count_one (is_message reply) (in_script call, reply)
+    (ap (λ b. b && is_same_reply R.Message reply) (is_receives form call its) ∙ same_message reply)
+
+-- one more reply
+positive : ℕ → Bool
+positive zero = false
+positive (suc n) = true
+
+more_is : (n m : ℕ) → suc n + m ≡ suc (n + m)
+more_is n m = omega arith
+
+counted : (n : ℕ) (b : Bool) → (positive n || b) ≡ positive (n + one_if b)
+unfolding positive
+counted zero true = refl
+counted zero false = refl
+counted (suc n) b = sym (ap positive (more_is n (one_if b)))
+
+-- a log shows whether one of its calls returned the message
+shows : {T : Type 0} {form : Form} {calls : List (ReceiverStart × Reply)} {log : List Noted}
+    → ReceiverCalled T Waking form calls log → has_found log ≡ positive (message_replies calls)
+unfolding positive
+shows not_called = refl
+shows (called {form} {calls} {log} call reply run was its made) =
+    found_both log (words run)
+    ∙ ap (λ b. has_found log || b) (found_in_call call run reply (stays_begins form call its) made)
+    ∙ ap (λ b. b || is_message reply) (shows was) ∙ counted (message_replies calls) (is_message reply)
+    ∙ ap (λ n. positive (message_replies calls + n)) (sym (one_reply form call reply its))
+    ∙ ap positive (sym (messages_more calls (call, reply)))
+shows (became_future {calls} was) =
+    shows was ∙ ap positive (sym (messages_more calls (RC.IntoFuture, R.Future) ∙ omega arith))
+
+none_of : (n : ℕ) → positive n ≡ false → n ≡ 0
+unfolding positive
+none_of zero e = refl
+none_of (suc n) e = absurd (cc)
+
+one_of : (n : ℕ) → positive n ≡ true → n ≤ 1 → n ≡ 1
+unfolding positive
+one_of zero e few = absurd (cc)
+one_of (suc n) e few = omega (arith, few)
+
+gets_so : {T : Type 0} (took : Option T) (n : ℕ) → (T → n ≤ 1) → is_some took ≡ positive n → n ≡ one_if (is_some took)
+gets_so None n few e = none_of n (sym e)
+gets_so (Some m) n few e = one_of n (sym e) (few m)
+
+pub receiver_runs : (T : Type 0) (form : Form) (took : Option T) (ys : List Noted) → HasCalls T form ys
+    → ReceiverIsOrdered ys → TookAsFound took ys → ReceiverRuns T form took ys
+receiver_runs T form took ys calls (xs, word, order) so =
+    record {
+      xs = xs;
+      word = word;
+      order = order;
+      calls = calls;
+      runs = λ message passed calls was. calls_run T Waking message form calls xs ys word order was;
+      gets = λ calls was.
+          gets_so took (message_replies calls) (λ m. one_call_gets T Waking m form calls xs ys word order was)
+          (so ∙ shows was);
+      one_gets = λ message calls was. one_call_gets T Waking message form calls xs ys word order was;
+    }
+
+pub error_runs : {T : Type 0} (message : T) (xs : List Noted) → SenderIsOrdered xs → ErrorRuns message xs
+error_runs {T} message xs (ys, word, order) =
+    record { ys = ys; word = word; order = order; run = states_run T message xs ys word order }
+
 -- a `try_recv` that returned the message was the only call that did
-pub only_the_last_got : {T : Type 0} (result : Result T TryRecvError) {before after : List Noted} → CallsAddUp T
+pub only_the_last_got : {T : Type 0} (result : Result T TryRecvError) {before after : List Noted} {took : Option T} → CallsAddUp T
     → HasCalls T as_receiver before → ReceiverGrew T TryRecv before after (try_recv_reply result)
-    → ReceiverRuns T as_receiver after → IfOk result (λ message. OnlyTheLastGot T after)
+    → ReceiverRuns T as_receiver took after → IfOk result (λ message. OnlyTheLastGot T after)
 only_the_last_got (Err error) add calls grew runs = tt
 only_the_last_got (Ok message) {before} {after} add (calls, was) grew runs =
     let last : ReceiverStart × Reply = (TryRecv, R.Message) in

@@ -1,5 +1,5 @@
 -- Worked logs that the definitions accept, and wrong logs that they refuse.
-use Rattle.std.specs.Prelude.{◌≡◌, [], ◌∷◌}
+use Rattle.std.specs.Prelude.{◌≡◌, [], ◌∷◌, Option, Some, None}
 use Rattle.oneshot_machine.specs.declared.machine.Reply.TheVariants as R
 use Rattle.oneshot_machine.specs.declared.machine.Seen.TheVariants.{Word}
 use Rattle.oneshot_machine.specs.declared.machine.receiver.ReceiverStart.TheVariants.{TryRecv}
@@ -11,7 +11,7 @@ use Rattle.oneshot_values.specs.Values.{message_replies, ReceiverRuns, OnlyTheLa
 module _ {T : Type 0} (m : T) where
   pub record WorkedValues : Type 0 where
     -- a `try_recv` that found nothing, and one that took the message
-    pub tried : ReceiverRuns T as_receiver tried_twice
+    pub tried : ReceiverRuns T as_receiver (Some m) tried_twice
     pub got_it : message_replies ((TryRecv, R.Empty) ∷ (TryRecv, R.Message) ∷ []) ≡ 1
     pub last_got : OnlyTheLastGot T tried_twice
     -- a `send` that found the receiver gone
@@ -19,7 +19,10 @@ module _ {T : Type 0} (m : T) where
 
   pub record WrongValues : Type 0 where
     -- no receiver finds a waker that it did not store
-    pub finds_a_waker : ReceiverRuns T as_receiver ((Load, Word 0) ∷ []) → ⊥
+    pub finds_a_waker : {took : Option T} → ReceiverRuns T as_receiver took ((Load, Word 0) ∷ []) → ⊥
+    -- the message that a call returned was taken, and a receiver that got none has taken none
+    pub took_none : ReceiverRuns T as_receiver None tried_twice → ⊥
+    pub took_unfound : ReceiverRuns T as_receiver (Some m) [] → ⊥
     -- two messages are not one
     pub got_two : message_replies ((TryRecv, R.Message) ∷ (TryRecv, R.Message) ∷ []) ≡ 1 → ⊥
     -- a `try_recv` that found nothing did not return the message, whatever was called before

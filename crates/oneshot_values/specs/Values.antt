@@ -1,5 +1,5 @@
 -- What the laws state of the values that a program holds: each has the log of a run of the model.
-use Rattle.std.specs.Prelude.{◌≡◌, ◌≤◌, ℕ, List, [], ◌∷◌, ◌++◌, filter, length}
+use Rattle.std.specs.Prelude.{◌≡◌, ◌≤◌, ℕ, Bool, true, false, Option, is_some, List, [], ◌∷◌, ◌++◌, filter, length}
 use Rattle.oneshot_machine.specs.declared.machine.Reply.{Reply}
 use Rattle.oneshot_machine.specs.declared.machine.receiver.ReceiverStart.{ReceiverStart}
 use Rattle.oneshot_machine.specs.declared.machine.Reply.TheVariants as R
@@ -10,23 +10,32 @@ use Rattle.oneshot_machine.specs.Orders.{Reaches}
 use Rattle.oneshot_ends.specs.Ends.{Waking, HasCalls}
 use Rattle.oneshot_bridge.specs.CallsRun.{RunsCalls, receiver_answered}
 use Rattle.oneshot_bridge.specs.Gives.{gave_message}
+use Rattle.oneshot_bridge.specs.Joined.{Passed}
 use Rattle.oneshot_bridge.specs.Scripted.{IsOfARun}
 
 -- how many of a receiver's calls returned the message
 abbrev pub message_replies : List (ReceiverStart × Reply) → ℕ
 message_replies calls = length (filter gave_message (receiver_answered calls))
 
--- A receiver's log, or a future's. With some log of a sender its operations have an order, which leaves this
--- word.
-pub record ReceiverRuns (T : Type 0) (form : Form) (ys : List Noted) : Type 0 where
+abbrev pub one_if : Bool → ℕ
+one_if true = 1
+one_if false = 0
+
+-- A receiver's log, or a future's, and the message that it took, if it has. With some log of a sender its
+-- operations have an order, which leaves this word.
+pub record ReceiverRuns (T : Type 0) (form : Form) (took : Option T) (ys : List Noted) : Type 0 where
   pub xs : List Noted
   pub word : ℕ
   pub order : Reaches xs ys word
   -- it is the log of some calls
   pub calls : HasCalls T form ys
-  -- whichever calls these were, a run of the model has these logs and this word, and exactly these calls
-  pub runs : (message : T) (calls : List (ReceiverStart × Reply)) → ReceiverCalled T Waking form calls ys
-      → RunsCalls message calls xs ys word
+  -- whichever calls these were, a run of the model has these logs and this word, and exactly these calls; it
+  -- sends the message that the receiver took, if it has
+  pub runs : (message : T) → Passed message took → (calls : List (ReceiverStart × Reply))
+      → ReceiverCalled T Waking form calls ys → RunsCalls message calls xs ys word
+  -- exactly one of them returned the message if the receiver took one, and otherwise none
+  pub gets : (calls : List (ReceiverStart × Reply)) → ReceiverCalled T Waking form calls ys
+      → message_replies calls ≡ one_if (is_some took)
   -- at most one of them returned the message
   pub one_gets : T → (calls : List (ReceiverStart × Reply)) → ReceiverCalled T Waking form calls ys
       → message_replies calls ≤ 1

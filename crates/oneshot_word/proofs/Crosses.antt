@@ -23,12 +23,12 @@ seat_sync : (S V : RattleType) → IsSend S → IsSync (Seat.the_row S V)
 seat_sync S V s = record { shared = λ d b o κ q. part_keyless (Seat.the_row S V) (seat.the_send S V s) q d b o }
 
 abbrev pub WordSeat : RattleType → RattleType → RattleType → RattleType → RattleType
-WordSeat T H K P = Seat.the_row (Slot.the_row T H K) (View.the_row T P)
+WordSeat T H K P = Seat.the_row (Slot.the_row T H K) (View.the_row T H K P)
 
 module _ (T H K P : RattleType) (g : Ghosts P.Denot T.Denot) where
   abbrev WordTable : RattleType
   WordTable =
-      Table.the_row (Slot.the_row T H K) (View.the_row T P) P WordRule.the_row Global.the_row
+      Table.the_row (Slot.the_row T H K) (View.the_row T H K P) P WordRule.the_row Global.the_row
       (rule.ghosts T H K P g (impl [] tnil dnil)) heap.ghosts
 
   abbrev pub Shared : RattleType
@@ -40,12 +40,12 @@ module _ (T H K P : RattleType) (g : Ghosts P.Denot T.Denot) (s : IsSend T) (u :
 
   table_send : IsSend (WordTable T H K P g)
   table_send =
-      table.the_send (Slot.the_row T H K) (View.the_row T P) P WordRule.the_row Global.the_row
+      table.the_send (Slot.the_row T H K) (View.the_row T H K P) P WordRule.the_row Global.the_row
       (rule.ghosts T H K P g (impl [] tnil dnil)) heap.ghosts slot_send global.the_send frees
 
   table_sync : IsSync (WordTable T H K P g)
   table_sync =
-      table.the_sync (Slot.the_row T H K) (View.the_row T P) P WordRule.the_row Global.the_row
+      table.the_sync (Slot.the_row T H K) (View.the_row T H K P) P WordRule.the_row Global.the_row
       (rule.ghosts T H K P g (impl [] tnil dnil)) heap.ghosts slot_send global.the_send global.the_sync frees
 
   shared_send : IsSend (Shared T H K P g)
@@ -59,7 +59,7 @@ module _ (T H K P : RattleType) (g : Ghosts P.Denot T.Denot) (s : IsSend T) (u :
       global.the_sync frees
 
   pub parts_send : AllSend (fields (the_type T H K P g))
-  parts_send = (shared_send, (seat.the_send (Slot.the_row T H K) (View.the_row T P) slot_send, tt))
+  parts_send = (shared_send, (seat.the_send (Slot.the_row T H K) (View.the_row T H K P) slot_send, tt))
 
   pub parts_sync : AllSync (fields (the_type T H K P g))
-  parts_sync = (shared_sync, (seat_sync (Slot.the_row T H K) (View.the_row T P) slot_send, tt))
+  parts_sync = (shared_sync, (seat_sync (Slot.the_row T H K) (View.the_row T H K P) slot_send, tt))

@@ -2,6 +2,7 @@ pub mod Alike
 pub mod Meets
 pub mod Says
 pub mod FoundRow
+pub mod Hands
 pub mod SlotMoves
 pub mod KeptRows
 pub mod RuleKept

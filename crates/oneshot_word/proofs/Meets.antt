@@ -1,6 +1,6 @@
 -- What the rule implies phase by phase: the word for each pair of phases, and what each log shows.
 use Rattle.std.specs.Prelude.{◌≡◌, ℕ, Bool, true, false, List, [], Option, Some, None}
-use Rattle.oneshot_word.proofs.Names.{Noted, By, sending, dropping, SenderAt, fresh, owes, finished, late, overtaken, swapped, found_closed, closed_itself, ReceiverAt, first, here, claimed, withdrew, overdue, full, unclosed, disconnected, resolved, gone, swapped_in, word_of, Message, FoundZero, MadeLast, MadeLate, stores_waker, is_overdue, is_gone, wrote_since, Home, message_home, waker_home, Lies, any, with_waker}
+use Rattle.oneshot_word.proofs.Names.{Noted, By, sending, dropping, SenderAt, fresh, owes, finished, late, overtaken, swapped, found_closed, closed_itself, ReceiverAt, first, here, claimed, withdrew, overdue, full, unclosed, disconnected, resolved, gone, swapped_in, word_of, Message, FoundZero, MadeLast, MadeLate, stores_waker, is_overdue, is_gone, wrote_since, Home, message_home, waker_home, Lies, AnyWaker, with_waker}
 use Rattle.oneshot_machine.specs.Phases.{waits, ended}
 
 -- the word that the sender's final operation leaves, unless it is an add or a flip that found the receiver
@@ -48,11 +48,11 @@ pub data Is : Option ℕ → ℕ → Type 0 where
   is : {word : ℕ} → Is (Some word) word
 
 -- the sender, the receiver, the word, and what is at home of the message's slot and of the waker's
-pub data Meet (T H K : Type 0) (kept : T → Type 0) (p : SenderAt) (q : ReceiverAt)
+pub data Meet (T H K : Type 0) (kept : T → Type 0) (fits : AnyWaker H K → Type 0) (p : SenderAt) (q : ReceiverAt)
     : ℕ → Home T H K → Home T H K → Type 0 where
   meet : {word : ℕ} {h k : Home T H K} → Is (word_between p q) word
-      → Lies kept Message (message_home p q) h → Lies any with_waker (waker_home p q) k
-      → Meet T H K kept p q word h k
+      → Lies kept Message (message_home p q) h → Lies fits with_waker (waker_home p q) k
+      → Meet T H K kept fits p q word h k
 
 -- what a receiver's log shows in a phase
 abbrev pub stores_of : ReceiverAt → Bool

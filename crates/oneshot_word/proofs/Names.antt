@@ -26,10 +26,10 @@ pub use Rattle.oneshot_word.specs.Ordered.{Ordered, maker_before, dealer_before,
 pub use Rattle.oneshot_word.specs.Promised.{RuleKeeps}
 pub use Rattle.oneshot_word.specs.ReadExamples.{both_in, both_out, one_out, alone, views, found, ReadsThatAre, ReadsThatAreNot}
 pub use Rattle.oneshot_word.specs.ReadRule.{sender_has_it, left_for_sender, receiver_has_it, left_for_receiver, receiver_found_it, waits_for_receiver, waker_at_home, Owned, both_open, waker_stored, waker_claimed, claimed_overdue, claimed_gone, receiver_gone, sender_after, written, Ruled, maker_alone, dealer_alone, two_ends, IsSenders, IsReceivers, IsWords}
-pub use Rattle.oneshot_word.specs.Received.{both_views, ReceivedIsSent, MessagesThatPass, MessagesThatDoNot}
-pub use Rattle.oneshot_word.specs.Rule.{Home, message_home, waker_home, Lies, lies_out, lies_bare, lies_filled, Tied, opened, dealt, runs, IsGiven, IsTaken, took_none, took_it, out, bare, has_waker, has_message}
+pub use Rattle.oneshot_word.specs.Received.{both_views, ReceivedIsSent, WokenIsPut, MessagesThatPass, MessagesThatDoNot, WakersThatPass, WakersThatDoNot}
+pub use Rattle.oneshot_word.specs.Rule.{Home, has_slots, waker_left, message_home, waker_home, Lies, lies_out, lies_bare, lies_filled, Tied, opened, dealt, runs, IsGiven, IsTaken, took_none, took_it, IsPut, has_made, IsClaimed, claimed_none, claimed_it, out, bare, has_waker, has_message}
 pub use Rattle.oneshot_word.specs.SeatExamples.{Kept, Carries, MessagePart, WakerPart, received, SlotsAsSeen, SeatsThatAre, SeatsThatAreNot, sent_at_once}
-pub use Rattle.oneshot_word.specs.Seats.{any, with_waker, Carried, slot_vacant, slot_held, Part, not_carried, carried, Front, SeatOf, seat_of, GivesOnce, has_given, gave_none, HoldsTaken, holds_no_slot, holds_none, holds_it, gave, took, message_in, waker_in, MessageSlot, WakerSlot, message_first, waker_first, SeatIs, SenderSeat, ReceiverSeat, IsAt, view, Keeps, held_keeps, message_of, waker_of, IsOrdered, carried_as, SenderStepped, ReceiverStepped, vacant_keeps}
+pub use Rattle.oneshot_word.specs.Seats.{any, SlotOf, with_waker, Carried, slot_vacant, slot_held, Part, not_carried, carried, Front, SeatOf, seat_of, GivesOnce, has_given, gave_none, HoldsTaken, holds_no_slot, holds_none, holds_it, HoldsClaimed, claims_no_slot, claims_none, claims_it, gave, took, message_in, waker_in, MessageSlot, WakerSlot, message_first, waker_first, SeatIs, SenderSeat, ReceiverSeat, IsAt, view, Keeps, held_keeps, message_of, waker_of, IsOrdered, unsaid, carried_as, SenderStepped, ReceiverStepped, vacant_keeps}
 pub use Rattle.oneshot_word.specs.Side.{Side, side_of, SenderCan, ReceiverCan}
 pub use Rattle.oneshot_word.specs.SideExamples.{SidesThatAre, SidesThatAreNot}
 pub use Rattle.oneshot_word.specs.contracts.sender.SenderSide.{the_row}

@@ -1,6 +1,9 @@
 -- The message that has passed after an operation: the sender gave it, and it is at home or the receiver took it.
-use Rattle.std.proofs.Common.{◌≡◌, Bool, Option, Some, None, refl}
-use Rattle.oneshot_word.proofs.Names.{sym, ap, ◌∙◌, subst, Op, Share, SenderAt, fresh, owes, finished, late, overtaken, no_sender, sender_owns, ReceiverAt, Held, away, vacant, held, SenderMay, may, Turns, stays_away, stays_vacant, stays_held, gives_room, gives_thing, gets_room, gets_thing, AnyWaker, Slot, Message, Home, message_home, Lies, lies_out, lies_bare, lies_filled, IsGiven, IsTaken, took_none, took_it, Carried, Front, slot_vacant, slot_held, not_carried, carried, SeatOf, seat_of, GivesOnce, has_given, gave_none, HoldsTaken, holds_no_slot, holds_none, holds_it, gave, took}
+use Rattle.std.proofs.Common.{◌≡◌, ℕ, Bool, true, false, Option, Some, None, refl}
+use Rattle.std.specs.Prelude.{is_some}
+use Rattle.oneshot_machine.specs.TableRows.{is_same_seen}
+use Rattle.oneshot_machine.specs.Phases.{looked, waits}
+use Rattle.oneshot_word.proofs.Names.{sym, ap, ◌∙◌, subst, not, ◌||◌, saw, Word, list_all, each_passes, In, Op, Row, Slots, Share, none, empty, filled, SenderAt, fresh, owes, finished, late, overtaken, no_sender, sender_owns, ReceiverAt, receiver_moves, blocked, storing, swapped, found_closed, here, full, unclosed, disconnected, resolved, Held, away, vacant, held, SenderMay, may, Turns, stays_away, stays_vacant, stays_held, gives_room, gives_thing, gets_room, gets_thing, AnyWaker, Slot, Message, Home, message_home, Lies, lies_out, lies_bare, lies_filled, IsGiven, IsTaken, took_none, took_it, Carried, Front, slot_vacant, slot_held, not_carried, carried, SeatOf, seat_of, GivesOnce, has_given, gave_none, HoldsTaken, holds_no_slot, holds_none, holds_it, gave, took}
 
 -- a message that keeps the promise, and that the sender gives if it gives up its slot
 abbrev pub Offers : {T P : Type 0} → (P → T → Type 0) → P → Held T → T → Type 0
@@ -14,22 +17,22 @@ module _ {T H K : Type 0} where
   lies_as so lies_bare = lies_bare
   lies_as so (lies_filled x k) = lies_filled x (so x k)
 
-  pub seat_as : {kept kept' : T → Type 0} {front : Front} {o : Option (Bool × Bool)} {c : Carried T H K} {m : Held T}
-      {w : Held (AnyWaker H K)} → ((x : T) → m ≡ held x → kept x → kept' x) → SeatOf kept front o c m w
-      → SeatOf kept' front o c m w
+  pub seat_as : {kept kept' : T → Type 0} {fits : AnyWaker H K → Type 0} {front : Front} {o : Option (Bool × Bool)} {c : Carried T H K} {m : Held T}
+      {w : Held (AnyWaker H K)} → ((x : T) → m ≡ held x → kept x → kept' x) → SeatOf kept fits front o c m w
+      → SeatOf kept' fits front o c m w
   seat_as so (seat_of not_carried waker) = seat_of not_carried waker
   seat_as so (seat_of (carried slot_vacant) waker) = seat_of (carried slot_vacant) waker
   seat_as so (seat_of (carried (slot_held x k)) waker) = seat_of (carried (slot_held x (so x refl k))) waker
 
-  pub seat_keeps : {kept : T → Type 0} {front : Front} {o : Option (Bool × Bool)} {c : Carried T H K} {m : Held T}
-      {w : Held (AnyWaker H K)} {x : T} → SeatOf kept front o c m w → m ≡ held x → kept x
+  pub seat_keeps : {kept : T → Type 0} {fits : AnyWaker H K → Type 0} {front : Front} {o : Option (Bool × Bool)} {c : Carried T H K} {m : Held T}
+      {w : Held (AnyWaker H K)} {x : T} → SeatOf kept fits front o c m w → m ≡ held x → kept x
   seat_keeps (seat_of not_carried waker) is = absurd (cc is)
   seat_keeps (seat_of (carried slot_vacant) waker) is = absurd (cc is)
   seat_keeps {kept} (seat_of (carried (slot_held y k)) waker) is = subst kept (cc is) k
 
   -- a sender that may perform an operation has given nothing
-  pub gave_no : {kept : T → Type 0} {front : Front} (p : SenderAt) {op : Op} {c : Carried T H K} {m : Held T}
-      {w : Held (AnyWaker H K)} {given : Option T} → SenderMay p op m w → SeatOf kept front (sender_owns p) c m w
+  pub gave_no : {kept : T → Type 0} {fits : AnyWaker H K → Type 0} {front : Front} (p : SenderAt) {op : Op} {c : Carried T H K} {m : Held T}
+      {w : Held (AnyWaker H K)} {given : Option T} → SenderMay p op m w → SeatOf kept fits front (sender_owns p) c m w
       → GivesOnce given m → given ≡ None
   gave_no fresh asks (seat_of (carried slot_vacant) waker) gave_none = refl
   gave_no fresh asks (seat_of (carried (slot_held x k)) waker) gave_none = refl
@@ -41,9 +44,9 @@ module _ {T H K : Type 0} where
   gave_no no_sender (may row _ _) seat once = elim row [ ]
 
   -- a message at home is the one it gave: either the sender has the slot, or none is there
-  pub gave_what_lies : {P : Type 0} (keeps : P → T → Type 0) (q : P) {kept : T → Type 0} {front : Front}
+  pub gave_what_lies : {P : Type 0} (keeps : P → T → Type 0) (q : P) {kept : T → Type 0} {fits : AnyWaker H K → Type 0} {front : Front}
       (p : SenderAt) (r : ReceiverAt) {c : Carried T H K} (m : Held T) {m' : Held T} {w : Held (AnyWaker H K)}
-      {h : Home T H K} → SeatOf kept front (sender_owns p) c m' w → Lies (Offers keeps q m) Message (message_home p r) h
+      {h : Home T H K} → SeatOf kept fits front (sender_owns p) c m' w → Lies (Offers keeps q m) Message (message_home p r) h
       → Lies (IsGiven keeps q (gave m m' None)) Message (message_home p r) h
   gave_what_lies keeps q fresh r m seat lies_out = lies_out
   gave_what_lies keeps q (owes by) r m seat lies_out = lies_out
@@ -51,6 +54,57 @@ module _ {T H K : Type 0} where
   gave_what_lies keeps q (late by) r m seat lies_out = lies_out
   gave_what_lies keeps q (overtaken by) r m seat lies_out = lies_out
   gave_what_lies keeps q no_sender r m seat lies = elim seat [ ]
+
+-- a slot that an end does not give up
+abbrev pub is_kept_slot : Share → Share → Bool
+is_kept_slot empty none = false
+is_kept_slot filled none = false
+is_kept_slot _ _ = true
+
+abbrev keeps_slot : Row ReceiverAt → Bool
+keeps_slot (op, before, word, next, after) = is_kept_slot before.0 after.0
+
+receiver_rows : (q : ReceiverAt) → list_all keeps_slot (receiver_moves q) ≡ true
+receiver_rows (here looked) = refl
+receiver_rows (waits blocked) = refl
+receiver_rows (full (swapped storing)) = refl
+receiver_rows (unclosed storing) = refl
+receiver_rows (disconnected found_closed) = refl
+receiver_rows (resolved found_closed) = refl
+receiver_rows _ = refl
+
+-- it gets a message exactly by an operation that finds 4, and may find 4 again once it has one
+abbrev pub is_found_so : Share → Share → Bool → Bool
+is_found_so none filled found = found
+is_found_so filled filled found = true
+is_found_so _ _ found = not found
+
+abbrev finds_so : Row ReceiverAt → Bool
+finds_so (op, before, word, next, after) = is_found_so before.0 after.0 (is_same_seen (saw op word) (Word 4))
+
+receiver_finds : (q : ReceiverAt) → list_all finds_so (receiver_moves q) ≡ true
+receiver_finds (here looked) = refl
+receiver_finds (waits blocked) = refl
+receiver_finds (full (swapped storing)) = refl
+receiver_finds (unclosed storing) = refl
+receiver_finds (disconnected found_closed) = refl
+receiver_finds (resolved found_closed) = refl
+receiver_finds _ = refl
+
+pub finds_it_so : (q : ReceiverAt) {next : ReceiverAt} (op : Op) {before after : Slots} (word : ℕ)
+    → In (op, before, word, next, after) (receiver_moves q)
+    → is_found_so before.0 after.0 (is_same_seen (saw op word) (Word 4)) ≡ true
+finds_it_so q op word row = each_passes finds_so (receiver_moves q) (receiver_finds q) row
+
+-- the receiver never gives up the message's slot
+pub keeps_its_slot : (q : ReceiverAt) {next : ReceiverAt} {op : Op} {before after : Slots} {word : ℕ}
+    → In (op, before, word, next, after) (receiver_moves q) → is_kept_slot before.0 after.0 ≡ true
+keeps_its_slot q row = each_passes keeps_slot (receiver_moves q) (receiver_rows q) row
+
+unfound : (had found : Bool) → not found ≡ true → had ≡ (had || found)
+unfound true false e = refl
+unfound false false e = refl
+unfound had true e = absurd (cc)
 
 module _ {T : Type 0} where
   -- what the sender has given after an operation, and its slot
@@ -66,8 +120,14 @@ module _ {T : Type 0} where
   -- while the sender has given none, the receiver has taken none
   pub none_taken : {given : Option T} {taken : Option T} (later : Option T) → IsTaken given taken → given ≡ None
       → IsTaken later taken
-  none_taken later took_none none = took_none
-  none_taken later (took_it m same) none = let is = sym none ∙ same in absurd (cc is)
+  none_taken later took_none e = took_none
+  none_taken later (took_it m same) e = let is = sym e ∙ same in absurd (cc is)
+
+  -- what is in the slot is what was taken
+  pub holds_so : {taken : Option T} {slot : Held T} {m : T} → HoldsTaken taken slot → slot ≡ held m → taken ≡ Some m
+  holds_so holds_no_slot is = absurd (cc is)
+  holds_so holds_none is = absurd (cc is)
+  holds_so (holds_it m) is = ap Some (cc is)
 
   -- the message that the receiver holds is the one given
   pub holds_given : {given taken : Option T} {m : Held T} {x : T} → HoldsTaken taken m → IsTaken given taken
@@ -76,16 +136,37 @@ module _ {T : Type 0} where
   holds_given holds_none same is = absurd (cc is)
   holds_given (holds_it m) (took_it _ same) is = same ∙ ap Some (cc is)
 
-  -- what the receiver has taken after an operation, and its slot
-  pub holds_taken : {s s' : Share} {m m' : Held T} {taken : Option T} → Turns s s' m m' → HoldsTaken taken m
-      → HoldsTaken (took m m' taken) m'
-  holds_taken stays_away holds = holds_no_slot
-  holds_taken stays_vacant holds = holds_none
-  holds_taken (stays_held x) (holds_it _) = holds_it x
-  holds_taken gives_room holds = holds_no_slot
-  holds_taken (gives_thing x) holds = holds_no_slot
-  holds_taken gets_room holds = holds_none
-  holds_taken (gets_thing x) holds = holds_it x
+  -- what the receiver has taken after an operation, and its slot, which it does not give up
+  pub holds_taken : {s s' : Share} {m m' : Held T} {taken : Option T} → Turns s s' m m' → is_kept_slot s s' ≡ true
+      → HoldsTaken taken m → HoldsTaken (took m m' taken) m'
+  holds_taken stays_away kept holds = holds
+  holds_taken stays_vacant kept holds = holds_none
+  holds_taken (stays_held x) kept (holds_it _) = holds_it x
+  holds_taken gives_room kept holds = absurd (cc)
+  holds_taken (gives_thing x) kept holds = absurd (cc)
+  holds_taken gets_room kept holds = holds_none
+  holds_taken (gets_thing x) kept holds = holds_it x
+
+  -- a receiver without the slot has taken none, so a message that it took stays the one
+  pub stays_taken : {s s' : Share} {m m' : Held T} {taken : Option T} → Turns s s' m m' → HoldsTaken taken m → (x : T)
+      → taken ≡ Some x → took m m' taken ≡ Some x
+  stays_taken stays_away holds x is = is
+  stays_taken stays_vacant holds x is = is
+  stays_taken (stays_held y) holds x is = is
+  stays_taken gives_room holds x is = is
+  stays_taken (gives_thing y) holds x is = is
+  stays_taken gets_room holds x is = is
+  stays_taken (gets_thing y) holds_no_slot x is = absurd (cc is)
+
+  pub takes_as_found : {s s' : Share} {m m' : Held T} {taken : Option T} (found : Bool) → Turns s s' m m'
+      → is_found_so s s' found ≡ true → HoldsTaken taken m → is_some (took m m' taken) ≡ (is_some taken || found)
+  takes_as_found {taken} found stays_away so holds = unfound (is_some taken) found so
+  takes_as_found {taken} found stays_vacant so holds = unfound (is_some taken) found so
+  takes_as_found found (stays_held x) so (holds_it _) = refl
+  takes_as_found {taken} found gives_room so holds = unfound (is_some taken) found so
+  takes_as_found {taken} found (gives_thing x) so holds = unfound (is_some taken) found so
+  takes_as_found {taken} found gets_room so holds = unfound (is_some taken) found so
+  takes_as_found found (gets_thing x) so holds_no_slot = sym so
 
   -- it is the one given, if a message that the receiver gets is
   pub takes_given : {s s' : Share} {m m' : Held T} {given taken : Option T} → Turns s s' m m' → IsTaken given taken

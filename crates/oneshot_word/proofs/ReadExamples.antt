@@ -1,6 +1,6 @@
 -- The examples of what readers of the rule find: each by its row or its order, and why the counterexamples have none.
 use Rattle.std.proofs.Common.{◌≡◌, ℕ, List, [], ◌∷◌, Option, None, refl}
-use Rattle.oneshot_word.proofs.Names.{◌⊎◌, inl, inr, sym, ap, subst, Load, Add, Noted, Reaches, nothing_made, sender_makes, receiver_makes, has_row, head, tail, orders_that_are_not, Role, Maker, Dealer, View, Ordered, maker_before, dealer_before, in_order, both_in, both_out, one_out, alone, views, found, ReadsThatAre, ReadsThatAreNot, Home, view}
+use Rattle.oneshot_word.proofs.Names.{◌⊎◌, inl, inr, sym, ap, subst, Load, Add, Noted, Reaches, nothing_made, sender_makes, receiver_makes, has_row, head, tail, orders_that_are_not, Role, Maker, Dealer, View, Ordered, maker_before, dealer_before, in_order, both_in, both_out, one_out, alone, views, found, ReadsThatAre, ReadsThatAreNot, Home, AnyWaker, both_views, view}
 use Rattle.oneshot_machine.proofs.InOrders.{in_order as reached_in_order}
 use Rattle.oneshot_word.specs.declared.rule.Role.TheVariants.{Sender, Receiver}
 use Rattle.oneshot_word.specs.EndLogs.{sent as sent_alone}
@@ -29,14 +29,14 @@ reads_that_are =
     }
 
 -- equal views of both ends have equal logs
-module _ {xs xs' ys ys' : List Noted} {given given' taken taken' : Option ℕ} where
-  logs_alike : views xs given ys taken ≡ views xs' given' ys' taken' → (xs ≡ xs') × (ys ≡ ys')
+module _ {xs xs' ys ys' : List Noted} {given given' taken taken' : Option ℕ} {put woke : Option (AnyWaker ℕ ℕ)} where
+  logs_alike : both_views 7 xs given woke ys taken put ≡ views xs' given' ys' taken' → (xs ≡ xs') × (ys ≡ ys')
   logs_alike are =
-      let senders : ◌≡◌ {A = View ℕ ℕ} (view 7 Sender xs given) (view 7 Sender xs' given') = cc are in
-      let receivers : ◌≡◌ {A = View ℕ ℕ} (view 7 Receiver ys taken) (view 7 Receiver ys' taken') = cc are in
-      (ap (λ (v : View ℕ ℕ). v.log) senders, ap (λ (v : View ℕ ℕ). v.log) receivers)
+      let senders : ◌≡◌ {A = View ℕ ℕ ℕ ℕ} (view 7 Sender xs given woke) (view 7 Sender xs' given' None) = cc are in
+      let receivers : ◌≡◌ {A = View ℕ ℕ ℕ ℕ} (view 7 Receiver ys taken put) (view 7 Receiver ys' taken' None) = cc are in
+      (ap (λ (v : View ℕ ℕ ℕ ℕ). v.log) senders, ap (λ (v : View ℕ ℕ ℕ ℕ). v.log) receivers)
 
-has_order : {words : List ℕ} {seats : List (View ℕ ℕ)} {word : ℕ} {xs ys : List Noted} {given taken : Option ℕ}
+has_order : {words : List ℕ} {seats : List (View ℕ ℕ ℕ ℕ)} {word : ℕ} {xs ys : List Noted} {given taken : Option ℕ}
     → Ordered {P = ℕ} 7 words seats → words ≡ word ∷ [] → seats ≡ views xs given ys taken → Reaches xs ys word
 has_order maker_before is are = absurd (cc are)
 has_order dealer_before is are = absurd (cc are)
@@ -46,7 +46,7 @@ has_order {word} {xs} {ys} (in_order {word = left} xs' ys' order) is are =
     subst (λ word. Reaches xs ys word) same
     (subst (λ ys. Reaches xs ys left) alike.1 (subst (λ xs. Reaches xs ys' left) alike.0 order))
 
-has_owners : {words : List ℕ} {seats : List (View ℕ ℕ)} {word : ℕ} {xs ys : List Noted} {given taken : Option ℕ}
+has_owners : {words : List ℕ} {seats : List (View ℕ ℕ ℕ ℕ)} {word : ℕ} {xs ys : List Noted} {given taken : Option ℕ}
     {homes : List (Home ℕ ℕ ℕ)} {h k : Home ℕ ℕ ℕ} → Ruled {P = ℕ} 7 words homes seats → words ≡ word ∷ []
     → homes ≡ h ∷ k ∷ [] → seats ≡ views xs given ys taken → Owned xs ys word h k
 has_owners maker_alone is slots are = absurd (cc are)
@@ -65,23 +65,23 @@ has_owners {word} {xs} {ys} {h} {k} (two_ends {w = left} {h = h'} {k = k'} xs' y
 abbrev IsNew : Role → List (Home ℕ ℕ ℕ) → Type 0
 IsNew role homes = ((role ≡ Maker) × (homes ≡ both_in)) ⊎ ((role ≡ Dealer) × (homes ≡ one_out))
 
-role_is : {v : View ℕ ℕ} (role : Role) → alone role ≡ v ∷ [] → v.role ≡ role
+role_is : {v : View ℕ ℕ ℕ ℕ} (role : Role) → alone role ≡ v ∷ [] → v.role ≡ role
 role_is {v} role are =
-    let same : ◌≡◌ {A = View ℕ ℕ} (view 7 role [] None) v = cc are in sym (ap (λ (v : View ℕ ℕ). v.role) same)
+    let same : ◌≡◌ {A = View ℕ ℕ ℕ ℕ} (view 7 role [] None None) v = cc are in sym (ap (λ (v : View ℕ ℕ ℕ ℕ). v.role) same)
 
-first_word : {words : List ℕ} {seats : List (View ℕ ℕ)} {v : View ℕ ℕ} {homes : List (Home ℕ ℕ ℕ)}
+first_word : {words : List ℕ} {seats : List (View ℕ ℕ ℕ ℕ)} {v : View ℕ ℕ ℕ ℕ} {homes : List (Home ℕ ℕ ℕ)}
     → Ruled {P = ℕ} 7 words homes seats → seats ≡ v ∷ [] → words ≡ 3 ∷ []
 first_word maker_alone are = refl
 first_word dealer_alone are = refl
 first_word (two_ends xs ys owned) are = absurd (cc are)
 
-first_slots : {words : List ℕ} {seats : List (View ℕ ℕ)} {v : View ℕ ℕ} {homes : List (Home ℕ ℕ ℕ)}
+first_slots : {words : List ℕ} {seats : List (View ℕ ℕ ℕ ℕ)} {v : View ℕ ℕ ℕ ℕ} {homes : List (Home ℕ ℕ ℕ)}
     → Ruled {P = ℕ} 7 words homes seats → seats ≡ v ∷ [] → IsNew v.role homes
 first_slots maker_alone are = inl (role_is Maker are, refl)
 first_slots dealer_alone are = inr (role_is Dealer are, refl)
 first_slots (two_ends xs ys owned) are = absurd (cc are)
 
-first_order : {words : List ℕ} {seats : List (View ℕ ℕ)} {v : View ℕ ℕ} → Ordered {P = ℕ} 7 words seats
+first_order : {words : List ℕ} {seats : List (View ℕ ℕ ℕ ℕ)} {v : View ℕ ℕ ℕ ℕ} → Ordered {P = ℕ} 7 words seats
     → seats ≡ v ∷ [] → (words ≡ 3 ∷ []) × ((v.role ≡ Maker) ⊎ (v.role ≡ Dealer))
 first_order maker_before are = (refl, inl (role_is Maker are))
 first_order dealer_before are = (refl, inr (role_is Dealer are))

@@ -1,6 +1,6 @@
 -- Each operation of an end keeps the rule: computed for each pair of phases.
 use Rattle.std.proofs.Common.{◌≡◌, ℕ, Bool, true, List, [], ◌∷◌, Option, Some, None, refl}
-use Rattle.oneshot_word.proofs.Names.{◌≤◌, sym, subst, leb, list_all, and_parts, leb-true, Act, Valid, homes_after, carried_after, Op, saw, Slots, Row, sending, dropping, SenderAt, fresh, owes, finished, late, overtaken, no_sender, sender_moves, sender_owns, sender_next, blocked, storing, swapped, found_closed, ReceiverAt, first, here, full, unclosed, disconnected, resolved, receiver_moves, receiver_owns, receiver_next, Held, IsSlot, In, head, tail, May, may, SenderMay, ReceiverMay, Finds, finds, each_passes, AnyWaker, Slot, Message, any, with_waker, Carried, Part, message_first, waker_first, carried_as, SeatOf, seat_of, Home, Lies}
+use Rattle.oneshot_word.proofs.Names.{◌≤◌, sym, subst, leb, list_all, and_parts, leb-true, Act, Valid, homes_after, carried_after, Op, saw, Slots, Row, sending, dropping, SenderAt, fresh, owes, finished, late, overtaken, no_sender, sender_moves, sender_owns, sender_next, blocked, storing, swapped, found_closed, ReceiverAt, first, here, full, unclosed, disconnected, resolved, receiver_moves, receiver_owns, receiver_next, Held, IsSlot, In, head, tail, May, may, SenderMay, ReceiverMay, Finds, finds, each_passes, AnyWaker, Slot, Message, with_waker, Carried, Part, message_first, waker_first, carried_as, SeatOf, seat_of, Home, Lies}
 use Rattle.oneshot_machine.specs.Phases.{looked, waits}
 use Rattle.oneshot_word.proofs.Alike.{is_bool, bools_are}
 use Rattle.oneshot_word.proofs.FoundRow.{row_of, Found, found_none, found_row, found}
@@ -8,15 +8,15 @@ use Rattle.oneshot_word.proofs.SlotMoves.{is_owned, Carries, carries, Moved, mov
 use Rattle.oneshot_word.proofs.Meets.{word_between, Is, is, Meet, meet}
 use Rattle.oneshot_word.proofs.KeptRows.{stepped, is_slots, OneEnd, sender_end, receiver_end, after, leaves_word, has_act, is_right, is_kept, keeps_rule, rightly, leaves_so, keeps_word}
 
-module _ {T H K At : Type 0} (kept : T → Type 0) (e : OneEnd At) where
+module _ {T H K At : Type 0} (kept : T → Type 0) (fits : AnyWaker H K → Type 0) (e : OneEnd At) where
   -- what its seat carries of both slots, together
   seated : {o : Option (Bool × Bool)} (after : Slots) {cm cw : Carried T H K} {m : Held T} {w : Held (AnyWaker H K)}
       → is_slots o after ≡ true → Part kept 0 Message (is_owned after.0) cm m
-      → Part any 1 with_waker (is_owned after.1) cw w → SeatOf kept e.front o (carried_as e.front cm cw) m w
-  seated {o = None} after fits message waker = absurd (cc)
-  seated {o = Some slots} after {cm} {cw} {m} {w} fits message waker =
-      let parts = and_parts (is_bool slots.0 (is_owned after.0)) (is_bool slots.1 (is_owned after.1)) fits in
-      subst (λ o. SeatOf kept e.front (Some o) (carried_as e.front cm cw) m w)
+      → Part fits 1 with_waker (is_owned after.1) cw w → SeatOf kept fits e.front o (carried_as e.front cm cw) m w
+  seated {o = None} after owned message waker = absurd (cc)
+  seated {o = Some slots} after {cm} {cw} {m} {w} owned message waker =
+      let parts = and_parts (is_bool slots.0 (is_owned after.0)) (is_bool slots.1 (is_owned after.1)) owned in
+      subst (λ o. SeatOf kept fits e.front (Some o) (carried_as e.front cm cw) m w)
       (λ i. (
         sym (bools_are slots.0 (is_owned after.0) parts.0) i,
         sym
@@ -30,9 +30,9 @@ module _ {T H K At : Type 0} (kept : T → Type 0) (e : OneEnd At) where
         → Valid (h ∷ k ∷ []) c act → homes_after (h ∷ k ∷ []) c act ≡ h' ∷ k' ∷ []
         → Is (e.word (e.next at op (saw op word))) (stepped op word)
         → Lies kept Message (e.message (e.next at op (saw op word))) h'
-        → Lies any with_waker (e.waker (e.next at op (saw op word))) k'
+        → Lies fits with_waker (e.waker (e.next at op (saw op word))) k'
         → Finds e.moves at op word m w m' w'
-        → SeatOf kept e.front (e.owns (e.next at op (saw op word))) (carried_after c act) m' w' → word ≤ 4
+        → SeatOf kept fits e.front (e.owns (e.next at op (saw op word))) (carried_after c act) m' w' → word ≤ 4
         → Turn at op word h k c m w
 
   module _ (at : At) (op : Op) (word : ℕ) {h k : Home T H K} where
@@ -41,7 +41,7 @@ module _ {T H K At : Type 0} (kept : T → Type 0) (e : OneEnd At) where
         → leaves_word e at op before word ≡ true → is_slots (e.owns (after e at op before word)) slots ≡ true
         → has_act e at op before word slots ≡ true
         → Moved kept 0 Message before.0 slots.0 (e.message (after e at op before word)) h cm m
-        → Moved any 1 with_waker before.1 slots.1 (e.waker (after e at op before word)) k cw w
+        → Moved fits 1 with_waker before.1 slots.1 (e.waker (after e at op before word)) k cw w
         → Turn at op word h k (carried_as e.front cm cw) m w
     turned {before} slots code there leaves owned acted (moved {x' = m'} turns moves part lies)
         (moved {x' = w'} turns' moves' part' lies') =
@@ -49,35 +49,35 @@ module _ {T H K At : Type 0} (kept : T → Type 0) (e : OneEnd At) where
         elim (both e.front acted moves moves') [
           | acts act valid homes left ↦
               turn act valid homes (leaves_so e at op word before leaves) lies lies' (finds there turns turns')
-              (subst (λ c. SeatOf kept e.front (e.owns at') c m' w') (sym left) (seated slots owned part part')) code
+              (subst (λ c. SeatOf kept fits e.front (e.owns at') c m' w') (sym left) (seated slots owned part part')) code
         ]
 
     right : {before : Slots} {o : Option Slots} {cm cw : Carried T H K} {m : Held T} {w : Held (AnyWaker H K)}
         → word ≤ 4 → Found (e.moves at) op before word o → is_right e at op before word o ≡ true
-        → Carries kept 0 Message before.0 cm m → Carries any 1 with_waker before.1 cw w
-        → Lies kept Message (e.message at) h → Lies any with_waker (e.waker at) k
+        → Carries kept 0 Message before.0 cm m → Carries fits 1 with_waker before.1 cw w
+        → Lies kept Message (e.message at) h → Lies fits with_waker (e.waker at) k
         → Turn at op word h k (carried_as e.front cm cw) m w
-    right code found_none fits message waker lies lies' = absurd (cc)
-    right {before} code (found_row {after = slots} there) fits message waker lies lies' =
+    right code found_none rightful message waker lies lies' = absurd (cc)
+    right {before} code (found_row {after = slots} there) rightful message waker lies lies' =
         let at' = e.next at op (saw op word) in
-        let so = rightly e at op word before slots fits in
+        let so = rightly e at op word before slots rightful in
         turned slots code there so.leaves so.owned so.acted
         (goes kept 0 Message message slots.0 (e.message at') lies so.of_message)
-        (goes any 1 with_waker waker slots.1 (e.waker at') lies' so.of_waker)
+        (goes fits 1 with_waker waker slots.1 (e.waker at') lies' so.of_waker)
 
     turns_from : {before : Slots} {o : Option ℕ} {owns : Option (Bool × Bool)} {c : Carried T H K} {m : Held T}
         {w : Held (AnyWaker H K)} → Is o word → is_kept e at op before o ≡ true
-        → IsSlot before.0 m → IsSlot before.1 w → SeatOf kept e.front owns c m w → Lies kept Message (e.message at) h
-        → Lies any with_waker (e.waker at) k → Turn at op word h k c m w
+        → IsSlot before.0 m → IsSlot before.1 w → SeatOf kept fits e.front owns c m w → Lies kept Message (e.message at) h
+        → Lies fits with_waker (e.waker at) k → Turn at op word h k c m w
     turns_from {before} is computed message waker (seat_of part part') lies lies' =
         let parts =
         and_parts (leb word 4) (is_right e at op before word (row_of (e.moves at) op before word)) computed in
         right (leb-true word 4 parts.0) (found (e.moves at) op before word) parts.1
-        (carries kept 0 Message message part) (carries any 1 with_waker waker part') lies lies'
+        (carries kept 0 Message message part) (carries fits 1 with_waker waker part') lies lies'
 
     keeps_turn : {c : Carried T H K} {m : Held T} {w : Held (AnyWaker H K)} → keeps_rule e at ≡ true
-        → May e.moves at op m w → SeatOf kept e.front (e.owns at) c m w → Is (e.word at) word
-        → Lies kept Message (e.message at) h → Lies any with_waker (e.waker at) k → Turn at op word h k c m w
+        → May e.moves at op m w → SeatOf kept fits e.front (e.owns at) c m w → Is (e.word at) word
+        → Lies kept Message (e.message at) h → Lies fits with_waker (e.waker at) k → Turn at op word h k c m w
     keeps_turn all (may row message waker) seat number lies lies' =
         turns_from number (each_passes (λ (row : Row At). is_kept e at row.0 row.1 (e.word at)) (e.moves at) all row)
         message waker seat lies lies'
@@ -128,17 +128,17 @@ receiver_keeps (disconnected found_closed) = refl
 receiver_keeps (resolved found_closed) = refl
 receiver_keeps _ = refl
 
-module _ {T H K : Type 0} {kept : T → Type 0} {p : SenderAt} {q : ReceiverAt} {op : Op} {word : ℕ} {h k : Home T H K}
+module _ {T H K : Type 0} {kept : T → Type 0} {fits : AnyWaker H K → Type 0} {p : SenderAt} {q : ReceiverAt} {op : Op} {word : ℕ} {h k : Home T H K}
     {c : Carried T H K} {m : Held T} {w : Held (AnyWaker H K)} where
-  pub sender_turns : SenderMay p op m w → SeatOf kept waker_first (sender_owns p) c m w → Meet T H K kept p q word h k
-      → Turn kept (sender_end q) p op word h k c m w
+  pub sender_turns : SenderMay p op m w → SeatOf kept fits waker_first (sender_owns p) c m w → Meet T H K kept fits p q word h k
+      → Turn kept fits (sender_end q) p op word h k c m w
   sender_turns asks seat (meet now lies lies') =
-      keeps_turn kept (sender_end q) p op word (sender_keeps p q) asks seat now lies lies'
+      keeps_turn kept fits (sender_end q) p op word (sender_keeps p q) asks seat now lies lies'
 
-  pub receiver_turns : ReceiverMay q op m w → SeatOf kept message_first (receiver_owns q) c m w
-      → Meet T H K kept p q word h k → Turn kept (receiver_end p) q op word h k c m w
+  pub receiver_turns : ReceiverMay q op m w → SeatOf kept fits message_first (receiver_owns q) c m w
+      → Meet T H K kept fits p q word h k → Turn kept fits (receiver_end p) q op word h k c m w
   receiver_turns asks seat (meet now lies lies') =
-      keeps_turn kept (receiver_end p) q op word
+      keeps_turn kept fits (receiver_end p) q op word
       (each_passes (λ p. keeps_rule (receiver_end p) q) senders (receiver_keeps q) (is_sender p)) asks seat now lies
       lies'
 

@@ -8,8 +8,8 @@ use Rattle.oneshot_word.proofs.Between.{between, sender_told, receiver_told}
 use Rattle.oneshot_word.proofs.Meets.{is, Meet, meet, SenderSays, says_none, says_owes, says_last, says_late, says_overtaken, ReceiverSays}
 
 module _ {T H K : Type 0} where
-  pair_reads : {kept : T → Type 0} {xs ys : List Noted} {p : SenderAt} {w : ℕ} {h k : Home T H K} → SenderSays xs p
-      → (q : ReceiverAt) → ReceiverSays ys q → Meet T H K kept p q w h k → Owned xs ys w h k
+  pair_reads : {kept : T → Type 0} {fits : AnyWaker H K → Type 0} {xs ys : List Noted} {p : SenderAt} {w : ℕ} {h k : Home T H K} → SenderSays xs p
+      → (q : ReceiverAt) → ReceiverSays ys q → Meet T H K kept fits p q w h k → Owned xs ys w h k
   pair_reads says_none first r (meet is lies_out lies_bare) =
       both_open refl r.stores r.gone sender_has_it left_for_receiver
   pair_reads says_none (here f) r (meet is lies_out lies_out) =
@@ -87,19 +87,19 @@ module _ {T H K : Type 0} where
 
   -- a channel about this value
   module _ {P : Type 0} {keeps : P → T → Type 0} (q : P) where
-    pub rule_reads : (words : List ℕ) (homes : List (Home T H K)) (views : List (View T P))
+    pub rule_reads : (words : List ℕ) (homes : List (Home T H K)) (views : List (View T H K P))
         → Tied keeps q words homes views → Ruled q words homes views
     rule_reads _ _ _ opened = maker_alone
     rule_reads _ _ _ dealt = dealer_alone
-    rule_reads _ _ _ (runs xs ys order lies lies' same) =
+    rule_reads _ _ _ (runs xs ys order lies lies' same claim) =
         two_ends xs ys (pair_reads (sender_told order) _ (receiver_told order) (meet (between order) lies lies'))
 
     -- and both logs have an order
-    pub rule_orders : (words : List ℕ) (homes : List (Home T H K)) (views : List (View T P))
+    pub rule_orders : (words : List ℕ) (homes : List (Home T H K)) (views : List (View T H K P))
         → Tied keeps q words homes views → Ordered q words views
     rule_orders _ _ _ opened = maker_before
     rule_orders _ _ _ dealt = dealer_before
-    rule_orders _ _ _ (runs xs ys order lies lies' same) = in_order xs ys order
+    rule_orders _ _ _ (runs xs ys order lies lies' same claim) = in_order xs ys order
 
   is_own : {X : Type 0} {kept : X → Type 0} {place : ℕ} {put : X → Slot T H K} {b : Bool} {c : Carried T H K}
       {x : Held X} → Part kept place put b c x → IsOwned b x
@@ -107,6 +107,7 @@ module _ {T H K : Type 0} where
   is_own (carried slot_vacant) = own_vacant
   is_own (carried (slot_held x _)) = own_held x
 
-  pub seat_owns : {kept : T → Type 0} {front : Front} {o : Option (Bool × Bool)} {c : Carried T H K} {m : Held T}
-      {w : Held (AnyWaker H K)} → SeatOf kept front o c m w → Owns o m w
+  pub seat_owns : {kept : T → Type 0} {fits : AnyWaker H K → Type 0} {front : Front}
+      {o : Option (Bool × Bool)} {c : Carried T H K} {m : Held T}
+      {w : Held (AnyWaker H K)} → SeatOf kept fits front o c m w → Owns o m w
   seat_owns (seat_of message waker) = owns (is_own message) (is_own waker)

@@ -1,6 +1,11 @@
--- What the rule implies for the message: one in the table, or one that was taken, is the one that was given.
+-- What the rule implies for what passes: a message in the table, or one that was taken, is the one that was given,
+-- and so it is with the waker.
 use Rattle.std.proofs.Common.{◌≡◌, ℕ, List, [], ◌∷◌, Option, Some, refl}
-use Rattle.oneshot_word.proofs.Names.{sym, ap, ◌∙◌, Load, Add, Noted, nothing_made, sender_makes, receiver_makes, has_row, head, tail, View, both_views, ReceivedIsSent, MessagesThatPass, MessagesThatDoNot, Home, has_message, lies_out, lies_bare, lies_filled, IsTaken, took_none, took_it, Tied, opened, dealt, runs, view}
+use mathlib.Core.Option as maybe
+use Rattle.oneshot_word.proofs.Names.{sym, ap, ◌∙◌, subst, Load, Add, Noted, nothing_made, sender_makes, receiver_makes, has_row, head, tail, View, both_views, ReceivedIsSent, MessagesThatPass, MessagesThatDoNot, Home, has_message, lies_out, lies_bare, lies_filled, IsTaken, took_none, took_it, Tied, opened, dealt, runs, view, Swap, Word, Reaches, AnyWaker, Slot, Share, Held, away, held, waker_of, with_waker, bare, has_waker, Lies, IsPut, IsClaimed, claimed_none, claimed_it, WokenIsPut, WakersThatPass, WakersThatDoNot}
+use Rattle.oneshot_word.specs.declared.any_waker.AnyWaker.TheVariants as R
+use Rattle.oneshot_word.specs.Examples.{waits}
+use Rattle.oneshot_word.proofs.SlotReads.{reads_back}
 use Rattle.oneshot_word.specs.declared.rule.Role.TheVariants.{Sender, Receiver}
 use Rattle.oneshot_word.proofs.RuleKeeps.{lies_so}
 
@@ -9,48 +14,130 @@ taken_so : {T : Type 0} {given taken : Option T} {m : T} → IsTaken given taken
 taken_so took_none is = absurd (cc)
 taken_so (took_it x same) is = same ∙ is
 
--- equal views have equal messages
-pass_alike : {T P : Type 0} {q : P} {xs xs' ys ys' : List Noted} {given given' taken taken' : Option T}
-    → both_views q xs given ys taken ≡ both_views q xs' given' ys' taken' → (given ≡ given') × (taken ≡ taken')
-pass_alike {T} {P} {q} {xs} {xs'} {ys} {ys'} {given} {given'} {taken} {taken'} are =
-    let senders : ◌≡◌ {A = View T P} (view q Sender xs given) (view q Sender xs' given') = cc are in
-    let receivers : ◌≡◌ {A = View T P} (view q Receiver ys taken) (view q Receiver ys' taken') = cc are in
-    (ap (λ (v : View T P). v.passed) senders, ap (λ (v : View T P). v.passed) receivers)
+-- if a waker was taken, it was given
+claimed_so : {W : Type 0} {put woke : Option W} {xs : List Noted} {k : W} → IsClaimed put xs woke → woke ≡ Some k
+    → put ≡ Some k
+claimed_so claimed_none is = absurd (cc)
+claimed_so (claimed_it x same made) is = same ∙ is
+
+-- the waker at home is the one that was given
+bare_no : {T H K : Type 0} (k : AnyWaker H K) → ◌≡◌ {A = Home T H K} bare (has_waker k) → ⊥
+bare_no (R.Thread half) e = cc e
+bare_no (R.Task copy) e = cc e
+bare_no R.Nobody e = cc e
+
+waker_in_home : {T H K : Type 0} → Held (AnyWaker H K) → Home T H K → Held (AnyWaker H K)
+waker_in_home otherwise maybe.none = otherwise
+waker_in_home otherwise (maybe.some s) = waker_of s
+
+same_waker : {T H K : Type 0} (j k : AnyWaker H K) → ◌≡◌ {A = Home T H K} (has_waker j) (has_waker k) → j ≡ k
+unfolding waker_in_home
+same_waker {T} j k e =
+    let same : held j ≡ held k = sym (reads_back T j) ∙ ap (waker_in_home {T = T} away) e ∙ reads_back T k in cc same
+
+rests_so : {T H K : Type 0} {put : Option (AnyWaker H K)} {share : Share} {h : Home T H K} (k : AnyWaker H K)
+    → Lies (IsPut put) with_waker share h → h ≡ has_waker k → put ≡ Some k
+rests_so k lies_out is = absurd (cc is)
+rests_so k lies_bare is = absurd (bare_no k is)
+rests_so k (lies_filled j same) is = same ∙ ap Some (same_waker j k is)
+
+-- equal views have equal messages and wakers
+record Alike {T H K : Type 0} (given given' taken taken' : Option T) (put put' woke woke' : Option (AnyWaker H K))
+    : Type 0 where
+  given_so : given ≡ given'
+  taken_so : taken ≡ taken'
+  woke_so : woke ≡ woke'
+  put_so : put ≡ put'
+
+pass_alike : {T H K P : Type 0} {q : P} {xs xs' ys ys' : List Noted} {given given' taken taken' : Option T}
+    {put put' woke woke' : Option (AnyWaker H K)}
+    → both_views q xs given woke ys taken put ≡ both_views q xs' given' woke' ys' taken' put'
+    → Alike given given' taken taken' put put' woke woke'
+pass_alike {T} {H} {K} {P} {q} {xs} {xs'} {ys} {ys'} {given} {given'} {taken} {taken'} {put} {put'} {woke} {woke'} are =
+    let senders : ◌≡◌ {A = View T H K P} (view q Sender xs given woke) (view q Sender xs' given' woke') = cc are in
+    let receivers : ◌≡◌ {A = View T H K P} (view q Receiver ys taken put) (view q Receiver ys' taken' put') = cc are in
+    record {
+      given_so = ap (λ (v : View T H K P). v.passed) senders;
+      taken_so = ap (λ (v : View T H K P). v.passed) receivers;
+      woke_so = ap (λ (v : View T H K P). v.handed) senders;
+      put_so = ap (λ (v : View T H K P). v.handed) receivers;
+    }
 
 module _ {T H K P : Type 0} {keeps : P → T → Type 0} {q : P} where
-  was_given : {words : List ℕ} {homes : List (Home T H K)} {views : List (View T P)} {xs ys : List Noted}
-      {given taken : Option T} {m : T} → Tied keeps q words homes views
-      → views ≡ both_views q xs given ys taken → taken ≡ Some m → given ≡ Some m
+  was_given : {words : List ℕ} {homes : List (Home T H K)} {views : List (View T H K P)} {xs ys : List Noted}
+      {given taken : Option T} {put woke : Option (AnyWaker H K)} {m : T} → Tied keeps q words homes views
+      → views ≡ both_views q xs given woke ys taken put → taken ≡ Some m → given ≡ Some m
   was_given opened are is = absurd (cc)
   was_given dealt are is = absurd (cc)
-  was_given (runs _ _ order lies lies' same) are is =
+  was_given (runs _ _ order lies lies' same claimed) are is =
       let alike = pass_alike are in
-      sym alike.0 ∙ taken_so same (alike.1 ∙ is)
+      sym alike.given_so ∙ taken_so same (alike.taken_so ∙ is)
 
-  lies_given : {words : List ℕ} {homes : List (Home T H K)} {k : Home T H K} {views : List (View T P)}
-      {xs ys : List Noted} {given taken : Option T} {m : T} → Tied keeps q words homes views
-      → views ≡ both_views q xs given ys taken → homes ≡ has_message m ∷ k ∷ [] → given ≡ Some m
+  lies_given : {words : List ℕ} {homes : List (Home T H K)} {k : Home T H K} {views : List (View T H K P)}
+      {xs ys : List Noted} {given taken : Option T} {put woke : Option (AnyWaker H K)} {m : T}
+      → Tied keeps q words homes views
+      → views ≡ both_views q xs given woke ys taken put → homes ≡ has_message m ∷ k ∷ [] → given ≡ Some m
   lies_given opened are is = absurd (cc)
   lies_given dealt are is = absurd (cc)
-  lies_given (runs _ _ order lies lies' same) are is =
-      sym (pass_alike are).0 ∙ (lies_so lies (cc is)).1
+  lies_given (runs _ _ order lies lies' same claimed) are is =
+      sym (pass_alike are).given_so ∙ (lies_so lies (cc is)).1
+
+  -- both logs have an order
+  pub both_reach : {words : List ℕ} {homes : List (Home T H K)} {views : List (View T H K P)} {xs ys : List Noted}
+      {given taken : Option T} {put woke : Option (AnyWaker H K)} → Tied keeps q words homes views
+      → views ≡ both_views q xs given woke ys taken put → (w : ℕ) × Reaches xs ys w
+  both_reach opened are = absurd (cc are)
+  both_reach dealt are = absurd (cc are)
+  both_reach {xs} {ys} {given} {taken} {put} {woke} (runs {w} xs' ys' {given = given'} {taken = taken'} {put = put'}
+      {woke = woke'} order lies lies' same claimed) are =
+      let senders : ◌≡◌ {A = View T H K P} (view q Sender xs' given' woke') (view q Sender xs given woke) = cc are in
+      let receivers : ◌≡◌ {A = View T H K P} (view q Receiver ys' taken' put') (view q Receiver ys taken put) = cc are in (
+        w,
+        subst (λ xs. Reaches xs ys w) (ap (λ (v : View T H K P). v.log) senders)
+            (subst (λ ys. Reaches xs' ys w) (ap (λ (v : View T H K P). v.log) receivers) order),
+      )
+
+  was_put : {words : List ℕ} {homes : List (Home T H K)} {views : List (View T H K P)} {xs ys : List Noted}
+      {given taken : Option T} {put woke : Option (AnyWaker H K)} {k : AnyWaker H K} → Tied keeps q words homes views
+      → views ≡ both_views q xs given woke ys taken put → woke ≡ Some k → put ≡ Some k
+  was_put opened are is = absurd (cc are)
+  was_put dealt are is = absurd (cc are)
+  was_put (runs _ _ order lies lies' same claimed) are is =
+      let alike = pass_alike are in
+      sym alike.put_so ∙ claimed_so claimed (alike.woke_so ∙ is)
+
+  rests_put : {words : List ℕ} {homes : List (Home T H K)} {h : Home T H K} {views : List (View T H K P)}
+      {xs ys : List Noted} {given taken : Option T} {put woke : Option (AnyWaker H K)} {k : AnyWaker H K}
+      → Tied keeps q words homes views
+      → views ≡ both_views q xs given woke ys taken put → homes ≡ h ∷ has_waker k ∷ [] → put ≡ Some k
+  rests_put {k} opened are is = absurd (cc are)
+  rests_put {k} dealt are is = absurd (cc are)
+  rests_put {k} (runs _ _ order lies lies' same claimed) are is =
+      sym (pass_alike are).put_so ∙ rests_so k lies' (cc is)
 
 module _ {T P : Type 0} (H K : Type 0) (keeps : P → T → Type 0) where
   pub received_is_sent : ReceivedIsSent H K keeps
   received_is_sent =
       record {
-        taken = λ q words homes xs ys given m tied. was_given tied refl refl;
-        lies = λ q words k xs ys given taken m tied. lies_given tied refl refl;
+        taken = λ q words homes xs ys given put woke m tied. was_given tied refl refl;
+        lies = λ q words k xs ys given taken put woke m tied. lies_given tied refl refl;
+      }
+
+  pub woken_is_put : WokenIsPut H K keeps
+  woken_is_put =
+      record {
+        woken = λ q words homes xs ys given taken put k tied. was_put tied refl refl;
+        rests = λ q words h xs ys given taken put woke k tied. rests_put tied refl refl;
       }
 
   pub messages_that_pass : MessagesThatPass H K keeps
   messages_that_pass =
       record {
         lies_there = λ q m kept. runs _ _ (sender_makes Add nothing_made (has_row head)) (lies_filled m (kept, refl))
-            lies_bare took_none;
+            lies_bare took_none claimed_none;
         was_taken = λ q m.
             runs _ _ (receiver_makes Load (sender_makes Add nothing_made (has_row head)) (has_row (tail head)))
-            lies_out lies_out (took_it m refl);
+            lies_out lies_out (took_it m refl) claimed_none;
       }
 
   pub messages_that_do_not : MessagesThatDoNot H K keeps
@@ -60,4 +147,27 @@ module _ {T P : Type 0} (H K : Type 0) (keeps : P → T → Type 0) where
         took_what_none_gave = λ m tied. let is = was_given tied refl refl in cc is;
         another_lies = λ m other not_it tied. let is = lies_given tied refl refl in not_it (cc is);
         lies_and_none_gave = λ m tied. let is = lies_given tied refl refl in cc is;
+      }
+
+  looks : Reaches [] ((Load, Word 3) ∷ []) 3
+  looks = receiver_makes Load nothing_made (has_row head)
+
+  begins_to_wait : Reaches [] waits 0
+  begins_to_wait = receiver_makes (Swap 0) looks (has_row (tail (tail (tail head))))
+
+  pub wakers_that_pass : WakersThatPass H K keeps
+  wakers_that_pass =
+      record {
+        rests_there = λ q k. runs _ _ begins_to_wait lies_out (lies_filled k refl) took_none claimed_none;
+        was_taken = λ q k.
+            runs _ _ (sender_makes Add begins_to_wait (has_row (tail head))) lies_out lies_out took_none
+            (claimed_it k refl refl);
+      }
+
+  pub wakers_that_do_not : WakersThatDoNot H K keeps
+  wakers_that_do_not =
+      record {
+        took_another = λ k other not_it tied. let is = was_put tied refl refl in not_it (cc is);
+        took_what_none_gave = λ k tied. let is = was_put tied refl refl in cc is;
+        another_rests = λ k other not_it tied. let is = rests_put tied refl refl in not_it (cc is);
       }

@@ -1,10 +1,11 @@
 -- The examples of seats: each by its parts, and what the counterexamples lack.
 use Rattle.std.proofs.Common.{◌≡◌, ℕ, Bool, true, false, [], ◌∷◌, Option, Some, refl, if◌then◌else◌}
-use Rattle.oneshot_word.proofs.Names.{ap, subst, TableId, Word, Load, Swap, Add, Reaches, nothing_made, sender_makes, receiver_makes, has_row, Held, vacant, held, head, tail, AnyWaker, Empty, Message, Kept, Carries, MessagePart, WakerPart, received, SlotsAsSeen, SeatsThatAre, SeatsThatAreNot, Front, slot_vacant, slot_held, MessageSlot, WakerSlot, message_of, not_carried, carried, message_first, waker_first, SeatOf, seat_of, has_given, gave_none, HoldsTaken, holds_no_slot, holds_none, holds_it}
+use Rattle.oneshot_word.proofs.Names.{ap, subst, TableId, Word, Load, Swap, Add, Reaches, nothing_made, sender_makes, receiver_makes, has_row, Held, vacant, held, head, tail, AnyWaker, Empty, Message, Kept, Carries, MessagePart, WakerPart, received, SlotsAsSeen, SeatsThatAre, SeatsThatAreNot, Front, slot_vacant, slot_held, MessageSlot, WakerSlot, message_of, not_carried, carried, message_first, waker_first, SeatOf, seat_of, has_given, gave_none, HoldsTaken, holds_no_slot, holds_none, holds_it, claims_no_slot, claims_none, claims_it}
 use Rattle.oneshot_word.specs.declared.any_waker.AnyWaker.TheVariants as R
 use Rattle.oneshot_word.specs.declared.rule.Role.TheVariants.{Sender, Receiver}
 use Rattle.oneshot_word.specs.SeatExamples.{claims}
-use Rattle.oneshot_word.proofs.Passes.{seat_keeps}
+use Rattle.oneshot_word.proofs.Passes.{seat_keeps, holds_so}
+use Rattle.oneshot_word.proofs.Hands.{claims_so}
 
 pub slots_as_seen : SlotsAsSeen
 slots_as_seen =
@@ -44,42 +45,49 @@ seats_that_are =
         role = refl;
         has = seat_of (carried slot_vacant) not_carried;
         passed = gave_none;
+        handed = claims_no_slot;
         ordered = (_, _, nothing_made);
       };
       about_to_send = record {
         role = refl;
         has = seat_of (carried (slot_held 7 refl)) not_carried;
         passed = gave_none;
+        handed = claims_no_slot;
         ordered = (_, _, nothing_made);
       };
       owes = record {
         role = refl;
         has = seat_of (carried (slot_held 7 refl)) (carried (slot_held (R.Thread 1) tt));
         passed = gave_none;
+        handed = claims_it (R.Thread 1);
         ordered = (_, _, finds);
       };
       has_sent = record {
         role = refl;
         has = seat_of not_carried not_carried;
         passed = has_given;
+        handed = claims_no_slot;
         ordered = (_, _, sends);
       };
       new_receiver = record {
         role = refl;
         has = seat_of not_carried not_carried;
         passed = holds_no_slot;
+        handed = tt;
         ordered = (_, _, nothing_made);
       };
       about_to_wait = record {
         role = refl;
         has = seat_of not_carried (carried (slot_held (R.Task 2) tt));
         passed = holds_no_slot;
+        handed = tt;
         ordered = (_, _, looks);
       };
       has_received = record {
         role = refl;
         has = seat_of (carried (slot_held 7 refl)) (carried slot_vacant);
         passed = holds_it 7;
+        handed = tt;
         ordered = (_, _, receives);
       };
     }
@@ -127,27 +135,22 @@ waker_part : {own : Bool} {c : Carries} {seen : Held (AnyWaker ℕ ℕ)} → Wak
 waker_part not_carried = refl
 waker_part (carried s) = refl
 
-waker_leads : {kept : ℕ → Type 0} {c : Carries} {m : Held ℕ} {w : Held (AnyWaker ℕ ℕ)}
-    → SeatOf kept waker_first (Some (true, true)) c m w → in_front c ≡ 1
+waker_leads : {kept : ℕ → Type 0} {fits : AnyWaker ℕ ℕ → Type 0} {c : Carries} {m : Held ℕ}
+    {w : Held (AnyWaker ℕ ℕ)} → SeatOf kept fits waker_first (Some (true, true)) c m w → in_front c ≡ 1
 waker_leads (seat_of (carried s) (carried t)) = refl
 
-message_leads : {kept : ℕ → Type 0} {c : Carries} {m : Held ℕ} {w : Held (AnyWaker ℕ ℕ)}
-    → SeatOf kept message_first (Some (true, true)) c m w → in_front c ≡ 0
+message_leads : {kept : ℕ → Type 0} {fits : AnyWaker ℕ ℕ → Type 0} {c : Carries} {m : Held ℕ}
+    {w : Held (AnyWaker ℕ ℕ)} → SeatOf kept fits message_first (Some (true, true)) c m w → in_front c ≡ 0
 message_leads (seat_of (carried s) (carried t)) = refl
 
-message_alone : {kept : ℕ → Type 0} {c : Carries} {m : Held ℕ} {w : Held (AnyWaker ℕ ℕ)}
-    → SeatOf kept waker_first (Some (true, false)) c m w → in_front c ≡ 0
+message_alone : {kept : ℕ → Type 0} {fits : AnyWaker ℕ ℕ → Type 0} {c : Carries} {m : Held ℕ}
+    {w : Held (AnyWaker ℕ ℕ)} → SeatOf kept fits waker_first (Some (true, false)) c m w → in_front c ≡ 0
 message_alone (seat_of (carried s) not_carried) = refl
 
-carries_none : {kept : ℕ → Type 0} (front : Front) {c : Carries} {m : Held ℕ} {w : Held (AnyWaker ℕ ℕ)}
-    → SeatOf kept front (Some (false, false)) c m w → in_front c ≡ 2
+carries_none : {kept : ℕ → Type 0} {fits : AnyWaker ℕ ℕ → Type 0} (front : Front) {c : Carries} {m : Held ℕ} {w : Held (AnyWaker ℕ ℕ)}
+    → SeatOf kept fits front (Some (false, false)) c m w → in_front c ≡ 2
 carries_none message_first (seat_of not_carried not_carried) = refl
 carries_none waker_first (seat_of not_carried not_carried) = refl
-
-holds_so : {taken : Option ℕ} {seen : Held ℕ} {m : ℕ} → HoldsTaken taken seen → seen ≡ held m → taken ≡ Some m
-holds_so holds_no_slot is = absurd (cc is)
-holds_so holds_none is = absurd (cc is)
-holds_so (holds_it m) is = ap (λ m. Some m) (cc is)
 
 pub seats_that_are_not : SeatsThatAreNot
 seats_that_are_not =
@@ -167,6 +170,7 @@ seats_that_are_not =
       gives_more = λ once. elim once [ ];
       holds_another = λ holds. let is : Some 8 ≡ Some 7 = holds_so holds refl in cc is;
       holds_untaken = λ holds. elim holds [ ];
+      took_without_its_slot = λ holds. elim holds [ ];
       is_the_receivers = λ seat. let is : Receiver ≡ Sender = seat.role in cc is;
       is_the_senders = λ seat. let is : Sender ≡ Receiver = seat.role in cc is;
       has_no_slot = λ seat. let is : 2 ≡ 0 = message_alone seat.has in cc is;
@@ -174,6 +178,9 @@ seats_that_are_not =
       took_its_slot = λ seat. let is : 0 ≡ 2 = carries_none message_first seat.has in cc is;
       sends_another = λ seat. let is : 8 ≡ 7 = seat_keeps seat.has refl in cc is;
       has_given = λ seat. elim seat.passed [ ];
+      has_anothers_waker = λ seat.
+          let is : ◌≡◌ {A = Option (AnyWaker ℕ ℕ)} (Some (R.Thread 2)) (Some (R.Thread 1)) = claims_so seat.handed refl in cc is;
+      has_an_untaken_waker = λ seat. elim seat.handed [ ];
       took_another = λ seat. let is : Some 8 ≡ Some 7 = holds_so seat.passed refl in cc is;
       at_another = λ at. let is : 6 ≡ 5 = ap (λ (t : TableId). t.block) at.table in cc is;
       of_two_words = λ at. let is : 2 ≡ 1 = at.words in cc is;

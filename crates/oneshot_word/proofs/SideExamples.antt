@@ -1,7 +1,11 @@
 -- The examples of sides: each by its row of the table, and what the counterexamples lack.
 use Rattle.std.proofs.Common.{◌≡◌, ℕ, List, [], Some, None, refl}
-use Rattle.oneshot_word.proofs.Names.{get_or, ap, TableId, Seen, Done, Word, Add, Noted, no_slot, room, has, slots_that_are, slots_that_are_not, sent_at_once, SidesThatAre, SidesThatAreNot}
+use Rattle.oneshot_word.proofs.Names.{get_or, ap, TableId, Seen, Done, Word, Add, Noted, no_slot, room, has, slots_that_are, slots_that_are_not, sent_at_once, Held, held, SidesThatAre, SidesThatAreNot}
 use Rattle.oneshot_word.specs.SeatExamples.{claims, looked}
+
+-- a slot holds one thing
+same_waker : {j k : ℕ} → ◌≡◌ {A = Held ℕ} (held j) (held k) → Some j ≡ Some k
+same_waker e = ap Some (cc e)
 
 pub sides_that_are : SidesThatAre
 sides_that_are =
@@ -15,9 +19,11 @@ sides_that_are =
         sender_log = refl;
         sender_slots = (refl, refl);
         sender_passed = refl;
+        sender_handed = refl;
         receiver_log = refl;
         receiver_slots = (refl, refl);
         receiver_passed = refl;
+        receiver_handed = refl;
       };
       may_send = slots_that_are.sends;
       may_drop = slots_that_are.drops;
@@ -30,6 +36,10 @@ sides_that_are =
         list = refl;
         finds = slots_that_are.gives_its_message;
         passed = refl;
+        handed = refl;
+        gets = λ k from to. absurd (cc to);
+        stays = λ x is. absurd (cc is);
+        takes = tt;
       };
       claims_a_waker = record {
         about = refl;
@@ -37,6 +47,32 @@ sides_that_are =
         list = refl;
         finds = slots_that_are.gets_a_waker;
         passed = refl;
+        handed = refl;
+        gets = λ k from to. same_waker to;
+        stays = λ x is. absurd (cc is);
+        takes = tt;
+      };
+      gives_its_waker = record {
+        about = refl;
+        table = refl;
+        list = refl;
+        finds = slots_that_are.stores_its_waker;
+        passed = refl;
+        handed = refl;
+        gets = λ k from to. absurd (cc from);
+        stays = λ x is. absurd (cc is);
+        takes = refl;
+      };
+      takes_it_back = record {
+        about = refl;
+        table = refl;
+        list = refl;
+        finds = slots_that_are.takes_it_back;
+        passed = refl;
+        handed = refl;
+        gets = λ k from to. same_waker to;
+        stays = λ x is. absurd (cc is);
+        takes = refl;
       };
       receives = record {
         about = refl;
@@ -44,6 +80,10 @@ sides_that_are =
         list = refl;
         finds = slots_that_are.gets_a_message;
         passed = refl;
+        handed = refl;
+        gets = λ k from to. absurd (cc to);
+        stays = λ x is. absurd (cc is);
+        takes = refl;
       };
     }
 
@@ -65,9 +105,11 @@ sides_that_are_not =
       sender_has_a_message = λ ends. let is : has 7 ≡ room = ends.sender_slots.0 in cc is;
       sender_has_the_waker = λ ends. let is : room ≡ no_slot = ends.sender_slots.1 in cc is;
       sender_has_given = λ ends. let is : Some 7 ≡ None = ends.sender_passed in cc is;
+      sender_has_woken = λ ends. let is : Some 1 ≡ None = ends.sender_handed in cc is;
       receiver_has_operated = λ ends. let is : looked ≡ [] = ends.receiver_log in cc is;
       receiver_has_the_message = λ ends. let is : room ≡ no_slot = ends.receiver_slots.0 in cc is;
       receiver_has_the_waker = λ ends. let is : room ≡ no_slot = ends.receiver_slots.1 in cc is;
+      receiver_has_given = λ ends. let is : Some 1 ≡ None = ends.receiver_handed in cc is;
       receiver_has_taken = λ ends. let is : Some 7 ≡ None = ends.receiver_passed in cc is;
       sends_nothing = slots_that_are_not.sends_nothing;
       sends_twice = slots_that_are_not.sends_twice;
@@ -80,5 +122,9 @@ sides_that_are_not =
       gives_none = λ did. let is : None ≡ Some 7 = did.passed in cc is;
       gives_another = λ did. let is : Some 8 ≡ Some 7 = did.passed in cc is;
       gets_no_message = λ did. slots_that_are_not.gets_no_message did.finds;
+      claims_and_notes_none = λ did. let is : None ≡ Some 1 = did.handed in cc is;
+      claims_and_notes_another = λ did. let is : Some 2 ≡ Some 1 = did.handed in cc is;
+      gets_another_back = λ did. let is : Some 1 ≡ Some 2 = did.gets 2 refl refl in cc is;
       takes_none = λ did. let is : None ≡ Some 7 = did.passed in cc is;
+      takes_again = λ did. let is : Some 7 ≡ Some 8 = did.stays 8 refl in cc is;
     }

@@ -10,7 +10,7 @@ use Rattle.oneshot_word.specs.Seats.{SenderStepped, ReceiverStepped}
 
 -- a note: the step, the seat before it, the word that it found, and the seat after
 abbrev pub Note : Type 0 → Type 0 → Type 0 → Type 0 → Type 1
-Note T H K P = Step (Slot T H K) → Me (Slot T H K) (View T P) → ℕ → Me (Slot T H K) (View T P) → Type 0
+Note T H K P = Step (Slot T H K) → Me (Slot T H K) (View T H K P) → ℕ → Me (Slot T H K) (View T H K P) → Type 0
 
 module _ {T H K P : Type 0} (keeps : P → T → Type 0) where
   abbrev pub AddFound : Note T H K P

@@ -9,9 +9,9 @@ use Rattle.oneshot_word.specs.Seats.{view}
 
 pub record RuleKeeps {T P : Type 0} (H K : Type 0) (keeps : P → T → Type 0) : Type 0 where
   -- in every state that the rule allows
-  pub kept : (q : P) (words : List ℕ) (k : Home T H K) (views : List (View T P)) (m : T)
+  pub kept : (q : P) (words : List ℕ) (k : Home T H K) (views : List (View T H K P)) (m : T)
       → Tied keeps q words (has_message m ∷ k ∷ []) views → keeps q m
   -- after a `send` to a receiver that is here and has performed no operation
   pub sent : (q : P) (m : T) → keeps q m
       → Tied {H = H} {K = K} keeps q (4 ∷ []) (has_message m ∷ bare ∷ [])
-      (view q Sender ((Add, Word 3) ∷ []) (Some m) ∷ view q Receiver [] None ∷ [])
+      (view q Sender ((Add, Word 3) ∷ []) (Some m) None ∷ view q Receiver [] None None ∷ [])

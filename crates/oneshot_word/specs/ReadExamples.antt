@@ -30,11 +30,11 @@ abbrev pub message_in : Homes
 message_in = has_message 7 ∷ bare ∷ []
 
 -- the views of one seat, and of both ends, of a channel about 7
-abbrev pub alone : Role → List (View ℕ ℕ)
-alone role = view 7 role [] None ∷ []
+abbrev pub alone : Role → List (View ℕ ℕ ℕ ℕ)
+alone role = view 7 role [] None None ∷ []
 
-abbrev pub views : List Noted → Option ℕ → List Noted → Option ℕ → List (View ℕ ℕ)
-views = both_views 7
+abbrev pub views : List Noted → Option ℕ → List Noted → Option ℕ → List (View ℕ ℕ ℕ ℕ)
+views xs given ys taken = both_views 7 xs given None ys taken None
 
 -- a `send`, a load before it, and a load after it that finds the message
 abbrev pub sent : List Noted
@@ -52,12 +52,12 @@ pub record ReadsThatAre : Type 0 where
   pub both_new : Ruled {P = ℕ} 7 (3 ∷ []) one_out (views [] None [] None)
   pub was_sent : Ruled {P = ℕ} 7 (4 ∷ []) message_in (views sent (Some 7) [] None)
   pub was_received : Ruled {P = ℕ} 7 (4 ∷ []) both_out (views sent (Some 7) found (Some 7))
-  pub ordered_as_new : Ordered {P = ℕ} 7 (3 ∷ []) (alone Maker)
-  pub ordered_as_dealt : Ordered {P = ℕ} 7 (3 ∷ []) (alone Dealer)
-  pub ordered : Ordered {P = ℕ} 7 (4 ∷ []) (views sent (Some 7) found (Some 7))
+  pub ordered_as_new : Ordered {H = ℕ} {K = ℕ} {P = ℕ} 7 (3 ∷ []) (alone Maker)
+  pub ordered_as_dealt : Ordered {H = ℕ} {K = ℕ} {P = ℕ} 7 (3 ∷ []) (alone Dealer)
+  pub ordered : Ordered {H = ℕ} {K = ℕ} {P = ℕ} 7 (4 ∷ []) (views sent (Some 7) found (Some 7))
   -- what both laws state of a message in the table
   pub is_read : RuleReads ℕ ℕ keeps → Ruled {P = ℕ} 7 (4 ∷ []) message_in (views sent (Some 7) [] None)
-  pub is_ordered : RuleOrders ℕ ℕ keeps → Ordered {P = ℕ} 7 (4 ∷ []) (views sent (Some 7) [] None)
+  pub is_ordered : RuleOrders ℕ ℕ keeps → Ordered {H = ℕ} {K = ℕ} {P = ℕ} 7 (4 ∷ []) (views sent (Some 7) [] None)
 
 pub record ReadsThatAreNot : Type 0 where
   -- before there are ends
@@ -72,8 +72,8 @@ pub record ReadsThatAreNot : Type 0 where
   pub sent_and_is_bare : {given taken : Option ℕ}
       → Ruled {P = ℕ} 7 (4 ∷ []) both_in (views (sent_over 1) given waits taken) → ⊥
   -- another word, one seat alone, and logs that have no order
-  pub new_order : Ordered {P = ℕ} 7 (2 ∷ []) (alone Maker) → ⊥
-  pub order_of_one : Ordered {P = ℕ} 7 (3 ∷ []) (alone Sender) → ⊥
+  pub new_order : Ordered {H = ℕ} {K = ℕ} {P = ℕ} 7 (2 ∷ []) (alone Maker) → ⊥
+  pub order_of_one : Ordered {H = ℕ} {K = ℕ} {P = ℕ} 7 (3 ∷ []) (alone Sender) → ⊥
   pub finds_what_nobody_left : {word : ℕ} {given taken : Option ℕ}
-      → Ordered {P = ℕ} 7 (word ∷ []) (views [] given found taken) → ⊥
-  pub leaves_3 : {given taken : Option ℕ} → Ordered {P = ℕ} 7 (3 ∷ []) (views sent given looked taken) → ⊥
+      → Ordered {H = ℕ} {K = ℕ} {P = ℕ} 7 (word ∷ []) (views [] given found taken) → ⊥
+  pub leaves_3 : {given taken : Option ℕ} → Ordered {H = ℕ} {K = ℕ} {P = ℕ} 7 (3 ∷ []) (views sent given looked taken) → ⊥

@@ -63,16 +63,16 @@ pub data Owned {T H K : Type 0} (xs ys : List Noted) : ℕ → Home T H K → Ho
       → IsReceivers h → IsReceivers k → Owned xs ys w h k
 
 -- the words, the slots at home and the views of all seats
-pub data Ruled {T H K P : Type 0} (q : P) : List ℕ → List (Home T H K) → List (View T P) → Type 0 where
+pub data Ruled {T H K P : Type 0} (q : P) : List ℕ → List (Home T H K) → List (View T H K P) → Type 0 where
   -- before there are ends
-  maker_alone : Ruled q (3 ∷ []) (bare ∷ bare ∷ []) (view q Maker [] None ∷ [])
-  dealer_alone : Ruled q (3 ∷ []) (out ∷ bare ∷ []) (view q Dealer [] None ∷ [])
+  maker_alone : Ruled q (3 ∷ []) (bare ∷ bare ∷ []) (view q Maker [] None None ∷ [])
+  dealer_alone : Ruled q (3 ∷ []) (out ∷ bare ∷ []) (view q Dealer [] None None ∷ [])
   -- from then on
-  two_ends : {w : ℕ} {h k : Home T H K} (xs ys : List Noted) {given taken : Option T} → Owned xs ys w h k
-      → Ruled q (w ∷ []) (h ∷ k ∷ []) (view q Sender xs given ∷ view q Receiver ys taken ∷ [])
+  two_ends : {w : ℕ} {h k : Home T H K} (xs ys : List Noted) {given taken : Option T} {put woke : Option (AnyWaker H K)} → Owned xs ys w h k
+      → Ruled q (w ∷ []) (h ∷ k ∷ []) (view q Sender xs given woke ∷ view q Receiver ys taken put ∷ [])
 
 -- Every state that the rule allows is in one of the rows.
 abbrev pub RuleReads : {T P : Type 0} (H K : Type 0) → (P → T → Type 0) → Type 0
 RuleReads {T} {P} H K keeps =
-    (q : P) (words : List ℕ) (homes : List (Home T H K)) (views : List (View T P)) → Tied keeps q words homes views
+    (q : P) (words : List ℕ) (homes : List (Home T H K)) (views : List (View T H K P)) → Tied keeps q words homes views
     → Ruled q words homes views

@@ -1,40 +1,79 @@
--- In every state that the rule allows, the message that the receiver took is the one that the sender gave.
+-- In every state that the rule allows, the message that the receiver took is the one that the sender gave, and the
+-- waker that the sender took is the one that the receiver gave last.
 use Rattle.std.specs.Prelude.{◌≡◌, ◌≢◌, ℕ, List, [], ◌∷◌, Option, Some, None}
 use Rattle.oneshot_machine.specs.declared.machine.Seen.TheVariants.{Word}
 use Rattle.oneshot_machine.specs.declared.states.Op.TheVariants.{Load, Add}
 use Rattle.oneshot_machine.specs.Noted.{Noted}
+use Rattle.oneshot_word.specs.declared.any_waker.AnyWaker.{AnyWaker}
 use Rattle.oneshot_word.specs.declared.rule.Role.TheVariants.{Sender, Receiver}
 use Rattle.oneshot_word.specs.declared.rule.View.{View}
-use Rattle.oneshot_word.specs.Rule.{Home, out, bare, has_message, Tied}
+use Rattle.oneshot_word.specs.Examples.{waits, claims}
+use Rattle.oneshot_word.specs.Rule.{Home, out, bare, has_message, has_waker, Tied}
 use Rattle.oneshot_word.specs.Seats.{view}
 
--- the views of both ends, with the message that the sender gave and the one that the receiver took
-abbrev pub both_views : {T P : Type 0} → P → List Noted → Option T → List Noted → Option T → List (View T P)
-both_views q xs given ys taken = view q Sender xs given ∷ view q Receiver ys taken ∷ []
+-- the views of both ends: the message that the sender gave and the waker that it took, and the message that the
+-- receiver took and the waker that it gave last
+abbrev pub both_views : {T H K P : Type 0} → P → List Noted → Option T → Option (AnyWaker H K) → List Noted → Option T
+    → Option (AnyWaker H K) → List (View T H K P)
+both_views q xs given woke ys taken put = view q Sender xs given woke ∷ view q Receiver ys taken put ∷ []
 
 module _ {T P : Type 0} (H K : Type 0) (keeps : P → T → Type 0) where
   pub record ReceivedIsSent : Type 0 where
     -- a message that the receiver took is the one that the sender gave
-    pub taken : (q : P) (words : List ℕ) (homes : List (Home T H K)) (xs ys : List Noted) (given : Option T) (m : T)
-        → Tied keeps q words homes (both_views q xs given ys (Some m)) → given ≡ Some m
+    pub taken : (q : P) (words : List ℕ) (homes : List (Home T H K)) (xs ys : List Noted) (given : Option T)
+        (put woke : Option (AnyWaker H K)) (m : T)
+        → Tied keeps q words homes (both_views q xs given woke ys (Some m) put) → given ≡ Some m
     -- and so is a message in the table
-    pub lies : (q : P) (words : List ℕ) (k : Home T H K) (xs ys : List Noted) (given taken : Option T) (m : T)
-        → Tied keeps q words (has_message m ∷ k ∷ []) (both_views q xs given ys taken) → given ≡ Some m
+    pub lies : (q : P) (words : List ℕ) (k : Home T H K) (xs ys : List Noted) (given taken : Option T)
+        (put woke : Option (AnyWaker H K)) (m : T)
+        → Tied keeps q words (has_message m ∷ k ∷ []) (both_views q xs given woke ys taken put) → given ≡ Some m
+
+  pub record WokenIsPut : Type 0 where
+    -- a waker that the sender took is the one that the receiver gave last
+    pub woken : (q : P) (words : List ℕ) (homes : List (Home T H K)) (xs ys : List Noted) (given taken : Option T)
+        (put : Option (AnyWaker H K)) (k : AnyWaker H K)
+        → Tied keeps q words homes (both_views q xs given (Some k) ys taken put) → put ≡ Some k
+    -- and so is a waker in the table
+    pub rests : (q : P) (words : List ℕ) (h : Home T H K) (xs ys : List Noted) (given taken : Option T)
+        (put woke : Option (AnyWaker H K)) (k : AnyWaker H K)
+        → Tied keeps q words (h ∷ has_waker k ∷ []) (both_views q xs given woke ys taken put) → put ≡ Some k
 
   -- a message that was sent to a receiver that is here, and then received
   pub record MessagesThatPass : Type 0 where
     pub lies_there : (q : P) (m : T) → keeps q m → Tied {H = H} {K = K} keeps q (4 ∷ []) (has_message m ∷ bare ∷ [])
-        (both_views q ((Add, Word 3) ∷ []) (Some m) [] None)
+        (both_views q ((Add, Word 3) ∷ []) (Some m) None [] None None)
     pub was_taken : (q : P) (m : T) → Tied {H = H} {K = K} keeps q (4 ∷ []) (out ∷ out ∷ [])
-        (both_views q ((Add, Word 3) ∷ []) (Some m) ((Load, Word 4) ∷ []) (Some m))
+        (both_views q ((Add, Word 3) ∷ []) (Some m) None ((Load, Word 4) ∷ []) (Some m) None)
 
   -- whatever the words, the slots at home and both logs are
   pub record MessagesThatDoNot : Type 0 where
-    pub took_another : {q : P} {words : List ℕ} {homes : List (Home T H K)} {xs ys : List Noted} (m other : T)
-        → m ≢ other → Tied keeps q words homes (both_views q xs (Some m) ys (Some other)) → ⊥
-    pub took_what_none_gave : {q : P} {words : List ℕ} {homes : List (Home T H K)} {xs ys : List Noted} (m : T)
-        → Tied keeps q words homes (both_views q xs None ys (Some m)) → ⊥
-    pub another_lies : {q : P} {words : List ℕ} {k : Home T H K} {xs ys : List Noted} {taken : Option T} (m other : T)
-        → m ≢ other → Tied keeps q words (has_message other ∷ k ∷ []) (both_views q xs (Some m) ys taken) → ⊥
-    pub lies_and_none_gave : {q : P} {words : List ℕ} {k : Home T H K} {xs ys : List Noted} {taken : Option T} (m : T)
-        → Tied keeps q words (has_message m ∷ k ∷ []) (both_views q xs None ys taken) → ⊥
+    pub took_another : {q : P} {words : List ℕ} {homes : List (Home T H K)} {xs ys : List Noted} {put woke : Option (AnyWaker H K)}
+        (m other : T)
+        → m ≢ other → Tied keeps q words homes (both_views q xs (Some m) woke ys (Some other) put) → ⊥
+    pub took_what_none_gave : {q : P} {words : List ℕ} {homes : List (Home T H K)} {xs ys : List Noted} {put woke : Option (AnyWaker H K)}
+        (m : T)
+        → Tied keeps q words homes (both_views q xs None woke ys (Some m) put) → ⊥
+    pub another_lies : {q : P} {words : List ℕ} {k : Home T H K} {xs ys : List Noted} {taken : Option T}
+        {put woke : Option (AnyWaker H K)} (m other : T)
+        → m ≢ other → Tied keeps q words (has_message other ∷ k ∷ []) (both_views q xs (Some m) woke ys taken put) → ⊥
+    pub lies_and_none_gave : {q : P} {words : List ℕ} {k : Home T H K} {xs ys : List Noted} {taken : Option T}
+        {put woke : Option (AnyWaker H K)} (m : T)
+        → Tied keeps q words (has_message m ∷ k ∷ []) (both_views q xs None woke ys taken put) → ⊥
+
+  -- a waker that lies in the table once the receiver waits, and that the sender took
+  pub record WakersThatPass : Type 0 where
+    pub rests_there : (q : P) (k : AnyWaker H K) → Tied {H = H} {K = K} keeps q (0 ∷ []) (out ∷ has_waker k ∷ [])
+        (both_views q [] None None waits None (Some k))
+    pub was_taken : (q : P) (k : AnyWaker H K) → Tied {H = H} {K = K} keeps q (1 ∷ []) (out ∷ out ∷ [])
+        (both_views q claims None (Some k) waits None (Some k))
+
+  pub record WakersThatDoNot : Type 0 where
+    pub took_another : {q : P} {words : List ℕ} {homes : List (Home T H K)} {xs ys : List Noted}
+        {given taken : Option T} (k other : AnyWaker H K) → k ≢ other
+        → Tied keeps q words homes (both_views q xs given (Some other) ys taken (Some k)) → ⊥
+    pub took_what_none_gave : {q : P} {words : List ℕ} {homes : List (Home T H K)} {xs ys : List Noted}
+        {given taken : Option T} (k : AnyWaker H K)
+        → Tied keeps q words homes (both_views q xs given (Some k) ys taken None) → ⊥
+    pub another_rests : {q : P} {words : List ℕ} {h : Home T H K} {xs ys : List Noted} {given taken : Option T}
+        {woke : Option (AnyWaker H K)} (k other : AnyWaker H K) → k ≢ other
+        → Tied keeps q words (h ∷ has_waker other ∷ []) (both_views q xs given woke ys taken (Some k)) → ⊥

@@ -1,5 +1,5 @@
 -- The rule of the table: the order of both ends' operations, where each slot is, and which message passes.
-use Rattle.std.specs.Prelude.{◌≡◌, ℕ, Bool, false, ◌||◌, if◌then◌else◌, List, [], ◌∷◌, Option, Some, None}
+use Rattle.std.specs.Prelude.{◌≡◌, ℕ, Bool, true, false, ◌||◌, if◌then◌else◌, List, [], ◌∷◌, Option, Some, None}
 use mathlib.Core.Option as maybe
 use Rattle.oneshot_machine.specs.Noted.{Noted}
 use Rattle.oneshot_machine.specs.Orders.{Reaches}
@@ -9,7 +9,7 @@ use Rattle.oneshot_word.specs.declared.any_waker.AnyWaker.{AnyWaker}
 use Rattle.oneshot_word.specs.declared.rule.Slot.{Slot}
 use Rattle.oneshot_word.specs.declared.rule.Slot.TheVariants.{Empty, Message}
 use Rattle.oneshot_word.specs.declared.rule.View.{View}
-use Rattle.oneshot_word.specs.Seats.{view, any, with_waker}
+use Rattle.oneshot_word.specs.Seats.{view, with_waker}
 
 -- what is at home of a slot: nothing while a seat carries it, otherwise its content
 abbrev pub Home : Type 0 → Type 0 → Type 0 → Type 0
@@ -67,18 +67,33 @@ pub data IsTaken {T : Type 0} (given : Option T) : Option T → Type 0 where
   took_none : IsTaken given None
   took_it : (m : T) → given ≡ Some m → IsTaken given (Some m)
 
+-- a waker at home is the one that the receiver gave last
+abbrev pub IsPut : {W : Type 0} → Option W → W → Type 0
+IsPut put k = put ≡ Some k
+
+abbrev pub has_made : List Noted → Bool
+has_made [] = false
+has_made (x ∷ xs) = true
+
+-- What the sender took: no waker, or, by its first operation, the one that the receiver gave last.
+pub data IsClaimed {W : Type 0} (put : Option W) (xs : List Noted) : Option W → Type 0 where
+  claimed_none : IsClaimed put xs None
+  claimed_it : (k : W) → put ≡ Some k → has_made xs ≡ true → IsClaimed put xs (Some k)
+
 -- The words, the slots at home and the views of all seats. Each view has the value that the channel is about.
 pub data Tied {T H K P : Type 0} (keeps : P → T → Type 0) (q : P)
-    : List ℕ → List (Home T H K) → List (View T P) → Type 0 where
+    : List ℕ → List (Home T H K) → List (View T H K P) → Type 0 where
   -- the table is new
-  opened : Tied keeps q (3 ∷ []) (bare ∷ bare ∷ []) (view q Maker [] None ∷ [])
+  opened : Tied keeps q (3 ∷ []) (bare ∷ bare ∷ []) (view q Maker [] None None ∷ [])
   -- its maker has the message's slot
-  dealt : Tied keeps q (3 ∷ []) (out ∷ bare ∷ []) (view q Dealer [] None ∷ [])
-  -- both ends exist: their operations have an order, each slot is where both phases put it, and a
-  -- message that is at home or that the receiver took is the one that the sender gave
-  runs : {w : ℕ} {h k : Home T H K} (xs ys : List Noted) {given taken : Option T}
+  dealt : Tied keeps q (3 ∷ []) (out ∷ bare ∷ []) (view q Dealer [] None None ∷ [])
+  -- both ends exist: their operations have an order, each slot is where both phases put it, a message that
+  -- is at home or that the receiver took is the one that the sender gave, and a waker that is at home or that
+  -- the sender took is the one that the receiver gave last
+  runs : {w : ℕ} {h k : Home T H K} (xs ys : List Noted) {given taken : Option T} {put woke : Option (AnyWaker H K)}
       → Reaches xs ys w
       → Lies (IsGiven keeps q given) Message (message_home (sender_at xs) (receiver_at ys)) h
-      → Lies any with_waker (waker_home (sender_at xs) (receiver_at ys)) k
+      → Lies (IsPut put) with_waker (waker_home (sender_at xs) (receiver_at ys)) k
       → IsTaken given taken
-      → Tied keeps q (w ∷ []) (h ∷ k ∷ []) (view q Sender xs given ∷ view q Receiver ys taken ∷ [])
+      → IsClaimed put xs woke
+      → Tied keeps q (w ∷ []) (h ∷ k ∷ []) (view q Sender xs given woke ∷ view q Receiver ys taken put ∷ [])

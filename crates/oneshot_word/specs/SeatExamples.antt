@@ -80,8 +80,12 @@ abbrev pub received : List Noted
 received = (Load, Word 4) ∷ []
 
 -- a seat with a view and with what it carries, and a table
-abbrev pub seat : Role → List Noted → Option ℕ → Carries → Me Kept (View ℕ ℕ)
-seat role log passed carries = (view 7 role log passed, carries)
+abbrev pub seat : Role → List Noted → Option ℕ → Carries → Me Kept (View ℕ ℕ ℕ ℕ)
+seat role log passed carries = (view 7 role log passed None, carries)
+
+-- the same, which took or gave this waker
+abbrev pub handing : Option (AnyWaker ℕ ℕ) → Me Kept (View ℕ ℕ ℕ ℕ) → Me Kept (View ℕ ℕ ℕ ℕ)
+handing k me = (record me.0 { handed = k }, me.1)
 
 abbrev pub table : ℕ → ℕ → ℕ → TableId
 table words slots block =
@@ -117,7 +121,7 @@ pub record SeatsThatAre : Type 0 where
   -- a sender: new, about to send, with the waker that it found, and once it has sent
   pub new_sender : SenderSeat keeps (seat Sender [] None (room 0))
   pub about_to_send : SenderSeat keeps (seat Sender [] None (with_message 7))
-  pub owes : SenderSeat keeps (seat Sender claims None (with_half ++ with_message 7))
+  pub owes : SenderSeat keeps (handing (Some (R.Thread 1)) (seat Sender claims None (with_half ++ with_message 7)))
   pub has_sent : SenderSeat keeps (seat Sender sent_at_once (Some 7) [])
   -- a receiver: new, about to wait, and once it has the message
   pub new_receiver : ReceiverSeat keeps (seat Receiver [] None [])
@@ -138,16 +142,17 @@ pub record SeatsThatAreNot : Type 0 where
   pub has_the_wakers : {seen : Held ℕ} → MessagePart true (room 1) seen → ⊥
   pub has_the_messages : {seen : Held (AnyWaker ℕ ℕ)} → WakerPart true (room 0) seen → ⊥
   -- both slots: the one that was taken first in front, and a seat of no end
-  pub message_before_waker : SeatOf (keeps 7) waker_first (Some (true, true)) (with_message 7 ++ with_half)
+  pub message_before_waker : SeatOf (keeps 7) any waker_first (Some (true, true)) (with_message 7 ++ with_half)
       (held 7) (held (R.Thread 1)) → ⊥
-  pub waker_before_message : SeatOf (keeps 7) message_first (Some (true, true)) (with_half ++ with_message 7)
+  pub waker_before_message : SeatOf (keeps 7) any message_first (Some (true, true)) (with_half ++ with_message 7)
       (held 7) (held (R.Thread 1)) → ⊥
-  pub of_no_end : SeatOf {H = ℕ} {K = ℕ} (keeps 7) waker_first None [] away away → ⊥
+  pub of_no_end : SeatOf {H = ℕ} {K = ℕ} (keeps 7) any waker_first None [] away away → ⊥
   -- what passed: a sender that gave and still has its slot, and a receiver that holds what it did not take
   pub gives_again : GivesOnce {T = ℕ} (Some 7) (held 7) → ⊥
   pub gives_more : GivesOnce {T = ℕ} (Some 7) vacant → ⊥
   pub holds_another : HoldsTaken {T = ℕ} (Some 8) (held 7) → ⊥
   pub holds_untaken : HoldsTaken {T = ℕ} None (held 7) → ⊥
+  pub took_without_its_slot : HoldsTaken {T = ℕ} (Some 7) away → ⊥
   -- seats: of the other end, without its slot, with the other's slot, or with a message that it may not have
   pub is_the_receivers : SenderSeat keeps (seat Receiver [] None (room 0)) → ⊥
   pub is_the_senders : ReceiverSeat keeps (seat Sender [] None []) → ⊥
@@ -156,6 +161,9 @@ pub record SeatsThatAreNot : Type 0 where
   pub took_its_slot : ReceiverSeat keeps (seat Receiver [] None (room 0)) → ⊥
   pub sends_another : SenderSeat keeps (seat Sender [] None (with_message 8)) → ⊥
   pub has_given : SenderSeat keeps (seat Sender [] (Some 7) (with_message 7)) → ⊥
+  pub has_anothers_waker : SenderSeat keeps
+      (handing (Some (R.Thread 2)) (seat Sender claims None (with_half ++ with_message 7))) → ⊥
+  pub has_an_untaken_waker : SenderSeat keeps (seat Sender claims None (with_half ++ with_message 7)) → ⊥
   pub took_another : ReceiverSeat keeps (seat Receiver received (Some 8) (with_message 7 ++ room 1)) → ⊥
   -- another table, or one of another size
   pub at_another : IsAt (table 1 2 5) (table 1 2 6) → ⊥

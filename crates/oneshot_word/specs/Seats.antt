@@ -1,11 +1,13 @@
 -- What a seat of the table knows and carries, and what a step does to it.
-use Rattle.std.specs.Prelude.{◌≡◌, ⊤, ◌≤◌, ℕ, zero, suc, Bool, true, false, List, [], ◌∷◌, ◌++◌, Option, Some, None}
+use Rattle.std.specs.Prelude.{◌≡◌, ⊤, ◌≤◌, ℕ, zero, suc, Bool, true, false, ◌||◌, List, [], ◌∷◌, ◌++◌, Option, Some, None, is_some}
 use Rattle.atomic_table.specs.Seated.{TableId}
 use Rattle.atomic_table.specs.Table.{Me}
+use Rattle.oneshot_machine.specs.declared.machine.Seen.TheVariants.{Word}
 use Rattle.oneshot_machine.specs.declared.states.Op.{Op}
 use Rattle.oneshot_machine.specs.Noted.{Noted, saw}
 use Rattle.oneshot_machine.specs.Phases.{sender_at, sender_moves, sender_owns, receiver_at, receiver_moves, receiver_owns, Row}
 use Rattle.oneshot_machine.specs.Orders.{Reaches}
+use Rattle.oneshot_machine.specs.TableRows.{is_same_seen}
 use Rattle.oneshot_machine.specs.Slots.{Held, away, vacant, held, Finds}
 use Rattle.oneshot_word.specs.declared.rule.Role.{Role}
 use Rattle.oneshot_word.specs.declared.rule.Role.TheVariants.{Sender, Receiver}
@@ -15,8 +17,8 @@ use Rattle.oneshot_word.specs.declared.rule.Slot.{Slot}
 use Rattle.oneshot_word.specs.declared.rule.Slot.TheVariants.{Empty, Message, Thread, Task, Nobody}
 use Rattle.oneshot_word.specs.declared.rule.View.{View}
 
-abbrev pub view : {T P : Type 0} → P → Role → List Noted → Option T → View T P
-view q r xs m = record { role = r; log = xs; passed = m; about = q }
+abbrev pub view : {T H K P : Type 0} → P → Role → List Noted → Option T → Option (AnyWaker H K) → View T H K P
+view q r xs m k = record { role = r; log = xs; passed = m; handed = k; about = q }
 
 -- the empty promise
 abbrev pub any : {X : Type 0} → X → Type 0
@@ -96,11 +98,11 @@ module _ {T H K : Type 0} where
   carried_as waker_first message waker = waker ++ message
 
   -- what a seat carries if its end owns these slots
-  pub data SeatOf (kept : T → Type 0) (front : Front)
+  pub data SeatOf (kept : T → Type 0) (fits : AnyWaker H K → Type 0) (front : Front)
       : Option (Bool × Bool) → Carried T H K → Held T → Held (AnyWaker H K) → Type 0 where
     seat_of : {message waker : Bool} {cm cw : Carried T H K} {m : Held T} {w : Held (AnyWaker H K)}
-        → Part kept 0 Message message cm m → Part any 1 with_waker waker cw w
-        → SeatOf kept front (Some (message, waker)) (carried_as front cm cw) m w
+        → Part kept 0 Message message cm m → Part fits 1 with_waker waker cw w
+        → SeatOf kept fits front (Some (message, waker)) (carried_as front cm cw) m w
 
 -- a seat at a table of one word and two slots
 pub record IsAt (shared seat : TableId) : Type 0 where
@@ -110,12 +112,12 @@ pub record IsAt (shared seat : TableId) : Type 0 where
 
 module _ {T H K P : Type 0} (about : P) where
   -- the sender's seat at a new table: it has taken the message's slot
-  abbrev pub new_sender : Me (Slot T H K) (View T P)
-  new_sender = (view about Sender [] None, (0, Empty) ∷ [])
+  abbrev pub new_sender : Me (Slot T H K) (View T H K P)
+  new_sender = (view about Sender [] None None, (0, Empty) ∷ [])
 
   -- the receiver's seat at a new table
-  abbrev pub new_receiver : Me (Slot T H K) (View T P)
-  new_receiver = (view about Receiver [] None, [])
+  abbrev pub new_receiver : Me (Slot T H K) (View T H K P)
+  new_receiver = (view about Receiver [] None None, [])
 
 -- The message that the sender gave, and its slot: a sender that has the slot has given none. So it gives at
 -- most one.
@@ -123,11 +125,22 @@ pub data GivesOnce {T : Type 0} : Option T → Held T → Type 0 where
   has_given : {given : Option T} → GivesOnce given away
   gave_none : {slot : Held T} → GivesOnce None slot
 
--- the message that the receiver took, and its slot: a message in the slot is the one that it took
+-- The message that the receiver took, and its slot: a receiver without the slot has taken none, and a message
+-- in the slot is the one that it took. It never gives the slot up, so it takes at most one.
 pub data HoldsTaken {T : Type 0} : Option T → Held T → Type 0 where
-  holds_no_slot : {taken : Option T} → HoldsTaken taken away
+  holds_no_slot : HoldsTaken None away
   holds_none : {taken : Option T} → HoldsTaken taken vacant
   holds_it : (m : T) → HoldsTaken (Some m) (held m)
+
+-- the waker that the sender took, and its slot, which it gives up: a waker in the slot is the one that it took
+pub data HoldsClaimed {W : Type 0} : Option W → Held W → Type 0 where
+  claims_no_slot : {woke : Option W} → HoldsClaimed woke away
+  claims_none : {woke : Option W} → HoldsClaimed woke vacant
+  claims_it : (k : W) → HoldsClaimed (Some k) (held k)
+
+-- no more is known of the waker that the receiver gave, and its slot
+abbrev pub unsaid : {W : Type 0} → Option W → Held W → Type 0
+unsaid put slot = ⊤
 
 -- the end's log is part of an order of both ends' operations
 abbrev pub IsOrdered : Role → List Noted → Type 0
@@ -135,41 +148,58 @@ IsOrdered Sender xs = (ys : List Noted) × (word : ℕ) × Reaches xs ys word
 IsOrdered Receiver ys = (xs : List Noted) × (word : ℕ) × Reaches xs ys word
 IsOrdered _ log = ⊤
 
--- an end's seat: its owner, what it carries in its end's phase, which message passed, and that its log
--- has an order
+-- an end's seat: its owner, what it carries in its end's phase, which message and which waker passed, and that
+-- its log has an order
 pub record SeatIs {T H K P : Type 0} (keeps : P → T → Type 0) (whose : Role) (front : Front)
     (owns : List Noted → Option (Bool × Bool)) (Passed : Option T → Held T → Type 0)
-    (me : Me (Slot T H K) (View T P)) : Type 0 where
+    (Handed : Option (AnyWaker H K) → Held (AnyWaker H K) → Type 0)
+    (me : Me (Slot T H K) (View T H K P)) : Type 0 where
   pub role : me.0.role ≡ whose
-  pub has : SeatOf (keeps me.0.about) front (owns me.0.log) me.1 (message_in me.1) (waker_in me.1)
+  pub has : SeatOf (keeps me.0.about) any front (owns me.0.log) me.1 (message_in me.1) (waker_in me.1)
   pub passed : Passed me.0.passed (message_in me.1)
+  pub handed : Handed me.0.handed (waker_in me.1)
   pub ordered : IsOrdered whose me.0.log
 
 module _ {T H K P : Type 0} (keeps : P → T → Type 0) where
-  abbrev pub SenderSeat : Me (Slot T H K) (View T P) → Type 0
-  SenderSeat = SeatIs keeps Sender waker_first (λ xs. sender_owns (sender_at xs)) GivesOnce
+  abbrev pub SenderSeat : Me (Slot T H K) (View T H K P) → Type 0
+  SenderSeat = SeatIs keeps Sender waker_first (λ xs. sender_owns (sender_at xs)) GivesOnce HoldsClaimed
 
-  abbrev pub ReceiverSeat : Me (Slot T H K) (View T P) → Type 0
-  ReceiverSeat = SeatIs keeps Receiver message_first (λ ys. receiver_owns (receiver_at ys)) HoldsTaken
+  abbrev pub ReceiverSeat : Me (Slot T H K) (View T H K P) → Type 0
+  ReceiverSeat = SeatIs keeps Receiver message_first (λ ys. receiver_owns (receiver_at ys)) HoldsTaken unsaid
 
--- The message that has passed after an operation, by the end's slot before and after it, and by what had
--- passed: a sender gives a message if its slot was full and is away after.
+-- What has passed after an operation, by the end's slot before and after it, and by what had passed: a sender
+-- gives a message, and a receiver a waker, if its slot was full and is away after.
 abbrev pub gave : {T : Type 0} → Held T → Held T → Option T → Option T
 gave (held m) away given = Some m
 gave _ _ given = given
 
--- a receiver takes one if its slot was away and is full after
+-- a receiver takes a message, and a sender a waker, if its slot was away and is full after
 abbrev pub took : {T : Type 0} → Held T → Held T → Option T → Option T
 took away (held m) taken = Some m
 took _ _ taken = taken
 
+-- it has taken one if it had before, or if the operation found 4
+abbrev pub TakesAsFound : {T : Type 0} → Op → ℕ → Option T → Option T → Type 0
+TakesAsFound op word before after = is_some after ≡ (is_some before || is_same_seen (saw op word) (Word 4))
+
+-- a sender takes none
+abbrev pub TakesNone : {T : Type 0} → Op → ℕ → Option T → Option T → Type 0
+TakesNone op word before after = ⊤
+
 -- a seat before and after an operation that found this word
-pub record Stepped {T H K P At : Type 0} (Seat : Me (Slot T H K) (View T P) → Type 0)
+pub record Stepped {T H K P At : Type 0} (Seat : Me (Slot T H K) (View T H K P) → Type 0)
     (at : List Noted → At) (moves : At → List (Row At)) (passes : Held T → Held T → Option T → Option T)
-    (before : Me (Slot T H K) (View T P)) (op : Op) (word : ℕ) (after : Me (Slot T H K) (View T P)) : Type 0 where
+    (hands : Held (AnyWaker H K) → Held (AnyWaker H K) → Option (AnyWaker H K) → Option (AnyWaker H K))
+    (Takes : Op → ℕ → Option T → Option T → Type 0)
+    (before : Me (Slot T H K) (View T H K P)) (op : Op) (word : ℕ) (after : Me (Slot T H K) (View T H K P)) : Type 0 where
   pub about : after.0.about ≡ before.0.about
   pub list : after.0.log ≡ before.0.log ++ (op, saw op word) ∷ []
   pub passed : after.0.passed ≡ passes (message_in before.1) (message_in after.1) before.0.passed
+  pub stays : (x : T) → before.0.passed ≡ Some x → after.0.passed ≡ Some x
+  pub takes : Takes op word before.0.passed after.0.passed
+  pub handed : after.0.handed ≡ hands (waker_in before.1) (waker_in after.1) before.0.handed
+  -- a waker that the end gets is the one that passed last
+  pub gets : (k : AnyWaker H K) → waker_in before.1 ≡ away → waker_in after.1 ≡ held k → after.0.handed ≡ Some k
   pub seat : Seat after
   -- the log of a store does not have the word
   pub code : word ≤ 4
@@ -177,8 +207,8 @@ pub record Stepped {T H K P At : Type 0} (Seat : Me (Slot T H K) (View T P) → 
       (message_in before.1) (waker_in before.1) (message_in after.1) (waker_in after.1)
 
 module _ {T H K P : Type 0} (keeps : P → T → Type 0) where
-  abbrev pub SenderStepped : Me (Slot T H K) (View T P) → Op → ℕ → Me (Slot T H K) (View T P) → Type 0
-  SenderStepped = Stepped (SenderSeat keeps) sender_at sender_moves gave
+  abbrev pub SenderStepped : Me (Slot T H K) (View T H K P) → Op → ℕ → Me (Slot T H K) (View T H K P) → Type 0
+  SenderStepped = Stepped (SenderSeat keeps) sender_at sender_moves gave took TakesNone
 
-  abbrev pub ReceiverStepped : Me (Slot T H K) (View T P) → Op → ℕ → Me (Slot T H K) (View T P) → Type 0
-  ReceiverStepped = Stepped (ReceiverSeat keeps) receiver_at receiver_moves took
+  abbrev pub ReceiverStepped : Me (Slot T H K) (View T H K P) → Op → ℕ → Me (Slot T H K) (View T H K P) → Type 0
+  ReceiverStepped = Stepped (ReceiverSeat keeps) receiver_at receiver_moves took gave TakesAsFound

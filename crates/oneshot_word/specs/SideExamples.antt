@@ -5,13 +5,22 @@ use Rattle.oneshot_machine.specs.Noted.{Noted}
 use Rattle.oneshot_machine.specs.Slots.{Held, away, vacant, held}
 use Rattle.oneshot_word.specs.declared.any_waker.AnyWaker.TheVariants as R
 use Rattle.oneshot_word.specs.declared.rule.Role.TheVariants.{Sender, Receiver}
+use Rattle.oneshot_word.specs.Examples.{waits, stopped_over}
 use Rattle.oneshot_word.specs.SeatExamples.{table, seat, with_half, with_message, claims, looked, received, sent_at_once}
 use Rattle.oneshot_word.specs.Side.{Side, side_of, AreEnds, SenderCan, SenderDid, ReceiverCan, ReceiverDid}
 
 -- a side at a table, of a channel about 7, whose wakers are numbers
 abbrev pub side : List Noted → Held ℕ → Held ℕ → Option ℕ → Side ℕ ℕ ℕ
 side log message waker passed =
-    record { table = table 1 2 5; log = log; message = message; waker = waker; passed = passed; about = 7 }
+    record {
+      table = table 1 2 5;
+      log = log;
+      message = message;
+      waker = waker;
+      passed = passed;
+      handed = None;
+      about = 7;
+    }
 
 -- a sender that is new, is about to send, and has sent; and a receiver that is new, waits, and has received
 abbrev pub new_sender : Side ℕ ℕ ℕ
@@ -37,10 +46,11 @@ pub record SidesThatAre : Type 0 where
         message = held 7;
         waker = held (R.Thread 1);
         passed = Some 6;
+        handed = None;
         about = 7;
       }
   pub shows_none : side_of (table 1 2 5) (seat Receiver looked None [])
-      ≡ record { table = table 1 2 5; log = looked; message = away; waker = away; passed = None; about = 7 }
+      ≡ record { table = table 1 2 5; log = looked; message = away; waker = away; passed = None; handed = None; about = 7 }
   pub ends : AreEnds {P = ℕ} 7 new_sender new_receiver
   pub may_send : SenderCan about_to_send Add
   pub may_drop : SenderCan new_sender Xor
@@ -48,7 +58,11 @@ pub record SidesThatAre : Type 0 where
   pub may_load : ReceiverCan new_receiver Load
   pub may_wait : ReceiverCan (side looked away (held 1) None) (Swap 0)
   pub sends : SenderDid about_to_send Add 3 has_sent
-  pub claims_a_waker : SenderDid about_to_send Add 0 (side claims (held 7) (held 1) None)
+  pub claims_a_waker : SenderDid about_to_send Add 0 (record (side claims (held 7) (held 1) None) { handed = Some 1 })
+  pub gives_its_waker : ReceiverDid (side looked away (held 1) None) (Swap 0) 3
+      (record (side waits away away None) { handed = Some 1 })
+  pub takes_it_back : ReceiverDid (record (side waits away away None) { handed = Some 1 }) (Swap 3) 0
+      (record (side (stopped_over 0) away (held 1) None) { handed = Some 1 })
   pub receives : ReceiverDid new_receiver Load 4 has_received
 
 pub record SidesThatAreNot : Type 0 where
@@ -60,9 +74,11 @@ pub record SidesThatAreNot : Type 0 where
   pub sender_has_a_message : AreEnds {P = ℕ} 7 about_to_send new_receiver → ⊥
   pub sender_has_the_waker : AreEnds {P = ℕ} 7 (record new_sender { waker = vacant }) new_receiver → ⊥
   pub sender_has_given : AreEnds {P = ℕ} 7 (record new_sender { passed = Some 7 }) new_receiver → ⊥
+  pub sender_has_woken : AreEnds {P = ℕ} 7 (record new_sender { handed = Some 1 }) new_receiver → ⊥
   pub receiver_has_operated : AreEnds {P = ℕ} 7 new_sender (record new_receiver { log = looked }) → ⊥
   pub receiver_has_the_message : AreEnds {P = ℕ} 7 new_sender (record new_receiver { message = vacant }) → ⊥
   pub receiver_has_the_waker : AreEnds {P = ℕ} 7 new_sender (record new_receiver { waker = vacant }) → ⊥
+  pub receiver_has_given : AreEnds {P = ℕ} 7 new_sender (record new_receiver { handed = Some 1 }) → ⊥
   pub receiver_has_taken : AreEnds {P = ℕ} 7 new_sender (record new_receiver { passed = Some 7 }) → ⊥
   -- operations that the side does not allow
   pub sends_nothing : SenderCan new_sender Add → ⊥
@@ -78,4 +94,10 @@ pub record SidesThatAreNot : Type 0 where
   pub gives_none : SenderDid about_to_send Add 3 (record has_sent { passed = None }) → ⊥
   pub gives_another : SenderDid about_to_send Add 3 (record has_sent { passed = Some 8 }) → ⊥
   pub gets_no_message : ReceiverDid new_receiver Load 4 (record has_received { message = vacant }) → ⊥
+  pub claims_and_notes_none : SenderDid about_to_send Add 0 (side claims (held 7) (held 1) None) → ⊥
+  pub claims_and_notes_another : SenderDid about_to_send Add 0
+      (record (side claims (held 7) (held 1) None) { handed = Some 2 }) → ⊥
+  pub gets_another_back : ReceiverDid (record (side waits away away None) { handed = Some 1 }) (Swap 3) 0
+      (record (side (stopped_over 0) away (held 2) None) { handed = Some 1 }) → ⊥
   pub takes_none : ReceiverDid new_receiver Load 4 (record has_received { passed = None }) → ⊥
+  pub takes_again : ReceiverDid (record new_receiver { passed = Some 8 }) Load 4 has_received → ⊥

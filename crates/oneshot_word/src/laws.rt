@@ -10,7 +10,7 @@ ghost use Rattle.oneshot_word.specs.Promised.{RuleKeeps};
 ghost use Rattle.oneshot_word.specs.ReadExamples.{ReadsThatAre, ReadsThatAreNot};
 ghost use Rattle.oneshot_word.specs.SeatExamples.{SlotsAsSeen, SeatsThatAre, SeatsThatAreNot};
 ghost use Rattle.oneshot_word.specs.SideExamples.{SidesThatAre, SidesThatAreNot};
-ghost use Rattle.oneshot_word.specs.Received.{ReceivedIsSent, MessagesThatPass, MessagesThatDoNot};
+ghost use Rattle.oneshot_word.specs.Received.{ReceivedIsSent, WokenIsPut, MessagesThatPass, MessagesThatDoNot, WakersThatPass, WakersThatDoNot};
 
 use crate::promise::Promise;
 use crate::receiver::ReceiverSide;
@@ -59,6 +59,14 @@ pub fn what_is_received_was_sent<T, H, K, P: Promise<T>>()
     ensures law { ReceivedIsSent H K P.keeps }
     ensures messages { MessagesThatPass H K P.keeps }
     ensures no_messages { MessagesThatDoNot H K P.keeps }
+{}
+
+/// In every state that the table's rule allows, a waker that the sender took is the one that the receiver gave
+/// last, and so is a waker in the table. With examples of both, and counterexamples.
+pub fn what_is_woken_was_put<T, H, K, P: Promise<T>>()
+    ensures law { WokenIsPut H K P.keeps }
+    ensures wakers { WakersThatPass H K P.keeps }
+    ensures no_wakers { WakersThatDoNot H K P.keeps }
 {}
 
 /// Whatever a program did with the receiver's side `side`, its log is part of an order of both ends'

@@ -12,58 +12,58 @@ use atomic_table::{Play, Split};
 
 pub(crate) struct Adds;
 
-impl<T, H, K, P: Promise<T>> Play<Slot<T, H, K>, View<T, P>> for Adds {
+impl<T, H, K, P: Promise<T>> Play<Slot<T, H, K>, View<T, H, K, P>> for Adds {
     ghost then = { AddFound P.keeps };
 }
 
 pub(crate) struct Flips;
 
-impl<T, H, K, P: Promise<T>> Play<Slot<T, H, K>, View<T, P>> for Flips {
+impl<T, H, K, P: Promise<T>> Play<Slot<T, H, K>, View<T, H, K, P>> for Flips {
     ghost then = { FlipFound P.keeps };
 }
 
 pub(crate) struct Finishes;
 
-impl<T, H, K, P: Promise<T>> Play<Slot<T, H, K>, View<T, P>> for Finishes {
+impl<T, H, K, P: Promise<T>> Play<Slot<T, H, K>, View<T, H, K, P>> for Finishes {
     ghost then = { FinalSwapFound P.keeps };
 }
 
 pub(crate) struct Loads;
 
-impl<T, H, K, P: Promise<T>> Play<Slot<T, H, K>, View<T, P>> for Loads {
+impl<T, H, K, P: Promise<T>> Play<Slot<T, H, K>, View<T, H, K, P>> for Loads {
     ghost then = { LoadFound P.keeps };
 }
 
 pub(crate) struct Stores;
 
-impl<T, H, K, P: Promise<T>> Play<Slot<T, H, K>, View<T, P>> for Stores {
+impl<T, H, K, P: Promise<T>> Play<Slot<T, H, K>, View<T, H, K, P>> for Stores {
     ghost then = { StoreFound P.keeps };
 }
 
 pub(crate) struct Swaps;
 
-impl<T, H, K, P: Promise<T>> Play<Slot<T, H, K>, View<T, P>> for Swaps {
+impl<T, H, K, P: Promise<T>> Play<Slot<T, H, K>, View<T, H, K, P>> for Swaps {
     ghost then = { SwapFound P.keeps };
 }
 
 pub(crate) struct Exchanges;
 
-impl<T, H, K, P: Promise<T>> Play<Slot<T, H, K>, View<T, P>> for Exchanges {
+impl<T, H, K, P: Promise<T>> Play<Slot<T, H, K>, View<T, H, K, P>> for Exchanges {
     ghost then = { ExchangeFound P.keeps };
 }
 
 // The maker takes the message's slot.
 pub(crate) struct TakesMessageSlot;
 
-impl<T, H, K, P> Play<Slot<T, H, K>, View<T, P>> for TakesMessageSlot {
-    ghost then = { λ _ before found after. after ≡ (view before.0.about Dealer [] None, (0, Empty) ∷ []) };
+impl<T, H, K, P> Play<Slot<T, H, K>, View<T, H, K, P>> for TakesMessageSlot {
+    ghost then = { λ _ before found after. after ≡ (view before.0.about Dealer [] None None, (0, Empty) ∷ []) };
 }
 
 // The sender's seat keeps the slot, and the receiver gets a new seat.
 pub(crate) struct MakesReceiver;
 
-impl<T, P> Split<View<T, P>> for MakesReceiver {
-    ghost left = { λ v. view v.about Sender [] None };
+impl<T, H, K, P> Split<View<T, H, K, P>> for MakesReceiver {
+    ghost left = { λ v. view v.about Sender [] None None };
 
-    ghost right = { λ v. view v.about Receiver [] None };
+    ghost right = { λ v. view v.about Receiver [] None None };
 }

@@ -79,15 +79,17 @@ pub enum Role {
     Receiver,
 }
 
-/// What a seat knows: its owner, its log (without looks), the message that passed, and the value that
-/// the channel is about. For the proofs alone: no value of this type is made.
-pub struct View<T, P> {
+/// What a seat knows: its owner, its log (without looks), the message and the waker that passed, and the
+/// value that the channel is about. For the proofs alone: no value of this type is made.
+pub struct View<T, H, K, P> {
     /// The owner of the seat.
     pub role: Role,
     /// Its operations on the word, each with what it saw.
     pub log: LinkedList<(Op, Seen)>,
     /// The message that its end gave to the table or took from it, if it has.
     pub passed: Option<T>,
+    /// The waker that its end last gave to the table, or took from it.
+    pub handed: Option<AnyWaker<H, K>>,
     /// The value that the channel's promise is about.
     pub about: P,
 }
@@ -95,7 +97,7 @@ pub struct View<T, P> {
 /// The rule of the table, its invariant.
 pub struct WordRule;
 
-impl<T, H, K, P: Promise<T>> TableRule<Slot<T, H, K>, View<T, P>, P> for WordRule {
+impl<T, H, K, P: Promise<T>> TableRule<Slot<T, H, K>, View<T, H, K, P>, P> for WordRule {
     ghost use Rattle.std.specs.Prelude.{[], None};
     ghost use Rattle.oneshot_word.specs.Rule.{Tied};
     ghost use Rattle.oneshot_word.specs.Seats.{view};
@@ -103,5 +105,5 @@ impl<T, H, K, P: Promise<T>> TableRule<Slot<T, H, K>, View<T, P>, P> for WordRul
 
     ghost holds = { λ q s. Tied P.keeps q s.words s.homes s.views };
 
-    ghost first = { λ q. view q Maker [] None };
+    ghost first = { λ q. view q Maker [] None None };
 }

@@ -1,11 +1,11 @@
 //! The sender's side: its operations on the shared word, and its slots.
 
-ghost use Rattle.std.specs.Prelude.{◌≡◌, ◌≢◌};
+ghost use Rattle.std.specs.Prelude.{◌≡◌, ◌≢◌, Some};
 ghost use Rattle.std.specs.Arc.{arc_value};
 ghost use Rattle.oneshot_machine.specs.declared.states.Op.TheVariants.{Swap, Add, Xor};
 ghost use Rattle.oneshot_machine.specs.Slots.{away, vacant, held};
 ghost use Rattle.oneshot_word.specs.declared.any_waker.AnyWaker.{AnyWaker};
-ghost use Rattle.oneshot_word.specs.Seats.{IsAt, Keeps, MessageSlot, SenderSeat, WakerSlot, message_of, waker_of};
+ghost use Rattle.oneshot_word.specs.Seats.{IsAt, HoldsClaimed, Keeps, MessageSlot, SenderSeat, WakerSlot, message_of, waker_of};
 ghost use Rattle.oneshot_word.specs.Side.{SenderCan, SenderDid, side_of};
 
 use crate::any_waker::AnyWaker;
@@ -116,6 +116,7 @@ impl<T: Drop, H: Drop, K: Drop, P: Promise<T>> SenderSide<T, H, K, P> {
     pub fn take_waker(&mut self) -> AnyWaker<H, K>
         requires { (waker : AnyWaker H K) × (self.old.waker ≡ held waker) }
         ensures waker { self.old.waker ≡ held result }
+        ensures handed { self.old.handed ≡ Some result }
         ensures rest { self.new ≡ record self.old { waker = vacant } }
     {
         self.trade_waker(Slot::Empty).into_waker()
@@ -141,7 +142,9 @@ impl<T, H, K, P: Promise<T>> SenderSide<T, H, K, P> {
     fn trade_waker(&mut self, new: Slot<T, H, K>) -> Slot<T, H, K>
         requires its_own { self.old.waker ≢ away }
         requires no_message { message_of new ≡ vacant }
+        requires handed { HoldsClaimed self.old.handed (waker_of new) }
         ensures was { WakerSlot result self.old.waker }
+        ensures taken { HoldsClaimed self.old.handed self.old.waker }
         ensures has { self.new ≡ record self.old { waker = waker_of new } }
     {
         self.table.shared.exchange(&mut self.seat, 1, new)

@@ -3,12 +3,14 @@
 ghost use Rattle.std.specs.Prelude.{◌≡◌, []};
 ghost use Rattle.oneshot_machine.specs.Called.{as_receiver};
 ghost use Rattle.oneshot_ends.specs.Ends.{HasCalls, ReceiverIsOrdered};
+ghost use Rattle.oneshot_ends.specs.Taken.{TookAsFound};
 
 use crate::reply::answer::Answer;
 use crate::reply::requests::Request;
 use crate::reply::ticket::Ticket;
 use oneshot_ends::laws::{
-    a_receiver_has_its_calls, a_receiver_is_in_an_order, a_sender_has_made_none,
+    a_receiver_has_its_calls, a_receiver_is_in_an_order, a_receiver_took_what_it_found,
+    a_sender_has_made_none,
 };
 
 /// A request has performed no operation: the call that performs one consumes it.
@@ -30,4 +32,11 @@ pub fn a_ticket_is_in_an_order<Q: Eq, A: Answer<Q>, Rt>(ticket: &Ticket<Q, A, Rt
     ensures { ReceiverIsOrdered ticket.now.log }
 {
     a_receiver_is_in_an_order(&ticket.replies);
+}
+
+/// A ticket has taken a reply exactly if an operation of its log found one.
+pub fn a_ticket_took_what_it_found<Q: Eq, A: Answer<Q>, Rt>(ticket: &Ticket<Q, A, Rt>)
+    ensures { TookAsFound ticket.now.took ticket.now.log }
+{
+    a_receiver_took_what_it_found(&ticket.replies);
 }

@@ -1,6 +1,6 @@
 //! The function that makes a request and the ticket for its reply.
 
-ghost use Rattle.std.specs.Prelude.{◌≡◌, IfOk, IfErr};
+ghost use Rattle.std.specs.Prelude.{◌≡◌, IfOk, IfErr, None};
 ghost use Rattle.oneshot_ends.specs.Ends.{IsOpen};
 
 use crate::reply::answer::Answer;
@@ -25,6 +25,7 @@ pub fn request<Q: Eq + Send, A: Answer<Q> + Send + Drop, Rt: Drop>(
     ensures ticket { IfOk result (λ made. made.1.about.question ≡ question) }
     ensures one_channel { IfOk result (λ made. made.0.channel ≡ made.1.channel) }
     ensures open { IfOk result (λ made. IsOpen made.1) }
+    ensures none_taken { IfOk result (λ made. made.1.took ≡ None) }
     ensures back { IfErr result (λ back. back ≡ question) }
 {
     let asked = Asked { question };

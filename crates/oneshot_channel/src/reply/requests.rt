@@ -14,7 +14,7 @@ use std::marker::Model;
 ///
 /// It may be sent to another thread if `Q` and `A` are `Send`.
 ///
-/// In contracts a request is its sender's value (`EndOf`), whose `about` has the question.
+/// In contracts a request is its sender's value (`SenderEndOf`), whose `about` has the question.
 #[derive(Drop)]
 pub struct Request<Q: Eq, A: Answer<Q>> {
     asked: Asked<Q>,
@@ -23,10 +23,10 @@ pub struct Request<Q: Eq, A: Answer<Q>> {
 
 impl<Q: Eq, A: Answer<Q>> Model for Request<Q, A> {
     ghost use Rattle.std.specs.Prelude.{◌≡◌};
-    ghost use Rattle.oneshot_ends.specs.Ends.{EndOf};
+    ghost use Rattle.oneshot_ends.specs.Ends.{SenderEndOf};
     ghost use Rattle.oneshot_channel.specs.declared.reply.asked.Asked.{Asked};
 
-    ghost Value = { EndOf (Asked Q) };
+    ghost Value = { SenderEndOf (Asked Q) };
 
     ghost view = { λ r. r.reply };
 

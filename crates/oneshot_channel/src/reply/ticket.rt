@@ -8,6 +8,7 @@ ghost use Rattle.oneshot_machine.specs.Counts.{receiver_bound, GrewWithin};
 ghost use Rattle.oneshot_machine.specs.Phases.{receiver_at};
 ghost use Rattle.oneshot_drive.specs.BetweenCalls.{Leaves, LeavesTimed, try_recv_reply, timed_reply};
 ghost use Rattle.oneshot_ends.specs.Ends.{IsClosed, IsOpen, ReceiverGrew, TimeoutGrew};
+ghost use Rattle.oneshot_ends.specs.Taken.{StaysTaken, Takes};
 
 use crate::reply::answer::Answer;
 use crate::reply::asked::Asked;
@@ -36,7 +37,7 @@ impl<Q: Eq, A: Answer<Q>, Rt> Model for Ticket<Q, A, Rt> {
     ghost use Rattle.oneshot_ends.specs.Ends.{EndOf};
     ghost use Rattle.oneshot_channel.specs.declared.reply.asked.Asked.{Asked};
 
-    ghost Value = { EndOf (Asked Q) };
+    ghost Value = { EndOf A (Asked Q) };
 
     ghost view = { λ t. t.replies };
 }
@@ -66,6 +67,8 @@ impl<Q: Eq, A: Answer<Q> + Drop, Rt: Drop> Ticket<Q, A, Rt> {
         ensures own { IfOk result (λ reply. Q.eq (A.asked reply) self.old.about.question ≡ true) }
         ensures right { IfOk result (λ reply. A.answers (A.asked reply) reply) }
         ensures about { self.new.about ≡ self.old.about }
+        ensures took { Takes result self.old.took self.new.took }
+        ensures stays_taken { StaysTaken self.old.took self.new.took }
         ensures channel { self.new.channel ≡ self.old.channel }
         ensures run { ReceiverGrew A TryRecv self.old.log self.new.log (try_recv_reply result) }
         ensures leaves { Leaves result (receiver_at self.new.log) }
@@ -81,6 +84,7 @@ impl<Q: Eq, A: Answer<Q> + Drop, Rt: Drop> Ticket<Q, A, Rt> {
     /// It never blocks and does not allocate.
     pub fn into_future(self) -> AsyncReceiver<A, Rt, Asked<Q>>
         ensures about { result.about ≡ self.about }
+        ensures took { result.took ≡ self.took }
         ensures channel { result.channel ≡ self.channel }
         ensures log { result.log ≡ self.log }
     {
@@ -120,6 +124,8 @@ impl<Q: Eq, A: Answer<Q> + Drop, Rt: Wait + Clock + Drop> Ticket<Q, A, Rt> {
         ensures own { IfOk result (λ reply. Q.eq (A.asked reply) self.old.about.question ≡ true) }
         ensures right { IfOk result (λ reply. A.answers (A.asked reply) reply) }
         ensures about { self.new.about ≡ self.old.about }
+        ensures took { Takes result self.old.took self.new.took }
+        ensures stays_taken { StaysTaken self.old.took self.new.took }
         ensures channel { self.new.channel ≡ self.old.channel }
         ensures run { TimeoutGrew A timeout self.old.log self.new.log (timed_reply result) }
         ensures leaves { LeavesTimed result (receiver_at self.new.log) }

@@ -69,8 +69,13 @@ impl<T: Drop, P: Promise<T>> SenderGround<T, AnyWaker<WakingHalf, Waker>>
 
     ghost admits = { λ _ _. ⊤ };
 
+    ghost owed = { λ _ _. ⊤ };
+
     // It wakes nobody.
     ghost woken = { λ _ _. ⊤ };
+
+    // It gives nothing.
+    ghost gave = { λ _ _. ⊤ };
 
     // No operation on the word follows a refused `send`.
     fn add(&mut self) -> u8 {

@@ -1,6 +1,9 @@
 //! The ground of a receiver, which each of its calls lends to a driver.
 
-ghost use Rattle.std.specs.Prelude.{◌≡◌, false, true, IsTrue};
+ghost use Rattle.std.specs.Prelude.{◌≡◌, false, true, IsTrue, [], ◌∷◌};
+ghost use Rattle.oneshot_machine.specs.declared.machine.Step.TheVariants.{WriteWaker};
+ghost use Rattle.oneshot_machine.specs.Logs.{Grows, handed};
+ghost use Rattle.oneshot_machine.specs.Slots.{vacant, held};
 ghost use Rattle.oneshot_machine.specs.Phases.{receiver_at};
 ghost use Rattle.oneshot_ends.specs.Grounds.{is_left};
 ghost use Rattle.oneshot_ends.specs.Ends.{ReceiverIsOrdered};
@@ -51,23 +54,56 @@ impl<T, H, K, P: Promise<T>> SharedReceiver<T, H, K, P> {
     }
 }
 
-impl<T: Drop, H: Drop, K: Drop, P: Promise<T>> ReceiverGround<T, AnyWaker<H, K>>
-    for SharedReceiver<T, H, K, P> {
-    ghost use Rattle.std.proofs.Common.{◌∙◌, refl, subst};
+impl<T: Drop, P: Promise<T>> SharedReceiver<T, WakingHalf, Waker, P> {
     ghost use Rattle.oneshot_ends.specs.Grounds.{state_of};
+
+    /// Writes `waker` into its slot.
+    pub(super) fn give(&mut self, waker: AnyWaker<WakingHalf, Waker>)
+        requires { self.old.waker ≡ vacant }
+        ensures log { Grows (state_of self.old).log (state_of self.new).log (handed WriteWaker waker ∷ []) }
+        ensures rest { self.new ≡ record self.old { waker = held waker } }
+    {
+        self.side.write_waker(waker);
+    }
+}
+
+impl<T: Drop, P: Promise<T>> ReceiverGround<T, AnyWaker<WakingHalf, Waker>>
+    for SharedReceiver<T, WakingHalf, Waker, P> {
+    ghost use Rattle.std.proofs.Common.{◌∙◌, refl, subst, Some};
+    ghost use Rattle.atomic_table.specs.Seated.{TableId};
+    ghost use Rattle.oneshot_ends.specs.Grounds.{state_of};
+    ghost use Rattle.oneshot_ends.specs.OwnWakers.{NoThread, Owned};
+    ghost use Rattle.oneshot_ends.specs.Taken.{KeepsTaken};
 
     ghost state = { state_of };
 
-    // The channel stays about the same value.
-    ghost keeps = { λ a b. b.about ≡ a.about };
+    // The channel stays about the same value, the receiver's wakers stay its own parker's, or no thread's, a
+    // message that was taken is still the one, and the log still shows whether one was taken.
+    ghost keeps = { λ a b. (b.about ≡ a.about) × ((parker : TableId) → Owned parker a → Owned parker b)
+        × (NoThread a → NoThread b) × KeepsTaken a.passed b.passed a.log b.log };
 
-    ghost keeps_same = { λ _. refl };
+    ghost keeps_same = { λ _.
+        (refl, λ _ owned. owned, λ free. free, record { stays = λ _ is. is; found = λ so. so }) };
 
-    ghost keeps_on = { λ _ _ _ e f. f ∙ e };
+    ghost keeps_on = { λ _ _ _ e f. (
+      f.0 ∙ e.0,
+      λ parker owned. f.1 parker (e.1 parker owned),
+      λ free. f.2 (e.2 free),
+      record { stays = λ x is. f.3.stays x (e.3.stays x is); found = λ so. f.3.found (e.3.found so) },
+    ) };
+
+    // No call on the ground alone gives a waker: one lends it with what it waits by.
+    ghost has = { λ _ _. ⊥ };
+
+    ghost has_on = { λ _ _ _ _ none. none };
 
     ghost gives = { λ s message. P.keeps s.about message };
 
-    ghost gives_on = { λ _ _ message e kept. subst (λ q. P.keeps q message) e kept };
+    ghost gives_on = { λ _ _ message e kept. subst (λ q. P.keeps q message) e.0 kept };
+
+    ghost had = { λ s message. s.passed ≡ Some message };
+
+    ghost had_on = { λ _ _ message e had. e.3.stays message had };
 
     fn load(&mut self) -> u8 {
         self.side.load()
@@ -93,11 +129,11 @@ impl<T: Drop, H: Drop, K: Drop, P: Promise<T>> ReceiverGround<T, AnyWaker<H, K>>
         self.side.take_message();
     }
 
-    fn write_waker(&mut self, waker: AnyWaker<H, K>) {
-        self.side.write_waker(waker);
+    fn write_waker(&mut self, waker: AnyWaker<WakingHalf, Waker>) {
+        self.give(waker);
     }
 
-    fn withdraw(&mut self) -> AnyWaker<H, K> {
+    fn withdraw(&mut self) -> AnyWaker<WakingHalf, Waker> {
         self.side.take_waker()
     }
 

@@ -1,6 +1,6 @@
 //! A sender's side before its one call, and its ground in that call.
 
-ghost use Rattle.std.specs.Prelude.{◌≡◌, false, true, IsTrue};
+ghost use Rattle.std.specs.Prelude.{◌≡◌, false, true, IsTrue, Some};
 ghost use Rattle.oneshot_machine.specs.Phases.{sender_at};
 ghost use Rattle.oneshot_ends.specs.Grounds.{is_over};
 ghost use Rattle.oneshot_machine.specs.Slots.{held};
@@ -41,9 +41,11 @@ impl<T, H, K, P: Promise<T>> Unsent<T, H, K, P> {
     {
         a_sender_is_in_an_order(&self.side);
     }
+}
 
+impl<T, P: Promise<T>> Unsent<T, WakingHalf, Waker, P> {
     /// The ground of the sender's one call.
-    pub(crate) fn into_ground(self) -> SharedSender<T, H, K, P>
+    pub(crate) fn into_ground(self) -> SharedSender<T, P>
         ensures { result.side ≡ self }
     {
         let Unsent { side } = self;
@@ -52,27 +54,29 @@ impl<T, H, K, P: Promise<T>> Unsent<T, H, K, P> {
 }
 
 /// The sender's ground.
-pub(crate) struct SharedSender<T, H, K, P: Promise<T>> {
-    side: SenderSide<T, H, K, P>,
+pub(crate) struct SharedSender<T, P: Promise<T>> {
+    side: SenderSide<T, WakingHalf, Waker, P>,
     // Whether `free` was called, for proofs alone: the block is freed with the last of both shares.
     freed: Freed,
     // Once it woke a thread, evidence that it gave the token. Only proofs read it.
     given: Option<Given>,
 }
 
-impl<T, H, K, P: Promise<T>> Model for SharedSender<T, H, K, P> {
+impl<T, P: Promise<T>> Model for SharedSender<T, P> {
     ghost use Rattle.oneshot_word.specs.declared.any_waker.AnyWaker.{AnyWaker};
+    ghost use Rattle.oneshot_ends.specs.declared.token.WakingHalf.{WakingHalf};
+    ghost use Rattle.futures.specs.declared.task.waker.Waker.{Waker};
     ghost use Rattle.oneshot_ends.specs.Grounds.{left_of};
     ghost use Rattle.oneshot_ends.specs.Woken.{Sending};
 
-    ghost Value = { Sending T (AnyWaker H K) P };
+    ghost Value = { Sending T (AnyWaker WakingHalf Waker) P };
 
     ghost view = { λ s. record { side = left_of s.freed.value s.side; given = s.given } };
 }
 
-impl<T, H, K, P: Promise<T>> SharedSender<T, H, K, P> {
+impl<T, P: Promise<T>> SharedSender<T, P> {
     /// The ground of a sender that has freed nothing.
-    fn new(side: SenderSide<T, H, K, P>) -> SharedSender<T, H, K, P>
+    fn new(side: SenderSide<T, WakingHalf, Waker, P>) -> SharedSender<T, P>
         ensures { result.side ≡ side }
     {
         let freed = Freed::of(false);
@@ -84,9 +88,9 @@ impl<T, H, K, P: Promise<T>> SharedSender<T, H, K, P> {
     }
 }
 
-impl<T: Drop, H: Drop, K: Drop, P: Promise<T>> SharedSender<T, H, K, P> {
+impl<T: Drop, P: Promise<T>> SharedSender<T, P> {
     /// Takes the message out of its slot, and returns it with the side.
-    pub(crate) fn into_refused(self) -> (T, SenderSide<T, H, K, P>)
+    pub(crate) fn into_refused(self) -> (T, SenderSide<T, WakingHalf, Waker, P>)
         requires { (x : T) × (self.side.message ≡ held x) }
         ensures message { self.side.message ≡ held result.0 }
         ensures about { result.1.about ≡ self.side.about }
@@ -103,16 +107,20 @@ impl<T: Drop, H: Drop, K: Drop, P: Promise<T>> SharedSender<T, H, K, P> {
     }
 }
 
-impl<T: Drop, P: Promise<T>> SenderGround<T, AnyWaker<WakingHalf, Waker>>
-    for SharedSender<T, WakingHalf, Waker, P> {
+impl<T: Drop, P: Promise<T>> SenderGround<T, AnyWaker<WakingHalf, Waker>> for SharedSender<T, P> {
     ghost use Rattle.oneshot_ends.specs.Grounds.{state_of};
     ghost use Rattle.oneshot_ends.specs.Woken.{IsWoken};
+    ghost use Rattle.std.specs.Prelude.{Some};
 
     ghost state = { λ s. state_of s.side };
 
     ghost admits = { λ s message. P.keeps s.side.about message };
 
-    ghost woken = { λ s waker. IsWoken waker s.given };
+    ghost owed = { λ s waker. s.side.handed ≡ Some waker };
+
+    ghost woken = { λ s waker. (s.side.handed ≡ Some waker) × IsWoken waker s.given };
+
+    ghost gave = { λ s message. s.side.passed ≡ Some message };
 
     fn add(&mut self) -> u8 {
         self.side.add()
@@ -151,10 +159,13 @@ impl<T: Drop, P: Promise<T>> SenderGround<T, AnyWaker<WakingHalf, Waker>>
     }
 }
 
-// A sender is let go only once it has made its last operation.
-impl<T: Drop, H: Drop, K: Drop, P: Promise<T>> Drop for SharedSender<T, H, K, P> {
+// A sender is let go only once it has made its last operation, and has woken a receiver that it found waiting.
+impl<T: Drop, P: Promise<T>> Drop for SharedSender<T, P> {
+    ghost use Rattle.oneshot_ends.specs.Woken.{HasWoken};
+
     fn drop(self)
-        requires { IsTrue (is_over (sender_at self.side.log)) }
+        requires over { IsTrue (is_over (sender_at self.side.log)) }
+        requires woken { HasWoken self }
     {
         let SharedSender {
             side: _,

@@ -1,9 +1,11 @@
 //! The ground of a poll: the future's ground, with the poll's task and the copies of wakers.
 
-ghost use Rattle.std.specs.Prelude.{◌≡◌, true, false, [], ◌∷◌, IfSome, IfNone};
+ghost use Rattle.std.specs.Prelude.{◌≡◌, ⊤, true, false, [], ◌∷◌, IfSome, IfNone};
 ghost use Rattle.futures.specs.Task.{IsArmed, Hears, Keeps};
 ghost use Rattle.oneshot_machine.specs.Logs.{Grows, copied};
 ghost use Rattle.oneshot_ends.specs.Copies.{HasMade, HasNoneOf};
+ghost use Rattle.oneshot_ends.specs.OwnWakers.{IsNoThread, NoThread};
+ghost use Rattle.oneshot_ends.specs.Taken.{KeepsTaken};
 ghost use Rattle.oneshot_ends.specs.Polling.{polled_state, token_of};
 
 use super::ChannelReceiver;
@@ -30,24 +32,47 @@ pub(crate) struct Polling<'g, 'c, 'x, G> {
 
 impl<'g, 'c, 'x, T: Drop, P: Promise<T>> ReceiverGround<T, Copied>
     for Polling<'g, 'c, 'x, ChannelReceiver<T, P>> {
+    ghost use Rattle.oneshot_ends.specs.OwnWakers.{NoThread};
     ghost use Rattle.oneshot_ends.specs.Polling.{polled_state};
-    ghost use Rattle.std.proofs.Common.{◌∙◌, refl, subst};
+    ghost use Rattle.std.proofs.Common.{◌∙◌, refl, subst, Some};
 
     // The state's channel also names what was lent, so that a caller recognizes it.
     ghost state = { λ b.
         polled_state (b.ground.ghost_name ∷ b.cx.ghost_name ∷ b.copies.ghost_name ∷ []) b.ground.now };
 
-    // The channel stays about the same value, and what the task has registered stays registered.
+    // The channel stays about the same value, what the task has registered stays registered, the future waits
+    // by no thread, and what the receiver took stays so.
     ghost keeps = { λ a b. Keeps a.cx.now b.cx.now × (a.source.now.id ≡ b.source.now.id)
-        × (b.ground.now.about ≡ a.ground.now.about) };
+        × (b.ground.now.about ≡ a.ground.now.about) × (NoThread a.ground.now → NoThread b.ground.now)
+        × KeepsTaken a.ground.now.passed b.ground.now.passed a.ground.now.log b.ground.now.log };
 
-    ghost keeps_same = { λ a. (λ fact h. h, λ i. a.source.now.id, refl) };
+    ghost keeps_same = { λ a. (
+      λ fact h. h,
+      λ i. a.source.now.id,
+      refl,
+      λ free. free,
+      record { stays = λ _ is. is; found = λ so. so },
+    ) };
 
-    ghost keeps_on = { λ a b c f g. (λ fact h. g.0 fact (f.0 fact h), f.1 ∙ g.1, g.2 ∙ f.2) };
+    ghost keeps_on = { λ a b c f g. (
+      λ fact h. g.0 fact (f.0 fact h),
+      f.1 ∙ g.1,
+      g.2 ∙ f.2,
+      λ free. g.3 (f.3 free),
+      record { stays = λ x is. g.4.stays x (f.4.stays x is); found = λ so. g.4.found (f.4.found so) },
+    ) };
+
+    ghost has = { λ _ _. ⊤ };
+
+    ghost has_on = { λ _ _ _ _ _. tt };
 
     ghost gives = { λ b message. P.keeps b.ground.now.about message };
 
     ghost gives_on = { λ _ _ message e kept. subst (λ q. P.keeps q message) e.2 kept };
+
+    ghost had = { λ b message. b.ground.now.passed ≡ Some message };
+
+    ghost had_on = { λ _ _ message e had. e.4.stays message had };
 
     fn load(&mut self) -> u8 {
         self.ground.load()
@@ -75,7 +100,7 @@ impl<'g, 'c, 'x, T: Drop, P: Promise<T>> ReceiverGround<T, Copied>
 
     fn write_waker(&mut self, _: Copied) {
         let copy = given(self.copies, self.cx);
-        self.ground.write_waker(copy);
+        self.ground.give(copy);
     }
 
     fn withdraw(&mut self) -> Copied {
@@ -111,7 +136,10 @@ impl<'g, 'c, 'x, T: Drop, P: Promise<T>> TaskGround<T, Copied>
         ensures heard { IfSome result (λ _. IsArmed self.new.cx.now × Hears self.new.cx.now self.new.source.now.id) }
         ensures keeps { Keeps self.old.cx.now self.new.cx.now
             × (self.old.source.now.id ≡ self.new.source.now.id)
-            × (self.new.ground.now.about ≡ self.old.ground.now.about) }
+            × (self.new.ground.now.about ≡ self.old.ground.now.about)
+            × (NoThread self.old.ground.now → NoThread self.new.ground.now)
+            × KeepsTaken self.old.ground.now.passed self.new.ground.now.passed
+            self.old.ground.now.log self.new.ground.now.log }
         ensures made { IfSome result (λ _. HasMade self.old.cx.now self.new.cx.now self.new.copies.now) }
         ensures refused { IfNone result (HasNoneOf self.old.cx.now.turn.task self.old.copies.now
             → self.new.copies.now ≡ self.old.copies.now) }
@@ -145,7 +173,8 @@ fn register(copies: &mut Copies<Waker>, cx: &mut Context<'_>, source: &Source) -
 
 /// Returns the copy that was made.
 fn given(copies: &mut Copies<Waker>, cx: &mut Context<'_>) -> ChannelWaker
-    ensures { Keeps cx.old cx.new }
+    ensures kept { Keeps cx.old cx.new }
+    ensures no_thread { IsNoThread result }
 {
     match copies.give() {
         Some(waker) => ChannelWaker::Task(waker),

@@ -69,26 +69,49 @@ impl<'g, 'p, 'r, G, Rt> Blocking<'g, 'p, 'r, G, Rt> {
 
 impl<'g, 'p, 'r, T: Drop, Rt, P: Promise<T>> ReceiverGround<T, ChannelWaker>
     for Blocking<'g, 'p, 'r, ChannelReceiver<T, P>, Rt> {
-    ghost use Rattle.std.specs.Prelude.{[], ◌∷◌};
-    ghost use Rattle.std.proofs.Common.{◌∙◌, refl, subst};
+    ghost use Rattle.std.specs.Prelude.{[], ◌∷◌, IfSome};
+    ghost use Rattle.std.proofs.Common.{◌∙◌, refl, sym, subst, Some};
+    ghost use Rattle.oneshot_ends.specs.Taken.{KeepsTaken};
     ghost use Rattle.oneshot_ends.specs.Grounds.{lent};
+    ghost use Rattle.oneshot_ends.specs.OwnWakers.{IsOwn, Owned};
     ghost use Rattle.oneshot_ends.specs.Spins.{HasToken};
 
     // The state's channel also names what was lent, so that a caller recognizes it.
     ghost state = { λ b. lent (b.ground.ghost_name ∷ b.parker.ghost_name ∷ []) b.ground.now };
 
-    // The channel stays about the same value, and a receive that slept without a deadline has its token.
+    // The channel stays about the same value, a receive that slept without a deadline has its token, the
+    // receiver's wakers stay those of its parker, and what it took stays so.
     ghost keeps = { λ a b. (b.ground.now.about ≡ a.ground.now.about) × (
-        HasToken (record { spins = a.spins; slept = a.slept; taken = a.parker.now })
-        → HasToken (record { spins = b.spins; slept = b.slept; taken = b.parker.now })) };
+        HasToken (record { spins = a.spins; slept = a.slept; taken = a.parker.now.taken })
+        → HasToken (record { spins = b.spins; slept = b.slept; taken = b.parker.now.taken }))
+        × (b.parker.now.parker ≡ a.parker.now.parker)
+        × (Owned a.parker.now.parker a.ground.now → Owned b.parker.now.parker b.ground.now)
+        × KeepsTaken a.ground.now.passed b.ground.now.passed a.ground.now.log b.ground.now.log };
 
-    ghost keeps_same = { λ _. (refl, λ has. has) };
+    ghost keeps_same = { λ _.
+        (refl, λ has. has, refl, λ owned. owned, record { stays = λ _ is. is; found = λ so. so }) };
 
-    ghost keeps_on = { λ _ _ _ e f. (f.0 ∙ e.0, λ has. f.1 (e.1 has)) };
+    ghost keeps_on = { λ _ _ _ e f. (
+      f.0 ∙ e.0,
+      λ has. f.1 (e.1 has),
+      f.2 ∙ e.2,
+      λ owned. f.3 (e.3 owned),
+      record { stays = λ x is. f.4.stays x (e.4.stays x is); found = λ so. f.4.found (e.4.found so) },
+    ) };
+
+    // Its wakers, with the one beside it, are those of its parker.
+    ghost has = { λ b hand. Owned b.parker.now.parker b.ground.now × IfSome hand (IsOwn b.parker.now.parker) };
+
+    ghost has_on = { λ _ _ hand k h.
+        (k.3 h.0, subst (λ parker. IfSome hand (IsOwn parker)) (sym k.2) h.1) };
 
     ghost gives = { λ b message. P.keeps b.ground.now.about message };
 
     ghost gives_on = { λ _ _ message e kept. subst (λ q. P.keeps q message) e.0 kept };
+
+    ghost had = { λ b message. b.ground.now.passed ≡ Some message };
+
+    ghost had_on = { λ _ _ message e had. e.4.stays message had };
 
     fn load(&mut self) -> u8 {
         self.ground.load()
@@ -115,7 +138,7 @@ impl<'g, 'p, 'r, T: Drop, Rt, P: Promise<T>> ReceiverGround<T, ChannelWaker>
     }
 
     fn write_waker(&mut self, waker: ChannelWaker) {
-        self.ground.write_waker(waker);
+        self.ground.give(waker);
     }
 
     fn withdraw(&mut self) -> ChannelWaker {
@@ -129,11 +152,15 @@ impl<'g, 'p, 'r, T: Drop, Rt, P: Promise<T>> ReceiverGround<T, ChannelWaker>
 
 impl<'g, 'p, 'r, T: Drop, Rt: Wait + Clock, P: Promise<T>> BlockGround<T, ChannelWaker>
     for Blocking<'g, 'p, 'r, ChannelReceiver<T, P>, Rt> {
+    ghost use Rattle.oneshot_ends.specs.OwnWakers.{IsOwn, Put};
     ghost use Rattle.oneshot_ends.specs.Spins.{MaySpin, Parked};
 
+    // It has given the waking half of the parker on which it sleeps.
+    ghost left = { λ b. Put (IsOwn b.parker.now.parker) b.ground.now.handed };
+
     ghost parks = { λ timed a b. Parked (MaySpin timed a.spins a.deadline a.reading) timed
-        (record { spins = a.spins; slept = a.slept; taken = a.parker.now })
-        (record { spins = b.spins; slept = b.slept; taken = b.parker.now }) };
+        (record { spins = a.spins; slept = a.slept; taken = a.parker.now.taken })
+        (record { spins = b.spins; slept = b.slept; taken = b.parker.now.taken }) };
 
     fn park(&mut self, timed: bool) {
         if self.may_spin(timed) {

@@ -32,6 +32,9 @@ returns-in-Message g c =
       hand = hands (rw c.in-Message.is at c.find.ensures.hand) closed_itself over.phase;
       endless = search rules;
       given = gives _ _ _ c.find.ensures.keeps (gives _ _ _ c.store.ensures.keeps c.take_message.ensures.given);
+      has = g.G.ReceiverGround.has_on _ _ _ (on _ _ _ c.store.ensures.keeps c.take_message.ensures.keeps)
+          c.find.ensures.has;
+      had = c.take_message.ensures.had;
       keeps = on _ _ _ c.find.ensures.keeps (on _ _ _ c.store.ensures.keeps c.take_message.ensures.keeps);
     }
 
@@ -46,6 +49,8 @@ returns-in-Closed g c =
       hand = hands (rw c.in-Closed.is at c.find.ensures.hand) ends.0 ends.1.phase;
       endless = search rules;
       given = search rules;
+      has = c.find.ensures.has;
+      had = search rules;
       keeps = c.find.ensures.keeps;
     }
 
@@ -66,6 +71,8 @@ returns-in-Unclosed g c =
       hand = hands (rw c.in-Unclosed.is at c.find.ensures.hand) closed_itself over.phase;
       endless = search rules;
       given = search rules;
+      has = g.G.ReceiverGround.has_on _ _ _ c.store-in-Unclosed.ensures.keeps c.find.ensures.has;
+      had = search rules;
       keeps = g.G.ReceiverGround.keeps_on _ _ _ c.find.ensures.keeps c.store-in-Unclosed.ensures.keeps;
     }
 
@@ -80,5 +87,7 @@ returns-in-Nothing g c =
       hand = out_hands (rw c.in-Nothing.is at c.find.ensures.hand) ends.1.phase;
       endless = λ untimed out. let timed = ends.0 in absurd (cc);
       given = search rules;
+      has = c.find.ensures.has;
+      had = search rules;
       keeps = c.find.ensures.keeps;
     }

@@ -18,6 +18,7 @@ returns-in_default g c =
       hand = hand_back
           (g.G.ReceiverGround.state c.find.new.g) c.find.result c.find.ensures.ends c.find.ensures.hand;
       given = tt;
+      had = tt;
       keeps = g.G.ReceiverGround.keeps_on _ _ _ c.find.ensures.keeps c.free.ensures.keeps;
     }
 
@@ -42,6 +43,10 @@ returns-clause-hand g c =
 pub returns-clause-given : goal.returns-clause-given
 returns-clause-given g c =
     g.G.ReceiverGround.gives_on _ _ _ c.find.ensures.keeps c.take_message-message.ensures.given
+
+pub returns-clause-had : goal.returns-clause-had
+returns-clause-had g c =
+    g.G.ReceiverGround.had_on _ _ _ c.free-2.ensures.keeps c.take_message-message.ensures.had
 
 pub returns-clause-keeps : goal.returns-clause-keeps
 returns-clause-keeps g c =

@@ -23,3 +23,6 @@ returns-clause-given g c =
 pub returns-clause-keeps : goal.returns-clause-keeps
 returns-clause-keeps g c =
     g.G.ReceiverGround.keeps_on _ _ _ c.over.ensures.keeps c.receive.ensures.keeps
+
+pub receive-requires-clause-has : goal.receive-requires-clause-has
+receive-requires-clause-has g c = g.G.ReceiverGround.has_on _ _ _ c.over.ensures.keeps c.requires.has

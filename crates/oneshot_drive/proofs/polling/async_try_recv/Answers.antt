@@ -39,6 +39,7 @@ returns-in-4 g c =
           c.take_message.ensures.log;
       given = g.G.ReceiverGround.gives_on _ _ _ c.load.ensures.keeps
           (g.G.ReceiverGround.gives_on _ _ _ c.store.ensures.keeps c.take_message.ensures.given);
+      had = c.take_message.ensures.had;
       keeps = g.G.ReceiverGround.keeps_on _ _ _ c.load.ensures.keeps
           (g.G.ReceiverGround.keeps_on _ _ _ c.store.ensures.keeps c.take_message.ensures.keeps);
     }
@@ -56,6 +57,7 @@ returns-in-2 g c =
       registered = search rules;
       wakers = load_alone c.load.result c.load.ensures.log;
       given = search rules;
+      had = search rules;
       keeps = c.load.ensures.keeps;
     }
 
@@ -74,5 +76,6 @@ returns-in_default g c =
           (search rules) (search rules);
       wakers = load_alone c.load.result c.load.ensures.log;
       given = search rules;
+      had = search rules;
       keeps = c.load.ensures.keeps;
     }

@@ -59,3 +59,7 @@ returns-else-word-eq-MESSAGE g c =
           (on_withdraw c.withdraw.result c.withdraw.ensures.log (wrote_none _)));
       keeps = on _ _ _ c.write_waker.ensures.keeps (on _ _ _ c.exchange-word.ensures.keeps c.withdraw.ensures.keeps);
     }
+
+pub returns-then-word-eq-EMPTY-clause-keeps : goal.returns-then-word-eq-EMPTY-clause-keeps
+returns-then-word-eq-EMPTY-clause-keeps g c =
+    g.G.ReceiverGround.keeps_on _ _ _ c.write_waker.ensures.keeps c.exchange-word.ensures.keeps

@@ -7,10 +7,10 @@ use Rattle.oneshot_drive.proofs.OwnCopies.{wrote_none, on_word, on_own}
 use Rattle.oneshot_drive.proofs.polling.meet.Goals as goal
 
 pub load-requires : goal.load-requires
-load-requires g c = meet_asks c.requires
+load-requires g c = meet_asks c.requires.rests
 
-pub leave_first-requires : goal.leave_first-requires
-leave_first-requires g c = met_open (met c.load.result c.requires c.load.ensures.finds c.load.ensures.log) c.in-3.is
+pub leave_first-requires-clause-open : goal.leave_first-requires-clause-open
+leave_first-requires-clause-open g c = met_open (met c.load.result c.requires.rests c.load.ensures.finds c.load.ensures.log) c.in-3.is
 
 pub returns-in-3-clause-path : goal.returns-in-3-clause-path
 returns-in-3-clause-path g c = met_path c.load.result 3 refl c.in-3.is c.load.ensures.log c.leave_first.ensures.path
@@ -18,8 +18,8 @@ returns-in-3-clause-path g c = met_path c.load.result 3 refl c.in-3.is c.load.en
 pub returns-in-3-clause-stays : goal.returns-in-3-clause-stays
 returns-in-3-clause-stays g c is_closed = never 3 refl c.in-3.is is_closed c.load.ensures.finds
 
-pub leave_again-requires : goal.leave_again-requires
-leave_again-requires g c = met_copied (met c.load.result c.requires c.load.ensures.finds c.load.ensures.log) c.in-0.is
+pub leave_again-requires-clause-open : goal.leave_again-requires-clause-open
+leave_again-requires-clause-open g c = met_copied (met c.load.result c.requires.rests c.load.ensures.finds c.load.ensures.log) c.in-0.is
 
 pub returns-in-0-clause-path : goal.returns-in-0-clause-path
 returns-in-0-clause-path g c = met_path c.load.result 0 refl c.in-0.is c.load.ensures.log c.leave_again.ensures.path
@@ -32,7 +32,7 @@ returns-in-4-clause-path g c = loaded_to _ c.load.result 4 refl refl c.in-4.is c
 
 pub returns-in-4-clause-ends : goal.returns-in-4-clause-ends
 returns-in-4-clause-ends g c =
-    met_full (met c.load.result c.requires c.load.ensures.finds c.load.ensures.log) c.in-4.is
+    met_full (met c.load.result c.requires.rests c.load.ensures.finds c.load.ensures.log) c.in-4.is
 
 pub returns-in-4-clause-stays : goal.returns-in-4-clause-stays
 returns-in-4-clause-stays g c is_closed = never 4 refl c.in-4.is is_closed c.load.ensures.finds
@@ -42,7 +42,7 @@ returns-in-1-clause-path g c = met_own c.load.result c.in-1.is c.load.ensures.lo
 
 pub returns-in-1-clause-ends : goal.returns-in-1-clause-ends
 returns-in-1-clause-ends g c =
-    owned_ends leaves_claimed (met_claimed (met c.load.result c.requires c.load.ensures.finds c.load.ensures.log)
+    owned_ends leaves_claimed (met_claimed (met c.load.result c.requires.rests c.load.ensures.finds c.load.ensures.log)
     c.in-1.is) c.wake_own.ensures.log c.wake_own.ensures.message c.wake_own.ensures.waker
 
 pub returns-in-1-clause-stays : goal.returns-in-1-clause-stays
@@ -51,12 +51,12 @@ returns-in-1-clause-stays g c is_closed = never 1 refl c.in-1.is is_closed c.loa
 pub returns-in_default-clause-path : goal.returns-in_default-clause-path
 returns-in_default-clause-path g c =
     loaded_to _ c.load.result 2 refl refl
-    (met_none (met c.load.result c.requires c.load.ensures.finds c.load.ensures.log) (search rules) (search rules)
+    (met_none (met c.load.result c.requires.rests c.load.ensures.finds c.load.ensures.log) (search rules) (search rules)
     (search rules) (search rules)).0 c.load.ensures.log
 
 pub returns-in_default-clause-ends : goal.returns-in_default-clause-ends
 returns-in_default-clause-ends g c =
-    (met_none (met c.load.result c.requires c.load.ensures.finds c.load.ensures.log) (search rules) (search rules)
+    (met_none (met c.load.result c.requires.rests c.load.ensures.finds c.load.ensures.log) (search rules) (search rules)
     (search rules) (search rules)).1
 
 pub returns-in-3-clause-own : goal.returns-in-3-clause-own
@@ -74,3 +74,9 @@ returns-in-4-clause-own g c = on_word _ c.load.result c.load.ensures.log (wrote_
 
 pub returns-in_default-clause-own : goal.returns-in_default-clause-own
 returns-in_default-clause-own g c = on_word _ c.load.result c.load.ensures.log (wrote_none _)
+
+pub leave_first-requires-clause-has : goal.leave_first-requires-clause-has
+leave_first-requires-clause-has g c = g.G.ReceiverGround.has_on _ _ _ c.load.ensures.keeps c.requires.has
+
+pub leave_again-requires-clause-has : goal.leave_again-requires-clause-has
+leave_again-requires-clause-has g c = g.G.ReceiverGround.has_on _ _ _ c.load.ensures.keeps c.requires.has

@@ -33,6 +33,7 @@ returns-in-Message g c =
       heard = search rules;
       given = g.G.ReceiverGround.gives_on _ _ _ c.meet.ensures.keeps
           (g.G.ReceiverGround.gives_on _ _ _ c.store.ensures.keeps c.take_message.ensures.given);
+      had = c.take_message.ensures.had;
       keeps = g.G.ReceiverGround.keeps_on _ _ _ c.meet.ensures.keeps
           (g.G.ReceiverGround.keeps_on _ _ _ c.store.ensures.keeps c.take_message.ensures.keeps);
     }
@@ -50,6 +51,7 @@ returns-in-Nothing g c =
       own_copy = c.meet.ensures.own;
       heard = c.meet.ensures.heard c.in-Nothing.is;
       given = search rules;
+      had = search rules;
       keeps = c.meet.ensures.keeps;
     }
 
@@ -67,5 +69,6 @@ returns-in_default g c =
       own_copy = c.meet.ensures.own;
       heard = search rules;
       given = search rules;
+      had = search rules;
       keeps = c.meet.ensures.keeps;
     }

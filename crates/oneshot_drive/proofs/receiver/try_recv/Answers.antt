@@ -32,6 +32,7 @@ returns-in-4 g c =
       bounded = try_recv_few run;
       given = g.G.ReceiverGround.gives_on _ _ _ c.load.ensures.keeps
           (g.G.ReceiverGround.gives_on _ _ _ c.store.ensures.keeps c.take_message.ensures.given);
+      had = c.take_message.ensures.had;
       keeps = g.G.ReceiverGround.keeps_on _ _ _ c.load.ensures.keeps
           (g.G.ReceiverGround.keeps_on _ _ _ c.store.ensures.keeps c.take_message.ensures.keeps);
     }
@@ -47,6 +48,7 @@ returns-in-3 g c =
       stays = λ is_closed. never 3 refl c.in-3.is is_closed c.load.ensures.finds;
       bounded = try_recv_few run;
       given = search rules;
+      had = search rules;
       keeps = c.load.ensures.keeps;
     }
 
@@ -62,5 +64,6 @@ returns-in_default g c =
       stays = λ is_closed. refl;
       bounded = try_recv_few run;
       given = search rules;
+      had = search rules;
       keeps = c.load.ensures.keeps;
     }

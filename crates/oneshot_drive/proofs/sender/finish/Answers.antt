@@ -1,5 +1,6 @@
 -- Proofs of the goals that `finish` leaves.
-use Rattle.oneshot_drive.proofs.SenderCalls.{finish_asks, finished_as, overtaken_as}
+use Rattle.oneshot_drive.proofs.Names.{◌∙◌}
+use Rattle.oneshot_drive.proofs.SenderCalls.{finish_asks, finished_as, overtaken_as, given_over}
 use Rattle.oneshot_drive.proofs.sender.finish.Goals as goal
 
 pub swap-found-requires : goal.swap-found-requires
@@ -18,3 +19,11 @@ returns-clause-gone g c gone =
     overtaken_as c.take_waker-waker.result c.requires c.take_waker-waker.ensures.message c.swap-found.result
     c.swap-found.ensures.finds c.swap-found.ensures.log c.wake.ensures.log c.wake.ensures.message
     c.wake.ensures.waker gone
+
+pub wake-requires : goal.wake-requires
+wake-requires g c = c.swap-found.ensures.owed _ c.take_waker-waker.ensures.owed
+
+pub returns-clause-gave : goal.returns-clause-gave
+returns-clause-gave g c here x has =
+    c.wake.ensures.gave x
+    (c.swap-found.ensures.gave x (c.take_waker-waker.ensures.message ∙ has) (given_over c.swap-found.ensures.finds here))

@@ -1,7 +1,7 @@
 -- Proofs of the goals that `send` leaves.
 use Rattle.oneshot_drive.proofs.Names.{rules, refl, ◌∙◌, Add, message_kept, send_few}
 use Rattle.oneshot_drive.proofs.AfterOperations.{sender_asks}
-use Rattle.oneshot_drive.proofs.SenderCalls.{written, send_owes, added_kept, added, refused, is_too_late}
+use Rattle.oneshot_drive.proofs.SenderCalls.{written, send_owes, added_kept, added, added_given, refused, is_too_late}
 use Rattle.oneshot_drive.proofs.SenderRuns.{send_ran, send_refused, send_woke}
 use Rattle.oneshot_drive.proofs.sender.send.Goals as goal
 
@@ -21,7 +21,17 @@ returns-in-3 g c =
     let did =
     send_ran (g.G.SenderGround.woken c.add.new.self) c.add.result c.in-3.is c.write_message.ensures.log
     c.add.ensures.log in
-    record { run = did.ran; woke = did; refused = search rules; late = search rules; bounded = send_few did.ran }
+    record {
+      run = did.ran;
+      woke = did;
+      refused = search rules;
+      late = search rules;
+      bounded = send_few did.ran;
+      gave = λ sent. c.add.ensures.gave c.args.message c.write_message.ensures.message
+          (added_given c.add.result (written c.args.message c.requires.fresh c.write_message.ensures.log
+          c.write_message.ensures.message c.write_message.ensures.waker) c.in-3.is c.add.ensures.finds
+          c.add.ensures.log);
+    }
 
 pub returns-in-0 : goal.returns-in-0
 returns-in-0 g c =
@@ -40,6 +50,7 @@ returns-in-0 g c =
           let over = c.finish.ensures.gone gone in record { keeps = over.message ∙ kept; no_waker = over.waker };
       late = λ gone. (c.finish.ensures.gone gone).late;
       bounded = send_few did.ran;
+      gave = λ sent. c.finish.ensures.gave sent c.args.message kept;
     }
 
 pub returns-in_default : goal.returns-in_default
@@ -58,4 +69,5 @@ returns-in_default g c =
           (message_kept c.add.ensures.finds c.write_message.ensures.message gone.stands.message);
       late = λ _. is_too_late gone.stands;
       bounded = send_few did.ran;
+      gave = search rules;
     }

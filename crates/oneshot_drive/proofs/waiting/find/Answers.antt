@@ -15,6 +15,7 @@ returns-in-4 g c =
       ends = (at_once, refl, full);
       stays = λ is_closed. never 4 refl c.in-4.is is_closed c.load.ensures.finds;
       hand = returned c.args.hand.now;
+      has = g.G.ReceiverGround.has_on _ _ _ c.load.ensures.keeps c.requires.has;
       keeps = c.load.ensures.keeps;
     }
 
@@ -47,5 +48,9 @@ returns-in_default g c =
       ends = (over.1, over.2);
       stays = λ is_closed. refl;
       hand = returned c.args.hand.now;
+      has = g.G.ReceiverGround.has_on _ _ _ c.load.ensures.keeps c.requires.has;
       keeps = c.load.ensures.keeps;
     }
+
+pub store_and_wait-requires-clause-has : goal.store_and_wait-requires-clause-has
+store_and_wait-requires-clause-has g c = g.G.ReceiverGround.has_on _ _ _ c.load.ensures.keeps c.requires.has

@@ -1,15 +1,15 @@
 -- Proofs of the goals that `stop` leaves.
-use Rattle.oneshot_drive.proofs.Names.{rules, refl, Swap, is_in}
+use Rattle.oneshot_drive.proofs.Names.{rules, refl, sym, subst, Swap, is_in}
 use Rattle.oneshot_drive.proofs.AfterOperations.{asks}
 use Rattle.oneshot_drive.proofs.Waits.{stopped, stopped_open, stopped_full, stopped_over, stopped_late, withdrew_nothing, stops_to, nothing_path, late_path}
 use Rattle.oneshot_drive.proofs.waiting.stop.Goals as goal
 
 pub swap-requires : goal.swap-requires
-swap-requires g c = asks (Swap 3) c.requires refl
+swap-requires g c = asks (Swap 3) c.requires.waits refl
 
 pub withdraw-requires : goal.withdraw-requires
 withdraw-requires g c =
-    is_in (stopped_open (stopped c.swap.result c.requires c.swap.ensures.finds c.swap.ensures.log) c.in-0.is).waker
+    is_in (stopped_open (stopped c.swap.result c.requires.waits c.swap.ensures.finds c.swap.ensures.log) c.in-0.is).waker
 
 pub returns-in-0-clause-path : goal.returns-in-0-clause-path
 returns-in-0-clause-path g c =
@@ -17,7 +17,7 @@ returns-in-0-clause-path g c =
 
 pub returns-in-0-clause-ends : goal.returns-in-0-clause-ends
 returns-in-0-clause-ends g c =
-    withdrew_nothing (stopped c.swap.result c.requires c.swap.ensures.finds c.swap.ensures.log) c.in-0.is
+    withdrew_nothing (stopped c.swap.result c.requires.waits c.swap.ensures.finds c.swap.ensures.log) c.in-0.is
     c.withdraw.ensures.log c.withdraw.ensures.message c.withdraw.ensures.waker
 
 pub returns-in-0-clause-hand : goal.returns-in-0-clause-hand
@@ -28,24 +28,24 @@ returns-in-4-clause-path g c = stops_to _ c.swap.result 4 refl c.in-4.is c.swap.
 
 pub returns-in-4-clause-ends : goal.returns-in-4-clause-ends
 returns-in-4-clause-ends g c =
-    stopped_full (stopped c.swap.result c.requires c.swap.ensures.finds c.swap.ensures.log) c.in-4.is
+    stopped_full (stopped c.swap.result c.requires.waits c.swap.ensures.finds c.swap.ensures.log) c.in-4.is
 
 pub returns-in-2-clause-path : goal.returns-in-2-clause-path
 returns-in-2-clause-path g c = stops_to _ c.swap.result 2 refl c.in-2.is c.swap.ensures.log
 
 pub returns-in-2-clause-ends : goal.returns-in-2-clause-ends
 returns-in-2-clause-ends g c =
-    stopped_over (stopped c.swap.result c.requires c.swap.ensures.finds c.swap.ensures.log) c.in-2.is
+    stopped_over (stopped c.swap.result c.requires.waits c.swap.ensures.finds c.swap.ensures.log) c.in-2.is
 
-pub wait_late-requires : goal.wait_late-requires
-wait_late-requires g c =
-    (stopped_late (stopped c.swap.result c.requires c.swap.ensures.finds c.swap.ensures.log) (search rules)
+pub wait_late-requires-clause-late : goal.wait_late-requires-clause-late
+wait_late-requires-clause-late g c =
+    (stopped_late (stopped c.swap.result c.requires.waits c.swap.ensures.finds c.swap.ensures.log) (search rules)
     (search rules) (search rules)).stands
 
 pub returns-in_default-clause-path : goal.returns-in_default-clause-path
 returns-in_default-clause-path g c =
     let late =
-    stopped_late (stopped c.swap.result c.requires c.swap.ensures.finds c.swap.ensures.log) (search rules)
+    stopped_late (stopped c.swap.result c.requires.waits c.swap.ensures.finds c.swap.ensures.log) (search rules)
     (search rules) (search rules) in
     late_path c.wait_late.result c.swap.result late.word c.swap.ensures.log c.wait_late.ensures.path
 
@@ -56,3 +56,26 @@ returns-in-0-clause-keeps g c =
 pub returns-in_default-clause-keeps : goal.returns-in_default-clause-keeps
 returns-in_default-clause-keeps g c =
     g.G.ReceiverGround.keeps_on _ _ _ c.swap.ensures.keeps c.wait_late.ensures.keeps
+
+pub wait_late-requires-clause-has : goal.wait_late-requires-clause-has
+wait_late-requires-clause-has g c = g.G.ReceiverGround.has_on _ _ _ c.swap.ensures.keeps c.requires.has
+
+pub returns-in-0-clause-has : goal.returns-in-0-clause-has
+returns-in-0-clause-has g c =
+    c.withdraw.ensures.has (g.G.ReceiverGround.has_on _ _ _ c.swap.ensures.keeps c.requires.has)
+
+pub returns-in-4-clause-has : goal.returns-in-4-clause-has
+returns-in-4-clause-has g c =
+    subst (λ hand. g.G.ReceiverGround.has c.swap.new.self hand) (sym c.requires.empty)
+    (g.G.ReceiverGround.has_on _ _ _ c.swap.ensures.keeps c.requires.has)
+
+pub returns-in-2-clause-has : goal.returns-in-2-clause-has
+returns-in-2-clause-has g c =
+    subst (λ hand. g.G.ReceiverGround.has c.swap.new.self hand) (sym c.requires.empty)
+    (g.G.ReceiverGround.has_on _ _ _ c.swap.ensures.keeps c.requires.has)
+
+pub returns-in_default-clause-has : goal.returns-in_default-clause-has
+returns-in_default-clause-has g c =
+    let on = g.G.ReceiverGround.keeps_on in
+    subst (λ hand. g.G.ReceiverGround.has c.wait_late.new.g hand) (sym c.requires.empty)
+    (g.G.ReceiverGround.has_on _ _ _ (on _ _ _ c.swap.ensures.keeps c.wait_late.ensures.keeps) c.requires.has)

@@ -1,17 +1,22 @@
 -- Proofs of the goals that `store_and_wait` leaves.
-use Rattle.oneshot_drive.proofs.Names.{◌≡◌, Some, rules, is_room, waker_kept}
+use Rattle.oneshot_drive.proofs.Names.{◌≡◌, Some, rules, subst, is_room, waker_kept}
 use Rattle.oneshot_drive.proofs.StoredWaker.{over_message, over_end, stored_asks, stored, stored_waits, stored_there, over_word, stored_path, back_path, withdrew_full, withdrew_over, back, waited_hand}
 use Rattle.oneshot_drive.proofs.waiting.store_and_wait.Goals as goal
 
-pub write_waker-requires : goal.write_waker-requires
-write_waker-requires g c = is_room c.requires.open.waker
+pub write_waker-requires-clause-slot : goal.write_waker-requires-clause-slot
+write_waker-requires-clause-slot g c = is_room c.requires.open.waker
+
+pub write_waker-requires-clause-has : goal.write_waker-requires-clause-has
+write_waker-requires-clause-has g c =
+    let is : c.args.hand.now ≡ Some c.in-Some.waker = search rules in
+    subst (λ hand. g.G.ReceiverGround.has c.args.g.now hand) is c.requires.has
 
 pub swap-word-requires : goal.swap-word-requires
 swap-word-requires g c =
     stored_asks c.requires.open c.write_waker.ensures.log c.write_waker.ensures.message c.write_waker.ensures.waker
 
-pub wait-requires : goal.wait-requires
-wait-requires g c =
+pub wait-requires-clause-waits : goal.wait-requires-clause-waits
+wait-requires-clause-waits g c =
     stored_waits (stored c.requires.open c.write_waker.ensures.log c.write_waker.ensures.message
     c.write_waker.ensures.waker c.swap-word.result c.swap-word.ensures.finds c.swap-word.ensures.log)
     c.if-word-eq-EMPTY.true
@@ -54,6 +59,8 @@ returns-then-word-eq-MESSAGE g c =
           c.withdraw.ensures.waker c.args.timed c.if-word-eq-MESSAGE.true;
       hand = back c.in-Some.waker c.withdraw.result is (waker_kept c.swap-word.ensures.finds c.write_waker.ensures.waker
           (stored_there found c.if-word-eq-EMPTY.false)) c.withdraw.ensures.was;
+      has = c.withdraw.ensures.has
+          (g.G.ReceiverGround.has_on _ _ _ c.swap-word.ensures.keeps c.write_waker.ensures.has);
       keeps = on _ _ _ c.write_waker.ensures.keeps (on _ _ _ c.swap-word.ensures.keeps c.withdraw.ensures.keeps);
     }
 
@@ -72,5 +79,11 @@ returns-else-word-eq-MESSAGE g c =
           c.withdraw.ensures.waker c.args.timed c.if-word-eq-EMPTY.false c.if-word-eq-MESSAGE.false;
       hand = back c.in-Some.waker c.withdraw.result is (waker_kept c.swap-word.ensures.finds c.write_waker.ensures.waker
           (stored_there found c.if-word-eq-EMPTY.false)) c.withdraw.ensures.was;
+      has = c.withdraw.ensures.has
+          (g.G.ReceiverGround.has_on _ _ _ c.swap-word.ensures.keeps c.write_waker.ensures.has);
       keeps = on _ _ _ c.write_waker.ensures.keeps (on _ _ _ c.swap-word.ensures.keeps c.withdraw.ensures.keeps);
     }
+
+pub wait-requires-clause-has : goal.wait-requires-clause-has
+wait-requires-clause-has g c =
+    g.G.ReceiverGround.has_on _ _ _ c.swap-word.ensures.keeps c.write_waker.ensures.has

@@ -1,5 +1,5 @@
 -- Proofs of the goals that `wait` leaves.
-use Rattle.oneshot_drive.proofs.Names.{◌≡◌, ℕ, refl, rules, Found, Path, ReceiveBy, wait_of, end_of, EndsAt}
+use Rattle.oneshot_drive.proofs.Names.{◌≡◌, ℕ, refl, sym, ◌∙◌, subst, rules, Found, Path, ReceiveBy, wait_of, end_of, EndsAt}
 use Rattle.oneshot_drive.proofs.Stretches.{begun}
 use Rattle.oneshot_drive.proofs.Waits.{may_park, parked_asks, woke, Decides, by_message, by_end, woke_at, woke_again, parks_again, parks_decided, stops_path}
 use Rattle.oneshot_drive.proofs.waiting.wait.Given as given
@@ -12,7 +12,7 @@ loop-init g c =
       can_next = tt;
       is_finite = tt;
       path = λ way. begun (wait_of way) (g.G.ReceiverGround.state c.args.g.now).log;
-      waits = c.requires;
+      waits = c.requires.waits;
       hand = refl;
       keeps = g.G.ReceiverGround.keeps_same _;
     }
@@ -27,8 +27,8 @@ returns-then-is_over-clause-keeps g c =
     let on = g.G.ReceiverGround.keeps_on in
     on _ _ _ c.loop.invariant.keeps (on _ _ _ c.is_over.ensures.keeps c.stop.ensures.keeps)
 
-pub park-requires : goal.park-requires
-park-requires g c = may_park c.args.timed c.is_over.ensures.waits
+pub park-requires-clause-waits : goal.park-requires-clause-waits
+park-requires-clause-waits g c = may_park c.args.timed c.is_over.ensures.waits
 
 pub load-requires : goal.load-requires
 load-requires g c =
@@ -54,12 +54,26 @@ decided g c by e =
 pub returns-in-4 : goal.returns-in-4
 returns-in-4 g c =
     let d = decided g (goal.at.returns-in-4 g c).After-load by_message c.in-4.is in
-    record { path = d.0; ends = d.1; hand = c.loop.invariant.hand; keeps = d.2 }
+    record {
+      path = d.0;
+      ends = d.1;
+      hand = c.loop.invariant.hand;
+      has = subst (λ hand. g.G.ReceiverGround.has c.load.new.self hand)
+          (sym (c.loop.invariant.hand ∙ c.requires.empty)) (g.G.ReceiverGround.has_on _ _ _ d.2 c.requires.has);
+      keeps = d.2;
+    }
 
 pub returns-in-2 : goal.returns-in-2
 returns-in-2 g c =
     let d = decided g (goal.at.returns-in-2 g c).After-load by_end c.in-2.is in
-    record { path = d.0; ends = d.1; hand = c.loop.invariant.hand; keeps = d.2 }
+    record {
+      path = d.0;
+      ends = d.1;
+      hand = c.loop.invariant.hand;
+      has = subst (λ hand. g.G.ReceiverGround.has c.load.new.self hand)
+          (sym (c.loop.invariant.hand ∙ c.requires.empty)) (g.G.ReceiverGround.has_on _ _ _ d.2 c.requires.has);
+      keeps = d.2;
+    }
 
 pub loop-preserved : goal.loop-preserved
 loop-preserved g c =
@@ -78,3 +92,16 @@ loop-preserved g c =
       keeps = on _ _ _ c.loop.invariant.keeps
           (on _ _ _ c.is_over.ensures.keeps (on _ _ _ c.park.ensures.keeps c.load.ensures.keeps));
     }
+
+pub stop-requires-clause-empty : goal.stop-requires-clause-empty
+stop-requires-clause-empty g c = c.loop.invariant.hand ∙ c.requires.empty
+
+pub stop-requires-clause-has : goal.stop-requires-clause-has
+stop-requires-clause-has g c =
+    let on = g.G.ReceiverGround.keeps_on in
+    g.G.ReceiverGround.has_on _ _ _ (on _ _ _ c.loop.invariant.keeps c.is_over.ensures.keeps) c.requires.has
+
+pub park-requires-clause-has : goal.park-requires-clause-has
+park-requires-clause-has g c =
+    let on = g.G.ReceiverGround.keeps_on in
+    g.G.ReceiverGround.has_on _ _ _ (on _ _ _ c.loop.invariant.keeps c.is_over.ensures.keeps) c.requires.has

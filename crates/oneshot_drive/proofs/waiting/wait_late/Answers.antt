@@ -12,12 +12,12 @@ loop-init g c =
       can_next = tt;
       is_finite = tt;
       path = begun (Timed LatePark) (g.G.ReceiverGround.state c.args.g.now).log;
-      overdue = c.requires;
+      overdue = c.requires.late;
       keeps = g.G.ReceiverGround.keeps_same _;
     }
 
-pub park-requires : goal.park-requires
-park-requires g c = may_park_late c.loop.invariant.overdue
+pub park-requires-clause-waits : goal.park-requires-clause-waits
+park-requires-clause-waits g c = may_park_late c.loop.invariant.overdue
 
 pub load-requires : goal.load-requires
 load-requires g c =
@@ -62,3 +62,6 @@ loop-preserved g c =
       overdue = again.stands;
       keeps = on _ _ _ c.loop.invariant.keeps (on _ _ _ c.park.ensures.keeps c.load.ensures.keeps);
     }
+
+pub park-requires-clause-has : goal.park-requires-clause-has
+park-requires-clause-has g c = g.G.ReceiverGround.has_on _ _ _ c.loop.invariant.keeps c.requires.has

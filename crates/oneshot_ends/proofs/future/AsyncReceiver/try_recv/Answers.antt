@@ -5,9 +5,11 @@ use Rattle.oneshot_machine.specs.Phases.{receiver_at}
 use Rattle.oneshot_drive.specs.BetweenCalls.{IsClosedAt}
 use Rattle.oneshot_drive.specs.Polls.{LeavesTried}
 use Rattle.oneshot_ends.proofs.CallsAnswered.{one_answered}
-use Rattle.oneshot_ends.proofs.EndViews.{future_steps, future_about, kept_about}
+use Rattle.oneshot_ends.proofs.EndViews.{future_steps, future_about, future_took, kept_about}
 use Rattle.oneshot_ends.proofs.GrewByRuns.{words_of, receiver_grew, async_try_recv_few}
 use Rattle.oneshot_ends.proofs.PolledEnds.{closed_tried, open_tried, registered_by}
+use Rattle.oneshot_ends.specs.Taken.{TookAsFound}
+use Rattle.oneshot_ends.proofs.Taken.{tried_takes}
 use Rattle.oneshot_ends.proofs.future.AsyncReceiver.try_recv.Goals as goal
 
 pub invariant_of-self : goal.invariant_of-self
@@ -16,6 +18,8 @@ invariant_of-self g c = (
   one_answered AsyncTryRecv refl c.self.invariant.1
       (receiver_grew (words_of _ _ c.self.inside.ground.log) (words_of _ _ c.async_try_recv.new.g.log) AsyncTryRecv
       c.async_try_recv.ensures.run),
+  c.async_try_recv.ensures.keeps.2 c.self.invariant.2,
+  c.async_try_recv.ensures.keeps.3.found c.self.invariant.3,
 )
 
 pub returns-clause-run : goal.returns-clause-run
@@ -49,8 +53,18 @@ pub returns-clause-bounded : goal.returns-clause-bounded
 returns-clause-bounded g c = async_try_recv_few (returns-clause-run g c)
 
 pub returns-clause-about : goal.returns-clause-about
-returns-clause-about g c = c.async_try_recv.ensures.keeps ∙ future_about c.self.view_is
+returns-clause-about g c = c.async_try_recv.ensures.keeps.0 ∙ future_about c.self.view_is
 
 pub returns-clause-kept : goal.returns-clause-kept
 returns-clause-kept g c =
     kept_about g.P.Promise.keeps c.async_try_recv.result (future_about c.self.view_is) c.async_try_recv.ensures.given
+
+pub returns-clause-stays_taken : goal.returns-clause-stays_taken
+returns-clause-stays_taken g c x is = c.async_try_recv.ensures.keeps.3.stays x (future_took c.self.view_is ∙ is)
+
+pub returns-clause-took : goal.returns-clause-took
+returns-clause-took g c =
+    tried_takes _ _ (returns-clause-stays_taken g c)
+    (subst (λ e. TookAsFound e.took e.log) c.self.view_is c.self.invariant.3)
+    (c.async_try_recv.ensures.keeps.3.found c.self.invariant.3) AsyncTryRecv refl c.async_try_recv.result
+    (returns-clause-run g c) c.async_try_recv.ensures.had

@@ -5,14 +5,16 @@ use Rattle.oneshot_machine.specs.Phases.{receiver_at}
 use Rattle.oneshot_drive.specs.BetweenCalls.{IsClosedAt}
 use Rattle.oneshot_drive.specs.Polls.{LeavesPolled}
 use Rattle.oneshot_ends.proofs.CallsAnswered.{one_answered}
-use Rattle.oneshot_ends.proofs.EndViews.{future_steps, future_about, polled_about, pending_about}
+use Rattle.oneshot_ends.proofs.EndViews.{future_steps, future_about, future_took, polled_about, pending_about}
 use Rattle.oneshot_ends.proofs.GrewByRuns.{words_of, receiver_grew, poll_few}
 use Rattle.oneshot_ends.proofs.PolledEnds.{closed_polled, open_polled}
 use Rattle.oneshot_ends.proofs.PollingTokens.{stands_by_tokens, stands_as_told}
+use Rattle.oneshot_ends.specs.Taken.{TookAsFound}
+use Rattle.oneshot_ends.proofs.Taken.{poll_takes}
 use Rattle.oneshot_ends.proofs.future.AsyncReceiverFuture.poll.Goals as goal
 
-pub poll-requires : goal.poll-requires
-poll-requires g c = stands_by_tokens (_ ∷ _ ∷ _ ∷ []) c.self.inside.ground c.self.invariant.0
+pub poll-requires-clause-rests : goal.poll-requires-clause-rests
+poll-requires-clause-rests g c = stands_by_tokens (_ ∷ _ ∷ _ ∷ []) c.self.inside.ground c.self.invariant.0
 
 pub invariant_of-self : goal.invariant_of-self
 invariant_of-self g c = (
@@ -20,6 +22,8 @@ invariant_of-self g c = (
   one_answered C.Poll refl c.self.invariant.1
       (receiver_grew (words_of _ _ c.self.inside.ground.log) (words_of _ _ c.poll.new.g.ground.now.log) C.Poll
       c.poll.ensures.run),
+  c.poll.ensures.keeps.3 c.self.invariant.2,
+  c.poll.ensures.keeps.4.found c.self.invariant.3,
 )
 
 pub returns-clause-run : goal.returns-clause-run
@@ -57,3 +61,12 @@ returns-clause-value g c =
 pub returns-clause-same : goal.returns-clause-same
 returns-clause-same g c =
     pending_about g.P.Promise.keeps c.poll.result (c.poll.ensures.keeps.2 ∙ future_about c.self.view_is)
+
+pub returns-clause-stays_taken : goal.returns-clause-stays_taken
+returns-clause-stays_taken g c x is = c.poll.ensures.keeps.4.stays x (future_took c.self.view_is ∙ is)
+
+pub returns-clause-took : goal.returns-clause-took
+returns-clause-took g c =
+    poll_takes _ _ (returns-clause-stays_taken g c)
+    (subst (λ e. TookAsFound e.took e.log) c.self.view_is c.self.invariant.3)
+    (c.poll.ensures.keeps.4.found c.self.invariant.3) c.poll.result (returns-clause-run g c) c.poll.ensures.had

@@ -7,10 +7,13 @@ use Rattle.oneshot_drive.specs.BetweenCalls.{IsClosedAt, LeavesTimed}
 use Rattle.oneshot_drive.proofs.ReadyHands.{ready_timed}
 use Rattle.oneshot_ends.specs.Deadlines.{HasEnd}
 use Rattle.oneshot_ends.proofs.CallsAnswered.{one_answered}
-use Rattle.oneshot_ends.proofs.EndViews.{same_steps, same_about, lent_about, kept_about}
+use Rattle.oneshot_ends.proofs.EndViews.{same_steps, same_about, same_took, lent_about, lent_took, kept_about}
 use Rattle.oneshot_ends.proofs.GrewByRuns.{words_of, began_at, receiver_grew}
+use Rattle.oneshot_ends.proofs.OwnWakers.{has_lent}
 use Rattle.oneshot_ends.proofs.LentGrounds.{as_lent, given_back, hand_lent}
 use Rattle.oneshot_ends.proofs.TimeoutEnds.{ends_where_held}
+use Rattle.oneshot_ends.specs.Taken.{TookAsFound}
+use Rattle.oneshot_ends.proofs.Taken.{lent_found, timed_takes}
 use Rattle.oneshot_ends.proofs.receiver.Receiver.recv_after.Goals as goal
 
 pub recv_timeout-requires-clause-rests : goal.recv_timeout-requires-clause-rests
@@ -26,6 +29,9 @@ invariant_of-self g c = (
   one_answered (RecvTimeout c.has_end.result) refl c.self.invariant.2
       (receiver_grew (began_at (ap (λ r. r.now) c.lend-lent.ensures.ground) refl)
       (words_of _ _ c.recv_timeout.new.g.ground.now.log) (RecvTimeout c.has_end.result) c.recv_timeout.ensures.run),
+  c.recv_timeout.ensures.has.0,
+  c.recv_timeout.ensures.has.1,
+  c.recv_timeout.ensures.keeps.4.found (lent_found (ap (λ r. r.now) c.lend-lent.ensures.ground) c.self.invariant.5),
 )
 
 pub returns-clause-run : goal.returns-clause-run
@@ -58,3 +64,19 @@ pub returns-clause-kept : goal.returns-clause-kept
 returns-clause-kept g c =
     kept_about g.P.Promise.keeps c.recv_timeout.result
     (lent_about (ap (λ r. r.now) c.lend-lent.ensures.ground) (same_about c.self.view_is)) c.recv_timeout.ensures.given
+
+pub recv_timeout-requires-clause-has : goal.recv_timeout-requires-clause-has
+recv_timeout-requires-clause-has g c =
+    has_lent c.self.inside.hand (ap (λ r. r.now) c.lend-lent.ensures.ground) (ap (λ r. r.now) c.lend-lent.ensures.parker)
+    c.self.invariant.3 c.self.invariant.4
+
+pub returns-clause-stays_taken : goal.returns-clause-stays_taken
+returns-clause-stays_taken g c x is =
+    c.recv_timeout.ensures.keeps.4.stays x (lent_took (ap (λ r. r.now) c.lend-lent.ensures.ground) (same_took c.self.view_is) ∙ is)
+
+pub returns-clause-took : goal.returns-clause-took
+returns-clause-took g c =
+    timed_takes _ _ (returns-clause-stays_taken g c)
+    (subst (λ e. TookAsFound e.took e.log) c.self.view_is c.self.invariant.5)
+    (c.recv_timeout.ensures.keeps.4.found (lent_found (ap (λ r. r.now) c.lend-lent.ensures.ground) c.self.invariant.5)) (RecvTimeout (returns-clause-run g c).has_end) refl
+    c.recv_timeout.result (returns-clause-run g c).grew c.recv_timeout.ensures.had

@@ -5,9 +5,12 @@ use Rattle.oneshot_machine.specs.declared.machine.receiver.ReceiverStart.TheVari
 use Rattle.oneshot_drive.specs.BetweenCalls.{IsClosedAt, LeavesTimed}
 use Rattle.oneshot_drive.proofs.ReadyHands.{closed_in_time, open_too_late, ready_timed}
 use Rattle.oneshot_ends.proofs.CallsAnswered.{one_answered}
-use Rattle.oneshot_ends.proofs.EndViews.{same_steps, same_about, lent_about, kept_about}
+use Rattle.oneshot_ends.proofs.EndViews.{same_steps, same_about, same_took, lent_about, lent_took, kept_about}
 use Rattle.oneshot_ends.proofs.GrewByRuns.{words_of, began_at, receiver_grew}
+use Rattle.oneshot_ends.proofs.OwnWakers.{has_lent}
 use Rattle.oneshot_ends.proofs.LentGrounds.{as_lent, given_back, hand_lent}
+use Rattle.oneshot_ends.specs.Taken.{TookAsFound}
+use Rattle.oneshot_ends.proofs.Taken.{lent_found, timed_takes}
 use Rattle.oneshot_ends.proofs.receiver.Receiver.recv_deadline.Goals as goal
 
 pub recv_deadline-requires-clause-rests : goal.recv_deadline-requires-clause-rests
@@ -23,6 +26,9 @@ invariant_of-self g c = (
   one_answered RecvDeadline refl c.self.invariant.2
       (receiver_grew (began_at (ap (λ r. r.now) c.lend-lent.ensures.ground) refl)
       (words_of _ _ c.recv_deadline.new.g.ground.now.log) RecvDeadline c.recv_deadline.ensures.run),
+  c.recv_deadline.ensures.has.0,
+  c.recv_deadline.ensures.has.1,
+  c.recv_deadline.ensures.keeps.4.found (lent_found (ap (λ r. r.now) c.lend-lent.ensures.ground) c.self.invariant.5),
 )
 
 pub returns-clause-run : goal.returns-clause-run
@@ -56,3 +62,19 @@ pub returns-clause-kept : goal.returns-clause-kept
 returns-clause-kept g c =
     kept_about g.P.Promise.keeps c.recv_deadline.result
     (lent_about (ap (λ r. r.now) c.lend-lent.ensures.ground) (same_about c.self.view_is)) c.recv_deadline.ensures.given
+
+pub recv_deadline-requires-clause-has : goal.recv_deadline-requires-clause-has
+recv_deadline-requires-clause-has g c =
+    has_lent c.self.inside.hand (ap (λ r. r.now) c.lend-lent.ensures.ground) (ap (λ r. r.now) c.lend-lent.ensures.parker)
+    c.self.invariant.3 c.self.invariant.4
+
+pub returns-clause-stays_taken : goal.returns-clause-stays_taken
+returns-clause-stays_taken g c x is =
+    c.recv_deadline.ensures.keeps.4.stays x (lent_took (ap (λ r. r.now) c.lend-lent.ensures.ground) (same_took c.self.view_is) ∙ is)
+
+pub returns-clause-took : goal.returns-clause-took
+returns-clause-took g c =
+    timed_takes _ _ (returns-clause-stays_taken g c)
+    (subst (λ e. TookAsFound e.took e.log) c.self.view_is c.self.invariant.5)
+    (c.recv_deadline.ensures.keeps.4.found (lent_found (ap (λ r. r.now) c.lend-lent.ensures.ground) c.self.invariant.5)) RecvDeadline refl
+    c.recv_deadline.result (returns-clause-run g c) c.recv_deadline.ensures.had

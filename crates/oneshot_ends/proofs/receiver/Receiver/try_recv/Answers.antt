@@ -5,8 +5,10 @@ use Rattle.oneshot_machine.specs.declared.machine.receiver.ReceiverStart.TheVari
 use Rattle.oneshot_drive.specs.BetweenCalls.{IsClosedAt, Leaves}
 use Rattle.oneshot_drive.proofs.ReadyHands.{closed_tried, open_tried, ready_still}
 use Rattle.oneshot_ends.proofs.CallsAnswered.{one_answered}
-use Rattle.oneshot_ends.proofs.EndViews.{same_steps, same_about, kept_about}
+use Rattle.oneshot_ends.proofs.EndViews.{same_steps, same_about, same_took, kept_about}
 use Rattle.oneshot_ends.proofs.GrewByRuns.{words_of, receiver_grew, try_recv_few}
+use Rattle.oneshot_ends.specs.Taken.{TookAsFound}
+use Rattle.oneshot_ends.proofs.Taken.{tried_takes}
 use Rattle.oneshot_ends.proofs.receiver.Receiver.try_recv.Goals as goal
 
 pub invariant_of-self : goal.invariant_of-self
@@ -17,6 +19,9 @@ invariant_of-self g c = (
   one_answered TryRecv refl c.self.invariant.2
       (receiver_grew (words_of _ _ c.self.inside.ground.log) (words_of _ _ c.try_recv.new.g.log) TryRecv
       c.try_recv.ensures.run),
+  c.try_recv.ensures.keeps.1 _ c.self.invariant.3,
+  c.self.invariant.4,
+  c.try_recv.ensures.keeps.3.found c.self.invariant.5,
 )
 
 pub returns-clause-run : goal.returns-clause-run
@@ -45,8 +50,18 @@ pub returns-clause-bounded : goal.returns-clause-bounded
 returns-clause-bounded g c = try_recv_few (returns-clause-run g c)
 
 pub returns-clause-about : goal.returns-clause-about
-returns-clause-about g c = c.try_recv.ensures.keeps ∙ same_about c.self.view_is
+returns-clause-about g c = c.try_recv.ensures.keeps.0 ∙ same_about c.self.view_is
 
 pub returns-clause-kept : goal.returns-clause-kept
 returns-clause-kept g c =
     kept_about g.P.Promise.keeps c.try_recv.result (same_about c.self.view_is) c.try_recv.ensures.given
+
+pub returns-clause-stays_taken : goal.returns-clause-stays_taken
+returns-clause-stays_taken g c x is = c.try_recv.ensures.keeps.3.stays x (same_took c.self.view_is ∙ is)
+
+pub returns-clause-took : goal.returns-clause-took
+returns-clause-took g c =
+    tried_takes _ _ (returns-clause-stays_taken g c)
+    (subst (λ e. TookAsFound e.took e.log) c.self.view_is c.self.invariant.5)
+    (c.try_recv.ensures.keeps.3.found c.self.invariant.5) TryRecv refl c.try_recv.result (returns-clause-run g c)
+    c.try_recv.ensures.had

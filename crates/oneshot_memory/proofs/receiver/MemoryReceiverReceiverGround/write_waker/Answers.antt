@@ -9,7 +9,7 @@ pub invariant_of-self : goal.invariant_of-self
 invariant_of-self g c =
     let own =
     slot_vacant c.self.inside.owns_waker c.self.inside.waker
-    (ap (λ s. s.state.waker) c.self.view_is ∙ c.requires) in
+    (ap (λ s. s.state.waker) c.self.view_is ∙ c.requires.slot) in
     receiver_stays c.self.inside.events.items c.record.new.events.items c.handing-event.result c.record.ensures
     (no_word c.handing-event.result _ _ c.handing-event.ensures refl)
     (receiver_wakers c.self.invariant (Some c.args.waker) own)

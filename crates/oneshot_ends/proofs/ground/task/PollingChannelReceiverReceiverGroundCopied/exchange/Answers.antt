@@ -15,3 +15,6 @@ pub returns-clause-finds : goal.returns-clause-finds
 returns-clause-finds g c =
     token_found [] c.args.self.now.ground.now c.exchange.new.self (Exchange c.args.expected c.args.new)
     c.exchange.result c.exchange.ensures.finds
+
+pub returns-clause-keeps : goal.returns-clause-keeps
+returns-clause-keeps g c = (λ fact h. h, refl, c.exchange.ensures.keeps.0, c.exchange.ensures.keeps.2, c.exchange.ensures.keeps.3)

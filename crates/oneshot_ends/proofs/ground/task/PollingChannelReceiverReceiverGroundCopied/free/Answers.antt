@@ -5,3 +5,6 @@ use Rattle.oneshot_ends.proofs.ground.task.PollingChannelReceiverReceiverGroundC
 
 pub returns-clause-log : goal.returns-clause-log
 returns-clause-log g c = told (_ ∷ _ ∷ _ ∷ []) c.args.self.now.ground.now c.free.new.self _ _ refl c.free.ensures.log
+
+pub returns-clause-keeps : goal.returns-clause-keeps
+returns-clause-keeps g c = (λ fact h. h, refl, c.free.ensures.keeps.0, c.free.ensures.keeps.2, c.free.ensures.keeps.3)

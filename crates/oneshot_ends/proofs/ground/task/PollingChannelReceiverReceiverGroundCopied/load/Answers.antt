@@ -13,3 +13,6 @@ returns-clause-log g c = told (_ ∷ _ ∷ _ ∷ []) c.args.self.now.ground.now 
 pub returns-clause-finds : goal.returns-clause-finds
 returns-clause-finds g c =
     token_found [] c.args.self.now.ground.now c.load.new.self Load c.load.result c.load.ensures.finds
+
+pub returns-clause-keeps : goal.returns-clause-keeps
+returns-clause-keeps g c = (λ fact h. h, refl, c.load.ensures.keeps.0, c.load.ensures.keeps.2, c.load.ensures.keeps.3)

@@ -13,3 +13,6 @@ returns-clause-log g c = told (_ ∷ _ ∷ _ ∷ []) c.args.self.now.ground.now 
 pub returns-clause-finds : goal.returns-clause-finds
 returns-clause-finds g c =
     token_found [] c.args.self.now.ground.now c.swap.new.self (Swap c.args.new) c.swap.result c.swap.ensures.finds
+
+pub returns-clause-keeps : goal.returns-clause-keeps
+returns-clause-keeps g c = (λ fact h. h, refl, c.swap.ensures.keeps.0, c.swap.ensures.keeps.2, c.swap.ensures.keeps.3)

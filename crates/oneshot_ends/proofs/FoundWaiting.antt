@@ -1,0 +1,93 @@
+-- A sender that has operated beside a receiver that waits found it waiting: by the order of both logs.
+use Rattle.std.proofs.Common.{◌≡◌, ◌⊎◌, inl, inr, ℕ, Bool, true, false, List, [], ◌∷◌, ◌++◌, refl, sym, ap, ◌∙◌}
+use Rattle.std.proofs.lemmas.Bool.{and_parts, eq-eqb}
+use Rattle.std.specs.Prelude.{◌&&◌, ◌||◌, ◌==◌, if◌then◌else◌}
+use Rattle.oneshot_machine.proofs.GrownLogs.{phase_from-snoc}
+use Rattle.oneshot_machine.proofs.Sameness.{each_passes}
+use Rattle.oneshot_machine.specs.declared.machine.Seen.TheVariants.{Word}
+use Rattle.oneshot_machine.specs.declared.states.Op.{Op}
+use Rattle.oneshot_machine.specs.Noted.{Noted, saw}
+use Rattle.oneshot_machine.specs.Orders.{Reaches, nothing_made, sender_makes, receiver_makes, has_row}
+use Rattle.oneshot_machine.specs.Phases.{Share, none, empty, filled, Slots, Row, SenderAt, fresh, sender_moves, sender_at, ReceiverAt, first, waits, claimed, overdue, receiver_at, receiver_next, receiver_moves}
+use Rattle.oneshot_machine.specs.Slots.{In}
+use Rattle.oneshot_machine.specs.TableRows.{is_same_seen}
+use Rattle.oneshot_drive.specs.Wakes.{finds_waiting}
+use Rattle.oneshot_word.proofs.Between.{between, sender_told}
+use Rattle.oneshot_word.proofs.Hands.{none_made}
+use Rattle.oneshot_word.proofs.Meets.{word_between, Is, is}
+use Rattle.oneshot_word.specs.Rule.{has_made}
+use Rattle.oneshot_ends.specs.OwnWakers.{has_left}
+use Rattle.oneshot_ends.proofs.OwnWakers.{is_put, is_out, left_by, all_left, no_and}
+
+if_so : (b c : Bool) → (if b then c else true) ≡ true → b ≡ true → c ≡ true
+if_so true c e so = e
+if_so false c e so = absurd (cc so)
+
+either_so : (b c c' : Bool) → (c ≡ true → c' ≡ true) → (b || c) ≡ true → (b || c') ≡ true
+either_so true c c' on e = refl
+either_so false c c' on e = on e
+
+appended : (xs : List Noted) (x : Noted) → finds_waiting xs ≡ true → finds_waiting (xs ++ x ∷ []) ≡ true
+appended [] x e = absurd (cc e)
+appended (y ∷ xs) x e =
+    either_so (is_same_seen y.1 (Word 0)) (finds_waiting xs) (finds_waiting (xs ++ x ∷ [])) (appended xs x) e
+
+-- a sender's first operation beside such a receiver finds 0
+finds_zero : (q : ReceiverAt) {word : ℕ} → has_left q ≡ true → Is (word_between fresh q) word → word ≡ 0
+finds_zero (waits w) left is = refl
+finds_zero claimed left now = elim now [ ]
+finds_zero overdue left now = elim now [ ]
+finds_zero _ left now = absurd (cc left)
+
+abbrev sees_zero : Row SenderAt → Bool
+sees_zero row = if row.2 == 0 then is_same_seen (saw row.0 row.2) (Word 0) else true
+
+first_finds : {op : Op} {before after : Slots} {word : ℕ} {next : SenderAt}
+    → In (op, before, word, next, after) (sender_moves fresh) → word ≡ 0 → is_same_seen (saw op word) (Word 0) ≡ true
+first_finds {op} {word} row zero =
+    if_so (word == 0) (is_same_seen (saw op word) (Word 0)) (each_passes sees_zero (sender_moves fresh) refl row)
+    (eq-eqb word 0 zero)
+
+on_sender : (xs : List Noted) {ys : List Noted} {op : Op} {before after : Slots} {word : ℕ} {next : SenderAt}
+    → Reaches xs ys word → In (op, before, word, next, after) (sender_moves (sender_at xs))
+    → (has_made xs ≡ true → finds_waiting xs ≡ true) → has_left (receiver_at ys) ≡ true
+    → finds_waiting (xs ++ (op, saw op word) ∷ []) ≡ true
+on_sender [] {ys} order row earlier left =
+    ap (λ b. b || false) (first_finds row (finds_zero (receiver_at ys) left (between order)))
+on_sender (y ∷ xs) order row earlier left = appended (y ∷ xs) _ (earlier refl)
+
+put_or_left : (s s' : Share) (was : Bool) → (is_put s s' || (was && is_out s s')) ≡ true
+    → ((s ≡ filled) × (s' ≡ none)) ⊎ (was ≡ true)
+put_or_left filled none was e = inl (refl, refl)
+put_or_left none none was e = inr (and_parts was true e).0
+put_or_left none empty was e = absurd (no_and was e)
+put_or_left none filled was e = absurd (no_and was e)
+put_or_left empty none was e = absurd (no_and was e)
+put_or_left empty empty was e = absurd (no_and was e)
+put_or_left empty filled was e = absurd (no_and was e)
+put_or_left filled empty was e = absurd (no_and was e)
+put_or_left filled filled was e = absurd (no_and was e)
+
+on_receiver : (ys : List Noted) {op : Op} {before after : Slots} {word : ℕ} {next : ReceiverAt}
+    → In (op, before, word, next, after) (receiver_moves (receiver_at ys))
+    → has_left (receiver_at (ys ++ (op, saw op word) ∷ [])) ≡ true
+    → ((before.1 ≡ filled) × (after.1 ≡ none)) ⊎ (has_left (receiver_at ys) ≡ true)
+on_receiver ys {op} {before} {after} {word} row left =
+    let q = receiver_at ys in
+    put_or_left before.1 after.1 (has_left q)
+    (if_so (has_left (receiver_next q op (saw op word)))
+    (is_put before.1 after.1 || (has_left q && is_out before.1 after.1))
+    (each_passes (left_by q) (receiver_moves q) (all_left q) row)
+    (sym (ap has_left (phase_from-snoc receiver_next first ys (op, saw op word))) ∙ left))
+
+pub found_waiting : {xs ys : List Noted} {word : ℕ} → Reaches xs ys word → has_left (receiver_at ys) ≡ true
+    → has_made xs ≡ true → finds_waiting xs ≡ true
+found_waiting nothing_made left made = absurd (cc made)
+found_waiting (sender_makes {xs} op order (has_row row)) left made =
+    on_sender xs order row (λ earlier. found_waiting order left earlier) left
+found_waiting (receiver_makes {xs} {ys} op order (has_row row)) left made =
+    elim (on_receiver ys row left) [
+      | inl puts ↦ absurd (let e = sym made ∙ none_made (sender_at xs) (receiver_at ys) (sender_told order)
+          (between order) row puts.0 puts.1 in cc e)
+      | inr was ↦ found_waiting order was made
+    ]

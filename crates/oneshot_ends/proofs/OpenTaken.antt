@@ -1,0 +1,119 @@
+-- An open receiver has taken none: once a log has found the message, its phase is past the open ones.
+use Rattle.std.proofs.Common.{◌≡◌, ℕ, Bool, true, false, List, [], ◌∷◌, Option, Some, None, refl, sym, ap, ◌∙◌, true≢false}
+use Rattle.std.proofs.lemmas.Bool.{and_parts}
+use Rattle.std.specs.Prelude.{◌&&◌, ◌||◌, if◌then◌else◌, is_some, IsTrue}
+use Rattle.std.specs.List.{list_all}
+use Rattle.oneshot_machine.specs.declared.machine.Seen.{Seen}
+use Rattle.oneshot_machine.specs.declared.machine.Seen.TheVariants.{Word}
+use Rattle.oneshot_machine.specs.declared.states.Op.{Op}
+use Rattle.oneshot_machine.specs.Noted.{Noted, saw, is_same_op}
+use Rattle.oneshot_machine.specs.Phases.{Row, Open, looked, between, Waiting, blocked, polled, again, Swapping, storing, stopping, Got, at_once, waited, swapped, by_future, by_poll, Closing, found_closed, closed_itself, ReceiverAt, first, here, waits, claimed, withdrew, overdue, full, unclosed, disconnected, resolved, gone, ended, no_receiver, receiver_moves, receiver_next, next_by, is_row_for, phase_from, receiver_at}
+use Rattle.oneshot_machine.specs.TableRows.{is_same_seen}
+use Rattle.oneshot_drive.specs.BetweenCalls.{is_open_at}
+use Rattle.oneshot_ends.specs.Taken.{has_found, TookAsFound}
+use Rattle.oneshot_ends.proofs.Overs.{seens_are_same}
+
+-- the phases of a receiver that may have found the message
+abbrev past : ReceiverAt → Bool
+past first = false
+past (here o) = false
+past (waits w) = false
+past claimed = false
+past withdrew = false
+past overdue = false
+past _ = true
+
+abbrev leads_past : Row ReceiverAt → Bool
+leads_past (made, before, word, next, after) = past next
+
+past_rows : (at : ReceiverAt) → past at ≡ true → list_all leads_past (receiver_moves at) ≡ true
+past_rows (full at_once) e = refl
+past_rows (full waited) e = refl
+past_rows (full (swapped by)) e = refl
+past_rows (full by_future) e = refl
+past_rows (full by_poll) e = refl
+past_rows (unclosed by) e = refl
+past_rows (disconnected closing) e = refl
+past_rows (resolved closing) e = refl
+past_rows gone e = refl
+past_rows ended e = refl
+past_rows no_receiver e = refl
+past_rows _ e = absurd (cc)
+
+-- a row that finds the message leads there
+abbrev found_row : Row ReceiverAt → Bool
+found_row (made, before, word, next, after) = if is_same_seen (saw made word) (Word 4) then past next else true
+
+found_rows : (at : ReceiverAt) → list_all found_row (receiver_moves at) ≡ true
+found_rows (here looked) = refl
+found_rows (waits blocked) = refl
+found_rows (full (swapped storing)) = refl
+found_rows (unclosed storing) = refl
+found_rows (disconnected found_closed) = refl
+found_rows (resolved found_closed) = refl
+found_rows _ = refl
+
+row_next : (op : Op) (seen : Seen) (rows : List (Row ReceiverAt)) → list_all leads_past rows ≡ true
+    → past (next_by no_receiver rows op seen) ≡ true
+row_next op seen [] all = refl
+row_next op seen (row ∷ rows) all =
+    let parts = and_parts (leads_past row) (list_all leads_past rows) all in
+    by (is_row_for op seen row) parts.0 (row_next op seen rows parts.1)
+  where
+    by : (b : Bool) → past row.3 ≡ true → past (next_by no_receiver rows op seen) ≡ true
+        → past (if b then row.3 else next_by no_receiver rows op seen) ≡ true
+    by true now there = now
+    by false now there = there
+
+row_found : (op : Op) (rows : List (Row ReceiverAt)) → list_all found_row rows ≡ true
+    → past (next_by no_receiver rows op (Word 4)) ≡ true
+row_found op [] all = refl
+row_found op (row ∷ rows) all =
+    let parts = and_parts (found_row row) (list_all found_row rows) all in
+    by (is_same_op row.0 op) (is_same_seen (saw row.0 row.2) (Word 4)) parts.0 (row_found op rows parts.1)
+  where
+    by : (a b : Bool) → (if b then past row.3 else true) ≡ true → past (next_by no_receiver rows op (Word 4)) ≡ true
+        → past (if a && b then row.3 else next_by no_receiver rows op (Word 4)) ≡ true
+    by true true now there = now
+    by true false now there = there
+    by false b now there = there
+
+found_next : (at : ReceiverAt) (op : Op) (seen : Seen) → is_same_seen seen (Word 4) ≡ true
+    → past (receiver_next at op seen) ≡ true
+found_next at op seen e =
+    ap (λ seen. past (receiver_next at op seen)) (seens_are_same seen (Word 4) e)
+    ∙ row_found op (receiver_moves at) (found_rows at)
+
+either_way : (d c : Bool) → c ≡ true → (d || c) ≡ true
+either_way true c e = refl
+either_way false c e = e
+
+found_past : (at : ReceiverAt) (log : List Noted) → (past at || has_found log) ≡ true
+    → past (phase_from receiver_next at log) ≡ true
+found_past at [] e = by (past at) e
+  where
+    by : (b : Bool) → (b || false) ≡ true → b ≡ true
+    by true e = refl
+    by false e = e
+found_past at (x ∷ xs) e =
+    found_past (receiver_next at x.0 x.1) xs (by (past at) refl (is_same_seen x.1 (Word 4)) refl e)
+  where
+    by : (a : Bool) → past at ≡ a → (b : Bool) → is_same_seen x.1 (Word 4) ≡ b → (a || (b || has_found xs)) ≡ true
+        → (past (receiver_next at x.0 x.1) || has_found xs) ≡ true
+    by true is b sees e =
+        ap (λ d. d || has_found xs) (row_next x.0 x.1 (receiver_moves at) (past_rows at is))
+    by false is true sees e = ap (λ d. d || has_found xs) (found_next at x.0 x.1 sees)
+    by false is false sees e = either_way (past (receiver_next at x.0 x.1)) (has_found xs) e
+
+not_past : (at : ReceiverAt) → is_open_at at ≡ true → past at ≡ false
+not_past first e = refl
+not_past (here o) e = refl
+not_past (waits w) e = refl
+not_past claimed e = refl
+not_past _ e = absurd (cc)
+
+pub open_took_none : {T : Type 0} (took : Option T) (log : List Noted) → TookAsFound took log
+    → is_open_at (receiver_at log) ≡ true → took ≡ None
+open_took_none None log so open_at = refl
+open_took_none (Some m) log so open_at =
+    absurd (true≢false (sym (found_past first log (sym so)) ∙ not_past (receiver_at log) open_at))

@@ -1,0 +1,295 @@
+-- What a receiver took, by its log: each run of a call that stays in place finds the message exactly if it returns it.
+use Rattle.std.proofs.Common.{◌≡◌, Bool, true, false, List, [], ◌∷◌, ◌++◌, Option, Some, None, Result, Ok, Err, refl, sym, ap, ◌∙◌, subst}
+use Rattle.std.proofs.lemmas.Bool.{and_parts}
+use Rattle.std.specs.Prelude.{ℕ, ◌&&◌, ◌||◌, is_some, IfOk}
+use Rattle.std.specs.List.{list_all, cons_option}
+use Rattle.std.specs.Option.{option_map}
+use Rattle.futures.specs.declared.task.Poll.{Poll}
+use Rattle.futures.specs.declared.task.Poll.TheVariants.{Ready, Pending}
+use Rattle.futures.specs.Poll.{IfReady}
+use Rattle.oneshot_machine.specs.declared.machine.Reply.{Reply}
+use Rattle.oneshot_machine.specs.declared.machine.Reply.TheVariants as R
+use Rattle.oneshot_machine.specs.declared.machine.Seen.{Seen}
+use Rattle.oneshot_machine.specs.declared.machine.Seen.TheVariants.{Word}
+use Rattle.oneshot_machine.specs.declared.machine.receiver.ReceiverStart.{ReceiverStart}
+use Rattle.oneshot_machine.specs.declared.machine.receiver.ReceiverStart.TheVariants as RC
+use Rattle.oneshot_machine.specs.declared.machine.receiver.ReceiverPos.{ReceiverPos}
+use Rattle.oneshot_machine.specs.declared.machine.receiver.ReceiverPos.TheVariants.{Look, Try, Ref, Timed, Value, Future, AsyncDrop, Drop}
+use Rattle.oneshot_machine.specs.declared.machine.try_recv.TryPos.TheVariants.{TryLoad, Close, Take, CloseOnly}
+use Rattle.oneshot_machine.specs.declared.machine.by_ref.RefPos.TheVariants.{StartLoad, StartWrite, StartSwap, BackFull, BackClosed, Park, ParkLoad}
+use Rattle.oneshot_machine.specs.declared.machine.timed.TimedPos.TheVariants.{SumClock, Clock, TimedPark, TimedLoad, EndSwap, EndBack, LatePark, LateLoad}
+use Rattle.oneshot_machine.specs.declared.machine.future.FuturePos.TheVariants.{IntoFuture, PollLoad, PollCopy, PollWrite, PollExchange, PollBackFull, PollBackClosed, AgainCopy, AgainExchange, AgainBack, PollOwn, AsyncTryLoad}
+use Rattle.oneshot_machine.specs.declared.states.Op.{Op}
+use Rattle.oneshot_machine.specs.Called.{Form, as_receiver, as_future, stays}
+use Rattle.oneshot_machine.specs.Noted.{Noted, op_of, saw}
+use Rattle.oneshot_machine.specs.Logs.{Event, words}
+use Rattle.oneshot_machine.specs.Receiver.{receiver_start, receiver_step, receiver_rows, receiver_row}
+use Rattle.oneshot_machine.specs.Runs.{Run, last, more}
+use Rattle.oneshot_machine.specs.TableRows.{Outcome, Goes, Answers, is_same_seen}
+use Rattle.oneshot_drive.specs.declared.errors.recv.RecvError.{RecvError}
+use Rattle.oneshot_drive.specs.declared.errors.recv_timeout.RecvTimeoutError.{RecvTimeoutError}
+use Rattle.oneshot_drive.specs.declared.errors.recv_timeout.RecvTimeoutError.TheVariants as Timeouts
+use Rattle.oneshot_drive.specs.declared.errors.try_recv.TryRecvError.{TryRecvError}
+use Rattle.oneshot_drive.specs.declared.errors.try_recv.TryRecvError.TheVariants as E
+use Rattle.oneshot_drive.specs.BetweenCalls.{try_recv_reply, recv_reply, timed_reply}
+use Rattle.oneshot_drive.specs.Polls.{poll_reply}
+use Rattle.oneshot_word.specs.Received.{both_views}
+use Rattle.oneshot_word.specs.Rule.{Tied}
+use Rattle.oneshot_word.specs.Seats.{gave}
+use Rattle.oneshot_word.specs.Side.{Side, SenderDid, ReceiverDid}
+use Rattle.oneshot_machine.specs.Slots.{away, held}
+use Rattle.oneshot_word.proofs.Alike.{is_bool, bools_are}
+use Rattle.oneshot_word.proofs.RuleReceives.{received_is_sent}
+use Rattle.oneshot_ends.specs.Ends.{ReceiverGrew}
+use Rattle.oneshot_ends.specs.Grounds.{left_of, unless_freed}
+use Rattle.oneshot_ends.specs.Taken.{StaysTaken, has_found, TookAsFound, KeepsTaken, Takes, TakesReady, WasSent, is_message}
+use Rattle.oneshot_ends.proofs.Overs.{row_passes}
+
+or_no : (b : Bool) → (b || false) ≡ b
+or_no true = refl
+or_no false = refl
+
+or_then : (a b c : Bool) → (a || (b || c)) ≡ ((a || b) || c)
+or_then true b c = refl
+or_then false b c = refl
+
+pub found_both : (xs ys : List Noted) → has_found (xs ++ ys) ≡ (has_found xs || has_found ys)
+found_both [] ys = refl
+found_both (x ∷ xs) ys =
+    ap (λ b. is_same_seen x.1 (Word 4) || b) (found_both xs ys)
+    ∙ or_then (is_same_seen x.1 (Word 4)) (has_found xs) (has_found ys)
+
+-- positions at which a call has found the message
+abbrev has_it : ReceiverPos → Bool
+has_it (Try Close) = true
+has_it (Try Take) = true
+has_it (Ref BackFull) = true
+has_it (Future PollBackFull) = true
+has_it _ = false
+
+-- those of the calls that leave the receiver in place
+abbrev in_place : ReceiverPos → Bool
+in_place (Try at) = true
+in_place (Ref at) = true
+in_place (Timed at) = true
+in_place (Future at) = true
+in_place _ = false
+
+abbrev sees : Option Op → Seen → Bool
+sees None seen = false
+sees (Some op) seen = is_same_seen seen (Word 4)
+
+abbrev has_by : ReceiverPos → Seen → Bool
+has_by p seen = has_it p || sees (op_of (receiver_step p)) seen
+
+abbrev row_told : ReceiverPos → Seen × Outcome ReceiverPos → Bool
+row_told p (seen, Goes next) = in_place next && is_bool (has_it next) (has_by p seen)
+row_told p (seen, Answers reply) = is_bool (is_message reply) (has_by p seen)
+
+told_rows : (p : ReceiverPos) → in_place p ≡ true → list_all (row_told p) (receiver_rows p) ≡ true
+told_rows (Try TryLoad) e = refl
+told_rows (Try Close) e = refl
+told_rows (Try Take) e = refl
+told_rows (Try CloseOnly) e = refl
+told_rows (Ref (StartLoad timed)) e = refl
+told_rows (Ref (StartWrite timed)) e = refl
+told_rows (Ref (StartSwap false)) e = refl
+told_rows (Ref (StartSwap true)) e = refl
+told_rows (Ref BackFull) e = refl
+told_rows (Ref BackClosed) e = refl
+told_rows (Ref Park) e = refl
+told_rows (Ref ParkLoad) e = refl
+told_rows (Timed (SumClock representable)) e = refl
+told_rows (Timed Clock) e = refl
+told_rows (Timed TimedPark) e = refl
+told_rows (Timed TimedLoad) e = refl
+told_rows (Timed EndSwap) e = refl
+told_rows (Timed EndBack) e = refl
+told_rows (Timed LatePark) e = refl
+told_rows (Timed LateLoad) e = refl
+told_rows (Future IntoFuture) e = refl
+told_rows (Future PollLoad) e = refl
+told_rows (Future PollCopy) e = refl
+told_rows (Future PollWrite) e = refl
+told_rows (Future PollExchange) e = refl
+told_rows (Future PollBackFull) e = refl
+told_rows (Future PollBackClosed) e = refl
+told_rows (Future AgainCopy) e = refl
+told_rows (Future AgainExchange) e = refl
+told_rows (Future AgainBack) e = refl
+told_rows (Future PollOwn) e = refl
+told_rows (Future AsyncTryLoad) e = refl
+told_rows _ e = absurd (cc)
+
+sees_on : (op : Option Op) (seen : Seen) (ns : List Noted)
+    → has_found (cons_option (option_map (λ op. (op, seen)) op) ns) ≡ (sees op seen || has_found ns)
+sees_on None seen ns = refl
+sees_on (Some op) seen ns = refl
+
+module _ {T W : Type 0} where
+  step_found : (p : ReceiverPos) (x : Event T W) (xs : List (Event T W)) → x.step ≡ receiver_step p
+      → has_found (words (x ∷ xs)) ≡ (sees (op_of (receiver_step p)) x.seen || has_found (words xs))
+  step_found p x xs is =
+      sees_on (op_of x.step) x.seen (words xs) ∙ ap (λ step. sees (op_of step) x.seen || has_found (words xs)) is
+
+  found_from : (p : ReceiverPos) (xs : List (Event T W)) (r : Reply) → in_place p ≡ true
+      → Run receiver_step receiver_row p xs r → (has_it p || has_found (words xs)) ≡ is_message r
+  found_from p _ r e (last x is leads) =
+      ap (λ b. has_it p || b) (step_found p x [] is ∙ or_no (sees (op_of (receiver_step p)) x.seen))
+      ∙ sym (bools_are (is_message r) (has_by p x.seen)
+      (row_passes (row_told p) (receiver_rows p) x.seen (Answers r) (told_rows p e) leads))
+  found_from p _ r e (more next x xs is leads rest) =
+      let passes =
+      and_parts (in_place next) (is_bool (has_it next) (has_by p x.seen))
+      (row_passes (row_told p) (receiver_rows p) x.seen (Goes next) (told_rows p e) leads) in
+      ap (λ b. has_it p || b) (step_found p x xs is)
+      ∙ or_then (has_it p) (sees (op_of (receiver_step p)) x.seen) (has_found (words xs))
+      ∙ ap (λ b. b || has_found (words xs)) (sym (bools_are (has_it next) (has_by p x.seen) passes.1))
+      ∙ found_from next xs r passes.0 rest
+
+-- a call that leaves the receiver in place, and does not begin with the message
+abbrev pub begins : ReceiverStart → Bool
+begins call = in_place (receiver_start call)
+
+pub stays_begins : (form : Form) (call : ReceiverStart) → stays form call ≡ true → begins call ≡ true
+stays_begins as_receiver RC.TryRecv e = refl
+stays_begins as_receiver RC.RecvRef e = refl
+stays_begins as_receiver RC.RecvDeadline e = refl
+stays_begins as_receiver (RC.RecvTimeout representable) e = refl
+stays_begins as_future RC.Poll e = refl
+stays_begins as_future RC.AsyncTryRecv e = refl
+stays_begins _ _ e = absurd (cc)
+
+no_start : (call : ReceiverStart) → has_it (receiver_start call) ≡ false
+no_start RC.TryRecv = refl
+no_start _ = refl
+
+module _ {T W : Type 0} where
+  -- a call's own operations found the message exactly if it returned it
+  pub found_in_call : (call : ReceiverStart) (run : List (Event T W)) (reply : Reply) → begins call ≡ true
+      → Run receiver_step receiver_row (receiver_start call) run reply → has_found (words run) ≡ is_message reply
+  found_in_call call run reply e is_run =
+      sym (ap (λ b. b || has_found (words run)) (no_start call)) ∙ found_from (receiver_start call) run reply e is_run
+
+-- so does its log
+module _ {T : Type 0} where
+  pub grew_found : {before after : List Noted} {reply : Reply} (call : ReceiverStart) → begins call ≡ true
+      → ReceiverGrew T call before after reply → has_found after ≡ (has_found before || is_message reply)
+  grew_found {before} {reply = reply} call e grew =
+      ap has_found grew.list ∙ found_both before (words grew.run)
+      ∙ ap (λ b. has_found before || b)
+      (sym (ap (λ b. b || has_found (words grew.run)) (no_start call))
+      ∙ found_from (receiver_start call) grew.run reply e grew.is_run)
+
+-- equal, if none was taken meanwhile
+same_taken : {T : Type 0} (before after : Option T) → StaysTaken before after → is_some after ≡ is_some before
+    → after ≡ before
+same_taken None None stays e = refl
+same_taken (Some x) after stays e = stays x refl
+same_taken None (Some y) stays e = absurd (cc)
+
+abbrev is_answer : {T E : Type 0} → Result T E → Bool
+is_answer (Ok x) = true
+is_answer (Err e) = false
+
+told_tried : {T : Type 0} (result : Result T TryRecvError) → is_message (try_recv_reply result) ≡ is_answer result
+told_tried (Ok x) = refl
+told_tried (Err E.Empty) = refl
+told_tried (Err E.Disconnected) = refl
+
+told_recv : {T : Type 0} (result : Result T RecvError) → is_message (recv_reply result) ≡ is_answer result
+told_recv (Ok x) = refl
+told_recv (Err e) = refl
+
+told_timed : {T : Type 0} (result : Result T RecvTimeoutError) → is_message (timed_reply result) ≡ is_answer result
+told_timed (Ok x) = refl
+told_timed (Err Timeouts.Timeout) = refl
+told_timed (Err Timeouts.Disconnected) = refl
+
+module _ {T : Type 0} (log next : List Noted) {before after : Option T} (stays : StaysTaken before after)
+    (was : TookAsFound before log) (is : TookAsFound after next) where
+  takes_none : has_found next ≡ (has_found log || false) → after ≡ before
+  takes_none grew = same_taken before after stays (is ∙ grew ∙ or_no (has_found log) ∙ sym was)
+
+  takes : {E : Type 0} (result : Result T E) → has_found next ≡ (has_found log || is_answer result)
+      → IfOk result (λ x. after ≡ Some x) → Takes result before after
+  takes (Ok x) grew had = had
+  takes (Err e) grew had = takes_none grew
+
+  pub tried_takes : (call : ReceiverStart) → begins call ≡ true → (result : Result T TryRecvError)
+      → ReceiverGrew T call log next (try_recv_reply result) → IfOk result (λ x. after ≡ Some x)
+      → Takes result before after
+  tried_takes call e result grew =
+      takes result (grew_found call e grew ∙ ap (λ b. has_found log || b) (told_tried result))
+
+  pub recv_takes : (call : ReceiverStart) → begins call ≡ true → (result : Result T RecvError)
+      → ReceiverGrew T call log next (recv_reply result) → IfOk result (λ x. after ≡ Some x)
+      → Takes result before after
+  recv_takes call e result grew =
+      takes result (grew_found call e grew ∙ ap (λ b. has_found log || b) (told_recv result))
+
+  pub timed_takes : (call : ReceiverStart) → begins call ≡ true → (result : Result T RecvTimeoutError)
+      → ReceiverGrew T call log next (timed_reply result) → IfOk result (λ x. after ≡ Some x)
+      → Takes result before after
+  timed_takes call e result grew =
+      takes result (grew_found call e grew ∙ ap (λ b. has_found log || b) (told_timed result))
+
+  pub poll_takes : (result : Poll (Result T RecvError)) → ReceiverGrew T RC.Poll log next (poll_reply result)
+      → IfReady result (λ answer. IfOk answer (λ x. after ≡ Some x)) → TakesReady result before after
+  poll_takes (Ready (Ok x)) grew had = had
+  poll_takes (Ready (Err e)) grew had = takes_none (grew_found RC.Poll refl grew)
+  poll_takes Pending grew had = takes_none (grew_found RC.Poll refl grew)
+
+module _ {T W P : Type 0} where
+  -- what an operation on the word keeps
+  did_keeps : {s t : Side T W P} {op : Op} {word : ℕ} → ReceiverDid s op word t
+      → KeepsTaken s.passed t.passed s.log t.log
+  did_keeps {s} {op = op} {word = word} did =
+      record {
+        stays = did.stays;
+        found = λ so. did.takes ∙ ap (λ b. b || is_same_seen (saw op word) (Word 4)) so
+            ∙ ap (λ b. has_found s.log || b) (sym (or_no (is_same_seen (saw op word) (Word 4))))
+            ∙ sym (ap has_found did.list ∙ found_both s.log ((op, saw op word) ∷ []));
+      }
+
+  -- what stays with the log and what passed
+  pub side_keeps : (s t : Side T W P) → t.passed ≡ s.passed → t.log ≡ s.log
+      → KeepsTaken s.passed t.passed s.log t.log
+  side_keeps s t passed logs =
+      record {
+        stays = λ x is. passed ∙ is;
+        found = λ so. ap is_some passed ∙ so ∙ sym (ap has_found logs);
+      }
+
+  pub ground_keeps : (freed : Bool) (s : Side T W P) {now next : Side T W P} {op : Op} {word : ℕ}
+      → left_of freed s ≡ now → ReceiverDid s op word next
+      → (next.about ≡ now.about) × KeepsTaken now.passed next.passed now.log next.log
+  ground_keeps freed s {next = next} is did =
+      subst (λ now. (next.about ≡ now.about) × KeepsTaken now.passed next.passed now.log next.log) is
+      (did.about, did_keeps did)
+
+  -- a ground that was lent
+  pub lent_found : {own s : Side T W P} → s ≡ own → TookAsFound own.passed own.log → TookAsFound s.passed s.log
+  lent_found is so = subst (λ s. TookAsFound s.passed s.log) (sym is) so
+
+  -- a new one
+  pub new_found : (s now : Side T W P) → now ≡ s → s.log ≡ [] → s.passed ≡ None → TookAsFound now.passed now.log
+  new_found s now is log passed =
+      subst (λ s. TookAsFound s.passed s.log) (sym is) (ap is_some passed ∙ sym (ap has_found log))
+
+  -- a sender that gives up its slot gave what was there
+  pub gave_it : (freed : Bool) (s : Side T W P) {now next : Side T W P} {op : Op} {word : ℕ} → left_of freed s ≡ now
+      → SenderDid s op word next → (x : T) → now.message ≡ held x → unless_freed freed next.message ≡ away
+      → next.passed ≡ Some x
+  gave_it true s is did x has gone =
+      let was : away ≡ held x = ap (λ (s : Side T W P). s.message) is ∙ has in absurd (cc was)
+  gave_it false s is did x has gone =
+      let was : s.message ≡ held x = ap (λ (s : Side T W P). s.message) is ∙ has in
+      did.passed ∙ (λ i. gave (was i) (gone i) s.passed)
+
+-- the rule of the shared table says who gave it
+pub was_sent : {T P : Type 0} (H K : Type 0) (keeps : P → T → Type 0) (log : List Noted) (took : Option T)
+    → WasSent H K keeps log took
+was_sent H K keeps log took m is q words homes xs given put woke tied =
+    (received_is_sent H K keeps).taken q words homes xs log given put woke m
+    (subst (λ taken. Tied keeps q words homes (both_views q xs given woke log taken put)) is tied)

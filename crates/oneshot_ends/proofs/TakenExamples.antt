@@ -1,0 +1,34 @@
+-- The examples of the message that a receiver took are so.
+use Rattle.std.proofs.Common.{◌≡◌, ℕ, true, false, Option, Some, None, refl, sym, ap}
+use Rattle.oneshot_ends.specs.Examples.{received}
+use Rattle.oneshot_ends.specs.Taken.{has_found}
+use Rattle.oneshot_ends.specs.TakenExamples.{TakesThatAre, TakesThatAreNot}
+use Rattle.oneshot_ends.proofs.Taken.{was_sent}
+
+pub takes_that_are : TakesThatAre
+takes_that_are =
+    record {
+      found_it = refl;
+      found_none = refl;
+      was_sent = was_sent ℕ ℕ ◌≡◌ received (Some 7);
+      takes_it = record { stays = λ x is. absurd (cc is); found = λ so. refl };
+      returned_it = refl;
+      returned_none = refl;
+      is_ready = refl;
+      is_pending = refl;
+      sends = λ sender new. sym (ap has_found new);
+    }
+
+pub takes_that_are_not : TakesThatAreNot
+takes_that_are_not =
+    record {
+      took_unfound = λ so. let e : true ≡ false = so in cc e;
+      found_untaken = λ so. let e : false ≡ true = so in cc e;
+      took_another = λ stays. let e : ◌≡◌ {A = Option ℕ} (Some 8) (Some 7) = stays 7 refl in cc e;
+      lost_it = λ kept. let e : ◌≡◌ {A = Option ℕ} None (Some 7) = kept.stays 7 refl in cc e;
+      finds_untaken = λ kept. let e : false ≡ true = kept.found refl in cc e;
+      returned_another = λ took. let e : ◌≡◌ {A = Option ℕ} (Some 8) (Some 7) = took in cc e;
+      returned_untaken = λ took. let e : ◌≡◌ {A = Option ℕ} None (Some 7) = took in cc e;
+      took_in_an_error = λ took. let e : ◌≡◌ {A = Option ℕ} (Some 7) None = took in cc e;
+      took_while_pending = λ took. let e : ◌≡◌ {A = Option ℕ} (Some 7) None = took in cc e;
+    }

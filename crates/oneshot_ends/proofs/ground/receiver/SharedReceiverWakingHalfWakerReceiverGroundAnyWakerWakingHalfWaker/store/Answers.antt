@@ -1,0 +1,32 @@
+-- Proofs of the goals that `store` of `SharedReceiver` as a `ReceiverGround` leaves.
+use Rattle.std.proofs.Common.{ap, ◌∙◌}
+use Rattle.oneshot_ends.specs.OwnWakers.{IsOwn, IsNoThread}
+use Rattle.oneshot_ends.proofs.OwnWakers.{ground_after}
+use Rattle.oneshot_ends.proofs.Taken.{ground_keeps}
+use Rattle.oneshot_ends.proofs.GroundSlots.{receiver_unfreed, receiver_can, receiver_stays, receiver_found}
+use Rattle.oneshot_ends.proofs.ground.receiver.SharedReceiverWakingHalfWakerReceiverGroundAnyWakerWakingHalfWaker.store.Goals as goal
+
+pub store-requires : goal.store-requires
+store-requires g c =
+    receiver_can c.self.inside.freed.value c.self.inside.side c.self.invariant c.self.view_is c.requires
+
+pub invariant_of-self : goal.invariant_of-self
+invariant_of-self g c =
+    receiver_stays c.self.inside.freed.value c.self.inside.side c.self.invariant c.self.view_is c.requires _
+
+pub returns-clause-finds : goal.returns-clause-finds
+returns-clause-finds g c =
+    receiver_found c.self.inside.freed.value c.self.inside.side c.self.invariant c.self.view_is c.requires
+    c.store.new.self c.store.ensures.finds
+
+pub returns-clause-keeps : goal.returns-clause-keeps
+returns-clause-keeps g c = (
+  c.store.ensures.about ∙ ap (λ s. s.about) c.self.view_is,
+  λ parker owned. ground_after c.self.inside.freed.value c.self.inside.side c.self.view_is (IsOwn parker) c.store.new.self
+      (receiver_unfreed c.self.inside.freed.value c.self.inside.side c.self.invariant c.self.view_is c.requires).0
+      c.store.ensures owned,
+  λ free. ground_after c.self.inside.freed.value c.self.inside.side c.self.view_is IsNoThread c.store.new.self
+      (receiver_unfreed c.self.inside.freed.value c.self.inside.side c.self.invariant c.self.view_is c.requires).0
+      c.store.ensures free,
+  (ground_keeps c.self.inside.freed.value c.self.inside.side c.self.view_is c.store.ensures).1,
+)

@@ -1,0 +1,12 @@
+-- Proofs of the goals that `take_waker` of `SenderSide` leaves.
+use Rattle.oneshot_word.proofs.Names.{sym, ◌∙◌, claims_none}
+use Rattle.oneshot_word.proofs.Hands.{claims_so}
+use Rattle.oneshot_word.proofs.SlotReads.{waker_reads}
+use Rattle.oneshot_word.proofs.sender.SenderSide.take_waker.Goals as goal
+
+pub trade_waker-requires-clause-handed : goal.trade_waker-requires-clause-handed
+trade_waker-requires-clause-handed g c = claims_none
+
+pub returns-clause-handed : goal.returns-clause-handed
+returns-clause-handed g c =
+    claims_so c.trade_waker.ensures.taken (sym (waker_reads c.trade_waker.ensures.was) ∙ c.into_waker.ensures)
