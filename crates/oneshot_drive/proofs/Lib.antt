@@ -1,6 +1,7 @@
 pub mod AfterOperations
 pub mod Stretches
 pub mod SenderCalls
+pub mod EndsOver
 pub mod SenderRuns
 pub mod RestLoads
 pub mod LastSwap

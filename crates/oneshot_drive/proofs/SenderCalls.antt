@@ -3,7 +3,7 @@ use Rattle.oneshot_drive.proofs.Names.{◌≡◌, ℕ, Bool, true, false, not, [
 use Rattle.oneshot_drive.proofs.AfterOperations.{Lone, lone, at_word, not_at, sender_asks, sender_lands, sender_still}
 
 -- whether the operation is the sender's swap
-abbrev is_swap : Op → Bool
+abbrev pub is_swap : Op → Bool
 is_swap (Swap new) = true
 is_swap _ = false
 

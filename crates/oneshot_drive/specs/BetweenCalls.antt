@@ -10,7 +10,7 @@ use Rattle.oneshot_machine.specs.declared.machine.Reply.TheVariants.{Sent, Refus
 use Rattle.oneshot_machine.specs.declared.machine.Step.TheVariants.{TakeWaker, Wake}
 use Rattle.oneshot_machine.specs.declared.states.Op.TheVariants.{Swap}
 use Rattle.oneshot_machine.specs.Logs.{Event, Log, Grows, sender_of, handed, worded}
-use Rattle.oneshot_machine.specs.Phases.{By, SenderAt, fresh, late, overtaken, Closing, closed_itself, Open, looked, between, ReceiverAt, first, here, waits, claimed, disconnected, resolved}
+use Rattle.oneshot_machine.specs.Phases.{By, SenderAt, fresh, finished, late, overtaken, Closing, closed_itself, Open, looked, between, Swapping, Got, ReceiverAt, first, here, waits, claimed, full, unclosed, disconnected, resolved, gone, ended}
 use Rattle.oneshot_machine.specs.Slots.{Held, away, vacant, held, SenderMay}
 use Rattle.oneshot_drive.specs.Grounds.{GroundState, SenderStands, StandsIn}
 
@@ -27,6 +27,12 @@ pub record IsError {T W : Type 0} (refused : Held T) (s : GroundState T W) : Typ
 pub data IsLate : SenderAt → Type 0 where
   is_late : (by : By) → IsLate (late by)
   is_overtaken : (by : By) → IsLate (overtaken by)
+
+-- a sender that has performed its last operation, in its `send` or in its drop
+pub data SenderIsOver (by : By) : SenderAt → Type 0 where
+  over_finished : SenderIsOver by (finished by)
+  over_late : SenderIsOver by (late by)
+  over_overtaken : SenderIsOver by (overtaken by)
 
 -- A sender that found a waiting receiver: it owns the slot with that receiver's waker. Once it has taken
 -- the waker out, it owes this last word.
@@ -60,6 +66,14 @@ pub record IsOvertaken {T W : Type 0} (before after : GroundState T W) : Type 0 
   pub late : IsLate (sender_of after.log)
   pub message : after.message ≡ before.message
   pub waker : after.waker ≡ vacant
+
+-- a receiver that knows how its channel ended, or that was dropped
+pub data ReceiverIsOver : ReceiverAt → Type 0 where
+  over_full : (got : Got) → ReceiverIsOver (full got)
+  over_unclosed : (by : Swapping) → ReceiverIsOver (unclosed by)
+  over_closed : (closing : Closing) → ReceiverIsOver (disconnected closing)
+  over_gone : ReceiverIsOver gone
+  over_ended : ReceiverIsOver ended
 
 -- the phases of a receiver between two calls
 pub data Rests : ReceiverAt → Type 0 where

@@ -5,10 +5,11 @@ ghost use Rattle.oneshot_machine.specs.declared.machine.Reply.TheVariants.{Messa
 ghost use Rattle.oneshot_machine.specs.declared.machine.sender.SenderCall.TheVariants.{Send, Drop, IntoInner, DropError};
 ghost use Rattle.oneshot_machine.specs.Counts.{sender_bound, MakesWithin};
 ghost use Rattle.oneshot_machine.specs.Logs.{sender_of, Grows};
+ghost use Rattle.oneshot_machine.specs.Phases.{By, sending, dropping, owes};
 ghost use Rattle.oneshot_machine.specs.Runs.{SenderRan};
 ghost use Rattle.oneshot_machine.specs.Slots.{held};
 ghost use Rattle.oneshot_drive.specs.Wakes.{SenderWoke};
-ghost use Rattle.oneshot_drive.specs.BetweenCalls.{IsFresh, IsError, IsLate, Owes, Finishes, IsOvertaken, send_reply};
+ghost use Rattle.oneshot_drive.specs.BetweenCalls.{IsFresh, IsError, IsLate, SenderIsOver, Owes, Finishes, IsOvertaken, send_reply};
 
 use crate::ground::SenderGround;
 use oneshot_machine::states::{DISCONNECTED, EMPTY, MESSAGE, RECEIVING};
@@ -27,6 +28,7 @@ pub fn send<T, W, G: SenderGround<T, W>>(g: &mut G, message: T) -> bool
     ensures refused { result ≡ false →
         IsError (held message) (G.state g.new) }
     ensures late { result ≡ false → IsLate (sender_of (G.state g.new).log) }
+    ensures over { SenderIsOver sending (sender_of (G.state g.new).log) }
     ensures bounded { MakesWithin (sender_bound Send) (G.state g.old).log (G.state g.new).log }
     ensures gave { result ≡ true → G.gave g.new message }
 {
@@ -47,6 +49,7 @@ pub fn drop_sender<T, W, G: SenderGround<T, W>>(g: &mut G)
     requires { IsFresh (G.state g.old) }
     ensures run { SenderRan Drop (G.state g.old).log (G.state g.new).log Done [] [] }
     ensures woke { SenderWoke (G.woken g.new) Drop (G.state g.old).log (G.state g.new).log Done [] [] }
+    ensures over { SenderIsOver dropping (sender_of (G.state g.new).log) }
     ensures bounded { MakesWithin (sender_bound Drop) (G.state g.old).log (G.state g.new).log }
 {
     match g.flip() {
@@ -65,6 +68,8 @@ fn finish<T, W, G: SenderGround<T, W>>(g: &mut G, last: u8) -> bool
     requires { Owes last (G.state g.old) }
     ensures finishes { Finishes last result (G.woken g.new) (G.state g.old).log (G.state g.new).log }
     ensures gone { result ≡ false → IsOvertaken (G.state g.old) (G.state g.new) }
+    ensures over { (by : By) → sender_of (G.state g.old).log ≡ owes by
+        → SenderIsOver by (sender_of (G.state g.new).log) }
     ensures gave { result ≡ true → (x : T) → (G.state g.old).message ≡ held x → G.gave g.new x }
 {
     let waker = g.take_waker();

@@ -1,61 +1,31 @@
 -- A run performs at most as many operations as its position allows, if each row pays for its step.
 use Rattle.std.proofs.Common.{◌≡◌, ℕ, ◌+◌, ◌≤◌, Bool, true, false, List, [], ◌∷◌, Option, Some, None, refl, ap, ◌∙◌, subst, arith}
 use Rattle.std.proofs.Math.Dec.{leb}
-use Rattle.std.proofs.lemmas.Bool.{leb-true, and_parts, eqb-true}
-use Rattle.std.specs.Prelude.{if◌then◌else◌, length}
-use Rattle.std.specs.List.{list_all, cons_option}
-use Rattle.std.specs.Option.{option_map}
+use Rattle.std.proofs.lemmas.Bool.{leb-true}
+use Rattle.std.specs.Prelude.{length}
+use Rattle.std.specs.List.{list_all}
 use Rattle.oneshot_machine.specs.declared.machine.Reply.{Reply}
 use Rattle.oneshot_machine.specs.declared.machine.Seen.{Seen}
-use Rattle.oneshot_machine.specs.declared.machine.Seen.TheVariants.{Done, Word, Over, Refused, Token}
 use Rattle.oneshot_machine.specs.declared.machine.Step.{Step}
 use Rattle.oneshot_machine.specs.declared.states.Op.{Op}
-use Rattle.oneshot_machine.specs.Noted.{Noted, op_of}
-use Rattle.oneshot_machine.specs.TableRows.{Outcome, Goes, Answers, Rows, row_for, is_same_seen}
 use Rattle.oneshot_machine.specs.Logs.{Event, words}
-use Rattle.oneshot_machine.specs.Runs.{Run, last, more}
-
-seens_are_same : (a b : Seen) → is_same_seen a b ≡ true → a ≡ b
-seens_are_same Done Done e = refl
-seens_are_same (Word a) (Word b) e = ap Word (eqb-true a b e)
-seens_are_same (Over true) (Over true) e = refl
-seens_are_same (Over false) (Over false) e = refl
-seens_are_same (Refused true) (Refused true) e = refl
-seens_are_same (Refused false) (Refused false) e = refl
-seens_are_same (Token true) (Token true) e = refl
-seens_are_same (Token false) (Token false) e = refl
-seens_are_same _ _ e = absurd (cc)
-
-module _ {P : Type 0} where
-  -- a test that all rows pass, the row for what was seen passes
-  row_passes : (test : Seen × Outcome P → Bool) (rows : Rows P) (seen : Seen) (o : Outcome P)
-      → list_all test rows ≡ true → row_for seen rows ≡ Some o → test (seen, o) ≡ true
-  row_passes test [] seen o all is = absurd (cc)
-  row_passes test (row ∷ rows) seen o all is =
-      let parts = and_parts (test row) (list_all test rows) all in
-      by (is_same_seen row.0 seen) refl parts.0 is (row_passes test rows seen o parts.1)
-    where
-      by : (b : Bool) → is_same_seen row.0 seen ≡ b → test row ≡ true
-          → (if b then Some row.1 else row_for seen rows) ≡ Some o
-          → (row_for seen rows ≡ Some o → test (seen, o) ≡ true) → test (seen, o) ≡ true
-      by true same passes found rest =
-          let leads : row.1 ≡ o = cc in
-          subst (λ (z : Seen × Outcome P). test z ≡ true) (λ i. (seens_are_same row.0 seen same i, leads i)) passes
-      by false same passes found rest = rest found
+use Rattle.oneshot_machine.specs.Noted.{Noted, op_of}
+use Rattle.oneshot_machine.specs.Phases.{phase_from}
+use Rattle.oneshot_machine.specs.Runs.{Run}
+use Rattle.oneshot_machine.specs.TableRows.{Outcome, Goes, Answers, Rows, row_for}
+use Rattle.oneshot_machine.proofs.RunsByRows.{row_passes, moved, Leads, by_rows}
 
 -- what a step costs
 abbrev cost : Option Op → ℕ
 cost None = 0
 cost (Some op) = 1
 
-counted_by : (op : Option Op) (seen : Seen) (ns : List Noted)
-    → length (cons_option (option_map (λ op. (op, seen)) op) ns) ≡ cost op + length ns
-counted_by None seen ns = omega arith
-counted_by (Some op) seen ns = omega arith
+abbrev one_more : ℕ → Op → Seen → ℕ
+one_more n op seen = n + 1
 
-counted : {T W : Type 0} (x : Event T W) (xs : List (Event T W))
-    → length (words (x ∷ xs)) ≡ cost (op_of x.step) + length (words xs)
-counted x xs = counted_by (op_of x.step) x.seen (words xs)
+counted : (n : ℕ) (xs : List Noted) → phase_from one_more n xs ≡ n + length xs
+counted n [] = omega arith
+counted n (x ∷ xs) = let e = counted (n + 1) xs in omega (arith, e)
 
 module _ {P : Type 0} (step : P → Step) (rows : P → Rows P) (most : P → Option ℕ) where
   -- what the row leaves of this limit pays for the rest of a run
@@ -80,25 +50,42 @@ module _ {P : Type 0} (step : P → Step) (rows : P → Rows P) (most : P → Op
   rest_of limit spent None enough = absurd (cc)
   rest_of limit spent (Some rest) enough = (rest, refl, leb-true (spent + rest) limit enough)
 
-  module _ (all_pay : (p : P) → pays p ≡ true) {T W : Type 0} where
-    -- the row of a step pays for it
-    paid : (p : P) (limit : ℕ) (x : Event T W) (o : Outcome P) → most p ≡ Some limit
-        → row_for x.seen (rows p) ≡ Some o → row_pays p limit (x.seen, o) ≡ true
-    paid p limit x o is row =
-        row_passes (row_pays p limit) (rows p) x.seen o (subst (λ most. pays_by p most ≡ true) is (all_pay p)) row
+  module _ (total : ℕ) where
+    -- so many operations are made, and what is left of the total is enough at this position
+    abbrev Affords : P → ℕ → Type 0
+    Affords p made = (left : ℕ) × (most p ≡ Some left) × (made + left ≤ total)
 
-    spent_by : (p : P) (x : Event T W) (xs : List (Event T W)) → x.step ≡ step p
-        → length (words (x ∷ xs)) ≡ cost (op_of (step p)) + length (words xs)
-    spent_by p x xs same = counted x xs ∙ ap (λ s. cost (op_of s) + length (words xs)) same
+    abbrev Afforded : Reply → ℕ → Type 0
+    Afforded reply made = made ≤ total
 
-    pub at_most : (p : P) (xs : List (Event T W)) (r : Reply) (limit : ℕ) → most p ≡ Some limit
-        → Run step (λ p seen. row_for seen (rows p)) p xs r → length (words xs) ≤ limit
-    at_most p _ r limit is (last x same row) =
-        let spent = spent_by p x [] same in
-        let enough = leb-true (cost (op_of (step p))) limit (paid p limit x (Answers r) is row) in
-        omega (arith, spent, enough)
-    at_most p _ r limit is (more next x xs same row rest) =
-        let spent = spent_by p x xs same in
-        let left = rest_of limit (cost (op_of (step p))) (most next) (paid p limit x (Goes next) is row) in
-        let later = at_most next xs r left.0 left.1 rest in
-        omega (arith, spent, left.2, later)
+    after_step : (op : Option Op) (seen : Seen) (made : ℕ)
+        → moved step rows one_more Affords Afforded op seen made ≡ made + cost op
+    after_step None seen made = omega arith
+    after_step (Some op) seen made = refl
+
+    paid : (all_pay : (p : P) → pays p ≡ true) (p : P) (made : ℕ) (seen : Seen) (o : Outcome P) → Affords p made
+        → row_for seen (rows p) ≡ Some o
+        → Leads step rows one_more Affords Afforded o
+        (moved step rows one_more Affords Afforded (op_of (step p)) seen made)
+    paid all_pay p made seen (Goes next) affords row =
+        let pays =
+        row_passes (row_pays p affords.0) (rows p) seen (Goes next)
+        (subst (λ most. pays_by p most ≡ true) affords.1 (all_pay p)) row in
+        let rest = rest_of affords.0 (cost (op_of (step p))) (most next) pays in
+        let spent = after_step (op_of (step p)) seen made in
+        (rest.0, rest.1, omega (arith, spent, rest.2, affords.2))
+    paid all_pay p made seen (Answers r) affords row =
+        let pays =
+        row_passes (row_pays p affords.0) (rows p) seen (Answers r)
+        (subst (λ most. pays_by p most ≡ true) affords.1 (all_pay p)) row in
+        let enough = leb-true (cost (op_of (step p))) affords.0 pays in
+        let spent = after_step (op_of (step p)) seen made in
+        omega (arith, spent, enough, affords.2)
+
+  pub at_most : ((p : P) → pays p ≡ true) → {T W : Type 0} (p : P) (xs : List (Event T W)) (r : Reply) (limit : ℕ)
+      → most p ≡ Some limit → Run step (λ p seen. row_for seen (rows p)) p xs r → length (words xs) ≤ limit
+  at_most all_pay p xs r limit is run =
+      let within = by_rows step rows one_more (Affords limit) (Afforded limit) (paid limit all_pay) p 0 xs r
+      (limit, is, omega arith) run in
+      let count = counted 0 (words xs) in
+      omega (arith, within, count)

@@ -1,6 +1,8 @@
 -- Proofs of the goals that `close` leaves.
-use Rattle.oneshot_drive.proofs.Names.{rules, refl, ◌∙◌, AsyncDrop, AsyncSwap, is_in, is_room}
+use Rattle.oneshot_drive.proofs.Names.{rules, refl, ◌∙◌, [], ◌∷◌, did, AsyncDrop, AsyncSwap, is_in, is_room}
+use Rattle.oneshot_machine.specs.declared.machine.Step.TheVariants as Steps
 use Rattle.oneshot_drive.proofs.LastSwap.{swapped_full, swapped_over, swapped_open, row_at, dropped_message, dropped_open, dropped_last}
+use Rattle.oneshot_drive.proofs.EndsOver.{dropped_over, stays_over}
 use Rattle.oneshot_drive.proofs.polling.close.Goals as goal
 
 pub drop_message-requires : goal.drop_message-requires
@@ -15,17 +17,31 @@ free-requires-in-2-clause-message g c = is_room (swapped_over c.swap.ensures.fin
 pub free-requires-in-2-clause-waker : goal.free-requires-in-2-clause-waker
 free-requires-in-2-clause-waker g c = is_room (swapped_over c.swap.ensures.finds c.in-2.is).1
 
-pub returns-in-4 : goal.returns-in-4
-returns-in-4 g c =
+pub returns-in-4-clause-run : goal.returns-in-4-clause-run
+returns-in-4-clause-run g c =
     dropped_message (AsyncDrop AsyncSwap) refl c.swap.result (row_at (AsyncDrop AsyncSwap) 4 refl c.in-4.is)
     c.swap.ensures.log c.drop_message.ensures.log c.free.ensures.log
 
-pub returns-in-2 : goal.returns-in-2
-returns-in-2 g c =
+pub returns-in-2-clause-run : goal.returns-in-2-clause-run
+returns-in-2-clause-run g c =
     dropped_last (AsyncDrop AsyncSwap) refl c.swap.result (row_at (AsyncDrop AsyncSwap) 2 refl c.in-2.is)
     c.swap.ensures.log c.free-in-2.ensures.log
 
-pub returns-in_default : goal.returns-in_default
-returns-in_default g c =
+pub returns-in_default-clause-run : goal.returns-in_default-clause-run
+returns-in_default-clause-run g c =
     dropped_open (AsyncDrop AsyncSwap) refl c.swap.result
     (swapped_open c.swap.ensures.finds (search rules) (search rules)) c.swap.ensures.log
+
+pub returns-in-4-clause-over : goal.returns-in-4-clause-over
+returns-in-4-clause-over g c =
+    stays_over (did Steps.Free ∷ []) refl c.free.ensures.log
+    (stays_over (did Steps.DropMessage ∷ []) refl c.drop_message.ensures.log
+    (dropped_over c.swap.result c.swap.ensures.finds c.swap.ensures.log))
+
+pub returns-in-2-clause-over : goal.returns-in-2-clause-over
+returns-in-2-clause-over g c =
+    stays_over (did Steps.Free ∷ []) refl c.free-in-2.ensures.log
+    (dropped_over c.swap.result c.swap.ensures.finds c.swap.ensures.log)
+
+pub returns-in_default-clause-over : goal.returns-in_default-clause-over
+returns-in_default-clause-over g c = dropped_over c.swap.result c.swap.ensures.finds c.swap.ensures.log

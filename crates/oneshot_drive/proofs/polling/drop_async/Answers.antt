@@ -16,13 +16,13 @@ close-requires-in_default g c =
 
 pub returns-in-0-clause-run : goal.returns-in-0-clause-run
 returns-in-0-clause-run g c =
-    drop_after c.load.result c.load.ensures.log c.in-0.is c.take_back.ensures.path c.close.ensures
+    drop_after c.load.result c.load.ensures.log c.in-0.is c.take_back.ensures.path c.close.ensures.run
 
 pub returns-in_default-clause-run : goal.returns-in_default-clause-run
 returns-in_default-clause-run g c =
     drop_at_once c.load.result c.load.ensures.log
     (met_end (met c.load.result c.requires c.load.ensures.finds c.load.ensures.log) (search rules)).1
-    c.close-in_default.ensures
+    c.close-in_default.ensures.run
 
 pub returns-in-0-clause-bounded : goal.returns-in-0-clause-bounded
 returns-in-0-clause-bounded g c = drop_async_few (returns-in-0-clause-run g c)

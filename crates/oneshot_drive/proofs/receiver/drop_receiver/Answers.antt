@@ -1,8 +1,10 @@
 -- Proofs of the goals that `drop_receiver` leaves.
-use Rattle.oneshot_drive.proofs.Names.{rules, refl, ◌∙◌, DropSwap, is_in, is_room}
+use Rattle.oneshot_drive.proofs.Names.{rules, refl, ◌∙◌, [], ◌∷◌, did, DropSwap, is_in, is_room}
+use Rattle.oneshot_machine.specs.declared.machine.Step.TheVariants as Steps
 use Rattle.oneshot_machine.specs.declared.machine.receiver.ReceiverPos.TheVariants.{Drop}
 use Rattle.oneshot_drive.proofs.RestLoads.{swap_asks}
 use Rattle.oneshot_drive.proofs.LastSwap.{swapped_full, swapped_over, swapped_last, past_1, row_at, dropped_message, dropped_open, dropped_last}
+use Rattle.oneshot_drive.proofs.EndsOver.{dropped_over, stays_over}
 use Rattle.oneshot_drive.proofs.receiver.drop_receiver.Goals as goal
 
 pub swap-requires : goal.swap-requires
@@ -26,18 +28,32 @@ free-requires-in_default-clause-waker g c =
     swapped_last c.swap.ensures.finds (search rules) (search rules) (past_1 c.requires c.swap.ensures.finds) in
     is_room (swapped_over c.swap.ensures.finds closed).1
 
-pub returns-in-4 : goal.returns-in-4
-returns-in-4 g c =
+pub returns-in-4-clause-run : goal.returns-in-4-clause-run
+returns-in-4-clause-run g c =
     dropped_message (Drop DropSwap) refl c.swap.result (row_at (Drop DropSwap) 4 refl c.in-4.is) c.swap.ensures.log
     c.drop_message.ensures.log c.free.ensures.log
 
-pub returns-in-3 : goal.returns-in-3
-returns-in-3 g c =
+pub returns-in-3-clause-run : goal.returns-in-3-clause-run
+returns-in-3-clause-run g c =
     dropped_open (Drop DropSwap) refl c.swap.result (row_at (Drop DropSwap) 3 refl c.in-3.is) c.swap.ensures.log
 
-pub returns-in_default : goal.returns-in_default
-returns-in_default g c =
+pub returns-in_default-clause-run : goal.returns-in_default-clause-run
+returns-in_default-clause-run g c =
     let closed =
     swapped_last c.swap.ensures.finds (search rules) (search rules) (past_1 c.requires c.swap.ensures.finds) in
     dropped_last (Drop DropSwap) refl c.swap.result (row_at (Drop DropSwap) 2 refl closed) c.swap.ensures.log
     c.free-in_default.ensures.log
+
+pub returns-in-4-clause-over : goal.returns-in-4-clause-over
+returns-in-4-clause-over g c =
+    stays_over (did Steps.Free ∷ []) refl c.free.ensures.log
+    (stays_over (did Steps.DropMessage ∷ []) refl c.drop_message.ensures.log
+    (dropped_over c.swap.result c.swap.ensures.finds c.swap.ensures.log))
+
+pub returns-in-3-clause-over : goal.returns-in-3-clause-over
+returns-in-3-clause-over g c = dropped_over c.swap.result c.swap.ensures.finds c.swap.ensures.log
+
+pub returns-in_default-clause-over : goal.returns-in_default-clause-over
+returns-in_default-clause-over g c =
+    stays_over (did Steps.Free ∷ []) refl c.free-in_default.ensures.log
+    (dropped_over c.swap.result c.swap.ensures.finds c.swap.ensures.log)

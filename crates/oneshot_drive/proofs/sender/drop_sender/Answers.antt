@@ -1,5 +1,8 @@
 -- Proofs of the goals that `drop_sender` leaves.
-use Rattle.oneshot_drive.proofs.Names.{rules, refl, ◌∙◌, Xor, is_room, drop_few}
+use Rattle.oneshot_drive.proofs.Names.{rules, refl, ◌∙◌, [], ◌∷◌, did, Xor, is_room, drop_few}
+use Rattle.oneshot_machine.specs.declared.machine.Step.TheVariants.{Free}
+use Rattle.oneshot_machine.specs.Phases.{dropping}
+use Rattle.oneshot_drive.proofs.EndsOver.{flipped_over, flipped_owes, late_over, sender_stays_over}
 use Rattle.oneshot_drive.proofs.AfterOperations.{sender_asks}
 use Rattle.oneshot_drive.proofs.SenderCalls.{drop_owes, flipped, flipped_room}
 use Rattle.oneshot_drive.proofs.SenderRuns.{drop_ran, drop_woke, drop_freed_late, drop_freed}
@@ -13,8 +16,13 @@ finish-requires g c = drop_owes c.flip.result c.requires c.in-0.is c.flip.ensure
 
 pub returns-in-3 : goal.returns-in-3
 returns-in-3 g c =
-    let did = drop_ran (g.G.SenderGround.woken c.flip.new.self) c.flip.result c.in-3.is c.flip.ensures.log in
-    record { run = did.ran; woke = did; bounded = drop_few did.ran }
+    let ran = drop_ran (g.G.SenderGround.woken c.flip.new.self) c.flip.result c.in-3.is c.flip.ensures.log in
+    record {
+      run = ran.ran;
+      woke = ran;
+      over = flipped_over c.flip.result c.requires c.in-3.is c.flip.ensures.finds c.flip.ensures.log;
+      bounded = drop_few ran.ran;
+    }
 
 pub free-requires-clause-message : goal.free-requires-clause-message
 free-requires-clause-message g c =
@@ -27,15 +35,27 @@ free-requires-clause-waker g c = (c.finish.ensures.gone (search rules)).waker
 
 pub returns-then-not-finish : goal.returns-then-not-finish
 returns-then-not-finish g c =
-    let did =
+    let ran =
     drop_freed_late _ c.flip.result c.in-0.is c.flip.ensures.log c.if-not-finish.ensures.finishes
     c.free.ensures.log c.free.ensures.woken in
-    record { run = did.ran; woke = did; bounded = drop_few did.ran }
+    record {
+      run = ran.ran;
+      woke = ran;
+      over = sender_stays_over (did Free ∷ []) refl c.free.ensures.log (c.if-not-finish.ensures.over dropping
+          (flipped_owes c.flip.result c.requires c.in-0.is c.flip.ensures.finds c.flip.ensures.log));
+      bounded = drop_few ran.ran;
+    }
 
 pub returns-else-not-finish : goal.returns-else-not-finish
 returns-else-not-finish g c =
-    let did = drop_woke _ c.flip.result c.in-0.is c.flip.ensures.log c.if-not-finish.ensures.finishes in
-    record { run = did.ran; woke = did; bounded = drop_few did.ran }
+    let ran = drop_woke _ c.flip.result c.in-0.is c.flip.ensures.log c.if-not-finish.ensures.finishes in
+    record {
+      run = ran.ran;
+      woke = ran;
+      over = c.if-not-finish.ensures.over dropping
+          (flipped_owes c.flip.result c.requires c.in-0.is c.flip.ensures.finds c.flip.ensures.log);
+      bounded = drop_few ran.ran;
+    }
 
 pub free-requires-in_default-clause-message : goal.free-requires-in_default-clause-message
 free-requires-in_default-clause-message g c =
@@ -51,7 +71,12 @@ pub returns-in_default : goal.returns-in_default
 returns-in_default g c =
     let gone =
     flipped c.flip.result c.requires (search rules) (search rules) c.flip.ensures.finds c.flip.ensures.log in
-    let did =
+    let ran =
     drop_freed (g.G.SenderGround.woken c.free-in_default.new.self) c.flip.result gone.word c.flip.ensures.log
     c.free-in_default.ensures.log in
-    record { run = did.ran; woke = did; bounded = drop_few did.ran }
+    record {
+      run = ran.ran;
+      woke = ran;
+      over = sender_stays_over (did Free ∷ []) refl c.free-in_default.ensures.log (late_over gone.stands);
+      bounded = drop_few ran.ran;
+    }

@@ -1,6 +1,7 @@
 -- Proofs of the goals that `finish` leaves.
 use Rattle.oneshot_drive.proofs.Names.{◌∙◌}
 use Rattle.oneshot_drive.proofs.SenderCalls.{finish_asks, finished_as, overtaken_as, given_over}
+use Rattle.oneshot_drive.proofs.EndsOver.{finished_over}
 use Rattle.oneshot_drive.proofs.sender.finish.Goals as goal
 
 pub swap-found-requires : goal.swap-found-requires
@@ -27,3 +28,8 @@ pub returns-clause-gave : goal.returns-clause-gave
 returns-clause-gave g c here x has =
     c.wake.ensures.gave x
     (c.swap-found.ensures.gave x (c.take_waker-waker.ensures.message ∙ has) (given_over c.swap-found.ensures.finds here))
+
+pub returns-clause-over : goal.returns-clause-over
+returns-clause-over g c by owing =
+    finished_over c.args.last c.take_waker-waker.result c.swap-found.result owing c.take_waker-waker.ensures.log
+    c.swap-found.ensures.finds c.swap-found.ensures.log c.wake.ensures.log

@@ -3,6 +3,8 @@ use Rattle.oneshot_drive.proofs.Names.{rules, refl, ◌∙◌, Add, message_kept
 use Rattle.oneshot_drive.proofs.AfterOperations.{sender_asks}
 use Rattle.oneshot_drive.proofs.SenderCalls.{written, send_owes, added_kept, added, added_given, refused, is_too_late}
 use Rattle.oneshot_drive.proofs.SenderRuns.{send_ran, send_refused, send_woke}
+use Rattle.oneshot_machine.specs.Phases.{sending}
+use Rattle.oneshot_drive.proofs.EndsOver.{added_over, added_owes, late_over}
 use Rattle.oneshot_drive.proofs.sender.send.Goals as goal
 
 pub add-requires : goal.add-requires
@@ -18,6 +20,9 @@ finish-requires g c =
 
 pub returns-in-3 : goal.returns-in-3
 returns-in-3 g c =
+    let fresh =
+    written c.args.message c.requires.fresh c.write_message.ensures.log c.write_message.ensures.message
+    c.write_message.ensures.waker in
     let did =
     send_ran (g.G.SenderGround.woken c.add.new.self) c.add.result c.in-3.is c.write_message.ensures.log
     c.add.ensures.log in
@@ -26,11 +31,10 @@ returns-in-3 g c =
       woke = did;
       refused = search rules;
       late = search rules;
+      over = added_over c.add.result fresh c.in-3.is c.add.ensures.finds c.add.ensures.log;
       bounded = send_few did.ran;
       gave = λ sent. c.add.ensures.gave c.args.message c.write_message.ensures.message
-          (added_given c.add.result (written c.args.message c.requires.fresh c.write_message.ensures.log
-          c.write_message.ensures.message c.write_message.ensures.waker) c.in-3.is c.add.ensures.finds
-          c.add.ensures.log);
+          (added_given c.add.result fresh c.in-3.is c.add.ensures.finds c.add.ensures.log);
     }
 
 pub returns-in-0 : goal.returns-in-0
@@ -49,6 +53,8 @@ returns-in-0 g c =
       refused = λ gone.
           let over = c.finish.ensures.gone gone in record { keeps = over.message ∙ kept; no_waker = over.waker };
       late = λ gone. (c.finish.ensures.gone gone).late;
+      over = c.finish.ensures.over sending
+          (added_owes c.add.result fresh c.in-0.is c.add.ensures.finds c.add.ensures.log);
       bounded = send_few did.ran;
       gave = λ sent. c.finish.ensures.gave sent c.args.message kept;
     }
@@ -68,6 +74,7 @@ returns-in_default g c =
       refused = λ _. refused c.args.message gone.stands
           (message_kept c.add.ensures.finds c.write_message.ensures.message gone.stands.message);
       late = λ _. is_too_late gone.stands;
+      over = late_over gone.stands;
       bounded = send_few did.ran;
       gave = search rules;
     }

@@ -1,0 +1,105 @@
+-- After its last call an end is over: by the rows of its last operation.
+use Rattle.oneshot_drive.proofs.Names.{◌≡◌, ℕ, false, List, [], ◌∷◌, refl, sym, ◌∙◌, subst, TakeWaker, Wake, Op, Swap, Add, Xor, Event, Log, Grows, words, sender_of, receiver_of, handed, worded, By, sending, dropping, SenderAt, fresh, owes, late, no_sender, sender_moves, ReceiverAt, first, here, looked, between, waits, claimed, withdrew, full, at_once, by_future, disconnected, receiver_moves, Slots, Held, In, finds, SenderFinds, leads, sender_moved, GroundState, StandsWith, SenderMakes, ReceiverMakes, EndsAt, landings, landings_of, landed, Each, each, sender_apart}
+use Rattle.oneshot_machine.specs.Phases.{blocked}
+use Rattle.oneshot_drive.specs.declared.waiting.Found.{Found}
+use Rattle.oneshot_drive.specs.declared.waiting.Found.TheVariants as F
+use Rattle.oneshot_drive.specs.BetweenCalls.{SenderIsOver, over_finished, over_late, over_overtaken, ReceiverIsOver, over_full, over_unclosed, over_closed, over_gone, over_ended}
+use Rattle.oneshot_drive.proofs.AfterOperations.{lone, at_word, one_of, sender_lands, lands, sender_still, still}
+use Rattle.oneshot_drive.proofs.SenderCalls.{is_swap}
+
+-- a sender that owes its last word leaves it
+owed_over : (by : By) → Each (λ n next after. SenderIsOver by next) (landings_of is_swap (sender_moves (owes by)))
+owed_over sending = (over_finished, (over_finished, (over_overtaken, tt)))
+owed_over dropping = (over_finished, (over_finished, (over_overtaken, tt)))
+
+over_at : {by : By} {at next : SenderAt} → next ≡ at → SenderIsOver by at → SenderIsOver by next
+over_at {by} is over = subst (SenderIsOver by) (sym is) over
+
+module _ {T W : Type 0} where
+  module _ {slots : Slots} {b a : GroundState T W} (n : ℕ) (is : StandsWith sender_of fresh slots b) where
+    -- its first operation found no receiver that waits
+    pub added_over : n ≡ 3 → SenderMakes Add n b a → Grows b.log a.log (worded Add n ∷ [])
+        → SenderIsOver sending (sender_of a.log)
+    added_over e made grows =
+        over_at (lone (at_word 3 e (sender_lands b Add n is.phase made grows))).stands.phase over_finished
+
+    pub flipped_over : n ≡ 3 → SenderMakes Xor n b a → Grows b.log a.log (worded Xor n ∷ [])
+        → SenderIsOver dropping (sender_of a.log)
+    flipped_over e made grows =
+        over_at (lone (at_word 3 e (sender_lands b Xor n is.phase made grows))).stands.phase over_finished
+
+    -- or one that waits
+    pub added_owes : n ≡ 0 → SenderMakes Add n b a → Grows b.log a.log (worded Add n ∷ [])
+        → sender_of a.log ≡ owes sending
+    added_owes e made grows = (lone (at_word 0 e (sender_lands b Add n is.phase made grows))).stands.phase
+
+    pub flipped_owes : n ≡ 0 → SenderMakes Xor n b a → Grows b.log a.log (worded Xor n ∷ [])
+        → sender_of a.log ≡ owes dropping
+    flipped_owes e made grows = (lone (at_word 0 e (sender_lands b Xor n is.phase made grows))).stands.phase
+
+  -- or one that was gone
+  pub late_over : {by : By} {slots : Slots} {a : GroundState T W}
+      → StandsWith sender_of (late by) slots a → SenderIsOver by (sender_of a.log)
+  late_over stands = over_at stands.phase over_late
+
+  last_over : {by : By} {at after : SenderAt} {new n : ℕ} {m m' : Held T} {w w' : Held W} → at ≡ owes by
+      → ((next : SenderAt) (before later : Slots) → In (Swap new, before, n, next, later) (sender_moves at)
+      → after ≡ next) → SenderFinds at (Swap new) n m w m' w' → SenderIsOver by after
+  last_over {by} {at} owing leads_to (finds {before} {after = slots} {next} row message waker) =
+      let all : Each (λ n next after. SenderIsOver by next) (landings_of is_swap (sender_moves at)) =
+      subst (λ at. Each (λ n next after. SenderIsOver by next) (landings_of is_swap (sender_moves at))) (sym owing)
+      (owed_over by) in
+      subst (SenderIsOver by) (sym (leads_to next before slots row))
+      (each (λ n next after. SenderIsOver by next) (landings_of is_swap (sender_moves at)) all
+      (landed is_swap (sender_moves at) refl row))
+
+  -- it takes the waker, leaves its last word, and uses the waker
+  pub finished_over : {l z : Log T W} {k j : GroundState T W} {by : By} (word : ℕ) (y : W) (n : ℕ) → sender_of l ≡ owes by
+      → Grows l k.log (handed TakeWaker y ∷ []) → SenderMakes (Swap word) n k j
+      → Grows k.log j.log (worded (Swap word) n ∷ []) → Grows j.log z (handed Wake y ∷ [])
+      → SenderIsOver by (sender_of z)
+  finished_over {k = k} word y n owing took made grows used =
+      over_at (sender_still (handed Wake y ∷ []) refl used)
+      (last_over (sender_still (handed TakeWaker y ∷ []) refl took ∙ owing)
+      (λ next before after row. sender_moved (Swap word) n grows
+      ∙ leads no_sender (sender_moves (sender_of k.log)) (sender_apart (sender_of k.log)) row) made)
+
+  -- other steps leave an end as far as it is
+  pub sender_stays_over : {by : By} {l k : Log T W} (steps : List (Event T W)) → words steps ≡ [] → Grows l k steps
+      → SenderIsOver by (sender_of l) → SenderIsOver by (sender_of k)
+  sender_stays_over steps no_word grows over = over_at (sender_still steps no_word grows) over
+
+-- the swap of a receiver's drop
+drops : (at : ReceiverAt) → Each (λ n next after. ReceiverIsOver next) (landings (Swap 2) (receiver_moves at))
+drops first = (over_gone, (over_ended, (over_ended, tt)))
+drops (here looked) = (over_gone, (over_ended, (over_ended, tt)))
+drops (here between) = (over_gone, (over_ended, (over_ended, tt)))
+drops claimed = (over_gone, (over_ended, (over_ended, tt)))
+drops withdrew = (over_gone, (over_ended, (over_ended, tt)))
+drops (full at_once) = (over_ended, tt)
+drops (full by_future) = (over_ended, tt)
+drops (disconnected c) = (over_ended, tt)
+drops (waits blocked) = tt
+drops _ = tt
+
+left_at : {at next : ReceiverAt} → next ≡ at → ReceiverIsOver at → ReceiverIsOver next
+left_at is over = subst ReceiverIsOver (sym is) over
+
+module _ {T W : Type 0} where
+  pub dropped_over : {b a : GroundState T W} (n : ℕ) → ReceiverMakes (Swap 2) n b a
+      → Grows b.log a.log (worded (Swap 2) n ∷ []) → ReceiverIsOver (receiver_of a.log)
+  dropped_over {b} n made grows =
+      let end =
+      one_of (λ n next after. ReceiverIsOver next) (drops (receiver_of b.log)) (lands b (Swap 2) n refl made grows) in
+      left_at end.stands.phase end.is_so
+
+  pub stays_over : {l k : Log T W} (steps : List (Event T W)) → words steps ≡ [] → Grows l k steps
+      → ReceiverIsOver (receiver_of l) → ReceiverIsOver (receiver_of k)
+  stays_over steps no_word grows over = left_at (still steps no_word grows) over
+
+  -- the word that decides a receive without a deadline
+  pub found_over : (f : Found) (s : GroundState T W) → EndsAt false f s → ReceiverIsOver (receiver_of s.log)
+  found_over F.Message s ends = left_at ends.2.phase (over_full ends.0)
+  found_over F.Closed s ends = left_at ends.1.phase (over_closed ends.0)
+  found_over F.Unclosed s ends = left_at ends.1.phase (over_unclosed ends.0)
+  found_over F.Nothing s ends = let timed = ends.0 in absurd (cc)
