@@ -10,9 +10,9 @@ use Rattle.oneshot_machine.specs.declared.machine.sender.SenderCall.TheVariants.
 use Rattle.oneshot_machine.specs.declared.states.Op.TheVariants.{Load, Swap, Exchange, Add}
 use Rattle.oneshot_machine.specs.Examples.{waking}
 use Rattle.oneshot_machine.specs.Logs.{Event, Log, did, handed, copied, worded}
-use Rattle.oneshot_machine.specs.Phases.{By, owes, finished, late, overtaken, Closing, closed_itself, found_closed, Got, Open, looked, between, Swapping, polled, again, blocked, Waiting, first, here, waits, claimed, withdrew, overdue, full, unclosed, disconnected, resolved, gone, ended}
+use Rattle.oneshot_machine.specs.Phases.{By, sending, dropping, fresh, owes, finished, late, overtaken, Closing, closed_itself, found_closed, Got, Open, looked, between, Swapping, polled, again, blocked, Waiting, first, here, waits, claimed, withdrew, overdue, full, unclosed, disconnected, resolved, gone, ended}
 use Rattle.oneshot_machine.specs.Slots.{Held, away, vacant, held}
-use Rattle.oneshot_drive.specs.BetweenCalls.{IsFresh, IsError, IsLate, Rests, AtRest, IsClosedAt, IsOpenAt, Leaves, LeavesClosed, LeavesTimed, IsReady, Hands, send_reply, try_recv_reply, recv_reply, timed_reply, received}
+use Rattle.oneshot_drive.specs.BetweenCalls.{IsFresh, IsError, IsLate, SenderIsOver, ReceiverIsOver, Rests, AtRest, IsClosedAt, IsOpenAt, Leaves, LeavesClosed, LeavesTimed, IsReady, Hands, send_reply, try_recv_reply, recv_reply, timed_reply, received}
 use Rattle.oneshot_drive.specs.Blocking.{Parks, Returns}
 use Rattle.oneshot_drive.specs.Grounds.{GroundState, SenderAsks, SenderMakes, ReceiverAsks, ReceiverMakes}
 use Rattle.oneshot_drive.specs.Polls.{Polled, IsPolled, LeavesPolled, LeavesTried, StaysRegistered, IsDisconnected, WritesItsCopy, HandsNoWaker, poll_reply, poll_received}
@@ -42,6 +42,13 @@ pub record EndsThatAre : Type 0 where
   pub resolved_is_polled : Polled (resolved found_closed)
   pub refused_is_late : (by : By) → IsLate (late by)
   pub overtaken_is_late : (by : By) → IsLate (overtaken by)
+  -- an end that may be let go
+  pub sent_is_over : SenderIsOver sending (finished sending)
+  pub refused_is_over : SenderIsOver sending (late sending)
+  pub overtaken_is_over : SenderIsOver dropping (overtaken dropping)
+  pub received_is_over : (g : Got) → ReceiverIsOver (full g)
+  pub closed_is_over : (c : Closing) → ReceiverIsOver (disconnected c)
+  pub gone_is_over : ReceiverIsOver gone
 
 pub record EndsThatAreNot : Type 0 where
   pub disconnected_is_open : (c : Closing) → IsOpenAt (disconnected c) → ⊥
@@ -64,6 +71,15 @@ pub record EndsThatAreNot : Type 0 where
   pub withdrawn_is_polled : Polled withdrew → ⊥
   pub sent_is_late : (by : By) → IsLate (finished by) → ⊥
   pub finishing_is_late : (by : By) → IsLate (owes by) → ⊥
+  -- an end that must not be let go
+  pub new_is_over : (by : By) → SenderIsOver by fresh → ⊥
+  pub owing_is_over : (by : By) → SenderIsOver by (owes by) → ⊥
+  pub dropped_is_sent : SenderIsOver sending (finished dropping) → ⊥
+  pub sent_is_dropped : SenderIsOver dropping (late sending) → ⊥
+  pub new_receiver_is_over : ReceiverIsOver first → ⊥
+  pub looked_is_over : (o : Open) → ReceiverIsOver (here o) → ⊥
+  pub waiting_is_over : (w : Waiting) → ReceiverIsOver (waits w) → ⊥
+  pub overdue_is_over : ReceiverIsOver overdue → ⊥
 
 -- WHAT A CALL LEAVES
 pub record CallsThatLeave : Type 0 where

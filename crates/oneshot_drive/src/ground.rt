@@ -210,9 +210,6 @@ pub trait BlockGround<T, W>: ReceiverGround<T, W> {
     // What a park, with a deadline or without, does beside the channel.
     ghost parks: { Bool → Self → Self → Type 0 };
 
-    // What holds while it parks: it has given a waker that ends the park.
-    ghost left: { Self → Type 0 };
-
     /// Blocks until the receiver is woken; if `timed`, at most until its deadline. It may return earlier (a
     /// spurious wakeup). Only the log records whether the receiver was woken. A receiver whose deadline is
     /// over parks without one, because a timed park would not block.
@@ -223,7 +220,6 @@ pub trait BlockGround<T, W>: ReceiverGround<T, W> {
         ensures message { (Self.state self.new).message ≡ (Self.state self.old).message }
         ensures waker { (Self.state self.new).waker ≡ (Self.state self.old).waker }
         ensures keeps { Self.keeps self.old self.new }
-        ensures left { left self.old }
         ensures parks { parks timed self.old self.new };
 
     /// Reads the clock, and returns whether the deadline is over. A reading that fails counts as past every

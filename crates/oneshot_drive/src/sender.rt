@@ -7,7 +7,7 @@ ghost use Rattle.oneshot_machine.specs.Counts.{sender_bound, MakesWithin};
 ghost use Rattle.oneshot_machine.specs.Logs.{sender_of, Grows};
 ghost use Rattle.oneshot_machine.specs.Phases.{By, sending, dropping, owes};
 ghost use Rattle.oneshot_machine.specs.Runs.{SenderRan};
-ghost use Rattle.oneshot_machine.specs.Slots.{held};
+ghost use Rattle.oneshot_machine.specs.Slots.{away, held};
 ghost use Rattle.oneshot_drive.specs.Wakes.{SenderWoke};
 ghost use Rattle.oneshot_drive.specs.BetweenCalls.{IsFresh, IsError, IsLate, SenderIsOver, Owes, Finishes, IsOvertaken, send_reply};
 
@@ -83,6 +83,7 @@ pub fn into_inner<T, W, G: SenderGround<T, W>>(g: &mut G) -> T
     requires { (x : T) × IsError (held x) (G.state g.old) }
     ensures run { SenderRan IntoInner (G.state g.old).log (G.state g.new).log Message [] (result ∷ []) }
     ensures message { (G.state g.old).message ≡ held result }
+    ensures freed { (G.state g.new).message ≡ away }
 {
     let message = g.take_message();
     g.free();
@@ -92,7 +93,8 @@ pub fn into_inner<T, W, G: SenderGround<T, W>>(g: &mut G) -> T
 /// Drops the message of a refused `send`, and frees the block. It never blocks and cannot fail.
 pub fn drop_error<T, W, G: SenderGround<T, W>>(g: &mut G)
     requires { (x : T) × IsError (held x) (G.state g.old) }
-    ensures { SenderRan DropError (G.state g.old).log (G.state g.new).log Done [] [] }
+    ensures run { SenderRan DropError (G.state g.old).log (G.state g.new).log Done [] [] }
+    ensures freed { (G.state g.new).message ≡ away }
 {
     g.drop_message();
     g.free();

@@ -16,7 +16,7 @@ use Rattle.oneshot_word.proofs.Between.{between, sender_told}
 use Rattle.oneshot_word.proofs.Hands.{none_made}
 use Rattle.oneshot_word.proofs.Meets.{word_between, Is, is}
 use Rattle.oneshot_word.specs.Rule.{has_made}
-use Rattle.oneshot_ends.specs.OwnWakers.{has_left}
+use Rattle.oneshot_ends.specs.OwnWakers.{is_waiting}
 use Rattle.oneshot_ends.proofs.OwnWakers.{is_put, is_out, left_by, all_left, no_and}
 
 if_so : (b c : Bool) → (if b then c else true) ≡ true → b ≡ true → c ≡ true
@@ -33,7 +33,7 @@ appended (y ∷ xs) x e =
     either_so (is_same_seen y.1 (Word 0)) (finds_waiting xs) (finds_waiting (xs ++ x ∷ [])) (appended xs x) e
 
 -- a sender's first operation beside such a receiver finds 0
-finds_zero : (q : ReceiverAt) {word : ℕ} → has_left q ≡ true → Is (word_between fresh q) word → word ≡ 0
+finds_zero : (q : ReceiverAt) {word : ℕ} → is_waiting q ≡ true → Is (word_between fresh q) word → word ≡ 0
 finds_zero (waits w) left is = refl
 finds_zero claimed left now = elim now [ ]
 finds_zero overdue left now = elim now [ ]
@@ -50,7 +50,7 @@ first_finds {op} {word} row zero =
 
 on_sender : (xs : List Noted) {ys : List Noted} {op : Op} {before after : Slots} {word : ℕ} {next : SenderAt}
     → Reaches xs ys word → In (op, before, word, next, after) (sender_moves (sender_at xs))
-    → (has_made xs ≡ true → finds_waiting xs ≡ true) → has_left (receiver_at ys) ≡ true
+    → (has_made xs ≡ true → finds_waiting xs ≡ true) → is_waiting (receiver_at ys) ≡ true
     → finds_waiting (xs ++ (op, saw op word) ∷ []) ≡ true
 on_sender [] {ys} order row earlier left =
     ap (λ b. b || false) (first_finds row (finds_zero (receiver_at ys) left (between order)))
@@ -70,17 +70,17 @@ put_or_left filled filled was e = absurd (no_and was e)
 
 on_receiver : (ys : List Noted) {op : Op} {before after : Slots} {word : ℕ} {next : ReceiverAt}
     → In (op, before, word, next, after) (receiver_moves (receiver_at ys))
-    → has_left (receiver_at (ys ++ (op, saw op word) ∷ [])) ≡ true
-    → ((before.1 ≡ filled) × (after.1 ≡ none)) ⊎ (has_left (receiver_at ys) ≡ true)
+    → is_waiting (receiver_at (ys ++ (op, saw op word) ∷ [])) ≡ true
+    → ((before.1 ≡ filled) × (after.1 ≡ none)) ⊎ (is_waiting (receiver_at ys) ≡ true)
 on_receiver ys {op} {before} {after} {word} row left =
     let q = receiver_at ys in
-    put_or_left before.1 after.1 (has_left q)
-    (if_so (has_left (receiver_next q op (saw op word)))
-    (is_put before.1 after.1 || (has_left q && is_out before.1 after.1))
+    put_or_left before.1 after.1 (is_waiting q)
+    (if_so (is_waiting (receiver_next q op (saw op word)))
+    (is_put before.1 after.1 || (is_waiting q && is_out before.1 after.1))
     (each_passes (left_by q) (receiver_moves q) (all_left q) row)
-    (sym (ap has_left (phase_from-snoc receiver_next first ys (op, saw op word))) ∙ left))
+    (sym (ap is_waiting (phase_from-snoc receiver_next first ys (op, saw op word))) ∙ left))
 
-pub found_waiting : {xs ys : List Noted} {word : ℕ} → Reaches xs ys word → has_left (receiver_at ys) ≡ true
+pub found_waiting : {xs ys : List Noted} {word : ℕ} → Reaches xs ys word → is_waiting (receiver_at ys) ≡ true
     → has_made xs ≡ true → finds_waiting xs ≡ true
 found_waiting nothing_made left made = absurd (cc made)
 found_waiting (sender_makes {xs} op order (has_row row)) left made =

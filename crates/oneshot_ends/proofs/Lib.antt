@@ -1,6 +1,6 @@
 mod EndViews
 mod OwnWakers
-mod OwnTokens
+mod NoLostWakeup
 mod FoundWaiting
 mod Owes
 mod GrewByRuns
@@ -20,5 +20,3 @@ mod Examples
 pub mod Tokens
 mod TokenLives
 mod ComputedTokens
-mod Overs
-mod Lefts

@@ -11,7 +11,7 @@ use Rattle.oneshot_machine.specs.Phases.{Row, Open, looked, between, Waiting, bl
 use Rattle.oneshot_machine.specs.TableRows.{is_same_seen}
 use Rattle.oneshot_drive.specs.BetweenCalls.{is_open_at}
 use Rattle.oneshot_ends.specs.Taken.{has_found, TookAsFound}
-use Rattle.oneshot_ends.proofs.Overs.{seens_are_same}
+use Rattle.oneshot_machine.proofs.RunsByRows.{seens_are_same}
 
 -- the phases of a receiver that may have found the message
 abbrev past : ReceiverAt → Bool

@@ -19,7 +19,7 @@ use Rattle.oneshot_word.specs.Seats.{gave}
 use Rattle.oneshot_word.specs.Side.{Side, ReceiverDid}
 use Rattle.oneshot_ends.specs.declared.token.WakingHalf.{WakingHalf}
 use Rattle.oneshot_ends.specs.Grounds.{left_of, state_of, IsNewReceiver}
-use Rattle.oneshot_ends.specs.OwnWakers.{IsOwn, has_left, Put, OwnedBy, Owned}
+use Rattle.oneshot_ends.specs.OwnWakers.{IsHalfOf, is_waiting, Gave, WaitsBy, WaitsByHalvesOf}
 use Rattle.oneshot_ends.specs.Tokens as tokens
 use Rattle.oneshot_ends.proofs.GrewByRuns.{words_of}
 
@@ -38,13 +38,13 @@ is_got _ _ = false
 -- a receiver that waits has given a waker by this row, or it waited before and has no share of the slot
 abbrev pub left_by : ReceiverAt → Row ReceiverAt → Bool
 left_by q row =
-    if has_left (receiver_next q row.0 (saw row.0 row.2))
-    then is_put row.1.1 row.4.1 || (has_left q && is_out row.1.1 row.4.1)
+    if is_waiting (receiver_next q row.0 (saw row.0 row.2))
+    then is_put row.1.1 row.4.1 || (is_waiting q && is_out row.1.1 row.4.1)
     else true
 
 -- it gets back only a waker that it gave
 abbrev got_by : ReceiverAt → Row ReceiverAt → Bool
-got_by q row = if is_got row.1.1 row.4.1 then has_left q else true
+got_by q row = if is_got row.1.1 row.4.1 then is_waiting q else true
 
 pub all_left : (q : ReceiverAt) → list_all (left_by q) (receiver_moves q) ≡ true
 all_left (here looked) = refl
@@ -69,12 +69,12 @@ no_and true e = cc e
 no_and false e = cc e
 
 module _ {W : Type 0} (own : W → Type 0) where
-  pub same_put : {put : Option W} {k : W} → Put own put → put ≡ Some k → own k
+  pub same_put : {put : Option W} {k : W} → Gave own put → put ≡ Some k → own k
   same_put {k} was is = let e : Some was.0 ≡ Some k = sym was.1 ∙ is in subst own (cc e) was.2
 
   slot_on : {s s' : Share} {w w' : Held W} {put put' : Option W} (was_left : Bool)
       → (if is_got s s' then was_left else true) ≡ true → Turns s s' w w'
-      → ((k : W) → w ≡ held k → own k) → (was_left ≡ true → Put own put) → put' ≡ gave w w' put
+      → ((k : W) → w ≡ held k → own k) → (was_left ≡ true → Gave own put) → put' ≡ gave w w' put
       → ((k : W) → w ≡ away → w' ≡ held k → put' ≡ Some k) → (k : W) → w' ≡ held k → own k
   slot_on was_left test stays_away slot left hands gets k so = absurd (cc so)
   slot_on was_left test stays_vacant slot left hands gets k so = absurd (cc so)
@@ -87,9 +87,9 @@ module _ {W : Type 0} (own : W → Type 0) where
 
   left_on : {s s' : Share} {w w' : Held W} {put put' : Option W} (was_left : Bool)
       → (is_put s s' || (was_left && is_out s s')) ≡ true → Turns s s' w w' → ((k : W) → w ≡ held k → own k)
-      → (was_left ≡ true → Put own put) → put' ≡ gave w w' put → Put own put'
+      → (was_left ≡ true → Gave own put) → put' ≡ gave w w' put → Gave own put'
   left_on was_left test stays_away slot left hands =
-      subst (Put own) (sym hands) (left (and_parts was_left true test).0)
+      subst (Gave own) (sym hands) (left (and_parts was_left true test).0)
   left_on was_left test stays_vacant slot left hands = absurd (no_and was_left test)
   left_on was_left test (stays_held x) slot left hands = absurd (no_and was_left test)
   left_on was_left test gives_room slot left hands = absurd (no_and was_left test)
@@ -105,21 +105,21 @@ module _ {W : Type 0} (own : W → Type 0) where
       → receiver_at next.log ≡ receiver_next q op (saw op word)
       → Finds receiver_moves q op word s.message s.waker next.message next.waker
       → next.handed ≡ gave s.waker next.waker s.handed
-      → ((k : W) → s.waker ≡ away → next.waker ≡ held k → next.handed ≡ Some k) → OwnedBy own s → OwnedBy own next
+      → ((k : W) → s.waker ≡ away → next.waker ≡ held k → next.handed ≡ Some k) → WaitsBy own s → WaitsBy own next
   turned s next q {op} {word} was after (finds {before} {after = slots} row turns turns') hands gets owned =
-      let left : has_left q ≡ true → Put own s.handed = λ e. owned.left (ap has_left was ∙ e) in
+      let left : is_waiting q ≡ true → Gave own s.handed = λ e. owned.gave (ap is_waiting was ∙ e) in
       record {
-        slot = slot_on (has_left q) (each_passes (got_by q) (receiver_moves q) (all_got q) row) turns' owned.slot left
+        slot = slot_on (is_waiting q) (each_passes (got_by q) (receiver_moves q) (all_got q) row) turns' owned.slot left
             hands gets;
-        left = λ e. left_on (has_left q)
-            (if_so (has_left (receiver_next q op (saw op word)))
-            (is_put before.1 slots.1 || (has_left q && is_out before.1 slots.1))
-            (each_passes (left_by q) (receiver_moves q) (all_left q) row) (sym (ap has_left after) ∙ e))
+        gave = λ e. left_on (is_waiting q)
+            (if_so (is_waiting (receiver_next q op (saw op word)))
+            (is_put before.1 slots.1 || (is_waiting q && is_out before.1 slots.1))
+            (each_passes (left_by q) (receiver_moves q) (all_left q) row) (sym (ap is_waiting after) ∙ e))
             turns' owned.slot left hands;
       }
 
   pub after_op : {T P : Type 0} (s next : Side T W P) {op : Op} {word : ℕ} → ReceiverDid s op word next
-      → OwnedBy own s → OwnedBy own next
+      → WaitsBy own s → WaitsBy own next
   after_op {T} {P} s next {op} {word} did owned =
       turned {T = T} {P = P} s next (receiver_at s.log) {op = op} {word = word} refl
       (ap receiver_at did.list ∙ phase_from-snoc receiver_next first s.log (op, saw op word)) did.finds did.handed
@@ -127,27 +127,23 @@ module _ {W : Type 0} (own : W → Type 0) where
 
   -- with another waker in its slot, or none
   pub with_slot : {T P : Type 0} (s next : Side T W P) → next.log ≡ s.log → next.handed ≡ s.handed
-      → ((k : W) → next.waker ≡ held k → own k) → OwnedBy own s → OwnedBy own next
+      → ((k : W) → next.waker ≡ held k → own k) → WaitsBy own s → WaitsBy own next
   with_slot s next logs puts slot owned =
       record {
         slot = slot;
-        left = λ e. subst (Put own) (sym puts) (owned.left (sym (ap (λ xs. has_left (receiver_at xs)) logs) ∙ e));
+        gave = λ e. subst (Gave own) (sym puts) (owned.gave (sym (ap (λ xs. is_waiting (receiver_at xs)) logs) ∙ e));
       }
 
 -- so it is with a ground of this side
 module _ {T W P : Type 0} (freed : Bool) (s : Side T W P) {now : Side T W P} (is : left_of freed s ≡ now) where
   pub ground_after : {op : Op} {word : ℕ} (own : W → Type 0) (next : Side T W P) → freed ≡ false
-      → ReceiverDid s op word next → OwnedBy own now → OwnedBy own (left_of freed next)
+      → ReceiverDid s op word next → WaitsBy own now → WaitsBy own (left_of freed next)
   ground_after own next unfreed did owned =
-      subst (OwnedBy own) (λ i. left_of (sym unfreed i) next)
-      (after_op own s next did (subst (OwnedBy own) (sym is ∙ (λ i. left_of (unfreed i) s)) owned))
+      subst (WaitsBy own) (λ i. left_of (sym unfreed i) next)
+      (after_op own s next did (subst (WaitsBy own) (sym is ∙ (λ i. left_of (unfreed i) s)) owned))
 
 no_slot : {W : Type 0} {w : Held W} {k : W} → IsSlot none w → w ≡ held k → ⊥
 no_slot is_away e = cc e
-
-waits_left : {timed : Bool} {q : ReceiverAt} → Parks timed q → has_left q ≡ true
-waits_left (parks_waiting timed w) = refl
-waits_left parks_overdue = refl
 
 pub or_so : (a b : Bool) → b ≡ true → (a || b) ≡ true
 or_so true b e = refl
@@ -156,27 +152,22 @@ or_so false b e = e
 module _ {T K P : Type 0} where
   -- what a receiver lends to a call
   pub has_lent : {own s : Side T (AnyWaker WakingHalf K) P} {p q : tokens.Parks} (hand : Option (AnyWaker WakingHalf K))
-      → s ≡ own → q ≡ p → Owned p.parker own → IfSome hand (IsOwn p.parker)
-      → Owned q.parker s × IfSome hand (IsOwn q.parker)
+      → s ≡ own → q ≡ p → WaitsByHalvesOf p.parker own → IfSome hand (IsHalfOf p.parker)
+      → WaitsByHalvesOf q.parker s × IfSome hand (IsHalfOf q.parker)
   has_lent {own} {s} {p} {q} hand is same owned its = (
-    subst (λ s. Owned q.parker s) (sym is) (subst (λ (p : tokens.Parks). Owned p.parker own) (sym same) owned),
-    subst (λ (p : tokens.Parks). IfSome hand (IsOwn p.parker)) (sym same) its,
+    subst (λ s. WaitsByHalvesOf q.parker s) (sym is) (subst (λ (p : tokens.Parks). WaitsByHalvesOf p.parker own) (sym same) owned),
+    subst (λ (p : tokens.Parks). IfSome hand (IsHalfOf p.parker)) (sym same) its,
   )
 
   -- a new receiver has given none
   pub own_new : (parker : TableId) (s now : Side T (AnyWaker WakingHalf K) P) → now ≡ s → IsNewReceiver s
-      → Owned parker now
+      → WaitsByHalvesOf parker now
   own_new parker s now is new =
-      subst (λ s. Owned parker s) (sym is)
+      subst (λ s. WaitsByHalvesOf parker s) (sym is)
       (record {
         slot = λ k e. absurd (no_slot new.waker e);
-        left = λ e. let none = sym (ap (λ xs. has_left (receiver_at xs)) new.log) ∙ e in absurd (cc none);
+        gave = λ e. let none = sym (ap (λ xs. is_waiting (receiver_at xs)) new.log) ∙ e in absurd (cc none);
       })
-
-  -- a receiver that parks has given its own waker
-  pub parks_left : {timed : Bool} (parker : TableId) (s : Side T (AnyWaker WakingHalf K) P) (q : ReceiverAt)
-      → q ≡ receiver_at s.log → Parks timed q → Owned parker s → Put (IsOwn parker) s.handed
-  parks_left parker s q is parks owned = owned.left (sym (ap has_left is) ∙ waits_left parks)
 
 -- a receiver between two calls has no waker in its slot, and does not wait
 slot_unheld : {W : Type 0} {at : ReceiverAt} {w : Held W} {k : W} → Rests at → IsSlot (receiver_slots at).1 w
@@ -186,15 +177,15 @@ slot_unheld (rests_open looked) is_vacant e = cc e
 slot_unheld (rests_open between) is_vacant e = cc e
 slot_unheld (rests_closed c) is_vacant e = cc e
 
-rests_idle : {at : ReceiverAt} → Rests at → has_left at ≡ true → ⊥
+rests_idle : {at : ReceiverAt} → Rests at → is_waiting at ≡ true → ⊥
 rests_idle rests_new e = cc e
 rests_idle (rests_open o) e = cc e
 rests_idle (rests_closed c) e = cc e
 
-pub rests_free : {T W P : Type 0} (own : W → Type 0) (s : Side T W P) → AtRest (state_of s) → OwnedBy own s
+pub rests_free : {T W P : Type 0} (own : W → Type 0) (s : Side T W P) → AtRest (state_of s) → WaitsBy own s
 rests_free {T} {W} own s rests =
     record {
       slot = λ k e. absurd (slot_unheld rests.is_one rests.stands.waker e);
-      left = λ e. absurd (rests_idle rests.is_one
-          (sym (ap has_left (sym (ap receiver_at (words_of T W s.log)) ∙ rests.stands.phase)) ∙ e));
+      gave = λ e. absurd (rests_idle rests.is_one
+          (sym (ap is_waiting (sym (ap receiver_at (words_of T W s.log)) ∙ rests.stands.phase)) ∙ e));
     }

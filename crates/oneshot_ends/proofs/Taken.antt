@@ -24,8 +24,10 @@ use Rattle.oneshot_machine.specs.Called.{Form, as_receiver, as_future, stays}
 use Rattle.oneshot_machine.specs.Noted.{Noted, op_of, saw}
 use Rattle.oneshot_machine.specs.Logs.{Event, words}
 use Rattle.oneshot_machine.specs.Receiver.{receiver_start, receiver_step, receiver_rows, receiver_row}
-use Rattle.oneshot_machine.specs.Runs.{Run, last, more}
-use Rattle.oneshot_machine.specs.TableRows.{Outcome, Goes, Answers, is_same_seen}
+use Rattle.oneshot_machine.specs.Phases.{phase_from}
+use Rattle.oneshot_machine.specs.Runs.{Run}
+use Rattle.oneshot_machine.specs.TableRows.{Outcome, Goes, Answers, row_for, is_same_seen}
+use Rattle.oneshot_machine.proofs.RunsByRows.{row_passes, moved, Leads, by_rows}
 use Rattle.oneshot_drive.specs.declared.errors.recv.RecvError.{RecvError}
 use Rattle.oneshot_drive.specs.declared.errors.recv_timeout.RecvTimeoutError.{RecvTimeoutError}
 use Rattle.oneshot_drive.specs.declared.errors.recv_timeout.RecvTimeoutError.TheVariants as Timeouts
@@ -43,7 +45,6 @@ use Rattle.oneshot_word.proofs.RuleReceives.{received_is_sent}
 use Rattle.oneshot_ends.specs.Ends.{ReceiverGrew}
 use Rattle.oneshot_ends.specs.Grounds.{left_of, unless_freed}
 use Rattle.oneshot_ends.specs.Taken.{StaysTaken, has_found, TookAsFound, KeepsTaken, Takes, TakesReady, WasSent, is_message}
-use Rattle.oneshot_ends.proofs.Overs.{row_passes}
 
 or_no : (b : Bool) → (b || false) ≡ b
 or_no true = refl
@@ -75,16 +76,22 @@ in_place (Timed at) = true
 in_place (Future at) = true
 in_place _ = false
 
-abbrev sees : Option Op → Seen → Bool
-sees None seen = false
-sees (Some op) seen = is_same_seen seen (Word 4)
+-- whether an operation found it now, or one before
+abbrev finds_it : Bool → Op → Seen → Bool
+finds_it found op seen = found || is_same_seen seen (Word 4)
 
-abbrev has_by : ReceiverPos → Seen → Bool
-has_by p seen = has_it p || sees (op_of (receiver_step p)) seen
+abbrev Stands : ReceiverPos → Bool → Type 0
+Stands p found = (in_place p ≡ true) × (has_it p ≡ found)
+
+abbrev Replies : Reply → Bool → Type 0
+Replies reply found = found ≡ is_message reply
+
+abbrev found_by : ReceiverPos → Seen → Bool
+found_by p seen = moved receiver_step receiver_rows finds_it Stands Replies (op_of (receiver_step p)) seen (has_it p)
 
 abbrev row_told : ReceiverPos → Seen × Outcome ReceiverPos → Bool
-row_told p (seen, Goes next) = in_place next && is_bool (has_it next) (has_by p seen)
-row_told p (seen, Answers reply) = is_bool (is_message reply) (has_by p seen)
+row_told p (seen, Goes next) = in_place next && is_bool (has_it next) (found_by p seen)
+row_told p (seen, Answers reply) = is_bool (found_by p seen) (is_message reply)
 
 told_rows : (p : ReceiverPos) → in_place p ≡ true → list_all (row_told p) (receiver_rows p) ≡ true
 told_rows (Try TryLoad) e = refl
@@ -121,31 +128,25 @@ told_rows (Future PollOwn) e = refl
 told_rows (Future AsyncTryLoad) e = refl
 told_rows _ e = absurd (cc)
 
-sees_on : (op : Option Op) (seen : Seen) (ns : List Noted)
-    → has_found (cons_option (option_map (λ op. (op, seen)) op) ns) ≡ (sees op seen || has_found ns)
-sees_on None seen ns = refl
-sees_on (Some op) seen ns = refl
+each_row : (p : ReceiverPos) (found : Bool) (seen : Seen) (o : Outcome ReceiverPos) → Stands p found
+    → row_for seen (receiver_rows p) ≡ Some o
+    → Leads receiver_step receiver_rows finds_it Stands Replies o
+    (moved receiver_step receiver_rows finds_it Stands Replies (op_of (receiver_step p)) seen found)
+each_row p found seen (Goes next) stands leads =
+    let passes =
+    and_parts (in_place next) (is_bool (has_it next) (found_by p seen))
+    (row_passes (row_told p) (receiver_rows p) seen (Goes next) (told_rows p stands.0) leads) in
+    (passes.0, bools_are (has_it next) (found_by p seen) passes.1
+    ∙ ap (moved receiver_step receiver_rows finds_it Stands Replies (op_of (receiver_step p)) seen) stands.1)
+each_row p found seen (Answers r) stands leads =
+    ap (moved receiver_step receiver_rows finds_it Stands Replies (op_of (receiver_step p)) seen) (sym stands.1)
+    ∙ bools_are (found_by p seen) (is_message r)
+    (row_passes (row_told p) (receiver_rows p) seen (Answers r) (told_rows p stands.0) leads)
 
-module _ {T W : Type 0} where
-  step_found : (p : ReceiverPos) (x : Event T W) (xs : List (Event T W)) → x.step ≡ receiver_step p
-      → has_found (words (x ∷ xs)) ≡ (sees (op_of (receiver_step p)) x.seen || has_found (words xs))
-  step_found p x xs is =
-      sees_on (op_of x.step) x.seen (words xs) ∙ ap (λ step. sees (op_of step) x.seen || has_found (words xs)) is
-
-  found_from : (p : ReceiverPos) (xs : List (Event T W)) (r : Reply) → in_place p ≡ true
-      → Run receiver_step receiver_row p xs r → (has_it p || has_found (words xs)) ≡ is_message r
-  found_from p _ r e (last x is leads) =
-      ap (λ b. has_it p || b) (step_found p x [] is ∙ or_no (sees (op_of (receiver_step p)) x.seen))
-      ∙ sym (bools_are (is_message r) (has_by p x.seen)
-      (row_passes (row_told p) (receiver_rows p) x.seen (Answers r) (told_rows p e) leads))
-  found_from p _ r e (more next x xs is leads rest) =
-      let passes =
-      and_parts (in_place next) (is_bool (has_it next) (has_by p x.seen))
-      (row_passes (row_told p) (receiver_rows p) x.seen (Goes next) (told_rows p e) leads) in
-      ap (λ b. has_it p || b) (step_found p x xs is)
-      ∙ or_then (has_it p) (sees (op_of (receiver_step p)) x.seen) (has_found (words xs))
-      ∙ ap (λ b. b || has_found (words xs)) (sym (bools_are (has_it next) (has_by p x.seen) passes.1))
-      ∙ found_from next xs r passes.0 rest
+found_from : (found : Bool) (xs : List Noted) → phase_from finds_it found xs ≡ (found || has_found xs)
+found_from found [] = sym (or_no found)
+found_from found (x ∷ xs) =
+    found_from (found || is_same_seen x.1 (Word 4)) xs ∙ sym (or_then found (is_same_seen x.1 (Word 4)) (has_found xs))
 
 -- a call that leaves the receiver in place, and does not begin with the message
 abbrev pub begins : ReceiverStart → Bool
@@ -164,12 +165,14 @@ no_start : (call : ReceiverStart) → has_it (receiver_start call) ≡ false
 no_start RC.TryRecv = refl
 no_start _ = refl
 
-module _ {T W : Type 0} where
-  -- a call's own operations found the message exactly if it returned it
-  pub found_in_call : (call : ReceiverStart) (run : List (Event T W)) (reply : Reply) → begins call ≡ true
-      → Run receiver_step receiver_row (receiver_start call) run reply → has_found (words run) ≡ is_message reply
-  found_in_call call run reply e is_run =
-      sym (ap (λ b. b || has_found (words run)) (no_start call)) ∙ found_from (receiver_start call) run reply e is_run
+-- a call's own operations found the message exactly if it returned it
+pub found_in_call : {T W : Type 0} (call : ReceiverStart) (run : List (Event T W)) (reply : Reply)
+    → begins call ≡ true → Run receiver_step receiver_row (receiver_start call) run reply
+    → has_found (words run) ≡ is_message reply
+found_in_call call run reply e is_run =
+    sym (found_from false (words run))
+    ∙ by_rows receiver_step receiver_rows finds_it Stands Replies each_row (receiver_start call) false run reply
+    (e, no_start call) is_run
 
 -- so does its log
 module _ {T : Type 0} where
@@ -177,9 +180,7 @@ module _ {T : Type 0} where
       → ReceiverGrew T call before after reply → has_found after ≡ (has_found before || is_message reply)
   grew_found {before} {reply = reply} call e grew =
       ap has_found grew.list ∙ found_both before (words grew.run)
-      ∙ ap (λ b. has_found before || b)
-      (sym (ap (λ b. b || has_found (words grew.run)) (no_start call))
-      ∙ found_from (receiver_start call) grew.run reply e grew.is_run)
+      ∙ ap (λ b. has_found before || b) (found_in_call call grew.run reply e grew.is_run)
 
 -- equal, if none was taken meanwhile
 same_taken : {T : Type 0} (before after : Option T) → StaysTaken before after → is_some after ≡ is_some before

@@ -1,9 +1,9 @@
 -- What the ground of a real end shows: a state whose log has only the end's operations on the word.
-use Rattle.std.specs.Prelude.{◌≡◌, ◌||◌, ⊤, ℕ, Bool, true, false, List, [], ◌∷◌, ◌++◌, map, Option, Some, None}
+use Rattle.std.specs.Prelude.{◌≡◌, ⊤, ℕ, Bool, true, false, List, [], ◌∷◌, ◌++◌, map, Option, Some, None}
 use Rattle.atomic_table.specs.Seated.{TableId}
 use Rattle.oneshot_machine.specs.declared.machine.Step.TheVariants.{Word}
 use Rattle.oneshot_machine.specs.Logs.{Event}
-use Rattle.oneshot_machine.specs.Phases.{fresh, SenderAt, finished, late, overtaken, ReceiverAt, first, full, unclosed, disconnected, resolved, gone, ended, no_receiver, receiver_owns, Slots}
+use Rattle.oneshot_machine.specs.Phases.{fresh, ReceiverAt, first, receiver_owns, Slots}
 use Rattle.oneshot_machine.specs.Slots.{Held, away, vacant, held, IsSlot}
 use Rattle.oneshot_machine.specs.Noted.{Noted}
 use Rattle.oneshot_drive.specs.Grounds.{GroundState, sender_slots, receiver_slots}
@@ -38,30 +38,6 @@ left_of freed s = record s { message = unless_freed freed s.message; waker = unl
 abbrev pub MayBeFreed : Bool → ReceiverAt → Type 0
 MayBeFreed false at = ⊤
 MayBeFreed true at = receiver_owns at ≡ Some (true, true)
-
--- a sender that has made its last operation
-abbrev pub is_over : SenderAt → Bool
-is_over (finished by) = true
-is_over (late by) = true
-is_over (overtaken by) = true
-is_over _ = false
-
--- a receiver that left, or that knows how its channel ended
-abbrev pub is_left : ReceiverAt → Bool
-is_left (full got) = true
-is_left (unclosed by) = true
-is_left (disconnected closing) = true
-is_left (resolved closing) = true
-is_left gone = true
-is_left ended = true
-is_left _ = false
-
-abbrev pub nowhere : ReceiverAt → Bool
-nowhere no_receiver = true
-nowhere _ = false
-
-abbrev pub goes : ReceiverAt → Bool
-goes at = nowhere at || is_left at
 
 module _ {T W : Type 0} where
   abbrev pub event_of : Noted → Event T W

@@ -10,6 +10,6 @@ pub mod Tokens
 pub mod TokenExamples
 pub mod Woken
 pub mod OwnWakers
-pub mod OwnTokens
+pub mod NoLostWakeup
 pub mod OwnExamples
 pub mod Spins

@@ -3,20 +3,19 @@ use Rattle.std.specs.Prelude.{◌≡◌, ⊤, ℕ, true, false, List, [], ◌∷
 use Rattle.atomic_table.specs.Seated.{TableId}
 use Rattle.crossbeam_utils.specs.Token.{IsSamePass}
 use Rattle.oneshot_machine.specs.declared.machine.Seen.TheVariants.{Word}
-use Rattle.oneshot_machine.specs.declared.states.Op.TheVariants.{Load, Add, Swap}
+use Rattle.oneshot_machine.specs.declared.states.Op.TheVariants.{Load, Add, Swap, Xor}
 use Rattle.oneshot_machine.specs.Noted.{Noted}
-use Rattle.oneshot_machine.specs.Phases.{sender_at, receiver_at}
+use Rattle.oneshot_machine.specs.Phases.{sending, receiver_at}
 use Rattle.oneshot_machine.specs.Slots.{away}
 use Rattle.oneshot_word.specs.declared.any_waker.AnyWaker.{AnyWaker}
 use Rattle.oneshot_word.specs.declared.any_waker.AnyWaker.TheVariants.{Thread, Task, Nobody}
 use Rattle.oneshot_word.specs.Side.{Side}
 use Rattle.oneshot_ends.specs.declared.token.Given.{Given}
 use Rattle.oneshot_ends.specs.declared.token.WakingHalf.{WakingHalf}
-use Rattle.oneshot_ends.specs.Grounds.{is_over, is_left}
-use Rattle.oneshot_ends.specs.OwnTokens.{RealWaker, GaveTokenOf}
-use Rattle.oneshot_ends.specs.OwnWakers.{IsOwn, IsNoThread, NoThread, Owned, has_left}
+use Rattle.oneshot_ends.specs.NoLostWakeup.{RealWaker, SleepsOn, HasGivenTokenOf}
+use Rattle.oneshot_ends.specs.OwnWakers.{IsHalfOf, IsNoThread, WaitsByNoThread, WaitsByHalvesOf, is_waiting}
 use Rattle.oneshot_ends.specs.Tokens.{Parks}
-use Rattle.oneshot_ends.specs.Woken.{Sending, HasWoken}
+use Rattle.oneshot_ends.specs.Woken.{Sending, HasWoken, HasEnded}
 
 -- a receiver that waits in a call that blocks
 abbrev pub blocks : List Noted
@@ -32,16 +31,19 @@ pub record UsesThatAre : Type 0 where
       → s.side.handed ≡ Some (Thread half) → s.given ≡ Some given → IsSamePass half.pass given.pass → HasWoken s
   pub nobody_waits : (s : Sending ⊤ (AnyWaker WakingHalf ℕ) ⊤) → s.side.log ≡ (Add, Word 3) ∷ [] → HasWoken s
   pub of_its_parker : (p : Parks) (half : WakingHalf) → half.pass.table_id ≡ p.parker
-      → IsOwn {K = ℕ} p.parker (Thread half)
+      → IsHalfOf {K = ℕ} p.parker (Thread half)
   pub of_nobody : (k : RealWaker) → k ≡ Nobody → IsNoThread k
-  pub its_own : (half : WakingHalf) → IsOwn {K = ℕ} half.pass.table_id (Thread half)
-  pub waits : has_left (receiver_at ((Load, Word 3) ∷ (Swap 0, Word 3) ∷ [])) ≡ true
-  pub is_overdue : has_left (receiver_at ((Load, Word 3) ∷ (Swap 0, Word 3) ∷ (Swap 3, Word 1) ∷ [])) ≡ true
-  pub is_new : has_left (receiver_at []) ≡ false
-  pub owned : (s : Side ⊤ (AnyWaker WakingHalf ℕ) ⊤) (half : WakingHalf) → s.log ≡ blocks → s.waker ≡ away
-      → s.handed ≡ Some (Thread half) → Owned half.pass.table_id s
-  pub over : is_over (sender_at sent_to_it) ≡ true
-  pub left : is_left (receiver_at ((Swap 2, Word 3) ∷ [])) ≡ true
+  pub its_own : (half : WakingHalf) → IsHalfOf {K = ℕ} half.pass.table_id (Thread half)
+  pub waits : is_waiting (receiver_at ((Load, Word 3) ∷ (Swap 0, Word 3) ∷ [])) ≡ true
+  pub is_overdue : is_waiting (receiver_at ((Load, Word 3) ∷ (Swap 0, Word 3) ∷ (Swap 3, Word 1) ∷ [])) ≡ true
+  pub is_new : is_waiting (receiver_at []) ≡ false
+  pub gives_its_own : (s : Side ⊤ (AnyWaker WakingHalf ℕ) ⊤) (half : WakingHalf) → s.log ≡ blocks → s.waker ≡ away
+      → s.handed ≡ Some (Thread half) → WaitsByHalvesOf half.pass.table_id s
+  pub ended : (s : Sending ⊤ (AnyWaker WakingHalf ℕ) ⊤) (half : WakingHalf) (given : Given) → s.side.log ≡ sent_to_it
+      → s.side.handed ≡ Some (Thread half) → s.given ≡ Some given → IsSamePass half.pass given.pass
+      → HasEnded sending s
+  pub sleeps : (s : Side ⊤ RealWaker ⊤) (half : WakingHalf) → s.log ≡ blocks → s.waker ≡ away
+      → s.handed ≡ Some (Thread half) → SleepsOn half.pass.table_id s
 
 -- SENDERS WHOSE LOG IS REAL, each wrong in one thing, and wakers that are not a parker's own
 pub record UsesThatAreNot : Type 0 where
@@ -49,14 +51,21 @@ pub record UsesThatAreNot : Type 0 where
       → s.side.handed ≡ Some (Thread half) → s.given ≡ None → HasWoken s → ⊥
   pub took_none : (s : Sending ⊤ (AnyWaker WakingHalf ℕ) ⊤) → s.side.log ≡ sent_to_it → s.side.handed ≡ None
       → HasWoken s → ⊥
-  pub nobody : (parker : TableId) → IsOwn {K = ℕ} parker Nobody → ⊥
-  pub a_task : (parker : TableId) → IsOwn {K = ℕ} parker (Task 5) → ⊥
+  pub nobody : (parker : TableId) → IsHalfOf {K = ℕ} parker Nobody → ⊥
+  pub a_task : (parker : TableId) → IsHalfOf {K = ℕ} parker (Task 5) → ⊥
   pub of_another : (parker : TableId) (half : WakingHalf) → (half.pass.table_id ≡ parker → ⊥)
-      → IsOwn {K = ℕ} parker (Thread half) → ⊥
+      → IsHalfOf {K = ℕ} parker (Thread half) → ⊥
   pub left_nobody : (s : Side ⊤ (AnyWaker WakingHalf ℕ) ⊤) (parker : TableId) → s.log ≡ blocks
-      → s.handed ≡ Some Nobody → Owned parker s → ⊥
+      → s.handed ≡ Some Nobody → WaitsByHalvesOf parker s → ⊥
   pub left_a_thread : (s : Side ⊤ (AnyWaker WakingHalf ℕ) ⊤) (half : WakingHalf) → s.log ≡ blocks
-      → s.handed ≡ Some (Thread half) → NoThread s → ⊥
-  pub is_fresh : is_over (sender_at []) ≡ true → ⊥
-  pub has_stayed : is_left (receiver_at blocks) ≡ true → ⊥
-  pub gave_no_token : (parker : TableId) → GaveTokenOf parker None → ⊥
+      → s.handed ≡ Some (Thread half) → WaitsByNoThread s → ⊥
+  -- a sender that is to be let go, and has performed no operation, woken nobody, or ended by its drop
+  pub is_fresh : (s : Sending ⊤ (AnyWaker WakingHalf ℕ) ⊤) → s.side.log ≡ [] → HasEnded sending s → ⊥
+  pub ended_unwoken : (s : Sending ⊤ (AnyWaker WakingHalf ℕ) ⊤) (half : WakingHalf) → s.side.log ≡ sent_to_it
+      → s.side.handed ≡ Some (Thread half) → s.given ≡ None → HasEnded sending s → ⊥
+  pub dropped_instead : (s : Sending ⊤ (AnyWaker WakingHalf ℕ) ⊤) → s.side.log ≡ (Xor, Word 3) ∷ []
+      → HasEnded sending s → ⊥
+  pub sleeps_unasked : (s : Side ⊤ RealWaker ⊤) (parker : TableId) → s.log ≡ [] → SleepsOn parker s → ⊥
+  pub sleeps_by_nobody : (s : Side ⊤ RealWaker ⊤) (parker : TableId) → s.log ≡ blocks → s.handed ≡ Some Nobody
+      → SleepsOn parker s → ⊥
+  pub gave_no_token : (s : Sending ⊤ RealWaker ⊤) (parker : TableId) → s.given ≡ None → HasGivenTokenOf parker s → ⊥

@@ -3,6 +3,8 @@ use Rattle.std.specs.Prelude.{◌≡◌, ⊤, true, Option, Some, None}
 use Rattle.crossbeam_utils.specs.Token.{IsSamePass}
 use Rattle.oneshot_word.specs.declared.any_waker.AnyWaker.{AnyWaker}
 use Rattle.oneshot_word.specs.declared.any_waker.AnyWaker.TheVariants.{Thread}
+use Rattle.oneshot_machine.specs.Phases.{By, sender_at}
+use Rattle.oneshot_drive.specs.BetweenCalls.{SenderIsOver}
 use Rattle.oneshot_drive.specs.Wakes.{finds_waiting}
 use Rattle.oneshot_word.specs.Side.{Side}
 use Rattle.oneshot_ends.specs.declared.token.Given.{Given}
@@ -23,8 +25,14 @@ pub record Sending (T W P : Type 0) : Type 0 where
   pub side : Side T W P
   pub given : Option Given
 
--- A sender that found the receiver waiting has used the waker that it took: a thread's half has given its token.
+-- A sender that found its receiver waiting has used the waker that it took: a thread's half has given its token.
 abbrev pub HasWoken : {T K P : Type 0} → Sending T (AnyWaker WakingHalf K) P → Type 0
 HasWoken {K} s =
     finds_waiting s.side.log ≡ true
     → (k : AnyWaker WakingHalf K) × (s.side.handed ≡ Some k) × IsWoken k s.given
+
+-- What a sender has done before its ground is let go: it has performed its last operation, in its `send` or in its
+-- drop, and woken a receiver that it found waiting.
+pub record HasEnded {T K P : Type 0} (by : By) (s : Sending T (AnyWaker WakingHalf K) P) : Type 0 where
+  pub over : SenderIsOver by (sender_at s.side.log)
+  pub woken : HasWoken s

@@ -6,12 +6,11 @@ ghost use Rattle.oneshot_machine.specs.Slots.{held};
 ghost use Rattle.oneshot_drive.specs.BetweenCalls.{IsLate};
 ghost use Rattle.oneshot_ends.specs.Ends.{SenderIsOrdered, WasRefused};
 
-use crate::ground::{RefusedSender, SharedSender};
+use crate::ground::{Refused, SharedSender};
 use crate::token::WakingHalf;
 use futures::task::Waker;
 use oneshot_drive::{drop_error, into_inner};
-use oneshot_word::laws::a_sender_is_in_an_order;
-use oneshot_word::{Promise, SenderSide};
+use oneshot_word::Promise;
 use std::error::Error;
 use std::fmt;
 use std::fmt::{Debug, Display, Formatter};
@@ -26,20 +25,15 @@ use std::marker::Model;
 ///
 /// A contract sees the message, the channel, and the sender's log of operations on the word.
 pub struct SendError<T, P: Promise<T> = ()> {
-    message: T,
-    side: SenderSide<T, WakingHalf, Waker, P>,
+    refused: Refused<T, WakingHalf, Waker, P>,
 }
 
 impl<T, P: Promise<T>> Model for SendError<T, P> {
-    ghost use Rattle.oneshot_machine.specs.Phases.{sender_at};
-    ghost use Rattle.oneshot_drive.specs.BetweenCalls.{IsLate};
-    ghost use Rattle.oneshot_ends.specs.Ends.{Failed, WasRefused};
+    ghost use Rattle.oneshot_ends.specs.Ends.{Failed};
 
     ghost Value = { Failed T };
 
-    ghost view = { λ e. record { message = e.message; channel = e.side.table; log = e.side.log } };
-
-    ghost invariant = { λ e. IsLate (sender_at e.side.log) × WasRefused T e.side.log };
+    ghost view = { λ e. e.refused };
 }
 
 impl<T, P: Promise<T>> SendError<T, P> {
@@ -47,22 +41,21 @@ impl<T, P: Promise<T>> SendError<T, P> {
     pub fn as_inner(&self) -> &T
         ensures { result.now ≡ self.now.message }
     {
-        &self.message
+        self.refused.message()
     }
 }
 
 impl<T, P: Promise<T>> SendError<T, P> {
-    // Mentions the side, so that the prover may use the type's invariant.
     pub(crate) fn was_refused(&self)
         ensures { WasRefused T self.now.log }
     {
-        let _side = &self.side;
+        self.refused.was_refused();
     }
 
     pub(crate) fn is_in_an_order(&self)
         ensures { SenderIsOrdered self.now.log }
     {
-        a_sender_is_in_an_order(&self.side);
+        self.refused.is_in_an_order();
     }
 }
 
@@ -77,22 +70,24 @@ impl<T: Drop, P: Promise<T>> SendError<T, P> {
         ensures log { result.log ≡ ground.side.log }
     {
         let (message, side) = ground.into_refused();
-        SendError { message, side }
+        SendError {
+            refused: Refused::new(message, side),
+        }
     }
 
     /// Returns the message, and releases the error's share of the channel's memory.
     pub fn into_inner(self) -> T
         ensures { result ≡ self.message }
     {
-        let SendError { message, side } = self;
-        into_inner(&mut RefusedSender::new(message, side))
+        let SendError { refused } = self;
+        into_inner(&mut refused.into_ground())
     }
 }
 
 impl<T: Drop, P: Promise<T>> Drop for SendError<T, P> {
     fn drop(self) {
-        let SendError { message, side } = self;
-        drop_error(&mut RefusedSender::new(message, side));
+        let SendError { refused } = self;
+        drop_error(&mut refused.into_ground());
     }
 }
 

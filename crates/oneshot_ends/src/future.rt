@@ -55,7 +55,7 @@ impl<T, Rt, P: Promise<T>> Model for AsyncReceiver<T, Rt, P> {
     ghost use Rattle.oneshot_machine.specs.Called.{as_future};
     ghost use Rattle.oneshot_ends.specs.Ends.{FutureEndOf, HasCalls};
     ghost use Rattle.oneshot_ends.specs.Grounds.{state_of};
-    ghost use Rattle.oneshot_ends.specs.OwnWakers.{NoThread};
+    ghost use Rattle.oneshot_ends.specs.OwnWakers.{WaitsByNoThread};
     ghost use Rattle.oneshot_ends.specs.Taken.{TookAsFound};
 
     ghost Value = { FutureEndOf T P };
@@ -69,7 +69,7 @@ impl<T, Rt, P: Promise<T>> Model for AsyncReceiver<T, Rt, P> {
     } };
 
     ghost invariant = { λ r.
-        IsPolled (state_of r.ground) × HasCalls T as_future r.ground.log × NoThread r.ground
+        IsPolled (state_of r.ground) × HasCalls T as_future r.ground.log × WaitsByNoThread r.ground
         × TookAsFound r.ground.passed r.ground.log };
 }
 
@@ -181,6 +181,5 @@ impl<T: Drop, Rt: Drop, P: Promise<T>> Drop for AsyncReceiver<T, Rt, P> {
             rt: _,
         } = self;
         drop_async(&mut ground);
-        ground.is_in_an_order();
     }
 }

@@ -7,7 +7,7 @@ mod sender;
 mod task;
 mod thread;
 
-pub(crate) use error::RefusedSender;
+pub(crate) use error::Refused;
 pub(crate) use receiver::{ChannelReceiver, SharedReceiver};
 pub(crate) use sender::{SharedSender, Unsent};
 pub(crate) use task::Polling;

@@ -6,8 +6,8 @@ ghost use Rattle.std.specs.Prelude.{◌≡◌, [], None};
 ghost use Rattle.oneshot_machine.specs.Called.{as_receiver, as_future};
 ghost use Rattle.oneshot_ends.specs.Ends.{IsOpen, IsUnfinished, HasCalls, CallsAddUp, SenderIsOrdered, ReceiverIsOrdered, WasRefused};
 ghost use Rattle.oneshot_ends.specs.Examples.{EndsThatAre, EndsThatAreNot, CallsThatGrow, CallsThatDoNot, DeadlinesThatAre, DeadlinesThatAreNot, CopiesThatAre, CopiesThatAreNot, GroundsThatAre, GroundsThatAreNot, OrdersThatAre, OrdersThatAreNot};
+ghost use Rattle.oneshot_ends.specs.NoLostWakeup.{EndedSendersGaveTokens, NoSleeperIsForgotten, FuturesWakeNoThread};
 ghost use Rattle.oneshot_ends.specs.OwnExamples.{UsesThatAre, UsesThatAreNot};
-ghost use Rattle.oneshot_ends.specs.OwnTokens.{GivesItsToken, WaitsForItsToken, TakesNoThread};
 ghost use Rattle.oneshot_ends.specs.Taken.{TookAsFound, WasSent};
 ghost use Rattle.oneshot_ends.specs.TakenExamples.{TakesThatAre, TakesThatAreNot};
 ghost use Rattle.oneshot_ends.specs.Tokens.{LivesLeadToStates, TokensAreGivenOnce};
@@ -133,15 +133,18 @@ pub fn a_token_is_given_once_and_then_taken()
     ensures once { TokensAreGivenOnce }
 {}
 
-/// The token that a sender gives is that of the parker on which its channel's receiver sleeps. In every state of
-/// the channel's table: if the sender found the receiver waiting and may be let go, and the receiver gave the
-/// waking half of some parker last, as it has whenever it parks on it, then the sender has given that parker's
-/// token. It is there, or the receiver took it. So it is once the sender may be let go, in each state in which the
-/// receiver is blocked or overdue. From a future that waits the sender takes no thread's waker.
-pub fn a_token_is_its_receivers<T, P: Promise<T>>()
-    ensures given { GivesItsToken P.keeps }
-    ensures waits { WaitsForItsToken P.keeps }
-    ensures tasks { TakesNoThread P.keeps }
+/// No wakeup of a real receiver is lost. At each moment of a channel whose sender has ended:
+///
+/// - if the sender found its receiver waiting, it has given the token of the parker whose half the receiver gave;
+/// - a receiver that sleeps on a parker has that parker's token there, or has taken it;
+/// - from a future that waits, the sender took no thread's waker.
+///
+/// What the law requires of the sender (`HasEnded`), its ground requires to be let go; what it requires of a
+/// receiver that sleeps (`SleepsOn`), each `park` requires.
+pub fn no_wakeup_is_lost<T, P: Promise<T>>()
+    ensures tokens { EndedSendersGaveTokens P.keeps }
+    ensures sleepers { NoSleeperIsForgotten P.keeps }
+    ensures futures { FuturesWakeNoThread P.keeps }
 {}
 
 /// Examples that the definitions accept or refuse: open and closed ends, logs of calls, deadlines, copies of

@@ -1,8 +1,8 @@
 //! The end that receives, and may block until a message comes.
 
-ghost use Rattle.std.specs.Prelude.{◌≡◌, ◌≢◌, Err, IsErr, IfOk, IfSome, IsTrue};
+ghost use Rattle.std.specs.Prelude.{◌≡◌, ◌≢◌, Err, IsErr, IfOk, IfSome};
 ghost use Rattle.oneshot_machine.specs.Logs.{receiver_of};
-ghost use Rattle.oneshot_drive.specs.BetweenCalls.{AtRest, IsReady, IsClosedAt};
+ghost use Rattle.oneshot_drive.specs.BetweenCalls.{AtRest, IsReady, IsClosedAt, ReceiverIsOver};
 ghost use Rattle.std.specs.Time.{instant_nanos, FitsClock};
 ghost use Rattle.oneshot_drive.specs.declared.errors.recv_timeout.RecvTimeoutError.TheVariants as Timed;
 ghost use Rattle.oneshot_drive.specs.declared.errors.try_recv.TryRecvError.TheVariants as Tried;
@@ -11,8 +11,8 @@ ghost use Rattle.oneshot_machine.specs.Counts.{receiver_bound, GrewWithin};
 ghost use Rattle.oneshot_machine.specs.Phases.{receiver_at};
 ghost use Rattle.oneshot_drive.specs.BetweenCalls.{Leaves, LeavesClosed, LeavesTimed, try_recv_reply, recv_reply, timed_reply};
 ghost use Rattle.oneshot_ends.specs.Ends.{ReceiverGrew, TimeoutGrew, TimeoutRan, IsClosed, IsOpen};
-ghost use Rattle.oneshot_ends.specs.Grounds.{IsNewReceiver, state_of, goes};
-ghost use Rattle.oneshot_ends.specs.OwnWakers.{IsOwn, Owned};
+ghost use Rattle.oneshot_ends.specs.Grounds.{IsNewReceiver, state_of};
+ghost use Rattle.oneshot_ends.specs.OwnWakers.{IsHalfOf, WaitsByHalvesOf};
 ghost use Rattle.oneshot_ends.specs.Taken.{StaysTaken, Takes};
 
 use crate::deadline::{Deadline, Reading, read};
@@ -61,7 +61,7 @@ impl<T, Rt, P: Promise<T>> Model for Receiver<T, Rt, P> {
     ghost use Rattle.oneshot_machine.specs.Called.{as_receiver};
     ghost use Rattle.oneshot_ends.specs.Ends.{EndOf, HasCalls};
     ghost use Rattle.oneshot_ends.specs.Grounds.{state_of};
-    ghost use Rattle.oneshot_ends.specs.OwnWakers.{IsOwn, Owned};
+    ghost use Rattle.oneshot_ends.specs.OwnWakers.{IsHalfOf, WaitsByHalvesOf};
     ghost use Rattle.std.specs.Prelude.{IfSome};
     ghost use Rattle.oneshot_ends.specs.Taken.{TookAsFound};
 
@@ -77,7 +77,7 @@ impl<T, Rt, P: Promise<T>> Model for Receiver<T, Rt, P> {
     ghost invariant = { λ r.
         AtRest (state_of r.ground) × IsReady r.hand (receiver_of (state_of r.ground).log)
         × HasCalls T as_receiver r.ground.log
-        × Owned r.parker.parker r.ground × IfSome r.hand (IsOwn r.parker.parker)
+        × WaitsByHalvesOf r.parker.parker r.ground × IfSome r.hand (IsHalfOf r.parker.parker)
         × TookAsFound r.ground.passed r.ground.log };
 }
 
@@ -89,7 +89,7 @@ impl<T, Rt, P: Promise<T>> Receiver<T, Rt, P> {
         rt: Rt,
     ) -> Receiver<T, Rt, P>
         requires new { IsNewReceiver side }
-        requires own { IsOwn parker.parker half }
+        requires own { IsHalfOf parker.parker half }
         ensures channel { result.channel ≡ side.table }
         ensures log { result.log ≡ side.log }
         ensures about { result.about ≡ side.about }
@@ -225,10 +225,7 @@ impl<T: Drop, Rt: Wait + Clock + Drop, P: Promise<T>> Receiver<T, Rt, P> {
             source: _,
             rt,
         } = self;
-        let result = receive_last(&mut ground, &mut parker, &rt, &mut hand);
-        // States that the log has an order, so that the receiver may be let go.
-        ground.is_in_an_order();
-        result
+        receive_last(&mut ground, &mut parker, &rt, &mut hand)
     }
 }
 
@@ -241,9 +238,9 @@ fn receive_last<T: Drop, Rt: Wait + Clock + Drop, P: Promise<T>>(
 ) -> Result<T, RecvError>
     requires rests { AtRest (state_of ground.old) }
     requires ready { IsReady hand.old (receiver_of (state_of ground.old).log) }
-    requires owned { Owned parker.old.parker ground.old }
-    requires own { IfSome hand.old (IsOwn parker.old.parker) }
-    ensures left { IsTrue (goes (receiver_at ground.new.log)) }
+    requires owned { WaitsByHalvesOf parker.old.parker ground.old }
+    requires own { IfSome hand.old (IsHalfOf parker.old.parker) }
+    ensures over { ReceiverIsOver (receiver_at ground.new.log) }
     ensures stays { IsClosedAt (receiver_of (state_of ground.old).log) → IsErr result }
     ensures kept { IfOk result (λ message. P.keeps ground.old.about message) }
 {
@@ -302,6 +299,5 @@ impl<T: Drop, Rt: Drop, P: Promise<T>> Drop for Receiver<T, Rt, P> {
             rt: _,
         } = self;
         drop_receiver(&mut ground);
-        ground.is_in_an_order();
     }
 }

@@ -70,6 +70,7 @@ impl<T: Drop> Sender<T> {
         let mut ground = side.into_ground();
         // A body of its own: a call of `send_kept` would copy the message once more.
         if send(&mut ground, message) {
+            ground.sent();
             return Ok(());
         }
         Err(SendError::refused(ground))
@@ -88,6 +89,7 @@ impl<T: Drop, P: Promise<T>> Sender<T, P> {
         let Sender { side } = self;
         let mut ground = side.into_ground();
         if send(&mut ground, message) {
+            ground.sent();
             return Ok(());
         }
         Err(SendError::refused(ground))
@@ -99,5 +101,6 @@ impl<T: Drop, P: Promise<T>> Drop for Sender<T, P> {
         let Sender { side } = self;
         let mut ground = side.into_ground();
         drop_sender(&mut ground);
+        ground.dropped();
     }
 }

@@ -361,8 +361,6 @@ impl<'a, T: Drop, W: Drop + Wakes, R: Wait> BlockGround<T, W> for MemoryReceiver
     // Its log has what a park did.
     ghost parks = { λ timed a b. ⊤ };
 
-    ghost left = { λ s. ⊤ };
-
     fn park(&mut self, _timed: bool) {
         self.pause();
         let woken = self.token;

@@ -1,9 +1,10 @@
 //! The ground of an error, which acts on the refused message and no longer on the shared word.
 
 ghost use Rattle.std.specs.Prelude.{◌≡◌, false, true, ⊤};
-ghost use Rattle.oneshot_machine.specs.Slots.{held};
+ghost use Rattle.oneshot_machine.specs.Slots.{away, held};
 ghost use Rattle.oneshot_machine.specs.Phases.{sender_at};
 ghost use Rattle.oneshot_drive.specs.BetweenCalls.{IsError, IsLate};
+ghost use Rattle.oneshot_ends.specs.Ends.{SenderIsOrdered, WasRefused};
 ghost use Rattle.oneshot_ends.specs.Grounds.{state_of};
 
 use crate::freed::Freed;
@@ -11,8 +12,67 @@ use crate::token::WakingHalf;
 use crate::waker::wake;
 use futures::task::Waker;
 use oneshot_drive::SenderGround;
+use oneshot_word::laws::a_sender_is_in_an_order;
 use oneshot_word::{AnyWaker, Promise, SenderSide};
 use std::marker::Model;
+
+// It has no `Drop`, so that an error's last call runs on its ground.
+/// A refused message, with the sender's side.
+pub(crate) struct Refused<T, H, K, P: Promise<T>> {
+    message: T,
+    side: SenderSide<T, H, K, P>,
+}
+
+impl<T, H, K, P: Promise<T>> Model for Refused<T, H, K, P> {
+    ghost use Rattle.oneshot_machine.specs.Phases.{sender_at};
+    ghost use Rattle.oneshot_drive.specs.BetweenCalls.{IsLate};
+    ghost use Rattle.oneshot_ends.specs.Ends.{Failed, WasRefused};
+
+    ghost Value = { Failed T };
+
+    ghost view = { λ e. record { message = e.message; channel = e.side.table; log = e.side.log } };
+
+    ghost invariant = { λ e. IsLate (sender_at e.side.log) × WasRefused T e.side.log };
+}
+
+impl<T, H, K, P: Promise<T>> Refused<T, H, K, P> {
+    pub(crate) fn new(message: T, side: SenderSide<T, H, K, P>) -> Refused<T, H, K, P>
+        requires late { IsLate (sender_at side.log) }
+        requires refused { WasRefused T side.log }
+        ensures message { result.message ≡ message }
+        ensures channel { result.channel ≡ side.table }
+        ensures log { result.log ≡ side.log }
+    {
+        Refused { message, side }
+    }
+
+    pub(crate) fn message(&self) -> &T
+        ensures { result.now ≡ self.now.message }
+    {
+        &self.message
+    }
+
+    // Mentions the side, so that the prover may use the type's invariant.
+    pub(crate) fn was_refused(&self)
+        ensures { WasRefused T self.now.log }
+    {
+        let _side = &self.side;
+    }
+
+    pub(crate) fn is_in_an_order(&self)
+        ensures { SenderIsOrdered self.now.log }
+    {
+        a_sender_is_in_an_order(&self.side);
+    }
+
+    /// The ground of the error's last call.
+    pub(crate) fn into_ground(self) -> RefusedSender<T, H, K, P>
+        ensures { IsError (held self.message) (state_of result) }
+    {
+        let Refused { message, side } = self;
+        RefusedSender::new(message, side)
+    }
+}
 
 /// The ground of an error, which owns the refused message.
 pub(crate) struct RefusedSender<T, H, K, P: Promise<T>> {
@@ -41,7 +101,7 @@ impl<T, H, K, P: Promise<T>> Model for RefusedSender<T, H, K, P> {
 
 impl<T, H, K, P: Promise<T>> RefusedSender<T, H, K, P> {
     /// The ground of an error that has freed nothing.
-    pub(crate) fn new(message: T, side: SenderSide<T, H, K, P>) -> RefusedSender<T, H, K, P>
+    fn new(message: T, side: SenderSide<T, H, K, P>) -> RefusedSender<T, H, K, P>
         requires { IsLate (sender_at side.log) }
         ensures { IsError (held message) (state_of result) }
     {
@@ -122,8 +182,11 @@ impl<T: Drop, P: Promise<T>> SenderGround<T, AnyWaker<WakingHalf, Waker>>
     }
 }
 
+// It is let go only once it has freed the block, before which it has given its message up.
 impl<T: Drop, H: Drop, K: Drop, P: Promise<T>> Drop for RefusedSender<T, H, K, P> {
-    fn drop(self) {
+    fn drop(self)
+        requires { self.message ≡ away }
+    {
         let RefusedSender {
             message: _,
             side: _,

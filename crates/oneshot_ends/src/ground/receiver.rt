@@ -1,11 +1,11 @@
 //! The ground of a receiver, which each of its calls lends to a driver.
 
-ghost use Rattle.std.specs.Prelude.{◌≡◌, false, true, IsTrue, [], ◌∷◌};
+ghost use Rattle.std.specs.Prelude.{◌≡◌, false, true, [], ◌∷◌};
 ghost use Rattle.oneshot_machine.specs.declared.machine.Step.TheVariants.{WriteWaker};
 ghost use Rattle.oneshot_machine.specs.Logs.{Grows, handed};
 ghost use Rattle.oneshot_machine.specs.Slots.{vacant, held};
 ghost use Rattle.oneshot_machine.specs.Phases.{receiver_at};
-ghost use Rattle.oneshot_ends.specs.Grounds.{is_left};
+ghost use Rattle.oneshot_drive.specs.BetweenCalls.{ReceiverIsOver};
 ghost use Rattle.oneshot_ends.specs.Ends.{ReceiverIsOrdered};
 
 use crate::freed::Freed;
@@ -72,15 +72,15 @@ impl<T: Drop, P: Promise<T>> ReceiverGround<T, AnyWaker<WakingHalf, Waker>>
     ghost use Rattle.std.proofs.Common.{◌∙◌, refl, subst, Some};
     ghost use Rattle.atomic_table.specs.Seated.{TableId};
     ghost use Rattle.oneshot_ends.specs.Grounds.{state_of};
-    ghost use Rattle.oneshot_ends.specs.OwnWakers.{NoThread, Owned};
+    ghost use Rattle.oneshot_ends.specs.OwnWakers.{WaitsByNoThread, WaitsByHalvesOf};
     ghost use Rattle.oneshot_ends.specs.Taken.{KeepsTaken};
 
     ghost state = { state_of };
 
     // The channel stays about the same value, the receiver's wakers stay its own parker's, or no thread's, a
     // message that was taken is still the one, and the log still shows whether one was taken.
-    ghost keeps = { λ a b. (b.about ≡ a.about) × ((parker : TableId) → Owned parker a → Owned parker b)
-        × (NoThread a → NoThread b) × KeepsTaken a.passed b.passed a.log b.log };
+    ghost keeps = { λ a b. (b.about ≡ a.about) × ((parker : TableId) → WaitsByHalvesOf parker a → WaitsByHalvesOf parker b)
+        × (WaitsByNoThread a → WaitsByNoThread b) × KeepsTaken a.passed b.passed a.log b.log };
 
     ghost keeps_same = { λ _.
         (refl, λ _ owned. owned, λ free. free, record { stays = λ _ is. is; found = λ so. so }) };
@@ -143,10 +143,10 @@ impl<T: Drop, P: Promise<T>> ReceiverGround<T, AnyWaker<WakingHalf, Waker>>
     }
 }
 
-// A receiver is let go only once it has left, or knows how its channel ended.
+// A receiver is let go only once it knows how its channel ended, or was dropped.
 impl<T: Drop, H: Drop, K: Drop, P: Promise<T>> Drop for SharedReceiver<T, H, K, P> {
     fn drop(self)
-        requires { IsTrue (is_left (receiver_at self.log)) }
+        requires { ReceiverIsOver (receiver_at self.log) }
     {
         let SharedReceiver { side: _, freed: _ } = self;
     }

@@ -1,8 +1,7 @@
 //! A sender's side before its one call, and its ground in that call.
 
-ghost use Rattle.std.specs.Prelude.{◌≡◌, false, true, IsTrue, Some};
-ghost use Rattle.oneshot_machine.specs.Phases.{sender_at};
-ghost use Rattle.oneshot_ends.specs.Grounds.{is_over};
+ghost use Rattle.std.specs.Prelude.{◌≡◌, false, true, Some};
+ghost use Rattle.oneshot_machine.specs.Phases.{sending, dropping};
 ghost use Rattle.oneshot_machine.specs.Slots.{held};
 ghost use Rattle.oneshot_ends.specs.Ends.{SenderIsOrdered};
 
@@ -53,6 +52,7 @@ impl<T, P: Promise<T>> Unsent<T, WakingHalf, Waker, P> {
     }
 }
 
+// It has no `Drop`: it is let go by `sent` or `dropped`, which require that the call is over, or as an error.
 /// The sender's ground.
 pub(crate) struct SharedSender<T, P: Promise<T>> {
     side: SenderSide<T, WakingHalf, Waker, P>,
@@ -89,6 +89,30 @@ impl<T, P: Promise<T>> SharedSender<T, P> {
 }
 
 impl<T: Drop, P: Promise<T>> SharedSender<T, P> {
+    ghost use Rattle.oneshot_ends.specs.Woken.{HasEnded};
+
+    /// Lets the sender go after a `send` to a receiver that was there.
+    pub(crate) fn sent(self)
+        requires { HasEnded sending self }
+    {
+        self.let_go();
+    }
+
+    /// Lets the sender go after its drop.
+    pub(crate) fn dropped(self)
+        requires { HasEnded dropping self }
+    {
+        self.let_go();
+    }
+
+    fn let_go(self) {
+        let SharedSender {
+            side: _,
+            freed: _,
+            given: _,
+        } = self;
+    }
+
     /// Takes the message out of its slot, and returns it with the side.
     pub(crate) fn into_refused(self) -> (T, SenderSide<T, WakingHalf, Waker, P>)
         requires { (x : T) × (self.side.message ≡ held x) }
@@ -156,21 +180,5 @@ impl<T: Drop, P: Promise<T>> SenderGround<T, AnyWaker<WakingHalf, Waker>> for Sh
 
     fn free(&mut self) {
         self.freed = Freed::of(true);
-    }
-}
-
-// A sender is let go only once it has made its last operation, and has woken a receiver that it found waiting.
-impl<T: Drop, P: Promise<T>> Drop for SharedSender<T, P> {
-    ghost use Rattle.oneshot_ends.specs.Woken.{HasWoken};
-
-    fn drop(self)
-        requires over { IsTrue (is_over (sender_at self.side.log)) }
-        requires woken { HasWoken self }
-    {
-        let SharedSender {
-            side: _,
-            freed: _,
-            given: _,
-        } = self;
     }
 }

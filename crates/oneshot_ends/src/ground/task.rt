@@ -4,7 +4,7 @@ ghost use Rattle.std.specs.Prelude.{◌≡◌, ⊤, true, false, [], ◌∷◌, 
 ghost use Rattle.futures.specs.Task.{IsArmed, Hears, Keeps};
 ghost use Rattle.oneshot_machine.specs.Logs.{Grows, copied};
 ghost use Rattle.oneshot_ends.specs.Copies.{HasMade, HasNoneOf};
-ghost use Rattle.oneshot_ends.specs.OwnWakers.{IsNoThread, NoThread};
+ghost use Rattle.oneshot_ends.specs.OwnWakers.{IsNoThread, WaitsByNoThread};
 ghost use Rattle.oneshot_ends.specs.Taken.{KeepsTaken};
 ghost use Rattle.oneshot_ends.specs.Polling.{polled_state, token_of};
 
@@ -32,7 +32,7 @@ pub(crate) struct Polling<'g, 'c, 'x, G> {
 
 impl<'g, 'c, 'x, T: Drop, P: Promise<T>> ReceiverGround<T, Copied>
     for Polling<'g, 'c, 'x, ChannelReceiver<T, P>> {
-    ghost use Rattle.oneshot_ends.specs.OwnWakers.{NoThread};
+    ghost use Rattle.oneshot_ends.specs.OwnWakers.{WaitsByNoThread};
     ghost use Rattle.oneshot_ends.specs.Polling.{polled_state};
     ghost use Rattle.std.proofs.Common.{◌∙◌, refl, subst, Some};
 
@@ -43,7 +43,7 @@ impl<'g, 'c, 'x, T: Drop, P: Promise<T>> ReceiverGround<T, Copied>
     // The channel stays about the same value, what the task has registered stays registered, the future waits
     // by no thread, and what the receiver took stays so.
     ghost keeps = { λ a b. Keeps a.cx.now b.cx.now × (a.source.now.id ≡ b.source.now.id)
-        × (b.ground.now.about ≡ a.ground.now.about) × (NoThread a.ground.now → NoThread b.ground.now)
+        × (b.ground.now.about ≡ a.ground.now.about) × (WaitsByNoThread a.ground.now → WaitsByNoThread b.ground.now)
         × KeepsTaken a.ground.now.passed b.ground.now.passed a.ground.now.log b.ground.now.log };
 
     ghost keeps_same = { λ a. (
@@ -137,7 +137,7 @@ impl<'g, 'c, 'x, T: Drop, P: Promise<T>> TaskGround<T, Copied>
         ensures keeps { Keeps self.old.cx.now self.new.cx.now
             × (self.old.source.now.id ≡ self.new.source.now.id)
             × (self.new.ground.now.about ≡ self.old.ground.now.about)
-            × (NoThread self.old.ground.now → NoThread self.new.ground.now)
+            × (WaitsByNoThread self.old.ground.now → WaitsByNoThread self.new.ground.now)
             × KeepsTaken self.old.ground.now.passed self.new.ground.now.passed
             self.old.ground.now.log self.new.ground.now.log }
         ensures made { IfSome result (λ _. HasMade self.old.cx.now self.new.cx.now self.new.copies.now) }

@@ -73,7 +73,7 @@ impl<'g, 'p, 'r, T: Drop, Rt, P: Promise<T>> ReceiverGround<T, ChannelWaker>
     ghost use Rattle.std.proofs.Common.{◌∙◌, refl, sym, subst, Some};
     ghost use Rattle.oneshot_ends.specs.Taken.{KeepsTaken};
     ghost use Rattle.oneshot_ends.specs.Grounds.{lent};
-    ghost use Rattle.oneshot_ends.specs.OwnWakers.{IsOwn, Owned};
+    ghost use Rattle.oneshot_ends.specs.OwnWakers.{IsHalfOf, WaitsByHalvesOf};
     ghost use Rattle.oneshot_ends.specs.Spins.{HasToken};
 
     // The state's channel also names what was lent, so that a caller recognizes it.
@@ -85,7 +85,7 @@ impl<'g, 'p, 'r, T: Drop, Rt, P: Promise<T>> ReceiverGround<T, ChannelWaker>
         HasToken (record { spins = a.spins; slept = a.slept; taken = a.parker.now.taken })
         → HasToken (record { spins = b.spins; slept = b.slept; taken = b.parker.now.taken }))
         × (b.parker.now.parker ≡ a.parker.now.parker)
-        × (Owned a.parker.now.parker a.ground.now → Owned b.parker.now.parker b.ground.now)
+        × (WaitsByHalvesOf a.parker.now.parker a.ground.now → WaitsByHalvesOf b.parker.now.parker b.ground.now)
         × KeepsTaken a.ground.now.passed b.ground.now.passed a.ground.now.log b.ground.now.log };
 
     ghost keeps_same = { λ _.
@@ -100,10 +100,10 @@ impl<'g, 'p, 'r, T: Drop, Rt, P: Promise<T>> ReceiverGround<T, ChannelWaker>
     ) };
 
     // Its wakers, with the one beside it, are those of its parker.
-    ghost has = { λ b hand. Owned b.parker.now.parker b.ground.now × IfSome hand (IsOwn b.parker.now.parker) };
+    ghost has = { λ b hand. WaitsByHalvesOf b.parker.now.parker b.ground.now × IfSome hand (IsHalfOf b.parker.now.parker) };
 
     ghost has_on = { λ _ _ hand k h.
-        (k.3 h.0, subst (λ parker. IfSome hand (IsOwn parker)) (sym k.2) h.1) };
+        (k.3 h.0, subst (λ parker. IfSome hand (IsHalfOf parker)) (sym k.2) h.1) };
 
     ghost gives = { λ b message. P.keeps b.ground.now.about message };
 
@@ -152,11 +152,7 @@ impl<'g, 'p, 'r, T: Drop, Rt, P: Promise<T>> ReceiverGround<T, ChannelWaker>
 
 impl<'g, 'p, 'r, T: Drop, Rt: Wait + Clock, P: Promise<T>> BlockGround<T, ChannelWaker>
     for Blocking<'g, 'p, 'r, ChannelReceiver<T, P>, Rt> {
-    ghost use Rattle.oneshot_ends.specs.OwnWakers.{IsOwn, Put};
     ghost use Rattle.oneshot_ends.specs.Spins.{MaySpin, Parked};
-
-    // It has given the waking half of the parker on which it sleeps.
-    ghost left = { λ b. Put (IsOwn b.parker.now.parker) b.ground.now.handed };
 
     ghost parks = { λ timed a b. Parked (MaySpin timed a.spins a.deadline a.reading) timed
         (record { spins = a.spins; slept = a.slept; taken = a.parker.now.taken })

@@ -2,5 +2,5 @@
 use Rattle.oneshot_drive.proofs.SenderRuns.{error_ran}
 use Rattle.oneshot_drive.proofs.sender.drop_error.Goals as goal
 
-pub returns : goal.returns
-returns g c = error_ran c.drop_message.ensures.log c.free.ensures.log
+pub returns-clause-run : goal.returns-clause-run
+returns-clause-run g c = error_ran c.drop_message.ensures.log c.free.ensures.log

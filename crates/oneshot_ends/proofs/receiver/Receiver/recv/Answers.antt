@@ -4,14 +4,10 @@ use Rattle.oneshot_machine.specs.Phases.{receiver_at}
 use Rattle.oneshot_drive.specs.BetweenCalls.{IsClosedAt}
 use Rattle.oneshot_ends.proofs.EndViews.{same_steps}
 use Rattle.oneshot_ends.proofs.GrewByRuns.{began_at}
-use Rattle.oneshot_ends.proofs.Lefts.{left_once_ordered}
 use Rattle.oneshot_ends.proofs.receiver.Receiver.recv.Goals as goal
-
-pub drop-ground-requires : goal.drop-ground-requires
-drop-ground-requires g c = left_once_ordered c.receive_last-result.ensures.left c.is_in_an_order.ensures
 
 pub returns-clause-stays_closed : goal.returns-clause-stays_closed
 returns-clause-stays_closed g c = λ closed.
-    c.receive_last-result.ensures.stays
+    c.receive_last.ensures.stays
     (subst (λ xs. IsClosedAt (receiver_at xs))
     (sym (began_at {own = c.self.inside.ground} refl (same_steps c.self.view_is))) closed)

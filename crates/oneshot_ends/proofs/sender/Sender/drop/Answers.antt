@@ -1,17 +1,10 @@
--- Proofs of the goals that `drop` of `Sender` leaves.
-use Rattle.std.proofs.Common.{refl}
+-- Proof of the goal that `drop` of `Sender` leaves.
+use Rattle.oneshot_machine.specs.Phases.{dropping}
 use Rattle.oneshot_machine.specs.declared.machine.sender.SenderCall.TheVariants.{Drop}
-use Rattle.oneshot_ends.proofs.Overs.{over_after}
-use Rattle.oneshot_ends.proofs.Owes.{woken_after}
+use Rattle.oneshot_ends.proofs.Owes.{has_ended}
 use Rattle.oneshot_ends.proofs.sender.Sender.drop.Goals as goal
 
-pub drop-ground-requires-clause-over : goal.drop-ground-requires-clause-over
-drop-ground-requires-clause-over g c =
-    over_after Drop c.drop_sender.new.g.side refl c.into_ground-ground.ensures c.self.invariant.log
-    c.drop_sender.ensures.run
-
-pub drop-ground-requires-clause-woken : goal.drop-ground-requires-clause-woken
-drop-ground-requires-clause-woken g c = λ found.
-    let used =
-    woken_after Drop c.drop_sender.new.g.side c.into_ground-ground.ensures c.self.invariant.log c.drop_sender.ensures.woke found in
-    (used.0, used.1.0, used.1.1)
+pub dropped-requires : goal.dropped-requires
+dropped-requires g c =
+    has_ended Drop dropping c.drop_sender.new.g c.into_ground-ground.ensures c.self.invariant.log
+    c.drop_sender.ensures.over c.drop_sender.ensures.woke

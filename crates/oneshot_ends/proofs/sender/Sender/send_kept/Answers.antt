@@ -1,13 +1,12 @@
 -- Proofs of the goals that `send_kept` of `Sender` leaves.
 use Rattle.std.proofs.Common.{refl, sym, subst}
-use Rattle.oneshot_machine.specs.Phases.{sender_at}
+use Rattle.oneshot_machine.specs.Phases.{sending, sender_at}
 use Rattle.oneshot_drive.specs.BetweenCalls.{IsLate}
 use Rattle.oneshot_ends.proofs.CallsAnswered.{was_refused}
 use Rattle.oneshot_ends.proofs.EndViews.{sent_steps}
 use Rattle.oneshot_machine.specs.declared.machine.sender.SenderCall.TheVariants.{Send}
 use Rattle.oneshot_ends.proofs.GrewByRuns.{words_of, send_refused}
-use Rattle.oneshot_ends.proofs.Overs.{over_after}
-use Rattle.oneshot_ends.proofs.Owes.{woken_after}
+use Rattle.oneshot_ends.proofs.Owes.{has_ended}
 use Rattle.oneshot_ends.proofs.sender.Sender.send_kept.Goals as goal
 
 pub returns-clause-run : goal.returns-clause-run
@@ -25,12 +24,7 @@ refused-requires-clause-refused g c =
     (send_refused c.send.new.g.side c.into_ground-ground.ensures c.self.invariant.log refl c.if-send.false
     c.send.ensures.run)
 
-pub drop-ground-requires-clause-over : goal.drop-ground-requires-clause-over
-drop-ground-requires-clause-over g c =
-    over_after Send c.send.new.g.side refl c.into_ground-ground.ensures c.self.invariant.log c.send.ensures.run
-
-pub drop-ground-requires-clause-woken : goal.drop-ground-requires-clause-woken
-drop-ground-requires-clause-woken g c = λ found.
-    let used =
-    woken_after Send c.send.new.g.side c.into_ground-ground.ensures c.self.invariant.log c.send.ensures.woke found in
-    (used.0, used.1.0, used.1.1)
+pub sent-requires : goal.sent-requires
+sent-requires g c =
+    has_ended Send sending c.send.new.g c.into_ground-ground.ensures c.self.invariant.log c.send.ensures.over
+    c.send.ensures.woke

@@ -1,43 +1,16 @@
 -- Proofs of the goals that `park` of `Blocking` as a `BlockGround` leaves.
 use Rattle.std.proofs.Common.{refl, sym, ap, ◌∙◌, subst}
-use Rattle.oneshot_machine.specs.Phases.{receiver_at}
-use Rattle.oneshot_ends.specs.OwnWakers.{Owned}
+use Rattle.oneshot_ends.specs.OwnWakers.{WaitsByHalvesOf}
 use Rattle.oneshot_ends.specs.Tokens.{Parks}
-use Rattle.oneshot_ends.proofs.GrewByRuns.{words_of}
-use Rattle.oneshot_ends.proofs.OwnWakers.{parks_left, or_so}
+use Rattle.oneshot_ends.proofs.OwnWakers.{or_so}
 use Rattle.oneshot_ends.proofs.ground.thread.BlockingChannelReceiverBlockGroundChannelWaker.park.Goals as goal
-
-pub returns-then-may_spin-clause-left : goal.returns-then-may_spin-clause-left
-returns-then-may_spin-clause-left g c =
-    parks_left _ c.args.self.now.ground.now _ (ap receiver_at (words_of _ _ c.args.self.now.ground.now.log))
-    c.requires.waits c.requires.has.0
-
-pub returns-then-not-timed-clause-left : goal.returns-then-not-timed-clause-left
-returns-then-not-timed-clause-left g c =
-    parks_left _ c.args.self.now.ground.now _ (ap receiver_at (words_of _ _ c.args.self.now.ground.now.log))
-    c.requires.waits c.requires.has.0
-
-pub returns-in-At-clause-left : goal.returns-in-At-clause-left
-returns-in-At-clause-left g c =
-    parks_left _ c.args.self.now.ground.now _ (ap receiver_at (words_of _ _ c.args.self.now.ground.now.log))
-    c.requires.waits c.requires.has.0
-
-pub returns-in-Passed-clause-left : goal.returns-in-Passed-clause-left
-returns-in-Passed-clause-left g c =
-    parks_left _ c.args.self.now.ground.now _ (ap receiver_at (words_of _ _ c.args.self.now.ground.now.log))
-    c.requires.waits c.requires.has.0
-
-pub returns-in-Never-clause-left : goal.returns-in-Never-clause-left
-returns-in-Never-clause-left g c =
-    parks_left _ c.args.self.now.ground.now _ (ap receiver_at (words_of _ _ c.args.self.now.ground.now.log))
-    c.requires.waits c.requires.has.0
 
 pub returns-then-not-timed-clause-keeps : goal.returns-then-not-timed-clause-keeps
 returns-then-not-timed-clause-keeps g c = (
   refl,
   λ has slept. ap (λ (p : Parks). p.taken) c.park.ensures.takes,
   ap (λ (p : Parks). p.parker) c.park.ensures.takes,
-  λ owned. subst (λ parker. Owned parker c.args.self.now.ground.now)
+  λ owned. subst (λ parker. WaitsByHalvesOf parker c.args.self.now.ground.now)
       (sym (ap (λ (p : Parks). p.parker) c.park.ensures.takes)) owned,
   record { stays = λ _ is. is; found = λ so. so },
 )
@@ -47,7 +20,7 @@ returns-in-Never-clause-keeps g c = (
   refl,
   λ has slept. ap (λ (p : Parks). p.taken) c.park-in-Never.ensures.takes,
   ap (λ (p : Parks). p.parker) c.park-in-Never.ensures.takes,
-  λ owned. subst (λ parker. Owned parker c.args.self.now.ground.now)
+  λ owned. subst (λ parker. WaitsByHalvesOf parker c.args.self.now.ground.now)
       (sym (ap (λ (p : Parks). p.parker) c.park-in-Never.ensures.takes)) owned,
   record { stays = λ _ is. is; found = λ so. so },
 )
@@ -58,7 +31,7 @@ returns-in-At-clause-keeps g c = (
   λ has slept. ap (λ (p : Parks). p.taken) c.park_until-in_time.ensures.takes
       ∙ or_so c.park_until-in_time.result c.args.self.now.parker.now.taken (has slept),
   ap (λ (p : Parks). p.parker) c.park_until-in_time.ensures.takes,
-  λ owned. subst (λ parker. Owned parker c.args.self.now.ground.now)
+  λ owned. subst (λ parker. WaitsByHalvesOf parker c.args.self.now.ground.now)
       (sym (ap (λ (p : Parks). p.parker) c.park_until-in_time.ensures.takes)) owned,
   record { stays = λ _ is. is; found = λ so. so },
 )

@@ -1,0 +1,152 @@
+-- No wakeup is lost: by the rule of the table, which has one waker in the views of both ends, and by the token's rule.
+use Rattle.std.proofs.Common.{◌≡◌, ℕ, Bool, true, false, List, [], ◌∷◌, Option, Some, None, refl, sym, ap, ◌∙◌, subst, inl, inr}
+use mathlib.Core.Option.{some}
+use Rattle.atomic_table.specs.Seated.{TableId}
+use Rattle.futures.specs.declared.task.waker.Waker.{Waker}
+use Rattle.std.specs.Prelude.{⊤}
+use Rattle.oneshot_machine.specs.Noted.{Noted}
+use Rattle.oneshot_machine.specs.Slots.{away}
+use Rattle.oneshot_machine.specs.Phases.{By, sending, sender_at, receiver_at}
+use Rattle.oneshot_drive.specs.BetweenCalls.{SenderIsOver, over_finished}
+use Rattle.oneshot_drive.specs.Wakes.{finds_waiting}
+use Rattle.oneshot_word.proofs.RuleReceives.{woken_is_put, both_reach}
+use Rattle.oneshot_word.specs.declared.any_waker.AnyWaker.{AnyWaker}
+use Rattle.oneshot_word.specs.declared.any_waker.AnyWaker.TheVariants.{Thread, Task, Nobody}
+use Rattle.oneshot_word.specs.Received.{both_views}
+use Rattle.oneshot_word.specs.Rule.{Tied, has_made}
+use Rattle.oneshot_word.specs.Side.{Side}
+use Rattle.oneshot_ends.specs.declared.token.Given.{Given}
+use Rattle.oneshot_ends.specs.declared.token.Half.{Half}
+use Rattle.oneshot_ends.specs.declared.token.Half.TheVariants.{Waking}
+use Rattle.oneshot_ends.specs.declared.token.WakingHalf.{WakingHalf}
+use Rattle.oneshot_ends.specs.NoLostWakeup.{RealWaker, AtOneMoment, IsThereOrTaken, HasGivenTokenOf, EndedSendersGaveTokens, NoSleeperIsForgotten, FuturesWakeNoThread}
+use Rattle.oneshot_ends.specs.OwnExamples.{blocks, UsesThatAre, UsesThatAreNot}
+use Rattle.oneshot_ends.specs.OwnWakers.{IsHalfOf, IsNoThread, is_waiting, Gave, WaitsByHalvesOf}
+use Rattle.oneshot_ends.specs.Tokens.{TokenIs}
+use Rattle.oneshot_ends.specs.Woken.{Sending, IsWoken, HasEnded}
+use Rattle.oneshot_ends.proofs.FoundWaiting.{found_waiting}
+use Rattle.oneshot_ends.proofs.OwnWakers.{same_put}
+use Rattle.oneshot_ends.proofs.Tokens.{Has, has, there_waking, taken_waking}
+
+kept_there : {is_there : Bool} {halves : List Half} {id : ℕ} → Has is_there halves id (Waking true)
+    → IsThereOrTaken is_there halves
+kept_there there_waking = inl refl
+kept_there taken_waking = inr (0, refl)
+
+-- a half that was used has given the token of its parker
+own_given : {T P : Type 0} (parker : TableId) (k : RealWaker) (sender : Sending T RealWaker P) (given : Option Given)
+    → sender.given ≡ given → IsHalfOf parker k → IsWoken k given → HasGivenTokenOf parker sender
+own_given parker (Thread half) sender None is own woken = absurd woken
+own_given parker (Thread half) sender (Some g) is own woken =
+    record {
+      evidence = g;
+      is_it = is;
+      of_parker = woken.0 ∙ own;
+      kept = λ is_there halves token at.
+          kept_there (has token g.pass.id (at ∙ ap (λ half. some half) g.given));
+    }
+own_given parker (Task copy) sender given is own woken = absurd own
+own_given parker Nobody sender given is own woken = absurd own
+
+module _ {T P : Type 0} (keeps : P → T → Type 0) where
+  -- at each moment, what the sender took is what the receiver gave
+  taken_is_given : (sender : Sending T RealWaker P) (receiver : Side T RealWaker P) {own : RealWaker → Type 0}
+      (k : RealWaker) → AtOneMoment keeps sender.side receiver → sender.side.handed ≡ Some k → Gave own receiver.handed
+      → own k
+  taken_is_given sender receiver {own} k moment took gave =
+      same_put own gave
+      ((woken_is_put WakingHalf Waker keeps).woken moment.about moment.words moment.homes sender.side.log receiver.log
+      sender.side.passed receiver.passed receiver.handed k
+      (subst (λ woke. Tied keeps moment.about moment.words moment.homes
+      (both_views moment.about sender.side.log sender.side.passed woke receiver.log receiver.passed receiver.handed))
+      took moment.allowed))
+
+  pub senders_gave_tokens : EndedSendersGaveTokens keeps
+  senders_gave_tokens by sender receiver parker moment ended found gave =
+      let woken = ended.woken found in
+      own_given parker woken.0 sender sender.given refl
+      (taken_is_given sender receiver {own = IsHalfOf parker} woken.0 moment woken.1 gave) woken.2
+
+  pub no_sleeper_is_forgotten : NoSleeperIsForgotten keeps
+  no_sleeper_is_forgotten by sender receiver parker moment ended sleeps =
+      let found =
+      found_waiting (both_reach moment.allowed refl).1 sleeps.waits (over_made by sender.side.log ended.over) in
+      senders_gave_tokens by sender receiver parker moment ended found (sleeps.own.gave sleeps.waits)
+    where
+      over_made : (by : By) (xs : List Noted) → SenderIsOver by (sender_at xs) → has_made xs ≡ true
+      over_made by [] over = elim over [ ]
+      over_made by (x ∷ xs) over = refl
+
+  pub futures_wake_no_thread : FuturesWakeNoThread keeps
+  futures_wake_no_thread sender future taken moment own waits took =
+      taken_is_given sender future {own = IsNoThread} taken moment took (own.gave waits)
+
+unused : {K : Type 0} {k : AnyWaker WakingHalf K} {half : WakingHalf} {given : Option Given} → IsWoken k given
+    → Some k ≡ Some (Thread half) → given ≡ None → ⊥
+unused {K} {k} {half} {given} woken is none =
+    let same : k ≡ Thread half = cc is in
+    subst (λ (given : Option Given). IsWoken {K = K} (Thread half) given) none
+    (subst (λ k. IsWoken {K = K} k given) same woken)
+
+gives_its_own : {K : Type 0} (s : Side ⊤ (AnyWaker WakingHalf K) ⊤) (half : WakingHalf) → s.log ≡ blocks
+    → s.waker ≡ away → s.handed ≡ Some (Thread half) → WaitsByHalvesOf half.pass.table_id s
+gives_its_own s half logs slot gave =
+    record { slot = λ k e. absurd (let no = sym slot ∙ e in cc no); gave = λ _. (Thread half, gave, refl) }
+
+never_over : (s : Sending ⊤ (AnyWaker WakingHalf ℕ) ⊤) {log : List Noted} → s.side.log ≡ log
+    → (SenderIsOver sending (sender_at log) → ⊥) → HasEnded sending s → ⊥
+never_over s logs never ended = never (subst (λ xs. SenderIsOver sending (sender_at xs)) logs ended.over)
+
+pub uses_that_are : UsesThatAre
+uses_that_are =
+    record {
+      woke_it = λ s half given took is same found. (
+        Thread half,
+        took,
+        subst (λ (g : Option Given). IsWoken {K = ℕ} (Thread half) g) (sym is) same,
+      );
+      nobody_waits = λ s logs found. let e : false ≡ true = sym (ap finds_waiting logs) ∙ found in absurd (cc e);
+      of_its_parker = λ p half same. same;
+      of_nobody = λ k is. subst IsNoThread (sym is) tt;
+      its_own = λ half. refl;
+      waits = refl;
+      is_overdue = refl;
+      is_new = refl;
+      gives_its_own = gives_its_own;
+      ended = λ s half given logs took is same.
+          record {
+            over = subst (λ xs. SenderIsOver sending (sender_at xs)) (sym logs) over_finished;
+            woken = λ found. (
+              Thread half,
+              took,
+              subst (λ (g : Option Given). IsWoken {K = ℕ} (Thread half) g) (sym is) same,
+            );
+          };
+      sleeps = λ s half logs slot gave.
+          record { waits = ap (λ xs. is_waiting (receiver_at xs)) logs; own = gives_its_own s half logs slot gave };
+    }
+
+pub uses_that_are_not : UsesThatAreNot
+uses_that_are_not =
+    record {
+      gave_none = λ s half logs took none used.
+          let woken = used (ap finds_waiting logs) in unused woken.2 (sym woken.1 ∙ took) none;
+      took_none = λ s logs none used.
+          let woken = used (ap finds_waiting logs) in let e = sym none ∙ woken.1 in absurd (cc e);
+      nobody = λ parker own. own;
+      a_task = λ parker own. own;
+      of_another = λ parker half other own. other own;
+      left_nobody = λ s parker logs gave owned.
+          same_put (IsHalfOf parker) (owned.gave (ap (λ xs. is_waiting (receiver_at xs)) logs)) gave;
+      left_a_thread = λ s half logs gave free.
+          same_put IsNoThread (free.gave (ap (λ xs. is_waiting (receiver_at xs)) logs)) gave;
+      is_fresh = λ s logs ended. never_over s logs (λ over. elim over [ ]) ended;
+      ended_unwoken = λ s half logs took none ended.
+          let woken = ended.woken (ap finds_waiting logs) in unused woken.2 (sym woken.1 ∙ took) none;
+      dropped_instead = λ s logs ended. never_over s logs (λ over. elim over [ ]) ended;
+      sleeps_unasked = λ s parker logs sleeps.
+          let e : false ≡ true = sym (ap (λ xs. is_waiting (receiver_at xs)) logs) ∙ sleeps.waits in absurd (cc e);
+      sleeps_by_nobody = λ s parker logs gave sleeps.
+          same_put (IsHalfOf parker) (sleeps.own.gave sleeps.waits) gave;
+      gave_no_token = λ s parker none gave. let e = sym none ∙ gave.is_it in absurd (cc e);
+    }
