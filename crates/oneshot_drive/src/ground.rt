@@ -13,6 +13,11 @@ pub trait SenderGround<T, W> {
     // The ground's log, and both slots as the end sees them.
     ghost state: { Self → GroundState T W };
 
+    // What the ground has beside the channel is kept from one state to a later one.
+    ghost keeps: { Self → Self → Type 0 };
+
+    ghost keeps_on: { (a b c : Self) → keeps a b → keeps b c → keeps a c };
+
     // What the ground requires of a message that is written.
     ghost admits: { Self → T → Type 0 };
 
@@ -31,13 +36,15 @@ pub trait SenderGround<T, W> {
         ensures log { Grows (state self.old).log (state self.new).log (worded Add result ∷ []) }
         ensures finds { SenderMakes Add result (state self.old) (state self.new) }
         ensures gave { (x : T) → (state self.old).message ≡ held x → (state self.new).message ≡ away
-            → gave self.new x };
+            → gave self.new x }
+        ensures keeps { keeps self.old self.new };
 
     /// Flips the word's lowest bit, and returns the word before.
     fn flip(&mut self) -> u8
         requires { SenderAsks Xor (state self.old) }
         ensures log { Grows (state self.old).log (state self.new).log (worded Xor result ∷ []) }
-        ensures finds { SenderMakes Xor result (state self.old) (state self.new) };
+        ensures finds { SenderMakes Xor result (state self.old) (state self.new) }
+        ensures keeps { keeps self.old self.new };
 
     /// Stores `last` in the word, as the sender's last operation, and returns the word before.
     fn swap(&mut self, last: u8) -> u8
@@ -46,7 +53,8 @@ pub trait SenderGround<T, W> {
         ensures finds { SenderMakes (Swap last) result (state self.old) (state self.new) }
         ensures owed { (waker : W) → owed self.old waker → owed self.new waker }
         ensures gave { (x : T) → (state self.old).message ≡ held x → (state self.new).message ≡ away
-            → gave self.new x };
+            → gave self.new x }
+        ensures keeps { keeps self.old self.new };
 
     /// Writes `message` into its slot, which is the end's and empty.
     fn write_message(&mut self, message: T)
@@ -54,7 +62,8 @@ pub trait SenderGround<T, W> {
         requires kept { admits self.old message }
         ensures log { Grows (state self.old).log (state self.new).log (wrote message ∷ []) }
         ensures message { (state self.new).message ≡ held message }
-        ensures waker { (state self.new).waker ≡ (state self.old).waker };
+        ensures waker { (state self.new).waker ≡ (state self.old).waker }
+        ensures keeps { keeps self.old self.new };
 
     /// Takes the message out of its slot, and returns it.
     fn take_message(&mut self) -> T
@@ -62,14 +71,16 @@ pub trait SenderGround<T, W> {
         ensures log { Grows (state self.old).log (state self.new).log (took result ∷ []) }
         ensures was { (state self.old).message ≡ held result }
         ensures message { (state self.new).message ≡ vacant }
-        ensures waker { (state self.new).waker ≡ (state self.old).waker };
+        ensures waker { (state self.new).waker ≡ (state self.old).waker }
+        ensures keeps { keeps self.old self.new };
 
     /// Drops the message in its slot.
     fn drop_message(&mut self)
         requires { (x : T) × ((state self.old).message ≡ held x) }
         ensures log { Grows (state self.old).log (state self.new).log (did DropMessage ∷ []) }
         ensures message { (state self.new).message ≡ vacant }
-        ensures waker { (state self.new).waker ≡ (state self.old).waker };
+        ensures waker { (state self.new).waker ≡ (state self.old).waker }
+        ensures keeps { keeps self.old self.new };
 
     /// Takes the waiting receiver's waker out of its slot, and returns it.
     fn take_waker(&mut self) -> W
@@ -78,7 +89,8 @@ pub trait SenderGround<T, W> {
         ensures was { (state self.old).waker ≡ held result }
         ensures owed { owed self.new result }
         ensures message { (state self.new).message ≡ (state self.old).message }
-        ensures waker { (state self.new).waker ≡ vacant };
+        ensures waker { (state self.new).waker ≡ vacant }
+        ensures keeps { keeps self.old self.new };
 
     /// Wakes the receiver with `waker`, which is the one that the ground took, and consumes it.
     fn wake(&mut self, waker: W)
@@ -87,7 +99,8 @@ pub trait SenderGround<T, W> {
         ensures message { (state self.new).message ≡ (state self.old).message }
         ensures waker { (state self.new).waker ≡ (state self.old).waker }
         ensures woken { woken self.new waker }
-        ensures gave { (x : T) → gave self.old x → gave self.new x };
+        ensures gave { (x : T) → gave self.old x → gave self.new x }
+        ensures keeps { keeps self.old self.new };
 
     /// Frees the block. Before, both slots are the end's and empty; after, neither is the end's.
     fn free(&mut self)
@@ -96,7 +109,8 @@ pub trait SenderGround<T, W> {
         ensures log { Grows (state self.old).log (state self.new).log (did Free ∷ []) }
         ensures message { (state self.new).message ≡ away }
         ensures waker { (state self.new).waker ≡ away }
-        ensures woken { (waker : W) → woken self.old waker → woken self.new waker };
+        ensures woken { (waker : W) → woken self.old waker → woken self.new waker }
+        ensures keeps { keeps self.old self.new };
 }
 
 /// The steps of the receiver in any call, for messages `T` and wakers `W`.

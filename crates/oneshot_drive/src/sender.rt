@@ -31,6 +31,7 @@ pub fn send<T, W, G: SenderGround<T, W>>(g: &mut G, message: T) -> bool
     ensures over { SenderIsOver sending (sender_of (G.state g.new).log) }
     ensures bounded { MakesWithin (sender_bound Send) (G.state g.old).log (G.state g.new).log }
     ensures gave { result ≡ true → G.gave g.new message }
+    ensures keeps { G.keeps g.old g.new }
 {
     g.write_message(message);
     match g.add() {
@@ -71,6 +72,7 @@ fn finish<T, W, G: SenderGround<T, W>>(g: &mut G, last: u8) -> bool
     ensures over { (by : By) → sender_of (G.state g.old).log ≡ owes by
         → SenderIsOver by (sender_of (G.state g.new).log) }
     ensures gave { result ≡ true → (x : T) → (G.state g.old).message ≡ held x → G.gave g.new x }
+    ensures keeps { G.keeps g.old g.new }
 {
     let waker = g.take_waker();
     let found = g.swap(last);

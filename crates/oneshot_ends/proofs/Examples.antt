@@ -235,6 +235,7 @@ module _ (table : TableId) where
               offset = get_or (same i) 5 0;
               slot_names = drop 6 (same i);
             };
+        is_its_channel = refl;
         no_message = refl;
         a_message = refl;
         a_copy = refl;

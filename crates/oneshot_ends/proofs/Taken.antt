@@ -1,7 +1,7 @@
 -- What a receiver took, by its log: each run of a call that stays in place finds the message exactly if it returns it.
-use Rattle.std.proofs.Common.{◌≡◌, Bool, true, false, List, [], ◌∷◌, ◌++◌, Option, Some, None, Result, Ok, Err, refl, sym, ap, ◌∙◌, subst}
+use Rattle.std.proofs.Common.{◌≡◌, ◌⊎◌, inl, inr, Bool, true, false, List, [], ◌∷◌, ◌++◌, Option, Some, None, Result, Ok, Err, refl, sym, ap, ◌∙◌, subst}
 use Rattle.std.proofs.lemmas.Bool.{and_parts}
-use Rattle.std.specs.Prelude.{ℕ, ◌&&◌, ◌||◌, is_some, IfOk}
+use Rattle.std.specs.Prelude.{ℕ, ◌&&◌, ◌||◌, is_some, is_err, IfOk, IsErr}
 use Rattle.std.specs.List.{list_all, cons_option}
 use Rattle.std.specs.Option.{option_map}
 use Rattle.futures.specs.declared.task.Poll.{Poll}
@@ -22,9 +22,9 @@ use Rattle.oneshot_machine.specs.declared.machine.future.FuturePos.TheVariants.{
 use Rattle.oneshot_machine.specs.declared.states.Op.{Op}
 use Rattle.oneshot_machine.specs.Called.{Form, as_receiver, as_future, stays}
 use Rattle.oneshot_machine.specs.Noted.{Noted, op_of, saw}
-use Rattle.oneshot_machine.specs.Logs.{Event, words}
+use Rattle.oneshot_machine.specs.Logs.{Event, words, receiver_of}
 use Rattle.oneshot_machine.specs.Receiver.{receiver_start, receiver_step, receiver_rows, receiver_row}
-use Rattle.oneshot_machine.specs.Phases.{phase_from}
+use Rattle.oneshot_machine.specs.Phases.{ReceiverAt, receiver_at, phase_from}
 use Rattle.oneshot_machine.specs.Runs.{Run}
 use Rattle.oneshot_machine.specs.TableRows.{Outcome, Goes, Answers, row_for, is_same_seen}
 use Rattle.oneshot_machine.proofs.RunsByRows.{row_passes, moved, Leads, by_rows}
@@ -33,8 +33,8 @@ use Rattle.oneshot_drive.specs.declared.errors.recv_timeout.RecvTimeoutError.{Re
 use Rattle.oneshot_drive.specs.declared.errors.recv_timeout.RecvTimeoutError.TheVariants as Timeouts
 use Rattle.oneshot_drive.specs.declared.errors.try_recv.TryRecvError.{TryRecvError}
 use Rattle.oneshot_drive.specs.declared.errors.try_recv.TryRecvError.TheVariants as E
-use Rattle.oneshot_drive.specs.BetweenCalls.{try_recv_reply, recv_reply, timed_reply}
-use Rattle.oneshot_drive.specs.Polls.{poll_reply}
+use Rattle.oneshot_drive.specs.BetweenCalls.{Rests, rests_new, rests_open, rests_closed, AtRest, IsClosedAt, is_open_at, try_recv_reply, recv_reply, timed_reply}
+use Rattle.oneshot_drive.specs.Polls.{Polled, unpolled, left_copy, kept_copy, found_sender, has_resolved, IsPolled, IsDisconnected, poll_reply}
 use Rattle.oneshot_word.specs.Received.{both_views}
 use Rattle.oneshot_word.specs.Rule.{Tied}
 use Rattle.oneshot_word.specs.Seats.{gave}
@@ -43,7 +43,9 @@ use Rattle.oneshot_machine.specs.Slots.{away, held}
 use Rattle.oneshot_word.proofs.Alike.{is_bool, bools_are}
 use Rattle.oneshot_word.proofs.RuleReceives.{received_is_sent}
 use Rattle.oneshot_ends.specs.Ends.{ReceiverGrew}
-use Rattle.oneshot_ends.specs.Grounds.{left_of, unless_freed}
+use Rattle.oneshot_ends.specs.Grounds.{state_of, left_of, unless_freed}
+use Rattle.oneshot_ends.proofs.GrewByRuns.{words_of}
+use Rattle.oneshot_ends.proofs.OpenTaken.{open_took_none}
 use Rattle.oneshot_ends.specs.Taken.{StaysTaken, has_found, TookAsFound, KeepsTaken, Takes, TakesReady, WasSent, is_message}
 
 or_no : (b : Bool) → (b || false) ≡ b
@@ -207,39 +209,81 @@ told_timed (Ok x) = refl
 told_timed (Err Timeouts.Timeout) = refl
 told_timed (Err Timeouts.Disconnected) = refl
 
+-- between two calls a receiver is open or closed
+abbrev pub IsEither : ReceiverAt → Type 0
+IsEither at = (is_open_at at ≡ true) ⊎ IsClosedAt at
+
+rests_either : {at : ReceiverAt} → Rests at → IsEither at
+rests_either rests_new = inl refl
+rests_either (rests_open o) = inl refl
+rests_either (rests_closed c) = inr refl
+
+polled_either : {at : ReceiverAt} → Polled at → IsEither at
+polled_either (unpolled rests) = rests_either rests
+polled_either left_copy = inl refl
+polled_either kept_copy = inl refl
+polled_either found_sender = inl refl
+polled_either (has_resolved c) = inr refl
+
+module _ {T W P : Type 0} (s : Side T W P) where
+  at_phase : {at : ReceiverAt} → receiver_of (state_of s).log ≡ at → IsEither at → IsEither (receiver_at s.log)
+  at_phase phase either =
+      subst IsEither (sym (sym (ap receiver_at (words_of T W s.log)) ∙ phase)) either
+
+  pub rests_so : AtRest (state_of s) → IsEither (receiver_at s.log)
+  rests_so rests = at_phase rests.stands.phase (rests_either rests.is_one)
+
+  pub polled_so : IsPolled (state_of s) → IsEither (receiver_at s.log)
+  polled_so rests = at_phase rests.stands.phase (polled_either rests.is_one)
+
+-- a closed receiver receives nothing
+pub is_error : {T E : Type 0} {result : Result T E} {e : E} → result ≡ Err e → IsErr result
+is_error is = ap is_err is
+
+not_error : {T : Type 0} (E : Type 0) (x : T) → IsErr {E = E} (Ok x) → ⊥
+not_error E x e = cc e
+
+not_ready : {T : Type 0} (x : T) → IsDisconnected (Ready (Ok x)) → ⊥
+not_ready x is = elim is [ ]
+
 module _ {T : Type 0} (log next : List Noted) {before after : Option T} (stays : StaysTaken before after)
-    (was : TookAsFound before log) (is : TookAsFound after next) where
+    (was : TookAsFound before log × IsEither (receiver_at log)) (is : TookAsFound after next) where
   takes_none : has_found next ≡ (has_found log || false) → after ≡ before
-  takes_none grew = same_taken before after stays (is ∙ grew ∙ or_no (has_found log) ∙ sym was)
+  takes_none grew = same_taken before after stays (is ∙ grew ∙ or_no (has_found log) ∙ sym was.0)
+
+  none_before : (IsClosedAt (receiver_at log) → ⊥) → before ≡ None
+  none_before not_closed =
+      elim was.1 [ inl is_open ↦ open_took_none before log was.0 is_open | inr closed ↦ absurd (not_closed closed) ]
 
   takes : {E : Type 0} (result : Result T E) → has_found next ≡ (has_found log || is_answer result)
-      → IfOk result (λ x. after ≡ Some x) → Takes result before after
-  takes (Ok x) grew had = had
-  takes (Err e) grew had = takes_none grew
+      → (IsClosedAt (receiver_at log) → IsErr result) → IfOk result (λ x. after ≡ Some x) → Takes result before after
+  takes {E} (Ok x) grew closed had = (none_before (λ is_closed. not_error E x (closed is_closed)), had)
+  takes (Err e) grew closed had = takes_none grew
 
   pub tried_takes : (call : ReceiverStart) → begins call ≡ true → (result : Result T TryRecvError)
-      → ReceiverGrew T call log next (try_recv_reply result) → IfOk result (λ x. after ≡ Some x)
-      → Takes result before after
+      → ReceiverGrew T call log next (try_recv_reply result) → (IsClosedAt (receiver_at log) → IsErr result)
+      → IfOk result (λ x. after ≡ Some x) → Takes result before after
   tried_takes call e result grew =
       takes result (grew_found call e grew ∙ ap (λ b. has_found log || b) (told_tried result))
 
   pub recv_takes : (call : ReceiverStart) → begins call ≡ true → (result : Result T RecvError)
-      → ReceiverGrew T call log next (recv_reply result) → IfOk result (λ x. after ≡ Some x)
-      → Takes result before after
+      → ReceiverGrew T call log next (recv_reply result) → (IsClosedAt (receiver_at log) → IsErr result)
+      → IfOk result (λ x. after ≡ Some x) → Takes result before after
   recv_takes call e result grew =
       takes result (grew_found call e grew ∙ ap (λ b. has_found log || b) (told_recv result))
 
   pub timed_takes : (call : ReceiverStart) → begins call ≡ true → (result : Result T RecvTimeoutError)
-      → ReceiverGrew T call log next (timed_reply result) → IfOk result (λ x. after ≡ Some x)
-      → Takes result before after
+      → ReceiverGrew T call log next (timed_reply result) → (IsClosedAt (receiver_at log) → IsErr result)
+      → IfOk result (λ x. after ≡ Some x) → Takes result before after
   timed_takes call e result grew =
       takes result (grew_found call e grew ∙ ap (λ b. has_found log || b) (told_timed result))
 
   pub poll_takes : (result : Poll (Result T RecvError)) → ReceiverGrew T RC.Poll log next (poll_reply result)
+      → (IsClosedAt (receiver_at log) → IsDisconnected result)
       → IfReady result (λ answer. IfOk answer (λ x. after ≡ Some x)) → TakesReady result before after
-  poll_takes (Ready (Ok x)) grew had = had
-  poll_takes (Ready (Err e)) grew had = takes_none (grew_found RC.Poll refl grew)
-  poll_takes Pending grew had = takes_none (grew_found RC.Poll refl grew)
+  poll_takes (Ready (Ok x)) grew closed had = (none_before (λ is_closed. not_ready x (closed is_closed)), had)
+  poll_takes (Ready (Err e)) grew closed had = takes_none (grew_found RC.Poll refl grew)
+  poll_takes Pending grew closed had = takes_none (grew_found RC.Poll refl grew)
 
 module _ {T W P : Type 0} where
   -- what an operation on the word keeps

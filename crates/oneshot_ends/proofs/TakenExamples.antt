@@ -12,9 +12,9 @@ takes_that_are =
       found_none = refl;
       was_sent = was_sent ℕ ℕ ◌≡◌ received (Some 7);
       takes_it = record { stays = λ x is. absurd (cc is); found = λ so. refl };
-      returned_it = refl;
+      returned_it = (refl, refl);
       returned_none = refl;
-      is_ready = refl;
+      is_ready = (refl, refl);
       is_pending = refl;
       sends = λ sender new. sym (ap has_found new);
     }
@@ -27,8 +27,9 @@ takes_that_are_not =
       took_another = λ stays. let e : ◌≡◌ {A = Option ℕ} (Some 8) (Some 7) = stays 7 refl in cc e;
       lost_it = λ kept. let e : ◌≡◌ {A = Option ℕ} None (Some 7) = kept.stays 7 refl in cc e;
       finds_untaken = λ kept. let e : false ≡ true = kept.found refl in cc e;
-      returned_another = λ took. let e : ◌≡◌ {A = Option ℕ} (Some 8) (Some 7) = took in cc e;
-      returned_untaken = λ took. let e : ◌≡◌ {A = Option ℕ} None (Some 7) = took in cc e;
+      returned_another = λ took. let e : ◌≡◌ {A = Option ℕ} (Some 8) (Some 7) = took.1 in cc e;
+      returned_untaken = λ took. let e : ◌≡◌ {A = Option ℕ} None (Some 7) = took.1 in cc e;
+      returned_again = λ took. let e : ◌≡◌ {A = Option ℕ} (Some 7) None = took.0 in cc e;
       took_in_an_error = λ took. let e : ◌≡◌ {A = Option ℕ} (Some 7) None = took in cc e;
       took_while_pending = λ took. let e : ◌≡◌ {A = Option ℕ} (Some 7) None = took in cc e;
     }

@@ -19,38 +19,48 @@ use Rattle.oneshot_machine.specs.Runs.{Run}
 use Rattle.oneshot_machine.specs.Sender.{sender_start, sender_step, sender_row}
 use Rattle.oneshot_machine.specs.Noted.{Noted}
 use Rattle.oneshot_drive.specs.BetweenCalls.{IsClosedAt, IsOpenAt}
+use Rattle.oneshot_word.specs.Side.{Side}
 use Rattle.oneshot_ends.specs.Deadlines.{HasEnd}
 
 -- a waker in a run; contracts leave open which one
 abbrev pub Waking : Type 0
 Waking = Unit {0}
 
--- a sender, with the value that the promise of its channel is about
+-- A channel: its shared table, and the value that its promise is about. So ends of one channel are about one value.
+pub record Channel (P : Type 0) : Type 0 where
+  pub table : TableId
+  pub about : P
+
+-- a sender; `about` is its channel's
 pub record SenderEndOf (P : Type 0) : Type 0 where
-  pub channel : TableId
+  pub channel : Channel P
   pub log : List Noted
   pub about : P
 
 -- a receiver: the same, with the message that it took out of the channel, if it has
 pub record EndOf (T P : Type 0) : Type 0 where
-  pub channel : TableId
+  pub channel : Channel P
   pub log : List Noted
   pub about : P
   pub took : Option T
 
 -- a future: the same, with the source at which its polls register
 pub record FutureEndOf (T P : Type 0) : Type 0 where
-  pub channel : TableId
+  pub channel : Channel P
   pub log : List Noted
   pub source : ℕ
   pub about : P
   pub took : Option T
 
 -- an error: the message that was refused, and the sender's channel and log
-pub record Failed (T : Type 0) : Type 0 where
+pub record Failed (T P : Type 0) : Type 0 where
   pub message : T
-  pub channel : TableId
+  pub channel : Channel P
   pub log : List Noted
+
+-- the channel that an end's side belongs to
+abbrev pub channel_at : {T W P : Type 0} → Side T W P → Channel P
+channel_at side = record { table = side.table; about = side.about }
 
 -- the log grew by the operations of one run of this call, which ends in this reply
 pub record SenderGrew (T : Type 0) (call : SenderCall) (before after : List Noted) (reply : Reply) : Type 0 where

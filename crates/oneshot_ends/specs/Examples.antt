@@ -25,7 +25,7 @@ use Rattle.oneshot_ends.specs.declared.copies.TaskCopy.{TaskCopy}
 use Rattle.oneshot_ends.specs.declared.deadline.Deadline.TheVariants.{At, Passed, Never}
 use Rattle.oneshot_ends.specs.Copies.{HasMade, HasNoneOf}
 use Rattle.oneshot_ends.specs.Deadlines.{IsOver, IsFar, has_end, IsAfter, HasEnd}
-use Rattle.oneshot_ends.specs.Ends.{EndOf, FutureEndOf, Failed, SenderGrew, ReceiverGrew, TimeoutRan, TimeoutGrew, HasCalls, SenderIsOrdered, ReceiverIsOrdered, WasRefused, IsClosed, IsOpen, IsDone, IsUnfinished}
+use Rattle.oneshot_ends.specs.Ends.{Channel, EndOf, FutureEndOf, channel_at, Failed, SenderGrew, ReceiverGrew, TimeoutRan, TimeoutGrew, HasCalls, SenderIsOrdered, ReceiverIsOrdered, WasRefused, IsClosed, IsOpen, IsDone, IsUnfinished}
 use Rattle.oneshot_ends.specs.Grounds.{channel_of, slot_of, state_of, lent, left_of, MayBeFreed, IsNewSender, IsNewReceiver}
 use Rattle.oneshot_ends.specs.Polling.{token_of, polled_state}
 
@@ -40,11 +40,14 @@ abbrev pub polled : List Noted
 polled = (Load, Word 3) ∷ (Exchange 3 0, Word 3) ∷ []
 
 -- OPEN AND CLOSED
-module _ (channel : TableId) where
+module _ (table : TableId) where
+  abbrev pub channel : Channel ℕ
+  channel = record { table = table; about = 5 }
+
   abbrev pub end_with : List Noted → EndOf ℕ ℕ
   end_with log = record { channel = channel; log = log; about = 5; took = None }
 
-  abbrev pub error_with : List Noted → Failed ℕ
+  abbrev pub error_with : List Noted → Failed ℕ ℕ
   error_with log = record { message = 7; channel = channel; log = log }
 
   abbrev pub future_with : List Noted → FutureEndOf ℕ ℕ
@@ -168,6 +171,7 @@ module _ (table : TableId) where
     pub freed_the_message : (left_of true (side_with [])).message ≡ away
     pub freed_the_waker : (left_of true (side_with [])).waker ≡ away
     pub tells_tables_apart : (other : TableId) → channel_of table ≡ channel_of other → table ≡ other
+    pub is_its_channel : channel_at (side_with []) ≡ record { table = table; about = 5 }
     pub no_message : slot_of {X = ℕ} None ≡ vacant
     pub a_message : slot_of (Some table) ≡ held table
     pub a_copy : token_of (held table) ≡ held (record {})

@@ -1,5 +1,5 @@
 -- The message that a receiver took: which one, when, and how its log shows it.
-use Rattle.std.specs.Prelude.{◌≡◌, ℕ, Bool, true, false, ◌||◌, List, [], ◌∷◌, Option, Some, is_some, Result, Ok, Err}
+use Rattle.std.specs.Prelude.{◌≡◌, ℕ, Bool, true, false, ◌||◌, List, [], ◌∷◌, Option, Some, None, is_some, Result, Ok, Err}
 use Rattle.futures.specs.declared.task.Poll.{Poll}
 use Rattle.futures.specs.declared.task.Poll.TheVariants.{Ready, Pending}
 use Rattle.oneshot_machine.specs.declared.machine.Reply.{Reply}
@@ -37,9 +37,9 @@ pub record KeepsTaken {T : Type 0} (before after : Option T) (log next : List No
   pub stays : StaysTaken before after
   pub found : TookAsFound before log → TookAsFound after next
 
--- A receive that returned a message has taken that one. Any other has taken none.
+-- A receive that returned a message had taken none, and has taken that one. Any other takes none.
 abbrev pub Takes : {T E : Type 0} → Result T E → Option T → Option T → Type 0
-Takes (Ok x) before after = after ≡ Some x
+Takes (Ok x) before after = (before ≡ None) × (after ≡ Some x)
 Takes (Err e) before after = after ≡ before
 
 -- the same of a poll

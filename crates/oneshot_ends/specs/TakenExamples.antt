@@ -27,5 +27,6 @@ pub record TakesThatAreNot : Type 0 where
   pub finds_untaken : KeepsTaken {T = ℕ} None None [] received → ⊥
   pub returned_another : Takes {T = ℕ} {E = ℕ} (Ok 7) None (Some 8) → ⊥
   pub returned_untaken : Takes {T = ℕ} {E = ℕ} (Ok 7) None None → ⊥
+  pub returned_again : Takes {T = ℕ} {E = ℕ} (Ok 7) (Some 7) (Some 7) → ⊥
   pub took_in_an_error : Takes {T = ℕ} {E = ℕ} (Err 0) None (Some 7) → ⊥
   pub took_while_pending : TakesReady {T = ℕ} {E = ℕ} Pending None (Some 7) → ⊥

@@ -4,7 +4,7 @@ ghost use Rattle.std.specs.Prelude.{◌≡◌};
 ghost use Rattle.oneshot_machine.specs.Phases.{sender_at};
 ghost use Rattle.oneshot_machine.specs.Slots.{held};
 ghost use Rattle.oneshot_drive.specs.BetweenCalls.{IsLate};
-ghost use Rattle.oneshot_ends.specs.Ends.{SenderIsOrdered, WasRefused};
+ghost use Rattle.oneshot_ends.specs.Ends.{SenderIsOrdered, WasRefused, channel_at};
 
 use crate::ground::{Refused, SharedSender};
 use crate::token::WakingHalf;
@@ -31,7 +31,7 @@ pub struct SendError<T, P: Promise<T> = ()> {
 impl<T, P: Promise<T>> Model for SendError<T, P> {
     ghost use Rattle.oneshot_ends.specs.Ends.{Failed};
 
-    ghost Value = { Failed T };
+    ghost Value = { Failed T P };
 
     ghost view = { λ e. e.refused };
 }
@@ -66,7 +66,7 @@ impl<T: Drop, P: Promise<T>> SendError<T, P> {
         requires late { IsLate (sender_at ground.side.log) }
         requires refused { WasRefused T ground.side.log }
         ensures message { ground.side.message ≡ held result.message }
-        ensures channel { result.channel ≡ ground.side.table }
+        ensures channel { result.channel ≡ channel_at ground.side }
         ensures log { result.log ≡ ground.side.log }
     {
         let (message, side) = ground.into_refused();

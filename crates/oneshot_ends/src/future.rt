@@ -12,9 +12,9 @@ ghost use Rattle.oneshot_machine.specs.Phases.{receiver_at};
 ghost use Rattle.oneshot_drive.specs.BetweenCalls.{AtRest, try_recv_reply};
 ghost use Rattle.oneshot_drive.specs.Polls.{LeavesPolled, LeavesTried, StaysRegistered, IsDisconnected, poll_reply};
 ghost use Rattle.oneshot_machine.specs.Called.{as_receiver};
-ghost use Rattle.oneshot_ends.specs.Ends.{ReceiverGrew, HasCalls, IsDone, IsUnfinished};
+ghost use Rattle.oneshot_ends.specs.Ends.{ReceiverGrew, HasCalls, IsDone, IsUnfinished, channel_at};
 ghost use Rattle.oneshot_ends.specs.Grounds.{state_of};
-ghost use Rattle.oneshot_ends.specs.Taken.{StaysTaken, TookAsFound, Takes, TakesReady};
+ghost use Rattle.oneshot_ends.specs.Taken.{TookAsFound, Takes, TakesReady};
 
 use crate::copies::Copies;
 use crate::ground::{Polling, SharedReceiver};
@@ -53,7 +53,7 @@ pub struct AsyncReceiver<T, Rt, P: Promise<T> = ()> {
 impl<T, Rt, P: Promise<T>> Model for AsyncReceiver<T, Rt, P> {
     ghost use Rattle.oneshot_drive.specs.Polls.{IsPolled};
     ghost use Rattle.oneshot_machine.specs.Called.{as_future};
-    ghost use Rattle.oneshot_ends.specs.Ends.{FutureEndOf, HasCalls};
+    ghost use Rattle.oneshot_ends.specs.Ends.{FutureEndOf, HasCalls, channel_at};
     ghost use Rattle.oneshot_ends.specs.Grounds.{state_of};
     ghost use Rattle.oneshot_ends.specs.OwnWakers.{WaitsByNoThread};
     ghost use Rattle.oneshot_ends.specs.Taken.{TookAsFound};
@@ -61,7 +61,7 @@ impl<T, Rt, P: Promise<T>> Model for AsyncReceiver<T, Rt, P> {
     ghost Value = { FutureEndOf T P };
 
     ghost view = { λ r. record {
-      channel = r.ground.table;
+      channel = channel_at r.ground;
       log = r.ground.log;
       source = r.source.id;
       about = r.ground.about;
@@ -82,7 +82,7 @@ impl<T, Rt, P: Promise<T>> AsyncReceiver<T, Rt, P> {
         requires rests { AtRest (state_of ground) }
         requires calls { HasCalls T as_receiver ground.log }
         requires found { TookAsFound ground.passed ground.log }
-        ensures channel { result.channel ≡ ground.table }
+        ensures channel { result.channel ≡ channel_at ground }
         ensures log { result.log ≡ ground.log }
         ensures about { result.about ≡ ground.about }
         ensures took { result.took ≡ ground.passed }
@@ -121,7 +121,6 @@ impl<T: Drop, Rt: Drop, P: Promise<T>> AsyncReceiver<T, Rt, P> {
         ensures about { self.new.about ≡ self.old.about }
         ensures kept { IfOk result (λ message. P.keeps self.old.about message) }
         ensures took { Takes result self.old.took self.new.took }
-        ensures stays_taken { StaysTaken self.old.took self.new.took }
     {
         async_try_recv(&mut self.ground)
     }
@@ -160,7 +159,6 @@ impl<T: Drop, Rt: Drop, P: Promise<T>> Future for AsyncReceiver<T, Rt, P> {
         ensures bounded { GrewWithin (receiver_bound C.Poll) self.old.log self.new.log }
         ensures about { self.new.about ≡ self.old.about }
         ensures took { TakesReady result self.old.took self.new.took }
-        ensures stays_taken { StaysTaken self.old.took self.new.took }
     {
         let mut lent = Polling {
             ground: &mut self.ground,

@@ -48,6 +48,28 @@ pub fn a_future_has_its_calls<T, Rt, P: Promise<T>>(future: &AsyncReceiver<T, Rt
     let _ground = &future.ground;
 }
 
+/// Ends of one channel are about one value.
+pub fn one_channel_is_about_one_value<T, Rt, P: Promise<T>>(
+    sender: &Sender<T, P>,
+    receiver: &Receiver<T, Rt, P>,
+)
+    ensures { sender.now.channel ≡ receiver.now.channel → sender.now.about ≡ receiver.now.about }
+{
+    let _side = &sender.side;
+    let _ground = &receiver.ground;
+}
+
+/// The same if the receiver is a future.
+pub fn one_channel_of_a_future_is_about_one_value<T, Rt, P: Promise<T>>(
+    sender: &Sender<T, P>,
+    future: &AsyncReceiver<T, Rt, P>,
+)
+    ensures { sender.now.channel ≡ future.now.channel → sender.now.about ≡ future.now.about }
+{
+    let _side = &sender.side;
+    let _ground = &future.ground;
+}
+
 /// A receiver has taken a message exactly if an operation of its log found one. It has taken at most one.
 pub fn a_receiver_took_what_it_found<T, Rt, P: Promise<T>>(receiver: &Receiver<T, Rt, P>)
     ensures { TookAsFound receiver.now.took receiver.now.log }

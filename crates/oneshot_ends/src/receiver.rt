@@ -10,10 +10,10 @@ ghost use Rattle.oneshot_machine.specs.declared.machine.receiver.ReceiverStart.T
 ghost use Rattle.oneshot_machine.specs.Counts.{receiver_bound, GrewWithin};
 ghost use Rattle.oneshot_machine.specs.Phases.{receiver_at};
 ghost use Rattle.oneshot_drive.specs.BetweenCalls.{Leaves, LeavesClosed, LeavesTimed, try_recv_reply, recv_reply, timed_reply};
-ghost use Rattle.oneshot_ends.specs.Ends.{ReceiverGrew, TimeoutGrew, TimeoutRan, IsClosed, IsOpen};
+ghost use Rattle.oneshot_ends.specs.Ends.{ReceiverGrew, TimeoutGrew, TimeoutRan, IsClosed, IsOpen, channel_at};
 ghost use Rattle.oneshot_ends.specs.Grounds.{IsNewReceiver, state_of};
 ghost use Rattle.oneshot_ends.specs.OwnWakers.{IsHalfOf, WaitsByHalvesOf};
-ghost use Rattle.oneshot_ends.specs.Taken.{StaysTaken, Takes};
+ghost use Rattle.oneshot_ends.specs.Taken.{Takes};
 
 use crate::deadline::{Deadline, Reading, read};
 use crate::future::AsyncReceiver;
@@ -59,7 +59,7 @@ impl<T, Rt, P: Promise<T>> Model for Receiver<T, Rt, P> {
     ghost use Rattle.oneshot_machine.specs.Logs.{receiver_of};
     ghost use Rattle.oneshot_drive.specs.BetweenCalls.{AtRest, IsReady};
     ghost use Rattle.oneshot_machine.specs.Called.{as_receiver};
-    ghost use Rattle.oneshot_ends.specs.Ends.{EndOf, HasCalls};
+    ghost use Rattle.oneshot_ends.specs.Ends.{EndOf, HasCalls, channel_at};
     ghost use Rattle.oneshot_ends.specs.Grounds.{state_of};
     ghost use Rattle.oneshot_ends.specs.OwnWakers.{IsHalfOf, WaitsByHalvesOf};
     ghost use Rattle.std.specs.Prelude.{IfSome};
@@ -68,7 +68,7 @@ impl<T, Rt, P: Promise<T>> Model for Receiver<T, Rt, P> {
     ghost Value = { EndOf T P };
 
     ghost view = { λ r. record {
-      channel = r.ground.table;
+      channel = channel_at r.ground;
       log = r.ground.log;
       about = r.ground.about;
       took = r.ground.passed;
@@ -90,7 +90,7 @@ impl<T, Rt, P: Promise<T>> Receiver<T, Rt, P> {
     ) -> Receiver<T, Rt, P>
         requires new { IsNewReceiver side }
         requires own { IsHalfOf parker.parker half }
-        ensures channel { result.channel ≡ side.table }
+        ensures channel { result.channel ≡ channel_at side }
         ensures log { result.log ≡ side.log }
         ensures about { result.about ≡ side.about }
         ensures took { result.took ≡ side.passed }
@@ -124,7 +124,6 @@ impl<T: Drop, Rt: Drop, P: Promise<T>> Receiver<T, Rt, P> {
         ensures about { self.new.about ≡ self.old.about }
         ensures kept { IfOk result (λ message. P.keeps self.old.about message) }
         ensures took { Takes result self.old.took self.new.took }
-        ensures stays_taken { StaysTaken self.old.took self.new.took }
     {
         try_recv(&mut self.ground)
     }
@@ -149,7 +148,6 @@ impl<T: Drop, Rt: Wait + Clock + Drop, P: Promise<T>> Receiver<T, Rt, P> {
         ensures about { self.new.about ≡ self.old.about }
         ensures kept { IfOk result (λ message. P.keeps self.old.about message) }
         ensures took { Takes result self.old.took self.new.took }
-        ensures stays_taken { StaysTaken self.old.took self.new.took }
     {
         let deadline = Deadline::Never;
         let mut lent = Blocking::lend(&mut self.ground, &mut self.parker, &self.rt, deadline, None);
@@ -178,7 +176,6 @@ impl<T: Drop, Rt: Wait + Clock + Drop, P: Promise<T>> Receiver<T, Rt, P> {
         ensures about { self.new.about ≡ self.old.about }
         ensures kept { IfOk result (λ message. P.keeps self.old.about message) }
         ensures took { Takes result self.old.took self.new.took }
-        ensures stays_taken { StaysTaken self.old.took self.new.took }
     {
         let deadline = Deadline::At(deadline);
         let mut lent = Blocking::lend(&mut self.ground, &mut self.parker, &self.rt, deadline, None);
@@ -201,7 +198,6 @@ impl<T: Drop, Rt: Wait + Clock + Drop, P: Promise<T>> Receiver<T, Rt, P> {
         ensures about { self.new.about ≡ self.old.about }
         ensures kept { IfOk result (λ message. P.keeps self.old.about message) }
         ensures took { Takes result self.old.took self.new.took }
-        ensures stays_taken { StaysTaken self.old.took self.new.took }
     {
         let reading = read(&self.rt);
         self.recv_after(reading, timeout)
@@ -260,7 +256,6 @@ impl<T: Drop, Rt: Wait + Clock + Drop, P: Promise<T>> Receiver<T, Rt, P> {
         ensures about { self.new.about ≡ self.old.about }
         ensures kept { IfOk result (λ message. P.keeps self.old.about message) }
         ensures took { Takes result self.old.took self.new.took }
-        ensures stays_taken { StaysTaken self.old.took self.new.took }
     {
         let deadline = Deadline::after(reading, timeout);
         let made = Some(reading);

@@ -5,7 +5,7 @@ ghost use Rattle.oneshot_machine.specs.declared.machine.Reply.TheVariants.{Refus
 ghost use Rattle.oneshot_machine.specs.declared.machine.sender.SenderCall.TheVariants.{Send};
 ghost use Rattle.oneshot_machine.specs.Phases.{fresh, sender_at};
 ghost use Rattle.oneshot_machine.specs.Slots.{away, vacant};
-ghost use Rattle.oneshot_ends.specs.Ends.{SenderGrew};
+ghost use Rattle.oneshot_ends.specs.Ends.{SenderGrew, channel_at};
 ghost use Rattle.oneshot_ends.specs.Grounds.{IsNewSender};
 
 use crate::error::SendError;
@@ -32,12 +32,12 @@ pub struct Sender<T, P: Promise<T> = ()> {
 }
 
 impl<T, P: Promise<T>> Model for Sender<T, P> {
-    ghost use Rattle.oneshot_ends.specs.Ends.{SenderEndOf};
+    ghost use Rattle.oneshot_ends.specs.Ends.{SenderEndOf, channel_at};
     ghost use Rattle.oneshot_ends.specs.Grounds.{IsNewSender};
 
     ghost Value = { SenderEndOf P };
 
-    ghost view = { λ s. record { channel = s.side.table; log = s.side.log; about = s.side.about } };
+    ghost view = { λ s. record { channel = channel_at s.side; log = s.side.log; about = s.side.about } };
 
     ghost invariant = { λ s. IsNewSender s.side };
 }
@@ -45,7 +45,7 @@ impl<T, P: Promise<T>> Model for Sender<T, P> {
 impl<T, P: Promise<T>> Sender<T, P> {
     pub(crate) fn new(side: SenderSide<T, WakingHalf, Waker, P>) -> Sender<T, P>
         requires { IsNewSender side }
-        ensures channel { result.channel ≡ side.table }
+        ensures channel { result.channel ≡ channel_at side }
         ensures log { result.log ≡ side.log }
         ensures about { result.about ≡ side.about }
     {

@@ -139,6 +139,10 @@ impl<'a, T, W, R: Wait> MemorySender<'a, T, W, R> {
 impl<'a, T: Drop, W: Drop, R: Wait> SenderGround<T, W> for MemorySender<'a, T, W, R> {
     ghost state = { λ s. s.state };
 
+    ghost keeps = { λ _ _. ⊤ };
+
+    ghost keeps_on = { λ _ _ _ _ _. tt };
+
     // It admits any message.
     ghost admits = { λ s m. ⊤ };
 

@@ -8,7 +8,7 @@ ghost use Rattle.oneshot_machine.specs.Counts.{receiver_bound, GrewWithin};
 ghost use Rattle.oneshot_machine.specs.Phases.{receiver_at};
 ghost use Rattle.oneshot_drive.specs.BetweenCalls.{Leaves, LeavesTimed, try_recv_reply, timed_reply};
 ghost use Rattle.oneshot_ends.specs.Ends.{IsClosed, IsOpen, ReceiverGrew, TimeoutGrew};
-ghost use Rattle.oneshot_ends.specs.Taken.{StaysTaken, Takes};
+ghost use Rattle.oneshot_ends.specs.Taken.{Takes};
 
 use crate::reply::answer::Answer;
 use crate::reply::asked::Asked;
@@ -68,7 +68,6 @@ impl<Q: Eq, A: Answer<Q> + Drop, Rt: Drop> Ticket<Q, A, Rt> {
         ensures right { IfOk result (λ reply. A.answers (A.asked reply) reply) }
         ensures about { self.new.about ≡ self.old.about }
         ensures took { Takes result self.old.took self.new.took }
-        ensures stays_taken { StaysTaken self.old.took self.new.took }
         ensures channel { self.new.channel ≡ self.old.channel }
         ensures run { ReceiverGrew A TryRecv self.old.log self.new.log (try_recv_reply result) }
         ensures leaves { Leaves result (receiver_at self.new.log) }
@@ -125,7 +124,6 @@ impl<Q: Eq, A: Answer<Q> + Drop, Rt: Wait + Clock + Drop> Ticket<Q, A, Rt> {
         ensures right { IfOk result (λ reply. A.answers (A.asked reply) reply) }
         ensures about { self.new.about ≡ self.old.about }
         ensures took { Takes result self.old.took self.new.took }
-        ensures stays_taken { StaysTaken self.old.took self.new.took }
         ensures channel { self.new.channel ≡ self.old.channel }
         ensures run { TimeoutGrew A timeout self.old.log self.new.log (timed_reply result) }
         ensures leaves { LeavesTimed result (receiver_at self.new.log) }

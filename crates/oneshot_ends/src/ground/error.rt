@@ -4,7 +4,7 @@ ghost use Rattle.std.specs.Prelude.{◌≡◌, false, true, ⊤};
 ghost use Rattle.oneshot_machine.specs.Slots.{away, held};
 ghost use Rattle.oneshot_machine.specs.Phases.{sender_at};
 ghost use Rattle.oneshot_drive.specs.BetweenCalls.{IsError, IsLate};
-ghost use Rattle.oneshot_ends.specs.Ends.{SenderIsOrdered, WasRefused};
+ghost use Rattle.oneshot_ends.specs.Ends.{SenderIsOrdered, WasRefused, channel_at};
 ghost use Rattle.oneshot_ends.specs.Grounds.{state_of};
 
 use crate::freed::Freed;
@@ -26,11 +26,11 @@ pub(crate) struct Refused<T, H, K, P: Promise<T>> {
 impl<T, H, K, P: Promise<T>> Model for Refused<T, H, K, P> {
     ghost use Rattle.oneshot_machine.specs.Phases.{sender_at};
     ghost use Rattle.oneshot_drive.specs.BetweenCalls.{IsLate};
-    ghost use Rattle.oneshot_ends.specs.Ends.{Failed, WasRefused};
+    ghost use Rattle.oneshot_ends.specs.Ends.{Failed, WasRefused, channel_at};
 
-    ghost Value = { Failed T };
+    ghost Value = { Failed T P };
 
-    ghost view = { λ e. record { message = e.message; channel = e.side.table; log = e.side.log } };
+    ghost view = { λ e. record { message = e.message; channel = channel_at e.side; log = e.side.log } };
 
     ghost invariant = { λ e. IsLate (sender_at e.side.log) × WasRefused T e.side.log };
 }
@@ -40,7 +40,7 @@ impl<T, H, K, P: Promise<T>> Refused<T, H, K, P> {
         requires late { IsLate (sender_at side.log) }
         requires refused { WasRefused T side.log }
         ensures message { result.message ≡ message }
-        ensures channel { result.channel ≡ side.table }
+        ensures channel { result.channel ≡ channel_at side }
         ensures log { result.log ≡ side.log }
     {
         Refused { message, side }
@@ -126,6 +126,10 @@ impl<T: Drop, P: Promise<T>> SenderGround<T, AnyWaker<WakingHalf, Waker>>
     ghost use Rattle.oneshot_ends.specs.Grounds.{state_of};
 
     ghost state = { state_of };
+
+    ghost keeps = { λ _ _. ⊤ };
+
+    ghost keeps_on = { λ _ _ _ _ _. tt };
 
     ghost admits = { λ _ _. ⊤ };
 

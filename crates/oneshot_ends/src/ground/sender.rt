@@ -135,8 +135,14 @@ impl<T: Drop, P: Promise<T>> SenderGround<T, AnyWaker<WakingHalf, Waker>> for Sh
     ghost use Rattle.oneshot_ends.specs.Grounds.{state_of};
     ghost use Rattle.oneshot_ends.specs.Woken.{IsWoken};
     ghost use Rattle.std.specs.Prelude.{Some};
+    ghost use Rattle.std.proofs.Common.{◌∙◌};
 
     ghost state = { λ s. state_of s.side };
+
+    // The channel stays about the same value.
+    ghost keeps = { λ a b. b.side.about ≡ a.side.about };
+
+    ghost keeps_on = { λ _ _ _ e f. f ∙ e };
 
     ghost admits = { λ s message. P.keeps s.side.about message };
 

@@ -33,3 +33,8 @@ pub returns-clause-over : goal.returns-clause-over
 returns-clause-over g c by owing =
     finished_over c.args.last c.take_waker-waker.result c.swap-found.result owing c.take_waker-waker.ensures.log
     c.swap-found.ensures.finds c.swap-found.ensures.log c.wake.ensures.log
+
+pub returns-clause-keeps : goal.returns-clause-keeps
+returns-clause-keeps g c =
+    let on = g.G.SenderGround.keeps_on in
+    on _ _ _ c.take_waker-waker.ensures.keeps (on _ _ _ c.swap-found.ensures.keeps c.wake.ensures.keeps)

@@ -35,6 +35,7 @@ returns-in-3 g c =
       bounded = send_few did.ran;
       gave = λ sent. c.add.ensures.gave c.args.message c.write_message.ensures.message
           (added_given c.add.result fresh c.in-3.is c.add.ensures.finds c.add.ensures.log);
+      keeps = g.G.SenderGround.keeps_on _ _ _ c.write_message.ensures.keeps c.add.ensures.keeps;
     }
 
 pub returns-in-0 : goal.returns-in-0
@@ -57,6 +58,8 @@ returns-in-0 g c =
           (added_owes c.add.result fresh c.in-0.is c.add.ensures.finds c.add.ensures.log);
       bounded = send_few did.ran;
       gave = λ sent. c.finish.ensures.gave sent c.args.message kept;
+      keeps = g.G.SenderGround.keeps_on _ _ _ c.write_message.ensures.keeps
+          (g.G.SenderGround.keeps_on _ _ _ c.add.ensures.keeps c.finish.ensures.keeps);
     }
 
 pub returns-in_default : goal.returns-in_default
@@ -77,4 +80,5 @@ returns-in_default g c =
       over = late_over gone.stands;
       bounded = send_few did.ran;
       gave = search rules;
+      keeps = g.G.SenderGround.keeps_on _ _ _ c.write_message.ensures.keeps c.add.ensures.keeps;
     }

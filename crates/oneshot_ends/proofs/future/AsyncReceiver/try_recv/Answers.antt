@@ -9,7 +9,7 @@ use Rattle.oneshot_ends.proofs.EndViews.{future_steps, future_about, future_took
 use Rattle.oneshot_ends.proofs.GrewByRuns.{words_of, receiver_grew, async_try_recv_few}
 use Rattle.oneshot_ends.proofs.PolledEnds.{closed_tried, open_tried, registered_by}
 use Rattle.oneshot_ends.specs.Taken.{TookAsFound}
-use Rattle.oneshot_ends.proofs.Taken.{tried_takes}
+use Rattle.oneshot_ends.proofs.Taken.{IsEither, polled_so, is_error, tried_takes}
 use Rattle.oneshot_ends.proofs.future.AsyncReceiver.try_recv.Goals as goal
 
 pub invariant_of-self : goal.invariant_of-self
@@ -59,12 +59,10 @@ pub returns-clause-kept : goal.returns-clause-kept
 returns-clause-kept g c =
     kept_about g.P.Promise.keeps c.async_try_recv.result (future_about c.self.view_is) c.async_try_recv.ensures.given
 
-pub returns-clause-stays_taken : goal.returns-clause-stays_taken
-returns-clause-stays_taken g c x is = c.async_try_recv.ensures.keeps.3.stays x (future_took c.self.view_is ∙ is)
-
 pub returns-clause-took : goal.returns-clause-took
 returns-clause-took g c =
-    tried_takes _ _ (returns-clause-stays_taken g c)
-    (subst (λ e. TookAsFound e.took e.log) c.self.view_is c.self.invariant.3)
+    tried_takes _ _ (λ x is. c.async_try_recv.ensures.keeps.3.stays x (future_took c.self.view_is ∙ is))
+    (subst (λ e. TookAsFound e.took e.log × IsEither (receiver_at e.log)) c.self.view_is
+    (c.self.invariant.3, polled_so c.self.inside.ground c.self.invariant.0))
     (c.async_try_recv.ensures.keeps.3.found c.self.invariant.3) AsyncTryRecv refl c.async_try_recv.result
-    (returns-clause-run g c) c.async_try_recv.ensures.had
+    (returns-clause-run g c) (λ closed. is_error (returns-clause-stays_closed g c closed)) c.async_try_recv.ensures.had

@@ -10,7 +10,7 @@ use Rattle.oneshot_ends.proofs.GrewByRuns.{words_of, receiver_grew, poll_few}
 use Rattle.oneshot_ends.proofs.PolledEnds.{closed_polled, open_polled}
 use Rattle.oneshot_ends.proofs.PollingTokens.{stands_by_tokens, stands_as_told}
 use Rattle.oneshot_ends.specs.Taken.{TookAsFound}
-use Rattle.oneshot_ends.proofs.Taken.{poll_takes}
+use Rattle.oneshot_ends.proofs.Taken.{IsEither, polled_so, poll_takes}
 use Rattle.oneshot_ends.proofs.future.AsyncReceiverFuture.poll.Goals as goal
 
 pub poll-requires-clause-rests : goal.poll-requires-clause-rests
@@ -62,11 +62,9 @@ pub returns-clause-same : goal.returns-clause-same
 returns-clause-same g c =
     pending_about g.P.Promise.keeps c.poll.result (c.poll.ensures.keeps.2 ∙ future_about c.self.view_is)
 
-pub returns-clause-stays_taken : goal.returns-clause-stays_taken
-returns-clause-stays_taken g c x is = c.poll.ensures.keeps.4.stays x (future_took c.self.view_is ∙ is)
-
 pub returns-clause-took : goal.returns-clause-took
 returns-clause-took g c =
-    poll_takes _ _ (returns-clause-stays_taken g c)
-    (subst (λ e. TookAsFound e.took e.log) c.self.view_is c.self.invariant.3)
-    (c.poll.ensures.keeps.4.found c.self.invariant.3) c.poll.result (returns-clause-run g c) c.poll.ensures.had
+    poll_takes _ _ (λ x is. c.poll.ensures.keeps.4.stays x (future_took c.self.view_is ∙ is))
+    (subst (λ e. TookAsFound e.took e.log × IsEither (receiver_at e.log)) c.self.view_is
+    (c.self.invariant.3, polled_so c.self.inside.ground c.self.invariant.0))
+    (c.poll.ensures.keeps.4.found c.self.invariant.3) c.poll.result (returns-clause-run g c) (returns-clause-stays_closed g c) c.poll.ensures.had

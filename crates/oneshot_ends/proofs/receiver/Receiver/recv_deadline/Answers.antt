@@ -10,7 +10,7 @@ use Rattle.oneshot_ends.proofs.GrewByRuns.{words_of, began_at, receiver_grew}
 use Rattle.oneshot_ends.proofs.OwnWakers.{has_lent}
 use Rattle.oneshot_ends.proofs.LentGrounds.{as_lent, given_back, hand_lent}
 use Rattle.oneshot_ends.specs.Taken.{TookAsFound}
-use Rattle.oneshot_ends.proofs.Taken.{lent_found, timed_takes}
+use Rattle.oneshot_ends.proofs.Taken.{IsEither, rests_so, is_error, lent_found, timed_takes}
 use Rattle.oneshot_ends.proofs.receiver.Receiver.recv_deadline.Goals as goal
 
 pub recv_deadline-requires-clause-rests : goal.recv_deadline-requires-clause-rests
@@ -68,13 +68,10 @@ recv_deadline-requires-clause-has g c =
     has_lent c.self.inside.hand (ap (λ r. r.now) c.lend-lent.ensures.ground) (ap (λ r. r.now) c.lend-lent.ensures.parker)
     c.self.invariant.3 c.self.invariant.4
 
-pub returns-clause-stays_taken : goal.returns-clause-stays_taken
-returns-clause-stays_taken g c x is =
-    c.recv_deadline.ensures.keeps.4.stays x (lent_took (ap (λ r. r.now) c.lend-lent.ensures.ground) (same_took c.self.view_is) ∙ is)
-
 pub returns-clause-took : goal.returns-clause-took
 returns-clause-took g c =
-    timed_takes _ _ (returns-clause-stays_taken g c)
-    (subst (λ e. TookAsFound e.took e.log) c.self.view_is c.self.invariant.5)
+    timed_takes _ _ (λ x is. c.recv_deadline.ensures.keeps.4.stays x (lent_took (ap (λ r. r.now) c.lend-lent.ensures.ground) (same_took c.self.view_is) ∙ is))
+    (subst (λ e. TookAsFound e.took e.log × IsEither (receiver_at e.log)) c.self.view_is
+    (c.self.invariant.5, rests_so c.self.inside.ground c.self.invariant.0))
     (c.recv_deadline.ensures.keeps.4.found (lent_found (ap (λ r. r.now) c.lend-lent.ensures.ground) c.self.invariant.5)) RecvDeadline refl
-    c.recv_deadline.result (returns-clause-run g c) c.recv_deadline.ensures.had
+    c.recv_deadline.result (returns-clause-run g c) (λ closed. is_error (returns-clause-stays_closed g c closed)) c.recv_deadline.ensures.had

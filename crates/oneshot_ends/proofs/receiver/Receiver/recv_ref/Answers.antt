@@ -10,7 +10,7 @@ use Rattle.oneshot_ends.proofs.GrewByRuns.{words_of, began_at, receiver_grew}
 use Rattle.oneshot_ends.proofs.OwnWakers.{has_lent}
 use Rattle.oneshot_ends.proofs.LentGrounds.{as_lent, given_back}
 use Rattle.oneshot_ends.specs.Taken.{TookAsFound}
-use Rattle.oneshot_ends.proofs.Taken.{lent_found, recv_takes}
+use Rattle.oneshot_ends.proofs.Taken.{IsEither, rests_so, lent_found, recv_takes}
 use Rattle.oneshot_ends.proofs.receiver.Receiver.recv_ref.Goals as goal
 
 pub recv_ref-requires-clause-rests : goal.recv_ref-requires-clause-rests
@@ -63,13 +63,10 @@ recv_ref-requires-clause-has g c =
     has_lent c.self.inside.hand (ap (λ r. r.now) c.lend-lent.ensures.ground) (ap (λ r. r.now) c.lend-lent.ensures.parker)
     c.self.invariant.3 c.self.invariant.4
 
-pub returns-clause-stays_taken : goal.returns-clause-stays_taken
-returns-clause-stays_taken g c x is =
-    c.recv_ref.ensures.keeps.4.stays x (lent_took (ap (λ r. r.now) c.lend-lent.ensures.ground) (same_took c.self.view_is) ∙ is)
-
 pub returns-clause-took : goal.returns-clause-took
 returns-clause-took g c =
-    recv_takes _ _ (returns-clause-stays_taken g c)
-    (subst (λ e. TookAsFound e.took e.log) c.self.view_is c.self.invariant.5)
+    recv_takes _ _ (λ x is. c.recv_ref.ensures.keeps.4.stays x (lent_took (ap (λ r. r.now) c.lend-lent.ensures.ground) (same_took c.self.view_is) ∙ is))
+    (subst (λ e. TookAsFound e.took e.log × IsEither (receiver_at e.log)) c.self.view_is
+    (c.self.invariant.5, rests_so c.self.inside.ground c.self.invariant.0))
     (c.recv_ref.ensures.keeps.4.found (lent_found (ap (λ r. r.now) c.lend-lent.ensures.ground) c.self.invariant.5)) RecvRef refl
-    c.recv_ref.result (returns-clause-run g c) c.recv_ref.ensures.had
+    c.recv_ref.result (returns-clause-run g c) (returns-clause-stays_closed g c) c.recv_ref.ensures.had

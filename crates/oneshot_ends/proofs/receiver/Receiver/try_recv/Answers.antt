@@ -8,7 +8,7 @@ use Rattle.oneshot_ends.proofs.CallsAnswered.{one_answered}
 use Rattle.oneshot_ends.proofs.EndViews.{same_steps, same_about, same_took, kept_about}
 use Rattle.oneshot_ends.proofs.GrewByRuns.{words_of, receiver_grew, try_recv_few}
 use Rattle.oneshot_ends.specs.Taken.{TookAsFound}
-use Rattle.oneshot_ends.proofs.Taken.{tried_takes}
+use Rattle.oneshot_ends.proofs.Taken.{IsEither, rests_so, is_error, tried_takes}
 use Rattle.oneshot_ends.proofs.receiver.Receiver.try_recv.Goals as goal
 
 pub invariant_of-self : goal.invariant_of-self
@@ -56,12 +56,10 @@ pub returns-clause-kept : goal.returns-clause-kept
 returns-clause-kept g c =
     kept_about g.P.Promise.keeps c.try_recv.result (same_about c.self.view_is) c.try_recv.ensures.given
 
-pub returns-clause-stays_taken : goal.returns-clause-stays_taken
-returns-clause-stays_taken g c x is = c.try_recv.ensures.keeps.3.stays x (same_took c.self.view_is ∙ is)
-
 pub returns-clause-took : goal.returns-clause-took
 returns-clause-took g c =
-    tried_takes _ _ (returns-clause-stays_taken g c)
-    (subst (λ e. TookAsFound e.took e.log) c.self.view_is c.self.invariant.5)
-    (c.try_recv.ensures.keeps.3.found c.self.invariant.5) TryRecv refl c.try_recv.result (returns-clause-run g c)
+    tried_takes _ _ (λ x is. c.try_recv.ensures.keeps.3.stays x (same_took c.self.view_is ∙ is))
+    (subst (λ e. TookAsFound e.took e.log × IsEither (receiver_at e.log)) c.self.view_is
+    (c.self.invariant.5, rests_so c.self.inside.ground c.self.invariant.0))
+    (c.try_recv.ensures.keeps.3.found c.self.invariant.5) TryRecv refl c.try_recv.result (returns-clause-run g c) (λ closed. is_error (returns-clause-stays_closed g c closed))
     c.try_recv.ensures.had
