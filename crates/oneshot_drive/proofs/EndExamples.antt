@@ -1,6 +1,6 @@
 -- Proofs of the examples of ends, of what a call leaves, of replies and of hands.
 use Rattle.oneshot_drive.proofs.Names.{true, false, refl, closed_itself, found_closed, looked, between, blocked, waits, withdrew, is_late, is_overtaken, rests_new, rests_open, rests_closed, leaves_open, leaves_closed, left_received, left_closed, timed_received, timed_out, timed_closed, as_it_was, sender_took, came_back, returned, taken, sent, EndsThatAre, EndsThatAreNot, CallsThatLeave, CallsThatDoNot, RepliesThatAre, HandsThatAre, HandsThatAreNot, Polled, unpolled, left_copy, kept_copy, found_sender, has_resolved, leaves_resolved, leaves_gone, leaves_waiting, tried_resolved, tried_its_copy, is_disconnected}
-use Rattle.oneshot_drive.specs.BetweenCalls.{leaves_received, over_finished, over_late, over_overtaken, over_full, over_closed, over_gone}
+use Rattle.oneshot_drive.specs.BetweenCalls.{leaves_received, over_finished, over_late, over_overtaken, found_message, found_no_sender, left_first}
 
 pub ends_that_are : EndsThatAre
 ends_that_are =
@@ -25,9 +25,9 @@ ends_that_are =
       sent_is_over = over_finished;
       refused_is_over = over_late;
       overtaken_is_over = over_overtaken;
-      received_is_over = over_full;
-      closed_is_over = over_closed;
-      gone_is_over = over_gone;
+      received_found_it = found_message;
+      closed_found_it = found_no_sender;
+      gone_has_left = left_first;
     }
 
 blocked_is_polled : Polled (waits blocked) → ⊥
@@ -61,10 +61,12 @@ ends_that_are_not =
       owing_is_over = λ _ h. elim h [ ];
       dropped_is_sent = λ h. elim h [ ];
       sent_is_dropped = λ h. elim h [ ];
-      new_receiver_is_over = λ h. elim h [ ];
-      looked_is_over = λ _ h. elim h [ ];
-      waiting_is_over = λ _ h. elim h [ ];
-      overdue_is_over = λ h. elim h [ ];
+      looked_and_found_it = λ _ h. elim h [ ];
+      waits_and_found_it = λ _ h. elim h [ ];
+      gone_and_found_it = λ h. elim h [ ];
+      new_has_left = λ h. elim h [ ];
+      overdue_has_left = λ h. elim h [ ];
+      received_has_left = λ _ h. elim h [ ];
     }
 
 pub calls_that_leave : CallsThatLeave

@@ -1,9 +1,17 @@
 -- After its last call an end is over: by the rows of its last operation.
 use Rattle.oneshot_drive.proofs.Names.{◌≡◌, ℕ, false, List, [], ◌∷◌, refl, sym, ◌∙◌, subst, TakeWaker, Wake, Op, Swap, Add, Xor, Event, Log, Grows, words, sender_of, receiver_of, handed, worded, By, sending, dropping, SenderAt, fresh, owes, late, no_sender, sender_moves, ReceiverAt, first, here, looked, between, waits, claimed, withdrew, full, at_once, by_future, disconnected, receiver_moves, Slots, Held, In, finds, SenderFinds, leads, sender_moved, GroundState, StandsWith, SenderMakes, ReceiverMakes, EndsAt, landings, landings_of, landed, Each, each, sender_apart}
-use Rattle.oneshot_machine.specs.Phases.{blocked}
+use Rattle.std.proofs.Common.{Bool, true, ◌++◌, ap}
+use Rattle.std.specs.List.{list_all}
+use Rattle.oneshot_machine.specs.declared.machine.Reply.{Reply}
+use Rattle.oneshot_machine.specs.declared.machine.sender.SenderCall.{SenderCall}
+use Rattle.oneshot_machine.specs.Noted.{Noted}
+use Rattle.oneshot_machine.specs.Phases.{blocked, Row, sender_next, sender_at, phase_from}
+use Rattle.oneshot_machine.proofs.GrownLogs.{words_after}
+use Rattle.oneshot_machine.proofs.RunsByRows.{next_passes}
+use Rattle.oneshot_drive.specs.Wakes.{finds_waiting, SenderWoke, wakes, wakes_none}
 use Rattle.oneshot_drive.specs.declared.waiting.Found.{Found}
 use Rattle.oneshot_drive.specs.declared.waiting.Found.TheVariants as F
-use Rattle.oneshot_drive.specs.BetweenCalls.{SenderIsOver, over_finished, over_late, over_overtaken, ReceiverIsOver, over_full, over_unclosed, over_closed, over_gone, over_ended}
+use Rattle.oneshot_drive.specs.BetweenCalls.{SenderIsOver, over_finished, over_late, over_overtaken, FoundTheEnd, found_message, found_unclosed, found_no_sender, HasLeft, left_first, left_last}
 use Rattle.oneshot_drive.proofs.AfterOperations.{lone, at_word, one_of, sender_lands, lands, sender_still, still}
 use Rattle.oneshot_drive.proofs.SenderCalls.{is_swap}
 
@@ -69,37 +77,72 @@ module _ {T W : Type 0} where
       → SenderIsOver by (sender_of l) → SenderIsOver by (sender_of k)
   sender_stays_over steps no_word grows over = over_at (sender_still steps no_word grows) over
 
+-- a sender that is fresh has performed no operation
+abbrev is_begun : SenderAt → Bool
+is_begun fresh = false
+is_begun _ = true
+
+begun_rows : (at : SenderAt) → list_all (λ (row : Row SenderAt). is_begun row.3) (sender_moves at) ≡ true
+begun_rows (owes sending) = refl
+begun_rows (owes dropping) = refl
+begun_rows _ = refl
+
+stays_begun : (at : SenderAt) (xs : List Noted) → is_begun at ≡ true → is_begun (phase_from sender_next at xs) ≡ true
+stays_begun at [] begun = begun
+stays_begun at (x ∷ xs) begun =
+    stays_begun (sender_next at x.0 x.1) xs
+    (next_passes is_begun no_sender (sender_moves at) x.0 x.1 refl (begun_rows at))
+
+fresh_log : (xs : List Noted) → sender_at xs ≡ fresh → xs ≡ []
+fresh_log [] is = refl
+fresh_log (x ∷ xs) is =
+    let begun =
+    stays_begun (sender_next fresh x.0 x.1) xs
+    (next_passes is_begun no_sender (sender_moves fresh) x.0 x.1 refl (begun_rows fresh)) in
+    let no : false ≡ true = sym (ap is_begun is) ∙ begun in absurd (cc)
+
+module _ {T W : Type 0} where
+  -- a call that was its first has woken the receiver that it found waiting
+  pub woken_by : {woken : W → Type 0} {before after : Log T W} {call : SenderCall} {reply : Reply} {given got : List T}
+      → sender_of before ≡ fresh → SenderWoke woken call before after reply given got
+      → finds_waiting (words after.list) ≡ true → (k : W) × woken k
+  woken_by {before = before} was woke found =
+      let list = words_after woke.ran.run woke.ran.grows in
+      let alone = ap (λ xs. xs ++ words woke.ran.run) (fresh_log (words before.list) was) in
+      let so = sym (ap finds_waiting (list ∙ alone)) ∙ found in
+      elim woke.wakes [
+        | wakes k waited took used woken ↦ (k, woken)
+        | wakes_none none_waited used ↦ absurd (let e = sym none_waited ∙ so in cc e)
+      ]
+
 -- the swap of a receiver's drop
-drops : (at : ReceiverAt) → Each (λ n next after. ReceiverIsOver next) (landings (Swap 2) (receiver_moves at))
-drops first = (over_gone, (over_ended, (over_ended, tt)))
-drops (here looked) = (over_gone, (over_ended, (over_ended, tt)))
-drops (here between) = (over_gone, (over_ended, (over_ended, tt)))
-drops claimed = (over_gone, (over_ended, (over_ended, tt)))
-drops withdrew = (over_gone, (over_ended, (over_ended, tt)))
-drops (full at_once) = (over_ended, tt)
-drops (full by_future) = (over_ended, tt)
-drops (disconnected c) = (over_ended, tt)
+drops : (at : ReceiverAt) → Each (λ n next after. HasLeft next) (landings (Swap 2) (receiver_moves at))
+drops first = (left_first, (left_last, (left_last, tt)))
+drops (here looked) = (left_first, (left_last, (left_last, tt)))
+drops (here between) = (left_first, (left_last, (left_last, tt)))
+drops claimed = (left_first, (left_last, (left_last, tt)))
+drops withdrew = (left_first, (left_last, (left_last, tt)))
+drops (full at_once) = (left_last, tt)
+drops (full by_future) = (left_last, tt)
+drops (disconnected c) = (left_last, tt)
 drops (waits blocked) = tt
 drops _ = tt
 
-left_at : {at next : ReceiverAt} → next ≡ at → ReceiverIsOver at → ReceiverIsOver next
-left_at is over = subst ReceiverIsOver (sym is) over
-
 module _ {T W : Type 0} where
-  pub dropped_over : {b a : GroundState T W} (n : ℕ) → ReceiverMakes (Swap 2) n b a
-      → Grows b.log a.log (worded (Swap 2) n ∷ []) → ReceiverIsOver (receiver_of a.log)
-  dropped_over {b} n made grows =
+  pub dropped : {b a : GroundState T W} (n : ℕ) → ReceiverMakes (Swap 2) n b a
+      → Grows b.log a.log (worded (Swap 2) n ∷ []) → HasLeft (receiver_of a.log)
+  dropped {b} n made grows =
       let end =
-      one_of (λ n next after. ReceiverIsOver next) (drops (receiver_of b.log)) (lands b (Swap 2) n refl made grows) in
-      left_at end.stands.phase end.is_so
+      one_of (λ n next after. HasLeft next) (drops (receiver_of b.log)) (lands b (Swap 2) n refl made grows) in
+      subst HasLeft (sym end.stands.phase) end.is_so
 
-  pub stays_over : {l k : Log T W} (steps : List (Event T W)) → words steps ≡ [] → Grows l k steps
-      → ReceiverIsOver (receiver_of l) → ReceiverIsOver (receiver_of k)
-  stays_over steps no_word grows over = left_at (still steps no_word grows) over
+  pub stays_at : {l k : Log T W} (Phases : ReceiverAt → Type 0) (steps : List (Event T W)) → words steps ≡ []
+      → Grows l k steps → Phases (receiver_of l) → Phases (receiver_of k)
+  stays_at Phases steps no_word grows is = subst Phases (sym (still steps no_word grows)) is
 
   -- the word that decides a receive without a deadline
-  pub found_over : (f : Found) (s : GroundState T W) → EndsAt false f s → ReceiverIsOver (receiver_of s.log)
-  found_over F.Message s ends = left_at ends.2.phase (over_full ends.0)
-  found_over F.Closed s ends = left_at ends.1.phase (over_closed ends.0)
-  found_over F.Unclosed s ends = left_at ends.1.phase (over_unclosed ends.0)
-  found_over F.Nothing s ends = let timed = ends.0 in absurd (cc)
+  pub found : (f : Found) (s : GroundState T W) → EndsAt false f s → FoundTheEnd (receiver_of s.log)
+  found F.Message s ends = subst FoundTheEnd (sym ends.2.phase) (found_message ends.0)
+  found F.Closed s ends = subst FoundTheEnd (sym ends.1.phase) (found_no_sender ends.0)
+  found F.Unclosed s ends = subst FoundTheEnd (sym ends.1.phase) (found_unclosed ends.0)
+  found F.Nothing s ends = let timed = ends.0 in absurd (cc)

@@ -67,13 +67,16 @@ pub record IsOvertaken {T W : Type 0} (before after : GroundState T W) : Type 0 
   pub message : after.message ≡ before.message
   pub waker : after.waker ≡ vacant
 
--- a receiver that knows how its channel ended, or that was dropped
-pub data ReceiverIsOver : ReceiverAt → Type 0 where
-  over_full : (got : Got) → ReceiverIsOver (full got)
-  over_unclosed : (by : Swapping) → ReceiverIsOver (unclosed by)
-  over_closed : (closing : Closing) → ReceiverIsOver (disconnected closing)
-  over_gone : ReceiverIsOver gone
-  over_ended : ReceiverIsOver ended
+-- a receiver that found the message, or that none will come
+pub data FoundTheEnd : ReceiverAt → Type 0 where
+  found_message : (got : Got) → FoundTheEnd (full got)
+  found_unclosed : (by : Swapping) → FoundTheEnd (unclosed by)
+  found_no_sender : (closing : Closing) → FoundTheEnd (disconnected closing)
+
+-- a receiver that was dropped
+pub data HasLeft : ReceiverAt → Type 0 where
+  left_first : HasLeft gone
+  left_last : HasLeft ended
 
 -- the phases of a receiver between two calls
 pub data Rests : ReceiverAt → Type 0 where

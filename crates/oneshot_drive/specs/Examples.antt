@@ -12,7 +12,7 @@ use Rattle.oneshot_machine.specs.Examples.{waking}
 use Rattle.oneshot_machine.specs.Logs.{Event, Log, did, handed, copied, worded}
 use Rattle.oneshot_machine.specs.Phases.{By, sending, dropping, fresh, owes, finished, late, overtaken, Closing, closed_itself, found_closed, Got, Open, looked, between, Swapping, polled, again, blocked, Waiting, first, here, waits, claimed, withdrew, overdue, full, unclosed, disconnected, resolved, gone, ended}
 use Rattle.oneshot_machine.specs.Slots.{Held, away, vacant, held}
-use Rattle.oneshot_drive.specs.BetweenCalls.{IsFresh, IsError, IsLate, SenderIsOver, ReceiverIsOver, Rests, AtRest, IsClosedAt, IsOpenAt, Leaves, LeavesClosed, LeavesTimed, IsReady, Hands, send_reply, try_recv_reply, recv_reply, timed_reply, received}
+use Rattle.oneshot_drive.specs.BetweenCalls.{IsFresh, IsError, IsLate, SenderIsOver, FoundTheEnd, HasLeft, Rests, AtRest, IsClosedAt, IsOpenAt, Leaves, LeavesClosed, LeavesTimed, IsReady, Hands, send_reply, try_recv_reply, recv_reply, timed_reply, received}
 use Rattle.oneshot_drive.specs.Blocking.{Parks, Returns}
 use Rattle.oneshot_drive.specs.Grounds.{GroundState, SenderAsks, SenderMakes, ReceiverAsks, ReceiverMakes}
 use Rattle.oneshot_drive.specs.Polls.{Polled, IsPolled, LeavesPolled, LeavesTried, StaysRegistered, IsDisconnected, WritesItsCopy, HandsNoWaker, poll_reply, poll_received}
@@ -46,9 +46,9 @@ pub record EndsThatAre : Type 0 where
   pub sent_is_over : SenderIsOver sending (finished sending)
   pub refused_is_over : SenderIsOver sending (late sending)
   pub overtaken_is_over : SenderIsOver dropping (overtaken dropping)
-  pub received_is_over : (g : Got) → ReceiverIsOver (full g)
-  pub closed_is_over : (c : Closing) → ReceiverIsOver (disconnected c)
-  pub gone_is_over : ReceiverIsOver gone
+  pub received_found_it : (g : Got) → FoundTheEnd (full g)
+  pub closed_found_it : (c : Closing) → FoundTheEnd (disconnected c)
+  pub gone_has_left : HasLeft gone
 
 pub record EndsThatAreNot : Type 0 where
   pub disconnected_is_open : (c : Closing) → IsOpenAt (disconnected c) → ⊥
@@ -76,10 +76,12 @@ pub record EndsThatAreNot : Type 0 where
   pub owing_is_over : (by : By) → SenderIsOver by (owes by) → ⊥
   pub dropped_is_sent : SenderIsOver sending (finished dropping) → ⊥
   pub sent_is_dropped : SenderIsOver dropping (late sending) → ⊥
-  pub new_receiver_is_over : ReceiverIsOver first → ⊥
-  pub looked_is_over : (o : Open) → ReceiverIsOver (here o) → ⊥
-  pub waiting_is_over : (w : Waiting) → ReceiverIsOver (waits w) → ⊥
-  pub overdue_is_over : ReceiverIsOver overdue → ⊥
+  pub looked_and_found_it : (o : Open) → FoundTheEnd (here o) → ⊥
+  pub waits_and_found_it : (w : Waiting) → FoundTheEnd (waits w) → ⊥
+  pub gone_and_found_it : FoundTheEnd gone → ⊥
+  pub new_has_left : HasLeft first → ⊥
+  pub overdue_has_left : HasLeft overdue → ⊥
+  pub received_has_left : (g : Got) → HasLeft (full g) → ⊥
 
 -- WHAT A CALL LEAVES
 pub record CallsThatLeave : Type 0 where

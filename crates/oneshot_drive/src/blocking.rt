@@ -9,7 +9,7 @@ ghost use Rattle.oneshot_machine.specs.Logs.{receiver_of};
 ghost use Rattle.oneshot_machine.specs.Receiver.{receiver_step, receiver_row};
 ghost use Rattle.oneshot_machine.specs.Runs.{Ran, ReceiverRan};
 ghost use Rattle.oneshot_drive.specs.Blocking.{Returns};
-ghost use Rattle.oneshot_drive.specs.BetweenCalls.{AtRest, IsClosedAt, LeavesClosed, LeavesTimed, ReceiverIsOver, IsReady, Hands, recv_reply, timed_reply, received};
+ghost use Rattle.oneshot_drive.specs.BetweenCalls.{AtRest, IsClosedAt, LeavesClosed, LeavesTimed, FoundTheEnd, IsReady, Hands, recv_reply, timed_reply, received};
 
 use crate::errors::{RecvError, RecvTimeoutError};
 use crate::ground::BlockGround;
@@ -164,7 +164,7 @@ pub fn recv<T, W: Drop, G: BlockGround<T, W>>(
     requires has { G.has g.old hand.old }
     ensures run { ReceiverRan Recv (G.state g.old).log (G.state g.new).log
         (recv_reply result) [] (received result) }
-    ensures over { ReceiverIsOver (receiver_of (G.state g.new).log) }
+    ensures found { FoundTheEnd (receiver_of (G.state g.new).log) }
     ensures stays { IsClosedAt (receiver_of (G.state g.old).log) → IsErr result }
     ensures hand { Returns hand.old hand.new }
     ensures given { IfOk result (λ message. G.gives g.old message) }

@@ -1,12 +1,15 @@
 //! The traits of grounds: what an end does to the world.
 
-ghost use Rattle.std.specs.Prelude.{◌≡◌, Bool, ◌∷◌, [], Option, Some, None, IfSome};
+ghost use Rattle.std.specs.Prelude.{◌≡◌, Bool, true, ◌∷◌, [], Option, Some, None, IfSome};
 ghost use Rattle.oneshot_machine.specs.declared.machine.Step.TheVariants.{DropMessage, WriteWaker, TakeWaker, Withdraw, Wake, WakeOwn, Free};
 ghost use Rattle.oneshot_machine.specs.declared.states.Op.TheVariants.{Load, Store, Swap, Exchange, Add, Xor};
-ghost use Rattle.oneshot_machine.specs.Logs.{Grows, receiver_of, did, wrote, took, handed, parked, clocked, copied, worded};
+ghost use Rattle.oneshot_machine.specs.Phases.{By};
+ghost use Rattle.oneshot_machine.specs.Logs.{Grows, words, sender_of, receiver_of, did, wrote, took, handed, parked, clocked, copied, worded};
 ghost use Rattle.oneshot_machine.specs.Slots.{away, vacant, held};
+ghost use Rattle.oneshot_drive.specs.BetweenCalls.{SenderIsOver};
 ghost use Rattle.oneshot_drive.specs.Blocking.{Parks};
 ghost use Rattle.oneshot_drive.specs.Grounds.{GroundState, SenderAsks, SenderMakes, ReceiverAsks, ReceiverMakes};
+ghost use Rattle.oneshot_drive.specs.Wakes.{finds_waiting};
 
 /// The steps of the sender, and of the error of its refused `send`, for messages `T` and wakers `W`.
 pub trait SenderGround<T, W> {
@@ -29,6 +32,13 @@ pub trait SenderGround<T, W> {
 
     // The end has given this message to the channel.
     ghost gave: { Self → T → Type 0 };
+
+    // What holds of an end once its `send` or its drop is over: it may be let go.
+    ghost ended: { By → Self → Type 0 };
+
+    // Its last operation is made, and it has woken the receiver that it found waiting.
+    ghost ended_by: { (by : By) (a : Self) → SenderIsOver by (sender_of (state a).log)
+        → (finds_waiting (words (state a).log.list) ≡ true → (waker : W) × woken a waker) → ended by a };
 
     /// Adds one to the word, and returns the word before.
     fn add(&mut self) -> u8

@@ -17,7 +17,7 @@ ghost use Rattle.oneshot_machine.specs.Runs.{Ran, ReceiverRan};
 ghost use Rattle.oneshot_machine.specs.TableRows.{Goes};
 ghost use Rattle.oneshot_drive.specs.declared.waiting.Found.TheVariants as F;
 ghost use Rattle.oneshot_drive.specs.Blocking.{Path};
-ghost use Rattle.oneshot_drive.specs.BetweenCalls.{IsClosedAt, ReceiverIsOver, try_recv_reply, received};
+ghost use Rattle.oneshot_drive.specs.BetweenCalls.{IsClosedAt, HasLeft, try_recv_reply, received};
 ghost use Rattle.oneshot_drive.specs.Grounds.{Stands, ReceiverAsks};
 ghost use Rattle.oneshot_drive.specs.Polls.{IsPolled, LeavesPolled, LeavesTried, StaysRegistered, poll_reply, poll_received, poll_end, EndsPoll, MayLeave, IsDisconnected, WroteCopies, WritesItsCopy, HandsNoWaker};
 
@@ -189,7 +189,7 @@ pub fn async_try_recv<T, W, G: ReceiverGround<T, W>>(g: &mut G) -> Result<T, Try
 pub fn drop_async<T, W: Drop, G: ReceiverGround<T, W>>(g: &mut G)
     requires { IsPolled (G.state g.old) }
     ensures run { ReceiverRan C.DropAsync (G.state g.old).log (G.state g.new).log R.Done [] [] }
-    ensures over { ReceiverIsOver (receiver_of (G.state g.new).log) }
+    ensures left { HasLeft (receiver_of (G.state g.new).log) }
     ensures bounded { MakesWithin (receiver_bound C.DropAsync) (G.state g.old).log (G.state g.new).log }
 {
     match g.load() {
@@ -218,7 +218,7 @@ fn close<T, W, G: ReceiverGround<T, W>>(g: &mut G)
     requires { ReceiverAsks (Swap 2) (G.state g.old) }
     ensures run { Ran receiver_step receiver_row (AsyncDrop AsyncSwap) (G.state g.old).log (G.state g.new).log
         R.Done [] [] }
-    ensures over { ReceiverIsOver (receiver_of (G.state g.new).log) }
+    ensures left { HasLeft (receiver_of (G.state g.new).log) }
 {
     match g.swap(DISCONNECTED) {
         MESSAGE => {

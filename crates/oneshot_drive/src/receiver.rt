@@ -7,7 +7,7 @@ ghost use Rattle.oneshot_machine.specs.declared.machine.receiver.ReceiverStart.T
 ghost use Rattle.oneshot_machine.specs.Counts.{receiver_bound, MakesWithin};
 ghost use Rattle.oneshot_machine.specs.Logs.{receiver_of};
 ghost use Rattle.oneshot_machine.specs.Runs.{ReceiverRan};
-ghost use Rattle.oneshot_drive.specs.BetweenCalls.{AtRest, IsClosedAt, Leaves, ReceiverIsOver, try_recv_reply, received};
+ghost use Rattle.oneshot_drive.specs.BetweenCalls.{AtRest, IsClosedAt, Leaves, HasLeft, try_recv_reply, received};
 
 use crate::errors::TryRecvError;
 use crate::ground::ReceiverGround;
@@ -47,7 +47,7 @@ pub fn try_recv<T, W, G: ReceiverGround<T, W>>(g: &mut G) -> Result<T, TryRecvEr
 pub fn drop_receiver<T, W, G: ReceiverGround<T, W>>(g: &mut G)
     requires { AtRest (G.state g.old) }
     ensures run { ReceiverRan Drop (G.state g.old).log (G.state g.new).log R.Done [] [] }
-    ensures over { ReceiverIsOver (receiver_of (G.state g.new).log) }
+    ensures left { HasLeft (receiver_of (G.state g.new).log) }
 {
     match g.swap(DISCONNECTED) {
         MESSAGE => {

@@ -29,6 +29,7 @@ pub fn send<T, W, G: SenderGround<T, W>>(g: &mut G, message: T) -> bool
         IsError (held message) (G.state g.new) }
     ensures late { result ≡ false → IsLate (sender_of (G.state g.new).log) }
     ensures over { SenderIsOver sending (sender_of (G.state g.new).log) }
+    ensures ended { G.ended sending g.new }
     ensures bounded { MakesWithin (sender_bound Send) (G.state g.old).log (G.state g.new).log }
     ensures gave { result ≡ true → G.gave g.new message }
     ensures keeps { G.keeps g.old g.new }
@@ -51,6 +52,7 @@ pub fn drop_sender<T, W, G: SenderGround<T, W>>(g: &mut G)
     ensures run { SenderRan Drop (G.state g.old).log (G.state g.new).log Done [] [] }
     ensures woke { SenderWoke (G.woken g.new) Drop (G.state g.old).log (G.state g.new).log Done [] [] }
     ensures over { SenderIsOver dropping (sender_of (G.state g.new).log) }
+    ensures ended { G.ended dropping g.new }
     ensures bounded { MakesWithin (sender_bound Drop) (G.state g.old).log (G.state g.new).log }
 {
     match g.flip() {

@@ -11,7 +11,7 @@ use Rattle.oneshot_machine.specs.declared.machine.receiver.ReceiverStart.TheVari
 use Rattle.oneshot_machine.specs.declared.machine.sender.SenderCall.{SenderCall}
 use Rattle.oneshot_machine.specs.declared.machine.sender.SenderCall.TheVariants.{Send}
 use Rattle.oneshot_machine.specs.Logs.{Event, Log, Grows, noted, words, receiver_of}
-use Rattle.oneshot_machine.specs.Phases.{receiver_at}
+use Rattle.oneshot_machine.specs.Phases.{ReceiverAt, receiver_at}
 use Rattle.oneshot_machine.specs.TableRows.{Outcome}
 use Rattle.oneshot_machine.specs.Runs.{Run, last, more, SenderRan, ReceiverRan}
 use Rattle.oneshot_machine.specs.Receiver.{receiver_start, receiver_step, receiver_row}
@@ -20,7 +20,7 @@ use Rattle.oneshot_machine.specs.Noted.{Noted}
 use Rattle.oneshot_machine.specs.Counts.{receiver_bound, GrewWithin}
 use Rattle.oneshot_machine.proofs.CallBounds.{try_recv_makes, async_try_recv_makes, poll_makes}
 use Rattle.oneshot_machine.proofs.GrownLogs.{words_after}
-use Rattle.oneshot_drive.specs.BetweenCalls.{ReceiverIsOver, send_reply}
+use Rattle.oneshot_drive.specs.BetweenCalls.{send_reply}
 use Rattle.oneshot_word.specs.Side.{Side}
 use Rattle.oneshot_ends.specs.Ends.{Waking, SenderGrew, ReceiverGrew}
 use Rattle.oneshot_ends.specs.Grounds.{events_of, state_of}
@@ -84,10 +84,10 @@ send_refused {T} {W} {ground = ground} {given = given} {got = got} after is was 
     sender_grew (began_at is was) (words_of T W after.log ∙ ends) Send
     (subst (λ sent. SenderRan Send (state_of ground).log (state_of after).log (send_reply sent) given got) found ran)
 
--- a receiver whose ground is over
-pub over_by : {T W P : Type 0} (s : Side T W P) → ReceiverIsOver (receiver_of (state_of s).log)
-    → ReceiverIsOver (receiver_at s.log)
-over_by {T} {W} s over = subst (λ xs. ReceiverIsOver (receiver_at xs)) (words_of T W s.log) over
+-- the phase of a receiver's ground is its end's
+pub phase_of : {T W P : Type 0} (Phases : ReceiverAt → Type 0) (s : Side T W P)
+    → Phases (receiver_of (state_of s).log) → Phases (receiver_at s.log)
+phase_of {T} {W} Phases s is = subst (λ xs. Phases (receiver_at xs)) (words_of T W s.log) is
 
 -- a log grows by no more operations than a run of the call performs
 module _ {T : Type 0} {before after : List Noted} {reply : Reply} where

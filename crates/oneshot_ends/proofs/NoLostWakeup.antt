@@ -4,6 +4,7 @@ use mathlib.Core.Option.{some}
 use Rattle.atomic_table.specs.Seated.{TableId}
 use Rattle.futures.specs.declared.task.waker.Waker.{Waker}
 use Rattle.std.specs.Prelude.{⊤}
+use Rattle.crossbeam_utils.specs.Token.{IsSamePass}
 use Rattle.oneshot_machine.specs.Noted.{Noted}
 use Rattle.oneshot_machine.specs.Slots.{away}
 use Rattle.oneshot_machine.specs.Phases.{By, sending, sender_at, receiver_at}
@@ -23,8 +24,9 @@ use Rattle.oneshot_ends.specs.NoLostWakeup.{RealWaker, AtOneMoment, IsThereOrTak
 use Rattle.oneshot_ends.specs.OwnExamples.{blocks, UsesThatAre, UsesThatAreNot}
 use Rattle.oneshot_ends.specs.OwnWakers.{IsHalfOf, IsNoThread, is_waiting, Gave, WaitsByHalvesOf}
 use Rattle.oneshot_ends.specs.Tokens.{TokenIs}
-use Rattle.oneshot_ends.specs.Woken.{Sending, IsWoken, HasEnded}
+use Rattle.oneshot_ends.specs.Woken.{Sending, IsWoken, phase, found_waiting as shown_waiting, HasEnded}
 use Rattle.oneshot_ends.proofs.FoundWaiting.{found_waiting}
+use Rattle.oneshot_ends.proofs.GrewByRuns.{words_of}
 use Rattle.oneshot_ends.proofs.OwnWakers.{same_put}
 use Rattle.oneshot_ends.proofs.Tokens.{Has, has, there_waking, taken_waking}
 
@@ -63,14 +65,15 @@ module _ {T P : Type 0} (keeps : P → T → Type 0) where
 
   pub senders_gave_tokens : EndedSendersGaveTokens keeps
   senders_gave_tokens by sender receiver parker moment ended found gave =
-      let woken = ended.woken found in
+      let woken = ended.woken (ap finds_waiting (words_of T RealWaker sender.side.log) ∙ found) in
       own_given parker woken.0 sender sender.given refl
-      (taken_is_given sender receiver {own = IsHalfOf parker} woken.0 moment woken.1 gave) woken.2
+      (taken_is_given sender receiver {own = IsHalfOf parker} woken.0 moment woken.1.0 gave) woken.1.1
 
   pub no_sleeper_is_forgotten : NoSleeperIsForgotten keeps
   no_sleeper_is_forgotten by sender receiver parker moment ended sleeps =
       let found =
-      found_waiting (both_reach moment.allowed refl).1 sleeps.waits (over_made by sender.side.log ended.over) in
+      found_waiting (both_reach moment.allowed refl).1 sleeps.waits (over_made by sender.side.log
+      (subst (λ xs. SenderIsOver by (sender_at xs)) (words_of T RealWaker sender.side.log) ended.over)) in
       senders_gave_tokens by sender receiver parker moment ended found (sleeps.own.gave sleeps.waits)
     where
       over_made : (by : By) (xs : List Noted) → SenderIsOver by (sender_at xs) → has_made xs ≡ true
@@ -88,6 +91,20 @@ unused {K} {k} {half} {given} woken is none =
     subst (λ (given : Option Given). IsWoken {K = K} (Thread half) given) none
     (subst (λ k. IsWoken {K = K} k given) same woken)
 
+-- what the ground of a sender with this log shows
+module _ {K : Type 0} (s : Sending ⊤ (AnyWaker WakingHalf K) ⊤) {log : List Noted} (logs : s.side.log ≡ log) where
+  shows_waiting : shown_waiting s ≡ finds_waiting log
+  shows_waiting = ap finds_waiting (words_of ⊤ (AnyWaker WakingHalf K) s.side.log ∙ logs)
+
+  shows_phase : phase s ≡ sender_at log
+  shows_phase = ap sender_at (words_of ⊤ (AnyWaker WakingHalf K) s.side.log ∙ logs)
+
+used_half : {K : Type 0} (s : Sending ⊤ (AnyWaker WakingHalf K) ⊤) (half : WakingHalf) (given : Given)
+    → s.side.handed ≡ Some (Thread half) → s.given ≡ Some given → IsSamePass half.pass given.pass
+    → (k : AnyWaker WakingHalf K) × ((s.side.handed ≡ Some k) × IsWoken k s.given)
+used_half {K} s half given took is same =
+    (Thread half, (took, subst (λ (g : Option Given). IsWoken {K = K} (Thread half) g) (sym is) same))
+
 gives_its_own : {K : Type 0} (s : Side ⊤ (AnyWaker WakingHalf K) ⊤) (half : WakingHalf) → s.log ≡ blocks
     → s.waker ≡ away → s.handed ≡ Some (Thread half) → WaitsByHalvesOf half.pass.table_id s
 gives_its_own s half logs slot gave =
@@ -95,17 +112,13 @@ gives_its_own s half logs slot gave =
 
 never_over : (s : Sending ⊤ (AnyWaker WakingHalf ℕ) ⊤) {log : List Noted} → s.side.log ≡ log
     → (SenderIsOver sending (sender_at log) → ⊥) → HasEnded sending s → ⊥
-never_over s logs never ended = never (subst (λ xs. SenderIsOver sending (sender_at xs)) logs ended.over)
+never_over s logs never ended = never (subst (SenderIsOver sending) (shows_phase s logs) ended.over)
 
 pub uses_that_are : UsesThatAre
 uses_that_are =
     record {
-      woke_it = λ s half given took is same found. (
-        Thread half,
-        took,
-        subst (λ (g : Option Given). IsWoken {K = ℕ} (Thread half) g) (sym is) same,
-      );
-      nobody_waits = λ s logs found. let e : false ≡ true = sym (ap finds_waiting logs) ∙ found in absurd (cc e);
+      woke_it = λ s half given took is same found. used_half s half given took is same;
+      nobody_waits = λ s logs found. let e : false ≡ true = sym (shows_waiting s logs) ∙ found in absurd (cc e);
       of_its_parker = λ p half same. same;
       of_nobody = λ k is. subst IsNoThread (sym is) tt;
       its_own = λ half. refl;
@@ -115,12 +128,8 @@ uses_that_are =
       gives_its_own = gives_its_own;
       ended = λ s half given logs took is same.
           record {
-            over = subst (λ xs. SenderIsOver sending (sender_at xs)) (sym logs) over_finished;
-            woken = λ found. (
-              Thread half,
-              took,
-              subst (λ (g : Option Given). IsWoken {K = ℕ} (Thread half) g) (sym is) same,
-            );
+            over = subst (SenderIsOver sending) (sym (shows_phase s logs)) over_finished;
+            woken = λ found. used_half s half given took is same;
           };
       sleeps = λ s half logs slot gave.
           record { waits = ap (λ xs. is_waiting (receiver_at xs)) logs; own = gives_its_own s half logs slot gave };
@@ -130,9 +139,9 @@ pub uses_that_are_not : UsesThatAreNot
 uses_that_are_not =
     record {
       gave_none = λ s half logs took none used.
-          let woken = used (ap finds_waiting logs) in unused woken.2 (sym woken.1 ∙ took) none;
+          let woken = used (shows_waiting s logs) in unused woken.1.1 (sym woken.1.0 ∙ took) none;
       took_none = λ s logs none used.
-          let woken = used (ap finds_waiting logs) in let e = sym none ∙ woken.1 in absurd (cc e);
+          let woken = used (shows_waiting s logs) in let e = sym none ∙ woken.1.0 in absurd (cc e);
       nobody = λ parker own. own;
       a_task = λ parker own. own;
       of_another = λ parker half other own. other own;
@@ -142,7 +151,7 @@ uses_that_are_not =
           same_put IsNoThread (free.gave (ap (λ xs. is_waiting (receiver_at xs)) logs)) gave;
       is_fresh = λ s logs ended. never_over s logs (λ over. elim over [ ]) ended;
       ended_unwoken = λ s half logs took none ended.
-          let woken = ended.woken (ap finds_waiting logs) in unused woken.2 (sym woken.1 ∙ took) none;
+          let woken = ended.woken (shows_waiting s logs) in unused woken.1.1 (sym woken.1.0 ∙ took) none;
       dropped_instead = λ s logs ended. never_over s logs (λ over. elim over [ ]) ended;
       sleeps_unasked = λ s parker logs sleeps.
           let e : false ≡ true = sym (ap (λ xs. is_waiting (receiver_at xs)) logs) ∙ sleeps.waits in absurd (cc e);

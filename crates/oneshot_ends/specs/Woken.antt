@@ -1,12 +1,14 @@
 -- What the use of a waker leaves behind, and how the ground of a sender shows it.
-use Rattle.std.specs.Prelude.{◌≡◌, ⊤, true, Option, Some, None}
+use Rattle.std.specs.Prelude.{◌≡◌, ⊤, Bool, true, Option, Some, None}
 use Rattle.crossbeam_utils.specs.Token.{IsSamePass}
 use Rattle.oneshot_word.specs.declared.any_waker.AnyWaker.{AnyWaker}
 use Rattle.oneshot_word.specs.declared.any_waker.AnyWaker.TheVariants.{Thread}
-use Rattle.oneshot_machine.specs.Phases.{By, sender_at}
+use Rattle.oneshot_machine.specs.Logs.{words, sender_of}
+use Rattle.oneshot_machine.specs.Phases.{By, SenderAt}
 use Rattle.oneshot_drive.specs.BetweenCalls.{SenderIsOver}
 use Rattle.oneshot_drive.specs.Wakes.{finds_waiting}
 use Rattle.oneshot_word.specs.Side.{Side}
+use Rattle.oneshot_ends.specs.Grounds.{state_of}
 use Rattle.oneshot_ends.specs.declared.token.Given.{Given}
 use Rattle.oneshot_ends.specs.declared.token.WakingHalf.{WakingHalf}
 
@@ -25,14 +27,20 @@ pub record Sending (T W P : Type 0) : Type 0 where
   pub side : Side T W P
   pub given : Option Given
 
+-- by the log of its ground: how far the sender is, and whether it found its receiver waiting
+abbrev pub phase : {T W P : Type 0} → Sending T W P → SenderAt
+phase s = sender_of (state_of s.side).log
+
+abbrev pub found_waiting : {T W P : Type 0} → Sending T W P → Bool
+found_waiting s = finds_waiting (words (state_of s.side).log.list)
+
 -- A sender that found its receiver waiting has used the waker that it took: a thread's half has given its token.
 abbrev pub HasWoken : {T K P : Type 0} → Sending T (AnyWaker WakingHalf K) P → Type 0
 HasWoken {K} s =
-    finds_waiting s.side.log ≡ true
-    → (k : AnyWaker WakingHalf K) × (s.side.handed ≡ Some k) × IsWoken k s.given
+    found_waiting s ≡ true → (k : AnyWaker WakingHalf K) × ((s.side.handed ≡ Some k) × IsWoken k s.given)
 
 -- What a sender has done before its ground is let go: it has performed its last operation, in its `send` or in its
 -- drop, and woken a receiver that it found waiting.
 pub record HasEnded {T K P : Type 0} (by : By) (s : Sending T (AnyWaker WakingHalf K) P) : Type 0 where
-  pub over : SenderIsOver by (sender_at s.side.log)
+  pub over : SenderIsOver by (phase s)
   pub woken : HasWoken s

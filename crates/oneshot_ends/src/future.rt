@@ -179,5 +179,6 @@ impl<T: Drop, Rt: Drop, P: Promise<T>> Drop for AsyncReceiver<T, Rt, P> {
             rt: _,
         } = self;
         drop_async(&mut ground);
+        ground.dropped();
     }
 }

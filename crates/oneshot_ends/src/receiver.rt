@@ -2,7 +2,7 @@
 
 ghost use Rattle.std.specs.Prelude.{◌≡◌, ◌≢◌, Err, IsErr, IfOk, IfSome};
 ghost use Rattle.oneshot_machine.specs.Logs.{receiver_of};
-ghost use Rattle.oneshot_drive.specs.BetweenCalls.{AtRest, IsReady, IsClosedAt, ReceiverIsOver};
+ghost use Rattle.oneshot_drive.specs.BetweenCalls.{AtRest, IsReady, IsClosedAt, FoundTheEnd};
 ghost use Rattle.std.specs.Time.{instant_nanos, FitsClock};
 ghost use Rattle.oneshot_drive.specs.declared.errors.recv_timeout.RecvTimeoutError.TheVariants as Timed;
 ghost use Rattle.oneshot_drive.specs.declared.errors.try_recv.TryRecvError.TheVariants as Tried;
@@ -221,7 +221,9 @@ impl<T: Drop, Rt: Wait + Clock + Drop, P: Promise<T>> Receiver<T, Rt, P> {
             source: _,
             rt,
         } = self;
-        receive_last(&mut ground, &mut parker, &rt, &mut hand)
+        let result = receive_last(&mut ground, &mut parker, &rt, &mut hand);
+        ground.received();
+        result
     }
 }
 
@@ -236,7 +238,7 @@ fn receive_last<T: Drop, Rt: Wait + Clock + Drop, P: Promise<T>>(
     requires ready { IsReady hand.old (receiver_of (state_of ground.old).log) }
     requires owned { WaitsByHalvesOf parker.old.parker ground.old }
     requires own { IfSome hand.old (IsHalfOf parker.old.parker) }
-    ensures over { ReceiverIsOver (receiver_at ground.new.log) }
+    ensures found { FoundTheEnd (receiver_at ground.new.log) }
     ensures stays { IsClosedAt (receiver_of (state_of ground.old).log) → IsErr result }
     ensures kept { IfOk result (λ message. P.keeps ground.old.about message) }
 {
@@ -294,5 +296,6 @@ impl<T: Drop, Rt: Drop, P: Promise<T>> Drop for Receiver<T, Rt, P> {
             rt: _,
         } = self;
         drop_receiver(&mut ground);
+        ground.dropped();
     }
 }

@@ -1,4 +1,5 @@
--- What each row of a table carries on, a run carries to its reply: one induction for every law of runs.
+-- What each row of a table carries on, a run carries to its reply: one induction for every law of runs. The same of an
+-- operation's rows in the phases' table.
 use Rattle.std.proofs.Common.{◌≡◌, Bool, true, false, List, [], ◌∷◌, Option, Some, None, refl, sym, ap, ◌∙◌, subst}
 use Rattle.std.proofs.lemmas.Bool.{and_parts, eqb-true}
 use Rattle.std.specs.Prelude.{if◌then◌else◌}
@@ -11,7 +12,7 @@ use Rattle.oneshot_machine.specs.declared.machine.Step.{Step}
 use Rattle.oneshot_machine.specs.declared.states.Op.{Op}
 use Rattle.oneshot_machine.specs.Logs.{Event, words}
 use Rattle.oneshot_machine.specs.Noted.{Noted, op_of}
-use Rattle.oneshot_machine.specs.Phases.{phase_from}
+use Rattle.oneshot_machine.specs.Phases.{Row, is_row_for, next_by, phase_from}
 use Rattle.oneshot_machine.specs.Runs.{Run, last, more}
 use Rattle.oneshot_machine.specs.TableRows.{Outcome, Goes, Answers, Rows, row_for, is_same_seen}
 
@@ -78,3 +79,16 @@ module _ {P S : Type 0} (step : P → Step) (rows : P → Rows P) (next : S → 
     by_rows each p s _ r stands (more after x xs is leads rest) =
         subst (Ends r) (sym (by_step p s x xs is))
         (by_rows each after (moved (op_of (step p)) x.seen s) xs r (each p s x.seen (Goes after) stands leads) rest)
+
+-- a test that all rows' next phases pass, and the phase without a row, the phase after an operation passes
+pub next_passes : {At : Type 0} (test : At → Bool) (nowhere : At) (rows : List (Row At)) (op : Op) (seen : Seen)
+    → test nowhere ≡ true → list_all (λ row. test row.3) rows ≡ true → test (next_by nowhere rows op seen) ≡ true
+next_passes test nowhere [] op seen none all = none
+next_passes test nowhere (row ∷ rows) op seen none all =
+    let parts = and_parts (test row.3) (list_all (λ row. test row.3) rows) all in
+    by (is_row_for op seen row) parts.0 (next_passes test nowhere rows op seen none parts.1)
+  where
+    by : (b : Bool) → test row.3 ≡ true → test (next_by nowhere rows op seen) ≡ true
+        → test (if b then row.3 else next_by nowhere rows op seen) ≡ true
+    by true now later = now
+    by false now later = later

@@ -143,6 +143,10 @@ impl<'a, T: Drop, W: Drop, R: Wait> SenderGround<T, W> for MemorySender<'a, T, W
 
     ghost keeps_on = { λ _ _ _ _ _. tt };
 
+    ghost ended = { λ _ _. ⊤ };
+
+    ghost ended_by = { λ _ _ _ _. tt };
+
     // It admits any message.
     ghost admits = { λ s m. ⊤ };
 

@@ -141,6 +141,10 @@ impl<T: Drop, P: Promise<T>> SenderGround<T, AnyWaker<WakingHalf, Waker>>
     // It gives nothing.
     ghost gave = { λ _ _. ⊤ };
 
+    ghost ended = { λ _ _. ⊤ };
+
+    ghost ended_by = { λ _ _ _ _. tt };
+
     // No operation on the word follows a refused `send`.
     fn add(&mut self) -> u8 {
         self.known();

@@ -5,7 +5,7 @@ ghost use Rattle.oneshot_machine.specs.declared.machine.Step.TheVariants.{WriteW
 ghost use Rattle.oneshot_machine.specs.Logs.{Grows, handed};
 ghost use Rattle.oneshot_machine.specs.Slots.{vacant, held};
 ghost use Rattle.oneshot_machine.specs.Phases.{receiver_at};
-ghost use Rattle.oneshot_drive.specs.BetweenCalls.{ReceiverIsOver};
+ghost use Rattle.oneshot_drive.specs.BetweenCalls.{FoundTheEnd, HasLeft};
 ghost use Rattle.oneshot_ends.specs.Ends.{ReceiverIsOrdered};
 
 use crate::freed::Freed;
@@ -19,6 +19,7 @@ use std::marker::Model;
 /// The ground of a channel's receiver.
 pub(crate) type ChannelReceiver<T, P> = SharedReceiver<T, WakingHalf, Waker, P>;
 
+// It has no `Drop`: it is let go by `received` or `dropped`, which require that the last call is over.
 /// The receiver's ground.
 pub(crate) struct SharedReceiver<T, H, K, P: Promise<T>> {
     pub(super) side: ReceiverSide<T, H, K, P>,
@@ -51,6 +52,26 @@ impl<T, H, K, P: Promise<T>> SharedReceiver<T, H, K, P> {
         ensures { ReceiverIsOrdered self.now.log }
     {
         a_receiver_is_in_an_order(&self.side);
+    }
+}
+
+impl<T: Drop, H: Drop, K: Drop, P: Promise<T>> SharedReceiver<T, H, K, P> {
+    /// Lets the receiver go after its last receive.
+    pub(crate) fn received(self)
+        requires { FoundTheEnd (receiver_at self.log) }
+    {
+        self.let_go();
+    }
+
+    /// Lets the receiver go after its drop.
+    pub(crate) fn dropped(self)
+        requires { HasLeft (receiver_at self.log) }
+    {
+        self.let_go();
+    }
+
+    fn let_go(self) {
+        let SharedReceiver { side: _, freed: _ } = self;
     }
 }
 
@@ -140,14 +161,5 @@ impl<T: Drop, P: Promise<T>> ReceiverGround<T, AnyWaker<WakingHalf, Waker>>
     fn free(&mut self) {
         self.side.slots();
         self.freed = Freed::of(true);
-    }
-}
-
-// A receiver is let go only once it knows how its channel ended, or was dropped.
-impl<T: Drop, H: Drop, K: Drop, P: Promise<T>> Drop for SharedReceiver<T, H, K, P> {
-    fn drop(self)
-        requires { ReceiverIsOver (receiver_at self.log) }
-    {
-        let SharedReceiver { side: _, freed: _ } = self;
     }
 }

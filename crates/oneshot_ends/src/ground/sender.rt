@@ -133,7 +133,7 @@ impl<T: Drop, P: Promise<T>> SharedSender<T, P> {
 
 impl<T: Drop, P: Promise<T>> SenderGround<T, AnyWaker<WakingHalf, Waker>> for SharedSender<T, P> {
     ghost use Rattle.oneshot_ends.specs.Grounds.{state_of};
-    ghost use Rattle.oneshot_ends.specs.Woken.{IsWoken};
+    ghost use Rattle.oneshot_ends.specs.Woken.{IsWoken, HasEnded};
     ghost use Rattle.std.specs.Prelude.{Some};
     ghost use Rattle.std.proofs.Common.{◌∙◌};
 
@@ -151,6 +151,10 @@ impl<T: Drop, P: Promise<T>> SenderGround<T, AnyWaker<WakingHalf, Waker>> for Sh
     ghost woken = { λ s waker. (s.side.handed ≡ Some waker) × IsWoken waker s.given };
 
     ghost gave = { λ s message. s.side.passed ≡ Some message };
+
+    ghost ended = { λ by s. HasEnded by s };
+
+    ghost ended_by = { λ _ _ over woke. record { over = over; woken = woke } };
 
     fn add(&mut self) -> u8 {
         self.side.add()

@@ -1,7 +1,8 @@
 -- Proofs of the goals that `recv` leaves.
 use Rattle.oneshot_drive.proofs.Names.{refl, ◌∙◌, [], ◌∷◌, did, took, by_value, is_in, is_room}
 use Rattle.oneshot_machine.specs.declared.machine.Step.TheVariants as Steps
-use Rattle.oneshot_drive.proofs.EndsOver.{found_over, stays_over}
+use Rattle.oneshot_drive.specs.BetweenCalls.{FoundTheEnd}
+use Rattle.oneshot_drive.proofs.EndsOver.{found, stays_at}
 use Rattle.oneshot_drive.proofs.Receives.{has_message, full_freed, gone, gone_freed, hand_back}
 use Rattle.oneshot_drive.proofs.blocking.recv.Goals as goal
 
@@ -16,8 +17,8 @@ returns-in_default g c =
     record {
       run = gone_freed (gone (g.G.ReceiverGround.state c.find.new.g) c.find.result c.in_default.not-Message
           c.find.ensures.ends) (c.find.ensures.path by_value) c.free.ensures.log;
-      over = stays_over (did Steps.Free ∷ []) refl c.free.ensures.log
-          (found_over c.find.result (g.G.ReceiverGround.state c.find.new.g) c.find.ensures.ends);
+      found = stays_at FoundTheEnd (did Steps.Free ∷ []) refl c.free.ensures.log
+          (found c.find.result (g.G.ReceiverGround.state c.find.new.g) c.find.ensures.ends);
       stays = λ _. refl;
       hand = hand_back
           (g.G.ReceiverGround.state c.find.new.g) c.find.result c.find.ensures.ends c.find.ensures.hand;
@@ -40,11 +41,11 @@ returns-clause-run g c =
     full_freed c.take_message-message.result (rw c.in-Message.is at (c.find.ensures.path by_value))
     c.take_message-message.ensures.log c.free-2.ensures.log
 
-pub returns-clause-over : goal.returns-clause-over
-returns-clause-over g c =
-    stays_over (did Steps.Free ∷ []) refl c.free-2.ensures.log
-    (stays_over (took c.take_message-message.result ∷ []) refl c.take_message-message.ensures.log
-    (found_over c.find.result (g.G.ReceiverGround.state c.find.new.g) c.find.ensures.ends))
+pub returns-clause-found : goal.returns-clause-found
+returns-clause-found g c =
+    stays_at FoundTheEnd (did Steps.Free ∷ []) refl c.free-2.ensures.log
+    (stays_at FoundTheEnd (took c.take_message-message.result ∷ []) refl c.take_message-message.ensures.log
+    (found c.find.result (g.G.ReceiverGround.state c.find.new.g) c.find.ensures.ends))
 
 pub returns-clause-hand : goal.returns-clause-hand
 returns-clause-hand g c =

@@ -2,7 +2,8 @@
 use Rattle.oneshot_drive.proofs.Names.{rules, refl, ◌∙◌, [], ◌∷◌, did, AsyncDrop, AsyncSwap, is_in, is_room}
 use Rattle.oneshot_machine.specs.declared.machine.Step.TheVariants as Steps
 use Rattle.oneshot_drive.proofs.LastSwap.{swapped_full, swapped_over, swapped_open, row_at, dropped_message, dropped_open, dropped_last}
-use Rattle.oneshot_drive.proofs.EndsOver.{dropped_over, stays_over}
+use Rattle.oneshot_drive.specs.BetweenCalls.{HasLeft}
+use Rattle.oneshot_drive.proofs.EndsOver.{dropped, stays_at}
 use Rattle.oneshot_drive.proofs.polling.close.Goals as goal
 
 pub drop_message-requires : goal.drop_message-requires
@@ -32,16 +33,16 @@ returns-in_default-clause-run g c =
     dropped_open (AsyncDrop AsyncSwap) refl c.swap.result
     (swapped_open c.swap.ensures.finds (search rules) (search rules)) c.swap.ensures.log
 
-pub returns-in-4-clause-over : goal.returns-in-4-clause-over
-returns-in-4-clause-over g c =
-    stays_over (did Steps.Free ∷ []) refl c.free.ensures.log
-    (stays_over (did Steps.DropMessage ∷ []) refl c.drop_message.ensures.log
-    (dropped_over c.swap.result c.swap.ensures.finds c.swap.ensures.log))
+pub returns-in-4-clause-left : goal.returns-in-4-clause-left
+returns-in-4-clause-left g c =
+    stays_at HasLeft (did Steps.Free ∷ []) refl c.free.ensures.log
+    (stays_at HasLeft (did Steps.DropMessage ∷ []) refl c.drop_message.ensures.log
+    (dropped c.swap.result c.swap.ensures.finds c.swap.ensures.log))
 
-pub returns-in-2-clause-over : goal.returns-in-2-clause-over
-returns-in-2-clause-over g c =
-    stays_over (did Steps.Free ∷ []) refl c.free-in-2.ensures.log
-    (dropped_over c.swap.result c.swap.ensures.finds c.swap.ensures.log)
+pub returns-in-2-clause-left : goal.returns-in-2-clause-left
+returns-in-2-clause-left g c =
+    stays_at HasLeft (did Steps.Free ∷ []) refl c.free-in-2.ensures.log
+    (dropped c.swap.result c.swap.ensures.finds c.swap.ensures.log)
 
-pub returns-in_default-clause-over : goal.returns-in_default-clause-over
-returns-in_default-clause-over g c = dropped_over c.swap.result c.swap.ensures.finds c.swap.ensures.log
+pub returns-in_default-clause-left : goal.returns-in_default-clause-left
+returns-in_default-clause-left g c = dropped c.swap.result c.swap.ensures.finds c.swap.ensures.log

@@ -4,7 +4,8 @@ use Rattle.oneshot_machine.specs.declared.machine.Step.TheVariants as Steps
 use Rattle.oneshot_machine.specs.declared.machine.receiver.ReceiverPos.TheVariants.{Drop}
 use Rattle.oneshot_drive.proofs.RestLoads.{swap_asks}
 use Rattle.oneshot_drive.proofs.LastSwap.{swapped_full, swapped_over, swapped_last, past_1, row_at, dropped_message, dropped_open, dropped_last}
-use Rattle.oneshot_drive.proofs.EndsOver.{dropped_over, stays_over}
+use Rattle.oneshot_drive.specs.BetweenCalls.{HasLeft}
+use Rattle.oneshot_drive.proofs.EndsOver.{dropped, stays_at}
 use Rattle.oneshot_drive.proofs.receiver.drop_receiver.Goals as goal
 
 pub swap-requires : goal.swap-requires
@@ -44,16 +45,16 @@ returns-in_default-clause-run g c =
     dropped_last (Drop DropSwap) refl c.swap.result (row_at (Drop DropSwap) 2 refl closed) c.swap.ensures.log
     c.free-in_default.ensures.log
 
-pub returns-in-4-clause-over : goal.returns-in-4-clause-over
-returns-in-4-clause-over g c =
-    stays_over (did Steps.Free ∷ []) refl c.free.ensures.log
-    (stays_over (did Steps.DropMessage ∷ []) refl c.drop_message.ensures.log
-    (dropped_over c.swap.result c.swap.ensures.finds c.swap.ensures.log))
+pub returns-in-4-clause-left : goal.returns-in-4-clause-left
+returns-in-4-clause-left g c =
+    stays_at HasLeft (did Steps.Free ∷ []) refl c.free.ensures.log
+    (stays_at HasLeft (did Steps.DropMessage ∷ []) refl c.drop_message.ensures.log
+    (dropped c.swap.result c.swap.ensures.finds c.swap.ensures.log))
 
-pub returns-in-3-clause-over : goal.returns-in-3-clause-over
-returns-in-3-clause-over g c = dropped_over c.swap.result c.swap.ensures.finds c.swap.ensures.log
+pub returns-in-3-clause-left : goal.returns-in-3-clause-left
+returns-in-3-clause-left g c = dropped c.swap.result c.swap.ensures.finds c.swap.ensures.log
 
-pub returns-in_default-clause-over : goal.returns-in_default-clause-over
-returns-in_default-clause-over g c =
-    stays_over (did Steps.Free ∷ []) refl c.free-in_default.ensures.log
-    (dropped_over c.swap.result c.swap.ensures.finds c.swap.ensures.log)
+pub returns-in_default-clause-left : goal.returns-in_default-clause-left
+returns-in_default-clause-left g c =
+    stays_at HasLeft (did Steps.Free ∷ []) refl c.free-in_default.ensures.log
+    (dropped c.swap.result c.swap.ensures.finds c.swap.ensures.log)

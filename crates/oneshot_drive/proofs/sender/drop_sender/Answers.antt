@@ -2,7 +2,7 @@
 use Rattle.oneshot_drive.proofs.Names.{rules, refl, ◌∙◌, [], ◌∷◌, did, Xor, is_room, drop_few}
 use Rattle.oneshot_machine.specs.declared.machine.Step.TheVariants.{Free}
 use Rattle.oneshot_machine.specs.Phases.{dropping}
-use Rattle.oneshot_drive.proofs.EndsOver.{flipped_over, flipped_owes, late_over, sender_stays_over}
+use Rattle.oneshot_drive.proofs.EndsOver.{flipped_over, flipped_owes, late_over, sender_stays_over, woken_by}
 use Rattle.oneshot_drive.proofs.AfterOperations.{sender_asks}
 use Rattle.oneshot_drive.proofs.SenderCalls.{drop_owes, flipped, flipped_room}
 use Rattle.oneshot_drive.proofs.SenderRuns.{drop_ran, drop_woke, drop_freed_late, drop_freed}
@@ -17,10 +17,13 @@ finish-requires g c = drop_owes c.flip.result c.requires c.in-0.is c.flip.ensure
 pub returns-in-3 : goal.returns-in-3
 returns-in-3 g c =
     let ran = drop_ran (g.G.SenderGround.woken c.flip.new.self) c.flip.result c.in-3.is c.flip.ensures.log in
+    let over =
+    flipped_over c.flip.result c.requires c.in-3.is c.flip.ensures.finds c.flip.ensures.log in
     record {
       run = ran.ran;
       woke = ran;
-      over = flipped_over c.flip.result c.requires c.in-3.is c.flip.ensures.finds c.flip.ensures.log;
+      over = over;
+      ended = g.G.SenderGround.ended_by dropping _ over (woken_by c.requires.phase ran);
       bounded = drop_few ran.ran;
     }
 
@@ -38,22 +41,28 @@ returns-then-not-finish g c =
     let ran =
     drop_freed_late _ c.flip.result c.in-0.is c.flip.ensures.log c.if-not-finish.ensures.finishes
     c.free.ensures.log c.free.ensures.woken in
+    let over =
+    sender_stays_over (did Free ∷ []) refl c.free.ensures.log (c.if-not-finish.ensures.over dropping
+    (flipped_owes c.flip.result c.requires c.in-0.is c.flip.ensures.finds c.flip.ensures.log)) in
     record {
       run = ran.ran;
       woke = ran;
-      over = sender_stays_over (did Free ∷ []) refl c.free.ensures.log (c.if-not-finish.ensures.over dropping
-          (flipped_owes c.flip.result c.requires c.in-0.is c.flip.ensures.finds c.flip.ensures.log));
+      over = over;
+      ended = g.G.SenderGround.ended_by dropping _ over (woken_by c.requires.phase ran);
       bounded = drop_few ran.ran;
     }
 
 pub returns-else-not-finish : goal.returns-else-not-finish
 returns-else-not-finish g c =
     let ran = drop_woke _ c.flip.result c.in-0.is c.flip.ensures.log c.if-not-finish.ensures.finishes in
+    let over =
+    c.if-not-finish.ensures.over dropping
+    (flipped_owes c.flip.result c.requires c.in-0.is c.flip.ensures.finds c.flip.ensures.log) in
     record {
       run = ran.ran;
       woke = ran;
-      over = c.if-not-finish.ensures.over dropping
-          (flipped_owes c.flip.result c.requires c.in-0.is c.flip.ensures.finds c.flip.ensures.log);
+      over = over;
+      ended = g.G.SenderGround.ended_by dropping _ over (woken_by c.requires.phase ran);
       bounded = drop_few ran.ran;
     }
 
@@ -74,9 +83,12 @@ returns-in_default g c =
     let ran =
     drop_freed (g.G.SenderGround.woken c.free-in_default.new.self) c.flip.result gone.word c.flip.ensures.log
     c.free-in_default.ensures.log in
+    let over =
+    sender_stays_over (did Free ∷ []) refl c.free-in_default.ensures.log (late_over gone.stands) in
     record {
       run = ran.ran;
       woke = ran;
-      over = sender_stays_over (did Free ∷ []) refl c.free-in_default.ensures.log (late_over gone.stands);
+      over = over;
+      ended = g.G.SenderGround.ended_by dropping _ over (woken_by c.requires.phase ran);
       bounded = drop_few ran.ran;
     }

@@ -8,6 +8,6 @@ use Rattle.oneshot_ends.proofs.receiver.Receiver.recv.Goals as goal
 
 pub returns-clause-stays_closed : goal.returns-clause-stays_closed
 returns-clause-stays_closed g c = λ closed.
-    c.receive_last.ensures.stays
+    c.receive_last-result.ensures.stays
     (subst (λ xs. IsClosedAt (receiver_at xs))
     (sym (began_at {own = c.self.inside.ground} refl (same_steps c.self.view_is))) closed)

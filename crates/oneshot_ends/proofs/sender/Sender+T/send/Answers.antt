@@ -1,12 +1,10 @@
 -- Proofs of the goals that `send` of `Sender` leaves.
 use Rattle.std.proofs.Common.{refl, sym, subst}
-use Rattle.oneshot_machine.specs.Phases.{sending, sender_at}
+use Rattle.oneshot_machine.specs.Phases.{sender_at}
 use Rattle.oneshot_drive.specs.BetweenCalls.{IsLate}
 use Rattle.oneshot_ends.proofs.CallsAnswered.{was_refused}
 use Rattle.oneshot_ends.proofs.EndViews.{sent_steps}
-use Rattle.oneshot_machine.specs.declared.machine.sender.SenderCall.TheVariants.{Send}
 use Rattle.oneshot_ends.proofs.GrewByRuns.{words_of, send_refused}
-use Rattle.oneshot_ends.proofs.Owes.{has_ended}
 use Rattle.oneshot_ends.proofs.sender.Sender+T.send.Goals as goal
 
 pub returns-clause-run : goal.returns-clause-run
@@ -23,8 +21,3 @@ refused-requires-clause-refused g c =
     was_refused
     (send_refused c.send.new.g.side c.into_ground-ground.ensures c.self.invariant.log refl c.if-send.false
     c.send.ensures.run)
-
-pub sent-requires : goal.sent-requires
-sent-requires g c =
-    has_ended Send sending c.send.new.g c.into_ground-ground.ensures c.self.invariant.log c.send.ensures.over
-    c.send.ensures.woke
