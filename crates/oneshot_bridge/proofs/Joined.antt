@@ -110,7 +110,8 @@ passes keeps q (Some x) m lies same =
     }
 
 -- the slots of a run, by its cells
-slots_so : {T H K : Type 0} {kept : T → Type 0} {fits : AnyWaker H K → Type 0} {h k : Home T H K} {xs ys : List Noted} {word : ℕ} (m : T)
+slots_so : {T H K : Type 0} {kept : T → Type 0} {fits : AnyWaker H K → Type 0} {h k : Home T H K} {xs ys : List Noted}
+    {word : ℕ} (m : T)
     (a : SenderScript T) (b : ReceiverScript) {moves : List Move} {entries : List Entry} {now : Scene T}
     → SendsOnly m a → RunsSo a b moves entries now xs ys word → Reaches xs ys word
     → ((other : T) → h ≡ has_message other → other ≡ m)

@@ -62,7 +62,8 @@ module _ {T W : Type 0} where
       (landed is_swap (sender_moves at) refl row))
 
   -- it takes the waker, leaves its last word, and uses the waker
-  pub finished_over : {l z : Log T W} {k j : GroundState T W} {by : By} (word : ℕ) (y : W) (n : ℕ) → sender_of l ≡ owes by
+  pub finished_over : {l z : Log T W} {k j : GroundState T W} {by : By} (word : ℕ) (y : W) (n : ℕ) → sender_of l ≡ owes
+      by
       → Grows l k.log (handed TakeWaker y ∷ []) → SenderMakes (Swap word) n k j
       → Grows k.log j.log (worded (Swap word) n ∷ []) → Grows j.log z (handed Wake y ∷ [])
       → SenderIsOver by (sender_of z)

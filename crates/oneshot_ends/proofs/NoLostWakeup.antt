@@ -10,11 +10,11 @@ use Rattle.oneshot_machine.specs.Slots.{away}
 use Rattle.oneshot_machine.specs.Phases.{By, sending, sender_at, receiver_at}
 use Rattle.oneshot_drive.specs.BetweenCalls.{SenderIsOver, over_finished}
 use Rattle.oneshot_drive.specs.Wakes.{finds_waiting}
-use Rattle.oneshot_word.proofs.RuleReceives.{woken_is_put, both_reach}
+use Rattle.oneshot_word.proofs.RuleReceives.{woken_is_put, both_reach, wakers_that_pass, wakers_that_do_not}
 use Rattle.oneshot_word.specs.declared.any_waker.AnyWaker.{AnyWaker}
 use Rattle.oneshot_word.specs.declared.any_waker.AnyWaker.TheVariants.{Thread, Task, Nobody}
 use Rattle.oneshot_word.specs.Received.{both_views}
-use Rattle.oneshot_word.specs.Rule.{Tied, has_made}
+use Rattle.oneshot_word.specs.Rule.{out, Tied, has_made}
 use Rattle.oneshot_word.specs.Side.{Side}
 use Rattle.oneshot_ends.specs.declared.token.Given.{Given}
 use Rattle.oneshot_ends.specs.declared.token.Half.{Half}
@@ -131,6 +131,13 @@ uses_that_are =
             over = subst (SenderIsOver sending) (sym (shows_phase s logs)) over_finished;
             woken = λ found. used_half s half given took is same;
           };
+      at_one_moment = λ k.
+          record {
+            about = tt;
+            words = 1 ∷ [];
+            homes = out ∷ out ∷ [];
+            allowed = (wakers_that_pass WakingHalf Waker (λ about message. ⊤)).was_taken tt k;
+          };
       sleeps = λ s half logs slot gave.
           record { waits = ap (λ xs. is_waiting (receiver_at xs)) logs; own = gives_its_own s half logs slot gave };
     }
@@ -153,6 +160,8 @@ uses_that_are_not =
       ended_unwoken = λ s half logs took none ended.
           let woken = ended.woken (shows_waiting s logs) in unused woken.1.1 (sym woken.1.0 ∙ took) none;
       dropped_instead = λ s logs ended. never_over s logs (λ over. elim over [ ]) ended;
+      took_another = λ k other apart moment.
+          (wakers_that_do_not WakingHalf Waker (λ about message. ⊤)).took_another k other apart moment.allowed;
       sleeps_unasked = λ s parker logs sleeps.
           let e : false ≡ true = sym (ap (λ xs. is_waiting (receiver_at xs)) logs) ∙ sleeps.waits in absurd (cc e);
       sleeps_by_nobody = λ s parker logs gave sleeps.

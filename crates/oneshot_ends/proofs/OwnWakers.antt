@@ -155,7 +155,8 @@ module _ {T K P : Type 0} where
       → s ≡ own → q ≡ p → WaitsByHalvesOf p.parker own → IfSome hand (IsHalfOf p.parker)
       → WaitsByHalvesOf q.parker s × IfSome hand (IsHalfOf q.parker)
   has_lent {own} {s} {p} {q} hand is same owned its = (
-    subst (λ s. WaitsByHalvesOf q.parker s) (sym is) (subst (λ (p : tokens.Parks). WaitsByHalvesOf p.parker own) (sym same) owned),
+    subst (λ s. WaitsByHalvesOf q.parker s) (sym is)
+    (subst (λ (p : tokens.Parks). WaitsByHalvesOf p.parker own) (sym same) owned),
     subst (λ (p : tokens.Parks). IfSome hand (IsHalfOf p.parker)) (sym same) its,
   )
 

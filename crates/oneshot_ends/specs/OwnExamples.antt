@@ -1,5 +1,5 @@
 -- Examples and counterexamples of senders that used the waker that they took, and of a receiver's own wakers.
-use Rattle.std.specs.Prelude.{◌≡◌, ⊤, ℕ, true, false, List, [], ◌∷◌, Some, None}
+use Rattle.std.specs.Prelude.{◌≡◌, ◌≢◌, ⊤, ℕ, true, false, List, [], ◌∷◌, Some, None}
 use Rattle.atomic_table.specs.Seated.{TableId}
 use Rattle.crossbeam_utils.specs.Token.{IsSamePass}
 use Rattle.oneshot_machine.specs.declared.machine.Seen.TheVariants.{Word}
@@ -9,10 +9,12 @@ use Rattle.oneshot_machine.specs.Phases.{sending, receiver_at}
 use Rattle.oneshot_machine.specs.Slots.{away}
 use Rattle.oneshot_word.specs.declared.any_waker.AnyWaker.{AnyWaker}
 use Rattle.oneshot_word.specs.declared.any_waker.AnyWaker.TheVariants.{Thread, Task, Nobody}
+use Rattle.oneshot_word.specs.Examples.{claims}
+use Rattle.oneshot_word.specs.SeatExamples.{table}
 use Rattle.oneshot_word.specs.Side.{Side}
 use Rattle.oneshot_ends.specs.declared.token.Given.{Given}
 use Rattle.oneshot_ends.specs.declared.token.WakingHalf.{WakingHalf}
-use Rattle.oneshot_ends.specs.NoLostWakeup.{RealWaker, SleepsOn, HasGivenTokenOf}
+use Rattle.oneshot_ends.specs.NoLostWakeup.{RealWaker, AtOneMoment, SleepsOn, HasGivenTokenOf}
 use Rattle.oneshot_ends.specs.OwnWakers.{IsHalfOf, IsNoThread, WaitsByNoThread, WaitsByHalvesOf, is_waiting}
 use Rattle.oneshot_ends.specs.Tokens.{Parks}
 use Rattle.oneshot_ends.specs.Woken.{Sending, HasWoken, HasEnded}
@@ -20,6 +22,19 @@ use Rattle.oneshot_ends.specs.Woken.{Sending, HasWoken, HasEnded}
 -- a receiver that waits in a call that blocks
 abbrev pub blocks : List Noted
 blocks = (Load, Word 3) ∷ (Swap 0, Word 3) ∷ []
+
+-- a side with this log, which gave or took this waker
+abbrev pub side_with : List Noted → RealWaker → Side ⊤ RealWaker ⊤
+side_with log k =
+    record {
+      table = table 1 2 5;
+      log = log;
+      message = away;
+      waker = away;
+      passed = None;
+      handed = Some k;
+      about = tt;
+    }
 
 -- a `send` that found the receiver waiting
 abbrev pub sent_to_it : List Noted
@@ -42,6 +57,8 @@ pub record UsesThatAre : Type 0 where
   pub ended : (s : Sending ⊤ (AnyWaker WakingHalf ℕ) ⊤) (half : WakingHalf) (given : Given) → s.side.log ≡ sent_to_it
       → s.side.handed ≡ Some (Thread half) → s.given ≡ Some given → IsSamePass half.pass given.pass
       → HasEnded sending s
+  -- the sender has just taken the waker of the receiver that waits
+  pub at_one_moment : (k : RealWaker) → AtOneMoment {P = ⊤} (λ about message. ⊤) (side_with claims k) (side_with blocks k)
   pub sleeps : (s : Side ⊤ RealWaker ⊤) (half : WakingHalf) → s.log ≡ blocks → s.waker ≡ away
       → s.handed ≡ Some (Thread half) → SleepsOn half.pass.table_id s
 
@@ -65,6 +82,8 @@ pub record UsesThatAreNot : Type 0 where
       → s.side.handed ≡ Some (Thread half) → s.given ≡ None → HasEnded sending s → ⊥
   pub dropped_instead : (s : Sending ⊤ (AnyWaker WakingHalf ℕ) ⊤) → s.side.log ≡ (Xor, Word 3) ∷ []
       → HasEnded sending s → ⊥
+  pub took_another : (k other : RealWaker) → k ≢ other
+      → AtOneMoment {P = ⊤} (λ about message. ⊤) (side_with claims other) (side_with blocks k) → ⊥
   pub sleeps_unasked : (s : Side ⊤ RealWaker ⊤) (parker : TableId) → s.log ≡ [] → SleepsOn parker s → ⊥
   pub sleeps_by_nobody : (s : Side ⊤ RealWaker ⊤) (parker : TableId) → s.log ≡ blocks → s.handed ≡ Some Nobody
       → SleepsOn parker s → ⊥

@@ -123,7 +123,8 @@ error_runs {T} message xs (ys, word, order) =
     record { ys = ys; word = word; order = order; run = states_run T message xs ys word order }
 
 -- a `try_recv` that returned the message was the only call that did
-pub only_the_last_got : {T : Type 0} (result : Result T TryRecvError) {before after : List Noted} {took : Option T} → CallsAddUp T
+pub only_the_last_got : {T : Type 0} (result : Result T TryRecvError) {before after : List Noted} {took : Option T} →
+    CallsAddUp T
     → HasCalls T as_receiver before → ReceiverGrew T TryRecv before after (try_recv_reply result)
     → ReceiverRuns T as_receiver took after → IfOk result (λ message. OnlyTheLastGot T after)
 only_the_last_got (Err error) add calls grew runs = tt

@@ -55,7 +55,8 @@ module _ {T H K P : Type 0} (keeps : P → T → Type 0) (q : P) where
 
   module _ (me : Me (Slot T H K) (View T H K P)) (op : Op) where
     -- what `Allows` requires of a state that was found
-    abbrev Goes : (ℕ → Me (Slot T H K) (View T H K P) → Type 0) → List ℕ → List (Home T H K) → List (View T H K P) → ℕ → Type 0
+    abbrev Goes : (ℕ → Me (Slot T H K) (View T H K P) → Type 0) → List ℕ → List (Home T H K) → List (View T H K P) → ℕ →
+        Type 0
     Goes then ws hs vs id =
         (v : View T H K P) × (a : Act (Slot T H K)) × Valid hs me.1 a
         × Tied keeps q (set ws 0 (stepped op (get_or ws 0 0))) (homes_after hs me.1 a) (set vs id v)
@@ -118,7 +119,8 @@ module _ {T H K P : Type 0} (keeps : P → T → Type 0) (q : P) where
         ]
 
     receiver_goes : {ws : List ℕ} {hs : List (Home T H K)} {vs : List (View T H K P)} {id : ℕ} → me.0.about ≡ q
-        → ReceiverSeat keeps me → ReceiverAsks me op → Sits keeps q ws hs vs id Receiver me.0.log me.0.passed me.0.handed
+        → ReceiverSeat keeps me → ReceiverAsks me op → Sits keeps q ws hs vs id Receiver me.0.log me.0.passed
+        me.0.handed
         → Goes (ReceiverStepped keeps me op) ws hs vs id
     receiver_goes same seat may (receiver_sits {w = found} {h} {k} xs given woke order there there' one claimed) =
         let m : Held T = message_in me.1 in
@@ -143,7 +145,8 @@ module _ {T H K P : Type 0} (keeps : P → T → Type 0) (q : P) where
                     (view q Sender xs given woke ∷ view q Receiver ys taken (gave w w' put) ∷ []))
                     (sym homes)
                     (receiver_runs order found_so lies
-                    (put_what_rests (sender_at xs) (receiver_next (receiver_at me.0.log) op (saw op found)) w w' put has lies')
+                    (put_what_rests (sender_at xs) (receiver_next (receiver_at me.0.log) op (saw op found)) w w' put has
+                    lies')
                     (takes_given turns one (λ x is. (seat_keeps has is).1))
                     (still_claimed turns' claimed
                     (none_made (sender_at xs) (receiver_at me.0.log) (sender_told order) (between order) row))),
@@ -158,7 +161,8 @@ module _ {T H K P : Type 0} (keeps : P → T → Type 0) (q : P) where
                       (finds_it_so (receiver_at me.0.log) op found row) seat.passed;
                   seat = as_seat {owns = λ ys. receiver_owns (receiver_at ys)} {Passed = HoldsTaken} {Handed = unsaid}
                       refl
-                      (subst (λ at. SeatOf (keeps q) any message_first (receiver_owns at) (carried_after me.1 act) m' w')
+                      (subst (λ at. SeatOf (keeps q) any message_first (receiver_owns at) (carried_after me.1 act) m'
+                      w')
                       (sym after) (seat_fits (λ x is. tt) (seat_as (λ x is k. k.0) has)))
                       (holds_taken turns (keeps_its_slot (receiver_at me.0.log) row) seat.passed) tt
                       (xs, _, receiver_reaches order found_so);

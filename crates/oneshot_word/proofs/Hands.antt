@@ -45,7 +45,8 @@ module _ {T H K : Type 0} where
   rests_as p r away seat lies = lies
   rests_as p r vacant seat lies = lies
   rests_as p r (held y) seat lies =
-      lies_owned (has_slots (sender_owns p)).1 (has_slots (receiver_owns r)).1 (waker_left p r) (owned_so seat (λ e. cc e)) lies
+      lies_owned (has_slots (sender_owns p)).1 (has_slots (receiver_owns r)).1 (waker_left p r)
+      (owned_so seat (λ e. cc e)) lies
 
   pub put_what_rests : {kept : T → Type 0} {fits : AnyWaker H K → Type 0} {front : Front} (p : SenderAt)
       (r : ReceiverAt) {c : Carried T H K} {m : Held T} (w w' : Held (AnyWaker H K)) (put : Option (AnyWaker H K))
@@ -54,9 +55,11 @@ module _ {T H K : Type 0} where
       → Lies (IsPut (gave w w' put)) with_waker (waker_home p r) k
   put_what_rests p r w away put seat lies = lies
   put_what_rests p r w vacant put seat lies =
-      lies_owned (has_slots (sender_owns p)).1 (has_slots (receiver_owns r)).1 (waker_left p r) (owned_so seat (λ e. cc e)) lies
+      lies_owned (has_slots (sender_owns p)).1 (has_slots (receiver_owns r)).1 (waker_left p r)
+      (owned_so seat (λ e. cc e)) lies
   put_what_rests p r w (held y) put seat lies =
-      lies_owned (has_slots (sender_owns p)).1 (has_slots (receiver_owns r)).1 (waker_left p r) (owned_so seat (λ e. cc e)) lies
+      lies_owned (has_slots (sender_owns p)).1 (has_slots (receiver_owns r)).1 (waker_left p r)
+      (owned_so seat (λ e. cc e)) lies
 
 module _ {W : Type 0} where
   -- what is in the sender's slot is what it took

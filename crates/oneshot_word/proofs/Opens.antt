@@ -34,7 +34,8 @@ module _ {T H K P : Type 0} (keeps : P → T → Type 0) (q : P) where
       → Splits (Holds {T = T} {H = H} {K = K} keeps q) id v (view v.about Sender [] None None)
       (view v.about Receiver [] None None)
   split_allowed id v it =
-      subst (λ (v : View T H K P). Splits (Holds {T = T} {H = H} {K = K} keeps q) id v (view v.about Sender [] None None)
+      subst (λ (v : View T H K P). Splits (Holds {T = T} {H = H} {K = K} keeps q) id v
+      (view v.about Sender [] None None)
       (view v.about Receiver [] None None))
       (sym it) (λ s tied at. splits (sits tied id at))
 

@@ -17,21 +17,24 @@ module _ {T H K : Type 0} where
   lies_as so lies_bare = lies_bare
   lies_as so (lies_filled x k) = lies_filled x (so x k)
 
-  pub seat_as : {kept kept' : T → Type 0} {fits : AnyWaker H K → Type 0} {front : Front} {o : Option (Bool × Bool)} {c : Carried T H K} {m : Held T}
+  pub seat_as : {kept kept' : T → Type 0} {fits : AnyWaker H K → Type 0} {front : Front} {o : Option (Bool × Bool)}
+      {c : Carried T H K} {m : Held T}
       {w : Held (AnyWaker H K)} → ((x : T) → m ≡ held x → kept x → kept' x) → SeatOf kept fits front o c m w
       → SeatOf kept' fits front o c m w
   seat_as so (seat_of not_carried waker) = seat_of not_carried waker
   seat_as so (seat_of (carried slot_vacant) waker) = seat_of (carried slot_vacant) waker
   seat_as so (seat_of (carried (slot_held x k)) waker) = seat_of (carried (slot_held x (so x refl k))) waker
 
-  pub seat_keeps : {kept : T → Type 0} {fits : AnyWaker H K → Type 0} {front : Front} {o : Option (Bool × Bool)} {c : Carried T H K} {m : Held T}
+  pub seat_keeps : {kept : T → Type 0} {fits : AnyWaker H K → Type 0} {front : Front} {o : Option (Bool × Bool)}
+      {c : Carried T H K} {m : Held T}
       {w : Held (AnyWaker H K)} {x : T} → SeatOf kept fits front o c m w → m ≡ held x → kept x
   seat_keeps (seat_of not_carried waker) is = absurd (cc is)
   seat_keeps (seat_of (carried slot_vacant) waker) is = absurd (cc is)
   seat_keeps {kept} (seat_of (carried (slot_held y k)) waker) is = subst kept (cc is) k
 
   -- a sender that may perform an operation has given nothing
-  pub gave_no : {kept : T → Type 0} {fits : AnyWaker H K → Type 0} {front : Front} (p : SenderAt) {op : Op} {c : Carried T H K} {m : Held T}
+  pub gave_no : {kept : T → Type 0} {fits : AnyWaker H K → Type 0} {front : Front} (p : SenderAt) {op : Op}
+      {c : Carried T H K} {m : Held T}
       {w : Held (AnyWaker H K)} {given : Option T} → SenderMay p op m w → SeatOf kept fits front (sender_owns p) c m w
       → GivesOnce given m → given ≡ None
   gave_no fresh asks (seat_of (carried slot_vacant) waker) gave_none = refl
@@ -44,9 +47,11 @@ module _ {T H K : Type 0} where
   gave_no no_sender (may row _ _) seat once = elim row [ ]
 
   -- a message at home is the one it gave: either the sender has the slot, or none is there
-  pub gave_what_lies : {P : Type 0} (keeps : P → T → Type 0) (q : P) {kept : T → Type 0} {fits : AnyWaker H K → Type 0} {front : Front}
+  pub gave_what_lies : {P : Type 0} (keeps : P → T → Type 0) (q : P) {kept : T → Type 0} {fits : AnyWaker H K → Type 0}
+      {front : Front}
       (p : SenderAt) (r : ReceiverAt) {c : Carried T H K} (m : Held T) {m' : Held T} {w : Held (AnyWaker H K)}
-      {h : Home T H K} → SeatOf kept fits front (sender_owns p) c m' w → Lies (Offers keeps q m) Message (message_home p r) h
+      {h : Home T H K} → SeatOf kept fits front (sender_owns p) c m' w → Lies (Offers keeps q m) Message
+      (message_home p r) h
       → Lies (IsGiven keeps q (gave m m' None)) Message (message_home p r) h
   gave_what_lies keeps q fresh r m seat lies_out = lies_out
   gave_what_lies keeps q (owes by) r m seat lies_out = lies_out

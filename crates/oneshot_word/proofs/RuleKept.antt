@@ -49,7 +49,8 @@ module _ {T H K At : Type 0} (kept : T → Type 0) (fits : AnyWaker H K → Type
         elim (both e.front acted moves moves') [
           | acts act valid homes left ↦
               turn act valid homes (leaves_so e at op word before leaves) lies lies' (finds there turns turns')
-              (subst (λ c. SeatOf kept fits e.front (e.owns at') c m' w') (sym left) (seated slots owned part part')) code
+              (subst (λ c. SeatOf kept fits e.front (e.owns at') c m' w') (sym left) (seated slots owned part part'))
+              code
         ]
 
     right : {before : Slots} {o : Option Slots} {cm cw : Carried T H K} {m : Held T} {w : Held (AnyWaker H K)}
@@ -67,7 +68,8 @@ module _ {T H K At : Type 0} (kept : T → Type 0) (fits : AnyWaker H K → Type
 
     turns_from : {before : Slots} {o : Option ℕ} {owns : Option (Bool × Bool)} {c : Carried T H K} {m : Held T}
         {w : Held (AnyWaker H K)} → Is o word → is_kept e at op before o ≡ true
-        → IsSlot before.0 m → IsSlot before.1 w → SeatOf kept fits e.front owns c m w → Lies kept Message (e.message at) h
+        → IsSlot before.0 m → IsSlot before.1 w → SeatOf kept fits e.front owns c m w → Lies kept Message (e.message at)
+        h
         → Lies fits with_waker (e.waker at) k → Turn at op word h k c m w
     turns_from {before} is computed message waker (seat_of part part') lies lies' =
         let parts =
@@ -128,9 +130,11 @@ receiver_keeps (disconnected found_closed) = refl
 receiver_keeps (resolved found_closed) = refl
 receiver_keeps _ = refl
 
-module _ {T H K : Type 0} {kept : T → Type 0} {fits : AnyWaker H K → Type 0} {p : SenderAt} {q : ReceiverAt} {op : Op} {word : ℕ} {h k : Home T H K}
+module _ {T H K : Type 0} {kept : T → Type 0} {fits : AnyWaker H K → Type 0} {p : SenderAt} {q : ReceiverAt} {op : Op}
+    {word : ℕ} {h k : Home T H K}
     {c : Carried T H K} {m : Held T} {w : Held (AnyWaker H K)} where
-  pub sender_turns : SenderMay p op m w → SeatOf kept fits waker_first (sender_owns p) c m w → Meet T H K kept fits p q word h k
+  pub sender_turns : SenderMay p op m w → SeatOf kept fits waker_first (sender_owns p) c m w → Meet T H K kept fits p q
+      word h k
       → Turn kept fits (sender_end q) p op word h k c m w
   sender_turns asks seat (meet now lies lies') =
       keeps_turn kept fits (sender_end q) p op word (sender_keeps p q) asks seat now lies lies'

@@ -8,7 +8,8 @@ use Rattle.oneshot_word.proofs.Between.{between, sender_told, receiver_told}
 use Rattle.oneshot_word.proofs.Meets.{is, Meet, meet, SenderSays, says_none, says_owes, says_last, says_late, says_overtaken, ReceiverSays}
 
 module _ {T H K : Type 0} where
-  pair_reads : {kept : T → Type 0} {fits : AnyWaker H K → Type 0} {xs ys : List Noted} {p : SenderAt} {w : ℕ} {h k : Home T H K} → SenderSays xs p
+  pair_reads : {kept : T → Type 0} {fits : AnyWaker H K → Type 0} {xs ys : List Noted} {p : SenderAt} {w : ℕ}
+      {h k : Home T H K} → SenderSays xs p
       → (q : ReceiverAt) → ReceiverSays ys q → Meet T H K kept fits p q w h k → Owned xs ys w h k
   pair_reads says_none first r (meet is lies_out lies_bare) =
       both_open refl r.stores r.gone sender_has_it left_for_receiver

@@ -147,7 +147,8 @@ message_alone : {kept : ℕ → Type 0} {fits : AnyWaker ℕ ℕ → Type 0} {c 
     {w : Held (AnyWaker ℕ ℕ)} → SeatOf kept fits waker_first (Some (true, false)) c m w → in_front c ≡ 0
 message_alone (seat_of (carried s) not_carried) = refl
 
-carries_none : {kept : ℕ → Type 0} {fits : AnyWaker ℕ ℕ → Type 0} (front : Front) {c : Carries} {m : Held ℕ} {w : Held (AnyWaker ℕ ℕ)}
+carries_none : {kept : ℕ → Type 0} {fits : AnyWaker ℕ ℕ → Type 0} (front : Front) {c : Carries} {m : Held ℕ}
+    {w : Held (AnyWaker ℕ ℕ)}
     → SeatOf kept fits front (Some (false, false)) c m w → in_front c ≡ 2
 carries_none message_first (seat_of not_carried not_carried) = refl
 carries_none waker_first (seat_of not_carried not_carried) = refl
@@ -179,7 +180,8 @@ seats_that_are_not =
       sends_another = λ seat. let is : 8 ≡ 7 = seat_keeps seat.has refl in cc is;
       has_given = λ seat. elim seat.passed [ ];
       has_anothers_waker = λ seat.
-          let is : ◌≡◌ {A = Option (AnyWaker ℕ ℕ)} (Some (R.Thread 2)) (Some (R.Thread 1)) = claims_so seat.handed refl in cc is;
+          let is : ◌≡◌ {A = Option (AnyWaker ℕ ℕ)} (Some (R.Thread 2)) (Some (R.Thread 1)) = claims_so seat.handed
+              refl in cc is;
       has_an_untaken_waker = λ seat. elim seat.handed [ ];
       took_another = λ seat. let is : Some 8 ≡ Some 7 = holds_so seat.passed refl in cc is;
       at_another = λ at. let is : 6 ≡ 5 = ap (λ (t : TableId). t.block) at.table in cc is;

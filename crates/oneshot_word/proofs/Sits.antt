@@ -16,13 +16,16 @@ module _ {T H K P : Type 0} (keeps : P → T → Type 0) where
         → Lies (IsGiven keeps q given) Message (message_home (sender_at xs) (receiver_at ys)) h
         → Lies (IsPut put) with_waker (waker_home (sender_at xs) (receiver_at ys)) k → IsTaken given taken
         → IsClaimed put xs woke
-        → Sits q (w ∷ []) (h ∷ k ∷ []) (view q Sender xs given woke ∷ view q Receiver ys taken put ∷ []) 0 Sender xs given woke
+        → Sits q (w ∷ []) (h ∷ k ∷ []) (view q Sender xs given woke ∷ view q Receiver ys taken put ∷ []) 0 Sender xs
+        given woke
     receiver_sits : {w : ℕ} {h k : Home T H K} (xs : List Noted) (given : Option T)
-        (woke : Option (AnyWaker H K)) {ys : List Noted} {taken : Option T} {put : Option (AnyWaker H K)} → Reaches xs ys w
+        (woke : Option (AnyWaker H K)) {ys : List Noted} {taken : Option T} {put : Option (AnyWaker H K)} → Reaches xs
+        ys w
         → Lies (IsGiven keeps q given) Message (message_home (sender_at xs) (receiver_at ys)) h
         → Lies (IsPut put) with_waker (waker_home (sender_at xs) (receiver_at ys)) k → IsTaken given taken
         → IsClaimed put xs woke
-        → Sits q (w ∷ []) (h ∷ k ∷ []) (view q Sender xs given woke ∷ view q Receiver ys taken put ∷ []) 1 Receiver ys taken put
+        → Sits q (w ∷ []) (h ∷ k ∷ []) (view q Sender xs given woke ∷ view q Receiver ys taken put ∷ []) 1 Receiver ys
+        taken put
 
 module _ {T H K P : Type 0} {keeps : P → T → Type 0} where
   pub sits : {q : P} {ws : List ℕ} {hs : List (Home T H K)} {vs : List (View T H K P)} {r : Role} {xs : List Noted}
@@ -49,6 +52,8 @@ module _ {T H K P : Type 0} {keeps : P → T → Type 0} where
       → Tied keeps q ws hs vs → (id : ℕ) → get_elem? vs id ≡ maybe.some v → v.about ≡ q
   knows opened zero at = sym (ap (λ (v : View T H K P). v.about) (some-injective _ _ at))
   knows dealt zero at = sym (ap (λ (v : View T H K P). v.about) (some-injective _ _ at))
-  knows (runs xs ys order lies lies' same claimed) zero at = sym (ap (λ (v : View T H K P). v.about) (some-injective _ _ at))
-  knows (runs xs ys order lies lies' same claimed) (suc zero) at = sym (ap (λ (v : View T H K P). v.about) (some-injective _ _ at))
+  knows (runs xs ys order lies lies' same claimed) zero at = sym
+      (ap (λ (v : View T H K P). v.about) (some-injective _ _ at))
+  knows (runs xs ys order lies lies' same claimed) (suc zero) at = sym
+      (ap (λ (v : View T H K P). v.about) (some-injective _ _ at))
   knows _ _ at = absurd (some-ne-none _ (sym at))

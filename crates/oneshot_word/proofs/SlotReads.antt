@@ -36,7 +36,8 @@ module _ {T H K : Type 0} where
   abbrev pub Reads : Carried T H K → Held T → Held (AnyWaker H K) → Type 0
   Reads c m w = (message_in c ≡ m) × (waker_in c ≡ w)
 
-  pub reads : {kept : T → Type 0} {fits : AnyWaker H K → Type 0} {front : Front} {o : Option (Bool × Bool)} {c : Carried T H K} {m : Held T}
+  pub reads : {kept : T → Type 0} {fits : AnyWaker H K → Type 0} {front : Front} {o : Option (Bool × Bool)}
+      {c : Carried T H K} {m : Held T}
       {w : Held (AnyWaker H K)} → SeatOf kept fits front o c m w → Reads c m w
   reads {front = message_first} (seat_of not_carried not_carried) = (refl, refl)
   reads {front = message_first} (seat_of not_carried (carried other)) = (refl, waker_reads other)
@@ -54,7 +55,8 @@ module _ {T H K : Type 0} where
   -- so it is the seat of the end
   pub as_seat : {P : Type 0} {keeps : P → T → Type 0} {whose : Role} {front : Front}
       {owns : List Noted → Option (Bool × Bool)} {Passed : Option T → Held T → Type 0}
-      {Handed : Option (AnyWaker H K) → Held (AnyWaker H K) → Type 0} {me : Me (Slot T H K) (View T H K P)} {m : Held T} {w : Held (AnyWaker H K)}
+      {Handed : Option (AnyWaker H K) → Held (AnyWaker H K) → Type 0} {me : Me (Slot T H K) (View T H K P)} {m : Held T}
+      {w : Held (AnyWaker H K)}
       → me.0.role ≡ whose → SeatOf (keeps me.0.about) any front (owns me.0.log) me.1 m w → Passed me.0.passed m
       → Handed me.0.handed w → IsOrdered whose me.0.log → SeatIs keeps whose front owns Passed Handed me
   as_seat {keeps} {front} {owns} {Passed} {Handed} {me} role has passed handed ordered =

@@ -30,7 +30,8 @@ module _ {T H K : Type 0} where
 
   -- if the sender's seat has both slots, the waker's is in front
   sender_trades_message : {kept : T → Type 0} {o : Option (Bool × Bool)} {c : Carried T H K} {new : Slot T H K}
-      {m m' : Held T} {w : Held (AnyWaker H K)} → SeatOf kept any waker_first o c m w → m ≢ away → MessageSlot kept new m'
+      {m m' : Held T} {w : Held (AnyWaker H K)} → SeatOf kept any waker_first o c m w → m ≢ away → MessageSlot kept new
+      m'
       → TradeBehind 0 (λ s. MessageSlot kept s m) (λ c. SeatOf kept any waker_first o c m' w) c new
   sender_trades_message (seat_of (carried {s} slot) not_carried) its new =
       record { was = s; fits = slot; in_front = refl; has = seat_of (carried new) not_carried }
@@ -47,7 +48,8 @@ module _ {T H K : Type 0} where
 
   -- if the receiver's seat has both, the message's is
   receiver_trades_message : {kept : T → Type 0} {o : Option (Bool × Bool)} {c : Carried T H K} {new : Slot T H K}
-      {m m' : Held T} {w : Held (AnyWaker H K)} → SeatOf kept any message_first o c m w → m ≢ away → MessageSlot kept new m'
+      {m m' : Held T} {w : Held (AnyWaker H K)} → SeatOf kept any message_first o c m w → m ≢ away → MessageSlot kept
+      new m'
       → TradeHere 0 (λ s. MessageSlot kept s m) (λ c. SeatOf kept any message_first o c m' w) c new
   receiver_trades_message (seat_of (carried {s} slot) other) its new =
       record { was = s; fits = slot; in_front = refl; has = seat_of (carried new) other }
@@ -97,7 +99,8 @@ module _ {T H K : Type 0} where
       → Handed before.0.handed w → Seated (SeatIs keeps whose front owns Passed Handed) before.0 c m w
   seated {owns} {Passed} {Handed} before c seat has passed handed =
       record {
-        seat = as_seat {owns = owns} {Passed = Passed} {Handed = Handed} {me = (before.0, c)} seat.role has passed handed
+        seat = as_seat {owns = owns} {Passed = Passed} {Handed = Handed} {me = (before.0, c)} seat.role has passed
+            handed
             seat.ordered;
         reads = reads has;
       }
@@ -130,7 +133,8 @@ module _ {T H K : Type 0} where
       subst (λ (l : Carried T H K). l ≡ renewed place l old)
       (ap (λ (m : Me (Slot T H K) (View T H K P)). m.1) t.turn) t.front
 
-  turned_back : {P : Type 0} {place : ℕ} {before there traded after : Me (Slot T H K) (View T H K P)} {old new : Slot T H K}
+  turned_back : {P : Type 0} {place : ℕ} {before there traded after : Me (Slot T H K) (View T H K P)}
+      {old new : Slot T H K}
       → Turned place before there traded after old new
       → after ≡ (before.0, turned (renewed place (turned before.1) new))
   turned_back {P} {place} {new} t =
@@ -161,7 +165,8 @@ module _ {T H K : Type 0} where
       (waker_in before.1)
   sender_message_traded before there traded after seat its fits turns =
       let t = sender_trades_message seat.has its fits in
-      trade_done before after t (seated before _ seat t.has (gives_none seat.passed its) seat.handed) (turned_front turns)
+      trade_done before after t (seated before _ seat t.has (gives_none seat.passed its) seat.handed)
+      (turned_front turns)
       (turned_back turns)
 
   pub sender_waker_front : {P : Type 0} {keeps : P → T → Type 0} (before : Me (Slot T H K) (View T H K P))
@@ -170,7 +175,8 @@ module _ {T H K : Type 0} where
 
   pub sender_waker_traded : {P : Type 0} {keeps : P → T → Type 0} (before after : Me (Slot T H K) (View T H K P))
       {old new : Slot T H K} {w : Held (AnyWaker H K)} → SenderSeat keeps before → waker_in before.1 ≢ away
-      → WakerSlot new w → HoldsClaimed before.0.handed w → before.1 ≡ renewed 1 before.1 old → after ≡ (before.0, renewed 1 before.1 new)
+      → WakerSlot new w → HoldsClaimed before.0.handed w → before.1 ≡ renewed 1 before.1 old → after ≡
+      (before.0, renewed 1 before.1 new)
       → Traded (λ s. WakerSlot s (waker_in before.1)) (SenderSeat keeps) before after old (message_in before.1) w
   sender_waker_traded before after seat its fits holds front is =
       let t = sender_trades_waker seat.has its fits in
@@ -224,7 +230,8 @@ module _ {T H K : Type 0} where
       }
 
   pub waker_side : {P : Type 0} {Fits : Slot T H K → Type 0} {Seat : Me (Slot T H K) (View T H K P) → Type 0}
-      (table table' : TableId) (before after : Me (Slot T H K) (View T H K P)) {old : Slot T H K} {w : Held (AnyWaker H K)}
+      (table table' : TableId) (before after : Me (Slot T H K) (View T H K P)) {old : Slot T H K}
+      {w : Held (AnyWaker H K)}
       (now : Side T (AnyWaker H K) P) → side_of table before ≡ now → table' ≡ table
       → Traded Fits Seat before after old (message_in before.1) w → side_of table' after ≡ record now { waker = w }
   waker_side {P} table table' before after now is same t =

@@ -76,4 +76,5 @@ pub record ReadsThatAreNot : Type 0 where
   pub order_of_one : Ordered {H = ℕ} {K = ℕ} {P = ℕ} 7 (3 ∷ []) (alone Sender) → ⊥
   pub finds_what_nobody_left : {word : ℕ} {given taken : Option ℕ}
       → Ordered {H = ℕ} {K = ℕ} {P = ℕ} 7 (word ∷ []) (views [] given found taken) → ⊥
-  pub leaves_3 : {given taken : Option ℕ} → Ordered {H = ℕ} {K = ℕ} {P = ℕ} 7 (3 ∷ []) (views sent given looked taken) → ⊥
+  pub leaves_3 : {given taken : Option ℕ} → Ordered {H = ℕ} {K = ℕ} {P = ℕ} 7 (3 ∷ []) (views sent given looked taken) →
+      ⊥

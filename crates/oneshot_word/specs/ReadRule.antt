@@ -68,7 +68,8 @@ pub data Ruled {T H K P : Type 0} (q : P) : List ℕ → List (Home T H K) → L
   maker_alone : Ruled q (3 ∷ []) (bare ∷ bare ∷ []) (view q Maker [] None None ∷ [])
   dealer_alone : Ruled q (3 ∷ []) (out ∷ bare ∷ []) (view q Dealer [] None None ∷ [])
   -- from then on
-  two_ends : {w : ℕ} {h k : Home T H K} (xs ys : List Noted) {given taken : Option T} {put woke : Option (AnyWaker H K)} → Owned xs ys w h k
+  two_ends : {w : ℕ} {h k : Home T H K} (xs ys : List Noted) {given taken : Option T} {put woke : Option (AnyWaker H K)}
+      → Owned xs ys w h k
       → Ruled q (w ∷ []) (h ∷ k ∷ []) (view q Sender xs given woke ∷ view q Receiver ys taken put ∷ [])
 
 -- Every state that the rule allows is in one of the rows.

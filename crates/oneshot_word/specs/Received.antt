@@ -47,10 +47,12 @@ module _ {T P : Type 0} (H K : Type 0) (keeps : P → T → Type 0) where
 
   -- whatever the words, the slots at home and both logs are
   pub record MessagesThatDoNot : Type 0 where
-    pub took_another : {q : P} {words : List ℕ} {homes : List (Home T H K)} {xs ys : List Noted} {put woke : Option (AnyWaker H K)}
+    pub took_another : {q : P} {words : List ℕ} {homes : List (Home T H K)} {xs ys : List Noted}
+        {put woke : Option (AnyWaker H K)}
         (m other : T)
         → m ≢ other → Tied keeps q words homes (both_views q xs (Some m) woke ys (Some other) put) → ⊥
-    pub took_what_none_gave : {q : P} {words : List ℕ} {homes : List (Home T H K)} {xs ys : List Noted} {put woke : Option (AnyWaker H K)}
+    pub took_what_none_gave : {q : P} {words : List ℕ} {homes : List (Home T H K)} {xs ys : List Noted}
+        {put woke : Option (AnyWaker H K)}
         (m : T)
         → Tied keeps q words homes (both_views q xs None woke ys (Some m) put) → ⊥
     pub another_lies : {q : P} {words : List ℕ} {k : Home T H K} {xs ys : List Noted} {taken : Option T}

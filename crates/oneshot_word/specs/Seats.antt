@@ -191,7 +191,8 @@ pub record Stepped {T H K P At : Type 0} (Seat : Me (Slot T H K) (View T H K P) 
     (at : List Noted → At) (moves : At → List (Row At)) (passes : Held T → Held T → Option T → Option T)
     (hands : Held (AnyWaker H K) → Held (AnyWaker H K) → Option (AnyWaker H K) → Option (AnyWaker H K))
     (Takes : Op → ℕ → Option T → Option T → Type 0)
-    (before : Me (Slot T H K) (View T H K P)) (op : Op) (word : ℕ) (after : Me (Slot T H K) (View T H K P)) : Type 0 where
+    (before : Me (Slot T H K) (View T H K P)) (op : Op) (word : ℕ) (after : Me (Slot T H K) (View T H K P)) : Type 0
+    where
   pub about : after.0.about ≡ before.0.about
   pub list : after.0.log ≡ before.0.log ++ (op, saw op word) ∷ []
   pub passed : after.0.passed ≡ passes (message_in before.1) (message_in after.1) before.0.passed

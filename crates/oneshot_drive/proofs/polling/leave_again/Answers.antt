@@ -9,7 +9,8 @@ pub returns-in_default : goal.returns-in_default
 returns-in_default g c =
     record {
       path = refused c.copy.result (search rules) refl refl c.copy.ensures.log c.wake_own.ensures.log;
-      ends = owned_ends leaves_its_copy (copied_on c.copy.result c.requires.open c.copy.ensures.log c.copy.ensures.message
+      ends = owned_ends leaves_its_copy (copied_on c.copy.result c.requires.open c.copy.ensures.log
+          c.copy.ensures.message
           c.copy.ensures.waker) c.wake_own.ensures.log c.wake_own.ensures.message c.wake_own.ensures.waker;
       heard = λ nothing. c.wake_own.ensures.heard;
       own = on_refusal c.copy.ensures.log (on_own c.wake_own.ensures.log (wrote_none _));

@@ -10,7 +10,8 @@ pub load-requires : goal.load-requires
 load-requires g c = meet_asks c.requires.rests
 
 pub leave_first-requires-clause-open : goal.leave_first-requires-clause-open
-leave_first-requires-clause-open g c = met_open (met c.load.result c.requires.rests c.load.ensures.finds c.load.ensures.log) c.in-3.is
+leave_first-requires-clause-open g c = met_open (met c.load.result c.requires.rests c.load.ensures.finds
+    c.load.ensures.log) c.in-3.is
 
 pub returns-in-3-clause-path : goal.returns-in-3-clause-path
 returns-in-3-clause-path g c = met_path c.load.result 3 refl c.in-3.is c.load.ensures.log c.leave_first.ensures.path
@@ -19,7 +20,8 @@ pub returns-in-3-clause-stays : goal.returns-in-3-clause-stays
 returns-in-3-clause-stays g c is_closed = never 3 refl c.in-3.is is_closed c.load.ensures.finds
 
 pub leave_again-requires-clause-open : goal.leave_again-requires-clause-open
-leave_again-requires-clause-open g c = met_copied (met c.load.result c.requires.rests c.load.ensures.finds c.load.ensures.log) c.in-0.is
+leave_again-requires-clause-open g c = met_copied (met c.load.result c.requires.rests c.load.ensures.finds
+    c.load.ensures.log) c.in-0.is
 
 pub returns-in-0-clause-path : goal.returns-in-0-clause-path
 returns-in-0-clause-path g c = met_path c.load.result 0 refl c.in-0.is c.load.ensures.log c.leave_again.ensures.path

@@ -27,7 +27,8 @@ wake-requires g c = c.swap-found.ensures.owed _ c.take_waker-waker.ensures.owed
 pub returns-clause-gave : goal.returns-clause-gave
 returns-clause-gave g c here x has =
     c.wake.ensures.gave x
-    (c.swap-found.ensures.gave x (c.take_waker-waker.ensures.message ∙ has) (given_over c.swap-found.ensures.finds here))
+    (c.swap-found.ensures.gave x (c.take_waker-waker.ensures.message ∙ has)
+    (given_over c.swap-found.ensures.finds here))
 
 pub returns-clause-over : goal.returns-clause-over
 returns-clause-over g c by owing =

@@ -9,7 +9,8 @@ swap-requires g c = asks (Swap 3) c.requires.waits refl
 
 pub withdraw-requires : goal.withdraw-requires
 withdraw-requires g c =
-    is_in (stopped_open (stopped c.swap.result c.requires.waits c.swap.ensures.finds c.swap.ensures.log) c.in-0.is).waker
+    is_in (stopped_open (stopped c.swap.result c.requires.waits c.swap.ensures.finds c.swap.ensures.log)
+    c.in-0.is).waker
 
 pub returns-in-0-clause-path : goal.returns-in-0-clause-path
 returns-in-0-clause-path g c =

@@ -67,4 +67,5 @@ returns-clause-took g c =
     poll_takes _ _ (λ x is. c.poll.ensures.keeps.4.stays x (future_took c.self.view_is ∙ is))
     (subst (λ e. TookAsFound e.took e.log × IsEither (receiver_at e.log)) c.self.view_is
     (c.self.invariant.3, polled_so c.self.inside.ground c.self.invariant.0))
-    (c.poll.ensures.keeps.4.found c.self.invariant.3) c.poll.result (returns-clause-run g c) (returns-clause-stays_closed g c) c.poll.ensures.had
+    (c.poll.ensures.keeps.4.found c.self.invariant.3) c.poll.result (returns-clause-run g c)
+    (returns-clause-stays_closed g c) c.poll.ensures.had

@@ -67,14 +67,17 @@ returns-clause-kept g c =
 
 pub recv_timeout-requires-clause-has : goal.recv_timeout-requires-clause-has
 recv_timeout-requires-clause-has g c =
-    has_lent c.self.inside.hand (ap (λ r. r.now) c.lend-lent.ensures.ground) (ap (λ r. r.now) c.lend-lent.ensures.parker)
+    has_lent c.self.inside.hand (ap (λ r. r.now) c.lend-lent.ensures.ground)
+    (ap (λ r. r.now) c.lend-lent.ensures.parker)
     c.self.invariant.3 c.self.invariant.4
 
 pub returns-clause-took : goal.returns-clause-took
 returns-clause-took g c =
-    timed_takes _ _ (λ x is. c.recv_timeout.ensures.keeps.4.stays x (lent_took (ap (λ r. r.now) c.lend-lent.ensures.ground) (same_took c.self.view_is) ∙ is))
+    timed_takes _ _ (λ x is. c.recv_timeout.ensures.keeps.4.stays x
+    (lent_took (ap (λ r. r.now) c.lend-lent.ensures.ground) (same_took c.self.view_is) ∙ is))
     (subst (λ e. TookAsFound e.took e.log × IsEither (receiver_at e.log)) c.self.view_is
     (c.self.invariant.5, rests_so c.self.inside.ground c.self.invariant.0))
-    (c.recv_timeout.ensures.keeps.4.found (lent_found (ap (λ r. r.now) c.lend-lent.ensures.ground) c.self.invariant.5)) (RecvTimeout (returns-clause-run g c).has_end) refl
+    (c.recv_timeout.ensures.keeps.4.found (lent_found (ap (λ r. r.now) c.lend-lent.ensures.ground) c.self.invariant.5))
+    (RecvTimeout (returns-clause-run g c).has_end) refl
     c.recv_timeout.result (returns-clause-run g c).grew (λ closed. is_error (returns-clause-stays_closed g c closed))
     c.recv_timeout.ensures.had

@@ -61,5 +61,6 @@ returns-clause-took g c =
     tried_takes _ _ (λ x is. c.try_recv.ensures.keeps.3.stays x (same_took c.self.view_is ∙ is))
     (subst (λ e. TookAsFound e.took e.log × IsEither (receiver_at e.log)) c.self.view_is
     (c.self.invariant.5, rests_so c.self.inside.ground c.self.invariant.0))
-    (c.try_recv.ensures.keeps.3.found c.self.invariant.5) TryRecv refl c.try_recv.result (returns-clause-run g c) (λ closed. is_error (returns-clause-stays_closed g c closed))
+    (c.try_recv.ensures.keeps.3.found c.self.invariant.5) TryRecv refl c.try_recv.result (returns-clause-run g c)
+    (λ closed. is_error (returns-clause-stays_closed g c closed))
     c.try_recv.ensures.had

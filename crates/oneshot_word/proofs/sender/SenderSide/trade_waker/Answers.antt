@@ -20,7 +20,8 @@ traded g c =
     sender_waker_traded c.self.inside.seat.me c.exchange.new.seat.me c.self.invariant.0
     (subst (λ s. s.waker ≢ away) (sym c.self.view_is) c.requires.its_own)
     (fits_waker c.args.new c.requires.no_message)
-    (subst (λ s. HoldsClaimed s.handed (waker_of c.args.new)) (sym c.self.view_is) c.requires.handed) c.exchange.ensures.2 c.exchange.ensures.3
+    (subst (λ s. HoldsClaimed s.handed (waker_of c.args.new)) (sym c.self.view_is) c.requires.handed)
+    c.exchange.ensures.2 c.exchange.ensures.3
 
 pub invariant_of-self : goal.invariant_of-self
 invariant_of-self g c = (refl, tt, ((traded g c).seat, search rules))

@@ -22,7 +22,8 @@ returns-clause-finds g c =
 pub returns-clause-keeps : goal.returns-clause-keeps
 returns-clause-keeps g c = (
   c.exchange.ensures.about ∙ ap (λ s. s.about) c.self.view_is,
-  λ parker owned. ground_after c.self.inside.freed.value c.self.inside.side c.self.view_is (IsHalfOf parker) c.exchange.new.self
+  λ parker owned. ground_after c.self.inside.freed.value c.self.inside.side c.self.view_is (IsHalfOf parker)
+      c.exchange.new.self
       (receiver_unfreed c.self.inside.freed.value c.self.inside.side c.self.invariant c.self.view_is c.requires).0
       c.exchange.ensures owned,
   λ free. ground_after c.self.inside.freed.value c.self.inside.side c.self.view_is IsNoThread c.exchange.new.self

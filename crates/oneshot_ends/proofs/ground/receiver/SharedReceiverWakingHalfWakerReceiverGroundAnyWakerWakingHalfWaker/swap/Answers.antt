@@ -22,7 +22,8 @@ returns-clause-finds g c =
 pub returns-clause-keeps : goal.returns-clause-keeps
 returns-clause-keeps g c = (
   c.swap.ensures.about ∙ ap (λ s. s.about) c.self.view_is,
-  λ parker owned. ground_after c.self.inside.freed.value c.self.inside.side c.self.view_is (IsHalfOf parker) c.swap.new.self
+  λ parker owned. ground_after c.self.inside.freed.value c.self.inside.side c.self.view_is (IsHalfOf parker)
+      c.swap.new.self
       (receiver_unfreed c.self.inside.freed.value c.self.inside.side c.self.invariant c.self.view_is c.requires).0
       c.swap.ensures owned,
   λ free. ground_after c.self.inside.freed.value c.self.inside.side c.self.view_is IsNoThread c.swap.new.self
