@@ -1,6 +1,8 @@
 """What no contract of the sources says, compared as text:
 - each function of oneshot_word does with the shared table what OPERATIONS says, and no other function reaches it;
-- the looks of oneshot_ends are those of LOOKS, each makes one load, and no other function of that crate makes one.
+- the looks of oneshot_ends are those of LOOKS, each makes one load, and no other function of that crate makes one;
+- each call of LAST_CALLS takes its end apart first, so that the end's drop can't run in its place, and lets it go as
+  said there; no function of the channel forgets a value.
 """
 import re
 
@@ -49,6 +51,17 @@ LOOKS = {
     "AsyncReceiver::has_message": "ground.peek",
 }
 
+# How each call that ends an end lets it go.
+LAST_CALLS = {
+    "Sender::send": "ground.sent",
+    "Sender::send_kept": "ground.sent",
+    "Drop for Sender::drop": "ground.dropped",
+    "Receiver::recv": "ground.received",
+    "Drop for Receiver::drop": "ground.dropped",
+    "Drop for AsyncReceiver::drop": "ground.dropped",
+}
+CHANNEL = ["oneshot_machine", "oneshot_drive", "oneshot_word", "oneshot_ends", "oneshot_channel"]
+
 
 def uses(words, body):
     """What a body does with these: each with the fields and calls that follow."""
@@ -89,3 +102,20 @@ def compare_looks():
                 wrong.append(f"{place(file)}:{number}: it names a look: {line.strip()}")
     none_of(wrong)
     return f"{len(found)} functions that look"
+
+
+def compare_last_calls():
+    bodies = {name: body for file in sources("oneshot_ends") for name, _, _, body in functions(code_of(file))}
+    found = {name: use for name, body in bodies.items()
+             if (use := " ".join(re.findall(r"ground\.(?:sent|received|dropped)\b", body)))}
+    wrong = list(differences(found, LAST_CALLS))
+    for name in LAST_CALLS:
+        end = re.sub(".* for ", "", name.split("::")[0])
+        if not re.match(r"\{\s*let " + end + r" \{[^}]*\} = self;", bodies.get(name, "")):
+            wrong.append(f"{name}: it does not take its end apart first")
+    for file in sources(*CHANNEL):
+        for number, line in enumerate(code_of(file).split("\n"), 1):
+            if re.search(r"\bforget\b|\bManuallyDrop\b|\bleak\b", line):
+                wrong.append(f"{place(file)}:{number}: it forgets a value: {line.strip()}")
+    none_of(wrong)
+    return f"{len(LAST_CALLS)} calls that consume an end"

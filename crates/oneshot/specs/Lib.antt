@@ -1,6 +1,9 @@
 -- the definitions that the contracts of the ends name
 pub use Rattle.oneshot_ends.specs.Deadlines
 pub use Rattle.oneshot_ends.specs.Ends
+pub use Rattle.oneshot_ends.specs.Taken
+pub use Rattle.oneshot_ends.specs.NoLostWakeup
+pub use Rattle.oneshot_ends.specs.Tokens
 pub use Rattle.oneshot_ends.specs.Grounds as EndGrounds
 pub use Rattle.oneshot_ends.specs.Polling
 pub use Rattle.oneshot_drive.specs.declared.errors.recv.RecvError

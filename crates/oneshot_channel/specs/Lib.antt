@@ -1,6 +1,9 @@
 -- the definitions that the contracts of the channel and of `reply` name
 pub use Rattle.oneshot_ends.specs.Deadlines
 pub use Rattle.oneshot_ends.specs.Ends
+pub use Rattle.oneshot_ends.specs.Taken
+pub use Rattle.oneshot_ends.specs.NoLostWakeup
+pub use Rattle.oneshot_ends.specs.Tokens
 pub use Rattle.oneshot_drive.specs.declared.errors.recv.RecvError
 pub use Rattle.oneshot_drive.specs.declared.errors.recv_timeout.RecvTimeoutError
 pub use Rattle.oneshot_drive.specs.declared.errors.try_recv.TryRecvError

@@ -10,8 +10,7 @@ use Rattle.oneshot_machine.specs.declared.machine.receiver.ReceiverStart.{Receiv
 use Rattle.oneshot_machine.specs.declared.machine.receiver.ReceiverStart.TheVariants.{TryRecv, AsyncTryRecv, Poll}
 use Rattle.oneshot_machine.specs.declared.machine.sender.SenderCall.{SenderCall}
 use Rattle.oneshot_machine.specs.declared.machine.sender.SenderCall.TheVariants.{Send}
-use Rattle.oneshot_machine.specs.Logs.{Event, Log, Grows, noted, words, receiver_of}
-use Rattle.oneshot_machine.specs.Phases.{ReceiverAt, receiver_at}
+use Rattle.oneshot_machine.specs.Logs.{Event, Log, Grows, noted, words}
 use Rattle.oneshot_machine.specs.TableRows.{Outcome}
 use Rattle.oneshot_machine.specs.Runs.{Run, last, more, SenderRan, ReceiverRan}
 use Rattle.oneshot_machine.specs.Receiver.{receiver_start, receiver_step, receiver_row}
@@ -83,11 +82,6 @@ pub send_refused : {T W P : Type 0} {own ground : Side T W P} {before last : Lis
 send_refused {T} {W} {ground = ground} {given = given} {got = got} after is was ends found ran =
     sender_grew (began_at is was) (words_of T W after.log ∙ ends) Send
     (subst (λ sent. SenderRan Send (state_of ground).log (state_of after).log (send_reply sent) given got) found ran)
-
--- the phase of a receiver's ground is its end's
-pub phase_of : {T W P : Type 0} (Phases : ReceiverAt → Type 0) (s : Side T W P)
-    → Phases (receiver_of (state_of s).log) → Phases (receiver_at s.log)
-phase_of {T} {W} Phases s is = subst (λ xs. Phases (receiver_at xs)) (words_of T W s.log) is
 
 -- a log grows by no more operations than a run of the call performs
 module _ {T : Type 0} {before after : List Noted} {reply : Reply} where

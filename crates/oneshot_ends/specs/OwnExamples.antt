@@ -58,7 +58,8 @@ pub record UsesThatAre : Type 0 where
       → s.side.handed ≡ Some (Thread half) → s.given ≡ Some given → IsSamePass half.pass given.pass
       → HasEnded sending s
   -- the sender has just taken the waker of the receiver that waits
-  pub at_one_moment : (k : RealWaker) → AtOneMoment {P = ⊤} (λ about message. ⊤) (side_with claims k) (side_with blocks k)
+  pub at_one_moment : (k : RealWaker)
+      → AtOneMoment {P = ⊤} (λ about message. ⊤) (side_with claims k) (side_with blocks k)
   pub sleeps : (s : Side ⊤ RealWaker ⊤) (half : WakingHalf) → s.log ≡ blocks → s.waker ≡ away
       → s.handed ≡ Some (Thread half) → SleepsOn half.pass.table_id s
 

@@ -238,7 +238,7 @@ fn receive_last<T: Drop, Rt: Wait + Clock + Drop, P: Promise<T>>(
     requires ready { IsReady hand.old (receiver_of (state_of ground.old).log) }
     requires owned { WaitsByHalvesOf parker.old.parker ground.old }
     requires own { IfSome hand.old (IsHalfOf parker.old.parker) }
-    ensures found { FoundTheEnd (receiver_at ground.new.log) }
+    ensures found { FoundTheEnd (receiver_of (state_of ground.new).log) }
     ensures stays { IsClosedAt (receiver_of (state_of ground.old).log) → IsErr result }
     ensures kept { IfOk result (λ message. P.keeps ground.old.about message) }
 {

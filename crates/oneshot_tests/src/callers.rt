@@ -6,5 +6,7 @@ mod glanced;
 mod inbox;
 mod promised;
 mod results;
+mod taken;
 mod tallied;
 mod tickets;
+mod woken;

@@ -2,9 +2,8 @@
 
 ghost use Rattle.std.specs.Prelude.{◌≡◌, false, true, [], ◌∷◌};
 ghost use Rattle.oneshot_machine.specs.declared.machine.Step.TheVariants.{WriteWaker};
-ghost use Rattle.oneshot_machine.specs.Logs.{Grows, handed};
+ghost use Rattle.oneshot_machine.specs.Logs.{Grows, handed, receiver_of};
 ghost use Rattle.oneshot_machine.specs.Slots.{vacant, held};
-ghost use Rattle.oneshot_machine.specs.Phases.{receiver_at};
 ghost use Rattle.oneshot_drive.specs.BetweenCalls.{FoundTheEnd, HasLeft};
 ghost use Rattle.oneshot_ends.specs.Ends.{ReceiverIsOrdered};
 
@@ -56,16 +55,18 @@ impl<T, H, K, P: Promise<T>> SharedReceiver<T, H, K, P> {
 }
 
 impl<T: Drop, H: Drop, K: Drop, P: Promise<T>> SharedReceiver<T, H, K, P> {
+    ghost use Rattle.oneshot_ends.specs.Grounds.{state_of};
+
     /// Lets the receiver go after its last receive.
     pub(crate) fn received(self)
-        requires { FoundTheEnd (receiver_at self.log) }
+        requires { FoundTheEnd (receiver_of (state_of self).log) }
     {
         self.let_go();
     }
 
     /// Lets the receiver go after its drop.
     pub(crate) fn dropped(self)
-        requires { HasLeft (receiver_at self.log) }
+        requires { HasLeft (receiver_of (state_of self).log) }
     {
         self.let_go();
     }

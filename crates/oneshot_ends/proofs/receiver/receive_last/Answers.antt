@@ -1,8 +1,8 @@
 -- Proofs of the goals that `receive_last` leaves.
 use Rattle.std.proofs.Common.{[], ◌∷◌, ℕ, List, refl, sym, ap, ◌∙◌, subst, get_or}
-use Rattle.oneshot_machine.specs.Phases.{receiver_at}
+use Rattle.oneshot_machine.specs.Logs.{receiver_of}
 use Rattle.oneshot_drive.specs.BetweenCalls.{FoundTheEnd}
-use Rattle.oneshot_ends.proofs.GrewByRuns.{phase_of}
+use Rattle.oneshot_ends.specs.Grounds.{state_of}
 use Rattle.oneshot_ends.proofs.OwnWakers.{has_lent}
 use Rattle.oneshot_ends.proofs.receiver.receive_last.Goals as goal
 
@@ -11,8 +11,7 @@ returns-clause-found g c =
     let same =
     sym (ap (λ (names : List ℕ). get_or {A = ℕ} names 0 0) c.recv.ensures.run.grows.channel
     ∙ ap (λ r. r.ghost_name) c.lend-lent.ensures.ground) in
-    subst (λ s. FoundTheEnd (receiver_at s.log)) (sym (c.ground-1.given.1 same))
-    (phase_of FoundTheEnd c.recv.new.g.ground.now c.recv.ensures.found)
+    subst (λ s. FoundTheEnd (receiver_of (state_of s).log)) (sym (c.ground-1.given.1 same)) c.recv.ensures.found
 
 pub recv-requires-clause-has : goal.recv-requires-clause-has
 recv-requires-clause-has g c =
