@@ -1,12 +1,12 @@
 -- What one half knows of the token's state, and that each act of a half keeps the rule.
-use Rattle.std.proofs.Common.{◌≡◌, ℕ, zero, suc, Bool, true, false, List, [], ◌∷◌, ◌++◌, ◌||◌, set, refl, sym, subst}
+use Rattle.std.proofs.Common.{◌≡◌, ℕ, zero, suc, Bool, true, false, List, [], ◌∷◌, ◌++◌, ◌||◌, set, refl, sym, subst, ◌∙◌}
 use mathlib.Core.Option as maybe
 use mathlib.Core.Option.{some-injective, some-ne-none}
 use lib.ListN.{get_elem?}
 use Rattle.crossbeam_utils.specs.Register.{Turns, Forks}
 use Rattle.oneshot_ends.specs.declared.token.Half.{Half}
 use Rattle.oneshot_ends.specs.declared.token.Half.TheVariants.{Both, Parking, Waking}
-use Rattle.oneshot_ends.specs.Tokens.{TokenIs, undivided, to_come, there, taken, took}
+use Rattle.oneshot_ends.specs.Tokens.{TokenIs, undivided, to_come, there, taken, took, HasOneWakingHalf}
 
 -- whether the token is there, all halves, and one of them by its number
 pub data Has : Bool → List Half → ℕ → Half → Type 0 where
@@ -60,3 +60,13 @@ gives to_come_waking = (Waking true, there, refl)
 
 pub can_give : (id : ℕ) (v : Half) → v ≡ Waking false → Turns TokenIs id v (λ _. true) Gives
 can_give id v is x views kept at = gives (subst (Has x views id) is (has kept id at))
+
+-- the waking half's number
+waking_number : {x : Bool} {vs : List Half} {id : ℕ} {gave : Bool} → Has x vs id (Waking gave) → id ≡ 1
+waking_number to_come_waking = refl
+waking_number there_waking = refl
+waking_number taken_waking = refl
+
+pub has_one_waking_half : HasOneWakingHalf
+has_one_waking_half is_there halves kept one other gave given at at' =
+    waking_number (has kept one at) ∙ sym (waking_number (has kept other at'))

@@ -10,7 +10,7 @@ ghost use Rattle.oneshot_ends.specs.NoLostWakeup.{EndedSendersGaveTokens, NoSlee
 ghost use Rattle.oneshot_ends.specs.OwnExamples.{UsesThatAre, UsesThatAreNot};
 ghost use Rattle.oneshot_ends.specs.Taken.{TookAsFound, WasSent};
 ghost use Rattle.oneshot_ends.specs.TakenExamples.{TakesThatAre, TakesThatAreNot};
-ghost use Rattle.oneshot_ends.specs.Tokens.{LivesLeadToStates, TokensAreGivenOnce};
+ghost use Rattle.oneshot_ends.specs.Tokens.{LivesLeadToStates, TokensAreGivenOnce, HasOneWakingHalf};
 ghost use Rattle.oneshot_ends.specs.TokenExamples.{StatesThatAreNot, LivesThatAre, LivesThatAreNot, StepsThatWake, StepsThatDoNot, WakersThatWoke, WakersThatDidNot, WaitsThatAre, WaitsThatAreNot};
 
 use crate::error::SendError;
@@ -149,10 +149,12 @@ pub fn an_error_is_in_an_order<T, P: Promise<T>>(error: &SendError<T, P>)
 }
 
 /// The token of a blocking receiver is given at most once, taken at most once, and never taken before it is
-/// given. The rule of both halves of its parker has exactly the states that a token's life can lead to.
+/// given. The rule of both halves of its parker has exactly the states that a token's life can lead to. A parker has
+/// one waking half.
 pub fn a_token_is_given_once_and_then_taken()
     ensures states { LivesLeadToStates }
     ensures once { TokensAreGivenOnce }
+    ensures one_half { HasOneWakingHalf }
 {}
 
 /// No wakeup of a real receiver is lost. At each moment of a channel whose sender has ended:
