@@ -111,7 +111,8 @@ receiver_runs T form took ys calls (xs, word, order) so =
       word = word;
       order = order;
       calls = calls;
-      runs = λ message passed calls was. calls_run T Waking message form calls xs ys word order was;
+      runs = λ message calls was. calls_run T Waking message form calls xs ys word order was;
+      takes = λ message took calls was. calls_run T Waking message form calls xs ys word order was;
       gets = λ calls was.
           gets_so took (message_replies calls) (λ m. one_call_gets T Waking m form calls xs ys word order was)
           (so ∙ shows was);

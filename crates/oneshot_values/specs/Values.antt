@@ -1,5 +1,5 @@
 -- What the laws state of the values that a program holds: each has the log of a run of the model.
-use Rattle.std.specs.Prelude.{◌≡◌, ◌≤◌, ℕ, Bool, true, false, Option, is_some, List, [], ◌∷◌, ◌++◌, filter, length}
+use Rattle.std.specs.Prelude.{◌≡◌, ◌≤◌, ℕ, Bool, true, false, Option, Some, is_some, List, [], ◌∷◌, ◌++◌, filter, length}
 use Rattle.oneshot_machine.specs.declared.machine.Reply.{Reply}
 use Rattle.oneshot_machine.specs.declared.machine.receiver.ReceiverStart.{ReceiverStart}
 use Rattle.oneshot_machine.specs.declared.machine.Reply.TheVariants as R
@@ -10,7 +10,6 @@ use Rattle.oneshot_machine.specs.Orders.{Reaches}
 use Rattle.oneshot_ends.specs.Ends.{Waking, HasCalls}
 use Rattle.oneshot_bridge.specs.CallsRun.{RunsCalls, receiver_answered}
 use Rattle.oneshot_bridge.specs.Gives.{gave_message}
-use Rattle.oneshot_bridge.specs.Joined.{Passed}
 use Rattle.oneshot_bridge.specs.Scripted.{IsOfARun}
 
 -- how many of a receiver's calls returned the message
@@ -29,9 +28,11 @@ pub record ReceiverRuns (T : Type 0) (form : Form) (took : Option T) (ys : List 
   pub order : Reaches xs ys word
   -- it is the log of some calls
   pub calls : HasCalls T form ys
-  -- whichever calls these were, a run of the model has these logs and this word, and exactly these calls; it
-  -- sends the message that the receiver took, if it has
-  pub runs : (message : T) → Passed message took → (calls : List (ReceiverStart × Reply))
+  -- whichever calls these were, a run of the model has these logs and this word, and exactly these calls
+  pub runs : (message : T) (calls : List (ReceiverStart × Reply)) → ReceiverCalled T Waking form calls ys
+      → RunsCalls message calls xs ys word
+  -- so does a run that sends the message that the receiver took: there these calls returned that message
+  pub takes : (message : T) → took ≡ Some message → (calls : List (ReceiverStart × Reply))
       → ReceiverCalled T Waking form calls ys → RunsCalls message calls xs ys word
   -- exactly one of them returned the message if the receiver took one, and otherwise none
   pub gets : (calls : List (ReceiverStart × Reply)) → ReceiverCalled T Waking form calls ys

@@ -18,9 +18,9 @@ use oneshot_ends::{AsyncReceiver, Promise, Receiver, SendError};
 
 /// For a receiver between two of its calls, whatever a program did with it and wherever the sender is, some
 /// run of the model has this receiver's log, and exactly its calls with the replies that the program got.
-/// The run keeps every law of a trace. The message that it sends is the one that this receiver took, if it
-/// took one: then exactly one call returned the message, and otherwise none did. If `T` has no values, there
-/// is no run: the log is that of some calls, and belongs to an order of both ends' operations.
+/// The run keeps every law of a trace. If the receiver took a message, such a run sends that one, and exactly
+/// one call returned it; otherwise none did. If `T` has no values, there is no run: the log is that of some
+/// calls, and belongs to an order of both ends' operations.
 pub fn a_receiver_runs<T, Rt, P: Promise<T>>(receiver: &Receiver<T, Rt, P>)
     ensures { ReceiverRuns T as_receiver receiver.now.took receiver.now.log }
 {
