@@ -1,6 +1,7 @@
 -- Proofs of the examples of ends, of what a call leaves, of replies and of hands.
 use Rattle.oneshot_drive.proofs.Names.{true, false, refl, closed_itself, found_closed, looked, between, blocked, waits, withdrew, is_late, is_overtaken, rests_new, rests_open, rests_closed, leaves_open, leaves_closed, left_received, left_closed, timed_received, timed_out, timed_closed, as_it_was, sender_took, came_back, returned, taken, sent, EndsThatAre, EndsThatAreNot, CallsThatLeave, CallsThatDoNot, RepliesThatAre, HandsThatAre, HandsThatAreNot, Polled, unpolled, left_copy, kept_copy, found_sender, has_resolved, leaves_resolved, leaves_gone, leaves_waiting, tried_resolved, tried_its_copy, is_disconnected}
-use Rattle.oneshot_drive.specs.BetweenCalls.{leaves_received, over_finished, over_late, over_overtaken, found_message, found_no_sender, left_first}
+use Rattle.oneshot_machine.specs.Phases.{By, sending, dropping, fresh, owes}
+use Rattle.oneshot_drive.specs.BetweenCalls.{leaves_received, SenderIsOver, over_finished, over_late, over_overtaken, found_message, found_no_sender, left_first}
 
 pub ends_that_are : EndsThatAre
 ends_that_are =
@@ -22,8 +23,8 @@ ends_that_are =
       resolved_is_polled = has_resolved found_closed;
       refused_is_late = is_late;
       overtaken_is_late = is_overtaken;
-      sent_is_over = over_finished;
-      refused_is_over = over_late;
+      ended_is_over = over_finished;
+      late_is_over = over_late;
       overtaken_is_over = over_overtaken;
       received_found_it = found_message;
       closed_found_it = found_no_sender;
@@ -35,6 +36,14 @@ blocked_is_polled (unpolled rests) = elim rests [ ]
 
 withdrawn_is_polled : Polled withdrew → ⊥
 withdrawn_is_polled (unpolled rests) = elim rests [ ]
+
+new_is_over : (by : By) → SenderIsOver by fresh → ⊥
+new_is_over sending over = elim over [ ]
+new_is_over dropping over = elim over [ ]
+
+owing_is_over : (by : By) → SenderIsOver by (owes by) → ⊥
+owing_is_over sending over = elim over [ ]
+owing_is_over dropping over = elim over [ ]
 
 pub ends_that_are_not : EndsThatAreNot
 ends_that_are_not =
@@ -57,10 +66,12 @@ ends_that_are_not =
       withdrawn_is_polled = withdrawn_is_polled;
       sent_is_late = λ _ h. elim h [ ];
       finishing_is_late = λ _ h. elim h [ ];
-      new_is_over = λ _ h. elim h [ ];
-      owing_is_over = λ _ h. elim h [ ];
+      new_is_over = new_is_over;
+      owing_is_over = owing_is_over;
       dropped_is_sent = λ h. elim h [ ];
       sent_is_dropped = λ h. elim h [ ];
+      refused_is_over = λ h. elim h [ ];
+      refused_after_waking_is_over = λ h. elim h [ ];
       looked_and_found_it = λ _ h. elim h [ ];
       waits_and_found_it = λ _ h. elim h [ ];
       gone_and_found_it = λ h. elim h [ ];

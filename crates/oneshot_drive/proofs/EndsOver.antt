@@ -1,6 +1,6 @@
 -- After its last call an end is over: by the rows of its last operation.
 use Rattle.oneshot_drive.proofs.Names.{◌≡◌, ℕ, false, List, [], ◌∷◌, refl, sym, ◌∙◌, subst, TakeWaker, Wake, Op, Swap, Add, Xor, Event, Log, Grows, words, sender_of, receiver_of, handed, worded, By, sending, dropping, SenderAt, fresh, owes, late, no_sender, sender_moves, ReceiverAt, first, here, looked, between, waits, claimed, withdrew, full, at_once, by_future, disconnected, receiver_moves, Slots, Held, In, finds, SenderFinds, leads, sender_moved, GroundState, StandsWith, SenderMakes, ReceiverMakes, EndsAt, landings, landings_of, landed, Each, each, sender_apart}
-use Rattle.std.proofs.Common.{Bool, true, ◌++◌, ap}
+use Rattle.std.proofs.Common.{Bool, true, ◌==◌, not, ◌++◌, ap}
 use Rattle.std.specs.List.{list_all}
 use Rattle.oneshot_machine.specs.declared.machine.Reply.{Reply}
 use Rattle.oneshot_machine.specs.declared.machine.sender.SenderCall.{SenderCall}
@@ -11,14 +11,25 @@ use Rattle.oneshot_machine.proofs.RunsByRows.{next_passes}
 use Rattle.oneshot_drive.specs.Wakes.{finds_waiting, SenderWoke, wakes, wakes_none}
 use Rattle.oneshot_drive.specs.declared.waiting.Found.{Found}
 use Rattle.oneshot_drive.specs.declared.waiting.Found.TheVariants as F
-use Rattle.oneshot_drive.specs.BetweenCalls.{SenderIsOver, over_finished, over_late, over_overtaken, FoundTheEnd, found_message, found_unclosed, found_no_sender, HasLeft, left_first, left_last}
+use Rattle.oneshot_drive.specs.BetweenCalls.{SenderIsOver, over_finished, over_late, over_overtaken, LastLeaves, last_finished, last_overtaken, FoundTheEnd, found_message, found_unclosed, found_no_sender, HasLeft, left_first, left_last}
 use Rattle.oneshot_drive.proofs.AfterOperations.{lone, at_word, one_of, sender_lands, lands, sender_still, still}
 use Rattle.oneshot_drive.proofs.SenderCalls.{is_swap}
 
 -- a sender that owes its last word leaves it
-owed_over : (by : By) → Each (λ n next after. SenderIsOver by next) (landings_of is_swap (sender_moves (owes by)))
-owed_over sending = (over_finished, (over_finished, (over_overtaken, tt)))
-owed_over dropping = (over_finished, (over_finished, (over_overtaken, tt)))
+owed_over : (by : By) → Each (λ n next after. LastLeaves by (not (n == 2)) next)
+    (landings_of is_swap (sender_moves (owes by)))
+owed_over sending = (last_finished, (last_finished, (last_overtaken, tt)))
+owed_over dropping = (last_finished, (last_finished, (last_overtaken, tt)))
+
+-- a `send` that finds the receiver is then over, and a drop in either case
+pub sent_over : {by : By} {is_here : Bool} {at : SenderAt} → LastLeaves by is_here at → is_here ≡ true
+    → SenderIsOver by at
+sent_over {by} last_finished e = over_finished by
+sent_over last_overtaken e = absurd (cc e)
+
+pub dropped_over : {is_here : Bool} {at : SenderAt} → LastLeaves dropping is_here at → SenderIsOver dropping at
+dropped_over last_finished = over_finished dropping
+dropped_over last_overtaken = over_overtaken
 
 over_at : {by : By} {at next : SenderAt} → next ≡ at → SenderIsOver by at → SenderIsOver by next
 over_at {by} is over = subst (SenderIsOver by) (sym is) over
@@ -29,12 +40,12 @@ module _ {T W : Type 0} where
     pub added_over : n ≡ 3 → SenderMakes Add n b a → Grows b.log a.log (worded Add n ∷ [])
         → SenderIsOver sending (sender_of a.log)
     added_over e made grows =
-        over_at (lone (at_word 3 e (sender_lands b Add n is.phase made grows))).stands.phase over_finished
+        over_at (lone (at_word 3 e (sender_lands b Add n is.phase made grows))).stands.phase (over_finished sending)
 
     pub flipped_over : n ≡ 3 → SenderMakes Xor n b a → Grows b.log a.log (worded Xor n ∷ [])
         → SenderIsOver dropping (sender_of a.log)
     flipped_over e made grows =
-        over_at (lone (at_word 3 e (sender_lands b Xor n is.phase made grows))).stands.phase over_finished
+        over_at (lone (at_word 3 e (sender_lands b Xor n is.phase made grows))).stands.phase (over_finished dropping)
 
     -- or one that waits
     pub added_owes : n ≡ 0 → SenderMakes Add n b a → Grows b.log a.log (worded Add n ∷ [])
@@ -46,29 +57,29 @@ module _ {T W : Type 0} where
     flipped_owes e made grows = (lone (at_word 0 e (sender_lands b Xor n is.phase made grows))).stands.phase
 
   -- or one that was gone
-  pub late_over : {by : By} {slots : Slots} {a : GroundState T W}
-      → StandsWith sender_of (late by) slots a → SenderIsOver by (sender_of a.log)
+  pub late_over : {slots : Slots} {a : GroundState T W} → StandsWith sender_of (late dropping) slots a
+      → SenderIsOver dropping (sender_of a.log)
   late_over stands = over_at stands.phase over_late
 
   last_over : {by : By} {at after : SenderAt} {new n : ℕ} {m m' : Held T} {w w' : Held W} → at ≡ owes by
       → ((next : SenderAt) (before later : Slots) → In (Swap new, before, n, next, later) (sender_moves at)
-      → after ≡ next) → SenderFinds at (Swap new) n m w m' w' → SenderIsOver by after
-  last_over {by} {at} owing leads_to (finds {before} {after = slots} {next} row message waker) =
-      let all : Each (λ n next after. SenderIsOver by next) (landings_of is_swap (sender_moves at)) =
-      subst (λ at. Each (λ n next after. SenderIsOver by next) (landings_of is_swap (sender_moves at))) (sym owing)
-      (owed_over by) in
-      subst (SenderIsOver by) (sym (leads_to next before slots row))
-      (each (λ n next after. SenderIsOver by next) (landings_of is_swap (sender_moves at)) all
-      (landed is_swap (sender_moves at) refl row))
+      → after ≡ next) → SenderFinds at (Swap new) n m w m' w'
+      → LastLeaves by (not (n == 2)) after
+  last_over {by} {at} {n = n} owing leads_to (finds {before} {after = slots} {next} row message waker) =
+      let Left : ℕ → SenderAt → Slots → Type 0 = λ n next after. LastLeaves by (not (n == 2)) next in
+      let all : Each Left (landings_of is_swap (sender_moves at)) =
+      subst (λ at. Each Left (landings_of is_swap (sender_moves at))) (sym owing) (owed_over by) in
+      subst (LastLeaves by (not (n == 2))) (sym (leads_to next before slots row))
+      (each Left (landings_of is_swap (sender_moves at)) all (landed is_swap (sender_moves at) refl row))
 
   -- it takes the waker, leaves its last word, and uses the waker
   pub finished_over : {l z : Log T W} {k j : GroundState T W} {by : By} (word : ℕ) (y : W) (n : ℕ) → sender_of l ≡ owes
       by
       → Grows l k.log (handed TakeWaker y ∷ []) → SenderMakes (Swap word) n k j
       → Grows k.log j.log (worded (Swap word) n ∷ []) → Grows j.log z (handed Wake y ∷ [])
-      → SenderIsOver by (sender_of z)
-  finished_over {k = k} word y n owing took made grows used =
-      over_at (sender_still (handed Wake y ∷ []) refl used)
+      → LastLeaves by (not (n == 2)) (sender_of z)
+  finished_over {k = k} {by = by} word y n owing took made grows used =
+      subst (LastLeaves by (not (n == 2))) (sym (sender_still (handed Wake y ∷ []) refl used))
       (last_over (sender_still (handed TakeWaker y ∷ []) refl took ∙ owing)
       (λ next before after row. sender_moved (Swap word) n grows
       ∙ leads no_sender (sender_moves (sender_of k.log)) (sender_apart (sender_of k.log)) row) made)

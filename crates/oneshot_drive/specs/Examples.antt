@@ -43,8 +43,8 @@ pub record EndsThatAre : Type 0 where
   pub refused_is_late : (by : By) → IsLate (late by)
   pub overtaken_is_late : (by : By) → IsLate (overtaken by)
   -- an end that may be let go
-  pub sent_is_over : SenderIsOver sending (finished sending)
-  pub refused_is_over : SenderIsOver sending (late sending)
+  pub ended_is_over : (by : By) → SenderIsOver by (finished by)
+  pub late_is_over : SenderIsOver dropping (late dropping)
   pub overtaken_is_over : SenderIsOver dropping (overtaken dropping)
   pub received_found_it : (g : Got) → FoundTheEnd (full g)
   pub closed_found_it : (c : Closing) → FoundTheEnd (disconnected c)
@@ -75,7 +75,10 @@ pub record EndsThatAreNot : Type 0 where
   pub new_is_over : (by : By) → SenderIsOver by fresh → ⊥
   pub owing_is_over : (by : By) → SenderIsOver by (owes by) → ⊥
   pub dropped_is_sent : SenderIsOver sending (finished dropping) → ⊥
-  pub sent_is_dropped : SenderIsOver dropping (late sending) → ⊥
+  pub sent_is_dropped : SenderIsOver dropping (finished sending) → ⊥
+  -- after a refused `send` its error must be dropped
+  pub refused_is_over : SenderIsOver sending (late sending) → ⊥
+  pub refused_after_waking_is_over : SenderIsOver sending (overtaken sending) → ⊥
   pub looked_and_found_it : (o : Open) → FoundTheEnd (here o) → ⊥
   pub waits_and_found_it : (w : Waiting) → FoundTheEnd (waits w) → ⊥
   pub gone_and_found_it : FoundTheEnd gone → ⊥

@@ -9,7 +9,7 @@ ghost use Rattle.oneshot_machine.specs.Phases.{By, sending, dropping, owes};
 ghost use Rattle.oneshot_machine.specs.Runs.{SenderRan};
 ghost use Rattle.oneshot_machine.specs.Slots.{away, held};
 ghost use Rattle.oneshot_drive.specs.Wakes.{SenderWoke};
-ghost use Rattle.oneshot_drive.specs.BetweenCalls.{IsFresh, IsError, IsLate, SenderIsOver, Owes, Finishes, IsOvertaken, send_reply};
+ghost use Rattle.oneshot_drive.specs.BetweenCalls.{IsFresh, IsError, IsLate, SenderIsOver, Owes, LastLeaves, Finishes, IsOvertaken, send_reply};
 
 use crate::ground::SenderGround;
 use oneshot_machine::states::{DISCONNECTED, EMPTY, MESSAGE, RECEIVING};
@@ -28,8 +28,8 @@ pub fn send<T, W, G: SenderGround<T, W>>(g: &mut G, message: T) -> bool
     ensures refused { result ≡ false →
         IsError (held message) (G.state g.new) }
     ensures late { result ≡ false → IsLate (sender_of (G.state g.new).log) }
-    ensures over { SenderIsOver sending (sender_of (G.state g.new).log) }
-    ensures ended { G.ended sending g.new }
+    ensures over { result ≡ true → SenderIsOver sending (sender_of (G.state g.new).log) }
+    ensures ended { result ≡ true → G.ended sending g.new }
     ensures bounded { MakesWithin (sender_bound Send) (G.state g.old).log (G.state g.new).log }
     ensures gave { result ≡ true → G.gave g.new message }
     ensures keeps { G.keeps g.old g.new }
@@ -72,7 +72,7 @@ fn finish<T, W, G: SenderGround<T, W>>(g: &mut G, last: u8) -> bool
     ensures finishes { Finishes last result (G.woken g.new) (G.state g.old).log (G.state g.new).log }
     ensures gone { result ≡ false → IsOvertaken (G.state g.old) (G.state g.new) }
     ensures over { (by : By) → sender_of (G.state g.old).log ≡ owes by
-        → SenderIsOver by (sender_of (G.state g.new).log) }
+        → LastLeaves by result (sender_of (G.state g.new).log) }
     ensures gave { result ≡ true → (x : T) → (G.state g.old).message ≡ held x → G.gave g.new x }
     ensures keeps { G.keeps g.old g.new }
 {

@@ -4,7 +4,7 @@ use Rattle.oneshot_drive.proofs.AfterOperations.{sender_asks}
 use Rattle.oneshot_drive.proofs.SenderCalls.{written, send_owes, added_kept, added, added_given, refused, is_too_late}
 use Rattle.oneshot_drive.proofs.SenderRuns.{send_ran, send_refused, send_woke}
 use Rattle.oneshot_machine.specs.Phases.{sending}
-use Rattle.oneshot_drive.proofs.EndsOver.{added_over, added_owes, late_over, woken_by}
+use Rattle.oneshot_drive.proofs.EndsOver.{added_over, added_owes, sent_over, woken_by}
 use Rattle.oneshot_drive.proofs.sender.send.Goals as goal
 
 pub add-requires : goal.add-requires
@@ -32,8 +32,8 @@ returns-in-3 g c =
       woke = did;
       refused = search rules;
       late = search rules;
-      over = over;
-      ended = g.G.SenderGround.ended_by sending c.add.new.self over (woken_by c.requires.fresh.phase did);
+      over = λ sent. over;
+      ended = λ sent. g.G.SenderGround.ended_by sending c.add.new.self over (woken_by c.requires.fresh.phase did);
       bounded = send_few did.ran;
       gave = λ sent. c.add.ensures.gave c.args.message c.write_message.ensures.message
           (added_given c.add.result fresh c.in-3.is c.add.ensures.finds c.add.ensures.log);
@@ -51,7 +51,8 @@ returns-in-0 g c =
     send_woke _ c.add.result c.finish.result c.in-0.is c.write_message.ensures.log c.add.ensures.log
     c.finish.ensures.finishes in
     let over =
-    c.finish.ensures.over sending (added_owes c.add.result fresh c.in-0.is c.add.ensures.finds c.add.ensures.log) in
+    sent_over (c.finish.ensures.over sending
+    (added_owes c.add.result fresh c.in-0.is c.add.ensures.finds c.add.ensures.log)) in
     record {
       run = did.ran;
       woke = did;
@@ -59,7 +60,8 @@ returns-in-0 g c =
           let over = c.finish.ensures.gone gone in record { keeps = over.message ∙ kept; no_waker = over.waker };
       late = λ gone. (c.finish.ensures.gone gone).late;
       over = over;
-      ended = g.G.SenderGround.ended_by sending c.finish.new.g over (woken_by c.requires.fresh.phase did);
+      ended = λ sent. g.G.SenderGround.ended_by sending c.finish.new.g (over sent)
+          (woken_by c.requires.fresh.phase did);
       bounded = send_few did.ran;
       gave = λ sent. c.finish.ensures.gave sent c.args.message kept;
       keeps = g.G.SenderGround.keeps_on _ _ _ c.write_message.ensures.keeps
@@ -81,9 +83,8 @@ returns-in_default g c =
       refused = λ _. refused c.args.message gone.stands
           (message_kept c.add.ensures.finds c.write_message.ensures.message gone.stands.message);
       late = λ _. is_too_late gone.stands;
-      over = late_over gone.stands;
-      ended = g.G.SenderGround.ended_by sending c.add.new.self (late_over gone.stands)
-          (woken_by c.requires.fresh.phase did);
+      over = search rules;
+      ended = search rules;
       bounded = send_few did.ran;
       gave = search rules;
       keeps = g.G.SenderGround.keeps_on _ _ _ c.write_message.ensures.keeps c.add.ensures.keeps;
