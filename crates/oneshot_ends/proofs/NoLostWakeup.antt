@@ -23,7 +23,6 @@ use Rattle.oneshot_ends.specs.declared.token.WakingHalf.{WakingHalf}
 use Rattle.oneshot_ends.specs.NoLostWakeup.{RealWaker, AtOneMoment, IsThereOrTaken, HasGivenTokenOf, EndedSendersGaveTokens, NoSleeperIsForgotten, FuturesWakeNoThread}
 use Rattle.oneshot_ends.specs.OwnExamples.{blocks, UsesThatAre, UsesThatAreNot}
 use Rattle.oneshot_ends.specs.OwnWakers.{IsHalfOf, IsNoThread, is_waiting, Gave, WaitsByHalvesOf}
-use Rattle.oneshot_ends.specs.Tokens.{TokenIs}
 use Rattle.oneshot_ends.specs.Woken.{Sending, IsWoken, phase, found_waiting as shown_waiting, HasEnded}
 use Rattle.oneshot_ends.proofs.FoundWaiting.{found_waiting}
 use Rattle.oneshot_ends.proofs.GrewByRuns.{words_of}

@@ -1,22 +1,13 @@
 -- A sender keeps the waker that it took until its last operation.
-use Rattle.std.proofs.Common.{◌≡◌, ℕ, Bool, true, false, List, [], ◌++◌, Option, Some, refl, sym, ap, ◌∙◌, subst, not}
+use Rattle.std.proofs.Common.{◌≡◌, ℕ, Bool, true, false, Option, refl, not}
 use Rattle.std.specs.Prelude.{if◌then◌else◌}
 use Rattle.std.specs.List.{list_all}
 use Rattle.oneshot_machine.proofs.Sameness.{each_passes}
 use Rattle.oneshot_machine.specs.declared.states.Op.{Op}
 use Rattle.oneshot_machine.specs.declared.states.Op.TheVariants.{Swap}
-use Rattle.oneshot_machine.specs.Logs.{words, sender_of}
-use Rattle.oneshot_machine.specs.Phases.{By, sending, dropping, SenderAt, owes, sender_at, sender_moves, Share, none, filled, Row}
+use Rattle.oneshot_machine.specs.Phases.{sending, dropping, SenderAt, owes, sender_moves, Share, none, filled, Row}
 use Rattle.oneshot_machine.specs.Slots.{Held, Finds, finds, Turns, stays_away, stays_vacant, stays_held, gives_room, gives_thing, gets_room, gets_thing}
-use Rattle.oneshot_drive.specs.BetweenCalls.{SenderIsOver}
-use Rattle.oneshot_drive.specs.Wakes.{finds_waiting}
-use Rattle.oneshot_word.specs.declared.any_waker.AnyWaker.{AnyWaker}
 use Rattle.oneshot_word.specs.Seats.{took}
-use Rattle.oneshot_word.specs.Side.{Side}
-use Rattle.oneshot_ends.specs.declared.token.WakingHalf.{WakingHalf}
-use Rattle.oneshot_ends.specs.Grounds.{state_of}
-use Rattle.oneshot_ends.specs.Woken.{IsWoken, Sending, HasEnded}
-use Rattle.oneshot_ends.proofs.GrewByRuns.{words_of}
 
 abbrev is_got : Share → Share → Bool
 is_got none filled = true

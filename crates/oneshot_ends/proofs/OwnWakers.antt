@@ -1,5 +1,5 @@
 -- Each operation of a receiver leaves its wakers its own: computed for each row of the phases' table.
-use Rattle.std.proofs.Common.{◌≡◌, ℕ, Bool, true, false, List, [], ◌∷◌, ◌++◌, Option, Some, refl, sym, ap, ◌∙◌, subst}
+use Rattle.std.proofs.Common.{◌≡◌, ℕ, Bool, true, false, Option, Some, refl, sym, ap, ◌∙◌, subst}
 use Rattle.std.proofs.lemmas.Bool.{and_parts}
 use Rattle.std.specs.Prelude.{◌&&◌, ◌||◌, if◌then◌else◌, IfSome}
 use Rattle.std.specs.List.{list_all}
@@ -7,13 +7,11 @@ use Rattle.atomic_table.specs.Seated.{TableId}
 use Rattle.oneshot_machine.proofs.GrownLogs.{phase_from-snoc}
 use Rattle.oneshot_machine.proofs.Sameness.{each_passes}
 use Rattle.oneshot_machine.specs.declared.states.Op.{Op}
-use Rattle.oneshot_machine.specs.Noted.{Noted, saw}
-use Rattle.oneshot_machine.specs.Logs.{receiver_of}
-use Rattle.oneshot_machine.specs.Phases.{Share, none, empty, filled, Slots, Row, ReceiverAt, first, here, looked, between, waits, overdue, blocked, full, swapped, storing, unclosed, disconnected, resolved, found_closed, receiver_at, receiver_next, receiver_moves}
-use Rattle.oneshot_machine.specs.Slots.{IsSlot, is_away, is_vacant, Held, away, vacant, held, In, Finds, finds, Turns, stays_away, stays_vacant, stays_held, gives_room, gives_thing, gets_room, gets_thing}
+use Rattle.oneshot_machine.specs.Noted.{saw}
+use Rattle.oneshot_machine.specs.Phases.{Share, none, filled, Row, ReceiverAt, first, here, looked, between, waits, blocked, full, swapped, storing, unclosed, disconnected, resolved, found_closed, receiver_at, receiver_next, receiver_moves}
+use Rattle.oneshot_machine.specs.Slots.{IsSlot, is_away, is_vacant, Held, away, held, Finds, finds, Turns, stays_away, stays_vacant, stays_held, gives_room, gives_thing, gets_room, gets_thing}
 use Rattle.oneshot_drive.specs.BetweenCalls.{AtRest, Rests, rests_new, rests_open, rests_closed}
 use Rattle.oneshot_drive.specs.Grounds.{receiver_slots}
-use Rattle.oneshot_drive.specs.Blocking.{Parks, parks_waiting, parks_overdue}
 use Rattle.oneshot_word.specs.declared.any_waker.AnyWaker.{AnyWaker}
 use Rattle.oneshot_word.specs.Seats.{gave}
 use Rattle.oneshot_word.specs.Side.{Side, ReceiverDid}

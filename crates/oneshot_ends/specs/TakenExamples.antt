@@ -1,7 +1,6 @@
 -- Examples and counterexamples of the message that a receiver took, by its log and by what a receive returned.
-use Rattle.std.specs.Prelude.{◌≡◌, ℕ, List, [], ◌∷◌, Option, Some, None, Ok, Err}
+use Rattle.std.specs.Prelude.{◌≡◌, ℕ, [], Some, None, Ok, Err}
 use Rattle.futures.specs.declared.task.Poll.TheVariants.{Ready, Pending}
-use Rattle.oneshot_machine.specs.Noted.{Noted}
 use Rattle.oneshot_ends.specs.Ends.{SenderEndOf}
 use Rattle.oneshot_ends.specs.Examples.{ran_out, received}
 use Rattle.oneshot_ends.specs.Taken.{StaysTaken, TookAsFound, WasSent, KeepsTaken, Takes, TakesReady}

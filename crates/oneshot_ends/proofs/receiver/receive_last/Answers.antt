@@ -1,5 +1,5 @@
 -- Proofs of the goals that `receive_last` leaves.
-use Rattle.std.proofs.Common.{[], ◌∷◌, ℕ, List, refl, sym, ap, ◌∙◌, subst, get_or}
+use Rattle.std.proofs.Common.{ℕ, List, sym, ap, ◌∙◌, subst, get_or}
 use Rattle.oneshot_machine.specs.Logs.{receiver_of}
 use Rattle.oneshot_drive.specs.BetweenCalls.{FoundTheEnd}
 use Rattle.oneshot_ends.specs.Grounds.{state_of}
