@@ -32,8 +32,8 @@ pub data Passed {T : Type 0} (m : T) : Option T → Type 0 where
   it_passed : Passed m (Some m)
 
 -- the words, the slots at home and the views of all seats
-pub data OfARun {T H K P : Type 0} (W : Type 0) (q : P) : List ℕ → List (Home T H K) → List (View T H K P) → Type 0
-    where
+pub data OfARun {T H K P : Type 0} (W : Type 0) (q : P)
+    : List ℕ → List (Home T H K) → List (View T H K P) → Type 0 where
   -- before there are ends
   maker_before : {homes : List (Home T H K)} → OfARun W q (3 ∷ []) homes (view q Maker [] None None ∷ [])
   dealer_before : {homes : List (Home T H K)} → OfARun W q (3 ∷ []) homes (view q Dealer [] None None ∷ [])

@@ -22,16 +22,20 @@ last_ends (owes sending) = (
   still_here finds_waiting,
   (
     still_here finds_overdue,
-    (record { here = false; finds = finds_gone; late = λ e. (is_overtaken sending, refl, λ e. cc); given = λ e. cc },
-    tt),
+    (
+      record { here = false; finds = finds_gone; late = λ e. (is_overtaken sending, refl, λ e. cc); given = λ e. cc },
+      tt,
+    ),
   ),
 )
 last_ends (owes dropping) = (
   still_here finds_waiting,
   (
     still_here finds_overdue,
-    (record { here = false; finds = finds_gone; late = λ e. (is_overtaken dropping, refl, λ e. cc); given = λ e. cc },
-    tt),
+    (
+      record { here = false; finds = finds_gone; late = λ e. (is_overtaken dropping, refl, λ e. cc); given = λ e. cc },
+      tt,
+    ),
   ),
 )
 last_ends _ = tt

@@ -154,7 +154,7 @@ module _ {T K P : Type 0} where
       → WaitsByHalvesOf q.parker s × IfSome hand (IsHalfOf q.parker)
   has_lent {own} {s} {p} {q} hand is same owned its = (
     subst (λ s. WaitsByHalvesOf q.parker s) (sym is)
-    (subst (λ (p : tokens.Parks). WaitsByHalvesOf p.parker own) (sym same) owned),
+        (subst (λ (p : tokens.Parks). WaitsByHalvesOf p.parker own) (sym same) owned),
     subst (λ (p : tokens.Parks). IfSome hand (IsHalfOf p.parker)) (sym same) its,
   )
 

@@ -135,9 +135,11 @@ each_row : (p : ReceiverPos) (found : Bool) (seen : Seen) (o : Outcome ReceiverP
 each_row p found seen (Goes next) stands leads =
     let passes =
     and_parts (in_place next) (is_bool (has_it next) (found_by p seen))
-    (row_passes (row_told p) (receiver_rows p) seen (Goes next) (told_rows p stands.0) leads) in
-    (passes.0, bools_are (has_it next) (found_by p seen) passes.1
-    ∙ ap (moved receiver_step receiver_rows finds_it Stands Replies (op_of (receiver_step p)) seen) stands.1)
+    (row_passes (row_told p) (receiver_rows p) seen (Goes next) (told_rows p stands.0) leads) in (
+      passes.0,
+      bools_are (has_it next) (found_by p seen) passes.1
+          ∙ ap (moved receiver_step receiver_rows finds_it Stands Replies (op_of (receiver_step p)) seen) stands.1,
+    )
 each_row p found seen (Answers r) stands leads =
     ap (moved receiver_step receiver_rows finds_it Stands Replies (op_of (receiver_step p)) seen) (sym stands.1)
     ∙ bools_are (found_by p seen) (is_message r)

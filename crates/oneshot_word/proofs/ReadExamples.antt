@@ -34,7 +34,7 @@ module _ {xs xs' ys ys' : List Noted} {given given' taken taken' : Option ℕ} {
   logs_alike are =
       let senders : ◌≡◌ {A = View ℕ ℕ ℕ ℕ} (view 7 Sender xs given woke) (view 7 Sender xs' given' None) = cc are in
       let receivers : ◌≡◌ {A = View ℕ ℕ ℕ ℕ} (view 7 Receiver ys taken put) (view 7 Receiver ys' taken' None) = cc
-          are in
+      are in
       (ap (λ (v : View ℕ ℕ ℕ ℕ). v.log) senders, ap (λ (v : View ℕ ℕ ℕ ℕ). v.log) receivers)
 
 has_order : {words : List ℕ} {seats : List (View ℕ ℕ ℕ ℕ)} {word : ℕ} {xs ys : List Noted} {given taken : Option ℕ}
@@ -69,7 +69,7 @@ IsNew role homes = ((role ≡ Maker) × (homes ≡ both_in)) ⊎ ((role ≡ Deal
 role_is : {v : View ℕ ℕ ℕ ℕ} (role : Role) → alone role ≡ v ∷ [] → v.role ≡ role
 role_is {v} role are =
     let same : ◌≡◌ {A = View ℕ ℕ ℕ ℕ} (view 7 role [] None None) v = cc are in sym
-        (ap (λ (v : View ℕ ℕ ℕ ℕ). v.role) same)
+    (ap (λ (v : View ℕ ℕ ℕ ℕ). v.role) same)
 
 first_word : {words : List ℕ} {seats : List (View ℕ ℕ ℕ ℕ)} {v : View ℕ ℕ ℕ ℕ} {homes : List (Home ℕ ℕ ℕ)}
     → Ruled {P = ℕ} 7 words homes seats → seats ≡ v ∷ [] → words ≡ 3 ∷ []

@@ -92,7 +92,7 @@ module _ {T H K P : Type 0} {keeps : P → T → Type 0} {q : P} where
       {woke = woke'} order lies lies' same claimed) are =
       let senders : ◌≡◌ {A = View T H K P} (view q Sender xs' given' woke') (view q Sender xs given woke) = cc are in
       let receivers : ◌≡◌ {A = View T H K P} (view q Receiver ys' taken' put') (view q Receiver ys taken put) = cc
-          are in (
+      are in (
         w,
         subst (λ xs. Reaches xs ys w) (ap (λ (v : View T H K P). v.log) senders)
             (subst (λ ys. Reaches xs' ys w) (ap (λ (v : View T H K P). v.log) receivers) order),

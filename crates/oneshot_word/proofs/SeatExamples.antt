@@ -181,7 +181,7 @@ seats_that_are_not =
       has_given = λ seat. elim seat.passed [ ];
       has_anothers_waker = λ seat.
           let is : ◌≡◌ {A = Option (AnyWaker ℕ ℕ)} (Some (R.Thread 2)) (Some (R.Thread 1)) = claims_so seat.handed
-              refl in cc is;
+          refl in cc is;
       has_an_untaken_waker = λ seat. elim seat.handed [ ];
       took_another = λ seat. let is : Some 8 ≡ Some 7 = holds_so seat.passed refl in cc is;
       at_another = λ at. let is : 6 ≡ 5 = ap (λ (t : TableId). t.block) at.table in cc is;

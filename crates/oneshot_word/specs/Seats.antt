@@ -192,20 +192,20 @@ pub record Stepped {T H K P At : Type 0} (Seat : Me (Slot T H K) (View T H K P) 
     (hands : Held (AnyWaker H K) → Held (AnyWaker H K) → Option (AnyWaker H K) → Option (AnyWaker H K))
     (Takes : Op → ℕ → Option T → Option T → Type 0)
     (before : Me (Slot T H K) (View T H K P)) (op : Op) (word : ℕ) (after : Me (Slot T H K) (View T H K P)) : Type 0
-    where
-  pub about : after.0.about ≡ before.0.about
-  pub list : after.0.log ≡ before.0.log ++ (op, saw op word) ∷ []
-  pub passed : after.0.passed ≡ passes (message_in before.1) (message_in after.1) before.0.passed
-  pub stays : (x : T) → before.0.passed ≡ Some x → after.0.passed ≡ Some x
-  pub takes : Takes op word before.0.passed after.0.passed
-  pub handed : after.0.handed ≡ hands (waker_in before.1) (waker_in after.1) before.0.handed
-  -- a waker that the end gets is the one that passed last
-  pub gets : (k : AnyWaker H K) → waker_in before.1 ≡ away → waker_in after.1 ≡ held k → after.0.handed ≡ Some k
-  pub seat : Seat after
-  -- the log of a store does not have the word
-  pub code : word ≤ 4
-  pub finds : Finds moves (at before.0.log) op word
-      (message_in before.1) (waker_in before.1) (message_in after.1) (waker_in after.1)
+  where
+    pub about : after.0.about ≡ before.0.about
+    pub list : after.0.log ≡ before.0.log ++ (op, saw op word) ∷ []
+    pub passed : after.0.passed ≡ passes (message_in before.1) (message_in after.1) before.0.passed
+    pub stays : (x : T) → before.0.passed ≡ Some x → after.0.passed ≡ Some x
+    pub takes : Takes op word before.0.passed after.0.passed
+    pub handed : after.0.handed ≡ hands (waker_in before.1) (waker_in after.1) before.0.handed
+    -- a waker that the end gets is the one that passed last
+    pub gets : (k : AnyWaker H K) → waker_in before.1 ≡ away → waker_in after.1 ≡ held k → after.0.handed ≡ Some k
+    pub seat : Seat after
+    -- the log of a store does not have the word
+    pub code : word ≤ 4
+    pub finds : Finds moves (at before.0.log) op word
+        (message_in before.1) (waker_in before.1) (message_in after.1) (waker_in after.1)
 
 module _ {T H K P : Type 0} (keeps : P → T → Type 0) where
   abbrev pub SenderStepped : Me (Slot T H K) (View T H K P) → Op → ℕ → Me (Slot T H K) (View T H K P) → Type 0

@@ -50,8 +50,16 @@ pub record SidesThatAre : Type 0 where
         about = 7;
       }
   pub shows_none : side_of (table 1 2 5) (seat Receiver looked None [])
-      ≡ record { table = table 1 2 5; log = looked; message = away; waker = away; passed = None; handed = None; about =
-      7 }
+      ≡ record {
+        table = table 1 2 5;
+        log = looked;
+        message = away;
+        waker = away;
+        passed = None;
+        handed = None;
+        about =
+            7;
+      }
   pub ends : AreEnds {P = ℕ} 7 new_sender new_receiver
   pub may_send : SenderCan about_to_send Add
   pub may_drop : SenderCan new_sender Xor

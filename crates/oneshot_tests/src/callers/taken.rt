@@ -28,9 +28,17 @@ fn tried<T: Drop, Rt: Drop, H, K, P: Promise<T>>(
 #[test]
 fn a_message_is_taken_once(rt: HostRuntime) -> Result<(), Fail> {
     let (sender, mut receiver) = channel::<u8, ()>((), rt.alloc())?;
-    assert_same(&rt, tried::<u8, (), (), (), ()>(&mut receiver), Err(TryRecvError::Empty));
+    assert_same(
+        &rt,
+        tried::<u8, (), (), (), ()>(&mut receiver),
+        Err(TryRecvError::Empty),
+    );
     assert_same(&rt, sender.send(7).is_ok(), true);
     assert_same(&rt, tried::<u8, (), (), (), ()>(&mut receiver), Ok(7));
-    assert_same(&rt, tried::<u8, (), (), (), ()>(&mut receiver), Err(TryRecvError::Disconnected));
+    assert_same(
+        &rt,
+        tried::<u8, (), (), (), ()>(&mut receiver),
+        Err(TryRecvError::Disconnected),
+    );
     Ok(())
 }

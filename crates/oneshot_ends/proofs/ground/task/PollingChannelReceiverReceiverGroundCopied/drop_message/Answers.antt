@@ -8,5 +8,10 @@ returns-clause-log g c =
     told (_ ∷ _ ∷ _ ∷ []) c.args.self.now.ground.now c.drop_message.new.self _ _ refl c.drop_message.ensures.log
 
 pub returns-clause-keeps : goal.returns-clause-keeps
-returns-clause-keeps g c = (λ fact h. h, refl, c.drop_message.ensures.keeps.0, c.drop_message.ensures.keeps.2,
-    c.drop_message.ensures.keeps.3)
+returns-clause-keeps g c = (
+  λ fact h. h,
+  refl,
+  c.drop_message.ensures.keeps.0,
+  c.drop_message.ensures.keeps.2,
+  c.drop_message.ensures.keeps.3,
+)

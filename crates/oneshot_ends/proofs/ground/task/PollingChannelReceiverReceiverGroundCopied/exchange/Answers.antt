@@ -17,5 +17,10 @@ returns-clause-finds g c =
     c.exchange.result c.exchange.ensures.finds
 
 pub returns-clause-keeps : goal.returns-clause-keeps
-returns-clause-keeps g c = (λ fact h. h, refl, c.exchange.ensures.keeps.0, c.exchange.ensures.keeps.2,
-    c.exchange.ensures.keeps.3)
+returns-clause-keeps g c = (
+  λ fact h. h,
+  refl,
+  c.exchange.ensures.keeps.0,
+  c.exchange.ensures.keeps.2,
+  c.exchange.ensures.keeps.3,
+)

@@ -16,5 +16,10 @@ returns-clause-finds g c =
     token_found [] c.args.self.now.ground.now c.store.new.self (Store c.args.new) c.store.result c.store.ensures.finds
 
 pub returns-clause-keeps : goal.returns-clause-keeps
-returns-clause-keeps g c = (λ fact h. h, refl, c.store.ensures.keeps.0, c.store.ensures.keeps.2,
-    c.store.ensures.keeps.3)
+returns-clause-keeps g c = (
+  λ fact h. h,
+  refl,
+  c.store.ensures.keeps.0,
+  c.store.ensures.keeps.2,
+  c.store.ensures.keeps.3,
+)

@@ -8,5 +8,10 @@ returns-clause-log g c =
     told (_ ∷ _ ∷ _ ∷ []) c.args.self.now.ground.now c.withdraw-copy.new.self _ _ refl c.withdraw-copy.ensures.log
 
 pub returns-clause-keeps : goal.returns-clause-keeps
-returns-clause-keeps g c = (λ fact h. h, refl, c.withdraw-copy.ensures.keeps.0, c.withdraw-copy.ensures.keeps.2,
-    c.withdraw-copy.ensures.keeps.3)
+returns-clause-keeps g c = (
+  λ fact h. h,
+  refl,
+  c.withdraw-copy.ensures.keeps.0,
+  c.withdraw-copy.ensures.keeps.2,
+  c.withdraw-copy.ensures.keeps.3,
+)

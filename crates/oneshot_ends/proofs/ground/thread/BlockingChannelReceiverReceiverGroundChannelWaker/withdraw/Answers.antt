@@ -3,8 +3,13 @@ use Rattle.std.proofs.Common.{refl}
 use Rattle.oneshot_ends.proofs.ground.thread.BlockingChannelReceiverReceiverGroundChannelWaker.withdraw.Goals as goal
 
 pub returns-clause-keeps : goal.returns-clause-keeps
-returns-clause-keeps g c = (c.withdraw.ensures.keeps.0, λ has. has, refl, λ owned. c.withdraw.ensures.keeps.1 _ owned,
-    c.withdraw.ensures.keeps.3)
+returns-clause-keeps g c = (
+  c.withdraw.ensures.keeps.0,
+  λ has. has,
+  refl,
+  λ owned. c.withdraw.ensures.keeps.1 _ owned,
+  c.withdraw.ensures.keeps.3,
+)
 
 pub returns-clause-has : goal.returns-clause-has
 returns-clause-has g c = λ has.
