@@ -1,7 +1,7 @@
 -- Proofs of the examples of ends, of what a call leaves, of replies and of hands.
 use Rattle.oneshot_drive.proofs.Names.{true, false, refl, closed_itself, found_closed, looked, between, blocked, waits, withdrew, is_late, is_overtaken, rests_new, rests_open, rests_closed, leaves_open, leaves_closed, left_received, left_closed, timed_received, timed_out, timed_closed, as_it_was, sender_took, came_back, returned, taken, sent, EndsThatAre, EndsThatAreNot, CallsThatLeave, CallsThatDoNot, RepliesThatAre, HandsThatAre, HandsThatAreNot, Polled, unpolled, left_copy, kept_copy, found_sender, has_resolved, leaves_resolved, leaves_gone, leaves_waiting, tried_resolved, tried_its_copy, is_disconnected}
 use Rattle.oneshot_machine.specs.Phases.{By, sending, dropping, fresh, owes}
-use Rattle.oneshot_drive.specs.BetweenCalls.{leaves_received, SenderIsOver, over_finished, over_late, over_overtaken, found_message, found_no_sender, left_first}
+use Rattle.oneshot_drive.specs.BetweenCalls.{leaves_received, SenderIsOver, over_finished, over_late, over_overtaken, last_finished, last_overtaken, found_message, found_no_sender, left_first}
 
 pub ends_that_are : EndsThatAre
 ends_that_are =
@@ -26,6 +26,8 @@ ends_that_are =
       ended_is_over = over_finished;
       late_is_over = over_late;
       overtaken_is_over = over_overtaken;
+      last_finished_it = λ _. last_finished;
+      last_came_too_late = λ _. last_overtaken;
       received_found_it = found_message;
       closed_found_it = found_no_sender;
       gone_has_left = left_first;
@@ -72,6 +74,8 @@ ends_that_are_not =
       sent_is_dropped = λ h. elim h [ ];
       refused_is_over = λ h. elim h [ ];
       refused_after_waking_is_over = λ h. elim h [ ];
+      last_is_hidden = λ _ h. elim h [ ];
+      last_is_of_the_other_call = λ h. elim h [ ];
       looked_and_found_it = λ _ h. elim h [ ];
       waits_and_found_it = λ _ h. elim h [ ];
       gone_and_found_it = λ h. elim h [ ];

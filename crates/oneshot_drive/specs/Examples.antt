@@ -12,7 +12,7 @@ use Rattle.oneshot_machine.specs.Examples.{waking}
 use Rattle.oneshot_machine.specs.Logs.{Event, Log, did, handed, copied, worded}
 use Rattle.oneshot_machine.specs.Phases.{By, sending, dropping, fresh, owes, finished, late, overtaken, Closing, closed_itself, found_closed, Got, Open, looked, between, Swapping, polled, again, blocked, Waiting, first, here, waits, claimed, withdrew, overdue, full, unclosed, disconnected, resolved, gone, ended}
 use Rattle.oneshot_machine.specs.Slots.{Held, away, vacant, held}
-use Rattle.oneshot_drive.specs.BetweenCalls.{IsFresh, IsError, IsLate, SenderIsOver, FoundTheEnd, HasLeft, Rests, AtRest, IsClosedAt, IsOpenAt, Leaves, LeavesClosed, LeavesTimed, IsReady, Hands, send_reply, try_recv_reply, recv_reply, timed_reply, received}
+use Rattle.oneshot_drive.specs.BetweenCalls.{IsFresh, IsError, IsLate, SenderIsOver, LastLeaves, FoundTheEnd, HasLeft, Rests, AtRest, IsClosedAt, IsOpenAt, Leaves, LeavesClosed, LeavesTimed, IsReady, Hands, send_reply, try_recv_reply, recv_reply, timed_reply, received}
 use Rattle.oneshot_drive.specs.Blocking.{Parks, Returns}
 use Rattle.oneshot_drive.specs.Grounds.{GroundState, SenderAsks, SenderMakes, ReceiverAsks, ReceiverMakes}
 use Rattle.oneshot_drive.specs.Polls.{Polled, IsPolled, LeavesPolled, LeavesTried, StaysRegistered, IsDisconnected, WritesItsCopy, HandsNoWaker, poll_reply, poll_received}
@@ -46,6 +46,8 @@ pub record EndsThatAre : Type 0 where
   pub ended_is_over : (by : By) → SenderIsOver by (finished by)
   pub late_is_over : SenderIsOver dropping (late dropping)
   pub overtaken_is_over : SenderIsOver dropping (overtaken dropping)
+  pub last_finished_it : (by : By) → LastLeaves by true (finished by)
+  pub last_came_too_late : (by : By) → LastLeaves by false (overtaken by)
   pub received_found_it : (g : Got) → FoundTheEnd (full g)
   pub closed_found_it : (c : Closing) → FoundTheEnd (disconnected c)
   pub gone_has_left : HasLeft gone
@@ -79,6 +81,8 @@ pub record EndsThatAreNot : Type 0 where
   -- after a refused `send` its error must be dropped
   pub refused_is_over : SenderIsOver sending (late sending) → ⊥
   pub refused_after_waking_is_over : SenderIsOver sending (overtaken sending) → ⊥
+  pub last_is_hidden : (by : By) → LastLeaves by true (overtaken by) → ⊥
+  pub last_is_of_the_other_call : LastLeaves sending true (finished dropping) → ⊥
   pub looked_and_found_it : (o : Open) → FoundTheEnd (here o) → ⊥
   pub waits_and_found_it : (w : Waiting) → FoundTheEnd (waits w) → ⊥
   pub gone_and_found_it : FoundTheEnd gone → ⊥
